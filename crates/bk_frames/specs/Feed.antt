@@ -1,0 +1,136 @@
+-- A feed: four bytes of magic, then frames. What a feed is, how it is spelled, and the first fault of bytes that are none.
+use Rattle.std.specs.Prelude.{◌≡◌, ℕ, ◌+◌, ◌≤◌, Bool, List, [], ◌∷◌, ◌++◌, length, take, drop, Option, Some, None, IsTrue, not, nat_lt, nat_le, nat_eq, ◌==◌, ◌||◌, if◌then◌else◌, slice_get, unwrap_or, option_and_then}
+use Rattle.std.specs.Int.{w32, from_be_bytes, to_be_bytes}
+use Rattle.std.specs.List.{flat_map, starts_with}
+use Rattle.bk_frames.specs.declared.kind.Kind.{Kind}
+use Rattle.bk_frames.specs.declared.kind.Kind.TheVariants as kind
+use Rattle.bk_frames.specs.declared.fault.FaultCode.{FaultCode}
+use Rattle.bk_frames.specs.declared.fault.FaultCode.TheVariants as code
+use Rattle.bk_frames.specs.declared.fault.FeedFault.{FeedFault}
+use Rattle.bk_frames.specs.declared.genesis.Row.{Row}
+use Rattle.bk_frames.specs.Committee.{is_committee}
+use Rattle.bk_frames.specs.Genesis.{is_genesis, rows_of}
+
+-- a frame of a feed
+pub record Frame : Type 0 where
+  pub kind : Kind
+  pub payload : List ℕ
+
+-- ---- the spelling
+
+-- the bytes BKF1
+abbrev pub magic : List ℕ
+magic = 66 ∷ 75 ∷ 70 ∷ 49 ∷ []
+
+-- the number of a kind
+abbrev pub kind_number : Kind → ℕ
+kind_number kind.Committee = 1
+kind_number kind.Genesis = 2
+kind_number kind.Certificate = 3
+kind_number kind.Batch = 4
+
+-- a frame's spelling: its kind, the length of its payload in four bytes, and its payload
+abbrev pub frame_text : Frame → List ℕ
+frame_text f = kind_number f.kind ∷ to_be_bytes w32 (length f.payload) ++ f.payload
+
+-- the spelling of a list of frames
+abbrev pub spelling : List Frame → List ℕ
+spelling frames = magic ++ flat_map frame_text frames
+
+-- ---- what a feed is
+
+-- the most bytes that a payload may have, and a feed
+abbrev pub most_payload : ℕ
+most_payload = 16777216
+
+abbrev pub most_feed : ℕ
+most_feed = 4294967295
+
+-- frame 0 is the committee, frame 1 the genesis, and all later frames are certificates and batches
+abbrev pub stands_at : ℕ → Kind → Bool
+stands_at index kind.Committee = index == 0
+stands_at index kind.Genesis = index == 1
+stands_at index kind.Certificate = nat_le 2 index
+stands_at index kind.Batch = nat_le 2 index
+
+-- a frame is good at its place: its number in the feed, and the offset of its first byte
+pub record IsGoodAt (index offset : ℕ) (f : Frame) : Type 0 where
+  pub in_place : IsTrue (stands_at index f.kind)
+  pub short : length f.payload ≤ most_payload
+  pub inside : offset + length (frame_text f) ≤ most_feed
+  pub committee : index ≡ 0 → IsTrue (is_committee f.payload)
+  pub genesis : index ≡ 1 → IsTrue (is_genesis f.payload)
+
+-- each of these frames is good, the first at this place and each further one right after the one before it
+abbrev pub AreGoodFrom : ℕ → ℕ → List Frame → Type 0
+AreGoodFrom index offset [] = Unit {0}
+AreGoodFrom index offset (f ∷ more) = IsGoodAt index offset f × AreGoodFrom (index + 1) (offset + length (frame_text f)) more
+
+-- a feed is a list of good frames, the committee and the genesis among them
+pub record IsFeed (frames : List Frame) : Type 0 where
+  pub good : AreGoodFrom 0 4 frames
+  pub opened : 2 ≤ length frames
+
+-- the opening accounts of a feed: those that frame 1 spells
+abbrev pub genesis_of : List Frame → List Row
+genesis_of frames = unwrap_or (option_and_then (λ (f : Frame). rows_of f.payload) (slice_get frames 1)) []
+
+-- ---- the first fault
+
+-- the first finding of two
+abbrev pub or_else : Option FaultCode → Option FaultCode → Option FaultCode
+or_else (Some first) second = Some first
+or_else None second = second
+
+-- a finding where a test holds
+abbrev pub fault_if : Bool → FaultCode → Option FaultCode
+fault_if test found = if test then Some found else None
+
+-- what the start of the bytes shows: one of the first four that are there is wrong, or fewer than four are there
+abbrev pub start_fault : List ℕ → Option FaultCode
+start_fault bytes = or_else (fault_if (not (starts_with nat_eq magic (take 4 bytes))) code.Magic) (fault_if (nat_lt (length bytes) 4) code.Truncated)
+
+-- what the byte of a frame's kind shows
+abbrev pub kind_fault : ℕ → ℕ → Option FaultCode
+kind_fault index number =
+    if nat_lt number 1 || nat_lt 4 number then Some code.Kind
+    else (if index == 0 then fault_if (not (number == 1)) code.Committee
+    else (if index == 1 then fault_if (not (number == 2)) code.Genesis
+    else fault_if (nat_le number 2) code.Extra))
+
+-- what the length of a payload shows
+abbrev pub length_fault : ℕ → ℕ → Option FaultCode
+length_fault offset len = fault_if (nat_lt most_payload len || nat_lt most_feed (offset + 5 + len)) code.Length
+
+-- what a payload shows
+abbrev pub payload_fault : ℕ → List ℕ → Option FaultCode
+payload_fault index payload =
+    if index == 0 then fault_if (not (is_committee payload)) code.Committee
+    else (if index == 1 then fault_if (not (is_genesis payload)) code.Genesis else None)
+
+-- what the bytes after a frame's length show
+abbrev pub content_fault : ℕ → ℕ → ℕ → List ℕ → Option FaultCode
+content_fault index offset len bytes =
+    or_else (length_fault offset len) (or_else (fault_if (nat_lt (length bytes) len) code.Truncated) (payload_fault index (take len bytes)))
+
+-- the first fault that the bytes from the place of a frame on show: its number in the feed, its offset, these bytes
+abbrev pub frame_fault : ℕ → ℕ → List ℕ → Option FaultCode
+frame_fault index offset [] = fault_if (nat_lt index 2) code.Truncated
+frame_fault index offset (number ∷ rest) =
+    or_else (kind_fault index number) (or_else (fault_if (nat_lt (length rest) 4) code.Truncated) (content_fault index offset (from_be_bytes w32 (take 4 rest)) (drop 4 rest)))
+
+-- the bytes begin with these good frames, and others follow
+pub record Begins (bytes : List ℕ) (frames : List Frame) (rest : List ℕ) : Type 0 where
+  pub spelled : bytes ≡ spelling frames ++ rest
+  pub good : AreGoodFrom 0 4 frames
+
+-- the bytes have this fault: at their start, or where the good frames end
+pub data HasFault (bytes : List ℕ) (fault : FeedFault) : Type 0 where
+  at_start : start_fault bytes ≡ Some fault.code → fault.offset ≡ 0 → HasFault bytes fault
+  in_frame : (frames : List Frame) (rest : List ℕ) → Begins bytes frames rest → frame_fault (length frames) fault.offset rest ≡ Some fault.code
+      → fault.offset ≡ length (spelling frames) → HasFault bytes fault
+
+-- a frame begins at this offset: at the start, or right after good frames
+pub data IsFrameStart (bytes : List ℕ) (offset : ℕ) : Type 0 where
+  at_zero : offset ≡ 0 → IsFrameStart bytes offset
+  after_good : (frames : List Frame) (rest : List ℕ) → Begins bytes frames rest → offset ≡ length (spelling frames) → IsFrameStart bytes offset

@@ -1,0 +1,22 @@
+-- Numbers and runs of bytes at the front of a text.
+use Rattle.std.specs.Prelude.{ℕ, Bool, true, List, [], ◌∷◌, length, take, drop, Option, Some, None, option_and_then, nat_lt, ◌&&◌, if◌then◌else◌}
+use Rattle.std.specs.Int.{Width, byte_len, from_be_bytes}
+
+-- one step of reading after another: nothing where a step finds nothing
+infixl 10 ◌>>=◌
+abbrev pub ◌>>=◌ : {A B : Type 0} → Option A → (A → Option B) → Option B
+o >>= f = option_and_then f o
+
+-- so many bytes at the front, and the bytes after them
+abbrev pub bytes_at : ℕ → List ℕ → Option (List ℕ × List ℕ)
+bytes_at n bytes = if nat_lt (length bytes) n then None else Some (take n bytes, drop n bytes)
+
+-- a big-endian number of this width at the front, and the bytes after it
+abbrev pub number_at : Width → List ℕ → Option (ℕ × List ℕ)
+number_at w bytes = if nat_lt (length bytes) (byte_len w) then None else Some (from_be_bytes w (take (byte_len w) bytes), drop (byte_len w) bytes)
+
+-- each number is below the one after it
+abbrev pub is_ascending : List ℕ → Bool
+is_ascending [] = true
+is_ascending (x ∷ []) = true
+is_ascending (x ∷ y ∷ more) = nat_lt x y && is_ascending (y ∷ more)

@@ -1,0 +1,17 @@
+//! Laws of the definitions, each the contract of a function that does nothing.
+
+ghost use Rattle.bk_frames.specs.Laws.{IsFeedOrFault, OneFeed, NoFaultInFeed, OneFault, GenesisIsSpelled, GenesisIsRead};
+
+/// Every byte string is the spelling of exactly one feed, or has exactly one fault.
+pub fn feed_or_fault()
+    ensures some { IsFeedOrFault }
+    ensures one_feed { OneFeed }
+    ensures not_both { NoFaultInFeed }
+    ensures one_fault { OneFault }
+{}
+
+/// A genesis payload and its rows are two forms of one thing.
+pub fn genesis_grammar()
+    ensures spelled { GenesisIsSpelled }
+    ensures read { GenesisIsRead }
+{}
