@@ -1,0 +1,5 @@
+pub mod HexDigits
+pub mod Splits
+pub mod Roots
+pub mod Paths
+pub mod Climbs

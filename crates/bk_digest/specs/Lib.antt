@@ -1,0 +1,5 @@
+pub mod Digest
+pub mod Mac
+pub mod Prepared
+pub mod Tree
+pub mod Laws

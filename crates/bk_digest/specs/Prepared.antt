@@ -1,0 +1,9 @@
+-- What a prepared key has hashed.
+use Rattle.std.specs.Prelude.{ℕ, List}
+use Rattle.sha2.specs.Hashers.{Holds256}
+use Rattle.bk_digest.specs.Mac.{key_block, padded_with}
+use Rattle.bk_digest.specs.declared.mac.MacKey.{MacKey}
+
+-- the key is prepared: its block has been hashed under the inner pad, and under the outer pad
+unfoldable pub IsPrepared : List ℕ → MacKey → Type 0
+IsPrepared key mac = Holds256 mac.inner (padded_with 0x36 (key_block key)) × Holds256 mac.outer (padded_with 0x5c (key_block key))

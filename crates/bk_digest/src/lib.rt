@@ -1,0 +1,22 @@
+//! Digests for the other crates: SHA-256 behind a tag byte, HMAC, and the Merkle tree hash of
+//! RFC 6962 with its audit paths.
+//!
+//! Each digest is exactly the one that its standard defines, and a path check answers true exactly
+//! where the path leads from the leaf to the root. That two texts have different digests is not
+//! promised. Only a text and an audit path take memory.
+#![tactic(auto)]
+
+mod digest;
+mod laws;
+mod mac;
+mod tree;
+
+pub use digest::{Digest32, tagged};
+pub use laws::{
+    climb_goes_up, own_path_leads_to_root, path_is_merkle_audit_path, root_is_merkle_tree_hash,
+};
+pub use mac::{MacKey, hmac};
+pub use tree::{audit_path, check_path, tree_root, tree_root_with};
+
+#[cfg(test)]
+mod tests;
