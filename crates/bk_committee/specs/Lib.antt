@@ -1,0 +1,3 @@
+pub mod Payload
+pub mod Quorum
+pub mod Laws
