@@ -1,0 +1,7 @@
+use Rattle.std.proofs.Common.{◌≡◌, ◌-◌, length, take}
+use Rattle.bk_tx.specs.Reading.{payments_at}
+use Rattle.bk_tx.proofs.Loop.{with_front}
+use Rattle.bk_tx.proofs.reading.payments.Given as goal
+
+abbrev pub invariant-loop-i : goal.invariant-loop-i
+invariant-loop-i l = (length l.read ≡ 6) × (with_front (take l.i l.read) (payments_at (l.count - l.i) l.fields) ≡ payments_at l.count l.initial.fields)

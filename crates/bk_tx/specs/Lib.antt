@@ -1,0 +1,4 @@
+pub mod Access
+pub mod Batch
+pub mod Reading
+pub mod Spelling

@@ -1,0 +1,142 @@
+-- How the bytes of a transaction and of a batch are read: what they spell, or nothing.
+use Rattle.std.specs.Prelude.{ℕ, zero, suc, ◌<◌, Bool, true, false, List, [], ◌∷◌, length, Option, Some, None, nat_le, ◌==◌, ◌&&◌, not, if◌then◌else◌, slice_index}
+use Rattle.std.specs.List.{list_any}
+use Rattle.std.specs.Int.{w8, w16, w64}
+use Rattle.bk_frames.specs.Numbers.{◌>>=◌, number_at, bytes_at, is_ascending}
+use Rattle.bk_tx.specs.declared.declared.Declared.{Declared}
+use Rattle.bk_tx.specs.declared.payments.Payment.{Payment}
+use Rattle.bk_tx.specs.declared.tx.Tx.{Tx}
+use Rattle.bk_tx.specs.declared.tx.Body.{Body}
+use Rattle.bk_tx.specs.declared.tx.Body.TheVariants.{Pay, PayIf, Sweep, Split}
+use Rattle.bk_tx.specs.Access.{ids_of, receivers_in}
+use Rattle.bk_tx.specs.Spelling.{receivers_of}
+
+-- each number of the list is a byte
+abbrev pub IsBytes : List ℕ → Type 0
+IsBytes bytes = (i : ℕ) → slice_index bytes i < 256
+
+-- whether an account of this mode is writable: 0 for reading, 1 for writing
+unfoldable pub writable_of : ℕ → Option Bool
+writable_of zero = Some false
+writable_of (suc zero) = Some true
+writable_of (suc (suc mode)) = None
+
+-- a mode and an id at the front, and the bytes after them
+unfoldable pub declared_at : List ℕ → Option (Declared × List ℕ)
+declared_at bytes = do
+  mode ← number_at w8 bytes
+  writable ← writable_of mode.0
+  id ← number_at w64 mode.1
+  Some (record { id = id.0; writable = writable }, id.1)
+
+-- so many declared accounts at the front
+unfoldable pub entries_at : ℕ → List ℕ → Option (List Declared × List ℕ)
+entries_at zero bytes = Some ([], bytes)
+entries_at (suc n) bytes = do
+  first ← declared_at bytes
+  others ← entries_at n first.1
+  Some (first.0 ∷ others.0, others.1)
+
+-- one to eight
+abbrev pub is_count : ℕ → Bool
+is_count n = nat_le 1 n && nat_le n 8
+
+-- a count and so many declared accounts by ascending id at the front
+unfoldable pub declarations_at : List ℕ → Option (List Declared × List ℕ)
+declarations_at bytes = do
+  count ← number_at w8 bytes
+  entries ← (if is_count count.0 then entries_at count.0 count.1 else None)
+  if is_ascending (ids_of entries.0) then Some entries else None
+
+-- receiver and amount at the front
+unfoldable pub pay_at : List ℕ → Option (Body × List ℕ)
+pay_at bytes = do
+  to ← number_at w64 bytes
+  amount ← number_at w64 to.1
+  Some (Pay to.0 amount.0, amount.1)
+
+-- receiver, amount, guard and the least balance of the guard at the front
+unfoldable pub pay_if_at : List ℕ → Option (Body × List ℕ)
+pay_if_at bytes = do
+  to ← number_at w64 bytes
+  amount ← number_at w64 to.1
+  guard ← number_at w64 amount.1
+  min ← number_at w64 guard.1
+  Some (PayIf to.0 amount.0 guard.0 min.0, min.1)
+
+-- receiver and what the sender keeps at the front
+unfoldable pub sweep_at : List ℕ → Option (Body × List ℕ)
+sweep_at bytes = do
+  to ← number_at w64 bytes
+  keep ← number_at w64 to.1
+  Some (Sweep to.0 keep.0, keep.1)
+
+-- a receiver and an amount at the front, and the bytes after them
+unfoldable pub payment_at : List ℕ → Option (Payment × List ℕ)
+payment_at bytes = do
+  to ← number_at w64 bytes
+  amount ← number_at w64 to.1
+  Some (record { to = to.0; amount = amount.0 }, amount.1)
+
+-- so many payments at the front
+unfoldable pub payments_at : ℕ → List ℕ → Option (List Payment × List ℕ)
+payments_at zero bytes = Some ([], bytes)
+payments_at (suc n) bytes = do
+  first ← payment_at bytes
+  others ← payments_at n first.1
+  Some (first.0 ∷ others.0, others.1)
+
+-- one to six
+abbrev pub is_payment_count : ℕ → Bool
+is_payment_count n = nat_le 1 n && nat_le n 6
+
+-- a count and so many payments by ascending receiver at the front
+unfoldable pub split_at : List ℕ → Option (Body × List ℕ)
+split_at bytes = do
+  count ← number_at w8 bytes
+  payments ← (if is_payment_count count.0 then payments_at count.0 count.1 else None)
+  if is_ascending (receivers_in payments.0) then Some (Split payments.0, payments.1) else None
+
+-- the body of a transaction of this kind at the front
+unfoldable pub body_at : ℕ → List ℕ → Option (Body × List ℕ)
+body_at kind bytes =
+    if kind == 1 then pay_at bytes
+    else (if kind == 2 then pay_if_at bytes
+    else (if kind == 3 then sweep_at bytes
+    else (if kind == 4 then split_at bytes
+    else None)))
+
+-- the body pays this account
+abbrev pub pays : Body → ℕ → Bool
+pays body id = list_any (λ to. to == id) (receivers_of body)
+
+-- the transaction that the bytes spell, all of them
+unfoldable pub transaction_of : List ℕ → Option Tx
+transaction_of bytes = do
+  kind ← number_at w8 bytes
+  declared ← declarations_at kind.1
+  seq ← number_at w64 declared.1
+  from ← number_at w64 seq.1
+  body ← body_at kind.0 from.1
+  if length body.1 == 0 && not (pays body.0 from.0) then Some (record { declared = declared.0; seq = seq.0; from = from.0; body = body.0 }) else None
+
+-- a text behind its length at the front
+unfoldable pub text_at : List ℕ → Option (List ℕ × List ℕ)
+text_at bytes = do
+  len ← number_at w16 bytes
+  bytes_at len.0 len.1
+
+-- so many texts at the front
+unfoldable pub texts_at : ℕ → List ℕ → Option (List (List ℕ) × List ℕ)
+texts_at zero bytes = Some ([], bytes)
+texts_at (suc n) bytes = do
+  first ← text_at bytes
+  others ← texts_at n first.1
+  Some (first.0 ∷ others.0, others.1)
+
+-- the texts of the batch that the bytes spell, all of them
+unfoldable pub texts_of : List ℕ → Option (List (List ℕ))
+texts_of bytes = do
+  count ← number_at w16 bytes
+  texts ← texts_at count.0 count.1
+  if length texts.1 == 0 then Some texts.0 else None

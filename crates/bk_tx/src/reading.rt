@@ -1,0 +1,160 @@
+ghost use Rattle.std.specs.Prelude.{◌≡◌, ◌≤◌, take, option_map};
+ghost use Rattle.bk_tx.specs.Reading.{writable_of, declared_at, entries_at, declarations_at, pay_at, pay_if_at, sweep_at, payment_at, payments_at, split_at, body_at, transaction_of};
+
+use crate::declared::{Declarations, Declared};
+use crate::payments::{Payment, Payments};
+use crate::tx::{Body, Tx};
+use bk_frames::Fields;
+
+#[tactic(auto, unfolding(crate::specs::Reading::writable_of))]
+fn writable(mode: u8) -> Option<bool>
+    ensures { result ≡ writable_of mode }
+{
+    match mode {
+        0 => Some(false),
+        1 => Some(true),
+        _ => None,
+    }
+}
+
+#[tactic(auto, unfolding(crate::specs::Reading::declared_at))]
+fn declared(fields: &mut Fields) -> Option<Declared>
+    ensures { option_map (λ d. (d, fields.new)) result ≡ declared_at fields.old }
+{
+    let writable = writable(fields.u8()?)?;
+    let id = fields.u64()?;
+    Some(Declared { id, writable })
+}
+
+fn entries(count: usize, fields: &mut Fields) -> Option<[Declared; 8]>
+    requires { count ≤ 8 }
+    ensures { option_map (λ read. (take count read, fields.new)) result ≡ entries_at count fields.old }
+{
+    let mut read = [Declared {
+        id: 0,
+        writable: false,
+    }; 8];
+    for i in 0..count {
+        read[i] = declared(fields)?;
+    }
+    Some(read)
+}
+
+#[tactic(auto, unfolding(crate::specs::Reading::declarations_at))]
+fn declarations(fields: &mut Fields) -> Option<Declarations>
+    ensures { option_map (λ d. (d, fields.new)) result ≡ declarations_at fields.old }
+{
+    let count = fields.u8()? as usize;
+    if count < 1 || count > 8 {
+        return None;
+    }
+    let declared = Declarations::first(entries(count, fields)?, count);
+    if !declared.is_ascending() {
+        return None;
+    }
+    Some(declared)
+}
+
+#[tactic(auto, unfolding(crate::specs::Reading::pay_at))]
+fn pay(fields: &mut Fields) -> Option<Body>
+    ensures { option_map (λ b. (b, fields.new)) result ≡ pay_at fields.old }
+{
+    let to = fields.u64()?;
+    let amount = fields.u64()?;
+    Some(Body::Pay { to, amount })
+}
+
+#[tactic(auto, unfolding(crate::specs::Reading::pay_if_at))]
+fn pay_if(fields: &mut Fields) -> Option<Body>
+    ensures { option_map (λ b. (b, fields.new)) result ≡ pay_if_at fields.old }
+{
+    let to = fields.u64()?;
+    let amount = fields.u64()?;
+    let guard = fields.u64()?;
+    let min = fields.u64()?;
+    Some(Body::PayIf {
+        to,
+        amount,
+        guard,
+        min,
+    })
+}
+
+#[tactic(auto, unfolding(crate::specs::Reading::sweep_at))]
+fn sweep(fields: &mut Fields) -> Option<Body>
+    ensures { option_map (λ b. (b, fields.new)) result ≡ sweep_at fields.old }
+{
+    let to = fields.u64()?;
+    let keep = fields.u64()?;
+    Some(Body::Sweep { to, keep })
+}
+
+#[tactic(auto, unfolding(crate::specs::Reading::payment_at))]
+fn payment(fields: &mut Fields) -> Option<Payment>
+    ensures { option_map (λ p. (p, fields.new)) result ≡ payment_at fields.old }
+{
+    let to = fields.u64()?;
+    let amount = fields.u64()?;
+    Some(Payment { to, amount })
+}
+
+fn payments(count: usize, fields: &mut Fields) -> Option<[Payment; 6]>
+    requires { count ≤ 6 }
+    ensures { option_map (λ read. (take count read, fields.new)) result ≡ payments_at count fields.old }
+{
+    let mut read = [Payment { to: 0, amount: 0 }; 6];
+    for i in 0..count {
+        read[i] = payment(fields)?;
+    }
+    Some(read)
+}
+
+#[tactic(auto, unfolding(crate::specs::Reading::split_at))]
+fn split(fields: &mut Fields) -> Option<Body>
+    ensures { option_map (λ b. (b, fields.new)) result ≡ split_at fields.old }
+{
+    let count = fields.u8()? as usize;
+    if count == 0 || count > 6 {
+        return None;
+    }
+    let payments = Payments::first(payments(count, fields)?, count);
+    if !payments.is_ascending() {
+        return None;
+    }
+    Some(Body::Split { payments })
+}
+
+#[tactic(auto, unfolding(crate::specs::Reading::body_at))]
+fn body(kind: u8, fields: &mut Fields) -> Option<Body>
+    ensures { option_map (λ b. (b, fields.new)) result ≡ body_at kind fields.old }
+{
+    match kind {
+        1 => pay(fields),
+        2 => pay_if(fields),
+        3 => sweep(fields),
+        4 => split(fields),
+        _ => None,
+    }
+}
+
+/// The transaction that the bytes spell, all of the bytes.
+#[tactic(auto, unfolding(crate::specs::Reading::transaction_of))]
+pub fn transaction(bytes: &[u8]) -> Option<Tx>
+    ensures { result ≡ transaction_of bytes.now }
+{
+    let mut fields = Fields::new(bytes);
+    let kind = fields.u8()?;
+    let declared = declarations(&mut fields)?;
+    let seq = fields.u64()?;
+    let from = fields.u64()?;
+    let body = body(kind, &mut fields)?;
+    if !fields.rest().is_empty() || body.pays(from) {
+        return None;
+    }
+    Some(Tx {
+        declared,
+        seq,
+        from,
+        body,
+    })
+}
