@@ -1,0 +1,4 @@
+pub mod Rows
+pub mod Outcomes
+pub mod Steps
+pub mod Splits

@@ -1,0 +1,5 @@
+pub mod Rule
+pub mod Fold
+pub mod Accounts
+pub mod Place
+pub mod Laws
