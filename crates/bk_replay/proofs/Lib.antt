@@ -1,0 +1,4 @@
+pub mod Putting
+pub mod ReportLines
+pub mod Runs
+pub mod FeedReports

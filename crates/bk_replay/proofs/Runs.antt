@@ -1,0 +1,173 @@
+-- Batches of a feed, one frame after another, and how many transactions they can hold.
+use Rattle.std.proofs.Common.{◌≡◌, ℕ, zero, suc, ◌+◌, ◌*◌, ◌^◌, ◌<◌, ◌≤◌, Bool, true, false, cond, ltb, eqb, List, [], ◌∷◌, ◌++◌, length, map, take, drop, Option, Some, None, refl, sym, ap, subst, ◌∙◌, length-append, length-drop, arith}
+use Rattle.std.specs.Prelude.{slice_get, filter, unwrap_or}
+use Rattle.std.specs.List.{flat_map}
+use Rattle.std.specs.Int.{w16, from_be_bytes}
+use Rattle.std.proofs.lemmas.Bool.{ltb-false}
+use Rattle.std.proofs.lemmas.List.{length-map, map-append}
+use Rattle.std.proofs.lemmas.List.Concat.{flat_map-append, flat_map-cons}
+use Rattle.bk_frames.specs.declared.genesis.Row.{Row}
+use Rattle.bk_frames.specs.Genesis.{AreAccounts}
+use Rattle.bk_frames.specs.Feed.{Frame, frame_text, most_payload, most_feed, AreGoodFrom, IsFeed}
+use Rattle.bk_frames.specs.Numbers.{◌>>=◌, number_at, bytes_at}
+use Rattle.bk_frames.proofs.Feeds.{bind_some, guard_some}
+use Rattle.bk_tx.specs.declared.tx.Tx.{Tx}
+use Rattle.bk_tx.specs.Reading.{transaction_of, text_at, texts_at, texts_of}
+use Rattle.bk_rules.specs.declared.receipt.Receipt.{Receipt}
+use Rattle.bk_rules.specs.Fold.{state_after, receipts_of, HasRoom}
+use Rattle.bk_rules.proofs.Outcomes.{room_left, state_after-append, receipts_of-append}
+use Rattle.bk_replay.specs.Report.{is_batch, payloads_of, transactions_in, transactions_of, feed_transactions, count_in}
+
+-- ---- frames in two parts
+
+pub payloads_of-append : (xs ys : List Frame) → payloads_of (xs ++ ys) ≡ payloads_of xs ++ payloads_of ys
+payloads_of-append [] ys = refl
+payloads_of-append (f ∷ xs) ys = by_kind (is_batch f.kind) (payloads_of-append xs ys)
+  where
+    by_kind : (b : Bool) → payloads_of (xs ++ ys) ≡ payloads_of xs ++ payloads_of ys
+        → map (λ (g : Frame). g.payload) (cond b (f ∷ filter (λ (g : Frame). is_batch g.kind) (xs ++ ys)) (filter (λ (g : Frame). is_batch g.kind) (xs ++ ys)))
+        ≡ map (λ (g : Frame). g.payload) (cond b (f ∷ filter (λ (g : Frame). is_batch g.kind) xs) (filter (λ (g : Frame). is_batch g.kind) xs)) ++ payloads_of ys
+    by_kind true others = ap (λ (t : List (List ℕ)). f.payload ∷ t) others
+    by_kind false others = others
+
+pub feed_transactions-append : (xs ys : List Frame) → feed_transactions (xs ++ ys) ≡ feed_transactions xs ++ feed_transactions ys
+feed_transactions-append xs ys = ap transactions_of (payloads_of-append xs ys) ∙ flat_map-append transactions_in (payloads_of xs) (payloads_of ys)
+
+-- one frame more of a list
+pub take_next : {A : Type 0} (xs : List A) (i : ℕ) (a : A) → slice_get xs i ≡ Some a → take (i + 1) xs ≡ take i xs ++ a ∷ []
+take_next [] i a e = absurd cc
+take_next (x ∷ xs) zero a e = let same : x ≡ a = cc in ap (λ b. b ∷ []) same
+take_next (x ∷ xs) (suc i) a e = let k : suc i + 1 ≡ suc (i + 1) = omega arith in rw k (ap (λ t. x ∷ t) (take_next xs i a e))
+
+-- ---- sizes
+
+enough : {A : Type 0} (b : Bool) (x y : A) → cond b None (Some x) ≡ Some y → (b ≡ false) × (x ≡ y)
+enough true x y e = absurd cc
+enough false x y e = (refl, cc)
+
+-- a number of two bytes and the bytes after it
+number_size : (bytes : List ℕ) (x : ℕ × List ℕ) → number_at w16 bytes ≡ Some x → length x.1 + 2 ≤ length bytes
+number_size bytes x e =
+    let g = enough (ltb (length bytes) 2) (from_be_bytes w16 (take 2 bytes), drop 2 bytes) x e in
+    omega (arith, ltb-false _ _ g.0, ap (λ (p : ℕ × List ℕ). length p.1) g.1, length-drop 2 bytes)
+
+rest_size : (n : ℕ) (bytes : List ℕ) (x : List ℕ × List ℕ) → bytes_at n bytes ≡ Some x → length x.1 ≤ length bytes
+rest_size n bytes x e =
+    let g = enough (ltb (length bytes) n) (take n bytes, drop n bytes) x e in
+    omega (arith, ap (λ (p : List ℕ × List ℕ). length p.1) g.1, length-drop n bytes)
+
+text_size : (bytes : List ℕ) (x : List ℕ × List ℕ) → text_at bytes ≡ Some x → length x.1 + 2 ≤ length bytes
+unfolding text_at
+text_size bytes x e =
+    let a = bind_some (number_at w16 bytes) (λ len. bytes_at len.0 len.1) x e in
+    omega (arith, number_size bytes a.0 a.1, rest_size a.0.0 a.0.1 x a.2)
+
+-- so many texts take two bytes each at least
+texts_size : (n : ℕ) (bytes : List ℕ) (x : List (List ℕ) × List ℕ) → texts_at n bytes ≡ Some x → 2 * length x.0 + length x.1 ≤ length bytes
+unfolding texts_at
+texts_size zero bytes x e = let same : ([], bytes) ≡ x = cc in subst (λ (y : List (List ℕ) × List ℕ). 2 * length y.0 + length y.1 ≤ length bytes) same (omega arith)
+texts_size (suc n) bytes x e =
+    let a = bind_some (text_at bytes) (λ first. texts_at n first.1 >>= λ others. Some (first.0 ∷ others.0, others.1)) x e in
+    let b = bind_some (texts_at n a.0.1) (λ others. Some (a.0.0 ∷ others.0, others.1)) x a.2 in
+    let same : (a.0.0 ∷ b.0.0, b.0.1) ≡ x = cc in
+    subst (λ (y : List (List ℕ) × List ℕ). 2 * length y.0 + length y.1 ≤ length bytes) same (omega (arith, texts_size n a.0.1 b.0 b.1, text_size bytes a.0 a.1))
+
+batch_size : (payload : List ℕ) (texts : List (List ℕ)) → texts_of payload ≡ Some texts → 2 * length texts ≤ length payload
+unfolding texts_of
+batch_size payload texts e =
+    let a = bind_some (number_at w16 payload) (λ count. texts_at count.0 count.1 >>= λ x. cond (eqb (length x.1) 0) (Some x.0) None) texts e in
+    let b = bind_some (texts_at a.0.0 a.0.1) (λ x. cond (eqb (length x.1) 0) (Some x.0) None) texts a.2 in
+    let g = guard_some (eqb (length b.0.1) 0) b.0.0 texts b.2 in
+    omega (arith, texts_size a.0.0 a.0.1 b.0 b.1, number_size payload a.0 a.1, ap length g.1)
+
+-- a batch holds at most a transaction for two bytes
+pub transactions_size : (payload : List ℕ) → 2 * length (transactions_in payload) ≤ length payload
+transactions_size payload = found (texts_of payload) refl
+  where
+    found : (o : Option (List (List ℕ))) → texts_of payload ≡ o → 2 * length (map transaction_of (unwrap_or o [])) ≤ length payload
+    found None e = omega arith
+    found (Some texts) e = omega (arith, batch_size payload texts e, length-map texts transaction_of)
+
+-- the frames of a feed hold at most a transaction for two bytes, and a batch for five
+pub feed_size : (frames : List Frame) → (2 * length (feed_transactions frames) ≤ length (flat_map frame_text frames)) × (5 * length (payloads_of frames) ≤ length (flat_map frame_text frames))
+feed_size [] = (omega arith, omega arith)
+feed_size (f ∷ frames) =
+    let others = feed_size frames in
+    let len : length (flat_map frame_text (f ∷ frames)) ≡ length (frame_text f) + length (flat_map frame_text frames) = ap length (flat_map-cons frame_text f frames) ∙ length-append (frame_text f) (flat_map frame_text frames) in
+    let transactions = feed_transactions-append (f ∷ []) frames in
+    let payloads = payloads_of-append (f ∷ []) frames in
+    (omega (arith, len, others.0, one_transactions f, ap length transactions, length-append (feed_transactions (f ∷ [])) (feed_transactions frames)), omega (arith, len, others.1, one_payload f, ap length payloads, length-append (payloads_of (f ∷ [])) (payloads_of frames)))
+  where
+    one_transactions : (f : Frame) → 2 * length (feed_transactions (f ∷ [])) ≤ length (frame_text f)
+    one_transactions f = by_kind (is_batch f.kind)
+      where
+        by_kind : (b : Bool) → 2 * length (transactions_of (map (λ (g : Frame). g.payload) (cond b (f ∷ []) []))) ≤ length (frame_text f)
+        by_kind true = omega (arith, transactions_size f.payload, ap length (flat_map-cons transactions_in f.payload []), length-append (transactions_in f.payload) [])
+        by_kind false = omega arith
+
+    one_payload : (f : Frame) → 5 * length (payloads_of (f ∷ [])) ≤ length (frame_text f)
+    one_payload f = by_kind (is_batch f.kind)
+      where
+        by_kind : (b : Bool) → 5 * length (map (λ (g : Frame). g.payload) (cond b (f ∷ []) [])) ≤ length (frame_text f)
+        by_kind true = omega arith
+        by_kind false = omega arith
+
+-- good frames end inside the largest feed
+good_size : (index offset : ℕ) (frames : List Frame) → offset ≤ most_feed → AreGoodFrom index offset frames → offset + length (flat_map frame_text frames) ≤ most_feed
+good_size index offset [] le good = omega arith
+good_size index offset (f ∷ frames) le good =
+    let len : length (flat_map frame_text (f ∷ frames)) ≡ length (frame_text f) + length (flat_map frame_text frames) = ap length (flat_map-cons frame_text f frames) ∙ length-append (frame_text f) (flat_map frame_text frames) in
+    omega (arith, len, good_size (index + 1) (offset + length (frame_text f)) frames good.0.inside good.1)
+
+good_take : (index offset k : ℕ) (frames : List Frame) → AreGoodFrom index offset frames → AreGoodFrom index offset (take k frames)
+good_take index offset zero frames good = tt
+good_take index offset (suc k) [] good = tt
+good_take index offset (suc k) (f ∷ frames) good = (good.0, good_take (index + 1) (offset + length (frame_text f)) k frames good.1)
+
+-- a feed holds fewer than 2^31 transactions, and so does its beginning
+pub few_transactions : (frames : List Frame) (k : ℕ) → IsFeed frames → length (feed_transactions (take k frames)) < 2 ^ 31
+few_transactions frames k feed = let size = feed_size (take k frames) in omega (arith, size.0, good_size 0 4 (take k frames) (omega arith) (good_take 0 4 k frames feed.good))
+
+pub few_feed_transactions : (frames : List Frame) → IsFeed frames → length (feed_transactions frames) < 2 ^ 31
+few_feed_transactions frames feed = let size = feed_size frames in omega (arith, size.0, good_size 0 4 frames (omega arith) feed.good)
+
+-- and fewer than 2^30 batches
+pub few_batches : (frames : List Frame) → IsFeed frames → length (payloads_of frames) < 2 ^ 30
+few_batches frames feed = let size = feed_size frames in omega (arith, size.1, good_size 0 4 frames (omega arith) feed.good)
+
+-- a payload of a feed is short
+pub payload_short : (frames : List Frame) (i : ℕ) (f : Frame) → IsFeed frames → slice_get frames i ≡ Some f → length f.payload ≤ most_payload
+payload_short frames i f feed e = short 0 4 frames i feed.good e
+  where
+    short : (index offset : ℕ) (frames : List Frame) (i : ℕ) → AreGoodFrom index offset frames → slice_get frames i ≡ Some f → length f.payload ≤ most_payload
+    short index offset [] i good e = absurd cc
+    short index offset (g ∷ frames) zero good e = let same : g ≡ f = cc in subst (λ (h : Frame). length h.payload ≤ most_payload) same good.0.short
+    short index offset (g ∷ frames) (suc i) good e = short (index + 1) (offset + length (frame_text g)) frames i good.1 e
+
+-- ---- one frame more of a run
+
+-- there is room for the transactions of the next frame
+pub room_for_next : (frames : List Frame) (i : ℕ) (f : Frame) (genesis : List Row) (state : List Row) → IsFeed frames → slice_get frames i ≡ Some f → AreAccounts genesis → state ≡ state_after (feed_transactions (take i frames)) genesis
+    → HasRoom (length (feed_transactions (f ∷ []))) state
+room_for_next frames i f genesis state feed e accounts same =
+    let next : feed_transactions (take (i + 1) frames) ≡ feed_transactions (take i frames) ++ feed_transactions (f ∷ []) = ap feed_transactions (take_next frames i f e) ∙ feed_transactions-append (take i frames) (f ∷ []) in
+    let few : length (feed_transactions (take i frames)) + length (feed_transactions (f ∷ [])) < 2 ^ 63 = omega (arith, few_transactions frames (i + 1) feed, ap length next, length-append (feed_transactions (take i frames)) (feed_transactions (f ∷ []))) in
+    subst (λ (rows : List Row). HasRoom (length (feed_transactions (f ∷ []))) rows) (sym same) (room_left (feed_transactions (take i frames)) (length (feed_transactions (f ∷ []))) genesis accounts few)
+
+pub counts_next : (frames : List Frame) (i : ℕ) (f : Frame) (old new : List (Option ℕ)) → slice_get frames i ≡ Some f → old ≡ map count_in (payloads_of (take i frames)) → new ≡ old ++ map count_in (payloads_of (f ∷ []))
+    → new ≡ map count_in (payloads_of (take (i + 1) frames))
+counts_next frames i f old new e before grown =
+    grown ∙ ap (λ (t : List (Option ℕ)). t ++ map count_in (payloads_of (f ∷ []))) before ∙ sym (map-append count_in (payloads_of (take i frames)) (payloads_of (f ∷ []))) ∙ ap (map count_in) (sym (payloads_of-append (take i frames) (f ∷ [])) ∙ ap payloads_of (sym (take_next frames i f e)))
+
+pub transactions_next : (frames : List Frame) (i : ℕ) (f : Frame) → slice_get frames i ≡ Some f → feed_transactions (take (i + 1) frames) ≡ feed_transactions (take i frames) ++ feed_transactions (f ∷ [])
+transactions_next frames i f e = ap feed_transactions (take_next frames i f e) ∙ feed_transactions-append (take i frames) (f ∷ [])
+
+pub receipts_next : (frames : List Frame) (i : ℕ) (f : Frame) (genesis state : List Row) (old new : List Receipt) → slice_get frames i ≡ Some f → state ≡ state_after (feed_transactions (take i frames)) genesis → old ≡ receipts_of (feed_transactions (take i frames)) genesis
+    → new ≡ old ++ receipts_of (feed_transactions (f ∷ [])) state → new ≡ receipts_of (feed_transactions (take (i + 1) frames)) genesis
+receipts_next frames i f genesis state old new e same before grown =
+    grown ∙ (λ j. before j ++ receipts_of (feed_transactions (f ∷ [])) (same j)) ∙ sym (receipts_of-append (feed_transactions (take i frames)) (feed_transactions (f ∷ [])) genesis) ∙ ap (λ (t : List (Option Tx)). receipts_of t genesis) (sym (transactions_next frames i f e))
+
+pub state_next : (frames : List Frame) (i : ℕ) (f : Frame) (genesis old new : List Row) → slice_get frames i ≡ Some f → old ≡ state_after (feed_transactions (take i frames)) genesis → new ≡ state_after (feed_transactions (f ∷ [])) old
+    → new ≡ state_after (feed_transactions (take (i + 1) frames)) genesis
+state_next frames i f genesis old new e before grown =
+    grown ∙ ap (state_after (feed_transactions (f ∷ []))) before ∙ sym (state_after-append (feed_transactions (take i frames)) (feed_transactions (f ∷ [])) genesis) ∙ ap (λ (t : List (Option Tx)). state_after t genesis) (sym (transactions_next frames i f e))

@@ -1,0 +1,33 @@
+-- What a page of text and the sink behind it hold.
+use Rattle.std.specs.Prelude.{◌≡◌, ℕ, ◌+◌, List, [], ◌++◌, length, Option, Result, Ok, Err}
+use Rattle.std.specs.Io.KnownBytes.{Appends}
+use Rattle.bk_frames.specs.declared.writing.WriteFault.{WriteFault}
+
+-- how many bytes have gone out before a page, and its bytes
+pub record Gathered : Type 0 where
+  pub out : ℕ
+  pub bytes : List ℕ
+
+-- the empty page, and no byte out
+abbrev pub blank : Gathered
+blank = record { out = 0; bytes = [] }
+
+-- a text was put: some bytes went out, and the page holds what is left
+pub record Puts (old new : Option (List ℕ)) (before after : Gathered) (text : List ℕ) : Type 0 where
+  pub pushed : List ℕ
+  pub gave : Appends old new pushed
+  pub kept : before.bytes ++ text ≡ pushed ++ after.bytes
+  pub out : after.out ≡ before.out + length pushed
+
+-- putting a text failed after some bytes, and this many are out in all
+pub record Stops (old new : Option (List ℕ)) (before : Gathered) (text : List ℕ) (written : ℕ) : Type 0 where
+  pub pushed : List ℕ
+  pub rest : List ℕ
+  pub gave : Appends old new pushed
+  pub kept : before.bytes ++ text ≡ pushed ++ rest
+  pub out : written ≡ before.out + length pushed
+
+-- what came of putting a text, and how the sink's failures count
+abbrev pub Written : {X : Type 0} → Result X WriteFault → ℕ → ℕ → Option (List ℕ) → Option (List ℕ) → Gathered → Gathered → List ℕ → Type 0
+Written (Ok x) before after old new page page' text = (after ≡ before) × Puts old new page page' text
+Written (Err e) before after old new page page' text = (after ≡ before + 1) × Stops old new page text e.written

@@ -1,0 +1,20 @@
+//! Replays of a feed: what comes in as bytes goes out as the bytes of the report that the definitions read off it.
+//!
+//! [`apply`] reads a whole feed, executes its batches in feed order, and writes exactly the text of the report, or names
+//! the one fault of the feed and writes nothing.
+#![tactic(auto)]
+
+mod applying;
+mod fault;
+mod laws;
+mod ledger;
+mod line;
+mod page;
+
+pub use applying::apply;
+pub use fault::Fault;
+pub use laws::{money_is_that_of_genesis, one_report};
+pub use line::Line;
+
+#[cfg(test)]
+mod tests;
