@@ -1,0 +1,65 @@
+//! Work for `bench/digest` to time: one kind of hashing a call, as often as it is told.
+//!
+//! `bk_bench WORK COUNT` prints one digest, which depends on all the work.
+#![tactic(auto)]
+
+use anyhow::{Context, Result, bail};
+use bk_digest::{Digest32, MacKey, hmac, tree_root, tree_root_with};
+use std::alloc::{AllocError, Global};
+use std::env;
+
+/// The leaf data of so many accounts, each of its own number.
+fn leaves(alloc: Global, count: u32) -> Result<Vec<[u8; 24]>, AllocError> {
+    let mut leaves = Vec::new(alloc);
+    for id in 0..count {
+        let [a, b, c, d] = id.to_be_bytes();
+        let mut leaf = [0u8; 24];
+        leaf[4] = a;
+        leaf[5] = b;
+        leaf[6] = c;
+        leaf[7] = d;
+        leaves.push(leaf)?;
+    }
+    Ok(leaves)
+}
+
+/// So many tags, each over the one before it, under a key that is prepared for each.
+fn tags(count: u32) -> Digest32 {
+    let mut last = Digest32::of(b"");
+    for _ in 0..count {
+        last = hmac(&[7; 32], last.as_bytes());
+    }
+    last
+}
+
+/// The same tags, under a key that is prepared once.
+fn prepared_tags(count: u32) -> Digest32 {
+    let key = MacKey::new(&[7; 32]);
+    let mut last = Digest32::of(b"");
+    for _ in 0..count {
+        last = key.tag(last.as_bytes());
+    }
+    last
+}
+
+fn main(rt: HostRuntime) -> Result<()> {
+    let alloc = rt.alloc();
+    let words: Vec<String> = env::args(&rt)?.collect(alloc)?;
+    let [_, work, count] = words.as_slice() else {
+        bail!("usage: bk_bench WORK COUNT");
+    };
+    let count = count.parse::<u32>().context("the count")?;
+    let digest = match work.as_str() {
+        // Hashes so many bytes in one go.
+        "bytes" => Digest32::of(vec![in alloc; 0u8; count as usize]?.as_slice()),
+        "tags" => tags(count),
+        "prepared" => prepared_tags(count),
+        // The leaves alone, to take off what making them costs.
+        "leaves" => Digest32::of(&leaves(alloc, count)?.len().to_be_bytes()),
+        "root" => tree_root(leaves(alloc, count)?.as_slice()),
+        "threads" => tree_root_with(&rt, leaves(alloc, count)?.as_slice()),
+        _ => bail!("no such work"),
+    };
+    println!(rt; "{digest}")?;
+    Ok(())
+}

@@ -1,0 +1,2 @@
+mod StatusLemmas
+mod WordLemmas

@@ -1,0 +1,49 @@
+-- How the program ends after a fault: its exit status, and the line that tells it.
+use Rattle.std.specs.Prelude.{◌≡◌, ℕ, ◌+◌, List, ◌++◌, Option, ◌⊎◌, codes, decimal, take}
+use Rattle.std.specs.Io.KnownBytes.{Appends}
+use Rattle.bk_frames.specs.declared.fault.FaultCode.{FaultCode}
+use Rattle.bk_frames.specs.declared.fault.FaultCode.TheVariants as code
+use Rattle.bk_replay.specs.declared.fault.Fault.{Fault}
+use Rattle.bk_replay.specs.declared.fault.Fault.TheVariants as fault
+
+-- the number of a fault of a feed
+abbrev pub code_number : FaultCode → ℕ
+code_number code.Magic = 1
+code_number code.Truncated = 2
+code_number code.Kind = 3
+code_number code.Length = 4
+code_number code.Committee = 5
+code_number code.Genesis = 6
+code_number code.Extra = 7
+code_number code.Read = 8
+code_number code.Memory = 9
+
+-- the exit status by a fault of a feed: 2 where the bytes are wrong, 4 where reading failed or found no memory
+abbrev pub code_status : FaultCode → ℕ
+code_status code.Magic = 2
+code_status code.Truncated = 2
+code_status code.Kind = 2
+code_status code.Length = 2
+code_status code.Committee = 2
+code_status code.Genesis = 2
+code_status code.Extra = 2
+code_status code.Read = 4
+code_status code.Memory = 4
+
+-- the exit status by a fault
+abbrev pub status_of : Fault → ℕ
+status_of (fault.Feed found) = code_status found.code
+status_of (fault.Write written) = 4
+status_of fault.Memory = 4
+
+-- the line that tells a fault, with its line feed
+abbrev pub line_of : Fault → List ℕ
+line_of (fault.Feed found) = codes "feed fault " ++ decimal (code_number found.code) ++ codes " at " ++ decimal found.offset ++ codes "\n"
+line_of (fault.Write written) = codes "write failed\n"
+line_of fault.Memory = codes "memory\n"
+
+-- a sink was told a text: it holds all of it; or it failed once more, and holds only some first bytes of it
+abbrev pub Tells : List ℕ → ℕ → ℕ → Option (List ℕ) → Option (List ℕ) → Type 0
+Tells text before after old new =
+    ((after ≡ before) × Appends old new text)
+    ⊎ ((after ≡ before + 1) × ((written : ℕ) × Appends old new (take written text)))

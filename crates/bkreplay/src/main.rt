@@ -1,0 +1,20 @@
+//! The program `bkreplay`: reads the command line, opens the files that it names and runs the job.
+#![tactic(auto)]
+
+mod fault_line;
+mod job;
+mod program;
+mod running;
+
+use crate::program::program;
+use bk_frames::Counted;
+use std::process::ExitCode;
+
+fn main(rt: HostRuntime) -> ExitCode {
+    let mut out = Counted::new(rt.stdout());
+    let mut err = Counted::new(rt.stderr());
+    ExitCode::from(program(&rt, &mut out, &mut err))
+}
+
+#[cfg(test)]
+mod tests;

@@ -1,0 +1,3 @@
+mod feeds;
+mod runs;
+mod words;
