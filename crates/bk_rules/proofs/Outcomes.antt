@@ -14,9 +14,9 @@ use Rattle.bk_tx.specs.declared.tx.Body.TheVariants.{Pay, PayIf, Sweep, Split}
 use Rattle.bk_tx.specs.Access.{receivers_in}
 use Rattle.bk_tx.specs.Spelling.{receivers_of}
 use Rattle.bk_rules.specs.declared.receipt.Receipt.{Receipt}
-use Rattle.bk_rules.specs.Rule.{IsLedger, Transfer, row_at, is_known, balance_at, changed_at, is_declared, are_known, sent, received, credited, sum_of, transfer_of, transfers_of, transfers_on, settled, outcome_of}
+use Rattle.bk_rules.specs.Rule.{IsLedger, Transfer, row_of, is_known, balance_at, changed_at, is_declared, are_known, sent, received, credited, sum_of, transfer_of, transfers_of, transfers_on, settled, outcome_of}
 use Rattle.bk_rules.specs.Fold.{state_after, receipts_of, HasRoom}
-use Rattle.bk_rules.specs.Place.{status_by, blank, nth, IsAt}
+use Rattle.bk_rules.specs.Place.{status_by, no_row, nth, IsAt}
 use Rattle.bk_rules.proofs.Rows.{and_left, and_right, place_of_known, balance_at_place, changed_at_place}
 
 -- ---- the cases of the rule
@@ -60,7 +60,7 @@ known_by_ids : (rows : List Row) (id : ℕ) → is_known rows id ≡ list_any (�
 known_by_ids [] id = refl
 known_by_ids (r ∷ rows) id = by_test (eqb r.id id) (known_by_ids rows id)
   where
-    by_test : (b : Bool) → is_known rows id ≡ list_any (λ i. eqb i id) (ids_of rows) → is_some (cond b (Some r) (row_at rows id)) ≡ (b || list_any (λ i. eqb i id) (ids_of rows))
+    by_test : (b : Bool) → is_known rows id ≡ list_any (λ i. eqb i id) (ids_of rows) → is_some (cond b (Some r) (row_of rows id)) ≡ (b || list_any (λ i. eqb i id) (ids_of rows))
     by_test true rest = refl
     by_test false rest = rest
 
@@ -85,14 +85,14 @@ pub total-sent : (rows : List Row) → IsTrue (is_ascending (ids_of rows)) → (
 total-sent rows up id paid i at funds =
     let there = balance_at_place rows up id i at in
     let written = ap total_of (changed_at_place rows up id i (sent paid) at) in
-    let added = sum_by-set (λ (r : Row). r.balance) rows i (sent paid (nth rows i)) blank at.in_range in
+    let added = sum_by-set (λ (r : Row). r.balance) rows i (sent paid (nth rows i)) no_row at.in_range in
     omega arith
 
 -- a receiver's goes up by what it gets
 pub total-received : (rows : List Row) → IsTrue (is_ascending (ids_of rows)) → (id amount i : ℕ) → IsAt rows id i → total_of (changed_at id (received amount) rows) ≡ total_of rows + amount
 total-received rows up id amount i at =
     let written = ap total_of (changed_at_place rows up id i (received amount) at) in
-    let added = sum_by-set (λ (r : Row). r.balance) rows i (received amount (nth rows i)) blank at.in_range in
+    let added = sum_by-set (λ (r : Row). r.balance) rows i (received amount (nth rows i)) no_row at.in_range in
     omega arith
 
 -- two tests that agree at each element agree on a list

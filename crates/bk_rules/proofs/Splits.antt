@@ -18,7 +18,7 @@ use Rattle.bk_rules.specs.declared.receipt.Receipt.{Receipt}
 use Rattle.bk_rules.specs.declared.receipt.Status.{Status}
 use Rattle.bk_rules.specs.declared.receipt.Status.TheVariants as status
 use Rattle.bk_rules.specs.Rule.{IsLedger, Transfer, Floor, is_known, balance_at, seq_at, changed_at, is_declared, are_known, guard_passes, sent, received, credited, sum_of, transfer_of, transfers_of, transfers_on, status_of, settled, counted, refused, outcome_of, Outcome}
-use Rattle.bk_rules.specs.Place.{blank, nth, IsAt, no_payment, AllAt, status_by}
+use Rattle.bk_rules.specs.Place.{no_row, nth, IsAt, no_payment, AllAt, status_by}
 use Rattle.bk_rules.proofs.Rows.{changed_at_place, balance_at_place, seq_at_place}
 use Rattle.bk_rules.proofs.Outcomes.{ids-changed_at, total-sent, total-received}
 use Rattle.bk_rules.proofs.Steps.{known_at, and_both, status_from_tests, is_at_same, outcome_at}
@@ -162,7 +162,7 @@ module _ (start rows : List Row) (up : IsTrue (is_ascending (ids_of start))) (pa
   pub credit_fits : (nth rows (get_or places i 0)).balance + (payment_at payments i).amount < 2 ^ 64
   credit_fits =
       let there = receiver_there in
-      let part = get_or-le-sum_by (λ (u : Row). u.balance) rows (get_or places i 0) blank there.in_range in
+      let part = get_or-le-sum_by (λ (u : Row). u.balance) rows (get_or places i 0) no_row there.in_range in
       let first = sum_by-drop_more (λ (p : Payment). p.amount) payments i no_payment lt in
       let within = so_far.within in
       omega arith

@@ -18,19 +18,19 @@ use Rattle.bk_rules.specs.declared.apply.LeastAt.{LeastAt}
 use Rattle.bk_rules.specs.declared.apply.Places.{Places}
 use Rattle.bk_rules.specs.Rule.{IsLedger, Transfer, Floor, is_known, balance_at, seq_at, changed_at, is_declared, are_known, guard_of, guard_passes, sent, received, credited, sum_of, transfers_of, transfers_on, status_of, settled, outcome_of, Outcome}
 use Rattle.bk_rules.specs.Accounts.{account_of, account_at}
-use Rattle.bk_rules.specs.Place.{blank, nth, IsAt, floor_of, Names, Asks, GuardIsAt, GuardHolds, AreAt, status_by}
-use Rattle.bk_rules.proofs.Rows.{row_at_place, changed_at_place, balance_at_place, seq_at_place}
+use Rattle.bk_rules.specs.Place.{no_row, nth, IsAt, floor_of, Names, Asks, GuardIsAt, GuardHolds, AreAt, status_by}
+use Rattle.bk_rules.proofs.Rows.{row_of_place, changed_at_place, balance_at_place, seq_at_place}
 use Rattle.bk_rules.proofs.Outcomes.{ids-changed_at, total-sent}
 
 -- ---- what is read at a place
 
 -- the account of the row that was read at an id's place
 pub account_at_place : (rows : List Row) → IsTrue (is_ascending (ids_of rows)) → (id i : ℕ) → IsAt rows id i → (r : Row) → r ≡ get_or rows i r → Some (account_of r) ≡ account_at rows id
-account_at_place rows up id i at r read = sym (ap (λ (o : Option Row). option_map account_of o) (row_at_place rows up id i at ∙ ap (λ (s : Row). Some s) (get_or_default rows i blank r at.in_range ∙ sym read)))
+account_at_place rows up id i at r read = sym (ap (λ (o : Option Row). option_map account_of o) (row_of_place rows up id i at ∙ ap (λ (s : Row). Some s) (get_or_default rows i no_row r at.in_range ∙ sym read)))
 
 -- what stands somewhere is known
 pub known_at : (rows : List Row) → IsTrue (is_ascending (ids_of rows)) → (id i : ℕ) → IsAt rows id i → IsTrue (is_known rows id)
-known_at rows up id i at = ap (λ (o : Option Row). is_some o) (row_at_place rows up id i at)
+known_at rows up id i at = ap (λ (o : Option Row). is_some o) (row_of_place rows up id i at)
 
 -- ---- what a body asks for
 
@@ -176,7 +176,7 @@ module _ (rows : List Row) (ledger : IsLedger rows) (t : Tx) (r : Request) (asks
       let e = balance_at_place rows ledger.ascending t.from p.from found.sender in
       let left : total_of (changed_at t.from (sent r.amount) rows) + r.amount ≡ total_of rows = total-sent rows ledger.ascending t.from r.amount p.from found.sender (omega arith) in
       let written = ap total_of after_sent in
-      let part = get_or-le-sum_by (λ (u : Row). u.balance) (set rows p.from s) p.to blank receiver_after.in_range in
+      let part = get_or-le-sum_by (λ (u : Row). u.balance) (set rows p.from s) p.to no_row receiver_after.in_range in
       let within = ledger.within in
       omega arith
 

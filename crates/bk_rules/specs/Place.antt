@@ -14,12 +14,12 @@ use Rattle.bk_rules.specs.declared.apply.Places.{Places}
 use Rattle.bk_rules.specs.Rule.{Floor, transfers_of, guard_of}
 
 -- a row of nobody, read past the end
-abbrev pub blank : Row
-blank = record { id = 0; balance = 0; seq = 0 }
+abbrev pub no_row : Row
+no_row = record { id = 0; balance = 0; seq = 0 }
 
 -- the row at a place
 abbrev pub nth : List Row → ℕ → Row
-nth rows i = slice_index_or rows i blank
+nth rows i = slice_index_or rows i no_row
 
 -- the row at place i has the id
 pub record IsAt (rows : List Row) (id i : ℕ) : Type 0 where

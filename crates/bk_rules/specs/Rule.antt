@@ -22,20 +22,20 @@ pub record IsLedger (rows : List Row) : Type 0 where
 -- ---- accounts by id
 
 -- the row of this id, if there is one
-abbrev pub row_at : List Row → ℕ → Option Row
-row_at rows id = find (λ (r : Row). r.id == id) rows
+abbrev pub row_of : List Row → ℕ → Option Row
+row_of rows id = find (λ (r : Row). r.id == id) rows
 
 -- there is an account of this id
 abbrev pub is_known : List Row → ℕ → Bool
-is_known rows id = is_some (row_at rows id)
+is_known rows id = is_some (row_of rows id)
 
 -- its balance, 0 where there is no such account
 abbrev pub balance_at : List Row → ℕ → ℕ
-balance_at rows id = unwrap_or (option_map (λ (r : Row). r.balance) (row_at rows id)) 0
+balance_at rows id = unwrap_or (option_map (λ (r : Row). r.balance) (row_of rows id)) 0
 
 -- its sequence number, 0 where there is no such account
 abbrev pub seq_at : List Row → ℕ → ℕ
-seq_at rows id = unwrap_or (option_map (λ (r : Row). r.seq) (row_at rows id)) 0
+seq_at rows id = unwrap_or (option_map (λ (r : Row). r.seq) (row_of rows id)) 0
 
 -- the rows with the row of this id changed
 abbrev pub changed_at : ℕ → (Row → Row) → List Row → List Row

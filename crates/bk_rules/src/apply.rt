@@ -4,10 +4,11 @@ ghost use Rattle.std.specs.Prelude.{◌≡◌, ◌+◌, ◌^◌, ◌<◌, ◌≤
 ghost use Rattle.bk_frames.specs.Numbers.{is_ascending};
 ghost use Rattle.bk_frames.specs.Genesis.{ids_of};
 ghost use Rattle.bk_tx.specs.Access.{declares};
-ghost use Rattle.bk_rules.specs.Rule.{IsLedger, row_at, balance_at, guard_passes, is_declared, are_known, status_of, sent, received, outcome_of};
+ghost use Rattle.bk_rules.specs.Rule.{IsLedger, row_of, balance_at, guard_passes, is_declared, are_known, status_of, sent, received, outcome_of};
 ghost use Rattle.bk_rules.specs.Fold.{HasRoom};
 ghost use Rattle.bk_rules.specs.Place.{IsAt, IsSingle, Names, Asks, GuardHolds, AreAt, status_by};
 
+use crate::finding::{Hints, place_of};
 use crate::receipt::{Receipt, Status};
 use crate::split::apply_split;
 use bk_frames::Row;
@@ -44,20 +45,20 @@ struct Places {
 }
 
 // One transaction. Each account is looked up once, and nothing is changed before the status is known.
-pub(crate) fn apply_to(rows: &mut [Row], tx: &Tx) -> Receipt
+pub(crate) fn apply_to(rows: &mut [Row], hints: &Hints, tx: &Tx) -> Receipt
     requires ledger { IsLedger rows.old }
     requires room { HasRoom 1 rows.old }
     ensures receipt { result ≡ (outcome_of (Some tx.now) rows.old).receipt }
     ensures after { rows.new ≡ (outcome_of (Some tx.now) rows.old).after }
 {
     match &tx.body {
-        Body::Split { payments } => apply_split(rows, tx, payments.as_slice()),
-        _ => apply_single(rows, tx),
+        Body::Split { payments } => apply_split(rows, hints, tx, payments.as_slice()),
+        _ => apply_single(rows, hints, tx),
     }
 }
 
 // A transaction that pays one receiver.
-fn apply_single(rows: &mut [Row], tx: &Tx) -> Receipt
+fn apply_single(rows: &mut [Row], hints: &Hints, tx: &Tx) -> Receipt
     requires single { IsSingle tx.now.body }
     requires ledger { IsLedger rows.old }
     requires room { HasRoom 1 rows.old }
@@ -68,7 +69,7 @@ fn apply_single(rows: &mut [Row], tx: &Tx) -> Receipt
     if !is_declared(tx, &request) {
         return unmoved(Status::Undeclared);
     }
-    let Some(places) = find(rows, tx, &request) else {
+    let Some(places) = find(rows, hints, tx, &request) else {
         return unmoved(Status::Unknown);
     };
     // What a sweep moves is known only here.
@@ -134,31 +135,22 @@ fn guard_is_declared(tx: &Tx, request: &Request) -> bool
 }
 
 // Where the accounts stand that the transaction names, if they are all there.
-fn find(rows: &[Row], tx: &Tx, request: &Request) -> Option<Places>
+fn find(rows: &[Row], hints: &Hints, tx: &Tx, request: &Request) -> Option<Places>
     requires ascending { IsTrue (is_ascending (ids_of rows.now)) }
     requires names { Names tx.now.body request.now }
     ensures known { is_some result ≡ are_known rows.now tx.now }
     ensures found { IfSome result (AreAt rows.now tx.now.from request.now) }
 {
-    let from = place_of(rows, tx.from)?;
-    let to = place_of(rows, request.to)?;
+    let from = place_of(rows, hints, tx.from)?;
+    let to = place_of(rows, hints, request.to)?;
     let guard = match request.guard {
         None => None,
         Some(guard) => Some(LeastAt {
-            at: place_of(rows, guard.id)?,
+            at: place_of(rows, hints, guard.id)?,
             least: guard.least,
         }),
     };
     Some(Places { from, to, guard })
-}
-
-// Where the row of an account stands.
-pub(crate) fn place_of(rows: &[Row], id: u64) -> Option<usize>
-    requires { IsTrue (is_ascending (ids_of rows.now)) }
-    ensures found { IfSome result (IsAt rows.now id) }
-    ensures absent { IfNone result (row_at rows.now id ≡ None) }
-{
-    rows.binary_search_by_key(&id, |row| row.id).ok()
 }
 
 // The status of a transaction that is declared and whose accounts are there.

@@ -5,6 +5,7 @@
 #![tactic(auto)]
 
 mod apply;
+mod finding;
 mod laws;
 mod receipt;
 mod run;

@@ -10,13 +10,14 @@ ghost use Rattle.bk_rules.specs.Rule.{IsLedger, is_known, is_declared, are_known
 ghost use Rattle.bk_rules.specs.Fold.{HasRoom};
 ghost use Rattle.bk_rules.specs.Place.{IsAt, AllAt};
 
-use crate::apply::{place_of, received, sent, unmoved};
+use crate::apply::{received, sent, unmoved};
+use crate::finding::{Hints, place_of};
 use crate::receipt::{Receipt, Status};
 use bk_frames::Row;
 use bk_tx::{Payment, Tx};
 
 // A split of these payments. Each account is looked up once, and nothing is changed before the status is known.
-pub(crate) fn apply_split(rows: &mut [Row], tx: &Tx, payments: &[Payment]) -> Receipt
+pub(crate) fn apply_split(rows: &mut [Row], hints: &Hints, tx: &Tx, payments: &[Payment]) -> Receipt
     requires split { tx.now.body ≡ Split payments.now }
     requires few { length payments.now ≤ 6 }
     requires ledger { IsLedger rows.old }
@@ -27,10 +28,10 @@ pub(crate) fn apply_split(rows: &mut [Row], tx: &Tx, payments: &[Payment]) -> Re
     if !may_split(tx, payments) {
         return unmoved(Status::Undeclared);
     }
-    let Some(from) = place_of(rows, tx.from) else {
+    let Some(from) = place_of(rows, hints, tx.from) else {
         return unmoved(Status::Unknown);
     };
-    let Some(places) = places_of(rows, payments) else {
+    let Some(places) = places_of(rows, hints, payments) else {
         return unmoved(Status::Unknown);
     };
     settle_split(rows, tx, payments, from, &places)
@@ -52,7 +53,7 @@ fn may_receive(tx: &Tx, payments: &[Payment]) -> bool
 }
 
 // Where the rows of the receivers stand, in their order, if all are there.
-fn places_of(rows: &[Row], payments: &[Payment]) -> Option<[usize; 6]>
+fn places_of(rows: &[Row], hints: &Hints, payments: &[Payment]) -> Option<[usize; 6]>
     requires ascending { IsTrue (is_ascending (ids_of rows.now)) }
     requires few { length payments.now ≤ 6 }
     ensures found { IfSome result (AllAt rows.now payments.now) }
@@ -60,7 +61,7 @@ fn places_of(rows: &[Row], payments: &[Payment]) -> Option<[usize; 6]>
 {
     let mut places = [0; 6];
     for i in 0..payments.len() {
-        places[i] = place_of(rows, payments[i].to)?;
+        places[i] = place_of(rows, hints, payments[i].to)?;
     }
     Some(places)
 }

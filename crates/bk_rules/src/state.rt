@@ -5,7 +5,8 @@ ghost use Rattle.bk_rules.specs.Rule.{IsLedger, outcome_of};
 ghost use Rattle.bk_rules.specs.Fold.{HasRoom};
 ghost use Rattle.bk_rules.specs.Accounts.{account_at};
 
-use crate::apply::{apply_to, place_of, unmoved};
+use crate::apply::{apply_to, unmoved};
+use crate::finding::{Hints, place_of};
 use crate::receipt::{Receipt, Status};
 use bk_frames::Row;
 use bk_tx::Tx;
@@ -25,6 +26,7 @@ pub struct Account {
 #[derive(Debug, Drop)]
 pub struct State {
     rows: Vec<Row>,
+    hints: Hints,
 }
 
 impl Model for State {
@@ -47,6 +49,7 @@ impl State {
     {
         Ok(State {
             rows: Vec::from_slice(alloc, rows)?,
+            hints: Hints::new(alloc, rows)?,
         })
     }
 
@@ -76,7 +79,7 @@ impl State {
     pub fn account(&self, id: u64) -> Option<Account>
         ensures { result ≡ account_at self.now id }
     {
-        let row = self.rows[place_of(&self.rows, id)?];
+        let row = self.rows[place_of(&self.rows, &self.hints, id)?];
         Some(Account {
             balance: row.balance,
             seq: row.seq,
@@ -100,7 +103,7 @@ impl State {
     {
         match tx {
             None => unmoved(Status::Malformed),
-            Some(tx) => apply_to(&mut self.rows, tx),
+            Some(tx) => apply_to(&mut self.rows, &self.hints, tx),
         }
     }
 }

@@ -12,7 +12,7 @@ use Rattle.bk_tx.specs.declared.declared.Declared.{Declared}
 use Rattle.bk_tx.specs.declared.tx.Tx.{Tx}
 use Rattle.bk_tx.specs.declared.tx.Body.{Body}
 use Rattle.bk_tx.specs.declared.tx.Body.TheVariants.{Pay, PayIf, Sweep, Split}
-use Rattle.bk_tx.specs.Access.{ids_of}
+use Rattle.bk_tx.specs.Access.{declared_ids}
 use Rattle.bk_tx.specs.Spelling.{wide, declared_text, kind_of, body_text, receivers_of, BodyFits, transaction_text, IsTransaction}
 use Rattle.bk_tx.specs.Reading.{IsBytes, writable_of, declared_at, entries_at, is_count, declarations_at, pay_at, pay_if_at, sweep_at, split_at, body_at, pays, transaction_of}
 use Rattle.bk_tx.proofs.Fields.{bind_some, some_is, Takes, Takes-then, byte_takes, byte_again, wide64, number_takes, number_again}
@@ -86,7 +86,7 @@ entries_again (d ∷ ds) rest fits =
 record AreDeclared (ds : List Declared) : Type 0 where
   some : 1 ≤ length ds
   few : length ds ≤ 8
-  ascending : IsTrue (is_ascending (ids_of ds))
+  ascending : IsTrue (is_ascending (declared_ids ds))
   ids_fit : AllByRecursion IdFits ds
 
 taken : {A : Type 0} (b : Bool) (o : Option A) (x : A) → cond b o None ≡ Some x → (b ≡ true) × (o ≡ Some x)
@@ -102,17 +102,17 @@ count_is n o x e =
 declarations_take : (bytes : List ℕ) (x : List Declared × List ℕ) → IsBytes bytes → declarations_at bytes ≡ Some x → Takes bytes (length x.0 ∷ flat_map declared_text x.0) x.1 × AreDeclared x.0
 unfolding declarations_at
 declarations_take bytes x fits e =
-    let a = bind_some (number_at w8 bytes) (λ count. cond (is_count count.0) (entries_at count.0 count.1) None >>= λ entries. cond (is_ascending (ids_of entries.0)) (Some entries) None) x e in
-    let b = bind_some (cond (is_count a.0.0) (entries_at a.0.0 a.0.1) None) (λ entries. cond (is_ascending (ids_of entries.0)) (Some entries) None) x a.2 in
+    let a = bind_some (number_at w8 bytes) (λ count. cond (is_count count.0) (entries_at count.0 count.1) None >>= λ entries. cond (is_ascending (declared_ids entries.0)) (Some entries) None) x e in
+    let b = bind_some (cond (is_count a.0.0) (entries_at a.0.0 a.0.1) None) (λ entries. cond (is_ascending (declared_ids entries.0)) (Some entries) None) x a.2 in
     let n = count_is a.0.0 (entries_at a.0.0 a.0.1) b.0 b.1 in
-    let g = cond_some (is_ascending (ids_of b.0.0)) b.0 x b.2 in
+    let g = cond_some (is_ascending (declared_ids b.0.0)) b.0 x b.2 in
     let t0 = byte_takes bytes a.0.0 a.0.1 fits a.1 in
     let t1 = entries_take a.0.0 a.0.1 b.0 t0.0.rest_fits n.2 in
     let both = Takes-then bytes (a.0.0 ∷ []) a.0.1 (flat_map declared_text b.0.0) b.0.1 t0.0 t1.0 in
     let spelled : Takes bytes (length b.0.0 ∷ flat_map declared_text b.0.0) b.0.1 = subst (λ (k : ℕ). Takes bytes (k ∷ flat_map declared_text b.0.0) b.0.1) (sym t1.1) both in
     subst (λ (y : List Declared × List ℕ). Takes bytes (length y.0 ∷ flat_map declared_text y.0) y.1 × AreDeclared y.0) g.1 (spelled, record { some = omega (arith, t1.1, n.0); few = omega (arith, t1.1, n.1); ascending = g.0; ids_fit = t1.2 })
 
-declarations_steps : (bytes r0 r1 : List ℕ) (n : ℕ) (ds : List Declared) → number_at w8 bytes ≡ Some (n, r0) → is_count n ≡ true → entries_at n r0 ≡ Some (ds, r1) → is_ascending (ids_of ds) ≡ true → declarations_at bytes ≡ Some (ds, r1)
+declarations_steps : (bytes r0 r1 : List ℕ) (n : ℕ) (ds : List Declared) → number_at w8 bytes ≡ Some (n, r0) → is_count n ≡ true → entries_at n r0 ≡ Some (ds, r1) → is_ascending (declared_ids ds) ≡ true → declarations_at bytes ≡ Some (ds, r1)
 unfolding declarations_at
 declarations_steps bytes r0 r1 n ds e0 e1 e2 e3 = rw (e0, e1, e2, e3) refl
 

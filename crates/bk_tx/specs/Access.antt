@@ -5,8 +5,8 @@ use Rattle.bk_tx.specs.declared.declared.Declared.{Declared}
 use Rattle.bk_tx.specs.declared.payments.Payment.{Payment}
 
 -- the ids of declared accounts
-abbrev pub ids_of : List Declared → List ℕ
-ids_of declarations = map (λ (d : Declared). d.id) declarations
+abbrev pub declared_ids : List Declared → List ℕ
+declared_ids declarations = map (λ (d : Declared). d.id) declarations
 
 -- the account is declared for writing
 abbrev pub writes : List Declared → ℕ → Bool

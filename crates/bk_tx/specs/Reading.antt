@@ -8,7 +8,7 @@ use Rattle.bk_tx.specs.declared.payments.Payment.{Payment}
 use Rattle.bk_tx.specs.declared.tx.Tx.{Tx}
 use Rattle.bk_tx.specs.declared.tx.Body.{Body}
 use Rattle.bk_tx.specs.declared.tx.Body.TheVariants.{Pay, PayIf, Sweep, Split}
-use Rattle.bk_tx.specs.Access.{ids_of, receivers_in}
+use Rattle.bk_tx.specs.Access.{declared_ids, receivers_in}
 use Rattle.bk_tx.specs.Spelling.{receivers_of}
 
 -- each number of the list is a byte
@@ -46,7 +46,7 @@ unfoldable pub declarations_at : List ℕ → Option (List Declared × List ℕ)
 declarations_at bytes = do
   count ← number_at w8 bytes
   entries ← (if is_count count.0 then entries_at count.0 count.1 else None)
-  if is_ascending (ids_of entries.0) then Some entries else None
+  if is_ascending (declared_ids entries.0) then Some entries else None
 
 -- receiver and amount at the front
 unfoldable pub pay_at : List ℕ → Option (Body × List ℕ)

@@ -1,6 +1,6 @@
 ghost use Rattle.std.specs.Prelude.{◌≡◌, ◌≤◌, length, take, IfSome, IsSome, ◌↔◌};
 ghost use Rattle.bk_frames.specs.Numbers.{is_ascending};
-ghost use Rattle.bk_tx.specs.Access.{writes, declares, ids_of};
+ghost use Rattle.bk_tx.specs.Access.{writes, declares, declared_ids};
 
 use std::marker::Model;
 
@@ -87,7 +87,7 @@ impl Declarations {
 
     /// Whether each id is below the one after it.
     pub(crate) fn is_ascending(&self) -> bool
-        ensures { result ≡ is_ascending (ids_of self.now) }
+        ensures { result ≡ is_ascending (declared_ids self.now) }
     {
         self.as_slice().is_sorted_by(|a, b| a.id < b.id)
     }

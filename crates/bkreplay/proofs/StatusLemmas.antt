@@ -9,7 +9,7 @@ use Rattle.bk_frames.specs.declared.fault.FeedFault.{FeedFault}
 use Rattle.bk_replay.specs.Answers.{Failures, Fails}
 use Rattle.bk_replay.specs.declared.fault.Fault.{Fault}
 use Rattle.bk_replay.specs.declared.fault.Fault.TheVariants as fault
-use Rattle.bkreplay.specs.Faults.{code_status, status_of}
+use Rattle.bkreplay.specs.Faults.{code_status, exit_status_of}
 
 found_by_code : (f : FaultCode) (failed refused found : Type 0) → ByCode f failed refused found → code_status f ≡ 2 → found
 found_by_code code.Magic failed refused found h e = h
@@ -22,7 +22,7 @@ found_by_code code.Extra failed refused found h e = h
 found_by_code code.Read failed refused found h e = absurd (omega arith)
 found_by_code code.Memory failed refused found h e = absurd (omega arith)
 
-pub bytes_have_fault : (e : Fault) (before after : Failures) (known old new : Option (List ℕ)) → Fails e before after known old new → status_of e ≡ 2
+pub bytes_have_fault : (e : Fault) (before after : Failures) (known old new : Option (List ℕ)) → Fails e before after known old new → exit_status_of e ≡ 2
     → (found : FeedFault) × IfSome known (λ bytes. HasFault bytes found) × Keeps old new
 bytes_have_fault (fault.Feed found) before after known old new h s = (found, (found_by_code found.code _ _ _ h.0 s).1, h.2)
 bytes_have_fault (fault.Write written) before after known old new h s = absurd (omega arith)

@@ -31,10 +31,10 @@ code_status code.Read = 4
 code_status code.Memory = 4
 
 -- the exit status by a fault
-abbrev pub status_of : Fault → ℕ
-status_of (fault.Feed found) = code_status found.code
-status_of (fault.Write written) = 4
-status_of fault.Memory = 4
+abbrev pub exit_status_of : Fault → ℕ
+exit_status_of (fault.Feed found) = code_status found.code
+exit_status_of (fault.Write written) = 4
+exit_status_of fault.Memory = 4
 
 -- the line that tells a fault, with its line feed
 abbrev pub line_of : Fault → List ℕ

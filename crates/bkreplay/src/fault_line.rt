@@ -1,7 +1,7 @@
 //! How a fault ends the program: its exit status, and its line on standard error.
 
 ghost use Rattle.std.specs.Prelude.{◌≡◌, ◌+◌, ◌^◌, ◌<◌, ◌++◌};
-ghost use Rattle.bkreplay.specs.Faults.{Tells, line_of, status_of};
+ghost use Rattle.bkreplay.specs.Faults.{Tells, line_of, exit_status_of};
 
 use arrayvec::ArrayString;
 use bk_frames::{FaultCode, Sink, push_all};
@@ -10,7 +10,7 @@ use itoa::Buffer;
 
 /// The exit status: 2 where the bytes are wrong, 4 where a read, a write or memory failed.
 pub(crate) fn exit_status(fault: &Fault) -> u8
-    ensures { result ≡ status_of fault.now }
+    ensures { result ≡ exit_status_of fault.now }
 {
     match fault {
         Fault::Feed(found) => match found.code {

@@ -7,7 +7,7 @@ ghost use Rattle.bk_frames.specs.declared.fault.FeedFault.{FeedFault};
 ghost use Rattle.bk_replay.specs.Answers.{Fails};
 ghost use Rattle.bk_replay.specs.Report.{IsApplyReport};
 ghost use Rattle.bk_replay.specs.declared.fault.Fault.{Fault as AnyFault};
-ghost use Rattle.bkreplay.specs.Faults.{Tells, line_of, status_of};
+ghost use Rattle.bkreplay.specs.Faults.{Tells, line_of, exit_status_of};
 
 use crate::fault_line::{exit_status, tell};
 use crate::job::Job;
@@ -38,7 +38,7 @@ pub fn run_job<R: AllocGlobal, S1: Source, S2: Source, O: Sink, E: Sink>(
         (text : List ℕ) × IsApplyReport bytes text × Appends (O.contents out.old) (O.contents out.new) text) }
     ensures sound { result ≡ 0 → (S1.failed_calls first.new ≡ S1.failed_calls first.old)
         × (O.failed_calls out.new ≡ O.failed_calls out.old) × (err.new ≡ err.old) }
-    ensures fault { result ≢ 0 → (e : AnyFault) × (result ≡ status_of e)
+    ensures fault { result ≢ 0 → (e : AnyFault) × (result ≡ exit_status_of e)
         × Fails e
         (record { source = S1.failed_calls first.old; sink = O.failed_calls out.old })
         (record { source = S1.failed_calls first.new; sink = O.failed_calls out.new })

@@ -1,7 +1,7 @@
 use Rattle.std.proofs.Common.{rules}
 use Rattle.std.proofs.lemmas.List.Sorted.{answers_always}
 use Rattle.bk_rules.proofs.Rows.{searched}
-use Rattle.bk_rules.proofs.apply.place_of.Goals as goal
+use Rattle.bk_rules.proofs.finding.search.Goals as goal
 
 pub returns-clause-found : goal.returns-clause-found
 returns-clause-found c =
