@@ -1,12 +1,17 @@
-//! Work for `bench/digest` to time: one kind of hashing a call, as often as it is told.
+//! Work for `bench/digest` and `bench/certs` to time: one kind of work a call, as often as it is told.
 //!
-//! `bk_bench WORK COUNT` prints one digest, which depends on all the work.
+//! `bk_bench WORK COUNT` hashes, `bk_bench WORK COUNT SIZE` works on certificates, `small` or `large` ones. Each prints
+//! one digest, which depends on the work.
 #![tactic(auto)]
 
+mod certs;
+
+use crate::certs::Maker;
 use anyhow::{Context, Result, bail};
 use bk_digest::{Digest32, MacKey, hmac, tree_root, tree_root_with};
 use std::alloc::{AllocError, Global};
 use std::env;
+use std::thread::Threads;
 
 /// The leaf data of so many accounts, each of its own number.
 fn leaves(alloc: Global, count: u32) -> Result<Vec<[u8; 24]>, AllocError> {
@@ -42,14 +47,9 @@ fn prepared_tags(count: u32) -> Digest32 {
     last
 }
 
-fn main(rt: HostRuntime) -> Result<()> {
-    let alloc = rt.alloc();
-    let words: Vec<String> = env::args(&rt)?.collect(alloc)?;
-    let [_, work, count] = words.as_slice() else {
-        bail!("usage: bk_bench WORK COUNT");
-    };
-    let count = count.parse::<u32>().context("the count")?;
-    let digest = match work.as_str() {
+/// Hashes as the word says, so often.
+fn hashing<R: Threads + Sync>(rt: &R, alloc: Global, work: &str, count: u32) -> Result<Digest32> {
+    Ok(match work {
         // Hashes so many bytes in one go.
         "bytes" => Digest32::of(vec![in alloc; 0u8; count as usize]?.as_slice()),
         "tags" => tags(count),
@@ -57,8 +57,23 @@ fn main(rt: HostRuntime) -> Result<()> {
         // The leaves alone, to take off what making them costs.
         "leaves" => Digest32::of(&leaves(alloc, count)?.len().to_be_bytes()),
         "root" => tree_root(leaves(alloc, count)?.as_slice()),
-        "threads" => tree_root_with(&rt, leaves(alloc, count)?.as_slice()),
+        "threads" => tree_root_with(rt, leaves(alloc, count)?.as_slice()),
         _ => bail!("no such work"),
+    })
+}
+
+fn main(rt: HostRuntime) -> Result<()> {
+    let alloc = rt.alloc();
+    let words: Vec<String> = env::args(&rt)?.collect(alloc)?;
+    let (work, count, size) = match words.as_slice() {
+        [_, work, count] => (work, count, None),
+        [_, work, count, size] => (work, count, Some(size)),
+        _ => bail!("usage: bk_bench WORK COUNT [SIZE]"),
+    };
+    let count = count.parse::<u32>().context("the count")?;
+    let digest = match size {
+        None => hashing(&rt, alloc, work, count)?,
+        Some(size) => Maker::of(alloc, size)?.repeat(alloc, work, count)?,
     };
     println!(rt; "{digest}")?;
     Ok(())

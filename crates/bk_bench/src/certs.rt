@@ -1,0 +1,101 @@
+//! Certificates of two sizes, and the work on them that `bench/certs` times.
+
+use anyhow::{Context, Result, bail};
+use bk_cert::{Cert, Header};
+use bk_committee::Committee;
+use bk_digest::Digest32;
+use std::alloc::{AllocError, Global};
+
+/// What a certificate is made of: a committee, whose first members sign, and the digests that its header names.
+#[derive(Drop)]
+pub(crate) struct Maker {
+    committee: Committee,
+    signers: Vec<u8>,
+    batches: Vec<Digest32>,
+    parents: Vec<Digest32>,
+}
+
+impl Maker {
+    /// `small`: 4 members, of which 3 sign and 3 have made the parents, and one batch. `large`: 128 members, of which 86
+    /// sign and 86 have made the parents, and 100 batches.
+    pub(crate) fn of(alloc: Global, size: &str) -> Result<Maker> {
+        match size {
+            "small" => Maker::new(alloc, 4, 3, 1),
+            "large" => Maker::new(alloc, 128, 86, 100),
+            _ => bail!("no such size"),
+        }
+    }
+
+    fn new(alloc: Global, members: u8, quorum: u8, batches: u8) -> Result<Maker> {
+        let mut payload = vec![in alloc; 7u8; 1 + 32 * members as usize]?;
+        payload[0] = members;
+        let mut signers = Vec::new(alloc);
+        for signer in 0..quorum {
+            signers.push(signer)?;
+        }
+        Ok(Maker {
+            committee: Committee::parse(alloc, &payload)?,
+            signers,
+            batches: digests(alloc, batches)?,
+            parents: digests(alloc, quorum)?,
+        })
+    }
+
+    fn header(&self, alloc: Global) -> Result<Header> {
+        let batches = Vec::from_slice(alloc, &self.batches)?;
+        let parents = Vec::from_slice(alloc, &self.parents)?;
+        Header::new(0, 3, batches, parents).context("too many digests")
+    }
+
+    fn cert(&self, alloc: Global) -> Result<Cert> {
+        let members = self.committee.n();
+        if !self
+            .signers
+            .iter()
+            .all(|signer| (*signer as usize) < members)
+        {
+            bail!("no such signer");
+        }
+        Ok(Cert::seal(alloc, self.header(alloc)?, &self.committee, &self.signers)?)
+    }
+
+    /// Does the work so often, and gives a digest that depends on it.
+    pub(crate) fn repeat(&self, alloc: Global, work: &str, count: u32) -> Result<Digest32> {
+        let cert = self.cert(alloc)?;
+        let bytes = cert.encode(alloc)?;
+        let header_bytes = cert.header().header_bytes(alloc)?;
+        let mut last = Digest32::of(&bytes);
+        for _ in 0..count {
+            last = match work {
+                "hash" => Digest32::of(&bytes),
+                "hash-header" => Digest32::of(&header_bytes),
+                "decode" => first(
+                    Cert::decode(alloc, &bytes)?
+                        .context("no certificate")?
+                        .tags(),
+                ),
+                "id" => cert.header().id(),
+                "header" => first(self.header(alloc)?.parents()),
+                "seal" => first(self.cert(alloc)?.tags()),
+                _ => bail!("no such work"),
+            };
+        }
+        Ok(last)
+    }
+}
+
+/// The digests of so many texts of one byte.
+fn digests(alloc: Global, count: u8) -> Result<Vec<Digest32>, AllocError> {
+    let mut digests = Vec::new(alloc);
+    for byte in 0..count {
+        digests.push(Digest32::of(&[byte]))?;
+    }
+    Ok(digests)
+}
+
+fn first(digests: &[Digest32]) -> Digest32 {
+    match digests.first() {
+        Some(digest) => *digest,
+        None => Digest32::of(b""),
+    }
+}

@@ -1,0 +1,7 @@
+pub mod Values
+pub mod Mask
+pub mod Spelling
+pub mod Reading
+pub mod Identity
+pub mod Equality
+pub mod Laws

@@ -1,0 +1,21 @@
+//! Certificates: a header over batches and parents, its id, and the seal of members under it.
+//!
+//! `Cert::decode` answers exactly what the bytes spell, and nothing where they spell no certificate;
+//! `Cert::encode` writes the one spelling. `Cert::seal` makes the certificate that given members sign.
+//! That a tag is its member's is judged elsewhere: here a certificate is only well formed.
+#![tactic(auto)]
+
+mod cert;
+mod header;
+mod laws;
+mod mask;
+mod reading;
+mod writing;
+
+pub use cert::Cert;
+pub use header::{Header, id_of_bytes};
+pub use laws::{certificate_grammar, equal_headers};
+pub use mask::Mask;
+
+#[cfg(test)]
+mod tests;

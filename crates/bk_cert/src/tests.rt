@@ -1,0 +1,268 @@
+//! The expected digests are of Python's `hashlib` and `hmac`.
+
+use crate::*;
+use bk_committee::{Bad, Committee};
+use bk_digest::{Digest32, hmac};
+use std::alloc::{AllocError, Global};
+use std::process::Abort;
+use std::test::Fail;
+
+/// Round 1 by member 0, with no batches and no parents.
+const PLAIN: [u8; 8] = [0, 0, 0, 0, 1, 0, 0, 0];
+
+/// The id of that header.
+const ID: &str = "afb203aeddb54bba05c780118d206fa2d2a6dc339c542173499c03db2eb8b1c9";
+
+/// The tags of that id by members 0, 1 and 2.
+const TAGS: [&str; 3] = [
+    "a5787c9e8f4c9c051a737ecb157216b890b9d7c3c50295b6eb956f36faa3a506",
+    "e49058be9b8841332ef5ad08763efdfbf52273f6c49d65cd649370c2ece28933",
+    "7126fe79fe69a470e50f41f73beeb3689725f99fc21f88bddab3ef7922030557",
+];
+
+/// The id of the largest header, and its tag by member 127.
+const LARGEST_ID: &str = "5c1542a6ed16ca7250269dfdcc1e1c5f99b8f7f467471674f10dc7a77ae69216";
+
+const LAST_TAG: &str = "29d0ca7f957b95ca738c26b97b3aee6b834c07c4ae89f206a81ec04c8ab8db2b";
+
+/// A committee of so many members, of which member i has 32 bytes i + 1 as its key.
+fn committee_of(alloc: Global, members: u8) -> Result<Committee, Bad> {
+    match payload_of(alloc, members) {
+        Ok(payload) => Committee::parse(alloc, &payload),
+        Err(_) => Err(Bad::Memory),
+    }
+}
+
+fn payload_of(alloc: Global, members: u8) -> Result<Vec<u8>, AllocError> {
+    let mut payload = Vec::new(alloc);
+    payload.push(members)?;
+    for member in 0..members {
+        payload.extend_from_slice(&[member + 1; 32])?;
+    }
+    Ok(payload)
+}
+
+/// So many digests, of which number j has 32 bytes j mod 251.
+fn digests(alloc: Global, count: usize) -> Result<Vec<Digest32>, AllocError> {
+    let mut made = Vec::new(alloc);
+    for j in 0..count {
+        made.push(Digest32::new([(j % 251) as u8; 32]))?;
+    }
+    Ok(made)
+}
+
+/// The header of `PLAIN`.
+fn plain(rt: &impl Abort, alloc: Global) -> Header {
+    Header::new(0, 1, Vec::new(alloc), Vec::new(alloc)).expect(rt, "a header")
+}
+
+/// The header of 1,000 batches and 128 parents.
+fn largest(rt: &impl Abort, alloc: Global) -> Result<Header, AllocError> {
+    let batches = digests(alloc, 1_000)?;
+    let parents = digests(alloc, 128)?;
+    Ok(Header::new(127, 0xffff_fffe, batches, parents).expect(rt, "a header"))
+}
+
+fn sealed(
+    rt: &impl Abort,
+    alloc: Global,
+    header: Header,
+    committee: &Committee,
+    signers: &[u8],
+) -> Result<Cert, AllocError> {
+    assert!(rt;
+        signers
+            .iter()
+            .all(|signer| (*signer as usize) < committee.n())
+    );
+    Cert::seal(alloc, header, committee, signers)
+}
+
+fn parsed(rt: &impl Abort, text: &str) -> Digest32 {
+    Digest32::parse_hex(text.as_bytes()).expect(rt, "a digest")
+}
+
+/// The bytes of the plain header, sealed by members 0, 1 and 2 of four.
+fn plain_text(rt: &impl Abort, alloc: Global) -> Result<Vec<u8>, AllocError> {
+    let mut text = Vec::from_slice(alloc, &PLAIN)?;
+    text.push(7)?;
+    text.extend_from_slice(&[0; 15])?;
+    for tag in TAGS {
+        text.extend_from_slice(parsed(rt, tag).as_bytes())?;
+    }
+    Ok(text)
+}
+
+fn is_read(alloc: Global, bytes: &[u8]) -> Result<bool, AllocError> {
+    Ok(Cert::decode(alloc, bytes)?.is_some())
+}
+
+/// The id of the header that has the bytes up to this end.
+fn id_within(bytes: &[u8], end: usize) -> Option<Digest32> {
+    Some(id_of_bytes(bytes.get(..end)?))
+}
+
+/// The largest header, sealed by all members of this committee.
+fn full(rt: &impl Abort, alloc: Global, committee: &Committee) -> Result<Cert, AllocError> {
+    let mut signers = [0u8; 128];
+    for member in 0..128u8 {
+        signers[member as usize] = member;
+    }
+    sealed(rt, alloc, largest(rt, alloc)?, committee, &signers)
+}
+
+#[test]
+fn id_of_a_plain_header(rt: HostRuntime) -> Result<(), Fail> {
+    let header = plain(&rt, rt.alloc());
+    assert_eq!(rt; header.header_len(), 8);
+    assert_eq!(rt; header.id(), parsed(&rt, ID));
+    assert_eq!(rt; id_of_bytes(&PLAIN), parsed(&rt, ID));
+    let text = header.header_bytes(rt.alloc())?;
+    assert!(rt; text.as_slice() == PLAIN.as_slice());
+    Ok(())
+}
+
+#[test]
+fn three_of_four(rt: HostRuntime) -> Result<(), Fail> {
+    let alloc = rt.alloc();
+    let committee = committee_of(alloc, 4)?;
+    let cert = sealed(&rt, alloc, plain(&rt, alloc), &committee, &[0, 1, 2])?;
+    let text = cert.encode(alloc)?;
+    assert!(rt; text.len() == 120);
+    assert!(rt; text == plain_text(&rt, alloc)?);
+    Ok(())
+}
+
+#[test]
+fn plain_text_is_read(rt: HostRuntime) -> Result<(), Fail> {
+    let alloc = rt.alloc();
+    let text = plain_text(&rt, alloc)?;
+    let cert = Cert::decode(alloc, &text)?.expect(&rt, "a certificate");
+    assert!(rt; *cert.header() == plain(&rt, alloc));
+    assert_eq!(rt; cert.mask().len(), 3);
+    assert_eq!(rt; cert.tags().len(), 3);
+    certificate_grammar();
+    Ok(())
+}
+
+#[test]
+fn one_byte_wrong(rt: HostRuntime) -> Result<(), Fail> {
+    let alloc = rt.alloc();
+    let mut text = plain_text(&rt, alloc)?;
+    assert!(rt; text.len() == 120);
+    text[8] = 0x0f;
+    assert!(rt; !is_read(alloc, &text)?);
+    text[8] = 7;
+    text.push(0)?;
+    assert!(rt; !is_read(alloc, &text)?);
+    text.truncate(119);
+    assert!(rt; !is_read(alloc, &text)?);
+    Ok(())
+}
+
+#[test]
+fn tags_of_all_that_fits(rt: HostRuntime) -> Result<(), Fail> {
+    let alloc = rt.alloc();
+    let committee = committee_of(alloc, 128)?;
+    let cert = full(&rt, alloc, &committee)?;
+    let id = parsed(&rt, LARGEST_ID);
+    assert_eq!(rt; cert.header().id(), id);
+    assert!(rt; cert.tags().len() == 128 && committee.n() == 128);
+    for member in 0..128 {
+        assert_eq!(rt;
+            cert.tags()[member],
+            hmac(committee.key(member), id.as_bytes())
+        );
+    }
+    assert_eq!(rt; cert.tags()[127], parsed(&rt, LAST_TAG));
+    Ok(())
+}
+
+#[test]
+fn all_that_fits_is_read(rt: HostRuntime) -> Result<(), Fail> {
+    let alloc = rt.alloc();
+    let committee = committee_of(alloc, 128)?;
+    let text = full(&rt, alloc, &committee)?.encode(alloc)?;
+    assert_eq!(rt; text.len(), 36_104 + 16 + 128 * 32);
+    let read = Cert::decode(alloc, &text)?.expect(&rt, "a certificate");
+    let id = id_within(&text, read.header().header_len());
+    assert_eq!(rt; id, Some(parsed(&rt, LARGEST_ID)));
+    assert!(rt; read.encode(alloc)? == text);
+    Ok(())
+}
+
+#[test]
+fn headers_differ(rt: HostRuntime) -> Result<(), Fail> {
+    let alloc = rt.alloc();
+    let header = largest(&rt, alloc)?;
+    assert!(rt; header == largest(&rt, alloc)?);
+    assert!(rt; header != plain(&rt, alloc));
+    assert_eq!(rt; header.author(), 127);
+    assert_eq!(rt; header.round(), 0xffff_fffe);
+    equal_headers();
+    Ok(())
+}
+
+#[test]
+fn too_many_for_a_header(rt: HostRuntime) -> Result<(), Fail> {
+    let alloc = rt.alloc();
+    assert!(rt; Header::new(0, 1, digests(alloc, 1_001)?, Vec::new(alloc)).is_none());
+    assert!(rt; Header::new(0, 1, Vec::new(alloc), digests(alloc, 129)?).is_none());
+    Ok(())
+}
+
+#[test]
+fn too_many_in_bytes(rt: HostRuntime) -> Result<(), Fail> {
+    let alloc = rt.alloc();
+    // 1,001 batches, no parents and nobody's seal, with all their bytes
+    let mut text = Vec::from_slice(alloc, &[0, 0, 0, 0, 1, 3, 0xe9])?;
+    text.resize(7 + 1_001 * 32 + 1 + 16, 0)?;
+    assert!(rt; !is_read(alloc, &text)?);
+    // one batch fewer
+    text[6] = 0xe8;
+    text.truncate(7 + 1_000 * 32 + 1 + 16);
+    assert!(rt; is_read(alloc, &text)?);
+    // no batches and 129 parents
+    let mut text = Vec::from_slice(alloc, &[0, 0, 0, 0, 1, 0, 0, 129])?;
+    text.resize(8 + 129 * 32 + 16, 0)?;
+    assert!(rt; !is_read(alloc, &text)?);
+    Ok(())
+}
+
+#[test]
+fn named_in_any_order(rt: HostRuntime) -> Result<(), Fail> {
+    let alloc = rt.alloc();
+    let committee = committee_of(alloc, 10)?;
+    let cert = sealed(&rt, alloc, plain(&rt, alloc), &committee, &[9, 3, 9, 1, 3])?;
+    let other = sealed(&rt, alloc, plain(&rt, alloc), &committee, &[1, 3, 9])?;
+    assert_eq!(rt; *cert.mask(), *other.mask());
+    assert!(rt; cert.tags() == other.tags());
+    Ok(())
+}
+
+#[test]
+fn sealed_by_nobody(rt: HostRuntime) -> Result<(), Fail> {
+    let alloc = rt.alloc();
+    let committee = committee_of(alloc, 1)?;
+    let cert = sealed(&rt, alloc, plain(&rt, alloc), &committee, &[])?;
+    assert!(rt; cert.mask().is_empty());
+    let text = cert.encode(alloc)?;
+    assert_eq!(rt; text.len(), 24);
+    assert!(rt; is_read(alloc, &text)?);
+    Ok(())
+}
+
+#[test]
+fn masks(rt: HostRuntime) -> Result<(), Fail> {
+    let mut mask = Mask::of(&[127, 0]);
+    assert!(rt; mask.as_bytes()[0] == 1 && mask.as_bytes()[15] == 0x80);
+    mask.insert(9);
+    assert!(rt; mask.has(9) && !mask.has(8) && !mask.has(255));
+    assert_eq!(rt; mask.len(), 3);
+    let mut bytes = [0u8; 16];
+    bytes[0] = 1;
+    bytes[1] = 2;
+    bytes[15] = 0x80;
+    assert_eq!(rt; mask, Mask::new(bytes));
+    Ok(())
+}
