@@ -5,7 +5,7 @@ use Rattle.std.proofs.lemmas.Bool.{cases_lt, ltb-false, le-ltb}
 use Rattle.std.proofs.lemmas.List.{take_at, drop_at, take-append-drop, length-append, length-take, get_or-drop, get_or-take, get_or_past}
 use Rattle.std.proofs.lemmas.Nat.{be_bytes_2, be_bytes_4, from_be_bytes-to_be_bytes_2, from_be_bytes-to_be_bytes_4}
 use Rattle.bk_frames.specs.Numbers.{◌>>=◌, number_at, bytes_at}
-use Rattle.bk_frames.specs.Laws.{IsBytes}
+use Rattle.bk_frames.specs.Numbers.{IsBytes}
 
 IsBytes-drop : (n : ℕ) (bytes : List ℕ) → IsBytes bytes → IsBytes (drop n bytes)
 IsBytes-drop n bytes h i = rw get_or-drop (h (n + i))

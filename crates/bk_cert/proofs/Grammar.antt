@@ -6,7 +6,7 @@ use Rattle.std.specs.Int.{w8, w16, w32, to_be_bytes}
 use Rattle.std.proofs.lemmas.Bool.{eqb-true, leb-true, le-leb}
 use Rattle.std.proofs.lemmas.List.{append-nil, nil_from_length, take_at, drop_at}
 use Rattle.std.proofs.lemmas.Option.{cond_some, none-some}
-use Rattle.bk_frames.specs.Laws.{IsBytes}
+use Rattle.bk_frames.specs.Numbers.{IsBytes}
 use Rattle.bk_frames.specs.Numbers.{◌>>=◌, number_at, bytes_at}
 use Rattle.bk_committee.proofs.Grammar.{length-pieces, sized-pieces, concat-pieces, length-concat-sized, pieces-concat}
 use Rattle.bk_cert.specs.Values.{HeaderValue, CertValue, header_with, cert_with}

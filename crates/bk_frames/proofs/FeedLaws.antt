@@ -16,8 +16,9 @@ use Rattle.bk_frames.specs.declared.fault.FeedFault.{FeedFault}
 use Rattle.bk_frames.specs.Feed.{Frame, frame_text, spelling, magic, kind_number, stands_at, most_payload, most_feed, start_fault, kind_fault, length_fault, payload_fault, content_fault, frame_fault, fault_if, or_else, IsGoodAt, AreGoodFrom, IsFeed, Begins, HasFault, at_start, in_frame}
 use Rattle.bk_frames.specs.Committee.{is_committee}
 use Rattle.bk_frames.specs.Genesis.{is_genesis}
-use Rattle.bk_frames.specs.Pulling.{IsFramedAt}
-use Rattle.bk_frames.specs.Laws.{IsBytes, IsFeedOrHasFault}
+use Rattle.bk_frames.specs.Pulling.{IsFramedAt, StopsAt, cut_short, feed_ends, IsPartAt, CallsForMemoryAt, at_first, in_part}
+use Rattle.bk_frames.specs.Laws.{IsFeedOrHasFault}
+use Rattle.bk_frames.specs.Numbers.{IsBytes}
 use Rattle.bk_frames.proofs.FeedLemmas.{judged, good}
 use Rattle.bk_frames.proofs.Feeds.{and_true, good_more, spelling_more}
 
@@ -80,8 +81,8 @@ no_fault index offset f rest h = judged index offset f rest (record { in_place =
 
 pub data Compared (index offset : ℕ) (fs gs : List Frame) (r s : List ℕ) : Type 0 where
   same : fs ≡ gs → r ≡ s → Compared index offset fs gs r s
-  shorter : (g : Frame) (more : List ℕ) → r ≡ frame_text g ++ more → IsGoodAt (index + length fs) (offset + length (flat_map frame_text fs)) g → Compared index offset fs gs r s
-  longer : (f : Frame) (more : List ℕ) → s ≡ frame_text f ++ more → IsGoodAt (index + length gs) (offset + length (flat_map frame_text gs)) f → Compared index offset fs gs r s
+  shorter : (g : Frame) (more : List ℕ) → r ≡ frame_text g ++ more → IsGoodAt (index + length fs) (offset + length (flat_map frame_text fs)) g → length s ≤ length more → Compared index offset fs gs r s
+  longer : (f : Frame) (more : List ℕ) → s ≡ frame_text f ++ more → IsGoodAt (index + length gs) (offset + length (flat_map frame_text gs)) f → length r ≤ length more → Compared index offset fs gs r s
 
 placed : (index offset : ℕ) (f : Frame) → IsGoodAt index offset f → IsGoodAt (index + 0) (offset + 0) f
 placed index offset f h = let e : index ≡ index + 0 = omega arith in let k : offset ≡ offset + 0 = omega arith in subst (λ (p : ℕ × ℕ). IsGoodAt p.0 p.1 f) (λ i. (e i, k i)) h
@@ -97,17 +98,17 @@ moved index offset f fs h at =
 -- one frame more in front of both
 widen : (index offset : ℕ) (f g : Frame) (fs gs : List Frame) (r s : List ℕ) → f ≡ g → Compared (index + 1) (offset + length (frame_text f)) fs gs r s → Compared index offset (f ∷ fs) (g ∷ gs) r s
 widen index offset f g fs gs r s e (same frames rests) = same (λ i. e i ∷ frames i) rests
-widen index offset f g fs gs r s e (shorter h more rest at) = shorter h more rest (moved index offset f fs h at)
-widen index offset f g fs gs r s e (longer h more rest at) = longer h more rest (subst (λ (k : Frame). IsGoodAt (index + suc (length gs)) (offset + length (flat_map frame_text (k ∷ gs))) h) e (moved index offset f gs h at))
+widen index offset f g fs gs r s e (shorter h more rest at left) = shorter h more rest (moved index offset f fs h at) left
+widen index offset f g fs gs r s e (longer h more rest at left) = longer h more rest (subst (λ (k : Frame). IsGoodAt (index + suc (length gs)) (offset + length (flat_map frame_text (k ∷ gs))) h) e (moved index offset f gs h at)) left
 
 compare : (index offset : ℕ) (fs gs : List Frame) (r s : List ℕ) → AreGoodFrom index offset fs → AreGoodFrom index offset gs → flat_map frame_text fs ++ r ≡ flat_map frame_text gs ++ s → Compared index offset fs gs r s
 compare index offset [] [] r s gf gg e = same refl e
 compare index offset [] (g ∷ gs) r s gf gg e =
     shorter g (flat_map frame_text gs ++ s) (e ∙ ap (λ (t : List ℕ). t ++ s) (flat_map-cons frame_text g gs) ∙ append_assoc (frame_text g) (flat_map frame_text gs) s)
-    (placed index offset g gg.0)
+    (placed index offset g gg.0) (omega (arith, length-append (flat_map frame_text gs) s))
 compare index offset (f ∷ fs) [] r s gf gg e =
     longer f (flat_map frame_text fs ++ r) (sym e ∙ ap (λ (t : List ℕ). t ++ r) (flat_map-cons frame_text f fs) ∙ append_assoc (frame_text f) (flat_map frame_text fs) r)
-    (placed index offset f gf.0)
+    (placed index offset f gf.0) (omega (arith, length-append (flat_map frame_text fs) r))
 compare index offset (f ∷ fs) (g ∷ gs) r s gf gg e =
     let left : flat_map frame_text (f ∷ fs) ++ r ≡ frame_text f ++ (flat_map frame_text fs ++ r) = ap (λ (t : List ℕ). t ++ r) (flat_map-cons frame_text f fs) ∙ append_assoc (frame_text f) (flat_map frame_text fs) r in
     let right : flat_map frame_text (g ∷ gs) ++ s ≡ frame_text g ++ (flat_map frame_text gs ++ s) = ap (λ (t : List ℕ). t ++ s) (flat_map-cons frame_text g gs) ∙ append_assoc (frame_text g) (flat_map frame_text gs) s in
@@ -129,8 +130,8 @@ one_feed frames others f g e = by_cases (compare 0 4 frames others [] [] f.good 
   where
     by_cases : Compared 0 4 frames others [] [] → frames ≡ others
     by_cases (same h rests) = h
-    by_cases (shorter h more rest at) = absurd cc
-    by_cases (longer h more rest at) = absurd cc
+    by_cases (shorter h more rest at left) = absurd cc
+    by_cases (longer h more rest at left) = absurd cc
 
 -- the start of what begins with good frames shows no fault
 start_good : (rest : List ℕ) → start_fault (magic ++ rest) ≡ None
@@ -152,8 +153,8 @@ not_both frames fault f (in_frame others rest begins found offset) =
     by_cases (same h rests) found =
         let two : ltb (length others) 2 ≡ false = le-ltb _ _ (omega (arith, ap length h, f.opened)) in
         no_code fault.code (sym (ap (λ (b : Bool). fault_if b code.Truncated) two) ∙ subst (λ (t : List ℕ). frame_fault (length others) fault.offset t ≡ Some fault.code) (sym rests) found)
-    by_cases (shorter h more e at) found = absurd cc
-    by_cases (longer h more e at) found = no_fault_there (length others) fault.offset h more rest fault.code e (placed_here others fault.offset h offset at) found
+    by_cases (shorter h more e at left) found = absurd cc
+    by_cases (longer h more e at left) found = no_fault_there (length others) fault.offset h more rest fault.code e (placed_here others fault.offset h offset at) found
 
 some_is : (a b : FaultCode) → Some a ≡ Some b → a ≡ b
 some_is a b e = cc
@@ -172,8 +173,35 @@ one_fault bytes a b (in_frame fs r first found_a o) (in_frame gs s second found_
     by_cases (same frames rests) =
         let offsets : a.offset ≡ b.offset = o ∙ ap (λ (t : List Frame). length (spelling t)) frames ∙ sym p in
         fault_same a b offsets (some_is a.code b.code (sym found_a ∙ (λ i. frame_fault (length (frames i)) (offsets i) (rests i)) ∙ found_b))
-    by_cases (shorter h more e at) = absurd (no_fault_there (length fs) a.offset h more r a.code e (placed_here fs a.offset h o at) found_a)
-    by_cases (longer h more e at) = absurd (no_fault_there (length gs) b.offset h more s b.code e (placed_here gs b.offset h p at) found_b)
+    by_cases (shorter h more e at left) = absurd (no_fault_there (length fs) a.offset h more r a.code e (placed_here fs a.offset h o at) found_a)
+    by_cases (longer h more e at left) = absurd (no_fault_there (length gs) b.offset h more s b.code e (placed_here gs b.offset h p at) found_b)
+
+-- ---- where a text stops, and where it calls for memory
+
+pub one_stop : (bytes : List ℕ) (a b : ℕ) → StopsAt bytes a → StopsAt bytes b → a ≡ b
+one_stop bytes a b (cut_short f) (cut_short g) = ap (λ (fault : FeedFault). fault.offset) (one_fault bytes (record { offset = a; code = code.Truncated }) (record { offset = b; code = code.Truncated }) f g)
+one_stop bytes a b (cut_short f) (feed_ends frames feed spelled end) = absurd (not_both frames _ feed (subst (λ (t : List ℕ). HasFault t (record { offset = a; code = code.Truncated })) spelled f))
+one_stop bytes a b (feed_ends frames feed spelled end) (cut_short g) = absurd (not_both frames _ feed (subst (λ (t : List ℕ). HasFault t (record { offset = b; code = code.Truncated })) spelled g))
+one_stop bytes a b (feed_ends frames feed spelled end) (feed_ends others other also last) = end ∙ sym last
+
+-- a part of one frame that begins with another frame is that frame
+no_more : (index offset : ℕ) (part : List ℕ) (f : Frame) (more : List ℕ) → IsPartAt index offset part → part ≡ frame_text f ++ more → length f.payload ≤ most_payload → length more ≡ 0
+no_more index offset part f more p e short =
+    let whole : frame_text p.frame ++ [] ≡ frame_text f ++ (more ++ p.more) = append-nil (frame_text p.frame) ∙ p.joined ∙ ap (λ (t : List ℕ). t ++ p.more) e ∙ append_assoc (frame_text f) more p.more in
+    let one = frame_injective p.frame f [] (more ++ p.more) (omega (arith, p.framed.short)) (omega (arith, short)) whole in
+    omega (arith, ap length one.1, length-append more p.more)
+
+pub one_call_for_memory : (bytes : List ℕ) (a b : ℕ) → CallsForMemoryAt bytes a → CallsForMemoryAt bytes b → a ≡ b
+one_call_for_memory bytes a b (at_first none zero_a) (at_first also zero_b) = zero_a ∙ sym zero_b
+one_call_for_memory bytes a b (at_first none zero_a) (in_part gs q second part_b next_b) = absurd (omega (arith, ap length (sym none ∙ second.spelled)))
+one_call_for_memory bytes a b (in_part fs p first part_a next_a) (at_first none zero_b) = absurd (omega (arith, ap length (sym none ∙ first.spelled)))
+one_call_for_memory bytes a b (in_part fs p first part_a next_a) (in_part gs q second part_b next_b) =
+    by_cases (compare 0 4 fs gs p q first.good second.good (ap (λ (t : List ℕ). drop 4 t) (sym first.spelled ∙ second.spelled)))
+  where
+    by_cases : Compared 0 4 fs gs p q → a ≡ b
+    by_cases (same frames rests) = next_a ∙ ap (λ (t : List Frame). length (spelling t)) frames ∙ sym next_b
+    by_cases (shorter h more e at left) = absurd (omega (arith, no_more (length fs) a p h more part_a e at.short, left, part_b.measured))
+    by_cases (longer h more e at left) = absurd (omega (arith, no_more (length gs) b q h more part_b e at.short, left, part_a.measured))
 
 -- ---- each text has a reading
 

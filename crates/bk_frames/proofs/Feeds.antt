@@ -1,10 +1,11 @@
 -- Laws of feeds: their frames in turn, and their opening accounts.
-use Rattle.std.proofs.Common.{◌≡◌, ◌≢◌, ℕ, ◌+◌, ◌^◌, ◌<◌, ◌≤◌, Bool, true, false, cond, ltb, leb, eqb, ◌&&◌, List, [], ◌∷◌, ◌++◌, length, Option, Some, None, IsTrue, refl, sym, ap, subst, ◌∙◌, length-append, arith, zero, suc}
+use Rattle.std.proofs.Common.{inl, inr, ◌≡◌, ◌≢◌, ℕ, ◌+◌, ◌^◌, ◌<◌, ◌≤◌, Bool, true, false, cond, ltb, leb, eqb, ◌&&◌, List, [], ◌∷◌, ◌++◌, length, Option, Some, None, IsTrue, refl, sym, ap, subst, ◌∙◌, length-append, arith, zero, suc}
 use Rattle.std.specs.Prelude.{IfSome, is_some, unwrap_or}
 use Rattle.std.specs.List.{flat_map, list_all, AllByRecursion}
 use Rattle.std.specs.Io.KnownBytes.{Consumes}
 use Rattle.std.proofs.lemmas.Bool.{ltb-true}
 use Rattle.std.proofs.lemmas.Bool.Decides.{nat_tests}
+use Rattle.std.proofs.KnownBytes.{Consumes-nil}
 use Rattle.std.proofs.lemmas.List.{append-nil}
 use Rattle.std.proofs.lemmas.List.Concat.{flat_map-append, flat_map-cons}
 use Rattle.bk_frames.specs.declared.genesis.Row.{Row}
@@ -13,9 +14,10 @@ use Rattle.bk_frames.specs.Numbers.{◌>>=◌, number_at, is_ascending}
 use Rattle.bk_frames.specs.Genesis.{ids_of, total_of, are_accounts, AreAccounts, row_at, rows_at, rows_of}
 use Rattle.bk_frames.specs.declared.fault.FaultCode.TheVariants as code
 use Rattle.std.specs.Int.{w32}
-use Rattle.bk_frames.specs.Feed.{Frame, frame_text, spelling, magic, start_fault, IsGoodAt, AreGoodFrom, IsFeed, genesis_of, frame_fault, HasFault, at_start, in_frame, IsFrameStart, at_zero, after_good}
-use Rattle.bk_frames.specs.Pulling.{HasRead, ByCode, GivesUp, Refuses}
+use Rattle.bk_frames.specs.Feed.{Frame, frame_text, spelling, magic, start_fault, IsGoodAt, AreGoodFrom, IsFeed, genesis_of, frame_fault, at_start, in_frame}
+use Rattle.bk_frames.specs.Pulling.{HasRead, Gave, GivesUp, Refuses, StopsAt, cut_short, feed_ends, IsPartAt, CallsForMemoryAt, in_part, StopsInFrame, FrameFails}
 use Rattle.bk_frames.proofs.Devices.{consumes_then}
+use Rattle.bk_frames.proofs.FeedLemmas.{gives_up_more, whole_part}
 
 -- ---- accounts
 
@@ -126,61 +128,53 @@ read_more start now later frames f offset read gave good = record {
   next = omega (arith, read.next, ap length (spelling_more frames f), length-append (spelling frames) (frame_text f));
 }
 
--- where the good frames end, a frame begins
-pub frame_start : (start now : Option (List ℕ)) (frames : List Frame) (offset : ℕ) → HasRead start now frames offset → IfSome start (λ bytes. IsFrameStart bytes offset)
-frame_start None now frames offset read = tt
-frame_start (Some bs) None frames offset read = absurd read.gave
-frame_start (Some bs) (Some cs) frames offset read = after_good frames cs (record { spelled = read.gave; good = read.good }) read.next
-
 -- the feed ends after good frames, the opening ones among them
-pub feed_ends : (start now : Option (List ℕ)) (frames : List Frame) (offset : ℕ) → HasRead start now frames offset → 2 ≤ length frames → IfSome now (λ bytes. bytes ≡ [])
+pub feed_read : (start now : Option (List ℕ)) (frames : List Frame) (offset : ℕ) → HasRead start now frames offset → 2 ≤ length frames → IfSome now (λ bytes. bytes ≡ [])
     → IsFeed frames × IfSome start (λ bytes. bytes ≡ spelling frames)
-feed_ends start now frames offset read two end = (record { good = read.good; opened = two }, whole start now read.gave end)
+feed_read start now frames offset read two end = (record { good = read.good; opened = two }, whole start now read.gave end)
   where
     whole : (start now : Option (List ℕ)) → Consumes start now (spelling frames) → IfSome now (λ bytes. bytes ≡ []) → IfSome start (λ bytes. bytes ≡ spelling frames)
     whole None now gave end = tt
     whole (Some bs) None gave end = absurd gave
     whole (Some bs) (Some cs) gave end = gave ∙ ap (λ (t : List ℕ). spelling frames ++ t) end ∙ append-nil (spelling frames)
 
--- one reason becomes another, case by case
-by_code : (e : FaultCode) (P Q R P' Q' R' : Type 0) → (P → P') → (Q → Q') → (R → R') → ByCode e P Q R → ByCode e P' Q' R'
-by_code code.Read P Q R P' Q' R' f g h x = f x
-by_code code.Memory P Q R P' Q' R' f g h x = g x
-by_code code.Magic P Q R P' Q' R' f g h x = h x
-by_code code.Truncated P Q R P' Q' R' f g h x = h x
-by_code code.Kind P Q R P' Q' R' f g h x = h x
-by_code code.Length P Q R P' Q' R' f g h x = h x
-by_code code.Committee P Q R P' Q' R' f g h x = h x
-by_code code.Genesis P Q R P' Q' R' f g h x = h x
-by_code code.Extra P Q R P' Q' R' f g h x = h x
+-- bytes that stop in the frame behind good frames stop at that frame
+stops_there : (index offset : ℕ) (frames : List Frame) (part : List ℕ) → index ≡ length frames → AreGoodFrom 0 4 frames → offset ≡ length (spelling frames) → StopsInFrame index offset part → StopsAt (spelling frames ++ part) offset
+stops_there index offset frames part place good next (inr found) =
+    cut_short (in_frame frames part (record { spelled = refl; good = good }) (subst (λ (n : ℕ). frame_fault n offset part ≡ Some code.Truncated) place found) next)
+stops_there zero offset frames part place good next (inl none) =
+    cut_short (in_frame frames part (record { spelled = refl; good = good }) (rw (← place, none) refl) next)
+stops_there (suc zero) offset frames part place good next (inl none) =
+    cut_short (in_frame frames part (record { spelled = refl; good = good }) (rw (← place, none) refl) next)
+stops_there (suc (suc n)) offset frames part place good next (inl none) =
+    let same : spelling frames ++ part ≡ spelling frames = ap (λ (t : List ℕ). spelling frames ++ t) none ∙ append-nil (spelling frames) in
+    feed_ends frames (record { good = good; opened = omega (arith, place) }) same (next ∙ ap length (sym same))
 
 -- a feed that is refused at its magic
-pub refused_at_start : (e : FaultCode) (before after : ℕ) (known : Option (List ℕ)) → GivesUp e before after known start_fault → Refuses (record { offset = 0; code = e }) before after known
-refused_at_start e before after known gives =
-    by_code e (after ≡ before + 1) (after ≡ before) ((after ≡ before) × IfSome known (λ bytes. start_fault bytes ≡ Some e))
-    ((after ≡ before + 1) × IfSome known (λ bytes. IsFrameStart bytes 0)) ((after ≡ before) × IfSome known (λ bytes. IsFrameStart bytes 0)) ((after ≡ before) × IfSome known (λ bytes. HasFault bytes (record { offset = 0; code = e })))
-    (λ h. (h, starts known)) (λ h. (h, starts known)) (λ h. (h.0, has known h.1)) gives
-  where
-    starts : (known : Option (List ℕ)) → IfSome known (λ bytes. IsFrameStart bytes 0)
-    starts None = tt
-    starts (Some bs) = at_zero refl
+pub refused_at_start : (e : FaultCode) (before after : ℕ) (start now : Option (List ℕ))
+    → GivesUp e before after start now (λ given. start_fault given ≡ Some code.Truncated) (λ given. ⊥) (λ bytes. start_fault bytes ≡ Some e)
+    → Refuses (record { offset = 0; code = e }) before after start now
+refused_at_start e before after start now =
+    gives_up_more e before after start start now [] _ _ _ _ _ _ (Consumes-nil start) (λ given h. cut_short (at_start h refl)) (λ given h. absurd h) (λ bytes h. at_start h refl)
 
-    has : (known : Option (List ℕ)) → IfSome known (λ bytes. start_fault bytes ≡ Some e) → IfSome known (λ bytes. HasFault bytes (record { offset = 0; code = e }))
-    has None h = tt
-    has (Some bs) h = at_start h refl
+-- a feed that is refused after good frames, with the counts as a loop has them
+pub refused_in_turn : (e : FaultCode) (before mid after : ℕ) (start now later : Option (List ℕ)) (frames : List Frame) (index offset : ℕ) → mid ≡ before → index ≡ length frames → HasRead start now frames offset
+    → FrameFails e index offset mid after now later → Refuses (record { offset = offset; code = e }) before after start later
+refused_in_turn e before mid after start now later frames index offset same place read gives =
+    gives_up_more e before after start now later (spelling frames) _ _ _ _ _ _ read.gave
+    (λ part h. stops_there index offset frames part place read.good read.next h)
+    (λ part h. in_part frames part (record { spelled = refl; good = read.good }) (subst (λ (n : ℕ). IsPartAt n offset part) place h) read.next)
+    (λ rest h. in_frame frames rest (record { spelled = refl; good = read.good }) (subst (λ (n : ℕ). frame_fault n offset rest ≡ Some e) place h) read.next)
+    (subst (λ (m : ℕ). FrameFails e index offset m after now later) same gives)
 
--- a feed that is refused after good frames
-pub refused_later : (e : FaultCode) (before after : ℕ) (start now : Option (List ℕ)) (frames : List Frame) (offset : ℕ) → HasRead start now frames offset
-    → GivesUp e before after now (frame_fault (length frames) offset) → Refuses (record { offset = offset; code = e }) before after start
-refused_later e before after start now frames offset read gives =
-    by_code e (after ≡ before + 1) (after ≡ before) ((after ≡ before) × IfSome now (λ bytes. frame_fault (length frames) offset bytes ≡ Some e))
-    ((after ≡ before + 1) × IfSome start (λ bytes. IsFrameStart bytes offset)) ((after ≡ before) × IfSome start (λ bytes. IsFrameStart bytes offset)) ((after ≡ before) × IfSome start (λ bytes. HasFault bytes (record { offset = offset; code = e })))
-    (λ h. (h, frame_start start now frames offset read)) (λ h. (h, frame_start start now frames offset read)) (λ h. (h.0, has start now read h.1)) gives
-  where
-    has : (start now : Option (List ℕ)) → HasRead start now frames offset → IfSome now (λ bytes. frame_fault (length frames) offset bytes ≡ Some e) → IfSome start (λ bytes. HasFault bytes (record { offset = offset; code = e }))
-    has None now read h = tt
-    has (Some bs) None read h = absurd read.gave
-    has (Some bs) (Some cs) read h = in_frame frames cs (record { spelled = read.gave; good = read.good }) h read.next
+-- memory is refused for a good frame that was read whole
+pub refused_at_push : (start now later : Option (List ℕ)) (frames : List Frame) (f : Frame) (offset : ℕ) → HasRead start now frames offset → Consumes now later (frame_text f) → IsGoodAt (length frames) offset f
+    → Gave start later (λ given. CallsForMemoryAt given offset)
+refused_at_push start now later frames f offset read gave good = (
+  spelling frames ++ frame_text f,
+  consumes_then start now later (spelling frames) (frame_text f) read.gave gave,
+  in_part frames (frame_text f) (record { spelled = refl; good = read.good }) (whole_part (length frames) offset f (record { in_place = good.in_place; short = good.short; inside = good.inside })) read.next,
+)
 
 -- the opening accounts stay those of frame 1
 pub genesis_more : (frames : List Frame) (f : Frame) (old new : List Row) → (2 ≤ length frames → old ≡ genesis_of frames) → (length frames ≡ 1 → rows_of f.payload ≡ Some new) → (length frames ≢ 1 → new ≡ old)
@@ -192,9 +186,3 @@ genesis_more (g ∷ h ∷ more) f old new before found kept two = kept (λ e. om
 -- the first two frames are read from the magic on
 pub read_start : (start now : Option (List ℕ)) → Consumes start now magic → HasRead start now [] 4
 read_start start now gave = record { gave = gave; good = tt; next = refl }
-
--- the same, with the counts as a loop has them
-pub refused_in_turn : (e : FaultCode) (before mid after : ℕ) (start now : Option (List ℕ)) (frames : List Frame) (index offset : ℕ) → mid ≡ before → index ≡ length frames → HasRead start now frames offset
-    → GivesUp e mid after now (frame_fault index offset) → Refuses (record { offset = offset; code = e }) before after start
-refused_in_turn e before mid after start now frames index offset same place read gives =
-    refused_later e before after start now frames offset read (subst (λ (n : ℕ). GivesUp e before after now (frame_fault n offset)) place (subst (λ (m : ℕ). GivesUp e m after now (frame_fault index offset)) same gives))

@@ -10,7 +10,7 @@ use Rattle.std.proofs.lemmas.Nat.{be_bytes_4, be_bytes_8, from_be_bytes-to_be_by
 use Rattle.bk_frames.specs.declared.genesis.Row.{Row}
 use Rattle.bk_frames.specs.Numbers.{◌>>=◌, number_at}
 use Rattle.bk_frames.specs.Genesis.{total_of, are_accounts, AreAccounts, row_text, genesis_text, IsGenesis, row_at, rows_at, rows_of}
-use Rattle.bk_frames.specs.Laws.{IsBytes}
+use Rattle.bk_frames.specs.Numbers.{IsBytes}
 use Rattle.bk_frames.proofs.FeedLaws.{IsBytes-take, IsBytes-drop}
 use Rattle.bk_frames.proofs.Feeds.{and_true, bind_some, guard_some, accounts_from_test}
 

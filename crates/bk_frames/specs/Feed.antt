@@ -129,8 +129,3 @@ pub data HasFault (bytes : List ℕ) (fault : FeedFault) : Type 0 where
   at_start : start_fault bytes ≡ Some fault.code → fault.offset ≡ 0 → HasFault bytes fault
   in_frame : (frames : List Frame) (rest : List ℕ) → Begins bytes frames rest → frame_fault (length frames) fault.offset rest ≡ Some fault.code
       → fault.offset ≡ length (spelling frames) → HasFault bytes fault
-
--- a frame begins at this offset: at the start, or right after good frames
-pub data IsFrameStart (bytes : List ℕ) (offset : ℕ) : Type 0 where
-  at_zero : offset ≡ 0 → IsFrameStart bytes offset
-  after_good : (frames : List Frame) (rest : List ℕ) → Begins bytes frames rest → offset ≡ length (spelling frames) → IsFrameStart bytes offset

@@ -1,13 +1,11 @@
 -- What the definitions of a feed say together.
-use Rattle.std.specs.Prelude.{◌≡◌, ℕ, ◌<◌, List, Some, ◌⊎◌, slice_index}
+use Rattle.std.specs.Prelude.{◌≡◌, ℕ, List, Some, ◌⊎◌}
 use Rattle.bk_frames.specs.declared.fault.FeedFault.{FeedFault}
 use Rattle.bk_frames.specs.declared.genesis.Row.{Row}
 use Rattle.bk_frames.specs.Genesis.{IsGenesis, genesis_text, rows_of}
 use Rattle.bk_frames.specs.Feed.{Frame, IsFeed, spelling, HasFault}
-
--- bytes, as a program has them
-abbrev pub IsBytes : List ℕ → Type 0
-IsBytes bytes = (i : ℕ) → slice_index bytes i < 256
+use Rattle.bk_frames.specs.Numbers.{IsBytes}
+use Rattle.bk_frames.specs.Pulling.{StopsAt, CallsForMemoryAt}
 
 -- the bytes are the spelling of a feed, or have a fault
 abbrev pub IsFeedOrHasFault : List ℕ → Type 0
@@ -28,6 +26,14 @@ NoFaultInFeed = (frames : List Frame) (fault : FeedFault) → IsFeed frames → 
 -- no byte string has two faults
 abbrev pub OneFault : Type 0
 OneFault = (bytes : List ℕ) (one other : FeedFault) → HasFault bytes one → HasFault bytes other → one ≡ other
+
+-- no byte string stops at two offsets
+abbrev pub OneStop : Type 0
+OneStop = (bytes : List ℕ) (one other : ℕ) → StopsAt bytes one → StopsAt bytes other → one ≡ other
+
+-- no byte string calls for memory at two offsets
+abbrev pub OneCallForMemory : Type 0
+OneCallForMemory = (bytes : List ℕ) (one other : ℕ) → CallsForMemoryAt bytes one → CallsForMemoryAt bytes other → one ≡ other
 
 -- what is read of a genesis is spelled so
 abbrev pub GenesisIsSpelled : Type 0

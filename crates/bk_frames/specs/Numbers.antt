@@ -1,6 +1,10 @@
 -- Numbers and runs of bytes at the front of a text.
-use Rattle.std.specs.Prelude.{ℕ, Bool, true, List, [], ◌∷◌, length, take, drop, Option, Some, None, option_and_then, nat_lt, ◌&&◌, if◌then◌else◌}
+use Rattle.std.specs.Prelude.{ℕ, ◌<◌, slice_index, Bool, true, List, [], ◌∷◌, length, take, drop, Option, Some, None, option_and_then, nat_lt, ◌&&◌, if◌then◌else◌}
 use Rattle.std.specs.Int.{Width, byte_len, from_be_bytes}
+
+-- bytes, as a program has them
+abbrev pub IsBytes : List ℕ → Type 0
+IsBytes bytes = (i : ℕ) → slice_index bytes i < 256
 
 -- one step of reading after another: nothing where a step finds nothing
 infixl 10 ◌>>=◌

@@ -35,6 +35,10 @@ impl<R: Read> Source for Counted<R> {
 
     ghost failed_calls = { λ c. c.failures };
 
+    fn failures(&self) -> u64 {
+        self.failures
+    }
+
     fn pull(&mut self, buf: &mut [u8]) -> Result<usize, Failed> {
         match self.inner.read(buf) {
             Ok(n) => Ok(n),
@@ -44,16 +48,16 @@ impl<R: Read> Source for Counted<R> {
             }
         }
     }
-
-    fn failures(&self) -> u64 {
-        self.failures
-    }
 }
 
 impl<W: Write> Sink for Counted<W> {
     ghost contents = { λ c. W.contents c.inner };
 
     ghost failed_calls = { λ c. c.failures };
+
+    fn failures(&self) -> u64 {
+        self.failures
+    }
 
     fn push(&mut self, bytes: &[u8]) -> Result<usize, Failed> {
         match self.inner.write(bytes) {
@@ -63,9 +67,5 @@ impl<W: Write> Sink for Counted<W> {
                 Err(Failed)
             }
         }
-    }
-
-    fn failures(&self) -> u64 {
-        self.failures
     }
 }

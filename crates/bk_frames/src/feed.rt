@@ -3,8 +3,8 @@ ghost use Rattle.std.specs.Io.KnownBytes.{Consumes};
 ghost use Rattle.bk_frames.specs.declared.fault.FaultCode.TheVariants as code;
 ghost use Rattle.bk_frames.specs.Committee.{is_committee};
 ghost use Rattle.bk_frames.specs.Genesis.{is_genesis, rows_of, AreAccounts};
-ghost use Rattle.bk_frames.specs.Feed.{Frame, frame_text, spelling, start_fault, kind_fault, length_fault, payload_fault, frame_fault, stands_at, kind_number, magic, most_feed, genesis_of, IsFeed, IsGoodAt};
-ghost use Rattle.bk_frames.specs.Pulling.{ByCode, GivesUp, IsFramedAt, Refuses};
+ghost use Rattle.bk_frames.specs.Feed.{Frame, frame_text, spelling, start_fault, kind_fault, length_fault, payload_fault, stands_at, kind_number, magic, most_feed, genesis_of, IsFeed, IsGoodAt};
+ghost use Rattle.bk_frames.specs.Pulling.{ByCode, GivesUp, FrameFails, IsFramedAt, Refuses};
 
 use crate::device::Source;
 use crate::fault::{FaultCode, FeedFault};
@@ -69,7 +69,8 @@ fn read_magic<S: Source>(source: &mut S) -> Result<(), FaultCode>
     requires { S.failed_calls source.old < 2 ^ 62 }
     ensures ok { IfOk result (λ _. (S.failed_calls source.new ≡ S.failed_calls source.old)
         × Consumes (S.remaining source.old) (S.remaining source.new) magic) }
-    ensures err { IfErr result (λ e. GivesUp e (S.failed_calls source.old) (S.failed_calls source.new) (S.remaining source.old) start_fault) }
+    ensures err { IfErr result (λ e. GivesUp e (S.failed_calls source.old) (S.failed_calls source.new) (S.remaining source.old) (S.remaining source.new)
+        (λ given. start_fault given ≡ Some code.Truncated) (λ _. ⊥) (λ bytes. start_fault bytes ≡ Some e)) }
 {
     for expected in *b"BKF1" {
         match pull_byte(source)? {
@@ -121,7 +122,7 @@ fn read_frame<S: Source>(
     ensures ok { IfOk result (λ r. (S.failed_calls source.new ≡ S.failed_calls source.old) × MatchOption r
         ((2 ≤ index) × IfSome (S.remaining source.old) (λ bytes. bytes ≡ []))
         (λ f. Consumes (S.remaining source.old) (S.remaining source.new) (frame_text f) × IsFramedAt index offset f)) }
-    ensures err { IfErr result (λ e. GivesUp e (S.failed_calls source.old) (S.failed_calls source.new) (S.remaining source.old) (frame_fault index offset)) }
+    ensures err { IfErr result (λ e. FrameFails e index offset (S.failed_calls source.old) (S.failed_calls source.new) (S.remaining source.old) (S.remaining source.new)) }
 {
     let Some(number) = pull_byte(source)? else {
         return if index < 2 {
@@ -184,7 +185,7 @@ fn next_frame<S: Source>(
         ((2 ≤ index) × IfSome (S.remaining source.old) (λ bytes. bytes ≡ []) × (genesis.new.items ≡ genesis.old.items))
         (λ f. Consumes (S.remaining source.old) (S.remaining source.new) (frame_text f) × IsGoodAt index offset f
         × (index ≡ 1 → rows_of f.payload ≡ Some genesis.new.items) × (index ≢ 1 → genesis.new.items ≡ genesis.old.items))) }
-    ensures err { IfErr result (λ e. GivesUp e (S.failed_calls source.old) (S.failed_calls source.new) (S.remaining source.old) (frame_fault index offset)) }
+    ensures err { IfErr result (λ e. FrameFails e index offset (S.failed_calls source.old) (S.failed_calls source.new) (S.remaining source.old) (S.remaining source.new)) }
 {
     let Some(frame) = read_frame(alloc, source, piece, index, offset)? else {
         return Ok(None);
@@ -202,7 +203,7 @@ impl Feed {
         requires { S.failed_calls source.old < 2 ^ 62 }
         ensures feed { IfOk result (λ feed. IsFeed feed × IfSome (S.remaining source.old) (λ bytes. bytes ≡ spelling feed)) }
         ensures sound { OnOk result (S.failed_calls source.new ≡ S.failed_calls source.old) }
-        ensures fault { IfErr result (λ e. Refuses e (S.failed_calls source.old) (S.failed_calls source.new) (S.remaining source.old)) }
+        ensures fault { IfErr result (λ e. Refuses e (S.failed_calls source.old) (S.failed_calls source.new) (S.remaining source.old) (S.remaining source.new)) }
     {
         let out_of_memory = FeedFault {
             offset: 0,

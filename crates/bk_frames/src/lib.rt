@@ -19,7 +19,7 @@ pub use feed::Feed;
 pub use fields::Fields;
 pub use genesis::Row;
 pub use kind::Kind;
-pub use laws::{feed_or_fault, genesis_grammar};
+pub use laws::{feed_or_fault, genesis_grammar, one_frame_was_read};
 pub use writing::{WriteFault, push_all, write_frame};
 
 #[cfg(test)]

@@ -3,9 +3,9 @@
 ghost use Rattle.std.specs.Prelude.{◌≡◌, ℕ, ◌+◌, ◌^◌, ◌<◌, ◌≤◌, [], ◌∷◌, length, IfOk, IfErr, IfSome, MatchOption, OnOk, is_ok, vec_len, if◌then◌else◌};
 ghost use Rattle.std.specs.Vec.{vec_capacity};
 ghost use Rattle.std.specs.Int.{w32, to_be_bytes};
-ghost use Rattle.std.specs.Io.KnownBytes.{Consumes};
+ghost use Rattle.std.specs.Io.KnownBytes.{Consumes, Keeps};
 ghost use Rattle.bk_frames.specs.declared.fault.FaultCode.TheVariants as code;
-ghost use Rattle.bk_frames.specs.Pulling.{ByCode};
+ghost use Rattle.bk_frames.specs.Pulling.{ByCode, Gave};
 
 use crate::device::{Failed, Source};
 use crate::fault::FaultCode;
@@ -41,6 +41,7 @@ pub(crate) fn pull_byte<S: Source>(source: &mut S) -> Result<Option<u8>, Failed>
     ensures byte { IfOk result (λ r. MatchOption r
         (IfSome (S.remaining source.old) (λ bytes. bytes ≡ []))
         (λ b. Consumes (S.remaining source.old) (S.remaining source.new) (b ∷ []))) }
+    ensures kept { IfErr result (λ _. Keeps (S.remaining source.old) (S.remaining source.new)) }
     ensures count { S.failed_calls source.new ≡ (if is_ok result then S.failed_calls source.old else S.failed_calls source.old + 1) }
 {
     let mut byte = [0u8; 1];
@@ -58,6 +59,7 @@ pub(crate) fn pull_length<S: Source>(source: &mut S) -> Result<Option<u32>, Fail
     ensures number { IfOk result (λ r. MatchOption r
         (IfSome (S.remaining source.old) (λ bytes. length bytes < 4))
         (λ n. Consumes (S.remaining source.old) (S.remaining source.new) (to_be_bytes w32 n))) }
+    ensures part { IfErr result (λ _. Gave (S.remaining source.old) (S.remaining source.new) (λ part. length part < 4)) }
     ensures count { S.failed_calls source.new ≡ (if is_ok result then S.failed_calls source.old else S.failed_calls source.old + 1) }
 {
     let Some(a) = pull_byte(source)? else {
@@ -102,7 +104,10 @@ pub(crate) fn pull_payload<S: Source>(
     ensures payload { IfOk result (λ r. (S.failed_calls source.new ≡ S.failed_calls source.old) × MatchOption r
         (IfSome (S.remaining source.old) (λ bytes. length bytes < len))
         (λ v. Consumes (S.remaining source.old) (S.remaining source.new) v.items × (length v.items ≡ len))) }
-    ensures err { IfErr result (λ e. ByCode e (S.failed_calls source.new ≡ S.failed_calls source.old + 1) (S.failed_calls source.new ≡ S.failed_calls source.old) ⊥) }
+    ensures err { IfErr result (λ e. ByCode e
+        ((S.failed_calls source.new ≡ S.failed_calls source.old + 1) × Gave (S.remaining source.old) (S.remaining source.new) (λ part. length part < len))
+        ((S.failed_calls source.new ≡ S.failed_calls source.old) × Gave (S.remaining source.old) (S.remaining source.new) (λ part. length part ≤ len))
+        ⊥) }
 {
     let mut payload: Vec<u8> = Vec::new(alloc);
     while payload.len() < len {

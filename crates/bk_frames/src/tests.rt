@@ -206,6 +206,7 @@ fn tells_a_failed_read(rt: HostRuntime) -> Result<(), Fail> {
     // Four calls for the magic, for each of two frames one for the kind, four for the length and one for the
     // payload, and one for the end.
     let needed = 4 + 6 + 6 + 1;
+    let offsets = [(4, 0), (10, 4), (16, 42), (needed, 51)];
     for calls in 0..100 {
         let mut source = Counted::new(Reader {
             rest: EMPTY_LEDGER.as_slice(),
@@ -220,6 +221,12 @@ fn tells_a_failed_read(rt: HostRuntime) -> Result<(), Fail> {
             Err(fault) => {
                 assert!(rt; calls < needed, "{fault:?} after {calls} calls");
                 assert!(rt; fault.code == FaultCode::Read, "{fault:?}");
+                for (end, offset) in offsets {
+                    if calls < end {
+                        assert!(rt; fault.offset == offset, "{fault:?} after {calls} calls");
+                        break;
+                    }
+                }
                 assert_eq!(rt; source.failures(), 1);
             }
         }

@@ -13,8 +13,8 @@ pub record Failures : Type 0 where
 
 -- why there is no report, by the fault: the source's bytes are refused and nothing is written; the sink failed once and
 -- exactly the first bytes of the report are out; or memory was refused and nothing is written
-abbrev pub Fails : Fault → Failures → Failures → Option (List ℕ) → Option (List ℕ) → Option (List ℕ) → Type 0
-Fails (fault.Feed found) before after known old new = Refuses found before.source after.source known × (after.sink ≡ before.sink) × Keeps old new
-Fails (fault.Write written) before after known old new =
+abbrev pub Fails : Fault → Failures → Failures → Option (List ℕ) → Option (List ℕ) → Option (List ℕ) → Option (List ℕ) → Type 0
+Fails (fault.Feed found) before after known left old new = Refuses found before.source after.source known left × (after.sink ≡ before.sink) × Keeps old new
+Fails (fault.Write written) before after known left old new =
     (after.source ≡ before.source) × (after.sink ≡ before.sink + 1) × IfSome known (λ bytes. (text : List ℕ) × IsApplyReport bytes text × (written ≤ length text) × Appends old new (take written text))
-Fails fault.Memory before after known old new = (after.source ≡ before.source) × (after.sink ≡ before.sink) × Keeps old new
+Fails fault.Memory before after known left old new = (after.source ≡ before.source) × (after.sink ≡ before.sink) × Keeps old new

@@ -38,7 +38,7 @@ pub fn apply<S: Source, K: Sink>(alloc: Global, source: &mut S, sink: &mut K) ->
     ensures fault { IfErr result (λ e. Fails e
         (record { source = S.failed_calls source.old; sink = K.failed_calls sink.old })
         (record { source = S.failed_calls source.new; sink = K.failed_calls sink.new })
-        (S.remaining source.old) (K.contents sink.old) (K.contents sink.new)) }
+        (S.remaining source.old) (S.remaining source.new) (K.contents sink.old) (K.contents sink.new)) }
 {
     let feed = Feed::read(alloc, source)?;
     let ledger = Ledger::of(alloc, &feed)?;

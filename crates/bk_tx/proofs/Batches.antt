@@ -8,11 +8,11 @@ use Rattle.std.proofs.lemmas.Bool.{eqb-true, eq-eqb, ne_eqb}
 use Rattle.std.proofs.lemmas.List.{append-nil, nil_from_length, drop-drop, length-drop}
 use Rattle.std.proofs.lemmas.List.Concat.{flat_map-cons}
 use Rattle.std.proofs.lemmas.Option.{cond_some, none-some}
-use Rattle.bk_frames.specs.Numbers.{◌>>=◌, number_at, bytes_at}
+use Rattle.bk_frames.specs.Numbers.{IsBytes, ◌>>=◌, number_at, bytes_at}
 use Rattle.bk_tx.specs.declared.batch.Slice.{Slice}
 use Rattle.bk_tx.specs.Batch.{cuts}
 use Rattle.bk_tx.specs.Spelling.{text_in_batch, batch_text, IsBatch}
-use Rattle.bk_tx.specs.Reading.{IsBytes, text_at, texts_at, texts_of}
+use Rattle.bk_tx.specs.Reading.{text_at, texts_at, texts_of}
 use Rattle.bk_tx.proofs.Fields.{bind_some, some_is, Takes, Takes-then, wide16, number_rest, number_takes, number_again, bytes_rest, bytes_take, bytes_again}
 
 abbrev IsShort : List ℕ → Type 0

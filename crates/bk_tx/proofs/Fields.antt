@@ -4,8 +4,7 @@ use Rattle.std.specs.Int.{Width, w8, w16, w64, byte_len, from_be_bytes, to_be_by
 use Rattle.std.proofs.lemmas.Bool.{cases_lt, ltb-false, le-ltb}
 use Rattle.std.proofs.lemmas.List.{take_at, drop_at, take-append-drop, length-append, length-take, get_or-drop, get_or-take, get_or_past}
 use Rattle.std.proofs.lemmas.Nat.{be_bytes_2, be_bytes_8, from_be_bytes-to_be_bytes_2, from_be_bytes-to_be_bytes_8}
-use Rattle.bk_frames.specs.Numbers.{◌>>=◌, number_at, bytes_at}
-use Rattle.bk_tx.specs.Reading.{IsBytes}
+use Rattle.bk_frames.specs.Numbers.{IsBytes, ◌>>=◌, number_at, bytes_at}
 
 IsBytes-drop : (n : ℕ) (bytes : List ℕ) → IsBytes bytes → IsBytes (drop n bytes)
 IsBytes-drop n bytes h i = rw get_or-drop (h (n + i))

@@ -7,14 +7,14 @@ use Rattle.std.proofs.lemmas.Bool.{eqb-true, eqb-false, ne_eqb, leb-true, le-leb
 use Rattle.std.proofs.lemmas.List.{append-nil, nil_from_length}
 use Rattle.std.proofs.lemmas.List.Concat.{flat_map-cons}
 use Rattle.std.proofs.lemmas.Option.{cond_some, none-some}
-use Rattle.bk_frames.specs.Numbers.{◌>>=◌, number_at, is_ascending}
+use Rattle.bk_frames.specs.Numbers.{IsBytes, ◌>>=◌, number_at, is_ascending}
 use Rattle.bk_tx.specs.declared.declared.Declared.{Declared}
 use Rattle.bk_tx.specs.declared.tx.Tx.{Tx}
 use Rattle.bk_tx.specs.declared.tx.Body.{Body}
 use Rattle.bk_tx.specs.declared.tx.Body.TheVariants.{Pay, PayIf, Sweep, Split}
 use Rattle.bk_tx.specs.Access.{declared_ids}
 use Rattle.bk_tx.specs.Spelling.{wide, declared_text, kind_of, body_text, receivers_of, BodyFits, transaction_text, IsTransaction}
-use Rattle.bk_tx.specs.Reading.{IsBytes, writable_of, declared_at, entries_at, is_count, declarations_at, pay_at, pay_if_at, sweep_at, split_at, body_at, pays, transaction_of}
+use Rattle.bk_tx.specs.Reading.{writable_of, declared_at, entries_at, is_count, declarations_at, pay_at, pay_if_at, sweep_at, split_at, body_at, pays, transaction_of}
 use Rattle.bk_tx.proofs.Fields.{bind_some, some_is, Takes, Takes-then, byte_takes, byte_again, wide64, number_takes, number_again}
 use Rattle.bk_tx.proofs.Splits.{sweep_takes, sweep_steps, split_takes, split_again}
 

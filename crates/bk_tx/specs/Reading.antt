@@ -1,5 +1,5 @@
 -- How the bytes of a transaction and of a batch are read: what they spell, or nothing.
-use Rattle.std.specs.Prelude.{ℕ, zero, suc, ◌<◌, Bool, true, false, List, [], ◌∷◌, length, Option, Some, None, nat_le, ◌==◌, ◌&&◌, not, if◌then◌else◌, slice_index}
+use Rattle.std.specs.Prelude.{ℕ, zero, suc, Bool, true, false, List, [], ◌∷◌, length, Option, Some, None, nat_le, ◌==◌, ◌&&◌, not, if◌then◌else◌}
 use Rattle.std.specs.List.{list_any}
 use Rattle.std.specs.Int.{w8, w16, w64}
 use Rattle.bk_frames.specs.Numbers.{◌>>=◌, number_at, bytes_at, is_ascending}
@@ -10,10 +10,6 @@ use Rattle.bk_tx.specs.declared.tx.Body.{Body}
 use Rattle.bk_tx.specs.declared.tx.Body.TheVariants.{Pay, PayIf, Sweep, Split}
 use Rattle.bk_tx.specs.Access.{declared_ids, receivers_in}
 use Rattle.bk_tx.specs.Spelling.{receivers_of}
-
--- each number of the list is a byte
-abbrev pub IsBytes : List ℕ → Type 0
-IsBytes bytes = (i : ℕ) → slice_index bytes i < 256
 
 -- whether an account of this mode is writable: 0 for reading, 1 for writing
 unfoldable pub writable_of : ℕ → Option Bool

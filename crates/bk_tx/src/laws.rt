@@ -1,9 +1,10 @@
 //! That each value has one spelling, as laws for callers. A caller has `IsBytes` of each slice of bytes.
 
 ghost use Rattle.std.specs.Prelude.{◌≡◌, ℕ, List, Some};
+ghost use Rattle.bk_frames.specs.Numbers.{IsBytes};
 ghost use Rattle.bk_tx.specs.declared.tx.Tx.{Tx};
 ghost use Rattle.bk_tx.specs.Spelling.{transaction_text, IsTransaction, batch_text, IsBatch};
-ghost use Rattle.bk_tx.specs.Reading.{IsBytes, transaction_of, texts_of};
+ghost use Rattle.bk_tx.specs.Reading.{transaction_of, texts_of};
 
 /// Bytes are read as a transaction exactly where they are its spelling.
 pub fn one_spelling_of_a_transaction()

@@ -22,8 +22,8 @@ found_by_code code.Extra failed refused found h e = h
 found_by_code code.Read failed refused found h e = absurd (omega arith)
 found_by_code code.Memory failed refused found h e = absurd (omega arith)
 
-pub bytes_have_fault : (e : Fault) (before after : Failures) (known old new : Option (List ℕ)) → Fails e before after known old new → exit_status_of e ≡ 2
+pub bytes_have_fault : (e : Fault) (before after : Failures) (known left old new : Option (List ℕ)) → Fails e before after known left old new → exit_status_of e ≡ 2
     → (found : FeedFault) × IfSome known (λ bytes. HasFault bytes found) × Keeps old new
-bytes_have_fault (fault.Feed found) before after known old new h s = (found, (found_by_code found.code _ _ _ h.0 s).1, h.2)
-bytes_have_fault (fault.Write written) before after known old new h s = absurd (omega arith)
-bytes_have_fault fault.Memory before after known old new h s = absurd (omega arith)
+bytes_have_fault (fault.Feed found) before after known left old new h s = (found, (found_by_code found.code _ _ _ h.0 s).1, h.2)
+bytes_have_fault (fault.Write written) before after known left old new h s = absurd (omega arith)
+bytes_have_fault fault.Memory before after known left old new h s = absurd (omega arith)

@@ -42,7 +42,7 @@ pub fn run_job<R: AllocGlobal, S1: Source, S2: Source, O: Sink, E: Sink>(
         × Fails e
         (record { source = S1.failed_calls first.old; sink = O.failed_calls out.old })
         (record { source = S1.failed_calls first.new; sink = O.failed_calls out.new })
-        (S1.remaining first.old) (O.contents out.old) (O.contents out.new)
+        (S1.remaining first.old) (S1.remaining first.new) (O.contents out.old) (O.contents out.new)
         × Tells (line_of e) (E.failed_calls err.old) (E.failed_calls err.new) (E.contents err.old) (E.contents err.new) }
     ensures statuses { (result ≡ 0) ⊎ (result ≡ 2) ⊎ (result ≡ 4) }
     ensures broken { result ≡ 2 → (found : FeedFault)

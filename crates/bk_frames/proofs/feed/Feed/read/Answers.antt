@@ -3,12 +3,15 @@ use Rattle.std.specs.Prelude.{IfSome}
 use Rattle.std.specs.Io.KnownBytes.{Consumes}
 use Rattle.bk_frames.specs.Genesis.{rows_of}
 use Rattle.bk_frames.specs.Feed.{frame_text, IsGoodAt}
-use Rattle.bk_frames.proofs.Feeds.{read_more, frame_start, feed_ends, refused_at_start, refused_in_turn, genesis_more}
+use Rattle.bk_frames.proofs.Feeds.{read_more, feed_read, refused_at_start, refused_at_push, refused_in_turn, genesis_more}
 use Rattle.bk_frames.proofs.feed.Feed.read.Goals as goal
 
 pub returns-then-is_err-clause-fault : goal.returns-then-is_err-clause-fault
 returns-then-is_err-clause-fault g c =
-    (search rules, frame_start _ _ c.frames.frames.items c.frames.offset c.frames.invariant.read)
+    let f = c.in-Ok-Some.frame in
+    let gave : Consumes (g.S.Source.remaining c.frames.source) (g.S.Source.remaining c.next_frame.new.source) (frame_text f) = search rules in
+    let good : IsGoodAt (length c.frames.frames.items) c.frames.offset f = search rules in
+    (search rules, refused_at_push _ _ _ c.frames.frames.items f c.frames.offset c.frames.invariant.read gave good)
 
 pub frames-preserved : goal.frames-preserved
 frames-preserved g c =
@@ -30,12 +33,12 @@ pub returns-in-Ok-None-clause-feed : goal.returns-in-Ok-None-clause-feed
 returns-in-Ok-None-clause-feed g c =
     let two : 2 ≤ length c.frames.frames.items = search rules in
     let end : IfSome (g.S.Source.remaining c.frames.source) (λ bytes. bytes ≡ []) = search rules in
-    feed_ends _ _ c.frames.frames.items c.frames.offset c.frames.invariant.read two end
+    feed_read _ _ c.frames.frames.items c.frames.offset c.frames.invariant.read two end
 
 pub returns-in-Err-clause-fault : goal.returns-in-Err-clause-fault
-returns-in-Err-clause-fault g c = refused_at_start _ _ _ _ c.in-Err.ensures.err
+returns-in-Err-clause-fault g c = refused_at_start _ _ _ _ _ c.in-Err.ensures.err
 
 pub returns-in-Err-next_frame-clause-fault : goal.returns-in-Err-next_frame-clause-fault
 returns-in-Err-next_frame-clause-fault g c =
     let place : c.len.result ≡ length c.frames.frames.items = search rules in
-    refused_in_turn _ _ _ _ _ _ c.frames.frames.items _ _ c.frames.invariant.sound place c.frames.invariant.read c.in-Err-next_frame.ensures.err
+    refused_in_turn _ _ _ _ _ _ _ c.frames.frames.items _ _ c.frames.invariant.sound place c.frames.invariant.read c.in-Err-next_frame.ensures.err

@@ -1,0 +1,8 @@
+use Rattle.bk_frames.proofs.FeedLaws.{one_stop, one_call_for_memory}
+use Rattle.bk_frames.proofs.laws.one_frame_was_read.Goals as goal
+
+pub returns-clause-failed : goal.returns-clause-failed
+returns-clause-failed c = one_stop
+
+pub returns-clause-refused : goal.returns-clause-refused
+returns-clause-refused c = one_call_for_memory
