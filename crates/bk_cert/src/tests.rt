@@ -184,6 +184,11 @@ fn all_that_fits_is_read(rt: HostRuntime) -> Result<(), Fail> {
     let committee = committee_of(alloc, 128)?;
     let text = full(&rt, alloc, &committee)?.encode(alloc)?;
     assert_eq!(rt; text.len(), 36_104 + 16 + 128 * 32);
+    let whole = parsed(
+        &rt,
+        "8750fca344564f6d84c74bd7f4722ce7083389a8d31e5f11a83023bf1a5baebf",
+    );
+    assert_eq!(rt; Digest32::of(&text), whole);
     let read = Cert::decode(alloc, &text)?.expect(&rt, "a certificate");
     let id = id_within(&text, read.header().header_len());
     assert_eq!(rt; id, Some(parsed(&rt, LARGEST_ID)));
