@@ -1,10 +1,10 @@
--- One member more is marked in a mask, and the marked are counted one after another.
+-- One member more is marked in a mask, and what is known of the marked members below a number.
 use Rattle.std.proofs.Common.{◌≡◌, ℕ, zero, suc, ◌+◌, ◌*◌, ◌/◌, ◌%◌, ◌^◌, ◌<◌, ◌≤◌, Bool, true, false, cond, eqb, not, ◌||◌, ◌↔◌, IsTrue, Contains, List, [], ◌∷◌, ◌++◌, length, get_or, set, map, take, refl, sym, ap, subst, ◌∙◌, arith, inl, inr}
 use Rattle.std.specs.Prelude.{filter, bit_or}
 use Rattle.std.specs.List.{range_with_len}
 use Rattle.std.specs.Int.{w8, bit_at}
 use Rattle.std.proofs.lemmas.Bool.{ne_eqb, eq-eqb, eqb-true, cases_eq, cases_Bool}
-use Rattle.std.proofs.lemmas.List.{append-nil, get_or-set_same, get_or-set_other, length-append, map-append, take_more, take_all}
+use Rattle.std.proofs.lemmas.List.{append-nil, get_or-set_same, get_or-set_other, map-append, take_more, take_all}
 use Rattle.std.proofs.lemmas.List.Elements.{filter-append, Contains-append_left, Contains-push, Contains-push_cases}
 use Rattle.std.proofs.lemmas.List.Filters.{length-filter_both}
 use Rattle.std.proofs.lemmas.List.FromFn.{length-range_with_len}
@@ -25,14 +25,6 @@ marked_more mask n =
     let next : suc n ≡ n + 1 = omega arith in
     let ends : range_with_len 0 (suc n) ≡ range_with_len 0 n ++ n ∷ [] = range_more 0 n ∙ ap (λ (k : ℕ). range_with_len 0 n ++ k ∷ []) (omega arith) in
     subst (λ (k : ℕ). marked mask k ≡ marked mask n ++ cond (is_signer mask n) (n ∷ []) []) next (ap (filter (is_signer mask)) ends ∙ filter-append (is_signer mask) (range_with_len 0 n) (n ∷ []))
-
-length-one : (b : Bool) (n : ℕ) → length (cond b (n ∷ []) []) ≡ cond {A = ℕ} b 1 0
-length-one true n = refl
-length-one false n = refl
-
-pub count_more : (mask : List ℕ) (n : ℕ) → length (marked mask (n + 1)) ≡ length (marked mask n) + cond {A = ℕ} (is_signer mask n) 1 0
-count_more mask n =
-    ap length (marked_more mask n) ∙ length-append (marked mask n) (cond (is_signer mask n) (n ∷ []) []) ∙ ap (λ (k : ℕ). length (marked mask n) + k) (length-one (is_signer mask n) n)
 
 pub count_short : (mask : List ℕ) (n : ℕ) → length (marked mask n) ≤ n
 count_short mask n =
@@ -103,9 +95,6 @@ named_more old new members i lt step so_far k =
 
 pub named_all : (test : ℕ → Bool) (members : List ℕ) (i : ℕ) → length members ≤ i → ((k : ℕ) → IsTrue (test k) ↔ Contains (take i members) k) → (k : ℕ) → IsTrue (test k) ↔ Contains members k
 named_all test members i le so_far k = subst (λ (ms : List ℕ). IsTrue (test k) ↔ Contains ms k) (take_all i members le) (so_far k)
-
-pub counted : (mask : List ℕ) (n signers one : ℕ) → signers ≡ length (marked mask n) → one ≡ cond {A = ℕ} (is_signer mask n) 1 0 → signers + one ≡ length (marked mask (n + 1))
-counted mask n signers one so_far next = rw (so_far, next) (sym (count_more mask n))
 
 pub counted_all : (mask : List ℕ) (n signers : ℕ) → n ≡ 128 → signers ≡ length (marked mask n) → signers ≡ length (signers_of mask)
 counted_all mask n signers all so_far = so_far ∙ ap (λ (k : ℕ). length (marked mask k)) all ∙ ap length (sym (all_marked mask))

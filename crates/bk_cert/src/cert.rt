@@ -68,6 +68,13 @@ impl Cert {
         &self.header
     }
 
+    /// Its header, taken out of it.
+    pub fn into_header(self) -> Header
+        ensures { result ≡ self.header }
+    {
+        self.header
+    }
+
     /// Who signed it.
     pub fn mask(&self) -> &Mask
         ensures same { result.now ≡ self.now.mask }

@@ -1,6 +1,6 @@
 //! The mask of a seal: which members signed.
 
-ghost use Rattle.std.specs.Prelude.{◌≡◌, ◌≤◌, ◌<◌, ◌==◌, ◌||◌, ◌↔◌, ℕ, length, All, Contains, IsTrue};
+ghost use Rattle.std.specs.Prelude.{◌≡◌, ◌≤◌, ◌<◌, ◌==◌, ◌||◌, ◌↔◌, ℕ, length, All, ◌^◌, count_ones, Contains, IsTrue};
 ghost use Rattle.bk_cert.specs.Mask.{is_signer, signer_count};
 
 use std::marker::Model;
@@ -52,8 +52,8 @@ impl Mask {
         ensures few { result ≤ 128 }
     {
         let mut signers = 0;
-        for member in 0..128u8 {
-            signers += usize::from(self.has(member));
+        for byte in &self.0 {
+            signers += ones_of(*byte);
         }
         signers
     }
@@ -86,4 +86,12 @@ impl Mask {
     {
         self.0[(member / 8) as usize] |= 1 << (member % 8);
     }
+}
+
+// How many bits of a byte are set.
+fn ones_of(byte: u8) -> usize
+    ensures ones { result ≡ count_ones byte }
+    ensures fits { byte < 2 ^ 8 }
+{
+    byte.count_ones() as usize
 }

@@ -138,9 +138,10 @@ fn plain_text_is_read(rt: HostRuntime) -> Result<(), Fail> {
     let alloc = rt.alloc();
     let text = plain_text(&rt, alloc)?;
     let cert = Cert::decode(alloc, &text)?.expect(&rt, "a certificate");
-    assert!(rt; *cert.header() == plain(&rt, alloc));
     assert_eq!(rt; cert.mask().len(), 3);
     assert_eq!(rt; cert.tags().len(), 3);
+    assert!(rt; *cert.header() == plain(&rt, alloc));
+    assert!(rt; cert.into_header() == plain(&rt, alloc));
     certificate_grammar();
     Ok(())
 }
