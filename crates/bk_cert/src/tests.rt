@@ -194,6 +194,34 @@ fn all_that_fits_is_read(rt: HostRuntime) -> Result<(), Fail> {
     let id = id_within(&text, read.header().header_len());
     assert_eq!(rt; id, Some(parsed(&rt, LARGEST_ID)));
     assert!(rt; read.encode(alloc)? == text);
+    let header_bytes = read.header().header_bytes(alloc)?;
+    assert_eq!(rt; header_bytes.len(), 36_104);
+    assert_eq!(rt; id_of_bytes(&header_bytes), parsed(&rt, LARGEST_ID));
+    Ok(())
+}
+
+#[test]
+fn stranger_with_equal_batches(rt: HostRuntime) -> Result<(), Fail> {
+    let alloc = rt.alloc();
+    let batch = Digest32::new([5; 32]);
+    let parent = Digest32::new([7; 32]);
+    let batches = Vec::from_slice(alloc, &[batch, batch])?;
+    let header = Header::new(255, 2, batches, Vec::from_slice(alloc, &[parent])?).expect(
+        &rt, "a header",
+    );
+    let committee = committee_of(alloc, 128)?;
+    let text = sealed(&rt, alloc, header, &committee, &[127, 9])?.encode(alloc)?;
+    let whole = parsed(
+        &rt,
+        "9b81a502ea69d1514c8107e016c01fd7bff64fc204341e1be4104488c5eda070",
+    );
+    assert_eq!(rt; Digest32::of(&text), whole);
+    let read = Cert::decode(alloc, &text)?.expect(&rt, "a certificate");
+    assert_eq!(rt; read.header().author(), 255);
+    assert!(rt; read.header().batches() == [batch, batch].as_slice());
+    assert!(rt; read.header().parents() == [parent].as_slice());
+    assert!(rt; !read.mask().is_empty() && read.mask().has(9) && read.mask().has(127));
+    assert_eq!(rt; read.tags().len(), 2);
     Ok(())
 }
 
