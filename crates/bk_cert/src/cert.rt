@@ -114,7 +114,8 @@ impl Cert {
         signers: &[u8],
     ) -> Result<Cert, AllocError>
         requires { All (λ signer. signer < length committee.now) signers.now }
-        ensures { IfOk result (IsSealOf committee.now header signers.now) }
+        ensures seal { IfOk result (IsSealOf committee.now header signers.now) }
+        ensures certificate { IfOk result IsCertificate }
     {
         // A committee has 128 members at most, so the mask has a bit for each signer.
         let _ = committee.n();

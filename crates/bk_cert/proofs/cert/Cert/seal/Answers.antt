@@ -16,3 +16,6 @@ invariant_of-result c =
       tag_each = ap length c.in_ok-tags.ensures ∙ length-map members (λ (member : ℕ). tag_of (key member) c.id.result);
       tags_sized = rw c.in_ok-tags.ensures (tags_sized key c.id.result members);
     }
+
+pub returns-clause-certificate : goal.returns-clause-certificate
+returns-clause-certificate c = invariant_of-result c
