@@ -22,4 +22,4 @@ tags_by keys header members = map (λ member. tag_of (slice_index_or keys member
 pub record IsSealOf (keys : List (List ℕ)) (header : HeaderValue) (signers : List ℕ) (cert : CertValue) : Type 0 where
   pub same_header : cert.header ≡ header
   pub marks : (member : ℕ) → member < 128 → IsTrue (is_signer cert.mask member) ↔ Contains signers member
-  pub tagged : cert.tags ≡ tags_by keys header (signers_of cert.mask)
+  pub own_tags : cert.tags ≡ tags_by keys header (signers_of cert.mask)
