@@ -13,8 +13,8 @@ invariant_of-result c =
     record {
       headed = subst IsHeader c.header.view_is c.header.invariant;
       mask_sized = c.of-mask.ensures.sized;
-      tag_each = ap length c.in_ok-tags.ensures ∙ length-map members (λ (member : ℕ). tag_of (key member) c.id.result);
-      tags_sized = rw c.in_ok-tags.ensures (tags_sized key c.id.result members);
+      tag_each = ap length c.in_ok-tags.ensures ∙ length-map members _;
+      tags_sized = rw c.in_ok-tags.ensures (tags_sized key _ members);
     }
 
 pub returns-clause-certificate : goal.returns-clause-certificate
