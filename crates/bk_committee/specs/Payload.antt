@@ -23,7 +23,7 @@ keys_of payload = let bytes = drop 1 payload in first_chunks 32 (length bytes / 
 -- length than the count calls for
 abbrev pub bad_of : List ℕ → Option Bad
 bad_of [] = Some bad.Length
-bad_of (n ∷ keys) = if n == 0 || nat_lt 128 n then Some bad.Count else (if length keys == 32 * n then None else Some bad.Length)
+bad_of (n ∷ bytes) = if n == 0 || nat_lt 128 n then Some bad.Count else (if length bytes == 32 * n then None else Some bad.Length)
 
 -- what a refusal says is wrong with the payload: nothing where memory was refused
 abbrev pub blamed : Bad → Option Bad
