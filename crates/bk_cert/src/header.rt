@@ -133,7 +133,6 @@ impl Header {
     }
 
     /// Its id: SHA-256 of the byte 0x10 and its spelling (FIPS 180-4). It takes no memory.
-    #[tactic(auto, unfolding(crate::specs::Identity::id_of))]
     pub fn id(&self) -> Digest32
         ensures { result ≡ id_of self.now }
     {
