@@ -2,7 +2,7 @@
 use Rattle.std.proofs.Common.{◌≡◌, ℕ, zero, suc, ◌+◌, ◌-◌, length-drop, List, [], ◌∷◌, ◌++◌, length, take, drop, Option, Some, None, refl, sym, ap, subst, ◌∙◌, append_assoc, arith}
 use Rattle.std.proofs.lemmas.List.{take_at, drop_at, take_all}
 use Rattle.std.specs.Prelude.{IfSome}
-use Rattle.std.specs.Io.KnownBytes.{Consumes, IsAtEnd, Appends}
+use Rattle.std.specs.Io.KnownBytes.{Consumes, Appends}
 
 -- two parts that were given in turn are one
 pub consumes_then : (a b c : Option (List ℕ)) (xs ys : List ℕ) → Consumes a b xs → Consumes b c ys → Consumes a c (xs ++ ys)
@@ -16,12 +16,6 @@ pub known_before : (a b : Option (List ℕ)) (xs : List ℕ) (P Q : List ℕ →
 known_before None b xs P Q p h f = tt
 known_before (Some bs) None xs P Q p h f = absurd p
 known_before (Some bs) (Some cs) xs P Q p h f = subst Q (sym p) (f cs h)
-
--- a source that gave nothing at its end had nothing
-pub nothing_left : (a b : Option (List ℕ)) → Consumes a b [] → IsAtEnd b → IfSome a (λ bytes. bytes ≡ [])
-nothing_left None b p h = tt
-nothing_left (Some bs) None p h = absurd p
-nothing_left (Some bs) (Some cs) p h = p ∙ h
 
 -- two parts that were taken in turn are one
 pub appends_then : (a b c : Option (List ℕ)) (xs ys : List ℕ) → Appends a b xs → Appends b c ys → Appends a c (xs ++ ys)

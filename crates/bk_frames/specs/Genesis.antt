@@ -1,9 +1,10 @@
 -- The opening accounts: what they are held to, their one spelling, and how it is read.
-use Rattle.std.specs.Prelude.{ℕ, zero, suc, ◌^◌, ◌<◌, ◌≤◌, Bool, List, [], ◌∷◌, ◌++◌, length, map, Option, Some, None, IsTrue, is_some, nat_lt, nat_le, ◌==◌, ◌&&◌, if◌then◌else◌}
+use Rattle.std.specs.Prelude.{ℕ, ◌^◌, ◌<◌, ◌≤◌, Bool, List, ◌++◌, length, map, Option, Some, None, IsTrue, is_some, nat_lt, nat_le, ◌==◌, ◌&&◌, if◌then◌else◌}
 use Rattle.std.specs.Int.{w32, w64, to_be_bytes}
 use Rattle.std.specs.List.{flat_map, list_all, AllByRecursion, sum_by}
+use Rattle.bk_frames.specs.declared.limits.TheConstants.{MOST_ACCOUNTS}
 use Rattle.bk_frames.specs.declared.genesis.Row.{Row}
-use Rattle.bk_frames.specs.Numbers.{◌>>=◌, number_at, is_ascending}
+use Rattle.bk_frames.specs.Numbers.{◌>>=◌, number_at, list_at, is_ascending}
 
 -- the ids of rows, in their order
 abbrev pub ids_of : List Row → List ℕ
@@ -35,7 +36,7 @@ genesis_text rows = to_be_bytes w32 (length rows) ++ flat_map row_text rows
 
 -- what a genesis may hold: at most 600,000 accounts
 pub record IsGenesis (rows : List Row) : Type 0 where
-  pub few : length rows ≤ 600000
+  pub few : length rows ≤ MOST_ACCOUNTS
   pub accounts : AreAccounts rows
   pub fit : AllByRecursion (λ (r : Row). (r.id < 2 ^ 64) × (r.balance < 2 ^ 64)) rows
 
@@ -49,19 +50,11 @@ row_at bytes = do
   seq ← number_at w64 balance.1
   Some (record { id = id.0; balance = balance.0; seq = seq.0 }, seq.1)
 
--- so many rows at the front, and the bytes after them
-unfoldable pub rows_at : ℕ → List ℕ → Option (List Row × List ℕ)
-rows_at zero bytes = Some ([], bytes)
-rows_at (suc n) bytes = do
-  first ← row_at bytes
-  others ← rows_at n first.1
-  Some (first.0 ∷ others.0, others.1)
-
 -- the opening accounts that a payload spells, if it spells any: all of its bytes
 unfoldable pub rows_of : List ℕ → Option (List Row)
 rows_of payload = do
   count ← number_at w32 payload
-  rows ← if nat_le count.0 600000 then rows_at count.0 count.1 else None
+  rows ← if nat_le count.0 MOST_ACCOUNTS then list_at row_at count.0 count.1 else None
   if length rows.1 == 0 && are_accounts rows.0 then Some rows.0 else None
 
 -- the payload spells opening accounts

@@ -1,7 +1,12 @@
 pub mod Numbers
 pub mod Genesis
 pub mod Committee
+pub mod Device
 pub mod Counting
 pub mod Feed
+pub mod Faults
 pub mod Pulling
+pub mod Writing
+pub mod Cutting
 pub mod Laws
+pub mod private

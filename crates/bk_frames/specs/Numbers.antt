@@ -1,5 +1,5 @@
--- Numbers and runs of bytes at the front of a text.
-use Rattle.std.specs.Prelude.{ℕ, ◌<◌, slice_index, Bool, true, List, [], ◌∷◌, length, take, drop, Option, Some, None, option_and_then, nat_lt, ◌&&◌, if◌then◌else◌}
+-- Numbers, runs of bytes and lists at the front of bytes.
+use Rattle.std.specs.Prelude.{ℕ, zero, suc, ◌<◌, slice_index, Bool, true, List, [], ◌∷◌, length, take, drop, Option, Some, None, option_and_then, nat_lt, ◌&&◌, if◌then◌else◌}
 use Rattle.std.specs.Int.{Width, byte_len, from_be_bytes}
 
 -- bytes, as a program has them
@@ -18,6 +18,14 @@ bytes_at n bytes = if nat_lt (length bytes) n then None else Some (take n bytes,
 -- a big-endian number of this width at the front, and the bytes after it
 abbrev pub number_at : Width → List ℕ → Option (ℕ × List ℕ)
 number_at w bytes = if nat_lt (length bytes) (byte_len w) then None else Some (from_be_bytes w (take (byte_len w) bytes), drop (byte_len w) bytes)
+
+-- n items at the front, each as `item` finds it, and the bytes after them
+unfoldable pub list_at : {A : Type 0} → (List ℕ → Option (A × List ℕ)) → ℕ → List ℕ → Option (List A × List ℕ)
+list_at item zero bytes = Some ([], bytes)
+list_at item (suc n) bytes = do
+  first ← item bytes
+  others ← list_at item n first.1
+  Some (first.0 ∷ others.0, others.1)
 
 -- each number is below the one after it
 abbrev pub is_ascending : List ℕ → Bool

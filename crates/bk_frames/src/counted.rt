@@ -31,9 +31,7 @@ impl<T> Counted<T> {
 }
 
 impl<R: Read> Source for Counted<R> {
-    ghost remaining = { λ c. R.remaining c.inner };
-
-    ghost failed_calls = { λ c. c.failures };
+    ghost state = { λ c. record { bytes = R.remaining c.inner; failures = c.failures } };
 
     fn failures(&self) -> u64 {
         self.failures
@@ -51,9 +49,7 @@ impl<R: Read> Source for Counted<R> {
 }
 
 impl<W: Write> Sink for Counted<W> {
-    ghost contents = { λ c. W.contents c.inner };
-
-    ghost failed_calls = { λ c. c.failures };
+    ghost state = { λ c. record { bytes = W.contents c.inner; failures = c.failures } };
 
     fn failures(&self) -> u64 {
         self.failures

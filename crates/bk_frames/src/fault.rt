@@ -1,9 +1,13 @@
-use thiserror::Error;
+ghost use Rattle.std.specs.Prelude.{◌≡◌};
+ghost use Rattle.bk_frames.specs.Faults.{code_number};
 
-/// What is wrong with a feed. The numbers are those that a fault line prints.
+use std::error::Error;
+use std::fmt;
+
+/// What is wrong with a feed.
 #[derive(Clone, Copy, Debug, PartialEq, Eq)]
 pub enum FaultCode {
-    /// One of the first four bytes is not that of `BKF1`.
+    /// One of the first four bytes is neither that of `BKF1` nor that of `BKF2`, or not of the one that the others are of.
     Magic = 1,
     /// The bytes end too early.
     Truncated = 2,
@@ -19,16 +23,39 @@ pub enum FaultCode {
     Extra = 7,
     /// The source failed.
     Read = 8,
-    /// Memory was refused.
+    /// Memory ran out.
     Memory = 9,
 }
 
+impl FaultCode {
+    /// The number, as the text of a fault has it.
+    pub fn number(self) -> u8
+        ensures { result ≡ code_number self }
+    {
+        self as u8
+    }
+}
+
 /// The first fault of a feed, and the offset of the frame that has it.
-#[derive(Clone, Copy, Debug, PartialEq, Eq, Error)]
-#[error("feed fault {} at {offset}", *code as u8)]
+#[derive(Clone, Copy, Debug, PartialEq, Eq)]
 pub struct FeedFault {
-    /// The place of the frame's first byte in the feed, 0 for the magic.
+    /// The offset of the frame's first byte in the feed, 0 for the magic.
     pub offset: u64,
     /// What is wrong there.
     pub code: FaultCode,
 }
+
+impl fmt::Display for FeedFault {
+    ghost use Rattle.std.specs.Prelude.{Some};
+    ghost use Rattle.bk_frames.specs.Faults.{fault_text};
+
+    ghost output = { λ fault. Some (fault_text fault) };
+
+    fn fmt<W: fmt::Write>(&self, f: &mut fmt::Formatter<W>) -> fmt::Result {
+        let number = self.code.number();
+        let offset = self.offset;
+        write!(f, "feed fault {number} at {offset}")
+    }
+}
+
+impl Error for FeedFault {}

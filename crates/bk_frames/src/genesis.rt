@@ -1,16 +1,13 @@
-//! The payloads of the first two frames.
+//! The payload of frame 1: the opening accounts.
 
-ghost use Rattle.std.specs.Prelude.{◌≡◌, ◌*◌, ◌<◌, ◌^◌, ◌++◌, IfOk, IfNone, nat_lt, option_map};
+ghost use Rattle.std.specs.Prelude.{◌≡◌, ◌<◌, ◌^◌, ◌++◌, IfOk, IfNone, nat_lt, option_map};
 ghost use Rattle.std.specs.List.{list_all};
-ghost use Rattle.bk_frames.specs.Committee.{is_committee};
-ghost use Rattle.bk_frames.specs.Genesis.{ids_of, total_of, are_accounts, row_at, rows_at, rows_of};
-ghost use Rattle.bk_frames.specs.Numbers.{is_ascending};
+ghost use Rattle.bk_frames.specs.Genesis.{ids_of, total_of, are_accounts, row_at, rows_of};
+ghost use Rattle.bk_frames.specs.Numbers.{list_at, is_ascending};
 
 use crate::fields::Fields;
+use crate::limits::MOST_ACCOUNTS;
 use std::alloc::{AllocError, Global};
-
-/// The most accounts that a genesis may hold.
-const MOST_ACCOUNTS: u32 = 600_000;
 
 /// An account as it stands at the opening, or at any later moment.
 #[derive(Clone, Copy, Debug, PartialEq, Eq)]
@@ -23,16 +20,7 @@ pub struct Row {
     pub seq: u64,
 }
 
-/// Whether the payload is a committee: a count of members and their keys.
-pub(crate) fn is_committee_payload(payload: &[u8]) -> bool
-    ensures { result ≡ is_committee payload.now }
-{
-    match payload {
-        [] => false,
-        [count, keys @ ..] => (1..=128).contains(count) && keys.len() == 32 * *count as usize,
-    }
-}
-
+// The next row.
 #[tactic(auto, unfolding(crate::specs::Genesis::row_at))]
 fn read_row(fields: &mut Fields) -> Option<Row>
     ensures { option_map (λ r. (r, fields.new)) result ≡ row_at fields.old }
@@ -43,8 +31,10 @@ fn read_row(fields: &mut Fields) -> Option<Row>
     Some(Row { id, balance, seq })
 }
 
+// The next `count` rows.
 fn read_rows(alloc: Global, count: u32, fields: &mut Fields) -> Result<Option<Vec<Row>>, AllocError>
-    ensures { IfOk result (λ r. option_map (λ v. (v.items, fields.new)) r ≡ rows_at count fields.old) }
+    ensures { IfOk result (λ r. option_map
+        (λ v. (v.items, fields.new)) r ≡ list_at row_at count fields.old) }
 {
     let mut rows = Vec::new(alloc);
     for _ in 0..count {
@@ -56,6 +46,7 @@ fn read_rows(alloc: Global, count: u32, fields: &mut Fields) -> Result<Option<Ve
     Ok(Some(rows))
 }
 
+// Whether each id is below the next.
 fn ids_ascend(rows: &[Row]) -> bool
     ensures { result ≡ is_ascending (ids_of rows.now) }
 {
@@ -67,6 +58,7 @@ fn ids_ascend(rows: &[Row]) -> bool
     true
 }
 
+// Whether the balances add up to at most 2^63 - 1.
 fn total_fits(rows: &[Row]) -> bool
     ensures { result ≡ nat_lt (total_of rows.now) (2 ^ 63) }
 {
@@ -80,21 +72,23 @@ fn total_fits(rows: &[Row]) -> bool
     true
 }
 
+// Whether each sequence number is below 2^63.
 fn are_young(rows: &[Row]) -> bool
     ensures { result ≡ list_all (λ r. nat_lt r.seq (2 ^ 63)) rows.now }
 {
     rows.iter().all(|r| r.seq < 1 << 63)
 }
 
+// Whether rows are accounts.
 fn rows_are_accounts(rows: &[Row]) -> bool
     ensures { result ≡ are_accounts rows.now }
 {
     ids_ascend(rows) && are_young(rows) && total_fits(rows)
 }
 
-/// The opening accounts that the payload spells, `None` where it spells none.
+/// The opening accounts that the payload of a genesis holds, `None` where it is the payload of none. O(n).
 #[tactic(auto, unfolding(crate::specs::Genesis::rows_of))]
-pub(crate) fn read_genesis(alloc: Global, payload: &[u8]) -> Result<Option<Vec<Row>>, AllocError>
+pub fn read_genesis(alloc: Global, payload: &[u8]) -> Result<Option<Vec<Row>>, AllocError>
     ensures { IfOk result (λ r. option_map (λ v. v.items) r ≡ rows_of payload.now) }
 {
     let mut fields = Fields::new(payload);

@@ -3,8 +3,9 @@
 ghost use Rattle.std.specs.Prelude.{◌≡◌, ℕ, ◌+◌, ◌^◌, ◌<◌, ◌≤◌, [], ◌∷◌, length, IfOk, IfErr, IfSome, MatchOption, OnOk, is_ok, vec_len, if◌then◌else◌};
 ghost use Rattle.std.specs.Vec.{vec_capacity};
 ghost use Rattle.std.specs.Int.{w32, to_be_bytes};
-ghost use Rattle.std.specs.Io.KnownBytes.{Consumes, Keeps};
+ghost use Rattle.std.specs.Io.KnownBytes.{Keeps};
 ghost use Rattle.bk_frames.specs.declared.fault.FaultCode.TheVariants as code;
+ghost use Rattle.bk_frames.specs.Device.{CanBeUsed, Counts, Works, Fails, Gives, IfKnown};
 ghost use Rattle.bk_frames.specs.Pulling.{ByCode, Gave};
 
 use crate::device::{Failed, Source};
@@ -35,14 +36,14 @@ impl<T: Drop> From<AllocFailed<T>> for FaultCode {
     }
 }
 
-/// The next byte, `None` at the end.
+// The next byte, `None` at the end.
 pub(crate) fn pull_byte<S: Source>(source: &mut S) -> Result<Option<u8>, Failed>
-    requires { S.failed_calls source.old < 2 ^ 62 }
-    ensures byte { IfOk result (λ r. MatchOption r
-        (IfSome (S.remaining source.old) (λ bytes. bytes ≡ []))
-        (λ b. Consumes (S.remaining source.old) (S.remaining source.new) (b ∷ []))) }
-    ensures kept { IfErr result (λ _. Keeps (S.remaining source.old) (S.remaining source.new)) }
-    ensures count { S.failed_calls source.new ≡ (if is_ok result then S.failed_calls source.old else S.failed_calls source.old + 1) }
+    requires { CanBeUsed (S.state source.old) }
+    ensures byte { IfOk result (λ r. MatchOption r (IfKnown (S.state source.old)
+        (λ bytes. bytes ≡ []))
+        (λ b. Gives (S.state source.old) (S.state source.new) (b ∷ []))) }
+    ensures kept { IfErr result (λ _. Keeps (S.state source.old).bytes (S.state source.new).bytes) }
+    ensures count { Counts (S.state source.old) (S.state source.new) result }
 {
     let mut byte = [0u8; 1];
     let count = source.pull(&mut byte)?;
@@ -53,14 +54,15 @@ pub(crate) fn pull_byte<S: Source>(source: &mut S) -> Result<Option<u8>, Failed>
     }
 }
 
-/// The next four bytes as a big-endian number, `None` where fewer are left.
+// The next four bytes as a big-endian number, `None` where fewer are left.
 pub(crate) fn pull_length<S: Source>(source: &mut S) -> Result<Option<u32>, Failed>
-    requires { S.failed_calls source.old < 2 ^ 62 }
-    ensures number { IfOk result (λ r. MatchOption r
-        (IfSome (S.remaining source.old) (λ bytes. length bytes < 4))
-        (λ n. Consumes (S.remaining source.old) (S.remaining source.new) (to_be_bytes w32 n))) }
-    ensures part { IfErr result (λ _. Gave (S.remaining source.old) (S.remaining source.new) (λ part. length part < 4)) }
-    ensures count { S.failed_calls source.new ≡ (if is_ok result then S.failed_calls source.old else S.failed_calls source.old + 1) }
+    requires { CanBeUsed (S.state source.old) }
+    ensures number { IfOk result (λ r. MatchOption r (IfKnown (S.state source.old)
+        (λ bytes. length bytes < 4))
+        (λ n. Gives (S.state source.old) (S.state source.new) (to_be_bytes w32 n))) }
+    ensures part { IfErr result (λ _. Gave (S.state source.old) (S.state source.new)
+        (λ part. length part < 4)) }
+    ensures count { Counts (S.state source.old) (S.state source.new) result }
 {
     let Some(a) = pull_byte(source)? else {
         return Ok(None);
@@ -77,7 +79,7 @@ pub(crate) fn pull_length<S: Source>(source: &mut S) -> Result<Option<u32>, Fail
     Ok(Some(u32::from_be_bytes([a, b, c, d])))
 }
 
-/// Makes room in a full payload: for as much again as has come, a piece at least, and never for more than `len` bytes.
+// Makes room in a full payload: for as much again as has come, a piece at least, and never for more than `len` bytes.
 fn make_room(payload: &mut Vec<u8>, len: usize, piece: usize) -> Result<(), AllocError>
     requires more { vec_len payload.old < len }
     requires piece { 0 < piece }
@@ -91,22 +93,25 @@ fn make_room(payload: &mut Vec<u8>, len: usize, piece: usize) -> Result<(), Allo
     payload.reserve_exact(more)
 }
 
-/// The next `len` bytes, `None` where fewer are left. They are asked for in pieces of at most the length of `piece`,
-/// and memory follows the bytes that came.
+// The next `len` bytes, `None` where fewer are left. They are asked for in pieces of at most the length of `piece`,
+// and memory follows the bytes that came.
 pub(crate) fn pull_payload<S: Source>(
     alloc: Global,
     source: &mut S,
     piece: &mut [u8],
     len: usize,
 ) -> Result<Option<Vec<u8>>, FaultCode>
-    requires sound { S.failed_calls source.old < 2 ^ 62 }
+    requires sound { CanBeUsed (S.state source.old) }
     requires piece { 0 < length piece.old }
-    ensures payload { IfOk result (λ r. (S.failed_calls source.new ≡ S.failed_calls source.old) × MatchOption r
-        (IfSome (S.remaining source.old) (λ bytes. length bytes < len))
-        (λ v. Consumes (S.remaining source.old) (S.remaining source.new) v.items × (length v.items ≡ len))) }
+    ensures payload { IfOk result (λ r. Works (S.state source.old) (S.state source.new)
+        × MatchOption r
+        (IfKnown (S.state source.old) (λ bytes. length bytes < len))
+        (λ v. Gives (S.state source.old) (S.state source.new) v.items × (length v.items ≡ len))) }
     ensures err { IfErr result (λ e. ByCode e
-        ((S.failed_calls source.new ≡ S.failed_calls source.old + 1) × Gave (S.remaining source.old) (S.remaining source.new) (λ part. length part < len))
-        ((S.failed_calls source.new ≡ S.failed_calls source.old) × Gave (S.remaining source.old) (S.remaining source.new) (λ part. length part ≤ len))
+        (Fails (S.state source.old) (S.state source.new)
+        × Gave (S.state source.old) (S.state source.new) (λ part. length part < len))
+        (Works (S.state source.old) (S.state source.new)
+        × Gave (S.state source.old) (S.state source.new) (λ part. length part ≤ len))
         ⊥) }
 {
     let mut payload: Vec<u8> = Vec::new(alloc);

@@ -1,10 +1,12 @@
 ghost use Rattle.std.specs.Prelude.{◌≡◌, ◌+◌, ◌^◌, ◌<◌, ◌≤◌, ◌∷◌, length, take, IfErr, OnErr, OnOk};
-ghost use Rattle.std.specs.Io.KnownBytes.{Appends};
-ghost use Rattle.bk_frames.specs.Feed.{frame_text, kind_number, most_payload};
+ghost use Rattle.bk_frames.specs.Device.{CanBeUsed};
+ghost use Rattle.bk_frames.specs.Feed.{frame_of, frame_text, kind_number};
+ghost use Rattle.bk_frames.specs.Writing.{Writes, StopsWriting};
 ghost use Rattle.std.specs.Int.{w32, to_be_bytes};
 
 use crate::device::Sink;
 use crate::kind::Kind;
+use crate::limits::MOST_PAYLOAD;
 use thiserror::Error;
 
 /// The sink failed after it had taken some bytes.
@@ -17,10 +19,10 @@ pub struct WriteFault {
 
 /// Pushes all of the bytes. Where the sink fails, exactly the first `written` of them are out.
 pub fn push_all<K: Sink>(sink: &mut K, bytes: &[u8]) -> Result<(), WriteFault>
-    requires { K.failed_calls sink.old < 2 ^ 62 }
-    ensures ok { OnOk result ((K.failed_calls sink.new ≡ K.failed_calls sink.old) × Appends (K.contents sink.old) (K.contents sink.new) bytes.now) }
-    ensures failed { OnErr result (K.failed_calls sink.new ≡ K.failed_calls sink.old + 1) }
-    ensures written { IfErr result (λ e. (e.written ≤ length bytes.now) × Appends (K.contents sink.old) (K.contents sink.new) (take e.written bytes.now)) }
+    requires { CanBeUsed (K.state sink.old) }
+    ensures ok { OnOk result (Writes bytes.now (K.state sink.old) (K.state sink.new)) }
+    ensures fault { IfErr result (λ e. StopsWriting e bytes.now (K.state sink.old)
+        (K.state sink.new)) }
 {
     let mut done = 0;
     while done < bytes.len() {
@@ -35,7 +37,7 @@ pub fn push_all<K: Sink>(sink: &mut K, bytes: &[u8]) -> Result<(), WriteFault>
     Ok(())
 }
 
-/// A frame's first five bytes: its kind, and the length of its payload.
+// A frame's first five bytes: its kind, and the length of its payload.
 fn header(kind: Kind, len: u32) -> [u8; 5]
     ensures { result ≡ kind_number kind ∷ to_be_bytes w32 len }
 {
@@ -46,13 +48,12 @@ fn header(kind: Kind, len: u32) -> [u8; 5]
 /// Writes a frame: its kind, the length of its payload in four bytes, and its payload. Where the sink fails, exactly
 /// the first `written` bytes of it are out.
 pub fn write_frame<K: Sink>(sink: &mut K, kind: Kind, payload: &[u8]) -> Result<(), WriteFault>
-    requires sound { K.failed_calls sink.old < 2 ^ 62 }
-    requires short { length payload.now ≤ most_payload }
-    ensures ok { OnOk result ((K.failed_calls sink.new ≡ K.failed_calls sink.old)
-        × Appends (K.contents sink.old) (K.contents sink.new) (frame_text (record { kind = kind; payload = payload.now }))) }
-    ensures failed { OnErr result (K.failed_calls sink.new ≡ K.failed_calls sink.old + 1) }
-    ensures written { IfErr result (λ e. (e.written ≤ 5 + length payload.now)
-        × Appends (K.contents sink.old) (K.contents sink.new) (take e.written (frame_text (record { kind = kind; payload = payload.now })))) }
+    requires sound { CanBeUsed (K.state sink.old) }
+    requires short { length payload.now ≤ MOST_PAYLOAD }
+    ensures ok { OnOk result (Writes (frame_text (frame_of kind payload.now)) (K.state sink.old)
+        (K.state sink.new)) }
+    ensures fault { IfErr result (λ e.
+        StopsWriting e (frame_text (frame_of kind payload.now)) (K.state sink.old) (K.state sink.new)) }
 {
     let header = header(kind, payload.len() as u32);
     push_all(sink, &header)?;

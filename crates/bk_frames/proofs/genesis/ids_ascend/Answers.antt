@@ -1,5 +1,5 @@
 use Rattle.std.proofs.Common.{sym, ◌∙◌, arith}
-use Rattle.bk_frames.proofs.Reading.{ascending_end}
+use Rattle.bk_frames.proofs.Accounts.{ascending_end}
 use Rattle.bk_frames.proofs.genesis.ids_ascend.Goals as goal
 
 pub returns : goal.returns

@@ -1,4 +1,4 @@
-use Rattle.bk_frames.proofs.FeedLaws.{feed_or_fault, one_feed, not_both, one_fault}
+use Rattle.bk_frames.proofs.OneReading.{feed_or_fault, one_feed, not_both, one_fault}
 use Rattle.bk_frames.proofs.laws.feed_or_fault.Goals as goal
 
 pub returns-clause-some : goal.returns-clause-some

@@ -1,4 +1,4 @@
-use Rattle.bk_frames.proofs.GenesisLaws.{genesis_spelled, genesis_read}
+use Rattle.bk_frames.proofs.GenesisGrammar.{genesis_spelled, genesis_read}
 use Rattle.bk_frames.proofs.laws.genesis_grammar.Goals as goal
 
 pub returns-clause-spelled : goal.returns-clause-spelled

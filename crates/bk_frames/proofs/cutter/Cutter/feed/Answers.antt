@@ -1,0 +1,12 @@
+use Rattle.std.proofs.Common.{◌≡◌, None, rules}
+use Rattle.bk_frames.specs.Cutting.{frames_in}
+use Rattle.bk_frames.proofs.CutParts.{open_part, cuts_seen}
+use Rattle.bk_frames.proofs.cutter.Cutter.feed.Goals as goal
+
+pub returns-in-Ok-clause-cuts : goal.returns-in-Ok-clause-cuts
+returns-in-Ok-clause-cuts c =
+    let none : c.self.inside.fault ≡ None = search rules in
+    cuts_seen c.self.inside.part c.cut.new.part c.self.inside.fault c.args.self.now c.args.piece.now (frames_in c.in-Ok.frames.items) none c.self.view_is c.in-Ok.ensures.cuts
+
+pub returns-in-Ok-clause-open : goal.returns-in-Ok-clause-open
+returns-in-Ok-clause-open c = (search rules, search rules, open_part c.cut.new.part c.in-Ok.ensures.part.0 c.in-Ok.ensures.part.1)
