@@ -1,45 +1,54 @@
 -- What the definitions of a committee say together.
 use Rattle.std.specs.Prelude.{◌≡◌, ℕ, ◌+◌, ◌*◌, ◌%◌, ◌<◌, ◌≤◌, ◌↔◌, List, Some, None, IsTrue}
+use Rattle.std.specs.List.{AllByRecursion}
+use Rattle.bk_frames.specs.Numbers.{IsBytes}
 use Rattle.bk_frames.specs.Committee.{is_committee}
-use Rattle.bk_committee.specs.Payload.{AreKeys, committee_text, keys_of, bad_of}
-use Rattle.bk_committee.specs.Quorum.{faulty_of, quorum_of, leader_of}
+use Rattle.bk_frames.specs.declared.version.Version.{Version}
+use Rattle.bk_committee.specs.Payload.{CommitteeValue, IsCommittee, committee_bytes, committee_of, bad_of}
+use Rattle.bk_committee.specs.Sizes.{Sizes, members, total, faulty, quorum, leader, leader_of}
 
--- what a payload is read as is spelled so
-abbrev pub CommitteeIsSpelled : Type 0
-CommitteeIsSpelled = (payload : List ℕ) → IsTrue (is_committee payload) → AreKeys (keys_of payload) × (payload ≡ committee_text (keys_of payload))
+-- a payload that is a committee is the encoding of the one that it is read as
+abbrev pub CommitteeIsEncoded : Type 0
+CommitteeIsEncoded = (version : Version) (payload : List ℕ) → IsBytes payload → IsTrue (is_committee version payload)
+    → IsCommittee (committee_of version payload) × (payload ≡ committee_bytes (committee_of version payload))
 
--- what spells keys is read so
+-- the encoding of a committee is a payload that is read as it
 abbrev pub CommitteeIsRead : Type 0
-CommitteeIsRead = (keys : List (List ℕ)) → AreKeys keys → IsTrue (is_committee (committee_text keys)) × (keys_of (committee_text keys) ≡ keys)
+CommitteeIsRead = (c : CommitteeValue) → IsCommittee c
+    → IsTrue (is_committee c.version (committee_bytes c)) × (committee_of c.version (committee_bytes c) ≡ c)
 
--- nothing is wrong with exactly the payloads that spell a committee
+-- nothing is wrong with exactly the payloads that are committees
 abbrev pub GoodIsCommittee : Type 0
-GoodIsCommittee = (payload : List ℕ) → (bad_of payload ≡ None) ↔ IsTrue (is_committee payload)
+GoodIsCommittee = (version : Version) (payload : List ℕ) → (bad_of version payload ≡ None) ↔ IsTrue (is_committee version payload)
 
--- the faulty are the most that three times as many are still fewer than all
+-- where each member weighs 1, all together weigh as much as there are members
+abbrev pub HeadsAreWeights : Type 0
+HeadsAreWeights = (z : Sizes) → AllByRecursion (λ w. w ≡ 1) z.weights → total z ≡ members z
+
+-- the faulty weight is the most that three times as much is still less than all
 abbrev pub FaultyIsFloor : Type 0
-FaultyIsFloor = (n : ℕ) → 1 ≤ n → (3 * faulty_of n + 1 ≤ n) × (n ≤ 3 * faulty_of n + 3)
+FaultyIsFloor = (z : Sizes) → 1 ≤ total z → (3 * faulty z + 1 ≤ total z) × (total z ≤ 3 * faulty z + 3)
 
--- a quorum and the faulty are together all members
+-- a quorum and the faulty weight are together all
 abbrev pub QuorumAndFaultyAreAll : Type 0
-QuorumAndFaultyAreAll = (n : ℕ) → quorum_of n + faulty_of n ≡ n
+QuorumAndFaultyAreAll = (z : Sizes) → quorum z + faulty z ≡ total z
 
--- a quorum and one member more than the faulty are together more than all, so that they share a member
+-- a quorum and 1 more than the faulty weight are together more than all
 abbrev pub QuorumMeetsFaulty : Type 0
-QuorumMeetsFaulty = (n : ℕ) → n < quorum_of n + (faulty_of n + 1)
+QuorumMeetsFaulty = (z : Sizes) → total z < quorum z + (faulty z + 1)
 
--- two quorums are together more than all and the faulty, so that they share a member who is not faulty
+-- two quorums are together more than all and the faulty weight
 abbrev pub QuorumsMeet : Type 0
-QuorumsMeet = (n : ℕ) → 1 ≤ n → n + faulty_of n < quorum_of n + quorum_of n
+QuorumsMeet = (z : Sizes) → 1 ≤ total z → total z + faulty z < quorum z + quorum z
 
 -- a leader is a member
 abbrev pub LeadersAreMembers : Type 0
-LeadersAreMembers = (n round leader : ℕ) → 1 ≤ n → leader_of n round ≡ Some leader → leader < n
+LeadersAreMembers = (z : Sizes) (round : ℕ) → 1 ≤ members z → leader z round < members z
 
 -- the odd rounds 1, 3, 5 and so on are led by members 0, 1, 2 and so on, and after the last by the first again
 abbrev pub OddRoundsInTurn : Type 0
-OddRoundsInTurn = (n k : ℕ) → leader_of n (2 * k + 1) ≡ Some (k % n)
+OddRoundsInTurn = (z : Sizes) (k : ℕ) → leader_of z (2 * k + 1) ≡ Some (k % members z)
 
 -- nobody leads an even round
 abbrev pub EvenRoundsUnled : Type 0
-EvenRoundsUnled = (n k : ℕ) → leader_of n (2 * k) ≡ None
+EvenRoundsUnled = (z : Sizes) (k : ℕ) → leader_of z (2 * k) ≡ None

@@ -1,3 +1,3 @@
 pub mod Payload
-pub mod Quorum
+pub mod Sizes
 pub mod Laws

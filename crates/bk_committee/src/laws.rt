@@ -1,16 +1,17 @@
 //! Laws of the definitions, each the contract of a function that does nothing.
 
-ghost use Rattle.bk_committee.specs.Laws.{CommitteeIsSpelled, CommitteeIsRead, GoodIsCommittee, FaultyIsFloor, QuorumAndFaultyAreAll, QuorumMeetsFaulty, QuorumsMeet, LeadersAreMembers, OddRoundsInTurn, EvenRoundsUnled};
+ghost use Rattle.bk_committee.specs.Laws.{CommitteeIsEncoded, CommitteeIsRead, GoodIsCommittee, HeadsAreWeights, FaultyIsFloor, QuorumAndFaultyAreAll, QuorumMeetsFaulty, QuorumsMeet, LeadersAreMembers, OddRoundsInTurn, EvenRoundsUnled};
 
-/// A committee's payload and its keys are two forms of one thing, and every other payload is refused.
+/// A committee's payload and its members are two forms of one thing, and every other payload is refused.
 pub fn committee_grammar()
-    ensures spelled { CommitteeIsSpelled }
+    ensures encoded { CommitteeIsEncoded }
     ensures read { CommitteeIsRead }
     ensures good { GoodIsCommittee }
 {}
 
-/// The floor formulas, and how many members a quorum shares with others.
+/// The floor formulas, and how much weight a quorum shares with others.
 pub fn quorums_meet()
+    ensures heads { HeadsAreWeights }
     ensures floor { FaultyIsFloor }
     ensures all { QuorumAndFaultyAreAll }
     ensures faulty { QuorumMeetsFaulty }
