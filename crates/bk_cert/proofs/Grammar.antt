@@ -8,12 +8,12 @@ use Rattle.std.proofs.lemmas.List.{append-nil, nil_from_length, take_at, drop_at
 use Rattle.std.proofs.lemmas.Option.{cond_some, none-some}
 use Rattle.bk_frames.specs.Numbers.{IsBytes}
 use Rattle.bk_frames.specs.Numbers.{◌>>=◌, number_at, bytes_at}
-use Rattle.bk_committee.proofs.Grammar.{length-pieces, sized-pieces, concat-pieces, length-concat-sized, pieces-concat}
+use Rattle.bk_committee.proofs.Chunks.{length-pieces, sized-pieces, concat-pieces, length-concat-sized, pieces-concat}
 use Rattle.bk_cert.specs.Values.{HeaderValue, CertValue, header_with, cert_with}
 use Rattle.bk_cert.specs.Mask.{signer_count}
 use Rattle.bk_cert.specs.Spelling.{AreDigests, IsHeader, header_text, IsCertificate, seal_text, certificate_text}
 use Rattle.bk_cert.specs.Reading.{digests_at, header_at, certificate_of}
-use Rattle.bk_cert.proofs.Fields.{bind_some, some_is, Takes, Takes-then, wide16, wide32, number_takes, number_again, byte_takes, byte_again, bytes_take, bytes_again}
+use Rattle.bk_frames.proofs.FieldLemmas.{bind_some, some_is, Takes, Takes-then, wide16, wide32, number_takes, number_again, byte_takes, byte_again, bytes_take, bytes_again}
 
 -- ---- digests
 
@@ -26,8 +26,8 @@ digests_take n bytes x fits e =
     let a = bind_some (bytes_at (32 * n) bytes) (λ run. Some (first_chunks 32 n run.0, run.1)) x e in
     let t = bytes_take (32 * n) bytes a.0.0 a.0.1 fits a.1 in
     let made : List (List ℕ) × List ℕ = (first_chunks 32 n a.0.0, a.0.1) in
-    let spelled : Takes bytes (concat (first_chunks 32 n a.0.0)) a.0.1 = subst (λ (text : List ℕ). Takes bytes text a.0.1) (sym (concat-pieces n a.0.0 t.1)) t.0 in
-    subst (AreTaken n bytes) {x = made} {y = x} (some_is made x a.2) (spelled, length-pieces n a.0.0, sized-pieces n a.0.0 t.1)
+    let spelled : Takes bytes (concat (first_chunks 32 n a.0.0)) a.0.1 = subst (λ (text : List ℕ). Takes bytes text a.0.1) (sym (concat-pieces 32 n a.0.0 t.1)) t.0 in
+    subst (AreTaken n bytes) {x = made} {y = x} (some_is made x a.2) (spelled, length-pieces 32 n a.0.0, sized-pieces 32 n a.0.0 t.1)
 
 pub digests_steps : (n : ℕ) (bytes run rest : List ℕ) → bytes_at (32 * n) bytes ≡ Some (run, rest) → digests_at n bytes ≡ Some (first_chunks 32 n run, rest)
 unfolding digests_at
@@ -35,8 +35,8 @@ digests_steps n bytes run rest e = rw e refl
 
 digests_again : (digests : List (List ℕ)) (rest : List ℕ) → AreDigests digests → digests_at (length digests) (concat digests ++ rest) ≡ Some (digests, rest)
 digests_again digests rest sized =
-    let run : bytes_at (32 * length digests) (concat digests ++ rest) ≡ Some (concat digests, rest) = subst (λ (k : ℕ). bytes_at k (concat digests ++ rest) ≡ Some (concat digests, rest)) (length-concat-sized digests sized) (bytes_again (concat digests) rest) in
-    digests_steps (length digests) (concat digests ++ rest) (concat digests) rest run ∙ ap (λ (ds : List (List ℕ)). Some (ds, rest)) (pieces-concat digests sized)
+    let run : bytes_at (32 * length digests) (concat digests ++ rest) ≡ Some (concat digests, rest) = subst (λ (k : ℕ). bytes_at k (concat digests ++ rest) ≡ Some (concat digests, rest)) (length-concat-sized 32 digests sized) (bytes_again (concat digests) rest) in
+    digests_steps (length digests) (concat digests ++ rest) (concat digests) rest run ∙ ap (λ (ds : List (List ℕ)). Some (ds, rest)) (pieces-concat 32 digests sized)
 
 -- ---- counted digests
 

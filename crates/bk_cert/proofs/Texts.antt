@@ -9,12 +9,12 @@ use Rattle.sha2.proofs.Facts256.{length-sha256}
 use Rattle.bk_digest.specs.Digest.{tagged_of}
 use Rattle.bk_digest.specs.Mac.{hmac_of}
 use Rattle.bk_frames.specs.Numbers.{bytes_at}
-use Rattle.bk_committee.proofs.Grammar.{length-concat-sized}
+use Rattle.bk_committee.proofs.Chunks.{length-concat-sized}
 use Rattle.bk_cert.specs.Values.{HeaderValue, CertValue, cert_with}
 use Rattle.bk_cert.specs.Spelling.{AreDigests, IsHeader, header_text}
 use Rattle.bk_cert.specs.Reading.{digests_at}
 use Rattle.bk_cert.specs.Identity.{id_of, tag_of}
-use Rattle.bk_cert.proofs.Fields.{bytes_rest}
+use Rattle.bk_frames.proofs.FieldLemmas.{bytes_rest}
 use Rattle.bk_cert.proofs.Grammar.{digests_steps}
 
 -- ---- cut from bytes
@@ -39,8 +39,8 @@ digests_cut n bytes run rest pieces found cut =
 
 pub header_long : (h : HeaderValue) → IsHeader h → length (header_text h) ≡ 8 + 32 * (length h.batches + length h.parents)
 header_long h good =
-    let batches : length (concat h.batches) ≡ 32 * length h.batches = length-concat-sized h.batches good.batches_sized in
-    let parents : length (concat h.parents) ≡ 32 * length h.parents = length-concat-sized h.parents good.parents_sized in
+    let batches : length (concat h.batches) ≡ 32 * length h.batches = length-concat-sized 32 h.batches good.batches_sized in
+    let parents : length (concat h.parents) ≡ 32 * length h.parents = length-concat-sized 32 h.parents good.parents_sized in
     let both : length (concat h.batches ++ length h.parents ∷ concat h.parents) ≡ length (concat h.batches) + suc (length (concat h.parents)) = length-append (concat h.batches) (length h.parents ∷ concat h.parents) in
     omega arith
 

@@ -91,6 +91,21 @@ impl Cert {
         &self.tags
     }
 
+    /// The tags that the members whom its mask marks have under this id, in ascending member number, each under
+    /// its own key (RFC 2104). It reserves once.
+    pub fn tags_under(
+        &self,
+        alloc: Global,
+        committee: &Committee,
+        id: Digest32,
+    ) -> Result<Vec<Digest32>, AllocError>
+        requires { (member : ℕ) → IsTrue (is_signer self.now.mask member) → member < length committee.now.keys }
+        ensures { IfOk result (λ tags. tags.items
+            ≡ map (λ member. tag_of (slice_index_or committee.now.keys member []) id) (signers_of self.now.mask)) }
+    {
+        tags_of(alloc, committee, &self.mask, id)
+    }
+
     /// Its one spelling. It reserves once.
     pub fn encode(&self, alloc: Global) -> Result<Vec<u8>, AllocError>
         ensures { IfOk result (λ text. text.items ≡ certificate_text self.now) }
@@ -113,8 +128,8 @@ impl Cert {
         committee: &Committee,
         signers: &[u8],
     ) -> Result<Cert, AllocError>
-        requires { All (λ signer. signer < length committee.now) signers.now }
-        ensures seal { IfOk result (IsSealOf committee.now header signers.now) }
+        requires { All (λ signer. signer < length committee.now.keys) signers.now }
+        ensures seal { IfOk result (IsSealOf committee.now.keys header signers.now) }
         ensures certificate { IfOk result IsCertificate }
     {
         // A committee has 128 members at most, so the mask has a bit for each signer.
@@ -132,8 +147,8 @@ fn tags_of(
     mask: &Mask,
     id: Digest32,
 ) -> Result<Vec<Digest32>, AllocError>
-    requires { (member : ℕ) → IsTrue (is_signer mask.now member) → member < length committee.now }
-    ensures { IfOk result (λ tags. tags.items ≡ map (λ member. tag_of (slice_index_or committee.now member []) id) (signers_of mask.now)) }
+    requires { (member : ℕ) → IsTrue (is_signer mask.now member) → member < length committee.now.keys }
+    ensures { IfOk result (λ tags. tags.items ≡ map (λ member. tag_of (slice_index_or committee.now.keys member []) id) (signers_of mask.now)) }
 {
     let mut tags = Vec::with_capacity(alloc, mask.len())?;
     for member in 0..128u8 {

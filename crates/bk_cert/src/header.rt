@@ -115,6 +115,22 @@ impl Header {
         &self.parents
     }
 
+    /// The same header once more. It fails only where memory runs out.
+    pub fn try_clone(&self, alloc: Global) -> Result<Header, AllocError>
+        ensures { IfOk result (λ h. h ≡ self.now) }
+    {
+        let mut batches = Vec::with_capacity(alloc, self.batches.len())?;
+        batches.extend_from_slice(&self.batches)?;
+        let mut parents = Vec::with_capacity(alloc, self.parents.len())?;
+        parents.extend_from_slice(&self.parents)?;
+        Ok(Header {
+            author: self.author,
+            round: self.round,
+            batches,
+            parents,
+        })
+    }
+
     /// How many bytes it takes. In the bytes of a certificate the header ends here.
     pub fn header_len(&self) -> usize
         ensures len { result ≡ length (header_text self.now) }

@@ -3,6 +3,7 @@
 use crate::*;
 use bk_committee::{Bad, Committee};
 use bk_digest::{Digest32, hmac};
+use bk_frames::Version;
 use std::alloc::{AllocError, Global};
 use std::process::Abort;
 use std::test::Fail;
@@ -28,7 +29,7 @@ const LAST_TAG: &str = "29d0ca7f957b95ca738c26b97b3aee6b834c07c4ae89f206a81ec04c
 /// A committee of so many members, of which member i has 32 bytes i + 1 as its key.
 fn committee_of(alloc: Global, members: u8) -> Result<Committee, Bad> {
     match payload_of(alloc, members) {
-        Ok(payload) => Committee::parse(alloc, &payload),
+        Ok(payload) => Committee::parse(alloc, Version::One, &payload),
         Err(_) => Err(Bad::Memory),
     }
 }

@@ -10,7 +10,7 @@ tag_by keys id member = tag_of (get_or keys member []) id
 
 pub loop-member-preserved : goal.loop-member-preserved
 loop-member-preserved c =
-    let keys = c.args.committee.now in
+    let keys = c.args.committee.now.keys in
     let mask = c.args.mask.now in
     let n = c.loop-member.member in
     let f : ℕ → List ℕ = tag_by keys c.args.id in
@@ -23,4 +23,4 @@ loop-member-preserved c =
 
 pub returns : goal.returns
 returns c =
-    tagged_all (tag_by c.args.committee.now c.args.id) c.args.mask.now c.loop-member.member c.loop-member.tags.items (omega (arith, c.loop-member-test.false, c.loop-member.auto.member-end)) c.loop-member.invariant
+    tagged_all (tag_by c.args.committee.now.keys c.args.id) c.args.mask.now c.loop-member.member c.loop-member.tags.items (omega (arith, c.loop-member-test.false, c.loop-member.auto.member-end)) c.loop-member.invariant

@@ -9,7 +9,7 @@ use Rattle.bk_cert.proofs.cert.Cert.seal.Goals as goal
 pub invariant_of-result : goal.invariant_of-result
 invariant_of-result c =
     let members = signers_of c.of-mask.result in
-    let key : ℕ → List ℕ = λ member. get_or c.args.committee.now member [] in
+    let key : ℕ → List ℕ = λ member. get_or c.args.committee.now.keys member [] in
     record {
       headed = subst IsHeader c.header.view_is c.header.invariant;
       mask_sized = c.of-mask.ensures.sized;

@@ -1,0 +1,13 @@
+-- A certificate as its graph knows it: a header under its id.
+use Rattle.std.specs.Prelude.{ℕ, List}
+use Rattle.bk_cert.specs.Values.{HeaderValue}
+use Rattle.bk_cert.specs.Identity.{id_of}
+
+-- an id of 32 bytes, and the header that it names
+pub record Node : Type 0 where
+  pub id : List ℕ
+  pub header : HeaderValue
+
+-- a header under its own id
+abbrev pub node_of : HeaderValue → Node
+node_of header = record { id = id_of header; header = header }
