@@ -1,5 +1,5 @@
 -- The two laws of a batch, and what its texts need.
-use Rattle.std.proofs.Common.{◌≡◌, ℕ, zero, suc, ◌+◌, ◌*◌, ◌^◌, ◌<◌, ◌≤◌, ◌≢◌, true, false, cond, eqb, List, [], ◌∷◌, ◌++◌, length, take, drop, Option, Some, None, Result, Ok, Err, option_map, refl, sym, ap, subst, ◌∙◌, append_assoc, arith}
+use Rattle.std.proofs.Common.{◌≡◌, ℕ, zero, suc, ◌+◌, ◌*◌, ◌^◌, ◌<◌, ◌≤◌, ◌≢◌, true, false, cond, eqb, List, [], ◌∷◌, ◌++◌, length, map, get_or, take, drop, Option, Some, None, Result, Ok, Err, option_map, refl, sym, ap, subst, ◌∙◌, append_assoc, arith}
 use Rattle.std.specs.Prelude.{IfOk, IfSome, IfNone}
 use Rattle.std.specs.Global.{Vec}
 use Rattle.std.specs.List.{flat_map, AllByRecursion}
@@ -10,7 +10,7 @@ use Rattle.std.proofs.lemmas.List.Concat.{flat_map-cons}
 use Rattle.std.proofs.lemmas.Option.{cond_some, none-some}
 use Rattle.bk_frames.specs.Numbers.{IsBytes, ◌>>=◌, number_at, bytes_at}
 use Rattle.bk_tx.specs.declared.batch.Slice.{Slice}
-use Rattle.bk_tx.specs.Batch.{cuts}
+use Rattle.bk_tx.specs.Batch.{cuts, FollowFrom}
 use Rattle.bk_tx.specs.Spelling.{text_in_batch, batch_text, IsBatch}
 use Rattle.bk_tx.specs.Reading.{text_at, texts_at, texts_of}
 use Rattle.bk_tx.proofs.Fields.{bind_some, some_is, Takes, Takes-then, wide16, number_rest, number_takes, number_again, bytes_rest, bytes_take, bytes_again}
@@ -112,6 +112,21 @@ texts_need (suc n) bytes x e =
     let others = texts_need n a.0.1 b.0 b.1 in
     omega (arith, first.0, second.0, others, ap length first.2, ap length second.2, length-drop 2 bytes, length-drop d.0.0 d.0.1)
 
+-- ---- slices that follow each other
+
+-- where the last of these slices ends, if the first starts after this offset
+abbrev pub end_of : ℕ → List Slice → ℕ
+end_of at [] = at
+end_of at (s ∷ slices) = end_of (s.start + s.len) slices
+
+pub end-push : (at : ℕ) (slices : List Slice) (s : Slice) → end_of at (slices ++ s ∷ []) ≡ s.start + s.len
+end-push at [] s = refl
+end-push at (x ∷ slices) s = end-push (x.start + x.len) slices s
+
+pub FollowFrom-push : (at : ℕ) (slices : List Slice) (s : Slice) → FollowFrom at slices → s.start ≡ end_of at slices + 2 → FollowFrom at (slices ++ s ∷ [])
+FollowFrom-push at [] s before e = (e, tt)
+FollowFrom-push at (x ∷ slices) s before e = (before.0, FollowFrom-push (x.start + x.len) slices s before.1 e)
+
 -- ---- what is known of a batch, from the function that reads it
 
 is_found : (bytes : List ℕ) (o : Option (Vec Slice)) → IsBytes bytes → option_map (λ slices. cuts bytes slices.items) o ≡ texts_of bytes → IfSome o (λ slices. IsBatch (cuts bytes slices.items) × (bytes ≡ batch_text (cuts bytes slices.items)))
@@ -163,3 +178,10 @@ all_read bytes rest count at texts e read le =
     let r = (number_rest w16 bytes count rest e).2 in
     let short : eqb (length (drop at bytes)) 0 ≡ true = eq-eqb _ _ (omega (arith, length-drop at bytes)) in
     rw (e, ← r, ← read, short) refl
+
+-- ---- a batch that is written
+
+pub short_at : (texts : List (Vec ℕ)) (k : ℕ) (v : Vec ℕ) → AllByRecursion IsShort (map (λ (text : Vec ℕ). text.items) texts) → k < length texts → v ≡ get_or texts k v → length v.items < 2 ^ 16
+short_at [] k v short low e = absurd (omega arith)
+short_at (x ∷ texts) zero v short low e = let same : length v.items ≡ length x.items = ap (λ (u : Vec ℕ). length u.items) e in omega (arith, short.0)
+short_at (x ∷ texts) (suc k) v short low e = short_at texts k v short.1 (omega arith) e

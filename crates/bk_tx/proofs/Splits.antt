@@ -7,8 +7,8 @@ use Rattle.std.proofs.lemmas.List.Concat.{flat_map-cons}
 use Rattle.std.proofs.lemmas.Option.{cond_some}
 use Rattle.bk_frames.specs.Numbers.{IsBytes, ◌>>=◌, number_at, is_ascending}
 use Rattle.bk_tx.specs.declared.payments.Payment.{Payment}
-use Rattle.bk_tx.specs.declared.tx.Body.{Body}
-use Rattle.bk_tx.specs.declared.tx.Body.TheVariants.{Sweep, Split}
+use Rattle.bk_tx.specs.declared.body.Body.{Body}
+use Rattle.bk_tx.specs.declared.body.Body.TheVariants.{Sweep, Split}
 use Rattle.bk_tx.specs.Access.{receivers_in}
 use Rattle.bk_tx.specs.Spelling.{wide, payment_text, kind_of, body_text, ArePayments, BodyFits}
 use Rattle.bk_tx.specs.Reading.{sweep_at, payment_at, payments_at, is_payment_count, split_at}

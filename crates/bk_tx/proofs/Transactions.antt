@@ -1,6 +1,6 @@
 -- The two laws of a transaction: what is read is spelled so, and what is spelled so is read.
 use Rattle.std.proofs.Common.{◌≡◌, ◌≢◌, ℕ, zero, suc, ◌^◌, ◌<◌, ◌≤◌, Bool, true, false, cond, eqb, leb, not, ◌&&◌, IsTrue, List, [], ◌∷◌, ◌++◌, length, Option, Some, None, refl, sym, ap, subst, ◌∙◌, append_assoc, ◌⊎◌, inl, inr, arith}
-use Rattle.std.specs.Prelude.{IfSome, IfNone}
+use Rattle.std.specs.Prelude.{IfSome, IfNone, IsSome, ◌↔◌}
 use Rattle.std.specs.List.{flat_map, AllByRecursion, list_any}
 use Rattle.std.specs.Int.{w8, w64}
 use Rattle.std.proofs.lemmas.Bool.{eqb-true, eqb-false, ne_eqb, leb-true, le-leb, and_parts, and_from, not-true, or_parts, or_from}
@@ -9,10 +9,10 @@ use Rattle.std.proofs.lemmas.List.Concat.{flat_map-cons}
 use Rattle.std.proofs.lemmas.Option.{cond_some, none-some}
 use Rattle.bk_frames.specs.Numbers.{IsBytes, ◌>>=◌, number_at, is_ascending}
 use Rattle.bk_tx.specs.declared.declared.Declared.{Declared}
-use Rattle.bk_tx.specs.declared.tx.Tx.{Tx}
-use Rattle.bk_tx.specs.declared.tx.Body.{Body}
-use Rattle.bk_tx.specs.declared.tx.Body.TheVariants.{Pay, PayIf, Sweep, Split}
-use Rattle.bk_tx.specs.Access.{declared_ids}
+use Rattle.bk_tx.specs.Transaction.{Transaction}
+use Rattle.bk_tx.specs.declared.body.Body.{Body}
+use Rattle.bk_tx.specs.declared.body.Body.TheVariants.{Pay, PayIf, Sweep, Split}
+use Rattle.bk_tx.specs.Access.{declared_ids, IdsFit}
 use Rattle.bk_tx.specs.Spelling.{wide, declared_text, kind_of, body_text, receivers_of, BodyFits, transaction_text, IsTransaction}
 use Rattle.bk_tx.specs.Reading.{writable_of, declared_at, entries_at, is_count, declarations_at, pay_at, pay_if_at, sweep_at, split_at, body_at, pays, transaction_of}
 use Rattle.bk_tx.proofs.Fields.{bind_some, some_is, Takes, Takes-then, byte_takes, byte_again, wide64, number_takes, number_again}
@@ -222,7 +222,7 @@ transaction_parts bytes r0 r1 r2 r3 r4 kind seq from ds body p0 p1 p2 p3 p4 noth
     let text : List ℕ = (kind ∷ []) ++ head ++ wide seq ++ wide from ++ body_text body in
     l4.parts ∙ ap (λ (r : List ℕ). text ++ r) nothing ∙ append-nil text ∙ ap (λ (n : ℕ). (n ∷ []) ++ head ++ wide seq ++ wide from ++ body_text body) (sym k)
 
-pub transaction_takes : (bytes : List ℕ) (t : Tx) → IsBytes bytes → transaction_of bytes ≡ Some t → IsTransaction t × (bytes ≡ transaction_text t)
+pub transaction_takes : (bytes : List ℕ) (t : Transaction) → IsBytes bytes → transaction_of bytes ≡ Some t → IsTransaction t × (bytes ≡ transaction_text t)
 unfolding transaction_of
 transaction_takes bytes t fits e =
     let a = bind_some (number_at w8 bytes) (λ kind. declarations_at kind.1 >>= λ declared. number_at w64 declared.1 >>= λ seq. number_at w64 seq.1 >>= λ from. body_at kind.0 from.1 >>= λ body. cond (eqb (length body.1) 0 && not (pays body.0 from.0)) (Some (record { declared = declared.0; seq = seq.0; from = from.0; body = body.0 })) None) t e in
@@ -230,7 +230,7 @@ transaction_takes bytes t fits e =
     let d = bind_some (number_at w64 b.0.1) (λ seq. number_at w64 seq.1 >>= λ from. body_at a.0.0 from.1 >>= λ body. cond (eqb (length body.1) 0 && not (pays body.0 from.0)) (Some (record { declared = b.0.0; seq = seq.0; from = from.0; body = body.0 })) None) t b.2 in
     let f = bind_some (number_at w64 d.0.1) (λ from. body_at a.0.0 from.1 >>= λ body. cond (eqb (length body.1) 0 && not (pays body.0 from.0)) (Some (record { declared = b.0.0; seq = d.0.0; from = from.0; body = body.0 })) None) t d.2 in
     let g = bind_some (body_at a.0.0 f.0.1) (λ body. cond (eqb (length body.1) 0 && not (pays body.0 f.0.0)) (Some (record { declared = b.0.0; seq = d.0.0; from = f.0.0; body = body.0 })) None) t f.2 in
-    let made : Tx = record { declared = b.0.0; seq = d.0.0; from = f.0.0; body = g.0.0 } in
+    let made : Transaction = record { declared = b.0.0; seq = d.0.0; from = f.0.0; body = g.0.0 } in
     let h = cond_some (eqb (length g.0.1) 0 && not (pays g.0.0 f.0.0)) made t g.2 in
     let t0 = byte_takes bytes a.0.0 a.0.1 fits a.1 in
     let t1 = declarations_take a.0.1 b.0 t0.0.rest_fits b.1 in
@@ -241,7 +241,7 @@ transaction_takes bytes t fits e =
     let nothing : g.0.1 ≡ [] = nil_from_length g.0.1 (eqb-true _ _ ends.0) in
     let apart = apart_from f.0.0 (receivers_of g.0.0) (not-true _ ends.1) in
     let whole = transaction_parts bytes a.0.1 b.0.1 d.0.1 f.0.1 g.0.1 a.0.0 d.0.0 f.0.0 b.0.0 g.0.0 t0.0 t1.0 t2.0 t3.0 t4.0 nothing t4.2 in
-    subst (λ (u : Tx). IsTransaction u × (bytes ≡ transaction_text u)) h.1 (record { some = t1.1.some; few = t1.1.few; ascending = t1.1.ascending; apart = apart; ids_fit = t1.1.ids_fit; seq_fits = t2.1; from_fits = t3.1; body_fits = t4.1 }, whole)
+    subst (λ (u : Transaction). IsTransaction u × (bytes ≡ transaction_text u)) h.1 (record { some = t1.1.some; few = t1.1.few; ascending = t1.1.ascending; apart = apart; ids_fit = t1.1.ids_fit; seq_fits = t2.1; from_fits = t3.1; body_fits = t4.1 }, whole)
 
 transaction_steps : (bytes r0 r1 r2 r3 : List ℕ) (kind seq from : ℕ) (ds : List Declared) (body : Body) → number_at w8 bytes ≡ Some (kind, r0) → declarations_at r0 ≡ Some (ds, r1) → number_at w64 r1 ≡ Some (seq, r2) → number_at w64 r2 ≡ Some (from, r3) → body_at kind r3 ≡ Some (body, []) → pays body from ≡ false
     → transaction_of bytes ≡ Some (record { declared = ds; seq = seq; from = from; body = body })
@@ -251,7 +251,7 @@ transaction_steps bytes r0 r1 r2 r3 kind seq from ds body e0 e1 e2 e3 e4 e5 = rw
 regroup : (a b c d : List ℕ) → a ++ b ++ c ++ d ≡ a ++ (b ++ (c ++ (d ++ [])))
 regroup a b c d = append_assoc (a ++ b) c d ∙ append_assoc a b (c ++ d) ∙ ap (λ (x : List ℕ). a ++ (b ++ (c ++ x))) (sym (append-nil d))
 
-pub transaction_again : (t : Tx) → IsTransaction t → transaction_of (transaction_text t) ≡ Some t
+pub transaction_again : (t : Transaction) → IsTransaction t → transaction_of (transaction_text t) ≡ Some t
 transaction_again t h =
     let kind = kind_of t.body in
     let r3 : List ℕ = body_text t.body ++ [] in
@@ -264,10 +264,63 @@ transaction_again t h =
 
 -- ---- what is known of a transaction, from the function that reads it
 
-pub is_found : (bytes : List ℕ) (o : Option Tx) → IsBytes bytes → o ≡ transaction_of bytes → IfSome o (λ t. IsTransaction t × (bytes ≡ transaction_text t))
+pub is_found : (bytes : List ℕ) (o : Option Transaction) → IsBytes bytes → o ≡ transaction_of bytes → IfSome o (λ t. IsTransaction t × (bytes ≡ transaction_text t))
 is_found bytes (Some t) fits given = transaction_takes bytes t fits (sym given)
 is_found bytes None fits given = tt
 
-pub is_none : (bytes : List ℕ) (o : Option Tx) → o ≡ transaction_of bytes → IfNone o ((t : Tx) → IsTransaction t → bytes ≢ transaction_text t)
+pub is_none : (bytes : List ℕ) (o : Option Transaction) → o ≡ transaction_of bytes → IfNone o ((t : Transaction) → IsTransaction t → bytes ≢ transaction_text t)
 is_none bytes (Some t) given = tt
 is_none bytes None given = λ t h e. none-some t (given ∙ ap transaction_of e ∙ transaction_again t h)
+
+-- ---- a transaction of given parts
+
+pub not_made : (t : Transaction) → (IsTransaction t → ⊥) → (false ≡ true → IsTransaction t) × (IsTransaction t → false ≡ true)
+not_made t never = ((λ e. absurd (clash e)), λ h. absurd (never h))
+  where
+    clash : false ≡ true → ⊥
+    clash e = cc
+
+pub not_some : (t : Transaction) → eqb (length t.declared) 0 ≡ true → IsTransaction t → ⊥
+not_some t none h = let some = h.some in omega (arith, eqb-true (length t.declared) 0 none)
+
+pub not_ascending : (t : Transaction) → is_ascending (declared_ids t.declared) ≡ false → IsTransaction t → ⊥
+not_ascending t down h = let up : is_ascending (declared_ids t.declared) ≡ true = h.ascending in cc
+
+pub not_apart : (t : Transaction) → pays t.body t.from ≡ true → IsTransaction t → ⊥
+not_apart t paid h = let apart = apart_again t.from (receivers_of t.body) h.apart in cc
+
+pub is_made : (t : Transaction) → eqb (length t.declared) 0 ≡ false → length t.declared ≤ 8 → is_ascending (declared_ids t.declared) ≡ true → IdsFit t.declared → BodyFits t.body → pays t.body t.from ≡ false → t.seq < 2 ^ 64 → t.from < 2 ^ 64 → IsTransaction t
+is_made t some few up ids body apart seq from = record {
+  some = above_zero (length t.declared) (eqb-false (length t.declared) 0 some);
+  few = few;
+  ascending = up;
+  apart = apart_from t.from (receivers_of t.body) apart;
+  ids_fit = ids;
+  seq_fits = seq;
+  from_fits = from;
+  body_fits = body;
+}
+  where
+    above_zero : (n : ℕ) → (n ≡ 0 → ⊥) → 1 ≤ n
+    above_zero zero never = absurd (never refl)
+    above_zero (suc n) never = omega arith
+
+-- what is made of the parts that were read is what the bytes encode
+judged : (bytes r0 r1 r2 r3 r4 : List ℕ) (kind seq from : ℕ) (ds : List Declared) (body : Body) → Some (kind, r0) ≡ number_at w8 bytes → Some (ds, r1) ≡ declarations_at r0 → Some (seq, r2) ≡ number_at w64 r1 → Some (from, r3) ≡ number_at w64 r2 → Some (body, r4) ≡ body_at kind r3 → true ≡ eqb (length r4) 0
+    → transaction_of bytes ≡ cond (not (pays body from)) (Some (record { declared = ds; seq = seq; from = from; body = body })) None
+unfolding transaction_of
+judged bytes r0 r1 r2 r3 r4 kind seq from ds body e0 e1 e2 e3 e4 e5 = rw (← e0, ← e1, ← e2, ← e3, ← e4, ← e5) refl
+
+pub made_is : (bytes r0 r1 r2 r3 r4 : List ℕ) (kind seq from : ℕ) (ds : List Declared) (body : Body) (o : Option Transaction) → IsBytes bytes → Some (kind, r0) ≡ number_at w8 bytes → Some (ds, r1) ≡ declarations_at r0 → Some (seq, r2) ≡ number_at w64 r1 → Some (from, r3) ≡ number_at w64 r2 → Some (body, r4) ≡ body_at kind r3 → true ≡ eqb (length r4) 0
+    → (IsSome o ↔ IsTransaction (record { declared = ds; seq = seq; from = from; body = body })) → IfSome o (λ t. t ≡ record { declared = ds; seq = seq; from = from; body = body }) → o ≡ transaction_of bytes
+made_is bytes r0 r1 r2 r3 r4 kind seq from ds body o fits e0 e1 e2 e3 e4 e5 exact parts =
+    by_test (pays body from) o refl (judged bytes r0 r1 r2 r3 r4 kind seq from ds body e0 e1 e2 e3 e4 e5) exact parts
+  where
+    made : Transaction
+    made = record { declared = ds; seq = seq; from = from; body = body }
+
+    by_test : (b : Bool) (o : Option Transaction) → pays body from ≡ b → transaction_of bytes ≡ cond (not b) (Some made) None → (IsSome o ↔ IsTransaction made) → IfSome o (λ t. t ≡ made) → o ≡ transaction_of bytes
+    by_test true None paid e exact parts = sym e
+    by_test true (Some t) paid e exact parts = absurd (not_apart made paid (exact.0 refl))
+    by_test false None paid e exact parts = let none : false ≡ true = exact.1 (transaction_takes bytes made fits e).0 in absurd cc
+    by_test false (Some t) paid e exact parts = ap (λ (u : Transaction). Some u) parts ∙ sym e

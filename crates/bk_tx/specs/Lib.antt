@@ -2,3 +2,5 @@ pub mod Access
 pub mod Batch
 pub mod Reading
 pub mod Spelling
+pub mod Transaction
+pub mod private

@@ -5,9 +5,9 @@ use Rattle.std.specs.Int.{w8, w16, w64}
 use Rattle.bk_frames.specs.Numbers.{◌>>=◌, number_at, bytes_at, is_ascending}
 use Rattle.bk_tx.specs.declared.declared.Declared.{Declared}
 use Rattle.bk_tx.specs.declared.payments.Payment.{Payment}
-use Rattle.bk_tx.specs.declared.tx.Tx.{Tx}
-use Rattle.bk_tx.specs.declared.tx.Body.{Body}
-use Rattle.bk_tx.specs.declared.tx.Body.TheVariants.{Pay, PayIf, Sweep, Split}
+use Rattle.bk_tx.specs.Transaction.{Transaction}
+use Rattle.bk_tx.specs.declared.body.Body.{Body}
+use Rattle.bk_tx.specs.declared.body.Body.TheVariants.{Pay, PayIf, Sweep, Split}
 use Rattle.bk_tx.specs.Access.{declared_ids, receivers_in}
 use Rattle.bk_tx.specs.Spelling.{receivers_of}
 
@@ -107,7 +107,7 @@ abbrev pub pays : Body → ℕ → Bool
 pays body id = list_any (λ to. to == id) (receivers_of body)
 
 -- the transaction that the bytes spell, all of them
-unfoldable pub transaction_of : List ℕ → Option Tx
+unfoldable pub transaction_of : List ℕ → Option Transaction
 transaction_of bytes = do
   kind ← number_at w8 bytes
   declared ← declarations_at kind.1

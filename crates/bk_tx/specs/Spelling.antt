@@ -5,10 +5,10 @@ use Rattle.std.specs.Int.{w16, w64, to_be_bytes}
 use Rattle.bk_frames.specs.Numbers.{is_ascending}
 use Rattle.bk_tx.specs.declared.declared.Declared.{Declared}
 use Rattle.bk_tx.specs.declared.payments.Payment.{Payment}
-use Rattle.bk_tx.specs.declared.tx.Tx.{Tx}
-use Rattle.bk_tx.specs.declared.tx.Body.{Body}
-use Rattle.bk_tx.specs.declared.tx.Body.TheVariants.{Pay, PayIf, Sweep, Split}
-use Rattle.bk_tx.specs.Access.{receivers_in}
+use Rattle.bk_tx.specs.Transaction.{Transaction}
+use Rattle.bk_tx.specs.declared.body.Body.{Body}
+use Rattle.bk_tx.specs.declared.body.Body.TheVariants.{Pay, PayIf, Sweep, Split}
+use Rattle.bk_tx.specs.Access.{receivers_in, IdsFit, PaymentsFit}
 
 -- eight bytes of a number
 abbrev pub wide : ℕ → List ℕ
@@ -37,7 +37,7 @@ body_text (Sweep to keep) = wide to ++ wide keep
 body_text (Split payments) = length payments ∷ flat_map payment_text payments
 
 -- the spelling of a transaction: kind, count of declared accounts, these, sequence number, sender, body
-abbrev pub transaction_text : Tx → List ℕ
+abbrev pub transaction_text : Transaction → List ℕ
 transaction_text t = kind_of t.body ∷ length t.declared ∷ flat_map declared_text t.declared ++ wide t.seq ++ wide t.from ++ body_text t.body
 
 -- who is paid by a body
@@ -52,7 +52,7 @@ pub record ArePayments (payments : List Payment) : Type 0 where
   pub some : 1 ≤ length payments
   pub few : length payments ≤ 6
   pub ascending : IsTrue (is_ascending (receivers_in payments))
-  pub fit : AllByRecursion (λ (p : Payment). (p.to < 2 ^ 64) × (p.amount < 2 ^ 64)) payments
+  pub fit : PaymentsFit payments
 
 -- the numbers of a body fit eight bytes, and its payments are those that a split can make
 abbrev pub BodyFits : Body → Type 0
@@ -62,12 +62,12 @@ BodyFits (Sweep to keep) = (to < 2 ^ 64) × (keep < 2 ^ 64)
 BodyFits (Split payments) = ArePayments payments
 
 -- the values that are transactions: 1 to 8 declared accounts by ascending id, nobody is paid by themselves, and the body is one of its kind
-pub record IsTransaction (t : Tx) : Type 0 where
+pub record IsTransaction (t : Transaction) : Type 0 where
   pub some : 1 ≤ length t.declared
   pub few : length t.declared ≤ 8
   pub ascending : IsTrue (is_ascending (map (λ (d : Declared). d.id) t.declared))
   pub apart : AllByRecursion (λ to. to ≢ t.from) (receivers_of t.body)
-  pub ids_fit : AllByRecursion (λ (d : Declared). d.id < 2 ^ 64) t.declared
+  pub ids_fit : IdsFit t.declared
   pub seq_fits : t.seq < 2 ^ 64
   pub from_fits : t.from < 2 ^ 64
   pub body_fits : BodyFits t.body

@@ -2,14 +2,14 @@
 
 ghost use Rattle.std.specs.Prelude.{◌≡◌, ℕ, List, Some};
 ghost use Rattle.bk_frames.specs.Numbers.{IsBytes};
-ghost use Rattle.bk_tx.specs.declared.tx.Tx.{Tx};
+ghost use Rattle.bk_tx.specs.Transaction.{Transaction};
 ghost use Rattle.bk_tx.specs.Spelling.{transaction_text, IsTransaction, batch_text, IsBatch};
 ghost use Rattle.bk_tx.specs.Reading.{transaction_of, texts_of};
 
 /// Bytes are read as a transaction exactly where they are its spelling.
 pub fn one_spelling_of_a_transaction()
-    ensures again { (t : Tx) → IsTransaction t → transaction_of (transaction_text t) ≡ Some t }
-    ensures only { (bytes : List ℕ) (t : Tx) → IsBytes bytes → transaction_of bytes ≡ Some t → IsTransaction t × (bytes ≡ transaction_text t) }
+    ensures again { (t : Transaction) → IsTransaction t → transaction_of (transaction_text t) ≡ Some t }
+    ensures only { (bytes : List ℕ) (t : Transaction) → IsBytes bytes → transaction_of bytes ≡ Some t → IsTransaction t × (bytes ≡ transaction_text t) }
 {}
 
 /// Bytes are read as a batch of these texts exactly where they are its spelling.

@@ -1,10 +1,12 @@
-//! Transactions and batches: what their bytes are, read and written with one spelling a value.
+//! Transactions and batches: their bytes, read and written, with one canonical encoding a value.
 //!
-//! `Tx::decode` and `read_batch` answer exactly what the bytes spell, and nothing where they spell nothing.
-//! `Tx::encode` writes the one spelling of a transaction.
+//! `Tx::decode` and `read_batch` return exactly what the bytes encode, and nothing where they encode nothing.
+//! `Tx::encode` and `write_batch` write the one encoding of a transaction and of a batch. A `Tx` that has none cannot
+//! be made.
 #![tactic(auto)]
 
 mod batch;
+mod body;
 mod declared;
 mod laws;
 mod payments;
@@ -12,11 +14,12 @@ mod reading;
 mod tx;
 mod writing;
 
-pub use batch::{Slice, read_batch};
-pub use declared::{Declarations, Declared};
+pub use batch::{Slice, read_batch, write_batch};
+pub use body::Body;
+pub use declared::{Declarations, Declared, MOST_DECLARED};
 pub use laws::{one_spelling_of_a_batch, one_spelling_of_a_transaction};
-pub use payments::{Payment, Payments};
-pub use tx::{Body, Tx};
+pub use payments::{MOST_PAYMENTS, Payment, Payments};
+pub use tx::Tx;
 
 #[cfg(test)]
 mod tests;

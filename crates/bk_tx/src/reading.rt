@@ -1,9 +1,12 @@
-ghost use Rattle.std.specs.Prelude.{◌≡◌, ◌≤◌, take, option_map};
+//! A transaction from its bytes, field by field.
+
+ghost use Rattle.std.specs.Prelude.{◌≡◌, ◌≤◌, option_map};
 ghost use Rattle.bk_tx.specs.Reading.{writable_of, declared_at, entries_at, declarations_at, pay_at, pay_if_at, sweep_at, payment_at, payments_at, split_at, body_at, transaction_of};
 
-use crate::declared::{Declarations, Declared};
-use crate::payments::{Payment, Payments};
-use crate::tx::{Body, Tx};
+use crate::body::Body;
+use crate::declared::{Declarations, Declared, MOST_DECLARED};
+use crate::payments::{MOST_PAYMENTS, Payment, Payments};
+use crate::tx::Tx;
 use bk_frames::Fields;
 
 #[tactic(auto, unfolding(crate::specs::Reading::writable_of))]
@@ -26,16 +29,14 @@ fn declared(fields: &mut Fields) -> Option<Declared>
     Some(Declared { id, writable })
 }
 
-fn entries(count: usize, fields: &mut Fields) -> Option<[Declared; 8]>
+fn entries(count: usize, fields: &mut Fields) -> Option<Declarations>
     requires { count ≤ 8 }
-    ensures { option_map (λ read. (take count read, fields.new)) result ≡ entries_at count fields.old }
+    ensures { option_map (λ read. (read, fields.new)) result ≡ entries_at count fields.old }
 {
-    let mut read = [Declared {
-        id: 0,
-        writable: false,
-    }; 8];
-    for i in 0..count {
-        read[i] = declared(fields)?;
+    let mut read = Declarations::none();
+    for _ in 0..count {
+        let entry = declared(fields)?;
+        read.push(entry.id, entry.writable);
     }
     Some(read)
 }
@@ -45,10 +46,10 @@ fn declarations(fields: &mut Fields) -> Option<Declarations>
     ensures { option_map (λ d. (d, fields.new)) result ≡ declarations_at fields.old }
 {
     let count = fields.u8()? as usize;
-    if count < 1 || count > 8 {
+    if count < 1 || count > MOST_DECLARED {
         return None;
     }
-    let declared = Declarations::first(entries(count, fields)?, count);
+    let declared = entries(count, fields)?;
     if !declared.is_ascending() {
         return None;
     }
@@ -98,13 +99,14 @@ fn payment(fields: &mut Fields) -> Option<Payment>
     Some(Payment { to, amount })
 }
 
-fn payments(count: usize, fields: &mut Fields) -> Option<[Payment; 6]>
+fn payments(count: usize, fields: &mut Fields) -> Option<Payments>
     requires { count ≤ 6 }
-    ensures { option_map (λ read. (take count read, fields.new)) result ≡ payments_at count fields.old }
+    ensures { option_map (λ read. (read, fields.new)) result ≡ payments_at count fields.old }
 {
-    let mut read = [Payment { to: 0, amount: 0 }; 6];
-    for i in 0..count {
-        read[i] = payment(fields)?;
+    let mut read = Payments::none();
+    for _ in 0..count {
+        let entry = payment(fields)?;
+        read.push(entry.to, entry.amount);
     }
     Some(read)
 }
@@ -114,10 +116,10 @@ fn split(fields: &mut Fields) -> Option<Body>
     ensures { option_map (λ b. (b, fields.new)) result ≡ split_at fields.old }
 {
     let count = fields.u8()? as usize;
-    if count == 0 || count > 6 {
+    if count == 0 || count > MOST_PAYMENTS {
         return None;
     }
-    let payments = Payments::first(payments(count, fields)?, count);
+    let payments = payments(count, fields)?;
     if !payments.is_ascending() {
         return None;
     }
@@ -137,9 +139,9 @@ fn body(kind: u8, fields: &mut Fields) -> Option<Body>
     }
 }
 
-/// The transaction that the bytes spell, all of the bytes.
+// The transaction that the bytes encode, all of the bytes.
 #[tactic(auto, unfolding(crate::specs::Reading::transaction_of))]
-pub fn transaction(bytes: &[u8]) -> Option<Tx>
+pub fn read_transaction(bytes: &[u8]) -> Option<Tx>
     ensures { result ≡ transaction_of bytes.now }
 {
     let mut fields = Fields::new(bytes);
@@ -148,13 +150,8 @@ pub fn transaction(bytes: &[u8]) -> Option<Tx>
     let seq = fields.u64()?;
     let from = fields.u64()?;
     let body = body(kind, &mut fields)?;
-    if !fields.rest().is_empty() || body.pays(from) {
+    if !fields.rest().is_empty() {
         return None;
     }
-    Some(Tx {
-        declared,
-        seq,
-        from,
-        body,
-    })
+    Tx::new(declared, seq, from, body)
 }

@@ -95,6 +95,23 @@ fn declaring(alloc: Global, count: u8) -> Result<Vec<u8>, AllocError> {
     Ok(text)
 }
 
+// A transaction of these parts.
+fn made(declared: &[Declared], seq: u64, from: u64, body: Body) -> Option<Tx> {
+    Tx::new(Declarations::new(declared)?, seq, from, body)
+}
+
+// A split of these payments.
+fn split(payments: &[Payment]) -> Option<Body> {
+    Some(Body::Split {
+        payments: Payments::new(payments)?,
+    })
+}
+
+// A declared account.
+fn account(id: u64, writable: bool) -> Declared {
+    Declared { id, writable }
+}
+
 #[test]
 fn pay_is_read_and_written(rt: HostRuntime) -> Result<(), Fail> {
     let tx = Tx::decode(&PAY).ok_or("the bytes are a payment")?;
@@ -108,28 +125,26 @@ fn pay_is_read_and_written(rt: HostRuntime) -> Result<(), Fail> {
             writable: true,
         },
     ];
-    assert_eq!(rt; tx.declared(), both.as_slice());
-    assert_eq!(rt; tx.seq, 0);
-    assert_eq!(rt; tx.from, 1);
-    assert!(rt; matches!(tx.body, Body::Pay { to: 2, amount: 30 }));
+    let declared = tx.declared();
+    assert_eq!(rt; declared.ids(), [1, 2].as_slice());
+    assert!(rt; declared.writes(1) && declared.writes(2));
+    assert_eq!(rt; tx.seq(), 0);
+    assert_eq!(rt; tx.from(), 1);
+    assert!(rt; matches!(tx.body(), Body::Pay { to: 2, amount: 30 }));
     assert_eq!(rt; tx.encode(rt.alloc())?.as_slice(), PAY.as_slice());
-    let built = Tx {
-        declared: Declarations::new(&both).ok_or("two are not too many")?,
-        seq: 0,
-        from: 1,
-        body: Body::Pay { to: 2, amount: 30 },
-    };
+    let built = made(&both, 0, 1, Body::Pay { to: 2, amount: 30 }).ok_or("it is a payment")?;
     assert_eq!(rt; built.encode(rt.alloc())?.as_slice(), PAY.as_slice());
+    assert_eq!(rt; built.copy().encode(rt.alloc())?.as_slice(), PAY.as_slice());
     Ok(())
 }
 
 #[test]
 fn pay_if_is_read_and_written(rt: HostRuntime) -> Result<(), Fail> {
     let tx = Tx::decode(&PAY_IF).ok_or("the bytes are a payment")?;
-    assert_eq!(rt; tx.seq, 9223372036854775814);
-    assert_eq!(rt; tx.from, 5);
+    assert_eq!(rt; tx.seq(), 9223372036854775814);
+    assert_eq!(rt; tx.from(), 5);
     let wanted = matches!(
-        tx.body,
+        tx.body(),
         Body::PayIf {
             to: 258,
             amount: 1,
@@ -138,8 +153,11 @@ fn pay_if_is_read_and_written(rt: HostRuntime) -> Result<(), Fail> {
         }
     );
     assert!(rt; wanted);
-    assert!(rt; tx.declared.writes(258) && !tx.declared.writes(7));
-    assert!(rt; tx.declared.declares(7) && !tx.declared.declares(2));
+    let declared = tx.declared();
+    assert!(rt; declared.writes(258) && !declared.writes(7));
+    assert!(rt; declared.declares(7) && !declared.declares(2));
+    assert_eq!(rt; declared.declared_at(258), Some(2));
+    assert_eq!(rt; declared.writable_at(7), None);
     assert_eq!(rt; tx.encode(rt.alloc())?.as_slice(), PAY_IF.as_slice());
     Ok(())
 }
@@ -147,8 +165,8 @@ fn pay_if_is_read_and_written(rt: HostRuntime) -> Result<(), Fail> {
 #[test]
 fn sweep_is_read_and_written(rt: HostRuntime) -> Result<(), Fail> {
     let tx = Tx::decode(&SWEEP).ok_or("the bytes are a sweep")?;
-    assert_eq!(rt; tx.from, 1);
-    assert!(rt; matches!(tx.body, Body::Sweep { to: 2, keep: 7 }));
+    assert_eq!(rt; tx.from(), 1);
+    assert!(rt; matches!(tx.body(), Body::Sweep { to: 2, keep: 7 }));
     assert_eq!(rt; tx.encode(rt.alloc())?.as_slice(), SWEEP.as_slice());
     Ok(())
 }
@@ -163,7 +181,7 @@ fn split_is_read_and_written(rt: HostRuntime) -> Result<(), Fail> {
             amount: u64::MAX,
         },
     ];
-    let Body::Split { payments } = &tx.body else {
+    let Body::Split { payments } = tx.body() else {
         return Err("the kind is that of a split".into());
     };
     assert_eq!(rt; payments.as_slice(), both.as_slice());
@@ -172,15 +190,13 @@ fn split_is_read_and_written(rt: HostRuntime) -> Result<(), Fail> {
         id: 3,
         writable: true,
     }];
-    let built = Tx {
-        declared: Declarations::new(&declared).ok_or("one is not too many")?,
-        seq: 9,
-        from: 3,
-        body: Body::Split {
-            payments: Payments::new(&both).ok_or("two are not too many")?,
-        },
-    };
+    let body = split(&both).ok_or("two are not too many")?;
+    let built = made(&declared, 9, 3, body).ok_or("it is a split")?;
     assert_eq!(rt; built.encode(rt.alloc())?.as_slice(), SPLIT.as_slice());
+    assert_eq!(rt;
+        built.copy().encode(rt.alloc())?.as_slice(),
+        SPLIT.as_slice()
+    );
     Ok(())
 }
 
@@ -273,5 +289,63 @@ fn batches_at_their_bounds(rt: HostRuntime) -> Result<(), Fail> {
     assert!(rt; read_batch(rt.alloc(), &[0, 1, 0, 2, 9])?.is_none());
     assert!(rt; read_batch(rt.alloc(), &[0, 1, 0, 1, 9, 9])?.is_none());
     assert!(rt; read_batch(rt.alloc(), &[255, 255, 0, 0])?.is_none());
+    Ok(())
+}
+
+// Parts that break a rule of the grammar make no transaction.
+#[test]
+fn parts_of_no_transaction(rt: HostRuntime) -> Result<(), Fail> {
+    let two = [account(1, true), account(2, true)];
+    assert!(rt; made(&two, 0, 1, Body::Pay { to: 2, amount: 0 }).is_some());
+    assert!(rt; made(&[], 0, 1, Body::Pay { to: 2, amount: 0 }).is_none());
+    let nine = [account(1, true); 9];
+    assert!(rt; Declarations::new(&nine).is_none());
+    let equal = [account(1, true), account(1, false)];
+    assert!(rt; made(&equal, 0, 1, Body::Pay { to: 2, amount: 0 }).is_none());
+    let turned = [account(2, true), account(1, true)];
+    assert!(rt; made(&turned, 0, 1, Body::Pay { to: 2, amount: 0 }).is_none());
+    assert!(rt; made(&two, 0, 2, Body::Pay { to: 2, amount: 0 }).is_none());
+    assert!(rt; made(&two, 0, 2, Body::Sweep { to: 2, keep: 0 }).is_none());
+    let own = Body::PayIf {
+        to: 2,
+        amount: 0,
+        guard: 1,
+        min: 0,
+    };
+    assert!(rt; made(&two, 0, 2, own).is_none());
+    Ok(())
+}
+
+// Payments that no split can make.
+#[test]
+fn parts_of_no_split(rt: HostRuntime) -> Result<(), Fail> {
+    let two = [account(1, true), account(2, true)];
+    let to_two = Payment { to: 2, amount: 9 };
+    let to_three = Payment { to: 3, amount: 9 };
+    assert!(rt; Payments::new(&[to_two; 7]).is_none());
+    let none = split(&[]).ok_or("none are not too many")?;
+    assert!(rt; made(&two, 0, 1, none).is_none());
+    let equal = split(&[to_two, to_two]).ok_or("two are not too many")?;
+    assert!(rt; made(&two, 0, 1, equal).is_none());
+    let turned = split(&[to_three, to_two]).ok_or("two are not too many")?;
+    assert!(rt; made(&two, 0, 1, turned).is_none());
+    let good = split(&[to_two, to_three]).ok_or("two are not too many")?;
+    assert!(rt; made(&two, 0, 1, good).is_some());
+    let own = split(&[to_two, to_three]).ok_or("two are not too many")?;
+    assert!(rt; made(&two, 0, 3, own).is_none());
+    Ok(())
+}
+
+// A batch is written and read again, with its texts where they were put.
+#[test]
+fn a_batch_is_written(rt: HostRuntime) -> Result<(), Fail> {
+    let mut texts = Vec::new(rt.alloc());
+    texts.push(Vec::new(rt.alloc()))?;
+    texts.push(Vec::from_slice(rt.alloc(), &[9, 8, 7])?)?;
+    let bytes = write_batch(rt.alloc(), &texts)?;
+    assert_eq!(rt; bytes.as_slice(), [0, 2, 0, 0, 0, 3, 9, 8, 7].as_slice());
+    let slices = read_batch(rt.alloc(), &bytes)?.ok_or("it is a batch")?;
+    let wanted = [Slice { start: 4, len: 0 }, Slice { start: 6, len: 3 }];
+    assert_eq!(rt; slices.as_slice(), wanted.as_slice());
     Ok(())
 }

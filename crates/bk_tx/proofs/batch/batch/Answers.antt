@@ -3,7 +3,7 @@ use Rattle.std.proofs.lemmas.List.{map_push}
 use Rattle.std.proofs.lemmas.List.Elements.{All-push}
 use Rattle.bk_tx.specs.Batch.{IsWithin, cut, cuts}
 use Rattle.bk_tx.specs.Reading.{texts_at}
-use Rattle.bk_tx.proofs.Batches.{count_missing, no_room, text_void, bytes_left, all_read}
+use Rattle.bk_tx.proofs.Batches.{end-push, FollowFrom-push, count_missing, no_room, text_void, bytes_left, all_read}
 use Rattle.bk_tx.proofs.Loop.{texts_go_on, texts_end, texts_done}
 use Rattle.bk_tx.proofs.batch.batch.Goals as goal
 
@@ -21,12 +21,18 @@ returns-in_default-slice_at-clause-exact c =
     let read = rw c.new-fields.ensures at c.in-Some.ensures.found in
     text_void bytes c.u16.new.self c.in-Some.count (sym read) (texts_end (cuts bytes c.loop.slices.items) c.in-Some.count c.loop.counter (drop c.loop.at bytes) (texts_at c.in-Some.count (drop 2 bytes)) c.loop-test.true c.in_default-slice_at.ensures.found c.loop.invariant.read)
 
+pub slice_at-requires-clause-low : goal.slice_at-requires-clause-low
+slice_at-requires-clause-low c = omega (arith, c.loop.invariant.low, c.loop-test.true)
+
 pub loop-preserved : goal.loop-preserved
 loop-preserved c =
     let bytes = c.args.bytes.now in
     let slice = c.in-Some-slice_at.slice in
     let longer : cuts bytes c.push.new.self.items ≡ cuts bytes c.loop.slices.items ++ cut bytes slice ∷ [] = rw c.in_ok-push.ensures.items (map_push _ c.loop.slices.items slice) in
     record {
+      low = omega (arith, c.loop.invariant.low, c.in-Some-slice_at.ensures.place.0, c.in-Some-slice_at.ensures.place.1);
+      end = rw c.in_ok-push.ensures.items (end-push 2 c.loop.slices.items slice);
+      places = rw c.in_ok-push.ensures.items (FollowFrom-push 2 c.loop.slices.items slice c.loop.invariant.places (rw c.loop.invariant.end c.in-Some-slice_at.ensures.place.0));
       inside = c.in-Some-slice_at.ensures.inside;
       within = rw c.in_ok-push.ensures.items (All-push (IsWithin bytes) c.loop.slices.items slice c.loop.invariant.within c.in-Some-slice_at.ensures.inside);
       read = rw longer (texts_go_on (cuts bytes c.loop.slices.items) c.in-Some.count c.loop.counter (drop c.loop.at bytes) (cut bytes slice) (drop (slice.start + slice.len) bytes) (texts_at c.in-Some.count (drop 2 bytes)) c.loop-test.true c.in-Some-slice_at.ensures.found c.loop.invariant.read);

@@ -1,7 +1,10 @@
-use Rattle.std.proofs.Common.{◌≡◌, ◌-◌, length, take}
+use Rattle.std.proofs.Common.{◌≡◌, ◌-◌, length}
 use Rattle.bk_tx.specs.Reading.{entries_at}
 use Rattle.bk_tx.proofs.Loop.{with_front}
 use Rattle.bk_tx.proofs.reading.entries.Given as goal
 
-abbrev pub invariant-loop-i : goal.invariant-loop-i
-invariant-loop-i l = (length l.read ≡ 8) × (with_front (take l.i l.read) (entries_at (l.count - l.i) l.fields) ≡ entries_at l.count l.initial.fields)
+abbrev pub invariant-loop : goal.invariant-loop
+invariant-loop l = record {
+  passed : length l.read ≡ l.counter;
+  read : with_front l.read (entries_at (l.count - l.counter) l.fields) ≡ entries_at l.count l.initial.fields;
+}

@@ -3,5 +3,5 @@ use Rattle.std.specs.List.{flat_map}
 use Rattle.bk_tx.specs.Spelling.{declared_text}
 use Rattle.bk_tx.proofs.writing.put_declared.Given as goal
 
-abbrev pub invariant-loop-d : goal.invariant-loop-d
-invariant-loop-d l = l.out.items ≡ l.fn.out.items ++ length l.declared ∷ flat_map declared_text (take l.d-index l.declared)
+abbrev pub invariant-loop-k : goal.invariant-loop-k
+invariant-loop-k l = l.out.items ≡ l.fn.out.items ++ length l.declared ∷ flat_map declared_text (take l.k l.declared)

@@ -1,12 +1,10 @@
-use Rattle.std.proofs.Common.{◌≡◌, ltb, List, subst, rules}
-use Rattle.std.proofs.lemmas.List.Sorted.{answers_always}
+use Rattle.std.proofs.Common.{ℕ, ◌^◌, ◌<◌, List, get_or, ap, subst, ◌∙◌}
 use Rattle.bk_frames.specs.Numbers.{is_ascending}
-use Rattle.bk_tx.specs.declared.declared.Declared.{Declared}
-use Rattle.bk_tx.specs.Access.{declared_ids}
-use Rattle.bk_tx.proofs.Ascending.{ascending_answer}
+use Rattle.bk_tx.proofs.Pairs.{ids_fit}
 use Rattle.bk_tx.proofs.declared.Declarations.is_ascending.Goals as goal
 
-pub returns : goal.returns
-returns c =
-    let tested = c.is_sorted_by.ensures.cases (λ x y. ltb x.id y.id) (answers_always _ _ _ (λ f a r g h. search rules)) in
-    subst (λ (ds : List Declared). c.is_sorted_by.result ≡ is_ascending (declared_ids ds)) c.as_slice.ensures.all (ascending_answer (λ (d : Declared). d.id) c.as_slice.result.now c.is_sorted_by.result tested)
+pub returns-clause-test : goal.returns-clause-test
+returns-clause-test c = c.ascends.ensures.test ∙ ap is_ascending c.ids.ensures.all
+
+pub returns-clause-fit : goal.returns-clause-fit
+returns-clause-fit c = ids_fit c.args.self.now (λ k. subst (λ (ids : List ℕ). get_or ids k 0 < 2 ^ 64) c.ids.ensures.all (c.ascends.ensures.fit k))
