@@ -1,5 +1,9 @@
 pub mod Rule
+pub mod Rows
 pub mod Fold
-pub mod Accounts
-pub mod Place
 pub mod Laws
+pub mod Numbers
+pub mod Ledger
+pub mod View
+pub mod Storing
+pub mod private

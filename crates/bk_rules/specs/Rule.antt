@@ -1,145 +1,142 @@
 -- The transaction rule: what becomes of one transaction on the accounts as they stand.
-use Rattle.std.specs.Prelude.{ℕ, ◌+◌, ◌-◌, ◌^◌, ◌<◌, Bool, true, List, [], ◌∷◌, map, find, Option, Some, None, IsTrue, option_map, unwrap_or, is_some, not, nat_lt, ◌==◌, ◌&&◌, if◌then◌else◌}
+use Rattle.std.specs.Prelude.{ℕ, ◌+◌, ◌-◌, Bool, true, List, [], ◌∷◌, map, Option, Some, None, option_map, unwrap_or, is_some, not, nat_lt, ◌==◌, ◌&&◌, if◌then◌else◌}
 use Rattle.std.specs.List.{list_all, sum_by}
-use Rattle.bk_frames.specs.declared.genesis.Row.{Row}
-use Rattle.bk_frames.specs.Numbers.{is_ascending}
-use Rattle.bk_frames.specs.Genesis.{ids_of, total_of}
 use Rattle.bk_tx.specs.declared.payments.Payment.{Payment}
-use Rattle.bk_tx.specs.declared.tx.Tx.{Tx}
-use Rattle.bk_tx.specs.declared.tx.Body.{Body}
-use Rattle.bk_tx.specs.declared.tx.Body.TheVariants.{Pay, PayIf, Sweep, Split}
+use Rattle.bk_tx.specs.Transaction.{Transaction}
+use Rattle.bk_tx.specs.declared.body.Body.{Body}
+use Rattle.bk_tx.specs.declared.body.Body.TheVariants.{Pay, PayIf, Sweep, Split}
 use Rattle.bk_tx.specs.Access.{writes, declares}
 use Rattle.bk_tx.specs.Spelling.{receivers_of}
+use Rattle.bk_rules.specs.declared.account.Account.{Account}
+use Rattle.bk_frames.specs.declared.version.Version.{Version}
+use Rattle.bk_frames.specs.declared.version.Version.TheVariants.{One, Two}
 use Rattle.bk_rules.specs.declared.receipt.Status.{Status}
 use Rattle.bk_rules.specs.declared.receipt.Status.TheVariants as status
-use Rattle.bk_rules.specs.declared.receipt.Receipt.{Receipt}
-
--- what a list of rows keeps at every moment: ids ascend, and the balances add up to at most 2^63 - 1
-pub record IsLedger (rows : List Row) : Type 0 where
-  pub ascending : IsTrue (is_ascending (ids_of rows))
-  pub within : total_of rows < 2 ^ 63
 
 -- ---- accounts by id
 
--- the row of this id, if there is one
-abbrev pub row_of : List Row → ℕ → Option Row
-row_of rows id = find (λ (r : Row). r.id == id) rows
+-- the accounts at one moment: that of each id, if there is one
+abbrev pub Accounts : Type 0
+Accounts = ℕ → Option Account
 
 -- there is an account of this id
-abbrev pub is_known : List Row → ℕ → Bool
-is_known rows id = is_some (row_of rows id)
+abbrev pub is_known : Accounts → ℕ → Bool
+is_known accounts id = is_some (accounts id)
 
--- its balance, 0 where there is no such account
-abbrev pub balance_at : List Row → ℕ → ℕ
-balance_at rows id = unwrap_or (option_map (λ (r : Row). r.balance) (row_of rows id)) 0
+-- the balance of an account, 0 where there is none
+abbrev pub balance_of : Option Account → ℕ
+balance_of account = unwrap_or (option_map (λ (a : Account). a.balance) account) 0
 
--- its sequence number, 0 where there is no such account
-abbrev pub seq_at : List Row → ℕ → ℕ
-seq_at rows id = unwrap_or (option_map (λ (r : Row). r.seq) (row_of rows id)) 0
+-- its sequence number, 0 where there is none
+abbrev pub seq_of : Option Account → ℕ
+seq_of account = unwrap_or (option_map (λ (a : Account). a.seq) account) 0
 
--- the rows with the row of this id changed
-abbrev pub changed_at : ℕ → (Row → Row) → List Row → List Row
-changed_at id change rows = map (λ (r : Row). if r.id == id then change r else r) rows
+-- the balance of the account of this id
+abbrev pub balance_at : Accounts → ℕ → ℕ
+balance_at accounts id = balance_of (accounts id)
+
+-- its sequence number
+abbrev pub seq_at : Accounts → ℕ → ℕ
+seq_at accounts id = seq_of (accounts id)
 
 -- ---- what a body asks for
 
--- an amount for a receiver
-pub record Transfer : Type 0 where
-  pub to : ℕ
-  pub amount : ℕ
+-- the payments that a body asks for, all from the sender, who has this balance: a sweep pays what there is above what it keeps
+abbrev pub payments_of : ℕ → Body → List Payment
+payments_of balance (Pay to amount) = record { to = to; amount = amount } ∷ []
+payments_of balance (PayIf to amount guard min) = record { to = to; amount = amount } ∷ []
+payments_of balance (Sweep to keep) = record { to = to; amount = balance - keep } ∷ []
+payments_of balance (Split payments) = payments
 
--- the transfer that a payment of a split is
-abbrev pub transfer_of : Payment → Transfer
-transfer_of p = record { to = p.to; amount = p.amount }
+-- the payments that a transaction asks for on these accounts
+abbrev pub payments_on : Accounts → Transaction → List Payment
+payments_on accounts t = payments_of (balance_at accounts t.from) t.body
 
--- the movements of money that a body asks for, all out of the sender's account, where that holds this balance: a sweep moves what there is above what it keeps, and nothing where there is less
-abbrev pub transfers_of : ℕ → Body → List Transfer
-transfers_of balance (Pay to amount) = record { to = to; amount = amount } ∷ []
-transfers_of balance (PayIf to amount guard min) = record { to = to; amount = amount } ∷ []
-transfers_of balance (Sweep to keep) = record { to = to; amount = balance - keep } ∷ []
-transfers_of balance (Split payments) = map transfer_of payments
-
--- the movements that a transaction asks for on these rows
-abbrev pub transfers_on : List Row → Tx → List Transfer
-transfers_on rows t = transfers_of (balance_at rows t.from) t.body
+-- all that they pay, a sum without bound
+abbrev pub sum_of : List Payment → ℕ
+sum_of payments = sum_by (λ (p : Payment). p.amount) payments
 
 -- a balance that has to be there
-pub record Floor : Type 0 where
+pub record Guard : Type 0 where
   pub id : ℕ
   pub least : ℕ
 
 -- the guard of a body, if it has one
-abbrev pub guard_of : Body → Option Floor
+abbrev pub guard_of : Body → Option Guard
 guard_of (Pay to amount) = None
 guard_of (PayIf to amount guard min) = Some (record { id = guard; least = min })
 guard_of (Sweep to keep) = None
 guard_of (Split payments) = None
 
--- all that the transfers move, a sum without bound
-abbrev pub sum_of : List Transfer → ℕ
-sum_of transfers = sum_by (λ (t : Transfer). t.amount) transfers
-
 -- a test of the guard, which holds where there is none
-abbrev pub guard_passes : (Floor → Bool) → Body → Bool
+abbrev pub guard_passes : (Guard → Bool) → Body → Bool
 guard_passes test body = unwrap_or (option_map test (guard_of body)) true
 
--- ---- the rule
+-- ---- the status
 
 -- the sender and each receiver are declared for writing, and the guard is declared
-abbrev pub is_declared : Tx → Bool
-is_declared t = writes t.declared t.from && list_all (λ (to : ℕ). writes t.declared to) (receivers_of t.body) && guard_passes (λ (f : Floor). declares t.declared f.id) t.body
+abbrev pub is_declared : Transaction → Bool
+is_declared t = writes t.declared t.from && list_all (λ (to : ℕ). writes t.declared to) (receivers_of t.body) && guard_passes (λ (g : Guard). declares t.declared g.id) t.body
 
--- the sender, each receiver and the guard have accounts
-abbrev pub are_known : List Row → Tx → Bool
-are_known rows t = is_known rows t.from && list_all (λ (to : ℕ). is_known rows to) (receivers_of t.body) && guard_passes (λ (f : Floor). is_known rows f.id) t.body
+-- a receiver has to be there in version One, and may be absent in version Two
+abbrev pub can_receive : Version → Option Account → Bool
+can_receive One account = is_some account
+can_receive Two account = true
+
+-- the sender and the guard have accounts, and each receiver can be paid
+abbrev pub are_known : Version → Accounts → Transaction → Bool
+are_known version accounts t = is_known accounts t.from && list_all (λ (to : ℕ). can_receive version (accounts to)) (receivers_of t.body) && guard_passes (λ (g : Guard). is_known accounts g.id) t.body
 
 -- the status is the first of these that applies
-abbrev pub status_of : List Row → Tx → Status
-status_of rows t =
+abbrev pub status_of : Version → Accounts → Transaction → Status
+status_of version accounts t =
     if not (is_declared t) then status.Undeclared
-    else (if not (are_known rows t) then status.Unknown
-    else (if not (t.seq == seq_at rows t.from) then status.Stale
-    else (if not (guard_passes (λ (f : Floor). not (nat_lt (balance_at rows f.id) f.least)) t.body) then status.Guard
-    else (if nat_lt (balance_at rows t.from) (sum_of (transfers_on rows t)) then status.Funds
+    else (if not (are_known version accounts t) then status.Unknown
+    else (if not (t.seq == seq_at accounts t.from) then status.Stale
+    else (if not (guard_passes (λ (g : Guard). not (nat_lt (balance_at accounts g.id) g.least)) t.body) then status.Guard
+    else (if nat_lt (balance_at accounts t.from) (sum_of (payments_on accounts t)) then status.Funds
     else status.Ok))))
 
+-- ---- what follows from a status
+
+-- the money that is moved
+abbrev pub moved_by : Status → Accounts → Transaction → ℕ
+moved_by status.Ok accounts t = sum_of (payments_on accounts t)
+moved_by other accounts t = 0
+
+-- a change of one account
+pub record Change : Type 0 where
+  pub id : ℕ
+  pub makes : Account → Account
+
 -- the sender pays this much, and its sequence number counts up
-abbrev pub sent : ℕ → Row → Row
-sent paid r = record { id = r.id; balance = r.balance - paid; seq = r.seq + 1 }
+abbrev pub sent : ℕ → Account → Account
+sent paid a = record { balance = a.balance - paid; seq = a.seq + 1 }
 
 -- a receiver gets this much
-abbrev pub received : ℕ → Row → Row
-received amount r = record { id = r.id; balance = r.balance + amount; seq = r.seq }
+abbrev pub received : ℕ → Account → Account
+received amount a = record { balance = a.balance + amount; seq = a.seq }
 
--- each transfer reaches its receiver
-abbrev pub credited : List Transfer → List Row → List Row
-credited [] rows = rows
-credited (t ∷ more) rows = credited more (changed_at t.to (received t.amount) rows)
+-- the change of the sender
+abbrev pub send : ℕ → ℕ → Change
+send id paid = record { id = id; makes = sent paid }
 
--- what a transaction gives: its receipt, and the accounts after it
-pub record Outcome : Type 0 where
-  pub receipt : Receipt
-  pub after : List Row
+-- the change of a receiver
+abbrev pub receive : Payment → Change
+receive p = record { id = p.to; makes = received p.amount }
 
--- nothing happens but the receipt
-abbrev pub refused : Status → List Row → Outcome
-refused s rows = record { receipt = record { status = s; moved = 0 }; after = rows }
+-- the changes, one after another: the payments, or the sender's sequence number alone, or none
+abbrev pub changes_of : Status → Accounts → Transaction → List Change
+changes_of status.Ok accounts t = send t.from (sum_of (payments_on accounts t)) ∷ map receive (payments_on accounts t)
+changes_of status.Guard accounts t = send t.from 0 ∷ []
+changes_of status.Funds accounts t = send t.from 0 ∷ []
+changes_of other accounts t = []
 
--- the sender's sequence number counts up, and nothing else happens
-abbrev pub counted : Status → Tx → List Row → Outcome
-counted s t rows = record { receipt = record { status = s; moved = 0 }; after = changed_at t.from (sent 0) rows }
+-- an account that comes to be
+abbrev pub new_account : Account
+new_account = record { balance = 0; seq = 0 }
 
--- what follows from a status: what is moved, and the accounts after it
-abbrev pub settled : Status → Tx → List Row → Outcome
-settled status.Ok t rows = record { receipt = record { status = status.Ok; moved = sum_of (transfers_on rows t) }; after = credited (transfers_on rows t) (changed_at t.from (sent (sum_of (transfers_on rows t))) rows) }
-settled status.Guard t rows = counted status.Guard t rows
-settled status.Funds t rows = counted status.Funds t rows
-settled status.Malformed t rows = refused status.Malformed rows
-settled status.Undeclared t rows = refused status.Undeclared rows
-settled status.Unknown t rows = refused status.Unknown rows
-settled status.Stale t rows = refused status.Stale rows
-
--- the rule: a text that is no transaction is malformed, and else the status says what follows
-abbrev pub outcome_of : Option Tx → List Row → Outcome
-outcome_of None rows = refused status.Malformed rows
-outcome_of (Some t) rows = settled (status_of rows t) t rows
+-- what changes make of the account of an id: one that is absent comes to be with the first
+abbrev pub account_after : List Change → ℕ → Option Account → Option Account
+account_after [] id account = account
+account_after (c ∷ more) id account = account_after more id (if c.id == id then Some (c.makes (unwrap_or account new_account)) else account)

@@ -1,35 +1,54 @@
 //! The laws of the rule and of the fold, as functions that do nothing: their clauses are the laws.
 
-ghost use Rattle.bk_rules.specs.Laws.{KeepsTotal, FoldKeepsTotal, KeepsIds, FoldKeepsIds, KeepsLedger, FoldKeepsLedger, SeqsStayBelow, BalancesStayBelow, RoomIsLeft, StateAppends, ReceiptsAppend, OneReceiptEach, ReceiptOfPlace};
+ghost use Rattle.bk_rules.specs.Laws.{KeepsTotal, KeepsLedger, KeepsIds, SeesDeclaredAlone, ChangesWritableAlone, IsRuleOfRows, FoldKeepsTotal, FoldKeepsLedger, FoldKeepsIds, RoomIsKept, RoomIsLeft, SeqsStayBelow, BalancesStayBelow, StateAppends, ReceiptsAppend, OneReceiptEach, ReceiptOfPlace, RowsOfPlace, RowsAreKnown};
+ghost use Rattle.bk_rules.specs.Storing.{EffectIsOutcome};
 
-/// A transaction makes and loses no money, whatever becomes of it.
+/// A transaction makes and loses no money, whatever becomes of it, and neither do many.
 pub fn total_is_kept()
-    ensures { KeepsTotal }
+    ensures one { KeepsTotal }
+    ensures many { FoldKeepsTotal }
 {}
 
-/// Nor do many.
-pub fn fold_keeps_total()
-    ensures { FoldKeepsTotal }
-{}
-
-/// A transaction leaves the accounts a ledger, of the same ids.
+/// A ledger is one after a transaction, in version One with the same ids.
 pub fn ledger_is_kept()
-    ensures ids { KeepsIds }
     ensures ledger { KeepsLedger }
+    ensures ids { KeepsIds }
 {}
 
-/// So do many.
+/// A ledger is one after many transactions, in version One with the same ids.
 pub fn fold_keeps_ledger()
-    ensures ids { FoldKeepsIds }
     ensures ledger { FoldKeepsLedger }
+    ensures ids { FoldKeepsIds }
 {}
 
-/// After k transactions on opening accounts each sequence number is below 2^63 + k, and the balances add up to at
-/// most 2^63 - 1. So there is room for n more as long as k + n stays below 2^63.
+/// The rule sees the declared accounts alone, and changes those alone that are declared for writing.
+pub fn rule_is_local()
+    ensures sees { SeesDeclaredAlone }
+    ensures changes { ChangesWritableAlone }
+{}
+
+/// What the rule makes of the rows is, id by id, what it makes of the accounts.
+pub fn rule_of_rows()
+    ensures { IsRuleOfRows }
+{}
+
+/// The effect on a view of the declared accounts, put back, is the rule on the rows.
+pub fn effect_is_outcome()
+    ensures { EffectIsOutcome }
+{}
+
+/// Rows by ascending id with the same accounts are the same.
+pub fn rows_are_known()
+    ensures { RowsAreKnown }
+{}
+
+/// Room for a list and n more leaves room for n after the list. Opening accounts have room for fewer than 2^63: after
+/// k transactions each sequence number is below 2^63 + k, and the balances add up to at most 2^63 - 1.
 pub fn room_is_left()
+    ensures kept { RoomIsKept }
+    ensures left { RoomIsLeft }
     ensures seqs { SeqsStayBelow }
     ensures balances { BalancesStayBelow }
-    ensures room { RoomIsLeft }
 {}
 
 /// The fold of a list and then another is the fold of both in a row.
@@ -38,8 +57,10 @@ pub fn fold_appends()
     ensures receipts { ReceiptsAppend }
 {}
 
-/// There is a receipt for each transaction, and it is that of the transaction on the accounts before it.
-pub fn receipt_of_place()
+/// There is a receipt for each transaction. It is that of the transaction on the rows before it, and the rows before
+/// the next place are those after it.
+pub fn fold_by_place()
     ensures count { OneReceiptEach }
     ensures receipt { ReceiptOfPlace }
+    ensures rows { RowsOfPlace }
 {}

@@ -1,23 +1,28 @@
-//! The transaction rule, and the fold of a list of transactions over the opening accounts.
-//!
-//! [`State::apply`] does what the rule of `specs/Rule.antt` says of one transaction, and [`run_in_order`] what the fold
-//! of `specs/Fold.antt` says of a list. No transaction makes or loses money or an account, and none takes memory.
+//! The transaction rule in both versions, and the accounts that it runs on.
 #![tactic(auto)]
 
-mod apply;
-mod finding;
+mod account;
+mod ids;
 mod laws;
+mod local;
 mod receipt;
+mod roles;
+mod rule;
 mod run;
-mod split;
 mod state;
+mod widen;
+
+pub use account::{Account, account_leaf};
+pub use ids::Ids;
+pub use laws::{
+    effect_is_outcome, fold_appends, fold_by_place, fold_keeps_ledger, ledger_is_kept,
+    room_is_left, rows_are_known, rule_is_local, rule_of_rows, total_is_kept,
+};
+pub use local::Local;
+pub use receipt::{Receipt, Status};
+pub use rule::{Effect, apply_local, settle};
+pub use run::run_in_order;
+pub use state::State;
+
 #[cfg(test)]
 mod tests;
-
-pub use laws::{
-    fold_appends, fold_keeps_ledger, fold_keeps_total, ledger_is_kept, receipt_of_place,
-    room_is_left, total_is_kept,
-};
-pub use receipt::{Receipt, Status};
-pub use run::run_in_order;
-pub use state::{Account, State};

@@ -1,54 +1,74 @@
-ghost use Rattle.std.specs.Prelude.{IfOk};
+ghost use Rattle.std.specs.Prelude.{◌≡◌, ◌≤◌, Some, length};
+ghost use Rattle.bk_rules.specs.Rows.{IsLedger};
 ghost use Rattle.bk_rules.specs.Fold.{HasRoom};
 
+use crate::account::{Account, account_leaf};
+use crate::ids::Ids;
 use crate::receipt::{Receipt, Status};
+use crate::rule::apply_local;
 use crate::run::run_in_order;
-use crate::state::{Account, State};
-use bk_frames::Row;
+use crate::state::State;
+use bk_frames::{Row, Version};
 use bk_tx::{Body, Declarations, Declared, Payment, Payments, Tx};
 use std::test::Fail;
 
-// Accounts 1, 2 and 3 hold 100, 50 and 10.
-fn opening(rt: &HostRuntime) -> Result<State, Fail>
-    ensures { IfOk result (λ state. HasRoom 9 state) }
-{
-    let rows = [
-        Row {
-            id: 1,
-            balance: 100,
-            seq: 0,
-        },
-        Row {
-            id: 2,
-            balance: 50,
-            seq: 0,
-        },
-        Row {
-            id: 3,
-            balance: 10,
-            seq: 0,
-        },
-    ];
-    Ok(State::new(rt.alloc(), &rows)?)
+// What transactions leave.
+#[derive(Drop)]
+struct Ran {
+    receipts: Vec<Receipt>,
+    rows: Vec<Row>,
+    total: u64,
 }
 
-// Account 1 holds all the money that there can be but 1, which account 2 holds.
-fn rich_opening(rt: &HostRuntime) -> Result<State, Fail>
-    ensures { IfOk result (λ state. HasRoom 9 state) }
+// What these transactions leave of these rows.
+fn run_over(
+    rt: &HostRuntime,
+    version: Version,
+    rows: &[Row],
+    txs: &[Option<Tx>],
+) -> Result<Ran, Fail>
+    requires ledger { IsLedger rows.now }
+    requires start { HasRoom version 0 rows.now }
+    requires room { HasRoom version (length txs.now) rows.now }
 {
-    let rows = [
-        Row {
-            id: 1,
-            balance: 9223372036854775806,
-            seq: 0,
-        },
-        Row {
-            id: 2,
-            balance: 1,
-            seq: 0,
-        },
-    ];
-    Ok(State::new(rt.alloc(), &rows)?)
+    let mut state = State::new(rt.alloc(), version, rows)?;
+    state.prepare(rt.alloc(), txs)?;
+    let receipts = run_in_order(rt.alloc(), &mut state, txs)?;
+    let rows = state.rows(rt.alloc())?;
+    let total = state.total();
+    Ok(Ran {
+        receipts,
+        rows,
+        total,
+    })
+}
+
+// The same where accounts 1, 2 and 3 have 100, 50 and 10.
+fn three(rt: &HostRuntime, version: Version, txs: &[Option<Tx>]) -> Result<Ran, Fail>
+    requires { length txs.now ≤ 9 }
+{
+    let rows = [row(1, 100, 0), row(2, 50, 0), row(3, 10, 0)];
+    run_over(rt, version, &rows, txs)
+}
+
+// The same of one transaction in version One.
+fn one_of_three(rt: &HostRuntime, tx: &Option<Tx>) -> Result<Ran, Fail> {
+    let txs = [tx.as_ref().map(|t| t.copy())];
+    three(rt, Version::One, &txs)
+}
+
+// The same where account 1 alone is there and has 100.
+fn alone(rt: &HostRuntime, version: Version, txs: &[Option<Tx>]) -> Result<Ran, Fail>
+    requires { length txs.now ≤ 9 }
+{
+    let rows = [row(1, 100, 0)];
+    run_over(rt, version, &rows, txs)
+}
+
+fn row(id: u64, balance: u64, seq: u64) -> Row
+    ensures { result ≡ record { id = id; balance = balance; seq = seq } }
+{
+    Row { id, balance, seq }
 }
 
 fn writing(id: u64) -> Declared {
@@ -64,12 +84,8 @@ fn reading(id: u64) -> Declared {
 
 fn tx(declared: &[Declared], from: u64, seq: u64, body: Body) -> Result<Option<Tx>, Fail> {
     let declared = Declarations::new(declared).ok_or("more than eight accounts")?;
-    Ok(Some(Tx {
-        declared,
-        seq,
-        from,
-        body,
-    }))
+    let tx = Tx::new(declared, seq, from, body).ok_or("it is no transaction")?;
+    Ok(Some(tx))
 }
 
 // Declares its two accounts for writing.
@@ -129,56 +145,81 @@ fn receipt(status: Status, moved: u64) -> Receipt {
     Receipt { status, moved }
 }
 
-fn row(id: u64, balance: u64, seq: u64) -> Row {
-    Row { id, balance, seq }
+// Whether these receipts and rows were left.
+fn left(ran: &Ran, receipts: &[Receipt], rows: &[Row]) -> bool {
+    ran.receipts.as_slice() == receipts && ran.rows.as_slice() == rows
 }
 
 #[test]
 fn apply_two_payments(rt: HostRuntime) -> Result<(), Fail> {
-    let mut state = opening(&rt)?;
     let txs = [pay_if(10, 0, 50)?, pay(2, 1, 50, 0)?];
-    let receipts = run_in_order(rt.alloc(), &mut state, &txs)?;
-    assert_eq!(rt;
-        receipts.as_slice(),
-        [receipt(Status::Ok, 10), receipt(Status::Ok, 50)].as_slice()
-    );
-    assert_eq!(rt;
-        state.rows(),
-        [row(1, 140, 1), row(2, 0, 1), row(3, 20, 0)].as_slice()
-    );
-    assert_eq!(rt; state.total(), 160);
+    for version in [Version::One, Version::Two] {
+        let got = three(&rt, version, &txs)?;
+        let receipts = [receipt(Status::Ok, 10), receipt(Status::Ok, 50)];
+        let rows = [row(1, 140, 1), row(2, 0, 1), row(3, 20, 0)];
+        assert!(rt; left(&got, &receipts, &rows));
+        assert_eq!(rt; got.total, 160);
+    }
     Ok(())
 }
 
 #[test]
 fn payments_exchanged(rt: HostRuntime) -> Result<(), Fail> {
-    let mut state = opening(&rt)?;
     let txs = [pay(2, 1, 50, 0)?, pay_if(10, 0, 50)?];
-    let receipts = run_in_order(rt.alloc(), &mut state, &txs)?;
-    assert_eq!(rt;
-        receipts.as_slice(),
-        [receipt(Status::Ok, 50), receipt(Status::Guard, 0)].as_slice()
-    );
-    assert_eq!(rt;
-        state.rows(),
-        [row(1, 150, 1), row(2, 0, 1), row(3, 10, 0)].as_slice()
-    );
+    let got = three(&rt, Version::One, &txs)?;
+    let receipts = [receipt(Status::Ok, 50), receipt(Status::Guard, 0)];
+    let rows = [row(1, 150, 1), row(2, 0, 1), row(3, 10, 0)];
+    assert!(rt; left(&got, &receipts, &rows));
     Ok(())
 }
 
 #[test]
 fn counts_once(rt: HostRuntime) -> Result<(), Fail> {
-    let mut state = opening(&rt)?;
     let txs = [pay(1, 2, 30, 0)?, pay(1, 2, 30, 0)?];
-    let receipts = run_in_order(rt.alloc(), &mut state, &txs)?;
-    assert_eq!(rt;
-        receipts.as_slice(),
-        [receipt(Status::Ok, 30), receipt(Status::Stale, 0)].as_slice()
-    );
-    assert_eq!(rt;
-        state.rows(),
-        [row(1, 70, 1), row(2, 80, 0), row(3, 10, 0)].as_slice()
-    );
+    let got = three(&rt, Version::One, &txs)?;
+    let receipts = [receipt(Status::Ok, 30), receipt(Status::Stale, 0)];
+    let rows = [row(1, 70, 1), row(2, 80, 0), row(3, 10, 0)];
+    assert!(rt; left(&got, &receipts, &rows));
+    Ok(())
+}
+
+// An account that is absent comes to be with the first payment that counts, and is unknown before.
+#[test]
+fn accounts_come_to_be(rt: HostRuntime) -> Result<(), Fail> {
+    let body = Body::PayIf {
+        to: 9,
+        amount: 5,
+        guard: 8,
+        min: 0,
+    };
+    let guarded = tx(&[writing(1), reading(8), writing(9)], 1, 1, body)?;
+    let txs = [pay(1, 9, 30, 0)?, pay(9, 1, 10, 0)?, guarded];
+    let got = alone(&rt, Version::Two, &txs)?;
+    let receipts = [
+        receipt(Status::Ok, 30),
+        receipt(Status::Ok, 10),
+        receipt(Status::Unknown, 0),
+    ];
+    assert!(rt; left(&got, &receipts, &[row(1, 80, 1), row(9, 20, 1)]));
+    assert_eq!(rt; got.total, 100);
+    let got = alone(&rt, Version::One, &txs)?;
+    let unknown = receipt(Status::Unknown, 0);
+    assert!(rt; left(&got, &[unknown, unknown, unknown], &[row(1, 100, 0)]));
+    Ok(())
+}
+
+// A payment that is refused makes no account, and one of nothing does.
+#[test]
+fn zero_amount_creates(rt: HostRuntime) -> Result<(), Fail> {
+    let txs = [pay(1, 9, 200, 0)?, pay(1, 9, 0, 1)?];
+    let got = alone(&rt, Version::Two, &txs)?;
+    let receipts = [receipt(Status::Funds, 0), receipt(Status::Ok, 0)];
+    assert!(rt; left(&got, &receipts, &[row(1, 100, 2), row(9, 0, 0)]));
+    let got = alone(&rt, Version::Two, &txs[..1])?;
+    assert!(rt; left(&got, &receipts[..1], &[row(1, 100, 1)]));
+    let unknown = receipt(Status::Unknown, 0);
+    let got = alone(&rt, Version::One, &txs)?;
+    assert!(rt; left(&got, &[unknown, unknown], &[row(1, 100, 0)]));
     Ok(())
 }
 
@@ -192,38 +233,36 @@ fn refusals_in_the_order_of_the_table(rt: HostRuntime) -> Result<(), Fail> {
         guard: 2,
         min: 0,
     };
-    let cases = [
-        (None, Status::Malformed),
-        (tx(&[writing(1)], 1, 0, to_two())?, Status::Undeclared),
-        (
-            tx(&[writing(1), reading(2)], 1, 0, to_two())?,
-            Status::Undeclared,
-        ),
-        (
-            tx(&[reading(1), writing(2)], 1, 0, to_two())?,
-            Status::Undeclared,
-        ),
-        (
-            tx(&[writing(1), writing(3)], 1, 0, guarded)?,
-            Status::Undeclared,
-        ),
-        (tx(&[writing(1)], 1, 0, to_nine())?, Status::Undeclared),
-        (
-            tx(&[writing(1), writing(9)], 1, 0, to_nine())?,
-            Status::Unknown,
-        ),
-        (pay(9, 1, 1, 0)?, Status::Unknown),
-        (pay(9, 1, 1, 7)?, Status::Unknown),
-        (pay(1, 2, 101, 1)?, Status::Stale),
+    let txs = [
+        None,
+        tx(&[writing(1)], 1, 0, to_two())?,
+        tx(&[writing(1), reading(2)], 1, 0, to_two())?,
+        tx(&[reading(1), writing(2)], 1, 0, to_two())?,
+        tx(&[writing(1), writing(3)], 1, 0, guarded)?,
+        tx(&[writing(1)], 1, 0, to_nine())?,
+        tx(&[writing(1), writing(9)], 1, 0, to_nine())?,
+        pay(9, 1, 1, 7)?,
+        pay(1, 2, 101, 1)?,
     ];
-    for (tx, status) in &cases {
-        let mut state = opening(&rt)?;
-        assert_eq!(rt; state.apply(tx.as_ref()), receipt(*status, 0), "{tx:?}");
-        assert_eq!(rt;
-            state.rows(),
-            [row(1, 100, 0), row(2, 50, 0), row(3, 10, 0)].as_slice()
-        );
-    }
+    let receipts = [
+        receipt(Status::Malformed, 0),
+        receipt(Status::Undeclared, 0),
+        receipt(Status::Undeclared, 0),
+        receipt(Status::Undeclared, 0),
+        receipt(Status::Undeclared, 0),
+        receipt(Status::Undeclared, 0),
+        receipt(Status::Unknown, 0),
+        receipt(Status::Unknown, 0),
+        receipt(Status::Stale, 0),
+    ];
+    let got = three(&rt, Version::One, &txs)?;
+    assert!(rt;
+        left(
+            &got,
+            &receipts,
+            &[row(1, 100, 0), row(2, 50, 0), row(3, 10, 0)]
+        )
+    );
     Ok(())
 }
 
@@ -238,52 +277,57 @@ fn limits_of_guard_and_funds(rt: HostRuntime) -> Result<(), Fail> {
         (pay_if(101, 0, 50)?, receipt(Status::Funds, 0), 100),
         (pay(1, 2, 0, 0)?, receipt(Status::Ok, 0), 100),
     ];
-    for (tx, want, balance) in &cases {
-        let mut state = opening(&rt)?;
-        assert_eq!(rt; state.apply(tx.as_ref()), *want, "{tx:?}");
-        let sender = Account {
-            balance: *balance,
-            seq: 1,
-        };
-        assert_eq!(rt; state.account(1), Some(sender), "{tx:?}");
-        assert_eq!(rt; state.total(), 160);
+    for (tx, wanted, balance) in &cases {
+        let got = one_of_three(&rt, tx)?;
+        assert_eq!(rt; got.receipts.as_slice(), [*wanted].as_slice(), "{tx:?}");
+        assert_eq!(rt;
+            got.rows.first().copied(),
+            Some(row(1, *balance, 1)),
+            "{tx:?}"
+        );
+        assert_eq!(rt; got.total, 160);
     }
     Ok(())
 }
 
 #[test]
 fn stale_funds_split(rt: HostRuntime) -> Result<(), Fail> {
-    let mut state = opening(&rt)?;
     let txs = [
         pay(1, 2, 30, 0)?,
         pay(1, 2, 30, 0)?,
         split(1, u64::MAX, 1)?,
         split(2, 5, 7)?,
     ];
-    let receipts = run_in_order(rt.alloc(), &mut state, &txs)?;
-    let wanted = [
+    let got = three(&rt, Version::One, &txs)?;
+    let receipts = [
         receipt(Status::Ok, 30),
         receipt(Status::Stale, 0),
         receipt(Status::Funds, 0),
         receipt(Status::Ok, 12),
     ];
-    assert_eq!(rt; receipts.as_slice(), wanted.as_slice());
-    assert_eq!(rt;
-        state.rows(),
-        [row(1, 58, 3), row(2, 85, 0), row(3, 17, 0)].as_slice()
+    assert!(rt;
+        left(
+            &got,
+            &receipts,
+            &[row(1, 58, 3), row(2, 85, 0), row(3, 17, 0)]
+        )
     );
-    assert_eq!(rt; state.total(), 160);
+    assert_eq!(rt; got.total, 160);
     Ok(())
 }
 
 #[test]
 fn sweep_everything(rt: HostRuntime) -> Result<(), Fail> {
-    let mut state = rich_opening(&rt)?;
-    let swept = state.apply(sweep(1, 2, 0, 0)?.as_ref());
-    assert_eq!(rt; swept, receipt(Status::Ok, 9223372036854775806));
-    assert_eq!(rt;
-        state.rows(),
-        [row(1, 0, 1), row(2, 9223372036854775807, 0)].as_slice()
+    let rows = [row(1, 9223372036854775806, 0), row(2, 1, 0)];
+    let txs = [sweep(1, 2, 0, 0)?];
+    let got = run_over(&rt, Version::One, &rows, &txs)?;
+    let receipts = [receipt(Status::Ok, 9223372036854775806)];
+    assert!(rt;
+        left(
+            &got,
+            &receipts,
+            &[row(1, 0, 1), row(2, 9223372036854775807, 0)]
+        )
     );
     Ok(())
 }
@@ -293,7 +337,6 @@ fn limits_of_sweep_and_split(rt: HostRuntime) -> Result<(), Fail> {
     let cases = [
         (sweep(1, 2, 99, 0)?, receipt(Status::Ok, 1), [99, 51, 10]),
         (sweep(1, 2, 100, 0)?, receipt(Status::Ok, 0), [100, 50, 10]),
-        (sweep(1, 2, 101, 0)?, receipt(Status::Ok, 0), [100, 50, 10]),
         (
             sweep(1, 2, u64::MAX, 0)?,
             receipt(Status::Ok, 0),
@@ -303,79 +346,201 @@ fn limits_of_sweep_and_split(rt: HostRuntime) -> Result<(), Fail> {
         (split(0, 60, 41)?, receipt(Status::Funds, 0), [100, 50, 10]),
         (split(0, 0, 0)?, receipt(Status::Ok, 0), [100, 50, 10]),
     ];
-    for (tx, want, balances) in &cases {
-        let mut state = opening(&rt)?;
-        assert_eq!(rt; state.apply(tx.as_ref()), *want, "{tx:?}");
+    for (tx, wanted, balances) in &cases {
+        let got = one_of_three(&rt, tx)?;
         let [first, second, third] = *balances;
-        assert_eq!(rt;
-            state.rows(),
-            [row(1, first, 1), row(2, second, 0), row(3, third, 0)].as_slice(),
-            "{tx:?}"
-        );
+        let rows = [row(1, first, 1), row(2, second, 0), row(3, third, 0)];
+        assert!(rt; left(&got, &[*wanted], &rows), "{tx:?}");
     }
     Ok(())
 }
 
 #[test]
 fn refusals_of_sweep_and_split(rt: HostRuntime) -> Result<(), Fail> {
-    let three = [writing(1), writing(2), writing(3)];
     let last_unknown = [Payment { to: 2, amount: 1 }, Payment { to: 9, amount: 1 }];
     let last_read = [Payment { to: 2, amount: 1 }, Payment { to: 3, amount: 1 }];
+    let all_written = [writing(1), writing(2), writing(3)];
+    let one_read = [writing(1), writing(2), reading(3)];
+    let one_absent = [writing(1), writing(2), writing(9)];
     let sweep_body = Body::Sweep { to: 2, keep: 0 };
-    let cases = [
-        (
-            tx(&[writing(1), reading(2)], 1, 0, sweep_body)?,
-            Status::Undeclared,
-        ),
-        (sweep(1, 9, 0, 0)?, Status::Unknown),
-        (sweep(9, 1, 0, 0)?, Status::Unknown),
-        (sweep(1, 2, 0, 1)?, Status::Stale),
-        (
-            tx(
-                &[writing(1), writing(2), reading(3)],
-                1,
-                0,
-                split_of(&last_read)?,
-            )?,
-            Status::Undeclared,
-        ),
-        (
-            tx(&three, 1, 0, split_of(&last_unknown)?)?,
-            Status::Undeclared,
-        ),
-        (
-            tx(
-                &[writing(1), writing(2), writing(9)],
-                1,
-                7,
-                split_of(&last_unknown)?,
-            )?,
-            Status::Unknown,
-        ),
-        (split(1, u64::MAX, u64::MAX)?, Status::Stale),
+    let txs = [
+        tx(&[writing(1), reading(2)], 1, 0, sweep_body)?,
+        sweep(1, 9, 0, 0)?,
+        sweep(9, 1, 0, 0)?,
+        sweep(1, 2, 0, 1)?,
+        tx(&one_read, 1, 0, split_of(&last_read)?)?,
+        tx(&all_written, 1, 0, split_of(&last_unknown)?)?,
+        tx(&one_absent, 1, 7, split_of(&last_unknown)?)?,
+        split(1, u64::MAX, u64::MAX)?,
     ];
-    for (tx, status) in &cases {
-        let mut state = opening(&rt)?;
-        assert_eq!(rt; state.apply(tx.as_ref()), receipt(*status, 0), "{tx:?}");
-        assert_eq!(rt;
-            state.rows(),
-            [row(1, 100, 0), row(2, 50, 0), row(3, 10, 0)].as_slice()
-        );
+    let receipts = [
+        receipt(Status::Undeclared, 0),
+        receipt(Status::Unknown, 0),
+        receipt(Status::Unknown, 0),
+        receipt(Status::Stale, 0),
+        receipt(Status::Undeclared, 0),
+        receipt(Status::Undeclared, 0),
+        receipt(Status::Unknown, 0),
+        receipt(Status::Stale, 0),
+    ];
+    let got = three(&rt, Version::One, &txs)?;
+    assert!(rt;
+        left(
+            &got,
+            &receipts,
+            &[row(1, 100, 0), row(2, 50, 0), row(3, 10, 0)]
+        )
+    );
+    Ok(())
+}
+
+fn holding(balance: u64, seq: u64) -> Option<Account>
+    ensures { result ≡ Some (record { balance = balance; seq = seq }) }
+{
+    Some(Account { balance, seq })
+}
+
+// A view of 1 and 9, of which 9 is absent.
+#[test]
+fn effects_on_a_view(rt: HostRuntime) -> Result<(), Fail> {
+    let view = [holding(100, 0), None, None, None, None, None, None, None];
+    let Some(small) = pay(1, 9, 30, 0)? else {
+        return Err("it is a payment".into());
+    };
+    let one = apply_local(Version::One, &small, &view);
+    assert_eq!(rt; one.status, Status::Unknown);
+    assert_eq!(rt; (one.writes[0], one.writes[1]), (holding(100, 0), None));
+    let two = apply_local(Version::Two, &small, &view);
+    assert_eq!(rt; (two.status, two.moved), (Status::Ok, 30));
+    assert_eq!(rt;
+        (two.writes[0], two.writes[1]),
+        (holding(70, 1), holding(30, 0))
+    );
+    let Some(large) = pay(1, 9, 200, 0)? else {
+        return Err("it is a payment".into());
+    };
+    let short = apply_local(Version::Two, &large, &view);
+    assert_eq!(rt; (short.status, short.moved), (Status::Funds, 0));
+    assert_eq!(rt; (short.writes[0], short.writes[1]), (holding(100, 1), None));
+    let guarded = pay_if(1, 0, 0)?;
+    let Some(guarded) = guarded else {
+        return Err("it is a payment".into());
+    };
+    let view = [
+        holding(100, 0),
+        holding(5, 0),
+        holding(0, 3),
+        None,
+        None,
+        None,
+        None,
+        None,
+    ];
+    let effect = apply_local(Version::One, &guarded, &view);
+    assert_eq!(rt; effect.writes[0], holding(99, 1));
+    assert_eq!(rt; (effect.writes[1], effect.writes[2]), (None, holding(1, 3)));
+    Ok(())
+}
+
+// Slots are made for the accounts that are declared, and the accounts stay.
+#[test]
+fn slots_are_made(rt: HostRuntime) -> Result<(), Fail> {
+    let rows = [row(3, 10, 0), row(5, 7, 2)];
+    let mut state = State::new(rt.alloc(), Version::Two, &rows)?;
+    let txs = [pay(9, 1, 1, 0)?, None, pay(1, 5, 1, 0)?];
+    let [first, none, _last] = &txs;
+    assert!(rt; !state.covers(first.as_ref()));
+    assert!(rt; state.covers(none.as_ref()));
+    state.prepare(rt.alloc(), &txs)?;
+    assert!(rt; state.covers(first.as_ref()));
+    assert_eq!(rt; state.slots(), [1, 3, 5, 9].as_slice());
+    assert_eq!(rt; state.rows(rt.alloc())?.as_slice(), rows.as_slice());
+    assert_eq!(rt; state.account(1), None);
+    assert_eq!(rt; state.account(5), holding(7, 2));
+    let absent = Account {
+        balance: 0,
+        seq: u64::MAX,
+    };
+    let numbers = state.numbers();
+    assert_eq!(rt; numbers.len(), 4);
+    assert_eq!(rt; numbers.first().copied(), Some(absent));
+    let mut one = State::new(rt.alloc(), Version::One, &rows)?;
+    one.prepare(rt.alloc(), &txs)?;
+    assert!(rt; one.covers(first.as_ref()));
+    assert_eq!(rt; one.slots(), [3, 5].as_slice());
+    Ok(())
+}
+
+// All accounts are set by words, of which the mark makes one absent in version Two.
+#[test]
+fn accounts_are_set(rt: HostRuntime) -> Result<(), Fail> {
+    let rows = [row(3, 10, 0), row(5, 7, 2)];
+    let mut state = State::new(rt.alloc(), Version::Two, &rows)?;
+    state.set_words(&[4, 1, 0, u64::MAX]);
+    assert_eq!(rt; state.slots(), [3, 5].as_slice());
+    assert_eq!(rt;
+        state.rows(rt.alloc())?.as_slice(),
+        [row(3, 4, 1)].as_slice()
+    );
+    assert_eq!(rt; state.total(), 4);
+    let mut one = State::new(rt.alloc(), Version::One, &rows)?;
+    one.set_words(&[4, 1, 0, u64::MAX]);
+    let wanted = [row(3, 4, 1), row(5, 0, u64::MAX)];
+    assert_eq!(rt; one.rows(rt.alloc())?.as_slice(), wanted.as_slice());
+    Ok(())
+}
+
+// More ids than hints have room near their slot are all found, and their neighbours are not.
+#[test]
+fn ids_on_one_slot(rt: HostRuntime) -> Result<(), Fail> {
+    // Multiples of what takes the hash to 2^64 - 1, so that all have the first slot as their own.
+    let ids = [
+        118577779710499402,
+        1136809240488224525,
+        2155040701265949648,
+        3173272162043674771,
+        4191503622821399894,
+        5209735083599125017,
+        6227966544376850140,
+        7246198005154575263,
+        8264429465932300386,
+        9282660926710025509,
+        10300892387487750632,
+        11319123848265475755,
+        12337355309043200878,
+        13355586769820926001,
+        14373818230598651124,
+        15392049691376376247,
+        16410281152154101370,
+        17428512612931826493,
+    ];
+    let found = Ids::new(rt.alloc(), Vec::from_slice(rt.alloc(), &ids)?)?;
+    assert_eq!(rt; found.len(), 18);
+    for (index, id) in ids.iter().enumerate() {
+        assert_eq!(rt; found.index_of(*id), Some(index));
+        assert_eq!(rt; found.index_of(*id ^ 1), None);
     }
+    assert!(rt; Ids::new(rt.alloc(), Vec::new(rt.alloc()))?.is_empty());
     Ok(())
 }
 
 #[test]
-fn queries(rt: HostRuntime) -> Result<(), Fail> {
-    let state = opening(&rt)?;
-    assert_eq!(rt; state.len(), 3);
-    assert!(rt; !state.is_empty());
-    let third = Account {
-        balance: 10,
-        seq: 0,
-    };
-    assert_eq!(rt; state.account(3), Some(third));
-    assert_eq!(rt; state.account(4), None);
-    assert!(rt; State::new(rt.alloc(), &[])?.is_empty());
+fn leaf_and_numbers(rt: HostRuntime) -> Result<(), Fail> {
+    let leaf = account_leaf(
+        1,
+        Account {
+            balance: 258,
+            seq: 3,
+        },
+    );
+    let wanted = [
+        0, 0, 0, 0, 0, 0, 0, 1, // id
+        0, 0, 0, 0, 0, 0, 1, 2, // balance
+        0, 0, 0, 0, 0, 0, 0, 3, // sequence number
+    ];
+    assert_eq!(rt; leaf, wanted);
+    assert_eq!(rt; Status::Funds.number(), 6);
+    assert_eq!(rt; Status::of_number(4), Some(Status::Stale));
+    assert_eq!(rt; Status::of_number(7), None);
     Ok(())
 }

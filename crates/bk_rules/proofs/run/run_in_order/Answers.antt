@@ -1,18 +1,20 @@
 use Rattle.std.proofs.Common.{arith}
-use Rattle.bk_rules.proofs.Outcomes.{state_turn, receipts_turn, room_turn}
+use Rattle.bk_rules.proofs.Folding.{state_turn, receipts_turn, room_turn, covered_turn}
 use Rattle.bk_rules.proofs.run.run_in_order.Goals as goal
 
-pub apply-requires : goal.apply-requires
-apply-requires c =
-    room_turn c.args.txs.now c.loop-tx.tx-index c.args.state.now c.loop-tx.state c.loop-tx-test.true c.loop-tx.invariant.state c.requires
+pub apply_near-requires-clause-covers : goal.apply_near-requires-clause-covers
+apply_near-requires-clause-covers c = covered_turn c.args.txs.now c.loop-i.i c.index-txs-i.result _ c.args.state.now c.loop-i.state c.loop-i-test.true c.as_ref.ensures.value c.index-txs-i.is c.loop-i.invariant.state c.requires.covers
 
-pub loop-tx-preserved : goal.loop-tx-preserved
-loop-tx-preserved c =
-    let in_range = c.loop-tx-test.true in
-    let so_far = c.loop-tx.invariant.state in
+pub apply_near-requires-clause-room : goal.apply_near-requires-clause-room
+apply_near-requires-clause-room c = room_turn c.args.txs.now c.loop-i.i c.args.state.now c.loop-i.state c.loop-i-test.true c.loop-i.invariant.state c.requires.room
+
+pub loop-i-preserved : goal.loop-i-preserved
+loop-i-preserved c =
+    let low = c.loop-i-test.true in
+    let so_far = c.loop-i.invariant.state in
     record {
-      state = state_turn c.args.txs.now c.loop-tx.tx-index c.tx-item.result _ c.args.state.now c.loop-tx.state in_range c.as_ref.ensures.value c.tx-item.is so_far c.apply.new.self c.apply.ensures.after;
-      receipts = receipts_turn c.args.txs.now c.loop-tx.tx-index c.tx-item.result _ c.args.state.now c.loop-tx.state in_range c.as_ref.ensures.value c.tx-item.is so_far c.loop-tx.receipts.items c.push.new.self.items c.apply.result c.loop-tx.invariant.receipts c.in_ok-push.ensures.items c.apply.ensures.receipt;
+      state = state_turn c.args.txs.now c.loop-i.i c.index-txs-i.result _ c.args.state.now c.loop-i.state low c.as_ref.ensures.value c.index-txs-i.is so_far c.apply_near.new.self c.apply_near.ensures.after;
+      receipts = receipts_turn c.args.txs.now c.loop-i.i c.index-txs-i.result _ c.args.state.now c.loop-i.state low c.as_ref.ensures.value c.index-txs-i.is so_far c.loop-i.receipts.items c.push.new.self.items c.apply_near.result c.loop-i.invariant.receipts c.in_ok-push.ensures.items c.apply_near.ensures.receipt;
       room = omega (arith, c.push.ensures.capacity);
       count = omega (arith, c.in_ok-push.ensures.len);
     }

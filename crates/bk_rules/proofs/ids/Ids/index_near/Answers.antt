@@ -1,0 +1,6 @@
+use Rattle.std.proofs.Common.{sym}
+use Rattle.bk_rules.proofs.Finding.{first_is}
+use Rattle.bk_rules.proofs.ids.Ids.index_near.Goals as goal
+
+pub returns-then-ids-near : goal.returns-then-ids-near
+returns-then-ids-near c = sym (first_is c.args.self.now c.as_slice-ids.ensures.ascending c.args.id c.args.near (rw c.as_slice-ids.ensures.all at c.if-near-ids.true) (rw c.as_slice-ids.ensures.all at c.if-ids-near.true))

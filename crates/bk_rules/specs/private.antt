@@ -1,0 +1,3 @@
+pub mod Roles
+pub mod Sides
+pub mod Slots
