@@ -8,14 +8,17 @@ use Rattle.std.proofs.lemmas.List.{length-map, map-append}
 use Rattle.std.proofs.lemmas.List.Concat.{flat_map-append, flat_map-cons}
 use Rattle.bk_frames.specs.declared.genesis.Row.{Row}
 use Rattle.bk_frames.specs.Genesis.{AreAccounts}
-use Rattle.bk_frames.specs.Feed.{Frame, frame_text, most_payload, most_feed, AreGoodFrom, IsFeed}
+use Rattle.bk_frames.specs.declared.limits.TheConstants.{MOST_FEED}
+use Rattle.bk_frames.specs.declared.version.Version.{Version}
+use Rattle.bk_frames.specs.Feed.{Frame, FeedValue, frame_text, AreGoodFrom, IsFeed}
 use Rattle.bk_frames.specs.Numbers.{◌>>=◌, number_at, bytes_at}
-use Rattle.bk_frames.proofs.Feeds.{bind_some, guard_some}
-use Rattle.bk_tx.specs.declared.tx.Tx.{Tx}
+use Rattle.bk_frames.proofs.FieldLemmas.{bind_some, guard_some}
+use Rattle.bk_tx.specs.Transaction.{Transaction}
 use Rattle.bk_tx.specs.Reading.{transaction_of, text_at, texts_at, texts_of}
 use Rattle.bk_rules.specs.declared.receipt.Receipt.{Receipt}
 use Rattle.bk_rules.specs.Fold.{state_after, receipts_of, HasRoom}
-use Rattle.bk_rules.proofs.Outcomes.{room_left, state_after-append, receipts_of-append}
+use Rattle.bk_rules.proofs.Room.{room_left}
+use Rattle.bk_rules.proofs.Folding.{state_append, receipts_append}
 use Rattle.bk_replay.specs.Report.{is_batch, payloads_of, transactions_in, transactions_of, feed_transactions, count_in}
 
 -- ---- frames in two parts
@@ -113,46 +116,42 @@ feed_size (f ∷ frames) =
         by_kind false = omega arith
 
 -- good frames end inside the largest feed
-good_size : (index offset : ℕ) (frames : List Frame) → offset ≤ most_feed → AreGoodFrom index offset frames → offset + length (flat_map frame_text frames) ≤ most_feed
-good_size index offset [] le good = omega arith
-good_size index offset (f ∷ frames) le good =
+good_size : (v : Version) (index offset : ℕ) (frames : List Frame) → offset ≤ MOST_FEED → AreGoodFrom v index offset frames → offset + length (flat_map frame_text frames) ≤ MOST_FEED
+good_size v index offset [] le good = omega arith
+good_size v index offset (f ∷ frames) le good =
     let len : length (flat_map frame_text (f ∷ frames)) ≡ length (frame_text f) + length (flat_map frame_text frames) = ap length (flat_map-cons frame_text f frames) ∙ length-append (frame_text f) (flat_map frame_text frames) in
-    omega (arith, len, good_size (index + 1) (offset + length (frame_text f)) frames good.0.inside good.1)
+    omega (arith, len, good_size v (index + 1) (offset + length (frame_text f)) frames good.0.framed.inside good.1)
 
-good_take : (index offset k : ℕ) (frames : List Frame) → AreGoodFrom index offset frames → AreGoodFrom index offset (take k frames)
-good_take index offset zero frames good = tt
-good_take index offset (suc k) [] good = tt
-good_take index offset (suc k) (f ∷ frames) good = (good.0, good_take (index + 1) (offset + length (frame_text f)) k frames good.1)
+good_take : (v : Version) (index offset k : ℕ) (frames : List Frame) → AreGoodFrom v index offset frames → AreGoodFrom v index offset (take k frames)
+good_take v index offset zero frames good = tt
+good_take v index offset (suc k) [] good = tt
+good_take v index offset (suc k) (f ∷ frames) good = (good.0, good_take v (index + 1) (offset + length (frame_text f)) k frames good.1)
 
 -- a feed holds fewer than 2^31 transactions, and so does its beginning
-pub few_transactions : (frames : List Frame) (k : ℕ) → IsFeed frames → length (feed_transactions (take k frames)) < 2 ^ 31
-few_transactions frames k feed = let size = feed_size (take k frames) in omega (arith, size.0, good_size 0 4 (take k frames) (omega arith) (good_take 0 4 k frames feed.good))
+pub few_transactions : (feed : FeedValue) (k : ℕ) → IsFeed feed → length (feed_transactions (take k feed.frames)) < 2 ^ 31
+few_transactions feed k good =
+    let size = feed_size (take k feed.frames) in
+    omega (arith, size.0, good_size feed.version 0 4 (take k feed.frames) (omega arith) (good_take feed.version 0 4 k feed.frames good.good))
 
-pub few_feed_transactions : (frames : List Frame) → IsFeed frames → length (feed_transactions frames) < 2 ^ 31
-few_feed_transactions frames feed = let size = feed_size frames in omega (arith, size.0, good_size 0 4 frames (omega arith) feed.good)
+pub few_feed_transactions : (feed : FeedValue) → IsFeed feed → length (feed_transactions feed.frames) < 2 ^ 31
+few_feed_transactions feed good = let size = feed_size feed.frames in omega (arith, size.0, good_size feed.version 0 4 feed.frames (omega arith) good.good)
 
 -- and fewer than 2^30 batches
-pub few_batches : (frames : List Frame) → IsFeed frames → length (payloads_of frames) < 2 ^ 30
-few_batches frames feed = let size = feed_size frames in omega (arith, size.1, good_size 0 4 frames (omega arith) feed.good)
-
--- a payload of a feed is short
-pub payload_short : (frames : List Frame) (i : ℕ) (f : Frame) → IsFeed frames → slice_get frames i ≡ Some f → length f.payload ≤ most_payload
-payload_short frames i f feed e = short 0 4 frames i feed.good e
-  where
-    short : (index offset : ℕ) (frames : List Frame) (i : ℕ) → AreGoodFrom index offset frames → slice_get frames i ≡ Some f → length f.payload ≤ most_payload
-    short index offset [] i good e = absurd cc
-    short index offset (g ∷ frames) zero good e = let same : g ≡ f = cc in subst (λ (h : Frame). length h.payload ≤ most_payload) same good.0.short
-    short index offset (g ∷ frames) (suc i) good e = short (index + 1) (offset + length (frame_text g)) frames i good.1 e
+pub few_batches : (feed : FeedValue) → IsFeed feed → length (payloads_of feed.frames) < 2 ^ 30
+few_batches feed good = let size = feed_size feed.frames in omega (arith, size.1, good_size feed.version 0 4 feed.frames (omega arith) good.good)
 
 -- ---- one frame more of a run
 
 -- there is room for the transactions of the next frame
-pub room_for_next : (frames : List Frame) (i : ℕ) (f : Frame) (genesis : List Row) (state : List Row) → IsFeed frames → slice_get frames i ≡ Some f → AreAccounts genesis → state ≡ state_after (feed_transactions (take i frames)) genesis
-    → HasRoom (length (feed_transactions (f ∷ []))) state
-room_for_next frames i f genesis state feed e accounts same =
-    let next : feed_transactions (take (i + 1) frames) ≡ feed_transactions (take i frames) ++ feed_transactions (f ∷ []) = ap feed_transactions (take_next frames i f e) ∙ feed_transactions-append (take i frames) (f ∷ []) in
-    let few : length (feed_transactions (take i frames)) + length (feed_transactions (f ∷ [])) < 2 ^ 63 = omega (arith, few_transactions frames (i + 1) feed, ap length next, length-append (feed_transactions (take i frames)) (feed_transactions (f ∷ []))) in
-    subst (λ (rows : List Row). HasRoom (length (feed_transactions (f ∷ []))) rows) (sym same) (room_left (feed_transactions (take i frames)) (length (feed_transactions (f ∷ []))) genesis accounts few)
+pub room_for_next : (feed : FeedValue) (i : ℕ) (f : Frame) (genesis state : List Row) → IsFeed feed → slice_get feed.frames i ≡ Some f → AreAccounts genesis
+    → state ≡ state_after feed.version (feed_transactions (take i feed.frames)) genesis → HasRoom feed.version (length (feed_transactions (f ∷ []))) state
+room_for_next feed i f genesis state good e accounts same =
+    let before : List (Option Transaction) = feed_transactions (take i feed.frames) in
+    let next : feed_transactions (take (i + 1) feed.frames) ≡ feed_transactions (take i feed.frames) ++ feed_transactions (f ∷ []) = ap feed_transactions (take_next feed.frames i f e) ∙ feed_transactions-append (take i feed.frames) (f ∷ []) in
+    let few : length (feed_transactions (take i feed.frames)) + length (feed_transactions (f ∷ [])) < 2 ^ 63 =
+    omega (arith, few_transactions feed (i + 1) good, ap length next, length-append (feed_transactions (take i feed.frames)) (feed_transactions (f ∷ []))) in
+    subst (λ (rows : List Row). HasRoom feed.version (length (feed_transactions (f ∷ []))) rows) (sym same)
+    (room_left feed.version (feed_transactions (take i feed.frames)) (length (feed_transactions (f ∷ []))) genesis accounts few)
 
 pub counts_next : (frames : List Frame) (i : ℕ) (f : Frame) (old new : List (Option ℕ)) → slice_get frames i ≡ Some f → old ≡ map count_in (payloads_of (take i frames)) → new ≡ old ++ map count_in (payloads_of (f ∷ []))
     → new ≡ map count_in (payloads_of (take (i + 1) frames))
@@ -162,12 +161,14 @@ counts_next frames i f old new e before grown =
 pub transactions_next : (frames : List Frame) (i : ℕ) (f : Frame) → slice_get frames i ≡ Some f → feed_transactions (take (i + 1) frames) ≡ feed_transactions (take i frames) ++ feed_transactions (f ∷ [])
 transactions_next frames i f e = ap feed_transactions (take_next frames i f e) ∙ feed_transactions-append (take i frames) (f ∷ [])
 
-pub receipts_next : (frames : List Frame) (i : ℕ) (f : Frame) (genesis state : List Row) (old new : List Receipt) → slice_get frames i ≡ Some f → state ≡ state_after (feed_transactions (take i frames)) genesis → old ≡ receipts_of (feed_transactions (take i frames)) genesis
-    → new ≡ old ++ receipts_of (feed_transactions (f ∷ [])) state → new ≡ receipts_of (feed_transactions (take (i + 1) frames)) genesis
-receipts_next frames i f genesis state old new e same before grown =
-    grown ∙ (λ j. before j ++ receipts_of (feed_transactions (f ∷ [])) (same j)) ∙ sym (receipts_of-append (feed_transactions (take i frames)) (feed_transactions (f ∷ [])) genesis) ∙ ap (λ (t : List (Option Tx)). receipts_of t genesis) (sym (transactions_next frames i f e))
+pub receipts_next : (v : Version) (frames : List Frame) (i : ℕ) (f : Frame) (genesis state : List Row) (old new : List Receipt) → slice_get frames i ≡ Some f → state ≡ state_after v (feed_transactions (take i frames)) genesis
+    → old ≡ receipts_of v (feed_transactions (take i frames)) genesis → new ≡ old ++ receipts_of v (feed_transactions (f ∷ [])) state → new ≡ receipts_of v (feed_transactions (take (i + 1) frames)) genesis
+receipts_next v frames i f genesis state old new e same before grown =
+    grown ∙ (λ j. before j ++ receipts_of v (feed_transactions (f ∷ [])) (same j)) ∙ sym (receipts_append v (feed_transactions (take i frames)) (feed_transactions (f ∷ [])) genesis)
+    ∙ ap (λ (t : List (Option Transaction)). receipts_of v t genesis) (sym (transactions_next frames i f e))
 
-pub state_next : (frames : List Frame) (i : ℕ) (f : Frame) (genesis old new : List Row) → slice_get frames i ≡ Some f → old ≡ state_after (feed_transactions (take i frames)) genesis → new ≡ state_after (feed_transactions (f ∷ [])) old
-    → new ≡ state_after (feed_transactions (take (i + 1) frames)) genesis
-state_next frames i f genesis old new e before grown =
-    grown ∙ ap (state_after (feed_transactions (f ∷ []))) before ∙ sym (state_after-append (feed_transactions (take i frames)) (feed_transactions (f ∷ [])) genesis) ∙ ap (λ (t : List (Option Tx)). state_after t genesis) (sym (transactions_next frames i f e))
+pub state_next : (v : Version) (frames : List Frame) (i : ℕ) (f : Frame) (genesis old new : List Row) → slice_get frames i ≡ Some f → old ≡ state_after v (feed_transactions (take i frames)) genesis
+    → new ≡ state_after v (feed_transactions (f ∷ [])) old → new ≡ state_after v (feed_transactions (take (i + 1) frames)) genesis
+state_next v frames i f genesis old new e before grown =
+    grown ∙ ap (state_after v (feed_transactions (f ∷ []))) before ∙ sym (state_append v (feed_transactions (take i frames)) (feed_transactions (f ∷ [])) genesis)
+    ∙ ap (λ (t : List (Option Transaction)). state_after v t genesis) (sym (transactions_next frames i f e))

@@ -1,20 +1,39 @@
 -- What a replay answers.
-use Rattle.std.specs.Prelude.{◌≡◌, ℕ, ◌+◌, List, Option, IfSome, take, ◌≤◌, length}
-use Rattle.std.specs.Io.KnownBytes.{Appends, Keeps}
+use Rattle.std.specs.Prelude.{◌≡◌, ℕ, ◌<◌, List, length, take}
+use Rattle.std.specs.Io.KnownBytes.{Keeps}
+use Rattle.bk_frames.specs.Device.{Device, Works, Fails, Receives, IfKnown}
+use Rattle.bk_frames.specs.Feed.{FeedValue, IsFeed, spelling}
 use Rattle.bk_frames.specs.Pulling.{Refuses}
 use Rattle.bk_replay.specs.declared.fault.Fault.{Fault}
 use Rattle.bk_replay.specs.declared.fault.Fault.TheVariants as fault
 use Rattle.bk_replay.specs.Report.{IsApplyReport}
 
--- how many calls of a source and of a sink have failed
-pub record Failures : Type 0 where
-  pub source : ℕ
-  pub sink : ℕ
+-- the source and the sink of a replay
+pub record Devices : Type 0 where
+  pub source : Device
+  pub sink : Device
 
--- why there is no report, by the fault: the source's bytes are refused and nothing is written; the sink failed once and
--- exactly the first bytes of the report are out; or memory was refused and nothing is written
-abbrev pub Fails : Fault → Failures → Failures → Option (List ℕ) → Option (List ℕ) → Option (List ℕ) → Option (List ℕ) → Type 0
-Fails (fault.Feed found) before after known left old new = Refuses found before.source after.source known left × (after.sink ≡ before.sink) × Keeps old new
-Fails (fault.Write written) before after known left old new =
-    (after.source ≡ before.source) × (after.sink ≡ before.sink + 1) × IfSome known (λ bytes. (text : List ℕ) × IsApplyReport bytes text × (written ≤ length text) × Appends old new (take written text))
-Fails fault.Memory before after known left old new = (after.source ≡ before.source) × (after.sink ≡ before.sink) × Keeps old new
+-- these two
+abbrev pub devices : Device → Device → Devices
+devices source sink = record { source = source; sink = sink }
+
+-- nothing went out, and no call failed
+abbrev pub IsUntouched : Device → Device → Type 0
+IsUntouched old new = Works old new × Keeps old.bytes new.bytes
+
+-- the bytes are those of a feed
+abbrev pub AreFeed : List ℕ → Type 0
+AreFeed bytes = (feed : FeedValue) × IsFeed feed × (bytes ≡ spelling feed)
+
+-- the first bytes of the report are out, and not all
+abbrev pub PartIsOut : ℕ → Device → Device → List ℕ → Type 0
+PartIsOut written old new bytes =
+    (text : List ℕ) × IsApplyReport bytes text × (written < length text) × Receives old new (take written text)
+
+-- why there is no report, by the fault: the source is refused and nothing is written; or a call of the sink failed and
+-- exactly the first bytes of the report are out; or memory ran out after a whole feed was read, and nothing is written
+abbrev pub FailsBy : Fault → Devices → Devices → Type 0
+FailsBy (fault.Feed found) old new = Refuses found old.source new.source × IsUntouched old.sink new.sink
+FailsBy (fault.Write written) old new =
+    Works old.source new.source × Fails old.sink new.sink × IfKnown old.source (PartIsOut written old.sink new.sink)
+FailsBy fault.Memory old new = Works old.source new.source × IfKnown old.source AreFeed × IsUntouched old.sink new.sink

@@ -1,5 +1,5 @@
 pub mod Lines
 pub mod Report
 pub mod Answers
-pub mod Pages
+pub mod private
 pub mod Laws

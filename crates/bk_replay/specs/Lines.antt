@@ -1,20 +1,9 @@
 -- The lines of a report, and their text.
 use Rattle.std.specs.Prelude.{ℕ, List, [], ◌∷◌, ◌++◌, codes, decimal}
 use Rattle.std.specs.List.{flat_map}
-use Rattle.bk_rules.specs.declared.receipt.Status.{Status}
-use Rattle.bk_rules.specs.declared.receipt.Status.TheVariants as status
+use Rattle.bk_rules.specs.Numbers.{number_of}
 use Rattle.bk_replay.specs.declared.line.Line.{Line}
 use Rattle.bk_replay.specs.declared.line.Line.TheVariants as line
-
--- the number of a status
-abbrev pub status_number : Status → ℕ
-status_number status.Ok = 0
-status_number status.Malformed = 1
-status_number status.Undeclared = 2
-status_number status.Unknown = 3
-status_number status.Stale = 4
-status_number status.Guard = 5
-status_number status.Funds = 6
 
 -- a number behind a space
 abbrev pub spaced : ℕ → List ℕ
@@ -24,7 +13,7 @@ spaced n = 32 ∷ decimal n
 abbrev pub line_text : Line → List ℕ
 line_text (line.Batch index count) = codes "batch" ++ spaced index ++ spaced count
 line_text (line.VoidBatch index) = codes "batch" ++ spaced index ++ codes " void"
-line_text (line.Tx place status moved) = codes "tx" ++ spaced place ++ spaced (status_number status) ++ spaced moved
+line_text (line.Tx place status moved) = codes "tx" ++ spaced place ++ spaced (number_of status) ++ spaced moved
 line_text (line.Account id balance seq) = codes "account" ++ spaced id ++ spaced balance ++ spaced seq
 line_text (line.Money total) = codes "money" ++ spaced total
 

@@ -5,8 +5,8 @@ use Rattle.bk_frames.specs.declared.kind.Kind.{Kind}
 use Rattle.bk_frames.specs.declared.kind.Kind.TheVariants as kind
 use Rattle.bk_frames.specs.declared.genesis.Row.{Row}
 use Rattle.bk_frames.specs.Genesis.{total_of}
-use Rattle.bk_frames.specs.Feed.{Frame, IsFeed, spelling, genesis_of}
-use Rattle.bk_tx.specs.declared.tx.Tx.{Tx}
+use Rattle.bk_frames.specs.Feed.{Frame, FeedValue, IsFeed, spelling, genesis_of}
+use Rattle.bk_tx.specs.Transaction.{Transaction}
 use Rattle.bk_tx.specs.Reading.{transaction_of, texts_of}
 use Rattle.bk_rules.specs.declared.receipt.Receipt.{Receipt}
 use Rattle.bk_rules.specs.Fold.{state_after, receipts_of}
@@ -28,11 +28,11 @@ abbrev pub payloads_of : List Frame → List (List ℕ)
 payloads_of frames = map (λ (f : Frame). f.payload) (filter (λ (f : Frame). is_batch f.kind) frames)
 
 -- the transactions of a batch, none where it is void; a text that is no transaction is None
-abbrev pub transactions_in : List ℕ → List (Option Tx)
+abbrev pub transactions_in : List ℕ → List (Option Transaction)
 transactions_in payload = map transaction_of (unwrap_or (texts_of payload) [])
 
 -- the transactions of batches, one batch after another; a place is an index in this list
-abbrev pub transactions_of : List (List ℕ) → List (Option Tx)
+abbrev pub transactions_of : List (List ℕ) → List (Option Transaction)
 transactions_of payloads = flat_map transactions_in payloads
 
 -- how many transactions a batch holds, None where it is void
@@ -66,16 +66,19 @@ lines_of counts receipts rows = batch_lines 0 counts ++ tx_lines 0 receipts ++ a
 -- ---- the report
 
 -- the transactions of a feed, in feed order
-abbrev pub feed_transactions : List Frame → List (Option Tx)
+abbrev pub feed_transactions : List Frame → List (Option Transaction)
 feed_transactions frames = transactions_of (payloads_of frames)
 
 -- the lines of the apply report: every batch in feed order, its transactions run one at a time on the opening accounts
-abbrev pub apply_report_of : List Frame → List Line
-apply_report_of frames = lines_of (map count_in (payloads_of frames)) (receipts_of (feed_transactions frames) (genesis_of frames)) (state_after (feed_transactions frames) (genesis_of frames))
+abbrev pub apply_report_of : FeedValue → List Line
+apply_report_of feed =
+    let transactions = feed_transactions feed.frames in
+    lines_of (map count_in (payloads_of feed.frames)) (receipts_of feed.version transactions (genesis_of feed.frames))
+    (state_after feed.version transactions (genesis_of feed.frames))
 
--- a text is the apply report of bytes: the bytes are the spelling of a feed, and the text is that of its report
+-- a text is the apply report of bytes: the bytes are those of a feed, and the text is that of its report
 pub record IsApplyReport (bytes text : List ℕ) : Type 0 where
-  pub frames : List Frame
-  pub feed : IsFeed frames
-  pub spelled : bytes ≡ spelling frames
-  pub report : text ≡ text_of (apply_report_of frames)
+  pub feed : FeedValue
+  pub good : IsFeed feed
+  pub spelled : bytes ≡ spelling feed
+  pub report : text ≡ text_of (apply_report_of feed)

@@ -1,27 +1,31 @@
-ghost use Rattle.std.specs.Prelude.{◌≡◌, ℕ, ◌^◌, ◌<◌, List, [], length, vec_len, OnOk, IfErr, IfSome};
-ghost use Rattle.std.specs.Io.KnownBytes.{Appends};
-ghost use Rattle.bk_replay.specs.Answers.{Fails};
+ghost use Rattle.std.specs.Prelude.{◌≡◌, ℕ, ◌^◌, ◌<◌, List, [], length, vec_len, OnOk, IfErr};
+ghost use Rattle.bk_frames.specs.Device.{CanBeUsed, Works, Receives, IfKnown};
+ghost use Rattle.bk_frames.specs.Genesis.{total_of};
+ghost use Rattle.bk_replay.specs.Answers.{FailsBy, devices};
 ghost use Rattle.bk_replay.specs.Report.{IsApplyReport, lines_of};
 ghost use Rattle.bk_replay.specs.Lines.{text_of};
-ghost use Rattle.bk_replay.specs.Pages.{Written, blank};
+ghost use Rattle.bk_replay.specs.private.Pages.{Written, blank};
 
 use crate::fault::Fault;
 use crate::ledger::Ledger;
 use crate::page::Page;
+use crate::summary::Summary;
 use bk_frames::{Feed, Sink, Source, WriteFault};
 use std::alloc::Global;
 
-/// Writes the report of a ledger, a page at a time.
-fn write_report<K: Sink>(sink: &mut K, page: &mut Page, ledger: &Ledger) -> Result<(), WriteFault>
-    requires sound { K.failed_calls sink.old < 2 ^ 62 }
-    requires few { (vec_len ledger.now.counts < 2 ^ 32) × (vec_len ledger.now.receipts < 2 ^ 32) × (length ledger.now.state < 2 ^ 32) }
+// Writes the report of a feed, a page at a time.
+fn write_report<K: Sink>(sink: &mut K, page: &mut Page, summary: &Summary) -> Result<(), WriteFault>
+    requires sound { CanBeUsed (K.state sink.old) }
+    requires few { (vec_len summary.now.counts < 2 ^ 32) × (vec_len summary.now.receipts < 2 ^ 32)
+        × (length summary.now.rows.items < 2 ^ 32) }
+    requires total { summary.now.total ≡ total_of summary.now.rows.items }
     requires blank { page.old ≡ blank }
-    ensures written { Written result (K.failed_calls sink.old) (K.failed_calls sink.new) (K.contents sink.old) (K.contents sink.new) page.old page.new
-        (text_of (lines_of ledger.now.counts.items ledger.now.receipts.items ledger.now.state)) }
+    ensures written { Written result (K.state sink.old) (K.state sink.new) page.old page.new
+        (text_of (lines_of summary.now.counts.items summary.now.receipts.items summary.now.rows.items)) }
     ensures empty { OnOk result (page.new.bytes ≡ []) }
 {
-    for index in 0..ledger.lines() {
-        page.put(sink, ledger.line(index))?;
+    for index in 0..summary.lines() {
+        page.put(sink, summary.line(index))?;
     }
     page.flush(sink)
 }
@@ -30,19 +34,18 @@ fn write_report<K: Sink>(sink: &mut K, page: &mut Page, ledger: &Ledger) -> Resu
 ///
 /// A fault of the feed is that of [`bk_frames::Feed::read`]. With every fault but `Write` nothing is written.
 pub fn apply<S: Source, K: Sink>(alloc: Global, source: &mut S, sink: &mut K) -> Result<(), Fault>
-    requires source { S.failed_calls source.old < 2 ^ 62 }
-    requires sink { K.failed_calls sink.old < 2 ^ 62 }
-    ensures report { OnOk result (IfSome (S.remaining source.old) (λ bytes.
-        (text : List ℕ) × IsApplyReport bytes text × Appends (K.contents sink.old) (K.contents sink.new) text)) }
-    ensures sound { OnOk result ((S.failed_calls source.new ≡ S.failed_calls source.old) × (K.failed_calls sink.new ≡ K.failed_calls sink.old)) }
-    ensures fault { IfErr result (λ e. Fails e
-        (record { source = S.failed_calls source.old; sink = K.failed_calls sink.old })
-        (record { source = S.failed_calls source.new; sink = K.failed_calls sink.new })
-        (S.remaining source.old) (S.remaining source.new) (K.contents sink.old) (K.contents sink.new)) }
+    requires source { CanBeUsed (S.state source.old) }
+    requires sink { CanBeUsed (K.state sink.old) }
+    ensures report { OnOk result (IfKnown (S.state source.old) (λ bytes.
+        (text : List ℕ) × IsApplyReport bytes text × Receives (K.state sink.old) (K.state sink.new) text)) }
+    ensures sound { OnOk result (Works (S.state source.old) (S.state source.new) × Works (K.state sink.old) (K.state sink.new)) }
+    ensures fault { IfErr result (λ e. FailsBy e (devices (S.state source.old) (K.state sink.old))
+        (devices (S.state source.new) (K.state sink.new))) }
 {
     let feed = Feed::read(alloc, source)?;
     let ledger = Ledger::of(alloc, &feed)?;
+    let summary = ledger.summary(alloc)?;
     let mut page = Page::new(alloc)?;
-    write_report(sink, &mut page, &ledger)?;
+    write_report(sink, &mut page, &summary)?;
     Ok(())
 }

@@ -1,14 +1,15 @@
 //! What executing a feed's batches gives.
 
-ghost use Rattle.std.specs.Prelude.{◌≡◌, ◌^◌, ◌<◌, ◌∷◌, ◌++◌, [], All, length, vec_len, map, Some, IfOk, OnOk, slice_get};
-ghost use Rattle.bk_frames.specs.Feed.{genesis_of};
+ghost use Rattle.std.specs.Prelude.{◌≡◌, ◌^◌, ◌<◌, ◌∷◌, ◌++◌, [], All, length, map, IfOk, OnOk};
+ghost use Rattle.bk_frames.specs.Feed.{frame_of, genesis_of};
+ghost use Rattle.bk_frames.specs.Genesis.{total_of};
 ghost use Rattle.bk_rules.specs.Fold.{receipts_of, state_after, HasRoom};
 ghost use Rattle.bk_tx.specs.Batch.{IsWithin, cuts};
 ghost use Rattle.bk_tx.specs.Reading.{transaction_of};
-ghost use Rattle.bk_replay.specs.Report.{count_in, lines_of, transactions_in, payloads_of, feed_transactions};
+ghost use Rattle.bk_replay.specs.Report.{count_in, transactions_in, payloads_of, feed_transactions};
 
-use crate::line::Line;
-use bk_frames::{Feed, Kind, Row};
+use crate::summary::Summary;
+use bk_frames::{Feed, Kind};
 use bk_rules::{Receipt, State, run_in_order};
 use bk_tx::{Slice, Tx, read_batch};
 use std::alloc::{AllocError, Global};
@@ -43,17 +44,20 @@ fn decode_all(
 impl Ledger {
     /// Executes one more batch.
     fn run_batch(&mut self, alloc: Global, payload: &[u8]) -> Result<(), AllocError>
-        requires short { length payload.now < 2 ^ 32 }
-        requires room { HasRoom (length (transactions_in payload.now)) self.old.state }
+        requires room { HasRoom self.old.state.version (length (transactions_in payload.now)) self.old.state.rows }
         ensures counts { OnOk result (self.new.counts.items ≡ self.old.counts.items ++ count_in payload.now ∷ []) }
-        ensures receipts { OnOk result (self.new.receipts.items ≡ self.old.receipts.items ++ receipts_of (transactions_in payload.now) self.old.state) }
-        ensures state { OnOk result (self.new.state ≡ state_after (transactions_in payload.now) self.old.state) }
+        ensures receipts { OnOk result (self.new.receipts.items ≡ self.old.receipts.items
+            ++ receipts_of self.old.state.version (transactions_in payload.now) self.old.state.rows) }
+        ensures version { OnOk result (self.new.state.version ≡ self.old.state.version) }
+        ensures rows { OnOk result (self.new.state.rows
+            ≡ state_after self.old.state.version (transactions_in payload.now) self.old.state.rows) }
     {
         let Some(slices) = read_batch(alloc, payload)? else {
             self.counts.push(None)?;
             return Ok(());
         };
         let txs = decode_all(alloc, payload, &slices)?;
+        self.state.prepare(alloc, &txs)?;
         let receipts = run_in_order(alloc, &mut self.state, &txs)?;
         self.receipts.extend_from_slice(&receipts)?;
         self.counts.push(Some(slices.len() as u16))?;
@@ -62,11 +66,14 @@ impl Ledger {
 
     /// Executes one more frame: a batch, or nothing.
     fn run_frame(&mut self, alloc: Global, kind: Kind, payload: &[u8]) -> Result<(), AllocError>
-        requires short { length payload.now < 2 ^ 32 }
-        requires room { HasRoom (length (feed_transactions (record { kind = kind; payload = payload.now } ∷ []))) self.old.state }
-        ensures counts { OnOk result (self.new.counts.items ≡ self.old.counts.items ++ map count_in (payloads_of (record { kind = kind; payload = payload.now } ∷ []))) }
-        ensures receipts { OnOk result (self.new.receipts.items ≡ self.old.receipts.items ++ receipts_of (feed_transactions (record { kind = kind; payload = payload.now } ∷ [])) self.old.state) }
-        ensures state { OnOk result (self.new.state ≡ state_after (feed_transactions (record { kind = kind; payload = payload.now } ∷ [])) self.old.state) }
+        requires room { HasRoom self.old.state.version (length (feed_transactions (frame_of kind payload.now ∷ []))) self.old.state.rows }
+        ensures counts { OnOk result (self.new.counts.items ≡ self.old.counts.items
+            ++ map count_in (payloads_of (frame_of kind payload.now ∷ []))) }
+        ensures receipts { OnOk result (self.new.receipts.items ≡ self.old.receipts.items
+            ++ receipts_of self.old.state.version (feed_transactions (frame_of kind payload.now ∷ [])) self.old.state.rows) }
+        ensures version { OnOk result (self.new.state.version ≡ self.old.state.version) }
+        ensures rows { OnOk result (self.new.state.rows
+            ≡ state_after self.old.state.version (feed_transactions (frame_of kind payload.now ∷ [])) self.old.state.rows) }
     {
         match kind {
             Kind::Batch => self.run_batch(alloc, payload),
@@ -76,14 +83,16 @@ impl Ledger {
 
     /// Executes the batches of a feed, in feed order, on its opening accounts.
     pub(crate) fn of(alloc: Global, feed: &Feed) -> Result<Ledger, AllocError>
-        ensures counts { IfOk result (λ l. l.counts.items ≡ map count_in (payloads_of feed.now)) }
-        ensures receipts { IfOk result (λ l. l.receipts.items ≡ receipts_of (feed_transactions feed.now) (genesis_of feed.now)) }
-        ensures state { IfOk result (λ l. l.state ≡ state_after (feed_transactions feed.now) (genesis_of feed.now)) }
+        ensures counts { IfOk result (λ l. l.counts.items ≡ map count_in (payloads_of feed.now.frames)) }
+        ensures receipts { IfOk result (λ l. l.receipts.items
+            ≡ receipts_of feed.now.version (feed_transactions feed.now.frames) (genesis_of feed.now.frames)) }
+        ensures rows { IfOk result (λ l. l.state.rows
+            ≡ state_after feed.now.version (feed_transactions feed.now.frames) (genesis_of feed.now.frames)) }
     {
         let mut ledger = Ledger {
             counts: Vec::new(alloc),
             receipts: Vec::new(alloc),
-            state: State::new(alloc, feed.genesis())?,
+            state: State::new(alloc, feed.version(), feed.genesis())?,
         };
         for index in 0..feed.len() {
             let (kind, payload) = feed.frame(index);
@@ -92,45 +101,25 @@ impl Ledger {
         Ok(ledger)
     }
 
-    /// How many lines the report has.
-    pub(crate) fn lines(&self) -> usize
-        requires few { (vec_len self.now.counts < 2 ^ 32) × (vec_len self.now.receipts < 2 ^ 32) × (length self.now.state < 2 ^ 32) }
-        ensures { result ≡ length (lines_of self.now.counts.items self.now.receipts.items self.now.state) }
+    /// What the report says of it.
+    pub(crate) fn summary(self, alloc: Global) -> Result<Summary, AllocError>
+        ensures counts { IfOk result (λ s. s.counts.items ≡ self.counts.items) }
+        ensures receipts { IfOk result (λ s. s.receipts.items ≡ self.receipts.items) }
+        ensures rows { IfOk result (λ s. s.rows.items ≡ self.state.rows) }
+        ensures total { IfOk result (λ s. s.total ≡ total_of self.state.rows) }
+        ensures few { IfOk result (λ s. length s.rows.items < 2 ^ 32) }
     {
-        self.counts.len() + self.receipts.len() + self.state.len() + 1
-    }
-
-    /// A line of the report.
-    pub(crate) fn line(&self, index: usize) -> Line
-        requires few { (vec_len self.now.counts < 2 ^ 32) × (vec_len self.now.receipts < 2 ^ 32) }
-        requires inside { index < length (lines_of self.now.counts.items self.now.receipts.items self.now.state) }
-        ensures { slice_get (lines_of self.now.counts.items self.now.receipts.items self.now.state) index ≡ Some result }
-    {
-        let mut at = index;
-        if at < self.counts.len() {
-            let index = at as u32;
-            return match self.counts[at] {
-                Some(count) => Line::Batch { index, count },
-                None => Line::VoidBatch { index },
-            };
-        }
-        at -= self.counts.len();
-        if at < self.receipts.len() {
-            let Receipt { status, moved } = self.receipts[at];
-            let place = at as u32;
-            return Line::Tx {
-                place,
-                status,
-                moved,
-            };
-        }
-        at -= self.receipts.len();
-        let rows = self.state.rows();
-        if at < rows.len() {
-            let Row { id, balance, seq } = rows[at];
-            return Line::Account { id, balance, seq };
+        let rows = self.state.rows(alloc)?;
+        // This never holds: a feed has fewer than 2^32 bytes, and an account that comes to be is named in nine of them.
+        if rows.len() >= 1 << 32 {
+            return Err(AllocError);
         }
         let total = self.state.total();
-        Line::Money { total }
+        Ok(Summary {
+            counts: self.counts,
+            receipts: self.receipts,
+            rows,
+            total,
+        })
     }
 }

@@ -10,6 +10,7 @@ mod laws;
 mod ledger;
 mod line;
 mod page;
+mod summary;
 
 pub use applying::apply;
 pub use fault::Fault;

@@ -46,7 +46,7 @@ impl fmt::Display for Line {
                 status,
                 moved,
             } => {
-                let status = status as u8;
+                let status = status.number();
                 write!(f, "tx {place} {status} {moved}")
             }
             Line::Account { id, balance, seq } => write!(f, "account {id} {balance} {seq}"),

@@ -2,8 +2,9 @@
 
 ghost use Rattle.std.specs.Prelude.{◌≡◌, ◌+◌, ◌^◌, ◌<◌, ◌≤◌, ◌∷◌, ◌++◌, [], length, vec_len, IfOk, OnOk};
 ghost use Rattle.std.specs.Vec.{vec_capacity};
+ghost use Rattle.bk_frames.specs.Device.{CanBeUsed};
 ghost use Rattle.bk_replay.specs.Lines.{line_text, spaced};
-ghost use Rattle.bk_replay.specs.Pages.{Gathered, Written};
+ghost use Rattle.bk_replay.specs.private.Pages.{Gathered, Written};
 
 use crate::line::Line;
 use bk_frames::{Sink, WriteFault, push_all};
@@ -63,7 +64,7 @@ fn put_line(page: &mut Vec<u8>, line: Line)
         } => {
             put_text(page, b"tx");
             put_number(page, u64::from(place));
-            put_number(page, status as u64);
+            put_number(page, u64::from(status.number()));
             put_number(page, moved);
         }
         Line::Account { id, balance, seq } => {
@@ -90,7 +91,7 @@ pub(crate) struct Page {
 impl Model for Page {
     ghost use Rattle.std.specs.Prelude.{◌≤◌};
     ghost use Rattle.std.specs.Vec.{vec_capacity};
-    ghost use Rattle.bk_replay.specs.Pages.{Gathered};
+    ghost use Rattle.bk_replay.specs.private.Pages.{Gathered};
 
     ghost Value = { Gathered };
 
@@ -112,9 +113,9 @@ impl Page {
 
     /// Lets what the page holds go out.
     pub(crate) fn flush<K: Sink>(&mut self, sink: &mut K) -> Result<(), WriteFault>
-        requires sound { K.failed_calls sink.old < 2 ^ 62 }
+        requires sound { CanBeUsed (K.state sink.old) }
         requires size { self.old.out + length self.old.bytes < 2 ^ 62 }
-        ensures written { Written result (K.failed_calls sink.old) (K.failed_calls sink.new) (K.contents sink.old) (K.contents sink.new) self.old self.new [] }
+        ensures written { Written result (K.state sink.old) (K.state sink.new) self.old self.new [] }
         ensures empty { OnOk result (self.new.bytes ≡ []) }
     {
         match push_all(sink, &self.bytes) {
@@ -132,9 +133,9 @@ impl Page {
 
     /// Puts a line, and lets the page go out first where it could get too long.
     pub(crate) fn put<K: Sink>(&mut self, sink: &mut K, line: Line) -> Result<(), WriteFault>
-        requires sound { K.failed_calls sink.old < 2 ^ 62 }
+        requires sound { CanBeUsed (K.state sink.old) }
         requires size { self.old.out + length self.old.bytes < 2 ^ 62 }
-        ensures written { Written result (K.failed_calls sink.old) (K.failed_calls sink.new) (K.contents sink.old) (K.contents sink.new) self.old self.new (line_text line ++ 10 ∷ []) }
+        ensures written { Written result (K.state sink.old) (K.state sink.new) self.old self.new (line_text line ++ 10 ∷ []) }
         ensures size { OnOk result (self.new.out + length self.new.bytes ≤ self.old.out + length self.old.bytes + 96) }
     {
         if self.bytes.len() > PAGE - LINE {

@@ -1,20 +1,34 @@
-use Rattle.std.proofs.Common.{arith, subst}
+use Rattle.std.proofs.Common.{arith, [], ap, subst, sym, ◌∙◌}
+use Rattle.bk_rules.proofs.Room.{room_left}
 use Rattle.bk_frames.specs.Feed.{genesis_of}
 use Rattle.bk_frames.specs.Genesis.{AreAccounts}
-use Rattle.bk_replay.proofs.Runs.{payload_short, room_for_next, counts_next, receipts_next, state_next}
+use Rattle.bk_rules.specs.Fold.{HasRoom}
+use Rattle.bk_rules.proofs.Folding.{ledger_of_accounts}
+use Rattle.bk_replay.proofs.Runs.{room_for_next, counts_next, receipts_next, state_next}
 use Rattle.bk_replay.proofs.ledger.Ledger.of.Goals as goal
 
-pub run_frame-requires-clause-short : goal.run_frame-requires-clause-short
-run_frame-requires-clause-short c = omega (arith, payload_short c.args.feed.now c.loop-index.index _ c.len-index-end.ensures.feed c.frame-kind.ensures)
-
-pub run_frame-requires-clause-room : goal.run_frame-requires-clause-room
-run_frame-requires-clause-room c =
+pub run_frame-requires : goal.run_frame-requires
+run_frame-requires c =
     let accounts = subst AreAccounts c.genesis.ensures.rows c.genesis.ensures.accounts in
-    room_for_next c.args.feed.now c.loop-index.index _ (genesis_of c.args.feed.now) _ c.len-index-end.ensures.feed c.frame-kind.ensures accounts c.loop-index.invariant.state
+    record {
+      room = rw c.loop-index.invariant.version (room_for_next c.args.feed.now c.loop-index.index _ (genesis_of c.args.feed.now.frames) c.loop-index.ledger.state.rows c.len-index-end.ensures.feed c.frame-kind.ensures accounts c.loop-index.invariant.rows);
+    }
 
 pub loop-index-preserved : goal.loop-index-preserved
-loop-index-preserved c = record {
-  counts = counts_next c.args.feed.now c.loop-index.index _ _ _ c.frame-kind.ensures c.loop-index.invariant.counts c.in_ok-run_frame.ensures.counts;
-  receipts = receipts_next c.args.feed.now c.loop-index.index _ (genesis_of c.args.feed.now) _ _ _ c.frame-kind.ensures c.loop-index.invariant.state c.loop-index.invariant.receipts c.in_ok-run_frame.ensures.receipts;
-  state = state_next c.args.feed.now c.loop-index.index _ (genesis_of c.args.feed.now) _ _ c.frame-kind.ensures c.loop-index.invariant.state c.in_ok-run_frame.ensures.state;
-}
+loop-index-preserved c =
+    let v = c.loop-index.invariant.version in
+    let frames = c.args.feed.now.frames in
+    let receipts = rw v at c.in_ok-run_frame.ensures.receipts in
+    let rows = rw v at c.in_ok-run_frame.ensures.rows in
+    record {
+      counts = counts_next frames c.loop-index.index _ _ _ c.frame-kind.ensures c.loop-index.invariant.counts c.in_ok-run_frame.ensures.counts;
+      version = c.in_ok-run_frame.ensures.version ∙ v;
+      receipts = receipts_next c.args.feed.now.version frames c.loop-index.index _ (genesis_of frames) _ _ _ c.frame-kind.ensures c.loop-index.invariant.rows c.loop-index.invariant.receipts receipts;
+      rows = state_next c.args.feed.now.version frames c.loop-index.index _ (genesis_of frames) _ _ c.frame-kind.ensures c.loop-index.invariant.rows rows;
+    }
+
+pub new-requires-3-clause-ledger : goal.new-requires-3-clause-ledger
+new-requires-3-clause-ledger c = ledger_of_accounts c.genesis.result.now c.genesis.ensures.accounts
+
+pub new-requires-3-clause-room : goal.new-requires-3-clause-room
+new-requires-3-clause-room c = room_left c.version.result [] 0 c.genesis.result.now c.genesis.ensures.accounts (omega arith)

@@ -6,7 +6,8 @@ use Rattle.bk_replay.proofs.ledger.Ledger.of.Given as goal
 
 abbrev pub invariant-loop-index : goal.invariant-loop-index
 invariant-loop-index l = record {
-  counts : l.ledger.counts.items ≡ map count_in (payloads_of (take l.index l.feed));
-  receipts : l.ledger.receipts.items ≡ receipts_of (feed_transactions (take l.index l.feed)) (genesis_of l.feed);
-  state : l.ledger.state ≡ state_after (feed_transactions (take l.index l.feed)) (genesis_of l.feed);
+  counts : l.ledger.counts.items ≡ map count_in (payloads_of (take l.index l.feed.frames));
+  version : l.ledger.state.version ≡ l.feed.version;
+  receipts : l.ledger.receipts.items ≡ receipts_of l.feed.version (feed_transactions (take l.index l.feed.frames)) (genesis_of l.feed.frames);
+  rows : l.ledger.state.rows ≡ state_after l.feed.version (feed_transactions (take l.index l.feed.frames)) (genesis_of l.feed.frames);
 }
