@@ -1,10 +1,14 @@
 -- How the program ends after a fault: its exit status, and the line that tells it.
-use Rattle.std.specs.Prelude.{◌≡◌, ℕ, ◌+◌, List, ◌++◌, Option, ◌⊎◌, codes, decimal, take}
-use Rattle.std.specs.Io.KnownBytes.{Appends}
+use Rattle.std.specs.Prelude.{◌≡◌, ℕ, List, ◌++◌, ◌⊎◌, codes, decimal, take}
+use Rattle.bk_frames.specs.Device.{Device, Works, Fails, Receives}
+use Rattle.bk_frames.specs.Feed.{HasFault}
+use Rattle.bk_frames.specs.declared.fault.FeedFault.{FeedFault}
 use Rattle.bk_frames.specs.declared.fault.FaultCode.{FaultCode}
 use Rattle.bk_frames.specs.declared.fault.FaultCode.TheVariants as code
 use Rattle.bk_replay.specs.declared.fault.Fault.{Fault}
 use Rattle.bk_replay.specs.declared.fault.Fault.TheVariants as fault
+use Rattle.bk_replay.specs.Answers.{Devices, FailsBy}
+use Rattle.bk_replay.specs.Report.{IsApplyReport}
 
 -- the number of a fault of a feed
 abbrev pub code_number : FaultCode → ℕ
@@ -42,8 +46,22 @@ line_of (fault.Feed found) = codes "feed fault " ++ decimal (code_number found.c
 line_of (fault.Write written) = codes "write failed\n"
 line_of fault.Memory = codes "memory\n"
 
--- a sink was told a text: it holds all of it; or it failed once more, and holds only some first bytes of it
-abbrev pub Tells : List ℕ → ℕ → ℕ → Option (List ℕ) → Option (List ℕ) → Type 0
-Tells text before after old new =
-    ((after ≡ before) × Appends old new text)
-    ⊎ ((after ≡ before + 1) × ((written : ℕ) × Appends old new (take written text)))
+-- a sink was to receive a text: it received all of it; or one of its calls failed, and it received only some first bytes
+abbrev pub Tells : List ℕ → Device → Device → Type 0
+Tells text old new =
+    (Works old new × Receives old new text)
+    ⊎ (Fails old new × ((written : ℕ) × Receives old new (take written text)))
+
+-- a run ended by this fault: its status and its line are the fault's, and the devices are as it says
+pub record EndsBy (e : Fault) (status : ℕ) (old new : Devices) (err err' : Device) : Type 0 where
+  pub status_is : status ≡ exit_status_of e
+  pub fault : FailsBy e old new
+  pub line : Tells (line_of e) err err'
+
+-- the output got the whole report of the bytes
+abbrev pub ReportIsOut : Device → Device → List ℕ → Type 0
+ReportIsOut old new bytes = (text : List ℕ) × IsApplyReport bytes text × Receives old new text
+
+-- the bytes have a fault
+abbrev pub AreBroken : List ℕ → Type 0
+AreBroken bytes = (found : FeedFault) × HasFault bytes found

@@ -1,6 +1,7 @@
 //! How a fault ends the program: its exit status, and its line on standard error.
 
-ghost use Rattle.std.specs.Prelude.{◌≡◌, ◌+◌, ◌^◌, ◌<◌, ◌++◌};
+ghost use Rattle.std.specs.Prelude.{◌≡◌, ◌++◌};
+ghost use Rattle.bk_frames.specs.Device.{CanBeUsed};
 ghost use Rattle.bkreplay.specs.Faults.{Tells, line_of, exit_status_of};
 
 use arrayvec::ArrayString;
@@ -42,8 +43,8 @@ fn fault_line(fault: &Fault) -> ArrayString<64>
 
 /// Tells a fault in one line. A sink that fails is let be: there is nowhere left to tell it.
 pub(crate) fn tell<E: Sink>(fault: &Fault, err: &mut E)
-    requires { E.failed_calls err.old < 2 ^ 62 }
-    ensures { Tells (line_of fault.now) (E.failed_calls err.old) (E.failed_calls err.new) (E.contents err.old) (E.contents err.new) }
+    requires { CanBeUsed (E.state err.old) }
+    ensures { Tells (line_of fault.now) (E.state err.old) (E.state err.new) }
 {
     let line = fault_line(fault);
     let _ = push_all(err, line.as_str().as_bytes());

@@ -1,8 +1,9 @@
 //! From the words of the command line to the exit status.
 
-ghost use Rattle.std.specs.Prelude.{◌≡◌, ◌≢◌, ◌^◌, ◌<◌, ◌⊎◌, ℕ, List, IfSome};
-ghost use Rattle.std.specs.Io.KnownBytes.{Appends};
-ghost use Rattle.bk_replay.specs.Report.{IsApplyReport};
+ghost use Rattle.std.specs.Prelude.{◌≡◌, ◌≢◌, ◌⊎◌, IfSome};
+ghost use Rattle.bk_frames.specs.Device.{CanBeUsed};
+ghost use Rattle.bk_replay.specs.Answers.{IsUntouched};
+ghost use Rattle.bkreplay.specs.Faults.{ReportIsOut};
 ghost use Rattle.clap.specs.Words.{kind_of};
 
 use crate::fault_line::tell;
@@ -31,8 +32,11 @@ pub(crate) fn program<R: Env + Files + Input + Print + Eprint + AllocGlobal, O: 
     out: &mut O,
     err: &mut E,
 ) -> u8
-    requires out { O.failed_calls out.old < 2 ^ 62 }
-    requires err { E.failed_calls err.old < 2 ^ 62 }
+    requires out { CanBeUsed (O.state out.old) }
+    requires err { CanBeUsed (E.state err.old) }
+    ensures quiet { result ≡ 0 → err.new ≡ err.old }
+    ensures broken { result ≡ 2 → IsUntouched (O.state out.old) (O.state out.new) }
+    ensures statuses { (result ≡ 0) ⊎ (result ≡ 1) ⊎ (result ≡ 2) ⊎ (result ≡ 4) }
 {
     let words = match words(rt) {
         Ok(words) => words,
@@ -51,7 +55,8 @@ fn words<R: Env + AllocGlobal>(rt: &R) -> io::Result<Vec<String>> {
 
 /// Words that could not be read: memory was refused, or a word is not text.
 fn refuse_words<E: Sink>(error: &io::Error, err: &mut E) -> u8
-    requires { E.failed_calls err.old < 2 ^ 62 }
+    requires { CanBeUsed (E.state err.old) }
+    ensures { (result ≡ 1) ⊎ (result ≡ 4) }
 {
     if error.kind() == io::ErrorKind::OutOfMemory {
         tell(&Fault::Memory, err);
@@ -63,10 +68,12 @@ fn refuse_words<E: Sink>(error: &io::Error, err: &mut E) -> u8
 
 /// Help and the version go to standard output, a fault of the words to standard error.
 fn answer_error<R: Print + Eprint, E: Sink>(rt: &R, error: &Error, err: &mut E) -> u8
-    requires { E.failed_calls err.old < 2 ^ 62 }
+    requires { CanBeUsed (E.state err.old) }
     ensures memory { kind_of error.now ≡ ErrorKind.OutOfMemory → result ≡ 4 }
     ensures mistake { kind_of error.now ≢ ErrorKind.OutOfMemory → kind_of error.now ≢ ErrorKind.DisplayHelp
         → kind_of error.now ≢ ErrorKind.DisplayVersion → result ≡ 1 }
+    ensures quiet { result ≡ 0 → err.new ≡ err.old }
+    ensures statuses { (result ≡ 0) ⊎ (result ≡ 1) ⊎ (result ≡ 4) }
 {
     if error.kind() == ErrorKind::OutOfMemory {
         tell(&Fault::Memory, err);
@@ -92,8 +99,10 @@ fn open_and_run<R: Files + Input + AllocGlobal, O: Sink, E: Sink>(
     out: &mut O,
     err: &mut E,
 ) -> u8
-    requires out { O.failed_calls out.old < 2 ^ 62 }
-    requires err { E.failed_calls err.old < 2 ^ 62 }
+    requires out { CanBeUsed (O.state out.old) }
+    requires err { CanBeUsed (E.state err.old) }
+    ensures quiet { result ≡ 0 → err.new ≡ err.old }
+    ensures broken { result ≡ 2 → IsUntouched (O.state out.old) (O.state out.new) }
     ensures statuses { (result ≡ 0) ⊎ (result ≡ 2) ⊎ (result ≡ 4) }
 {
     match job {
@@ -115,10 +124,11 @@ fn run_over<R: AllocGlobal, I: Read + Drop, O: Sink, E: Sink>(
     out: &mut O,
     err: &mut E,
 ) -> u8
-    requires out { O.failed_calls out.old < 2 ^ 62 }
-    requires err { E.failed_calls err.old < 2 ^ 62 }
-    ensures whole { result ≡ 0 → IfSome (I.remaining input) (λ bytes.
-        (text : List ℕ) × IsApplyReport bytes text × Appends (O.contents out.old) (O.contents out.new) text) }
+    requires out { CanBeUsed (O.state out.old) }
+    requires err { CanBeUsed (E.state err.old) }
+    ensures whole { result ≡ 0 → IfSome (I.remaining input) (ReportIsOut (O.state out.old) (O.state out.new)) }
+    ensures quiet { result ≡ 0 → err.new ≡ err.old }
+    ensures broken { result ≡ 2 → IsUntouched (O.state out.old) (O.state out.new) }
     ensures statuses { (result ≡ 0) ⊎ (result ≡ 2) ⊎ (result ≡ 4) }
 {
     let Ok(reader) = BufReader::with_capacity(rt.alloc(), AHEAD, input) else {

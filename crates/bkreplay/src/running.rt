@@ -1,13 +1,10 @@
 //! Runs a job over sources and sinks.
 
-ghost use Rattle.std.specs.Prelude.{◌≡◌, ◌≢◌, ℕ, ◌+◌, ◌^◌, ◌<◌, ◌⊎◌, List, IfSome};
-ghost use Rattle.std.specs.Io.KnownBytes.{Appends, Keeps};
-ghost use Rattle.bk_frames.specs.Feed.{HasFault};
-ghost use Rattle.bk_frames.specs.declared.fault.FeedFault.{FeedFault};
-ghost use Rattle.bk_replay.specs.Answers.{Fails};
-ghost use Rattle.bk_replay.specs.Report.{IsApplyReport};
+ghost use Rattle.std.specs.Prelude.{◌≡◌, ◌≢◌, ◌⊎◌};
+ghost use Rattle.bk_frames.specs.Device.{CanBeUsed, Works, IfKnown};
+ghost use Rattle.bk_replay.specs.Answers.{devices, IsUntouched};
 ghost use Rattle.bk_replay.specs.declared.fault.Fault.{Fault as AnyFault};
-ghost use Rattle.bkreplay.specs.Faults.{Tells, line_of, exit_status_of};
+ghost use Rattle.bkreplay.specs.Faults.{EndsBy, ReportIsOut, AreBroken};
 
 use crate::fault_line::{exit_status, tell};
 use crate::job::Job;
@@ -31,23 +28,16 @@ pub fn run_job<R: AllocGlobal, S1: Source, S2: Source, O: Sink, E: Sink>(
     out: &mut O,
     err: &mut E,
 ) -> u8
-    requires first { S1.failed_calls first.old < 2 ^ 62 }
-    requires out { O.failed_calls out.old < 2 ^ 62 }
-    requires err { E.failed_calls err.old < 2 ^ 62 }
-    ensures whole { result ≡ 0 → IfSome (S1.remaining first.old) (λ bytes.
-        (text : List ℕ) × IsApplyReport bytes text × Appends (O.contents out.old) (O.contents out.new) text) }
-    ensures sound { result ≡ 0 → (S1.failed_calls first.new ≡ S1.failed_calls first.old)
-        × (O.failed_calls out.new ≡ O.failed_calls out.old) × (err.new ≡ err.old) }
-    ensures fault { result ≢ 0 → (e : AnyFault) × (result ≡ exit_status_of e)
-        × Fails e
-        (record { source = S1.failed_calls first.old; sink = O.failed_calls out.old })
-        (record { source = S1.failed_calls first.new; sink = O.failed_calls out.new })
-        (S1.remaining first.old) (S1.remaining first.new) (O.contents out.old) (O.contents out.new)
-        × Tells (line_of e) (E.failed_calls err.old) (E.failed_calls err.new) (E.contents err.old) (E.contents err.new) }
+    requires first { CanBeUsed (S1.state first.old) }
+    requires out { CanBeUsed (O.state out.old) }
+    requires err { CanBeUsed (E.state err.old) }
+    ensures whole { result ≡ 0 → IfKnown (S1.state first.old) (ReportIsOut (O.state out.old) (O.state out.new)) }
+    ensures sound { result ≡ 0 → Works (S1.state first.old) (S1.state first.new)
+        × Works (O.state out.old) (O.state out.new) × (err.new ≡ err.old) }
+    ensures fault { result ≢ 0 → (e : AnyFault) × EndsBy e result (devices (S1.state first.old) (O.state out.old))
+        (devices (S1.state first.new) (O.state out.new)) (E.state err.old) (E.state err.new) }
     ensures statuses { (result ≡ 0) ⊎ (result ≡ 2) ⊎ (result ≡ 4) }
-    ensures broken { result ≡ 2 → (found : FeedFault)
-        × IfSome (S1.remaining first.old) (λ bytes. HasFault bytes found)
-        × Keeps (O.contents out.old) (O.contents out.new) }
+    ensures broken { result ≡ 2 → IfKnown (S1.state first.old) AreBroken × IsUntouched (O.state out.old) (O.state out.new) }
     ensures second { _second.new ≡ _second.old }
 {
     let answer = match job {

@@ -74,12 +74,7 @@ fn tx_at(
     body: Body,
 ) -> Result<Vec<u8>, Fail> {
     let declared = Declarations::new(declared).ok_or("at most eight are declared")?;
-    let tx = Tx {
-        declared,
-        seq,
-        from,
-        body,
-    };
+    let tx = Tx::new(declared, seq, from, body).ok_or("it is a transaction")?;
     Ok(tx.encode(alloc)?)
 }
 
@@ -136,10 +131,31 @@ fn with_frame(feed: Vec<u8>, kind: Kind, payload: &[u8]) -> Result<Vec<u8>, Fail
     Ok(sink.into_inner())
 }
 
-/// A feed of one member with the key 0x01 thirty-two times, these accounts and these batches.
+/// A feed of version One: one member with the key 0x01 thirty-two times, these accounts and these batches.
 pub fn feed(alloc: Global, rows: &[Row], batches: &[Vec<u8>]) -> Result<Vec<u8>, Fail> {
-    let mut feed = Vec::from_slice(alloc, b"BKF1")?;
-    feed = with_frame(feed, Kind::Committee, &[1; 33])?;
+    let feed = Vec::from_slice(alloc, b"BKF1")?;
+    let feed = with_frame(feed, Kind::Committee, &[1; 33])?;
+    with_ledger(alloc, feed, rows, batches)
+}
+
+/// The same of version Two, in which the member weighs 1.
+pub fn feed_two(alloc: Global, rows: &[Row], batches: &[Vec<u8>]) -> Result<Vec<u8>, Fail> {
+    let mut committee = [1u8; 37];
+    committee[33] = 0;
+    committee[34] = 0;
+    committee[35] = 0;
+    let feed = Vec::from_slice(alloc, b"BKF2")?;
+    let feed = with_frame(feed, Kind::Committee, &committee)?;
+    with_ledger(alloc, feed, rows, batches)
+}
+
+fn with_ledger(
+    alloc: Global,
+    feed: Vec<u8>,
+    rows: &[Row],
+    batches: &[Vec<u8>],
+) -> Result<Vec<u8>, Fail> {
+    let mut feed = feed;
     let opening = genesis(alloc, rows)?;
     feed = with_frame(feed, Kind::Genesis, opening.as_slice())?;
     for payload in batches {
@@ -198,6 +214,34 @@ pub fn stale_funds_split(alloc: Global) -> Result<Vec<u8>, Fail> {
     let payload = batch(alloc, texts.as_slice())?;
     let rows = [row(1, 100), row(2, 50), row(3, 10)];
     feed(alloc, &rows, vec![in alloc; payload]?.as_slice())
+}
+
+/// 30 from account 1 to account 9, which is not there; 10 back; and 5 more if account 8, which is not there, has 0.
+pub fn accounts_come_to_be(alloc: Global) -> Result<Vec<u8>, Fail> {
+    let two = [declared(1, true), declared(9, true)];
+    let three = [declared(1, true), declared(8, false), declared(9, true)];
+    let guarded = Body::PayIf {
+        to: 9,
+        amount: 5,
+        guard: 8,
+        min: 0,
+    };
+    let texts = vec![in alloc;
+        tx_at(alloc, &two, 1, 0, Body::Pay { to: 9, amount: 30 })?,
+        tx_at(alloc, &two, 9, 0, Body::Pay { to: 1, amount: 10 })?,
+        tx_at(alloc, &three, 1, 1, guarded)?,
+    ]?;
+    batch(alloc, texts.as_slice())
+}
+
+/// More to account 9 than account 1 has, and then nothing to account 9.
+pub fn zero_amount_creates(alloc: Global) -> Result<Vec<u8>, Fail> {
+    let two = [declared(1, true), declared(9, true)];
+    let texts = vec![in alloc;
+        tx_at(alloc, &two, 1, 0, Body::Pay { to: 9, amount: 200 })?,
+        tx_at(alloc, &two, 1, 1, Body::Pay { to: 9, amount: 0 })?,
+    ]?;
+    batch(alloc, texts.as_slice())
 }
 
 /// All that account 1 has goes to account 2, which opens with `second`.

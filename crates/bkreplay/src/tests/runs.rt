@@ -1,8 +1,8 @@
 //! Jobs over feeds in memory.
 
 use super::feeds::{
-    Reader, Writer, feed, malformed_and_undeclared, stale_funds_split, sweep_everything,
-    two_payments,
+    Reader, Writer, accounts_come_to_be, feed, feed_two, malformed_and_undeclared, row,
+    stale_funds_split, sweep_everything, two_payments, zero_amount_creates,
 };
 use crate::job::Job;
 use crate::running::run_job;
@@ -132,6 +132,42 @@ fn known_reports(rt: HostRuntime) -> Result<(), Fail> {
     expect(&rt, "broken_feeds", b"", 2, "", "feed fault 2 at 0\n");
     expect(&rt, "broken_feeds", b"BKF1", 2, "", "feed fault 2 at 4\n");
     expect(&rt, "broken_feeds", b"BKF9", 2, "", "feed fault 1 at 0\n");
+    expect(&rt, "broken_feeds", b"BKF2", 2, "", "feed fault 2 at 4\n");
+    Ok(())
+}
+
+#[test]
+fn reports_of_both_versions(rt: HostRuntime) -> Result<(), Fail> {
+    let alloc: Global = rt.alloc();
+    let rows = [row(1, 100)];
+    let come = vec![in alloc; accounts_come_to_be(alloc)?]?;
+    let zero = vec![in alloc; zero_amount_creates(alloc)?]?;
+    expect(
+        &rt,
+        "accounts_come_to_be",
+        feed_two(alloc, &rows, come.as_slice())?.as_slice(),
+        0,
+        "batch 0 3\ntx 0 0 30\ntx 1 0 10\ntx 2 3 0\naccount 1 80 1\naccount 9 20 1\nmoney 100\n",
+        "",
+    );
+    expect(
+        &rt,
+        "accounts_come_to_be",
+        feed(alloc, &rows, come.as_slice())?.as_slice(),
+        0,
+        "batch 0 3\ntx 0 3 0\ntx 1 3 0\ntx 2 3 0\naccount 1 100 0\nmoney 100\n",
+        "",
+    );
+    expect(
+        &rt,
+        "zero_amount_creates",
+        feed_two(alloc, &rows, zero.as_slice())?.as_slice(),
+        0,
+        "batch 0 2\ntx 0 6 0\ntx 1 0 0\naccount 1 100 2\naccount 9 0 0\nmoney 100\n",
+        "",
+    );
+    let empty = feed_two(alloc, &[], &[])?;
+    expect(&rt, "empty_ledger", empty.as_slice(), 0, "money 0\n", "");
     Ok(())
 }
 
