@@ -1,0 +1,2 @@
+pub mod Signers
+pub mod Rules

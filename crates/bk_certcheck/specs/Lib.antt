@@ -1,0 +1,3 @@
+pub mod Rules
+pub mod Verdicts
+pub mod Laws

@@ -1,0 +1,258 @@
+//! A certificate at the boundary of each rule. The expected numbers are those of the rules.
+
+use crate::*;
+use bk_cert::{Cert, Header};
+use bk_committee::{Bad, Committee};
+use bk_digest::Digest32;
+use bk_frames::Version;
+use std::alloc::{AllocError, Global};
+use std::process::Abort;
+use std::test::Fail;
+
+/// A certificate of no batches: its round, its author, a byte for each parent, and who signs.
+#[derive(Clone, Copy)]
+struct Row<'a> {
+    round: u32,
+    author: u8,
+    parents: &'a [u8],
+    signers: &'a [u8],
+}
+
+/// The payload of a committee in which member j has 32 bytes j + 1 as its key, and in version Two each of these
+/// weights in turn.
+fn payload_of(
+    alloc: Global,
+    members: u8,
+    version: Version,
+    weights: &[u32],
+) -> Result<Vec<u8>, AllocError> {
+    let mut payload = Vec::new(alloc);
+    payload.push(members)?;
+    for member in 0..members {
+        payload.extend_from_slice(&[member.saturating_add(1); 32])?;
+    }
+    if version == Version::Two {
+        for weight in weights {
+            payload.extend_from_slice(&weight.to_be_bytes())?;
+        }
+    }
+    Ok(payload)
+}
+
+fn committee_of(
+    alloc: Global,
+    members: u8,
+    version: Version,
+    weights: &[u32],
+) -> Result<Committee, Bad> {
+    match payload_of(alloc, members, version, weights) {
+        Ok(payload) => Committee::parse(alloc, version, &payload),
+        Err(_) => Err(Bad::Memory),
+    }
+}
+
+fn heads(alloc: Global, members: u8) -> Result<Committee, Bad> {
+    committee_of(alloc, members, Version::One, &[])
+}
+
+/// The bytes of a certificate, sealed under the keys of all 128 members.
+fn sealed(
+    rt: &impl Abort,
+    alloc: Global,
+    all: &Committee,
+    row: &Row,
+) -> Result<Vec<u8>, AllocError> {
+    let mut parents = Vec::new(alloc);
+    for byte in row.parents {
+        parents.push(Digest32::new([*byte; 32]))?;
+    }
+    let header = Header::new(row.author, row.round, Vec::new(alloc), parents);
+    let header = header.expect(rt, "a header");
+    let signers = row.signers;
+    assert!(rt; signers.iter().all(|signer| (*signer as usize) < all.n()));
+    Cert::seal(alloc, header, all, signers)?.encode(alloc)
+}
+
+/// The number of the rule that is broken, 8 where none is.
+fn number(verdict: &Verdict) -> u8 {
+    match verdict {
+        Verdict::Good(_) => 8,
+        Verdict::Broken(rule) => *rule as u8,
+    }
+}
+
+fn finds(
+    rt: &impl Abort,
+    alloc: Global,
+    all: &Committee,
+    committee: &Committee,
+    row: &Row,
+) -> Result<u8, AllocError> {
+    let bytes = sealed(rt, alloc, all, row)?;
+    Ok(number(&check(alloc, committee, &bytes)?))
+}
+
+fn made<'a>(round: u32, author: u8, parents: &'a [u8], signers: &'a [u8]) -> Row<'a> {
+    Row {
+        round,
+        author,
+        parents,
+        signers,
+    }
+}
+
+#[test]
+fn each_rule_of_four(rt: HostRuntime) -> Result<(), Fail> {
+    let alloc = rt.alloc();
+    let all = heads(alloc, 128)?;
+    let four = heads(alloc, 4)?;
+    let rows: [(Row, u8); 18] = [
+        (made(1, 0, &[], &[0, 1, 2]), 8),
+        (made(1, 3, &[], &[1, 2, 3]), 8),
+        (made(1, 4, &[], &[0, 1, 2]), 1),
+        (made(0, 0, &[], &[0, 1, 2]), 2),
+        (made(1_000_000, 0, &[1, 2, 3], &[0, 1, 2]), 8),
+        (made(1_000_001, 0, &[1, 2, 3], &[0, 1, 2]), 2),
+        (made(1, 0, &[1], &[0, 1, 2]), 3),
+        (made(2, 0, &[], &[0, 1, 2]), 3),
+        (made(2, 0, &[1, 2], &[0, 1, 2]), 3),
+        (made(2, 0, &[1, 2, 3, 4], &[0, 1, 2]), 8),
+        (made(2, 0, &[1, 2, 3, 4, 5], &[0, 1, 2]), 3),
+        (made(2, 0, &[1, 3, 2], &[0, 1, 2]), 4),
+        (made(2, 0, &[1, 2, 2], &[0, 1, 2]), 4),
+        (made(1, 0, &[], &[0, 1, 2, 4]), 5),
+        (made(1, 0, &[], &[127]), 5),
+        (made(1, 0, &[], &[0, 1]), 6),
+        // two rules at once
+        (made(0, 9, &[], &[0, 1]), 1),
+        (made(2, 0, &[3, 2, 1], &[0, 9]), 4),
+    ];
+    for (each, expected) in &rows {
+        assert_eq!(rt; finds(&rt, alloc, &all, &four, each)?, *expected);
+    }
+    Ok(())
+}
+
+#[test]
+fn committees_of_other_sizes(rt: HostRuntime) -> Result<(), Fail> {
+    let alloc = rt.alloc();
+    let all = heads(alloc, 128)?;
+    let mut signers = [0u8; 86];
+    for j in 0..86u8 {
+        signers[j as usize] = 127 - j;
+    }
+    assert_eq!(rt;
+        finds(&rt, alloc, &all, &all, &made(1, 127, &[], &signers))?,
+        8
+    );
+    assert_eq!(rt;
+        finds(&rt, alloc, &all, &all, &made(1, 127, &[], &signers[1..]))?,
+        6
+    );
+    let one = heads(alloc, 1)?;
+    assert_eq!(rt; finds(&rt, alloc, &all, &one, &made(2, 0, &[7], &[0]))?, 8);
+    assert_eq!(rt; finds(&rt, alloc, &all, &one, &made(2, 0, &[7], &[1]))?, 5);
+    assert_eq!(rt; finds(&rt, alloc, &all, &one, &made(2, 0, &[7], &[]))?, 6);
+    let seven = heads(alloc, 7)?;
+    assert_eq!(rt;
+        finds(&rt, alloc, &all, &seven, &made(1, 6, &[], &[0, 2, 3, 5, 6]))?,
+        8
+    );
+    assert_eq!(rt;
+        finds(&rt, alloc, &all, &seven, &made(1, 6, &[], &[0, 2, 3, 6]))?,
+        6
+    );
+    Ok(())
+}
+
+// Members 0 to 3 weigh 5, 1, 1 and 1: a quorum weighs 6, and any number of parents from one to four passes.
+#[test]
+fn weights_decide_in_version_two(rt: HostRuntime) -> Result<(), Fail> {
+    let alloc = rt.alloc();
+    let all = heads(alloc, 128)?;
+    let weighted = committee_of(alloc, 4, Version::Two, &[5, 1, 1, 1])?;
+    assert_eq!(rt;
+        finds(&rt, alloc, &all, &weighted, &made(1, 1, &[], &[0, 1]))?,
+        8
+    );
+    assert_eq!(rt;
+        finds(&rt, alloc, &all, &weighted, &made(1, 1, &[], &[1, 2, 3]))?,
+        6
+    );
+    assert_eq!(rt;
+        finds(&rt, alloc, &all, &weighted, &made(1, 1, &[], &[0]))?,
+        6
+    );
+    assert_eq!(rt;
+        finds(&rt, alloc, &all, &weighted, &made(2, 1, &[9], &[0, 1]))?,
+        8
+    );
+    assert_eq!(rt;
+        finds(&rt, alloc, &all, &weighted, &made(2, 1, &[], &[0, 1]))?,
+        3
+    );
+    assert_eq!(rt;
+        finds(
+            &rt,
+            alloc,
+            &all,
+            &weighted,
+            &made(2, 1, &[1, 2, 3, 4, 5], &[0, 1])
+        )?,
+        3
+    );
+    Ok(())
+}
+
+#[test]
+fn no_certificate(rt: HostRuntime) -> Result<(), Fail> {
+    let alloc = rt.alloc();
+    let four = heads(alloc, 4)?;
+    assert_eq!(rt; number(&check(alloc, &four, &[])?), 0);
+    assert_eq!(rt; number(&check(alloc, &four, &[0; 24])?), 2);
+    assert_eq!(rt; number(&check(alloc, &four, &[0; 25])?), 0);
+    one_verdict();
+    Ok(())
+}
+
+#[test]
+fn a_checked_certificate(rt: HostRuntime) -> Result<(), Fail> {
+    let alloc = rt.alloc();
+    let all = heads(alloc, 128)?;
+    let bytes = sealed(&rt, alloc, &all, &made(1, 0, &[], &[0, 1, 2]))?;
+    let Verdict::Good(checked) = check(alloc, &heads(alloc, 4)?, &bytes)? else {
+        panic!(rt; "broken");
+    };
+    let id = Digest32::parse_hex(
+        b"afb203aeddb54bba05c780118d206fa2d2a6dc339c542173499c03db2eb8b1c9",
+    );
+    assert_eq!(rt; Some(checked.id()), id);
+    assert!(rt; checked.header().author() == 0 && checked.header().round() == 1);
+    assert_eq!(rt; checked.cert().tags().len(), 3);
+    assert!(rt; checked.into_header().parents().is_empty());
+    Ok(())
+}
+
+// Sealed by members 0 and 1 alone, and sealed by three with one bit of a tag turned: 3,000 payloads, in turn.
+#[test]
+fn many_in_their_order(rt: HostRuntime) -> Result<(), Fail> {
+    let alloc = rt.alloc();
+    let all = heads(alloc, 128)?;
+    let four = heads(alloc, 4)?;
+    let few = sealed(&rt, alloc, &all, &made(1, 0, &[], &[0, 1]))?;
+    let mut turned = sealed(&rt, alloc, &all, &made(1, 1, &[], &[0, 1, 2]))?;
+    if let Some(last) = turned.last_mut() {
+        *last ^= 1;
+    }
+    let mut payloads = Vec::new(alloc);
+    for _ in 0..1_500 {
+        payloads.push(few.as_slice())?;
+        payloads.push(turned.as_slice())?;
+    }
+    let verdicts = check_all(&rt, alloc, &four, &payloads)?;
+    assert_eq!(rt; verdicts.len(), 3_000);
+    for (j, verdict) in verdicts.iter().enumerate() {
+        assert_eq!(rt; number(verdict), if j % 2 == 0 { 6 } else { 7 });
+    }
+    Ok(())
+}

@@ -1,0 +1,76 @@
+//! What a check finds.
+
+ghost use Rattle.std.specs.Prelude.{◌≡◌};
+ghost use Rattle.bk_cert.specs.Node.{node_of};
+ghost use Rattle.bk_cert.specs.Identity.{id_of};
+
+use crate::rule::Rule;
+use bk_cert::{Cert, Header};
+use bk_digest::Digest32;
+use std::marker::Model;
+
+/// A certificate that broke no rule, with its id. Contracts see it as its header under its id.
+#[derive(Debug, Drop)]
+pub struct Checked {
+    id: Digest32,
+    cert: Cert,
+}
+
+impl Model for Checked {
+    ghost use Rattle.std.specs.Prelude.{◌≡◌};
+    ghost use Rattle.bk_cert.specs.Node.{Node, node_of};
+    ghost use Rattle.bk_cert.specs.Identity.{id_of};
+
+    ghost Value = { Node };
+
+    ghost view = { λ c. node_of c.cert.header };
+
+    ghost invariant = { λ c. c.id ≡ id_of c.cert.header };
+}
+
+impl Checked {
+    // The certificate under its id.
+    pub(crate) fn new(id: Digest32, cert: Cert) -> Checked
+        requires { id ≡ id_of cert.header }
+        ensures { result ≡ node_of cert.header }
+    {
+        Checked { id, cert }
+    }
+
+    /// Its id: SHA-256 of the byte 0x10 and its header.
+    pub fn id(&self) -> Digest32
+        ensures { result ≡ self.now.id }
+    {
+        self.id
+    }
+
+    /// Its header.
+    pub fn header(&self) -> &Header
+        ensures { result.now ≡ self.now.header }
+    {
+        self.cert.header()
+    }
+
+    /// The certificate, with its seal.
+    pub fn cert(&self) -> &Cert
+        ensures { result.now.header ≡ self.now.header }
+    {
+        &self.cert
+    }
+
+    /// The header, taken out of it. The seal is dropped.
+    pub fn into_header(self) -> Header
+        ensures { result ≡ self.header }
+    {
+        self.cert.into_header()
+    }
+}
+
+/// What a check finds of the bytes of a certificate.
+#[derive(Debug, Drop)]
+pub enum Verdict {
+    /// They break no rule.
+    Good(Checked),
+    /// They break this rule, and none before it.
+    Broken(Rule),
+}
