@@ -1,0 +1,386 @@
+-- The table after a certificate was added.
+use Rattle.std.proofs.Common.{◌≡◌, ◌≢◌, ℕ, zero, suc, ◌+◌, ◌-◌, ◌<◌, ◌≤◌, ◌↔◌, ◌⊎◌, inl, inr, Bool, true, false, cond, List, [], ◌∷◌, ◌++◌, map, length, Option, Some, None, refl, sym, ap, subst, ◌∙◌, ⊎_elim, arith, get_or, set}
+use Rattle.std.specs.List.{Contains, All}
+use Rattle.std.specs.Map.{lookup}
+use Rattle.std.specs.Ordering.{is_eq}
+use Rattle.std.specs.Str.{bytes_eq}
+use Rattle.std.proofs.lemmas.Bool.{cases_eq, cases_lt, cases_Bool, both_ways, false_from_ne_true}
+use Rattle.std.proofs.lemmas.List.{length-set, length-append}
+use Rattle.std.proofs.lemmas.List.Elements.{Contains-push, Contains-push_cases, Contains-append_left}
+use Rattle.bk_committee.specs.Sizes.{Sizes, members}
+use Rattle.bk_cert.specs.Node.{Node}
+use Rattle.bk_rounds.specs.declared.place.CertRef.{CertRef}
+use Rattle.bk_rounds.specs.declared.slots.Slot.{Slot}
+use Rattle.bk_rounds.specs.declared.names.Names.{Names}
+use Rattle.bk_rounds.specs.Admission.{IsClear, IsGood, AreGood, IsPresent, place_of, last_round}
+use Rattle.bk_rounds.specs.Listing.{IsListed, Lists}
+use Rattle.bk_rounds.specs.Members.{Has}
+use Rattle.bk_rounds.specs.private.Numbered.{id_of, round_of, author_of, cert_of, parents_of, row_of, is_marked, count_unmarked, is_heavy_in, IsInside, IsInsideRows, IsRegistered, IsAdmittedAt, IsTable}
+use Rattle.bk_rounds.specs.private.Names.{set_of, IsNumbering, known_in, AreNames, Grows}
+use Rattle.bk_rounds.specs.private.Tied.{IsSlotOf, IsTied, IsAt, IsPlaced, IsAuthorIn, AreSets, IsWhole, IsNumberAt, place_at, ref_cmp}
+use Rattle.bk_rounds.specs.declared.waking.Pending.{Pending}
+use Rattle.bk_rounds.proofs.Refs.{ref_same, equal_from_test, exact_ref}
+use Rattle.bk_rounds.proofs.Lists.{from_map, in_map, none_in_nil}
+use Rattle.bk_rounds.proofs.Admitted.{same_place}
+use Rattle.bk_rounds.proofs.Marks.{marked_here}
+use Rattle.bk_rounds.proofs.Settling.{marked_low}
+use Rattle.bk_rounds.proofs.Added.{heavy_same, admitted_at, field_other, field_here}
+use Rattle.bk_rounds.proofs.Named.{ids_kept, push_before, push_at}
+use Rattle.bk_rounds.proofs.Tied.{held_at, round_low}
+use Rattle.bk_rounds.proofs.Found.{has_number, is_present, admitted_some_round, number_round}
+
+-- a certificate came under number k: what it has, and what the lists are afterwards
+pub record IsAdding (held : List Node) (n m : Names) (c : Node) (k : ℕ) (slot : Slot) : Type 0 where
+  pub low : k < length n.slots.items
+  pub none : round_of n.slots.items k ≡ 0
+  pub id_here : id_of n.slots.items k ≡ c.id
+  pub id : slot.id ≡ c.id
+  pub round : slot.round ≡ c.header.round
+  pub author : slot.author ≡ c.header.author
+  pub cert : slot.cert ≡ length held
+  pub parents : map (id_of n.slots.items) slot.parents.items ≡ c.header.parents
+  pub slots : m.slots.items ≡ set n.slots.items k slot
+  pub numbers : m.numbers.entries ≡ n.numbers.entries
+
+module _ (held : List Node) (n m : Names) (c : Node) (k : ℕ) (slot : Slot) (h : IsAdding held n m c k slot) where
+  pub round_here : round_of m.slots.items k ≡ c.header.round
+  round_here = ap (λ ss. round_of ss k) h.slots ∙ (field_here (λ (s : Slot). s.round) n.slots.items k slot 0 h.low ∙ h.round)
+
+  pub author_here : author_of m.slots.items k ≡ c.header.author
+  author_here = ap (λ ss. author_of ss k) h.slots ∙ (field_here (λ (s : Slot). s.author) n.slots.items k slot 0 h.low ∙ h.author)
+
+  pub cert_here : cert_of m.slots.items k ≡ length held
+  cert_here = ap (λ ss. cert_of ss k) h.slots ∙ (field_here (λ (s : Slot). s.cert) n.slots.items k slot 0 h.low ∙ h.cert)
+
+  pub parents_here' : parents_of m.slots.items k ≡ slot.parents.items
+  parents_here' = ap (λ ss. parents_of ss k) h.slots ∙ field_here (λ (s : Slot). s.parents.items) n.slots.items k slot [] h.low
+
+  pub round_other : (i : ℕ) → i ≢ k → round_of m.slots.items i ≡ round_of n.slots.items i
+  round_other i o = ap (λ ss. round_of ss i) h.slots ∙ field_other (λ (s : Slot). s.round) n.slots.items k slot 0 i o
+
+  pub author_other : (i : ℕ) → i ≢ k → author_of m.slots.items i ≡ author_of n.slots.items i
+  author_other i o = ap (λ ss. author_of ss i) h.slots ∙ field_other (λ (s : Slot). s.author) n.slots.items k slot 0 i o
+
+  pub cert_other : (i : ℕ) → i ≢ k → cert_of m.slots.items i ≡ cert_of n.slots.items i
+  cert_other i o = ap (λ ss. cert_of ss i) h.slots ∙ field_other (λ (s : Slot). s.cert) n.slots.items k slot 0 i o
+
+  pub parents_other : (i : ℕ) → i ≢ k → parents_of m.slots.items i ≡ parents_of n.slots.items i
+  parents_other i o = ap (λ ss. parents_of ss i) h.slots ∙ field_other (λ (s : Slot). s.parents.items) n.slots.items k slot [] i o
+
+  pub id_same : (i : ℕ) → id_of m.slots.items i ≡ id_of n.slots.items i
+  id_same i = ⊎_elim
+      (λ e. ap (id_of m.slots.items) e ∙ (ap (λ ss. id_of ss k) h.slots ∙ (field_here (λ (s : Slot). s.id) n.slots.items k slot [] h.low ∙ (h.id ∙ (sym h.id_here ∙ ap (id_of n.slots.items) (sym e))))))
+      (λ o. ap (λ ss. id_of ss i) h.slots ∙ field_other (λ (s : Slot). s.id) n.slots.items k slot [] i o)
+      (cases_eq i k)
+
+  pub length_same : length m.slots.items ≡ length n.slots.items
+  length_same = ap length h.slots ∙ length-set n.slots.items k slot
+
+  pub other_number : (i : ℕ) → 0 < round_of n.slots.items i → i ≢ k
+  other_number i some e = let z : round_of n.slots.items i ≡ 0 = ap (round_of n.slots.items) e ∙ h.none in omega (arith, some, z)
+
+  pub place_other : (i : ℕ) → i ≢ k → place_at m.slots.items i ≡ place_at n.slots.items i
+  place_other i o = same_place (place_at m.slots.items i) (place_at n.slots.items i) (round_other i o) (author_other i o)
+
+slot_kept : (held : List Node) (n m : Names) (c : Node) (k : ℕ) (slot : Slot) → IsAdding held n m c k slot → (i : ℕ) (d : Node) → i ≢ k → IsSlotOf n.slots.items i d → IsSlotOf m.slots.items i d
+slot_kept held n m c k slot h i d o s = record {
+  id = s.id ∙ sym (id_same held n m c k slot h i);
+  round = s.round ∙ sym (round_other held n m c k slot h i o);
+  author = s.author ∙ sym (author_other held n m c k slot h i o);
+  parents = s.parents ∙ (λ j. map (λ x. sym (id_same held n m c k slot h x) j) (sym (parents_other held n m c k slot h i o) j));
+}
+
+slot_new : (held : List Node) (n m : Names) (c : Node) (k : ℕ) (slot : Slot) → IsAdding held n m c k slot → IsSlotOf m.slots.items k c
+slot_new held n m c k slot h = record {
+  id = sym h.id_here ∙ sym (id_same held n m c k slot h k);
+  round = sym (round_here held n m c k slot h);
+  author = sym (author_here held n m c k slot h);
+  parents = sym h.parents ∙ (λ j. map (λ x. sym (id_same held n m c k slot h x) j) (sym (parents_here' held n m c k slot h) j));
+}
+
+at_kept : (held : List Node) (c : Node) (i : ℕ) (d : Node) → IsAt held i d → IsAt (held ++ c ∷ []) i d
+at_kept held c i d (low, is) = (omega (arith, low, length-append held (c ∷ [])), λ e. push_before held c e i low ∙ is e)
+
+at_new : (held : List Node) (c : Node) → IsAt (held ++ c ∷ []) (length held) c
+at_new held c = (omega (arith, length-append held (c ∷ [])), λ e. push_at held c e)
+
+pub tied_added : (held : List Node) (n m : Names) (c : Node) (k : ℕ) (slot : Slot) → IsAdding held n m c k slot → ((d : Node) → Contains held d → 1 ≤ d.header.round)
+    → IsTied held n.slots.items → IsTied (held ++ c ∷ []) m.slots.items
+tied_added held n m c k slot h from t = record {
+  cert = λ i some. ⊎_elim
+      (λ e. subst (λ (j : ℕ). (d : Node) × IsAt (held ++ c ∷ []) (cert_of m.slots.items j) d × IsSlotOf m.slots.items j d) (sym e)
+      (c, subst (λ (j : ℕ). IsAt (held ++ c ∷ []) j c) (sym (cert_here held n m c k slot h)) (at_new held c), slot_new held n m c k slot h))
+      (λ o.
+      let (d, at, s) = t.cert i (subst (λ (r : ℕ). 0 < r) (round_other held n m c k slot h i o) some) in
+      (d, subst (λ (j : ℕ). IsAt (held ++ c ∷ []) j d) (sym (cert_other held n m c k slot h i o)) (at_kept held c (cert_of n.slots.items i) d at), slot_kept held n m c k slot h i d o s))
+      (cases_eq i k);
+  slot = λ d there. ⊎_elim
+      (λ old. old_slot d (from d old) (t.slot d old))
+      (λ new. (k, subst (λ (l : ℕ). k < l) (sym (length_same held n m c k slot h)) h.low, subst (λ (e : Node). IsSlotOf m.slots.items k e) new (slot_new held n m c k slot h)))
+      (Contains-push_cases held c d there);
+}
+  where
+    old_slot : (d : Node) → 1 ≤ d.header.round → (i : ℕ) × (i < length n.slots.items) × IsSlotOf n.slots.items i d → (i : ℕ) × (i < length m.slots.items) × IsSlotOf m.slots.items i d
+    old_slot d some (i, low, s) =
+        let o : i ≢ k = λ e. (let z : round_of n.slots.items i ≡ 0 = ap (round_of n.slots.items) e ∙ h.none in omega (arith, some, s.round, z)) in
+        (i, subst (λ (l : ℕ). i < l) (sym (length_same held n m c k slot h)) low, slot_kept held n m c k slot h i d o s)
+
+pub clear_added : (held : List Node) (c : Node) → IsClear held → ((d : Node) → Contains held d → d.id ≢ c.id) → ((d : Node) → Contains held d → place_of d ≢ place_of c) → IsClear (held ++ c ∷ [])
+clear_added held c clear new free = record {
+  no_collision = λ d e t u same. ⊎_elim
+      (λ old. ⊎_elim (λ old'. clear.no_collision d e old old' same) (λ is. absurd (new d old (same ∙ sym (ap (λ (x : Node). x.id) is)))) (Contains-push_cases held c e u))
+      (λ is. ⊎_elim (λ old'. absurd (new e old' (sym same ∙ sym (ap (λ (x : Node). x.id) is)))) (λ is'. sym is ∙ is') (Contains-push_cases held c e u))
+      (Contains-push_cases held c d t);
+  no_twins = λ d e t u same. ⊎_elim
+      (λ old. ⊎_elim (λ old'. clear.no_twins d e old old' same) (λ is. absurd (free d old (same ∙ sym (ap place_of is)))) (Contains-push_cases held c e u))
+      (λ is. ⊎_elim (λ old'. absurd (free e old' (sym same ∙ sym (ap place_of is)))) (λ is'. ap (λ (x : Node). x.id) (sym is ∙ is')) (Contains-push_cases held c e u))
+      (Contains-push_cases held c d t);
+}
+
+pub good_added : (z : Sizes) (held : List Node) (c : Node) → AreGood z held → IsGood z c → AreGood z (held ++ c ∷ [])
+good_added z held c good it d t = ⊎_elim (λ old. good d old) (λ is. subst (IsGood z) is it) (Contains-push_cases held c d t)
+
+-- the map of places after the place of the certificate was put in
+pub placed_added : (held : List Node) (n m : Names) (c : Node) (k : ℕ) (slot : Slot) → IsAdding held n m c k slot → 1 ≤ c.header.round → (placed placed' : CertRef → Option ℕ)
+    → IsPlaced n.slots.items placed → IsTied held n.slots.items → ((d : Node) → Contains held d → place_of d ≢ place_of c)
+    → ((a : CertRef) → (a ≡ place_of c → placed' a ≡ Some k) × (a ≢ place_of c → placed' a ≡ placed a)) → IsPlaced m.slots.items placed'
+placed_added held n m c k slot h from placed placed' p t free up = record {
+  sound = λ a j e. ⊎_elim
+      (λ here. new_sound a j here (some_one k j (sym ((up a).0 here) ∙ e)))
+      (λ o. let old = p.sound a j (sym ((up a).1 o) ∙ e) in
+      let other = other_number held n m c k slot h j old.0 in
+      (subst (λ (r : ℕ). 0 < r) (sym (round_other held n m c k slot h j other)) old.0, place_other held n m c k slot h j other ∙ old.1))
+      (same_or_not a (place_of c));
+  complete = λ j some. ⊎_elim
+      (λ e. ap placed' (ap (place_at m.slots.items) e) ∙ ((up (place_at m.slots.items k)).0 place_k ∙ ap Some (sym e)))
+      (λ o.
+      let old : 0 < round_of n.slots.items j = subst (λ (r : ℕ). 0 < r) (round_other held n m c k slot h j o) some in
+      ap placed' (place_other held n m c k slot h j o) ∙ ((up (place_at n.slots.items j)).1 (apart j old) ∙ p.complete j old))
+      (cases_eq j k);
+}
+  where
+    some_one : (i j : ℕ) → Some i ≡ Some j → i ≡ j
+    some_one i j e = cc
+
+    place_k : place_at m.slots.items k ≡ place_of c
+    place_k = same_place (place_at m.slots.items k) (place_of c) (round_here held n m c k slot h) (author_here held n m c k slot h)
+
+    new_sound : (a : CertRef) (j : ℕ) → a ≡ place_of c → k ≡ j → (0 < round_of m.slots.items j) × (place_at m.slots.items j ≡ a)
+    new_sound a j here is = subst (λ (i : ℕ). (0 < round_of m.slots.items i) × (place_at m.slots.items i ≡ a)) is
+        (let e = round_here held n m c k slot h in (omega (arith, from, e), place_k ∙ sym here))
+
+    apart : (j : ℕ) → 0 < round_of n.slots.items j → place_at n.slots.items j ≢ place_of c
+    apart j old e =
+        let (d, at, s) = t.cert j old in
+        free d (held_at held (cert_of n.slots.items j) d at) (same_place (place_of d) (place_at n.slots.items j) s.round s.author ∙ e)
+
+    same_or_not : (a b : CertRef) → (a ≡ b) ⊎ (a ≢ b)
+    same_or_not a b = ⊎_elim
+        (λ e. ⊎_elim (λ f. inl (same_place a b e f)) (λ f. inr (λ q. f (ap (λ (x : CertRef). x.author) q))) (cases_eq a.author b.author))
+        (λ e. inr (λ q. e (ap (λ (x : CertRef). x.round) q)))
+        (cases_eq a.round b.round)
+
+-- what admit and tell leave
+pub record IsAdmitting (n m : Names) (out : List ℕ) (top top' : ℕ) : Type 0 where
+  pub stay : (i : ℕ) → is_marked n.marks.items i ≡ true → is_marked m.marks.items i ≡ true
+  pub out_is : (i : ℕ) → Contains out i ↔ ((is_marked m.marks.items i ≡ true) × (is_marked n.marks.items i ≡ false))
+  pub sets_same : length m.sets.items ≡ length n.sets.items
+  pub waiting : m.unmarked ≡ count_unmarked m.marks.items
+  pub here : (i : ℕ) → Contains out i → (x : ℕ) → Has (set_of m.sets.items i) x ↔ IsAuthorIn m.slots.items (parents_of m.slots.items i) x
+  pub other : (i : ℕ) → (Contains out i → ⊥) → set_of m.sets.items i ≡ set_of n.sets.items i
+  pub highest : (i : ℕ) → Contains out i → round_of m.slots.items i ≤ top'
+  pub more : top ≤ top'
+  pub least : (b : ℕ) → top ≤ b → ((i : ℕ) → Contains out i → round_of m.slots.items i ≤ b) → top' ≤ b
+
+-- an admitted number has a round
+marked_round : (z : Sizes) (n : Names) → IsTable z n.slots.items n.marks.items n.pending.items → (i : ℕ) → is_marked n.marks.items i ≡ true → 0 < round_of n.slots.items i
+marked_round z n t i m = admitted_some_round z n.slots.items (round_of n.slots.items i) i ((t.exact i).0 m)
+
+-- a parent of an admitted number is admitted
+parent_marked : (z : Sizes) (n : Names) → IsTable z n.slots.items n.marks.items n.pending.items → (i p : ℕ) → is_marked n.marks.items i ≡ true → 1 < round_of n.slots.items i
+    → Contains (parents_of n.slots.items i) p → is_marked n.marks.items p ≡ true
+unfolding IsAdmittedAt
+parent_marked z n t i p m low among = by_round (round_of n.slots.items i) refl ((t.exact i).0 m)
+  where
+    by_round : (r : ℕ) → round_of n.slots.items i ≡ r → IsAdmittedAt z n.slots.items r i → is_marked n.marks.items p ≡ true
+    by_round zero e h = absurd h
+    by_round (suc r) e h =
+        let g = h.2 (omega (arith, e, low)) p among in
+        (t.exact p).1 (subst (λ (q : ℕ). IsAdmittedAt z n.slots.items q p) (sym (admitted_at z n.slots.items r p g)) g)
+
+-- so it has a round, and in round 1 there is none
+parent_round : (z : Sizes) (held : List Node) (n : Names) → AreGood z held → IsTied held n.slots.items → IsTable z n.slots.items n.marks.items n.pending.items → (i p : ℕ)
+    → is_marked n.marks.items i ≡ true → Contains (parents_of n.slots.items i) p → is_marked n.marks.items p ≡ true
+parent_round z held n good tied t i p m among = ⊎_elim
+    (λ one. absurd (no_parent (tied.cert i some) one))
+    (λ o. parent_marked z n t i p m (omega (arith, some, o)) among)
+    (cases_eq (round_of n.slots.items i) 1)
+  where
+    some : 0 < round_of n.slots.items i
+    some = marked_round z n t i m
+
+    no_parent : (d : Node) × IsAt held (cert_of n.slots.items i) d × IsSlotOf n.slots.items i d → round_of n.slots.items i ≡ 1 → ⊥
+    no_parent (d, at, s) one =
+        let none = (good d (held_at held (cert_of n.slots.items i) d at)).first (s.round ∙ one) in
+        let there : Contains d.header.parents (id_of n.slots.items p) =
+        subst (λ (qs : List (List ℕ)). Contains qs (id_of n.slots.items p)) (sym s.parents) (in_map (id_of n.slots.items) (parents_of n.slots.items i) p among) in
+        none_in_nil (id_of n.slots.items p) (subst (λ (qs : List (List ℕ)). Contains qs (id_of n.slots.items p)) none there)
+
+-- the author of an admitted one's parent is a member
+pub parent_author : (z : Sizes) (held : List Node) (n : Names) → AreGood z held → IsTied held n.slots.items → IsTable z n.slots.items n.marks.items n.pending.items → (i p : ℕ)
+    → is_marked n.marks.items i ≡ true → Contains (parents_of n.slots.items i) p → author_of n.slots.items p < members z
+parent_author z held n good tied t i p m among =
+    let (d, at, s) = tied.cert p (marked_round z n t p (parent_round z held n good tied t i p m among)) in
+    subst (λ (x : ℕ). x < members z) s.author (good d (held_at held (cert_of n.slots.items p) d at)).member
+
+pub whole_added : (z : Sizes) (held : List Node) (n m : Names) (c : Node) (k : ℕ) (slot : Slot) (placed placed' : CertRef → Option ℕ) (top top' : ℕ) (out : List ℕ)
+    → IsWhole z held n placed top → IsAdding held n m c k slot → IsGood z c → ((d : Node) → Contains held d → d.id ≢ c.id) → ((d : Node) → Contains held d → place_of d ≢ place_of c)
+    → ((a : CertRef) → (a ≡ place_of c → placed' a ≡ Some k) × (a ≢ place_of c → placed' a ≡ placed a))
+    → IsTable z m.slots.items m.marks.items m.pending.items → IsAdmitting n m out top top' → IsWhole z (held ++ c ∷ []) m placed' top'
+whole_added z held n m c k slot placed placed' top top' out w h it new free up t a = record {
+  few = w.few;
+  good = good;
+  clear = clear_added held c w.clear new free;
+  names = record {
+    marks = t.same;
+    pending = t.rows_same;
+    sets = a.sets_same ∙ (w.names.sets ∙ sym (length_same held n m c k slot h));
+    rows = t.rows;
+    waiting = a.waiting;
+    numbering = record {
+      sound = λ q j e. let s = w.names.numbering.sound q j (sym (known q) ∙ e) in
+          (subst (λ (l : ℕ). j < l) (sym (length_same held n m c k slot h)) s.0, id_same held n m c k slot h j ∙ s.1);
+      complete = λ j low. known (id_of m.slots.items j) ∙ (ap (known_in n) (id_same held n m c k slot h j)
+          ∙ w.names.numbering.complete j (subst (λ (l : ℕ). j < l) (length_same held n m c k slot h) low));
+    };
+  };
+  table = t;
+  tied = tied;
+  placed = placed_added held n m c k slot h it.from_one placed placed' w.placed w.tied free up;
+  sets = λ i mark x. ⊎_elim (λ was. old_set i was x) (λ was. a.here i ((a.out_is i).1 (mark, was)) x) (cases_Bool (is_marked n.marks.items i));
+  highest = λ i mark. ⊎_elim
+      (λ was. let e = round_other held n m c k slot h i (not_k i was) in let b = w.highest i was in let l = a.more in omega arith)
+      (λ was. a.highest i ((a.out_is i).1 (mark, was)))
+      (cases_Bool (is_marked n.marks.items i));
+  to_last = a.least last_round w.to_last (λ i o.
+      let (d, at, s) = tied.cert i (marked_round z m t i ((a.out_is i).0 o).0) in
+      let l = (good d (held_at (held ++ c ∷ []) (cert_of m.slots.items i) d at)).to_last in
+      omega (arith, l, s.round));
+}
+  where
+    good : AreGood z (held ++ c ∷ [])
+    good = good_added z held c w.good it
+
+    tied : IsTied (held ++ c ∷ []) m.slots.items
+    tied = tied_added held n m c k slot h (λ d t. (w.good d t).from_one) w.tied
+
+    known : (q : List ℕ) → known_in m q ≡ known_in n q
+    known q = ap (λ es. lookup (bytes_eq q) es) h.numbers
+
+    not_k : (i : ℕ) → is_marked n.marks.items i ≡ true → i ≢ k
+    not_k i was = other_number held n m c k slot h i (marked_round z n w.table i was)
+
+    old_set : (i : ℕ) → is_marked n.marks.items i ≡ true → (x : ℕ) → Has (set_of m.sets.items i) x ↔ IsAuthorIn m.slots.items (parents_of m.slots.items i) x
+    old_set i was x =
+        let same = a.other i (λ o. both_ways _ ((a.out_is i).0 o).1 was) in
+        let row : parents_of m.slots.items i ≡ parents_of n.slots.items i = parents_other held n m c k slot h i (not_k i was) in
+        let author : (p : ℕ) → Contains (parents_of n.slots.items i) p → author_of m.slots.items p ≡ author_of n.slots.items p =
+        λ p among. author_other held n m c k slot h p (not_k p (parent_round z held n w.good w.tied w.table i p was among)) in
+        subst (λ (s : ℕ). Has s x ↔ IsAuthorIn m.slots.items (parents_of m.slots.items i) x) (sym same) (
+          (λ g. let (p, among, e) = (w.sets i was x).0 g in (p, subst (λ (ps : List ℕ). Contains ps p) (sym row) among, author p among ∙ e)),
+          (λ (p, among, e). let among' = subst (λ (ps : List ℕ). Contains ps p) row among in (w.sets i was x).1 (p, among', sym (author p among') ∙ e)),
+        )
+
+-- what is told is what has become present
+pub answer_added : (z : Sizes) (held : List Node) (n m : Names) (c : Node) (k : ℕ) (slot : Slot) (placed placed' : CertRef → Option ℕ) (top top' : ℕ) (out : List ℕ) (told : List CertRef)
+    → IsWhole z held n placed top → IsWhole z (held ++ c ∷ []) m placed' top' → IsAdding held n m c k slot → IsAdmitting n m out top top'
+    → IsListed told → ((a : CertRef) → Contains told a ↔ Contains (map (place_at m.slots.items) out) a)
+    → Lists told (λ a. IsPresent z (held ++ c ∷ []) a × (IsPresent z held a → ⊥))
+answer_added z held n m c k slot placed placed' top top' out told w v h a listed same = record {
+  listed = listed;
+  sound = λ b t.
+      let (i, o, e) = from_map (place_at m.slots.items) out b ((same b).0 t) in
+      let marks = (a.out_is i).0 o in
+      (is_present z (held ++ c ∷ []) m placed' top' v b i (at i b marks.0 e), λ was. fresh i b marks e (has_number z held n placed top w b was));
+  complete = λ b p. by_number b p (has_number z (held ++ c ∷ []) m placed' top' v b p.0);
+}
+  where
+    at : (i : ℕ) (b : CertRef) → is_marked m.marks.items i ≡ true → place_at m.slots.items i ≡ b → IsNumberAt m b i
+    at i b mark e = record { inside = (let l = marked_low m.marks.items i mark in let s = v.table.same in omega arith); marked = mark; place_is = e }
+
+    some_one : (i j : ℕ) → Some i ≡ Some j → i ≡ j
+    some_one i j e = cc
+
+    not_k : (i : ℕ) → is_marked n.marks.items i ≡ true → i ≢ k
+    not_k i was = other_number held n m c k slot h i (marked_round z n w.table i was)
+
+    fresh : (i : ℕ) (b : CertRef) → (is_marked m.marks.items i ≡ true) × (is_marked n.marks.items i ≡ false) → place_at m.slots.items i ≡ b → (j : ℕ) × IsNumberAt n b j → ⊥
+    fresh i b marks e (j, was) =
+        let some = marked_round z m v.table i marks.0 in
+        let some' = marked_round z m v.table j (a.stay j was.marked) in
+        let place : place_at m.slots.items j ≡ place_at m.slots.items i = place_other held n m c k slot h j (not_k j was.marked) ∙ (was.place_is ∙ sym e) in
+        let one : j ≡ i = some_one j i (sym (v.placed.complete j some') ∙ (ap placed' place ∙ v.placed.complete i some)) in
+        both_ways _ marks.1 (ap (is_marked n.marks.items) (sym one) ∙ was.marked)
+
+    by_number : (b : CertRef) → IsPresent z (held ++ c ∷ []) b × (IsPresent z held b → ⊥) → (i : ℕ) × IsNumberAt m b i → Contains told b
+    by_number b p (i, is) = ⊎_elim
+        (λ was. absurd (p.1 (is_present z held n placed top w b i (record {
+          inside = (let l = marked_low n.marks.items i was in let s = w.table.same in omega arith);
+          marked = was;
+          place_is = sym (place_other held n m c k slot h i (not_k i was)) ∙ is.place_is;
+        }))))
+        (λ was. (same b).1 (subst (Contains (map (place_at m.slots.items) out)) is.place_is (in_map (place_at m.slots.items) out i ((a.out_is i).1 (is.marked, was)))))
+        (cases_Bool (is_marked n.marks.items i))
+
+pub number_free : (z : Sizes) (held : List Node) (n : Names) (placed : CertRef → Option ℕ) (top : ℕ) → IsWhole z held n placed top → (k : ℕ) (c : Node) → id_of n.slots.items k ≡ c.id
+    → ((d : Node) → Contains held d → d.id ≢ c.id) → round_of n.slots.items k ≡ 0
+number_free z held n placed top w k c e new = ⊎_elim (λ none. none)
+    (λ some. absurd (taken (w.tied.cert k (omega (arith, some)))))
+    (cases_eq (round_of n.slots.items k) 0)
+  where
+    taken : (d : Node) × IsAt held (cert_of n.slots.items k) d × IsSlotOf n.slots.items k d → ⊥
+    taken (d, at, s) = new d (held_at held (cert_of n.slots.items k) d at) (s.id ∙ e)
+
+pub table_from : (z : Sizes) (m : Names) (slots : List Slot) (marks : List Bool) (pending : List Pending) → m.slots.items ≡ slots → m.marks.items ≡ marks → m.pending.items ≡ pending
+    → IsTable z slots marks pending → IsTable z m.slots.items m.marks.items m.pending.items
+table_from z m slots marks pending e f g t =
+    subst (λ (xs : List Slot). IsTable z xs m.marks.items m.pending.items) (sym e)
+    (subst (λ (xs : List Bool). IsTable z slots xs m.pending.items) (sym f)
+    (subst (λ (xs : List Pending). IsTable z slots marks xs) (sym g) t))
+
+pub admitting_from : (n m : Names) (out out' : List ℕ) (top top' : ℕ) (marks marks' : List Bool) (slots' : List Slot) (sets sets' : List ℕ)
+    → marks ≡ n.marks.items → m.marks.items ≡ marks' → m.slots.items ≡ slots' → sets ≡ n.sets.items → m.sets.items ≡ sets' → out' ≡ out → length sets' ≡ length sets
+    → m.unmarked ≡ count_unmarked m.marks.items
+    → ((i : ℕ) → is_marked marks i ≡ true → is_marked marks' i ≡ true)
+    → ((i : ℕ) → Contains out i ↔ ((is_marked marks' i ≡ true) × (is_marked marks i ≡ false)))
+    → ((i : ℕ) → Contains out' i → (x : ℕ) → Has (set_of sets' i) x ↔ IsAuthorIn slots' (parents_of slots' i) x)
+    → ((i : ℕ) → (Contains out' i → ⊥) → set_of sets' i ≡ set_of sets i)
+    → ((i : ℕ) → Contains out' i → round_of slots' i ≤ top') → top ≤ top'
+    → ((b : ℕ) → top ≤ b → ((i : ℕ) → Contains out' i → round_of slots' i ≤ b) → top' ≤ b)
+    → IsAdmitting n m out top top'
+admitting_from n m out out' top top' marks marks' slots' sets sets' e_m e_m' e_s e_t e_t' e_o len waiting stay out_is here other highest more least = record {
+  stay = λ i t. ap (λ ms. is_marked ms i) e_m' ∙ stay i (ap (λ ms. is_marked ms i) e_m ∙ t);
+  out_is = λ i. (
+    (λ o. let h = (out_is i).0 o in (ap (λ ms. is_marked ms i) e_m' ∙ h.0, sym (ap (λ ms. is_marked ms i) e_m) ∙ h.1)),
+    (λ (a, b). (out_is i).1 (sym (ap (λ ms. is_marked ms i) e_m') ∙ a, ap (λ ms. is_marked ms i) e_m ∙ b)),
+  );
+  sets_same = ap length e_t' ∙ (len ∙ ap length e_t);
+  waiting = waiting;
+  here = λ i o x. subst (λ (ss : List Slot). Has (set_of m.sets.items i) x ↔ IsAuthorIn ss (parents_of ss i) x) (sym e_s)
+      (subst (λ (ts : List ℕ). Has (set_of ts i) x ↔ IsAuthorIn slots' (parents_of slots' i) x) (sym e_t') (here i (into i o) x));
+  other = λ i none. ap (λ ts. set_of ts i) e_t' ∙ (other i (λ o. none (subst (λ (xs : List ℕ). Contains xs i) e_o o)) ∙ ap (λ ts. set_of ts i) e_t);
+  highest = λ i o. subst (λ (ss : List Slot). round_of ss i ≤ top') (sym e_s) (highest i (into i o));
+  more = more;
+  least = λ b low each. least b low (λ i o. subst (λ (ss : List Slot). round_of ss i ≤ b) e_s (each i (subst (λ (xs : List ℕ). Contains xs i) e_o o)));
+}
+  where
+    into : (i : ℕ) → Contains out i → Contains out' i
+    into i o = subst (λ (xs : List ℕ). Contains xs i) (sym e_o) o
+
+-- the map of places after a place was put in
+pub place_put : (placed placed' : CertRef → Option ℕ) (c : CertRef) (k : ℕ) → ((q : CertRef) → placed' q ≡ cond (is_eq (ref_cmp c q)) (Some k) (placed q))
+    → (a : CertRef) → (a ≡ c → placed' a ≡ Some k) × (a ≢ c → placed' a ≡ placed a)
+place_put placed placed' c k up a = (
+  (λ e. up a ∙ ap (λ t. cond t (Some k) (placed a)) (ap is_eq (ap (ref_cmp c) e ∙ ref_same c))),
+  (λ n. up a ∙ ap (λ t. cond t (Some k) (placed a)) (false_from_ne_true _ (λ t. n (sym (exact_ref c a (equal_from_test _ t)))))),
+)

@@ -1,0 +1,142 @@
+-- The loop over those whose marks were set and who are not yet looked after.
+use Rattle.std.proofs.Common.{◌≡◌, ◌≢◌, ℕ, ◌+◌, ◌-◌, ◌<◌, ◌≤◌, ◌↔◌, ◌⊎◌, Bool, true, false, List, [], ◌++◌, length, map, refl, sym, ap, ◌∙◌, subst, ⊎_elim, arith, get_or, set}
+use Rattle.std.specs.List.{Contains}
+use Rattle.std.proofs.lemmas.Bool.{cases_eq, cases_lt, cases_Bool, both_ways, false_from_ne_true}
+use Rattle.std.proofs.lemmas.List.Elements.{Contains-append_cases}
+use Rattle.std.proofs.lemmas.List.{length-append, get_or_append_left, get_or-append_right, get_or-map, get_or-set_other, get_or-set_same, get_or_past, length-set, length-map}
+use Rattle.bk_committee.specs.Sizes.{Sizes}
+use Rattle.bk_rounds.specs.declared.slots.Slot.{Slot}
+use Rattle.bk_rounds.specs.declared.waking.Pending.{Pending}
+use Rattle.bk_rounds.specs.private.Numbered.{IsInsideRows, IsRegistered, IsSound, IsAdmittedAt, is_ready_in, parents_of, round_of, row_of, is_marked, Extends}
+use Rattle.bk_rounds.proofs.Marks.{admitted_marked}
+
+-- in the list from this index on
+abbrev pub IsLeft : List ℕ → ℕ → ℕ → Type 0
+IsLeft out next m = (j : ℕ) × (next ≤ j) × (j < length out) × (get_or out j m ≡ m)
+
+-- What is left to look after is marked, and whatever is ready and not marked waits for one of these.
+pub record IsSettling (z : Sizes) (slots : List Slot) (marks : List Bool) (pending : List Pending) (out : List ℕ) (next : ℕ) : Type 0 where
+  pub sound : IsSound z slots marks
+  pub inside : IsInsideRows (length slots) pending
+  pub here : (m : ℕ) → Contains out m → (m < length slots) × (is_marked marks m ≡ true)
+  pub registered : IsRegistered slots marks pending
+  pub covered : (i : ℕ) → is_ready_in z slots marks i ≡ true → is_marked marks i ≡ false → (m : ℕ) × IsLeft out next m × Contains (row_of pending m) i
+
+-- rows other than that of k stay, and that of k is empty
+pub record IsTaken (pending after : List Pending) (k : ℕ) : Type 0 where
+  pub other : (m : ℕ) → m ≢ k → row_of after m ≡ row_of pending m
+  pub taken : row_of after k ≡ []
+
+get_or-append_at : (xs ys : List ℕ) (j d : ℕ) → get_or (xs ++ ys) (length xs + j) d ≡ get_or ys j d
+get_or-append_at xs ys j d = get_or-append_right xs ys (length xs) (length xs + j) d refl (omega arith) ∙ ap (λ i. get_or ys i d) (let e : length xs + j - length xs ≡ j = omega arith in e)
+
+none_in_nil : (x : ℕ) → Contains [] x → ⊥
+none_in_nil x h = omega (arith, h.1)
+
+pub settled_at_end : (z : Sizes) (slots : List Slot) (marks : List Bool) (pending : List Pending) (out : List ℕ) (next : ℕ) → length out ≤ next
+    → IsSettling z slots marks pending out next → (i : ℕ) → (is_marked marks i ≡ true) ↔ IsAdmittedAt z slots (round_of slots i) i
+settled_at_end z slots marks pending out next all s i = (s.sound i, admitted_marked z slots marks closed (round_of slots i) i)
+  where
+    none : (i : ℕ) → is_ready_in z slots marks i ≡ true → is_marked marks i ≡ false → ⊥
+    none i ready free = let m = s.covered i ready free in omega (arith, m.1.1, m.1.2)
+
+    closed : (i : ℕ) → is_ready_in z slots marks i ≡ true → is_marked marks i ≡ true
+    closed i ready = ⊎_elim (λ t. t) (λ f. absurd (none i ready f)) (cases_Bool (is_marked marks i))
+
+inside_taken : (n k : ℕ) (pending after : List Pending) → IsInsideRows n pending → IsTaken pending after k → IsInsideRows n after
+inside_taken n k pending after h t m i there = ⊎_elim
+    (λ e. absurd (none_in_nil i (subst (λ (xs : List ℕ). Contains xs i) (ap (row_of after) e ∙ t.taken) there)))
+    (λ o. h m i (subst (λ (xs : List ℕ). Contains xs i) (t.other m o) there))
+    (cases_eq m k)
+
+-- Those that waited for the next one are looked after.
+pub settling_next : (z : Sizes) (slots : List Slot) (old new : List Bool) (pending after : List Pending) (out out' woken : List ℕ) (next k : ℕ) → row_of pending k ≡ woken → next < length out → ((d : ℕ) → get_or out next d ≡ k)
+    → IsSettling z slots old pending out next → IsTaken pending after k → IsSound z slots new → Extends old new out out'
+    → ((i : ℕ) → is_ready_in z slots new i ≡ true → is_marked new i ≡ false
+    → ((is_ready_in z slots old i ≡ true) × (Contains woken i → ⊥))
+    ⊎ ((p : ℕ) × Contains (parents_of slots i) p × (is_marked new p ≡ true) × (is_marked old p ≡ false)))
+    → ((p : ℕ) → is_marked new p ≡ true → p < length slots)
+    → IsSettling z slots new after out' (next + 1)
+settling_next z slots old new pending after out out' woken next k row low at s t sound more covers within = record {
+  sound = sound;
+  inside = inside_taken (length slots) k pending after s.inside t;
+  here = λ m h. let there = subst (λ (xs : List ℕ). Contains xs m) more.is h in ⊎_elim
+      (λ l. let b = s.here m l in (b.0, more.stay m b.1))
+      (λ r. let g = (more.gained m).0 r in (within m g.0, g.0))
+      (Contains-append_cases out more.more m there);
+  registered = λ i p names fi fp. subst (λ (xs : List ℕ). Contains xs i) (sym (t.other p (not_k p fp))) (s.registered i p names (before i fi) (before p fp));
+  covered = λ i ready free. ⊎_elim
+      (λ (ready', away). old_cover i away (s.covered i ready' (before i free)))
+      (λ (p, names, now, then).
+      let other : p ≢ k = λ e. both_ways _ then (ap (is_marked old) e ∙ k_marked) in
+      (p, gained_left p now then, subst (λ (xs : List ℕ). Contains xs i) (sym (t.other p other)) (s.registered i p names (before i free) then)))
+      (covers i ready free);
+}
+  where
+    before : (i : ℕ) → is_marked new i ≡ false → is_marked old i ≡ false
+    before i h = false_from_ne_true _ (λ e. both_ways _ h (more.stay i e))
+
+    k_marked : is_marked old k ≡ true
+    k_marked = (s.here k (next, low, at k)).1
+
+    not_k : (p : ℕ) → is_marked new p ≡ false → p ≢ k
+    not_k p h e = both_ways _ h (ap (is_marked new) e ∙ more.stay k k_marked)
+
+    left_on : (m : ℕ) → m ≢ k → IsLeft out next m → IsLeft out' (next + 1) m
+    left_on m o (j, from, within', e) = ⊎_elim
+        (λ same. absurd (o (sym e ∙ (ap (λ n. get_or out n m) same ∙ at m))))
+        (λ n. (
+          j,
+          omega arith,
+          omega (arith, ap length more.is, length-append out more.more),
+          ap (λ (xs : List ℕ). get_or xs j m) more.is ∙ (get_or_append_left out more.more m j within' ∙ e),
+        ))
+        (cases_eq j next)
+
+    gained_left : (p : ℕ) → is_marked new p ≡ true → is_marked old p ≡ false → IsLeft out' (next + 1) p
+    gained_left p now then =
+        let (j, l, e) = (more.gained p).1 (now, then) in (
+          length out + j,
+          omega arith,
+          omega (arith, ap length more.is, length-append out more.more),
+          ap (λ (xs : List ℕ). get_or xs (length out + j) p) more.is ∙ (get_or-append_at out more.more j p ∙ e),
+        )
+
+    old_cover : (i : ℕ) → (Contains woken i → ⊥) → (m : ℕ) × IsLeft out next m × Contains (row_of pending m) i
+        → (m : ℕ) × IsLeft out' (next + 1) m × Contains (row_of after m) i
+    old_cover i away (m, left, waits) =
+        let other : m ≢ k = λ e. away (subst (λ (xs : List ℕ). Contains xs i) (ap (row_of pending) e ∙ row) waits) in
+        (m, left_on m other left, subst (λ (xs : List ℕ). Contains xs i) (sym (t.other m other)) waits)
+
+pub row_at : (pending : List Pending) (k : ℕ) (d : Pending) → k < length pending → row_of pending k ≡ (get_or pending k d).slots.items
+row_at pending k d low = get_or-map (λ (x : Pending). x.slots.items) pending k d [] low
+
+pub taken_from : (pending : List Pending) (k : ℕ) (s : Pending) → k < length pending → s.slots.items ≡ [] → IsTaken pending (set pending k s) k
+taken_from pending k s low empty = record {
+  other = λ m n. ⊎_elim
+      (λ lt. get_or-map f (set pending k s) m s [] (simp length-set lt)
+      ∙ (ap f (get_or-set_other pending k m s s n) ∙ sym (get_or-map f pending m s [] lt)))
+      (λ ge. get_or_past (map f (set pending k s)) m [] (simp (length-map, length-set) ge)
+      ∙ sym (get_or_past (map f pending) m [] (simp length-map ge)))
+      (cases_lt m (length pending));
+  taken = get_or-map f (set pending k s) k s [] (simp length-set low) ∙ (ap f (get_or-set_same pending k s s low) ∙ empty);
+}
+  where
+    f : Pending → List ℕ
+    f x = x.slots.items
+
+pub marked_low : (marks : List Bool) (p : ℕ) → is_marked marks p ≡ true → p < length marks
+marked_low marks p h = ⊎_elim (λ lt. lt) (λ ge. absurd (both_ways _ (get_or_past marks p false ge) h)) (cases_lt p (length marks))
+
+-- a start: all of the list is left
+pub settling_first : (z : Sizes) (slots : List Slot) (marks : List Bool) (pending : List Pending) (out : List ℕ) → IsSound z slots marks → IsInsideRows (length slots) pending
+    → ((m : ℕ) → Contains out m → (m < length slots) × (is_marked marks m ≡ true)) → IsRegistered slots marks pending
+    → ((i : ℕ) → is_ready_in z slots marks i ≡ true → is_marked marks i ≡ false → (m : ℕ) × Contains out m × Contains (row_of pending m) i)
+    → IsSettling z slots marks pending out 0
+settling_first z slots marks pending out sound inside here registered covered = record {
+  sound = sound;
+  inside = inside;
+  here = here;
+  registered = registered;
+  covered = λ i ready free. let (m, (j, low, e), row) = covered i ready free in (m, (j, omega arith, low, e), row);
+}

@@ -1,0 +1,107 @@
+-- The table after ids were numbered.
+use Rattle.std.proofs.Common.{◌≡◌, ◌≢◌, ℕ, zero, suc, ◌+◌, ◌-◌, ◌<◌, ◌≤◌, ◌↔◌, ◌⊎◌, inl, inr, Bool, true, false, cond, List, [], ◌∷◌, ◌++◌, map, length, Option, Some, None, refl, sym, ap, subst, ◌∙◌, ⊎_elim, arith, get_or, set}
+use Rattle.std.specs.List.{Contains, All}
+use Rattle.std.specs.Map.{lookup}
+use Rattle.std.specs.Ordering.{is_eq}
+use Rattle.std.specs.Str.{bytes_eq}
+use Rattle.std.proofs.lemmas.Bool.{cases_eq, cases_lt, cases_Bool, both_ways, false_from_ne_true}
+use Rattle.std.proofs.lemmas.List.{length-set, length-append}
+use Rattle.std.proofs.lemmas.List.Elements.{Contains-push, Contains-push_cases, Contains-append_left}
+use Rattle.bk_committee.specs.Sizes.{Sizes, members}
+use Rattle.bk_cert.specs.Node.{Node}
+use Rattle.bk_rounds.specs.declared.place.CertRef.{CertRef}
+use Rattle.bk_rounds.specs.declared.slots.Slot.{Slot}
+use Rattle.bk_rounds.specs.declared.names.Names.{Names}
+use Rattle.bk_rounds.specs.Admission.{IsClear, IsGood, AreGood, IsPresent, place_of, last_round}
+use Rattle.bk_rounds.specs.Listing.{IsListed, Lists}
+use Rattle.bk_rounds.specs.Members.{Has}
+use Rattle.bk_rounds.specs.private.Numbered.{id_of, round_of, author_of, cert_of, parents_of, row_of, is_marked, count_unmarked, is_heavy_in, IsInside, IsInsideRows, IsRegistered, IsAdmittedAt, IsTable}
+use Rattle.bk_rounds.specs.private.Names.{set_of, IsNumbering, known_in, AreNames, Grows}
+use Rattle.bk_rounds.specs.private.Tied.{IsSlotOf, IsTied, IsAt, IsPlaced, IsAuthorIn, AreSets, IsWhole, IsNumberAt, place_at, ref_cmp}
+use Rattle.bk_rounds.specs.declared.waking.Pending.{Pending}
+use Rattle.bk_rounds.proofs.Refs.{ref_same, equal_from_test, exact_ref}
+use Rattle.bk_rounds.proofs.Lists.{from_map, in_map, none_in_nil}
+use Rattle.bk_rounds.proofs.Admitted.{same_place}
+use Rattle.bk_rounds.proofs.Marks.{marked_here}
+use Rattle.bk_rounds.proofs.Settling.{marked_low}
+use Rattle.bk_rounds.proofs.Added.{heavy_same, admitted_at, field_other, field_here}
+use Rattle.bk_rounds.proofs.Named.{ids_kept, push_before, push_at}
+use Rattle.bk_rounds.proofs.Tied.{held_at, round_low}
+use Rattle.bk_rounds.proofs.Found.{has_number, is_present, admitted_some_round, number_round}
+
+admitted_grown : (z : Sizes) (slots after : List Slot) → ((i : ℕ) → round_of after i ≡ round_of slots i) → ((i : ℕ) → author_of after i ≡ author_of slots i)
+    → ((i : ℕ) → parents_of after i ≡ parents_of slots i) → (r i : ℕ) → IsAdmittedAt z slots r i → IsAdmittedAt z after r i
+unfolding IsAdmittedAt
+admitted_grown z slots after round author parents zero i h = h
+admitted_grown z slots after round author parents (suc r) i h = (
+  round i ∙ h.0,
+  λ low. ap (is_heavy_in z after) (parents i) ∙ (heavy_same z slots after (parents_of slots i) (λ p t. author p) ∙ h.1 low),
+  λ low p t. admitted_grown z slots after round author parents r p (h.2 low p (subst (λ (ps : List ℕ). Contains ps p) (parents i) t)),
+)
+
+table_grown : (z : Sizes) (a b : Names) → Grows a b → AreNames b → IsTable z a.slots.items a.marks.items a.pending.items → IsTable z b.slots.items b.marks.items b.pending.items
+table_grown z a b g n t = record {
+  same = n.marks;
+  rows_same = n.pending;
+  inside = λ i p h. let l = t.inside i p (subst (λ (ps : List ℕ). Contains ps p) (g.parents i) h) in let m = g.longer in omega arith;
+  rows = n.rows;
+  exact = λ i. (
+    (λ m. subst (λ (r : ℕ). IsAdmittedAt z b.slots.items r i) (sym (g.round i))
+        (admitted_grown z a.slots.items b.slots.items g.round g.author g.parents (round_of a.slots.items i) i ((t.exact i).0 (sym (g.marked i) ∙ m)))),
+    (λ h. g.marked i ∙ (t.exact i).1 (subst (λ (r : ℕ). IsAdmittedAt z a.slots.items r i) (g.round i)
+        (admitted_grown z b.slots.items a.slots.items (λ j. sym (g.round j)) (λ j. sym (g.author j)) (λ j. sym (g.parents j)) (round_of b.slots.items i) i h))),
+  );
+  registered = λ i p names fi fp. g.kept p i (t.registered i p (subst (λ (ps : List ℕ). Contains ps p) (g.parents i) names) (sym (g.marked i) ∙ fi) (sym (g.marked p) ∙ fp));
+}
+
+all_inside : (slots : List Slot) (i : ℕ) → IsInside slots → All (λ p. p < length slots) (parents_of slots i)
+all_inside slots i inside = λ k d low. inside i (get_or (parents_of slots i) k d) (k, low, read (parents_of slots i) k d low)
+  where
+    read : (xs : List ℕ) (k d : ℕ) → k < length xs → get_or xs k (get_or xs k d) ≡ get_or xs k d
+    read [] k d low = absurd (omega arith)
+    read (x ∷ xs) zero d low = refl
+    read (x ∷ xs) (suc k) d low = read xs k d (omega arith)
+
+slot_grown : (a b : Names) → Grows a b → IsInside a.slots.items → (i : ℕ) (c : Node) → i < length a.slots.items → IsSlotOf a.slots.items i c → IsSlotOf b.slots.items i c
+slot_grown a b g inside i c low s = record {
+  id = s.id ∙ sym (g.id i low);
+  round = s.round ∙ sym (g.round i);
+  author = s.author ∙ sym (g.author i);
+  parents = s.parents ∙ (sym (ids_kept a b (parents_of a.slots.items i) g (all_inside a.slots.items i inside)) ∙ ap (map (id_of b.slots.items)) (sym (g.parents i)));
+}
+
+pub whole_grown : (z : Sizes) (held : List Node) (a b : Names) (placed placed' : CertRef → Option ℕ) (top : ℕ) → IsWhole z held a placed top → Grows a b → AreNames b
+    → ((q : CertRef) → placed' q ≡ placed q) → IsWhole z held b placed' top
+whole_grown z held a b placed placed' top w g n same = record {
+  few = w.few;
+  good = w.good;
+  clear = w.clear;
+  names = n;
+  table = table_grown z a b g n w.table;
+  tied = record {
+    cert = λ i some.
+        let some' : 0 < round_of a.slots.items i = subst (λ (r : ℕ). 0 < r) (g.round i) some in
+        let (c, at, s) = w.tied.cert i some' in
+        (c, subst (λ (k : ℕ). IsAt held k c) (sym (g.cert i)) at, slot_grown a b g w.table.inside i c (round_low a.slots.items i some') s);
+    slot = λ c t.
+        let (i, low, s) = w.tied.slot c t in
+        (i, (let m = g.longer in omega arith), slot_grown a b g w.table.inside i c low s);
+  };
+  placed = record {
+    sound = λ q k e. let p = w.placed.sound q k (sym (same q) ∙ e) in
+        (subst (λ (r : ℕ). 0 < r) (sym (g.round k)) p.0, place k ∙ p.1);
+    complete = λ k some. ap placed' (place k) ∙ (same (place_at a.slots.items k) ∙ w.placed.complete k (subst (λ (r : ℕ). 0 < r) (g.round k) some));
+  };
+  sets = λ i m x.
+      let m' : is_marked a.marks.items i ≡ true = sym (g.marked i) ∙ m in
+      let low : i < length a.slots.items = (let l = marked_low a.marks.items i m' in let e = w.table.same in omega arith) in
+      subst (λ (s : ℕ). Has s x ↔ IsAuthorIn b.slots.items (parents_of b.slots.items i) x) (sym (g.set i low)) (
+        (λ h. let (p, among, e) = (w.sets i m' x).0 h in (p, subst (λ (ps : List ℕ). Contains ps p) (sym (g.parents i)) among, g.author p ∙ e)),
+        (λ (p, among, e). (w.sets i m' x).1 (p, subst (λ (ps : List ℕ). Contains ps p) (g.parents i) among, sym (g.author p) ∙ e)),
+      );
+  highest = λ i m. subst (λ (r : ℕ). r ≤ top) (sym (g.round i)) (w.highest i (sym (g.marked i) ∙ m));
+  to_last = w.to_last;
+}
+  where
+    place : (k : ℕ) → place_at b.slots.items k ≡ place_at a.slots.items k
+    place k = same_place (place_at b.slots.items k) (place_at a.slots.items k) (g.round k) (g.author k)

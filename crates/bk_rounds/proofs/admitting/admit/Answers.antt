@@ -1,0 +1,122 @@
+use Rattle.std.proofs.Common.{◌<◌, ◌++◌, ◌∷◌, [], ℕ, List, sym, ap, subst, ◌∙◌, length, set, arith, true}
+use Rattle.std.specs.List.{Contains}
+use Rattle.std.proofs.lemmas.Bool.{both_ways}
+use Rattle.std.proofs.lemmas.List.{length-set}
+use Rattle.std.proofs.lemmas.List.Elements.{Contains-push}
+use Rattle.bk_rounds.specs.declared.slots.Slot.{Slot}
+use Rattle.bk_rounds.specs.private.Numbered.{IsInsideRows, IsRegistered}
+use Rattle.bk_rounds.proofs.Marks.{sound_marked, one_fewer}
+use Rattle.bk_rounds.proofs.Added.{filled, field_here, inside_after, sound_after, registered_after, registered_mark, covered_after, exact_waiting, answer_from}
+use Rattle.bk_rounds.proofs.admitting.admit.Goals as goal
+
+pub is_ready-requires-clause-parents : goal.is_ready-requires-clause-parents
+is_ready-requires-clause-parents c = inside_after c.args.slots.now c.args.marks.now c.args.k c.args.slot c.requires.number.0 c.requires.table.inside c.requires.parents
+
+pub push_reserved-requires : goal.push_reserved-requires
+push_reserved-requires c =
+    let f = filled c.args.weights.now c.args.slots.now c.args.marks.now c.args.pending.now c.args.k c.args.slot c.requires.table c.requires.number.1 in
+    let low : c.args.k < length c.args.marks.now = omega (arith, c.requires.number.0, c.requires.table.same) in
+    let fewer = one_fewer c.args.marks.now c.args.k low f.free in
+    omega (arith, fewer, c.requires.out, ap length c.requires.out, c.requires.room)
+
+pub settle-requires-clause-parents : goal.settle-requires-clause-parents
+settle-requires-clause-parents c = inside_after c.args.slots.now c.args.marks.now c.args.k c.args.slot c.requires.number.0 c.requires.table.inside c.requires.parents
+
+pub settle-requires-clause-rows : goal.settle-requires-clause-rows
+settle-requires-clause-rows c = subst (λ n. IsInsideRows n c.args.pending.now) (sym (length-set c.args.slots.now c.args.k c.args.slot)) c.requires.table.rows
+
+pub settle-requires-clause-room : goal.settle-requires-clause-room
+settle-requires-clause-room c =
+    let f = filled c.args.weights.now c.args.slots.now c.args.marks.now c.args.pending.now c.args.k c.args.slot c.requires.table c.requires.number.1 in
+    let low : c.args.k < length c.args.marks.now = omega (arith, c.requires.number.0, c.requires.table.same) in
+    let fewer = one_fewer c.args.marks.now c.args.k low f.free in
+    omega (arith, fewer, c.requires.out, ap length c.requires.out, c.requires.room, c.push_reserved.ensures.len, c.push_reserved.ensures.capacity)
+
+pub settle-requires-clause-sound : goal.settle-requires-clause-sound
+settle-requires-clause-sound c =
+    let after : List Slot = set c.args.slots.now c.args.k c.args.slot in
+    let f = filled c.args.weights.now c.args.slots.now c.args.marks.now c.args.pending.now c.args.k c.args.slot c.requires.table c.requires.number.1 in
+    sound_marked c.args.weights.now after c.args.marks.now c.args.k (sound_after c.args.weights.now c.args.slots.now after c.args.marks.now c.args.pending.now c.args.k c.requires.table f)
+    (sym c.is_ready.ensures ∙ c.if-is_ready.true)
+
+pub settle-requires-clause-registered : goal.settle-requires-clause-registered
+settle-requires-clause-registered c =
+    let after : List Slot = set c.args.slots.now c.args.k c.args.slot in
+    let f = filled c.args.weights.now c.args.slots.now c.args.marks.now c.args.pending.now c.args.k c.args.slot c.requires.table c.requires.number.1 in
+    let low : c.args.k < length c.args.marks.now = omega (arith, c.requires.number.0, c.requires.table.same) in
+    let reg : IsRegistered after c.args.marks.now c.args.pending.now =
+    registered_after c.args.weights.now c.args.slots.now after c.args.marks.now c.args.pending.now c.args.pending.now c.args.k c.requires.table f (λ m i h. h)
+    (λ p t free. c.requires.waits p
+    (subst (λ (xs : List ℕ). Contains xs p) (field_here (λ (x : Slot). x.parents.items) c.args.slots.now c.args.k c.args.slot [] c.requires.number.0) t) free) in
+    registered_mark after c.args.marks.now c.args.pending.now c.args.k low reg
+
+pub settle-requires-clause-covered : goal.settle-requires-clause-covered
+settle-requires-clause-covered c =
+    let after : List Slot = set c.args.slots.now c.args.k c.args.slot in
+    let f = filled c.args.weights.now c.args.slots.now c.args.marks.now c.args.pending.now c.args.k c.args.slot c.requires.table c.requires.number.1 in
+    let low : c.args.k < length c.args.marks.now = omega (arith, c.requires.number.0, c.requires.table.same) in
+    let reg : IsRegistered after c.args.marks.now c.args.pending.now =
+    registered_after c.args.weights.now c.args.slots.now after c.args.marks.now c.args.pending.now c.args.pending.now c.args.k c.requires.table f (λ m i h. h)
+    (λ p t free. c.requires.waits p
+    (subst (λ (xs : List ℕ). Contains xs p) (field_here (λ (x : Slot). x.parents.items) c.args.slots.now c.args.k c.args.slot [] c.requires.number.0) t) free) in
+    λ i ready free. (
+      c.args.k,
+      subst (λ (xs : List ℕ). Contains xs c.args.k) (sym c.push_reserved.ensures.items) (Contains-push c.args.out.now.items c.args.k),
+      covered_after c.args.weights.now c.args.slots.now after c.args.marks.now c.args.pending.now c.args.pending.now c.args.k c.requires.table f low reg i ready free,
+    )
+
+pub returns-then-is_ready-clause-table : goal.returns-then-is_ready-clause-table
+returns-then-is_ready-clause-table c =
+    let after : List Slot = set c.args.slots.now c.args.k c.args.slot in
+    let f = filled c.args.weights.now c.args.slots.now c.args.marks.now c.args.pending.now c.args.k c.args.slot c.requires.table c.requires.number.1 in
+    let low : c.args.k < length c.args.marks.now = omega (arith, c.requires.number.0, c.requires.table.same) in
+    let reg : IsRegistered after c.args.marks.now c.args.pending.now =
+    registered_after c.args.weights.now c.args.slots.now after c.args.marks.now c.args.pending.now c.args.pending.now c.args.k c.requires.table f (λ m i h. h)
+    (λ p t free. c.requires.waits p
+    (subst (λ (xs : List ℕ). Contains xs p) (field_here (λ (x : Slot). x.parents.items) c.args.slots.now c.args.k c.args.slot [] c.requires.number.0) t) free) in
+    record {
+      same = omega (arith, c.settle.ensures.more.length, length-set c.args.marks.now c.args.k true, length-set c.args.slots.now c.args.k c.args.slot, c.requires.table.same);
+      rows_same = omega (arith, c.settle.auto.pending, length-set c.args.slots.now c.args.k c.args.slot, c.requires.table.rows_same);
+      inside = inside_after c.args.slots.now c.args.marks.now c.args.k c.args.slot c.requires.number.0 c.requires.table.inside c.requires.parents;
+      rows = c.settle.ensures.rows;
+      exact = c.settle.ensures.marks;
+      registered = c.settle.ensures.registered;
+    }
+
+pub returns-else-is_ready-clause-table : goal.returns-else-is_ready-clause-table
+returns-else-is_ready-clause-table c =
+    let after : List Slot = set c.args.slots.now c.args.k c.args.slot in
+    let f = filled c.args.weights.now c.args.slots.now c.args.marks.now c.args.pending.now c.args.k c.args.slot c.requires.table c.requires.number.1 in
+    let low : c.args.k < length c.args.marks.now = omega (arith, c.requires.number.0, c.requires.table.same) in
+    let reg : IsRegistered after c.args.marks.now c.args.pending.now =
+    registered_after c.args.weights.now c.args.slots.now after c.args.marks.now c.args.pending.now c.args.pending.now c.args.k c.requires.table f (λ m i h. h)
+    (λ p t free. c.requires.waits p
+    (subst (λ (xs : List ℕ). Contains xs p) (field_here (λ (x : Slot). x.parents.items) c.args.slots.now c.args.k c.args.slot [] c.requires.number.0) t) free) in
+    record {
+      same = simp length-set c.requires.table.same;
+      rows_same = omega (arith, length-set c.args.slots.now c.args.k c.args.slot, c.requires.table.rows_same);
+      inside = inside_after c.args.slots.now c.args.marks.now c.args.k c.args.slot c.requires.number.0 c.requires.table.inside c.requires.parents;
+      rows = subst (λ n. IsInsideRows n c.args.pending.now) (sym (length-set c.args.slots.now c.args.k c.args.slot)) c.requires.table.rows;
+      exact = exact_waiting c.args.weights.now c.args.slots.now after c.args.marks.now c.args.pending.now c.args.k c.requires.table f (sym c.is_ready.ensures ∙ c.if-is_ready.false);
+      registered = reg;
+    }
+
+pub returns-then-is_ready-clause-out : goal.returns-then-is_ready-clause-out
+returns-then-is_ready-clause-out c =
+    let after : List Slot = set c.args.slots.now c.args.k c.args.slot in
+    let f = filled c.args.weights.now c.args.slots.now c.args.marks.now c.args.pending.now c.args.k c.args.slot c.requires.table c.requires.number.1 in
+    let low : c.args.k < length c.args.marks.now = omega (arith, c.requires.number.0, c.requires.table.same) in
+    (answer_from c.args.marks.now c.settle.new.marks c.args.k c.push_reserved.new.self.items c.settle.new.out.items low f.free
+    (c.push_reserved.ensures.items ∙ ap (λ xs. xs ++ c.args.k ∷ []) c.requires.out) c.settle.ensures.more)
+
+pub returns-else-is_ready-clause-out : goal.returns-else-is_ready-clause-out
+returns-else-is_ready-clause-out c = rw c.requires.out
+    (λ i. ((λ h. absurd (omega (arith, h.1))), (λ g. absurd (both_ways _ g.1 g.0))))
+
+pub returns-then-is_ready-clause-steps : goal.returns-then-is_ready-clause-steps
+returns-then-is_ready-clause-steps c =
+    let f = filled c.args.weights.now c.args.slots.now c.args.marks.now c.args.pending.now c.args.k c.args.slot c.requires.table c.requires.number.1 in
+    let low : c.args.k < length c.args.marks.now = omega (arith, c.requires.number.0, c.requires.table.same) in
+    let fewer = one_fewer c.args.marks.now c.args.k low f.free in
+    let none = ap length c.requires.out in
+    omega (arith, fewer, none, c.settle.ensures.steps, c.push_reserved.ensures.len)

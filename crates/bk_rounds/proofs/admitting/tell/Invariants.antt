@@ -1,0 +1,16 @@
+use Rattle.std.proofs.Common.{◌≡◌, ◌≤◌, ◌+◌, ◌↔◌, ℕ, length, map, take, vec_len, vec_capacity}
+use Rattle.std.specs.List.{Contains}
+use Rattle.bk_rounds.specs.private.Names.{set_of}
+use Rattle.bk_rounds.specs.private.Numbered.{round_of, parents_of}
+use Rattle.bk_rounds.specs.private.Tied.{IsAuthorIn, place_at}
+use Rattle.bk_rounds.proofs.Told.{IsTold}
+use Rattle.bk_rounds.proofs.admitting.tell.Given as goal
+
+abbrev pub invariant-loop-k : goal.invariant-loop-k
+invariant-loop-k l = record {
+  same : length l.sets ≡ length l.slots;
+  room : length l.out ≤ vec_capacity l.answer;
+  len : vec_len l.answer ≡ l.k-index;
+  answer : l.answer.items ≡ map (place_at l.slots) (take l.k-index l.out);
+  told : IsTold l.slots l.fn.sets l.sets (take l.k-index l.out) l.fn.top l.highest;
+}

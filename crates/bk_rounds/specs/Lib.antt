@@ -1,0 +1,8 @@
+pub mod Admission
+pub mod Heads
+pub mod Links
+pub mod Listing
+pub mod Members
+pub mod Laws
+pub mod Rounds
+pub mod private

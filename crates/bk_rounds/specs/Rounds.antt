@@ -1,0 +1,24 @@
+-- What the table of certificates is for its callers.
+use Rattle.std.specs.Prelude.{ℕ, List}
+use Rattle.bk_committee.specs.Sizes.{Sizes}
+use Rattle.bk_cert.specs.Node.{Node}
+use Rattle.bk_rounds.specs.declared.place.CertRef.{CertRef}
+use Rattle.bk_rounds.specs.Admission.{IsPresent}
+use Rattle.bk_cert.specs.Values.{HeaderValue}
+
+-- a committee, and the certificates that were added, the oldest first
+pub record RoundsValue : Type 0 where
+  pub sizes : Sizes
+  pub held : List Node
+
+-- the table of this committee and these certificates
+abbrev pub rounds_with : Sizes → List Node → RoundsValue
+rounds_with z certs = record { sizes = z; held = certs }
+
+-- the certificate of these parts
+abbrev pub node_with : List ℕ → HeaderValue → Node
+node_with id header = record { id = id; header = header }
+
+-- an admitted certificate has this place in the one table, and none in the other
+abbrev pub BecomesPresent : RoundsValue → RoundsValue → CertRef → Type 0
+BecomesPresent old new a = IsPresent new.sizes new.held a × (IsPresent old.sizes old.held a → ⊥)

@@ -1,0 +1,4 @@
+pub mod Numbered
+pub mod Names
+pub mod Tied
+pub mod Prepared

@@ -1,0 +1,126 @@
+-- Certificates by number: what never changes of them, and the marks and rows that do.
+use Rattle.std.specs.Prelude.{◌≡◌, ℕ, zero, suc, ◌+◌, ◌-◌, ◌<◌, ◌≤◌, ◌^◌, ◌==◌, ◌&&◌, ◌||◌, ◌⊎◌, ◌↔◌, ◌++◌, not, Bool, true, false, List, [], map, length, Contains, count_by, sum_by, nat_le, slice_index_or}
+use Rattle.std.specs.List.{list_all}
+use Rattle.bk_committee.specs.Sizes.{Sizes, members, total, quorum, weight}
+use Rattle.bk_rounds.specs.declared.slots.Slot.{Slot}
+use Rattle.bk_rounds.specs.declared.waking.Pending.{Pending}
+
+-- the round, which is 0 where no certificate is held under the id
+abbrev pub round_of : List Slot → ℕ → ℕ
+round_of slots i = slice_index_or (map (λ s. s.round) slots) i 0
+
+-- the author
+abbrev pub author_of : List Slot → ℕ → ℕ
+author_of slots i = slice_index_or (map (λ s. s.author) slots) i 0
+
+-- the index of the certificate among those that were added
+abbrev pub cert_of : List Slot → ℕ → ℕ
+cert_of slots i = slice_index_or (map (λ s. s.cert) slots) i 0
+
+-- the id
+abbrev pub id_of : List Slot → ℕ → List ℕ
+id_of slots i = slice_index_or (map (λ s. s.id) slots) i []
+
+-- the parents, by number
+abbrev pub parents_of : List Slot → ℕ → List ℕ
+parents_of slots i = slice_index_or (map (λ s. s.parents.items) slots) i []
+
+-- who waits for this one
+abbrev pub row_of : List Pending → ℕ → List ℕ
+row_of pending i = slice_index_or (map (λ s. s.slots.items) pending) i []
+
+-- whether it is admitted
+abbrev pub is_marked : List Bool → ℕ → Bool
+is_marked marks i = slice_index_or marks i false
+
+-- how many are not
+abbrev pub count_unmarked : List Bool → ℕ
+count_unmarked marks = count_by (λ b. not b) marks
+
+-- each parent is a number that was given
+abbrev pub IsInside : List Slot → Type 0
+IsInside slots = (i p : ℕ) → Contains (parents_of slots i) p → p < length slots
+
+-- and so is each that waits
+abbrev pub IsInsideRows : ℕ → List Pending → Type 0
+IsInsideRows n pending = (m i : ℕ) → Contains (row_of pending m) i → i < n
+
+-- the authors of these weigh a quorum
+abbrev pub is_heavy_in : Sizes → List Slot → List ℕ → Bool
+is_heavy_in z slots ps = nat_le (quorum z) (sum_by (λ p. weight z (author_of slots p)) ps)
+
+-- admitted in this round
+unfoldable pub IsAdmittedAt : Sizes → List Slot → ℕ → ℕ → Type 0
+IsAdmittedAt z slots zero i = ⊥
+IsAdmittedAt z slots (suc r) i =
+    (round_of slots i ≡ r + 1) × (0 < r → is_heavy_in z slots (parents_of slots i) ≡ true)
+    × (0 < r → (p : ℕ) → Contains (parents_of slots i) p → IsAdmittedAt z slots r p)
+
+-- it is admitted, and of this round
+abbrev pub is_right_in : List Slot → List Bool → ℕ → ℕ → Bool
+is_right_in slots marks round p = is_marked marks p && (round_of slots p == round)
+
+-- nothing is missing for its admission
+abbrev pub is_ready_in : Sizes → List Slot → List Bool → ℕ → Bool
+is_ready_in z slots marks i =
+    (round_of slots i == 1)
+    || (not (round_of slots i == 0) && (list_all
+    (λ p. is_right_in slots marks (round_of slots i - 1) p) (parents_of slots i)
+    && is_heavy_in z slots (parents_of slots i)))
+
+-- what is marked is admitted
+abbrev pub IsSound : Sizes → List Slot → List Bool → Type 0
+IsSound z slots marks = (i : ℕ) → is_marked marks i ≡ true
+    → IsAdmittedAt z slots (round_of slots i) i
+
+-- who waits stands in the row of each parent that is not marked
+abbrev pub IsRegistered : List Slot → List Bool → List Pending → Type 0
+IsRegistered slots marks pending =
+    (i p : ℕ) → Contains (parents_of slots i) p → is_marked marks i ≡ false
+    → is_marked marks p ≡ false → Contains (row_of pending p) i
+
+-- marks stay, and what is marked anew is what the list gains
+pub record Extends (old new : List Bool) (before after : List ℕ) : Type 0 where
+  pub length : length new ≡ length old
+  pub stay : (i : ℕ) → is_marked old i ≡ true → is_marked new i ≡ true
+  pub more : List ℕ
+  pub is : after ≡ before ++ more
+  pub gained : (i : ℕ) → Contains more i ↔ ((is_marked new i ≡ true) × (is_marked old i ≡ false))
+
+-- marked is exactly what is admitted
+abbrev pub IsExact : Sizes → List Slot → List Bool → Type 0
+IsExact z slots marks =
+    (i : ℕ) → (is_marked marks i ≡ true) ↔ IsAdmittedAt z slots (round_of slots i) i
+
+-- what is ready and not marked was ready before and is none of the woken, or a parent was marked
+abbrev pub Covers : Sizes → List Slot → List Bool → List Bool → List ℕ → Type 0
+Covers z slots old new woken = (i : ℕ) → is_ready_in z slots new i ≡ true → is_marked new i ≡ false
+    → ((is_ready_in z slots old i ≡ true) × (Contains woken i → ⊥))
+    ⊎ ((p : ℕ) × Contains (parents_of slots i) p × (is_marked new p ≡ true)
+    × (is_marked old p ≡ false))
+
+-- what is ready and not marked waits for one of these
+abbrev pub AreCovered : Sizes → List Slot → List Bool → List Pending → List ℕ → Type 0
+AreCovered z slots marks pending out = (i : ℕ) → is_ready_in z slots marks i ≡ true
+    → is_marked marks i ≡ false → (m : ℕ) × Contains out m × Contains (row_of pending m) i
+
+-- what the table always is: marked is what is admitted, and who waits is registered
+pub record IsTable (z : Sizes) (slots : List Slot) (marks : List Bool) (pending : List Pending) : Type 0 where
+  pub same : length marks ≡ length slots
+  pub rows_same : length pending ≡ length slots
+  pub inside : IsInside slots
+  pub rows : IsInsideRows (length slots) pending
+  pub exact : IsExact z slots marks
+  pub registered : IsRegistered slots marks pending
+
+-- the sizes of members of these weights
+abbrev pub sizes_with : List ℕ → Sizes
+sizes_with ws = record { weights = ws }
+
+-- sizes of 1 to 128 members, with the weight of all of them
+pub record IsScale (z : Sizes) (all : ℕ) : Type 0 where
+  pub some : 1 ≤ members z
+  pub few : members z ≤ 128
+  pub is : all ≡ total z
+  pub heavy : 1 ≤ all
+  pub light : all < 2 ^ 39

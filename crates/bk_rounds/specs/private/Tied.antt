@@ -1,0 +1,83 @@
+-- What is kept by number is what is held.
+use Rattle.std.specs.Prelude.{◌≡◌, ℕ, ◌<◌, ◌≤◌, ◌↔◌, true, false, List, Contains, Option, Some, length, map, slice_index_or}
+use Rattle.std.specs.BTreeMap.{BTreeMap, get}
+use Rattle.std.specs.declared.cmp.Ordering.{Ordering}
+use Rattle.std.specs.Ordering.{nat_cmp, ordering_then}
+use Rattle.bk_committee.specs.Sizes.{Sizes, members}
+use Rattle.bk_cert.specs.Node.{Node}
+use Rattle.bk_rounds.specs.declared.place.CertRef.{CertRef}
+use Rattle.bk_rounds.specs.declared.slots.Slot.{Slot}
+use Rattle.bk_rounds.specs.declared.names.Names.{Names}
+use Rattle.bk_rounds.specs.Admission.{IsClear, AreGood, last_round}
+use Rattle.bk_rounds.specs.Members.{Has}
+use Rattle.bk_rounds.specs.private.Numbered.{id_of, round_of, author_of, cert_of, parents_of, is_marked, IsTable}
+use Rattle.bk_rounds.specs.private.Names.{set_of, AreNames}
+
+-- the place of a number's certificate
+abbrev pub place_at : List Slot → ℕ → CertRef
+place_at slots i = record { round = round_of slots i; author = author_of slots i }
+
+-- the certificate stands at this index
+abbrev pub IsAt : List Node → ℕ → Node → Type 0
+IsAt held k c = (k < length held) × ((d : Node) → slice_index_or held k d ≡ c)
+
+-- what is kept under the number is the certificate
+pub record IsSlotOf (slots : List Slot) (i : ℕ) (c : Node) : Type 0 where
+  pub id : c.id ≡ id_of slots i
+  pub round : c.header.round ≡ round_of slots i
+  pub author : c.header.author ≡ author_of slots i
+  pub parents : c.header.parents ≡ map (id_of slots) (parents_of slots i)
+
+-- each number with a round has its certificate, and each certificate its number
+pub record IsTied (held : List Node) (slots : List Slot) : Type 0 where
+  pub cert : (i : ℕ) → 0 < round_of slots i
+      → (c : Node) × IsAt held (cert_of slots i) c × IsSlotOf slots i c
+  pub slot : (c : Node) → Contains held c → (i : ℕ) × (i < length slots) × IsSlotOf slots i c
+
+-- each place has the number of its certificate
+pub record IsPlaced (slots : List Slot) (placed : CertRef → Option ℕ) : Type 0 where
+  pub sound : (a : CertRef) (k : ℕ) → placed a ≡ Some k
+      → (0 < round_of slots k) × (place_at slots k ≡ a)
+  pub complete : (k : ℕ) → 0 < round_of slots k → placed (place_at slots k) ≡ Some k
+
+-- the author of one of these
+abbrev pub IsAuthorIn : List Slot → List ℕ → ℕ → Type 0
+IsAuthorIn slots ps x = (p : ℕ) × Contains ps p × (author_of slots p ≡ x)
+
+-- with each admitted one stand the authors of its parents
+abbrev pub AreSets : Names → Type 0
+AreSets n = (i : ℕ) → is_marked n.marks.items i ≡ true → (x : ℕ)
+    → Has (set_of n.sets.items i) x ↔ IsAuthorIn n.slots.items (parents_of n.slots.items i) x
+
+-- what the table always is
+pub record IsWhole (z : Sizes) (held : List Node) (n : Names) (numbered : CertRef → Option ℕ)
+    (top : ℕ) : Type 0 where
+  pub few : members z ≤ 128
+  pub good : AreGood z held
+  pub clear : IsClear held
+  pub names : AreNames n
+  pub table : IsTable z n.slots.items n.marks.items n.pending.items
+  pub tied : IsTied held n.slots.items
+  pub placed : IsPlaced n.slots.items numbered
+  pub sets : AreSets n
+  pub highest : (i : ℕ) → is_marked n.marks.items i ≡ true → round_of n.slots.items i ≤ top
+  pub to_last : top ≤ last_round
+
+-- by round, and then by author
+abbrev pub ref_cmp : CertRef → CertRef → Ordering
+ref_cmp a b = ordering_then (nat_cmp a.round b.round) (nat_cmp a.author b.author)
+
+-- the number at a place, where it has one
+abbrev pub number_at : BTreeMap CertRef ℕ → CertRef → Option ℕ
+number_at places a = get ref_cmp places a
+
+-- an admitted certificate has this number and this place
+pub record IsNumberAt (n : Names) (place : CertRef) (k : ℕ) : Type 0 where
+  pub inside : k < length n.slots.items
+  pub marked : is_marked n.marks.items k ≡ true
+  pub place_is : place_at n.slots.items k ≡ place
+
+-- a number below this one has this place, with a certificate that is not admitted
+abbrev pub WaitsBelow : Names → ℕ → CertRef → Type 0
+WaitsBelow n high a = (k : ℕ) × (k < high) × (0 < round_of n.slots.items k)
+    × (is_marked n.marks.items k ≡ false) × (place_at n.slots.items k ≡ a)

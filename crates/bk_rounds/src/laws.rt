@@ -1,0 +1,9 @@
+//! Laws of the definitions, each the contract of a function that does nothing.
+
+ghost use Rattle.bk_rounds.specs.Laws.{AdmittedByParents};
+
+/// In version One a certificate is admitted where its parents are: its number of parents is its
+/// weight.
+pub fn admission_by_parents()
+    ensures { AdmittedByParents }
+{}

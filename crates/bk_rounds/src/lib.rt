@@ -1,0 +1,21 @@
+//! The certificates that are held, by round: which of them are admitted, and whom they name as
+//! parents.
+#![tactic(auto)]
+
+mod admitting;
+mod checked;
+mod laws;
+mod members;
+mod names;
+mod place;
+mod preparing;
+mod rounds;
+mod slots;
+mod waking;
+mod weights;
+
+pub use checked::Checked;
+pub use laws::admission_by_parents;
+pub use members::Members;
+pub use place::CertRef;
+pub use rounds::Rounds;

@@ -1,0 +1,108 @@
+//! Ids by number.
+
+ghost use Rattle.std.specs.Prelude.{◌≡◌, ◌<◌, [], length, map, All, OnOk, IfOk};
+ghost use Rattle.bk_rounds.specs.private.Numbered.{id_of};
+ghost use Rattle.bk_rounds.specs.private.Names.{AreNames, AreSame, HasRoom, Grows};
+
+use crate::members::Members;
+use crate::slots::Slot;
+use crate::waking::Pending;
+use bk_digest::Digest32;
+use std::alloc::{AllocError, Global};
+use std::collections::HashMap;
+
+/// The ids that were met, those of parents that are not held among them, each with its number.
+///
+/// What is known of a number stands at it in each of the lists.
+#[derive(Drop)]
+pub(crate) struct Names {
+    pub numbers: HashMap<Digest32, usize>,
+    pub slots: Vec<Slot>,
+    pub marks: Vec<bool>,
+    pub pending: Vec<Pending>,
+    pub sets: Vec<Members>,
+    // How many are not admitted.
+    pub unmarked: usize,
+}
+
+impl Names {
+    /// No id.
+    pub fn new(alloc: Global) -> Names
+        ensures slots { result.slots.items ≡ [] }
+        ensures names { AreNames result }
+    {
+        Names {
+            numbers: HashMap::new(alloc),
+            slots: Vec::new(alloc),
+            marks: Vec::new(alloc),
+            pending: Vec::new(alloc),
+            sets: Vec::new(alloc),
+            unmarked: 0,
+        }
+    }
+}
+
+/// The numbers of these ids.
+pub(crate) fn numbers_of(
+    alloc: Global,
+    names: &mut Names,
+    ids: &[Digest32],
+) -> Result<Vec<usize>, AllocError>
+    requires names { AreNames names.old }
+    ensures names { AreNames names.new }
+    ensures grows { Grows names.old names.new }
+    ensures ids { IfOk result (λ ps. map (id_of names.new.slots.items) ps.items ≡ ids.now) }
+    ensures inside { IfOk result (λ ps. All (λ p. p < length names.new.slots.items) ps.items) }
+{
+    let mut numbers = Vec::with_capacity(alloc, ids.len())?;
+    for id in ids {
+        let number = number_of(alloc, names, id)?;
+        numbers.push(number)?;
+    }
+    Ok(numbers)
+}
+
+/// The number of an id, which it gets where it has none.
+pub(crate) fn number_of(
+    alloc: Global,
+    names: &mut Names,
+    id: &Digest32,
+) -> Result<usize, AllocError>
+    requires names { AreNames names.old }
+    ensures names { AreNames names.new }
+    ensures grows { Grows names.old names.new }
+    ensures inside { IfOk result (λ k. k < length names.new.slots.items) }
+    ensures id { IfOk result (λ k. id_of names.new.slots.items k ≡ id.now) }
+{
+    if let Some(number) = names.numbers.get(id).copied() {
+        return Ok(number);
+    }
+    make_room(names)?;
+    let number = names.slots.len();
+    names.numbers.insert(*id, number)?;
+    names.slots.push_reserved(Slot {
+        id: *id,
+        round: 0,
+        author: 0,
+        cert: 0,
+        parents: Vec::new(alloc),
+    });
+    names.marks.push_reserved(false);
+    names.pending.push_reserved(Pending {
+        slots: Vec::new(alloc),
+    });
+    names.sets.push_reserved(Members::none());
+    names.unmarked += 1;
+    Ok(number)
+}
+
+// Makes room for one more id in the lists.
+fn make_room(names: &mut Names) -> Result<(), AllocError>
+    ensures same { AreSame names.old names.new }
+    ensures room { OnOk result (HasRoom names.new) }
+{
+    names.slots.reserve(1)?;
+    names.marks.reserve(1)?;
+    names.pending.reserve(1)?;
+    names.sets.reserve(1)
+}

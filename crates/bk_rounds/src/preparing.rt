@@ -1,0 +1,49 @@
+//! What a further certificate takes of memory, before anything else.
+
+ghost use Rattle.std.specs.Prelude.{◌≡◌, ◌<◌, OnOk, IfOk, vec_len, vec_capacity};
+ghost use Rattle.bk_rounds.specs.private.Names.{AreNames, Grows};
+ghost use Rattle.bk_rounds.specs.private.Prepared.{IsPrepared};
+
+use crate::checked::Checked;
+use crate::names::{Names, number_of, numbers_of};
+use crate::place::CertRef;
+use crate::waking::register;
+use std::alloc::{AllocError, Global};
+
+/// The numbers of a certificate and of its parents, and room for all that may become admitted.
+#[derive(Drop)]
+pub(crate) struct Prepared {
+    pub number: usize,
+    pub parents: Vec<usize>,
+    pub out: Vec<usize>,
+    pub answer: Vec<CertRef>,
+}
+
+/// Numbers the certificate's ids, lets it wait under its parents that are not admitted, and makes
+/// room.
+pub(crate) fn prepare(
+    alloc: Global,
+    names: &mut Names,
+    certs: &mut Vec<Checked>,
+    cert: &Checked,
+) -> Result<Prepared, AllocError>
+    requires names { AreNames names.old }
+    ensures names { AreNames names.new }
+    ensures grows { Grows names.old names.new }
+    ensures certs { certs.new.items ≡ certs.old.items }
+    ensures room { OnOk result (vec_len certs.new < vec_capacity certs.new) }
+    ensures prepared { IfOk result (IsPrepared names.new cert.now) }
+{
+    let parents = numbers_of(alloc, names, cert.header().parents())?;
+    let number = number_of(alloc, names, cert.id())?;
+    let out = Vec::with_capacity(alloc, names.unmarked)?;
+    let answer = Vec::with_capacity(alloc, names.unmarked)?;
+    certs.reserve(1)?;
+    register(&names.marks, &mut names.pending, number, &parents)?;
+    Ok(Prepared {
+        number,
+        parents,
+        out,
+        answer,
+    })
+}

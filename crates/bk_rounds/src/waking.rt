@@ -1,0 +1,104 @@
+//! Who waits is woken by what is admitted.
+
+ghost use Rattle.std.specs.Prelude.{◌≡◌, ℕ, ◌+◌, ◌<◌, ◌≤◌, length, Contains, true, false, OnOk, All, vec_len, vec_capacity};
+ghost use Rattle.bk_rounds.specs.private.Numbered.{IsInside, IsInsideRows, IsSound, IsExact, Covers, AreCovered, row_of, is_marked, count_unmarked, Extends, IsRegistered};
+
+use crate::slots::{Slot, is_ready};
+use crate::weights::Weights;
+use std::alloc::{AllocError, Global};
+use std::mem;
+
+/// Those that wait and name this one as a parent.
+#[derive(Drop)]
+pub(crate) struct Pending {
+    pub slots: Vec<usize>,
+}
+
+// Admits what is ready of these.
+fn wake(
+    weights: &Weights,
+    slots: &[Slot],
+    marks: &mut [bool],
+    woken: &[usize],
+    out: &mut Vec<usize>,
+)
+    requires inside { All (λ k. k < length slots.now) woken.now }
+    requires parents { IsInside slots.now }
+    requires same { length marks.old ≡ length slots.now }
+    requires sound { IsSound weights.now slots.now marks.old }
+    requires room { vec_len out.old + count_unmarked marks.old ≤ vec_capacity out.old }
+    ensures room { vec_len out.new + count_unmarked marks.new ≤ vec_capacity out.new }
+    ensures steps { vec_len out.new + count_unmarked marks.new ≡ vec_len out.old + count_unmarked marks.old }
+    ensures sound { IsSound weights.now slots.now marks.new }
+    ensures more { Extends marks.old marks.new out.old.items out.new.items }
+    ensures covers { Covers weights.now slots.now marks.old marks.new woken.now }
+{
+    for k in woken {
+        let k = *k;
+        if !marks[k] && is_ready(weights, slots, marks, k) {
+            marks[k] = true;
+            out.push_reserved(k);
+        }
+    }
+}
+
+/// Admits the ones in `out`, whose marks are set, and all that this makes ready.
+pub(crate) fn settle(
+    alloc: Global,
+    weights: &Weights,
+    slots: &[Slot],
+    marks: &mut [bool],
+    pending: &mut [Pending],
+    out: &mut Vec<usize>,
+)
+    requires parents { IsInside slots.now }
+    requires same { (length marks.old ≡ length slots.now)
+        × (length pending.old ≡ length slots.now) }
+    requires rows { IsInsideRows (length slots.now) pending.old }
+    requires out { (i : ℕ) → Contains out.old.items i → (i < length slots.now)
+        × (is_marked marks.old i ≡ true) }
+    requires room { vec_len out.old + count_unmarked marks.old ≤ vec_capacity out.old }
+    requires sound { IsSound weights.now slots.now marks.old }
+    requires registered { IsRegistered slots.now marks.old pending.old }
+    requires covered { AreCovered weights.now slots.now marks.old pending.old out.old.items }
+    ensures marks { IsExact weights.now slots.now marks.new }
+    ensures steps { vec_len out.new + count_unmarked marks.new ≡ vec_len out.old + count_unmarked marks.old }
+    ensures more { Extends marks.old marks.new out.old.items out.new.items }
+    ensures rows { IsInsideRows (length slots.now) pending.new }
+    ensures registered { IsRegistered slots.now marks.new pending.new }
+{
+    let mut next = 0;
+    while next < out.len() {
+        let k = out[next];
+        next += 1;
+        let woken = mem::replace(&mut pending[k].slots, Vec::new(alloc));
+        wake(weights, slots, marks, &woken, out);
+    }
+}
+
+/// Writes k into the row of each parent that is not admitted. A row that names k too early harms
+/// nothing.
+pub(crate) fn register(
+    marks: &[bool],
+    pending: &mut [Pending],
+    k: usize,
+    parents: &[usize],
+) -> Result<(), AllocError>
+    requires same { length pending.old ≡ length marks.now }
+    requires number { k < length marks.now }
+    requires parents { All (λ p. p < length marks.now) parents.now }
+    requires rows { IsInsideRows (length marks.now) pending.old }
+    ensures rows { IsInsideRows (length marks.now) pending.new }
+    ensures kept { (m i : ℕ) → Contains (row_of pending.old m) i
+        → Contains (row_of pending.new m) i }
+    ensures all { OnOk result ((p : ℕ) → Contains parents.now p → is_marked marks.now p ≡ false
+        → Contains (row_of pending.new p) k) }
+{
+    for p in parents {
+        let p = *p;
+        if !marks[p] {
+            pending[p].slots.push(k)?;
+        }
+    }
+    Ok(())
+}
