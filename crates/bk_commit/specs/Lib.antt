@@ -1,0 +1,5 @@
+pub mod Ordering
+pub mod Level
+pub mod Growth
+pub mod Laws
+pub mod private
