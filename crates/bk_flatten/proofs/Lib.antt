@@ -1,0 +1,5 @@
+pub mod Orders
+pub mod Extended
+pub mod Growth
+pub mod Parts
+pub mod Whole

@@ -1,0 +1,13 @@
+use Rattle.std.proofs.Common.{◌≡◌, ◌⊎◌, ◌↔◌, ℕ, length, take}
+use Rattle.std.specs.List.{Contains}
+use Rattle.bk_rounds.specs.declared.place.CertRef.{CertRef}
+use Rattle.bk_rounds.specs.Members.{Has}
+use Rattle.bk_flatten.specs.private.Part.{marks_of}
+use Rattle.bk_flatten.proofs.Parts.{IsMarked}
+use Rattle.bk_flatten.proofs.part.mark.Given as goal
+
+abbrev pub invariant-loop-c : goal.invariant-loop-c
+invariant-loop-c l = record {
+  same : length l.marks ≡ length l.fn.marks;
+  marked : IsMarked l.fn.marks l.marks (take l.c-index l.part);
+}

@@ -1,0 +1,4 @@
+pub mod Order
+pub mod Batches
+pub mod Laws
+pub mod private

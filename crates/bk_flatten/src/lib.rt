@@ -1,0 +1,14 @@
+//! The order of certificates, and the batches in it.
+//!
+//! Each committed anchor adds its history, less what is ordered already, by round and author.
+#![tactic(auto)]
+
+mod flat;
+mod laws;
+mod part;
+
+pub use flat::{Flat, whole_order};
+pub use laws::{batches_grow, one_order, order_grows, order_of_history};
+
+#[cfg(test)]
+mod tests;

@@ -1,0 +1,143 @@
+use crate::whole_order;
+use bk_cert::Header;
+use bk_commit::{anchor, committed, reaches, votes};
+use bk_digest::Digest32;
+use bk_rounds::{CertRef, Checked, Rounds};
+use std::alloc::{AllocError, Global};
+use std::process::Abort;
+use std::test::Fail;
+
+// The certificate of round r by member a has an id of bytes r and a, and its parents are named by
+// their authors in the round before.
+fn id_of(round: u32, author: u8) -> Digest32 {
+    let mut bytes = [0u8; 32];
+    bytes[0] = round as u8;
+    bytes[1] = author;
+    Digest32::new(bytes)
+}
+
+fn place(round: u32, author: u8) -> CertRef {
+    CertRef { round, author }
+}
+
+fn cert_of(
+    alloc: Global,
+    round: u32,
+    author: u8,
+    parents: &[u8],
+) -> Result<Option<Checked>, AllocError> {
+    let mut ids = Vec::new(alloc);
+    for parent in parents {
+        ids.push(id_of(round.saturating_sub(1), *parent))?;
+    }
+    match Header::new(author, round, Vec::new(alloc), ids) {
+        Some(header) => Ok(Some(Checked::new(id_of(round, author), header))),
+        None => Ok(None),
+    }
+}
+
+// Adds it, and answers how many became admitted.
+fn put(
+    rt: &impl Abort,
+    alloc: Global,
+    rounds: &mut Rounds,
+    round: u32,
+    author: u8,
+    parents: &[u8],
+) -> Result<usize, AllocError> {
+    match cert_of(alloc, round, author, parents)? {
+        Some(cert) => {
+            assert!(rt; rounds.can_add(&cert), "{round} {author}");
+            let admitted = rounds.add(cert)?;
+            Ok(admitted.len())
+        }
+        None => Ok(0),
+    }
+}
+
+fn expect_places(rt: &impl Abort, found: &[CertRef], expected: &[(u32, u8)]) {
+    assert_eq!(rt; found.len(), expected.len());
+    for (one, (round, author)) in found.iter().zip(expected) {
+        assert!(rt; *one == place(*round, *author), "{one:?}");
+    }
+}
+
+// An anchor that no later one reaches is skipped, and one without enough votes that is reached is
+// not.
+#[test]
+fn linked_anchor(rt: HostRuntime) -> Result<(), Fail> {
+    let alloc = rt.alloc();
+    let mut rounds = Rounds::with_weights(alloc, &[1, 1, 1, 1])?;
+    for author in 0..4 {
+        assert_eq!(rt; put(&rt, alloc, &mut rounds, 1, author, &[])?, 1);
+    }
+    put(&rt, alloc, &mut rounds, 2, 0, &[1, 2, 3])?;
+    put(&rt, alloc, &mut rounds, 2, 1, &[1, 2, 3])?;
+    put(&rt, alloc, &mut rounds, 2, 2, &[0, 1, 2])?;
+    for author in 0..3 {
+        put(&rt, alloc, &mut rounds, 3, author, &[0, 1, 2])?;
+    }
+    put(&rt, alloc, &mut rounds, 4, 0, &[0, 1, 2])?;
+    put(&rt, alloc, &mut rounds, 4, 1, &[0, 1, 2])?;
+    let found = committed(alloc, &rounds)?;
+    expect_places(&rt, &found, &[(1, 0), (3, 1)]);
+    assert!(rt; reaches(&rounds, place(3, 1), place(1, 0)));
+    assert!(rt; !reaches(&rounds, place(2, 0), place(1, 0)));
+    assert!(rt; votes(&rounds, 1).has(2));
+    assert!(rt; !votes(&rounds, 1).has(0));
+    assert!(rt; anchor(&rounds, 2).is_none());
+    let flat = whole_order(alloc, &rounds)?;
+    let order = [
+        (1, 0),
+        (1, 1),
+        (1, 2),
+        (1, 3),
+        (2, 0),
+        (2, 1),
+        (2, 2),
+        (3, 1),
+    ];
+    expect_places(&rt, flat.order(), &order);
+    Ok(())
+}
+
+// The same certificates in reverse: nothing is admitted before the last of round 1.
+#[test]
+fn frames_reversed(rt: HostRuntime) -> Result<(), Fail> {
+    let alloc = rt.alloc();
+    let mut rounds = Rounds::with_weights(alloc, &[1, 1, 1, 1])?;
+    put(&rt, alloc, &mut rounds, 4, 1, &[0, 1, 2])?;
+    put(&rt, alloc, &mut rounds, 4, 0, &[0, 1, 2])?;
+    for author in 0..3 {
+        put(&rt, alloc, &mut rounds, 3, author, &[0, 1, 2])?;
+    }
+    put(&rt, alloc, &mut rounds, 2, 2, &[0, 1, 2])?;
+    put(&rt, alloc, &mut rounds, 2, 1, &[1, 2, 3])?;
+    put(&rt, alloc, &mut rounds, 2, 0, &[1, 2, 3])?;
+    assert_eq!(rt; put(&rt, alloc, &mut rounds, 1, 3, &[])?, 1);
+    assert_eq!(rt; put(&rt, alloc, &mut rounds, 1, 2, &[])?, 1);
+    assert_eq!(rt; put(&rt, alloc, &mut rounds, 1, 1, &[])?, 3);
+    assert_eq!(rt; put(&rt, alloc, &mut rounds, 1, 0, &[])?, 7);
+    let found = committed(alloc, &rounds)?;
+    expect_places(&rt, &found, &[(1, 0), (3, 1)]);
+    Ok(())
+}
+
+// A committee of weights 4, 1, 1, 1: four weigh 7, so 2 may be faulty and 5 is a quorum.
+#[test]
+fn light_parents_wait(rt: HostRuntime) -> Result<(), Fail> {
+    let alloc = rt.alloc();
+    let mut rounds = Rounds::with_weights(alloc, &[4, 1, 1, 1])?;
+    for author in 0..4 {
+        put(&rt, alloc, &mut rounds, 1, author, &[])?;
+    }
+    assert_eq!(rt; put(&rt, alloc, &mut rounds, 2, 1, &[1, 2, 3])?, 0);
+    assert_eq!(rt; put(&rt, alloc, &mut rounds, 2, 0, &[0, 1])?, 1);
+    assert!(rt; rounds.at(place(2, 1)).is_none());
+    assert!(rt; rounds.has(place(2, 1)));
+    let waiting = rounds.waiting()?;
+    expect_places(&rt, &waiting, &[(2, 1)]);
+    let found = committed(alloc, &rounds)?;
+    expect_places(&rt, &found, &[(1, 0)]);
+    Ok(())
+}
