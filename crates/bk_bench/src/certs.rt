@@ -4,6 +4,7 @@ use anyhow::{Context, Result, bail};
 use bk_cert::{Cert, Header};
 use bk_committee::Committee;
 use bk_digest::Digest32;
+use bk_frames::Version;
 use std::alloc::{AllocError, Global};
 
 /// What a certificate is made of: a committee, whose first members sign, and the digests that its header names.
@@ -34,7 +35,7 @@ impl Maker {
             signers.push(signer)?;
         }
         Ok(Maker {
-            committee: Committee::parse(alloc, &payload)?,
+            committee: Committee::parse(alloc, Version::One, &payload)?,
             signers,
             batches: digests(alloc, batches)?,
             parents: digests(alloc, quorum)?,
