@@ -56,7 +56,7 @@ impl Flat {
 
     /// Adds what the anchor brings to the order of its prior, and answers it.
     ///
-    /// An `Err` comes for want of memory alone, and leaves the order as it was.
+    /// An `Err` comes only where memory runs out, and leaves the order as it was.
     pub fn extend(&mut self, rounds: &Rounds, anchor: CertRef) -> Result<Vec<CertRef>, AllocError>
         requires present { IsPresent rounds.now.sizes rounds.now.held anchor }
         requires kept { IsKept rounds.now.sizes rounds.now.held anchor self.old }

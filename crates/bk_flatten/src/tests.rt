@@ -11,7 +11,7 @@ use std::test::Fail;
 // their authors in the round before.
 fn id_of(round: u32, author: u8) -> Digest32 {
     let mut bytes = [0u8; 32];
-    bytes[0] = round as u8;
+    bytes[0] = round.to_be_bytes()[3];
     bytes[1] = author;
     Digest32::new(bytes)
 }
@@ -36,22 +36,24 @@ fn cert_of(
     }
 }
 
-// Adds it, and answers how many became admitted.
+// Adds it, and answers how many became admitted; nothing where it cannot be added.
 fn put(
-    rt: &impl Abort,
     alloc: Global,
     rounds: &mut Rounds,
     round: u32,
     author: u8,
     parents: &[u8],
-) -> Result<usize, AllocError> {
+) -> Result<Option<usize>, AllocError> {
     match cert_of(alloc, round, author, parents)? {
         Some(cert) => {
-            assert!(rt; rounds.can_add(&cert), "{round} {author}");
-            let admitted = rounds.add(cert)?;
-            Ok(admitted.len())
+            if rounds.can_add(&cert) {
+                let admitted = rounds.add(cert)?;
+                Ok(Some(admitted.len()))
+            } else {
+                Ok(None)
+            }
         }
-        None => Ok(0),
+        None => Ok(None),
     }
 }
 
@@ -69,16 +71,16 @@ fn linked_anchor(rt: HostRuntime) -> Result<(), Fail> {
     let alloc = rt.alloc();
     let mut rounds = Rounds::with_weights(alloc, &[1, 1, 1, 1])?;
     for author in 0..4 {
-        assert_eq!(rt; put(&rt, alloc, &mut rounds, 1, author, &[])?, 1);
+        assert_eq!(rt; put(alloc, &mut rounds, 1, author, &[])?, Some(1));
     }
-    put(&rt, alloc, &mut rounds, 2, 0, &[1, 2, 3])?;
-    put(&rt, alloc, &mut rounds, 2, 1, &[1, 2, 3])?;
-    put(&rt, alloc, &mut rounds, 2, 2, &[0, 1, 2])?;
+    put(alloc, &mut rounds, 2, 0, &[1, 2, 3])?;
+    put(alloc, &mut rounds, 2, 1, &[1, 2, 3])?;
+    put(alloc, &mut rounds, 2, 2, &[0, 1, 2])?;
     for author in 0..3 {
-        put(&rt, alloc, &mut rounds, 3, author, &[0, 1, 2])?;
+        put(alloc, &mut rounds, 3, author, &[0, 1, 2])?;
     }
-    put(&rt, alloc, &mut rounds, 4, 0, &[0, 1, 2])?;
-    put(&rt, alloc, &mut rounds, 4, 1, &[0, 1, 2])?;
+    put(alloc, &mut rounds, 4, 0, &[0, 1, 2])?;
+    put(alloc, &mut rounds, 4, 1, &[0, 1, 2])?;
     let found = committed(alloc, &rounds)?;
     expect_places(&rt, &found, &[(1, 0), (3, 1)]);
     assert!(rt; reaches(&rounds, place(3, 1), place(1, 0)));
@@ -106,18 +108,18 @@ fn linked_anchor(rt: HostRuntime) -> Result<(), Fail> {
 fn frames_reversed(rt: HostRuntime) -> Result<(), Fail> {
     let alloc = rt.alloc();
     let mut rounds = Rounds::with_weights(alloc, &[1, 1, 1, 1])?;
-    put(&rt, alloc, &mut rounds, 4, 1, &[0, 1, 2])?;
-    put(&rt, alloc, &mut rounds, 4, 0, &[0, 1, 2])?;
+    put(alloc, &mut rounds, 4, 1, &[0, 1, 2])?;
+    put(alloc, &mut rounds, 4, 0, &[0, 1, 2])?;
     for author in 0..3 {
-        put(&rt, alloc, &mut rounds, 3, author, &[0, 1, 2])?;
+        put(alloc, &mut rounds, 3, author, &[0, 1, 2])?;
     }
-    put(&rt, alloc, &mut rounds, 2, 2, &[0, 1, 2])?;
-    put(&rt, alloc, &mut rounds, 2, 1, &[1, 2, 3])?;
-    put(&rt, alloc, &mut rounds, 2, 0, &[1, 2, 3])?;
-    assert_eq!(rt; put(&rt, alloc, &mut rounds, 1, 3, &[])?, 1);
-    assert_eq!(rt; put(&rt, alloc, &mut rounds, 1, 2, &[])?, 1);
-    assert_eq!(rt; put(&rt, alloc, &mut rounds, 1, 1, &[])?, 3);
-    assert_eq!(rt; put(&rt, alloc, &mut rounds, 1, 0, &[])?, 7);
+    put(alloc, &mut rounds, 2, 2, &[0, 1, 2])?;
+    put(alloc, &mut rounds, 2, 1, &[1, 2, 3])?;
+    put(alloc, &mut rounds, 2, 0, &[1, 2, 3])?;
+    assert_eq!(rt; put(alloc, &mut rounds, 1, 3, &[])?, Some(1));
+    assert_eq!(rt; put(alloc, &mut rounds, 1, 2, &[])?, Some(1));
+    assert_eq!(rt; put(alloc, &mut rounds, 1, 1, &[])?, Some(3));
+    assert_eq!(rt; put(alloc, &mut rounds, 1, 0, &[])?, Some(7));
     let found = committed(alloc, &rounds)?;
     expect_places(&rt, &found, &[(1, 0), (3, 1)]);
     Ok(())
@@ -129,10 +131,10 @@ fn light_parents_wait(rt: HostRuntime) -> Result<(), Fail> {
     let alloc = rt.alloc();
     let mut rounds = Rounds::with_weights(alloc, &[4, 1, 1, 1])?;
     for author in 0..4 {
-        put(&rt, alloc, &mut rounds, 1, author, &[])?;
+        put(alloc, &mut rounds, 1, author, &[])?;
     }
-    assert_eq!(rt; put(&rt, alloc, &mut rounds, 2, 1, &[1, 2, 3])?, 0);
-    assert_eq!(rt; put(&rt, alloc, &mut rounds, 2, 0, &[0, 1])?, 1);
+    assert_eq!(rt; put(alloc, &mut rounds, 2, 1, &[1, 2, 3])?, Some(0));
+    assert_eq!(rt; put(alloc, &mut rounds, 2, 0, &[0, 1])?, Some(1));
     assert!(rt; rounds.at(place(2, 1)).is_none());
     assert!(rt; rounds.has(place(2, 1)));
     let waiting = rounds.waiting()?;

@@ -96,7 +96,7 @@ impl Rounds {
     /// Adds a certificate, and answers the places of all that this makes admitted, by round and
     /// author.
     ///
-    /// An `Err` comes for want of memory alone, and leaves the table as it was.
+    /// An `Err` comes only where memory runs out, and leaves the table as it was.
     pub fn add(&mut self, cert: Checked) -> Result<Vec<CertRef>, AllocError>
         requires good { IsGood self.old.sizes cert }
         requires new { (c : Node) → Contains self.old.held c → c.id ≢ cert.id }
