@@ -1,0 +1,52 @@
+"""What the benchmarks share: where the programs are, how they are built, and how a run is timed."""
+import argparse
+import os
+import subprocess
+import sys
+import time
+
+ROOT = os.path.dirname(os.path.dirname(os.path.abspath(__file__)))
+LAUNCHER = os.path.join(ROOT, "bkreplay")
+PROGRAM = os.path.join(ROOT, "crates", "bkreplay", "out", "bkreplay")
+BENCH_CRATE = os.path.join(ROOT, "crates", "bk_bench")
+BENCH = os.path.join(BENCH_CRATE, "out", "bk_bench")
+
+
+def parser(text):
+    """A reader of the command line, whose help is the text at the top of a script."""
+    return argparse.ArgumentParser(description=text, formatter_class=argparse.RawDescriptionHelpFormatter)
+
+
+def build_program():
+    """The launcher proves and builds `bkreplay` where that is not done yet."""
+    subprocess.run([LAUNCHER, "--version"], check=True, stdout=subprocess.DEVNULL)
+
+
+def build_bench():
+    """Builds `bk_bench` where it is not there."""
+    if not os.path.exists(BENCH):
+        subprocess.run(["rt", "run", "--", "root", "3"], cwd=BENCH_CRATE, check=True, stdout=sys.stderr)
+
+
+def run_once(words, source=os.devnull, target=os.devnull):
+    """The seconds of one run and its peak of resident memory in bytes."""
+    with open(source, "rb") as stdin, open(target, "wb") as stdout:
+        start = time.perf_counter()
+        child = subprocess.Popen(words, stdin=stdin, stdout=stdout)
+        _, status, usage = os.wait4(child.pid, 0)
+        seconds = time.perf_counter() - start
+    child.returncode = os.waitstatus_to_exitcode(status)
+    if child.returncode != 0:
+        sys.exit(f"{words[0]} ended with status {child.returncode}")
+    return seconds, usage.ru_maxrss * 1024
+
+
+def best(words, runs=3, **files):
+    """The best seconds of some runs."""
+    return min(run_once(words, **files)[0] for _ in range(runs))
+
+
+def best_of_each(all_words, runs):
+    """The best seconds of each of these commands. They run in turn, so that what else the machine does falls on all."""
+    rounds = [{name: run_once(words)[0] for name, words in all_words.items()} for _ in range(runs)]
+    return {name: min(times[name] for times in rounds) for name in all_words}
