@@ -44,8 +44,10 @@ impl Cert {
     /// memory, and only for bytes that do spell a certificate.
     pub fn decode(alloc: Global, bytes: &[u8]) -> Result<Option<Cert>, AllocError>
         ensures exact { IfOk result (λ found. found ≡ certificate_of bytes.now) }
-        ensures found { IfOk result (λ found. IfSome found (λ c. IsCertificate c × (bytes.now ≡ certificate_text c))) }
-        ensures none { IfOk result (λ found. IfNone found ((c : CertValue) → IsCertificate c → bytes.now ≢ certificate_text c)) }
+        ensures found { IfOk result (λ found. IfSome found (λ c. IsCertificate c
+            × (bytes.now ≡ certificate_text c))) }
+        ensures none { IfOk result (λ found. IfNone found ((c : CertValue) → IsCertificate c
+            → bytes.now ≢ certificate_text c)) }
         ensures refused { OnErr result (IsSome (certificate_of bytes.now)) }
     {
         let Some(parts) = certificate(bytes) else {
@@ -99,7 +101,8 @@ impl Cert {
         committee: &Committee,
         id: Digest32,
     ) -> Result<Vec<Digest32>, AllocError>
-        requires { (member : ℕ) → IsTrue (is_signer self.now.mask member) → member < length committee.now.keys }
+        requires { (member : ℕ) → IsTrue (is_signer self.now.mask member)
+            → member < length committee.now.keys }
         ensures { IfOk result (λ tags. tags.items
             ≡ map (λ member. tag_of (slice_index_or committee.now.keys member []) id) (signers_of self.now.mask)) }
     {
@@ -147,8 +150,10 @@ fn tags_of(
     mask: &Mask,
     id: Digest32,
 ) -> Result<Vec<Digest32>, AllocError>
-    requires { (member : ℕ) → IsTrue (is_signer mask.now member) → member < length committee.now.keys }
-    ensures { IfOk result (λ tags. tags.items ≡ map (λ member. tag_of (slice_index_or committee.now.keys member []) id) (signers_of mask.now)) }
+    requires { (member : ℕ) → IsTrue (is_signer mask.now member)
+        → member < length committee.now.keys }
+    ensures { IfOk result (λ tags. tags.items ≡ map
+        (λ member. tag_of (slice_index_or committee.now.keys member []) id) (signers_of mask.now)) }
 {
     let mut tags = Vec::with_capacity(alloc, mask.len())?;
     for member in 0..128u8 {

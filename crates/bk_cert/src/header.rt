@@ -54,8 +54,10 @@ impl Header {
         batches: Vec<Digest32>,
         parents: Vec<Digest32>,
     ) -> Option<Header>
-        ensures few { IsSome result ↔ ((length batches.items ≤ 1000) × (length parents.items ≤ 128)) }
-        ensures parts { IfSome result (λ h. h ≡ header_with author round batches.items parents.items) }
+        ensures few { IsSome result ↔ ((length batches.items ≤ 1000)
+            × (length parents.items ≤ 128)) }
+        ensures parts { IfSome result
+            (λ h. h ≡ header_with author round batches.items parents.items) }
     {
         if batches.len() > MOST_BATCHES || parents.len() > MOST_PARENTS {
             return None;
@@ -163,7 +165,8 @@ impl Header {
 
     /// What stands before the first batch: author, round and the count of batches.
     pub(crate) fn opening(&self) -> [u8; 7]
-        ensures { result ≡ self.now.author ∷ to_be_bytes w32 self.now.round ++ to_be_bytes w16 (length self.now.batches) }
+        ensures { result ≡ self.now.author ∷ to_be_bytes w32 self.now.round ++ to_be_bytes w16
+            (length self.now.batches) }
     {
         let round = self.round.to_be_bytes();
         let count = (self.batches.len() as u16).to_be_bytes();

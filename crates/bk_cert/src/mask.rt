@@ -68,7 +68,8 @@ impl Mask {
     /// The mask that marks these members, in whichever order they are named and however often.
     pub fn of(members: &[u8]) -> Mask
         requires { All (λ member. member < 128) members.now }
-        ensures marks { (member : ℕ) → IsTrue (is_signer result member) ↔ Contains members.now member }
+        ensures marks { (member : ℕ) → IsTrue (is_signer result member)
+            ↔ Contains members.now member }
         ensures sized { length result ≡ 16 }
     {
         let mut mask = Mask([0; 16]);
@@ -81,7 +82,8 @@ impl Mask {
     /// Marks the member as a signer.
     pub fn insert(&mut self, member: u8)
         requires { member < 128 }
-        ensures marks { (other : ℕ) → is_signer self.new other ≡ (is_signer self.old other || member == other) }
+        ensures marks { (other : ℕ) → is_signer self.new other
+            ≡ (is_signer self.old other || member == other) }
         ensures sized { length self.new ≡ 16 }
     {
         self.0[(member / 8) as usize] |= 1 << (member % 8);

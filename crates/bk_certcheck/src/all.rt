@@ -17,7 +17,9 @@ pub fn check_all(
     committee: &Committee,
     payloads: &[&[u8]],
 ) -> Result<Vec<Verdict>, AllocError>
-    ensures { IfOk result (λ verdicts. AllZip (λ bytes verdict. IsVerdict committee.now bytes.now verdict) payloads.now verdicts.items) }
+    ensures { IfOk result
+        (λ verdicts. AllZip
+        (λ bytes verdict. IsVerdict committee.now bytes.now verdict) payloads.now verdicts.items) }
 {
     let verdicts = payloads
         .par_iter()

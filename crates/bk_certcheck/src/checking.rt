@@ -18,7 +18,8 @@ fn has_own_tags(
     cert: &Cert,
     id: Digest32,
 ) -> Result<bool, AllocError>
-    requires { (member : ℕ) → IsTrue (is_signer cert.now.mask member) → member < length committee.now.keys }
+    requires { (member : ℕ) → IsTrue (is_signer cert.now.mask member)
+        → member < length committee.now.keys }
     ensures { IfOk result (λ own. IsTrue own
         ↔ (cert.now.tags ≡ map (λ member. tag_of (slice_index_or committee.now.keys member []) id) (signers_of cert.now.mask))) }
 {

@@ -52,7 +52,8 @@ fn do_ascend(ids: &[Digest32]) -> bool
 
 // Whether a member at or above the number of members is marked.
 fn marks_strangers(committee: &Committee, mask: &Mask) -> bool
-    ensures { IsTrue result ↔ ((member : ℕ) × Contains (signers_of mask.now) member × (length committee.now.keys ≤ member)) }
+    ensures { IsTrue result ↔ ((member : ℕ) × Contains (signers_of mask.now) member
+        × (length committee.now.keys ≤ member)) }
 {
     for member in committee.n()..128 {
         if mask.has(member as u8) {
@@ -64,7 +65,8 @@ fn marks_strangers(committee: &Committee, mask: &Mask) -> bool
 
 // The weight of the members that are marked.
 fn weight_of_signers(committee: &Committee, mask: &Mask) -> u64
-    requires { (member : ℕ) → IsTrue (is_signer mask.now member) → member < length committee.now.keys }
+    requires { (member : ℕ) → IsTrue (is_signer mask.now member)
+        → member < length committee.now.keys }
     ensures { result ≡ weight_of (sizes_of committee.now) (signers_of mask.now) }
 {
     let mut weight: u64 = 0;
@@ -78,7 +80,8 @@ fn weight_of_signers(committee: &Committee, mask: &Mask) -> u64
 
 // The first rule that the certificate breaks, but for the last.
 pub(crate) fn first_broken(committee: &Committee, cert: &Cert) -> Option<Rule>
-    ensures some { IfSome result (λ r. Breaks committee.now cert.now r × BreaksNoneBelow committee.now cert.now (rule_number r)
+    ensures some { IfSome result (λ r. Breaks committee.now cert.now r
+        × BreaksNoneBelow committee.now cert.now (rule_number r)
         × (r ≢ rule.Shape)) }
     ensures none { IfNone result (BreaksNoneBelow committee.now cert.now 7) }
 {

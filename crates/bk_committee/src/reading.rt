@@ -104,7 +104,8 @@ pub(crate) fn read_weights(
 }
 
 fn numbers_of(alloc: Global, pieces: &[[u8; 4]]) -> Result<Vec<u32>, AllocError>
-    ensures { IfOk result (λ numbers. numbers.items ≡ map (λ four. from_be_bytes w32 four) pieces.now) }
+    ensures { IfOk result (λ numbers. numbers.items
+        ≡ map (λ four. from_be_bytes w32 four) pieces.now) }
 {
     let mut numbers = Vec::with_capacity(alloc, pieces.len())?;
     for four in pieces {

@@ -67,7 +67,8 @@ pub fn audit_path<A: Allocator, const N: usize>(
 ///
 /// It is false for a place that is out of range, and for a path with too few or too many hashes.
 pub fn check_path(root: &Digest32, size: usize, i: usize, leaf: &[u8], path: &[Digest32]) -> bool
-    ensures { IsTrue result ↔ ((i < size) × (climb (tagged_of 0x00 leaf.now) i size path.now ≡ Some root.now)) }
+    ensures { IsTrue result ↔ ((i < size) × (climb (tagged_of 0x00 leaf.now) i size path.now
+        ≡ Some root.now)) }
 {
     i < size && climbed(leaf_hash(leaf), i, size, path) == Some(*root)
 }

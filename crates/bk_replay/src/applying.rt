@@ -38,7 +38,8 @@ pub fn apply<S: Source, K: Sink>(alloc: Global, source: &mut S, sink: &mut K) ->
     requires sink { CanBeUsed (K.state sink.old) }
     ensures report { OnOk result (IfKnown (S.state source.old) (λ bytes.
         (text : List ℕ) × IsApplyReport bytes text × Receives (K.state sink.old) (K.state sink.new) text)) }
-    ensures sound { OnOk result (Works (S.state source.old) (S.state source.new) × Works (K.state sink.old) (K.state sink.new)) }
+    ensures sound { OnOk result (Works (S.state source.old) (S.state source.new)
+        × Works (K.state sink.old) (K.state sink.new)) }
     ensures fault { IfErr result (λ e. FailsBy e (devices (S.state source.old) (K.state sink.old))
         (devices (S.state source.new) (K.state sink.new))) }
 {

@@ -44,8 +44,10 @@ fn decode_all(
 impl Ledger {
     /// Executes one more batch.
     fn run_batch(&mut self, alloc: Global, payload: &[u8]) -> Result<(), AllocError>
-        requires room { HasRoom self.old.state.version (length (transactions_in payload.now)) self.old.state.rows }
-        ensures counts { OnOk result (self.new.counts.items ≡ self.old.counts.items ++ count_in payload.now ∷ []) }
+        requires room { HasRoom self.old.state.version
+            (length (transactions_in payload.now)) self.old.state.rows }
+        ensures counts { OnOk result (self.new.counts.items
+            ≡ self.old.counts.items ++ count_in payload.now ∷ []) }
         ensures receipts { OnOk result (self.new.receipts.items ≡ self.old.receipts.items
             ++ receipts_of self.old.state.version (transactions_in payload.now) self.old.state.rows) }
         ensures version { OnOk result (self.new.state.version ≡ self.old.state.version) }
@@ -66,7 +68,8 @@ impl Ledger {
 
     /// Executes one more frame: a batch, or nothing.
     fn run_frame(&mut self, alloc: Global, kind: Kind, payload: &[u8]) -> Result<(), AllocError>
-        requires room { HasRoom self.old.state.version (length (feed_transactions (frame_of kind payload.now ∷ []))) self.old.state.rows }
+        requires room { HasRoom self.old.state.version
+            (length (feed_transactions (frame_of kind payload.now ∷ []))) self.old.state.rows }
         ensures counts { OnOk result (self.new.counts.items ≡ self.old.counts.items
             ++ map count_in (payloads_of (frame_of kind payload.now ∷ []))) }
         ensures receipts { OnOk result (self.new.receipts.items ≡ self.old.receipts.items
@@ -83,7 +86,8 @@ impl Ledger {
 
     /// Executes the batches of a feed, in feed order, on its opening accounts.
     pub(crate) fn of(alloc: Global, feed: &Feed) -> Result<Ledger, AllocError>
-        ensures counts { IfOk result (λ l. l.counts.items ≡ map count_in (payloads_of feed.now.frames)) }
+        ensures counts { IfOk result (λ l. l.counts.items
+            ≡ map count_in (payloads_of feed.now.frames)) }
         ensures receipts { IfOk result (λ l. l.receipts.items
             ≡ receipts_of feed.now.version (feed_transactions feed.now.frames) (genesis_of feed.now.frames)) }
         ensures rows { IfOk result (λ l. l.state.rows

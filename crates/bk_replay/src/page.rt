@@ -115,7 +115,8 @@ impl Page {
     pub(crate) fn flush<K: Sink>(&mut self, sink: &mut K) -> Result<(), WriteFault>
         requires sound { CanBeUsed (K.state sink.old) }
         requires size { self.old.out + length self.old.bytes < 2 ^ 62 }
-        ensures written { Written result (K.state sink.old) (K.state sink.new) self.old self.new [] }
+        ensures written { Written result (K.state sink.old)
+            (K.state sink.new) self.old self.new [] }
         ensures empty { OnOk result (self.new.bytes ≡ []) }
     {
         match push_all(sink, &self.bytes) {
@@ -135,8 +136,10 @@ impl Page {
     pub(crate) fn put<K: Sink>(&mut self, sink: &mut K, line: Line) -> Result<(), WriteFault>
         requires sound { CanBeUsed (K.state sink.old) }
         requires size { self.old.out + length self.old.bytes < 2 ^ 62 }
-        ensures written { Written result (K.state sink.old) (K.state sink.new) self.old self.new (line_text line ++ 10 ∷ []) }
-        ensures size { OnOk result (self.new.out + length self.new.bytes ≤ self.old.out + length self.old.bytes + 96) }
+        ensures written { Written result (K.state sink.old) (K.state sink.new) self.old self.new
+            (line_text line ++ 10 ∷ []) }
+        ensures size { OnOk result
+            (self.new.out + length self.new.bytes ≤ self.old.out + length self.old.bytes + 96) }
     {
         if self.bytes.len() > PAGE - LINE {
             self.flush(sink)?;

@@ -26,7 +26,8 @@ impl Summary {
     pub(crate) fn lines(&self) -> usize
         requires few { (vec_len self.now.counts < 2 ^ 32) × (vec_len self.now.receipts < 2 ^ 32)
             × (length self.now.rows.items < 2 ^ 32) }
-        ensures { result ≡ length (lines_of self.now.counts.items self.now.receipts.items self.now.rows.items) }
+        ensures { result
+            ≡ length (lines_of self.now.counts.items self.now.receipts.items self.now.rows.items) }
     {
         self.counts.len() + self.receipts.len() + self.rows.len() + 1
     }
@@ -36,8 +37,11 @@ impl Summary {
         requires few { (vec_len self.now.counts < 2 ^ 32) × (vec_len self.now.receipts < 2 ^ 32)
             × (length self.now.rows.items < 2 ^ 32) }
         requires total { self.now.total ≡ total_of self.now.rows.items }
-        requires inside { index < length (lines_of self.now.counts.items self.now.receipts.items self.now.rows.items) }
-        ensures { slice_get (lines_of self.now.counts.items self.now.receipts.items self.now.rows.items) index ≡ Some result }
+        requires inside { index < length
+            (lines_of self.now.counts.items self.now.receipts.items self.now.rows.items) }
+        ensures { slice_get
+            (lines_of self.now.counts.items self.now.receipts.items self.now.rows.items) index
+            ≡ Some result }
     {
         let mut at = index;
         if at < self.counts.len() {

@@ -101,7 +101,8 @@ impl Rounds {
         requires good { IsGood self.old.sizes cert }
         requires new { (c : Node) → Contains self.old.held c → c.id ≢ cert.id }
         requires free { (c : Node) → Contains self.old.held c → place_of c ≢ place_of cert }
-        ensures ok { OnOk result (self.new ≡ rounds_with self.old.sizes (self.old.held ++ cert ∷ [])) }
+        ensures ok { OnOk result (self.new ≡ rounds_with self.old.sizes
+            (self.old.held ++ cert ∷ [])) }
         ensures err { OnErr result (self.new ≡ self.old) }
         ensures answer { IfOk result (λ out. Lists out.items (BecomesPresent self.old self.new)) }
     {

@@ -28,7 +28,8 @@ fn wake(
     requires sound { IsSound weights.now slots.now marks.old }
     requires room { vec_len out.old + count_unmarked marks.old ≤ vec_capacity out.old }
     ensures room { vec_len out.new + count_unmarked marks.new ≤ vec_capacity out.new }
-    ensures steps { vec_len out.new + count_unmarked marks.new ≡ vec_len out.old + count_unmarked marks.old }
+    ensures steps { vec_len out.new + count_unmarked marks.new
+        ≡ vec_len out.old + count_unmarked marks.old }
     ensures sound { IsSound weights.now slots.now marks.new }
     ensures more { Extends marks.old marks.new out.old.items out.new.items }
     ensures covers { Covers weights.now slots.now marks.old marks.new woken.now }
@@ -62,7 +63,8 @@ pub(crate) fn settle(
     requires registered { IsRegistered slots.now marks.old pending.old }
     requires covered { AreCovered weights.now slots.now marks.old pending.old out.old.items }
     ensures marks { IsExact weights.now slots.now marks.new }
-    ensures steps { vec_len out.new + count_unmarked marks.new ≡ vec_len out.old + count_unmarked marks.old }
+    ensures steps { vec_len out.new + count_unmarked marks.new
+        ≡ vec_len out.old + count_unmarked marks.old }
     ensures more { Extends marks.old marks.new out.old.items out.new.items }
     ensures rows { IsInsideRows (length slots.now) pending.new }
     ensures registered { IsRegistered slots.now marks.new pending.new }

@@ -13,7 +13,8 @@ pub struct Account {
 /// The data of an account's leaf in the tree of all accounts: id, balance and sequence number, eight bytes each,
 /// big-endian.
 pub fn account_leaf(id: u64, account: Account) -> [u8; 24]
-    ensures { result ≡ to_be_bytes w64 id ++ to_be_bytes w64 account.balance ++ to_be_bytes w64 account.seq }
+    ensures { result ≡ to_be_bytes w64 id ++ to_be_bytes w64 account.balance
+        ++ to_be_bytes w64 account.seq }
 {
     let [a, b, c, d, e, f, g, h] = id.to_be_bytes();
     let [i, j, k, l, m, n, o, p] = account.balance.to_be_bytes();

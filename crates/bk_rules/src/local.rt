@@ -127,7 +127,8 @@ impl Local {
     pub(crate) fn receive(&mut self, k: usize, amount: u64)
         requires place { k < 8 }
         requires room { balance_of (nth self.old k) + amount < 2 ^ 64 }
-        ensures after { self.new ≡ slice_set self.old k (Some (received amount (nth_or_new self.old k))) }
+        ensures after { self.new ≡ slice_set self.old k
+            (Some (received amount (nth_or_new self.old k))) }
         ensures wide { length self.old ≡ 8 }
     {
         let balance = self.balance(k) + amount;

@@ -114,7 +114,8 @@ impl State {
     /// Two is 2^64 - 1 where the account is absent.
     pub fn set_words(&mut self, words: &[u64])
         requires length { length words.now ≡ 2 * length self.old.slots }
-        requires within { total_of (rows_shown self.old.version self.old.slots (in_pairs words.now)) < 2 ^ 63 }
+        requires within { total_of (rows_shown self.old.version self.old.slots
+            (in_pairs words.now)) < 2 ^ 63 }
         ensures { self.new ≡ ledger_of self.old.version self.old.slots
             (rows_shown self.old.version self.old.slots (in_pairs words.now)) }
     {
@@ -160,7 +161,8 @@ impl State {
     pub fn apply(&mut self, tx: Option<&Tx>) -> Receipt
         requires covers { is_covered self.old.version self.old.slots (option_copied tx) ≡ true }
         requires room { HasRoom self.old.version 1 self.old.rows }
-        ensures receipt { result ≡ (outcome_of self.old.version (option_copied tx.entry) self.old.rows).receipt }
+        ensures receipt { result ≡ (outcome_of self.old.version
+            (option_copied tx.entry) self.old.rows).receipt }
         ensures after { self.new ≡ after_of self.old (option_copied tx.entry) }
     {
         let near = tx.map_or([0; 8], |tx| likely_places(&self.ids, tx.declared()));
@@ -171,7 +173,8 @@ impl State {
     pub(crate) fn apply_near(&mut self, tx: Option<&Tx>, near: &[usize; 8]) -> Receipt
         requires covers { is_covered self.old.version self.old.slots (option_copied tx) ≡ true }
         requires room { HasRoom self.old.version 1 self.old.rows }
-        ensures receipt { result ≡ (outcome_of self.old.version (option_copied tx.entry) self.old.rows).receipt }
+        ensures receipt { result ≡ (outcome_of self.old.version
+            (option_copied tx.entry) self.old.rows).receipt }
         ensures after { self.new ≡ after_of self.old (option_copied tx.entry) }
     {
         match tx {
@@ -188,7 +191,8 @@ impl State {
         requires places { ArePlaces self.old.slots tx.now.declared places.now }
         requires covers { is_covered self.old.version self.old.slots (Some tx.now) ≡ true }
         requires room { HasRoom self.old.version 1 self.old.rows }
-        ensures receipt { result ≡ (outcome_of self.old.version (Some tx.now) self.old.rows).receipt }
+        ensures receipt { result ≡ (outcome_of self.old.version
+            (Some tx.now) self.old.rows).receipt }
         ensures after { self.new ≡ after_of self.old (Some tx.now) }
     {
         let declared = tx.declared();
@@ -357,7 +361,8 @@ fn gather(
 // Puts the accounts that are declared for writing back at their indexes.
 fn store(numbers: &mut [Account], declared: &Declarations, places: &[usize; 8], local: &Local)
     requires { AreApart places.now (length declared.now) (length numbers.old) }
-    ensures { StoredBelow declared.now places.now local.now numbers.old numbers.new (length declared.now) }
+    ensures { StoredBelow declared.now places.now local.now numbers.old numbers.new
+        (length declared.now) }
 {
     for k in 0..declared.len() {
         if declared.get(k).writable {

@@ -116,7 +116,8 @@ fn batch_len(texts: &[Vec<u8>]) -> usize {
 /// The bytes of the batch of these texts. It reserves once.
 pub fn write_batch(alloc: Global, texts: &[Vec<u8>]) -> Result<Vec<u8>, AllocError>
     requires { IsBatch (map (λ (text : Vec ℕ). text.items) texts.now) }
-    ensures { IfOk result (λ out. out.items ≡ batch_text (map (λ (text : Vec ℕ). text.items) texts.now)) }
+    ensures { IfOk result (λ out. out.items ≡ batch_text
+        (map (λ (text : Vec ℕ). text.items) texts.now)) }
 {
     let mut out = Vec::with_capacity(alloc, batch_len(texts))?;
     out.extend_from_slice(&(texts.len() as u16).to_be_bytes())?;

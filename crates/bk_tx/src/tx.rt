@@ -61,7 +61,8 @@ impl Tx {
     pub fn decode(bytes: &[u8]) -> Option<Tx>
         ensures exact { result ≡ transaction_of bytes.now }
         ensures found { IfSome result (λ t. IsTransaction t × (bytes.now ≡ transaction_text t)) }
-        ensures none { IfNone result ((t : Transaction) → IsTransaction t → bytes.now ≢ transaction_text t) }
+        ensures none { IfNone result ((t : Transaction) → IsTransaction t
+            → bytes.now ≢ transaction_text t) }
     {
         read_transaction(bytes)
     }

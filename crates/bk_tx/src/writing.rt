@@ -16,7 +16,8 @@ pub fn put_u64(out: &mut Vec<u8>, n: u64) -> Result<(), AllocError>
 
 // Writes a count and the declared accounts at the end.
 pub fn put_declared(out: &mut Vec<u8>, declared: &Declarations) -> Result<(), AllocError>
-    ensures { OnOk result (out.new.items ≡ out.old.items ++ length declared.now ∷ flat_map declared_text declared.now) }
+    ensures { OnOk result (out.new.items ≡ out.old.items
+        ++ length declared.now ∷ flat_map declared_text declared.now) }
 {
     out.push(declared.len() as u8)?;
     for k in 0..declared.len() {
@@ -38,7 +39,8 @@ fn put_payment(out: &mut Vec<u8>, payment: &Payment) -> Result<(), AllocError>
 // Writes a count and the payments at the end.
 fn put_payments(out: &mut Vec<u8>, payments: &[Payment]) -> Result<(), AllocError>
     requires { length payments.now ≤ 6 }
-    ensures { OnOk result (out.new.items ≡ out.old.items ++ length payments.now ∷ flat_map payment_text payments.now) }
+    ensures { OnOk result (out.new.items ≡ out.old.items
+        ++ length payments.now ∷ flat_map payment_text payments.now) }
 {
     out.push(payments.len() as u8)?;
     for p in payments {

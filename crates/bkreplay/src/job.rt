@@ -63,9 +63,11 @@ fn command<'a>(alloc: Global) -> Result<Command<'a>, AllocError>
 
 /// The matches of the words; every command line that is whole names a command.
 fn matches_of<'a, S: AsStr>(alloc: Global, words: &'a [S]) -> Result<ArgMatches<'a>, Error>
-    ensures found { IfOk result (λ m. subcommand_rows_of m ≡ subcommand_of command_line (map S.text words.now)) }
+    ensures found { IfOk result (λ m. subcommand_rows_of m
+        ≡ subcommand_of command_line (map S.text words.now)) }
     ensures named { IfOk result (λ m. has_subcommand m ≡ true) }
-    ensures error { IfErr result (λ e. takes command_line (map S.text words.now) ≡ true → kind_of e ≡ ErrorKind.OutOfMemory) }
+    ensures error { IfErr result (λ e. takes command_line (map S.text words.now) ≡ true
+        → kind_of e ≡ ErrorKind.OutOfMemory) }
 {
     command(alloc)?.try_get_matches_from(words)
 }
@@ -85,7 +87,8 @@ fn owned(alloc: Global, text: Option<&str>) -> Result<Option<String>, AllocError
 /// An error is a fault of the words, a request for help or for the version, or want of memory; its kind says which.
 pub fn parse<'a, S: AsStr>(alloc: Global, words: &'a [S]) -> Result<Job, Error>
     ensures job { IfOk result (IsJobOf (subcommand_of command_line (map S.text words.now))) }
-    ensures error { IfErr result (λ e. takes command_line (map S.text words.now) ≡ true → kind_of e ≡ ErrorKind.OutOfMemory) }
+    ensures error { IfErr result (λ e. takes command_line (map S.text words.now) ≡ true
+        → kind_of e ≡ ErrorKind.OutOfMemory) }
 {
     let matches = matches_of(alloc, words)?;
     let Some((_, apply)) = matches.subcommand() else {

@@ -70,7 +70,8 @@ fn refuse_words<E: Sink>(error: &io::Error, err: &mut E) -> u8
 fn answer_error<R: Print + Eprint, E: Sink>(rt: &R, error: &Error, err: &mut E) -> u8
     requires { CanBeUsed (E.state err.old) }
     ensures memory { kind_of error.now ≡ ErrorKind.OutOfMemory → result ≡ 4 }
-    ensures mistake { kind_of error.now ≢ ErrorKind.OutOfMemory → kind_of error.now ≢ ErrorKind.DisplayHelp
+    ensures mistake { kind_of error.now ≢ ErrorKind.OutOfMemory
+        → kind_of error.now ≢ ErrorKind.DisplayHelp
         → kind_of error.now ≢ ErrorKind.DisplayVersion → result ≡ 1 }
     ensures quiet { result ≡ 0 → err.new ≡ err.old }
     ensures statuses { (result ≡ 0) ⊎ (result ≡ 1) ⊎ (result ≡ 4) }
@@ -126,7 +127,8 @@ fn run_over<R: AllocGlobal, I: Read + Drop, O: Sink, E: Sink>(
 ) -> u8
     requires out { CanBeUsed (O.state out.old) }
     requires err { CanBeUsed (E.state err.old) }
-    ensures whole { result ≡ 0 → IfSome (I.remaining input) (ReportIsOut (O.state out.old) (O.state out.new)) }
+    ensures whole { result ≡ 0 → IfSome (I.remaining input)
+        (ReportIsOut (O.state out.old) (O.state out.new)) }
     ensures quiet { result ≡ 0 → err.new ≡ err.old }
     ensures broken { result ≡ 2 → IsUntouched (O.state out.old) (O.state out.new) }
     ensures statuses { (result ≡ 0) ⊎ (result ≡ 2) ⊎ (result ≡ 4) }

@@ -31,13 +31,16 @@ pub fn run_job<R: AllocGlobal, S1: Source, S2: Source, O: Sink, E: Sink>(
     requires first { CanBeUsed (S1.state first.old) }
     requires out { CanBeUsed (O.state out.old) }
     requires err { CanBeUsed (E.state err.old) }
-    ensures whole { result ≡ 0 → IfKnown (S1.state first.old) (ReportIsOut (O.state out.old) (O.state out.new)) }
+    ensures whole { result ≡ 0 → IfKnown (S1.state first.old)
+        (ReportIsOut (O.state out.old) (O.state out.new)) }
     ensures sound { result ≡ 0 → Works (S1.state first.old) (S1.state first.new)
         × Works (O.state out.old) (O.state out.new) × (err.new ≡ err.old) }
-    ensures fault { result ≢ 0 → (e : AnyFault) × EndsBy e result (devices (S1.state first.old) (O.state out.old))
+    ensures fault { result ≢ 0 → (e : AnyFault)
+        × EndsBy e result (devices (S1.state first.old) (O.state out.old))
         (devices (S1.state first.new) (O.state out.new)) (E.state err.old) (E.state err.new) }
     ensures statuses { (result ≡ 0) ⊎ (result ≡ 2) ⊎ (result ≡ 4) }
-    ensures broken { result ≡ 2 → IfKnown (S1.state first.old) AreBroken × IsUntouched (O.state out.old) (O.state out.new) }
+    ensures broken { result ≡ 2 → IfKnown (S1.state first.old) AreBroken
+        × IsUntouched (O.state out.old) (O.state out.new) }
     ensures second { _second.new ≡ _second.old }
 {
     let answer = match job {
