@@ -5,16 +5,16 @@ use Rattle.std.proofs.lemmas.List.{reverse-append, reverse-reverse}
 use Rattle.bk_committee.specs.Sizes.{Sizes, leader, faulty, members, Weigh}
 use Rattle.bk_cert.specs.Node.{Node}
 use Rattle.bk_rounds.specs.declared.place.CertRef.{CertRef}
-use Rattle.bk_rounds.specs.Admission.{IsPresent, AreGood, last_round}
+use Rattle.bk_rounds.specs.Admission.{IsPresent, AreFit, last_round}
 use Rattle.bk_rounds.proofs.Admitted.{same_place, admitted_held}
 use Rattle.bk_commit.proofs.Grown.{walk_present}
 use Rattle.bk_commit.specs.Ordering.{IsAnchor, InHistory, IsVoted, IsLast, IsWayBack, IsCommitted, IsCommittedBack, VotesFor}
 
 -- whoever is present is a member's certificate, of no round above the last
-pub present_member : (z : Sizes) (held : List Node) (a : CertRef) → AreGood z held → IsPresent z held a → a.author < members z
+pub present_member : (z : Sizes) (held : List Node) (a : CertRef) → AreFit z held → IsPresent z held a → a.author < members z
 present_member z held a good (c, at) = subst (λ (x : ℕ). x < members z) (ap (λ (p : CertRef). p.author) at.place) (good c (admitted_held z held c.header.round c at.admitted)).member
 
-pub present_round : (z : Sizes) (held : List Node) (a : CertRef) → AreGood z held → IsPresent z held a → a.round ≤ last_round
+pub present_round : (z : Sizes) (held : List Node) (a : CertRef) → AreFit z held → IsPresent z held a → a.round ≤ last_round
 present_round z held a good (c, at) = subst (λ (x : ℕ). x ≤ last_round) (ap (λ (p : CertRef). p.round) at.place) (good c (admitted_held z held c.header.round c at.admitted)).to_last
 
 pub anchor_is : (z : Sizes) (held : List Node) (a b : CertRef) → IsAnchor z held b → a.round ≡ b.round → a.author ≡ leader z a.round → a ≡ b

@@ -4,7 +4,7 @@ use Rattle.std.proofs.lemmas.Bool.{cases_eq}
 use Rattle.bk_committee.specs.Sizes.{Sizes, members}
 use Rattle.bk_cert.specs.Node.{Node}
 use Rattle.bk_rounds.specs.declared.place.CertRef.{CertRef}
-use Rattle.bk_rounds.specs.Admission.{AreGood}
+use Rattle.bk_rounds.specs.Admission.{AreFit}
 use Rattle.bk_rounds.specs.Links.{Links}
 use Rattle.bk_rounds.specs.Members.{Has}
 use Rattle.bk_rounds.proofs.Admitted.{admitted_held, same_place}
@@ -96,7 +96,7 @@ pub gathered_all : (z : Sizes) (held : List Node) (level round left next : ℕ) 
     → IsNextLevel z held level round next
 gathered_all z held level round left next g none x = (g.sound x, λ (y, h, l). g.complete x y h (none y) l)
 
-pub voter_below : (z : Sizes) (held : List Node) (a : CertRef) (x : ℕ) → AreGood z held → VotesFor z held a x → x < members z
+pub voter_below : (z : Sizes) (held : List Node) (a : CertRef) (x : ℕ) → AreFit z held → VotesFor z held a x → x < members z
 voter_below z held a x good vote =
     let v = vote.child_at in
     subst (λ y. y < members z) (ap (λ (p : CertRef). p.author) v.place) (good vote.child (admitted_held z held vote.child.header.round vote.child v.admitted)).member

@@ -2,7 +2,7 @@ use crate::whole_order;
 use bk_cert::Header;
 use bk_commit::{anchor, committed, reaches, votes};
 use bk_digest::Digest32;
-use bk_rounds::{CertRef, Checked, Rounds};
+use bk_rounds::{CertRef, SharedCert, Rounds};
 use std::alloc::{AllocError, Global};
 use std::process::Abort;
 use std::test::Fail;
@@ -25,13 +25,13 @@ fn cert_of(
     round: u32,
     author: u8,
     parents: &[u8],
-) -> Result<Option<Checked>, AllocError> {
+) -> Result<Option<SharedCert>, AllocError> {
     let mut ids = Vec::new(alloc);
     for parent in parents {
         ids.push(id_of(round.saturating_sub(1), *parent))?;
     }
     match Header::new(author, round, Vec::new(alloc), ids) {
-        Some(header) => Ok(Some(Checked::new(id_of(round, author), header))),
+        Some(header) => Ok(Some(SharedCert::new(alloc, id_of(round, author), header)?)),
         None => Ok(None),
     }
 }

@@ -12,7 +12,7 @@ use Rattle.bk_cert.specs.Node.{Node}
 use Rattle.bk_rounds.specs.declared.place.CertRef.{CertRef}
 use Rattle.bk_rounds.specs.declared.slots.Slot.{Slot}
 use Rattle.bk_rounds.specs.declared.names.Names.{Names}
-use Rattle.bk_rounds.specs.Admission.{IsClear, IsGood, AreGood, IsPresent, place_of, last_round}
+use Rattle.bk_rounds.specs.Admission.{IsClear, IsFit, AreFit, IsPresent, place_of, last_round}
 use Rattle.bk_rounds.specs.Listing.{IsListed, Lists}
 use Rattle.bk_rounds.specs.Members.{Has}
 use Rattle.bk_rounds.specs.private.Numbered.{id_of, round_of, author_of, cert_of, parents_of, row_of, is_marked, count_unmarked, is_heavy_in, IsInside, IsInsideRows, IsRegistered, IsAdmittedAt, IsTable}
@@ -137,8 +137,8 @@ clear_added held c clear new free = record {
       (Contains-push_cases held c d t);
 }
 
-pub good_added : (z : Sizes) (held : List Node) (c : Node) → AreGood z held → IsGood z c → AreGood z (held ++ c ∷ [])
-good_added z held c good it d t = ⊎_elim (λ old. good d old) (λ is. subst (IsGood z) is it) (Contains-push_cases held c d t)
+pub good_added : (z : Sizes) (held : List Node) (c : Node) → AreFit z held → IsFit z c → AreFit z (held ++ c ∷ [])
+good_added z held c good it d t = ⊎_elim (λ old. good d old) (λ is. subst (IsFit z) is it) (Contains-push_cases held c d t)
 
 -- the map of places after the place of the certificate was put in
 pub placed_added : (held : List Node) (n m : Names) (c : Node) (k : ℕ) (slot : Slot) → IsAdding held n m c k slot → 1 ≤ c.header.round → (placed placed' : CertRef → Option ℕ)
@@ -209,7 +209,7 @@ parent_marked z n t i p m low among = by_round (round_of n.slots.items i) refl (
         (t.exact p).1 (subst (λ (q : ℕ). IsAdmittedAt z n.slots.items q p) (sym (admitted_at z n.slots.items r p g)) g)
 
 -- so it has a round, and in round 1 there is none
-parent_round : (z : Sizes) (held : List Node) (n : Names) → AreGood z held → IsTied held n.slots.items → IsTable z n.slots.items n.marks.items n.pending.items → (i p : ℕ)
+parent_round : (z : Sizes) (held : List Node) (n : Names) → AreFit z held → IsTied held n.slots.items → IsTable z n.slots.items n.marks.items n.pending.items → (i p : ℕ)
     → is_marked n.marks.items i ≡ true → Contains (parents_of n.slots.items i) p → is_marked n.marks.items p ≡ true
 parent_round z held n good tied t i p m among = ⊎_elim
     (λ one. absurd (no_parent (tied.cert i some) one))
@@ -227,14 +227,14 @@ parent_round z held n good tied t i p m among = ⊎_elim
         none_in_nil (id_of n.slots.items p) (subst (λ (qs : List (List ℕ)). Contains qs (id_of n.slots.items p)) none there)
 
 -- the author of an admitted one's parent is a member
-pub parent_author : (z : Sizes) (held : List Node) (n : Names) → AreGood z held → IsTied held n.slots.items → IsTable z n.slots.items n.marks.items n.pending.items → (i p : ℕ)
+pub parent_author : (z : Sizes) (held : List Node) (n : Names) → AreFit z held → IsTied held n.slots.items → IsTable z n.slots.items n.marks.items n.pending.items → (i p : ℕ)
     → is_marked n.marks.items i ≡ true → Contains (parents_of n.slots.items i) p → author_of n.slots.items p < members z
 parent_author z held n good tied t i p m among =
     let (d, at, s) = tied.cert p (marked_round z n t p (parent_round z held n good tied t i p m among)) in
     subst (λ (x : ℕ). x < members z) s.author (good d (held_at held (cert_of n.slots.items p) d at)).member
 
 pub whole_added : (z : Sizes) (held : List Node) (n m : Names) (c : Node) (k : ℕ) (slot : Slot) (placed placed' : CertRef → Option ℕ) (top top' : ℕ) (out : List ℕ)
-    → IsWhole z held n placed top → IsAdding held n m c k slot → IsGood z c → ((d : Node) → Contains held d → d.id ≢ c.id) → ((d : Node) → Contains held d → place_of d ≢ place_of c)
+    → IsWhole z held n placed top → IsAdding held n m c k slot → IsFit z c → ((d : Node) → Contains held d → d.id ≢ c.id) → ((d : Node) → Contains held d → place_of d ≢ place_of c)
     → ((a : CertRef) → (a ≡ place_of c → placed' a ≡ Some k) × (a ≢ place_of c → placed' a ≡ placed a))
     → IsTable z m.slots.items m.marks.items m.pending.items → IsAdmitting n m out top top' → IsWhole z (held ++ c ∷ []) m placed' top'
 whole_added z held n m c k slot placed placed' top top' out w h it new free up t a = record {
@@ -268,7 +268,7 @@ whole_added z held n m c k slot placed placed' top top' out w h it new free up t
       omega (arith, l, s.round));
 }
   where
-    good : AreGood z (held ++ c ∷ [])
+    good : AreFit z (held ++ c ∷ [])
     good = good_added z held c w.good it
 
     tied : IsTied (held ++ c ∷ []) m.slots.items

@@ -18,3 +18,4 @@ pub mod Refs
 pub mod Whole
 pub mod Adding
 pub mod Waits
+pub mod Fit

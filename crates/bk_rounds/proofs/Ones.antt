@@ -14,7 +14,7 @@ use Rattle.std.specs.Cmp.{nat_eq_equiv}
 use Rattle.std.proofs.lemmas.Map.Views.{list_any-from_Contains}
 use Rattle.bk_committee.specs.Sizes.{Sizes, Weigh, weight, weight_of, members, total, quorum}
 use Rattle.bk_cert.specs.Node.{Node}
-use Rattle.bk_rounds.specs.Admission.{IsAdmittedIn, IsClear, AreGood}
+use Rattle.bk_rounds.specs.Admission.{IsAdmittedIn, IsClear, AreFit}
 use Rattle.bk_rounds.specs.Heads.{WeighOne, IsAdmittedByParents, HaveParents}
 use Rattle.bk_rounds.proofs.Admitted.{admitted_held, admitted_round, IsNamed, IsParent, same_place}
 use Rattle.bk_rounds.proofs.Counting.{apart_from_none}
@@ -108,7 +108,7 @@ authors_apart z held r clear (p ∷ ps) h sorted =
     )
 
 -- so many parents weigh so much
-parents_enough : (z : Sizes) (held : List Node) (r : ℕ) (c : Node) → WeighOne z → AreGood z held → IsClear held → Contains held c
+parents_enough : (z : Sizes) (held : List Node) (r : ℕ) (c : Node) → WeighOne z → AreFit z held → IsClear held → Contains held c
     → (each : (p : List ℕ) → Contains c.header.parents p → IsNamed z held r p) (least : ℕ) → least ≤ length c.header.parents → Weigh z (IsParent z held r c) least
 parents_enough z held r c ones good clear there each least many =
     let all : AllByRecursion (IsNamed z held r) c.header.parents = recursion_from_All (IsNamed z held r) c.header.parents
@@ -123,7 +123,7 @@ parents_enough z held r c ones good clear there each least many =
     })
 
 -- Where each member weighs 1 and each certificate past round 1 has a quorum of parents, what has its parents admitted is admitted.
-pub by_weight : (z : Sizes) (held : List Node) → WeighOne z → AreGood z held → HaveParents z held → IsClear held
+pub by_weight : (z : Sizes) (held : List Node) → WeighOne z → AreFit z held → HaveParents z held → IsClear held
     → (r : ℕ) (c : Node) → IsAdmittedByParents held r c → IsAdmittedIn z held r c
 unfolding IsAdmittedIn IsAdmittedByParents
 by_weight z held ones good many clear zero c h = h

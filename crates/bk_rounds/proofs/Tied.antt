@@ -9,7 +9,7 @@ use Rattle.std.proofs.lemmas.Map.Views.{list_any-from_Contains}
 use Rattle.std.specs.Cmp.{nat_eq_equiv}
 use Rattle.bk_committee.specs.Sizes.{Sizes, Weigh, weight, weight_of, quorum}
 use Rattle.bk_cert.specs.Node.{Node}
-use Rattle.bk_rounds.specs.Admission.{IsAdmittedIn, IsClear, AreGood}
+use Rattle.bk_rounds.specs.Admission.{IsAdmittedIn, IsClear, AreFit}
 use Rattle.bk_rounds.specs.declared.slots.Slot.{Slot}
 use Rattle.bk_rounds.specs.private.Numbered.{id_of, round_of, author_of, cert_of, parents_of, is_heavy_in, IsInside, IsAdmittedAt}
 use Rattle.bk_rounds.specs.private.Names.{IsNumbering}
@@ -57,7 +57,7 @@ authors_are z held slots known n tied r (p ∷ ps) low h =
     let rest = authors_are z held slots known n tied r ps (λ q t. low q (contains_later p ps q t)) h.1 in
     λ i. s.author i ∷ rest i
 
-pub heavy_up : (z : Sizes) (held : List Node) (slots : List Slot) (known : List ℕ → Option ℕ) → AreGood z held → IsClear held → IsNumbering slots known → IsTied held slots → IsInside slots
+pub heavy_up : (z : Sizes) (held : List Node) (slots : List Slot) (known : List ℕ → Option ℕ) → AreFit z held → IsClear held → IsNumbering slots known → IsTied held slots → IsInside slots
     → (r i : ℕ) (c : Node) → IsSlotOf slots i c → Contains held c → ((q : List ℕ) → Contains c.header.parents q → IsNamed z held r q)
     → is_heavy_in z slots (parents_of slots i) ≡ true → Weigh z (IsParent z held r c) (quorum z)
 heavy_up z held slots known good clear n tied inside r i c s there each heavy =
@@ -91,7 +91,7 @@ heavy_down z held slots known n tied inside r i c s w =
 pub admitted_some : (z : Sizes) (slots : List Slot) (r p : ℕ) → IsAdmittedAt z slots r p → 0 < r → 0 < round_of slots p
 admitted_some z slots r p h low = let e = admitted_at z slots r p h in omega (arith, e, low)
 
-pub number_up : (z : Sizes) (held : List Node) (slots : List Slot) (known : List ℕ → Option ℕ) → AreGood z held → IsClear held → IsNumbering slots known → IsTied held slots → IsInside slots
+pub number_up : (z : Sizes) (held : List Node) (slots : List Slot) (known : List ℕ → Option ℕ) → AreFit z held → IsClear held → IsNumbering slots known → IsTied held slots → IsInside slots
     → (r i : ℕ) → IsAdmittedAt z slots r i → (c : Node) → Contains held c → IsSlotOf slots i c → IsAdmittedIn z held r c
 unfolding IsAdmittedAt IsAdmittedIn
 number_up z held slots known good clear n tied inside zero i h c there s = h

@@ -12,7 +12,7 @@ use Rattle.bk_cert.specs.Node.{Node}
 use Rattle.bk_rounds.specs.declared.place.CertRef.{CertRef}
 use Rattle.bk_rounds.specs.declared.slots.Slot.{Slot}
 use Rattle.bk_rounds.specs.declared.names.Names.{Names}
-use Rattle.bk_rounds.specs.Admission.{IsClear, IsGood, AreGood, IsPresent, place_of, last_round}
+use Rattle.bk_rounds.specs.Admission.{IsClear, IsFit, AreFit, IsPresent, place_of, last_round}
 use Rattle.bk_rounds.specs.Listing.{IsListed, Lists}
 use Rattle.bk_rounds.specs.Members.{Has}
 use Rattle.bk_rounds.specs.private.Numbered.{id_of, round_of, author_of, cert_of, parents_of, row_of, is_marked, count_unmarked, is_heavy_in, IsInside, IsInsideRows, IsRegistered, IsAdmittedAt, IsTable}

@@ -54,15 +54,15 @@ pub record IsClear (held : List Node) : Type 0 where
 abbrev pub last_round : ℕ
 last_round = 1000000
 
--- What the local rules say of a certificate: its author is a member, its round is 1 to 1,000,000,
+-- What the table needs to know of a certificate, which the local rules say: its author is a member, its round is 1 to 1,000,000,
 -- its parents ascend, and in round 1 it has none.
-pub record IsGood (z : Sizes) (c : Node) : Type 0 where
+pub record IsFit (z : Sizes) (c : Node) : Type 0 where
   pub member : c.header.author < members z
   pub from_one : 1 ≤ c.header.round
   pub to_last : c.header.round ≤ last_round
   pub ascending : IsStrictlySortedBy (slice_cmp nat_cmp) c.header.parents
   pub first : c.header.round ≡ 1 → c.header.parents ≡ []
 
--- each held certificate is good
-abbrev pub AreGood : Sizes → List Node → Type 0
-AreGood z held = (c : Node) → Contains held c → IsGood z c
+-- each held certificate is fit
+abbrev pub AreFit : Sizes → List Node → Type 0
+AreFit z held = (c : Node) → Contains held c → IsFit z c

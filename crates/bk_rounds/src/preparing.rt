@@ -4,9 +4,9 @@ ghost use Rattle.std.specs.Prelude.{◌≡◌, ◌<◌, OnOk, IfOk, vec_len, vec
 ghost use Rattle.bk_rounds.specs.private.Names.{AreNames, Grows};
 ghost use Rattle.bk_rounds.specs.private.Prepared.{IsPrepared};
 
-use crate::checked::Checked;
 use crate::names::{Names, number_of, numbers_of};
 use crate::place::CertRef;
+use crate::shared::SharedCert;
 use crate::waking::register;
 use std::alloc::{AllocError, Global};
 
@@ -24,8 +24,8 @@ pub(crate) struct Prepared {
 pub(crate) fn prepare(
     alloc: Global,
     names: &mut Names,
-    certs: &mut Vec<Checked>,
-    cert: &Checked,
+    certs: &mut Vec<SharedCert>,
+    cert: &SharedCert,
 ) -> Result<Prepared, AllocError>
     requires names { AreNames names.old }
     ensures names { AreNames names.new }

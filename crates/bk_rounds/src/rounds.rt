@@ -5,9 +5,10 @@ ghost use Rattle.std.specs.List.Sorted.{IsStrictlySortedBy};
 ghost use Rattle.std.specs.Ordering.{nat_cmp};
 ghost use Rattle.std.specs.Cmp.Lexicographic.{slice_cmp};
 ghost use Rattle.bk_committee.specs.Sizes.{members, faulty, quorum, leader};
+ghost use Rattle.bk_committee.specs.Payload.{sizes_of};
 ghost use Rattle.bk_cert.specs.Node.{Node};
 ghost use Rattle.bk_rounds.specs.declared.place.CertRef.{CertRef};
-ghost use Rattle.bk_rounds.specs.Admission.{StandsAt, IsPresent, IsClear, IsGood, AreGood, WaitsAt, place_of, last_round};
+ghost use Rattle.bk_rounds.specs.Admission.{StandsAt, IsPresent, IsClear, IsFit, AreFit, WaitsAt, place_of, last_round};
 ghost use Rattle.bk_rounds.specs.Links.{Links};
 ghost use Rattle.bk_rounds.specs.Listing.{Lists};
 ghost use Rattle.bk_rounds.specs.Members.{Has, IsWeightOf};
@@ -17,14 +18,15 @@ ghost use Rattle.bk_rounds.specs.private.Names.{AreNames};
 ghost use Rattle.bk_rounds.specs.private.Tied.{IsPlaced, IsNumberAt, WaitsBelow, number_at};
 
 use crate::admitting::{admit, list, tell};
-use crate::checked::Checked;
 use crate::members::Members;
 use crate::names::Names;
 use crate::place::CertRef;
 use crate::preparing::prepare;
+use crate::shared::SharedCert;
 use crate::slots::Slot;
 use crate::weights::Weights;
 use bk_cert::Header;
+use bk_committee::Committee;
 use bk_digest::Digest32;
 use std::alloc::{AllocError, Global};
 use std::cmp::Ordering;
@@ -37,7 +39,7 @@ use std::marker::Model;
 pub struct Rounds {
     alloc: Global,
     weights: Weights,
-    certs: Vec<Checked>,
+    certs: Vec<SharedCert>,
     names: Names,
     places: BTreeMap<CertRef, usize>,
     // The greatest round of an admitted one.
@@ -56,6 +58,15 @@ impl Model for Rounds {
 }
 
 impl Rounds {
+    /// A table with no certificate, of a committee.
+    pub fn new(alloc: Global, committee: &Committee) -> Result<Rounds, AllocError>
+        ensures { IfOk result (λ rounds. rounds ≡ rounds_with (sizes_of committee.now) []) }
+    {
+        let _ = committee.n();
+        let rounds = Rounds::with_weights(alloc, committee.weights())?;
+        Ok(rounds)
+    }
+
     /// A table with no certificate, of a committee with these weights, each above 0.
     pub fn with_weights(alloc: Global, weights: &[u32]) -> Result<Rounds, AllocError>
         requires some { 1 ≤ length weights.now }
@@ -76,8 +87,8 @@ impl Rounds {
 
     /// Whether a certificate may be added: it is good, and neither its id nor its place is held. A
     /// certificate that breaks no local rule is good.
-    pub fn can_add(&self, cert: &Checked) -> bool
-        ensures good { IsTrue result → IsGood self.now.sizes cert.now }
+    pub fn can_add(&self, cert: &SharedCert) -> bool
+        ensures good { IsTrue result → IsFit self.now.sizes cert.now }
         ensures new { IsTrue result → (c : Node) → Contains self.now.held c → c.id ≢ cert.now.id }
         ensures free { IsTrue result → (c : Node) → Contains self.now.held c
             → place_of c ≢ place_of cert.now }
@@ -90,15 +101,15 @@ impl Rounds {
         if self.has(place) || self.has_id(cert.id()) {
             return false;
         }
-        is_good(self.members(), header)
+        is_fit(self.members(), header)
     }
 
     /// Adds a certificate, and answers the places of all that this makes admitted, by round and
     /// author.
     ///
     /// An `Err` comes only where memory runs out, and leaves the table as it was.
-    pub fn add(&mut self, cert: Checked) -> Result<Vec<CertRef>, AllocError>
-        requires good { IsGood self.old.sizes cert }
+    pub fn add(&mut self, cert: SharedCert) -> Result<Vec<CertRef>, AllocError>
+        requires good { IsFit self.old.sizes cert }
         requires new { (c : Node) → Contains self.old.held c → c.id ≢ cert.id }
         requires free { (c : Node) → Contains self.old.held c → place_of c ≢ place_of cert }
         ensures ok { OnOk result (self.new ≡ rounds_with self.old.sizes
@@ -145,7 +156,7 @@ impl Rounds {
     }
 
     /// The admitted certificate of this place.
-    pub fn at(&self, place: CertRef) -> Option<&Checked>
+    pub fn at(&self, place: CertRef) -> Option<&SharedCert>
         ensures found { IfSome result (λ c. StandsAt self.now.sizes self.now.held place c.now) }
         ensures none { IfNone result (IsPresent self.now.sizes self.now.held place → ⊥) }
     {
@@ -197,7 +208,7 @@ impl Rounds {
 
     /// What is held is good, and no two of it share an id or a place.
     pub fn sound(&self)
-        ensures good { AreGood self.now.sizes self.now.held }
+        ensures good { AreFit self.now.sizes self.now.held }
         ensures clear { IsClear self.now.held }
     {
         let _open = self.top;
@@ -270,7 +281,7 @@ fn admitted_number(
 }
 
 // Whether a header is good for so many members.
-fn is_good(members: u8, header: &Header) -> bool
+fn is_fit(members: u8, header: &Header) -> bool
     ensures member { IsTrue result → header.now.author < members }
     ensures round { IsTrue result → (1 ≤ header.now.round) × (header.now.round ≤ last_round) }
     ensures ascending { IsTrue result → IsStrictlySortedBy (slice_cmp nat_cmp) header.now.parents }

@@ -8,7 +8,7 @@ use Rattle.bk_cert.specs.Node.{Node}
 use Rattle.bk_rounds.specs.declared.place.CertRef.{CertRef}
 use Rattle.bk_rounds.specs.declared.slots.Slot.{Slot}
 use Rattle.bk_rounds.specs.declared.names.Names.{Names}
-use Rattle.bk_rounds.specs.Admission.{IsClear, AreGood, last_round}
+use Rattle.bk_rounds.specs.Admission.{IsClear, AreFit, last_round}
 use Rattle.bk_rounds.specs.Members.{Has}
 use Rattle.bk_rounds.specs.private.Numbered.{id_of, round_of, author_of, cert_of, parents_of, is_marked, IsTable}
 use Rattle.bk_rounds.specs.private.Names.{set_of, AreNames}
@@ -53,7 +53,7 @@ AreSets n = (i : ℕ) → is_marked n.marks.items i ≡ true → (x : ℕ)
 pub record IsWhole (z : Sizes) (held : List Node) (n : Names) (numbered : CertRef → Option ℕ)
     (top : ℕ) : Type 0 where
   pub few : members z ≤ 128
-  pub good : AreGood z held
+  pub good : AreFit z held
   pub clear : IsClear held
   pub names : AreNames n
   pub table : IsTable z n.slots.items n.marks.items n.pending.items

@@ -12,7 +12,7 @@ use Rattle.bk_cert.specs.Values.{HeaderValue}
 use Rattle.bk_rounds.specs.declared.place.CertRef.{CertRef}
 use Rattle.bk_rounds.specs.declared.slots.Slot.{Slot}
 use Rattle.bk_rounds.specs.declared.names.Names.{Names}
-use Rattle.bk_rounds.specs.Admission.{IsGood, IsPresent, place_of}
+use Rattle.bk_rounds.specs.Admission.{IsFit, IsPresent, place_of}
 use Rattle.bk_rounds.specs.Listing.{Lists}
 use Rattle.bk_rounds.specs.Rounds.{RoundsValue, BecomesPresent, rounds_with}
 use Rattle.bk_rounds.specs.private.Numbered.{IsTable, IsInside, round_of, author_of, parents_of, is_marked, count_unmarked}
@@ -131,7 +131,7 @@ tell-self-inside-requires-clause-authors c =
       slots = e_s ∙ (c.admit.ensures.slots ∙ ap (λ (ss : List Slot). set ss k slot) c.deref_mut.ensures.value);
       numbers = refl;
     } in
-    let good : IsGood z cert = subst (λ (v : RoundsValue). IsGood v.sizes cert) (sym c.self.view_is) c.requires.good in
+    let good : IsFit z cert = subst (λ (v : RoundsValue). IsFit v.sizes cert) (sym c.self.view_is) c.requires.good in
     let from : (d : Node) → Contains held d → 1 ≤ d.header.round = λ d t. (w.good d t).from_one in
     let tied : IsTied (held ++ cert ∷ []) m.slots.items = tied_added held n m cert k slot added from w.tied in
     λ i q there among.
@@ -171,7 +171,7 @@ invariant_of-self-2 c =
       slots = e_s ∙ (c.admit.ensures.slots ∙ ap (λ (ss : List Slot). set ss k slot) c.deref_mut.ensures.value);
       numbers = refl;
     } in
-    let good : IsGood z cert = subst (λ (v : RoundsValue). IsGood v.sizes cert) (sym c.self.view_is) c.requires.good in
+    let good : IsFit z cert = subst (λ (v : RoundsValue). IsFit v.sizes cert) (sym c.self.view_is) c.requires.good in
     let from : (d : Node) → Contains held d → 1 ≤ d.header.round = λ d t. (w.good d t).from_one in
     let tied : IsTied (held ++ cert ∷ []) m.slots.items = tied_added held n m cert k slot added from w.tied in
     let e_t : (with_items n.sets c.tell-self-inside.new.sets).items ≡ c.tell-self-inside.new.sets = with_items_is n.sets c.tell-self-inside.new.sets (omega (arith, c.tell-self-inside.auto.sets, ap length c.deref_mut-4.ensures.value, n.sets.ok.0)) in
@@ -223,7 +223,7 @@ returns-clause-answer c =
       slots = e_s ∙ (c.admit.ensures.slots ∙ ap (λ (ss : List Slot). set ss k slot) c.deref_mut.ensures.value);
       numbers = refl;
     } in
-    let good : IsGood z cert = subst (λ (v : RoundsValue). IsGood v.sizes cert) (sym c.self.view_is) c.requires.good in
+    let good : IsFit z cert = subst (λ (v : RoundsValue). IsFit v.sizes cert) (sym c.self.view_is) c.requires.good in
     let from : (d : Node) → Contains held d → 1 ≤ d.header.round = λ d t. (w.good d t).from_one in
     let tied : IsTied (held ++ cert ∷ []) m.slots.items = tied_added held n m cert k slot added from w.tied in
     let e_t : (with_items n.sets c.tell-self-inside.new.sets).items ≡ c.tell-self-inside.new.sets = with_items_is n.sets c.tell-self-inside.new.sets (omega (arith, c.tell-self-inside.auto.sets, ap length c.deref_mut-4.ensures.value, n.sets.ok.0)) in
