@@ -138,7 +138,7 @@ one_way_back z held x (p ∷ ps) (q ∷ qs) h k =
     let rest : ps ≡ qs = one_way_back z held p ps qs h.1 (subst (λ (w : CertRef). IsWayBack z held w qs) (sym e) k.1) in
     cc
 
-voted_earlier : (z : Sizes) (held : List Node) → IsClear held → (x y : CertRef) → IsVoted z held x → IsAnchor z held y
+pub voted_earlier : (z : Sizes) (held : List Node) → IsClear held → (x y : CertRef) → IsVoted z held x → IsAnchor z held y
     → x.round < y.round → IsEarlier z held y x
 voted_earlier z held clear x y voted anchor low =
     let odd : x.round % 2 ≡ 1 = voted.anchor.odd in

@@ -4,3 +4,4 @@ pub mod Settled
 pub mod Levels
 pub mod Back
 pub mod Last
+pub mod Onward

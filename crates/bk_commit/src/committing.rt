@@ -1,10 +1,12 @@
 //! The committed anchors.
 
-ghost use Rattle.std.specs.Prelude.{◌≡◌, ℕ, ◌<◌, ◌≤◌, ◌↔◌, ◌%◌, IsTrue, IfOk, MatchOption};
+ghost use Rattle.std.specs.Prelude.{◌≡◌, ◌++◌, ℕ, ◌<◌, ◌≤◌, ◌↔◌, ◌%◌, List, IsTrue, IfOk, MatchOption};
 ghost use Rattle.bk_committee.specs.Sizes.{leader, members};
 ghost use Rattle.bk_rounds.specs.declared.place.CertRef.{CertRef};
 ghost use Rattle.bk_rounds.specs.Members.{Has};
-ghost use Rattle.bk_commit.specs.Ordering.{IsAnchor, IsVoted, IsLast, IsWayBack, IsCommitted};
+ghost use Rattle.bk_commit.specs.Ordering.{IsAnchor, IsVoted, IsLast, IsCommitted};
+ghost use Rattle.bk_commit.specs.Growth.{WereCommitted};
+ghost use Rattle.bk_commit.specs.private.Way.{newest_in, IsWayTo};
 
 use crate::anchors::{anchor, is_voted};
 use crate::history::{first_level, next_level};
@@ -15,9 +17,35 @@ use std::alloc::{AllocError, Global};
 pub fn committed(alloc: Global, rounds: &Rounds) -> Result<Vec<CertRef>, AllocError>
     ensures { IfOk result (λ anchors. IsCommitted rounds.now.sizes rounds.now.held anchors.items) }
 {
-    match last_voted(rounds) {
+    let anchors = anchors_above(alloc, rounds, 0)?;
+    Ok(anchors)
+}
+
+/// The round of the newest of these anchors, of which the oldest comes first; 0 where there is none.
+pub(crate) fn newest_round(anchors: &[CertRef]) -> u32
+    ensures { result ≡ newest_in anchors.now }
+{
+    if anchors.is_empty() {
+        return 0;
+    }
+    anchors[anchors.len() - 1].round
+}
+
+/// The committed anchors of a later round than this one, oldest first: what follows the anchors
+/// that were committed before, of which the newest is of this round.
+pub(crate) fn anchors_above(
+    alloc: Global,
+    rounds: &Rounds,
+    floor: u32,
+) -> Result<Vec<CertRef>, AllocError>
+    ensures { IfOk result (λ part. (old : List CertRef)
+        → WereCommitted rounds.now.sizes rounds.now.held old → newest_in old ≡ floor
+        → IsCommitted rounds.now.sizes rounds.now.held (old ++ part.items)) }
+{
+    rounds.sound();
+    match last_voted(rounds, floor) {
         Some(last) => {
-            let mut anchors = way_back(alloc, rounds, last)?;
+            let mut anchors = way_back(alloc, rounds, last, floor)?;
             anchors.reverse();
             anchors.push(last)?;
             Ok(anchors)
@@ -26,13 +54,13 @@ pub fn committed(alloc: Global, rounds: &Rounds) -> Result<Vec<CertRef>, AllocEr
     }
 }
 
-// The voted anchor of the greatest round.
-fn last_voted(rounds: &Rounds) -> Option<CertRef>
+// The voted anchor of the greatest round, if that is above the floor.
+fn last_voted(rounds: &Rounds, floor: u32) -> Option<CertRef>
     ensures { MatchOption result ((a : CertRef) → IsVoted rounds.now.sizes rounds.now.held a
-        → ⊥) (λ a. IsLast rounds.now.sizes rounds.now.held a) }
+        → a.round ≤ floor) (λ a. IsLast rounds.now.sizes rounds.now.held a × (floor < a.round)) }
 {
     let mut round = rounds.top();
-    while round > 0 {
+    while round > floor {
         if let Some(a) = anchor(rounds, round) {
             if is_voted(rounds, a) {
                 return Some(a);
@@ -43,17 +71,23 @@ fn last_voted(rounds: &Rounds) -> Option<CertRef>
     None
 }
 
-// The way back from an anchor: each the prior of the one before it.
-fn way_back(alloc: Global, rounds: &Rounds, last: CertRef) -> Result<Vec<CertRef>, AllocError>
-    requires { IsAnchor rounds.now.sizes rounds.now.held last }
-    ensures { IfOk result (λ back. IsWayBack rounds.now.sizes rounds.now.held last back.items) }
+// The way back from an anchor, each the prior of the one before it, as far as it is above the floor.
+fn way_back(
+    alloc: Global,
+    rounds: &Rounds,
+    last: CertRef,
+    floor: u32,
+) -> Result<Vec<CertRef>, AllocError>
+    requires anchor { IsAnchor rounds.now.sizes rounds.now.held last }
+    requires above { floor < last.round }
+    ensures { IfOk result (λ back. IsWayTo rounds.now.sizes rounds.now.held last floor back.items) }
 {
     rounds.sound();
     let _ = rounds.members();
     let mut back = Vec::new(alloc);
     let mut level = first_level(last.author);
     let mut round = last.round;
-    while round > 1 {
+    while round > floor + 1 {
         level = next_level(rounds, level, round);
         round -= 1;
         if has_leader(rounds, level, round) {

@@ -8,8 +8,10 @@ mod anchors;
 mod committing;
 mod history;
 mod laws;
+mod walk;
 
 pub use anchors::{anchor, votes};
 pub use committing::committed;
 pub use history::{first_level, next_level, reaches};
 pub use laws::{anchors_grow, committed_anchors, voted_is_reached};
+pub use walk::Walk;
