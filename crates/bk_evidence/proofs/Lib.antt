@@ -1,0 +1,5 @@
+pub mod Lesser
+pub mod Colliding
+pub mod Indexing
+pub mod Storing
+pub mod Payloads

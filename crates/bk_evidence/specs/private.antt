@@ -1,0 +1,3 @@
+pub mod Least
+pub mod Indexed
+pub mod Places

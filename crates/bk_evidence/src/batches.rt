@@ -1,0 +1,189 @@
+//! The batches that are held, by digest.
+
+ghost use Rattle.std.specs.Prelude.{◌≡◌, ◌≢◌, ◌++◌, ◌∷◌, ◌<◌, ◌↔◌, [], length, Contains, IfOk, OnOk, OnErr, None, IsTrue, MatchOption, option_map, slice_index_or, IfSome};
+ghost use Rattle.std.specs.List.{position};
+ghost use Rattle.std.specs.Str.{bytes_eq};
+ghost use Rattle.indexmap.specs.IndexMap.{get};
+ghost use Rattle.bk_evidence.specs.Batches.{Batch, AreApart, IsBatchCollision, IsBatchOffer, batch_with, batches_after, has_digest, payload_of};
+ghost use Rattle.bk_evidence.specs.private.Indexed.{IsIndexed};
+
+use crate::least::least_id;
+use bk_digest::Digest32;
+use indexmap::IndexMap;
+use std::alloc::{AllocError, Global};
+use std::marker::Model;
+
+/// What an offer of a batch answers.
+#[derive(Clone, Copy, Debug, PartialEq, Eq)]
+pub enum BatchOffer {
+    /// Nothing was held under this digest.
+    New,
+    /// This payload was held under this digest: nothing changes.
+    Repeat,
+    /// Other payloads alone were held under this digest.
+    Collision,
+}
+
+/// A batch among those that are held: its index in the order in which they were stored.
+#[derive(Clone, Copy, Debug, PartialEq, Eq)]
+pub struct BatchRef {
+    /// The index, from 0.
+    pub index: usize,
+}
+
+// A payload under its digest.
+#[derive(Drop)]
+struct Stored {
+    digest: Digest32,
+    payload: Vec<u8>,
+}
+
+impl Model for Stored {
+    ghost use Rattle.bk_evidence.specs.Batches.{Batch, batch_with};
+
+    ghost Value = { Batch };
+
+    ghost view = { λ s. batch_with s.digest s.payload.items };
+}
+
+/// The batches that were offered, each distinct pair of a digest and a payload once. Contracts see
+/// them in the order in which they were stored.
+///
+/// A batch takes its payload and some 100 bytes. Digests are handed in: that a digest is its
+/// payload's is the caller's concern. Where two payloads have one digest, a further offer under it
+/// goes over all that is held; with SHA-256 no such two are known.
+#[derive(Drop)]
+pub struct Batches {
+    stored: Vec<Stored>,
+    // The index of the first batch under each digest.
+    firsts: IndexMap<Digest32, usize>,
+    collision: Option<Digest32>,
+}
+
+impl Model for Batches {
+    ghost use Rattle.std.specs.Prelude.{List};
+    ghost use Rattle.bk_evidence.specs.Batches.{Batch};
+    ghost use Rattle.bk_evidence.specs.Collisions.{CollidesBy, id_cmp};
+    ghost use Rattle.bk_evidence.specs.private.Indexed.{IsIndexed};
+    ghost use Rattle.bk_evidence.specs.private.Least.{IsLeastBy};
+
+    ghost Value = { List Batch };
+
+    ghost view = { λ b. b.stored.items };
+
+    ghost invariant = { λ b. IsIndexed (λ (e : Batch). e.digest) b.stored.items b.firsts
+        × IsLeastBy id_cmp (CollidesBy (λ (e : Batch). e.digest) b.stored.items) b.collision };
+}
+
+impl Batches {
+    /// No batch. It takes no memory.
+    pub fn new(alloc: Global) -> Batches
+        ensures { result ≡ [] }
+    {
+        Batches {
+            stored: Vec::new(alloc),
+            firsts: IndexMap::new(alloc),
+            collision: None,
+        }
+    }
+
+    /// Stores a payload under a digest, unless it is stored there.
+    ///
+    /// An `Err` comes only where memory runs out, and leaves what is held as it was.
+    pub fn offer(&mut self, digest: Digest32, payload: Vec<u8>) -> Result<BatchOffer, AllocError>
+        ensures answer { IfOk result
+            (IsBatchOffer self.old (batch_with digest payload.items)) }
+        ensures stored { IfOk result
+            (λ o. self.new ≡ batches_after self.old (batch_with digest payload.items) o) }
+        ensures unchanged { OnErr result (self.new ≡ self.old) }
+    {
+        let batch = Stored { digest, payload };
+        if !self.firsts.contains_key(&digest) {
+            store_first(&mut self.stored, &mut self.firsts, batch)?;
+            return Ok(BatchOffer::New);
+        }
+        if is_stored(&self.stored, &batch) {
+            return Ok(BatchOffer::Repeat);
+        }
+        self.stored.push(batch)?;
+        self.collision = Some(least_id(self.collision, digest));
+        Ok(BatchOffer::Collision)
+    }
+
+    /// The payload under a digest, the one that was offered first.
+    pub fn get(&self, digest: &Digest32) -> Option<&[u8]>
+        ensures { option_map (λ p. p.now) result ≡ payload_of self.now digest.now }
+    {
+        let index = *self.firsts.get(digest)?;
+        Some(payload_at(&self.stored, index))
+    }
+
+    /// Where the batch stands whose payload `get` gives.
+    pub fn index_of(&self, digest: &Digest32) -> Option<BatchRef>
+        ensures { option_map (λ b. b.index) result ≡ position (has_digest digest.now) self.now }
+    {
+        let index = *self.firsts.get(digest)?;
+        Some(BatchRef { index })
+    }
+
+    /// The payload of a batch.
+    pub fn payload(&self, batch: BatchRef) -> &[u8]
+        requires { batch.index < length self.now }
+        ensures { (d : Batch) → result.now ≡ (slice_index_or self.now batch.index d).payload }
+    {
+        payload_at(&self.stored, batch.index)
+    }
+
+    /// The least digest under which two payloads are held.
+    pub fn collision(&self) -> Option<Digest32>
+        ensures { MatchOption result (AreApart self.now) (IsBatchCollision self.now) }
+    {
+        self.collision
+    }
+}
+
+// The payload at an index.
+fn payload_at(stored: &[Stored], index: usize) -> &[u8]
+    requires { index < length stored.now }
+    ensures { (d : Batch) → result.now ≡ (slice_index_or stored.now index d).payload }
+{
+    let batch = &stored[index];
+    batch.payload.as_slice()
+}
+
+// Whether the batch is stored.
+fn is_stored(stored: &[Stored], batch: &Stored) -> bool
+    ensures { IsTrue result ↔ Contains stored.now batch.now }
+{
+    for other in stored {
+        if is_same(other, batch) {
+            return true;
+        }
+    }
+    false
+}
+
+// Whether two batches have the same digest and the same payload.
+fn is_same(one: &Stored, other: &Stored) -> bool
+    ensures { IsTrue result ↔ (one.now ≡ other.now) }
+{
+    one.digest == other.digest && one.payload == other.payload
+}
+
+// Stores the first batch under a digest, or nothing where memory runs out.
+fn store_first(
+    stored: &mut Vec<Stored>,
+    firsts: &mut IndexMap<Digest32, usize>,
+    batch: Stored,
+) -> Result<(), AllocError>
+    requires indexed { IsIndexed (λ (e : Batch). e.digest) stored.old.items firsts.old }
+    requires new { get bytes_eq firsts.old batch.digest ≡ None }
+    ensures indexed { IsIndexed (λ (e : Batch). e.digest) stored.new.items firsts.new }
+    ensures ok { OnOk result (stored.new.items ≡ stored.old.items ++ batch ∷ []) }
+    ensures err { OnErr result (stored.new.items ≡ stored.old.items) }
+{
+    stored.reserve(1)?;
+    firsts.insert(batch.digest, stored.len())?;
+    stored.push_reserved(batch);
+    Ok(())
+}
