@@ -15,7 +15,8 @@ use Rattle.bk_rounds.specs.Admission.{IsClear, IsPresent, place_of}
 use Rattle.bk_rounds.proofs.Admitted.{admitted_held}
 use Rattle.bk_rounds.proofs.Lists.{none_in_nil, contains_cases, contains_first, contains_later}
 use Rattle.bk_commit.specs.Growth.{IsPartOf, Begins}
-use Rattle.bk_flatten.specs.Batches.{Batch, AreApart, stands, named_at, once, payload_of, Payloads, cons_payload, before_missing, batches_of}
+use Rattle.bk_evidence.specs.Batches.{Batch, AreApart, payload_of}
+use Rattle.bk_flatten.specs.Batches.{stands, named_at, once, Payloads, cons_payload, before_missing, batches_of}
 use Rattle.bk_flatten.specs.Order.{IsWholeOrder}
 use Rattle.bk_flatten.proofs.Orders.{order_present, whole_begins}
 
@@ -38,7 +39,7 @@ clash : (b : Bool) → b ≡ false → b ≡ true → ⊥
 clash true s u = absurd cc
 clash false s u = absurd cc
 
-finds : {X : Type 0} (p : X → Bool) (xs : List X) (x : X) → Contains xs x → p x ≡ true → (y : X) × Finds p xs y
+pub finds : {X : Type 0} (p : X → Bool) (xs : List X) (x : X) → Contains xs x → p x ≡ true → (y : X) × Finds p xs y
 finds {X} p [] x h t = absurd (none_in_nil x h)
 finds {X} p (z ∷ xs) x h t = by_test (p z) refl (contains_cases z xs x h) (λ later. finds p xs x later t)
   where
@@ -51,10 +52,10 @@ finds {X} p (z ∷ xs) x h t = by_test (p z) refl (contains_cases z xs x h) (λ 
 
 -- the batches that a certificate names
 
-stands_there : (a : CertRef) (c : Node) → place_of c ≡ a → stands a c ≡ true
+pub stands_there : (a : CertRef) (c : Node) → place_of c ≡ a → stands a c ≡ true
 stands_there a c e = and_from _ _ ((Decides-eqb c.header.round a.round).1 (ap (λ (p : CertRef). p.round) e)) ((Decides-eqb c.header.author a.author).1 (ap (λ (p : CertRef). p.author) e))
 
-place_is : (a : CertRef) (c : Node) → stands a c ≡ true → place_of c ≡ a
+pub place_is : (a : CertRef) (c : Node) → stands a c ≡ true → place_of c ≡ a
 place_is a c t = let both = and_parts (eqb c.header.round a.round) (eqb c.header.author a.author) t in λ i. record { round = (Decides-eqb c.header.round a.round).0 both.0 i; author = (Decides-eqb c.header.author a.author).0 both.1 i }
 
 named_same : (z : Sizes) (small large : List Node) → IsPartOf small large → IsClear large → (a : CertRef) → IsPresent z small a → named_at small a ≡ named_at large a
@@ -68,7 +69,7 @@ named_same z small large within clear a (c, at) =
     let same : f.0 ≡ g.0 = clear.no_collision f.0 g.0 inside g.1.inside (clear.no_twins f.0 g.0 inside g.1.inside places) in
     ap (λ (o : Option Node). unwrap_or (option_map (λ (d : Node). d.header.batches) o) []) (f.1.first ∙ ap Some same ∙ sym g.1.first)
 
-names_same : (z : Sizes) (small large : List Node) → IsPartOf small large → IsClear large → (xs : List CertRef) → ((a : CertRef) → Contains xs a → IsPresent z small a) → flat_map (named_at small) xs ≡ flat_map (named_at large) xs
+pub names_same : (z : Sizes) (small large : List Node) → IsPartOf small large → IsClear large → (xs : List CertRef) → ((a : CertRef) → Contains xs a → IsPresent z small a) → flat_map (named_at small) xs ≡ flat_map (named_at large) xs
 names_same z small large within clear [] here = refl
 names_same z small large within clear (a ∷ xs) here =
     let first = named_same z small large within clear a (here a (contains_first a xs)) in

@@ -3,3 +3,4 @@ pub mod Extended
 pub mod Growth
 pub mod Parts
 pub mod Whole
+pub mod Taken

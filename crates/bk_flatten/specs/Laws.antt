@@ -1,5 +1,5 @@
 -- What the definitions of the order and of its batches say together.
-use Rattle.std.specs.Prelude.{◌≡◌, ℕ, List, [], ◌∷◌, Contains, ◌↔◌, reverse}
+use Rattle.std.specs.Prelude.{◌≡◌, ℕ, List, [], ◌∷◌, ◌++◌, Contains, ◌↔◌, reverse}
 use Rattle.bk_committee.specs.Sizes.{Sizes}
 use Rattle.bk_cert.specs.Node.{Node}
 use Rattle.bk_rounds.specs.declared.place.CertRef.{CertRef}
@@ -7,7 +7,9 @@ use Rattle.bk_rounds.specs.Admission.{IsClear, IsPresent}
 use Rattle.bk_commit.specs.Ordering.{InHistory, IsWayBack, IsCommitted}
 use Rattle.bk_commit.specs.Growth.{IsPartOf, Begins}
 use Rattle.bk_flatten.specs.Order.{IsOrder, IsOrderBack, IsWholeOrder}
-use Rattle.bk_flatten.specs.Batches.{Batch, AreApart, batches_of}
+use Rattle.bk_evidence.specs.Batches.{Batch, AreApart}
+use Rattle.bk_evidence.specs.declared.batches.BatchRef.{BatchRef}
+use Rattle.bk_flatten.specs.Batches.{Listed, AreFound, IsFoundWhole, payloads_of, digests_of, batches_of}
 
 -- where the one held set lies in the other, its order begins the other's
 abbrev pub OrderGrows : Type 0
@@ -44,3 +46,22 @@ BatchesGrow = (z : Sizes) (small large : List Node) (few many : List Batch) (xs 
     → IsClear large → AreApart many → IsPartOf small large → IsPartOf few many
     → IsWholeOrder z small xs → IsWholeOrder z large ys
     → Begins (batches_of small few xs).list (batches_of large many ys).list
+
+-- a list of an order's digests, whose batches are found as far as they are held, has the payloads of
+-- the order
+abbrev pub FoundIsBatches : Type 0
+FoundIsBatches = (held : List Node) (batches : List Batch) (order : List CertRef) (l : Listed)
+    → l.digests ≡ digests_of held order → IsFoundWhole batches l
+    → payloads_of batches l ≡ batches_of held batches order
+
+-- what is found stays found where more batches are held and more digests follow
+abbrev pub FoundStays : Type 0
+FoundStays = (batches more : List Batch) (digests rest : List (List ℕ)) (found : List BatchRef)
+    → AreFound batches digests found → AreFound (batches ++ more) (digests ++ rest) found
+
+-- where the one held set lies in the other, the digests of an order of the one are those in the other
+abbrev pub DigestsStay : Type 0
+DigestsStay = (z : Sizes) (small large : List Node) (order : List CertRef)
+    → IsPartOf small large → IsClear large
+    → ((a : CertRef) → Contains order a → IsPresent z small a)
+    → digests_of small order ≡ digests_of large order

@@ -1,6 +1,6 @@
 //! Laws of the definitions, each the contract of a function that does nothing.
 
-ghost use Rattle.bk_flatten.specs.Laws.{OrderGrows, OneOrder, OneWholeOrder, OrderedIsPresent, OrderHasHistory, BatchesGrow};
+ghost use Rattle.bk_flatten.specs.Laws.{OrderGrows, OneOrder, OneWholeOrder, OrderedIsPresent, OrderHasHistory, BatchesGrow, FoundIsBatches, FoundStays, DigestsStay};
 
 /// Where the one held set lies in the other, its order begins the other's.
 pub fn order_grows()
@@ -22,4 +22,12 @@ pub fn order_of_history()
 /// Where held certificates and batches lie in others, the payloads in order begin the others'.
 pub fn batches_grow()
     ensures { BatchesGrow }
+{}
+
+/// A list that is kept from step to step tells the batches of the order, and stays right as the
+/// order and what is held grow.
+pub fn batches_in_steps()
+    ensures whole { FoundIsBatches }
+    ensures found { FoundStays }
+    ensures digests { DigestsStay }
 {}

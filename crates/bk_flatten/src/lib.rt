@@ -3,12 +3,14 @@
 //! Each committed anchor adds its history, less what is ordered already, by round and author.
 #![tactic(auto)]
 
+mod batches;
 mod flat;
 mod laws;
 mod part;
 
+pub use batches::{BatchList, batches_of};
 pub use flat::{Flat, whole_order};
-pub use laws::{batches_grow, one_order, order_grows, order_of_history};
+pub use laws::{batches_grow, batches_in_steps, one_order, order_grows, order_of_history};
 
 #[cfg(test)]
 mod tests;

@@ -2,11 +2,12 @@ use crate::whole_order;
 use bk_cert::Header;
 use bk_commit::{anchor, committed, reaches, votes};
 use bk_digest::Digest32;
-use bk_rounds::{CertRef, SharedCert, Rounds};
+use bk_rounds::{CertRef, Rounds, SharedCert};
 use std::alloc::{AllocError, Global};
 use std::process::Abort;
 use std::test::Fail;
 
+mod listing;
 mod slow;
 
 // The certificate of round r by member a has an id of bytes r and a, and its parents are named by
