@@ -110,3 +110,6 @@ module _ {E S : Type 0} (name : E → List ℕ) (xs : List E) (m : IndexMap (Lis
 -- only what the map finds counts
 pub indexed_as : {E S : Type 0} (name : E → List ℕ) (xs ys : List E) (m n : IndexMap (List ℕ) ℕ S) → ys ≡ xs → n.entries ≡ m.entries → IsIndexed name xs m → IsIndexed name ys n
 indexed_as name xs ys m n e f h = record { first = λ id. ap (λ (es : List (List ℕ × ℕ)). lookup (bytes_eq id) es) f ∙ (h.first id ∙ ap (position (is_named name id)) (sym e)) }
+
+pub indexed_empty : {E S : Type 0} (name : E → List ℕ) (m : IndexMap (List ℕ) ℕ S) → m.entries ≡ [] → IsIndexed name [] m
+indexed_empty name m e = record { first = λ id. ap (λ (es : List (List ℕ × ℕ)). lookup (bytes_eq id) es) e }

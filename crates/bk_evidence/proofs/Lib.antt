@@ -3,3 +3,7 @@ pub mod Colliding
 pub mod Indexing
 pub mod Storing
 pub mod Payloads
+pub mod Placing
+pub mod Judging
+pub mod Members
+pub mod Lawful

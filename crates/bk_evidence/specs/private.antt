@@ -1,3 +1,4 @@
 pub mod Least
 pub mod Indexed
 pub mod Places
+pub mod Answers

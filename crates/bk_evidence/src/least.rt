@@ -1,10 +1,12 @@
-//! The lesser of two ids.
+//! The lesser of two ids, and of two places.
 
 ghost use Rattle.std.specs.Prelude.{◌≡◌};
 ghost use Rattle.bk_evidence.specs.Collisions.{id_cmp};
 ghost use Rattle.bk_evidence.specs.private.Least.{least_of};
+ghost use Rattle.bk_evidence.specs.private.Places.{place_cmp};
 
 use bk_digest::Digest32;
+use bk_rounds::CertRef;
 use std::cmp::Ordering;
 
 /// The lesser of the id that is known, if one is, and one more.
@@ -15,6 +17,19 @@ pub(crate) fn least_id(known: Option<Digest32>, id: Digest32) -> Digest32
         None => id,
         Some(other) => match id.cmp(&other) {
             Ordering::Less => id,
+            Ordering::Equal | Ordering::Greater => other,
+        },
+    }
+}
+
+/// The lesser of the place that is known, if one is, and one more.
+pub(crate) fn least_place(known: Option<CertRef>, place: CertRef) -> CertRef
+    ensures { result ≡ least_of place_cmp known place }
+{
+    match known {
+        None => place,
+        Some(other) => match place.cmp(&other) {
+            Ordering::Less => place,
             Ordering::Equal | Ordering::Greater => other,
         },
     }

@@ -6,6 +6,18 @@
 #![tactic(auto)]
 
 mod batches;
+mod evidence;
+mod held;
+mod laws;
 mod least;
+mod offer;
+mod places;
 
 pub use batches::{BatchOffer, BatchRef, Batches};
+pub use evidence::Evidence;
+pub use held::Held;
+pub use laws::{
+    clear_is_neither, collision_of_members, evidence_of_members, one_answer, one_batch_answer,
+    one_collision, one_evidence,
+};
+pub use offer::Offer;

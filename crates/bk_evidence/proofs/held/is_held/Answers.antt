@@ -1,0 +1,14 @@
+use Rattle.std.proofs.lemmas.Bool.{false≢true}
+use Rattle.bk_rounds.proofs.Lists.{none_in_nil}
+use Rattle.bk_evidence.proofs.Storing.{none_more, none_in_all}
+use Rattle.bk_evidence.proofs.held.is_held.Goals as goal
+
+pub loop-other-init : goal.loop-other-init
+loop-other-init c = none_in_nil c.args.cert.now
+
+pub loop-other-preserved : goal.loop-other-preserved
+loop-other-preserved c = none_more c.args.certs.now c.loop-other.other-index c.other-item.result c.args.cert.now c.loop-other-test.true c.other-item.is
+    (λ e. false≢true (c.if-is_same.ensures.1 e)) c.loop-other.invariant
+
+pub returns : goal.returns
+returns c = (λ e. absurd (false≢true e), λ h. absurd (none_in_all c.args.certs.now c.loop-other.other-index c.args.cert.now c.loop-other-test.false c.loop-other.invariant h))

@@ -1,0 +1,243 @@
+//! The certificates that are held, by id.
+
+ghost use Rattle.std.specs.Prelude.{◌≡◌, ◌<◌, ◌++◌, ◌∷◌, ◌↔◌, [], length, Contains, IfOk, OnOk, OnErr, None, Some, cond, IsTrue, MatchOption, option_map, ℕ, List};
+ghost use Rattle.std.specs.Str.{bytes_eq};
+ghost use Rattle.indexmap.specs.IndexMap.{get, spare, IsUnchanged};
+ghost use Rattle.bk_cert.specs.Node.{Node};
+ghost use Rattle.bk_rounds.specs.declared.place.CertRef.{CertRef};
+ghost use Rattle.bk_rounds.specs.Admission.{place_of};
+ghost use Rattle.bk_evidence.specs.Held.{IsCollision, IsOffer, NoCollision, held_after};
+ghost use Rattle.bk_evidence.specs.Twins.{IsEvidence, NoTwins};
+ghost use Rattle.bk_evidence.specs.Laws.{HaveSame};
+ghost use Rattle.bk_evidence.specs.private.Indexed.{IsIndexed};
+ghost use Rattle.bk_evidence.specs.private.Answers.{offer_of};
+ghost use Rattle.bk_evidence.specs.private.Places.{AreSamePlaces, IsNoted, ids_at};
+
+use crate::evidence::Evidence;
+use crate::least::least_id;
+use crate::offer::Offer;
+use crate::places::{Places, note};
+use bk_digest::Digest32;
+use bk_rounds::{CertRef, SharedCert};
+use indexmap::IndexMap;
+use std::alloc::{AllocError, Global};
+use std::marker::Model;
+
+/// The certificates that were offered, each distinct pair of an id and a header once, those of
+/// collisions and twins too. Contracts see them in the order in which they were stored.
+///
+/// A certificate takes some 200 bytes, besides the header, which is shared. Where two headers have
+/// one id, a further offer under it goes over all that is held; with SHA-256 no such two are known.
+#[derive(Drop)]
+pub struct Held {
+    alloc: Global,
+    certs: Vec<SharedCert>,
+    // The index of the first certificate under each id.
+    firsts: IndexMap<Digest32, usize>,
+    collision: Option<Digest32>,
+    places: Places,
+}
+
+impl Model for Held {
+    ghost use Rattle.std.specs.Prelude.{List};
+    ghost use Rattle.bk_cert.specs.Node.{Node};
+    ghost use Rattle.bk_evidence.specs.Collisions.{CollidesBy, id_cmp};
+    ghost use Rattle.bk_evidence.specs.private.Indexed.{IsIndexed};
+ghost use Rattle.bk_evidence.specs.private.Answers.{offer_of};
+    ghost use Rattle.bk_evidence.specs.private.Least.{IsLeastBy};
+    ghost use Rattle.bk_evidence.specs.private.Places.{ArePlaces};
+
+    ghost Value = { List Node };
+
+    ghost view = { λ h. h.certs.items };
+
+    ghost invariant = { λ h. (IsIndexed (λ (c : Node). c.id) h.certs.items h.firsts
+        × IsLeastBy id_cmp (CollidesBy (λ (c : Node). c.id) h.certs.items) h.collision)
+        × ArePlaces h.certs.items h.places };
+}
+
+impl Held {
+    /// No certificate. It takes no memory.
+    pub fn new(alloc: Global) -> Held
+        ensures { result ≡ [] }
+    {
+        Held {
+            alloc,
+            certs: Vec::new(alloc),
+            firsts: IndexMap::new(alloc),
+            collision: None,
+            places: Places::new(alloc),
+        }
+    }
+
+    /// Stores a header under an id, unless it is stored there.
+    ///
+    /// An `Err` comes only where memory runs out, and leaves what is held as it was.
+    pub fn offer(&mut self, cert: SharedCert) -> Result<Offer, AllocError>
+        ensures answer { IfOk result (IsOffer self.old cert) }
+        ensures stored { IfOk result (λ o. self.new ≡ held_after self.old cert o) }
+        ensures unchanged { OnErr result (self.new ≡ self.old) }
+    {
+        let id = *cert.id();
+        if !self.firsts.contains_key(&id) {
+            let earlier = store_first(&mut self.certs, &mut self.firsts, &mut self.places, cert)?;
+            return Ok(offer_after(earlier));
+        }
+        if is_held(&self.certs, &cert) {
+            return Ok(Offer::Repeat);
+        }
+        store(&mut self.certs, &mut self.places, cert)?;
+        self.collision = Some(least_id(self.collision, id));
+        Ok(Offer::Collision)
+    }
+
+    /// The least round and author that has two ids, with its two least ids.
+    pub fn evidence(&self) -> Option<Evidence>
+        ensures { MatchOption result (NoTwins self.now) (IsEvidence self.now) }
+    {
+        self.places.evidence()
+    }
+
+    /// The least id under which two headers are held.
+    pub fn collision(&self) -> Option<Digest32>
+        ensures { MatchOption result (NoCollision self.now) (IsCollision self.now) }
+    {
+        self.collision
+    }
+
+    /// The evidence over what both hold together.
+    ///
+    /// It goes over both, and takes memory for a table of both, but for no header.
+    pub fn evidence_with(&self, other: &Held) -> Result<Option<Evidence>, AllocError>
+        ensures { IfOk result (λ found. MatchOption found
+            (NoTwins (self.now ++ other.now)) (IsEvidence (self.now ++ other.now))) }
+    {
+        let all = self.joined(other)?;
+        Ok(all.evidence())
+    }
+
+    /// The collision over what both hold together, at the cost of `evidence_with`.
+    pub fn collision_with(&self, other: &Held) -> Result<Option<Digest32>, AllocError>
+        ensures { IfOk result (λ found. MatchOption found
+            (NoCollision (self.now ++ other.now)) (IsCollision (self.now ++ other.now))) }
+    {
+        let all = self.joined(other)?;
+        Ok(all.collision())
+    }
+
+    // What both hold.
+    fn joined(&self, other: &Held) -> Result<Held, AllocError>
+        ensures { IfOk result (λ all. HaveSame all (self.now ++ other.now)) }
+    {
+        let mut all = Held::new(self.alloc);
+        offer_all(&mut all, &self.certs)?;
+        offer_all(&mut all, &other.certs)?;
+        Ok(all)
+    }
+}
+
+// Offers each of the certificates.
+fn offer_all(all: &mut Held, certs: &[SharedCert]) -> Result<(), AllocError>
+    ensures { OnOk result (HaveSame all.new (all.old ++ certs.now)) }
+{
+    for cert in certs {
+        let shared = cert.share()?;
+        let _answer = all.offer(shared)?;
+    }
+    Ok(())
+}
+
+// What an offer of a new id answers.
+fn offer_after(earlier: Option<Digest32>) -> Offer
+    ensures { result ≡ offer_of earlier }
+{
+    match earlier {
+        None => Offer::New,
+        Some(id) => Offer::Twin(id),
+    }
+}
+
+// The place of a certificate.
+fn place_at(cert: &SharedCert) -> CertRef
+    ensures { result ≡ place_of cert.now }
+{
+    let header = cert.header();
+    CertRef {
+        round: header.round(),
+        author: header.author(),
+    }
+}
+
+// Whether the certificate is held.
+fn is_held(certs: &[SharedCert], cert: &SharedCert) -> bool
+    ensures { IsTrue result ↔ Contains certs.now cert.now }
+{
+    for other in certs {
+        if is_same(other, cert) {
+            return true;
+        }
+    }
+    false
+}
+
+// Whether two certificates have the same id and the same header.
+fn is_same(one: &SharedCert, other: &SharedCert) -> bool
+    ensures { IsTrue result ↔ (one.now ≡ other.now) }
+{
+    *one.id() == *other.id() && *one.header() == *other.header()
+}
+
+// Stores a certificate under its place, and answers the least id that the place had before.
+// Nothing changes where memory runs out.
+fn store(
+    certs: &mut Vec<SharedCert>,
+    places: &mut Places,
+    cert: SharedCert,
+) -> Result<Option<Digest32>, AllocError>
+    ensures earlier { IfOk result
+        (λ least. least ≡ option_map (λ l. l.least) (ids_at places.old (place_of cert))) }
+    ensures ok { OnOk result (certs.new.items ≡ certs.old.items ++ cert ∷ []) }
+    ensures noted { OnOk result (IsNoted places.old places.new (place_of cert) cert.id) }
+    ensures err { OnErr result (certs.new.items ≡ certs.old.items) }
+    ensures same { OnErr result (AreSamePlaces places.old places.new) }
+{
+    certs.reserve(1)?;
+    let earlier = note(places, place_at(&cert), *cert.id())?;
+    certs.push_reserved(cert);
+    Ok(earlier)
+}
+
+// Puts an index under an id that has none, where there is room for it.
+fn put_index(firsts: &mut IndexMap<Digest32, usize>, id: Digest32, index: usize)
+    requires room { 0 < spare firsts.old }
+    ensures { (q : List ℕ) → get bytes_eq firsts.new q
+        ≡ cond (bytes_eq id q) (Some index) (get bytes_eq firsts.old q) }
+{
+    let _ = firsts.insert(id, index);
+}
+
+// Stores the first certificate under an id, as `store` does.
+fn store_first(
+    certs: &mut Vec<SharedCert>,
+    firsts: &mut IndexMap<Digest32, usize>,
+    places: &mut Places,
+    cert: SharedCert,
+) -> Result<Option<Digest32>, AllocError>
+    requires indexed { IsIndexed (λ (c : Node). c.id) certs.old.items firsts.old }
+    requires new { get bytes_eq firsts.old cert.id ≡ None }
+    ensures indexed { OnOk result (IsIndexed (λ (c : Node). c.id) certs.new.items firsts.new) }
+    ensures earlier { IfOk result
+        (λ least. least ≡ option_map (λ l. l.least) (ids_at places.old (place_of cert))) }
+    ensures ok { OnOk result (certs.new.items ≡ certs.old.items ++ cert ∷ []) }
+    ensures noted { OnOk result (IsNoted places.old places.new (place_of cert) cert.id) }
+    ensures err { OnErr result (certs.new.items ≡ certs.old.items) }
+    ensures unchanged { OnErr result (IsUnchanged firsts.old firsts.new) }
+    ensures same { OnErr result (AreSamePlaces places.old places.new) }
+{
+    firsts.reserve(1)?;
+    let id = *cert.id();
+    let index = certs.len();
+    let earlier = store(certs, places, cert)?;
+    put_index(firsts, id, index);
+    Ok(earlier)
+}
