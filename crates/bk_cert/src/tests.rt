@@ -301,3 +301,13 @@ fn masks(rt: HostRuntime) -> Result<(), Fail> {
     assert_eq!(rt; mask, Mask::new(bytes));
     Ok(())
 }
+
+#[test]
+fn copied_header(rt: HostRuntime) -> Result<(), Fail> {
+    let alloc = rt.alloc();
+    let header = Header::new(3, 2, digests(alloc, 4)?, digests(alloc, 3)?).expect(&rt, "a header");
+    let copy = header.try_clone(alloc)?;
+    assert!(rt; copy == header);
+    assert!(rt; copy.id() == header.id());
+    Ok(())
+}
