@@ -65,6 +65,29 @@ fn expect_list(
     }
 }
 
+// The batches of the whole order.
+fn batches_in(alloc: Global, rounds: &Rounds, batches: &Batches) -> Result<BatchList, AllocError> {
+    let flat = whole_order(alloc, rounds)?;
+    order_of_history();
+    batches_of(alloc, flat.order(), rounds, batches)
+}
+
+// The same in steps: the order is taken twice, and what is held is asked for once.
+fn batches_in_steps(
+    alloc: Global,
+    rounds: &Rounds,
+    batches: &Batches,
+) -> Result<BatchList, AllocError> {
+    let flat = whole_order(alloc, rounds)?;
+    order_of_history();
+    let order = flat.order();
+    let mut list = BatchList::new(alloc);
+    list.name(rounds, order)?;
+    list.name(rounds, order)?;
+    list.find(batches)?;
+    Ok(list)
+}
+
 // Four rounds of one member commit the first three certificates, which name 1, 2; then 2, 3; then 1, 4.
 #[test]
 fn missing_batch(rt: HostRuntime) -> Result<(), Fail> {
@@ -74,24 +97,26 @@ fn missing_batch(rt: HostRuntime) -> Result<(), Fail> {
     assert!(rt; put_naming(alloc, &mut rounds, 2, &[2, 3])?);
     assert!(rt; put_naming(alloc, &mut rounds, 3, &[1, 4])?);
     assert!(rt; put_naming(alloc, &mut rounds, 4, &[5])?);
-    let flat = whole_order(alloc, &rounds)?;
-    expect_places(&rt, flat.order(), &[(1, 0), (2, 0), (3, 0)]);
-    order_of_history();
+    expect_places(
+        &rt,
+        whole_order(alloc, &rounds)?.order(),
+        &[(1, 0), (2, 0), (3, 0)],
+    );
     let mut batches = Batches::new(alloc);
     offer(alloc, &mut batches, 4)?;
     offer(alloc, &mut batches, 2)?;
-    let none = batches_of(alloc, flat.order(), &rounds, &batches)?;
+    let none = batches_in(alloc, &rounds, &batches)?;
     expect_list(&rt, &none, &batches, &[], Some(1));
     offer(alloc, &mut batches, 1)?;
-    let two = batches_of(alloc, flat.order(), &rounds, &batches)?;
+    let two = batches_in(alloc, &rounds, &batches)?;
     expect_list(&rt, &two, &batches, &[1, 2], Some(3));
     offer(alloc, &mut batches, 3)?;
-    let all = batches_of(alloc, flat.order(), &rounds, &batches)?;
+    let all = batches_in(alloc, &rounds, &batches)?;
     expect_list(&rt, &all, &batches, &[1, 2, 3, 4], None);
     Ok(())
 }
 
-// The order comes in parts, and each digest is taken once.
+// The order comes twice, and each digest is taken once.
 #[test]
 fn repeated_batch(rt: HostRuntime) -> Result<(), Fail> {
     let alloc = rt.alloc();
@@ -100,15 +125,10 @@ fn repeated_batch(rt: HostRuntime) -> Result<(), Fail> {
     assert!(rt; put_naming(alloc, &mut rounds, 2, &[1, 2, 1])?);
     assert!(rt; put_naming(alloc, &mut rounds, 3, &[2])?);
     assert!(rt; put_naming(alloc, &mut rounds, 4, &[])?);
-    let flat = whole_order(alloc, &rounds)?;
-    order_of_history();
     let mut batches = Batches::new(alloc);
     offer(alloc, &mut batches, 1)?;
     offer(alloc, &mut batches, 2)?;
-    let mut list = BatchList::new(alloc);
-    list.name(&rounds, flat.order())?;
-    assert_eq!(rt; list.find(&batches)?.len(), 2);
-    list.name(&rounds, flat.order())?;
+    let list = batches_in_steps(alloc, &rounds, &batches)?;
     expect_list(&rt, &list, &batches, &[1, 2], None);
     Ok(())
 }
