@@ -48,15 +48,17 @@ fn put(
     parents: &[u8],
 ) -> Result<Option<usize>, AllocError> {
     match cert_of(alloc, round, author, parents)? {
-        Some(cert) => {
-            if rounds.can_add(&cert) {
-                let admitted = rounds.add(cert)?;
-                Ok(Some(admitted.len()))
-            } else {
-                Ok(None)
-            }
-        }
+        Some(cert) => add(rounds, cert),
         None => Ok(None),
+    }
+}
+
+fn add(rounds: &mut Rounds, cert: SharedCert) -> Result<Option<usize>, AllocError> {
+    if rounds.can_add(&cert) {
+        let admitted = rounds.add(cert)?;
+        Ok(Some(admitted.len()))
+    } else {
+        Ok(None)
     }
 }
 

@@ -61,6 +61,8 @@ impl State {
     pub fn version(&self) -> Version
         ensures version { result ≡ self.now.version }
         ensures ledger { IsLedger self.now.rows }
+        ensures shown { rows_shown self.now.version self.now.slots (slot_numbers self.now)
+            ≡ self.now.rows }
     {
         let _ = &self.numbers;
         self.version

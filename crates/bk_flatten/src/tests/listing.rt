@@ -1,4 +1,4 @@
-use super::{expect_places, id_of};
+use super::{add, expect_places, id_of};
 use crate::{BatchList, batches_of, order_of_history, whole_order};
 use bk_cert::Header;
 use bk_digest::Digest32;
@@ -30,12 +30,7 @@ fn put_naming(
     match Header::new(0, round, named, parents) {
         Some(header) => {
             let cert = SharedCert::new(alloc, id_of(round, 0), header)?;
-            if rounds.can_add(&cert) {
-                rounds.add(cert)?;
-                Ok(true)
-            } else {
-                Ok(false)
-            }
+            Ok(add(rounds, cert)?.is_some())
         }
         None => Ok(false),
     }

@@ -8,4 +8,4 @@ pub batches_of-requires : goal.batches_of-requires
 batches_of-requires c =
     let z = c.args.rounds.now.sizes in
     let held = c.args.rounds.now.held in
-    subst (λ (xs : List CertRef). (a : CertRef) → Contains xs a → IsPresent z held a) (sym c.order.ensures) (c.order_of_history.ensures.present z held _ c.in_ok-flat.ensures)
+    record { present = subst (λ (xs : List CertRef). (a : CertRef) → Contains xs a → IsPresent z held a) (sym c.order.ensures) (c.order_of_history.ensures.present z held _ c.in_ok-flat.ensures) }

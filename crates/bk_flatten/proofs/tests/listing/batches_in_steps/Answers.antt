@@ -8,10 +8,10 @@ pub name-requires : goal.name-requires
 name-requires c =
     let z = c.args.rounds.now.sizes in
     let held = c.args.rounds.now.held in
-    subst (λ (xs : List CertRef). (a : CertRef) → Contains xs a → IsPresent z held a) (sym c.order.ensures) (c.order_of_history.ensures.present z held _ c.in_ok-flat.ensures)
+    record { present = subst (λ (xs : List CertRef). (a : CertRef) → Contains xs a → IsPresent z held a) (sym c.order-order.ensures) (c.order_of_history.ensures.present z held _ c.in_ok-flat.ensures) }
 
 pub name-requires-2 : goal.name-requires-2
 name-requires-2 c =
     let z = c.args.rounds.now.sizes in
     let held = c.args.rounds.now.held in
-    subst (λ (xs : List CertRef). (a : CertRef) → Contains xs a → IsPresent z held a) (sym c.order.ensures) (c.order_of_history.ensures.present z held _ c.in_ok-flat.ensures)
+    record { present = subst (λ (xs : List CertRef). (a : CertRef) → Contains xs a → IsPresent z held a) (sym c.order-order.ensures) (c.order_of_history.ensures.present z held _ c.in_ok-flat.ensures) }
