@@ -7,7 +7,6 @@ use std::alloc::{AllocError, Global};
 use std::process::Abort;
 use std::test::Fail;
 
-mod listing;
 mod slow;
 
 // The certificate of round r by member a has an id of bytes r and a, and its parents are named by
