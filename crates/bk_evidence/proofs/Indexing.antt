@@ -1,5 +1,5 @@
 -- The first index under each name, where one more entry is stored.
-use Rattle.std.proofs.Common.{◌≡◌, ◌≢◌, ◌+◌, ◌<◌, ◌≤◌, ℕ, Bool, true, false, cond, List, [], ◌∷◌, ◌++◌, length, Option, Some, None, refl, sym, ap, subst, ◌∙◌, slice_get, position, get_or, eqb, arith, ◌⊎◌, inl, inr, ⊎_elim}
+use Rattle.std.proofs.Common.{◌≡◌, ◌≢◌, ◌+◌, ◌<◌, ◌≤◌, ℕ, Bool, true, false, cond, List, [], ◌∷◌, ◌++◌, length, Option, Some, None, refl, sym, ap, ◌∙◌, slice_get, position, eqb, arith, ◌⊎◌, inl, inr, ⊎_elim}
 use Rattle.std.specs.List.{Contains, position_or_len, find, slice_index_or}
 use Rattle.std.specs.Str.{bytes_eq}
 use Rattle.std.proofs.lemmas.Bool.Decides.{nat_tests}
@@ -89,6 +89,7 @@ module _ {E S : Type 0} (name : E → List ℕ) (xs : List E) (m : IndexMap (Lis
     where
       none : (q : List ℕ) → position (is_named name q) xs ≡ None → get bytes_eq n q ≡ position (is_named name q) (xs ++ x ∷ [])
       none q e = updates q ∙ (ap (λ (o : Option ℕ). cond (bytes_eq (name x) q) (Some (length xs)) o) (indexed.first q ∙ e) ∙ sym (position_push_none (is_named name q) xs x e))
+
       some : (q : List ℕ) → (k : ℕ) × (position (is_named name q) xs ≡ Some k) → get bytes_eq n q ≡ position (is_named name q) (xs ++ x ∷ [])
       some q (k, e) =
           let found : get bytes_eq m q ≡ Some k = indexed.first q ∙ e in
@@ -104,6 +105,7 @@ module _ {E S : Type 0} (name : E → List ℕ) (xs : List E) (m : IndexMap (Lis
           let absent : get bytes_eq m q ≡ None = indexed.first q ∙ e in
           let other : bytes_eq (name x) q ≡ false = false_from_ne_true _ (λ t. let same = named (name x) q t in absurd (none≢some k (sym absent ∙ (ap (get bytes_eq m) (sym same) ∙ there)))) in
           absent ∙ (sym (ap (λ (b : Bool). cond b (Some (length xs)) None) other) ∙ sym (position_push_none (is_named name q) xs x e))
+
       some : (q : List ℕ) → (k : ℕ) × (position (is_named name q) xs ≡ Some k) → get bytes_eq m q ≡ position (is_named name q) (xs ++ x ∷ [])
       some q (j, e) = indexed.first q ∙ (e ∙ sym (position_push_some (is_named name q) xs x j e))
 

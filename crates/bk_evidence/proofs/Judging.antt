@@ -1,23 +1,19 @@
 -- What an offer answers, and what is told of the places.
-use Rattle.std.proofs.Common.{◌≡◌, ◌≢◌, ◌⊎◌, ℕ, Bool, List, [], Option, Some, None, refl, sym, ap, subst, ◌∙◌, inl, inr, ⊎_elim, arith}
-use Rattle.std.specs.Prelude.{Decides, MatchOption, IsTrue, ◌↔◌, option_map}
-use Rattle.std.specs.List.{Contains}
-use Rattle.std.specs.BTreeMap.{get_by}
+use Rattle.std.proofs.Common.{◌≡◌, ◌≢◌, ◌⊎◌, ℕ, Bool, List, [], Option, Some, None, refl, sym, ap, subst, ◌∙◌, inl, inr, ⊎_elim}
+use Rattle.std.specs.Prelude.{MatchOption, IsTrue, ◌↔◌, option_map}
 use Rattle.std.specs.Map.{lookup}
 use Rattle.std.specs.Ordering.{is_eq}
 use Rattle.std.specs.Str.{bytes_eq}
 use Rattle.std.proofs.lemmas.Slice.Eq.{bytes_eq-Decides}
 use Rattle.bk_cert.specs.Node.{Node}
-use Rattle.bk_cert.specs.Values.{HeaderValue}
 use Rattle.bk_cert.specs.Equality.{header_eq, header_decided}
 use Rattle.bk_rounds.specs.declared.place.CertRef.{CertRef}
 use Rattle.bk_rounds.specs.Admission.{place_of}
-use Rattle.bk_rounds.specs.Listing.{IsBefore}
 use Rattle.bk_rounds.specs.Rounds.{node_with}
 use Rattle.bk_rounds.proofs.Refs.{before_from_less}
 use Rattle.bk_rounds.proofs.Lists.{none_in_nil}
-use Rattle.bk_evidence.specs.Collisions.{id_cmp, IsBelow, IsAtMost}
-use Rattle.bk_evidence.specs.Twins.{IsIdAt, AreTwins, IsEvidence, NoTwins}
+use Rattle.bk_evidence.specs.Collisions.{id_cmp}
+use Rattle.bk_evidence.specs.Twins.{IsIdAt, IsEvidence, NoTwins}
 use Rattle.bk_evidence.specs.Held.{IsNewId, IsOffer}
 use Rattle.bk_evidence.specs.declared.places.LeastIds.{LeastIds}
 use Rattle.bk_evidence.specs.declared.places.Places.{Places}
@@ -78,11 +74,15 @@ places_none p empty = record {
 
 no_twins_told : (held : List Node) → ((a : CertRef) → HasTwins held a → ⊥) → NoTwins held
 no_twins_told held none c d a b e = ⊎_elim (λ (p : c.id ≡ d.id). p)
-    (λ (apart : c.id ≢ d.id). absurd (none (place_of d) (c.id, d.id, record {
-      one = record { cert = c; is_held = a; place_is = e; id_is = refl };
-      two = record { cert = d; is_held = b; place_is = refl; id_is = refl };
-      apart = apart;
-    })))
+    (λ (apart : c.id ≢ d.id). absurd (none (place_of d) (
+      c.id,
+      d.id,
+      record {
+        one = record { cert = c; is_held = a; place_is = e; id_is = refl };
+        two = record { cert = d; is_held = b; place_is = refl; id_is = refl };
+        apart = apart;
+      },
+    )))
     (decided_same c.id d.id (bytes_eq c.id d.id) (bytes_eq-Decides c.id d.id))
 
 evidence_is : (held : List Node) (a : CertRef) (l : LeastIds) (s : List ℕ) → IsLeastBy place_cmp (HasTwins held) (Some a) → AreLeastIds (IsIdAt held a) (Some l)
@@ -105,9 +105,11 @@ evidence_told held p places = by p.twins places.twins
         → MatchOption (option_map (evidence_with a l.least) o) (NoTwins held) (IsEvidence held)
     at_second a l least ids None e = absurd (no_twins_from held a l e ids least.0)
     at_second a l least ids (Some s) e = evidence_is held a l s least ids e
+
     at_place : (a : CertRef) → IsLeastBy place_cmp (HasTwins held) (Some a) → (o : Option LeastIds) → AreLeastIds (IsIdAt held a) o → MatchOption (evidence_at a o) (NoTwins held) (IsEvidence held)
     at_place a least None ids = absurd (no_twins_at held a ids least.0)
     at_place a least (Some l) ids = at_second a l least ids (second_in l) refl
+
     by : (t : Option CertRef) → IsLeastBy place_cmp (HasTwins held) t → MatchOption (evidence_in p t) (NoTwins held) (IsEvidence held)
     by None none = no_twins_told held none
     by (Some a) least = at_place a least (ids_at p a) (places.ids a)

@@ -1,15 +1,12 @@
 -- There is one answer, one collision and one evidence.
-use Rattle.std.proofs.Common.{◌≡◌, ◌≢◌, ◌<◌, ◌⊎◌, ℕ, List, refl, sym, ap, subst, ◌∙◌, inl, inr, ⊎_elim, arith}
-use Rattle.std.specs.List.{Contains}
+use Rattle.std.proofs.Common.{◌≡◌, ◌≢◌, ◌⊎◌, ℕ, List, refl, sym, ap, subst, ◌∙◌, inl, inr, ⊎_elim, arith}
 use Rattle.bk_cert.specs.Node.{Node}
 use Rattle.bk_rounds.specs.declared.place.CertRef.{CertRef}
-use Rattle.bk_rounds.specs.Admission.{place_of}
 use Rattle.bk_rounds.specs.Listing.{IsBefore}
-use Rattle.bk_rounds.proofs.Admitted.{same_place}
 use Rattle.bk_evidence.specs.Batches.{Batch, IsBatchOffer}
 use Rattle.bk_evidence.specs.Collisions.{id_cmp, IsCollisionBy, IsAtMost}
 use Rattle.bk_evidence.specs.Held.{IsOffer}
-use Rattle.bk_evidence.specs.Twins.{IsIdAt, AreTwins, place_in, IsEvidence}
+use Rattle.bk_evidence.specs.Twins.{IsIdAt, place_in, IsEvidence}
 use Rattle.bk_evidence.specs.declared.batches.BatchOffer.{BatchOffer}
 use Rattle.bk_evidence.specs.declared.batches.BatchOffer.TheVariants as batch
 use Rattle.bk_evidence.specs.declared.evidence.Evidence.{Evidence}

@@ -1,11 +1,11 @@
 -- The least of what has a property, where one more comes to have it.
-use Rattle.std.proofs.Common.{◌≡◌, ◌≢◌, ◌⊎◌, Option, Some, None, refl, sym, ap, subst, ◌∙◌, inl, inr, ⊎_elim, true≢false, true, false}
+use Rattle.std.proofs.Common.{◌≡◌, ◌≢◌, ◌⊎◌, Option, Some, None, refl, sym, ap, subst, ◌∙◌, inl, inr, ⊎_elim, true≢false, false}
 use Rattle.std.specs.Cmp.{IsTotalOrder}
 use Rattle.std.specs.Ordering.{match_ordering, ordering_reverse, is_gt}
 use Rattle.std.specs.declared.cmp.Ordering.{Ordering}
 use Rattle.std.specs.declared.cmp.Ordering.TheVariants.{Less, Equal, Greater}
 use Rattle.std.proofs.lemmas.Cmp.{tied_itself, upto}
-use Rattle.bk_evidence.specs.private.Least.{least_of, IsLeastBy}
+use Rattle.bk_evidence.specs.private.Least.{least_of, lesser_of, IsLeastBy}
 
 not_gt : (o : Ordering) → o ≢ Greater → is_gt o ≡ false
 not_gt Less h = refl
@@ -88,3 +88,15 @@ module _ {K : Type 0} {R : K → K → Ordering} (order : IsExactOrder R) where
   -- what is least is one
   pub least_is_one : (P : K → Type 0) (x y : K) → IsLeastBy R P (Some x) → IsLeastBy R P (Some y) → x ≡ y
   least_is_one P x y h k = both_at_most x y (h.1 y k.0) (k.1 x h.0)
+
+  -- the least of two properties
+  pub least_both : (P Q : K → Type 0) (o p : Option K) → IsLeastBy R P o → IsLeastBy R Q p → IsLeastBy R (λ x. P x ⊎ Q x) (lesser_of R o p)
+  least_both P Q None None h k = λ y. λ e. ⊎_elim (h y) (k y) e
+  least_both P Q (Some x) None h k = (inl h.0, λ y e. ⊎_elim (h.1 y) (λ (q : Q y). absurd (k y q)) e)
+  least_both P Q None (Some z) h k = (inr k.0, λ y e. ⊎_elim (λ (p : P y). absurd (h y p)) (k.1 y) e)
+  least_both P Q (Some x) (Some z) h k = by (R z x) refl
+    where
+      by : (o : Ordering) → R z x ≡ o → IsLeastBy R (λ y. P y ⊎ Q y) (Some (match_ordering o z x x))
+      by Less e = (inr k.0, λ y t. ⊎_elim (λ (p : P y). at_most_on z x y (less_not_greater (R z x) e) (h.1 y p)) (k.1 y) t)
+      by Equal e = (inl h.0, λ y t. ⊎_elim (h.1 y) (λ (q : Q y). subst (λ w. R w y ≢ Greater) (order.exact z x e) (k.1 y q)) t)
+      by Greater e = (inl h.0, λ y t. ⊎_elim (h.1 y) (λ (q : Q y). at_most_on x z y (less_not_greater (R x z) (flipped z x e)) (k.1 y q)) t)

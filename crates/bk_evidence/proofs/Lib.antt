@@ -7,3 +7,4 @@ pub mod Placing
 pub mod Judging
 pub mod Members
 pub mod Lawful
+pub mod Across

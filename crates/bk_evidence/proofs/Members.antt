@@ -1,15 +1,15 @@
 -- Lists with the same members have the same collisions and the same evidence.
-use Rattle.std.proofs.Common.{◌≡◌, ◌≢◌, ◌+◌, ◌<◌, ◌⊎◌, ℕ, List, [], ◌∷◌, ◌++◌, length, take, get_or, Option, Some, None, refl, sym, ap, subst, ◌∙◌, inl, inr, ⊎_elim, arith}
+use Rattle.std.proofs.Common.{◌≡◌, ◌+◌, ◌<◌, ℕ, List, [], ◌∷◌, ◌++◌, length, take, get_or, Option, Some, None, sym, ap, subst, ◌∙◌, ⊎_elim}
 use Rattle.std.specs.Prelude.{MatchOption}
 use Rattle.std.specs.List.{Contains}
 use Rattle.std.proofs.lemmas.List.{take_more, append_assoc}
-use Rattle.std.proofs.lemmas.List.Elements.{Contains-append_left, Contains-append_right, Contains-append_cases, Contains-push, Contains-push_cases}
+use Rattle.std.proofs.lemmas.List.Elements.{Contains-append_left, Contains-append_right, Contains-append_cases, Contains-push_cases}
 use Rattle.bk_cert.specs.Node.{Node}
 use Rattle.bk_rounds.specs.declared.place.CertRef.{CertRef}
-use Rattle.bk_evidence.specs.Collisions.{CollidesBy, IsCollisionBy, NoCollisionBy}
+use Rattle.bk_evidence.specs.Collisions.{IsCollisionBy, NoCollisionBy}
 use Rattle.bk_evidence.specs.Held.{IsOffer, held_after, IsCollision, NoCollision}
 use Rattle.bk_evidence.specs.Laws.{HaveSame}
-use Rattle.bk_evidence.specs.Twins.{IsIdAt, AreTwins, place_in, IsEvidence, NoTwins}
+use Rattle.bk_evidence.specs.Twins.{IsIdAt, place_in, IsEvidence, NoTwins}
 use Rattle.bk_evidence.specs.declared.evidence.Evidence.{Evidence}
 use Rattle.bk_evidence.specs.declared.offer.Offer.{Offer}
 use Rattle.bk_evidence.specs.declared.offer.Offer.TheVariants as offer

@@ -1,24 +1,21 @@
 -- The least ids of each place, and the least place with twins, where one more certificate is stored.
-use Rattle.std.proofs.Common.{◌≡◌, ◌≢◌, ◌<◌, ◌⊎◌, ℕ, Bool, true, false, cond, List, [], ◌∷◌, ◌++◌, Option, Some, None, refl, sym, ap, subst, ◌∙◌, inl, inr, ⊎_elim, arith, if◌then◌else◌}
+use Rattle.std.proofs.Common.{◌≡◌, ◌≢◌, ◌⊎◌, ℕ, true, false, cond, List, [], ◌∷◌, ◌++◌, Option, Some, None, refl, sym, ap, subst, ◌∙◌, inl, inr, ⊎_elim, if◌then◌else◌}
 use Rattle.std.specs.List.{Contains}
-use Rattle.std.specs.Ordering.{nat_cmp, ordering_then, match_ordering, ordering_reverse, is_eq}
+use Rattle.std.specs.Ordering.{match_ordering, is_eq}
 use Rattle.std.specs.declared.cmp.Ordering.{Ordering}
 use Rattle.std.specs.declared.cmp.Ordering.TheVariants.{Less, Equal, Greater}
-use Rattle.std.proofs.lemmas.Cmp.{nat_cmp_total, then_total, on_total}
-use Rattle.std.proofs.lemmas.Bool.{true≢false, false≢true}
 use Rattle.std.proofs.lemmas.List.Elements.{Contains-push, Contains-push_cases, Contains-append_left}
 use Rattle.bk_cert.specs.Node.{Node}
 use Rattle.bk_rounds.specs.declared.place.CertRef.{CertRef}
 use Rattle.bk_rounds.specs.Admission.{place_of}
 use Rattle.bk_rounds.proofs.Refs.{ref_total, exact_ref}
-use Rattle.bk_rounds.proofs.Lists.{none_in_nil}
 use Rattle.bk_evidence.specs.Collisions.{id_cmp}
 use Rattle.bk_evidence.specs.Twins.{IsIdAt, AreTwins}
 use Rattle.bk_evidence.specs.declared.places.LeastIds.{LeastIds}
 use Rattle.bk_evidence.specs.declared.places.Places.{Places}
 use Rattle.bk_evidence.specs.private.Least.{least_of, IsLeastBy}
-use Rattle.bk_evidence.specs.private.Places.{place_cmp, lone_id, two_ids, second_in, ids_with, AreLeastIds, ids_at, twins_with, IsNoted, AreSamePlaces, HasTwins, ArePlaces}
-use Rattle.bk_evidence.proofs.Lesser.{IsExactOrder, itself, less_apart, flipped, less_not_greater, same_or_not, least_same, least_step}
+use Rattle.bk_evidence.specs.private.Places.{place_cmp, lone_id, two_ids, second_in, ids_with, AreLeastIds, ids_at, twins_with, IsNoted, HasTwins, ArePlaces}
+use Rattle.bk_evidence.proofs.Lesser.{IsExactOrder, less_apart, flipped, same_or_not, least_same, least_step}
 use Rattle.bk_evidence.proofs.Colliding.{id_order}
 
 pub place_order : IsExactOrder place_cmp
@@ -31,28 +28,33 @@ Others P least x = P x × (x ≢ least)
 
 module _ (P Q : List ℕ → Type 0) (k : List ℕ) (here : Q k) (more : (x : List ℕ) → P x → Q x) (less : (x : List ℕ) → Q x → P x ⊎ (x ≡ k)) where
   first_id : ((x : List ℕ) → P x → ⊥) → AreLeastIds Q (Some (lone_id k))
-  first_id none = (least_step id_order P Q None k here more less none,
-    λ x q. ⊎_elim (λ (p : P x). none x p) (λ (e : x ≡ k). q.1 e) (less x q.0))
+  first_id none = (
+    least_step id_order P Q None k here more less none,
+    λ x q. ⊎_elim (λ (p : P x). none x p) (λ (e : x ≡ k). q.1 e) (less x q.0),
+  )
 
   lesser_id : (a : List ℕ) → id_cmp k a ≡ Less → IsLeastBy id_cmp P (Some a) → AreLeastIds Q (Some (two_ids k a))
   lesser_id a e h = (
     subst (λ o. IsLeastBy id_cmp Q (Some (match_ordering o k a a))) e (least_step id_order P Q (Some a) k here more less h),
-    ((more a h.0, λ s. less_apart id_order k a e (sym s)),
-      λ x q. ⊎_elim (λ (p : P x). h.1 x p) (λ (s : x ≡ k). absurd (q.1 s)) (less x q.0)),
+    (
+      (more a h.0, λ s. less_apart id_order k a e (sym s)),
+      λ x q. ⊎_elim (λ (p : P x). h.1 x p) (λ (s : x ≡ k). absurd (q.1 s)) (less x q.0),
+    ),
   )
 
   same_id : (l : LeastIds) → k ≡ l.least → AreLeastIds P (Some l) → AreLeastIds Q (Some l)
   same_id l e h =
-      let back : (x : List ℕ) → Q x → P x = λ x q. ⊎_elim (λ (p : P x). p) (λ (s : x ≡ k). subst P (sym (s ∙ e)) h.0.0) (less x q) in
-      (least_same id_order P Q (Some l.least) more back h.0,
-        least_same id_order (Others P l.least) (Others Q l.least) (second_in l) (λ x p. (more x p.0, p.1)) (λ x q. (back x q.0, q.1)) h.1)
+      let back : (x : List ℕ) → Q x → P x = λ x q. ⊎_elim (λ (p : P x). p) (λ (s : x ≡ k). subst P (sym (s ∙ e)) h.0.0) (less x q) in (
+        least_same id_order P Q (Some l.least) more back h.0,
+        least_same id_order (Others P l.least) (Others Q l.least) (second_in l) (λ x p. (more x p.0, p.1)) (λ x q. (back x q.0, q.1)) h.1,
+      )
 
   greater_id : (l : LeastIds) → id_cmp k l.least ≡ Greater → AreLeastIds P (Some l) → AreLeastIds Q (Some (two_ids l.least (least_of id_cmp (second_in l) k)))
   greater_id l e h =
       let apart : k ≢ l.least = λ s. less_apart id_order l.least k (flipped id_order k l.least e) (sym s) in (
         subst (λ o. IsLeastBy id_cmp Q (Some (match_ordering o k l.least l.least))) e (least_step id_order P Q (Some l.least) k here more less h.0),
         least_step id_order (Others P l.least) (Others Q l.least) (second_in l) k (here, apart) (λ x p. (more x p.0, p.1))
-        (λ x q. ⊎_elim (λ (p : P x). inl (p, q.1)) (λ (s : x ≡ k). inr s) (less x q.0)) h.1,
+            (λ x q. ⊎_elim (λ (p : P x). inl (p, q.1)) (λ (s : x ≡ k). inr s) (less x q.0)) h.1,
       )
 
   pub ids_step : (o : Option LeastIds) → AreLeastIds P o → AreLeastIds Q (Some (ids_with o k))
@@ -67,8 +69,10 @@ module _ (P Q : List ℕ → Type 0) (k : List ℕ) (here : Q k) (more : (x : Li
 
 pub ids_same : (P Q : List ℕ → Type 0) → ((x : List ℕ) → P x → Q x) → ((x : List ℕ) → Q x → P x) → (o : Option LeastIds) → AreLeastIds P o → AreLeastIds Q o
 ids_same P Q more back None h = λ x q. h x (back x q)
-ids_same P Q more back (Some l) h = (least_same id_order P Q (Some l.least) more back h.0,
-  least_same id_order (Others P l.least) (Others Q l.least) (second_in l) (λ x p. (more x p.0, p.1)) (λ x q. (back x q.0, q.1)) h.1)
+ids_same P Q more back (Some l) h = (
+  least_same id_order P Q (Some l.least) more back h.0,
+  least_same id_order (Others P l.least) (Others Q l.least) (second_in l) (λ x p. (more x p.0, p.1)) (λ x q. (back x q.0, q.1)) h.1,
+)
 
 -- ---- the ids of a place, where one more certificate is stored
 
@@ -140,12 +144,14 @@ module _ (held : List Node) (c : Node) (old new : Places) (before : ArePlaces he
     where
       split : (a : CertRef) → HasTwins more a → HasTwins held a ⊎ (a ≡ place_of c)
       split a h = ⊎_elim (λ (e : place_of c ≡ a). inr (sym e)) (λ (other : place_of c ≢ a). inl (twins_elsewhere held c a other h)) (same_or_not place_order (place_of c) a)
+
       none : second_in (ids_with (ids_at old (place_of c)) c.id) ≡ None
           → IsLeastBy place_cmp (HasTwins more) (twins_with old.twins (place_of c) (second_in (ids_with (ids_at old (place_of c)) c.id)))
       none e = subst (λ s. IsLeastBy place_cmp (HasTwins more) (twins_with old.twins (place_of c) s)) (sym e)
           (least_same place_order (HasTwins held) (HasTwins more) old.twins (twins_more held c)
           (λ a h. ⊎_elim (λ (was : HasTwins held a). was)
           (λ (s : a ≡ place_of c). absurd (no_twins_from more (place_of c) (ids_with (ids_at old (place_of c)) c.id) e here_now (subst (HasTwins more) s h))) (split a h)) before.twins)
+
       some : (s : List ℕ) × (second_in (ids_with (ids_at old (place_of c)) c.id) ≡ Some s)
           → IsLeastBy place_cmp (HasTwins more) (twins_with old.twins (place_of c) (second_in (ids_with (ids_at old (place_of c)) c.id)))
       some (s, e) = subst (λ t. IsLeastBy place_cmp (HasTwins more) (twins_with old.twins (place_of c) t)) (sym e)

@@ -1,17 +1,16 @@
 -- What is kept beside the entries, where one more is stored.
-use Rattle.std.proofs.Common.{◌≡◌, ◌≢◌, ◌+◌, ◌<◌, ◌≤◌, ◌⊎◌, ℕ, Bool, true, false, List, [], ◌∷◌, ◌++◌, length, take, Option, Some, None, refl, sym, ap, subst, ◌∙◌, inl, inr, ⊎_elim, get_or, position, arith, is_some}
+use Rattle.std.proofs.Common.{◌≡◌, ◌≢◌, ◌+◌, ◌<◌, ◌≤◌, ℕ, true, false, List, [], ◌∷◌, ◌++◌, length, take, Option, Some, None, refl, sym, ap, subst, ◌∙◌, ⊎_elim, get_or, is_some}
 use Rattle.std.specs.Prelude.{option_map, slice_index_or}
-use Rattle.std.specs.List.{Contains, find}
+use Rattle.std.specs.List.{Contains}
 use Rattle.std.specs.Str.{bytes_eq}
 use Rattle.std.proofs.lemmas.Bool.{false≢true}
-use Rattle.std.proofs.lemmas.Slice.Eq.{bytes_eq-Decides}
 use Rattle.std.proofs.lemmas.List.{take_more, take_all}
 use Rattle.std.proofs.lemmas.List.Elements.{Contains-get_or, Contains-push_cases}
 use Rattle.indexmap.specs.IndexMap.{IndexMap, get}
 use Rattle.bk_rounds.proofs.Lists.{none_in_nil}
 use Rattle.bk_evidence.specs.Collisions.{id_cmp, CollidesBy}
 use Rattle.bk_evidence.specs.Batches.{Batch, batch_with, has_digest, payload_of}
-use Rattle.bk_evidence.specs.private.Indexed.{is_named, IsIndexed}
+use Rattle.bk_evidence.specs.private.Indexed.{IsIndexed}
 use Rattle.bk_evidence.specs.private.Least.{least_of, IsLeastBy}
 use Rattle.bk_evidence.proofs.Colliding.{HasName, least_new, least_colliding}
 use Rattle.bk_evidence.proofs.Indexing.{indexed_at, indexed_none, indexed_more, find_position, find_none}
@@ -61,8 +60,10 @@ module _ {E S : Type 0} (name : E → List ℕ) (xs : List E) (m : IndexMap (Lis
   -- a first entry under its name
   pub keeps_new : (ys : List E) (n : IndexMap (List ℕ) ℕ S) (x : E) → IsKept → is_some (get bytes_eq m (name x)) ≡ false
       → IsIndexed name ys n → ys ≡ xs ++ x ∷ [] → IsIndexed name ys n × IsLeastBy id_cmp (CollidesBy name ys) o
-  keeps_new ys n x kept absent indexed e = (indexed,
-    subst (λ (zs : List E). IsLeastBy id_cmp (CollidesBy name zs) o) (sym e) (least_new name xs x o (indexed_none name xs m kept.0 (name x) (none_from (get bytes_eq m (name x)) absent)) kept.1))
+  keeps_new ys n x kept absent indexed e = (
+    indexed,
+    subst (λ (zs : List E). IsLeastBy id_cmp (CollidesBy name zs) o) (sym e) (least_new name xs x o (indexed_none name xs m kept.0 (name x) (none_from (get bytes_eq m (name x)) absent)) kept.1),
+  )
 
   -- a further one
   pub keeps_more : (ys : List E) (x : E) → IsKept → is_some (get bytes_eq m (name x)) ≡ true → (Contains xs x → ⊥) → ys ≡ xs ++ x ∷ []

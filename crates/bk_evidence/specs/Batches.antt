@@ -1,8 +1,8 @@
 -- The batches that are held, each a payload under its digest.
 use Rattle.std.specs.Prelude.{◌≡◌, ◌≢◌, ℕ, Bool, List, [], ◌∷◌, ◌++◌, Option, Contains, option_map}
-use Rattle.std.specs.List.{find, position}
+use Rattle.std.specs.List.{find}
 use Rattle.std.specs.Str.{bytes_eq}
-use Rattle.bk_evidence.specs.Collisions.{CollidesBy, IsCollisionBy, NoCollisionBy}
+use Rattle.bk_evidence.specs.Collisions.{IsCollisionBy, NoCollisionBy}
 use Rattle.bk_evidence.specs.declared.batches.BatchOffer.{BatchOffer}
 use Rattle.bk_evidence.specs.declared.batches.BatchOffer.TheVariants as offer
 

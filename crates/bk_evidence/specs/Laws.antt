@@ -28,7 +28,7 @@ abbrev pub OneBatchAnswer : Type 0
 OneBatchAnswer = (held : List Batch) (b : Batch) (x y : BatchOffer)
     → IsBatchOffer held b x → IsBatchOffer held b y → x ≡ y
 
--- one id or digest is the collision, and then it is no list without
+-- at most one id and one digest is the collision
 abbrev pub OneCollision : Type 0
 OneCollision = ((held : List Node) (x y : List ℕ) → IsCollision held x → IsCollision held y → x ≡ y)
     × ((held : List Batch) (x y : List ℕ)
@@ -48,4 +48,5 @@ abbrev pub CollisionOfMembers : Type 0
 CollisionOfMembers = ((xs ys : List Node) → HaveSame xs ys
     → ((id : List ℕ) → IsCollision xs id → IsCollision ys id) × (NoCollision xs → NoCollision ys))
     × ((xs ys : List Batch) → HaveSame xs ys
-    → ((id : List ℕ) → IsBatchCollision xs id → IsBatchCollision ys id) × (AreApart xs → AreApart ys))
+    → ((id : List ℕ) → IsBatchCollision xs id → IsBatchCollision ys id)
+    × (AreApart xs → AreApart ys))

@@ -31,7 +31,8 @@ pub record IsEvidence (held : List Node) (e : Evidence) : Type 0 where
   pub in_order : IsBelow e.first e.second
   pub least_place : (a : CertRef) (p q : List ℕ) → AreTwins held a p q
       → (place_in e ≡ a) ⊎ IsBefore (place_in e) a
-  pub least_ids : (id : List ℕ) → IsIdAt held (place_in e) id → (id ≡ e.first) ⊎ IsAtMost e.second id
+  pub least_ids : (id : List ℕ) → IsIdAt held (place_in e) id
+      → (id ≡ e.first) ⊎ IsAtMost e.second id
 
 -- one place is of one id
 abbrev pub NoTwins : List Node → Type 0

@@ -1,13 +1,15 @@
 //! The batches that are held, by digest.
 
-ghost use Rattle.std.specs.Prelude.{◌≡◌, ◌≢◌, ◌++◌, ◌∷◌, ◌<◌, ◌↔◌, [], length, Contains, IfOk, OnOk, OnErr, None, IsTrue, MatchOption, option_map, slice_index_or, IfSome};
+ghost use Rattle.std.specs.Prelude.{◌≡◌, ◌≢◌, ◌++◌, ◌∷◌, ◌<◌, ◌↔◌, [], length, Contains, IfOk, OnOk, OnErr, None, false, IsOk, IsTrue, MatchOption, option_map, slice_index_or, IfSome};
 ghost use Rattle.std.specs.List.{position};
 ghost use Rattle.std.specs.Str.{bytes_eq};
 ghost use Rattle.indexmap.specs.IndexMap.{get};
 ghost use Rattle.bk_evidence.specs.Batches.{Batch, AreApart, IsBatchCollision, IsBatchOffer, batch_with, batches_after, has_digest, payload_of};
-ghost use Rattle.bk_evidence.specs.private.Indexed.{IsIndexed};
+ghost use Rattle.bk_evidence.specs.Collisions.{id_cmp};
+ghost use Rattle.bk_evidence.specs.private.Indexed.{CollidesWith, HasOther, IsIndexed};
+ghost use Rattle.bk_evidence.specs.private.Least.{IsLeastBy};
 
-use crate::least::least_id;
+use crate::least::{least_id, lesser_id};
 use bk_digest::Digest32;
 use indexmap::IndexMap;
 use std::alloc::{AllocError, Global};
@@ -49,7 +51,7 @@ impl Model for Stored {
 /// The batches that were offered, each distinct pair of a digest and a payload once. Contracts see
 /// them in the order in which they were stored.
 ///
-/// A batch takes its payload and some 100 bytes. Digests are handed in: that a digest is its
+/// A batch takes its payload and some 120 bytes. Digests are handed in: that a digest is its
 /// payload's is the caller's concern. Where two payloads have one digest, a further offer under it
 /// goes over all that is held; with SHA-256 no such two are known.
 #[derive(Drop)]
@@ -102,7 +104,7 @@ impl Batches {
             store_first(&mut self.stored, &mut self.firsts, batch)?;
             return Ok(BatchOffer::New);
         }
-        if is_stored(&self.stored, &batch) {
+        if is_stored(&self.stored, &self.firsts, &batch) {
             return Ok(BatchOffer::Repeat);
         }
         self.stored.push(batch)?;
@@ -140,6 +142,63 @@ impl Batches {
     {
         self.collision
     }
+
+    /// The collision over what both hold together.
+    ///
+    /// It goes over the other's batches and takes no memory, so it never fails. Its shape is that
+    /// of `Held::collision_with`.
+    pub fn collision_with(&self, other: &Batches) -> Result<Option<Digest32>, AllocError>
+        ensures found { IfOk result (λ found. MatchOption found
+            (AreApart (self.now ++ other.now)) (IsBatchCollision (self.now ++ other.now))) }
+        ensures succeeds { IsOk result }
+    {
+        let known = lesser_id(self.collision, other.collision);
+        Ok(least_across(&self.stored, &self.firsts, &other.stored, known))
+    }
+}
+
+// The least of the digest that is known, if one is, and of those under which the one list and the
+// other have different payloads.
+fn least_across(
+    stored: &[Stored],
+    firsts: &IndexMap<Digest32, usize>,
+    more: &[Stored],
+    known: Option<Digest32>,
+) -> Option<Digest32>
+    requires indexed { IsIndexed (λ (e : Batch). e.digest) stored.now firsts.now }
+    requires known { IsLeastBy id_cmp (CollidesWith stored.now more.now 0) known }
+    ensures { IsLeastBy id_cmp (CollidesWith stored.now more.now (length more.now)) result }
+{
+    let mut least = known;
+    for batch in more {
+        if has_other(stored, firsts, batch) {
+            least = Some(least_id(least, batch.digest));
+        }
+    }
+    least
+}
+
+// Whether the first batch under the digest of this one has another payload.
+fn has_other(stored: &[Stored], firsts: &IndexMap<Digest32, usize>, batch: &Stored) -> bool
+    requires { IsIndexed (λ (e : Batch). e.digest) stored.now firsts.now }
+    ensures yes { IsTrue result → HasOther stored.now batch.now }
+    ensures no { result ≡ false → HasOther stored.now batch.now → Contains stored.now batch.now }
+{
+    match firsts.get(&batch.digest).copied() {
+        None => false,
+        Some(index) => {
+            let first = batch_at(stored, index);
+            !is_same(first, batch)
+        }
+    }
+}
+
+// The batch at an index.
+fn batch_at(stored: &[Stored], index: usize) -> &Stored
+    requires { index < length stored.now }
+    ensures { (d : Batch) → result.now ≡ slice_index_or stored.now index d }
+{
+    &stored[index]
 }
 
 // The payload at an index.
@@ -147,12 +206,32 @@ fn payload_at(stored: &[Stored], index: usize) -> &[u8]
     requires { index < length stored.now }
     ensures { (d : Batch) → result.now ≡ (slice_index_or stored.now index d).payload }
 {
-    let batch = &stored[index];
+    let batch = batch_at(stored, index);
     batch.payload.as_slice()
 }
 
-// Whether the batch is stored.
-fn is_stored(stored: &[Stored], batch: &Stored) -> bool
+// Whether the batch is stored. A repeat of the first one under its digest is found at once.
+fn is_stored(stored: &[Stored], firsts: &IndexMap<Digest32, usize>, batch: &Stored) -> bool
+    ensures { IsTrue result ↔ Contains stored.now batch.now }
+{
+    is_first(stored, firsts, batch) || is_among(stored, batch)
+}
+
+// Whether the batch is the first one under its digest.
+fn is_first(stored: &[Stored], firsts: &IndexMap<Digest32, usize>, batch: &Stored) -> bool
+    ensures { IsTrue result → Contains stored.now batch.now }
+{
+    let Some(index) = firsts.get(&batch.digest).copied() else {
+        return false;
+    };
+    match stored.get(index) {
+        Some(first) => is_same(first, batch),
+        None => false,
+    }
+}
+
+// Whether the batch is one of these.
+fn is_among(stored: &[Stored], batch: &Stored) -> bool
     ensures { IsTrue result ↔ Contains stored.now batch.now }
 {
     for other in stored {

@@ -17,8 +17,9 @@ use crate::evidence::Evidence;
 use crate::least::least_id;
 use crate::offer::Offer;
 use crate::places::{Places, note};
+use bk_rounds::SharedCert;
 use bk_digest::Digest32;
-use bk_rounds::{CertRef, SharedCert};
+use bk_rounds::CertRef;
 use indexmap::IndexMap;
 use std::alloc::{AllocError, Global};
 use std::marker::Model;
@@ -26,7 +27,7 @@ use std::marker::Model;
 /// The certificates that were offered, each distinct pair of an id and a header once, those of
 /// collisions and twins too. Contracts see them in the order in which they were stored.
 ///
-/// A certificate takes some 200 bytes, besides the header, which is shared. Where two headers have
+/// A certificate takes some 250 bytes, besides the header, which is shared. Where two headers have
 /// one id, a further offer under it goes over all that is held; with SHA-256 no such two are known.
 #[derive(Drop)]
 pub struct Held {
@@ -43,7 +44,7 @@ impl Model for Held {
     ghost use Rattle.bk_cert.specs.Node.{Node};
     ghost use Rattle.bk_evidence.specs.Collisions.{CollidesBy, id_cmp};
     ghost use Rattle.bk_evidence.specs.private.Indexed.{IsIndexed};
-ghost use Rattle.bk_evidence.specs.private.Answers.{offer_of};
+    ghost use Rattle.bk_evidence.specs.private.Answers.{offer_of};
     ghost use Rattle.bk_evidence.specs.private.Least.{IsLeastBy};
     ghost use Rattle.bk_evidence.specs.private.Places.{ArePlaces};
 
@@ -83,7 +84,7 @@ impl Held {
             let earlier = store_first(&mut self.certs, &mut self.firsts, &mut self.places, cert)?;
             return Ok(offer_after(earlier));
         }
-        if is_held(&self.certs, &cert) {
+        if is_held(&self.certs, &self.firsts, &cert) {
             return Ok(Offer::Repeat);
         }
         store(&mut self.certs, &mut self.places, cert)?;
@@ -168,8 +169,28 @@ fn place_at(cert: &SharedCert) -> CertRef
     }
 }
 
-// Whether the certificate is held.
-fn is_held(certs: &[SharedCert], cert: &SharedCert) -> bool
+// Whether the certificate is held. A repeat of the first one under its id is found at once.
+fn is_held(certs: &[SharedCert], firsts: &IndexMap<Digest32, usize>, cert: &SharedCert) -> bool
+    ensures { IsTrue result ↔ Contains certs.now cert.now }
+{
+    is_first(certs, firsts, cert) || is_among(certs, cert)
+}
+
+// Whether the certificate is the first one under its id.
+fn is_first(certs: &[SharedCert], firsts: &IndexMap<Digest32, usize>, cert: &SharedCert) -> bool
+    ensures { IsTrue result → Contains certs.now cert.now }
+{
+    let Some(index) = firsts.get(cert.id()).copied() else {
+        return false;
+    };
+    match certs.get(index) {
+        Some(first) => is_same(first, cert),
+        None => false,
+    }
+}
+
+// Whether the certificate is one of these.
+fn is_among(certs: &[SharedCert], cert: &SharedCert) -> bool
     ensures { IsTrue result ↔ Contains certs.now cert.now }
 {
     for other in certs {

@@ -2,7 +2,7 @@
 
 ghost use Rattle.std.specs.Prelude.{◌≡◌};
 ghost use Rattle.bk_evidence.specs.Collisions.{id_cmp};
-ghost use Rattle.bk_evidence.specs.private.Least.{least_of};
+ghost use Rattle.bk_evidence.specs.private.Least.{least_of, lesser_of};
 ghost use Rattle.bk_evidence.specs.private.Places.{place_cmp};
 
 use bk_digest::Digest32;
@@ -19,6 +19,16 @@ pub(crate) fn least_id(known: Option<Digest32>, id: Digest32) -> Digest32
             Ordering::Less => id,
             Ordering::Equal | Ordering::Greater => other,
         },
+    }
+}
+
+/// The lesser of two ids, where there are two.
+pub(crate) fn lesser_id(one: Option<Digest32>, other: Option<Digest32>) -> Option<Digest32>
+    ensures { result ≡ lesser_of id_cmp one other }
+{
+    match other {
+        None => one,
+        Some(id) => Some(least_id(one, id)),
     }
 }
 

@@ -21,3 +21,6 @@ pub use laws::{
     one_collision, one_evidence,
 };
 pub use offer::Offer;
+
+#[cfg(test)]
+mod tests;

@@ -1,8 +1,10 @@
 -- Entries by name: the index of the first one under each.
-use Rattle.std.specs.Prelude.{◌≡◌, ℕ, Bool, List, Option}
+use Rattle.std.specs.Prelude.{◌≡◌, ◌≢◌, ℕ, Bool, List, Contains, take}
 use Rattle.std.specs.List.{position}
 use Rattle.std.specs.Str.{bytes_eq}
 use Rattle.indexmap.specs.IndexMap.{IndexMap, get}
+use Rattle.bk_evidence.specs.Batches.{Batch}
+use Rattle.bk_evidence.specs.Collisions.{CollidesBy}
 
 -- the entry has this name
 abbrev pub is_named : {E : Type 0} → (E → List ℕ) → List ℕ → E → Bool
@@ -12,3 +14,17 @@ is_named name id e = bytes_eq (name e) id
 pub record IsIndexed {E S : Type 0} (name : E → List ℕ) (held : List E)
     (firsts : IndexMap (List ℕ) ℕ S) : Type 0 where
   pub first : (id : List ℕ) → get bytes_eq firsts id ≡ position (is_named name id) held
+
+-- a batch and another one that is held have the same digest
+pub record HasOther (held : List Batch) (b : Batch) : Type 0 where
+  pub other : Batch
+  pub is_held : Contains held other
+  pub same_digest : other.digest ≡ b.digest
+  pub apart : other ≢ b
+
+-- one digest has two payloads in the one list, in the other, or in the first batches of both
+pub data CollidesWith (held more : List Batch) (count : ℕ) (digest : List ℕ) : Type 0 where
+  in_held : CollidesBy (λ (b : Batch). b.digest) held digest → CollidesWith held more count digest
+  in_more : CollidesBy (λ (b : Batch). b.digest) more digest → CollidesWith held more count digest
+  across : (b : Batch) → Contains (take count more) b → b.digest ≡ digest → HasOther held b
+      → CollidesWith held more count digest

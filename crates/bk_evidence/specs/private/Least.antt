@@ -14,3 +14,8 @@ module _ {K : Type 0} (R : K → K → Ordering) where
   abbrev pub IsLeastBy : (K → Type 0) → Option K → Type 0
   IsLeastBy P None = (y : K) → P y → ⊥
   IsLeastBy P (Some x) = P x × ((y : K) → P y → R x y ≢ Greater)
+
+  -- the lesser of two, where there are two
+  abbrev pub lesser_of : Option K → Option K → Option K
+  lesser_of o None = o
+  lesser_of o (Some k) = Some (least_of o k)

@@ -1,4 +1,4 @@
-use Rattle.std.proofs.Common.{◌≡◌, ◌++◌, ◌∷◌, [], List, ap, sym, subst, take}
+use Rattle.std.proofs.Common.{◌++◌, List, subst}
 use Rattle.std.proofs.lemmas.List.{append-nil, take_all}
 use Rattle.bk_cert.specs.Node.{Node}
 use Rattle.bk_evidence.specs.Laws.{HaveSame}

@@ -1,4 +1,3 @@
-use Rattle.std.proofs.Common.{◌≡◌, ◌⊎◌}
 use Rattle.bk_evidence.specs.Batches.{Batch}
 use Rattle.bk_evidence.proofs.Colliding.{told}
 use Rattle.bk_evidence.proofs.Payloads.{same_batch}

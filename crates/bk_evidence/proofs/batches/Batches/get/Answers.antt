@@ -1,4 +1,4 @@
-use Rattle.std.proofs.Common.{◌≡◌, ◌<◌, length, arith, sym, ap, ◌∙◌}
+use Rattle.std.proofs.Common.{sym}
 use Rattle.bk_evidence.specs.Batches.{Batch}
 use Rattle.bk_evidence.proofs.Indexing.{indexed_at}
 use Rattle.bk_evidence.proofs.Storing.{payload_found, payload_absent}

@@ -1,6 +1,4 @@
-use Rattle.std.proofs.Common.{◌≡◌, sym, ap, ◌∙◌}
-use Rattle.std.specs.Prelude.{option_map}
-use Rattle.bk_evidence.specs.declared.batches.BatchRef.{BatchRef}
+use Rattle.std.proofs.Common.{◌∙◌}
 use Rattle.bk_evidence.proofs.batches.Batches.index_of.Goals as goal
 
 pub returns-in_err-index : goal.returns-in_err-index

@@ -1,11 +1,7 @@
-use Rattle.std.proofs.Common.{◌≡◌, ◌++◌, ◌∷◌, [], Bool, true, false, List, ℕ, Some, sym, ap, subst, ◌∙◌, refl, is_some}
-use Rattle.std.specs.List.{Contains}
-use Rattle.std.specs.Str.{bytes_eq}
+use Rattle.std.proofs.Common.{List, ℕ, Some, sym, subst, ◌∙◌}
 use Rattle.std.proofs.lemmas.Bool.{false≢true}
-use Rattle.indexmap.specs.IndexMap.{get}
 use Rattle.bk_evidence.specs.Batches.{Batch, batch_with}
 use Rattle.bk_evidence.specs.Collisions.{id_cmp, CollidesBy}
-use Rattle.bk_evidence.specs.private.Indexed.{IsIndexed}
 use Rattle.bk_evidence.specs.private.Least.{IsLeastBy}
 use Rattle.bk_evidence.proofs.Storing.{keeps_new, keeps_more, absent_new, found_more}
 use Rattle.bk_evidence.proofs.batches.Batches.offer.Goals as goal
@@ -27,6 +23,7 @@ invariant_of-self-2 c =
     (kept.0, subst (λ (id : List ℕ). IsLeastBy id_cmp (CollidesBy (λ (b : Batch). b.digest) c.push.new.self.items) (Some id)) (sym c.least_id.ensures) kept.1)
 
 pub returns-clause-answer : goal.returns-clause-answer
-returns-clause-answer c = rw (← c.self.view_is)
-    (λ h. false≢true (c.if-is_stored.ensures.1 (rw c.deref.ensures.value h)),
-    found_more (λ (b : Batch). b.digest) c.self.inside.stored.items c.self.inside.firsts c.self.inside.collision c.self.invariant (batch_with c.args.digest c.args.payload.items) (sym c.contains_key.ensures ∙ c.if-not-contains_key.false))
+returns-clause-answer c = rw (← c.self.view_is) (
+  λ h. false≢true (c.if-is_stored.ensures.1 (rw c.deref.ensures.value h)),
+  found_more (λ (b : Batch). b.digest) c.self.inside.stored.items c.self.inside.firsts c.self.inside.collision c.self.invariant (batch_with c.args.digest c.args.payload.items) (sym c.contains_key.ensures ∙ c.if-not-contains_key.false),
+)

@@ -1,4 +1,4 @@
-use Rattle.std.proofs.Common.{◌≡◌, ◌++◌, [], List, ap, sym, subst, ◌∙◌}
+use Rattle.std.proofs.Common.{◌≡◌, ◌++◌, List, ap, subst, ◌∙◌}
 use Rattle.bk_cert.specs.Node.{Node}
 use Rattle.bk_evidence.specs.Laws.{HaveSame}
 use Rattle.bk_evidence.proofs.Members.{same_on, same_append}

@@ -1,6 +1,4 @@
-use Rattle.std.proofs.Common.{[], sym, ap, subst, ◌∙◌, None, List, ℕ}
 use Rattle.bk_cert.specs.Node.{Node}
-use Rattle.bk_evidence.specs.private.Places.{ArePlaces}
 use Rattle.bk_evidence.proofs.Colliding.{least_none}
 use Rattle.bk_evidence.proofs.Indexing.{indexed_empty}
 use Rattle.bk_evidence.proofs.Judging.{places_none}

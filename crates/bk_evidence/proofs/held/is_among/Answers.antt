@@ -1,7 +1,7 @@
 use Rattle.std.proofs.lemmas.Bool.{false≢true}
 use Rattle.bk_rounds.proofs.Lists.{none_in_nil}
 use Rattle.bk_evidence.proofs.Storing.{none_more, none_in_all}
-use Rattle.bk_evidence.proofs.held.is_held.Goals as goal
+use Rattle.bk_evidence.proofs.held.is_among.Goals as goal
 
 pub loop-other-init : goal.loop-other-init
 loop-other-init c = none_in_nil c.args.cert.now
