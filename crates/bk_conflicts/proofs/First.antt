@@ -1,0 +1,44 @@
+-- Where the pass begins, and one row more.
+use Rattle.std.proofs.Common.{◌≡◌, ℕ, suc, ◌+◌, ◌<◌, ◌≤◌, List, [], ◌∷◌, ◌++◌, length, get_or, replicate, sym, ap, ◌∙◌, subst, arith, length-append}
+use mathlib.Core.Logic.{dite}
+use native.Mathlib.Decide.{ℕ_discrete}
+use Rattle.std.proofs.lemmas.List.{get_or_append_left, get_or-append-add, get_or-replicate, length-replicate}
+use Rattle.bk_conflicts.specs.declared.trail.Trail.{Trail}
+use Rattle.bk_conflicts.specs.private.Accesses.{Places}
+use Rattle.bk_conflicts.specs.private.Rows.{laid, IsRows}
+use Rattle.bk_conflicts.specs.private.Trail.{none, Linked, IsTrail, Stands, readers, last_writer}
+
+pub rows_none : {A : Type 0} (f : ℕ → List A) (start : List ℕ) (items : List A) → start ≡ 0 ∷ [] → items ≡ [] → IsRows f 0 start items
+unfolding laid
+rows_none f start items a b = record { long = ap length a; starts = λ q l. let e : 0 ≡ q = omega arith in subst (λ (k : ℕ). get_or start k 0 ≡ length (laid f k)) e (ap (λ (xs : List ℕ). get_or xs 0 0) a); all = b }
+
+pub rows_more : {A : Type 0} (f : ℕ → List A) (n : ℕ) (start : List ℕ) (items row : List A) (end : ℕ) → IsRows f n start items → row ≡ f n → end ≡ length (items ++ row) → IsRows f (n + 1) (start ++ end ∷ []) (items ++ row)
+unfolding laid
+rows_more f n start items row end r e last =
+    let whole : items ++ row ≡ laid f (suc n) = λ i. r.all i ++ e i in
+    subst (λ (k : ℕ). IsRows f k (start ++ end ∷ []) (items ++ row)) (let z : suc n ≡ n + 1 = omega arith in z) (record {
+      long = let a = length-append start (end ∷ []) in let b = r.long in omega arith;
+      starts = λ q l. dite (ℕ_discrete q (suc n))
+          (λ is. subst (λ (k : ℕ). get_or (start ++ end ∷ []) k 0 ≡ length (laid f k)) (sym is)
+          (ap (λ (k : ℕ). get_or (start ++ end ∷ []) k 0) (let b = r.long in let z : suc n ≡ length start + 0 = omega arith in z) ∙ (get_or-append-add start (end ∷ []) 0 0 ∙ (last ∙ ap length whole))))
+          (λ other. get_or_append_left start (end ∷ []) 0 q (let b = r.long in omega arith) ∙ r.starts q (omega arith));
+      all = whole;
+    })
+
+pub stands_none : (t : Places) (n : ℕ) (r : Trail) → r.writer.items ≡ replicate n none → r.newest.items ≡ replicate n 0 → Stands t 0 r
+unfolding readers last_writer Linked
+stands_none t n r a b = λ k l. let m : k < n = let c = ap length b in let d : length (replicate {A = ℕ} n 0) ≡ n = length-replicate n 0 in omega arith in
+    record { linked = ap (λ (xs : List ℕ). get_or xs k 0) b ∙ get_or-replicate n k 0 0 m; last = ap (λ (xs : List ℕ). get_or xs k 0) a ∙ get_or-replicate n k none 0 m }
+
+pub trail_none : (n places : ℕ) (r : Trail) → r.writer.items ≡ replicate n none → r.newest.items ≡ replicate n 0 → r.place.items ≡ 0 ∷ [] → r.prev.items ≡ 0 ∷ [] → IsTrail n places r
+trail_none n places r a b c d = record {
+  writers = ap length a ∙ length-replicate n none;
+  newests = ap length b ∙ length-replicate n 0;
+  links = record { some = let e = ap length c in omega arith; same = ap length d ∙ sym (ap length c); back = λ i l m. absurd (let e = ap length c in omega arith); low = λ i l m. absurd (let e = ap length c in omega arith) };
+  heads = λ k l. let e = ap length c in let f = ap (λ (xs : List ℕ). get_or xs k 0) b ∙ get_or-replicate n k 0 0 l in omega arith;
+  wrote = λ k l other. absurd (other (ap (λ (xs : List ℕ). get_or xs k 0) a ∙ get_or-replicate n k none 0 l));
+}
+
+-- with mark 0 nothing is found yet, whatever the stamps: the first mark used is 1
+pub low_none : (stamp : List ℕ) (n : ℕ) → stamp ≡ replicate n 0 → (p : ℕ) → p < length stamp → get_or stamp p 0 ≤ 0
+low_none stamp n e p l = let m : p < n = let c = ap length e in let d : length (replicate {A = ℕ} n 0) ≡ n = length-replicate n 0 in omega arith in let h = ap (λ (xs : List ℕ). get_or xs p 0) e ∙ get_or-replicate n p 0 0 m in omega arith

@@ -1,0 +1,69 @@
+use Rattle.std.proofs.Common.{◌≡◌, ◌<◌, ℕ, length, All, refl, sym, ◌∙◌, subst, arith}
+use mathlib.Core.Logic.{dite}
+use native.Mathlib.Decide.{ℕ_discrete}
+use Rattle.bk_conflicts.specs.declared.words.Access.{Access}
+use Rattle.bk_conflicts.specs.Conflicts.{declared_at}
+use Rattle.bk_conflicts.specs.Words.{words_at}
+use Rattle.bk_conflicts.specs.Plan.{AreDeclared}
+use Rattle.bk_conflicts.specs.private.Accesses.{Places, places_of}
+use Rattle.bk_conflicts.specs.private.Rows.{IsRows}
+use Rattle.bk_conflicts.specs.private.Trail.{IsTrail, direct, gathered, all_once}
+use Rattle.bk_conflicts.proofs.Accessed.{places_low, places_ascend, places_words, all_declared}
+use Rattle.bk_conflicts.proofs.First.{rows_none}
+use Rattle.bk_conflicts.proofs.Marks.{mark_none}
+use Rattle.bk_conflicts.proofs.edges.meet_places.Goals as goal
+
+pub loop-q-init : goal.loop-q-init
+loop-q-init c = record {
+  wide = refl;
+  safe = c.requires.trail;
+  stands = c.requires.stands;
+  low = c.requires.low;
+  worded = rows_none (words_at c.args.ids.now c.args.txs.now) c.in_ok-words.words.start.items c.in_ok-words.words.items.items c.in_ok-words.ensures.0 c.in_ok-words.ensures.1;
+  met = rows_none (direct (places_of c.args.ids.now c.args.txs.now)) c.in_ok-earlier.earlier.start.items c.in_ok-earlier.earlier.items.items c.in_ok-earlier.ensures.0 c.in_ok-earlier.ensures.1;
+  declared = λ k l. absurd (omega arith);
+}
+
+pub meet_all-requires : goal.meet_all-requires
+meet_all-requires c = record {
+  trail = c.loop-q.invariant.safe;
+  slots = let w = c.loop-q.invariant.wide in let e = c.requires.wide in
+      subst (λ (n : ℕ). All (λ (x : Access). x.slot < n) c.deref.result.now) (let z : length c.args.ids.now ≡ length c.loop-q.trail.newest.items = omega arith in z)
+      (rw (c.deref.ensures.value, c.in_ok-list_accesses.ensures.list) (places_low c.args.ids.now c.args.txs.now c.loop-q.q));
+  place = let a = c.loop-q-test.true in let b = c.loop-q.auto.stamp in let d = c.requires.long in omega arith;
+  small = let b = c.loop-q.auto.stamp in let d = c.requires.long in let e = c.requires.few in omega arith;
+}
+
+pub push_word_row-requires : goal.push_word_row-requires
+push_word_row-requires c = rw (c.deref-in-loop-q.ensures.value, c.in_ok-list_accesses.ensures.list)
+    (λ k d l. let a = places_low c.args.ids.now c.args.txs.now c.loop-q.q k d l in let b = c.requires.few_slots in omega arith)
+
+pub loop-q-preserved : goal.loop-q-preserved
+loop-q-preserved c =
+    let t : Places = places_of c.args.ids.now c.args.txs.now in
+    let is : c.list_accesses.new.xs.items ≡ t c.loop-q.q = c.in_ok-list_accesses.ensures.list in
+    let here : t c.loop-q.q ≡ c.deref.result.now = sym (c.deref.ensures.value ∙ is) in
+    let sound = c.in_ok-list_accesses.ensures.declared in
+    let m = c.in_ok-meet_all.ensures.found t here (rw (c.deref.ensures.value, is) (places_ascend c.args.ids.now c.args.txs.now c.loop-q.q c.requires.ids sound)) c.loop-q.invariant.stands
+    (rw c.clear.ensures.items (mark_none c.loop-q.q c.loop-q.stamp c.loop-q.invariant.low)) in
+    let safe = c.in_ok-meet_all.ensures.trail in
+    let row : c.meet_all.new.found.items ≡ direct t c.loop-q.q = m.2 ∙ (λ i. all_once (c.clear.ensures.items i) (gathered t c.loop-q.q (sym here i))) in
+    record {
+      wide = safe.newests ∙ c.loop-q.invariant.wide;
+      safe = subst (λ (n : ℕ × ℕ). IsTrail n.0 n.1 c.meet_all.new.trail) (λ i. (sym safe.newests i, sym c.meet_all.auto.stamp i)) safe;
+      stands = m.0;
+      low = m.1.low;
+      worded = c.in_ok-push_word_row.ensures (words_at c.args.ids.now c.args.txs.now) c.loop-q.q c.loop-q.invariant.worded
+          (rw (c.deref-in-loop-q.ensures.value, is) (places_words c.args.ids.now c.args.txs.now c.loop-q.q));
+      met = c.in_ok-push_row.ensures (direct t) c.loop-q.q c.loop-q.invariant.met (rw c.deref-in-loop-q-2.ensures.value row);
+      declared = λ k l. dite (ℕ_discrete k c.loop-q.q) (λ e. subst (λ (n : ℕ). AreDeclared (declared_at c.args.txs.now n)) (sym e) sound) (λ n. c.loop-q.invariant.declared k (omega arith));
+    }
+
+pub returns : goal.returns
+returns c =
+    let e : c.loop-q.q ≡ length c.args.txs.now = let a = c.loop-q-test.false in let b = c.loop-q.auto.q-end in omega arith in
+    record {
+      words = subst (λ (n : ℕ). IsRows (words_at c.args.ids.now c.args.txs.now) n c.loop-q.words.start.items c.loop-q.words.items.items) e c.loop-q.invariant.worded;
+      earlier = subst (λ (n : ℕ). IsRows (direct (places_of c.args.ids.now c.args.txs.now)) n c.loop-q.earlier.start.items c.loop-q.earlier.items.items) e c.loop-q.invariant.met;
+      declared = all_declared c.args.txs.now c.loop-q.q (let z = e in omega arith) c.loop-q.invariant.declared;
+    }

@@ -1,0 +1,29 @@
+use Rattle.std.proofs.Common.{◌≡◌, ◌<◌, ℕ, List, get_or, length, refl, sym, ap, ◌∙◌, arith}
+use Rattle.bk_conflicts.specs.private.Trail.{IsLinks, all_once}
+use Rattle.bk_conflicts.proofs.Marks.{walk_step, walk_end}
+use Rattle.bk_conflicts.proofs.trail.add_readers.Goals as goal
+
+-- an entry that is not nobody leads to an earlier one
+back : (n at : ℕ) (place prev : List ℕ) → IsLinks n place prev → at < length place → (at ≡ 0 → ⊥) → get_or prev at 0 < at
+back n at place prev h l e = h.back at (omega arith) l
+
+pub loop-at-init : goal.loop-at-init
+loop-at-init c = record { inside = c.requires.head; rest = λ ps h m. (ps, h, m, refl) }
+
+pub add_once-requires : goal.add_once-requires
+add_once-requires c = let a = c.requires.links.low c.loop-at.at (let e = c.loop-at-test.true in omega arith) c.loop-at.invariant.inside in let b = c.loop-at.auto.stamp in omega arith
+
+pub loop-at-preserved : goal.loop-at-preserved
+loop-at-preserved c = record {
+  inside = let a = back _ c.loop-at.at c.args.place.now c.args.prev.now c.requires.links c.loop-at.invariant.inside c.loop-at-test.true in let b = c.loop-at.invariant.inside in omega arith;
+  rest = λ ps h m. let w = c.loop-at.invariant.rest ps h m in
+      let s = walk_step c.args.place.now c.args.prev.now c.loop-at.found.items c.loop-at.at w.0 c.loop-at-test.true w.1 in
+      let f = c.in_ok-add_once.ensures w.2 in
+      (s.0, s.1, f.0, w.3 ∙ (s.2 ∙ ap (λ xs. all_once xs s.0) (sym f.1)));
+}
+
+pub loop-at-smaller : goal.loop-at-smaller
+loop-at-smaller c = back _ c.loop-at.at c.args.place.now c.args.prev.now c.requires.links c.loop-at.invariant.inside c.loop-at-test.true
+
+pub returns : goal.returns
+returns c = λ ps h m. let w = c.loop-at.invariant.rest ps h m in (w.2, sym (w.3 ∙ walk_end c.args.place.now c.args.prev.now c.loop-at.found.items c.loop-at.at w.0 c.loop-at-test.false w.1))

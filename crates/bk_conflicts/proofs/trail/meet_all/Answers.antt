@@ -1,0 +1,54 @@
+use Rattle.std.proofs.Common.{◌<◌, ℕ, length, get_or, refl, sym, ap, ◌∙◌, subst, arith}
+use Rattle.std.proofs.lemmas.List.{take_all}
+use Rattle.bk_conflicts.specs.declared.words.Access.{Access}
+use Rattle.bk_conflicts.specs.private.Trail.{IsTrail, readers, last_writer, gathered, all_once}
+use Rattle.bk_conflicts.proofs.Stages.{nobody, fresh, stage_next, stage_last, found_next, found_none}
+use Rattle.bk_conflicts.proofs.trail.meet_all.Goals as goal
+
+pub loop-x-init : goal.loop-x-init
+loop-x-init c = record { wide = refl; safe = c.requires.trail; so_far = λ t e asc s m. (s, m, found_none t c.args.q c.args.found.now.items) }
+
+pub wait_for-requires : goal.wait_for-requires
+wait_for-requires c = record {
+  trail = c.loop-x.invariant.safe;
+  slot = let a = c.requires.slots c.loop-x.x-index nobody c.loop-x-test.true in let b = c.loop-x.invariant.wide in omega arith;
+  small = let a = c.requires.place in let b = c.requires.small in omega arith;
+}
+
+pub enter-requires : goal.enter-requires
+enter-requires c = record {
+  trail = c.loop-x.invariant.safe.writers;
+  slot = let a = c.requires.slots c.loop-x.x-index nobody c.loop-x-test.true in let b = c.loop-x.invariant.wide in omega arith;
+  small = let a = c.requires.place in let b = c.requires.small in omega arith;
+}
+
+pub loop-x-preserved : goal.loop-x-preserved
+loop-x-preserved c =
+    let j : ℕ = c.loop-x.x-index in
+    let x : Access = get_or c.args.xs.now c.loop-x.x-index nobody in
+    let low : x.slot < length c.loop-x.trail.newest.items = let a = c.requires.slots c.loop-x.x-index nobody c.loop-x-test.true in let b = c.loop-x.invariant.wide in omega arith in
+    let safe = c.in_ok-enter.ensures.trail (length c.loop-x.stamp) (let a = c.requires.place in let b = c.loop-x.auto.stamp in omega arith) c.loop-x.invariant.safe in
+    record {
+      wide = safe.newests ∙ c.loop-x.invariant.wide;
+      safe = subst (λ (n : ℕ × ℕ). IsTrail n.0 n.1 c.enter.new.trail) (λ i. (sym safe.newests i, sym c.wait_for.auto.stamp i)) safe;
+      so_far = λ t e asc s m.
+          let was = c.loop-x.invariant.so_far t e asc s m in
+          let here = fresh t c.args.q c.args.xs.now j c.loop-x.trail c.loop-x-test.true asc (was.0 x.slot low) in
+          let f = c.in_ok-wait_for.ensures (readers t x.slot c.args.q) (last_writer t x.slot c.args.q) here was.1 in (
+            (λ b l. stage_next t c.args.q c.args.xs.now j (length c.loop-x.trail.newest.items) c.loop-x.trail c.enter.new.trail c.loop-x-test.true asc
+                (λ k rs ws other h. c.in_ok-enter.ensures.kept (length c.loop-x.stamp) k rs ws c.loop-x.invariant.safe other h)
+                (λ rs ws h. c.in_ok-enter.ensures.changed (length c.loop-x.stamp) rs ws c.loop-x.invariant.safe h) was.0 low b (let n = safe.newests in omega arith)),
+            f.0,
+            found_next t c.args.q c.args.xs.now j c.args.found.now.items c.loop-x.found.items c.wait_for.new.found.items c.loop-x-test.true was.2 f.1,
+          );
+    }
+
+pub returns : goal.returns
+returns c = record {
+  trail = subst (λ (n : ℕ × ℕ). IsTrail n.0 n.1 c.loop-x.trail) (λ i. (c.loop-x.invariant.wide i, c.loop-x.auto.stamp i)) c.loop-x.invariant.safe;
+  found = λ t e asc s m. let was = c.loop-x.invariant.so_far t e asc s m in (
+    stage_last t c.args.q c.args.xs.now c.loop-x.x-index (length c.loop-x.trail.newest.items) c.loop-x.trail c.loop-x-test.false e was.0,
+    was.1,
+    was.2 ∙ ap (λ xs. all_once c.args.found.now.items (gathered t c.args.q xs)) (take_all c.loop-x.x-index c.args.xs.now c.loop-x-test.false),
+  );
+}

@@ -1,0 +1,5 @@
+pub mod Accesses
+pub mod Flat
+pub mod Rows
+pub mod Trail
+pub mod Words

@@ -1,0 +1,172 @@
+//! Rows of numbers in one list, and the same rows turned round.
+
+ghost use Rattle.std.specs.Prelude.{◌≡◌, [], ◌∷◌, OnOk, ℕ, ◌+◌, ◌^◌, ◌-◌, ◌<◌, ◌≤◌, List, length, sum, take, replicate, All, IfOk, slice_index_or};
+ghost use Rattle.bk_conflicts.specs.Scene.{times};
+ghost use Rattle.bk_conflicts.specs.private.Rows.{laid, turned_rows, row_at, IsRows};
+
+use std::alloc::{AllocError, Global};
+
+// Rows of numbers: row q goes from `start[q]` to `start[q + 1]`.
+#[derive(Drop)]
+pub(crate) struct Rows {
+    pub(crate) start: Vec<usize>,
+    pub(crate) items: Vec<u32>,
+}
+
+// The same value, n times.
+pub(crate) fn filled(alloc: Global, value: u32, n: usize) -> Result<Vec<u32>, AllocError>
+    ensures { IfOk result (λ v. v.items ≡ replicate n value) }
+{
+    Ok(vec![in alloc; value; n]?)
+}
+
+// The same for offsets.
+pub(crate) fn filled_wide(alloc: Global, value: usize, n: usize) -> Result<Vec<usize>, AllocError>
+    ensures { IfOk result (λ v. v.items ≡ replicate n value) }
+{
+    Ok(vec![in alloc; value; n]?)
+}
+
+// A copy.
+fn copied(alloc: Global, xs: &[usize]) -> Result<Vec<usize>, AllocError>
+    ensures { IfOk result (λ v. v.items ≡ xs.now) }
+{
+    let mut copy = Vec::new(alloc);
+    copy.extend_from_slice(xs)?;
+    Ok(copy)
+}
+
+// Adds a row.
+pub(crate) fn push_row(rows: &mut Rows, row: &[u32]) -> Result<(), AllocError>
+    ensures { (f : ℕ → List ℕ) (n : ℕ) →
+        IsRows f n rows.old.start.items rows.old.items.items → row.now ≡ f n →
+        OnOk result (IsRows f (n + 1) rows.new.start.items rows.new.items.items) }
+{
+    rows.items.extend_from_slice(row)?;
+    let end = rows.items.len();
+    rows.start.push(end)?;
+    Ok(())
+}
+
+// No rows, with room for the starts of so many.
+pub(crate) fn no_rows(alloc: Global, rows: usize) -> Result<Rows, AllocError>
+    requires { rows < 2 ^ 31 }
+    ensures { IfOk result (λ r. (r.start.items ≡ 0 ∷ []) × (r.items.items ≡ [])) }
+{
+    let mut start = Vec::with_capacity(alloc, rows + 1)?;
+    start.push(0)?;
+    Ok(Rows {
+        start,
+        items: Vec::new(alloc),
+    })
+}
+
+// How often each number below `width` stands in `items`.
+fn counted(alloc: Global, items: &[u32], width: usize) -> Result<Vec<usize>, AllocError>
+    requires low { All (λ x. x < width) items.now }
+    requires few { length items.now < 2 ^ 64 }
+    ensures long { IfOk result (λ v. length v.items ≡ width) }
+    ensures each { IfOk result (λ v. (p : ℕ) → p < width →
+        slice_index_or v.items p 0 ≡ times p items.now) }
+{
+    let mut counts = filled_wide(alloc, 0, width)?;
+    for &x in items {
+        counts[x as usize] += 1;
+    }
+    Ok(counts)
+}
+
+// The sum of the first `p` counts, for each `p` up to their number.
+fn sums(alloc: Global, counts: &[usize]) -> Result<Vec<usize>, AllocError>
+    requires { sum counts.now < 2 ^ 64 }
+    ensures long { IfOk result (λ v. length v.items ≡ length counts.now + 1) }
+    ensures each { IfOk result (λ v. (p : ℕ) → p ≤ length counts.now →
+        slice_index_or v.items p 0 ≡ sum (take p counts.now)) }
+{
+    let mut starts = Vec::with_capacity(alloc, counts.len() + 1)?;
+    let mut total = 0;
+    starts.push(0)?;
+    for &n in counts {
+        total += n;
+        starts.push(total)?;
+    }
+    Ok(starts)
+}
+
+// Puts each row's number into the rows that its items name, from where these begin.
+fn spread(
+    alloc: Global,
+    start: &[usize],
+    items: &[u32],
+    first: &[usize],
+) -> Result<Vec<u32>, AllocError>
+    requires some { 0 < length start.now }
+    requires width { 0 < length first.now }
+    requires small { length start.now ≤ 2 ^ 32 }
+    requires low { All (λ x. x < length first.now - 1) items.now }
+    requires few { length items.now < 2 ^ 64 }
+    requires rows { IsRows (row_at start.now items.now) (length start.now - 1) start.now items.now }
+    requires room { (p : ℕ) → p < length first.now →
+        slice_index_or first.now p 0
+        ≡ length (laid (turned_rows start.now items.now) p) }
+    requires whole { length (laid (turned_rows start.now items.now) (length first.now - 1))
+        ≡ length items.now }
+    ensures { IfOk result (λ v. v.items
+        ≡ laid (turned_rows start.now items.now) (length first.now - 1)) }
+{
+    let mut cursor = copied(alloc, first)?;
+    let mut after = filled(alloc, 0, items.len())?;
+    for q in 0..start.len() - 1 {
+        let row = &items[start[q]..start[q + 1]];
+        for &s in row {
+            let at = cursor[s as usize];
+            after[at] = q as u32;
+            cursor[s as usize] = at + 1;
+        }
+    }
+    Ok(after)
+}
+
+// The rows turned round, `width` of them: row `p` lists, in ascending order, the rows that name
+// `p`.
+pub(crate) fn turned_round(
+    alloc: Global,
+    start: &[usize],
+    items: &[u32],
+    width: usize,
+) -> Result<Rows, AllocError>
+    requires some { 0 < length start.now }
+    requires small { length start.now ≤ 2 ^ 32 }
+    requires low { All (λ x. x < width) items.now }
+    requires few { length items.now < 2 ^ 64 }
+    requires rows { IsRows (row_at start.now items.now) (length start.now - 1) start.now items.now }
+    ensures { IfOk result (λ r.
+        IsRows (turned_rows start.now items.now) width r.start.items r.items.items) }
+{
+    let counts = counted(alloc, items, width)?;
+    let first = sums(alloc, &counts)?;
+    let after = spread(alloc, start, items, &first)?;
+    Ok(Rows {
+        start: first,
+        items: after,
+    })
+}
+
+// How long each row is.
+pub(crate) fn lengths(alloc: Global, start: &[usize]) -> Result<Vec<u32>, AllocError>
+    requires some { 0 < length start.now }
+    requires ascending { (q : ℕ) → q < length start.now - 1 →
+        slice_index_or start.now q 0 ≤ slice_index_or start.now (q + 1) 0 }
+    requires short { (q : ℕ) → q < length start.now - 1 →
+        slice_index_or start.now (q + 1) 0 - slice_index_or start.now q 0 < 2 ^ 32 }
+    ensures long { IfOk result (λ v. length v.items ≡ length start.now - 1) }
+    ensures each { IfOk result (λ v. (q : ℕ) → q < length start.now - 1 →
+        slice_index_or v.items q 0
+        ≡ slice_index_or start.now (q + 1) 0 - slice_index_or start.now q 0) }
+{
+    let mut all = Vec::with_capacity(alloc, start.len())?;
+    for q in 0..start.len() - 1 {
+        all.push((start[q + 1] - start[q]) as u32)?;
+    }
+    Ok(all)
+}

@@ -1,0 +1,201 @@
+//! The last writer of each slot and its readers since, and what a place waits for by them.
+
+ghost use Rattle.std.specs.Prelude.{◌≡◌, ◌≢◌, ℕ, ◌+◌, ◌^◌, ◌<◌, ◌≤◌, List, [], ◌∷◌, length, cond, OnOk, IfOk, All, replicate, slice_index_or};
+ghost use Rattle.bk_conflicts.specs.private.Accesses.{Places, IsAscending};
+ghost use Rattle.bk_conflicts.specs.private.Trail.{none, WriterIs, Stands, Linked, IsLinks, IsTrail, Shows, IsMarked, with_once, all_once, sources_of, gathered};
+
+use crate::rows::{filled, filled_wide};
+use crate::words::Access;
+use std::alloc::{AllocError, Global};
+
+// The mark of a slot that nobody has written: there are never so many places.
+const NONE: u32 = u32::MAX;
+
+// What the places so far did to each slot.
+#[derive(Drop)]
+pub(crate) struct Trail {
+    // By slot: the last writer, or NONE.
+    writer: Vec<u32>,
+    // By slot: the entry of the newest reader since, or 0.
+    newest: Vec<usize>,
+    // By entry: the reader's place. Entry 0 is nobody.
+    place: Vec<u32>,
+    // By entry: the entry of the reader before it, or 0.
+    prev: Vec<usize>,
+}
+
+// Adds `source` where it was not found yet for this mark.
+fn add_once(
+    stamp: &mut [u32],
+    found: &mut Vec<u32>,
+    mark: u32,
+    source: u32,
+) -> Result<(), AllocError>
+    requires { source < length stamp.old }
+    ensures { IsMarked mark stamp.old found.old.items →
+        OnOk result (IsMarked mark stamp.new found.new.items
+        × (found.new.items ≡ with_once found.old.items source)) }
+{
+    if stamp[source as usize] != mark {
+        found.push(source)?;
+        stamp[source as usize] = mark;
+    }
+    Ok(())
+}
+
+// Adds the readers from entry `newest` on.
+fn add_readers(
+    place: &[u32],
+    prev: &[usize],
+    newest: usize,
+    stamp: &mut [u32],
+    found: &mut Vec<u32>,
+    mark: u32,
+) -> Result<(), AllocError>
+    requires links { IsLinks (length stamp.old) place.now prev.now }
+    requires head { newest < length place.now }
+    ensures { (ps : List ℕ) →
+        Linked place.now prev.now newest ps → IsMarked mark stamp.old found.old.items →
+        OnOk result (IsMarked mark stamp.new found.new.items
+        × (found.new.items ≡ all_once found.old.items ps)) }
+{
+    let mut at = newest;
+    while at != 0 {
+        add_once(stamp, found, mark, place[at])?;
+        at = prev[at];
+    }
+    Ok(())
+}
+
+// Adds a writer where there is one.
+fn add_writer(
+    writer: u32,
+    stamp: &mut [u32],
+    found: &mut Vec<u32>,
+    mark: u32,
+) -> Result<(), AllocError>
+    requires { writer ≢ none → writer < length stamp.old }
+    ensures { (ws : List ℕ) → WriterIs writer ws → IsMarked mark stamp.old found.old.items →
+        OnOk result (IsMarked mark stamp.new found.new.items
+        × (found.new.items ≡ all_once found.old.items ws)) }
+{
+    if writer != NONE {
+        add_once(stamp, found, mark, writer)?;
+    }
+    Ok(())
+}
+
+// Adds what place `q` waits for on a slot: the readers since the last writer, or that writer.
+fn wait_for(
+    trail: &Trail,
+    stamp: &mut [u32],
+    found: &mut Vec<u32>,
+    q: u32,
+    access: Access,
+) -> Result<(), AllocError>
+    requires trail { IsTrail (length trail.now.newest.items) (length stamp.old) trail.now }
+    requires slot { access.slot < length trail.now.newest.items }
+    requires small { q < 2 ^ 31 }
+    ensures { (rs ws : List ℕ) →
+        Shows trail.now access.slot rs ws → IsMarked (q + 1) stamp.old found.old.items →
+        OnOk result (IsMarked (q + 1) stamp.new found.new.items
+        × (found.new.items ≡ all_once found.old.items (sources_of access.writable rs ws))) }
+{
+    let a = access.slot;
+    let newest = trail.newest[a];
+    if access.writable && newest != 0 {
+        add_readers(&trail.place, &trail.prev, newest, stamp, found, q + 1)?;
+        Ok(())
+    } else {
+        add_writer(trail.writer[a], stamp, found, q + 1)?;
+        Ok(())
+    }
+}
+
+// Place `q` reads slot `a`.
+fn push_reader(trail: &mut Trail, a: usize, q: u32) -> Result<(), AllocError>
+    requires slot { a < length trail.old.newest.items }
+    ensures trail { (places : ℕ) → q < places →
+        IsTrail (length trail.old.newest.items) places trail.old →
+        OnOk result (IsTrail (length trail.old.newest.items) places trail.new) }
+    ensures kept { OnOk result ((places b : ℕ) (rs ws : List ℕ) →
+        IsTrail (length trail.old.newest.items) places trail.old → b ≢ a →
+        Shows trail.old b rs ws → Shows trail.new b rs ws) }
+    ensures changed { OnOk result ((places : ℕ) (rs ws : List ℕ) →
+        IsTrail (length trail.old.newest.items) places trail.old →
+        Shows trail.old a rs ws → Shows trail.new a (q ∷ rs) ws) }
+{
+    let entry = trail.place.len();
+    trail.place.push(q)?;
+    trail.prev.push(trail.newest[a])?;
+    trail.newest[a] = entry;
+    Ok(())
+}
+
+// Place `q` accesses a slot.
+fn enter(trail: &mut Trail, q: u32, access: Access) -> Result<(), AllocError>
+    requires trail { length trail.old.writer.items ≡ length trail.old.newest.items }
+    requires slot { access.slot < length trail.old.newest.items }
+    requires small { q < 2 ^ 31 }
+    ensures trail { (places : ℕ) → q < places →
+        IsTrail (length trail.old.newest.items) places trail.old →
+        OnOk result (IsTrail (length trail.old.newest.items) places trail.new) }
+    ensures kept { OnOk result ((places b : ℕ) (rs ws : List ℕ) →
+        IsTrail (length trail.old.newest.items) places trail.old → b ≢ access.slot →
+        Shows trail.old b rs ws → Shows trail.new b rs ws) }
+    ensures changed { OnOk result ((places : ℕ) (rs ws : List ℕ) →
+        IsTrail (length trail.old.newest.items) places trail.old →
+        Shows trail.old access.slot rs ws →
+        Shows trail.new access.slot
+        (cond access.writable [] (q ∷ rs)) (cond access.writable (q ∷ []) ws)) }
+{
+    let a = access.slot;
+    if access.writable {
+        trail.newest[a] = 0;
+        trail.writer[a] = q;
+        Ok(())
+    } else {
+        push_reader(trail, a, q)?;
+        Ok(())
+    }
+}
+
+// Finds what place `q` waits for, and enters its accesses.
+pub(crate) fn meet_all(
+    trail: &mut Trail,
+    stamp: &mut [u32],
+    found: &mut Vec<u32>,
+    q: u32,
+    xs: &[Access],
+) -> Result<(), AllocError>
+    requires trail { IsTrail (length trail.old.newest.items) (length stamp.old) trail.old }
+    requires slots { All (λ x. x.slot < length trail.old.newest.items) xs.now }
+    requires place { q < length stamp.old }
+    requires small { length stamp.old < 2 ^ 31 }
+    ensures trail { OnOk result (
+        IsTrail (length trail.old.newest.items) (length stamp.old) trail.new) }
+    ensures found { (t : Places) → t q ≡ xs.now → IsAscending xs.now →
+        Stands t q trail.old → IsMarked (q + 1) stamp.old found.old.items →
+        OnOk result (Stands t (q + 1) trail.new × IsMarked (q + 1) stamp.new found.new.items
+        × (found.new.items ≡ all_once found.old.items (gathered t q xs.now))) }
+{
+    for x in xs {
+        wait_for(trail, stamp, found, q, *x)?;
+        enter(trail, q, *x)?;
+    }
+    Ok(())
+}
+
+// Nobody has accessed anything.
+pub(crate) fn no_trail(alloc: Global, slots: usize) -> Result<Trail, AllocError>
+    ensures { IfOk result (λ r. (r.writer.items ≡ replicate slots none)
+        × (r.newest.items ≡ replicate slots 0)
+        × (r.place.items ≡ 0 ∷ []) × (r.prev.items ≡ 0 ∷ [])) }
+{
+    Ok(Trail {
+        writer: filled(alloc, NONE, slots)?,
+        newest: filled_wide(alloc, 0, slots)?,
+        place: vec![in alloc; 0]?,
+        prev: vec![in alloc; 0]?,
+    })
+}
