@@ -1,0 +1,50 @@
+//! The laws of interleavings, as functions that do nothing: their clauses are the laws.
+
+ghost use Rattle.bk_steps.specs.Steps.{RefusedClaimsAreNone, RefusedReadsAreNone};
+ghost use Rattle.bk_steps.specs.Laws.{OpeningIsKept, ClaimKeeps, ReadKeeps, WriteKeeps, FinishKeeps, EventKeeps, DoneAreClosed, ChainsAreClosed, ConflictsAreClosed, RunsKeep, WholeRunsAreFold, OrderMakesNoDifference, EventsAreJudged, AllowedIsNotRefused, OneRefusal};
+
+/// What holds of every course holds of the opening one.
+pub fn opening_is_kept()
+    ensures { OpeningIsKept }
+{}
+
+/// An allowed event keeps it, whichever of the four it is, and so does a run.
+pub fn events_keep_course()
+    ensures claim { ClaimKeeps }
+    ensures read { ReadKeeps }
+    ensures write { WriteKeeps }
+    ensures finish { FinishKeeps }
+    ensures event { EventKeeps }
+    ensures runs { RunsKeep }
+{}
+
+/// What is closed under edges is closed under chains of them, and has every earlier place in
+/// conflict with one that it has. The places that are done are such.
+pub fn closed_under_chains()
+    ensures chains { ChainsAreClosed }
+    ensures conflicts { ConflictsAreClosed }
+    ensures done { DoneAreClosed }
+{}
+
+/// A whole run ends with the words of the places one at a time, and with their receipts.
+pub fn whole_runs_are_fold()
+    ensures { WholeRunsAreFold }
+{}
+
+/// Two whole runs, of whatever workers in whatever order, end alike.
+pub fn order_makes_no_difference()
+    ensures { OrderMakesNoDifference }
+{}
+
+/// Among so many workers each event is allowed or refused, not both, and for one reason.
+pub fn one_verdict()
+    ensures judged { EventsAreJudged }
+    ensures apart { AllowedIsNotRefused }
+    ensures reason { OneRefusal }
+{}
+
+/// A claim or a read that is refused is not allowed, whatever the reason.
+pub fn refused_is_not_allowed()
+    ensures claim { RefusedClaimsAreNone }
+    ensures read { RefusedReadsAreNone }
+{}

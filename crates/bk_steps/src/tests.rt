@@ -1,0 +1,91 @@
+ghost use Rattle.std.specs.Prelude.{◌≡◌};
+
+use crate::machine::Machine;
+use crate::refused::Refused;
+use bk_conflicts::Plan;
+use bk_frames::{Row, Version};
+use bk_rules::State;
+use bk_tx::{Body, Declarations, Declared, Tx};
+use std::test::Fail;
+
+fn row(id: u64, balance: u64) -> Row
+    ensures { result ≡ record { id = id; balance = balance; seq = 0 } }
+{
+    Row {
+        id,
+        balance,
+        seq: 0,
+    }
+}
+
+fn declared(id: u64, writable: bool) -> Declared {
+    Declared { id, writable }
+}
+
+fn tx(accounts: &[Declared], from: u64, body: Body) -> Result<Option<Tx>, Fail> {
+    let accounts = Declarations::new(accounts).ok_or("more than eight accounts")?;
+    let tx = Tx::new(accounts, 0, from, body).ok_or("it is no transaction")?;
+    Ok(Some(tx))
+}
+
+// Two payments in conflict: the first writes accounts 1 and 3 and reads 2, the second writes 1 and 2.
+fn two_payments(rt: &HostRuntime) -> Result<Vec<Option<Tx>>, Fail> {
+    let mut txs = Vec::new(rt.alloc());
+    let body = Body::PayIf {
+        to: 3,
+        amount: 10,
+        guard: 2,
+        min: 50,
+    };
+    let accounts = [declared(1, true), declared(2, false), declared(3, true)];
+    txs.push(tx(&accounts, 1, body)?)?;
+    let body = Body::Pay { to: 1, amount: 50 };
+    txs.push(tx(&[declared(1, true), declared(2, true)], 2, body)?)?;
+    Ok(txs)
+}
+
+// Two workers at these payments; accounts 1, 2 and 3 begin with 100, 50 and 10.
+fn two_workers(rt: &HostRuntime) -> Result<Machine, Fail> {
+    let rows = [row(1, 100), row(2, 50), row(3, 10)];
+    let txs = two_payments(rt)?;
+    let mut state = State::new(rt.alloc(), Version::Two, &rows)?;
+    state.prepare(rt.alloc(), &txs)?;
+    let _ = state.version();
+    if txs.len() >= 1000 || state.ids().len() >= 1000 {
+        return Err("too many".into());
+    }
+    let plan = Plan::make(rt.alloc(), Version::Two, state.ids(), txs)?;
+    Ok(Machine::new(rt.alloc(), plan, &state, 2)?)
+}
+
+#[test]
+fn places_are_claimed_in_turn(rt: HostRuntime) -> Result<(), Fail> {
+    let mut machine = two_workers(&rt)?;
+    assert!(rt; machine.claim(2, 0) == Err(Refused::NotIdle));
+    assert!(rt; machine.claim(0, 7) == Err(Refused::NotReady));
+    assert!(rt; machine.claim(0, 1) == Err(Refused::NotReady));
+    assert!(rt; machine.claim(0, 0) == Ok(()));
+    assert!(rt; machine.claim(0, 1) == Err(Refused::NotIdle));
+    assert!(rt; machine.claim(0, 7) == Err(Refused::NotIdle));
+    assert!(rt; machine.claim(1, 0) == Err(Refused::NotReady));
+    assert!(rt; machine.claim(1, 1) == Err(Refused::NotReady));
+    assert!(rt; machine.claim(u64::MAX, u64::MAX) == Err(Refused::NotIdle));
+    Ok(())
+}
+
+#[test]
+fn words_are_read_by_the_holder(rt: HostRuntime) -> Result<(), Fail> {
+    let mut machine = two_workers(&rt)?;
+    assert!(rt; machine.read(0, 0) == Err(Refused::NotHolder));
+    assert!(rt; machine.claim(0, 0) == Ok(()));
+    assert!(rt; machine.read(1, 0) == Err(Refused::NotHolder));
+    assert!(rt; machine.read(2, 0) == Err(Refused::NotHolder));
+    assert!(rt; machine.read(0, 99) == Err(Refused::NotDeclared));
+    assert!(rt; machine.read(0, 6) == Err(Refused::NotDeclared));
+    let balances = [100, 0, 50, 0, 10, 0];
+    for word in 0..balances.len() {
+        assert!(rt; machine.read(0, word as u64) == Ok(balances[word]));
+    }
+    assert!(rt; machine.read(0, 0) == Ok(100));
+    Ok(())
+}
