@@ -1,0 +1,14 @@
+pub mod Lists
+pub mod Places
+pub mod Stages
+pub mod Stepping
+pub mod Looking
+pub mod Claiming
+pub mod Holdings
+pub mod Finishing
+pub mod Releasing
+pub mod Seats
+pub mod Ending
+pub mod Events
+pub mod Settings
+pub mod Own
