@@ -1,0 +1,9 @@
+use Rattle.std.proofs.Common.{◌≡◌, ◌+◌}
+use Rattle.std.specs.Vec.{vec_len}
+use Rattle.bk_pool.proofs.deques.ends_for.Given as goal
+
+abbrev pub invariant-loop : goal.invariant-loop
+invariant-loop g l = vec_len l.deques ≡ l.counter
+
+abbrev pub invariant-loop-me : goal.invariant-loop-me
+invariant-loop-me g l = (vec_len l.ends ≡ l.me) × (vec_len l.deques + l.me ≡ l.fn.workers)

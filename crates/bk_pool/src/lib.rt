@@ -1,0 +1,18 @@
+//! Workers over the bank: any number of threads execute the places of a plan, in any order that
+//! the bank allows. `execute` answers what the places give one at a time, or which place is the
+//! least that is not done.
+#![tactic(auto)]
+
+mod deques;
+mod hints;
+mod levels;
+mod outcome;
+mod place;
+mod run;
+mod settling;
+mod work;
+
+pub use hints::{Hints, Nobody};
+pub use outcome::{ExecFault, Outcome, outcome_of};
+pub use place::{Gate, Open, run_place};
+pub use run::{execute, execute_with};

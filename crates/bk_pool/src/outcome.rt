@@ -1,0 +1,107 @@
+//! What an execution gives.
+ghost use Rattle.std.specs.Prelude.{◌≡◌, ℕ, ◌+◌, ◌-◌, ◌*◌, ◌^◌, ◌<◌, ◌≤◌, length, IfOk, IfErr, IfSome, slice_index, Some};
+ghost use Rattle.bk_rules.specs.Numbers.{number_of, status_with};
+ghost use Rattle.bk_conflicts.specs.SceneOf.{CanRunOn};
+ghost use Rattle.bk_bank.specs.Words.{state_at, moved_word_at, AllFinished, IsFirstUnfinished};
+ghost use Rattle.bk_pool.specs.declared.outcome.ExecFault.TheVariants.{OutOfMemory};
+ghost use Rattle.bk_pool.specs.Outcomes.{AreReceipts, AreStatuses, IsClosed, IsFold, IsLeft, IsBelow};
+
+use bk_bank::Words;
+use bk_conflicts::Plan;
+use bk_rules::{Receipt, State, Status};
+use std::alloc::{AllocError, Global};
+
+/// The accounts after all places, and the receipt of each.
+#[derive(Drop)]
+pub struct Outcome {
+    /// The accounts.
+    pub state: State,
+    /// A receipt for each place, in the order of the places.
+    pub receipts: Vec<Receipt>,
+}
+
+/// Why an execution gives no outcome.
+#[derive(Drop)]
+pub enum ExecFault {
+    /// Memory was refused.
+    OutOfMemory,
+    /// This place is not done, and each before it is: the worker that took it was lost.
+    Unfinished(u32),
+}
+
+impl From<AllocError> for ExecFault {
+    ghost from_gives = { λ _ e. e ≡ OutOfMemory };
+
+    fn from(_refused: AllocError) -> ExecFault {
+        ExecFault::OutOfMemory
+    }
+}
+
+/// `Ok` where every place is done, with the accounts and receipts of the places one at a time; else
+/// the least place that is not done. The words are those of a bank of this plan, closed, and the
+/// state is the one that it was made of: it is written over.
+pub fn outcome_of(
+    alloc: Global,
+    plan: &Plan,
+    state: State,
+    words: &Words,
+) -> Result<Outcome, ExecFault>
+    requires runs { CanRunOn plan.now state }
+    requires closed { IsClosed plan.now state words.now }
+    ensures done { IfOk result (λ o. AllFinished words.now) }
+    ensures fold { IfOk result (λ o. IsFold plan.now state o) }
+    ensures left { IfErr result (λ e. IsLeft words.now e) }
+    ensures below { IfErr result (λ e. IsBelow plan.now e) }
+{
+    let _ = plan.len();
+    if let Some(place) = words.first_unfinished() {
+        return Err(ExecFault::Unfinished(place));
+    }
+    let receipts = receipts_of(alloc, plan.len(), words)?;
+    let all = account_words(alloc, 2 * plan.accounts().len(), words)?;
+    let mut state = state;
+    state.set_words(&all);
+    Ok(Outcome { state, receipts })
+}
+
+// The receipts of the places, all of which are done.
+fn receipts_of(alloc: Global, places: usize, words: &Words) -> Result<Vec<Receipt>, AllocError>
+    requires places { (places ≡ words.now.places) × (places < 2 ^ 31) }
+    requires statuses { AreStatuses words.now }
+    ensures { IfOk result (λ rs. AreReceipts words.now rs.items places) }
+{
+    let mut receipts = Vec::with_capacity(alloc, places)?;
+    for place in 0..places {
+        receipts.push(receipt_of(place as u32, words))?;
+    }
+    Ok(receipts)
+}
+
+// The receipt of a place that is done.
+fn receipt_of(place: u32, words: &Words) -> Receipt
+    requires place { place < words.now.places }
+    requires statuses { AreStatuses words.now }
+    ensures status { state_at words.now place ≡ 2 ^ 63 + number_of result.status }
+    ensures moved { result.moved ≡ moved_word_at words.now place }
+{
+    let number = words.state_of(place) - (1 << 63);
+    let Some(status) = Status::of_number(number as u8) else {
+        unreachable!();
+    };
+    let moved = words.moved(place);
+    Receipt { status, moved }
+}
+
+// The words of the accounts.
+fn account_words(alloc: Global, count: usize, words: &Words) -> Result<Vec<u64>, AllocError>
+    requires { count ≡ words.now.words }
+    ensures count { IfOk result (λ xs. length xs.items ≡ words.now.words) }
+    ensures same { IfOk result (λ xs. (x : ℕ) → x < words.now.words
+        → slice_index xs.items x ≡ slice_index words.now.items x) }
+{
+    let mut xs = Vec::with_capacity(alloc, count)?;
+    for x in 0..count {
+        xs.push(words.word(x))?;
+    }
+    Ok(xs)
+}
