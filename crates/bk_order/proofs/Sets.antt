@@ -1,0 +1,89 @@
+-- Frames as a set, and more of them.
+use Rattle.std.proofs.Common.{◌≡◌, List, sym, ap, subst, ◌∙◌, reverse}
+use Rattle.std.specs.List.{Contains}
+use Rattle.bk_frames.specs.declared.kind.Kind.TheVariants as kind
+use Rattle.bk_frames.specs.Feed.{Frame, frame_of}
+use Rattle.bk_committee.specs.Payload.{CommitteeValue, sizes_of}
+use Rattle.bk_cert.specs.Node.{Node}
+use Rattle.bk_rounds.specs.declared.place.CertRef.{CertRef}
+use Rattle.bk_rounds.specs.Admission.{IsClear}
+use Rattle.bk_evidence.specs.Batches.{Batch, AreApart}
+use Rattle.bk_commit.specs.Growth.{IsPartOf, Begins}
+use Rattle.bk_commit.proofs.Settled.{anchors_begin, begin_each_other}
+use Rattle.bk_flatten.specs.Batches.{Payloads, batches_of}
+use Rattle.bk_flatten.specs.Order.{IsWholeOrder}
+use Rattle.bk_flatten.proofs.Orders.{whole_begins}
+use Rattle.bk_flatten.proofs.Growth.{batches_begin}
+use Rattle.bk_order.specs.declared.stop.Stop.{Stop}
+use Rattle.bk_order.specs.Frames.{IsCertIn, AreCerts, IsBatchIn, AreBatches}
+use Rattle.bk_order.specs.Stops.{IsStop, HasNoStop}
+use Rattle.bk_order.specs.Orders.{Ordered, IsOrderOf}
+
+module _ (k : CommitteeValue) (one other : List Frame) (into : IsPartOf one other) (back : IsPartOf other one) where
+  certs_same : (certs : List Node) → AreCerts k one certs → AreCerts k other certs
+  certs_same certs h = record {
+    sound = λ c t. let s = h.sound c t in (s.0, into (frame_of kind.Certificate s.0) s.1, s.2);
+    complete = λ c s. h.complete c (s.0, back (frame_of kind.Certificate s.0) s.1, s.2);
+  }
+
+  batches_same : (batches : List Batch) → AreBatches one batches → AreBatches other batches
+  batches_same batches h = record {
+    sound = λ c t. let s = h.sound c t in (s.0, into (frame_of kind.Batch s.0) s.1, s.2);
+    complete = λ c s. h.complete c (s.0, back (frame_of kind.Batch s.0) s.1, s.2);
+  }
+
+  pub stop_same : (s : Stop) → IsStop k one s → IsStop k other s
+  stop_same s h = record { certs = h.certs; batches = h.batches; are_certs = certs_same h.certs h.are_certs; are_batches = batches_same h.batches h.are_batches; stops = h.stops }
+
+  pub none_same : HasNoStop k one → HasNoStop k other
+  none_same h = record { certs = h.certs; batches = h.batches; are_certs = certs_same h.certs h.are_certs; are_batches = batches_same h.batches h.are_batches; none = h.none }
+
+  pub order_same : (o : Ordered) → IsOrderOf k one o → IsOrderOf k other o
+  order_same o h = record {
+    certs = h.certs;
+    batches = h.batches;
+    are_certs = certs_same h.certs h.are_certs;
+    are_batches = batches_same h.batches h.are_batches;
+    committed = h.committed;
+    ordered = h.ordered;
+    payloads_are = h.payloads_are;
+  }
+
+-- what is held of clear frames is clear
+clear_of : (k : CommitteeValue) (frames : List Frame) (certs : List Node) → HasNoStop k frames → AreCerts k frames certs → IsClear certs
+clear_of k frames certs none are =
+    let into : IsPartOf certs none.certs = λ c t. none.are_certs.complete c (are.sound c t) in
+    record {
+      no_collision = λ c d a b e. none.none.clear.no_collision c d (into c a) (into d b) e;
+      no_twins = λ c d a b e. none.none.clear.no_twins c d (into c a) (into d b) e;
+    }
+
+apart_of : (k : CommitteeValue) (frames : List Frame) (batches : List Batch) → HasNoStop k frames → AreBatches frames batches → AreApart batches
+apart_of k frames batches none are c d a b e = none.none.apart c d (none.are_batches.complete c (are.sound c a)) (none.are_batches.complete d (are.sound d b)) e
+
+whole_of : (k : CommitteeValue) (frames : List Frame) (o : Ordered) (h : IsOrderOf k frames o) → IsWholeOrder (sizes_of k) h.certs o.order
+whole_of k frames o h = record { anchors = o.anchors; committed = h.committed; ordered = h.ordered }
+
+module _ (k : CommitteeValue) (small large : List Frame) (o p : Ordered) (part : IsPartOf small large) (none : HasNoStop k large) (h : IsOrderOf k small o) (g : IsOrderOf k large p) where
+  certs_part : IsPartOf h.certs g.certs
+  certs_part c t = let s = h.are_certs.sound c t in g.are_certs.complete c (s.0, part (frame_of kind.Certificate s.0) s.1, s.2)
+
+  batches_part : IsPartOf h.batches g.batches
+  batches_part c t = let s = h.are_batches.sound c t in g.are_batches.complete c (s.0, part (frame_of kind.Batch s.0) s.1, s.2)
+
+  pub frames_grow : Begins o.anchors p.anchors × Begins o.order p.order × Begins o.payloads.list p.payloads.list
+  frames_grow =
+      let clear = clear_of k large g.certs none g.are_certs in
+      let apart = apart_of k large g.batches none g.are_batches in
+      let payloads = batches_begin (sizes_of k) h.certs g.certs h.batches g.batches o.order p.order clear apart certs_part batches_part (whole_of k small o h) (whole_of k large p g) in (
+        anchors_begin (sizes_of k) h.certs g.certs clear certs_part o.anchors p.anchors h.committed g.committed,
+        whole_begins (sizes_of k) h.certs g.certs o.order p.order clear certs_part (whole_of k small o h) (whole_of k large p g),
+        subst (λ (t : Payloads). Begins t.list p.payloads.list) (sym h.payloads_are) (subst (λ (t : Payloads). Begins (batches_of h.certs h.batches o.order).list t.list) (sym g.payloads_are) payloads),
+      )
+
+pub frames_one : (k : CommitteeValue) (frames : List Frame) (o p : Ordered) → HasNoStop k frames → IsOrderOf k frames o → IsOrderOf k frames p
+    → (o.anchors ≡ p.anchors) × (o.order ≡ p.order) × (o.payloads.list ≡ p.payloads.list)
+frames_one k frames o p none h g =
+    let there = frames_grow k frames frames o p (λ c t. t) none h g in
+    let back = frames_grow k frames frames p o (λ c t. t) none g h in
+    (begin_each_other o.anchors p.anchors there.0 back.0, begin_each_other o.order p.order there.1 back.1, begin_each_other o.payloads.list p.payloads.list there.2 back.2)

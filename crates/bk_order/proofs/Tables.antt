@@ -1,0 +1,164 @@
+-- The table with one more frame.
+use Rattle.std.proofs.Common.{◌≡◌, ℕ, ◌+◌, ◌<◌, ◌^◌, List, [], ◌∷◌, ◌++◌, length, refl, sym, ap, subst, ◌∙◌, arith, append_assoc}
+use Rattle.std.specs.List.{Contains, AllZip}
+use Rattle.std.proofs.lemmas.List.{append-nil}
+use Rattle.std.proofs.lemmas.List.Elements.{Contains-append_left}
+use Rattle.bk_frames.specs.declared.kind.Kind.{Kind}
+use Rattle.bk_frames.specs.declared.kind.Kind.TheVariants as kind
+use Rattle.bk_frames.specs.Feed.{Frame}
+use Rattle.bk_committee.specs.Payload.{CommitteeValue}
+use Rattle.bk_cert.specs.Node.{Node}
+use Rattle.bk_certcheck.specs.declared.verdict.Verdict.{Verdict}
+use Rattle.bk_certcheck.specs.declared.verdict.Verdict.TheVariants as verdict
+use Rattle.bk_commit.specs.Growth.{IsPartOf, Begins}
+use Rattle.bk_evidence.specs.Batches.{Batch, batch_with, IsBatchOffer, batches_after}
+use Rattle.bk_evidence.specs.declared.batches.BatchOffer.{BatchOffer}
+use Rattle.bk_evidence.specs.declared.batches.BatchOffer.TheVariants as offer
+use Rattle.bk_evidence.specs.Laws.{HaveSame}
+use Rattle.bk_evidence.proofs.Members.{same_itself, same_repeat}
+use Rattle.bk_order.specs.declared.judging.Digested.{Digested}
+use Rattle.bk_order.specs.declared.judging.Judged.{Judged}
+use Rattle.bk_order.specs.declared.judging.Judged.TheVariants as judged
+use Rattle.bk_order.specs.declared.table.Table.{Table}
+use Rattle.bk_order.specs.Frames.{certs_by, rejects_by}
+use Rattle.bk_order.specs.Intake.{IsKeptOf}
+use Rattle.bk_order.specs.private.Judging.{IsJudged, IsOther}
+use Rattle.bk_order.specs.private.Joined.{GoesOn, IsJoined, IsKeeping, kept_in}
+use Rattle.bk_order.proofs.Keeping.{kept_certificate, kept_batch, kept_other}
+
+-- the frame is counted
+abbrev pub tick : Table → Table
+tick t = record { next = t.next + 1; held = t.held; batches = t.batches; rejected = t.rejected; rounds = t.rounds }
+
+-- with these batches
+abbrev pub with_batches : Table → List Batch → Table
+with_batches t bs = record { next = t.next; held = t.held; batches = bs; rejected = t.rejected; rounds = t.rounds }
+
+pub record Keeps (k : CommitteeValue) (old mid : Table) (one : Judged) : Type 0 where
+  pub joined : IsJoined k mid.held mid.rounds
+  pub goes_on : GoesOn old (tick mid)
+  pub next : mid.next + 1 ≡ old.next + 1
+  pub kept : (f : Frame) (before : List Frame) → IsJudged k f one → IsKeptOf k before (kept_in old) → IsKeptOf k (before ++ f ∷ []) (kept_in (tick mid))
+
+pub cert_keeps : (k : CommitteeValue) (old mid : Table) (one : Judged) (v : Verdict) → one ≡ judged.Certificate v → IsJoined k old.held old.rounds → IsJoined k mid.held mid.rounds
+    → mid.next ≡ old.next → IsPartOf old.rounds.held mid.rounds.held → mid.batches ≡ old.batches → HaveSame mid.held (old.held ++ certs_by v)
+    → mid.rejected.items ≡ old.rejected.items ++ rejects_by old.next v → Keeps k old mid one
+cert_keeps k old mid one v e before after next rounds batches certs rejected = record {
+  joined = after;
+  goes_on = record { rounds = rounds; sizes = after.sizes ∙ sym before.sizes; batches = ([], batches ∙ sym (append-nil old.batches)) };
+  next = ap (λ (n : ℕ). n + 1) next;
+  kept = λ f fs j h. let is : IsJudged k f (judged.Certificate v) = subst (IsJudged k f) e j in
+      kept_certificate k fs f (kept_in old) (kept_in (tick mid)) h (ap (λ (n : ℕ). n + 1) next) v is.0 is.1 certs batches rejected;
+}
+
+pub batch_keeps : (k : CommitteeValue) (old : Table) (bs : List Batch) (one : Judged) (b : Digested) → one ≡ judged.Batch b → IsJoined k old.held old.rounds
+    → HaveSame bs (old.batches ++ batch_with b.digest b.payload.items ∷ []) → Begins old.batches bs → Keeps k old (with_batches old bs) one
+batch_keeps k old bs one b e before same begins = record {
+  joined = before;
+  goes_on = record { rounds = λ c h. h; sizes = refl; batches = begins };
+  next = refl;
+  kept = λ f fs j h. let is : IsJudged k f (judged.Batch b) = subst (IsJudged k f) e j in
+      kept_batch k fs f (kept_in old) (kept_in (tick (with_batches old bs))) h refl b.digest b.payload.items is.0 is.1 is.2 refl same refl;
+}
+
+other_apart : (x : Kind) → IsOther x → (x ≡ kind.Certificate → ⊥) × (x ≡ kind.Batch → ⊥)
+other_apart kind.Committee h = ((λ e. absurd cc), (λ e. absurd cc))
+other_apart kind.Genesis h = ((λ e. absurd cc), (λ e. absurd cc))
+other_apart kind.Certificate h = absurd h
+other_apart kind.Batch h = absurd h
+
+pub other_keeps : (k : CommitteeValue) (old : Table) (one : Judged) → one ≡ judged.Other → IsJoined k old.held old.rounds → Keeps k old old one
+other_keeps k old one e before = record {
+  joined = before;
+  goes_on = record { rounds = λ c h. h; sizes = refl; batches = ([], sym (append-nil old.batches)) };
+  next = refl;
+  kept = λ f fs j h. let is : IsOther f.kind = subst (IsJudged k f) e j in
+      let apart = other_apart f.kind is in
+      kept_other k fs f (kept_in old) (kept_in (tick old)) h refl apart.0 apart.1 refl refl refl;
+}
+
+-- ---- an offer of a batch
+
+pub batch_same : (old new : List Batch) (b : Batch) (o : BatchOffer) → IsBatchOffer old b o → new ≡ batches_after old b o → HaveSame new (old ++ b ∷ [])
+batch_same old new b offer.New h e = subst (HaveSame new) e (same_itself new)
+batch_same old new b offer.Repeat h e = subst (λ (bs : List Batch). HaveSame bs (old ++ b ∷ [])) (sym e) (same_repeat old b h)
+batch_same old new b offer.Collision h e = subst (HaveSame new) e (same_itself new)
+
+pub batch_begins : (old new : List Batch) (b : Batch) (o : BatchOffer) → new ≡ batches_after old b o → Begins old new
+batch_begins old new b offer.New e = (b ∷ [], e)
+batch_begins old new b offer.Repeat e = ([], e ∙ sym (append-nil old))
+batch_begins old new b offer.Collision e = (b ∷ [], e)
+
+-- ---- all frames
+
+begins_on : {X : Type 0} (xs ys zs : List X) → Begins xs ys → Begins ys zs → Begins xs zs
+begins_on xs ys zs (a, e) (b, f) = (a ++ b, f ∙ (ap (λ us. us ++ b) e ∙ append_assoc xs a b))
+
+pub goes_on_on : (a b c : Table) → GoesOn a b → GoesOn b c → GoesOn a c
+goes_on_on a b c h g = record {
+  rounds = λ x t. g.rounds x (h.rounds x t);
+  sizes = g.sizes ∙ h.sizes;
+  batches = begins_on a.batches b.batches c.batches h.batches g.batches;
+}
+
+pub goes_nowhere : (a : Table) → GoesOn a a
+goes_nowhere a = record { rounds = λ x t. t; sizes = refl; batches = ([], sym (append-nil a.batches)) }
+
+pub keeping_starts : (k : CommitteeValue) (start : Table) (all left : List Judged) → left ≡ all → IsJoined k start.held start.rounds → ((frames : List Frame) × AllZip (IsJudged k) frames all)
+    → start.next + length all < 2 ^ 64 → IsKeeping k start start all left
+keeping_starts k start all left e joined judged room = subst (IsKeeping k start start all) (sym e) (record {
+  joined = joined;
+  goes_on = goes_nowhere start;
+  room = room;
+  judged = judged;
+  kept = λ frames before zipped h. ([], frames, refl, zipped, subst (λ (fs : List Frame). IsKeptOf k fs (kept_in start)) (sym (append-nil before)) h);
+})
+
+-- the judged list of frames begins with that of the first
+first_judged : (k : CommitteeValue) (frames : List Frame) (one : Judged) (left : List Judged) → AllZip (IsJudged k) frames (one ∷ left)
+    → (f : Frame) × (more : List Frame) × (frames ≡ f ∷ more) × IsJudged k f one × AllZip (IsJudged k) more left
+first_judged k [] one left h = absurd h
+first_judged k (f ∷ more) one left h = (f, more, refl, h.0, h.1)
+
+none_judged : (k : CommitteeValue) (frames : List Frame) → AllZip (IsJudged k) frames [] → frames ≡ []
+none_judged k [] h = refl
+none_judged k (f ∷ more) h = absurd h
+
+pub one_judged : (k : CommitteeValue) (start table : Table) (all before left : List Judged) (one : Judged) → before ≡ one ∷ left → IsKeeping k start table all before → (f : Frame) × IsJudged k f one
+one_judged k start table all before left one e h =
+    let g = subst (λ (js : List Judged). (frames : List Frame) × AllZip (IsJudged k) frames js) e h.judged in
+    let f = first_judged k g.0 one left g.1 in
+    (f.0, f.3)
+
+pub one_room : (k : CommitteeValue) (start table : Table) (all before left : List Judged) (one : Judged) → before ≡ one ∷ left → IsKeeping k start table all before → table.next + 1 < 2 ^ 64
+one_room k start table all before left one e h = let r = h.room in let l = ap length e in omega (arith, r, l)
+
+pub keeping_on : (k : CommitteeValue) (start table new : Table) (all before left : List Judged) (one : Judged) → before ≡ one ∷ left → IsKeeping k start table all before
+    → IsJoined k new.held new.rounds → GoesOn table new → new.next ≡ table.next + 1
+    → ((f : Frame) (fs : List Frame) → IsJudged k f one → IsKeptOf k fs (kept_in table) → IsKeptOf k (fs ++ f ∷ []) (kept_in new)) → IsKeeping k start new all left
+keeping_on k start table new all before left one e h joined goes next kept =
+    let at : IsKeeping k start table all (one ∷ left) = subst (IsKeeping k start table all) e h in
+    let first = first_judged k at.judged.0 one left at.judged.1 in
+    record {
+      joined = joined;
+      goes_on = goes_on_on start table new at.goes_on goes;
+      room = let r = at.room in omega (arith, r, next);
+      judged = (first.1, first.4);
+      kept = λ frames fs zipped was.
+          let g = at.kept frames fs zipped was in
+          let f = first_judged k g.1 one left g.3 in (
+            g.0 ++ f.0 ∷ [],
+            f.1,
+            g.2 ∙ (ap (λ (t : List Frame). g.0 ++ t) f.2 ∙ sym (append_assoc g.0 (f.0 ∷ []) f.1)),
+            f.4,
+            subst (λ (t : List Frame). IsKeptOf k t (kept_in new)) (append_assoc fs g.0 (f.0 ∷ [])) (kept f.0 (fs ++ g.0) f.3 g.4),
+          );
+    }
+
+pub keeping_ends : (k : CommitteeValue) (start table : Table) (all left : List Judged) → left ≡ [] → IsKeeping k start table all left
+    → (frames before : List Frame) → AllZip (IsJudged k) frames all → IsKeptOf k before (kept_in start) → IsKeptOf k (before ++ frames) (kept_in table)
+keeping_ends k start table all left e h frames before zipped was =
+    let g = h.kept frames before zipped was in
+    let none = none_judged k g.1 (subst (AllZip (IsJudged k) g.1) e g.3) in
+    let is : g.0 ≡ frames = sym (g.2 ∙ (ap (λ (t : List Frame). g.0 ++ t) none ∙ append-nil g.0)) in
+    subst (λ (t : List Frame). IsKeptOf k (before ++ t) (kept_in table)) is g.4

@@ -1,0 +1,8 @@
+use Rattle.bk_order.proofs.Sets.{frames_grow, frames_one}
+use Rattle.bk_order.proofs.laws.order_of_frames_grows.Goals as goal
+
+pub returns-clause-grows : goal.returns-clause-grows
+returns-clause-grows c = frames_grow
+
+pub returns-clause-one : goal.returns-clause-one
+returns-clause-one c = frames_one

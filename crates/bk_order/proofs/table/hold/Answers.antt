@@ -1,0 +1,39 @@
+use Rattle.std.proofs.Common.{◌≡◌, ◌++◌, ◌∷◌, [], List, sym, ap, ◌∙◌, ⊎_elim}
+use Rattle.bk_cert.specs.Node.{Node}
+use Rattle.bk_rounds.specs.Rounds.{node_with}
+use Rattle.bk_evidence.specs.declared.offer.Offer.TheVariants as offer
+use Rattle.bk_evidence.proofs.Members.{same_offered}
+use Rattle.bk_order.proofs.Holding.{fit_here, new_id, free_place, joined_new, grown_new, joined_other, new_not_repeat, new_not_twin, new_not_collision}
+use Rattle.bk_order.proofs.table.hold.Goals as goal
+
+pub add-requires-clause-good : goal.add-requires-clause-good
+add-requires-clause-good c =
+    let same : c.in_ok-shared.shared ≡ c.args.good = c.in_ok-shared.ensures ∙ (c.in_ok-cert.ensures ∙ (λ i. node_with (c.id-id.ensures i) (c.into_header.ensures i))) in
+    fit_here c.args.committee.now c.args.rounds.now.sizes c.requires.good.0 c.args.good c.in_ok-shared.shared c.n.ensures.committee c.requires.joined.sizes c.requires.good.1 same
+
+pub add-requires-clause-new : goal.add-requires-clause-new
+add-requires-clause-new c = new_id c.args.committee.now c.args.held.now c.args.rounds.now c.requires.joined c.in_ok-cert.cert c.in_ok-shared.shared c.in_ok-shared.ensures c.in_ok-offer.field-0 c.in_ok-offer.ensures.answer c.in-New.is
+
+pub add-requires-clause-free : goal.add-requires-clause-free
+add-requires-clause-free c = free_place c.args.committee.now c.args.held.now c.args.rounds.now c.requires.joined c.in_ok-cert.cert c.in_ok-shared.shared c.in_ok-shared.ensures c.in_ok-offer.field-0 c.in_ok-offer.ensures.answer c.in-New.is
+
+pub returns-in_ok-add-in-New-clause-joined : goal.returns-in_ok-add-in-New-clause-joined
+returns-in_ok-add-in-New-clause-joined c = joined_new c.args.committee.now c.args.held.now c.args.rounds.now c.requires.joined c.in_ok-cert.cert c.in_ok-shared.shared c.in_ok-shared.ensures c.in_ok-offer.field-0 c.offer.new.self c.add.new.self
+    c.in-New.is c.in_ok-offer.ensures.stored c.in_ok-add-in-New.ensures.ok
+
+pub returns-in_ok-add-in-New-clause-held : goal.returns-in_ok-add-in-New-clause-held
+returns-in_ok-add-in-New-clause-held c = same_offered c.args.held.now c.offer.new.self c.args.good c.in_ok-cert.cert c.in_ok-offer.field-0
+    (c.in_ok-cert.ensures ∙ (λ i. node_with (c.id-id.ensures i) (c.into_header.ensures i))) c.in_ok-offer.ensures.answer c.in_ok-offer.ensures.stored
+
+pub returns-in_ok-add-in-New-clause-rounds : goal.returns-in_ok-add-in-New-clause-rounds
+returns-in_ok-add-in-New-clause-rounds c = grown_new c.args.committee.now c.args.held.now c.args.rounds.now c.requires.joined c.in_ok-cert.cert c.in_ok-shared.shared c.in_ok-shared.ensures c.add.new.self c.in_ok-add-in-New.ensures.ok
+
+pub returns-in-Repeat : goal.returns-in-Repeat
+returns-in-Repeat c = record {
+  joined = joined_other c.args.committee.now c.args.held.now c.args.rounds.now c.requires.joined c.in_ok-cert.cert c.in_ok-shared.shared c.in_ok-shared.ensures c.in_ok-offer.field-0 c.offer.new.self
+      (λ p. ⊎_elim (λ q. new_not_repeat c.in_ok-offer.field-0 p q) (λ more. ⊎_elim (λ t. new_not_twin c.in_ok-offer.field-0 p t.0 t.1) (λ q. new_not_collision c.in_ok-offer.field-0 p q) more) c.in-Repeat.is)
+      c.in_ok-offer.ensures.answer c.in_ok-offer.ensures.stored;
+  held = same_offered c.args.held.now c.offer.new.self c.args.good c.in_ok-cert.cert c.in_ok-offer.field-0
+      (c.in_ok-cert.ensures ∙ (λ i. node_with (c.id-id.ensures i) (c.into_header.ensures i))) c.in_ok-offer.ensures.answer c.in_ok-offer.ensures.stored;
+  rounds = λ x h. h;
+}

@@ -1,0 +1,63 @@
+-- What frames hold: the certificates that break no rule, the batches, and what is rejected. Only
+-- what a list of them contains counts, not in which order or how often.
+use Rattle.std.specs.Prelude.{◌≡◌, ℕ, ◌+◌, List, [], ◌∷◌, ◌++◌, Contains}
+use Rattle.sha2.specs.Sha256.{sha256}
+use Rattle.bk_frames.specs.declared.kind.Kind.{Kind}
+use Rattle.bk_frames.specs.declared.kind.Kind.TheVariants as kind
+use Rattle.bk_frames.specs.Feed.{Frame, frame_of}
+use Rattle.bk_committee.specs.Payload.{CommitteeValue}
+use Rattle.bk_cert.specs.Node.{Node}
+use Rattle.bk_certcheck.specs.declared.verdict.Verdict.{Verdict}
+use Rattle.bk_certcheck.specs.declared.verdict.Verdict.TheVariants as verdict
+use Rattle.bk_certcheck.specs.Verdicts.{IsGood, IsVerdict}
+use Rattle.bk_evidence.specs.Batches.{Batch, batch_with}
+use Rattle.bk_order.specs.declared.reject.Reject.{Reject}
+
+-- a frame holds this certificate, and it breaks no rule of the committee
+abbrev pub IsCertIn : CommitteeValue → List Frame → Node → Type 0
+IsCertIn k frames c =
+    (payload : List ℕ) × Contains frames (frame_of kind.Certificate payload) × IsGood k payload c
+
+-- these are the certificates of the frames that break no rule
+pub record AreCerts (k : CommitteeValue) (frames : List Frame) (certs : List Node) : Type 0 where
+  pub sound : (c : Node) → Contains certs c → IsCertIn k frames c
+  pub complete : (c : Node) → IsCertIn k frames c → Contains certs c
+
+-- the batch of a payload: it stands under its SHA-256
+abbrev pub batch_of : List ℕ → Batch
+batch_of payload = batch_with (sha256 payload) payload
+
+-- a frame holds this batch
+abbrev pub IsBatchIn : List Frame → Batch → Type 0
+IsBatchIn frames b =
+    (payload : List ℕ) × Contains frames (frame_of kind.Batch payload) × (b ≡ batch_of payload)
+
+-- these are the batches of the frames
+pub record AreBatches (frames : List Frame) (batches : List Batch) : Type 0 where
+  pub sound : (b : Batch) → Contains batches b → IsBatchIn frames b
+  pub complete : (b : Batch) → IsBatchIn frames b → Contains batches b
+
+-- the certificate of a verdict
+abbrev pub certs_by : Verdict → List Node
+certs_by (verdict.Good c) = c ∷ []
+certs_by (verdict.Broken r) = []
+
+-- what a verdict on the frame with this number rejects
+abbrev pub rejects_by : ℕ → Verdict → List Reject
+rejects_by number (verdict.Good c) = []
+rejects_by number (verdict.Broken r) = record { frame = number; rule = r } ∷ []
+
+-- what is rejected of a frame with this kind, payload and number: certificates alone
+abbrev pub IsRejectOf : CommitteeValue → ℕ → List ℕ → Kind → List Reject → Type 0
+IsRejectOf k number payload kind.Committee found = found ≡ []
+IsRejectOf k number payload kind.Genesis found = found ≡ []
+IsRejectOf k number payload kind.Certificate found =
+    (v : Verdict) × IsVerdict k payload v × (found ≡ rejects_by number v)
+IsRejectOf k number payload kind.Batch found = found ≡ []
+
+-- what is rejected of these frames, of which the first has this number, in their order
+abbrev pub AreRejects : CommitteeValue → ℕ → List Frame → List Reject → Type 0
+AreRejects k number [] rejects = rejects ≡ []
+AreRejects k number (f ∷ more) rejects =
+    (first : List Reject) × (later : List Reject) × IsRejectOf k number f.payload f.kind first
+    × AreRejects k (number + 1) more later × (rejects ≡ first ++ later)

@@ -1,0 +1,42 @@
+-- What an intake is to its callers.
+use Rattle.std.specs.Prelude.{◌≡◌, ℕ, ◌+◌, Bool, List, [], None, length}
+use Rattle.bk_frames.specs.Feed.{Frame}
+use Rattle.bk_committee.specs.Payload.{CommitteeValue}
+use Rattle.bk_cert.specs.Node.{Node}
+use Rattle.bk_evidence.specs.Batches.{Batch}
+use Rattle.bk_order.specs.declared.reject.Reject.{Reject}
+use Rattle.bk_order.specs.Frames.{AreCerts, AreBatches, AreRejects}
+use Rattle.bk_order.specs.Orders.{Ordered, ordered_with}
+
+-- the number of the first frame that is taken: those of the committee and the genesis are 0 and 1
+abbrev pub first_frame : ℕ
+first_frame = 2
+
+-- the number of the next frame, and what is held and rejected of those before
+pub record Kept : Type 0 where
+  pub next : ℕ
+  pub certs : List Node
+  pub batches : List Batch
+  pub rejected : List Reject
+
+-- a committee, what is kept, the order as it was settled last, and whether memory ran out in a call
+pub record Taken : Type 0 where
+  pub committee : CommitteeValue
+  pub kept : Kept
+  pub ordered : Ordered
+  pub failed : Bool
+
+-- this is what is kept of these frames, in whatever pieces they were taken
+pub record IsKeptOf (k : CommitteeValue) (frames : List Frame) (kept : Kept) : Type 0 where
+  pub next : kept.next ≡ first_frame + length frames
+  pub certs : AreCerts k frames kept.certs
+  pub batches : AreBatches frames kept.batches
+  pub rejected : AreRejects k first_frame frames kept.rejected
+
+-- these frames were taken
+abbrev pub HasTaken : List Frame → Taken → Type 0
+HasTaken frames v = IsKeptOf v.committee frames v.kept
+
+-- nothing is ordered
+abbrev pub nothing_ordered : Ordered
+nothing_ordered = ordered_with [] [] (record { list = []; missing = None })

@@ -1,0 +1,92 @@
+-- What is kept beside what is held.
+use Rattle.std.specs.Prelude.{◌≡◌, ℕ, ◌+◌, ◌<◌, ◌^◌, length, List, ◌++◌, reverse, take}
+use Rattle.bk_committee.specs.Payload.{CommitteeValue, sizes_of}
+use Rattle.bk_committee.specs.Sizes.{Sizes}
+use Rattle.bk_cert.specs.Node.{Node}
+use Rattle.bk_rounds.specs.declared.place.CertRef.{CertRef}
+use Rattle.bk_rounds.specs.Admission.{IsClear}
+use Rattle.bk_rounds.specs.Rounds.{RoundsValue}
+use Rattle.bk_evidence.specs.Batches.{Batch}
+use Rattle.bk_commit.specs.Growth.{IsPartOf, Begins}
+use Rattle.bk_commit.specs.Ordering.{IsCommitted}
+use Rattle.bk_flatten.specs.Order.{IsOrder}
+use Rattle.bk_flatten.specs.Batches.{Listed, AreFound, IsFoundWhole, digests_of, payloads_of}
+use Rattle.bk_order.specs.declared.table.Table.{Table}
+use Rattle.bk_order.specs.declared.settling.Settled.{Settled}
+use Rattle.std.specs.List.{AllZip}
+use Rattle.bk_frames.specs.Feed.{Frame}
+use Rattle.bk_order.specs.declared.judging.Judged.{Judged}
+use Rattle.bk_certcheck.specs.declared.verdict.Verdict.{Verdict}
+use Rattle.bk_certcheck.specs.Verdicts.{IsVerdict}
+use Rattle.bk_order.specs.private.Judging.{IsJudged, certificates_in}
+use Rattle.bk_order.specs.Intake.{Kept, IsKeptOf}
+use Rattle.bk_order.specs.Orders.{Ordered, ordered_with}
+
+-- the table of rounds has what is held, all of it where nobody has twins and no id collides
+pub record IsJoined (k : CommitteeValue) (held : List Node) (rounds : RoundsValue) : Type 0 where
+  pub sizes : rounds.sizes ≡ sizes_of k
+  pub inside : IsPartOf rounds.held held
+  pub whole : IsClear held → IsPartOf held rounds.held
+
+-- what a table keeps
+abbrev pub kept_in : Table → Kept
+kept_in t = record {
+  next = t.next;
+  certs = t.held;
+  batches = t.batches;
+  rejected = t.rejected.items;
+}
+
+-- the one table goes on to the other
+pub record GoesOn (old new : Table) : Type 0 where
+  pub rounds : IsPartOf old.rounds.held new.rounds.held
+  pub sizes : new.rounds.sizes ≡ old.rounds.sizes
+  pub batches : Begins old.batches new.batches
+
+-- the order was settled over a part of these certificates, and its batches are found among these
+pub record IsFollowed (z : Sizes) (held : List Node) (batches : List Batch) (s : Settled) : Type 0 where
+  pub part : List Node
+  pub inside : IsPartOf part held
+  pub committed : IsCommitted z part s.walk
+  pub ordered : IsOrder z part (reverse s.walk) s.flat
+  pub named : s.list.digests ≡ digests_of part s.flat
+  pub found : AreFound batches s.list.digests s.list.found
+
+-- the order is that of these certificates, and its batches are found as far as these are held
+pub record IsSettled (z : Sizes) (held : List Node) (batches : List Batch) (s : Settled) : Type 0 where
+  pub committed : IsCommitted z held s.walk
+  pub ordered : IsOrder z held (reverse s.walk) s.flat
+  pub named : s.list.digests ≡ digests_of held s.flat
+  pub whole : IsFoundWhole batches s.list
+
+-- the order that is settled
+abbrev pub order_in : List Batch → Settled → Ordered
+order_in batches s = ordered_with s.walk s.flat (payloads_of batches s.list)
+
+-- settling has gone as far as so many of the new anchors, which follow the old ones
+pub record IsSettling (z : Sizes) (held : List Node) (batches : List Batch) (old new : List CertRef)
+    (count : ℕ) (s : Settled) : Type 0 where
+  pub walk : s.walk ≡ old ++ new
+  pub committed : IsCommitted z held (old ++ new)
+  pub ordered : IsOrder z held (reverse (old ++ take count new)) s.flat
+  pub named : s.list.digests ≡ digests_of held s.flat
+  pub found : AreFound batches s.list.digests s.list.found
+
+-- so many of the frames are kept that these are left
+pub record IsKeeping (k : CommitteeValue) (start table : Table) (all left : List Judged) : Type 0 where
+  pub joined : IsJoined k table.held table.rounds
+  pub goes_on : GoesOn start table
+  pub room : table.next + length left < 2 ^ 64
+  pub judged : (frames : List Frame) × AllZip (IsJudged k) frames left
+  pub kept : (frames before : List Frame) → AllZip (IsJudged k) frames all
+      → IsKeptOf k before (kept_in start)
+      → (done : List Frame) × (rest : List Frame) × (frames ≡ done ++ rest)
+      × AllZip (IsJudged k) rest left × IsKeptOf k (before ++ done) (kept_in table)
+
+-- of all frames these are left, with these verdicts on their certificates, and those before them
+-- were found to be this
+pub record IsJudging (k : CommitteeValue) (all frames : List Frame) (left : List Verdict) (out : List Judged) : Type 0 where
+  pub done : List Frame
+  pub split : all ≡ done ++ frames
+  pub verdicts : AllZip (IsVerdict k) (certificates_in frames) left
+  pub judged : AllZip (IsJudged k) done out

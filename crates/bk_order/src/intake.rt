@@ -1,0 +1,221 @@
+//! The frames of a feed, taken in pieces, and their order.
+
+ghost use Rattle.std.specs.Prelude.{◌≡◌, ◌++◌, ℕ, ◌+◌, ◌<◌, ◌^◌, [], List, Bool, true, false, OnOk, OnErr, IfOk, MatchOption, Some, length, slice_get};
+ghost use Rattle.std.specs.Option.{option_copied};
+ghost use Rattle.bk_frames.specs.Feed.{Frame};
+ghost use Rattle.bk_frames.specs.Cutting.{frames_in};
+ghost use Rattle.bk_order.specs.Stops.{HasNoStop, IsStop};
+ghost use Rattle.bk_order.specs.Orders.{AreWaiting, IsOrderOf};
+ghost use Rattle.bk_order.specs.Intake.{HasTaken, IsKeptOf, nothing_ordered};
+ghost use Rattle.bk_order.specs.private.Joined.{GoesOn, IsJoined, kept_in};
+
+use crate::judging::judge_all;
+use crate::reject::Reject;
+use crate::settling::{Settled, settle, unsettled};
+use crate::stop::{Stop, stop_of};
+use crate::table::{Table, empty_table, keep_all};
+use bk_committee::Committee;
+use bk_digest::Digest32;
+use bk_frames::Kind;
+use bk_rounds::CertRef;
+use std::alloc::{AllocError, Global};
+use std::marker::Model;
+use std::thread::Threads;
+
+/// The frames of a feed after the genesis, taken in pieces. Contracts see it as the committee, what
+/// is kept of the frames, and their order as it was settled last.
+///
+/// A call costs what the frames since the last one cost. Where memory runs out in `take` or in
+/// `settle` the value has failed: every later call of these two returns the same error, and what
+/// the others return of the order means nothing.
+#[derive(Drop)]
+pub struct Intake {
+    alloc: Global,
+    committee: Committee,
+    table: Table,
+    settled: Settled,
+    failed: bool,
+}
+
+impl Model for Intake {
+    ghost use Rattle.std.specs.Prelude.{◌≡◌, false};
+    ghost use Rattle.bk_committee.specs.Payload.{IsCommittee};
+    ghost use Rattle.bk_order.specs.Intake.{Taken};
+    ghost use Rattle.bk_order.specs.private.Joined.{IsFollowed, IsJoined, kept_in, order_in};
+
+    ghost Value = { Taken };
+
+    ghost view = { λ s. record { committee = s.committee; kept = kept_in s.table; ordered = order_in s.table.batches s.settled; failed = s.failed } };
+
+    ghost invariant = { λ s. s.failed ≡ false → IsJoined s.committee s.table.held s.table.rounds
+        × IsFollowed s.table.rounds.sizes s.table.rounds.held s.table.batches s.settled };
+}
+
+impl Intake {
+    /// No frame after the genesis was taken.
+    pub fn new(alloc: Global, committee: Committee) -> Result<Intake, AllocError>
+        ensures committee { IfOk result (λ v. v.committee ≡ committee) }
+        ensures nothing { IfOk result (HasTaken []) }
+        ensures unordered { IfOk result (λ v. v.ordered ≡ nothing_ordered) }
+        ensures open { IfOk result (λ v. v.failed ≡ false) }
+    {
+        let table = empty_table(alloc, &committee)?;
+        Ok(Intake {
+            alloc,
+            committee,
+            table,
+            settled: unsettled(alloc),
+            failed: false,
+        })
+    }
+
+    /// Takes the next frames. A committee or a genesis among them counts as a frame of which
+    /// nothing is held.
+    ///
+    /// An `Err` comes only where memory runs out, in this call or in an earlier one.
+    pub fn take(
+        &mut self,
+        rt: &(impl Threads + Sync),
+        frames: Vec<(Kind, Vec<u8>)>,
+    ) -> Result<(), AllocError>
+        requires room { self.old.kept.next + length frames.items < 2 ^ 64 }
+        ensures taken { OnOk result ((before : List Frame) → HasTaken before self.old
+            → HasTaken (before ++ frames_in frames.items) self.new) }
+        ensures committee { self.new.committee ≡ self.old.committee }
+        ensures order { OnOk result (self.new.ordered ≡ self.old.ordered) }
+        ensures open { OnOk result ((self.old.failed ≡ false) × (self.new.failed ≡ false)) }
+        ensures failed { OnErr result (self.new.failed ≡ true) }
+    {
+        if self.failed {
+            return Err(AllocError);
+        }
+        match take_all(rt, self.alloc, &self.committee, &mut self.table, frames) {
+            Ok(()) => Ok(()),
+            Err(error) => {
+                self.failed = true;
+                Err(error)
+            }
+        }
+    }
+
+    /// Whether memory ran out in an earlier call.
+    pub fn failed(&self) -> bool
+        ensures { result ≡ self.now.failed }
+    {
+        self.failed
+    }
+
+    /// How many frames there were, with the committee and the genesis: the number of the next one.
+    pub fn next(&self) -> u64
+        ensures { result ≡ self.now.kept.next }
+    {
+        self.table.next
+    }
+
+    /// The frames that hold no good certificate, in the order of the feed.
+    pub fn rejected(&self) -> &[Reject]
+        ensures { result.now ≡ self.now.kept.rejected }
+    {
+        self.table.rejected.as_slice()
+    }
+
+    /// The stop of the frames so far, if they have one.
+    pub fn stop(&self) -> Option<Stop>
+        ensures { (frames : List Frame) → HasTaken frames self.now → MatchOption result
+            (HasNoStop self.now.committee frames) (IsStop self.now.committee frames) }
+    {
+        stop_of(&self.table.held, &self.table.batches)
+    }
+
+    /// Settles the order of the frames so far. It costs what the new anchors and their histories
+    /// cost. While the frames have a stop, it means nothing.
+    ///
+    /// An `Err` comes only where memory runs out, in this call or in an earlier one.
+    pub fn settle(&mut self) -> Result<(), AllocError>
+        ensures order { OnOk result ((frames : List Frame) → HasTaken frames self.new
+            → HasNoStop self.new.committee frames
+            → IsOrderOf self.new.committee frames self.new.ordered) }
+        ensures committee { self.new.committee ≡ self.old.committee }
+        ensures kept { self.new.kept ≡ self.old.kept }
+        ensures open { OnOk result ((self.old.failed ≡ false) × (self.new.failed ≡ false)) }
+        ensures failed { OnErr result (self.new.failed ≡ true) }
+    {
+        if self.failed {
+            return Err(AllocError);
+        }
+        match settle(&mut self.settled, &self.table.rounds, &self.table.batches) {
+            Ok(()) => Ok(()),
+            Err(error) => {
+                self.failed = true;
+                Err(error)
+            }
+        }
+    }
+
+    /// The committed anchors as they were settled last, oldest first.
+    pub fn anchors(&self) -> &[CertRef]
+        ensures { result.now ≡ self.now.ordered.anchors }
+    {
+        self.settled.walk.anchors()
+    }
+
+    /// The certificates in order, as they were settled last.
+    pub fn order(&self) -> &[CertRef]
+        ensures { result.now ≡ self.now.ordered.order }
+    {
+        self.settled.flat.order()
+    }
+
+    /// How many batches the order has before the first that is missing, as it was settled last.
+    pub fn batches(&self) -> usize
+        ensures { result ≡ length self.now.ordered.payloads.list }
+    {
+        self.settled.list.found().len()
+    }
+
+    /// The payload of a batch in the order.
+    pub fn payload(&self, place: usize) -> &[u8]
+        requires open { self.now.failed ≡ false }
+        requires inside { place < length self.now.ordered.payloads.list }
+        ensures { slice_get self.now.ordered.payloads.list place ≡ Some result.now }
+    {
+        self.table.batches.payload(self.settled.list.found()[place])
+    }
+
+    /// The digest of the first batch that is missing in the order, as it was settled last.
+    pub fn missing(&self) -> Option<&Digest32>
+        ensures { option_copied result ≡ self.now.ordered.payloads.missing }
+    {
+        self.settled.list.missing()
+    }
+
+    /// The places of the certificates that wait, of all frames so far, by round and author.
+    pub fn waiting(&self) -> Result<Vec<CertRef>, AllocError>
+        ensures { IfOk result (λ places. (frames : List Frame) → HasTaken frames self.now
+            → self.now.failed ≡ false → HasNoStop self.now.committee frames
+            → AreWaiting self.now.committee frames places.items) }
+    {
+        let places = self.table.rounds.waiting()?;
+        Ok(places)
+    }
+}
+
+// Judges the frames, and keeps what they are found to be.
+fn take_all(
+    rt: &(impl Threads + Sync),
+    alloc: Global,
+    committee: &Committee,
+    table: &mut Table,
+    frames: Vec<(Kind, Vec<u8>)>,
+) -> Result<(), AllocError>
+    requires joined { IsJoined committee.now table.old.held table.old.rounds }
+    requires room { table.old.next + length frames.items < 2 ^ 64 }
+    ensures joined { OnOk result (IsJoined committee.now table.new.held table.new.rounds) }
+    ensures goes_on { OnOk result (GoesOn table.old table.new) }
+    ensures kept { OnOk result ((before : List Frame)
+        → IsKeptOf committee.now before (kept_in table.old)
+        → IsKeptOf committee.now (before ++ frames_in frames.items) (kept_in table.new)) }
+{
+    let judged = judge_all(rt, alloc, committee, frames)?;
+    keep_all(alloc, committee, table, judged)
+}

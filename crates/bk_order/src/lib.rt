@@ -1,0 +1,20 @@
+//! From the frames of a feed to the committed order.
+//!
+//! An `Intake` takes the frames after the genesis in whatever pieces they come, and tells which
+//! certificates are rejected, whether a collision or twins stop the feed, and, where nothing does,
+//! the committed anchors, the order and its batches. All of it is of the frames taken so far as a
+//! set: their order counts for nothing but the numbers of the rejected.
+#![tactic(auto)]
+
+mod intake;
+mod judging;
+mod laws;
+mod reject;
+mod settling;
+mod stop;
+mod table;
+
+pub use intake::Intake;
+pub use laws::{frames_are_a_set, order_of_frames_grows};
+pub use reject::Reject;
+pub use stop::Stop;

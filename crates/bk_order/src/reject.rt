@@ -1,0 +1,12 @@
+//! A certificate that is rejected.
+
+use bk_certcheck::Rule;
+
+/// A frame that holds no good certificate, and the least rule that it breaks.
+#[derive(Clone, Copy, Debug, PartialEq, Eq)]
+pub struct Reject {
+    /// The number of the frame: the committee is frame 0 and the genesis frame 1.
+    pub frame: u64,
+    /// The rule.
+    pub rule: Rule,
+}

@@ -1,0 +1,58 @@
+//! Why a feed has no order.
+
+ghost use Rattle.std.specs.Prelude.{◌≡◌, MatchOption, Option, Some, List, ℕ};
+ghost use Rattle.bk_order.specs.Stops.{AreClear, CollidesIn, IsLeastCollision, StopsAt};
+ghost use Rattle.bk_evidence.specs.Batches.{AreApart, IsBatchCollision};
+ghost use Rattle.bk_evidence.specs.Held.{IsCollision, NoCollision};
+ghost use Rattle.bk_order.specs.private.Lesser.{lesser_of};
+ghost use Rattle.bk_evidence.specs.Collisions.{id_cmp};
+ghost use Rattle.bk_evidence.specs.private.Least.{least_of};
+
+use bk_digest::Digest32;
+use bk_evidence::{Batches, Evidence, Held};
+use std::cmp::Ordering;
+
+/// Why a feed has no order. A collision goes before twins.
+#[derive(Clone, Copy, Debug, PartialEq, Eq)]
+pub enum Stop {
+    /// The least id with two headers or digest with two payloads.
+    Collision(Digest32),
+    /// The evidence that a member made two certificates for one round.
+    Twins(Evidence),
+}
+
+// The lesser of two.
+fn lesser(id: Digest32, digest: Digest32) -> Digest32
+    ensures { result ≡ least_of id_cmp (Some id) digest }
+{
+    match digest.cmp(&id) {
+        Ordering::Less => digest,
+        Ordering::Equal | Ordering::Greater => id,
+    }
+}
+
+// The least of two that may be there.
+fn least(one: Option<Digest32>, other: Option<Digest32>) -> Option<Digest32>
+    ensures { result ≡ lesser_of one other }
+{
+    match one {
+        None => other,
+        Some(id) => match other {
+            None => one,
+            Some(digest) => Some(lesser(id, digest)),
+        },
+    }
+}
+
+/// The stop of what is held.
+pub(crate) fn stop_of(held: &Held, batches: &Batches) -> Option<Stop>
+    ensures { MatchOption result (AreClear held.now batches.now) (StopsAt held.now batches.now) }
+{
+    match least(held.collision(), batches.collision()) {
+        Some(id) => Some(Stop::Collision(id)),
+        None => match held.evidence() {
+            Some(evidence) => Some(Stop::Twins(evidence)),
+            None => None,
+        },
+    }
+}

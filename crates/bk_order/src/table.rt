@@ -1,0 +1,165 @@
+//! What is held of the frames, and the certificates of it by round.
+
+ghost use Rattle.std.specs.Prelude.{◌≡◌, ◌++◌, ◌∷◌, ℕ, ◌+◌, ◌<◌, ◌^◌, [], List, OnOk, IfOk, length, true};
+ghost use Rattle.std.specs.List.{AllZip};
+ghost use Rattle.bk_committee.specs.Payload.{sizes_of};
+ghost use Rattle.bk_frames.specs.Feed.{Frame};
+ghost use Rattle.bk_certcheck.specs.Verdicts.{IsGood, IsVerdict};
+ghost use Rattle.bk_rounds.specs.Rounds.{rounds_with};
+ghost use Rattle.bk_commit.specs.Growth.{Begins, IsPartOf};
+ghost use Rattle.bk_evidence.specs.Laws.{HaveSame};
+ghost use Rattle.bk_evidence.specs.Batches.{batch_with};
+ghost use Rattle.bk_order.specs.Frames.{certs_by, rejects_by};
+ghost use Rattle.bk_order.specs.Intake.{IsKeptOf, first_frame};
+ghost use Rattle.bk_order.specs.private.Judging.{IsJudged};
+ghost use Rattle.bk_order.specs.private.Joined.{GoesOn, IsJoined, kept_in};
+
+use crate::judging::{Digested, Judged};
+use crate::reject::Reject;
+use bk_certcheck::{Checked, Verdict};
+use bk_committee::Committee;
+use bk_evidence::{Batches, Held, Offer};
+use bk_rounds::{Rounds, SharedCert};
+use std::alloc::{AllocError, Global};
+
+/// What is held of the frames so far.
+#[derive(Drop)]
+pub(crate) struct Table {
+    pub next: u64,
+    pub held: Held,
+    pub batches: Batches,
+    pub rejected: Vec<Reject>,
+    pub rounds: Rounds,
+}
+
+/// Nothing is held.
+pub(crate) fn empty_table(alloc: Global, committee: &Committee) -> Result<Table, AllocError>
+    ensures kept { IfOk result (λ t. IsKeptOf committee.now [] (kept_in t)) }
+    ensures rounds { IfOk result (λ t. t.rounds ≡ rounds_with (sizes_of committee.now) []) }
+{
+    let rounds = Rounds::new(alloc, committee)?;
+    Ok(Table {
+        next: 2,
+        held: Held::new(alloc),
+        batches: Batches::new(alloc),
+        rejected: Vec::new(alloc),
+        rounds,
+    })
+}
+
+// Holds a good certificate, and adds it to its round where its id and its place are new.
+fn hold(
+    alloc: Global,
+    committee: &Committee,
+    held: &mut Held,
+    rounds: &mut Rounds,
+    good: Checked,
+) -> Result<(), AllocError>
+    requires joined { IsJoined committee.now held.old rounds.old }
+    requires good { (bytes : List ℕ) × IsGood committee.now bytes good }
+    ensures joined { OnOk result (IsJoined committee.now held.new rounds.new) }
+    ensures held { OnOk result (HaveSame held.new (held.old ++ good ∷ [])) }
+    ensures rounds { OnOk result (IsPartOf rounds.old.held rounds.new.held) }
+{
+    let _ = committee.n();
+    let id = good.id();
+    let cert = SharedCert::new(alloc, id, good.into_header())?;
+    let shared = cert.share()?;
+    match held.offer(cert)? {
+        Offer::New => {
+            rounds.add(shared)?;
+        }
+        Offer::Repeat | Offer::Twin(_) | Offer::Collision => {}
+    }
+    Ok(())
+}
+
+// Keeps the verdict on a certificate, which the frame with this number holds.
+fn keep_verdict(
+    alloc: Global,
+    committee: &Committee,
+    table: &mut Table,
+    verdict: Verdict,
+) -> Result<(), AllocError>
+    requires joined { IsJoined committee.now table.old.held table.old.rounds }
+    requires judged { (bytes : List ℕ) × IsVerdict committee.now bytes verdict }
+    ensures joined { OnOk result (IsJoined committee.now table.new.held table.new.rounds) }
+    ensures next { OnOk result (table.new.next ≡ table.old.next) }
+    ensures rounds { OnOk result (IsPartOf table.old.rounds.held table.new.rounds.held) }
+    ensures batches { OnOk result (table.new.batches ≡ table.old.batches) }
+    ensures certs { OnOk result (HaveSame table.new.held (table.old.held ++ certs_by verdict)) }
+    ensures rejected { OnOk result (table.new.rejected.items
+        ≡ table.old.rejected.items ++ rejects_by table.old.next verdict) }
+{
+    match verdict {
+        Verdict::Good(good) => {
+            hold(alloc, committee, &mut table.held, &mut table.rounds, good)?;
+        }
+        Verdict::Broken(rule) => {
+            table.rejected.push(Reject {
+                frame: table.next,
+                rule,
+            })?;
+        }
+    }
+    Ok(())
+}
+
+// Keeps a batch.
+fn keep_batch(batches: &mut Batches, one: Digested) -> Result<(), AllocError>
+    ensures same { OnOk result (HaveSame batches.new
+        (batches.old ++ batch_with one.digest one.payload.items ∷ [])) }
+    ensures begins { OnOk result (Begins batches.old batches.new) }
+{
+    batches.offer(one.digest, one.payload)?;
+    Ok(())
+}
+
+// Keeps what a frame is found to be.
+fn keep(
+    alloc: Global,
+    committee: &Committee,
+    table: &mut Table,
+    one: Judged,
+) -> Result<(), AllocError>
+    requires joined { IsJoined committee.now table.old.held table.old.rounds }
+    requires judged { (f : Frame) × IsJudged committee.now f one }
+    requires room { table.old.next + 1 < 2 ^ 64 }
+    ensures joined { OnOk result (IsJoined committee.now table.new.held table.new.rounds) }
+    ensures goes_on { OnOk result (GoesOn table.old table.new) }
+    ensures next { OnOk result (table.new.next ≡ table.old.next + 1) }
+    ensures kept { OnOk result ((f : Frame) (before : List Frame)
+        → IsJudged committee.now f one → IsKeptOf committee.now before (kept_in table.old)
+        → IsKeptOf committee.now (before ++ f ∷ []) (kept_in table.new)) }
+{
+    match one {
+        Judged::Certificate(verdict) => keep_verdict(alloc, committee, table, verdict)?,
+        Judged::Batch(batch) => keep_batch(&mut table.batches, batch)?,
+        Judged::Other => {}
+    }
+    table.next += 1;
+    Ok(())
+}
+
+/// Keeps what each of the frames is found to be.
+pub(crate) fn keep_all(
+    alloc: Global,
+    committee: &Committee,
+    table: &mut Table,
+    judged: Vec<Judged>,
+) -> Result<(), AllocError>
+    requires joined { IsJoined committee.now table.old.held table.old.rounds }
+    requires judged { (frames : List Frame) × AllZip (IsJudged committee.now) frames judged.items }
+    requires room { table.old.next + length judged.items < 2 ^ 64 }
+    ensures joined { OnOk result (IsJoined committee.now table.new.held table.new.rounds) }
+    ensures goes_on { OnOk result (GoesOn table.old table.new) }
+    ensures kept { OnOk result ((frames before : List Frame)
+        → AllZip (IsJudged committee.now) frames judged.items
+        → IsKeptOf committee.now before (kept_in table.old)
+        → IsKeptOf committee.now (before ++ frames) (kept_in table.new)) }
+{
+    for one in judged {
+        keep(alloc, committee, table, one)?;
+    }
+    Ok(())
+}
