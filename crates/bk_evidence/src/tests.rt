@@ -3,6 +3,7 @@
 use crate::*;
 use bk_cert::Header;
 use bk_digest::Digest32;
+use bk_rounds::SharedCert;
 use std::alloc::{AllocError, Global};
 use std::process::Abort;
 use std::test::Fail;

@@ -7,8 +7,6 @@ use std::alloc::{AllocError, Global};
 use std::process::Abort;
 use std::test::Fail;
 
-mod slow;
-
 // The certificate of round r by member a has an id of bytes r and a, and its parents are named by
 // their authors in the round before.
 fn id_of(round: u32, author: u8) -> Digest32 {

@@ -67,7 +67,7 @@ fn read_all(bank: &Bank, hold: &mut Hold, count: usize, values: &mut [u64])
     ensures read { HasReadAll (bank_scene bank.now) hold.old.place (reads_of hold.new.view.stage) }
     ensures values { let plan = bank.now.setting.plan in (k : ℕ) → k < count
         → slice_index values.new k
-            ≡ (bank_scene bank.now).fold hold.old.place (word_at plan hold.old.place k) }
+        ≡ (bank_scene bank.now).fold hold.old.place (word_at plan hold.old.place k) }
     ensures wide { length values.new ≡ length values.old }
 {
     for i in 0..count {
