@@ -19,7 +19,7 @@ use Rattle.bk_rules.proofs.Slots.{ascend-shown}
 use Rattle.bk_rules.proofs.Words.{length-pairs, pair_at}
 use Rattle.bk_conflicts.specs.Plan.{PlanValue, IsPlan}
 use Rattle.bk_conflicts.specs.Scene.{status_at, moved_at}
-use Rattle.bk_conflicts.specs.SceneOf.{CanRunOn, word_by, account_said, tx_at, accounts_by, status_on}
+use Rattle.bk_conflicts.specs.SceneOf.{CanRunOn, word_by, account_from, tx_at, accounts_by, status_on}
 use Rattle.bk_conflicts.specs.Words.{slot_of}
 use Rattle.bk_conflicts.proofs.Accessed.{slot_there}
 use Rattle.bk_conflicts.proofs.Ran.{said_there}
@@ -121,7 +121,7 @@ within plan ledger is runs xs long values = subst (λ (y : Version × List ℕ).
         let b = values (2 * a) (omega arith) in let q = values (2 * a + 1) (omega arith) in (
           low,
           ap (shown_by plan.version) (pair_at xs a (record { balance = 0; seq = 0 }) (omega arith) ∙ (λ j. record { balance = b j; seq = q j }))
-              ∙ (sym (ap (account_said plan.version f) e)
+              ∙ (sym (ap (account_from plan.version f) e)
               ∙ (ap (λ (h : ℕ → ℕ). accounts_by plan.version plan.ids h id) (last_fold plan ledger (length plan.txs))
               ∙ said_there plan.version plan.ids plan.txs (length plan.txs) ledger.rows runs.is_ledger runs.has_room (all_there plan ledger runs) id a e)),
         )

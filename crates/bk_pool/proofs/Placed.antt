@@ -11,7 +11,7 @@ use Rattle.bk_rules.specs.View.{nth, nth_id}
 use Rattle.bk_conflicts.specs.Words as places
 use Rattle.bk_conflicts.specs.Words.{slot_of}
 use Rattle.bk_conflicts.specs.declared.words.WordRef.{WordRef}
-use Rattle.bk_conflicts.specs.SceneOf.{word_by, accounts_by, account_said}
+use Rattle.bk_conflicts.specs.SceneOf.{word_by, accounts_by, account_from}
 use Rattle.bk_conflicts.proofs.Accessed.{slot_there}
 use Rattle.bk_conflicts.proofs.Said as said
 use Rattle.bk_bank.specs.Setting.{no_word}
@@ -56,7 +56,7 @@ pub said_here : (v : Version) (slots : List ℕ) (ds : List Declared) (values : 
     → said_at v (slot_of slots (nth_id ds k)) values (words_before slots ds k) ≡ accounts_by v slots f (nth_id ds k)
 said_here v slots ds values f says k l = at (slot_of slots (nth_id ds k)) refl
   where
-    at : (o : Option ℕ) → slot_of slots (nth_id ds k) ≡ o → said_at v o values (words_before slots ds k) ≡ account_said v f o
+    at : (o : Option ℕ) → slot_of slots (nth_id ds k) ≡ o → said_at v o values (words_before slots ds k) ≡ account_from v f o
     at None e = refl
     at (Some s) e = let two : wide (slot_of slots (nth_id ds k)) ≡ 2 = ap wide e in let room = room_here slots ds k l in let w = words_here slots ds k s l e in
         let b : get_or values (words_before slots ds k) 0 ≡ f (2 * s) = says (words_before slots ds k) (omega arith) ∙ ap f w.0 in
