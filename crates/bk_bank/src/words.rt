@@ -41,7 +41,8 @@ impl Bank {
         ensures saw { let s = bank_scene self in
             (p : ℕ) → p < s.places → Has pass.view.seen p
             → slice_index result.items (state_word s p) ≡ 2 ^ 63 + status_at s p }
-        ensures size { (result.words ≡ (bank_scene self).words) × (result.places ≡ (bank_scene self).places) }
+        ensures size { (result.words ≡ (bank_scene self).words)
+            × (result.places ≡ (bank_scene self).places) }
     {
         let (closed, words, places) = self.shut(pass);
         Words {

@@ -24,7 +24,8 @@ impl Bank {
         ensures words { result.1 ≡ (bank_scene self).words }
         ensures places { result.2 ≡ (bank_scene self).places }
         ensures full { IsFull result.0.words }
-        ensures whole { IsClosed (slots_len result.0.words) (slots_len result.0.slots) result.1 result.2 }
+        ensures whole { IsClosed (slots_len result.0.words) (slots_len result.0.slots)
+            result.1 result.2 }
     {
         let Pass { seat } = pass;
         let Bank { table, plan } = self;

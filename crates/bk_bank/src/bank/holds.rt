@@ -55,8 +55,10 @@ impl Bank {
         requires own { IsHoldOf self.now hold.old }
         requires word { i < length (words_at self.now.setting.plan hold.old.place) }
         requires writable { may_write self.now.setting.plan hold.old.place i ≡ true }
-        requires read { HasReadAll (bank_scene self.now) hold.old.place (reads_of hold.old.view.stage) }
-        requires fresh { ¬ Has (writes_of hold.old.view.stage) (word_at self.now.setting.plan hold.old.place i) }
+        requires read { HasReadAll (bank_scene self.now) hold.old.place
+            (reads_of hold.old.view.stage) }
+        requires fresh { ¬ Has (writes_of hold.old.view.stage)
+            (word_at self.now.setting.plan hold.old.place i) }
         requires value { let word = word_at self.now.setting.plan hold.old.place i in
             value ≡ (bank_scene self.now).fold (suc hold.old.place) word }
         ensures own { IsHoldOf self.now hold.new × (hold.new.place ≡ hold.old.place) }
@@ -77,7 +79,8 @@ impl Bank {
     pub fn finish(&self, hold: Hold, status: u8, moved: u64) -> Leaving
         requires own { IsHoldOf self.now hold }
         requires read { HasReadAll (bank_scene self.now) hold.place (reads_of hold.view.stage) }
-        requires wrote { HasWrittenAll (bank_scene self.now) hold.place (writes_of hold.view.stage) }
+        requires wrote { HasWrittenAll (bank_scene self.now) hold.place
+            (writes_of hold.view.stage) }
         requires status { status ≡ status_at (bank_scene self.now) hold.place }
         requires moved { moved ≡ moved_at (bank_scene self.now) hold.place }
         ensures own { IsLeavingOf self.now result × (result.place ≡ hold.place) }

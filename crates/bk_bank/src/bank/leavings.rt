@@ -19,7 +19,8 @@ impl Bank {
     fn after(&self, place: u32) -> &[u32]
         requires { place < (bank_scene self.now).places }
         ensures list { result.now ≡ (bank_scene self.now).next place }
-        ensures inside { (k : ℕ) → k < length result.now → slice_index result.now k < (bank_scene self.now).places }
+        ensures inside { (k : ℕ) → k < length result.now
+            → slice_index result.now k < (bank_scene self.now).places }
     {
         self.plan.after(place)
     }

@@ -32,7 +32,8 @@ fn push_accounts(words: &mut Vec<u64>, numbers: &[Account]) -> Result<(), AllocE
 fn lay(alloc: Global, plan: &Plan, state: &State) -> Result<Vec<u64>, AllocError>
     requires plan { IsPlan plan.now }
     requires runs { CanRunOn plan.now state.now }
-    ensures { IfOk result (λ words. IsLaid (scene_of (setting_with plan.now state.now)) words.items) }
+    ensures { IfOk result (λ words. IsLaid (scene_of (setting_with plan.now state.now))
+        words.items) }
 {
     let numbers = state.numbers();
     let mut words = Vec::with_capacity(alloc, 2 * numbers.len() + 2 * plan.len() + 1)?;
@@ -50,8 +51,10 @@ impl Bank {
     pub fn new(alloc: Global, plan: &Arc<Plan>, state: &State) -> Result<(Bank, Pass), AllocError>
         requires { CanRunOn (arc_value plan.now) state.now }
         ensures own { IfOk result (λ b. IsPassOf b.0 b.1) }
-        ensures setting { IfOk result (λ b. b.0.setting ≡ setting_with (arc_value plan.now) state.now) }
-        ensures view { IfOk result (λ b. b.1.view ≡ starting (setting_with (arc_value plan.now) state.now)) }
+        ensures setting { IfOk result (λ b. b.0.setting
+            ≡ setting_with (arc_value plan.now) state.now) }
+        ensures view { IfOk result (λ b. b.1.view
+            ≡ starting (setting_with (arc_value plan.now) state.now)) }
     {
         let plan = Arc::try_clone(plan)?;
         let _ = plan.len();
