@@ -8,8 +8,18 @@ pub mod Turns
 pub mod Finishes
 pub mod Running
 pub mod Judging
-mod Shared
+mod Hands
+mod Reached
+mod Placed
+mod Settled
 mod Seated
+mod Counted
 mod Noted
+mod Ruled
+mod Marked
+mod Receipted
+mod Carried
 mod Opening
-mod Refusing
+mod Scheduled
+mod Outcomes
+mod Answering

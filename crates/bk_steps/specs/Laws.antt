@@ -1,11 +1,14 @@
 -- The laws of interleavings.
-use Rattle.std.specs.Prelude.{◌≡◌, ◌⊎◌, ℕ, ◌<◌, List, [], Bool, true}
+use Rattle.std.specs.Prelude.{◌≡◌, ◌≢◌, ◌⊎◌, ℕ, ◌<◌, List, [], Bool, true}
 use Rattle.bk_conflicts.specs.Scene.{Scene, IsSound, IsEdge, Chain}
 use Rattle.bk_steps.specs.Course.{Course, waiting, free, busy, found, opened, IsDone, IsSettled}
 use Rattle.bk_steps.specs.Moves.{after_claim, after_read, after_write, after_finish, HasReadAll, HasWrittenAll, EarlierAreDone, Moves, Runs, IsWholeRun}
 use Rattle.bk_steps.specs.Kept.{IsKept, IsFold}
 use Rattle.bk_steps.specs.Refusals.{Allows, Refuses}
+use Rattle.bk_steps.specs.Schedule.{RunsAmong, IsWholeAmong, IsFault}
 use Rattle.bk_steps.specs.declared.event.Event.{Event}
+use Rattle.bk_steps.specs.declared.outcome.ScheduleFault.{ScheduleFault}
+use Rattle.bk_steps.specs.declared.outcome.ScheduleFault.TheVariants.{OutOfMemory}
 use Rattle.bk_steps.specs.declared.refused.Refused.{Refused}
 
 abbrev pub OpeningIsKept : Type 0
@@ -96,3 +99,21 @@ AllowedIsNotRefused = (s : Scene) (workers : ℕ) (d next : Course) (e : Event) 
 abbrev pub OneRefusal : Type 0
 OneRefusal = (s : Scene) (workers : ℕ) (d : Course) (e : Event) (r other : Refused)
     → Refuses s workers d e r → Refuses s workers d e other → r ≡ other
+
+-- ---- schedules
+
+-- a run among so many workers is a run
+abbrev pub RunsAmongAreRuns : Type 0
+RunsAmongAreRuns = (s : Scene) (workers : ℕ) (es : List Event) (d end : Course)
+    → RunsAmong s workers d es end → Runs s d es end
+
+-- a whole run has no fault but that memory is refused
+abbrev pub WholeRunsHaveNoFault : Type 0
+WholeRunsHaveNoFault = (s : Scene) (workers : ℕ) (es : List Event) (fault : ScheduleFault)
+    → IsWholeAmong s workers es → IsFault s workers es fault → fault ≡ OutOfMemory
+
+-- and no list has two others
+abbrev pub OneFault : Type 0
+OneFault = (s : Scene) (workers : ℕ) (es : List Event) (fault other : ScheduleFault)
+    → IsFault s workers es fault → IsFault s workers es other
+    → fault ≢ OutOfMemory → other ≢ OutOfMemory → fault ≡ other

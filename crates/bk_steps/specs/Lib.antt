@@ -4,5 +4,7 @@ pub mod Refusals
 pub mod Kept
 pub mod Laws
 pub mod Machine
+pub mod Settling
+pub mod Schedule
 pub mod Steps
 pub mod private

@@ -1,20 +1,30 @@
 -- What a machine holds, and the courses that it shows.
-use Rattle.std.specs.Prelude.{◌≡◌, ℕ, ◌<◌, ◌*◌, List, [], length, false, Option, None, Some, slice_index_or}
+use Rattle.std.specs.Prelude.{◌≡◌, ℕ, ◌<◌, ◌*◌, List, [], length, Bool, true, false, Option, None, Some, slice_index_or}
+use Rattle.bk_rules.specs.Ledger.{Ledger}
 use Rattle.bk_rules.specs.Numbers.{number_of}
 use Rattle.bk_conflicts.specs.declared.words.WordRef.{WordRef}
-use Rattle.bk_conflicts.specs.Plan.{PlanValue}
+use Rattle.bk_conflicts.specs.Plan.{PlanValue, IsPlan}
+use Rattle.bk_conflicts.specs.Scene.{Scene}
+use Rattle.bk_conflicts.specs.SceneOf.{CanRunOn, scene_of, reads_word}
 use Rattle.bk_conflicts.specs.Words.{words_at}
-use Rattle.bk_steps.specs.Course.{Course, Phase, waiting, held, done, Hand, free, busy, HasRead, found}
-use Rattle.bk_steps.specs.declared.machine.Stage.{Stage}
-use Rattle.bk_steps.specs.declared.machine.Stage.TheVariants.{Waiting, Held, Done}
-use Rattle.bk_steps.specs.declared.machine.Seat.{Seat}
+use Rattle.bk_steps.specs.Course.{Course, Phase, waiting, held, done, Hand, free, busy, Has, HasRead, found}
+use Rattle.bk_steps.specs.Kept.{IsKept}
+use Rattle.bk_steps.specs.declared.stage.Stage.{Stage}
+use Rattle.bk_steps.specs.declared.stage.Stage.TheVariants.{Waiting, Held, Done}
+use Rattle.bk_steps.specs.declared.seat.Seat.{Seat}
 
--- the plan, the word of each number, the stage of each place and the seat of each worker
+-- the plan and the opening accounts, the word of each number, the stage of each place and the seat
+-- of each worker
 pub record MachineValue : Type 0 where
   pub plan : PlanValue
+  pub opening : Ledger
   pub words : List ℕ
   pub stages : List Stage
   pub seats : List Seat
+
+-- the execution that it runs
+abbrev pub scene_in : MachineValue → Scene
+scene_in m = scene_of m.plan m.opening
 
 -- the phase that a stage shows
 abbrev pub phase_of : Stage → Phase
@@ -24,7 +34,7 @@ phase_of (Done r) = done (number_of r.status) r.moved
 
 -- the seat of a worker that is none
 abbrev pub no_seat : Seat
-no_seat = record { place = None; read = []; writes = 0 }
+no_seat = record { place = None; read = []; written = [] }
 
 abbrev pub stage_at : MachineValue → ℕ → Stage
 stage_at m p = slice_index_or m.stages p Waiting
@@ -50,11 +60,22 @@ abbrev pub AreNotes : PlanValue → ℕ → List (Option ℕ) → List (ℕ × �
 AreNotes plan p read rs = (k : ℕ) → k < length (words_at plan.ids plan.txs p)
     → NotedIs (word_at plan p k) (slice_index_or read k None) rs
 
+-- a word is marked where it was written
+abbrev pub MarkIs : ℕ → Bool → List ℕ → Type 0
+MarkIs x true ws = Has ws x
+MarkIs x false ws = ¬ Has ws x
+
+-- the marks are of the words of the place, one each, and no other word was written
+pub record AreMarks (plan : PlanValue) (p : ℕ) (written : List Bool) (ws : List ℕ) : Type 0 where
+  pub marks : (k : ℕ) → k < length (words_at plan.ids plan.txs p)
+      → MarkIs (word_at plan p k) (slice_index_or written k false) ws
+  pub inside : (x : ℕ) → Has ws x → reads_word plan.ids plan.txs p x ≡ true
+
 -- what a seat shows of its worker's hand
 abbrev pub SeatIs : PlanValue → Seat → Hand → Type 0
 SeatIs plan seat free = seat.place ≡ None
 SeatIs plan seat (busy p rs ws) = (seat.place ≡ Some p) × AreNotes plan p seat.read rs
-    × (seat.writes ≡ length ws)
+    × AreMarks plan p seat.written ws
 
 -- the machine shows the course
 pub record Shows (m : MachineValue) (d : Course) : Type 0 where
@@ -62,8 +83,11 @@ pub record Shows (m : MachineValue) (d : Course) : Type 0 where
   pub phases : (p : ℕ) → d.phase p ≡ phase_of (stage_at m p)
   pub hands : (w : ℕ) → SeatIs m.plan (seat_at m w) (d.hand w)
 
--- what each machine keeps: a word for each number, a stage for each place, and seats within
+-- what each machine keeps: its plan can be executed on its opening accounts, it has a word for
+-- each number and a stage for each place, and it shows a course that events lead to
 pub record IsMachine (m : MachineValue) : Type 0 where
+  pub is_plan : IsPlan m.plan
+  pub can_run : CanRunOn m.plan m.opening
   pub words_long : length m.words ≡ 2 * length m.plan.ids
   pub stages_long : length m.stages ≡ length m.plan.txs
-  pub inside : (w p : ℕ) → (seat_at m w).place ≡ Some p → p < length m.plan.txs
+  pub course : (d : Course) × IsKept (scene_in m) d × Shows m d

@@ -1,7 +1,6 @@
 //! The laws of interleavings, as functions that do nothing: their clauses are the laws.
 
-ghost use Rattle.bk_steps.specs.Steps.{RefusedClaimsAreNone, RefusedReadsAreNone};
-ghost use Rattle.bk_steps.specs.Laws.{OpeningIsKept, ClaimKeeps, ReadKeeps, WriteKeeps, FinishKeeps, EventKeeps, DoneAreClosed, ChainsAreClosed, ConflictsAreClosed, RunsKeep, WholeRunsAreFold, OrderMakesNoDifference, EventsAreJudged, AllowedIsNotRefused, OneRefusal};
+ghost use Rattle.bk_steps.specs.Laws.{OpeningIsKept, ClaimKeeps, ReadKeeps, WriteKeeps, FinishKeeps, EventKeeps, DoneAreClosed, ChainsAreClosed, ConflictsAreClosed, RunsKeep, WholeRunsAreFold, OrderMakesNoDifference, EventsAreJudged, AllowedIsNotRefused, OneRefusal, RunsAmongAreRuns, WholeRunsHaveNoFault, OneFault};
 
 /// What holds of every course holds of the opening one.
 pub fn opening_is_kept()
@@ -43,8 +42,10 @@ pub fn one_verdict()
     ensures reason { OneRefusal }
 {}
 
-/// A claim or a read that is refused is not allowed, whatever the reason.
-pub fn refused_is_not_allowed()
-    ensures claim { RefusedClaimsAreNone }
-    ensures read { RefusedReadsAreNone }
+/// A schedule is a whole run or has one fault, not both: it has one answer, but that memory can be
+/// refused.
+pub fn one_answer()
+    ensures runs { RunsAmongAreRuns }
+    ensures whole { WholeRunsHaveNoFault }
+    ensures fault { OneFault }
 {}

@@ -1,20 +1,31 @@
 //! The interleavings of an execution, as a pure machine over its scene: which event is allowed
-//! when, and why every whole run ends as the places one at a time do. `Machine` runs claims and reads, one at a time.
+//! when, and why every whole run ends as the places one at a time do. `Machine` runs them, one at a
+//! time, and refuses those that are not allowed.
 #![tactic(auto)]
 
-mod conflict;
 mod event;
 mod laws;
 mod machine;
+mod outcome;
 mod refused;
+mod schedule;
+mod seat;
+mod settling;
+mod stage;
+mod waits;
 
 pub use event::Event;
 pub use laws::{
-    closed_under_chains, events_keep_course, one_verdict, opening_is_kept,
-    order_makes_no_difference, refused_is_not_allowed, whole_runs_are_fold,
+    closed_under_chains, events_keep_course, one_answer, one_verdict, opening_is_kept,
+    order_makes_no_difference, whole_runs_are_fold,
 };
-pub use machine::{Machine, Seat, Stage};
+pub use machine::Machine;
+pub use outcome::{Outcome, ScheduleFault};
 pub use refused::Refused;
+pub use schedule::run_schedule;
+pub use seat::Seat;
+pub use settling::settle_words;
+pub use stage::Stage;
 
 #[cfg(test)]
 mod tests;

@@ -1,7 +1,11 @@
-ghost use Rattle.std.specs.Prelude.{◌≡◌};
+ghost use Rattle.std.specs.Prelude.{◌≡◌, IfOk};
+ghost use Rattle.bk_conflicts.specs.SceneOf.{CanRunOn};
 
+use crate::event::Event;
 use crate::machine::Machine;
+use crate::outcome::ScheduleFault;
 use crate::refused::Refused;
+use crate::schedule::run_schedule;
 use bk_conflicts::Plan;
 use bk_frames::{Row, Version};
 use bk_rules::State;
@@ -28,7 +32,8 @@ fn tx(accounts: &[Declared], from: u64, body: Body) -> Result<Option<Tx>, Fail> 
     Ok(Some(tx))
 }
 
-// Two payments in conflict: the first writes accounts 1 and 3 and reads 2, the second writes 1 and 2.
+// Two payments in conflict: the first writes accounts 1 and 3 and reads 2, the second writes 1
+// and 2.
 fn two_payments(rt: &HostRuntime) -> Result<Vec<Option<Tx>>, Fail> {
     let mut txs = Vec::new(rt.alloc());
     let body = Body::PayIf {
@@ -44,8 +49,10 @@ fn two_payments(rt: &HostRuntime) -> Result<Vec<Option<Tx>>, Fail> {
     Ok(txs)
 }
 
-// Two workers at these payments; accounts 1, 2 and 3 begin with 100, 50 and 10.
-fn two_workers(rt: &HostRuntime) -> Result<Machine, Fail> {
+// The plan and the opening accounts: 1, 2 and 3 have 100, 50 and 10.
+fn opening(rt: &HostRuntime) -> Result<(Plan, State), Fail>
+    ensures { IfOk result (λ r. CanRunOn r.0 r.1) }
+{
     let rows = [row(1, 100), row(2, 50), row(3, 10)];
     let txs = two_payments(rt)?;
     let mut state = State::new(rt.alloc(), Version::Two, &rows)?;
@@ -55,7 +62,19 @@ fn two_workers(rt: &HostRuntime) -> Result<Machine, Fail> {
         return Err("too many".into());
     }
     let plan = Plan::make(rt.alloc(), Version::Two, state.ids(), txs)?;
-    Ok(Machine::new(rt.alloc(), plan, &state, 2)?)
+    Ok((plan, state))
+}
+
+// Two workers at these payments.
+fn two_workers(rt: &HostRuntime) -> Result<Machine, Fail> {
+    let (plan, state) = opening(rt)?;
+    Ok(Machine::new(rt.alloc(), plan, state, 2)?)
+}
+
+// Why these events give no outcome.
+fn fault(rt: &HostRuntime, events: &[Event]) -> Result<Option<ScheduleFault>, Fail> {
+    let (plan, state) = opening(rt)?;
+    Ok(run_schedule(rt.alloc(), plan, state, 2, events).err())
 }
 
 #[test]
@@ -87,5 +106,26 @@ fn words_are_read_by_the_holder(rt: HostRuntime) -> Result<(), Fail> {
         assert!(rt; machine.read(0, word as u64) == Ok(balances[word]));
     }
     assert!(rt; machine.read(0, 0) == Ok(100));
+    assert!(rt; machine.write(0, 2) == Err(Refused::NotDeclared));
+    assert!(rt; machine.write(0, 0) == Ok(90));
+    assert!(rt; machine.read(0, 0) == Err(Refused::OutOfTurn));
+    assert!(rt; machine.finish(0) == Err(Refused::OutOfTurn));
+    Ok(())
+}
+
+#[test]
+fn schedules_stop(rt: HostRuntime) -> Result<(), Fail> {
+    assert!(rt; fault(&rt, &[])? == Some(ScheduleFault::Unfinished(0)));
+    let claim = Event::Claim {
+        worker: 1,
+        place: 0,
+    };
+    let read = Event::Read {
+        worker: 1,
+        word: 99,
+    };
+    let code = Refused::NotDeclared;
+    let refused = ScheduleFault::Refused { index: 1, code };
+    assert!(rt; fault(&rt, &[claim, read, read])? == Some(refused));
     Ok(())
 }

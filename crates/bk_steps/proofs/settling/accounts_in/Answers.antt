@@ -1,0 +1,34 @@
+use Rattle.std.proofs.Common.{◌≡◌, ◌<◌, length, get_or, None, refl, ap, ◌∙◌, arith, length-set}
+use Rattle.bk_tx.specs.declared.declared.Declared.{Declared}
+use Rattle.bk_conflicts.specs.Words.{slot_of}
+use Rattle.bk_steps.proofs.Placed.{wide_most, no_account, room_at, next_at, found_more, rest_more}
+use Rattle.bk_steps.proofs.settling.accounts_in.Goals as goal
+
+pub loop-k-init : goal.loop-k-init
+loop-k-init c = record {
+  at_is = refl;
+  at_low = omega arith;
+  long = ap length c.new-local.ensures;
+  found = λ f says j l. absurd (omega arith);
+  rest = λ j l. ap (λ z. get_or z j None) c.new-local.ensures ∙ no_account j;
+}
+
+pub said-account-requires : goal.said-account-requires
+said-account-requires c = let a = c.loop-k-test.true in let b = c.len-k-end.ensures.len in
+    room_at c.args.ids.now c.args.declared.now c.loop-k.k c.index_of-slot.result c.loop-k.at (length c.args.values.now) (omega arith)
+    (c.index_of-slot.ensures ∙ ap (λ (d : Declared). slot_of c.args.ids.now d.id) c.get.ensures) c.loop-k.invariant.at_is c.requires.few
+
+pub overflow_add-at : goal.overflow_add-at
+overflow_add-at c = let a = c.loop-k-test.true in let b = c.len-k-end.ensures.few in let w = wide_most c.index_of-slot.result in let e = c.wide-at.ensures in let l = c.loop-k.invariant.at_low in omega arith
+
+pub loop-k-preserved : goal.loop-k-preserved
+loop-k-preserved c = let a = c.loop-k-test.true in let b = c.len-k-end.ensures.len in let few = c.len-k-end.ensures.few in let long = c.loop-k.invariant.long in
+    let low : c.loop-k.k < length c.args.declared.now = omega arith in
+    let slot : c.index_of-slot.result ≡ slot_of c.args.ids.now (get_or c.args.declared.now c.loop-k.k _).id = c.index_of-slot.ensures ∙ ap (λ (d : Declared). slot_of c.args.ids.now d.id) c.get.ensures in record {
+      at_is = next_at c.args.ids.now c.args.declared.now c.loop-k.k c.index_of-slot.result c.loop-k.at c.wide-at.result low slot c.loop-k.invariant.at_is c.wide-at.ensures;
+      at_low = let w = wide_most c.index_of-slot.result in let e = c.wide-at.ensures in let l = c.loop-k.invariant.at_low in omega arith;
+      long = ap length c.set.ensures.after ∙ (length-set c.loop-k.local c.loop-k.k c.said-account.result ∙ long);
+      found = λ f says. found_more c.args.version c.args.ids.now c.args.declared.now c.args.values.now f says c.loop-k.k low c.index_of-slot.result c.loop-k.at c.said-account.result c.loop-k.local c.set.new.self
+          slot c.loop-k.invariant.at_is c.said-account.ensures (omega arith) c.set.ensures.after (c.loop-k.invariant.found f says);
+      rest = rest_more c.loop-k.k c.said-account.result c.loop-k.local c.set.new.self c.set.ensures.after c.loop-k.invariant.rest;
+    }
