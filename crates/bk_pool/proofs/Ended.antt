@@ -1,39 +1,26 @@
 -- What the words of a closed bank say, where all places are done.
-use Rattle.std.proofs.Common.{◌≡◌, ℕ, suc, ◌+◌, ◌-◌, ◌*◌, ◌^◌, ◌<◌, ◌≤◌, List, [], ◌∷◌, ◌++◌, length, get_or, take, Option, None, Some, refl, sym, ap, ◌∙◌, subst, arith, length-append}
+use Rattle.std.proofs.Common.{◌≡◌, ℕ, ◌+◌, ◌-◌, ◌*◌, ◌^◌, ◌<◌, ◌≤◌, List, [], ◌∷◌, ◌++◌, length, get_or, Option, Some, refl, sym, ap, ◌∙◌, subst, arith, length-append}
 use Rattle.std.proofs.lemmas.List.{get_or_append_left}
 use lib.Seq.{get_or-append_seam}
 use mathlib.Core.Logic.{dite}
 use native.Mathlib.Decide.{ℕ_discrete}
-use Rattle.bk_frames.specs.declared.version.Version.{Version}
-use Rattle.bk_frames.specs.Genesis.{total_of}
-use Rattle.bk_rules.specs.declared.account.Account.{Account}
 use Rattle.bk_rules.specs.declared.receipt.Receipt.{Receipt}
 use Rattle.bk_rules.specs.declared.receipt.Status.{Status}
 use Rattle.bk_rules.specs.declared.receipt.Status.TheVariants as status
-use Rattle.bk_rules.specs.Fold.{rows_before}
-use Rattle.bk_rules.specs.Ledger.{Ledger, shown_by, rows_shown, in_pairs}
+use Rattle.bk_rules.specs.Ledger.{Ledger}
 use Rattle.bk_rules.specs.Numbers.{number_of, status_with}
-use Rattle.bk_rules.specs.Rows.{IsLedger, account_at}
-use Rattle.bk_rules.proofs.Folding.{ledger_kept_by_fold}
-use Rattle.bk_rules.proofs.Slots.{ascend-shown}
-use Rattle.bk_rules.proofs.Words.{length-pairs, pair_at}
-use Rattle.bk_conflicts.specs.Plan.{PlanValue, IsPlan}
+use Rattle.bk_conflicts.specs.Plan.{PlanValue}
 use Rattle.bk_conflicts.specs.Scene.{status_at, moved_at}
-use Rattle.bk_conflicts.specs.SceneOf.{CanRunOn, word_by, account_from, tx_at, accounts_by, status_on}
-use Rattle.bk_conflicts.specs.Words.{slot_of}
-use Rattle.bk_conflicts.proofs.Accessed.{slot_there}
-use Rattle.bk_conflicts.proofs.Ran.{said_there}
-use Rattle.bk_conflicts.proofs.Opening.{all_there}
+use Rattle.bk_conflicts.specs.SceneOf.{CanRunOn, tx_at, accounts_by, status_on}
 use Rattle.bk_bank.specs.declared.setting.Setting.{Setting}
 use Rattle.bk_bank.specs.Setting.{scene_of, setting_with}
 use Rattle.bk_bank.specs.Steps.{Ends}
 use Rattle.bk_bank.specs.Bank.{BankData, bank_scene}
-use Rattle.bk_pool.specs.Reads.{IsBankOf}
 use Rattle.bk_bank.specs.Words.{WordsData, state_at, moved_word_at, AllFinished}
 use Rattle.bk_bank.proofs.Settings.{scene_places, scene_words}
-use Rattle.bk_pool.specs.declared.outcome.Outcome.{Outcome}
-use Rattle.bk_pool.specs.Outcomes.{receipt_at, no_receipt, AreReceipts, AreStatuses, IsClosed, IsFold}
-use Rattle.bk_pool.proofs.Totals.{less_total, shown_found}
+use Rattle.bk_pool.specs.Reads.{IsBankOf}
+use Rattle.bk_pool.specs.Outcomes.{IsClosed}
+use Rattle.bk_pool.specs.private.Receipts.{receipt_at, no_receipt, AreReceipts, AreStatuses}
 
 -- ---- statuses by number
 
@@ -55,11 +42,16 @@ number_low status.Stale = omega arith
 number_low status.Guard = omega arith
 number_low status.Funds = omega arith
 
+pub found_status : (o : Option Status) (n : ℕ) (s : Status) → o ≡ status_with (n - 2 ^ 63) → n ≡ 2 ^ 63 + number_of s → o ≡ Some s
+found_status o n s e h = e ∙ (ap status_with (let z : n - 2 ^ 63 ≡ number_of s = omega arith in z) ∙ status_again s)
+
+-- ---- receipts
+
 scene_status : (g : Setting) (p : ℕ) → (s : Status) × (status_at (scene_of g) p ≡ number_of s)
 unfolding scene_of
 scene_status g p = (status_on g.plan.version (tx_at g.plan p) (accounts_by g.plan.version g.plan.ids ((scene_of g).fold p)), refl)
 
-done_at : (plan : PlanValue) (ledger : Ledger) (w : WordsData) → IsClosed plan ledger w → AllFinished w → (p : ℕ) → p < w.places
+pub done_at : (plan : PlanValue) (ledger : Ledger) (w : WordsData) → IsClosed plan ledger w → AllFinished w → (p : ℕ) → p < w.places
     → (state_at w p ≡ 2 ^ 63 + status_at (scene_of (setting_with plan ledger)) p) × (moved_word_at w p ≡ moved_at (scene_of (setting_with plan ledger)) p)
 done_at plan ledger w closed all p l = let s = scene_of (setting_with plan ledger) in
     let n = scene_places (setting_with plan ledger) in let places = closed.places in
@@ -87,7 +79,7 @@ more_receipts w rs n r (long, each) st mv = (
       (e.0 ∙ ap (λ (z : Receipt). 2 ^ 63 + number_of z.status) (sym old), ap (λ (z : Receipt). z.moved) old ∙ e.1)),
 )
 
--- ---- the state
+-- ---- words
 
 pub last_words : (plan : PlanValue) (ledger : Ledger) (w : WordsData) → IsClosed plan ledger w → AllFinished w → (xs : List ℕ) → length xs ≡ w.words
     → ((x : ℕ) → x < w.words → get_or xs x 0 ≡ get_or w.items x 0)
@@ -98,51 +90,7 @@ last_words plan ledger w closed all xs long same x l = let g = setting_with plan
     same x (omega arith) ∙ (closed.ends.all (λ p k. subst (λ (i : ℕ). 2 ^ 63 ≤ get_or w.items i 0) (let at : w.words + 2 * p ≡ s.words + 2 * p = omega arith in at) (all p (omega arith))) x (omega arith)
     ∙ ap (λ (k : ℕ). s.fold k x) n)
 
-last_fold : (plan : PlanValue) (ledger : Ledger) (p : ℕ) → (scene_of (setting_with plan ledger)).fold p ≡ word_by plan.ids (account_at (rows_before plan.version plan.txs p ledger.rows))
-unfolding scene_of
-last_fold plan ledger p = refl
-
-pub within : (plan : PlanValue) (ledger : Ledger) → IsPlan plan → CanRunOn plan ledger → (xs : List ℕ) → length xs ≡ 2 * length plan.ids
-    → ((x : ℕ) → x < length xs → get_or xs x 0 ≡ (scene_of (setting_with plan ledger)).fold (length plan.txs) x)
-    → total_of (rows_shown ledger.version ledger.slots (in_pairs xs)) < 2 ^ 63
-within plan ledger is runs xs long values = subst (λ (y : Version × List ℕ). total_of (rows_shown y.0 y.1 (in_pairs xs)) < 2 ^ 63) (λ j. (sym runs.same_version j, sym runs.same_slots j))
-    (let most = less_total (rows_shown plan.version plan.ids (in_pairs xs)) (rows_before plan.version plan.txs (length plan.txs) ledger.rows)
-    (ascend-shown plan.version plan.ids (in_pairs xs) is.ids_ascend) final.ascending
-    (shown_found plan.version plan.ids (in_pairs xs) (record { balance = 0; seq = 0 }) is.ids_ascend (length-pairs (length plan.ids) xs long)
-    (account_at (rows_before plan.version plan.txs (length plan.txs) ledger.rows)) slot_says) in
-    let low = final.within in omega arith)
-  where
-    final : IsLedger (rows_before plan.version plan.txs (length plan.txs) ledger.rows)
-    final = ledger_kept_by_fold plan.version (take (length plan.txs) plan.txs) ledger.rows runs.is_ledger
-
-    slot_says : (id a : ℕ) → slot_of plan.ids id ≡ Some a → (a < length plan.ids) × (shown_by plan.version (get_or (in_pairs xs) a (record { balance = 0; seq = 0 })) ≡ account_at (rows_before plan.version plan.txs (length plan.txs) ledger.rows) id)
-    slot_says id a e = let here = slot_there plan.ids id a e in let low = here.inside in
-        let f = λ (x : ℕ). (scene_of (setting_with plan ledger)).fold (length plan.txs) x in
-        let b = values (2 * a) (omega arith) in let q = values (2 * a + 1) (omega arith) in (
-          low,
-          ap (shown_by plan.version) (pair_at xs a (record { balance = 0; seq = 0 }) (omega arith) ∙ (λ j. record { balance = b j; seq = q j }))
-              ∙ (sym (ap (account_from plan.version f) e)
-              ∙ (ap (λ (h : ℕ → ℕ). accounts_by plan.version plan.ids h id) (last_fold plan ledger (length plan.txs))
-              ∙ said_there plan.version plan.ids plan.txs (length plan.txs) ledger.rows runs.is_ledger runs.has_room (all_there plan ledger runs) id a e)),
-        )
-
-pub is_fold : (plan : PlanValue) (ledger : Ledger) (w : WordsData) → IsClosed plan ledger w → AllFinished w → (xs : List ℕ) → length xs ≡ 2 * length plan.ids
-    → ((x : ℕ) → x < length xs → get_or xs x 0 ≡ (scene_of (setting_with plan ledger)).fold (length plan.txs) x)
-    → (o : Outcome) → AreReceipts w o.receipts.items (length plan.txs) → o.state ≡ record { version = ledger.version; slots = ledger.slots; rows = rows_shown ledger.version ledger.slots (in_pairs xs) }
-    → IsFold plan ledger o
-is_fold plan ledger w closed all xs long values o (count, each) state = record {
-  words = xs;
-  wide = long;
-  values = values;
-  state = state;
-  count = count;
-  statuses = λ p l. let places = closed.places in let d = done_at plan ledger w closed all p (omega arith) in let e = each p l in
-      let a = d.0 in let b = e.0 in omega arith;
-  moved = λ p l. let places = closed.places in let d = done_at plan ledger w closed all p (omega arith) in (each p l).1 ∙ d.1;
-}
-
-pub found_status : (o : Option Status) (n : ℕ) (s : Status) → o ≡ status_with (n - 2 ^ 63) → n ≡ 2 ^ 63 + number_of s → o ≡ Some s
-found_status o n s e h = e ∙ (ap status_with (let z : n - 2 ^ 63 ≡ number_of s = omega arith in z) ∙ status_again s)
+-- ---- banks
 
 pub closed_of : (plan : PlanValue) (ledger : Ledger) (b : BankData) (w : WordsData) → b.setting ≡ setting_with plan ledger → Ends (bank_scene b) w.items
     → (w.words ≡ (bank_scene b).words) × (w.places ≡ (bank_scene b).places) → IsClosed plan ledger w

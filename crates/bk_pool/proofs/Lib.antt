@@ -1,5 +1,6 @@
 pub mod Placed
 pub mod Settled
 pub mod WordsOfPlace
-pub mod Totals
 pub mod Ended
+pub mod Folds
+pub mod Prepared

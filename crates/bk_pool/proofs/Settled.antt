@@ -11,7 +11,7 @@ use Rattle.bk_tx.specs.Transaction.{Transaction}
 use Rattle.bk_tx.specs.Access.{declares}
 use Rattle.bk_rules.specs.declared.account.Account.{Account}
 use Rattle.bk_rules.specs.declared.receipt.Receipt.{Receipt}
-use Rattle.bk_rules.specs.Rule.{Accounts, balance_of, seq_of, account_after}
+use Rattle.bk_rules.specs.Rule.{Accounts, account_after}
 use Rattle.bk_rules.specs.Rows.{IsLedger, account_at}
 use Rattle.bk_rules.specs.Fold.{rows_before, seq_end, HasRoom}
 use Rattle.bk_rules.specs.Ledger.{Ledger}

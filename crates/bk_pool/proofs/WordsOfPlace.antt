@@ -71,14 +71,6 @@ next_values g plan e is runs p receipt values d k l may =
     let folded = scene_folded g (subst IsPlan e is) (subst (λ (q : PlanValue). CanRunOn q g.opening) e runs) in
     here.says k l ∙ (sym (scene_effect g p ((scene_of g).fold p) (word_at g.plan p k)) ∙ sym (folded.changed p (word_at g.plan p k) (word_written g p k l may)))
 
-pub status_here : (g : Setting) (plan : PlanValue) → plan ≡ g.plan → (p : ℕ) (receipt : Receipt) (values : List ℕ)
-    → Does plan.version plan.ids (tx_at plan p) ((scene_of g).fold p) receipt values → number_of receipt.status ≡ status_at (scene_of g) p
-status_here g plan e p receipt values d = let here = does_here g plan e p receipt values d in ap number_of here.status ∙ sym (scene_status g p ((scene_of g).fold p))
-
-pub moved_here : (g : Setting) (plan : PlanValue) → plan ≡ g.plan → (p : ℕ) (receipt : Receipt) (values : List ℕ)
-    → Does plan.version plan.ids (tx_at plan p) ((scene_of g).fold p) receipt values → receipt.moved ≡ moved_at (scene_of g) p
-moved_here g plan e p receipt values d = let here = does_here g plan e p receipt values d in here.moved ∙ sym (scene_moved g p ((scene_of g).fold p))
-
 -- ---- at a number that is that of the place
 
 pub says_at : (g : Setting) (plan : PlanValue) → plan ≡ g.plan → (p q : ℕ) (values : List ℕ) → q ≡ p → (n : ℕ) → n ≡ length (words_at plan q)
@@ -91,6 +83,16 @@ pub next_at : (g : Setting) (plan : PlanValue) → plan ≡ g.plan → IsPlan pl
     → Does plan.version plan.ids (tx_at plan q) ((scene_of g).fold q) receipt values
     → (k : ℕ) → k < length (words_at g.plan p) → may_write g.plan p k ≡ true → get_or values k 0 ≡ (scene_of g).fold (suc p) (word_at g.plan p k)
 next_at g plan e is runs p q h receipt values d = next_values g plan e is runs p receipt values (subst (λ (z : ℕ). Does plan.version plan.ids (tx_at plan z) ((scene_of g).fold z) receipt values) h d)
+
+pub status_here : (g : Setting) (plan : PlanValue) → plan ≡ g.plan → (p q : ℕ) → q ≡ p → (receipt : Receipt) (values : List ℕ)
+    → Does plan.version plan.ids (tx_at plan q) ((scene_of g).fold q) receipt values → number_of receipt.status ≡ status_at (scene_of g) p
+status_here g plan e p q h receipt values d = let here = does_here g plan e q receipt values d in
+    ap number_of here.status ∙ (sym (scene_status g q ((scene_of g).fold q)) ∙ ap (λ (z : ℕ). status_at (scene_of g) z) h)
+
+pub moved_here : (g : Setting) (plan : PlanValue) → plan ≡ g.plan → (p q : ℕ) → q ≡ p → (receipt : Receipt) (values : List ℕ)
+    → Does plan.version plan.ids (tx_at plan q) ((scene_of g).fold q) receipt values → receipt.moved ≡ moved_at (scene_of g) p
+moved_here g plan e p q h receipt values d = let here = does_here g plan e q receipt values d in
+    here.moved ∙ (sym (scene_moved g q ((scene_of g).fold q)) ∙ ap (λ (z : ℕ). moved_at (scene_of g) z) h)
 
 -- ---- the words of a place
 

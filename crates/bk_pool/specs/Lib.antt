@@ -1,3 +1,4 @@
-pub mod Settling
-pub mod Reads
 pub mod Outcomes
+pub mod Reads
+pub mod Settling
+pub mod private

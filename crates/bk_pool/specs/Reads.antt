@@ -1,5 +1,5 @@
 -- What a place has read and written.
-use Rattle.std.specs.Prelude.{◌≡◌, ℕ, ◌<◌, List, [], true, false, length, slice_index}
+use Rattle.std.specs.Prelude.{◌≡◌, ℕ, ◌<◌, List, [], true, false, slice_index}
 use Rattle.bk_steps.specs.Course.{HasRead, Has}
 use Rattle.bk_conflicts.specs.Plan.{PlanValue}
 use Rattle.bk_conflicts.specs.SceneOf.{CanRunOn}

@@ -1,15 +1,13 @@
 -- The rule of a place, on the values of its words.
-use Rattle.std.specs.Prelude.{◌≡◌, ℕ, zero, suc, ◌+◌, ◌^◌, ◌<◌, List, [], ◌∷◌, length, true, Option, None, Some, slice_index, slice_index_or, slice_set}
+use Rattle.std.specs.Prelude.{◌≡◌, ℕ, zero, suc, ◌+◌, ◌^◌, ◌<◌, List, [], ◌∷◌, length, Option, None, Some, slice_index, slice_index_or, slice_set}
 use Rattle.std.specs.List.{flat_map}
 use Rattle.bk_frames.specs.declared.version.Version.{Version}
 use Rattle.bk_tx.specs.declared.declared.Declared.{Declared}
-use Rattle.bk_tx.specs.Access.{declares}
 use Rattle.bk_tx.specs.Transaction.{Transaction}
 use Rattle.bk_rules.specs.declared.account.Account.{Account}
 use Rattle.bk_rules.specs.declared.receipt.Receipt.{Receipt}
 use Rattle.bk_rules.specs.Rule.{Accounts, balance_of, seq_of}
 use Rattle.bk_rules.specs.Ledger.{numbers_of, shown_by}
-use Rattle.bk_rules.specs.Numbers.{number_of}
 use Rattle.bk_rules.specs.View.{nth, nth_id}
 use Rattle.bk_conflicts.specs.Conflicts.{declared_by}
 use Rattle.bk_conflicts.specs.Words.{slot_of, words_of}

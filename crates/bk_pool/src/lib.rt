@@ -15,4 +15,4 @@ mod work;
 pub use hints::{Hints, Nobody};
 pub use outcome::{ExecFault, Outcome, outcome_of};
 pub use place::{Gate, Open, run_place};
-pub use run::{execute, execute_with};
+pub use run::{execute, execute_all, execute_with};

@@ -1,10 +1,11 @@
 //! What an execution gives.
-ghost use Rattle.std.specs.Prelude.{◌≡◌, ℕ, ◌+◌, ◌-◌, ◌*◌, ◌^◌, ◌<◌, ◌≤◌, length, IfOk, IfErr, IfSome, slice_index, Some};
-ghost use Rattle.bk_rules.specs.Numbers.{number_of, status_with};
+ghost use Rattle.std.specs.Prelude.{◌≡◌, ℕ, ◌+◌, ◌^◌, ◌<◌, length, IfOk, IfErr, slice_index};
+ghost use Rattle.bk_rules.specs.Numbers.{number_of};
 ghost use Rattle.bk_conflicts.specs.SceneOf.{CanRunOn};
 ghost use Rattle.bk_bank.specs.Words.{state_at, moved_word_at, AllFinished, IsFirstUnfinished};
 ghost use Rattle.bk_pool.specs.declared.outcome.ExecFault.TheVariants.{OutOfMemory};
-ghost use Rattle.bk_pool.specs.Outcomes.{AreReceipts, AreStatuses, IsClosed, IsFold, IsLeft, IsBelow};
+ghost use Rattle.bk_pool.specs.Outcomes.{IsClosed, IsFold, IsLeft, IsBelow};
+ghost use Rattle.bk_pool.specs.private.Receipts.{AreReceipts, AreStatuses};
 
 use bk_bank::Words;
 use bk_conflicts::Plan;
@@ -51,7 +52,7 @@ pub fn outcome_of(
     ensures done { IfOk result (λ o. AllFinished words.now) }
     ensures fold { IfOk result (λ o. IsFold plan.now state o) }
     ensures left { IfErr result (λ e. IsLeft words.now e) }
-    ensures below { IfErr result (λ e. IsBelow plan.now e) }
+    ensures below { IfErr result (λ e. IsBelow (length plan.now.txs) e) }
 {
     let _ = plan.len();
     if let Some(place) = words.first_unfinished() {

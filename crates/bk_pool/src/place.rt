@@ -87,7 +87,8 @@ fn write_all(bank: &Bank, plan: &Plan, hold: &mut Hold, values: &[u64])
         → slice_index values.now k ≡ (bank_scene bank.now).fold (suc place) (word_at plan place k) }
     ensures own { IsHoldOf bank.now hold.new × (hold.new.place ≡ hold.old.place) }
     ensures read { HasReadAll (bank_scene bank.now) hold.old.place (reads_of hold.new.view.stage) }
-    ensures wrote { HasWrittenAll (bank_scene bank.now) hold.old.place (writes_of hold.new.view.stage) }
+    ensures wrote { HasWrittenAll (bank_scene bank.now) hold.old.place
+        (writes_of hold.new.view.stage) }
 {
     let words = plan.words_of(hold.place());
     for i in 0..words.len() {

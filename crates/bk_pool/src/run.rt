@@ -1,10 +1,13 @@
 //! All places of a plan, by any number of workers.
-ghost use Rattle.std.specs.Prelude.{◌≡◌, ℕ, ◌+◌, ◌*◌, ◌^◌, ◌<◌, ◌≤◌, IfOk, IfErr, length, vec_len};
+ghost use Rattle.std.specs.Prelude.{◌≡◌, ◌^◌, ◌<◌, ◌≤◌, true, IfOk, IfErr, length, vec_len};
 ghost use Rattle.std.specs.Arc.{arc_value};
+ghost use Rattle.bk_rules.specs.Fold.{state_after, receipts_of, HasRoom};
+ghost use Rattle.bk_rules.specs.Ledger.{are_covered};
 ghost use Rattle.bk_conflicts.specs.SceneOf.{CanRunOn};
 ghost use Rattle.bk_bank.specs.Bank.{bank_scene, IsPassOf};
 ghost use Rattle.bk_pool.specs.Reads.{IsBankOf};
 ghost use Rattle.bk_pool.specs.Outcomes.{IsFold, IsBelow};
+ghost use Rattle.bk_pool.specs.private.Prepared.{IsPlanOf};
 
 use crate::deques::ends_for;
 use crate::hints::{Hints, Nobody};
@@ -15,9 +18,61 @@ use crate::work::serve;
 use bk_bank::{Bank, Pass};
 use bk_conflicts::Plan;
 use bk_rules::State;
-use std::alloc::Global;
+use bk_tx::Tx;
+use std::alloc::{AllocError, Global};
 use std::sync::{Arc, Wait};
 use std::thread::Threads;
+
+// A plan has fewer slots than this.
+const SLOTS_END: usize = 1 << 31;
+
+/// Executes transactions from a state, with so many workers. The accounts and the receipts are what
+/// the transactions give one at a time, however the workers run.
+///
+/// Each account that they declare gets a slot in version Two. Opening accounts have room for fewer
+/// than 2^63 transactions in all (`bk_rules::room_is_left`).
+///
+/// `OutOfMemory` where memory was refused, or where 2^31 accounts or more would have a slot.
+/// `Unfinished` names a place that a worker took and did not finish.
+pub fn execute_all<R: Threads + Wait + Sync, G: Gate + Sync>(
+    rt: &R,
+    alloc: Global,
+    state: State,
+    txs: Vec<Option<Tx>>,
+    workers: usize,
+    gate: &G,
+) -> Result<Outcome, ExecFault>
+    requires room { HasRoom state.version (length txs.items) state.rows }
+    requires few { length txs.items < 2 ^ 31 }
+    requires workers { (1 ≤ workers) × (workers ≤ 64) }
+    ensures version { IfOk result (λ o. o.state.version ≡ state.version) }
+    ensures rows { IfOk result (λ o. o.state.rows
+        ≡ state_after state.version txs.items state.rows) }
+    ensures receipts { IfOk result (λ o. o.receipts.items
+        ≡ receipts_of state.version txs.items state.rows) }
+    ensures unfinished { IfErr result (λ e. IsBelow (length txs.items) e) }
+{
+    let mut state = state;
+    state.prepare(alloc, &txs)?;
+    if SLOTS_END <= state.slots().len() {
+        return Err(ExecFault::OutOfMemory);
+    }
+    let plan = plan_of(alloc, &state, txs)?;
+    execute(rt, alloc, &plan, state, workers, gate)
+}
+
+// The plan of transactions, all of whose accounts have a slot. It can run on the state.
+fn plan_of(alloc: Global, state: &State, txs: Vec<Option<Tx>>) -> Result<Arc<Plan>, AllocError>
+    requires covered { are_covered state.now.version state.now.slots txs.items ≡ true }
+    requires few { length txs.items < 2 ^ 31 }
+    requires few_slots { length state.now.slots < 2 ^ 31 }
+    requires room { HasRoom state.now.version (length txs.items) state.now.rows }
+    ensures plan { IfOk result (λ p. IsPlanOf txs.items state.now (arc_value p)) }
+    ensures runs { IfOk result (λ p. CanRunOn (arc_value p) state.now) }
+{
+    let plan = Plan::make(alloc, state.version(), state.ids(), txs)?;
+    Ok(Arc::new(alloc, plan)?)
+}
 
 /// Executes a plan from a state that it can run on, with one worker for each end. Nothing is asked
 /// of the hints: what the workers leave, the calling thread executes after them.
@@ -34,7 +89,7 @@ pub fn execute_with<R: Threads + Wait + Sync, G: Gate + Sync, H: Hints + Send + 
     requires runs { CanRunOn (arc_value plan.now) state }
     requires ends { (1 ≤ vec_len ends) × (vec_len ends ≤ 64) }
     ensures fold { IfOk result (λ o. IsFold (arc_value plan.now) state o) }
-    ensures unfinished { IfErr result (λ e. IsBelow (arc_value plan.now) e) }
+    ensures unfinished { IfErr result (λ e. IsBelow (length (arc_value plan.now).txs) e) }
 {
     let (bank, pass) = Bank::new(alloc, plan, &state)?;
     let mut ends = ends;
@@ -58,7 +113,7 @@ pub fn execute<R: Threads + Wait + Sync, G: Gate + Sync>(
     requires runs { CanRunOn (arc_value plan.now) state }
     requires workers { (1 ≤ workers) × (workers ≤ 64) }
     ensures fold { IfOk result (λ o. IsFold (arc_value plan.now) state o) }
-    ensures unfinished { IfErr result (λ e. IsBelow (arc_value plan.now) e) }
+    ensures unfinished { IfErr result (λ e. IsBelow (length (arc_value plan.now).txs) e) }
 {
     let ends = ends_for(rt, alloc, workers)?;
     execute_with(rt, alloc, plan, state, gate, ends)

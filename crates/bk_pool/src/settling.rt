@@ -116,7 +116,8 @@ fn settle_tx(version: Version, ids: &Ids, tx: &Tx, values: &mut [u64]) -> Receip
 // Does what is at a place on its words, and gives its receipt.
 pub(crate) fn settle_words(plan: &Plan, place: u32, values: &mut [u64]) -> Receipt
     requires few { length (words_at plan.now.ids plan.now.txs place) ≤ length values.old }
-    requires low { AreLow plan.now.version plan.now.ids (declared_at plan.now.txs place) values.old }
+    requires low { AreLow plan.now.version plan.now.ids (declared_at plan.now.txs place)
+        values.old }
     ensures { (f : ℕ → ℕ) → Say f plan.now.ids (declared_at plan.now.txs place) values.old
         → Does plan.now.version plan.now.ids (tx_at plan.now place) f result values.new }
 {

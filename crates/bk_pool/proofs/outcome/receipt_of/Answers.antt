@@ -1,4 +1,4 @@
-use Rattle.std.proofs.Common.{◌≡◌, ℕ, suc, ◌+◌, ◌-◌, ◌*◌, ◌^◌, ◌<◌, ◌≤◌, ◌++◌, [], ◌∷◌, List, length, true, Some, None, refl, sym, ap, ◌∙◌, subst, arith}
+use Rattle.std.proofs.Common.{◌≡◌, ◌+◌, ◌^◌, Some, sym, ap, ◌∙◌, arith}
 use Rattle.bk_rules.specs.Numbers.{number_of}
 use Rattle.bk_rules.specs.declared.receipt.Status.{Status}
 use Rattle.bk_pool.proofs.Ended.{number_low, found_status}

@@ -1,4 +1,4 @@
-use Rattle.bk_pool.specs.Outcomes.{AreReceipts}
+use Rattle.bk_pool.specs.private.Receipts.{AreReceipts}
 use Rattle.bk_pool.proofs.outcome.receipts_of.Given as goal
 
 abbrev pub invariant-loop-place : goal.invariant-loop-place

@@ -1,4 +1,4 @@
-use Rattle.std.proofs.Common.{◌≡◌, ℕ, suc, ◌+◌, ◌<◌, ◌≤◌, List, length, true, Some, None, refl, sym, ap, ◌∙◌, subst, arith}
+use Rattle.std.proofs.Common.{subst, arith}
 use Rattle.bk_steps.specs.Course.{HasRead}
 use Rattle.bk_bank.specs.Plays.{reads_of}
 use Rattle.bk_pool.proofs.WordsOfPlace.{declared_word}

@@ -1,7 +1,4 @@
-use Rattle.std.proofs.Common.{◌≡◌, ℕ, suc, ◌+◌, ◌<◌, ◌≤◌, List, length, true, Some, None, refl, sym, ap, ◌∙◌, subst, arith}
-use Rattle.bk_rules.specs.Numbers.{number_of}
-use Rattle.bk_conflicts.specs.Scene.{status_at, moved_at}
-use Rattle.bk_bank.specs.Bank.{bank_scene}
+use Rattle.std.proofs.Common.{length, sym, ap, ◌∙◌, arith}
 use Rattle.bk_pool.proofs.WordsOfPlace.{place_inside, says_at, low_read, next_at, status_here, moved_here}
 use Rattle.bk_pool.proofs.place.run_place.Goals as goal
 
@@ -21,12 +18,13 @@ write_all-requires-clause-values g c = let s = c.args.bank.now.setting in let pl
 
 pub finish-leaving-requires-clause-status : goal.finish-leaving-requires-clause-status
 finish-leaving-requires-clause-status g c = let s = c.args.bank.now.setting in let plan = c.args.plan.now in
-    c.number.ensures.number ∙ (status_here s plan c.requires.plan.same c.place-place.result c.settle_words-receipt.result c.settle_words-receipt.new.values
+    c.number.ensures.number
+    ∙ status_here s plan c.requires.plan.same c.write_all.new.hold.place c.place-place.result (c.place-place.ensures ∙ (sym c.read_all.ensures.own.1 ∙ sym c.write_all.ensures.own.1))
+    c.settle_words-receipt.result c.settle_words-receipt.new.values
     (c.settle_words-receipt.ensures _ (says_at s plan c.requires.plan.same c.args.hold.place c.place-place.result c.read_all.new.values c.place-place.ensures (length c.words_of-count.result.now) (ap length c.words_of-count.ensures.list) c.read_all.ensures.values))
-    ∙ ap (status_at (bank_scene c.args.bank.now)) (c.place-place.ensures ∙ (sym c.read_all.ensures.own.1 ∙ sym c.write_all.ensures.own.1)))
 
 pub finish-leaving-requires-clause-moved : goal.finish-leaving-requires-clause-moved
 finish-leaving-requires-clause-moved g c = let s = c.args.bank.now.setting in let plan = c.args.plan.now in
-    moved_here s plan c.requires.plan.same c.place-place.result c.settle_words-receipt.result c.settle_words-receipt.new.values
+    moved_here s plan c.requires.plan.same c.write_all.new.hold.place c.place-place.result (c.place-place.ensures ∙ (sym c.read_all.ensures.own.1 ∙ sym c.write_all.ensures.own.1))
+    c.settle_words-receipt.result c.settle_words-receipt.new.values
     (c.settle_words-receipt.ensures _ (says_at s plan c.requires.plan.same c.args.hold.place c.place-place.result c.read_all.new.values c.place-place.ensures (length c.words_of-count.result.now) (ap length c.words_of-count.ensures.list) c.read_all.ensures.values))
-    ∙ ap (moved_at (bank_scene c.args.bank.now)) (c.place-place.ensures ∙ (sym c.read_all.ensures.own.1 ∙ sym c.write_all.ensures.own.1))

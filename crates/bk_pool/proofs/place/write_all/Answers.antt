@@ -1,4 +1,4 @@
-use Rattle.std.proofs.Common.{◌≡◌, ℕ, suc, ◌+◌, ◌<◌, ◌≤◌, List, length, true, Some, None, refl, sym, ap, ◌∙◌, subst, arith}
+use Rattle.std.proofs.Common.{◌≡◌, length, ap, ◌∙◌, subst, arith}
 use Rattle.bk_steps.specs.Course.{Has}
 use Rattle.bk_bank.specs.Setting.{words_at}
 use Rattle.bk_bank.specs.Plays.{writes_of}

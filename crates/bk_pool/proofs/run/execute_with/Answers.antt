@@ -1,4 +1,4 @@
-use Rattle.std.proofs.Common.{◌≡◌, sym, ap, ◌∙◌}
+use Rattle.std.proofs.Common.{sym, ap, ◌∙◌}
 use Rattle.bk_conflicts.specs.Plan.{PlanValue}
 use Rattle.bk_bank.specs.Setting.{setting_with}
 use Rattle.bk_pool.proofs.Ended.{closed_of}

@@ -1,4 +1,4 @@
-use Rattle.std.proofs.Common.{◌≡◌, ◌≢◌, ⊎_elim, ℕ, suc, ◌+◌, ◌*◌, ◌<◌, ◌≤◌, ◌==◌, ◌&&◌, List, [], ◌∷◌, length, get_or, Bool, true, Option, None, Some, refl, sym, ap, ◌∙◌, subst, arith, length-set}
+use Rattle.std.proofs.Common.{◌≡◌, ◌<◌, length, get_or, None, refl, ap, ◌∙◌, arith, length-set}
 use Rattle.bk_tx.specs.declared.declared.Declared.{Declared}
 use Rattle.bk_conflicts.specs.Words.{slot_of}
 use Rattle.bk_pool.proofs.Placed.{wide_most, no_account, room_at, next_at, found_more, rest_more}

@@ -1,4 +1,3 @@
-use Rattle.std.proofs.Common.{◌≡◌, ◌≢◌, ⊎_elim, ℕ, suc, ◌+◌, ◌*◌, ◌<◌, ◌≤◌, ◌==◌, ◌&&◌, List, [], ◌∷◌, length, get_or, Bool, true, Option, None, Some, refl, sym, ap, ◌∙◌, subst, arith, length-set}
 use Rattle.bk_pool.proofs.Settled.{low_found, does_settled}
 use Rattle.bk_pool.proofs.settling.settle_tx.Goals as goal
 

@@ -1,4 +1,3 @@
-use Rattle.std.proofs.Common.{◌≡◌, ℕ, suc, ◌+◌, ◌<◌, ◌≤◌, List, length, true, Some, None, refl, sym, ap, ◌∙◌, subst, arith}
 use Rattle.bk_pool.proofs.Settled.{low_by, does_by}
 use Rattle.bk_pool.proofs.settling.settle_words.Goals as goal
 

@@ -1,4 +1,4 @@
-use Rattle.std.proofs.Common.{◌≡◌, ℕ, ◌<◌, length, arith}
+use Rattle.std.proofs.Common.{arith}
 use Rattle.bk_pool.proofs.WordsOfPlace.{claim_inside}
 use Rattle.bk_pool.proofs.work.try_claim.Goals as goal
 
