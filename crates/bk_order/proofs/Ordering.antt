@@ -37,6 +37,7 @@ use Rattle.bk_evidence.specs.Batches.{has_digest, batch_with}
 use Rattle.bk_order.specs.Frames.{AreCerts, AreBatches}
 use Rattle.bk_order.specs.Stops.{HasNoStop}
 use Rattle.bk_order.specs.Orders.{IsOrderOf, AreWaiting, ordered_with}
+use Rattle.bk_order.specs.Intake.{nothing_ordered}
 use Rattle.bk_order.specs.declared.settling.Settled.{Settled}
 use Rattle.bk_order.specs.private.Joined.{IsJoined, order_in, IsFollowed, IsSettled, IsSettling}
 
@@ -243,3 +244,15 @@ followed_on z y held larger batches new s same part (more, e) f = subst (λ (x :
   found = subst (λ (bs : List Batch). AreFound bs s.list.digests s.list.found) (sym e)
       (subst (λ (ds : List (List ℕ)). AreFound (batches ++ more) ds s.list.found) (append-nil s.list.digests) (found_stays batches more s.list.digests [] s.list.found f.found));
 })
+
+-- no frames order nothing
+pub none_ordered : (k : CommitteeValue) → IsOrderOf k [] nothing_ordered
+none_ordered k = record {
+  certs = [];
+  batches = [];
+  are_certs = record { sound = λ c h. absurd (none_in_nil c h); complete = λ c in_it. absurd (none_in_nil (frame_of kind.Certificate in_it.0) in_it.1) };
+  are_batches = record { sound = λ b h. absurd (none_in_nil b h); complete = λ b in_it. absurd (none_in_nil (frame_of kind.Batch in_it.0) in_it.1) };
+  committed = none_voted (sizes_of k);
+  ordered = refl;
+  payloads_are = refl;
+}

@@ -1,11 +1,12 @@
 -- What the definitions of stops and orders say together.
-use Rattle.std.specs.Prelude.{◌≡◌, List}
+use Rattle.std.specs.Prelude.{◌≡◌, List, []}
 use Rattle.bk_frames.specs.Feed.{Frame}
 use Rattle.bk_committee.specs.Payload.{CommitteeValue}
 use Rattle.bk_commit.specs.Growth.{IsPartOf, Begins}
 use Rattle.bk_order.specs.declared.stop.Stop.{Stop}
 use Rattle.bk_order.specs.Stops.{IsStop, HasNoStop}
 use Rattle.bk_order.specs.Orders.{Ordered, IsOrderOf}
+use Rattle.bk_order.specs.Intake.{nothing_ordered}
 
 -- neither the order of frames nor their repeats change the stop or what is ordered
 abbrev pub FramesAreASet : Type 0
@@ -25,3 +26,7 @@ abbrev pub OneOrderOfFrames : Type 0
 OneOrderOfFrames = (k : CommitteeValue) (frames : List Frame) (o p : Ordered) → HasNoStop k frames
     → IsOrderOf k frames o → IsOrderOf k frames p
     → (o.anchors ≡ p.anchors) × (o.order ≡ p.order) × (o.payloads.list ≡ p.payloads.list)
+
+-- no frames order nothing
+abbrev pub NothingIsOrdered : Type 0
+NothingIsOrdered = (k : CommitteeValue) → IsOrderOf k [] nothing_ordered

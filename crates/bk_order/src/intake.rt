@@ -98,6 +98,13 @@ impl Intake {
         }
     }
 
+    /// The committee.
+    pub fn committee(&self) -> &Committee
+        ensures { result.now ≡ self.now.committee }
+    {
+        &self.committee
+    }
+
     /// Whether memory ran out in an earlier call.
     pub fn failed(&self) -> bool
         ensures { result ≡ self.now.failed }
