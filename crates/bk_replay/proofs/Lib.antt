@@ -2,3 +2,9 @@ pub mod Putting
 pub mod ReportLines
 pub mod Runs
 pub mod FeedReports
+pub mod LineGroups
+pub mod RunText
+pub mod ProofTexts
+pub mod ProofReading
+pub mod ProofPaths
+pub mod ProofChecks

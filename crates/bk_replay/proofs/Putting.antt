@@ -1,7 +1,6 @@
 -- Texts that are put one after another.
-use Rattle.std.proofs.Common.{◌≡◌, ℕ, ◌+◌, ◌<◌, ◌≤◌, List, [], ◌∷◌, ◌++◌, length, take, drop, Option, Some, None, sym, ap, subst, ◌∙◌, append_assoc, length-append, arith}
-use Rattle.std.specs.Io.KnownBytes.{Appends}
-use Rattle.bk_frames.specs.Device.{Device, Works, Fails, Receives}
+use Rattle.std.proofs.Common.{◌≡◌, ℕ, ◌+◌, ◌<◌, List, [], ◌∷◌, ◌++◌, length, take, drop, Some, sym, ap, subst, ◌∙◌, append_assoc, length-append, arith}
+use Rattle.bk_frames.specs.Device.{Device, Works, Receives}
 use Rattle.std.proofs.lemmas.List.{append-nil, take-append-drop, length-take, length-drop, take_at}
 use Rattle.bk_frames.proofs.Devices.{appends_then}
 use Rattle.std.specs.Prelude.{slice_get, Result, Ok, Err}

@@ -1,5 +1,8 @@
 pub mod Lines
 pub mod Report
+pub mod Leaves
+pub mod RunLines
+pub mod Proofs
 pub mod Answers
 pub mod private
 pub mod Laws

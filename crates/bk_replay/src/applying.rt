@@ -7,7 +7,9 @@ ghost use Rattle.bk_replay.specs.Lines.{text_of};
 ghost use Rattle.bk_replay.specs.private.Pages.{Written, blank};
 
 use crate::fault::Fault;
+use crate::groups::{put_accounts, put_batches, put_receipts};
 use crate::ledger::Ledger;
+use crate::line::Line;
 use crate::page::Page;
 use crate::summary::Summary;
 use bk_frames::{Feed, Sink, Source, WriteFault};
@@ -21,12 +23,15 @@ fn write_report<K: Sink>(sink: &mut K, page: &mut Page, summary: &Summary) -> Re
     requires total { summary.now.total ≡ total_of summary.now.rows.items }
     requires blank { page.old ≡ blank }
     ensures written { Written result (K.state sink.old) (K.state sink.new) page.old page.new
-        (text_of (lines_of summary.now.counts.items summary.now.receipts.items summary.now.rows.items)) }
+        (text_of (lines_of summary.now.counts.items summary.now.receipts.items
+        summary.now.rows.items)) }
     ensures empty { OnOk result (page.new.bytes ≡ []) }
 {
-    for index in 0..summary.lines() {
-        page.put(sink, summary.line(index))?;
-    }
+    put_batches(sink, page, &summary.counts)?;
+    put_receipts(sink, page, &summary.receipts)?;
+    put_accounts(sink, page, &summary.rows)?;
+    let total = summary.total;
+    page.put(sink, Line::Money { total })?;
     page.flush(sink)
 }
 

@@ -5,17 +5,25 @@
 #![tactic(auto)]
 
 mod applying;
+mod checking;
 mod fault;
+mod groups;
 mod laws;
+mod leaves;
 mod ledger;
 mod line;
 mod page;
+mod proof;
+mod reading;
+mod report;
 mod summary;
 
 pub use applying::apply;
+pub use checking::check_proof;
 pub use fault::Fault;
 pub use laws::{money_is_that_of_genesis, one_report};
 pub use line::Line;
+pub use proof::Proof;
 
 #[cfg(test)]
 mod tests;

@@ -3,10 +3,12 @@
 ghost use Rattle.std.specs.Prelude.{◌≡◌, ◌+◌, ◌^◌, ◌<◌, ◌≤◌, ◌∷◌, ◌++◌, [], length, vec_len, IfOk, OnOk};
 ghost use Rattle.std.specs.Vec.{vec_capacity};
 ghost use Rattle.bk_frames.specs.Device.{CanBeUsed};
-ghost use Rattle.bk_replay.specs.Lines.{line_text, spaced};
+ghost use Rattle.bk_replay.specs.Lines.{line_text, spaced, placed, hashed};
+ghost use Rattle.bk_replay.specs.declared.line.Line.TheVariants.{Members};
 ghost use Rattle.bk_replay.specs.private.Pages.{Gathered, Written};
 
 use crate::line::Line;
+use bk_digest::Digest32;
 use bk_frames::{Sink, WriteFault, push_all};
 use itoa::Buffer;
 use std::alloc::{AllocError, Global};
@@ -39,6 +41,50 @@ fn put_number(page: &mut Vec<u8>, number: u64)
     put_text(page, Buffer::new().format(number).as_bytes());
 }
 
+/// Puts a word, and a round and an author, where there is room for 49 bytes.
+fn put_place(page: &mut Vec<u8>, word: &[u8], round: u32, author: u8)
+    requires short { length word.now ≤ 7 }
+    requires room { vec_len page.old + 49 ≤ vec_capacity page.old }
+    ensures items { page.new.items ≡ page.old.items ++ placed word.now round author }
+    ensures len { vec_len page.new ≤ vec_len page.old + 49 }
+    ensures room { vec_capacity page.old ≤ vec_capacity page.new }
+{
+    put_text(page, word);
+    put_number(page, u64::from(round));
+    put_number(page, u64::from(author));
+}
+
+/// Puts a word, a space and a digest where there is room for 72 bytes.
+fn put_digest(page: &mut Vec<u8>, word: &[u8], digest: &Digest32)
+    requires short { length word.now ≤ 7 }
+    requires room { vec_len page.old + 72 ≤ vec_capacity page.old }
+    ensures items { page.new.items ≡ page.old.items ++ hashed word.now digest.now }
+    ensures len { vec_len page.new ≤ vec_len page.old + 72 }
+    ensures room { vec_capacity page.old ≤ vec_capacity page.new }
+{
+    let mut digits = [0u8; 64];
+    let _ = hex::encode_to_slice(digest.as_bytes(), &mut digits);
+    put_text(page, word);
+    put_text(page, b" ");
+    put_text(page, &digits);
+}
+
+/// Puts the three numbers of a committee where there is room for 84 bytes.
+fn put_members(page: &mut Vec<u8>, members: u8, faulty: u64, quorum: u64)
+    requires { vec_len page.old + 84 ≤ vec_capacity page.old }
+    ensures items { page.new.items
+        ≡ page.old.items ++ line_text (Members members faulty quorum) }
+    ensures len { vec_len page.new ≤ vec_len page.old + 84 }
+    ensures room { vec_capacity page.old ≤ vec_capacity page.new }
+{
+    put_text(page, b"members");
+    put_number(page, u64::from(members));
+    put_text(page, b" faulty");
+    put_number(page, faulty);
+    put_text(page, b" quorum");
+    put_number(page, quorum);
+}
+
 /// Puts a line and its line feed where there is room for it.
 fn put_line(page: &mut Vec<u8>, line: Line)
     requires { vec_len page.old + 96 ≤ vec_capacity page.old }
@@ -47,6 +93,23 @@ fn put_line(page: &mut Vec<u8>, line: Line)
     ensures room { vec_capacity page.old ≤ vec_capacity page.new }
 {
     match line {
+        Line::Members {
+            members,
+            faulty,
+            quorum,
+        } => put_members(page, members, faulty, quorum),
+        Line::Frames { count } => {
+            put_text(page, b"frames");
+            put_number(page, count);
+        }
+        Line::Reject { frame, rule } => {
+            put_text(page, b"reject");
+            put_number(page, frame);
+            put_number(page, u64::from(rule as u8));
+        }
+        Line::Waiting { round, author } => put_place(page, b"waiting", round, author),
+        Line::Anchor { round, author } => put_place(page, b"anchor", round, author),
+        Line::Cert { round, author } => put_place(page, b"cert", round, author),
         Line::Batch { index, count } => {
             put_text(page, b"batch");
             put_number(page, u64::from(index));
@@ -57,6 +120,7 @@ fn put_line(page: &mut Vec<u8>, line: Line)
             put_number(page, u64::from(index));
             put_text(page, b" void");
         }
+        Line::Missing { digest } => put_digest(page, b"missing", &digest),
         Line::Tx {
             place,
             status,
@@ -77,8 +141,27 @@ fn put_line(page: &mut Vec<u8>, line: Line)
             put_text(page, b"money");
             put_number(page, total);
         }
+        Line::State { digest } => put_digest(page, b"state", &digest),
+        Line::Size { size } => {
+            put_text(page, b"size");
+            put_number(page, size);
+        }
+        Line::Index { index } => {
+            put_text(page, b"index");
+            put_number(page, index);
+        }
+        Line::Path { digest } => put_digest(page, b"path", &digest),
     }
     put_text(page, b"\n");
+}
+
+/// Adds a line and its line feed to a text.
+pub(crate) fn push_line(text: &mut Vec<u8>, line: Line) -> Result<(), AllocError>
+    ensures { OnOk result (text.new.items ≡ text.old.items ++ (line_text line ++ 10 ∷ [])) }
+{
+    text.reserve(LINE)?;
+    put_line(text, line);
+    Ok(())
 }
 
 /// A page of a report, and how many bytes have gone out before it.

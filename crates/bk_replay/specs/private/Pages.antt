@@ -8,6 +8,10 @@ pub record Gathered : Type 0 where
   pub out : ℕ
   pub bytes : List ℕ
 
+-- how many bytes a page and those before it have
+abbrev pub size_of : Gathered → ℕ
+size_of page = page.out + length page.bytes
+
 -- the empty page, and no byte out
 abbrev pub blank : Gathered
 blank = record { out = 0; bytes = [] }

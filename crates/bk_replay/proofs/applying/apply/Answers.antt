@@ -1,6 +1,6 @@
 use Rattle.std.proofs.Common.{◌∙◌}
 use Rattle.std.proofs.lemmas.Result.{err_from_is_err_and}
-use Rattle.bk_replay.proofs.FeedReports.{few_counts, few_receipts, part_is_out, all_is_out, are_feed}
+use Rattle.bk_replay.proofs.FeedReports.{few_counts, few_receipts, part_is_out, all_is_out}
 use Rattle.bk_replay.proofs.applying.apply.Goals as goal
 
 pub write_report-requires-clause-few : goal.write_report-requires-clause-few

@@ -1,8 +1,7 @@
-use Rattle.std.proofs.Common.{arith, [], ap, subst, sym, ◌∙◌}
+use Rattle.std.proofs.Common.{arith, [], subst, ◌∙◌}
 use Rattle.bk_rules.proofs.Room.{room_left}
 use Rattle.bk_frames.specs.Feed.{genesis_of}
 use Rattle.bk_frames.specs.Genesis.{AreAccounts}
-use Rattle.bk_rules.specs.Fold.{HasRoom}
 use Rattle.bk_rules.proofs.Folding.{ledger_of_accounts}
 use Rattle.bk_replay.proofs.Runs.{room_for_next, counts_next, receipts_next, state_next}
 use Rattle.bk_replay.proofs.ledger.Ledger.of.Goals as goal
