@@ -1,0 +1,9 @@
+pub mod Codes
+pub mod Words
+pub mod Lines
+pub mod Known
+pub mod Transactions
+pub mod Sealing
+pub mod Judging
+pub mod Feeds
+pub mod private

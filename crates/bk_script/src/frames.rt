@@ -1,0 +1,71 @@
+//! The bytes of a feed, put together.
+
+ghost use Rattle.std.specs.Prelude.{◌≡◌, ◌++◌, ◌<◌, ◌≤◌, ◌^◌, length, OnOk, IfOk};
+ghost use Rattle.bk_frames.specs.Genesis.{genesis_text, row_text};
+ghost use Rattle.bk_frames.specs.Feed.{frame_of, frame_text};
+ghost use Rattle.bk_script.specs.Feeds.{feed_text};
+
+use crate::sealing::members_payload;
+use bk_frames::{Kind, Row, Version};
+use std::alloc::{AllocError, Global};
+
+/// Writes a frame at the end.
+pub(crate) fn put_frame(out: &mut Vec<u8>, kind: Kind, payload: &[u8]) -> Result<(), AllocError>
+    requires { length payload.now < 2 ^ 32 }
+    ensures { OnOk result (out.new.items
+        ≡ out.old.items ++ frame_text (frame_of kind payload.now)) }
+{
+    out.push(kind as u8)?;
+    out.extend_from_slice(&(payload.len() as u32).to_be_bytes())?;
+    out.extend_from_slice(payload)
+}
+
+// Writes an account at the end.
+fn put_row(out: &mut Vec<u8>, row: &Row) -> Result<(), AllocError>
+    ensures { OnOk result (out.new.items ≡ out.old.items ++ row_text row.now) }
+{
+    out.extend_from_slice(&row.id.to_be_bytes())?;
+    out.extend_from_slice(&row.balance.to_be_bytes())?;
+    out.extend_from_slice(&row.seq.to_be_bytes())
+}
+
+// The payload of genesis.
+fn genesis_payload(alloc: Global, rows: &[Row]) -> Result<Vec<u8>, AllocError>
+    requires { length rows.now < 2 ^ 24 }
+    ensures { IfOk result (λ payload. payload.items ≡ genesis_text rows.now) }
+{
+    let mut payload = Vec::new(alloc);
+    payload.extend_from_slice(&(rows.len() as u32).to_be_bytes())?;
+    for row in rows {
+        put_row(&mut payload, row)?;
+    }
+    Ok(payload)
+}
+
+/// A feed: its magic, the committee, the genesis, and the bytes of the frames behind them.
+pub(crate) fn feed_bytes(
+    alloc: Global,
+    version: Version,
+    weights: &[u32],
+    rows: &[Row],
+    body: &[u8],
+) -> Result<Vec<u8>, AllocError>
+    requires few { length rows.now < 2 ^ 24 }
+    requires members { length weights.now ≤ 128 }
+    ensures { IfOk result (λ feed. feed.items
+        ≡ feed_text version weights.now rows.now body.now) }
+{
+    let magic = match version {
+        Version::One => *b"BKF1",
+        Version::Two => *b"BKF2",
+    };
+    let mut feed = Vec::from_slice(alloc, &magic)?;
+    put_frame(
+        &mut feed,
+        Kind::Committee,
+        &members_payload(alloc, version, weights)?,
+    )?;
+    put_frame(&mut feed, Kind::Genesis, &genesis_payload(alloc, rows)?)?;
+    feed.extend_from_slice(body)?;
+    Ok(feed)
+}
