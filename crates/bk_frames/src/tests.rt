@@ -48,6 +48,15 @@ fn read(alloc: Global, bytes: &[u8]) -> Result<Feed, FeedFault> {
     Feed::read(alloc, &mut Counted::new(reader))
 }
 
+// The offset of the fault of the empty ledger's first `kept` bytes: that of the frame in which they end.
+fn offset_of_cut(kept: usize) -> u64 {
+    if kept < 4 {
+        0
+    } else {
+        if kept < 42 { 4 } else { 42 }
+    }
+}
+
 fn expect_fault(rt: &impl Abort, alloc: Global, bytes: &[u8], offset: u64, code: FaultCode) {
     match read(alloc, bytes) {
         Ok(_) => panic!(rt; "read, where {code:?} was expected"),

@@ -1,5 +1,5 @@
-use super::{EMPTY_LEDGER, read};
-use crate::{Cutter, FaultCode, FeedFault, Kind, Version, frames_of_pieces};
+use super::{EMPTY_LEDGER, offset_of_cut, read};
+use crate::{Cutter, FaultCode, Feed, FeedFault, Kind, Version, frames_of_pieces};
 use std::alloc::{AllocError, Global};
 use std::process::Abort;
 use std::test::Fail;
@@ -19,17 +19,24 @@ fn cut(alloc: Global, bytes: &[u8], size: usize) -> Result<Vec<(Kind, Vec<u8>)>,
     Ok(out)
 }
 
+fn has_frames(feed: &Feed, frames: &[(Kind, Vec<u8>)]) -> bool {
+    if feed.len() != frames.len() {
+        return false;
+    }
+    for (i, (kind, payload)) in frames.iter().enumerate() {
+        let (expected, text) = feed.frame(i);
+        if expected != *kind || text != payload.as_slice() {
+            return false;
+        }
+    }
+    true
+}
+
 // A cutter has to say of these bytes what a feed that is read whole says.
 fn expect_as_read(rt: &impl Abort, alloc: Global, bytes: &[u8], size: usize) {
     match (read(alloc, bytes), cut(alloc, bytes, size)) {
-        (Ok(feed), Ok(frames)) => {
-            assert!(rt; feed.len() == frames.len());
-            for (i, (kind, payload)) in frames.iter().enumerate() {
-                let (expected, text) = feed.frame(i);
-                assert!(rt; expected == *kind && text == payload.as_slice());
-            }
-        }
-        (Err(fault), Err(found)) => assert!(rt; fault == found, "{fault:?} {found:?}"),
+        (Ok(feed), Ok(frames)) => assert!(rt; has_frames(&feed, &frames)),
+        (Err(fault), Err(found)) => assert!(rt; fault == found),
         _ => panic!(rt; "a feed for one and a fault for the other"),
     }
 }
@@ -64,76 +71,92 @@ fn cuts_as_a_feed_is_read(rt: HostRuntime) -> Result<(), Fail> {
     Ok(())
 }
 
+// What a cutter says once it has the first `kept` bytes of the shortest feed.
+fn expect_within(rt: &impl Abort, cutter: &Cutter, kept: usize) {
+    let offset = offset_of_cut(kept);
+    let code = FaultCode::Truncated;
+    assert_eq!(rt; cutter.offset(), offset);
+    assert!(rt; cutter.version().is_some() == (kept > 3));
+    assert!(rt; cutter.end() == Err(FeedFault { offset, code }));
+}
+
 #[test]
 fn cuts_the_shortest_feed(rt: HostRuntime) -> Result<(), Fail> {
-    let alloc = rt.alloc();
     let whole = EMPTY_LEDGER.as_slice();
-    let code = FaultCode::Truncated;
     for kept in 0..51usize {
-        let offset = if kept < 4 {
-            0
-        } else {
-            if kept < 42 { 4 } else { 42 }
-        };
-        let mut cutter = Cutter::new(alloc);
-        let frames = cutter.feed(&whole[..kept])?;
-        assert_eq!(rt; frames.len(), if kept < 42 { 0 } else { 1 });
-        assert_eq!(rt; cutter.offset(), offset);
-        assert!(rt; cutter.version().is_some() == (kept > 3));
-        assert!(rt; cutter.end() == Err(FeedFault { offset, code }));
+        let mut cutter = Cutter::new(rt.alloc());
+        let count = cutter.feed(&whole[..kept])?.len();
+        assert!(rt; count == if kept < 42 { 0 } else { 1 });
+        expect_within(&rt, &cutter, kept);
         // It goes on after `end`, and after an empty piece.
-        assert_eq!(rt; cutter.feed(b"")?.len(), 0);
-        assert_eq!(rt; cutter.feed(&whole[kept..])?.len() + frames.len(), 2);
-        assert!(rt; cutter.end().is_ok());
-        assert_eq!(rt; cutter.offset(), 51);
+        assert!(rt; cutter.feed(b"")?.is_empty());
+        assert!(rt; cutter.feed(&whole[kept..])?.len() + count == 2);
+        assert!(rt; cutter.end().is_ok() && cutter.offset() == 51);
     }
     Ok(())
 }
 
 #[test]
 fn names_the_version_with_the_magic(rt: HostRuntime) -> Result<(), Fail> {
-    let alloc = rt.alloc();
     for (magic, version) in [(b"BKF1", Version::One), (b"BKF2", Version::Two)] {
-        let mut cutter = Cutter::new(alloc);
+        let mut cutter = Cutter::new(rt.alloc());
         cutter.feed(&magic[..3])?;
         assert!(rt; cutter.version().is_none());
         cutter.feed(&magic[3..])?;
         assert!(rt; cutter.version() == Some(version));
     }
-    let code = FaultCode::Magic;
-    assert!(rt; Cutter::new(alloc).feed(b"BKF9").err() == Some(FeedFault { offset: 0, code }));
     Ok(())
 }
 
+// A cutter that has these bytes hands out no frame, but this fault.
+fn expect_refused(rt: &impl Abort, cutter: &mut Cutter, bytes: &[u8], fault: FeedFault) {
+    assert!(rt; cutter.feed(bytes).err() == Some(fault));
+}
+
 #[test]
-fn tells_a_fault_with_its_first_byte(rt: HostRuntime) -> Result<(), Fail> {
-    let alloc = rt.alloc();
+fn tells_a_fault_with_its_first_byte(rt: HostRuntime) {
     let fault = FeedFault {
         offset: 4,
         code: FaultCode::Committee,
     };
-    let mut cutter = Cutter::new(alloc);
+    let mut cutter = Cutter::new(rt.alloc());
     for piece in [b"BKF1\x03".as_slice(), b"", b"BKF1"] {
-        assert!(rt; cutter.feed(piece).err() == Some(fault));
+        expect_refused(&rt, &mut cutter, piece, fault);
     }
     assert!(rt; cutter.end() == Err(fault));
-    // No frame is handed out with a fault.
-    let mut bytes = five_frames(alloc)?;
+}
+
+#[test]
+fn tells_a_fault_of_the_magic(rt: HostRuntime) {
+    let fault = FeedFault {
+        offset: 0,
+        code: FaultCode::Magic,
+    };
+    expect_refused(&rt, &mut Cutter::new(rt.alloc()), b"BKF9", fault);
+}
+
+#[test]
+fn hands_out_no_frame_with_a_fault(rt: HostRuntime) -> Result<(), Fail> {
+    let mut bytes = five_frames(rt.alloc())?;
     bytes.push(1)?;
     let fault = FeedFault {
         offset: 139,
         code: FaultCode::Extra,
     };
-    assert!(rt; Cutter::new(alloc).feed(&bytes).err() == Some(fault));
-    // A length that is too long, before its payload.
+    expect_refused(&rt, &mut Cutter::new(rt.alloc()), &bytes, fault);
+    Ok(())
+}
+
+#[test]
+fn tells_a_length_before_its_payload(rt: HostRuntime) -> Result<(), Fail> {
     let fault = FeedFault {
         offset: 51,
         code: FaultCode::Length,
     };
-    let mut cutter = Cutter::new(alloc);
-    assert_eq!(rt; cutter.feed(EMPTY_LEDGER.as_slice())?.len(), 2);
-    assert_eq!(rt; cutter.feed(b"\x04\x01\x00\x00")?.len(), 0);
-    assert!(rt; cutter.feed(b"\x01").err() == Some(fault));
+    let mut cutter = Cutter::new(rt.alloc());
+    assert!(rt; cutter.feed(EMPTY_LEDGER.as_slice())?.len() == 2);
+    assert!(rt; cutter.feed(b"\x04\x01\x00\x00")?.is_empty());
+    expect_refused(&rt, &mut cutter, b"\x01", fault);
     Ok(())
 }
 
@@ -146,8 +169,7 @@ fn cuts_the_longest_frame_byte_by_byte(rt: HostRuntime) -> Result<(), Fail> {
         assert!(rt; cutter.feed(b"a")?.is_empty());
     }
     let frames = cutter.feed(b"a")?;
-    assert_eq!(rt; frames.len(), 1);
-    assert_eq!(rt; frames[0].1.len(), 16_777_216);
+    assert!(rt; frames.len() == 1 && frames[0].1.len() == 16_777_216);
     assert!(rt; cutter.end().is_ok());
     Ok(())
 }

@@ -1,87 +1,85 @@
-use super::{EMPTY_LEDGER, Reader};
+use super::{EMPTY_LEDGER, Reader, read};
 use crate::{
-    Counted, FaultCode, Feed, Fuse, Kind, Sink, Source, WriteFault, push_all, write_frame,
+    Counted, FaultCode, Feed, FeedFault, Fuse, Kind, Sink, Source, WriteFault, push_all,
+    write_frame,
 };
+use std::alloc::{AllocError, Global};
 use std::io;
 use std::io::{Read, Write};
+use std::process::Abort;
 use std::test::Fail;
 
-#[test]
-fn tells_a_failed_read(rt: HostRuntime) -> Result<(), Fail> {
-    // Four calls for the magic, for each of two frames one for the kind, four for the length and one for the
-    // payload, and one for the end.
-    let needed = 4 + 6 + 6 + 1;
-    let offsets = [(4, 0), (10, 4), (16, 42), (needed, 51)];
-    for calls in 0..100 {
-        let mut source = Counted::new(Reader {
-            rest: EMPTY_LEDGER.as_slice(),
-            most: 1000,
-            calls,
-        });
-        match Feed::read(rt.alloc(), &mut source) {
-            Ok(_) => {
-                assert!(rt; calls >= needed, "read after {calls} calls");
-                assert_eq!(rt; source.failures(), 0);
-            }
-            Err(fault) => {
-                assert!(rt; calls < needed, "{fault:?} after {calls} calls");
-                assert!(rt; fault.code == FaultCode::Read, "{fault:?}");
-                for (end, offset) in offsets {
-                    if calls < end {
-                        assert!(rt; fault.offset == offset, "{fault:?} after {calls} calls");
-                        break;
-                    }
-                }
-                assert_eq!(rt; source.failures(), 1);
-            }
+// How many calls it takes to read the empty ledger, when each gives all that is asked for: four for the magic, for each of
+// two frames one for the kind, four for the length and one for the payload, and one for the end.
+const NEEDED: u64 = 4 + 6 + 6 + 1;
+
+// The fault of a reading that has only this many calls.
+fn fault_after(calls: u64) -> FeedFault {
+    let mut offset = 51;
+    for (end, begin) in [(NEEDED - 1, 42), (10, 4), (4, 0)] {
+        if calls < end {
+            offset = begin;
         }
     }
-    Ok(())
+    FeedFault {
+        offset,
+        code: FaultCode::Read,
+    }
+}
+
+// The empty ledger is read with as many calls as that takes, and with fewer the fault is the one call that fails.
+fn expect_read(rt: &impl Abort, read: &Result<Feed, FeedFault>, calls: u64) {
+    match read {
+        Ok(feed) => assert!(rt;
+            calls >= NEEDED && feed.len() == 2,
+            "read with {calls} calls"
+        ),
+        Err(fault) => {
+            assert!(rt;
+                calls < NEEDED && *fault == fault_after(calls),
+                "{fault:?} with {calls} calls"
+            );
+        }
+    }
+}
+
+fn reader(calls: u32) -> Reader<'static> {
+    Reader {
+        rest: EMPTY_LEDGER.as_slice(),
+        most: 1000,
+        calls,
+    }
 }
 
 #[test]
-fn tells_each_call_that_a_fuse_fails(rt: HostRuntime) -> Result<(), Fail> {
-    // As many calls as reading needs, when each gives all that is asked for: four for the magic, for each of two frames
-    // one for the kind, four for the length and one for the payload, and one for the end.
-    let needed = 4 + 6 + 6 + 1;
-    let offsets = [(4, 0), (10, 4), (16, 42), (needed, 51)];
-    for k in 0..100u64 {
-        let reader = Reader {
-            rest: EMPTY_LEDGER.as_slice(),
-            most: 1000,
-            calls: 1000,
-        };
-        let mut source = Fuse::new(Counted::new(reader), k);
-        match Feed::read(rt.alloc(), &mut source) {
-            Ok(feed) => {
-                assert!(rt; k >= needed, "read with {k} calls");
-                assert_eq!(rt; feed.len(), 2);
-                assert_eq!(rt; source.failures(), 0);
-            }
-            Err(fault) => {
-                assert!(rt; k < needed, "{fault:?} after {k} calls");
-                assert!(rt; fault.code == FaultCode::Read, "{fault:?}");
-                for (end, offset) in offsets {
-                    if k < end {
-                        assert!(rt; fault.offset == offset, "{fault:?} after {k} calls");
-                        break;
-                    }
-                }
-                assert_eq!(rt; source.failures(), 1);
-                assert_eq!(rt; source.into_inner().failures(), 0);
-            }
-        }
+fn tells_a_failed_read(rt: HostRuntime) {
+    for calls in 0..100u32 {
+        let mut source = Counted::new(reader(calls));
+        let read = Feed::read(rt.alloc(), &mut source);
+        expect_read(&rt, &read, u64::from(calls));
+        assert_eq!(rt; source.failures(), u64::from(read.is_err()));
     }
-    // A fuse fails once: what is written next goes on.
+}
+
+#[test]
+fn tells_each_call_that_a_fuse_fails(rt: HostRuntime) {
+    for k in 0..100u64 {
+        let mut source = Fuse::new(Counted::new(reader(1000)), k);
+        let read = Feed::read(rt.alloc(), &mut source);
+        expect_read(&rt, &read, k);
+        assert_eq!(rt; source.failures(), u64::from(read.is_err()));
+        assert_eq!(rt; source.into_inner().failures(), 0);
+    }
+}
+
+#[test]
+fn goes_on_after_a_fuse_has_failed(rt: HostRuntime) -> Result<(), Fail> {
     let mut sink = Fuse::new(Counted::new(Vec::new(rt.alloc())), 1);
     push_all(&mut sink, b"ab")?;
     assert!(rt; push_all(&mut sink, b"cd") == Err(WriteFault { written: 0 }));
     push_all(&mut sink, b"ef")?;
-    assert_eq!(rt; sink.failures(), 1);
-    assert_eq!(rt;
-        sink.into_inner().into_inner().as_slice(),
-        b"abef".as_slice()
-    );
+    assert!(rt; sink.failures() == 1);
+    assert!(rt; sink.into_inner().into_inner().as_slice() == b"abef".as_slice());
     Ok(())
 }
 
@@ -111,16 +109,21 @@ impl Write for Writer {
 
 #[test]
 fn writes_what_it_reads(rt: HostRuntime) -> Result<(), Fail> {
-    let alloc = rt.alloc();
     let whole = EMPTY_LEDGER.as_slice();
-    let mut sink = Counted::new(Vec::new(alloc));
+    let mut sink = Counted::new(Vec::new(rt.alloc()));
     push_all(&mut sink, b"BKF1")?;
     write_frame(&mut sink, Kind::Committee, &whole[9..42])?;
     write_frame(&mut sink, Kind::Genesis, &whole[47..51])?;
-    assert_eq!(rt; sink.into_inner().as_slice(), whole);
+    assert!(rt; sink.into_inner().as_slice() == whole);
+    Ok(())
+}
+
+#[test]
+fn tells_what_was_written_before_a_fault(rt: HostRuntime) {
+    let whole = EMPTY_LEDGER.as_slice();
     for calls in 0..9u32 {
         let writer = Writer {
-            held: Vec::new(alloc),
+            held: Vec::new(rt.alloc()),
             most: 1,
             calls,
         };
@@ -129,13 +132,9 @@ fn writes_what_it_reads(rt: HostRuntime) -> Result<(), Fail> {
         assert!(rt;
             write_frame(&mut sink, Kind::Genesis, &whole[47..51]) == Err(WriteFault { written })
         );
-        assert_eq!(rt; sink.failures(), 1);
-        assert_eq!(rt;
-            sink.into_inner().held.as_slice(),
-            &whole[42..42 + calls as usize]
-        );
+        assert!(rt; sink.failures() == 1);
+        assert!(rt; sink.into_inner().held.as_slice() == &whole[42..42 + calls as usize]);
     }
-    Ok(())
 }
 
 // Gives at most `most` bytes a call, and keeps what it was asked for.
@@ -167,41 +166,47 @@ impl Read for Asked<'_> {
     }
 }
 
-#[test]
-fn asks_a_source_no_more_than_it_needs(rt: HostRuntime) -> Result<(), Fail> {
-    let alloc = rt.alloc();
-    // A batch of 200,000 bytes, which the payload of no call may take at once.
+// What reading a feed of these bytes, at most `most` a call, asked of its source.
+fn ask(alloc: Global, bytes: &[u8], most: usize) -> Asked<'_> {
+    let mut source = Counted::new(Asked {
+        rest: bytes,
+        most,
+        calls: 0,
+        room: 0,
+        at_end: 0,
+    });
+    let _ = Feed::read(alloc, &mut source);
+    source.into_inner()
+}
+
+// A feed that ends in a batch of 200,000 bytes, which the payload of no call may take at once.
+fn with_a_long_batch(alloc: Global) -> Result<Vec<u8>, AllocError> {
     let mut bytes = Vec::from_slice(alloc, EMPTY_LEDGER.as_slice())?;
     bytes.extend_from_slice(b"\x04\x00\x03\x0d\x40")?;
     bytes.resize(51 + 5 + 200_000, 0)?;
+    Ok(bytes)
+}
+
+#[test]
+fn asks_a_source_no_more_than_it_needs(rt: HostRuntime) -> Result<(), Fail> {
+    let bytes = with_a_long_batch(rt.alloc())?;
+    assert!(rt; read(rt.alloc(), &bytes)?.len() == 3);
     // Each byte of the magic, a kind and a length is asked for alone, and the end once. A payload is asked for in
     // pieces: one for each of the first two frames.
     let heads = 4 + 5 + 1 + 5 + 1 + 5 + 1;
     for (most, pieces) in [(1_000_000, 4), (65_536, 4), (512, 391)] {
-        let mut source = Counted::new(Asked {
-            rest: bytes.as_slice(),
-            most,
-            calls: 0,
-            room: 0,
-            at_end: 0,
-        });
-        assert_eq!(rt; Feed::read(alloc, &mut source)?.len(), 3);
-        let asked = source.into_inner();
+        let asked = ask(rt.alloc(), &bytes, most);
         assert_eq!(rt; asked.calls, heads + pieces);
-        assert_eq!(rt; asked.room, 65_536);
-        assert_eq!(rt; asked.at_end, 1);
+        assert!(rt; asked.room == 65_536 && asked.at_end == 1);
     }
-    // Nor is it asked again once it has ended in a frame.
+    Ok(())
+}
+
+#[test]
+fn asks_a_source_once_at_its_end(rt: HostRuntime) -> Result<(), Fail> {
+    let bytes = with_a_long_batch(rt.alloc())?;
     for kept in 0..60usize {
-        let mut source = Counted::new(Asked {
-            rest: &bytes[..kept],
-            most: 1000,
-            calls: 0,
-            room: 0,
-            at_end: 0,
-        });
-        let _ = Feed::read(alloc, &mut source);
-        assert_eq!(rt; source.into_inner().at_end, 1);
+        assert!(rt; ask(rt.alloc(), &bytes[..kept.min(bytes.len())], 1000).at_end == 1);
     }
     Ok(())
 }
