@@ -6,6 +6,7 @@ use crate::{
     Digest32, MacKey, audit_path, check_path, climb_goes_up, hmac, own_path_leads_to_root,
     path_is_merkle_audit_path, root_is_merkle_tree_hash, tagged, tree_root, tree_root_with,
 };
+use std::alloc::{AllocError, Global};
 use std::collections::{BTreeMap, HashMap};
 use std::process::Abort;
 use std::test::Fail;
@@ -64,32 +65,42 @@ fn standard_digests(rt: HostRuntime) {
 }
 
 #[test]
-fn hexadecimal_text(rt: HostRuntime) -> Result<(), Fail> {
+fn text_of_a_digest(rt: HostRuntime) -> Result<(), Fail> {
     let digest = Digest32::of(b"abc");
-    assert_eq!(rt; digest.to_hex(rt.alloc())?.as_str(), ABC);
-    assert_eq!(rt; digest.to_string(rt.alloc())?.as_str(), ABC);
-    assert_eq!(rt; format!(in rt.alloc(); "{digest:?}")?.as_str(), ABC);
-    let upper = ABC.to_ascii_uppercase(rt.alloc())?;
-    let long = format!(in rt.alloc(); "{ABC}0")?;
-    let other = format!(in rt.alloc(); "{}g", &ABC[..63])?;
-    assert_eq!(rt; digest_of_hex(upper.as_str()), None);
-    assert_eq!(rt; digest_of_hex(long.as_str()), None);
-    assert_eq!(rt; digest_of_hex(other.as_str()), None);
-    assert_eq!(rt; digest_of_hex(&ABC[..63]), None);
+    assert!(rt; digest.to_hex(rt.alloc())?.as_str() == ABC);
+    assert!(rt; digest.to_string(rt.alloc())?.as_str() == ABC);
+    assert!(rt; format!(in rt.alloc(); "{digest:?}")?.as_str() == ABC);
     Ok(())
 }
 
 #[test]
-fn key_of_maps(rt: HostRuntime) -> Result<(), Fail> {
+fn text_of_no_digest(rt: HostRuntime) -> Result<(), Fail> {
+    assert!(rt; digest_of_hex(&ABC[..63]).is_none());
+    let upper = ABC.to_ascii_uppercase(rt.alloc())?;
+    assert!(rt; digest_of_hex(upper.as_str()).is_none());
+    for last in ["g", "50"] {
+        let text = format!(in rt.alloc(); "{}{last}", &ABC[..63])?;
+        assert!(rt; digest_of_hex(text.as_str()).is_none(), "{text}");
+    }
+    Ok(())
+}
+
+#[test]
+fn key_of_an_ordered_map(rt: HostRuntime) -> Result<(), Fail> {
     let (low, high) = (Digest32::new([1; 32]), Digest32::new([2; 32]));
     let mut ordered = BTreeMap::new(rt.alloc());
     ordered.insert(high, 2u8)?;
     ordered.insert(low, 1u8)?;
-    assert_eq!(rt; ordered.pop_first(), Some((low, 1u8)));
+    assert!(rt; ordered.pop_first() == Some((low, 1u8)));
+    Ok(())
+}
+
+#[test]
+fn key_of_a_hashed_map(rt: HostRuntime) -> Result<(), Fail> {
     let mut hashed = HashMap::new(rt.alloc());
-    hashed.insert(high, 2u8)?;
-    assert!(rt; hashed.contains_key(&high));
-    assert!(rt; !hashed.contains_key(&low));
+    hashed.insert(Digest32::new([2; 32]), 2u8)?;
+    assert!(rt; hashed.contains_key(&Digest32::new([2; 32])));
+    assert!(rt; !hashed.contains_key(&Digest32::new([1; 32])));
     Ok(())
 }
 
@@ -113,7 +124,7 @@ fn standard_tags(rt: HostRuntime) {
         ),
     ];
     for (key, text, tag) in cases {
-        assert_eq!(rt; Some(hmac(key, text)), digest_of_hex(tag), "{tag}");
+        assert!(rt; Some(hmac(key, text)) == digest_of_hex(tag), "{tag}");
     }
 }
 
@@ -153,13 +164,21 @@ fn tags_of_each_key_length(rt: HostRuntime) {
         assert!(rt; length <= bytes.len());
         let prepared = MacKey::new(&bytes[..length]);
         for _ in 0..2 {
-            assert_eq!(rt;
-                Some(prepared.tag(b"What do ya want?")),
-                digest_of_hex(tag),
-                "{length}"
-            );
+            let found = prepared.tag(b"What do ya want?");
+            assert!(rt; Some(found) == digest_of_hex(tag), "{length}");
         }
     }
+}
+
+// All audit paths of these leaves, one after the other.
+fn paths_of(alloc: Global, leaves: &[[u8; 24]]) -> Result<Vec<u8>, AllocError> {
+    let mut joined = Vec::new(alloc);
+    for i in 0..leaves.len() {
+        for digest in &audit_path(alloc, leaves, i)? {
+            joined.extend_from_slice(digest.as_bytes())?;
+        }
+    }
+    Ok(joined)
 }
 
 #[test]
@@ -167,20 +186,13 @@ fn roots_and_paths(rt: HostRuntime) -> Result<(), Fail> {
     let all = numbered_leaves();
     for size in 0..10 {
         let leaves = &all[..size];
-        assert_eq!(rt;
-            Some(tree_root(leaves)),
-            digest_of_hex(ROOTS[size]),
+        assert!(rt;
+            Some(tree_root(leaves)) == digest_of_hex(ROOTS[size]),
             "{size}"
         );
-        let mut joined = Vec::new(rt.alloc());
-        for i in 0..size {
-            for digest in &audit_path(rt.alloc(), leaves, i)? {
-                joined.extend_from_slice(digest.as_bytes())?;
-            }
-        }
-        assert_eq!(rt;
-            Some(Digest32::of(&joined)),
-            digest_of_hex(PATHS[size]),
+        let joined = paths_of(rt.alloc(), leaves)?;
+        assert!(rt;
+            Some(Digest32::of(&joined)) == digest_of_hex(PATHS[size]),
             "{size}"
         );
     }
@@ -188,20 +200,24 @@ fn roots_and_paths(rt: HostRuntime) -> Result<(), Fail> {
 }
 
 #[test]
-fn root_from_threads(rt: HostRuntime) -> Result<(), Fail> {
+fn small_roots_from_threads(rt: HostRuntime) {
     let all = numbered_leaves();
-    assert_eq!(rt; tree_root_with(&rt, &all[..0]), tree_root(&all[..0]));
-    assert_eq!(rt; tree_root_with(&rt, &all), tree_root(&all));
+    assert!(rt; tree_root_with(&rt, &all[..0]) == tree_root(&all[..0]));
+    assert!(rt; tree_root_with(&rt, &all) == tree_root(&all));
+}
+
+#[test]
+fn root_from_threads(rt: HostRuntime) -> Result<(), Fail> {
     let mut leaves = Vec::new(rt.alloc());
     for j in 0..40_000u64 {
         let mut leaf = [0; 24];
         leaf[..8].copy_from_slice(&j.to_be_bytes());
         leaves.push(leaf)?;
     }
-    assert_eq!(rt;
-        Some(tree_root_with(&rt, &leaves)),
-        digest_of_hex("8ecc02a369a4804d244f6a7b44d9e8deff63e9c13ab4cd5c379e4bc837cf8722")
+    let expected = digest_of_hex(
+        "8ecc02a369a4804d244f6a7b44d9e8deff63e9c13ab4cd5c379e4bc837cf8722",
     );
+    assert!(rt; Some(tree_root_with(&rt, &leaves)) == expected);
     Ok(())
 }
 
@@ -212,13 +228,37 @@ fn good_and_bad_paths(rt: HostRuntime) -> Result<(), Fail> {
         let leaves = &all[..size];
         for i in 0..size {
             let path = audit_path(rt.alloc(), leaves, i)?;
-            check_turned(&rt, &tree_root(leaves), size, i, &leaves[i], path)?;
+            let root = tree_root(leaves);
+            check_placed(&rt, &root, size, i, &leaves[i], &path);
+            check_turned(&rt, &root, size, i, &leaves[i], path)?;
         }
     }
     Ok(())
 }
 
-// The path is good, and it is bad with each bit, place, number of leaves and length that is off by one.
+// The path is good, and it is bad at each other place, for another leaf and another root.
+fn check_placed<R: Abort>(
+    rt: &R,
+    root: &Digest32,
+    size: usize,
+    i: usize,
+    leaf: &[u8; 24],
+    path: &[Digest32],
+)
+    requires { size < 10 }
+{
+    assert!(rt;
+        !check_path(&with_bit_turned(root), size, i, leaf, path),
+        "{size} {i}"
+    );
+    assert!(rt; !check_path(root, size, i, &[9; 24], path), "{size} {i}");
+    for place in 0..size + 1 {
+        let is_good = check_path(root, size, place, leaf, path);
+        assert!(rt; is_good == (place == i), "{size} {place}");
+    }
+}
+
+// The path is bad with each bit that is turned, and with a digest more or less.
 fn check_turned<R: Abort>(
     rt: &R,
     root: &Digest32,
@@ -226,21 +266,7 @@ fn check_turned<R: Abort>(
     i: usize,
     leaf: &[u8; 24],
     mut path: Vec<Digest32>,
-) -> Result<(), Fail>
-    requires { size < 10 }
-{
-    assert!(rt; check_path(root, size, i, leaf, &path), "{size} {i}");
-    assert!(rt;
-        !check_path(&with_bit_turned(root), size, i, leaf, &path),
-        "{size} {i}"
-    );
-    assert!(rt; !check_path(root, size, i, &[9; 24], &path), "{size} {i}");
-    for place in 0..size + 1 {
-        assert!(rt;
-            place == i || !check_path(root, size, place, leaf, &path),
-            "{size} {place}"
-        );
-    }
+) -> Result<(), Fail> {
     for k in 0..path.len() {
         let good = path[k];
         path[k] = with_bit_turned(&good);
