@@ -50,21 +50,28 @@ fn expect_bad_of(rt: &impl Abort, alloc: Global, version: Version, payload: &[u8
 }
 
 #[test]
-fn refused_payloads(rt: HostRuntime) -> Result<(), Fail> {
-    let alloc = rt.alloc();
-    let mut one = [7u8; 34];
-    one[0] = 1;
-    expect_bad(&rt, alloc, &[], 2);
-    expect_bad(&rt, alloc, &[0], 1);
-    expect_bad(&rt, alloc, &[0x81], 1);
-    expect_bad(&rt, alloc, &[0xff; 33], 1);
-    expect_bad(&rt, alloc, &one[..1], 2);
-    expect_bad(&rt, alloc, &one[..32], 2);
-    expect_bad(&rt, alloc, &one[..34], 2);
+fn refused_payloads(rt: HostRuntime) {
+    let one = [1u8; 34];
+    let rows: [(&[u8], u8); 7] = [
+        (&[], 2),
+        (&[0], 1),
+        (&[0x81], 1),
+        (&[0xff; 33], 1),
+        (&one[..1], 2),
+        (&one[..32], 2),
+        (&one[..34], 2),
+    ];
+    for (payload, number) in rows {
+        expect_bad(&rt, rt.alloc(), payload, number);
+    }
     assert!(rt; Bad::Memory as u8 == 3);
-    let committee = Committee::parse(alloc, Version::One, &one[..33])?;
-    assert_eq!(rt; committee.n(), 1);
-    assert_eq!(rt; *committee.key(0), [7; 32]);
+}
+
+#[test]
+fn committee_of_one(rt: HostRuntime) -> Result<(), Fail> {
+    let committee = Committee::parse(rt.alloc(), Version::One, &[1; 33])?;
+    assert!(rt; committee.n() == 1);
+    assert!(rt; *committee.key(0) == [1; 32]);
     Ok(())
 }
 
@@ -81,9 +88,8 @@ fn quorums(rt: HostRuntime) -> Result<(), Fail> {
     ];
     for (members, faulty, quorum) in rows {
         let committee = committee_of(rt.alloc(), members)?;
-        assert_eq!(rt; committee.n(), members as usize);
-        assert_eq!(rt; committee.f(), faulty);
-        assert_eq!(rt; committee.quorum(), quorum);
+        assert!(rt; committee.n() == members as usize);
+        assert!(rt; committee.f() == faulty && committee.quorum() == quorum);
     }
     quorums_meet();
     Ok(())
@@ -93,21 +99,27 @@ fn quorums(rt: HostRuntime) -> Result<(), Fail> {
 #[test]
 fn weights(rt: HostRuntime) -> Result<(), Fail> {
     let committee = weighted(rt.alloc(), &[5, 1, 1, 1])?;
-    assert!(rt; committee.version() == Version::Two);
-    assert_eq!(rt; committee.n(), 4);
-    assert_eq!(rt; committee.f(), 2);
-    assert_eq!(rt; committee.quorum(), 6);
-    assert_eq!(rt; committee.weight(0), 5);
-    assert_eq!(rt; committee.weight(3), 1);
-    assert_eq!(rt; committee.leader(3), Some(1));
-    let copy = committee.try_clone(rt.alloc())?;
-    assert!(rt; copy.version() == Version::Two);
-    assert_eq!(rt; copy.weights(), [5, 1, 1, 1].as_slice());
-    assert_eq!(rt; *copy.key(2), [2; 32]);
-    assert_eq!(rt; copy.quorum(), 6);
-    let one = committee_of(rt.alloc(), 4)?;
-    assert_eq!(rt; one.weights(), [1, 1, 1, 1].as_slice());
-    assert_eq!(rt; one.weight(2), 1);
+    assert!(rt; committee.version() == Version::Two && committee.n() == 4);
+    assert!(rt; committee.f() == 2 && committee.quorum() == 6);
+    assert!(rt; committee.weight(0) == 5 && committee.weight(3) == 1);
+    assert!(rt; committee.leader(3) == Some(1));
+    Ok(())
+}
+
+#[test]
+fn copied_weights(rt: HostRuntime) -> Result<(), Fail> {
+    let copy = weighted(rt.alloc(), &[5, 1, 1, 1])?.try_clone(rt.alloc())?;
+    assert!(rt; copy.version() == Version::Two && copy.quorum() == 6);
+    assert!(rt; copy.weights() == [5, 1, 1, 1].as_slice());
+    assert!(rt; copy.n() == 4 && *copy.key(2) == [2; 32]);
+    Ok(())
+}
+
+#[test]
+fn weights_in_version_one(rt: HostRuntime) -> Result<(), Fail> {
+    let committee = committee_of(rt.alloc(), 4)?;
+    assert!(rt; committee.weights() == [1, 1, 1, 1].as_slice());
+    assert!(rt; committee.n() == 4 && committee.weight(2) == 1);
     Ok(())
 }
 
@@ -115,25 +127,28 @@ fn weights(rt: HostRuntime) -> Result<(), Fail> {
 #[test]
 fn heaviest_committee(rt: HostRuntime) -> Result<(), Fail> {
     let committee = weighted(rt.alloc(), &[u32::MAX; 128])?;
-    assert_eq!(rt; committee.f(), 183_251_937_919);
-    assert_eq!(rt; committee.quorum(), 366_503_875_841);
+    assert!(rt; committee.f() == 183_251_937_919);
+    assert!(rt; committee.quorum() == 366_503_875_841);
     Ok(())
 }
 
 #[test]
-fn refused_payloads_with_weights(rt: HostRuntime) -> Result<(), Fail> {
-    let alloc = rt.alloc();
+fn refused_payloads_with_weights(rt: HostRuntime) {
     let mut payload = [0u8; 73];
     payload[0] = 2;
     payload[68] = 1;
-    expect_bad_of(&rt, alloc, Version::Two, &payload, 4);
-    expect_bad_of(&rt, alloc, Version::Two, &payload[..72], 2);
-    expect_bad_of(&rt, alloc, Version::Two, &payload[..65], 2);
-    expect_bad_of(&rt, alloc, Version::One, &payload, 2);
-    expect_bad_of(&rt, alloc, Version::Two, &[], 2);
-    expect_bad_of(&rt, alloc, Version::Two, &[0], 1);
-    expect_bad_of(&rt, alloc, Version::Two, &[0x81], 1);
-    Ok(())
+    let rows: [(&[u8], u8); 6] = [
+        (&payload, 4),
+        (&payload[..72], 2),
+        (&payload[..65], 2),
+        (&[], 2),
+        (&[0], 1),
+        (&[0x81], 1),
+    ];
+    for (text, number) in rows {
+        expect_bad_of(&rt, rt.alloc(), Version::Two, text, number);
+    }
+    expect_bad(&rt, rt.alloc(), &payload, 2);
 }
 
 #[test]
@@ -141,28 +156,40 @@ fn leaders_of_four(rt: HostRuntime) -> Result<(), Fail> {
     let committee = committee_of(rt.alloc(), 4)?;
     let rows: [(u32, u8); 6] = [(1, 0), (3, 1), (5, 2), (7, 3), (9, 0), (u32::MAX, 3)];
     for (round, leader) in rows {
-        assert_eq!(rt; committee.leader(round), Some(leader));
+        assert!(rt; committee.leader(round) == Some(leader), "{round}");
     }
-    assert_eq!(rt; committee.leader(0), None);
-    assert_eq!(rt; committee.leader(2), None);
+    assert!(rt; committee.leader(0).is_none() && committee.leader(2).is_none());
     leaders_in_turn();
+    Ok(())
+}
+
+// The member has this byte thirty-two times as its key, and tags texts under it.
+fn expect_key(rt: &impl Abort, committee: &Committee, member: u8) {
+    let index = member as usize;
+    assert!(rt; index < committee.n());
+    assert!(rt; *committee.key(index) == [member; 32]);
+    let tag = committee.mac(index).tag(b"Porslynk");
+    assert!(rt; tag == hmac(committee.key(index), b"Porslynk"));
+}
+
+#[test]
+fn keys_and_tags(rt: HostRuntime) -> Result<(), Fail> {
+    let committee = committee_of(rt.alloc(), 128)?;
+    for member in 0..128u8 {
+        expect_key(&rt, &committee, member);
+    }
     Ok(())
 }
 
 // The digest is of Python's `hmac`.
 #[test]
-fn keys_and_tags(rt: HostRuntime) -> Result<(), Fail> {
+fn tag_by_member_two(rt: HostRuntime) -> Result<(), Fail> {
     let committee = committee_of(rt.alloc(), 128)?;
     assert!(rt; committee.n() == 128);
-    for member in 0..committee.n() {
-        assert_eq!(rt; *committee.key(member), [member as u8; 32]);
-        let tag = committee.mac(member).tag(b"Porslynk");
-        assert_eq!(rt; tag, hmac(committee.key(member), b"Porslynk"));
-    }
     let expected = Digest32::parse_hex(
         b"c9507c91261b02ac8ecc8af73730be393bfbaa9a724d2f87b73f404222801244",
     );
-    assert_eq!(rt; Some(committee.mac(2).tag(b"Porslynk")), expected);
+    assert!(rt; Some(committee.mac(2).tag(b"Porslynk")) == expected);
     committee_grammar();
     Ok(())
 }
