@@ -115,9 +115,8 @@ fn full(rt: &impl Abort, alloc: Global, committee: &Committee) -> Result<Cert, A
 #[test]
 fn id_of_a_plain_header(rt: HostRuntime) -> Result<(), Fail> {
     let header = plain(&rt, rt.alloc());
-    assert_eq!(rt; header.header_len(), 8);
-    assert_eq!(rt; header.id(), parsed(&rt, ID));
-    assert_eq!(rt; id_of_bytes(&PLAIN), parsed(&rt, ID));
+    assert!(rt; header.header_len() == 8);
+    assert!(rt; header.id() == parsed(&rt, ID) && id_of_bytes(&PLAIN) == parsed(&rt, ID));
     let text = header.header_bytes(rt.alloc())?;
     assert!(rt; text.as_slice() == PLAIN.as_slice());
     Ok(())
@@ -139,8 +138,7 @@ fn plain_text_is_read(rt: HostRuntime) -> Result<(), Fail> {
     let alloc = rt.alloc();
     let text = plain_text(&rt, alloc)?;
     let cert = Cert::decode(alloc, &text)?.expect(&rt, "a certificate");
-    assert_eq!(rt; cert.mask().len(), 3);
-    assert_eq!(rt; cert.tags().len(), 3);
+    assert!(rt; cert.mask().len() == 3 && cert.tags().len() == 3);
     assert!(rt; *cert.header() == plain(&rt, alloc));
     assert!(rt; cert.into_header() == plain(&rt, alloc));
     certificate_grammar();
@@ -162,67 +160,93 @@ fn one_byte_wrong(rt: HostRuntime) -> Result<(), Fail> {
     Ok(())
 }
 
+// Each member's tag of this id stands at its number.
+fn expect_tags(rt: &impl Abort, committee: &Committee, tags: &[Digest32], id: Digest32) {
+    assert!(rt; tags.len() == committee.n());
+    for member in 0..committee.n() {
+        assert!(rt; tags[member] == hmac(committee.key(member), id.as_bytes()));
+    }
+}
+
 #[test]
 fn tags_of_all_that_fits(rt: HostRuntime) -> Result<(), Fail> {
-    let alloc = rt.alloc();
-    let committee = committee_of(alloc, 128)?;
-    let cert = full(&rt, alloc, &committee)?;
+    let committee = committee_of(rt.alloc(), 128)?;
+    let cert = full(&rt, rt.alloc(), &committee)?;
     let id = parsed(&rt, LARGEST_ID);
-    assert_eq!(rt; cert.header().id(), id);
-    assert!(rt; cert.tags().len() == 128 && committee.n() == 128);
-    for member in 0..128 {
-        assert_eq!(rt;
-            cert.tags()[member],
-            hmac(committee.key(member), id.as_bytes())
-        );
-    }
-    assert_eq!(rt; cert.tags()[127], parsed(&rt, LAST_TAG));
+    assert!(rt; cert.header().id() == id);
+    expect_tags(&rt, &committee, cert.tags(), id);
+    assert!(rt; cert.tags().last() == Some(&parsed(&rt, LAST_TAG)));
+    Ok(())
+}
+
+fn full_text(rt: &impl Abort, alloc: Global) -> Result<Vec<u8>, Fail> {
+    let committee = committee_of(alloc, 128)?;
+    Ok(full(rt, alloc, &committee)?.encode(alloc)?)
+}
+
+// The bytes have this digest.
+fn expect_digest(rt: &impl Abort, text: &[u8], digest: &str) {
+    assert!(rt; Digest32::of(text) == parsed(rt, digest));
+}
+
+#[test]
+fn text_of_all_that_fits(rt: HostRuntime) -> Result<(), Fail> {
+    let text = full_text(&rt, rt.alloc())?;
+    let whole = "8750fca344564f6d84c74bd7f4722ce7083389a8d31e5f11a83023bf1a5baebf";
+    assert!(rt; text.len() == 36_104 + 16 + 128 * 32);
+    expect_digest(&rt, &text, whole);
     Ok(())
 }
 
 #[test]
 fn all_that_fits_is_read(rt: HostRuntime) -> Result<(), Fail> {
-    let alloc = rt.alloc();
-    let committee = committee_of(alloc, 128)?;
-    let text = full(&rt, alloc, &committee)?.encode(alloc)?;
-    assert_eq!(rt; text.len(), 36_104 + 16 + 128 * 32);
-    let whole = parsed(
-        &rt,
-        "8750fca344564f6d84c74bd7f4722ce7083389a8d31e5f11a83023bf1a5baebf",
-    );
-    assert_eq!(rt; Digest32::of(&text), whole);
-    let read = Cert::decode(alloc, &text)?.expect(&rt, "a certificate");
+    let text = full_text(&rt, rt.alloc())?;
+    let read = Cert::decode(rt.alloc(), &text)?.expect(&rt, "a certificate");
     let id = id_within(&text, read.header().header_len());
-    assert_eq!(rt; id, Some(parsed(&rt, LARGEST_ID)));
-    assert!(rt; read.encode(alloc)? == text);
-    let header_bytes = read.header().header_bytes(alloc)?;
-    assert_eq!(rt; header_bytes.len(), 36_104);
-    assert_eq!(rt; id_of_bytes(&header_bytes), parsed(&rt, LARGEST_ID));
+    assert!(rt; id == Some(parsed(&rt, LARGEST_ID)));
+    assert!(rt; read.encode(rt.alloc())? == text);
     Ok(())
 }
 
 #[test]
-fn stranger_with_equal_batches(rt: HostRuntime) -> Result<(), Fail> {
-    let alloc = rt.alloc();
-    let batch = Digest32::new([5; 32]);
-    let parent = Digest32::new([7; 32]);
-    let batches = Vec::from_slice(alloc, &[batch, batch])?;
-    let header = Header::new(255, 2, batches, Vec::from_slice(alloc, &[parent])?).expect(
-        &rt, "a header",
-    );
+fn bytes_of_the_largest_header(rt: HostRuntime) -> Result<(), Fail> {
+    let bytes = largest(&rt, rt.alloc())?.header_bytes(rt.alloc())?;
+    assert!(rt; bytes.len() == 36_104);
+    assert!(rt; id_of_bytes(&bytes) == parsed(&rt, LARGEST_ID));
+    Ok(())
+}
+
+// Two batches that are equal and one parent, by an author that no committee has.
+fn by_a_stranger(rt: &impl Abort, alloc: Global) -> Result<Header, AllocError> {
+    let batches = Vec::from_slice(alloc, &[Digest32::new([5; 32]), Digest32::new([5; 32])])?;
+    let parents = Vec::from_slice(alloc, &[Digest32::new([7; 32])])?;
+    Ok(Header::new(255, 2, batches, parents).expect(rt, "a header"))
+}
+
+fn text_of_a_stranger(rt: &impl Abort, alloc: Global) -> Result<Vec<u8>, Fail> {
     let committee = committee_of(alloc, 128)?;
-    let text = sealed(&rt, alloc, header, &committee, &[127, 9])?.encode(alloc)?;
-    let whole = parsed(
-        &rt,
-        "9b81a502ea69d1514c8107e016c01fd7bff64fc204341e1be4104488c5eda070",
-    );
-    assert_eq!(rt; Digest32::of(&text), whole);
-    let read = Cert::decode(alloc, &text)?.expect(&rt, "a certificate");
-    assert_eq!(rt; read.header().author(), 255);
-    assert!(rt; read.header().batches() == [batch, batch].as_slice());
-    assert!(rt; read.header().parents() == [parent].as_slice());
-    assert!(rt; !read.mask().is_empty() && read.mask().has(9) && read.mask().has(127));
-    assert_eq!(rt; read.tags().len(), 2);
+    let cert = sealed(rt, alloc, by_a_stranger(rt, alloc)?, &committee, &[127, 9])?;
+    Ok(cert.encode(alloc)?)
+}
+
+#[test]
+fn stranger_with_equal_batches(rt: HostRuntime) -> Result<(), Fail> {
+    let text = text_of_a_stranger(&rt, rt.alloc())?;
+    let whole = "9b81a502ea69d1514c8107e016c01fd7bff64fc204341e1be4104488c5eda070";
+    expect_digest(&rt, &text, whole);
+    let read = Cert::decode(rt.alloc(), &text)?.expect(&rt, "a certificate");
+    assert!(rt; *read.header() == by_a_stranger(&rt, rt.alloc())?);
+    assert!(rt; read.mask().len() == 2 && read.mask().has(9) && read.mask().has(127));
+    assert!(rt; read.tags().len() == 2);
+    Ok(())
+}
+
+#[test]
+fn parts_of_a_header(rt: HostRuntime) -> Result<(), Fail> {
+    let header = by_a_stranger(&rt, rt.alloc())?;
+    assert!(rt; header.author() == 255 && header.round() == 2);
+    assert!(rt; header.batches() == [Digest32::new([5; 32]); 2].as_slice());
+    assert!(rt; header.parents() == [Digest32::new([7; 32])].as_slice());
     Ok(())
 }
 
@@ -232,8 +256,7 @@ fn headers_differ(rt: HostRuntime) -> Result<(), Fail> {
     let header = largest(&rt, alloc)?;
     assert!(rt; header == largest(&rt, alloc)?);
     assert!(rt; header != plain(&rt, alloc));
-    assert_eq!(rt; header.author(), 127);
-    assert_eq!(rt; header.round(), 0xffff_fffe);
+    assert!(rt; header.author() == 127 && header.round() == 0xffff_fffe);
     equal_headers();
     Ok(())
 }
@@ -246,31 +269,42 @@ fn too_many_for_a_header(rt: HostRuntime) -> Result<(), Fail> {
     Ok(())
 }
 
+// Whether bytes are read that begin so, go on with so many digests of zeros, and end with nobody's seal.
+fn is_read_with(
+    alloc: Global,
+    head: &[u8],
+    digests: usize,
+    tail: &[u8],
+) -> Result<bool, AllocError> {
+    let mut text = Vec::from_slice(alloc, head)?;
+    for _ in 0..digests {
+        text.extend_from_slice(&[0; 32])?;
+    }
+    text.extend_from_slice(tail)?;
+    is_read(alloc, &text)
+}
+
 #[test]
 fn too_many_in_bytes(rt: HostRuntime) -> Result<(), Fail> {
-    let alloc = rt.alloc();
-    // 1,001 batches, no parents and nobody's seal, with all their bytes
-    let mut text = Vec::from_slice(alloc, &[0, 0, 0, 0, 1, 3, 0xe9])?;
-    text.resize(7 + 1_001 * 32 + 1 + 16, 0)?;
-    assert!(rt; !is_read(alloc, &text)?);
-    // one batch fewer
-    text[6] = 0xe8;
-    text.truncate(7 + 1_000 * 32 + 1 + 16);
-    assert!(rt; is_read(alloc, &text)?);
+    // 1,001 batches and no parents, and one batch fewer
+    assert!(rt; !is_read_with(rt.alloc(), &[0, 0, 0, 0, 1, 3, 0xe9], 1_001, &[0; 17])?);
+    assert!(rt; is_read_with(rt.alloc(), &[0, 0, 0, 0, 1, 3, 0xe8], 1_000, &[0; 17])?);
     // no batches and 129 parents
-    let mut text = Vec::from_slice(alloc, &[0, 0, 0, 0, 1, 0, 0, 129])?;
-    text.resize(8 + 129 * 32 + 16, 0)?;
-    assert!(rt; !is_read(alloc, &text)?);
+    assert!(rt; !is_read_with(rt.alloc(), &[0, 0, 0, 0, 1, 0, 0, 129], 129, &[0; 16])?);
     Ok(())
+}
+
+// The plain header, sealed by these members of ten.
+fn sealed_by(rt: &impl Abort, alloc: Global, signers: &[u8]) -> Result<Cert, Fail> {
+    let committee = committee_of(alloc, 10)?;
+    Ok(sealed(rt, alloc, plain(rt, alloc), &committee, signers)?)
 }
 
 #[test]
 fn named_in_any_order(rt: HostRuntime) -> Result<(), Fail> {
-    let alloc = rt.alloc();
-    let committee = committee_of(alloc, 10)?;
-    let cert = sealed(&rt, alloc, plain(&rt, alloc), &committee, &[9, 3, 9, 1, 3])?;
-    let other = sealed(&rt, alloc, plain(&rt, alloc), &committee, &[1, 3, 9])?;
-    assert_eq!(rt; *cert.mask(), *other.mask());
+    let cert = sealed_by(&rt, rt.alloc(), &[9, 3, 9, 1, 3])?;
+    let other = sealed_by(&rt, rt.alloc(), &[1, 3, 9])?;
+    assert!(rt; *cert.mask() == *other.mask());
     assert!(rt; cert.tags() == other.tags());
     Ok(())
 }
@@ -282,8 +316,7 @@ fn sealed_by_nobody(rt: HostRuntime) -> Result<(), Fail> {
     let cert = sealed(&rt, alloc, plain(&rt, alloc), &committee, &[])?;
     assert!(rt; cert.mask().is_empty());
     let text = cert.encode(alloc)?;
-    assert_eq!(rt; text.len(), 24);
-    assert!(rt; is_read(alloc, &text)?);
+    assert!(rt; text.len() == 24 && is_read(alloc, &text)?);
     Ok(())
 }
 
@@ -293,12 +326,12 @@ fn masks(rt: HostRuntime) -> Result<(), Fail> {
     assert!(rt; mask.as_bytes()[0] == 1 && mask.as_bytes()[15] == 0x80);
     mask.insert(9);
     assert!(rt; mask.has(9) && !mask.has(8) && !mask.has(255));
-    assert_eq!(rt; mask.len(), 3);
+    assert!(rt; mask.len() == 3);
     let mut bytes = [0u8; 16];
     bytes[0] = 1;
     bytes[1] = 2;
     bytes[15] = 0x80;
-    assert_eq!(rt; mask, Mask::new(bytes));
+    assert!(rt; mask == Mask::new(bytes));
     Ok(())
 }
 
