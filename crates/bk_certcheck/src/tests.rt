@@ -81,15 +81,19 @@ fn number(verdict: &Verdict) -> u8 {
     }
 }
 
-fn finds(
+// What a check by this committee finds in the certificates of these rows, sealed under the keys of all 128 members.
+fn expect_found(
     rt: &impl Abort,
     alloc: Global,
-    all: &Committee,
     committee: &Committee,
-    row: &Row,
-) -> Result<u8, AllocError> {
-    let bytes = sealed(rt, alloc, all, row)?;
-    Ok(number(&check(alloc, committee, &bytes)?))
+    rows: &[(Row, u8)],
+) -> Result<(), Fail> {
+    let all = heads(alloc, 128)?;
+    for (row, expected) in rows {
+        let bytes = sealed(rt, alloc, &all, row)?;
+        assert_eq!(rt; number(&check(alloc, committee, &bytes)?), *expected);
+    }
+    Ok(())
 }
 
 fn made<'a>(round: u32, author: u8, parents: &'a [u8], signers: &'a [u8]) -> Row<'a> {
@@ -102,11 +106,8 @@ fn made<'a>(round: u32, author: u8, parents: &'a [u8], signers: &'a [u8]) -> Row
 }
 
 #[test]
-fn each_rule_of_four(rt: HostRuntime) -> Result<(), Fail> {
-    let alloc = rt.alloc();
-    let all = heads(alloc, 128)?;
-    let four = heads(alloc, 4)?;
-    let rows: [(Row, u8); 18] = [
+fn the_author_the_round_and_the_count_of_parents(rt: HostRuntime) -> Result<(), Fail> {
+    let rows: [(Row, u8); 11] = [
         (made(1, 0, &[], &[0, 1, 2]), 8),
         (made(1, 3, &[], &[1, 2, 3]), 8),
         (made(1, 4, &[], &[0, 1, 2]), 1),
@@ -118,6 +119,13 @@ fn each_rule_of_four(rt: HostRuntime) -> Result<(), Fail> {
         (made(2, 0, &[1, 2], &[0, 1, 2]), 3),
         (made(2, 0, &[1, 2, 3, 4], &[0, 1, 2]), 8),
         (made(2, 0, &[1, 2, 3, 4, 5], &[0, 1, 2]), 3),
+    ];
+    expect_found(&rt, rt.alloc(), &heads(rt.alloc(), 4)?, &rows)
+}
+
+#[test]
+fn the_order_of_parents_and_the_signers(rt: HostRuntime) -> Result<(), Fail> {
+    let rows: [(Row, u8); 7] = [
         (made(2, 0, &[1, 3, 2], &[0, 1, 2]), 4),
         (made(2, 0, &[1, 2, 2], &[0, 1, 2]), 4),
         (made(1, 0, &[], &[0, 1, 2, 4]), 5),
@@ -127,81 +135,50 @@ fn each_rule_of_four(rt: HostRuntime) -> Result<(), Fail> {
         (made(0, 9, &[], &[0, 1]), 1),
         (made(2, 0, &[3, 2, 1], &[0, 9]), 4),
     ];
-    for (each, expected) in &rows {
-        assert_eq!(rt; finds(&rt, alloc, &all, &four, each)?, *expected);
-    }
-    Ok(())
+    expect_found(&rt, rt.alloc(), &heads(rt.alloc(), 4)?, &rows)
 }
 
 #[test]
-fn committees_of_other_sizes(rt: HostRuntime) -> Result<(), Fail> {
-    let alloc = rt.alloc();
-    let all = heads(alloc, 128)?;
+fn a_committee_of_128(rt: HostRuntime) -> Result<(), Fail> {
     let mut signers = [0u8; 86];
     for j in 0..86u8 {
         signers[j as usize] = 127 - j;
     }
-    assert_eq!(rt;
-        finds(&rt, alloc, &all, &all, &made(1, 127, &[], &signers))?,
-        8
-    );
-    assert_eq!(rt;
-        finds(&rt, alloc, &all, &all, &made(1, 127, &[], &signers[1..]))?,
-        6
-    );
-    let one = heads(alloc, 1)?;
-    assert_eq!(rt; finds(&rt, alloc, &all, &one, &made(2, 0, &[7], &[0]))?, 8);
-    assert_eq!(rt; finds(&rt, alloc, &all, &one, &made(2, 0, &[7], &[1]))?, 5);
-    assert_eq!(rt; finds(&rt, alloc, &all, &one, &made(2, 0, &[7], &[]))?, 6);
-    let seven = heads(alloc, 7)?;
-    assert_eq!(rt;
-        finds(&rt, alloc, &all, &seven, &made(1, 6, &[], &[0, 2, 3, 5, 6]))?,
-        8
-    );
-    assert_eq!(rt;
-        finds(&rt, alloc, &all, &seven, &made(1, 6, &[], &[0, 2, 3, 6]))?,
-        6
-    );
-    Ok(())
+    let rows = [
+        (made(1, 127, &[], &signers), 8),
+        (made(1, 127, &[], &signers[1..]), 6),
+    ];
+    expect_found(&rt, rt.alloc(), &heads(rt.alloc(), 128)?, &rows)
+}
+
+#[test]
+fn committees_of_one_and_seven(rt: HostRuntime) -> Result<(), Fail> {
+    let of_one = [
+        (made(2, 0, &[7], &[0]), 8),
+        (made(2, 0, &[7], &[1]), 5),
+        (made(2, 0, &[7], &[]), 6),
+    ];
+    expect_found(&rt, rt.alloc(), &heads(rt.alloc(), 1)?, &of_one)?;
+    let of_seven = [
+        (made(1, 6, &[], &[0, 2, 3, 5, 6]), 8),
+        (made(1, 6, &[], &[0, 2, 3, 6]), 6),
+    ];
+    expect_found(&rt, rt.alloc(), &heads(rt.alloc(), 7)?, &of_seven)
 }
 
 // Members 0 to 3 weigh 5, 1, 1 and 1: a quorum weighs 6, and any number of parents from one to four passes.
 #[test]
 fn weights_decide_in_version_two(rt: HostRuntime) -> Result<(), Fail> {
-    let alloc = rt.alloc();
-    let all = heads(alloc, 128)?;
-    let weighted = committee_of(alloc, 4, Version::Two, &[5, 1, 1, 1])?;
-    assert_eq!(rt;
-        finds(&rt, alloc, &all, &weighted, &made(1, 1, &[], &[0, 1]))?,
-        8
-    );
-    assert_eq!(rt;
-        finds(&rt, alloc, &all, &weighted, &made(1, 1, &[], &[1, 2, 3]))?,
-        6
-    );
-    assert_eq!(rt;
-        finds(&rt, alloc, &all, &weighted, &made(1, 1, &[], &[0]))?,
-        6
-    );
-    assert_eq!(rt;
-        finds(&rt, alloc, &all, &weighted, &made(2, 1, &[9], &[0, 1]))?,
-        8
-    );
-    assert_eq!(rt;
-        finds(&rt, alloc, &all, &weighted, &made(2, 1, &[], &[0, 1]))?,
-        3
-    );
-    assert_eq!(rt;
-        finds(
-            &rt,
-            alloc,
-            &all,
-            &weighted,
-            &made(2, 1, &[1, 2, 3, 4, 5], &[0, 1])
-        )?,
-        3
-    );
-    Ok(())
+    let weighted = committee_of(rt.alloc(), 4, Version::Two, &[5, 1, 1, 1])?;
+    let rows: [(Row, u8); 6] = [
+        (made(1, 1, &[], &[0, 1]), 8),
+        (made(1, 1, &[], &[1, 2, 3]), 6),
+        (made(1, 1, &[], &[0]), 6),
+        (made(2, 1, &[9], &[0, 1]), 8),
+        (made(2, 1, &[], &[0, 1]), 3),
+        (made(2, 1, &[1, 2, 3, 4, 5], &[0, 1]), 3),
+    ];
+    expect_found(&rt, rt.alloc(), &weighted, &rows)
 }
 
 #[test]
@@ -215,42 +192,53 @@ fn no_certificate(rt: HostRuntime) -> Result<(), Fail> {
     Ok(())
 }
 
+// A certificate of round 1 by member 0, sealed by these members of 128.
+fn of_round_one(rt: &impl Abort, alloc: Global, signers: &[u8]) -> Result<Vec<u8>, Fail> {
+    let all = heads(alloc, 128)?;
+    Ok(sealed(rt, alloc, &all, &made(1, 0, &[], signers))?)
+}
+
 #[test]
 fn a_checked_certificate(rt: HostRuntime) -> Result<(), Fail> {
-    let alloc = rt.alloc();
-    let all = heads(alloc, 128)?;
-    let bytes = sealed(&rt, alloc, &all, &made(1, 0, &[], &[0, 1, 2]))?;
-    let Verdict::Good(checked) = check(alloc, &heads(alloc, 4)?, &bytes)? else {
+    let bytes = of_round_one(&rt, rt.alloc(), &[0, 1, 2])?;
+    let Verdict::Good(checked) = check(rt.alloc(), &heads(rt.alloc(), 4)?, &bytes)? else {
         panic!(rt; "broken");
     };
     let id = Digest32::parse_hex(
         b"afb203aeddb54bba05c780118d206fa2d2a6dc339c542173499c03db2eb8b1c9",
     );
-    assert_eq!(rt; Some(checked.id()), id);
+    assert!(rt; Some(checked.id()) == id);
     assert!(rt; checked.header().author() == 0 && checked.header().round() == 1);
-    assert_eq!(rt; checked.cert().tags().len(), 3);
+    assert!(rt; checked.cert().tags().len() == 3);
     assert!(rt; checked.into_header().parents().is_empty());
     Ok(())
 }
 
-// Sealed by members 0 and 1 alone, and sealed by three with one bit of a tag turned: 3,000 payloads, in turn.
+// 3,000 payloads, these two in turn.
+fn in_turn<'a>(
+    alloc: Global,
+    few: &'a [u8],
+    turned: &'a [u8],
+) -> Result<Vec<&'a [u8]>, AllocError> {
+    let mut payloads = Vec::new(alloc);
+    for _ in 0..1_500 {
+        payloads.push(few)?;
+        payloads.push(turned)?;
+    }
+    Ok(payloads)
+}
+
+// Sealed by members 0 and 1 alone, and sealed by three with one bit of a tag turned.
 #[test]
 fn many_in_their_order(rt: HostRuntime) -> Result<(), Fail> {
-    let alloc = rt.alloc();
-    let all = heads(alloc, 128)?;
-    let four = heads(alloc, 4)?;
-    let few = sealed(&rt, alloc, &all, &made(1, 0, &[], &[0, 1]))?;
-    let mut turned = sealed(&rt, alloc, &all, &made(1, 1, &[], &[0, 1, 2]))?;
+    let few = of_round_one(&rt, rt.alloc(), &[0, 1])?;
+    let mut turned = of_round_one(&rt, rt.alloc(), &[0, 1, 2])?;
     if let Some(last) = turned.last_mut() {
         *last ^= 1;
     }
-    let mut payloads = Vec::new(alloc);
-    for _ in 0..1_500 {
-        payloads.push(few.as_slice())?;
-        payloads.push(turned.as_slice())?;
-    }
-    let verdicts = check_all(&rt, alloc, &four, &payloads)?;
-    assert_eq!(rt; verdicts.len(), 3_000);
+    let payloads = in_turn(rt.alloc(), &few, &turned)?;
+    let verdicts = check_all(&rt, rt.alloc(), &heads(rt.alloc(), 4)?, &payloads)?;
+    assert!(rt; verdicts.len() == 3_000);
     for (j, verdict) in verdicts.iter().enumerate() {
         assert_eq!(rt; number(verdict), if j % 2 == 0 { 6 } else { 7 });
     }
