@@ -2,6 +2,7 @@ ghost use Rattle.std.specs.Prelude.{◌<◌};
 
 use super::*;
 use std::alloc::{AllocError, Global};
+use std::process::Abort;
 use std::test::*;
 
 /// Account 1 pays 30 to account 2; both are declared for writing.
@@ -54,20 +55,20 @@ const SPLIT: [u8; 60] = [
 ];
 
 /// `PAY` with one byte changed.
-fn changed(at: usize, byte: u8) -> [u8; 52]
-    requires { at < 52 }
-{
+fn changed(at: usize, byte: u8) -> [u8; 52] {
     let mut text = PAY;
-    text[at] = byte;
+    if let Some(it) = text.get_mut(at) {
+        *it = byte;
+    }
     text
 }
 
 /// `SPLIT` with one byte changed.
-fn split_changed(at: usize, byte: u8) -> [u8; 60]
-    requires { at < 60 }
-{
+fn split_changed(at: usize, byte: u8) -> [u8; 60] {
     let mut text = SPLIT;
-    text[at] = byte;
+    if let Some(it) = text.get_mut(at) {
+        *it = byte;
+    }
     text
 }
 
@@ -112,37 +113,45 @@ fn account(id: u64, writable: bool) -> Declared {
     Declared { id, writable }
 }
 
-#[test]
-fn pay_is_read_and_written(rt: HostRuntime) -> Result<(), Fail> {
-    let tx = Tx::decode(&PAY).ok_or("the bytes are a payment")?;
-    let both = [
-        Declared {
-            id: 1,
-            writable: true,
-        },
-        Declared {
-            id: 2,
-            writable: true,
-        },
-    ];
-    let declared = tx.declared();
-    assert_eq!(rt; declared.ids(), [1, 2].as_slice());
-    assert!(rt; declared.writes(1) && declared.writes(2));
-    assert_eq!(rt; tx.seq(), 0);
-    assert_eq!(rt; tx.from(), 1);
-    assert!(rt; matches!(tx.body(), Body::Pay { to: 2, amount: 30 }));
-    assert_eq!(rt; tx.encode(rt.alloc())?.as_slice(), PAY.as_slice());
-    let built = made(&both, 0, 1, Body::Pay { to: 2, amount: 30 }).ok_or("it is a payment")?;
-    assert_eq!(rt; built.encode(rt.alloc())?.as_slice(), PAY.as_slice());
-    assert_eq!(rt; built.copy().encode(rt.alloc())?.as_slice(), PAY.as_slice());
+// This transaction and a copy of it are written so.
+fn expect_bytes(rt: &impl Abort, alloc: Global, tx: &Tx, text: &[u8]) -> Result<(), Fail> {
+    assert!(rt; tx.encode(alloc)?.as_slice() == text);
+    assert!(rt; tx.copy().encode(alloc)?.as_slice() == text);
+    Ok(())
+}
+
+// A transaction with one byte more or one byte less is none.
+fn expect_one_length(rt: &impl Abort, alloc: Global, text: &[u8]) -> Result<(), Fail> {
+    let mut other = Vec::from_slice(alloc, text)?;
+    other.push(0)?;
+    assert!(rt; Tx::decode(&other).is_none());
+    let _ = other.pop();
+    let _ = other.pop();
+    assert!(rt; Tx::decode(&other).is_none());
     Ok(())
 }
 
 #[test]
-fn pay_if_is_read_and_written(rt: HostRuntime) -> Result<(), Fail> {
+fn pay_is_read(rt: HostRuntime) -> Result<(), Fail> {
+    let tx = Tx::decode(&PAY).ok_or("the bytes are a payment")?;
+    assert!(rt; tx.declared().ids() == [1, 2].as_slice());
+    assert!(rt; tx.declared().writes(1) && tx.declared().writes(2));
+    assert!(rt; tx.seq() == 0 && tx.from() == 1);
+    assert!(rt; matches!(tx.body(), Body::Pay { to: 2, amount: 30 }));
+    expect_bytes(&rt, rt.alloc(), &tx, &PAY)
+}
+
+#[test]
+fn pay_is_made(rt: HostRuntime) -> Result<(), Fail> {
+    let both = [account(1, true), account(2, true)];
+    let tx = made(&both, 0, 1, Body::Pay { to: 2, amount: 30 }).ok_or("it is a payment")?;
+    expect_bytes(&rt, rt.alloc(), &tx, &PAY)
+}
+
+#[test]
+fn pay_if_is_read(rt: HostRuntime) -> Result<(), Fail> {
     let tx = Tx::decode(&PAY_IF).ok_or("the bytes are a payment")?;
-    assert_eq!(rt; tx.seq(), 9223372036854775814);
-    assert_eq!(rt; tx.from(), 5);
+    assert!(rt; tx.seq() == 9223372036854775814 && tx.from() == 5);
     let wanted = matches!(
         tx.body(),
         Body::PayIf {
@@ -153,85 +162,83 @@ fn pay_if_is_read_and_written(rt: HostRuntime) -> Result<(), Fail> {
         }
     );
     assert!(rt; wanted);
+    expect_bytes(&rt, rt.alloc(), &tx, &PAY_IF)
+}
+
+#[test]
+fn a_guard_is_declared_for_reading(rt: HostRuntime) -> Result<(), Fail> {
+    let tx = Tx::decode(&PAY_IF).ok_or("the bytes are a payment")?;
     let declared = tx.declared();
     assert!(rt; declared.writes(258) && !declared.writes(7));
     assert!(rt; declared.declares(7) && !declared.declares(2));
-    assert_eq!(rt; declared.declared_at(258), Some(2));
-    assert_eq!(rt; declared.writable_at(7), None);
-    assert_eq!(rt; tx.encode(rt.alloc())?.as_slice(), PAY_IF.as_slice());
+    assert!(rt; declared.declared_at(258) == Some(2));
+    assert!(rt; declared.writable_at(7).is_none());
     Ok(())
 }
 
 #[test]
-fn sweep_is_read_and_written(rt: HostRuntime) -> Result<(), Fail> {
+fn sweep_is_read(rt: HostRuntime) -> Result<(), Fail> {
     let tx = Tx::decode(&SWEEP).ok_or("the bytes are a sweep")?;
-    assert_eq!(rt; tx.from(), 1);
+    assert!(rt; tx.from() == 1);
     assert!(rt; matches!(tx.body(), Body::Sweep { to: 2, keep: 7 }));
-    assert_eq!(rt; tx.encode(rt.alloc())?.as_slice(), SWEEP.as_slice());
-    Ok(())
+    expect_bytes(&rt, rt.alloc(), &tx, &SWEEP)
 }
 
+// What `SPLIT` pays.
+const PAID: [Payment; 2] = [
+    Payment { to: 2, amount: 5 },
+    Payment {
+        to: 4,
+        amount: u64::MAX,
+    },
+];
+
 #[test]
-fn split_is_read_and_written(rt: HostRuntime) -> Result<(), Fail> {
+fn split_is_read(rt: HostRuntime) -> Result<(), Fail> {
     let tx = Tx::decode(&SPLIT).ok_or("the bytes are a split")?;
-    let both = [
-        Payment { to: 2, amount: 5 },
-        Payment {
-            to: 4,
-            amount: u64::MAX,
-        },
-    ];
     let Body::Split { payments } = tx.body() else {
         return Err("the kind is that of a split".into());
     };
-    assert_eq!(rt; payments.as_slice(), both.as_slice());
-    assert_eq!(rt; tx.encode(rt.alloc())?.as_slice(), SPLIT.as_slice());
-    let declared = [Declared {
-        id: 3,
-        writable: true,
-    }];
-    let body = split(&both).ok_or("two are not too many")?;
-    let built = made(&declared, 9, 3, body).ok_or("it is a split")?;
-    assert_eq!(rt; built.encode(rt.alloc())?.as_slice(), SPLIT.as_slice());
-    assert_eq!(rt;
-        built.copy().encode(rt.alloc())?.as_slice(),
-        SPLIT.as_slice()
-    );
-    Ok(())
+    assert!(rt; payments.as_slice() == PAID.as_slice());
+    expect_bytes(&rt, rt.alloc(), &tx, &SPLIT)
+}
+
+#[test]
+fn split_is_made(rt: HostRuntime) -> Result<(), Fail> {
+    let body = split(&PAID).ok_or("two are not too many")?;
+    let tx = made(&[account(3, true)], 9, 3, body).ok_or("it is a split")?;
+    expect_bytes(&rt, rt.alloc(), &tx, &SPLIT)
 }
 
 #[test]
 fn each_fault_of_a_sweep_is_refused(rt: HostRuntime) -> Result<(), Fail> {
-    assert!(rt; Tx::decode(&SWEEP[..51]).is_none());
-    let mut longer = Vec::from_slice(rt.alloc(), &SWEEP)?;
-    longer.push(0)?;
-    assert!(rt; Tx::decode(&longer).is_none());
     let mut to_itself = SWEEP;
     to_itself[43] = 1;
     assert!(rt; Tx::decode(&to_itself).is_none());
-    Ok(())
+    expect_one_length(&rt, rt.alloc(), &SWEEP)
 }
 
 #[test]
 fn each_fault_of_a_split_is_refused(rt: HostRuntime) -> Result<(), Fail> {
     let faults = [
-        ("one payment counted of two", split_changed(27, 1)),
-        ("three counted of two", split_changed(27, 3)),
-        ("equal receivers", split_changed(51, 2)),
-        ("descending receivers", split_changed(51, 1)),
-        ("first receiver is sender", split_changed(35, 3)),
-        ("last receiver is sender", split_changed(51, 3)),
+        ("one payment counted of two", 27, 1),
+        ("three counted of two", 27, 3),
+        ("equal receivers", 51, 2),
+        ("descending receivers", 51, 1),
+        ("first receiver is sender", 35, 3),
+        ("last receiver is sender", 51, 3),
     ];
-    for (name, text) in &faults {
-        assert!(rt; Tx::decode(text).is_none(), "{name}");
+    for (name, at, byte) in faults {
+        assert!(rt; Tx::decode(&split_changed(at, byte)).is_none(), "{name}");
     }
-    assert!(rt; Tx::decode(&SPLIT[..59]).is_none());
-    let mut longer = Vec::from_slice(rt.alloc(), &SPLIT)?;
-    longer.push(0)?;
-    assert!(rt; Tx::decode(&longer).is_none());
+    expect_one_length(&rt, rt.alloc(), &SPLIT)
+}
+
+#[test]
+fn a_split_has_at_most_six_receivers(rt: HostRuntime) -> Result<(), Fail> {
     for (count, is_some) in [(0, false), (1, true), (6, true), (7, false)] {
         let text = splitting(rt.alloc(), count)?;
-        assert_eq!(rt; Tx::decode(&text).is_some(), is_some, "{count} receivers");
+        assert!(rt; Tx::decode(&text).is_some() == is_some, "{count} receivers");
     }
     Ok(())
 }
@@ -239,72 +246,90 @@ fn each_fault_of_a_split_is_refused(rt: HostRuntime) -> Result<(), Fail> {
 #[test]
 fn each_fault_is_refused(rt: HostRuntime) -> Result<(), Fail> {
     let faults = [
-        ("kind 0", changed(0, 0)),
-        ("kind 5", changed(0, 5)),
-        ("kind 2 with too few fields", changed(0, 2)),
-        ("mode 2", changed(2, 2)),
-        ("equal ids", changed(19, 1)),
-        ("descending ids", changed(10, 3)),
-        ("receiver is sender", changed(43, 1)),
+        ("kind 0", 0, 0),
+        ("kind 5", 0, 5),
+        ("kind 2 with too few fields", 0, 2),
+        ("mode 2", 2, 2),
+        ("equal ids", 19, 1),
+        ("descending ids", 10, 3),
+        ("receiver is sender", 43, 1),
     ];
-    for (name, text) in &faults {
-        assert!(rt; Tx::decode(text).is_none(), "{name}");
+    for (name, at, byte) in faults {
+        assert!(rt; Tx::decode(&changed(at, byte)).is_none(), "{name}");
     }
     assert!(rt; Tx::decode(&[]).is_none());
-    assert!(rt; Tx::decode(&PAY[..51]).is_none());
-    let mut longer = Vec::from_slice(rt.alloc(), &PAY)?;
-    longer.push(0)?;
-    assert!(rt; Tx::decode(&longer).is_none());
+    expect_one_length(&rt, rt.alloc(), &PAY)
+}
+
+#[test]
+fn at_most_eight_accounts_are_declared(rt: HostRuntime) -> Result<(), Fail> {
     for (count, is_some) in [(0, false), (1, true), (8, true), (9, false)] {
         let text = declaring(rt.alloc(), count)?;
-        assert_eq!(rt; Tx::decode(&text).is_some(), is_some, "{count} declared");
+        assert!(rt; Tx::decode(&text).is_some() == is_some, "{count} declared");
     }
     Ok(())
+}
+
+// Where the texts of this batch lie.
+fn slices_of(alloc: Global, bytes: &[u8]) -> Result<Vec<Slice>, Fail> {
+    Ok(read_batch(alloc, bytes)?.ok_or("it is a batch")?)
 }
 
 #[test]
 fn a_batch_is_cut(rt: HostRuntime) -> Result<(), Fail> {
     let mut payload = vec![in rt.alloc(); 0, 1, 0, 52]?;
     payload.extend_from_slice(&PAY)?;
-    assert_eq!(rt; payload.len(), 56);
-    let slices = read_batch(rt.alloc(), &payload)?.ok_or("it is a batch")?;
     let slice = Slice { start: 4, len: 52 };
-    assert_eq!(rt; slices.as_slice(), [slice].as_slice());
-    assert_eq!(rt; slice.of(&payload), PAY.as_slice());
+    assert!(rt; slices_of(rt.alloc(), &payload)?.as_slice() == [slice].as_slice());
+    assert!(rt; payload.len() == 56);
+    assert!(rt; slice.of(&payload) == PAY.as_slice());
     Ok(())
 }
 
 #[test]
-fn batches_at_their_bounds(rt: HostRuntime) -> Result<(), Fail> {
-    let none: [Slice; 0] = [];
-    let slices = read_batch(rt.alloc(), &[0, 0])?.ok_or("it is a batch of no texts")?;
-    assert_eq!(rt; slices.as_slice(), none.as_slice());
-    let slices = read_batch(rt.alloc(), &[0, 2, 0, 0, 0, 1, 9])?.ok_or("it is a batch of two")?;
+fn batches_of_short_texts(rt: HostRuntime) -> Result<(), Fail> {
+    assert!(rt; slices_of(rt.alloc(), &[0, 0])?.is_empty());
     let two = [Slice { start: 4, len: 0 }, Slice { start: 6, len: 1 }];
-    assert_eq!(rt; slices.as_slice(), two.as_slice());
-    assert!(rt; read_batch(rt.alloc(), &[])?.is_none());
-    assert!(rt; read_batch(rt.alloc(), &[0])?.is_none());
-    assert!(rt; read_batch(rt.alloc(), &[0, 0, 9])?.is_none());
-    assert!(rt; read_batch(rt.alloc(), &[0, 1])?.is_none());
-    assert!(rt; read_batch(rt.alloc(), &[0, 1, 0, 2, 9])?.is_none());
-    assert!(rt; read_batch(rt.alloc(), &[0, 1, 0, 1, 9, 9])?.is_none());
-    assert!(rt; read_batch(rt.alloc(), &[255, 255, 0, 0])?.is_none());
+    let slices = slices_of(rt.alloc(), &[0, 2, 0, 0, 0, 1, 9])?;
+    assert!(rt; slices.as_slice() == two.as_slice());
     Ok(())
 }
 
-// Parts that break a rule of the grammar make no transaction.
 #[test]
-fn parts_of_no_transaction(rt: HostRuntime) -> Result<(), Fail> {
+fn each_fault_of_a_batch_is_refused(rt: HostRuntime) -> Result<(), Fail> {
+    for bytes in [
+        b"".as_slice(),
+        b"\x00",
+        b"\x00\x00\x09",
+        b"\x00\x01",
+        b"\x00\x01\x00\x02\x09",
+        b"\x00\x01\x00\x01\x09\x09",
+        b"\xff\xff\x00\x00",
+    ] {
+        assert!(rt; read_batch(rt.alloc(), bytes)?.is_none());
+    }
+    Ok(())
+}
+
+fn pay_two() -> Body {
+    Body::Pay { to: 2, amount: 0 }
+}
+
+// Declared accounts that break a rule of the grammar make no transaction.
+#[test]
+fn declared_accounts_of_no_transaction(rt: HostRuntime) {
+    assert!(rt; made(&[account(1, true), account(2, true)], 0, 1, pay_two()).is_some());
+    assert!(rt; made(&[], 0, 1, pay_two()).is_none());
+    assert!(rt; made(&[account(1, true), account(1, false)], 0, 1, pay_two()).is_none());
+    assert!(rt; made(&[account(2, true), account(1, true)], 0, 1, pay_two()).is_none());
+    assert!(rt; Declarations::new(&[account(1, true); 9]).is_none());
+}
+
+// Nobody pays itself.
+#[test]
+fn senders_of_no_transaction(rt: HostRuntime) {
     let two = [account(1, true), account(2, true)];
-    assert!(rt; made(&two, 0, 1, Body::Pay { to: 2, amount: 0 }).is_some());
-    assert!(rt; made(&[], 0, 1, Body::Pay { to: 2, amount: 0 }).is_none());
-    let nine = [account(1, true); 9];
-    assert!(rt; Declarations::new(&nine).is_none());
-    let equal = [account(1, true), account(1, false)];
-    assert!(rt; made(&equal, 0, 1, Body::Pay { to: 2, amount: 0 }).is_none());
-    let turned = [account(2, true), account(1, true)];
-    assert!(rt; made(&turned, 0, 1, Body::Pay { to: 2, amount: 0 }).is_none());
-    assert!(rt; made(&two, 0, 2, Body::Pay { to: 2, amount: 0 }).is_none());
+    assert!(rt; made(&two, 0, 2, pay_two()).is_none());
     assert!(rt; made(&two, 0, 2, Body::Sweep { to: 2, keep: 0 }).is_none());
     let own = Body::PayIf {
         to: 2,
@@ -313,26 +338,25 @@ fn parts_of_no_transaction(rt: HostRuntime) -> Result<(), Fail> {
         min: 0,
     };
     assert!(rt; made(&two, 0, 2, own).is_none());
-    Ok(())
+}
+
+// Whether this account can pay so many, where 1 and 2 are declared.
+fn can_split(from: u64, payments: &[Payment]) -> Result<bool, Fail> {
+    let body = split(payments).ok_or("they are not too many")?;
+    Ok(made(&[account(1, true), account(2, true)], 0, from, body).is_some())
 }
 
 // Payments that no split can make.
 #[test]
 fn parts_of_no_split(rt: HostRuntime) -> Result<(), Fail> {
-    let two = [account(1, true), account(2, true)];
     let to_two = Payment { to: 2, amount: 9 };
     let to_three = Payment { to: 3, amount: 9 };
     assert!(rt; Payments::new(&[to_two; 7]).is_none());
-    let none = split(&[]).ok_or("none are not too many")?;
-    assert!(rt; made(&two, 0, 1, none).is_none());
-    let equal = split(&[to_two, to_two]).ok_or("two are not too many")?;
-    assert!(rt; made(&two, 0, 1, equal).is_none());
-    let turned = split(&[to_three, to_two]).ok_or("two are not too many")?;
-    assert!(rt; made(&two, 0, 1, turned).is_none());
-    let good = split(&[to_two, to_three]).ok_or("two are not too many")?;
-    assert!(rt; made(&two, 0, 1, good).is_some());
-    let own = split(&[to_two, to_three]).ok_or("two are not too many")?;
-    assert!(rt; made(&two, 0, 3, own).is_none());
+    assert!(rt; !can_split(1, &[])?);
+    assert!(rt; !can_split(1, &[to_two, to_two])?);
+    assert!(rt; !can_split(1, &[to_three, to_two])?);
+    assert!(rt; can_split(1, &[to_two, to_three])?);
+    assert!(rt; !can_split(3, &[to_two, to_three])?);
     Ok(())
 }
 
@@ -343,9 +367,8 @@ fn a_batch_is_written(rt: HostRuntime) -> Result<(), Fail> {
     texts.push(Vec::new(rt.alloc()))?;
     texts.push(Vec::from_slice(rt.alloc(), &[9, 8, 7])?)?;
     let bytes = write_batch(rt.alloc(), &texts)?;
-    assert_eq!(rt; bytes.as_slice(), [0, 2, 0, 0, 0, 3, 9, 8, 7].as_slice());
-    let slices = read_batch(rt.alloc(), &bytes)?.ok_or("it is a batch")?;
+    assert!(rt; bytes.as_slice() == [0, 2, 0, 0, 0, 3, 9, 8, 7].as_slice());
     let wanted = [Slice { start: 4, len: 0 }, Slice { start: 6, len: 3 }];
-    assert_eq!(rt; slices.as_slice(), wanted.as_slice());
+    assert!(rt; slices_of(rt.alloc(), &bytes)?.as_slice() == wanted.as_slice());
     Ok(())
 }
