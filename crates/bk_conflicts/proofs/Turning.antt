@@ -148,9 +148,9 @@ grown_here f q row j s l e = ap (λ (k : ℕ). turned f q s ++ replicate k q) (t
 pub grown_else : (f : ℕ → List ℕ) (q : ℕ) (row : List ℕ) (j s p : ℕ) → j < length row → get_or row j 0 ≡ s → p ≢ s → grown f q row (suc j) p ≡ grown f q row j p
 grown_else f q row j s p l e n = ap (λ (k : ℕ). turned f q p ++ replicate k q) (times_more p row j l ∙ (ap (λ (x : ℕ). times p (take j row) + cond (eqb x p) 1 0) e ∙ (ap (λ (k : ℕ). times p (take j row) + k) (miss s p (λ z. n (sym z))) ∙ (let z : times p (take j row) + 0 ≡ times p (take j row) = omega arith in z))))
 
-pub grown_none : (f : ℕ → List ℕ) (q : ℕ) (row : List ℕ) (p : ℕ) → turned f q p ≡ grown f q row 0 p
+pub grown_none : (f : ℕ → List ℕ) (q : ℕ) (xs : List ℕ) (p : ℕ) → turned f q p ≡ grown f q xs 0 p
 unfolding times
-grown_none f q row p = sym (append-nil (turned f q p))
+grown_none f q xs p = sym (append-nil (turned f q p))
 
 pub grown_all : (f : ℕ → List ℕ) (q p : ℕ) → grown f q (f q) (length (f q)) p ≡ turned f (suc q) p
 unfolding turned

@@ -6,6 +6,8 @@ use crate::words::WordRef;
 use bk_frames::{Row, Version};
 use bk_rules::State;
 use bk_tx::{Body, Declarations, Declared, Tx};
+use std::alloc::{AllocError, Global};
+use std::process::Abort;
 use std::test::Fail;
 
 // Places in each generated list.
@@ -87,43 +89,65 @@ fn waits(plan: &Plan, place: u32) -> Option<(u32, &[u32])> {
     }
 }
 
+// The places wait so, in their order.
+fn expect_waits(rt: &impl Abort, plan: &Plan, wanted: &[(u32, &[u32])]) {
+    assert!(rt; plan.len() == wanted.len());
+    for (place, each) in wanted.iter().enumerate() {
+        assert!(rt; waits(plan, u32::try_from(place).unwrap_or(u32::MAX)) == Some(*each));
+    }
+}
+
+// Places 1 and 2 read account 5, which the places before and after them write.
+fn four(alloc: Global) -> Result<Vec<Option<Tx>>, Fail> {
+    let mut txs = Vec::new(alloc);
+    txs.push(pay(1, 5)?)?;
+    txs.push(pay_if(&[writing(2), writing(3), reading(5)], 2, 3)?)?;
+    txs.push(pay_if(&[writing(4), reading(5), writing(6)], 4, 6)?)?;
+    txs.push(pay(5, 2)?)?;
+    Ok(txs)
+}
+
 #[test]
 fn four_conflicts(rt: HostRuntime) -> Result<(), Fail> {
+    let wanted: [(u32, &[u32]); 4] = [(0, &[1, 2]), (1, &[3]), (1, &[3]), (2, &[])];
     for version in [Version::One, Version::Two] {
-        let mut txs = Vec::new(rt.alloc());
-        txs.push(pay(1, 5)?)?;
-        txs.push(pay_if(&[writing(2), writing(3), reading(5)], 2, 3)?)?;
-        txs.push(pay_if(&[writing(4), reading(5), writing(6)], 4, 6)?)?;
-        txs.push(pay(5, 2)?)?;
-        let plan = plan_of(&rt, version, txs)?;
-        assert_eq!(rt; plan.len(), 4);
-        assert!(rt; waits(&plan, 0) == Some((0, &[1, 2])));
-        assert!(rt; waits(&plan, 1) == Some((1, &[3])));
-        assert!(rt; waits(&plan, 2) == Some((1, &[3])));
-        assert!(rt; waits(&plan, 3) == Some((2, &[])));
+        let plan = plan_of(&rt, version, four(rt.alloc())?)?;
+        expect_waits(&rt, &plan, &wanted);
     }
     Ok(())
 }
 
-#[test]
-fn readers_between_writers(rt: HostRuntime) -> Result<(), Fail> {
-    let mut txs = Vec::new(rt.alloc());
+// Places 1 and 3 read account 1, which 0, 4 and 5 write. There is no transaction at place 2.
+fn six(alloc: Global) -> Result<Vec<Option<Tx>>, Fail> {
+    let mut txs = Vec::new(alloc);
     txs.push(look(writing(1))?)?;
     txs.push(look(reading(1))?)?;
     txs.push(None)?;
     txs.push(look(reading(1))?)?;
     txs.push(look(writing(1))?)?;
     txs.push(look(writing(1))?)?;
-    let plan = plan_of(&rt, Version::One, txs)?;
-    assert!(rt; waits(&plan, 0) == Some((0, &[1, 3])));
-    assert!(rt; waits(&plan, 1) == Some((1, &[4])));
-    assert!(rt; waits(&plan, 2) == Some((0, &[])));
-    assert!(rt; waits(&plan, 3) == Some((1, &[4])));
-    assert!(rt; waits(&plan, 4) == Some((2, &[5])));
-    assert!(rt; waits(&plan, 5) == Some((1, &[])));
-    assert!(rt; plan.tx(2).is_none());
-    assert!(rt; plan.tx(6).is_none());
-    assert!(rt; plan.tx(4).is_some());
+    Ok(txs)
+}
+
+#[test]
+fn readers_between_writers(rt: HostRuntime) -> Result<(), Fail> {
+    let wanted: [(u32, &[u32]); 6] = [
+        (0, &[1, 3]),
+        (1, &[4]),
+        (0, &[]),
+        (1, &[4]),
+        (2, &[5]),
+        (1, &[]),
+    ];
+    let plan = plan_of(&rt, Version::One, six(rt.alloc())?)?;
+    expect_waits(&rt, &plan, &wanted);
+    Ok(())
+}
+
+#[test]
+fn transactions_of_places(rt: HostRuntime) -> Result<(), Fail> {
+    let plan = plan_of(&rt, Version::One, six(rt.alloc())?)?;
+    assert!(rt; plan.tx(2).is_none() && plan.tx(6).is_none() && plan.tx(4).is_some());
     Ok(())
 }
 
@@ -133,60 +157,62 @@ fn edge_met_twice(rt: HostRuntime) -> Result<(), Fail> {
     let mut txs = Vec::new(rt.alloc());
     txs.push(pay(1, 2)?)?;
     txs.push(pay(2, 1)?)?;
-    let plan = plan_of(&rt, Version::One, txs)?;
-    assert!(rt; waits(&plan, 0) == Some((0, &[1])));
-    assert!(rt; waits(&plan, 1) == Some((1, &[])));
+    let wanted: [(u32, &[u32]); 2] = [(0, &[1]), (1, &[])];
+    expect_waits(&rt, &plan_of(&rt, Version::One, txs)?, &wanted);
     Ok(())
+}
+
+// Account 8, which is absent, is written by both.
+fn of_absent(alloc: Global) -> Result<Vec<Option<Tx>>, Fail> {
+    let mut txs = Vec::new(alloc);
+    txs.push(tx(&[writing(6), writing(8)], 6, Body::Pay { to: 8, amount: 1 })?)?;
+    txs.push(tx(&[reading(3), writing(8)], 8, Body::Pay { to: 3, amount: 1 })?)?;
+    Ok(txs)
+}
+
+// The place has these words.
+fn expect_words(rt: &impl Abort, plan: &Plan, place: u32, wanted: &[WordRef]) {
+    assert!(rt; (place as usize) < plan.len());
+    assert!(rt; plan.words_of(place) == wanted);
 }
 
 // An account that is absent has words, and is shared, in version Two alone.
 #[test]
-fn absent_accounts(rt: HostRuntime) -> Result<(), Fail> {
-    for version in [Version::One, Version::Two] {
-        let mut txs = Vec::new(rt.alloc());
-        txs.push(tx(&[writing(6), writing(8)], 6, Body::Pay { to: 8, amount: 1 })?)?;
-        txs.push(tx(&[reading(3), writing(8)], 8, Body::Pay { to: 3, amount: 1 })?)?;
-        let plan = plan_of(&rt, version, txs)?;
-        let slots = plan.accounts().len();
-        if plan.len() < 2 {
-            return Err("two places".into());
-        }
-        match version {
-            Version::One => {
-                assert_eq!(rt; slots, 6);
-                assert!(rt; plan.words_of(0) == [word(10, true), word(11, true)].as_slice());
-                assert!(rt; plan.words_of(1) == [word(4, false), word(5, false)].as_slice());
-                assert!(rt; waits(&plan, 0) == Some((0, &[])));
-            }
-            Version::Two => {
-                assert_eq!(rt; slots, 7);
-                let first = [
-                    word(10, true),
-                    word(11, true),
-                    word(12, true),
-                    word(13, true),
-                ];
-                let second = [
-                    word(4, false),
-                    word(5, false),
-                    word(12, true),
-                    word(13, true),
-                ];
-                assert!(rt; plan.words_of(0) == first.as_slice());
-                assert!(rt; plan.words_of(1) == second.as_slice());
-                assert!(rt; waits(&plan, 0) == Some((0, &[1])));
-            }
-        }
-        assert!(rt; plan.version() == version);
-    }
+fn absent_accounts_in_version_one(rt: HostRuntime) -> Result<(), Fail> {
+    let plan = plan_of(&rt, Version::One, of_absent(rt.alloc())?)?;
+    assert!(rt; plan.accounts().len() == 6 && plan.version() == Version::One);
+    expect_words(&rt, &plan, 0, &[word(10, true), word(11, true)]);
+    expect_words(&rt, &plan, 1, &[word(4, false), word(5, false)]);
+    expect_waits(&rt, &plan, &[(0, &[]), (0, &[])]);
+    Ok(())
+}
+
+#[test]
+fn absent_accounts_in_version_two(rt: HostRuntime) -> Result<(), Fail> {
+    let plan = plan_of(&rt, Version::Two, of_absent(rt.alloc())?)?;
+    assert!(rt; plan.accounts().len() == 7 && plan.version() == Version::Two);
+    let first = [
+        word(10, true),
+        word(11, true),
+        word(12, true),
+        word(13, true),
+    ];
+    let second = [
+        word(4, false),
+        word(5, false),
+        word(12, true),
+        word(13, true),
+    ];
+    expect_words(&rt, &plan, 0, &first);
+    expect_words(&rt, &plan, 1, &second);
+    expect_waits(&rt, &plan, &[(0, &[1]), (1, &[])]);
     Ok(())
 }
 
 #[test]
 fn no_places(rt: HostRuntime) -> Result<(), Fail> {
     let plan = plan_of(&rt, Version::Two, Vec::new(rt.alloc()))?;
-    assert!(rt; plan.is_empty());
-    assert_eq!(rt; plan.ids().len(), 6);
+    assert!(rt; plan.is_empty() && plan.ids().len() == 6);
     Ok(())
 }
 
@@ -324,28 +350,43 @@ fn words_are_declared(plan: &Plan, place: u32, words: &[WordRef]) -> bool {
     words.len() == slots
 }
 
+// The place waits for so many, and has two words of each account that it declares.
+fn expect_place(rt: &impl Abort, plan: &Plan, place: u32, before: u32) {
+    assert!(rt; (place as usize) < plan.len());
+    assert!(rt; plan.before(place) == before);
+    assert!(rt; words_are_declared(plan, place, plan.words_of(place)));
+}
+
+// The plan's edges, of which each is of a pair in conflict, order each such pair. How many they are.
+fn edges_as_pairs(rt: &impl Abort, plan: &Plan) -> u64 {
+    let direct = direct_by_plan(plan);
+    let pairs = direct_by_pairs(plan);
+    assert!(rt; all_earlier(&direct) == all_earlier(&pairs));
+    let mut edges = 0u64;
+    for q in 0..12 {
+        assert!(rt; direct[q] & pairs[q] == direct[q]);
+        expect_place(rt, plan, q as u32, direct[q].count_ones());
+        edges = edges.wrapping_add(u64::from(direct[q].count_ones()));
+    }
+    edges
+}
+
+fn by_chance(alloc: Global, chance: &mut Chance) -> Result<Vec<Option<Tx>>, AllocError> {
+    let mut txs = Vec::new(alloc);
+    for _ in 0..PLACES {
+        txs.push(chance.tx())?;
+    }
+    Ok(txs)
+}
+
 #[test]
 fn same_as_all_pairs(rt: HostRuntime) -> Result<(), Fail> {
     let mut chance = Chance { state: 7 };
     let mut edges = 0u64;
     for _ in 0..150 {
         for version in [Version::One, Version::Two] {
-            let mut txs = Vec::new(rt.alloc());
-            for _ in 0..PLACES {
-                txs.push(chance.tx())?;
-            }
-            let plan = plan_of(&rt, version, txs)?;
-            let direct = direct_by_plan(&plan);
-            let pairs = direct_by_pairs(&plan);
-            assert!(rt; all_earlier(&direct) == all_earlier(&pairs));
-            for q in 0..12 {
-                let place = q as u32;
-                assert_eq!(rt; direct[q] & pairs[q], direct[q]);
-                assert!(rt; (place as usize) < plan.len());
-                assert_eq!(rt; plan.before(place), direct[q].count_ones());
-                assert!(rt; words_are_declared(&plan, place, plan.words_of(place)));
-                edges = edges.wrapping_add(plan.before(place) as u64);
-            }
+            let plan = plan_of(&rt, version, by_chance(rt.alloc(), &mut chance)?)?;
+            edges = edges.wrapping_add(edges_as_pairs(&rt, &plan));
         }
     }
     assert!(rt; edges > 1000);
