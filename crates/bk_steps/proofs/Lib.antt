@@ -11,7 +11,7 @@ pub mod Judging
 mod Hands
 mod Reached
 mod Placed
-mod Settled
+pub mod Settled
 mod Seated
 mod Counted
 mod Noted

@@ -10,6 +10,7 @@ use bk_conflicts::Plan;
 use bk_frames::{Row, Version};
 use bk_rules::State;
 use bk_tx::{Body, Declarations, Declared, Tx};
+use std::process::Abort;
 use std::test::Fail;
 
 fn row(id: u64, balance: u64) -> Row
@@ -77,35 +78,74 @@ fn fault(rt: &HostRuntime, events: &[Event]) -> Result<Option<ScheduleFault>, Fa
     Ok(run_schedule(rt.alloc(), plan, state, 2, events).err())
 }
 
+// What each worker is told that claims a place, one after the other.
+fn expect_claims(
+    rt: &impl Abort,
+    machine: &mut Machine,
+    claims: &[(u64, u64, Result<(), Refused>)],
+) {
+    for (worker, place, told) in claims {
+        assert!(rt; machine.claim(*worker, *place) == *told, "{worker} {place}");
+    }
+}
+
 #[test]
 fn places_are_claimed_in_turn(rt: HostRuntime) -> Result<(), Fail> {
-    let mut machine = two_workers(&rt)?;
-    assert!(rt; machine.claim(2, 0) == Err(Refused::NotIdle));
-    assert!(rt; machine.claim(0, 7) == Err(Refused::NotReady));
-    assert!(rt; machine.claim(0, 1) == Err(Refused::NotReady));
-    assert!(rt; machine.claim(0, 0) == Ok(()));
-    assert!(rt; machine.claim(0, 1) == Err(Refused::NotIdle));
-    assert!(rt; machine.claim(0, 7) == Err(Refused::NotIdle));
-    assert!(rt; machine.claim(1, 0) == Err(Refused::NotReady));
-    assert!(rt; machine.claim(1, 1) == Err(Refused::NotReady));
-    assert!(rt; machine.claim(u64::MAX, u64::MAX) == Err(Refused::NotIdle));
+    let claims = [
+        (2, 0, Err(Refused::NotIdle)),
+        (0, 7, Err(Refused::NotReady)),
+        (0, 1, Err(Refused::NotReady)),
+        (0, 0, Ok(())),
+        (0, 1, Err(Refused::NotIdle)),
+        (0, 7, Err(Refused::NotIdle)),
+        (1, 0, Err(Refused::NotReady)),
+        (1, 1, Err(Refused::NotReady)),
+        (u64::MAX, u64::MAX, Err(Refused::NotIdle)),
+    ];
+    expect_claims(&rt, &mut two_workers(&rt)?, &claims);
     Ok(())
+}
+
+// What each worker is told that reads a word, one after the other.
+fn expect_reads(
+    rt: &impl Abort,
+    machine: &mut Machine,
+    reads: &[(u64, u64, Result<u64, Refused>)],
+) {
+    for (worker, word, told) in reads {
+        assert!(rt; machine.read(*worker, *word) == *told, "{worker} {word}");
+    }
 }
 
 #[test]
 fn words_are_read_by_the_holder(rt: HostRuntime) -> Result<(), Fail> {
+    let reads = [
+        (1, 0, Err(Refused::NotHolder)),
+        (2, 0, Err(Refused::NotHolder)),
+        (0, 99, Err(Refused::NotDeclared)),
+        (0, 6, Err(Refused::NotDeclared)),
+        (0, 0, Ok(100)),
+        (0, 1, Ok(0)),
+        (0, 2, Ok(50)),
+        (0, 3, Ok(0)),
+        (0, 4, Ok(10)),
+        (0, 5, Ok(0)),
+        (0, 0, Ok(100)),
+    ];
     let mut machine = two_workers(&rt)?;
     assert!(rt; machine.read(0, 0) == Err(Refused::NotHolder));
     assert!(rt; machine.claim(0, 0) == Ok(()));
-    assert!(rt; machine.read(1, 0) == Err(Refused::NotHolder));
-    assert!(rt; machine.read(2, 0) == Err(Refused::NotHolder));
-    assert!(rt; machine.read(0, 99) == Err(Refused::NotDeclared));
-    assert!(rt; machine.read(0, 6) == Err(Refused::NotDeclared));
-    let balances = [100, 0, 50, 0, 10, 0];
-    for word in 0..balances.len() {
-        assert!(rt; machine.read(0, word as u64) == Ok(balances[word]));
+    expect_reads(&rt, &mut machine, &reads);
+    Ok(())
+}
+
+#[test]
+fn words_are_written_by_the_holder(rt: HostRuntime) -> Result<(), Fail> {
+    let mut machine = two_workers(&rt)?;
+    assert!(rt; machine.claim(0, 0) == Ok(()));
+    for word in 0..6 {
+        assert!(rt; machine.read(0, word).is_ok());
     }
-    assert!(rt; machine.read(0, 0) == Ok(100));
     assert!(rt; machine.write(0, 2) == Err(Refused::NotDeclared));
     assert!(rt; machine.write(0, 0) == Ok(90));
     assert!(rt; machine.read(0, 0) == Err(Refused::OutOfTurn));
