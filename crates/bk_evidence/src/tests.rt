@@ -144,30 +144,16 @@ fn next(seed: &mut u32) -> Plain {
     )
 }
 
-// Offers a certificate, and expects this answer.
-fn expect_offer(
+// Offers certificates in turn, and expects these answers.
+fn expect_offers(
     rt: &impl Abort,
     alloc: Global,
     held: &mut Held,
-    parts: Plain,
-    expected: Offer,
+    offers: &[(Plain, Offer)],
 ) -> Result<(), AllocError> {
-    let answer = put(rt, alloc, held, parts)?;
-    assert!(rt; answer == expected);
-    Ok(())
-}
-
-// Offers a batch, and expects this answer.
-fn expect_batch(
-    rt: &impl Abort,
-    alloc: Global,
-    batches: &mut Batches,
-    name: u8,
-    byte: u8,
-    expected: BatchOffer,
-) -> Result<(), AllocError> {
-    let answer = put_batch(alloc, batches, name, byte)?;
-    assert!(rt; answer == expected);
+    for (parts, expected) in offers {
+        assert!(rt; put(rt, alloc, held, *parts)? == *expected, "{parts:?}");
+    }
     Ok(())
 }
 
@@ -204,106 +190,84 @@ fn expect_slow(
 
 #[test]
 fn two_equivocations(rt: HostRuntime) -> Result<(), Fail> {
-    let alloc = rt.alloc();
-    let mut held = Held::new(alloc);
-    expect_offer(&rt, alloc, &mut held, parts_of(2, 1, 0, 7), Offer::New)?;
-    expect_offer(
-        &rt,
-        alloc,
-        &mut held,
-        parts_of(2, 1, 1, 5),
-        Offer::Twin(digest(7)),
-    )?;
+    let mut held = Held::new(rt.alloc());
+    let first = [
+        (parts_of(2, 1, 0, 7), Offer::New),
+        (parts_of(2, 1, 1, 5), Offer::Twin(digest(7))),
+    ];
+    expect_offers(&rt, rt.alloc(), &mut held, &first)?;
     expect_twins(&rt, &held, 2, 1, 5, 7);
-    expect_offer(&rt, alloc, &mut held, parts_of(1, 3, 0, 8), Offer::New)?;
-    expect_offer(
-        &rt,
-        alloc,
-        &mut held,
-        parts_of(1, 3, 1, 9),
-        Offer::Twin(digest(8)),
-    )?;
-    expect_twins(&rt, &held, 1, 3, 8, 9);
-    expect_offer(&rt, alloc, &mut held, parts_of(2, 1, 1, 5), Offer::Repeat)?;
+    let second = [
+        (parts_of(1, 3, 0, 8), Offer::New),
+        (parts_of(1, 3, 1, 9), Offer::Twin(digest(8))),
+        (parts_of(2, 1, 1, 5), Offer::Repeat),
+    ];
+    expect_offers(&rt, rt.alloc(), &mut held, &second)?;
     expect_twins(&rt, &held, 1, 3, 8, 9);
     Ok(())
 }
 
 #[test]
 fn three_headers_under_one_id(rt: HostRuntime) -> Result<(), Fail> {
-    let alloc = rt.alloc();
-    let mut held = Held::new(alloc);
-    expect_offer(&rt, alloc, &mut held, parts_of(2, 1, 0, 7), Offer::New)?;
-    expect_offer(
-        &rt,
-        alloc,
-        &mut held,
-        parts_of(3, 1, 0, 7),
-        Offer::Collision,
-    )?;
-    expect_offer(
-        &rt,
-        alloc,
-        &mut held,
-        parts_of(4, 1, 0, 7),
-        Offer::Collision,
-    )?;
+    let mut held = Held::new(rt.alloc());
+    let first = [
+        (parts_of(2, 1, 0, 7), Offer::New),
+        (parts_of(3, 1, 0, 7), Offer::Collision),
+        (parts_of(4, 1, 0, 7), Offer::Collision),
+    ];
+    expect_offers(&rt, rt.alloc(), &mut held, &first)?;
     assert!(rt; held.collision() == Some(digest(7)));
-    expect_offer(&rt, alloc, &mut held, parts_of(3, 1, 0, 7), Offer::Repeat)?;
-    expect_offer(
-        &rt,
-        alloc,
-        &mut held,
-        parts_of(4, 1, 1, 3),
-        Offer::Twin(digest(7)),
-    )?;
-    expect_offer(
-        &rt,
-        alloc,
-        &mut held,
-        parts_of(5, 1, 1, 3),
-        Offer::Collision,
-    )?;
+    let second = [
+        (parts_of(3, 1, 0, 7), Offer::Repeat),
+        (parts_of(4, 1, 1, 3), Offer::Twin(digest(7))),
+        (parts_of(5, 1, 1, 3), Offer::Collision),
+    ];
+    expect_offers(&rt, rt.alloc(), &mut held, &second)?;
     assert!(rt; held.collision() == Some(digest(3)));
     Ok(())
 }
 
 #[test]
 fn batches_by_digest(rt: HostRuntime) -> Result<(), Fail> {
-    let alloc = rt.alloc();
-    let mut batches = Batches::new(alloc);
-    expect_batch(&rt, alloc, &mut batches, 7, 1, BatchOffer::New)?;
-    expect_batch(&rt, alloc, &mut batches, 7, 1, BatchOffer::Repeat)?;
-    expect_batch(&rt, alloc, &mut batches, 3, 1, BatchOffer::New)?;
-    expect_batch(&rt, alloc, &mut batches, 7, 2, BatchOffer::Collision)?;
-    expect_batch(&rt, alloc, &mut batches, 7, 2, BatchOffer::Repeat)?;
+    let mut batches = Batches::new(rt.alloc());
+    for (name, byte, expected) in [
+        (7, 1, BatchOffer::New),
+        (7, 1, BatchOffer::Repeat),
+        (3, 1, BatchOffer::New),
+        (7, 2, BatchOffer::Collision),
+        (7, 2, BatchOffer::Repeat),
+    ] {
+        assert!(rt; put_batch(rt.alloc(), &mut batches, name, byte)? == expected);
+    }
     assert!(rt; batches.collision() == Some(digest(7)));
     assert!(rt; batches.get(&digest(7)) == Some([1].as_slice()));
     assert!(rt; batches.index_of(&digest(3)) == Some(BatchRef { index: 1 }));
     Ok(())
 }
 
+// Offers twelve certificates, each to one table and in turn to two, as the slow bodies say.
+fn offer_twelve(rt: &impl Abort, alloc: Global, seed: &mut u32) -> Result<(), AllocError> {
+    let mut all = Vec::new(alloc);
+    let mut held = Held::new(alloc);
+    let mut even = Held::new(alloc);
+    let mut odd = Held::new(alloc);
+    for step in 0..12u32 {
+        let parts = next(seed);
+        let expected = slow_offer(&all, parts);
+        assert!(rt; put(rt, alloc, &mut held, parts)? == expected);
+        all.push(parts)?;
+        let part = if step % 2 == 0 { &mut even } else { &mut odd };
+        put(rt, alloc, part, parts)?;
+        expect_slow(rt, &held, &even, &odd, &all)?;
+    }
+    Ok(())
+}
+
 #[test]
 fn certificates_as_by_slow_bodies(rt: HostRuntime) -> Result<(), Fail> {
-    let alloc = rt.alloc();
     let mut seed = 1;
     for _ in 0..300u32 {
-        let mut all = Vec::new(alloc);
-        let mut held = Held::new(alloc);
-        let mut even = Held::new(alloc);
-        let mut odd = Held::new(alloc);
-        for step in 0..12u32 {
-            let parts = next(&mut seed);
-            let expected = slow_offer(&all, parts);
-            expect_offer(&rt, alloc, &mut held, parts, expected)?;
-            all.push(parts)?;
-            if step % 2 == 0 {
-                let _answer = put(&rt, alloc, &mut even, parts)?;
-            } else {
-                let _answer = put(&rt, alloc, &mut odd, parts)?;
-            }
-            expect_slow(&rt, &held, &even, &odd, &all)?;
-        }
+        offer_twelve(&rt, rt.alloc(), &mut seed)?;
     }
     Ok(())
 }
