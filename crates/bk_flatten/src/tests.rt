@@ -66,31 +66,48 @@ fn expect_places(rt: &impl Abort, found: &[CertRef], expected: &[(u32, u8)]) {
     }
 }
 
+// The certificates of rounds 2 to 4: 2 alone votes for the anchor of round 1, and 0 and 1 for that of round 3.
+const LATER: [(u32, u8, [u8; 3]); 8] = [
+    (2, 0, [1, 2, 3]),
+    (2, 1, [1, 2, 3]),
+    (2, 2, [0, 1, 2]),
+    (3, 0, [0, 1, 2]),
+    (3, 1, [0, 1, 2]),
+    (3, 2, [0, 1, 2]),
+    (4, 0, [0, 1, 2]),
+    (4, 1, [0, 1, 2]),
+];
+
+// The four certificates of round 1 and then these.
+fn linked(rt: &impl Abort, alloc: Global) -> Result<Rounds, Fail> {
+    let mut rounds = Rounds::with_weights(alloc, &[1, 1, 1, 1])?;
+    for author in 0..4 {
+        assert!(rt; put(alloc, &mut rounds, 1, author, &[])? == Some(1));
+    }
+    for (round, author, parents) in LATER {
+        put(alloc, &mut rounds, round, author, &parents)?;
+    }
+    Ok(rounds)
+}
+
 // An anchor that no later one reaches is skipped, and one without enough votes that is reached is
 // not.
 #[test]
 fn linked_anchor(rt: HostRuntime) -> Result<(), Fail> {
-    let alloc = rt.alloc();
-    let mut rounds = Rounds::with_weights(alloc, &[1, 1, 1, 1])?;
-    for author in 0..4 {
-        assert_eq!(rt; put(alloc, &mut rounds, 1, author, &[])?, Some(1));
-    }
-    put(alloc, &mut rounds, 2, 0, &[1, 2, 3])?;
-    put(alloc, &mut rounds, 2, 1, &[1, 2, 3])?;
-    put(alloc, &mut rounds, 2, 2, &[0, 1, 2])?;
-    for author in 0..3 {
-        put(alloc, &mut rounds, 3, author, &[0, 1, 2])?;
-    }
-    put(alloc, &mut rounds, 4, 0, &[0, 1, 2])?;
-    put(alloc, &mut rounds, 4, 1, &[0, 1, 2])?;
-    let found = committed(alloc, &rounds)?;
+    let rounds = linked(&rt, rt.alloc())?;
+    let found = committed(rt.alloc(), &rounds)?;
     expect_places(&rt, &found, &[(1, 0), (3, 1)]);
     assert!(rt; reaches(&rounds, place(3, 1), place(1, 0)));
     assert!(rt; !reaches(&rounds, place(2, 0), place(1, 0)));
-    assert!(rt; votes(&rounds, 1).has(2));
-    assert!(rt; !votes(&rounds, 1).has(0));
+    assert!(rt; votes(&rounds, 1).has(2) && !votes(&rounds, 1).has(0));
     assert!(rt; anchor(&rounds, 2).is_none());
-    let flat = whole_order(alloc, &rounds)?;
+    Ok(())
+}
+
+#[test]
+fn order_of_linked_anchors(rt: HostRuntime) -> Result<(), Fail> {
+    let rounds = linked(&rt, rt.alloc())?;
+    let flat = whole_order(rt.alloc(), &rounds)?;
     let order = [
         (1, 0),
         (1, 1),
@@ -110,18 +127,15 @@ fn linked_anchor(rt: HostRuntime) -> Result<(), Fail> {
 fn frames_reversed(rt: HostRuntime) -> Result<(), Fail> {
     let alloc = rt.alloc();
     let mut rounds = Rounds::with_weights(alloc, &[1, 1, 1, 1])?;
-    put(alloc, &mut rounds, 4, 1, &[0, 1, 2])?;
-    put(alloc, &mut rounds, 4, 0, &[0, 1, 2])?;
-    for author in 0..3 {
-        put(alloc, &mut rounds, 3, author, &[0, 1, 2])?;
+    for (round, author, parents) in LATER.iter().rev() {
+        assert!(rt; put(alloc, &mut rounds, *round, *author, parents)? == Some(0));
     }
-    put(alloc, &mut rounds, 2, 2, &[0, 1, 2])?;
-    put(alloc, &mut rounds, 2, 1, &[1, 2, 3])?;
-    put(alloc, &mut rounds, 2, 0, &[1, 2, 3])?;
-    assert_eq!(rt; put(alloc, &mut rounds, 1, 3, &[])?, Some(1));
-    assert_eq!(rt; put(alloc, &mut rounds, 1, 2, &[])?, Some(1));
-    assert_eq!(rt; put(alloc, &mut rounds, 1, 1, &[])?, Some(3));
-    assert_eq!(rt; put(alloc, &mut rounds, 1, 0, &[])?, Some(7));
+    for (author, admitted) in [(3, 1), (2, 1), (1, 3), (0, 7)] {
+        assert!(rt;
+            put(alloc, &mut rounds, 1, author, &[])? == Some(admitted),
+            "{author}"
+        );
+    }
     let found = committed(alloc, &rounds)?;
     expect_places(&rt, &found, &[(1, 0), (3, 1)]);
     Ok(())
@@ -135,10 +149,9 @@ fn light_parents_wait(rt: HostRuntime) -> Result<(), Fail> {
     for author in 0..4 {
         put(alloc, &mut rounds, 1, author, &[])?;
     }
-    assert_eq!(rt; put(alloc, &mut rounds, 2, 1, &[1, 2, 3])?, Some(0));
-    assert_eq!(rt; put(alloc, &mut rounds, 2, 0, &[0, 1])?, Some(1));
-    assert!(rt; rounds.at(place(2, 1)).is_none());
-    assert!(rt; rounds.has(place(2, 1)));
+    assert!(rt; put(alloc, &mut rounds, 2, 1, &[1, 2, 3])? == Some(0));
+    assert!(rt; put(alloc, &mut rounds, 2, 0, &[0, 1])? == Some(1));
+    assert!(rt; rounds.at(place(2, 1)).is_none() && rounds.has(place(2, 1)));
     let waiting = rounds.waiting()?;
     expect_places(&rt, &waiting, &[(2, 1)]);
     let found = committed(alloc, &rounds)?;
