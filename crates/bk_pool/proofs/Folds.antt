@@ -22,8 +22,9 @@ use Rattle.bk_conflicts.proofs.Said.{DoesSame, does_same}
 use Rattle.bk_conflicts.proofs.Shown.{words_show}
 use Rattle.bk_bank.specs.Setting.{scene_of, setting_with}
 use Rattle.bk_bank.specs.Words.{WordsData, AllFinished}
-use Rattle.bk_pool.specs.declared.outcome.Outcome.{Outcome}
-use Rattle.bk_pool.specs.Outcomes.{IsClosed, IsFold}
+use Rattle.bk_steps.specs.declared.outcome.Outcome.{Outcome}
+use Rattle.bk_steps.specs.Schedule.{IsFoldOf}
+use Rattle.bk_pool.specs.Outcomes.{IsClosed}
 use Rattle.bk_pool.specs.private.Receipts.{receipt_at, no_receipt, AreReceipts}
 use Rattle.bk_pool.proofs.Ended.{status_again, done_at}
 
@@ -91,9 +92,10 @@ last_receipts plan ledger is runs rs long each = ext_get_or no_receipt rs (recei
 pub is_fold : (plan : PlanValue) (ledger : Ledger) → IsPlan plan → CanRunOn plan ledger → (w : WordsData) → IsClosed plan ledger w → AllFinished w → (xs : List ℕ) → length xs ≡ 2 * length plan.ids
     → ((x : ℕ) → x < length xs → get_or xs x 0 ≡ (scene_of (setting_with plan ledger)).fold (length plan.txs) x)
     → (o : Outcome) → AreReceipts w o.receipts.items (length plan.txs) → o.state ≡ ledger_of ledger.version ledger.slots (rows_shown ledger.version ledger.slots (in_pairs xs))
-    → IsFold plan ledger o
+    → IsFoldOf plan ledger o
 is_fold plan ledger is runs w closed all xs long values o (count, each) state = record {
-  state = state ∙ ap (ledger_of ledger.version ledger.slots) (last_rows plan ledger is runs xs long values);
+  state = state ∙ ap (ledger_of ledger.version ledger.slots) (last_rows plan ledger is runs xs long values ∙ ap (λ (v : Version). state_after v plan.txs ledger.rows) (sym runs.same_version));
   receipts = last_receipts plan ledger is runs o.receipts.items count (λ p l. let places = closed.places in let d = done_at plan ledger w closed all p (omega arith) in let e = each p l in
-      let a = d.0 in let b = e.0 in (omega arith, e.1 ∙ d.1));
+      let a = d.0 in let b = e.0 in (omega arith, e.1 ∙ d.1))
+      ∙ ap (λ (v : Version). receipts_of v plan.txs ledger.rows) (sym runs.same_version);
 }

@@ -1,5 +1,3 @@
-pub mod Placed
-pub mod Settled
 pub mod WordsOfPlace
 pub mod Ended
 pub mod Folds

@@ -8,8 +8,8 @@ use Rattle.bk_rules.specs.Ledger.{Ledger, IsPrepared, rows_shown, slot_numbers}
 use Rattle.bk_rules.specs.Rows.{IsLedger}
 use Rattle.bk_conflicts.specs.Plan.{PlanValue}
 use Rattle.bk_conflicts.specs.SceneOf.{CanRunOn}
-use Rattle.bk_pool.specs.declared.outcome.Outcome.{Outcome}
-use Rattle.bk_pool.specs.Outcomes.{IsFold}
+use Rattle.bk_steps.specs.declared.outcome.Outcome.{Outcome}
+use Rattle.bk_steps.specs.Schedule.{IsFoldOf}
 use Rattle.bk_pool.specs.private.Prepared.{IsPlanOf}
 
 pub can_run : (txs : List (Option Transaction)) (ledger : Ledger) (plan : PlanValue) → IsPlanOf txs ledger plan → IsLedger ledger.rows
@@ -25,13 +25,13 @@ can_run txs ledger plan made is_ledger shown room = record {
 pub room_after : (txs : List (Option Transaction)) (n : ℕ) (old new : Ledger) → IsPrepared txs old new → HasRoom old.version n old.rows → HasRoom new.version n new.rows
 room_after txs n old new prepared room = subst (λ (y : Version × List Row). HasRoom y.0 n y.1) (λ j. (sym prepared.version j, sym prepared.rows j)) room
 
-pub last_version : (txs : List (Option Transaction)) (old new : Ledger) (plan : PlanValue) → IsPrepared txs old new → (o : Outcome) → IsFold plan new o → o.state.version ≡ old.version
+pub last_version : (txs : List (Option Transaction)) (old new : Ledger) (plan : PlanValue) → IsPrepared txs old new → (o : Outcome) → IsFoldOf plan new o → o.state.version ≡ old.version
 last_version txs old new plan prepared o fold = ap (λ (l : Ledger). l.version) fold.state ∙ prepared.version
 
-pub last_rows : (txs : List (Option Transaction)) (old new : Ledger) (plan : PlanValue) → IsPrepared txs old new → IsPlanOf txs new plan → (o : Outcome) → IsFold plan new o
+pub last_rows : (txs : List (Option Transaction)) (old new : Ledger) (plan : PlanValue) → IsPrepared txs old new → IsPlanOf txs new plan → (o : Outcome) → IsFoldOf plan new o
     → o.state.rows ≡ state_after old.version txs old.rows
-last_rows txs old new plan prepared made o fold = ap (λ (l : Ledger). l.rows) fold.state ∙ (λ j. state_after ((made.version ∙ prepared.version) j) (made.txs_are j) (prepared.rows j))
+last_rows txs old new plan prepared made o fold = ap (λ (l : Ledger). l.rows) fold.state ∙ (λ j. state_after (prepared.version j) (made.txs_are j) (prepared.rows j))
 
-pub last_receipts : (txs : List (Option Transaction)) (old new : Ledger) (plan : PlanValue) → IsPrepared txs old new → IsPlanOf txs new plan → (o : Outcome) → IsFold plan new o
+pub last_receipts : (txs : List (Option Transaction)) (old new : Ledger) (plan : PlanValue) → IsPrepared txs old new → IsPlanOf txs new plan → (o : Outcome) → IsFoldOf plan new o
     → o.receipts.items ≡ receipts_of old.version txs old.rows
-last_receipts txs old new plan prepared made o fold = fold.receipts ∙ (λ j. receipts_of ((made.version ∙ prepared.version) j) (made.txs_are j) (prepared.rows j))
+last_receipts txs old new plan prepared made o fold = fold.receipts ∙ (λ j. receipts_of (prepared.version j) (made.txs_are j) (prepared.rows j))

@@ -17,9 +17,9 @@ use Rattle.bk_bank.specs.declared.setting.Setting.{Setting}
 use Rattle.bk_bank.specs.Setting.{scene_of, words_at, word_at, may_write, no_word}
 use Rattle.bk_bank.specs.Bank.{BankData, bank_scene}
 use Rattle.bk_bank.proofs.Settings.{scene_places, word_written}
-use Rattle.bk_pool.specs.Settling.{Say, IsLow, AreLow, Does}
+use Rattle.bk_steps.specs.Settling.{Say, IsLow, AreLow, Does}
 use Rattle.bk_pool.specs.Reads.{IsBankOf}
-use Rattle.bk_pool.proofs.Settled.{low_before}
+use Rattle.bk_steps.proofs.Settled.{low_before}
 
 pub place_inside : (plan : PlanValue) (b : BankData) → plan ≡ b.setting.plan → (p : ℕ) → p < (bank_scene b).places → p < length plan.txs
 place_inside plan b e p l = let n = scene_places b.setting in let s : length plan.txs ≡ length b.setting.plan.txs = ap (λ (q : PlanValue). length q.txs) e in omega arith

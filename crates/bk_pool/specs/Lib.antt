@@ -1,4 +1,3 @@
 pub mod Outcomes
 pub mod Reads
-pub mod Settling
 pub mod private

@@ -1,19 +1,12 @@
 -- What an execution answers.
 use Rattle.std.specs.Prelude.{◌≡◌, ℕ, ◌*◌, ◌<◌, length}
-use Rattle.bk_rules.specs.Fold.{state_after, receipts_of}
-use Rattle.bk_rules.specs.Ledger.{Ledger, ledger_of}
+use Rattle.bk_rules.specs.Ledger.{Ledger}
 use Rattle.bk_conflicts.specs.Plan.{PlanValue}
 use Rattle.bk_bank.specs.Setting.{scene_of, setting_with}
 use Rattle.bk_bank.specs.Steps.{Ends}
 use Rattle.bk_bank.specs.Words.{WordsData, IsFirstUnfinished}
-use Rattle.bk_pool.specs.declared.outcome.Outcome.{Outcome}
 use Rattle.bk_pool.specs.declared.outcome.ExecFault.{ExecFault}
 use Rattle.bk_pool.specs.declared.outcome.ExecFault.TheVariants.{OutOfMemory, Unfinished}
-
--- the accounts and the receipts that the transactions of the plan give one at a time, from the accounts of the ledger
-pub record IsFold (plan : PlanValue) (ledger : Ledger) (o : Outcome) : Type 0 where
-  pub state : o.state ≡ ledger_of ledger.version ledger.slots (state_after plan.version plan.txs ledger.rows)
-  pub receipts : o.receipts.items ≡ receipts_of plan.version plan.txs ledger.rows
 
 -- a place that is not done is one of so many
 abbrev pub IsBelow : ℕ → ExecFault → Type 0

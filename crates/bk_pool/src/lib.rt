@@ -9,10 +9,10 @@ mod levels;
 mod outcome;
 mod place;
 mod run;
-mod settling;
 mod work;
 
+pub use bk_steps::Outcome;
 pub use hints::{Hints, Nobody};
-pub use outcome::{ExecFault, Outcome, outcome_of};
+pub use outcome::{ExecFault, outcome_of};
 pub use place::{Gate, Open, run_place};
 pub use run::{execute, execute_all, execute_with};

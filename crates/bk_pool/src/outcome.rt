@@ -1,25 +1,18 @@
-//! What an execution gives.
+//! What the words of a closed bank give.
 ghost use Rattle.std.specs.Prelude.{◌≡◌, ℕ, ◌+◌, ◌^◌, ◌<◌, length, IfOk, IfErr, slice_index};
 ghost use Rattle.bk_rules.specs.Numbers.{number_of};
 ghost use Rattle.bk_conflicts.specs.SceneOf.{CanRunOn};
 ghost use Rattle.bk_bank.specs.Words.{state_at, moved_word_at, AllFinished, IsFirstUnfinished};
 ghost use Rattle.bk_pool.specs.declared.outcome.ExecFault.TheVariants.{OutOfMemory};
-ghost use Rattle.bk_pool.specs.Outcomes.{IsClosed, IsFold, IsLeft, IsBelow};
+ghost use Rattle.bk_steps.specs.Schedule.{IsFoldOf};
+ghost use Rattle.bk_pool.specs.Outcomes.{IsClosed, IsLeft, IsBelow};
 ghost use Rattle.bk_pool.specs.private.Receipts.{AreReceipts, AreStatuses};
 
 use bk_bank::Words;
 use bk_conflicts::Plan;
 use bk_rules::{Receipt, State, Status};
+use bk_steps::Outcome;
 use std::alloc::{AllocError, Global};
-
-/// The accounts after all places, and the receipt of each.
-#[derive(Drop)]
-pub struct Outcome {
-    /// The accounts.
-    pub state: State,
-    /// A receipt for each place, in the order of the places.
-    pub receipts: Vec<Receipt>,
-}
 
 /// Why an execution gives no outcome.
 #[derive(Drop)]
@@ -50,7 +43,7 @@ pub fn outcome_of(
     requires runs { CanRunOn plan.now state }
     requires closed { IsClosed plan.now state words.now }
     ensures done { IfOk result (λ o. AllFinished words.now) }
-    ensures fold { IfOk result (λ o. IsFold plan.now state o) }
+    ensures fold { IfOk result (λ o. IsFoldOf plan.now state o) }
     ensures left { IfErr result (λ e. IsLeft words.now e) }
     ensures below { IfErr result (λ e. IsBelow (length plan.now.txs) e) }
 {

@@ -7,9 +7,9 @@ ghost use Rattle.bk_bank.specs.Plays.{reads_of, writes_of};
 ghost use Rattle.bk_bank.specs.Bank.{bank_scene, IsHoldOf, IsLeavingOf};
 ghost use Rattle.bk_pool.specs.Reads.{IsFresh, IsBankOf};
 
-use crate::settling::settle_words;
 use bk_bank::{Bank, Hold, Leaving};
 use bk_conflicts::Plan;
+use bk_steps::settle_words;
 
 /// What a caller watches. A worker calls it between its steps; it can wait, but not change a word.
 pub trait Gate {

@@ -6,18 +6,20 @@ ghost use Rattle.bk_rules.specs.Ledger.{are_covered};
 ghost use Rattle.bk_conflicts.specs.SceneOf.{CanRunOn};
 ghost use Rattle.bk_bank.specs.Bank.{bank_scene, IsPassOf};
 ghost use Rattle.bk_pool.specs.Reads.{IsBankOf};
-ghost use Rattle.bk_pool.specs.Outcomes.{IsFold, IsBelow};
+ghost use Rattle.bk_steps.specs.Schedule.{IsFoldOf};
+ghost use Rattle.bk_pool.specs.Outcomes.{IsBelow};
 ghost use Rattle.bk_pool.specs.private.Prepared.{IsPlanOf};
 
 use crate::deques::ends_for;
 use crate::hints::{Hints, Nobody};
 use crate::levels::levels;
-use crate::outcome::{ExecFault, Outcome, outcome_of};
+use crate::outcome::{ExecFault, outcome_of};
 use crate::place::Gate;
 use crate::work::serve;
 use bk_bank::{Bank, Pass};
 use bk_conflicts::Plan;
 use bk_rules::State;
+use bk_steps::Outcome;
 use bk_tx::Tx;
 use std::alloc::{AllocError, Global};
 use std::sync::{Arc, Wait};
@@ -88,7 +90,7 @@ pub fn execute_with<R: Threads + Wait + Sync, G: Gate + Sync, H: Hints + Send + 
 ) -> Result<Outcome, ExecFault>
     requires runs { CanRunOn (arc_value plan.now) state }
     requires ends { (1 ≤ vec_len ends) × (vec_len ends ≤ 64) }
-    ensures fold { IfOk result (λ o. IsFold (arc_value plan.now) state o) }
+    ensures fold { IfOk result (λ o. IsFoldOf (arc_value plan.now) state o) }
     ensures unfinished { IfErr result (λ e. IsBelow (length (arc_value plan.now).txs) e) }
 {
     let (bank, pass) = Bank::new(alloc, plan, &state)?;
@@ -112,7 +114,7 @@ pub fn execute<R: Threads + Wait + Sync, G: Gate + Sync>(
 ) -> Result<Outcome, ExecFault>
     requires runs { CanRunOn (arc_value plan.now) state }
     requires workers { (1 ≤ workers) × (workers ≤ 64) }
-    ensures fold { IfOk result (λ o. IsFold (arc_value plan.now) state o) }
+    ensures fold { IfOk result (λ o. IsFoldOf (arc_value plan.now) state o) }
     ensures unfinished { IfErr result (λ e. IsBelow (length (arc_value plan.now).txs) e) }
 {
     let ends = ends_for(rt, alloc, workers)?;
