@@ -6,3 +6,5 @@ pub mod Declaring
 pub mod Written
 pub mod Sorted
 pub mod Masks
+pub mod TextLines
+pub mod WholeTexts

@@ -11,7 +11,7 @@ use Rattle.bk_script.specs.declared.fault.ScriptCode.TheVariants as code
 use Rattle.bk_script.specs.Codes.{◌>>=◌}
 use Rattle.bk_script.specs.declared.fault.Stop.{Stop}
 use Rattle.bk_script.specs.declared.fault.Stop.TheVariants as stop
-use Rattle.bk_script.specs.private.Judging.{Answers}
+use Rattle.bk_script.specs.Answers.{Answers}
 use Rattle.bk_script.specs.Judging.{with_id, with_ids, beside, parents_of, signers_in, in_range, are_weights}
 use Rattle.std.proofs.lemmas.Bool.{eq-eqb, and_from}
 use Rattle.std.proofs.Common.{replicate, ◌==◌, ◌^◌, zero, suc}

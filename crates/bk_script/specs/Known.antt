@@ -77,7 +77,7 @@ is_new_name named name = is_name name && not (is_some (place_of named name))
 
 -- ---- the size
 
--- so many bytes more, where the feed can have them
+-- this many bytes more, where the feed can have them
 unfoldable pub grown : Known → ℕ → Result Known ScriptCode
 grown k bytes = if nat_le (k.size + bytes) MOST_FEED then Ok (record k { size = k.size + bytes }) else Err code.Range
 

@@ -6,4 +6,6 @@ pub mod Transactions
 pub mod Sealing
 pub mod Judging
 pub mod Feeds
+pub mod Script
+pub mod Answers
 pub mod private

@@ -12,7 +12,7 @@ use Rattle.bk_cert.specs.Spelling.{certificate_text}
 abbrev pub member_key : ℕ → List ℕ
 member_key member = replicate 32 (member + 1)
 
--- the keys of so many members
+-- the keys of this many members
 abbrev pub member_keys : ℕ → List (List ℕ)
 member_keys n = map member_key (range_with_len 0 n)
 

@@ -98,7 +98,7 @@ line_text found words = do
 
 -- ---- the open batch
 
--- a text of so many bytes can come behind these: the counts and the payload can hold it
+-- a text of this many bytes can come behind these: the counts and the payload can hold it
 abbrev pub has_room : List (List ℕ) → ℕ → Bool
 has_room texts len = nat_lt (length texts) 65535 && nat_lt len 65536 && nat_le (length (batch_text texts) + 2 + len) MOST_PAYLOAD
 

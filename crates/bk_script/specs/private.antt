@@ -1,2 +1,2 @@
-pub mod Judging
 pub mod Saying
+pub mod Telling

@@ -3,7 +3,7 @@
 ghost use Rattle.std.specs.Prelude.{◌≡◌, ◌==◌, ◌+◌, ◌^◌, [], Ok, nat_lt, ◌<◌, ◌≤◌, length};
 ghost use Rattle.std.specs.List.{list_any, position_or_len};
 ghost use Rattle.bk_script.specs.Judging.{with_account};
-ghost use Rattle.bk_script.specs.private.Judging.{Answers};
+ghost use Rattle.bk_script.specs.Answers.{Answers};
 
 use crate::fault::{ScriptCode, Stop};
 use bk_frames::{MOST_ACCOUNTS, Row};

@@ -45,7 +45,7 @@ impl OpenBatch {
         }
     }
 
-    /// Whether a text of so many bytes can come behind the others.
+    /// Whether a text of this many bytes can come behind the others.
     pub(crate) fn has_room(&self, len: usize) -> bool
         ensures { result ≡ has_room self.now.texts len }
     {
@@ -55,7 +55,8 @@ impl OpenBatch {
     /// Puts one more text behind the others.
     pub(crate) fn push(&mut self, text: Vec<u8>) -> Result<(), AllocError>
         requires { IsTrue (has_room self.old.texts (length text.items)) }
-        ensures { OnOk result (self.new ≡ record self.old { texts = self.old.texts ++ text.items ∷ [] }) }
+        ensures { OnOk result
+            (self.new ≡ record self.old { texts = self.old.texts ++ text.items ∷ [] }) }
     {
         let len = text.len();
         self.texts.push(text)?;

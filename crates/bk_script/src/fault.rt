@@ -3,14 +3,16 @@ ghost use Rattle.bk_script.specs.Codes.{code_number};
 ghost use Rattle.bk_script.specs.declared.fault.Stop.TheVariants as stop;
 ghost use Rattle.bk_script.specs.declared.fault.ScriptFault.TheVariants as fault;
 
-use bk_frames::WriteFault;
+use bk_frames::{Failed, WriteFault};
 use std::alloc::{AllocError, AllocFailed};
 use thiserror::Error;
 
-/// What is wrong with a line of a script. Of two that apply to one line, the one of the lower number counts.
+/// What is wrong with a line of a script. Of two that apply to one line, the one of the lower number
+/// counts.
 #[derive(Clone, Copy, Debug, PartialEq, Eq)]
 pub enum ScriptCode {
-    /// A byte is not ASCII, the first word is unknown, the number of words is wrong, or a word is empty.
+    /// A byte is not ASCII, the first word is unknown, the number of words is wrong, or a word is
+    /// empty.
     Word = 1,
     /// The line is out of its place.
     Place = 2,
@@ -48,6 +50,14 @@ pub enum ScriptFault {
     Memory,
 }
 
+impl From<Failed> for ScriptFault {
+    ghost from_gives = { λ _ e. e ≡ fault.Read };
+
+    fn from(_e: Failed) -> ScriptFault {
+        ScriptFault::Read
+    }
+}
+
 impl From<WriteFault> for ScriptFault {
     ghost from_gives = { λ w e. e ≡ fault.Write w.written };
 
@@ -61,6 +71,14 @@ impl From<AllocError> for ScriptFault {
     ghost from_gives = { λ _ e. e ≡ fault.Memory };
 
     fn from(_e: AllocError) -> ScriptFault {
+        ScriptFault::Memory
+    }
+}
+
+impl<T: Drop> From<AllocFailed<T>> for ScriptFault {
+    ghost from_gives = { λ _ e. e ≡ fault.Memory };
+
+    fn from(_e: AllocFailed<T>) -> ScriptFault {
         ScriptFault::Memory
     }
 }

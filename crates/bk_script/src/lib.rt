@@ -1,4 +1,7 @@
 //! Scripts: the text of a feed's contents, line by line, and the feed that it makes.
+//!
+//! [`make`] reads a script, takes its lines in turn, and writes exactly the bytes of the feed that they make, or names the
+//! first line with a fault and writes nothing. [`Script`] is what the lines so far say.
 #![tactic(auto)]
 
 mod accounts;
@@ -6,12 +9,18 @@ mod batch;
 mod fault;
 mod frames;
 mod line;
+mod making;
 mod names;
 mod parts;
+mod reading;
 mod script;
 mod sealing;
 mod transactions;
 mod words;
 
 pub use fault::{ScriptCode, ScriptFault, Stop};
+pub use making::{MOST_SCRIPT, make};
 pub use script::Script;
+
+#[cfg(test)]
+mod tests;

@@ -4,7 +4,7 @@ ghost use Rattle.std.specs.Prelude.{◌≡◌, ◌++◌, ◌∷◌, [], OnOk, ma
 ghost use Rattle.bk_script.specs.Known.{place_of, meant_by, is_new_name};
 ghost use Rattle.bk_script.specs.Words.{each_of};
 ghost use Rattle.std.specs.Str.{bytes_eq};
-ghost use Rattle.bk_script.specs.private.Judging.{Answers};
+ghost use Rattle.bk_script.specs.Answers.{Answers};
 
 use crate::fault::{ScriptCode, Stop};
 use crate::words::{digest, is_name};

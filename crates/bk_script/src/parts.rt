@@ -3,7 +3,7 @@
 ghost use Rattle.std.specs.Prelude.{◌≡◌, ◌<◌, ◌≤◌, map, length, All, IfOk, option_map, unwrap_or, replicate, ◌+◌, ◌*◌};
 ghost use Rattle.bk_committee.specs.Payload.{member_size};
 ghost use Rattle.bk_script.specs.Judging.{word, in_range, are_weights, weights_listed, parents_of, signers_in, header_in, with_id};
-ghost use Rattle.bk_script.specs.private.Judging.{Answers};
+ghost use Rattle.bk_script.specs.Answers.{Answers};
 
 use crate::fault::{ScriptCode, Stop};
 use crate::words::{list, numbers};
@@ -67,7 +67,7 @@ pub(crate) fn weights_for(alloc: Global, n: u64, listed: Option<Vec<u64>>) -> Re
     }
 }
 
-/// How many bytes a feed of so many members has without accounts and frames behind them.
+/// How many bytes a feed of this many members has without accounts and frames behind them.
 pub(crate) fn members_size(version: Version, n: u64) -> u64
     requires { n ≤ 128 }
     ensures { result ≡ 19 + member_size version * n }

@@ -7,7 +7,7 @@ ghost use Rattle.bk_script.specs.Judging.{stands, meaning, judged, version_line,
 ghost use Rattle.bk_script.specs.Transactions.{with_text};
 ghost use Rattle.bk_script.specs.Feeds.{feed_text};
 ghost use Rattle.bk_script.specs.Lines.{takes};
-ghost use Rattle.bk_script.specs.private.Judging.{Answers};
+ghost use Rattle.bk_script.specs.Answers.{Answers};
 
 use crate::accounts::Accounts;
 use crate::batch::OpenBatch;
@@ -97,10 +97,11 @@ impl Script {
         }
     }
 
-    // So many bytes more.
+    // This many bytes more.
     #[tactic(auto, unfolding(crate::specs::Known::grown))]
     fn grow(&mut self, bytes: usize) -> Result<(), ScriptCode>
-        ensures { MatchResult result (λ _. grown self.old bytes ≡ Ok self.new) (λ e. grown self.old bytes ≡ Err e) }
+        ensures { MatchResult result (λ _. grown self.old bytes ≡ Ok self.new)
+            (λ e. grown self.old bytes ≡ Err e) }
     {
         let size = self.size.saturating_add(bytes as u64);
         if size > MOST_FEED {
@@ -328,7 +329,7 @@ impl Script {
         }
     }
 
-    /// Takes the next line.
+    /// Takes the next line. After an error the value is of no further use: what it then knows is not told.
     #[tactic(auto, unfolding(crate::specs::Judging::judged, crate::specs::Judging::placed))]
     pub fn take(&mut self, line: &[u8]) -> Result<(), Stop>
         ensures { Answers (λ _. self.new) result (judged self.old line.now) }
@@ -351,8 +352,8 @@ impl Script {
 
     /// The feed of what is known; nothing where there are no members.
     pub fn feed(&self) -> Result<Option<Vec<u8>>, AllocError>
-        ensures { IfOk result (λ found. option_map (λ v. v.items) found
-            ≡ option_map (λ weights. feed_text self.now.version weights self.now.accounts self.now.body) self.now.weights) }
+        ensures { IfOk result (λ found. option_map (λ v. v.items) found ≡ option_map (λ weights.
+            feed_text self.now.version weights self.now.accounts self.now.body) self.now.weights) }
     {
         match &self.weights {
             None => Ok(None),

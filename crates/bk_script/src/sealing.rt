@@ -10,7 +10,7 @@ use bk_committee::Committee;
 use bk_frames::Version;
 use std::alloc::{AllocError, Global};
 
-// Writes the keys of so many members at the end.
+// Writes the keys of this many members at the end.
 fn put_keys(out: &mut Vec<u8>, count: u8) -> Result<(), AllocError>
     requires { count ≤ 128 }
     ensures { OnOk result (out.new.items ≡ out.old.items ++ concat (member_keys count)) }
@@ -23,7 +23,8 @@ fn put_keys(out: &mut Vec<u8>, count: u8) -> Result<(), AllocError>
 
 // Writes weights of four bytes each at the end.
 fn put_weights(out: &mut Vec<u8>, weights: &[u32]) -> Result<(), AllocError>
-    ensures { OnOk result (out.new.items ≡ out.old.items ++ flat_map (to_be_bytes w32) weights.now) }
+    ensures { OnOk result (out.new.items
+        ≡ out.old.items ++ flat_map (to_be_bytes w32) weights.now) }
 {
     for weight in weights {
         out.extend_from_slice(&weight.to_be_bytes())?;

@@ -4,7 +4,7 @@ ghost use Rattle.std.specs.Prelude.{◌≡◌, ◌++◌, ◌∷◌, ◌&&◌, �
 ghost use Rattle.bk_tx.specs.Access.{receivers_in};
 ghost use Rattle.bk_script.specs.private.Saying.{IsSayable};
 ghost use Rattle.bk_script.specs.Transactions.{declare, declared_by, text_of, at, payments_in, said_by, line_text};
-ghost use Rattle.bk_script.specs.private.Judging.{Answers};
+ghost use Rattle.bk_script.specs.Answers.{Answers};
 
 use crate::fault::{ScriptCode, Stop};
 use crate::line::Keyword;

@@ -4,7 +4,7 @@ ghost use Rattle.std.specs.Prelude.{◌≡◌, map, IfOk, ◌==◌, ◌&&◌, �
 ghost use Rattle.std.specs.List.{list_all};
 ghost use Rattle.bk_script.specs.Words.{pieces, are_filled, is_numeral, number_of, is_name, is_digit, is_letter, list_of, numbers_of, hex_of, digest_of};
 ghost use Rattle.bk_digest.specs.Digest.{is_lower_hex};
-ghost use Rattle.bk_script.specs.private.Judging.{Answers};
+ghost use Rattle.bk_script.specs.Answers.{Answers};
 
 use crate::fault::{ScriptCode, Stop};
 use bk_digest::Digest32;
@@ -41,7 +41,8 @@ fn is_numeral_word(word: &[u8]) -> bool
     are_digits(word) && !word.is_empty() && (word.len() == 1 || word[0] != b'0')
 }
 
-/// The number that a word writes in decimal digits, below 2^64; a leading zero or a sign makes it none.
+/// The number that a word writes in decimal digits, below 2^64. A leading zero or a sign makes it
+/// none.
 #[tactic(auto, unfolding(crate::specs::Words::number_of))]
 pub fn number(word: &[u8]) -> Result<u64, ScriptCode>
     ensures { result ≡ number_of word.now }
