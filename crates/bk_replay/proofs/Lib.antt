@@ -8,3 +8,13 @@ pub mod ProofTexts
 pub mod ProofReading
 pub mod ProofPaths
 pub mod ProofChecks
+pub mod Counting
+pub mod Books
+pub mod Openings
+pub mod PulledBytes
+pub mod Pulled
+pub mod RunAnswers
+pub mod BookReports
+pub mod SliceLemmas
+pub mod Following
+pub mod Asking

@@ -116,7 +116,7 @@ feed_size (f ∷ frames) =
         by_kind false = omega arith
 
 -- good frames end inside the largest feed
-good_size : (v : Version) (index offset : ℕ) (frames : List Frame) → offset ≤ MOST_FEED → AreGoodFrom v index offset frames → offset + length (flat_map frame_text frames) ≤ MOST_FEED
+pub good_size : (v : Version) (index offset : ℕ) (frames : List Frame) → offset ≤ MOST_FEED → AreGoodFrom v index offset frames → offset + length (flat_map frame_text frames) ≤ MOST_FEED
 good_size v index offset [] le good = omega arith
 good_size v index offset (f ∷ frames) le good =
     let len : length (flat_map frame_text (f ∷ frames)) ≡ length (frame_text f) + length (flat_map frame_text frames) = ap length (flat_map-cons frame_text f frames) ∙ length-append (frame_text f) (flat_map frame_text frames) in

@@ -2,7 +2,12 @@ pub mod Lines
 pub mod Report
 pub mod Leaves
 pub mod RunLines
+pub mod RunReport
 pub mod Proofs
 pub mod Answers
+pub mod Follower
+pub mod Finishing
+pub mod Queries
+pub mod Replaying
 pub mod private
 pub mod Laws

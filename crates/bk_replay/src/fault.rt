@@ -1,7 +1,11 @@
 ghost use Rattle.std.specs.Prelude.{◌≡◌};
 ghost use Rattle.bk_replay.specs.declared.fault.Fault.TheVariants as fault;
+ghost use Rattle.bk_replay.specs.private.Stopping.{fault_of};
 
+use bk_digest::Digest32;
+use bk_evidence::Evidence;
 use bk_frames::{FeedFault, WriteFault};
+use bk_order::Stop;
 use std::alloc::{AllocError, AllocFailed};
 use thiserror::Error;
 
@@ -11,12 +15,56 @@ pub enum Fault {
     /// The feed has this fault, or reading it failed or found no memory. Nothing is written.
     #[error("{0}")]
     Feed(FeedFault),
+    /// The feed is stopped: this is the least id of two certificates or digest of two batches. Nothing is written.
+    #[error("collision {id}")]
+    Collision {
+        id: Digest32,
+    },
+    /// The feed is stopped: a member made two certificates for one round. Nothing is written.
+    #[error("equivocation {round} {author} {first} {second}")]
+    Equivocation {
+        round: u32,
+        author: u8,
+        first: Digest32,
+        second: Digest32,
+    },
+    /// A worker took this place and did not finish it. Nothing is written.
+    #[error("unfinished {place}")]
+    Unfinished {
+        place: u32,
+    },
     /// The sink failed. Exactly the first `written` bytes of the report are out.
     #[error("write failed")]
-    Write { written: u64 },
+    Write {
+        written: u64,
+    },
     /// Memory was refused. Nothing is written.
     #[error("memory")]
     Memory,
+}
+
+impl From<Stop> for Fault {
+    ghost from_gives = { λ s f. f ≡ fault_of s };
+
+    fn from(s: Stop) -> Fault {
+        match s {
+            Stop::Collision(id) => Fault::Collision { id },
+            Stop::Twins(twins) => {
+                let Evidence {
+                    round,
+                    author,
+                    first,
+                    second,
+                } = twins;
+                Fault::Equivocation {
+                    round,
+                    author,
+                    first,
+                    second,
+                }
+            }
+        }
+    }
 }
 
 impl From<FeedFault> for Fault {

@@ -1,15 +1,15 @@
 //! What executing a feed's batches gives.
 
-ghost use Rattle.std.specs.Prelude.{◌≡◌, ◌^◌, ◌<◌, ◌∷◌, ◌++◌, [], All, length, map, IfOk, OnOk};
+ghost use Rattle.std.specs.Prelude.{◌≡◌, ◌^◌, ◌<◌, ◌∷◌, ◌++◌, [], All, length, map, IfOk, OnOk, slice_get};
 ghost use Rattle.bk_frames.specs.Feed.{frame_of, genesis_of};
-ghost use Rattle.bk_frames.specs.Genesis.{total_of};
+ghost use Rattle.bk_frames.specs.Genesis.{AreAccounts, total_of};
 ghost use Rattle.bk_rules.specs.Fold.{receipts_of, state_after, HasRoom};
 ghost use Rattle.bk_tx.specs.Batch.{IsWithin, cuts};
 ghost use Rattle.bk_tx.specs.Reading.{transaction_of};
 ghost use Rattle.bk_replay.specs.Report.{count_in, transactions_in, payloads_of, feed_transactions};
 
 use crate::summary::Summary;
-use bk_frames::{Feed, Kind};
+use bk_frames::{Feed, Kind, Row, Version};
 use bk_rules::{Receipt, State, run_in_order};
 use bk_tx::{Slice, Tx, read_batch};
 use std::alloc::{AllocError, Global};
@@ -18,27 +18,28 @@ use std::alloc::{AllocError, Global};
 #[derive(Debug, Drop)]
 pub(crate) struct Ledger {
     /// How many transactions each batch holds, `None` where it is void.
-    counts: Vec<Option<u16>>,
+    pub(crate) counts: Vec<Option<u16>>,
     /// What became of each transaction.
-    receipts: Vec<Receipt>,
+    pub(crate) receipts: Vec<Receipt>,
     /// The accounts after them.
-    state: State,
+    pub(crate) state: State,
 }
 
-/// The transactions of a batch, from where its texts lie.
-fn decode_all(
-    alloc: Global,
+/// Puts the transactions of a batch at the end, from where its texts lie.
+pub(crate) fn decode_all(
+    txs: &mut Vec<Option<Tx>>,
     payload: &[u8],
     slices: &[Slice],
-) -> Result<Vec<Option<Tx>>, AllocError>
+) -> Result<(), AllocError>
     requires { All (IsWithin payload.now) slices.now }
-    ensures { IfOk result (λ txs. txs.items ≡ map transaction_of (cuts payload.now slices.now)) }
+    ensures { OnOk result (txs.new.items
+        ≡ txs.old.items ++ map transaction_of (cuts payload.now slices.now)) }
 {
-    let mut txs = Vec::with_capacity(alloc, slices.len())?;
+    txs.reserve(slices.len())?;
     for slice in slices {
         txs.push(Tx::decode(slice.of(payload)))?;
     }
-    Ok(txs)
+    Ok(())
 }
 
 impl Ledger {
@@ -58,7 +59,8 @@ impl Ledger {
             self.counts.push(None)?;
             return Ok(());
         };
-        let txs = decode_all(alloc, payload, &slices)?;
+        let mut txs = Vec::new(alloc);
+        decode_all(&mut txs, payload, &slices)?;
         self.state.prepare(alloc, &txs)?;
         let receipts = run_in_order(alloc, &mut self.state, &txs)?;
         self.receipts.extend_from_slice(&receipts)?;
@@ -84,6 +86,21 @@ impl Ledger {
         }
     }
 
+    /// The opening accounts, and no batch executed.
+    pub(crate) fn new(alloc: Global, version: Version, rows: &[Row]) -> Result<Ledger, AllocError>
+        requires accounts { AreAccounts rows.now }
+        ensures counts { IfOk result (λ l. l.counts.items ≡ []) }
+        ensures receipts { IfOk result (λ l. l.receipts.items ≡ []) }
+        ensures version { IfOk result (λ l. l.state.version ≡ version) }
+        ensures rows { IfOk result (λ l. l.state.rows ≡ rows.now) }
+    {
+        Ok(Ledger {
+            counts: Vec::new(alloc),
+            receipts: Vec::new(alloc),
+            state: State::new(alloc, version, rows)?,
+        })
+    }
+
     /// Executes the batches of a feed, in feed order, on its opening accounts.
     pub(crate) fn of(alloc: Global, feed: &Feed) -> Result<Ledger, AllocError>
         ensures counts { IfOk result (λ l. l.counts.items
@@ -93,16 +110,19 @@ impl Ledger {
         ensures rows { IfOk result (λ l. l.state.rows
             ≡ state_after feed.now.version (feed_transactions feed.now.frames) (genesis_of feed.now.frames)) }
     {
-        let mut ledger = Ledger {
-            counts: Vec::new(alloc),
-            receipts: Vec::new(alloc),
-            state: State::new(alloc, feed.version(), feed.genesis())?,
-        };
+        let mut ledger = Ledger::new(alloc, feed.version(), feed.genesis())?;
         for index in 0..feed.len() {
             let (kind, payload) = feed.frame(index);
             ledger.run_frame(alloc, kind, payload)?;
         }
         Ok(ledger)
+    }
+
+    /// What became of the transaction at a place, `None` for a place that was not executed.
+    pub(crate) fn receipt(&self, place: u32) -> Option<Receipt>
+        ensures { result ≡ slice_get self.now.receipts.items place }
+    {
+        self.receipts.get(place as usize).copied()
     }
 
     /// What the report says of it.

@@ -1,8 +1,6 @@
-use Rattle.std.proofs.Common.{arith, [], subst, ◌∙◌}
-use Rattle.bk_rules.proofs.Room.{room_left}
+use Rattle.std.proofs.Common.{subst, ◌∙◌}
 use Rattle.bk_frames.specs.Feed.{genesis_of}
 use Rattle.bk_frames.specs.Genesis.{AreAccounts}
-use Rattle.bk_rules.proofs.Folding.{ledger_of_accounts}
 use Rattle.bk_replay.proofs.Runs.{room_for_next, counts_next, receipts_next, state_next}
 use Rattle.bk_replay.proofs.ledger.Ledger.of.Goals as goal
 
@@ -26,8 +24,5 @@ loop-index-preserved c =
       rows = state_next c.args.feed.now.version frames c.loop-index.index _ (genesis_of frames) _ _ c.frame-kind.ensures c.loop-index.invariant.rows rows;
     }
 
-pub new-requires-3-clause-ledger : goal.new-requires-3-clause-ledger
-new-requires-3-clause-ledger c = ledger_of_accounts c.genesis.result.now c.genesis.ensures.accounts
-
-pub new-requires-3-clause-room : goal.new-requires-3-clause-room
-new-requires-3-clause-room c = room_left c.version.result [] 0 c.genesis.result.now c.genesis.ensures.accounts (omega arith)
+pub new-requires : goal.new-requires
+new-requires c = record { accounts = c.genesis.ensures.accounts }

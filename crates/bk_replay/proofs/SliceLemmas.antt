@@ -1,0 +1,158 @@
+-- Slices of an order, one after another.
+use Rattle.std.proofs.Common.{◌≡◌, ℕ, zero, suc, ◌+◌, ◌≤◌, List, [], ◌∷◌, ◌++◌, length, map, drop, Option, Some, refl, sym, ap, subst, ◌∙◌, append-nil, append_assoc, length-append, drop_of_length-le, vec_len, arith}
+use Rattle.std.specs.Prelude.{slice_get}
+use Rattle.std.proofs.lemmas.List.{map-append}
+use Rattle.std.proofs.lemmas.List.Concat.{flat_map-append, flat_map-cons}
+use Rattle.bk_frames.specs.declared.genesis.Row.{Row}
+use Rattle.bk_frames.specs.declared.version.Version.{Version}
+use Rattle.bk_tx.specs.Transaction.{Transaction}
+use Rattle.bk_rules.specs.declared.receipt.Receipt.{Receipt}
+use Rattle.bk_rules.specs.Fold.{state_after, receipts_of, HasRoom}
+use Rattle.bk_rules.proofs.Folding.{state_append, receipts_append, length-receipts}
+use Rattle.bk_rules.proofs.Room.{room_kept, room_weaker}
+use Rattle.bk_replay.specs.declared.fault.Fault.{Fault}
+use Rattle.bk_replay.specs.declared.fault.Fault.TheVariants as fault
+use Rattle.bk_replay.specs.declared.ledger.Ledger.{Ledger}
+use Rattle.bk_replay.specs.declared.slice.Batches.{Batches}
+use Rattle.bk_replay.specs.Report.{count_in, transactions_in, transactions_of}
+use Rattle.bk_replay.specs.private.Slices.{left_of, HasRun, HasExecuted, IsSliceOf, IsOnTheWay, Leaves}
+
+-- ---- lists
+
+transactions-append : (xs ys : List (List ℕ)) → transactions_of (xs ++ ys) ≡ transactions_of xs ++ transactions_of ys
+transactions-append xs ys = flat_map-append transactions_in xs ys
+
+transactions-one : (payload : List ℕ) → transactions_of (payload ∷ []) ≡ transactions_in payload
+transactions-one payload = flat_map-cons transactions_in payload [] ∙ append-nil (transactions_in payload)
+
+-- what is there from a place on begins with what stands at the place
+drop_next : {A : Type 0} (xs : List A) (i : ℕ) (a : A) → slice_get xs i ≡ Some a → drop i xs ≡ a ∷ drop (suc i) xs
+drop_next [] i a e = absurd cc
+drop_next (x ∷ xs) zero a e = let same : x ≡ a = cc in ap (λ b. b ∷ xs) same
+drop_next (x ∷ xs) (suc i) a e = drop_next xs i a e
+
+-- ---- a ledger after batches
+
+-- after two runs
+run_then : (counts more : List (Option ℕ)) (txs others : List (Option Transaction)) (a b c : Ledger) → HasRun counts txs a b → HasRun more others b c → HasRun (counts ++ more) (txs ++ others) a c
+run_then counts more txs others a b c first second =
+    let v = a.state.version in
+    record {
+      version = second.version ∙ first.version;
+      counts_are = second.counts_are ∙ ap (λ (xs : List (Option ℕ)). xs ++ more) first.counts_are ∙ append_assoc a.counts.items counts more;
+      receipts = second.receipts ∙ (λ i. first.receipts i ++ receipts_of (first.version i) others (first.rows i))
+          ∙ append_assoc a.receipts.items (receipts_of v txs a.state.rows) (receipts_of v others (state_after v txs a.state.rows))
+          ∙ ap (λ (rs : List Receipt). a.receipts.items ++ rs) (sym (receipts_append v txs others a.state.rows));
+      rows = second.rows ∙ (λ i. state_after (first.version i) others (first.rows i)) ∙ sym (state_append v txs others a.state.rows);
+    }
+
+executed_then : (xs ys : List (List ℕ)) (a b c : Ledger) → HasExecuted xs a b → HasExecuted ys b c → HasExecuted (xs ++ ys) a c
+executed_then xs ys a b c first second =
+    let both = run_then (map count_in xs) (map count_in ys) (transactions_of xs) (transactions_of ys) a b c first second in
+    let counts : map count_in (xs ++ ys) ≡ map count_in xs ++ map count_in ys = map-append count_in xs ys in
+    subst (λ (s : List (Option ℕ) × List (Option Transaction)). HasRun s.0 s.1 a c) (λ i. (sym counts i, sym (transactions-append xs ys) i)) both
+
+-- there is room for what is left
+room_after : (xs ys : List (List ℕ)) (a b : Ledger) → HasExecuted xs a b → HasRoom a.state.version (length (transactions_of (xs ++ ys))) a.state.rows → HasRoom b.state.version (length (transactions_of ys)) b.state.rows
+room_after xs ys a b ran room =
+    let v = a.state.version in
+    let sum : length (transactions_of (xs ++ ys)) ≡ length (transactions_of xs) + length (transactions_of ys) = ap length (transactions-append xs ys) ∙ length-append (transactions_of xs) (transactions_of ys) in
+    let left = room_kept v (transactions_of xs) (length (transactions_of ys)) a.state.rows (subst (λ n. HasRoom v n a.state.rows) sum room) in
+    subst (λ (s : Version × List Row). HasRoom s.0 (length (transactions_of ys)) s.1) (λ i. (sym ran.version i, sym ran.rows i)) left
+
+-- so many receipts
+receipts_after : (counts : List (Option ℕ)) (txs : List (Option Transaction)) (a b : Ledger) → HasRun counts txs a b → length b.receipts.items ≡ length a.receipts.items + length txs
+receipts_after counts txs a b ran =
+    ap length ran.receipts ∙ length-append a.receipts.items (receipts_of a.state.version txs a.state.rows)
+    ∙ ap (λ n. length a.receipts.items + n) (length-receipts a.state.version txs a.state.rows)
+
+-- and so many counts
+pub counts_after : (counts : List (Option ℕ)) (txs : List (Option Transaction)) (a b : Ledger) → HasRun counts txs a b → length b.counts.items ≡ length a.counts.items + length counts
+counts_after counts txs a b ran = ap length ran.counts_are ∙ length-append a.counts.items counts
+
+-- ---- reading a slice
+
+pub slice_none : (payloads : List (List ℕ)) (from : ℕ) (b : Batches) → b.counts.items ≡ [] → b.txs.items ≡ [] → IsSliceOf payloads from b
+slice_none payloads from b counts txs = record {
+  batches = [];
+  split = let e : from ≡ from + length b.counts.items = omega (arith, ap length counts) in ap (λ n. drop n payloads) e;
+  counts_are = counts;
+  txs_are = txs;
+}
+
+pub slice_more : (payloads : List (List ℕ)) (from place : ℕ) (payload : List ℕ) (b c : Batches) → IsSliceOf payloads from b → from + length b.counts.items ≡ place → slice_get payloads place ≡ Some payload
+    → c.counts.items ≡ b.counts.items ++ count_in payload ∷ [] → c.txs.items ≡ b.txs.items ++ transactions_in payload → IsSliceOf payloads from c
+slice_more payloads from place payload b c slice at found counts txs =
+    let longer : length c.counts.items ≡ length b.counts.items + 1 = ap length counts ∙ length-append b.counts.items (count_in payload ∷ []) in
+    let next : suc place ≡ from + length c.counts.items = omega (arith, at, longer) in
+    record {
+      batches = slice.batches ++ payload ∷ [];
+      split = slice.split ∙ ap (λ n. slice.batches ++ drop n payloads) at ∙ ap (λ (t : List (List ℕ)). slice.batches ++ t) (drop_next payloads place payload found ∙ ap (λ n. payload ∷ drop n payloads) next)
+          ∙ sym (append_assoc slice.batches (payload ∷ []) (drop (from + length c.counts.items) payloads));
+      counts_are = counts ∙ ap (λ (t : List (Option ℕ)). t ++ count_in payload ∷ []) slice.counts_are ∙ sym (map-append count_in slice.batches (payload ∷ []));
+      txs_are = txs ∙ ap (λ (t : List (Option Transaction)). t ++ transactions_in payload) slice.txs_are ∙ ap (λ (t : List (Option Transaction)). transactions_of slice.batches ++ t) (sym (transactions-one payload)) ∙ sym (transactions-append slice.batches (payload ∷ []));
+    }
+
+-- ---- executing one slice after another
+
+pub way_begins : (payloads : List (List ℕ)) (l : Ledger) → IsOnTheWay payloads l l
+way_begins payloads l = record {
+  done = [];
+  split = refl;
+  ran = record { version = refl; counts_are = sym (append-nil l.counts.items); receipts = sym (append-nil l.receipts.items); rows = refl };
+}
+
+-- a slice from the first batch on that a ledger has not executed
+pub slice_here : (payloads : List (List ℕ)) (from : ℕ) (b : Batches) (l : Ledger) → from ≡ vec_len l.counts → IsSliceOf payloads from b → IsSliceOf payloads (length l.counts.items) b
+slice_here payloads from b l e slice = subst (λ (n : ℕ). IsSliceOf payloads n b) (e ∙ l.counts.ok.0) slice
+
+-- the batches of a slice that is executed
+slice_executed : (payloads : List (List ℕ)) (b : Batches) (now next : Ledger) (slice : IsSliceOf payloads (length now.counts.items) b) → HasRun b.counts.items b.txs.items now next → HasExecuted slice.batches now next
+slice_executed payloads b now next slice ran = subst (λ (s : List (Option ℕ) × List (Option Transaction)). HasRun s.0 s.1 now next) (λ i. (slice.counts_are i, slice.txs_are i)) ran
+
+pub way_goes_on : (payloads : List (List ℕ)) (b : Batches) (first now next : Ledger) → IsOnTheWay payloads first now → IsSliceOf payloads (length now.counts.items) b → HasRun b.counts.items b.txs.items now next → IsOnTheWay payloads first next
+way_goes_on payloads b first now next way slice ran =
+    let longer : length next.counts.items ≡ length now.counts.items + length b.counts.items = counts_after b.counts.items b.txs.items now next ran in
+    record {
+      done = way.done ++ slice.batches;
+      split = way.split ∙ ap (λ (t : List (List ℕ)). way.done ++ t) (slice.split ∙ ap (λ n. slice.batches ++ drop n payloads) (sym longer)) ∙ sym (append_assoc way.done slice.batches (left_of payloads next));
+      ran = executed_then way.done slice.batches first now next way.ran (slice_executed payloads b now next slice ran);
+    }
+
+pub way_ends : (payloads : List (List ℕ)) (first now : Ledger) → IsOnTheWay payloads first now → length payloads ≤ length now.counts.items → HasExecuted (left_of payloads first) first now
+way_ends payloads first now way all =
+    let whole : way.done ≡ left_of payloads first = sym (way.split ∙ ap (λ (t : List (List ℕ)). way.done ++ t) (drop_of_length-le payloads all) ∙ append-nil way.done) in
+    subst (λ (t : List (List ℕ)). HasExecuted t first now) whole way.ran
+
+-- the transactions of the next slice are among those that are left
+sizes : (payloads : List (List ℕ)) (b : Batches) (first now : Ledger) → IsOnTheWay payloads first now → IsSliceOf payloads (length now.counts.items) b
+    → (length b.txs.items ≤ length (transactions_of (left_of payloads now))) × (length now.receipts.items + length (transactions_of (left_of payloads now)) ≡ length first.receipts.items + length (transactions_of (left_of payloads first)))
+sizes payloads b first now way slice =
+    let rest = drop (length now.counts.items + length b.counts.items) payloads in
+    let part : length (transactions_of (left_of payloads now)) ≡ length (transactions_of slice.batches) + length (transactions_of rest) =
+    ap (λ (t : List (List ℕ)). length (transactions_of t)) slice.split ∙ ap length (transactions-append slice.batches rest) ∙ length-append (transactions_of slice.batches) (transactions_of rest) in
+    let whole : length (transactions_of (left_of payloads first)) ≡ length (transactions_of way.done) + length (transactions_of (left_of payloads now)) =
+    ap (λ (t : List (List ℕ)). length (transactions_of t)) way.split ∙ ap length (transactions-append way.done (left_of payloads now)) ∙ length-append (transactions_of way.done) (transactions_of (left_of payloads now)) in
+    (omega (arith, part, ap length slice.txs_are), omega (arith, whole, receipts_after (map count_in way.done) (transactions_of way.done) first now way.ran))
+
+-- the places of the next slice are among those of all that is left
+pub places_within : (payloads : List (List ℕ)) (b : Batches) (first now : Ledger) → IsOnTheWay payloads first now → IsSliceOf payloads (length now.counts.items) b
+    → (length first.receipts.items ≤ length now.receipts.items) × (length now.receipts.items + length b.txs.items ≤ length first.receipts.items + length (transactions_of (left_of payloads first)))
+places_within payloads b first now way slice =
+    let s = sizes payloads b first now way slice in
+    (omega (arith, receipts_after (map count_in way.done) (transactions_of way.done) first now way.ran), omega (arith, s.0, s.1))
+
+pub room_for_slice : (payloads : List (List ℕ)) (b : Batches) (first now : Ledger) → IsOnTheWay payloads first now → IsSliceOf payloads (length now.counts.items) b
+    → HasRoom first.state.version (length (transactions_of (left_of payloads first))) first.state.rows → HasRoom now.state.version (length b.txs.items) now.state.rows
+room_for_slice payloads b first now way slice room =
+    let left = room_after way.done (left_of payloads now) first now way.ran (subst (λ (t : List (List ℕ)). HasRoom first.state.version (length (transactions_of t)) first.state.rows) way.split room) in
+    room_weaker now.state.version (length (transactions_of (left_of payloads now))) (length b.txs.items) now.state.rows (sizes payloads b first now way slice).0 left
+
+-- a place of some is one of more
+pub leaves_weaker : (first end start stop : ℕ) (e : Fault) → start ≤ first → end ≤ stop → Leaves first end e → Leaves start stop e
+leaves_weaker first end start stop (fault.Feed found) low high h = h
+leaves_weaker first end start stop (fault.Collision id) low high h = h
+leaves_weaker first end start stop (fault.Equivocation round author one other) low high h = h
+leaves_weaker first end start stop (fault.Unfinished place) low high h = let from = h.0 in let to = h.1 in (omega arith, omega arith)
+leaves_weaker first end start stop (fault.Write written) low high h = h
+leaves_weaker first end start stop fault.Memory low high h = tt

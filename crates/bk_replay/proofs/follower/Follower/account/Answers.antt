@@ -1,0 +1,11 @@
+use Rattle.std.proofs.Common.{Option, sym, ap, ◌∙◌}
+use Rattle.bk_rules.specs.Rows.{account_at}
+use Rattle.bk_replay.specs.Follower.{Executed}
+use Rattle.bk_replay.specs.Queries.{rows_of_executed}
+use Rattle.bk_replay.proofs.follower.Follower.account.Goals as goal
+
+pub returns-in-Some-clause-account : goal.returns-in-Some-clause-account
+returns-in-Some-clause-account c = c.account.ensures ∙ ap (λ (o : Option Executed). account_at (rows_of_executed o) c.args.id) (sym c.in-Some.ensures)
+
+pub returns-in-None-clause-account : goal.returns-in-None-clause-account
+returns-in-None-clause-account c = ap (λ (o : Option Executed). account_at (rows_of_executed o) c.args.id) (sym c.in-None.ensures)

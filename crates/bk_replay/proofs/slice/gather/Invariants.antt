@@ -1,0 +1,10 @@
+use Rattle.std.proofs.Common.{◌≡◌, ◌+◌, ◌^◌, ◌<◌, length}
+use Rattle.bk_replay.specs.private.Slices.{IsSliceOf}
+use Rattle.bk_replay.proofs.slice.gather.Given as goal
+
+abbrev pub invariant-loop-place : goal.invariant-loop-place
+invariant-loop-place l = record {
+  slice : IsSliceOf l.intake.ordered.payloads.list l.from l.batches;
+  at : l.from + length l.batches.counts.items ≡ l.place;
+  few : length l.batches.txs.items < 2 ^ 16;
+}

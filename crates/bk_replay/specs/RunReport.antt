@@ -1,0 +1,99 @@
+-- The report of a run: what the rules read off the frames of a feed as a set, and the fold over its batches.
+use Rattle.std.specs.Prelude.{◌≡◌, ℕ, ◌<◌, List, [], length, drop, Option, Some, None, option_map, unwrap_or, slice_get}
+use Rattle.bk_frames.specs.Feed.{Frame, FeedValue, IsFeed, spelling, genesis_of}
+use Rattle.bk_committee.specs.Payload.{CommitteeValue, committee_of}
+use Rattle.bk_order.specs.Frames.{AreRejects}
+use Rattle.bk_order.specs.Intake.{first_frame}
+use Rattle.bk_order.specs.Orders.{Ordered, AreWaiting, IsOrderOf}
+use Rattle.bk_order.specs.Stops.{IsStop, HasNoStop}
+use Rattle.bk_order.specs.declared.stop.Stop.TheVariants as stop
+use Rattle.bk_rules.specs.Fold.{state_after, receipts_of}
+use Rattle.bk_replay.specs.declared.fault.Fault.{Fault}
+use Rattle.bk_replay.specs.declared.fault.Fault.TheVariants as fault
+use Rattle.bk_replay.specs.declared.status.Status.{Status}
+use Rattle.bk_replay.specs.declared.status.Status.TheVariants as status
+use Rattle.bk_replay.specs.Lines.{text_of}
+use Rattle.bk_replay.specs.Report.{transactions_of}
+use Rattle.bk_replay.specs.RunLines.{Reading, run_lines}
+
+-- the committee of a feed: the one that frame 0 holds
+abbrev pub committee_in : FeedValue → CommitteeValue
+committee_in feed =
+    committee_of feed.version (unwrap_or (option_map (λ (f : Frame). f.payload) (slice_get feed.frames 0)) [])
+
+-- the frames after the committee and the genesis
+abbrev pub later_frames : FeedValue → List Frame
+later_frames feed = drop 2 feed.frames
+
+-- what the frames of a feed hold has neither a collision nor twins
+abbrev pub HasNoStopIn : FeedValue → Type 0
+HasNoStopIn feed = HasNoStop (committee_in feed) (later_frames feed)
+
+-- the order of what the frames of a feed hold
+abbrev pub IsOrderIn : FeedValue → Ordered → Type 0
+IsOrderIn feed o = IsOrderOf (committee_in feed) (later_frames feed) o
+
+-- the transactions of an order, in version and from opening accounts of a feed, give these receipts and accounts
+pub record IsFoldIn (feed : FeedValue) (r : Reading) : Type 0 where
+  pub receipts : r.receipts
+      ≡ receipts_of feed.version (transactions_of r.ordered.payloads.list) (genesis_of feed.frames)
+  pub rows : r.rows
+      ≡ state_after feed.version (transactions_of r.ordered.payloads.list) (genesis_of feed.frames)
+
+-- what the rules read off the frames of a feed
+pub record Reads (feed : FeedValue) (r : Reading) : Type 0 where
+  pub rejected : AreRejects (committee_in feed) first_frame (later_frames feed) r.rejected
+  pub waiting : AreWaiting (committee_in feed) (later_frames feed) r.waiting
+  pub ordered : IsOrderIn feed r.ordered
+  pub folded : IsFoldIn feed r
+
+-- how far a report goes: to the end of the order, or to a batch that is missing
+abbrev pub status_of : Option (List ℕ) → Status
+status_of None = status.Whole
+status_of (Some digest) = status.Missing
+
+-- a text and a status are the report of a feed: nothing stops it, and the text is that of the lines that the rules read
+-- off its frames
+pub record IsReportOf (feed : FeedValue) (text : List ℕ) (answer : Status) : Type 0 where
+  pub clear : HasNoStopIn feed
+  pub reading : Reading
+  pub reads : Reads feed reading
+  pub report : text ≡ text_of (run_lines (committee_in feed) (length feed.frames) reading)
+  pub status_is : answer ≡ status_of reading.ordered.payloads.missing
+
+-- and of bytes, where they are the spelling of that feed
+pub record IsReport (bytes text : List ℕ) (answer : Status) : Type 0 where
+  pub feed : FeedValue
+  pub good : IsFeed feed
+  pub spelled : bytes ≡ spelling feed
+  pub report : IsReportOf feed text answer
+
+-- a feed is stopped so: by its least collision, and only where there is none by the evidence of twins
+abbrev pub IsStopIn : FeedValue → Fault → Type 0
+IsStopIn feed (fault.Collision id) = IsStop (committee_in feed) (later_frames feed) (stop.Collision id)
+IsStopIn feed (fault.Equivocation round author first second) =
+    IsStop (committee_in feed) (later_frames feed)
+    (stop.Twins (record { round = round; author = author; first = first; second = second }))
+IsStopIn feed (fault.Feed found) = ⊥
+IsStopIn feed (fault.Unfinished place) = ⊥
+IsStopIn feed (fault.Write written) = ⊥
+IsStopIn feed fault.Memory = ⊥
+
+-- bytes are stopped so, where they are the spelling of a feed that is
+pub record IsStopped (bytes : List ℕ) (found : Fault) : Type 0 where
+  pub feed : FeedValue
+  pub good : IsFeed feed
+  pub spelled : bytes ≡ spelling feed
+  pub stop : IsStopIn feed found
+
+-- the order of a feed has a transaction at this place
+abbrev pub HasPlaceIn : FeedValue → ℕ → Type 0
+HasPlaceIn feed place =
+    (o : Ordered) × IsOrderIn feed o × (place < length (transactions_of o.payloads.list))
+
+-- and that of bytes, where they are the spelling of that feed
+pub record HasPlace (bytes : List ℕ) (place : ℕ) : Type 0 where
+  pub feed : FeedValue
+  pub good : IsFeed feed
+  pub spelled : bytes ≡ spelling feed
+  pub there : HasPlaceIn feed place

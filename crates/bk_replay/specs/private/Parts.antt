@@ -1,0 +1,28 @@
+-- What is known of a Follower's parts.
+use Rattle.std.specs.Prelude.{◌≡◌, None}
+use Rattle.bk_frames.specs.Device.{Device, Fails}
+use Rattle.bk_frames.specs.Cutting.{Cut, EndsShort}
+use Rattle.bk_replay.specs.declared.fault.Fault.{Fault}
+use Rattle.bk_replay.specs.declared.fault.Fault.TheVariants as fault
+use Rattle.bk_replay.specs.declared.opening.Opened.{Opened}
+use Rattle.bk_replay.specs.Answers.{IsUntouched}
+use Rattle.bk_replay.specs.Finishing.{OfFeed, ReportStops}
+use Rattle.bk_replay.specs.Follower.{Followed}
+use Rattle.bk_replay.specs.RunReport.{IsStopIn, HasPlaceIn}
+
+-- a Follower of these parts, in which no fault stands
+abbrev pub followed : Cut → Opened → Followed
+followed cut opened = record { cut = cut; committee = opened.committee; book = opened.book; fault = None }
+
+-- why a feed that is followed did not end in a report, but for the fault that stands after it
+abbrev pub EndFails : Followed → Followed → Device → Device → Fault → Type 0
+EndFails old new before after (fault.Feed found) = EndsShort old.cut found × IsUntouched before after
+EndFails old new before after (fault.Collision id) =
+    OfFeed old (λ feed. IsStopIn feed (fault.Collision id)) × (new ≡ old) × IsUntouched before after
+EndFails old new before after (fault.Equivocation round author first second) =
+    OfFeed old (λ feed. IsStopIn feed (fault.Equivocation round author first second)) × (new ≡ old) × IsUntouched before after
+EndFails old new before after (fault.Unfinished place) =
+    OfFeed old (λ feed. HasPlaceIn feed place) × IsUntouched before after
+EndFails old new before after (fault.Write written) =
+    OfFeed old (λ feed. ReportStops feed written before after) × Fails before after
+EndFails old new before after fault.Memory = IsUntouched before after

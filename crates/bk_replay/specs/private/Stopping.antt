@@ -1,0 +1,29 @@
+-- The faults of stops, and which faults stand.
+use Rattle.std.specs.Prelude.{Option, Some, None, Bool, true, false}
+use Rattle.bk_order.specs.declared.stop.Stop.{Stop}
+use Rattle.bk_order.specs.declared.stop.Stop.TheVariants as stop
+use Rattle.bk_replay.specs.declared.fault.Fault.{Fault}
+use Rattle.bk_replay.specs.declared.fault.Fault.TheVariants as fault
+
+-- the fault of a stop
+abbrev pub fault_of : Stop → Fault
+fault_of (stop.Collision id) = fault.Collision id
+fault_of (stop.Twins e) = fault.Equivocation e.round e.author e.first e.second
+
+-- the fault that stands after a call that failed: none after a stop
+abbrev pub kept_fault : Fault → Option Fault
+kept_fault (fault.Feed found) = Some (fault.Feed found)
+kept_fault (fault.Collision id) = None
+kept_fault (fault.Equivocation round author first second) = None
+kept_fault (fault.Unfinished place) = Some (fault.Unfinished place)
+kept_fault (fault.Write written) = Some (fault.Write written)
+kept_fault fault.Memory = Some fault.Memory
+
+-- a fault that is a stop
+abbrev pub stops : Fault → Bool
+stops (fault.Feed found) = false
+stops (fault.Collision id) = true
+stops (fault.Equivocation round author first second) = true
+stops (fault.Unfinished place) = false
+stops (fault.Write written) = false
+stops fault.Memory = false
