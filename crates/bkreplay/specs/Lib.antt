@@ -1,2 +1,3 @@
+pub mod Exits
 pub mod Faults
 pub mod CommandLine

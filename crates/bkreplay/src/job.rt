@@ -1,18 +1,28 @@
 //! What the command line asks for.
 
-ghost use Rattle.std.specs.Prelude.{◌≡◌, true, false, map, option_map, string_bytes, IfOk, IfErr};
-ghost use Rattle.clap.specs.Words.{app_of, has_subcommand, kind_of, subcommand_of, subcommand_rows_of, takes};
+ghost use Rattle.std.specs.Prelude.{◌≡◌, true, false, map, option_map, string_bytes, codes, IfOk, IfErr};
+ghost use Rattle.clap.specs.Words.{Row, app_of, rule_of, has_subcommand, kind_of, one_text, found_of};
+ghost use Rattle.clap.specs.Words.{subcommand_of, subcommand_rows_of, takes};
 ghost use Rattle.clap.specs.declared.builder.command.Command.TheViews.{out-Command};
-ghost use Rattle.bkreplay.specs.CommandLine.{IsJobOf, command_line};
+ghost use Rattle.bkreplay.specs.CommandLine.{IsJobOf, AreNamedBy, command_line, run_line, apply_line, file_rule};
 
+use crate::help;
+use crate::workers::Workers;
 use clap::error::ErrorKind;
-use clap::{Arg, ArgAction, ArgMatches, Command, Error};
+use clap::{Arg, ArgAction, ArgMatches, Command, Error, value_parser};
 use std::alloc::{AllocError, Global};
 use std::convert::AsStr;
 
 /// What the program is to do.
 #[derive(Debug, Drop)]
 pub enum Job {
+    /// Finds the committed order of a feed, executes its batches and writes the report of the run.
+    Run {
+        /// How many threads execute.
+        workers: Workers,
+        /// The path of the feed; standard input where there is none.
+        file: Option<String>,
+    },
     /// Executes the batches of a feed in feed order and writes the apply report.
     Apply {
         /// The path of the feed; standard input where there is none.
@@ -20,48 +30,73 @@ pub enum Job {
     },
 }
 
-const ABOUT: &str = "Replays a ledger from the bytes of a feed";
+impl Job {
+    /// The path of the feed, where one is named.
+    pub(crate) fn file(&self) -> Option<&str> {
+        match self {
+            Job::Run { file, .. } => file.as_deref(),
+            Job::Apply { file } => file.as_deref(),
+        }
+    }
+}
 
-const APPLY_ABOUT: &str = "Execute the batches of a feed in feed order and write the apply report";
+// The argument FILE.
+fn file_arg<'a>(alloc: Global) -> Arg<'a>
+    ensures rule { rule_of result ≡ file_rule }
+    ensures local { result.global ≡ false }
+{
+    Arg::new(alloc, "FILE")
+        .action(ArgAction::Set)
+        .help(help::FILE)
+}
 
-const FILE_HELP: &str = "The path of the feed; standard input where it is left out";
+// The command `run`.
+fn run_command<'a>(alloc: Global) -> Result<Command<'a>, AllocError>
+    ensures line { IfOk result (λ c. app_of c ≡ run_line) }
+    ensures local { IfOk result (λ c. (out-Command c).has_globals ≡ false) }
+{
+    let workers = Arg::new(alloc, "workers")
+        .long("workers")
+        .action(ArgAction::Set)
+        .value_name("W")
+        .value_parser(value_parser!(u8).range(1..=64))
+        .help(help::WORKERS);
+    Command::new(alloc, "run")
+        .about(help::RUN)
+        .after_help(help::AFTER_RUN)
+        .arg(workers)?
+        .arg(file_arg(alloc))
+}
 
-const HELP: &str = "\
-Reads a feed: the bytes `BKF1`, then frames. Writes a report of one line each to standard output:
-batch INDEX COUNT, tx PLACE STATUS MOVED, account ID BALANCE SEQ, and money TOTAL. A fault is one line on
-standard error.
+// The command `apply`.
+fn apply_command<'a>(alloc: Global) -> Result<Command<'a>, AllocError>
+    ensures line { IfOk result (λ c. app_of c ≡ apply_line) }
+    ensures local { IfOk result (λ c. (out-Command c).has_globals ≡ false) }
+{
+    Command::new(alloc, "apply")
+        .about(help::APPLY)
+        .after_help(help::AFTER_APPLY)
+        .arg(file_arg(alloc))
+}
 
-Exit status:
-  0  the whole report is written
-  1  the command line is wrong
-  2  the feed is wrong: feed fault CODE at OFFSET, with a code of 1 to 7
-  4  a read, a write or memory failed
-
-Example:
-  bkreplay apply examples/apply_two_payments.feed";
-
-/// The command line, as `--help` tells it.
+// The command line, as `--help` tells it.
 fn command<'a>(alloc: Global) -> Result<Command<'a>, AllocError>
     ensures line { IfOk result (λ c. app_of c ≡ command_line) }
     ensures local { IfOk result (λ c. (out-Command c).has_globals ≡ false) }
 {
-    let file = Arg::new(alloc, "FILE")
-        .action(ArgAction::Set)
-        .help(FILE_HELP);
-    let apply = Command::new(alloc, "apply")
-        .about(APPLY_ABOUT)
-        .after_help(HELP)
-        .arg(file)?;
+    let run = run_command(alloc)?;
+    let apply = apply_command(alloc)?;
     Command::new(alloc, "bkreplay")
         .version("0.1.0")
-        .about(ABOUT)
-        .after_help(HELP)
+        .about(help::PROGRAM)
+        .after_help(help::AFTER_PROGRAM)
         .disable_help_subcommand(true)
         .subcommand_required(true)
+        .subcommand(run)?
         .subcommand(apply)
 }
 
-/// The matches of the words; every command line that is whole names a command.
+// The matches of the words; every command line that is whole names a command.
 fn matches_of<'a, S: AsStr>(alloc: Global, words: &'a [S]) -> Result<ArgMatches<'a>, Error>
     ensures found { IfOk result (λ m. subcommand_rows_of m
         ≡ subcommand_of command_line (map S.text words.now)) }
@@ -72,13 +107,23 @@ fn matches_of<'a, S: AsStr>(alloc: Global, words: &'a [S]) -> Result<ArgMatches<
     command(alloc)?.try_get_matches_from(words)
 }
 
-/// The text in a string of its own, where there is one.
+// The text in a string of its own, where there is one.
 fn owned(alloc: Global, text: Option<&str>) -> Result<Option<String>, AllocError>
     ensures { IfOk result (λ o. option_map string_bytes o ≡ option_map (λ s. s.now) text.entry) }
 {
     match text {
         Some(text) => Ok(Some(String::from_str(alloc, text)?)),
         None => Ok(None),
+    }
+}
+
+// The value of `--workers`, one where it is left out. The parser has refused what is not 1 to 64.
+fn workers_in(found: &ArgMatches<'_>) -> Workers
+    ensures { AreNamedBy (one_text (found_of found.now) (codes "workers")) result }
+{
+    match found.get_one::<u8>("workers") {
+        Some(count) => Workers::new(count).unwrap_or(Workers::one()),
+        None => Workers::one(),
     }
 }
 
@@ -91,9 +136,13 @@ pub fn parse<'a, S: AsStr>(alloc: Global, words: &'a [S]) -> Result<Job, Error>
         → kind_of e ≡ ErrorKind.OutOfMemory) }
 {
     let matches = matches_of(alloc, words)?;
-    let Some((_, apply)) = matches.subcommand() else {
+    let Some((name, found)) = matches.subcommand() else {
         unreachable!()
     };
-    let file = owned(alloc, apply.get_str("FILE"))?;
+    let file = owned(alloc, found.get_str("FILE"))?;
+    if name == "run" {
+        let workers = workers_in(found);
+        return Ok(Job::Run { workers, file });
+    }
     Ok(Job::Apply { file })
 }

@@ -1,10 +1,13 @@
 //! The program `bkreplay`: reads the command line, opens the files that it names and runs the job.
 #![tactic(auto)]
 
+mod exit;
 mod fault_line;
+mod help;
 mod job;
 mod program;
 mod running;
+mod workers;
 
 use crate::program::program;
 use bk_frames::Counted;
@@ -13,7 +16,7 @@ use std::process::ExitCode;
 fn main(rt: HostRuntime) -> ExitCode {
     let mut out = Counted::new(rt.stdout());
     let mut err = Counted::new(rt.stderr());
-    ExitCode::from(program(&rt, &mut out, &mut err))
+    ExitCode::from(program(&rt, &mut out, &mut err).number())
 }
 
 #[cfg(test)]

@@ -1,56 +1,125 @@
 //! Runs a job over sources and sinks.
 
-ghost use Rattle.std.specs.Prelude.{◌≡◌, ◌≢◌, ◌⊎◌};
+ghost use Rattle.std.specs.Prelude.{◌≡◌, true, false, OnOk, IfOk, IfErr};
 ghost use Rattle.bk_frames.specs.Device.{CanBeUsed, Works, IfKnown};
-ghost use Rattle.bk_replay.specs.Answers.{devices, IsUntouched};
+ghost use Rattle.bk_replay.specs.Answers.{devices, FailsBy, IsUntouched};
+ghost use Rattle.bk_replay.specs.Replaying.{RunFailsBy};
 ghost use Rattle.bk_replay.specs.declared.fault.Fault.{Fault as AnyFault};
-ghost use Rattle.bkreplay.specs.Faults.{EndsBy, ReportIsOut, AreBroken};
+ghost use Rattle.bkreplay.specs.Exits.{is_answer, is_refusal, may_end};
+ghost use Rattle.bkreplay.specs.Faults.{EndsBy, JobFailsBy, AnswerIsOut, RunIsOut, ReportIsOut, AreToBlame};
 
-use crate::fault_line::{exit_status, tell};
+use crate::exit::Exit;
+use crate::fault_line::tell;
 use crate::job::Job;
+use crate::workers::Workers;
 use bk_frames::{Sink, Source};
-use bk_replay::apply;
+use bk_pool::Open;
+use bk_replay::{Fault, apply, replay};
+use std::sync::Wait;
+use std::thread::Threads;
 
-/// Runs a job and answers the exit status of the program.
+// Writes the report of a run.
+fn run<R: Threads + Wait + Sync + AllocGlobal, S: Source, O: Sink>(
+    rt: &R,
+    workers: Workers,
+    source: &mut S,
+    out: &mut O,
+) -> Result<Exit, Fault>
+    requires source { CanBeUsed (S.state source.old) }
+    requires out { CanBeUsed (O.state out.old) }
+    ensures report { IfOk result (λ end. IfKnown (S.state source.old)
+        (RunIsOut end (O.state out.old) (O.state out.new))) }
+    ensures answer { IfOk result (λ end. is_answer end ≡ true) }
+    ensures sound { OnOk result (Works (S.state source.old) (S.state source.new)
+        × Works (O.state out.old) (O.state out.new)) }
+    ensures fault { IfErr result (λ e. RunFailsBy e (devices (S.state source.old) (O.state out.old))
+        (devices (S.state source.new) (O.state out.new))) }
+{
+    let status = replay(rt, rt.alloc(), source, out, workers.count(), &Open)?;
+    Ok(Exit::at(status))
+}
+
+// Writes the apply report.
+fn apply_all<R: AllocGlobal, S: Source, O: Sink>(
+    rt: &R,
+    source: &mut S,
+    out: &mut O,
+) -> Result<Exit, Fault>
+    requires source { CanBeUsed (S.state source.old) }
+    requires out { CanBeUsed (O.state out.old) }
+    ensures report { IfOk result (λ end. IfKnown (S.state source.old)
+        (ReportIsOut end (O.state out.old) (O.state out.new))) }
+    ensures answer { IfOk result (λ end. end ≡ Exit.Whole) }
+    ensures sound { OnOk result (Works (S.state source.old) (S.state source.new)
+        × Works (O.state out.old) (O.state out.new)) }
+    ensures fault { IfErr result (λ e. FailsBy e (devices (S.state source.old) (O.state out.old))
+        (devices (S.state source.new) (O.state out.new))) }
+{
+    apply(rt.alloc(), source, out)?;
+    Ok(Exit::Whole)
+}
+
+// Writes the answer of a job.
+fn answer<R: Threads + Wait + Sync + AllocGlobal, S: Source, O: Sink>(
+    rt: &R,
+    job: &Job,
+    source: &mut S,
+    out: &mut O,
+) -> Result<Exit, Fault>
+    requires source { CanBeUsed (S.state source.old) }
+    requires out { CanBeUsed (O.state out.old) }
+    ensures report { IfOk result (λ end. IfKnown (S.state source.old)
+        (AnswerIsOut job.now end (O.state out.old) (O.state out.new))) }
+    ensures answer { IfOk result (λ end. (is_answer end ≡ true) × (may_end job.now end ≡ true)) }
+    ensures sound { OnOk result (Works (S.state source.old) (S.state source.new)
+        × Works (O.state out.old) (O.state out.new)) }
+    ensures fault { IfErr result (λ e. JobFailsBy job.now e
+        (devices (S.state source.old) (O.state out.old))
+        (devices (S.state source.new) (O.state out.new))) }
+{
+    match job {
+        Job::Run { workers, .. } => run(rt, *workers, source, out),
+        Job::Apply { .. } => apply_all(rt, source, out),
+    }
+}
+
+/// Runs a job, and answers how the program ends.
 ///
 /// The sources are the files that the job names, in their order; a job that names fewer reads fewer. `out` is standard
 /// output and `err` standard error, whose failures count for nothing.
 ///
-/// - 0: the whole report is on `out`, and nothing on `err`.
-/// - 2: the bytes of the feed are wrong. The fault is one line on `err`, and nothing is on `out`.
-/// - 4: a read, a write or memory failed. The fault is one line on `err`; after a failed write `out` has the first
-///   bytes of the report, and else nothing.
-pub fn run_job<R: AllocGlobal, S1: Source, S2: Source, O: Sink, E: Sink>(
+/// - `Whole` and `Missing`: the whole report is on `out`, and nothing on `err`.
+/// - `WrongFeed` and `Stopped`: the bytes are to blame. The fault is one line on `err`, and nothing is on `out`.
+/// - `Failed`: a read, a write or memory failed, or a worker did not finish. The fault is one line on `err`; after a
+///   failed write `out` has the first bytes of the report, and else nothing.
+pub fn run_job<R: Threads + Wait + Sync + AllocGlobal, S1: Source, S2: Source, O: Sink, E: Sink>(
     rt: &R,
     job: &Job,
     first: &mut S1,
     _second: &mut S2,
     out: &mut O,
     err: &mut E,
-) -> u8
+) -> Exit
     requires first { CanBeUsed (S1.state first.old) }
     requires out { CanBeUsed (O.state out.old) }
     requires err { CanBeUsed (E.state err.old) }
-    ensures whole { result ≡ 0 → IfKnown (S1.state first.old)
-        (ReportIsOut (O.state out.old) (O.state out.new)) }
-    ensures sound { result ≡ 0 → Works (S1.state first.old) (S1.state first.new)
+    ensures whole { is_answer result ≡ true → IfKnown (S1.state first.old)
+        (AnswerIsOut job.now result (O.state out.old) (O.state out.new)) }
+    ensures sound { is_answer result ≡ true → Works (S1.state first.old) (S1.state first.new)
         × Works (O.state out.old) (O.state out.new) × (err.new ≡ err.old) }
-    ensures fault { result ≢ 0 → (e : AnyFault)
-        × EndsBy e result (devices (S1.state first.old) (O.state out.old))
+    ensures fault { is_answer result ≡ false → (e : AnyFault)
+        × EndsBy job.now e result (devices (S1.state first.old) (O.state out.old))
         (devices (S1.state first.new) (O.state out.new)) (E.state err.old) (E.state err.new) }
-    ensures statuses { (result ≡ 0) ⊎ (result ≡ 2) ⊎ (result ≡ 4) }
-    ensures broken { result ≡ 2 → IfKnown (S1.state first.old) AreBroken
+    ensures ends { may_end job.now result ≡ true }
+    ensures blame { is_refusal result ≡ true → IfKnown (S1.state first.old) (AreToBlame result)
         × IsUntouched (O.state out.old) (O.state out.new) }
     ensures second { _second.new ≡ _second.old }
 {
-    let answer = match job {
-        Job::Apply { .. } => apply(rt.alloc(), first, out),
-    };
-    match answer {
-        Ok(()) => 0,
+    match answer(rt, job, first, out) {
+        Ok(exit) => exit,
         Err(fault) => {
             tell(&fault, err);
-            exit_status(&fault)
+            Exit::after(&fault)
         }
     }
 }

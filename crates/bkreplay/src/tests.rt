@@ -1,3 +1,4 @@
+mod faults;
 mod feeds;
 mod runs;
 mod words;

@@ -7,10 +7,11 @@ use std::io;
 use std::io::{ErrorKind, Read, Write};
 use std::test::Fail;
 
-/// Gives its bytes, and fails the call after `calls` good ones.
+/// Gives at most `most` bytes a call, and fails the call after `calls` good ones.
 #[derive(Drop)]
 pub struct Reader<'a> {
     pub rest: &'a [u8],
+    pub most: usize,
     pub calls: u32,
 }
 
@@ -20,7 +21,7 @@ impl Read for Reader<'_> {
             return Err(io::Error::from(ErrorKind::Other));
         }
         self.calls -= 1;
-        let count = self.rest.len().min(buf.len());
+        let count = self.rest.len().min(buf.len()).min(self.most);
         buf[..count].copy_from_slice(&self.rest[..count]);
         self.rest = &self.rest[count..];
         Ok(count)

@@ -9,7 +9,9 @@ use crate::running::run_job;
 use bk_frames::Counted;
 use std::alloc::Global;
 use std::process::Abort;
+use std::sync::Wait;
 use std::test::Fail;
+use std::thread::Threads;
 
 /// More calls than any of these runs makes.
 const ALL: u32 = 1_000_000;
@@ -27,13 +29,21 @@ struct Outcome {
 
 /// Runs `apply` over a reader that fails after `reads` calls, and a writer that takes at most `most` bytes a call and
 /// fails after `writes` calls.
-fn run<R: AllocGlobal>(rt: &R, feed: &[u8], reads: u32, writes: u32, most: usize) -> Outcome {
+fn run<R: AllocGlobal + Threads + Wait + Sync>(
+    rt: &R,
+    feed: &[u8],
+    reads: u32,
+    writes: u32,
+    most: usize,
+) -> Outcome {
     let mut first = Counted::new(Reader {
         rest: feed,
+        most: usize::MAX,
         calls: reads,
     });
     let mut second = Counted::new(Reader {
         rest: b"",
+        most: 0,
         calls: 0,
     });
     let mut out = Counted::new(Writer {
@@ -43,15 +53,15 @@ fn run<R: AllocGlobal>(rt: &R, feed: &[u8], reads: u32, writes: u32, most: usize
     });
     let mut err = Counted::new(Vec::new(rt.alloc()));
     let job = Job::Apply { file: None };
-    let status = run_job(rt, &job, &mut first, &mut second, &mut out, &mut err);
+    let exit = run_job(rt, &job, &mut first, &mut second, &mut out, &mut err);
     Outcome {
-        status,
+        status: exit.number(),
         out: out.into_inner().held,
         err: err.into_inner(),
     }
 }
 
-fn expect<R: AllocGlobal + Abort>(
+fn expect<R: AllocGlobal + Threads + Wait + Sync + Abort>(
     rt: &R,
     name: &str,
     feed: &[u8],

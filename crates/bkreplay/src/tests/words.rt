@@ -2,26 +2,73 @@
 
 use crate::job::{Job, parse};
 use clap::error::ErrorKind;
+use std::process::Abort;
 use std::test::Fail;
 
-#[test]
-fn words_of_a_job(rt: HostRuntime) -> Result<(), Fail> {
-    let alloc = rt.alloc();
-    let Job::Apply { file } = parse(alloc, &["bkreplay", "apply"])?;
-    assert!(rt; file.is_none());
-    let Job::Apply { file } = parse(alloc, &["bkreplay", "apply", "a b.feed"])?;
-    assert_eq!(rt; file.ok_or("a file is named")?.as_str(), "a b.feed");
+/// The words name a run by so many workers, or `apply` where there are none.
+fn expect<R: AllocGlobal + Abort>(
+    rt: &R,
+    words: &[&str],
+    workers: Option<usize>,
+    path: Option<&str>,
+) -> Result<(), Fail> {
+    let job = parse(rt.alloc(), words)?;
+    assert!(rt; job.file() == path);
+    match job {
+        Job::Run { workers: found, .. } => assert!(rt; workers == Some(found.count())),
+        Job::Apply { .. } => assert!(rt; workers.is_none()),
+    }
     Ok(())
 }
 
 #[test]
+fn words_of_a_job(rt: HostRuntime) -> Result<(), Fail> {
+    let path = "a b.feed";
+    expect(&rt, &["bkreplay", "run"], Some(1), None)?;
+    expect(&rt, &["bkreplay", "run", path], Some(1), Some(path))?;
+    expect(&rt, &["bkreplay", "run", "--workers=1"], Some(1), None)?;
+    expect(
+        &rt,
+        &["bkreplay", "run", path, "--workers", "64"],
+        Some(64),
+        Some(path),
+    )?;
+    expect(
+        &rt,
+        &["bkreplay", "run", "--workers", "8", path],
+        Some(8),
+        Some(path),
+    )?;
+    expect(&rt, &["bkreplay", "apply"], None, None)?;
+    expect(&rt, &["bkreplay", "apply", path], None, Some(path))
+}
+
+#[test]
 fn words_of_no_job(rt: HostRuntime) -> Result<(), Fail> {
-    let lines: [(&[&str], ErrorKind); 6] = [
+    let lines: [(&[&str], ErrorKind); 12] = [
         (&["bkreplay"], ErrorKind::MissingSubcommand),
         (&["bkreplay", "replay"], ErrorKind::InvalidSubcommand),
+        (&["bkreplay", "run", "a", "b"], ErrorKind::UnknownArgument),
+        (
+            &["bkreplay", "run", "--workers", "0"],
+            ErrorKind::ValueValidation,
+        ),
+        (
+            &["bkreplay", "run", "--workers", "65"],
+            ErrorKind::ValueValidation,
+        ),
+        (
+            &["bkreplay", "run", "--workers", "two"],
+            ErrorKind::ValueValidation,
+        ),
+        (&["bkreplay", "run", "--workers"], ErrorKind::InvalidValue),
         (&["bkreplay", "apply", "a", "b"], ErrorKind::UnknownArgument),
-        (&["bkreplay", "apply", "--fast"], ErrorKind::UnknownArgument),
-        (&["bkreplay", "apply", "--help"], ErrorKind::DisplayHelp),
+        (
+            &["bkreplay", "apply", "--workers", "2"],
+            ErrorKind::UnknownArgument,
+        ),
+        (&["bkreplay", "run", "--help"], ErrorKind::DisplayHelp),
+        (&["bkreplay", "--help"], ErrorKind::DisplayHelp),
         (&["bkreplay", "--version"], ErrorKind::DisplayVersion),
     ];
     for (words, kind) in lines {

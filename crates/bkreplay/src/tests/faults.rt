@@ -1,0 +1,78 @@
+//! What tells a fault, and the exit status after it.
+
+use crate::exit::Exit;
+use crate::fault_line::tell;
+use bk_digest::Digest32;
+use bk_frames::{Counted, FaultCode, FeedFault};
+use bk_replay::{Fault, Status};
+use std::process::Abort;
+use std::test::Fail;
+
+const ABC: &str = "ba7816bf8f01cfea414140de5dae2223b00361a396177a9cb410ff61f20015ad";
+
+const EMPTY: &str = "e3b0c44298fc1c149afbf4c8996fb92427ae41e4649b934ca495991b7852b855";
+
+fn expect<R: AllocGlobal + Abort>(
+    rt: &R,
+    fault: Fault,
+    status: u8,
+    words: &[&str],
+) -> Result<(), Fail> {
+    let mut line = Vec::new(rt.alloc());
+    for word in words {
+        line.extend_from_slice(word.as_bytes())?;
+    }
+    line.push(b'\n')?;
+    let mut err = Counted::new(Vec::new(rt.alloc()));
+    tell(&fault, &mut err);
+    assert_eq!(rt; err.into_inner().as_slice(), line.as_slice(), "{fault}");
+    assert_eq!(rt; Exit::after(&fault).number(), status, "{fault}");
+    Ok(())
+}
+
+fn found(code: FaultCode, offset: u64) -> Fault {
+    Fault::Feed(FeedFault { offset, code })
+}
+
+#[test]
+fn faults_are_told(rt: HostRuntime) -> Result<(), Fail> {
+    let id = Digest32::of(b"abc");
+    let twins = Fault::Equivocation {
+        round: u32::MAX,
+        author: 255,
+        first: id,
+        second: Digest32::of(b""),
+    };
+    let place = u32::MAX;
+    expect(&rt, found(FaultCode::Magic, 0), 2, &["feed fault 1 at 0"])?;
+    expect(&rt, found(FaultCode::Extra, 51), 2, &["feed fault 7 at 51"])?;
+    expect(&rt, found(FaultCode::Read, 4), 4, &["feed fault 8 at 4"])?;
+    expect(
+        &rt,
+        found(FaultCode::Memory, u64::MAX),
+        4,
+        &["feed fault 9 at 18446744073709551615"],
+    )?;
+    expect(&rt, Fault::Collision { id }, 3, &["collision ", ABC])?;
+    expect(
+        &rt,
+        twins,
+        3,
+        &["equivocation 4294967295 255 ", ABC, " ", EMPTY],
+    )?;
+    expect(
+        &rt,
+        Fault::Unfinished { place },
+        4,
+        &["unfinished 4294967295"],
+    )?;
+    expect(&rt, Fault::Write { written: 7 }, 4, &["write failed"])?;
+    expect(&rt, Fault::Memory, 4, &["memory"])
+}
+
+#[test]
+fn exits_of_reports(rt: HostRuntime) {
+    assert_eq!(rt; Exit::at(Status::Whole).number(), 0);
+    assert_eq!(rt; Exit::at(Status::Missing).number(), 5);
+    assert_eq!(rt; Exit::WrongWords.number(), 1);
+}
