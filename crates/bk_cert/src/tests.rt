@@ -269,7 +269,7 @@ fn too_many_for_a_header(rt: HostRuntime) -> Result<(), Fail> {
     Ok(())
 }
 
-// Whether bytes are read that begin so, go on with so many digests of zeros, and end with nobody's seal.
+// Whether bytes are read that begin so, go on with this many digests of zeros, and end with nobody's seal.
 fn is_read_with(
     alloc: Global,
     head: &[u8],
