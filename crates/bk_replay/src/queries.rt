@@ -86,8 +86,8 @@ impl Follower {
     ///
     /// `Collision` or `Equivocation` where the whole frames so far are stopped.
     pub fn prove<R: Threads + Sync>(&self, rt: &R, id: u64) -> Result<Option<Proof>, Fault>
-        ensures proof { IfOk result (λ found. MatchOption found (IsAbsent (rows_in self.now.book) id)
-            (IsProofOf (rows_in self.now.book) id)) }
+        ensures proof { IfOk result (λ found. MatchOption found
+            (IsAbsent (rows_in self.now.book) id) (IsProofOf (rows_in self.now.book) id)) }
         ensures clear { OnOk result (NothingStops self.now) }
         ensures works { OnOk result (self.now.fault ≡ None) }
         ensures again { IfSome self.now.fault (λ f. result ≡ Err f) }
