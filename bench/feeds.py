@@ -1,0 +1,124 @@
+"""Feeds that the benchmarks make: accounts, batches of transactions drawn at random, and certificates that order them."""
+import hmac
+import os
+import random
+import struct
+from hashlib import sha256
+
+BATCH = 1_000
+MONEY = 1_000_000
+
+# length of the text, kind, count, declared accounts (mode, id), sequence number, from, then the body of the kind
+PAY = struct.Struct(">HBBBQBQQQQQ")  # to, amount
+PAY_IF = struct.Struct(">HBBBQBQBQQQQQQQ")  # to, amount, guard, min
+SWEEP = PAY  # to, keep
+SPLIT = struct.Struct(">HBBBQBQBQQQBQQQQ")  # two receivers: to, amount each
+
+
+def put_frame(out, kind, payload):
+    out.write(struct.pack(">BI", kind, len(payload)))
+    out.write(payload)
+
+
+def account_id(index):
+    """3, 10, 17 ..: an id is no index."""
+    return 7 * index + 3
+
+
+def batch_of(count, kinds, accounts, seqs, draw, sender_of=None):
+    """The payload of a batch: the kinds in turn, between accounts drawn at random. An amount is 1, and a SWEEP keeps
+    what accounts had at first, so that most accounts go on having enough to pay."""
+    payload = bytearray(2 + count * SPLIT.size)
+    struct.pack_into(">H", payload, 0, count)
+    at = 2
+    for place in range(count):
+        kind = kinds[place % len(kinds)]
+        sender = int(draw() * accounts) if sender_of is None else sender_of
+        to = int(draw() * (accounts - 1))
+        to += to >= sender
+        low, high = (sender, to) if sender < to else (to, sender)
+        seq = seqs[sender]
+        seqs[sender] = seq + 1
+        if kind in (1, 3):
+            layout, value = (PAY, 1) if kind == 1 else (SWEEP, MONEY)
+            layout.pack_into(
+                payload, at, layout.size - 2, kind, 2, 1, account_id(low), 1, account_id(high),
+                seq, account_id(sender), account_id(to), value,
+            )
+            at += layout.size
+            continue
+        # a third account: the guard, declared for reading, or the second receiver
+        third = int(draw() * (accounts - 2))
+        third += third >= low
+        third += third >= high
+        mode = 0 if kind == 2 else 1
+        declared = []
+        for index, way in sorted(((low, 1), (high, 1), (third, mode))):
+            declared += (way, account_id(index))
+        if kind == 2:
+            body = (account_id(to), 1, account_id(third), 1)
+        else:
+            first, second = sorted((to, third))
+            body = (2, account_id(first), 1, account_id(second), 1)
+        layout = PAY_IF if kind == 2 else SPLIT
+        layout.pack_into(payload, at, layout.size - 2, kind, 3, *declared, seq, account_id(sender), *body)
+        at += layout.size
+    return memoryview(payload)[:at]
+
+
+def put_opening(out, keys, accounts):
+    """The magic of version One, the committee of these keys, and the accounts."""
+    out.write(b"BKF1")
+    put_frame(out, 1, bytes([len(keys)]) + b"".join(keys))
+    rows = bytearray(struct.pack(">I", accounts))
+    for index in range(accounts):
+        rows += struct.pack(">QQQ", account_id(index), MONEY, 0)
+    put_frame(out, 2, rows)
+
+
+class Committee:
+    """Members who each make one certificate a round, on all of the round before, with the tags of a quorum."""
+
+    def __init__(self, members):
+        self.keys = [sha256(b"member %d" % member).digest() for member in range(members)]
+        self.quorum = members - (members - 1) // 3
+        self.mask = sum(1 << member for member in range(self.quorum)).to_bytes(16, "little")
+        self.round = 0
+        self.parents = []
+
+    def put_round(self, out, batches):
+        """The certificates of the next round: each names its share of these digests."""
+        self.round += 1
+        ids = []
+        for member in range(len(self.keys)):
+            named = batches[member :: len(self.keys)]
+            head = struct.pack(">BIH", member, self.round, len(named)) + b"".join(named)
+            head += bytes([len(self.parents)]) + b"".join(self.parents)
+            name = sha256(b"\x10" + head).digest()
+            tags = b"".join(hmac.digest(key, name, "sha256") for key in self.keys[: self.quorum])
+            put_frame(out, 3, head + self.mask + tags)
+            ids.append(name)
+        self.parents = sorted(ids)
+
+
+def make_ordered(path, members, kinds, accounts, transactions, sender_of=None, rounds=0):
+    """A feed whose certificates order all of its batches, one batch a certificate, over at least so many rounds."""
+    draw = random.Random(accounts * 31 + transactions).random
+    seqs = [0] * accounts
+    committee = Committee(members)
+    with open(path, "wb", buffering=1 << 20) as out:
+        put_opening(out, committee.keys, accounts)
+        left = transactions
+        while left > 0 or committee.round < rounds:
+            digests = []
+            while left > 0 and len(digests) < members:
+                count = min(BATCH, left)
+                payload = batch_of(count, kinds, accounts, seqs, draw, sender_of)
+                put_frame(out, 4, payload)
+                digests.append(sha256(payload).digest())
+                left -= count
+            committee.put_round(out, digests)
+        # an anchor above all of them, and its votes
+        for _ in range(3):
+            committee.put_round(out, [])
+    return os.path.getsize(path)
