@@ -272,6 +272,31 @@ prepared_one txs l up one = record {
 pub covered_one : (txs : List (Option Transaction)) (l : Ledger) → l.version ≡ One → are_covered l.version l.slots txs ≡ true
 covered_one txs l one = ap (λ (v : Version). are_covered v l.slots txs) one ∙ all_covered_one l.slots txs
 
+-- where nothing lacks a slot, all that is declared has one
+module _ (txs : List (Option Transaction)) (l : Ledger) (v : Version) (ids lacking : List ℕ) (numbers : List Account) (is : shown v ids numbers ≡ l) (two : v ≡ Two) (none : length lacking ≡ 0) (lacks : (i : ℕ) → is_grown ids lacking i ≡ (has_slot ids i || is_declared_by txs i)) where
+  has_none : (xs : List ℕ) → length xs ≡ 0 → (i : ℕ) → has_slot xs i ≡ false
+  has_none [] e i = refl
+  has_none (x ∷ xs) e i = absurd (omega (arith, e))
+
+  has_all : (i : ℕ) → has_slot ids i ≡ (has_slot ids i || is_declared_by txs i)
+  has_all i = or_false (has_slot ids i) ∙ ap (λ (b : Bool). has_slot ids i || b) (sym (has_none lacking none i)) ∙ lacks i
+
+  or_last : (a b : Bool) → b ≡ true → (a || b) ≡ true
+  or_last true b h = refl
+  or_last false b h = h
+
+  pub nothing_lacks_prepared : IsTrue (is_ascending ids) → IsPrepared txs l l
+  nothing_lacks_prepared up = subst (λ (x : Ledger). IsPrepared txs x x) is (record {
+    version = refl;
+    rows = refl;
+    ascending = up;
+    slots = λ id. has_all id ∙ sym (ap (λ (w : Version). has_slot_after w ids txs id) two);
+  })
+
+  pub nothing_lacks_covered : are_covered l.version l.slots txs ≡ true
+  nothing_lacks_covered = subst (λ (x : Ledger). are_covered x.version x.slots txs ≡ true) is
+      (ap (λ (w : Version). are_covered w ids txs) two ∙ all_covered ids txs (λ i h. has_all i ∙ or_last (has_slot ids i) (is_declared_by txs i) h))
+
 module _ (txs : List (Option Transaction)) (l : Ledger) (v : Version) (ids : List ℕ) (numbers : List Account) (are : AreSlots v ids numbers) (is : shown v ids numbers ≡ l) (two : v ≡ Two) (wide : List ℕ) (up : Rises wide) (has : (i : ℕ) → has_slot wide i ≡ (has_slot ids i || is_declared_by txs i)) (made : List Account) (made_is : made ≡ map (λ (i : ℕ). numbers_or_absent numbers (index_or_len ids i)) wide) where
   are_two : AreSlots Two ids numbers
   are_two = subst (λ (w : Version). AreSlots w ids numbers) two are

@@ -15,7 +15,7 @@ use crate::ids::Ids;
 use crate::local::Local;
 use crate::receipt::{Receipt, Status, unmoved};
 use crate::rule::settle;
-use crate::widen::{moved, wider};
+use crate::widen::{missing, moved, wider};
 use bk_frames::{Row, Version};
 use bk_tx::{Declarations, Tx};
 use std::alloc::{AllocError, Global};
@@ -147,7 +147,12 @@ impl State {
         match self.version {
             Version::One => Ok(()),
             Version::Two => {
-                let wide = wider(alloc, &self.ids, txs)?;
+                let lacking = missing(alloc, &self.ids, txs)?;
+                // To make the slots anew costs what all of them cost.
+                if lacking.is_empty() {
+                    return Ok(());
+                }
+                let wide = wider(&self.ids, lacking)?;
                 let numbers = moved(alloc, &self.ids, &self.numbers, &wide)?;
                 let ids = Ids::new(alloc, wide)?;
                 self.ids = ids;

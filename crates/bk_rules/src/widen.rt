@@ -46,8 +46,8 @@ fn add_of(fresh: &mut Vec<u64>, ids: &Ids, tx: Option<&Tx>) -> Result<(), AllocE
     }
 }
 
-// The declared ids that have no slot, some of them more than once.
-fn missing(alloc: Global, ids: &Ids, txs: &[Option<Tx>]) -> Result<Vec<u64>, AllocError>
+/// The declared ids that have no slot, some of them more than once.
+pub(crate) fn missing(alloc: Global, ids: &Ids, txs: &[Option<Tx>]) -> Result<Vec<u64>, AllocError>
     ensures { IfOk result (λ fresh. (i : ℕ) → is_grown ids.now fresh.items i
         ≡ (has_slot ids.now i || is_declared_by txs.now i)) }
 {
@@ -58,13 +58,13 @@ fn missing(alloc: Global, ids: &Ids, txs: &[Option<Tx>]) -> Result<Vec<u64>, All
     Ok(fresh)
 }
 
-/// The ids of a state and those that the transactions declare, in ascending order.
-pub(crate) fn wider(alloc: Global, ids: &Ids, txs: &[Option<Tx>]) -> Result<Vec<u64>, AllocError>
+/// The ids of a state and some more, in ascending order.
+pub(crate) fn wider(ids: &Ids, more: Vec<u64>) -> Result<Vec<u64>, AllocError>
     ensures ascending { IfOk result (λ wide. IsTrue (is_ascending wide.items)) }
     ensures slots { IfOk result (λ wide. (i : ℕ) → has_slot wide.items i
-        ≡ (has_slot ids.now i || is_declared_by txs.now i)) }
+        ≡ is_grown ids.now more.items i) }
 {
-    let mut wide = missing(alloc, ids, txs)?;
+    let mut wide = more;
     wide.extend_from_slice(ids.as_slice())?;
     wide.sort_unstable();
     wide.dedup();
