@@ -96,7 +96,7 @@ payload_same few many within apart d q e = by_first (find (λ (b : Batch). bytes
         let same : other.0 ≡ b = apart other.0 b other.1.inside inside ((bytes_eq-Decides other.0.digest d).0 other.1.passes ∙ sym ((bytes_eq-Decides b.digest d).0 f.passes)) in
         ap (option_map (λ (x : Batch). x.payload)) (other.1.first ∙ ap Some same) ∙ g
 
-under_begins : (few many : List Batch) → IsPartOf few many → AreApart many → (ds rest : List (List ℕ)) → Begins (before_missing few ds).list (before_missing many (ds ++ rest)).list
+pub under_begins : (few many : List Batch) → IsPartOf few many → AreApart many → (ds rest : List (List ℕ)) → Begins (before_missing few ds).list (before_missing many (ds ++ rest)).list
 under_begins few many within apart [] rest = ((before_missing many rest).list, refl)
 under_begins few many within apart (d ∷ ds) rest = by_payload (payload_of few d) refl (under_begins few many within apart ds rest)
   where
