@@ -5,3 +5,6 @@ pub mod Tables
 pub mod Stopping
 pub mod Frames
 pub mod Sets
+pub mod OneReading
+pub mod Agreeing
+pub mod Together

@@ -1,5 +1,5 @@
 -- Frames as a set, and more of them.
-use Rattle.std.proofs.Common.{◌≡◌, List, sym, ap, subst, ◌∙◌, reverse}
+use Rattle.std.proofs.Common.{List, sym, subst}
 use Rattle.std.specs.List.{Contains}
 use Rattle.bk_frames.specs.declared.kind.Kind.TheVariants as kind
 use Rattle.bk_frames.specs.Feed.{Frame, frame_of}
@@ -9,7 +9,7 @@ use Rattle.bk_rounds.specs.declared.place.CertRef.{CertRef}
 use Rattle.bk_rounds.specs.Admission.{IsClear}
 use Rattle.bk_evidence.specs.Batches.{Batch, AreApart}
 use Rattle.bk_commit.specs.Growth.{IsPartOf, Begins}
-use Rattle.bk_commit.proofs.Settled.{anchors_begin, begin_each_other}
+use Rattle.bk_commit.proofs.Settled.{anchors_begin}
 use Rattle.bk_flatten.specs.Batches.{Payloads, batches_of}
 use Rattle.bk_flatten.specs.Order.{IsWholeOrder}
 use Rattle.bk_flatten.proofs.Orders.{whole_begins}
@@ -50,7 +50,7 @@ module _ (k : CommitteeValue) (one other : List Frame) (into : IsPartOf one othe
   }
 
 -- what is held of clear frames is clear
-clear_of : (k : CommitteeValue) (frames : List Frame) (certs : List Node) → HasNoStop k frames → AreCerts k frames certs → IsClear certs
+pub clear_of : (k : CommitteeValue) (frames : List Frame) (certs : List Node) → HasNoStop k frames → AreCerts k frames certs → IsClear certs
 clear_of k frames certs none are =
     let into : IsPartOf certs none.certs = λ c t. none.are_certs.complete c (are.sound c t) in
     record {
@@ -58,10 +58,10 @@ clear_of k frames certs none are =
       no_twins = λ c d a b e. none.none.clear.no_twins c d (into c a) (into d b) e;
     }
 
-apart_of : (k : CommitteeValue) (frames : List Frame) (batches : List Batch) → HasNoStop k frames → AreBatches frames batches → AreApart batches
+pub apart_of : (k : CommitteeValue) (frames : List Frame) (batches : List Batch) → HasNoStop k frames → AreBatches frames batches → AreApart batches
 apart_of k frames batches none are c d a b e = none.none.apart c d (none.are_batches.complete c (are.sound c a)) (none.are_batches.complete d (are.sound d b)) e
 
-whole_of : (k : CommitteeValue) (frames : List Frame) (o : Ordered) (h : IsOrderOf k frames o) → IsWholeOrder (sizes_of k) h.certs o.order
+pub whole_of : (k : CommitteeValue) (frames : List Frame) (o : Ordered) (h : IsOrderOf k frames o) → IsWholeOrder (sizes_of k) h.certs o.order
 whole_of k frames o h = record { anchors = o.anchors; committed = h.committed; ordered = h.ordered }
 
 module _ (k : CommitteeValue) (small large : List Frame) (o p : Ordered) (part : IsPartOf small large) (none : HasNoStop k large) (h : IsOrderOf k small o) (g : IsOrderOf k large p) where
@@ -80,10 +80,3 @@ module _ (k : CommitteeValue) (small large : List Frame) (o p : Ordered) (part :
         whole_begins (sizes_of k) h.certs g.certs o.order p.order clear certs_part (whole_of k small o h) (whole_of k large p g),
         subst (λ (t : Payloads). Begins t.list p.payloads.list) (sym h.payloads_are) (subst (λ (t : Payloads). Begins (batches_of h.certs h.batches o.order).list t.list) (sym g.payloads_are) payloads),
       )
-
-pub frames_one : (k : CommitteeValue) (frames : List Frame) (o p : Ordered) → HasNoStop k frames → IsOrderOf k frames o → IsOrderOf k frames p
-    → (o.anchors ≡ p.anchors) × (o.order ≡ p.order) × (o.payloads.list ≡ p.payloads.list)
-frames_one k frames o p none h g =
-    let there = frames_grow k frames frames o p (λ c t. t) none h g in
-    let back = frames_grow k frames frames p o (λ c t. t) none g h in
-    (begin_each_other o.anchors p.anchors there.0 back.0, begin_each_other o.order p.order there.1 back.1, begin_each_other o.payloads.list p.payloads.list there.2 back.2)

@@ -14,7 +14,7 @@ use Rattle.bk_evidence.proofs.Colliding.{id_order}
 use Rattle.bk_order.specs.Stops.{CollidesIn, IsLeastCollision}
 use Rattle.bk_order.specs.private.Lesser.{lesser_of}
 
-none_collides : {E : Type 0} (name : E → List ℕ) (held : List E) → NoCollisionBy name held → (id : List ℕ) → CollidesBy name held id → ⊥
+pub none_collides : {E : Type 0} (name : E → List ℕ) (held : List E) → NoCollisionBy name held → (id : List ℕ) → CollidesBy name held id → ⊥
 none_collides name held none id c = c.apart (none c.one c.other c.has_one c.has_other (c.names_one ∙ sym c.names_other))
 
 to_least : {E : Type 0} (name : E → List ℕ) (held : List E) (o : Option (List ℕ)) → MatchOption o (NoCollisionBy name held) (IsCollisionBy name held) → IsLeastBy id_cmp (CollidesBy name held) o

@@ -3,4 +3,5 @@ pub mod Stops
 pub mod Orders
 pub mod Intake
 pub mod Laws
+pub mod Agreement
 pub mod private

@@ -12,7 +12,7 @@ ghost use Rattle.bk_order.specs.private.Joined.{GoesOn, IsJoined, kept_in};
 use crate::judging::judge_all;
 use crate::reject::Reject;
 use crate::settling::{Settled, settle, unsettled};
-use crate::stop::{Stop, stop_of};
+use crate::stop::{Stop, stop_of, stop_of_both};
 use crate::table::{Table, empty_table, keep_all};
 use bk_committee::Committee;
 use bk_digest::Digest32;
@@ -132,6 +132,22 @@ impl Intake {
             (HasNoStop self.now.committee frames) (IsStop self.now.committee frames) }
     {
         stop_of(&self.table.held, &self.table.batches)
+    }
+
+    /// The stop of the frames of both together, if they have one. Neither changes.
+    ///
+    /// It takes time and memory for a table of the certificates of both, and an `Err` comes only where memory runs out.
+    pub fn stop_with(&self, other: &Intake) -> Result<Option<Stop>, AllocError>
+        requires { self.now.committee ≡ other.now.committee }
+        ensures { IfOk result (λ found. (frames more : List Frame) → HasTaken frames self.now
+            → HasTaken more other.now → MatchOption found
+            (HasNoStop self.now.committee (frames ++ more))
+            (IsStop self.now.committee (frames ++ more))) }
+    {
+        let one = &self.table;
+        let two = &other.table;
+        let found = stop_of_both(&one.held, &two.held, &one.batches, &two.batches)?;
+        Ok(found)
     }
 
     /// Settles the order of the frames so far. It costs what the new anchors and their histories

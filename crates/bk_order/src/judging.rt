@@ -2,17 +2,22 @@
 
 ghost use Rattle.std.specs.Prelude.{◌≡◌, IfOk};
 ghost use Rattle.std.specs.List.{AllZip};
-ghost use Rattle.sha2.specs.Sha256.{sha256};
+ghost use Rattle.bk_committee.specs.Payload.{CommitteeValue};
+ghost use Rattle.bk_frames.specs.declared.kind.Kind.{Kind};
+ghost use Rattle.bk_frames.specs.Feed.{frame_of};
 ghost use Rattle.bk_frames.specs.Cutting.{frames_in};
-ghost use Rattle.bk_certcheck.specs.Verdicts.{IsVerdict};
-ghost use Rattle.bk_order.specs.private.Judging.{IsJudged, certificates_in};
+ghost use Rattle.bk_order.specs.private.Judging.{IsFound, IsJudged};
 
-use bk_certcheck::{Verdict, check_all};
+use bk_certcheck::{Verdict, check};
 use bk_committee::Committee;
 use bk_digest::Digest32;
 use bk_frames::Kind;
+use rayon::prelude::*;
 use std::alloc::{AllocError, Global};
 use std::thread::Threads;
+
+/// So many frames at least are worth a thread.
+const FEWEST: usize = 8;
 
 /// A payload under its SHA-256.
 #[derive(Drop)]
@@ -32,17 +37,72 @@ pub(crate) enum Judged {
     Other,
 }
 
-// The payload under its SHA-256.
-fn with_digest(payload: Vec<u8>) -> Digested
-    ensures digest { result.digest ≡ sha256 payload.items }
-    ensures payload { result.payload.items ≡ payload.items }
-{
-    let digest = Digest32::of(&payload);
-    Digested { digest, payload }
+/// What is found of a frame whose payload stays where it is.
+#[derive(Drop)]
+pub(crate) enum Found {
+    /// The verdict on a certificate.
+    Certificate(Verdict),
+    /// The SHA-256 of a batch.
+    Batch(Digest32),
+    /// A committee or a genesis.
+    Other,
 }
 
-/// What each frame is found to be. The certificates are judged on as many threads as there are
-/// processors.
+// What is found of one frame.
+fn find(
+    alloc: Global,
+    committee: &Committee,
+    kind: Kind,
+    payload: &[u8],
+) -> Result<Found, AllocError>
+    ensures { IfOk result (IsFound committee.now (frame_of kind payload.now)) }
+{
+    match kind {
+        Kind::Committee | Kind::Genesis => Ok(Found::Other),
+        Kind::Certificate => {
+            let verdict = check(alloc, committee, payload)?;
+            Ok(Found::Certificate(verdict))
+        }
+        Kind::Batch => Ok(Found::Batch(Digest32::of(payload))),
+    }
+}
+
+// What is found of each frame, on as many threads as there are processors.
+fn find_all(
+    rt: &(impl Threads + Sync),
+    alloc: Global,
+    committee: &Committee,
+    frames: &[(Kind, Vec<u8>)],
+) -> Result<Vec<Found>, AllocError>
+    ensures { IfOk result
+        (λ out. AllZip (IsFound committee.now) (frames_in frames.now) out.items) }
+{
+    let found = frames
+        .par_iter()
+        .with_min_len(FEWEST)
+        .map(
+            |frame: &(Kind, Vec<u8>)| -> Result<Found, AllocError>
+                ensures { IfOk result
+                    (IsFound committee.entry.now (frame_of frame.now.0 frame.now.1.items)) }
+            { find(alloc, committee, frame.0, &frame.1) },
+        )
+        .collect::<Result<Vec<Found>, AllocError>>(rt, alloc)?;
+    found
+}
+
+// A frame of which this was found, with its payload.
+fn with_payload(found: Found, payload: Vec<u8>) -> Judged
+    ensures { (k : CommitteeValue) (kind : Kind) → IsFound k (frame_of kind payload.items) found
+        → IsJudged k (frame_of kind payload.items) result }
+{
+    match found {
+        Found::Certificate(verdict) => Judged::Certificate(verdict),
+        Found::Batch(digest) => Judged::Batch(Digested { digest, payload }),
+        Found::Other => Judged::Other,
+    }
+}
+
+/// What each frame is found to be, on as many threads as there are processors.
 pub(crate) fn judge_all(
     rt: &(impl Threads + Sync),
     alloc: Global,
@@ -52,40 +112,14 @@ pub(crate) fn judge_all(
     ensures { IfOk result
         (λ out. AllZip (IsJudged committee.now) (frames_in frames.items) out.items) }
 {
-    let verdicts = verdicts_on(rt, alloc, committee, &frames)?;
-    let mut left = verdicts.into_iter();
+    let found = find_all(rt, alloc, committee, &frames)?;
+    let mut left = found.into_iter();
     let mut out = Vec::with_capacity(alloc, frames.len())?;
-    for (kind, payload) in frames {
-        let one = match kind {
-            Kind::Committee | Kind::Genesis => Judged::Other,
-            Kind::Certificate => match left.next() {
-                Some(verdict) => Judged::Certificate(verdict),
-                None => unreachable!(),
-            },
-            Kind::Batch => Judged::Batch(with_digest(payload)),
+    for frame in frames {
+        let Some(one) = left.next() else {
+            unreachable!();
         };
-        out.push(one)?;
+        out.push(with_payload(one, frame.1))?;
     }
     Ok(out)
-}
-
-// The verdicts on the certificates among the frames, in their order.
-fn verdicts_on(
-    rt: &(impl Threads + Sync),
-    alloc: Global,
-    committee: &Committee,
-    frames: &[(Kind, Vec<u8>)],
-) -> Result<Vec<Verdict>, AllocError>
-    ensures { IfOk result (λ verdicts. AllZip (IsVerdict committee.now)
-        (certificates_in (frames_in frames.now)) verdicts.items) }
-{
-    let mut payloads = Vec::new(alloc);
-    for frame in frames {
-        match frame.0 {
-            Kind::Certificate => payloads.push(frame.1.as_slice())?,
-            Kind::Committee | Kind::Genesis | Kind::Batch => {}
-        }
-    }
-    let verdicts = check_all(rt, alloc, committee, &payloads)?;
-    Ok(verdicts)
 }

@@ -15,6 +15,9 @@ mod stop;
 mod table;
 
 pub use intake::Intake;
-pub use laws::{frames_are_a_set, order_of_frames_grows};
+pub use laws::{
+    frames_are_a_set, frames_have_one_list, frames_have_one_stop, order_of_frames_grows,
+    parts_agree,
+};
 pub use reject::Reject;
 pub use stop::Stop;

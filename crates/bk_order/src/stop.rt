@@ -1,6 +1,6 @@
 //! Why a feed has no order.
 
-ghost use Rattle.std.specs.Prelude.{◌≡◌, MatchOption, Option, Some, List, ℕ};
+ghost use Rattle.std.specs.Prelude.{◌≡◌, ◌++◌, MatchOption, IfOk, Option, Some, List, ℕ};
 ghost use Rattle.bk_order.specs.Stops.{AreClear, CollidesIn, IsLeastCollision, StopsAt};
 ghost use Rattle.bk_evidence.specs.Batches.{AreApart, IsBatchCollision};
 ghost use Rattle.bk_evidence.specs.Held.{IsCollision, NoCollision};
@@ -10,6 +10,7 @@ ghost use Rattle.bk_evidence.specs.private.Least.{least_of};
 
 use bk_digest::Digest32;
 use bk_evidence::{Batches, Evidence, Held};
+use std::alloc::AllocError;
 use std::cmp::Ordering;
 
 /// Why a feed has no order. A collision goes before twins.
@@ -54,5 +55,27 @@ pub(crate) fn stop_of(held: &Held, batches: &Batches) -> Option<Stop>
             Some(evidence) => Some(Stop::Twins(evidence)),
             None => None,
         },
+    }
+}
+
+/// The stop of what both hold together.
+pub(crate) fn stop_of_both(
+    held: &Held,
+    more: &Held,
+    batches: &Batches,
+    others: &Batches,
+) -> Result<Option<Stop>, AllocError>
+    ensures { IfOk result (λ found. MatchOption found
+        (AreClear (held.now ++ more.now) (batches.now ++ others.now))
+        (StopsAt (held.now ++ more.now) (batches.now ++ others.now))) }
+{
+    let id = held.collision_with(more)?;
+    let digest = batches.collision_with(others)?;
+    if let Some(id) = least(id, digest) {
+        return Ok(Some(Stop::Collision(id)));
+    }
+    match held.evidence_with(more)? {
+        Some(evidence) => Ok(Some(Stop::Twins(evidence))),
+        None => Ok(None),
     }
 }

@@ -16,9 +16,7 @@ use Rattle.bk_order.specs.declared.settling.Settled.{Settled}
 use Rattle.std.specs.List.{AllZip}
 use Rattle.bk_frames.specs.Feed.{Frame}
 use Rattle.bk_order.specs.declared.judging.Judged.{Judged}
-use Rattle.bk_certcheck.specs.declared.verdict.Verdict.{Verdict}
-use Rattle.bk_certcheck.specs.Verdicts.{IsVerdict}
-use Rattle.bk_order.specs.private.Judging.{IsJudged, certificates_in}
+use Rattle.bk_order.specs.private.Judging.{IsJudged}
 use Rattle.bk_order.specs.Intake.{Kept, IsKeptOf}
 use Rattle.bk_order.specs.Orders.{Ordered, ordered_with}
 
@@ -82,11 +80,3 @@ pub record IsKeeping (k : CommitteeValue) (start table : Table) (all left : List
       → IsKeptOf k before (kept_in start)
       → (done : List Frame) × (rest : List Frame) × (frames ≡ done ++ rest)
       × AllZip (IsJudged k) rest left × IsKeptOf k (before ++ done) (kept_in table)
-
--- of all frames these are left, with these verdicts on their certificates, and those before them
--- were found to be this
-pub record IsJudging (k : CommitteeValue) (all frames : List Frame) (left : List Verdict) (out : List Judged) : Type 0 where
-  pub done : List Frame
-  pub split : all ≡ done ++ frames
-  pub verdicts : AllZip (IsVerdict k) (certificates_in frames) left
-  pub judged : AllZip (IsJudged k) done out
