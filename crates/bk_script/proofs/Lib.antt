@@ -8,3 +8,5 @@ pub mod Sorted
 pub mod Masks
 pub mod TextLines
 pub mod WholeTexts
+pub mod EventLines
+pub mod WholeEvents

@@ -15,8 +15,8 @@ use Rattle.bk_script.specs.Known.{Known, nothing_known}
 use Rattle.bk_script.specs.Judging.{judged}
 use Rattle.bk_script.specs.Script.{LineFault, ended_lines, last_line, lines_of, in_line, then_from, after_lines, feed_behind, feed_of_lines, crossing, feed_within, feed_of}
 use Rattle.bk_script.specs.declared.making.TheConstants.{MOST_SCRIPT}
-use Rattle.bk_script.specs.Answers.{FailsBy, IsMade, IsMadeInPart, devices}
-use Rattle.bk_script.specs.private.Telling.{IsRead, HasRead, IsNotRead, IsFeedFrom, IsNoFeedFrom, Tells}
+use Rattle.bk_script.specs.Answers.{FailsBy, IsMade, IsMadeInPart, devices, IsRead, HasRead, IsNotRead}
+use Rattle.bk_script.specs.private.Telling.{IsFeedFrom, IsNoFeedFrom, Tells}
 use Rattle.bk_script.proofs.TextLines.{after_append, after_good, after_bad}
 
 -- ---- what was read of a source
@@ -75,7 +75,7 @@ within_short most text few =
     ap (λ b. if b then feed_of_lines (lines_of text) else crossing (take (most + 1) text)) test
 
 -- bytes behind the last line feed
-rest_is : (text last : List ℕ) (end : ℕ) → last ≡ take (length text - end) (drop end text) → drop end text ≡ last_line text → last ≡ last_line text
+pub rest_is : (text last : List ℕ) (end : ℕ) → last ≡ take (length text - end) (drop end text) → drop end text ≡ last_line text → last ≡ last_line text
 rest_is text last end is rest = is ∙ take_all (length text - end) (drop end text) (omega (arith, length-drop end text)) ∙ rest
 
 -- there are none
@@ -91,7 +91,7 @@ behind_none k a most count lines end text last none few known n counted is rest 
     ∙ ap (λ m. feed_behind m a) (sym n ∙ sym counted)
 
 -- the line without a line feed
-lines_one : (text last : List ℕ) (end : ℕ) → last ≡ take (length text - end) (drop end text) → drop end text ≡ last_line text → false ≡ (length last == 0)
+pub lines_one : (text last : List ℕ) (end : ℕ) → last ≡ take (length text - end) (drop end text) → drop end text ≡ last_line text → false ≡ (length last == 0)
     → lines_of text ≡ ended_lines text ++ last ∷ []
 lines_one text last end is rest some =
     let same = rest_is text last end is rest in
@@ -145,7 +145,7 @@ feed_of_read most bytes text is =
 -- ---- from a source
 
 -- what follows of bytes that may be known
-known_then : (b : Option (List ℕ)) (P Q : List ℕ → Type 0) → ((bytes : List ℕ) → P bytes → Q bytes) → IfSome b P → IfSome b Q
+pub known_then : (b : Option (List ℕ)) (P Q : List ℕ → Type 0) → ((bytes : List ℕ) → P bytes → Q bytes) → IfSome b P → IfSome b Q
 known_then None P Q f h = tt
 known_then (Some bytes) P Q f h = f bytes h
 

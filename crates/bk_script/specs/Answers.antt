@@ -1,5 +1,5 @@
 -- What the calls of a script answer.
-use Rattle.std.specs.Prelude.{◌≡◌, ℕ, ◌<◌, List, length, take, Result, Ok, Err}
+use Rattle.std.specs.Prelude.{◌≡◌, ℕ, ◌+◌, ◌<◌, ◌≤◌, List, length, take, Result, Ok, Err}
 use Rattle.std.specs.Io.KnownBytes.{Keeps}
 use Rattle.bk_frames.specs.Device.{Device, Works, Fails, Receives, IfKnown}
 use Rattle.bk_script.specs.declared.fault.ScriptCode.{ScriptCode}
@@ -14,6 +14,24 @@ abbrev pub Answers : {A B : Type 0} → (A → B) → Result A Stop → Result B
 Answers view (Ok a) defined = defined ≡ Ok (view a)
 Answers view (Err (stop.Code found)) defined = defined ≡ Err found
 Answers view (Err stop.Memory) defined = Unit {0}
+
+-- ---- the text of a source
+
+-- what was read of the bytes of a source: all, or the limit and one byte more
+unfoldable pub IsRead : ℕ → List ℕ → List ℕ → Type 0
+IsRead most bytes text = text ≡ take (most + 1) bytes
+
+-- a text was read, and no call of the source failed
+abbrev pub HasRead : ℕ → Device → Device → List ℕ → Type 0
+HasRead most old new text =
+    Works old new × (length text ≤ most + 1) × IfKnown old (λ bytes. IsRead most bytes text)
+
+-- why a text was not read: a call of the source failed, or memory ran out
+abbrev pub IsNotRead : ScriptFault → Device → Device → Type 0
+IsNotRead (fault.Script line found) old new = ⊥
+IsNotRead fault.Read old new = Fails old new
+IsNotRead (fault.Write written) old new = ⊥
+IsNotRead fault.Memory old new = Works old new
 
 -- ---- from a source to a sink
 

@@ -7,5 +7,6 @@ pub mod Sealing
 pub mod Judging
 pub mod Feeds
 pub mod Script
+pub mod Events
 pub mod Answers
 pub mod private

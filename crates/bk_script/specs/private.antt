@@ -1,2 +1,3 @@
 pub mod Saying
 pub mod Telling
+pub mod Listing

@@ -2,10 +2,13 @@
 //!
 //! [`make`] reads a script, takes its lines in turn, and writes exactly the bytes of the feed that they make, or names the
 //! first line with a fault and writes nothing. [`Script`] is what the lines so far say.
+//!
+//! [`read_events`] reads the other language of this crate, a list of events of an execution, one a line.
 #![tactic(auto)]
 
 mod accounts;
 mod batch;
+mod events;
 mod fault;
 mod frames;
 mod line;
@@ -18,8 +21,10 @@ mod sealing;
 mod transactions;
 mod words;
 
+pub use events::{Events, EventsFault, read_events};
 pub use fault::{ScriptCode, ScriptFault, Stop};
 pub use making::{MOST_SCRIPT, make};
+pub use reading::read_text;
 pub use script::Script;
 
 #[cfg(test)]

@@ -16,8 +16,8 @@ use std::alloc::Global;
 /// The most bytes that the text of a script may have.
 pub const MOST_SCRIPT: usize = 16_777_216;
 
-// How many bytes a source is asked for at once, at most. The language has no such number.
-const PIECE: usize = 65_536;
+/// How many bytes a source is asked for at once, at most. The language has no such number.
+pub(crate) const PIECE: usize = 65_536;
 
 // Takes the line of this number.
 fn take_line(script: &mut Script, number: u64, line: &[u8]) -> Result<(), ScriptFault>
@@ -30,11 +30,11 @@ fn take_line(script: &mut Script, number: u64, line: &[u8]) -> Result<(), Script
     }
 }
 
-// How many lines of a text a line feed ends, and where the rest begins.
+/// How many lines of a text a line feed ends, and where the rest begins.
 #[derive(Clone, Copy)]
-struct Ended {
-    count: u64,
-    end: usize,
+pub(crate) struct Ended {
+    pub(crate) count: u64,
+    pub(crate) end: usize,
 }
 
 // Takes the lines that a line feed ends.

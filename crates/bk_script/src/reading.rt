@@ -1,16 +1,18 @@
-//! Reading the text of a script from a source.
+//! Reading a text of bounded length from a source.
 
 ghost use Rattle.std.specs.Prelude.{◌+◌, ◌<◌, ◌^◌, length, IfOk, IfErr};
 ghost use Rattle.bk_frames.specs.Device.{CanBeUsed};
-ghost use Rattle.bk_script.specs.private.Telling.{HasRead, IsNotRead};
+ghost use Rattle.bk_script.specs.Answers.{HasRead, IsNotRead};
 
 use crate::fault::ScriptFault;
 use bk_frames::Source;
 use std::alloc::Global;
 
-/// The text that a source gives: all of its bytes, or `most` and one more. They are asked for in pieces of at most the
-/// length of `piece`, and memory follows the bytes that came.
-pub(crate) fn read_text<S: Source>(
+/// Reads a text to its end, or `most` bytes and one more of a longer one.
+///
+/// The source is asked for pieces of at most the length of `piece`, which is overwritten. Memory follows the bytes that
+/// came. The fault is `Read` or `Memory`.
+pub fn read_text<S: Source>(
     alloc: Global,
     source: &mut S,
     piece: &mut [u8],

@@ -1,5 +1,5 @@
 -- What the private functions that make a feed say.
-use Rattle.std.specs.Prelude.{◌≡◌, ℕ, ◌+◌, ◌≤◌, List, length, take, Result, Ok, Err}
+use Rattle.std.specs.Prelude.{◌≡◌, ℕ, List, Result, Ok, Err}
 use Rattle.bk_frames.specs.Device.{Device, Works, Fails, IfKnown}
 use Rattle.bk_script.specs.declared.fault.ScriptFault.{ScriptFault}
 use Rattle.bk_script.specs.declared.fault.ScriptFault.TheVariants as fault
@@ -13,22 +13,6 @@ Tells view (Err (fault.Script line found)) defined = defined ≡ Err (record { l
 Tells view (Err fault.Read) defined = ⊥
 Tells view (Err (fault.Write written)) defined = ⊥
 Tells view (Err fault.Memory) defined = Unit {0}
-
--- what was read of the bytes of a source: all, or the limit and one byte more
-unfoldable pub IsRead : ℕ → List ℕ → List ℕ → Type 0
-IsRead most bytes text = text ≡ take (most + 1) bytes
-
--- a text was read, and no call of the source failed
-abbrev pub HasRead : ℕ → Device → Device → List ℕ → Type 0
-HasRead most old new text =
-    Works old new × (length text ≤ most + 1) × IfKnown old (λ bytes. IsRead most bytes text)
-
--- why a text was not read: a call of the source failed, or memory ran out
-abbrev pub IsNotRead : ScriptFault → Device → Device → Type 0
-IsNotRead (fault.Script line found) old new = ⊥
-IsNotRead fault.Read old new = Fails old new
-IsNotRead (fault.Write written) old new = ⊥
-IsNotRead fault.Memory old new = Works old new
 
 -- the bytes of a source make this feed, and no call failed
 abbrev pub IsFeedFrom : ℕ → Device → Device → List ℕ → Type 0
