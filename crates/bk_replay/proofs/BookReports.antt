@@ -36,10 +36,10 @@ pub record IsShownOf (b : BookValue) (e : Executed) (waiting : List CertRef) (ro
   pub rows_are : rows ≡ e.rows
   pub waits : (frames : List Frame) → HasTaken frames b.taken → b.taken.failed ≡ false → HasNoStop b.taken.committee frames → AreWaiting b.taken.committee frames waiting
 
-pub shown_of : (taken : Taken) (ledger : Option Ledger) (l : Ledger) (waiting : List CertRef) (rows : List Row) → ledger ≡ Some l → rows ≡ l.state.rows
+pub shown_of : (taken : Taken) (ledger : Option Ledger) (opening : List Row) (l : Ledger) (waiting : List CertRef) (rows : List Row) → ledger ≡ Some l → rows ≡ l.state.rows
     → ((frames : List Frame) → HasTaken frames taken → taken.failed ≡ false → HasNoStop taken.committee frames → AreWaiting taken.committee frames waiting)
-    → IsShownOf (book_with taken ledger) (executed_of l) waiting rows
-shown_of taken ledger l waiting rows is same waits = record { is_done = ap (option_map executed_of) is; rows_are = same; waits = waits }
+    → IsShownOf (book_with taken ledger opening) (executed_of l) waiting rows
+shown_of taken ledger opening l waiting rows is same waits = record { is_done = ap (option_map executed_of) is; rows_are = same; waits = waits }
 
 abbrev pub shown_text : BookValue → Executed → List CertRef → List Row → List ℕ
 shown_text b e waiting rows = text_of (head_lines b.taken.committee b.taken.kept.next ++ order_lines b.taken.kept.rejected waiting b.taken.ordered.anchors b.taken.ordered.order

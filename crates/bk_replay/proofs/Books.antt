@@ -23,7 +23,7 @@ use Rattle.bk_replay.specs.declared.fault.Fault.{Fault}
 use Rattle.bk_replay.specs.declared.fault.Fault.TheVariants as fault
 use Rattle.bk_replay.specs.declared.ledger.Ledger.{Ledger}
 use Rattle.bk_replay.specs.RunReport.{committee_in, later_frames, HasNoStopIn, IsOrderIn, HasPlaceIn}
-use Rattle.bk_replay.specs.Follower.{Executed, BookValue, IsExecuted, IsBookOf, IsCurrent}
+use Rattle.bk_replay.specs.Follower.{Executed, BookValue, IsExecuted, OrdersPart, IsBookOf, IsCurrent}
 use Rattle.bk_replay.specs.private.Books.{IsGoodBook, BookSettleFails}
 use Rattle.bk_replay.specs.private.Ledgers.{executed_of, book_with}
 use Rattle.bk_replay.specs.private.Slices.{Leaves}
@@ -38,17 +38,29 @@ committee_version v (n ∷ bytes) = refl
 none_in : {X : Type 0} (xs : List X) → IsPartOf [] xs
 none_in xs = λ c h. absurd (let lt = h.1 in omega (arith, lt))
 
+-- no order is that of no frames
+nothing_of : (feed : FeedValue) → OrdersPart feed nothing_ordered
+nothing_of feed = record { part = []; within = none_in (later_frames feed); ordered = none_ordered (committee_in feed) }
+
+-- the order of all frames of a feed
+pub whole_part : (feed : FeedValue) (o : Ordered) → IsOrderIn feed o → OrdersPart feed o
+whole_part feed o h = record { part = later_frames feed; within = λ c i. i; ordered = h }
+
+-- the order of a part is that of a part of more frames
+part_more : (version : Version) (f g : Frame) (rest more : List Frame) (o : Ordered) → OrdersPart (feed_of version (f ∷ g ∷ rest)) o → OrdersPart (feed_of version ((f ∷ g ∷ rest) ++ more)) o
+part_more version f g rest more o h = record { part = h.part; within = λ c i. Contains-append_left rest more c (h.within c i); ordered = h.ordered }
+
 -- the book of the committee and the genesis alone
-pub opened_book : (feed : FeedValue) (taken : Taken) (e : Executed) (rows : List Row) → later_frames feed ≡ [] → taken.committee ≡ committee_in feed → HasTaken [] taken → taken.failed ≡ false
-    → e.version ≡ taken.committee.version → e.counts ≡ [] → e.receipts ≡ [] → e.rows ≡ rows → rows ≡ genesis_of feed.frames → IsBookOf feed (record { taken = taken; executed = Some e })
-opened_book feed taken e rows none same took works version counts receipts rows_are genesis = record {
+pub opened_book : (feed : FeedValue) (taken : Taken) (e : Executed) (rows : List Row) → later_frames feed ≡ [] → taken.committee ≡ committee_in feed → HasTaken [] taken → taken.ordered ≡ nothing_ordered → taken.failed ≡ false
+    → e.version ≡ taken.committee.version → e.counts ≡ [] → e.receipts ≡ [] → e.rows ≡ rows → rows ≡ genesis_of feed.frames → IsBookOf feed (record { opening = rows; taken = taken; executed = Some e })
+opened_book feed taken e rows none same took nothing works version counts receipts rows_are genesis = record {
+  opening = genesis;
   committee = same;
   taken = subst (λ (fs : List Frame). HasTaken fs taken) (sym none) took;
   works = works;
-  part = [];
-  within = none_in (later_frames feed);
+  found = subst (OrdersPart feed) (sym nothing) (nothing_of feed);
   order = nothing_ordered;
-  ordered = none_ordered (committee_in feed);
+  before = nothing_of feed;
   done = e;
   is_done = refl;
   executed = record {
@@ -62,18 +74,18 @@ opened_book feed taken e rows none same took works version counts receipts rows_
 -- ---- more frames
 
 -- the book of more frames
-pub book_more : (version : Version) (before more : List Frame) (old : BookValue) (new : Taken) → 2 ≤ length before → new.committee ≡ old.taken.committee → new.failed ≡ false
-    → ((fs : List Frame) → HasTaken fs old.taken → HasTaken (fs ++ more) new) → IsBookOf (feed_of version before) old → IsBookOf (feed_of version (before ++ more)) (record { taken = new; executed = old.executed })
-book_more version [] more old new two same works took b = absurd (omega (arith, two))
-book_more version (f ∷ []) more old new two same works took b = absurd (omega (arith, two))
-book_more version (f ∷ g ∷ rest) more old new two same works took b = record {
+pub book_more : (version : Version) (before more : List Frame) (old : BookValue) (new : Taken) → 2 ≤ length before → new.committee ≡ old.taken.committee → new.ordered ≡ old.taken.ordered → new.failed ≡ false
+    → ((fs : List Frame) → HasTaken fs old.taken → HasTaken (fs ++ more) new) → IsBookOf (feed_of version before) old → IsBookOf (feed_of version (before ++ more)) (record { opening = old.opening; taken = new; executed = old.executed })
+book_more version [] more old new two same kept works took b = absurd (omega (arith, two))
+book_more version (f ∷ []) more old new two same kept works took b = absurd (omega (arith, two))
+book_more version (f ∷ g ∷ rest) more old new two same kept works took b = record {
+  opening = b.opening;
   committee = same ∙ b.committee;
   taken = took rest b.taken;
   works = works;
-  part = b.part;
-  within = λ c h. Contains-append_left rest more c (b.within c h);
+  found = subst (OrdersPart (feed_of version ((f ∷ g ∷ rest) ++ more))) (sym kept) (part_more version f g rest more old.taken.ordered b.found);
   order = b.order;
-  ordered = b.ordered;
+  before = part_more version f g rest more b.order b.before;
   done = b.done;
   is_done = b.is_done;
   executed = record { version = b.executed.version; counts = b.executed.counts; receipts = b.executed.receipts; rows = b.executed.rows };
@@ -112,7 +124,7 @@ in_two feed o e list x begins =
     }
 
 begins_now : (feed : FeedValue) (old : BookValue) (now : Ordered) → (good : IsGoodBook feed old) → HasNoStopIn feed → IsOrderIn feed now → Begins good.book.order.payloads.list now.payloads.list
-begins_now feed old now good clear ordered = (frames_grow (committee_in feed) good.book.part (later_frames feed) good.book.order now good.book.within clear good.book.ordered ordered).2
+begins_now feed old now good clear ordered = (frames_grow (committee_in feed) good.book.before.part (later_frames feed) good.book.order now good.book.before.within clear good.book.before.ordered ordered).2
 
 pub goes_on : (feed : FeedValue) (old : BookValue) (now : Ordered) (good : IsGoodBook feed old) → HasNoStopIn feed → IsOrderIn feed now → GoesOn good.book.done now.payloads.list
 goes_on feed old now good clear ordered =
@@ -159,19 +171,19 @@ executed_all feed o now e f x begins r =
 
 -- the book that a settle leaves
 pub settled_book : (feed : FeedValue) (old : BookValue) (new : Taken) (f : Executed) (good : IsGoodBook feed old) → new.committee ≡ old.taken.committee → new.kept ≡ old.taken.kept → new.failed ≡ false → HasNoStopIn feed → IsOrderIn feed new.ordered
-    → Executes good.book.done f new.ordered.payloads.list → IsCurrent feed (record { taken = new; executed = Some f })
+    → Executes good.book.done f new.ordered.payloads.list → IsCurrent feed (record { opening = old.opening; taken = new; executed = Some f })
 settled_book feed old new f good same kept works clear ordered r =
     let b = good.book in
     let all = executed_all feed b.order new.ordered b.done f b.executed (begins_now feed old new.ordered good clear ordered) r in
     record {
       book = record {
+        opening = b.opening;
         committee = same ∙ b.committee;
         taken = subst (λ (p : CommitteeValue × Kept). IsKeptOf p.0 (later_frames feed) p.1) (λ i. (sym same i, sym kept i)) b.taken;
         works = works;
-        part = later_frames feed;
-        within = λ c h. h;
+        found = whole_part feed new.ordered ordered;
         order = new.ordered;
-        ordered = ordered;
+        before = whole_part feed new.ordered ordered;
         done = f;
         is_done = refl;
         executed = all;
@@ -216,25 +228,25 @@ found_in feed old now s good =
       ordered = order_in_feed feed old now b s.same order;
     }
 
-done_is : (l : Ledger) (taken : Taken) (ledger : Option Ledger) (done : Executed) → ledger ≡ Some l → (book_with taken ledger).executed ≡ Some done → done ≡ executed_of l
-done_is l taken ledger done is is_done = let e : Some done ≡ Some (executed_of l) = sym is_done ∙ ap (option_map executed_of) is in cc
+done_is : (l : Ledger) (taken : Taken) (ledger : Option Ledger) (opening : List Row) (done : Executed) → ledger ≡ Some l → (book_with taken ledger opening).executed ≡ Some done → done ≡ executed_of l
+done_is l taken ledger opening done is is_done = let e : Some done ≡ Some (executed_of l) = sym is_done ∙ ap (option_map executed_of) is in cc
 
-pub ledger_next : (feed : FeedValue) (intake now : Taken) (ledger : Option Ledger) (l : Ledger) → IsSettling intake now → ledger ≡ Some l → IsGoodBook feed (book_with intake ledger) → GoesOn (executed_of l) now.ordered.payloads.list
-ledger_next feed intake now ledger l s is good =
-    let f = found_in feed (book_with intake ledger) now s good in
-    subst (λ (e : Executed). GoesOn e now.ordered.payloads.list) (done_is l intake ledger good.book.done is good.book.is_done) (goes_on feed (book_with intake ledger) now.ordered good f.clear f.ordered)
+pub ledger_next : (feed : FeedValue) (intake now : Taken) (ledger : Option Ledger) (opening : List Row) (l : Ledger) → IsSettling intake now → ledger ≡ Some l → IsGoodBook feed (book_with intake ledger opening) → GoesOn (executed_of l) now.ordered.payloads.list
+ledger_next feed intake now ledger opening l s is good =
+    let f = found_in feed (book_with intake ledger opening) now s good in
+    subst (λ (e : Executed). GoesOn e now.ordered.payloads.list) (done_is l intake ledger opening good.book.done is good.book.is_done) (goes_on feed (book_with intake ledger opening) now.ordered good f.clear f.ordered)
 
-pub ledger_done : (feed : FeedValue) (intake now : Taken) (ledger : Option Ledger) (l m : Ledger) → IsSettling intake now → ledger ≡ Some l → IsGoodBook feed (book_with intake ledger) → Executes (executed_of l) (executed_of m) now.ordered.payloads.list → IsCurrent feed (book_with now (Some m))
-ledger_done feed intake now ledger l m s is good r =
-    let f = found_in feed (book_with intake ledger) now s good in
-    settled_book feed (book_with intake ledger) now (executed_of m) good s.same s.kept s.works f.clear f.ordered
-    (subst (λ (e : Executed). Executes e (executed_of m) now.ordered.payloads.list) (sym (done_is l intake ledger good.book.done is good.book.is_done)) r)
+pub ledger_done : (feed : FeedValue) (intake now : Taken) (ledger : Option Ledger) (opening : List Row) (l m : Ledger) → IsSettling intake now → ledger ≡ Some l → IsGoodBook feed (book_with intake ledger opening) → Executes (executed_of l) (executed_of m) now.ordered.payloads.list → IsCurrent feed (book_with now (Some m) opening)
+ledger_done feed intake now ledger opening l m s is good r =
+    let f = found_in feed (book_with intake ledger opening) now s good in
+    settled_book feed (book_with intake ledger opening) now (executed_of m) good s.same s.kept s.works f.clear f.ordered
+    (subst (λ (e : Executed). Executes e (executed_of m) now.ordered.payloads.list) (sym (done_is l intake ledger opening good.book.done is good.book.is_done)) r)
 
-pub ledger_place : (feed : FeedValue) (intake now : Taken) (ledger : Option Ledger) (l : Ledger) (place : ℕ) → IsSettling intake now → ledger ≡ Some l → IsGoodBook feed (book_with intake ledger)
+pub ledger_place : (feed : FeedValue) (intake now : Taken) (ledger : Option Ledger) (opening : List Row) (l : Ledger) (place : ℕ) → IsSettling intake now → ledger ≡ Some l → IsGoodBook feed (book_with intake ledger opening)
     → place < length l.receipts.items + length (transactions_of (drop (length l.counts.items) now.ordered.payloads.list)) → HasPlaceIn feed place
-ledger_place feed intake now ledger l place s is good lt =
-    let f = found_in feed (book_with intake ledger) now s good in
-    let n = ledger_next feed intake now ledger l s is good in
+ledger_place feed intake now ledger opening l place s is good lt =
+    let f = found_in feed (book_with intake ledger opening) now s good in
+    let n = ledger_next feed intake now ledger opening l s is good in
     (now.ordered, f.ordered, omega (arith, lt, n.all))
 
 -- why executing failed is why the settle did

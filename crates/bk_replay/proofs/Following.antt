@@ -130,7 +130,7 @@ book_at_end bytes frames v come kept two none =
     no_book version (f ∷ []) le h = absurd (omega (arith, le))
     no_book version (f ∷ g ∷ more) le h = absurd (let e = h.1 in cc)
 
-of_feed : (v : Followed) (b : BookValue) (holds : FeedValue → Type 0) → v.book ≡ Some b → v.cut.kept ≡ [] → ((feed : FeedValue) → IsFeed feed → IsGoodBook feed b → holds feed) → OfFeed v holds
+pub of_feed : (v : Followed) (b : BookValue) (holds : FeedValue → Type 0) → v.book ≡ Some b → v.cut.kept ≡ [] → ((feed : FeedValue) → IsFeed feed → IsGoodBook feed b → holds feed) → OfFeed v holds
 of_feed v b holds is none h = λ bytes frames come.
     let g = good_of bytes frames v b come is in
     let feed = feed_of_book bytes frames v b come g none in

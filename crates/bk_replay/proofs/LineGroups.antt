@@ -82,7 +82,7 @@ written_then (Err e) a b c p q r xs ys first last = group_stops a b c p q xs ys 
 
 -- ---- a group of one line
 
-text_one : (l : Line) → line_text l ++ 10 ∷ [] ≡ text_of (l ∷ [])
+pub text_one : (l : Line) → line_text l ++ 10 ∷ [] ≡ text_of (l ∷ [])
 text_one l = sym (flat_map-cons (λ (x : Line). line_text x ++ 10 ∷ []) l [] ∙ append-nil (line_text l ++ 10 ∷ []))
 
 pub put_one : (a b : Device) (p q : Gathered) (l m : Line) → l ≡ m → Works a b × Puts a b p q (line_text l ++ 10 ∷ []) → Works a b × Puts a b p q (text_of (m ∷ []))

@@ -244,6 +244,12 @@ version_stays a b piece more version (in_magic old new i o none text) e = inl ol
 version_stays a b piece more version (past_magic v old new text good i o) e = inl old
 version_stays a b piece more version (in_frames v old new text good i o) e = let same : v ≡ version = cc in inr (old ∙ ap Some same)
 
+-- a cutter that knows no version knew none before
+pub no_version_before : (a b : Cut) (piece : List ℕ) (more : List Frame) → Cuts a piece more b → b.version ≡ None → a.version ≡ None
+no_version_before a b piece more (in_magic old new i o none text) e = old
+no_version_before a b piece more (past_magic v old new text good i o) e = absurd cc
+no_version_before a b piece more (in_frames v old new text good i o) e = absurd cc
+
 -- the frames after a piece are good, and those before it are followed
 pub come_with : (bytes : List ℕ) (frames : List Frame) (cut new : Cut) (opened : Opened) (piece : List ℕ) (more : List Frame) (version : Version) → HasCome bytes frames (followed cut opened) → Cuts cut piece more new → new.version ≡ Some version
     → HasFollowed version frames more opened.committee opened.book
@@ -270,7 +276,7 @@ took_piece bytes frames cut new opened after piece more version come cuts ready 
 pub took_magic : (bytes : List ℕ) (frames : List Frame) (cut new : Cut) (opened : Opened) (piece : List ℕ) (more : List Frame) → HasCome bytes frames (followed cut opened) → Cuts cut piece more new → (new.fault ≡ None) × IsOpen new → new.version ≡ None
     → (out : List Frame) × HasCome (bytes ++ piece) (frames ++ out) (followed new opened)
 took_magic bytes frames cut new opened piece more come cuts ready none =
-    let old : cut.version ≡ None = unknown cut new piece more cuts none in
+    let old : cut.version ≡ None = no_version_before cut new piece more cuts none in
     let h = come_none bytes frames (followed cut opened) old come in (
       more,
       record {
@@ -281,8 +287,3 @@ took_magic bytes frames cut new opened piece more come cuts ready none =
         works = refl;
       },
     )
-  where
-    unknown : (a b : Cut) (piece : List ℕ) (more : List Frame) → Cuts a piece more b → b.version ≡ None → a.version ≡ None
-    unknown a b piece more (in_magic old new i o none text) e = old
-    unknown a b piece more (past_magic v old new text good i o) e = absurd cc
-    unknown a b piece more (in_frames v old new text good i o) e = absurd cc

@@ -15,7 +15,7 @@ pub record IsLeft (path items : List (List ℕ)) (rest : List ℕ) : Type 0 wher
   pub digests : All IsDigest tail
   pub text : rest ≡ text_of (path_lines tail)
 
-path_text : (d : List ℕ) (tail : List (List ℕ)) → text_of (path_lines (d ∷ tail)) ≡ codes "path " ++ (encode_lower d ++ 10 ∷ text_of (path_lines tail))
+pub path_text : (d : List ℕ) (tail : List (List ℕ)) → text_of (path_lines (d ∷ tail)) ≡ codes "path " ++ (encode_lower d ++ 10 ∷ text_of (path_lines tail))
 path_text d tail = simp append_assoc
 
 -- at the start all is left

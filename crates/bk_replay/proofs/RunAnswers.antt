@@ -27,7 +27,7 @@ of_known known v P come f = by_known known.bytes come
     by_known (Some bytes) c = f bytes c.0 c.1
 
 -- the same of the feed that they are
-of_feed : (known : Device) (v : Followed) (P : FeedValue → Type 0) (Q : List ℕ → Type 0) → IfKnown known (λ bytes. AllHasCome bytes v) → OfFeed v P
+pub of_feed : (known : Device) (v : Followed) (P : FeedValue → Type 0) (Q : List ℕ → Type 0) → IfKnown known (λ bytes. AllHasCome bytes v) → OfFeed v P
     → ((bytes : List ℕ) (feed : FeedValue) → IsFeed feed → bytes ≡ spelling feed → P feed → Q bytes) → IfKnown known Q
 of_feed known v P Q come ends f =
     of_known known v Q come (λ bytes frames c. let end = ends bytes frames c in f bytes (feed_of end.version frames) end.good end.spelled end.it)
@@ -39,7 +39,7 @@ run_report known old new v w answer come finishes =
     of_feed known v (λ feed. ReportIsOut feed answer old new) (λ bytes. (text : List ℕ) × IsReport bytes text answer × Receives old new text) come finishes.report
     (λ bytes feed good spelled out. (out.text, record { feed = feed; good = good; spelled = spelled; report = out.report }, out.gave))
 
-stopped : (known : Device) (v : Followed) (found : Fault) → IfKnown known (λ bytes. AllHasCome bytes v) → OfFeed v (λ feed. IsStopIn feed found) → IfKnown known (λ bytes. IsStopped bytes found)
+pub stopped : (known : Device) (v : Followed) (found : Fault) → IfKnown known (λ bytes. AllHasCome bytes v) → OfFeed v (λ feed. IsStopIn feed found) → IfKnown known (λ bytes. IsStopped bytes found)
 stopped known v found come ends =
     of_feed known v (λ feed. IsStopIn feed found) (λ bytes. IsStopped bytes found) come ends (λ bytes feed good spelled stop. record { feed = feed; good = good; spelled = spelled; stop = stop })
 
@@ -49,7 +49,7 @@ part_is_out known old new v written come ends =
     (λ bytes feed good spelled part. (part.text, part.answer, record { feed = feed; good = good; spelled = spelled; report = part.report }, part.some, part.gave))
 
 -- a feed that ends too early is refused
-cut_short : (known now : Device) (v : Followed) (found : FeedFault) → Works known now → IfKnown known (λ bytes. AllHasCome bytes v) → EndsShort v.cut found → RefusesInPieces found known now
+pub cut_short : (known now : Device) (v : Followed) (found : FeedFault) → Works known now → IfKnown known (λ bytes. AllHasCome bytes v) → EndsShort v.cut found → RefusesInPieces found known now
 cut_short known now v found works come short =
     let at : FeedFault = record { offset = v.cut.offset; code = code.Truncated } in
     let shown : IfKnown known (λ bytes. HasFault bytes at) = of_known known v (λ bytes. HasFault bytes at) come (λ bytes frames c. ends_cut_short bytes frames v.cut at c.cuts (record { is = refl; shown = short.shown })) in
@@ -65,7 +65,7 @@ finish_fails (fault.Unfinished place) known now old new v w works come h =
 finish_fails (fault.Write written) known now old new v w works come h = (works, h.2, part_is_out known old new v written come h.0)
 finish_fails fault.Memory known now old new v w works come h = (works, h.1)
 
-untouched : (sink : Device) → IsUntouched sink sink
+pub untouched : (sink : Device) → IsUntouched sink sink
 untouched sink = (refl, Keeps-refl sink.bytes)
 
 -- why a feed was not read is why there is no report

@@ -23,9 +23,10 @@ pub record Executed : Type 0 where
   pub receipts : List Receipt
   pub rows : List Row
 
--- what is made of the frames of a feed: what was taken of those after the genesis, with their order as it was settled
--- last, and what executing its batches gave, None once that failed
+-- what is made of the frames of a feed: the opening accounts; what was taken of the frames after the genesis, with their
+-- order as it was settled last; and what executing its batches gave, None once that failed
 pub record BookValue : Type 0 where
+  pub opening : List Row
   pub taken : Taken
   pub executed : Option Executed
 
@@ -48,16 +49,22 @@ pub record IsExecuted (feed : FeedValue) (o : Ordered) (e : Executed) : Type 0 w
   pub receipts : e.receipts ≡ receipts_of feed.version (transactions_of o.payloads.list) (genesis_of feed.frames)
   pub rows : e.rows ≡ state_after feed.version (transactions_of o.payloads.list) (genesis_of feed.frames)
 
--- this is made of the frames of a feed. The order that was executed is that of a part of them: those that there were at
--- the last settle, and none before the first
+-- the order of a part of the frames of a feed
+pub record OrdersPart (feed : FeedValue) (o : Ordered) : Type 0 where
+  pub part : List Frame
+  pub within : IsPartOf part (later_frames feed)
+  pub ordered : IsOrderOf (committee_in feed) part o
+
+-- this is made of the frames of a feed. The order that was found last is that of a part of them, and so is the one that
+-- was executed: that of the frames that there were at the last settle, and of none before the first
 pub record IsBookOf (feed : FeedValue) (b : BookValue) : Type 0 where
+  pub opening : b.opening ≡ genesis_of feed.frames
   pub committee : b.taken.committee ≡ committee_in feed
   pub taken : HasTaken (later_frames feed) b.taken
   pub works : b.taken.failed ≡ false
-  pub part : List Frame
-  pub within : IsPartOf part (later_frames feed)
+  pub found : OrdersPart feed b.taken.ordered
   pub order : Ordered
-  pub ordered : IsOrderOf (committee_in feed) part order
+  pub before : OrdersPart feed order
   pub done : Executed
   pub is_done : b.executed ≡ Some done
   pub executed : IsExecuted feed order done

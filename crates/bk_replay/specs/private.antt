@@ -5,3 +5,8 @@ pub mod Books
 pub mod Parts
 pub mod Slices
 pub mod Openings
+pub mod Replies
+pub mod Schedules
+pub mod Ordered
+pub mod Comparing
+pub mod Gathering

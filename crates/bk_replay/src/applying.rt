@@ -15,8 +15,12 @@ use crate::summary::Summary;
 use bk_frames::{Feed, Sink, Source, WriteFault};
 use std::alloc::Global;
 
-// Writes the report of a feed, a page at a time.
-fn write_report<K: Sink>(sink: &mut K, page: &mut Page, summary: &Summary) -> Result<(), WriteFault>
+/// Writes the report of a feed, a page at a time.
+pub(crate) fn write_report<K: Sink>(
+    sink: &mut K,
+    page: &mut Page,
+    summary: &Summary,
+) -> Result<(), WriteFault>
     requires sound { CanBeUsed (K.state sink.old) }
     requires few { (vec_len summary.now.counts < 2 ^ 32) × (vec_len summary.now.receipts < 2 ^ 32)
         × (length summary.now.rows.items < 2 ^ 32) }

@@ -28,6 +28,8 @@ pub(crate) struct Book {
     pub(crate) intake: Intake,
     /// What executing the order's batches gave; `None` once that failed.
     pub(crate) ledger: Option<Ledger>,
+    /// The opening accounts.
+    pub(crate) opening: Vec<Row>,
 }
 
 impl Model for Book {
@@ -36,24 +38,29 @@ impl Model for Book {
 
     ghost Value = { BookValue };
 
-    ghost view = { λ b. book_with b.intake b.ledger };
+    ghost view = { λ b. book_with b.intake b.ledger b.opening.items };
 }
 
 impl Book {
     /// Of the committee and the genesis alone.
-    pub(crate) fn new(alloc: Global, committee: Committee, rows: &[Row]) -> Result<Book, AllocError>
-        requires accounts { AreAccounts rows.now }
+    pub(crate) fn new(
+        alloc: Global,
+        committee: Committee,
+        opening: Vec<Row>,
+    ) -> Result<Book, AllocError>
+        requires accounts { AreAccounts opening.items }
         ensures book { IfOk result (λ b. (feed : FeedValue) → later_frames feed ≡ []
-            → committee ≡ committee_in feed → rows.now ≡ genesis_of feed.frames
+            → committee ≡ committee_in feed → opening.items ≡ genesis_of feed.frames
             → IsBookOf feed b) }
         ensures none { IfOk result (λ b. receipts_of_executed b.executed ≡ []) }
     {
         let version = committee.version();
-        let ledger = Ledger::new(alloc, version, rows)?;
+        let ledger = Ledger::new(alloc, version, &opening)?;
         Ok(Book {
             alloc,
             intake: Intake::new(alloc, committee)?,
             ledger: Some(ledger),
+            opening,
         })
     }
 

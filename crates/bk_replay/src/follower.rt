@@ -27,8 +27,8 @@ use std::thread::Threads;
 #[derive(Drop)]
 pub struct Follower {
     pub(crate) alloc: Global,
-    workers: usize,
-    cutter: Cutter,
+    pub(crate) workers: usize,
+    pub(crate) cutter: Cutter,
     pub(crate) opened: Opened,
     pub(crate) fault: Option<Fault>,
 }
@@ -73,8 +73,8 @@ fn stand(standing: &mut Option<Fault>, fault: Fault) -> Fault
     fault
 }
 
-// The same of a fault that is no stop.
-fn keep(standing: &mut Option<Fault>, fault: Fault) -> Fault
+/// The same of a fault that is no stop.
+pub(crate) fn keep(standing: &mut Option<Fault>, fault: Fault) -> Fault
     requires none { standing.old ≡ None }
     ensures standing { standing.new ≡ kept_fault fault }
     ensures same { result ≡ fault }
@@ -126,6 +126,22 @@ impl Follower {
                 committee: None,
                 book: None,
             },
+            fault: None,
+        }
+    }
+
+    /// A Follower of what has come, in which no fault stands.
+    pub(crate) fn of(alloc: Global, workers: usize, cutter: Cutter, opened: Opened) -> Follower
+        requires workers { (1 ≤ workers) × (workers ≤ 64) }
+        requires come { (bytes : List ℕ) × (frames : List Frame)
+            × HasCome bytes frames (followed cutter opened) }
+        ensures { result ≡ followed cutter opened }
+    {
+        Follower {
+            alloc,
+            workers,
+            cutter,
+            opened,
             fault: None,
         }
     }

@@ -98,7 +98,7 @@ fn open_second(
     let Some(committee) = opened.committee.take() else {
         unreachable!()
     };
-    opened.book = Some(Book::new(alloc, committee, &rows)?);
+    opened.book = Some(Book::new(alloc, committee, rows)?);
     Ok(())
 }
 

@@ -1,12 +1,12 @@
 ghost use Rattle.std.specs.Prelude.{◌≡◌, ℕ, ◌<◌, ◌≤◌, List, length, None, OnOk, IfOk, IfErr};
 ghost use Rattle.bk_frames.specs.Device.{CanBeUsed, Works, Receives, IfKnown};
 ghost use Rattle.bk_replay.specs.RunReport.{IsReport};
-ghost use Rattle.bk_replay.specs.Follower.{unfed};
 ghost use Rattle.bk_replay.specs.Answers.{devices};
 ghost use Rattle.bk_replay.specs.Replaying.{RunFailsBy, ReadFails, AllHasCome};
 
 use crate::fault::Fault;
 use crate::follower::Follower;
+use crate::gathering::Gathered;
 use crate::status::Status;
 use bk_frames::{FaultCode, FeedFault, Sink, Source};
 use bk_pool::Gate;
@@ -15,29 +15,34 @@ use std::sync::Wait;
 use std::thread::Threads;
 
 /// A source is asked for at most this many bytes at once.
-const PIECE: usize = 65_536;
+pub(crate) const PIECE: usize = 65_536;
 
-// Feeds all that a source has, a piece at a time.
-fn follow<R: Threads + Sync, S: Source>(
+/// Follows all that a source has. Each piece is cut before the next is pulled.
+pub(crate) fn follow<R: Threads + Sync, S: Source>(
     rt: &R,
+    alloc: Global,
     source: &mut S,
     piece: &mut [u8],
-    follower: &mut Follower,
-) -> Result<(), Fault>
+    workers: usize,
+) -> Result<Follower, Fault>
     requires sound { CanBeUsed (S.state source.old) }
     requires some { 0 < length piece.old }
-    requires unfed { follower.old ≡ unfed }
-    ensures works { OnOk result (Works (S.state source.old) (S.state source.new)
-        × (follower.new.fault ≡ None)) }
-    ensures come { OnOk result (IfKnown (S.state source.old)
-        (λ bytes. AllHasCome bytes follower.new)) }
+    requires workers { (1 ≤ workers) × (workers ≤ 64) }
+    ensures works { IfOk result (λ v. Works (S.state source.old) (S.state source.new)
+        × (v.fault ≡ None)) }
+    ensures come { IfOk result (λ v. IfKnown (S.state source.old)
+        (λ bytes. AllHasCome bytes v)) }
     ensures fault { IfErr result (λ f. ReadFails f (S.state source.old) (S.state source.new)) }
 {
+    let mut gathered = Gathered::new(alloc);
     'pieces: loop {
-        let offset = follower.offset();
+        let offset = gathered.offset();
         match source.pull(piece) {
-            Ok(0) => return Ok(()),
-            Ok(count) => follower.feed(rt, &piece[..count])?,
+            Ok(0) => {
+                let follower = gathered.into_follower(rt, alloc, workers)?;
+                return Ok(follower);
+            }
+            Ok(count) => gathered.feed(rt, alloc, &piece[..count])?,
             Err(_) => {
                 let code = FaultCode::Read;
                 return Err(Fault::Feed(FeedFault { offset, code }));
@@ -49,14 +54,15 @@ fn follow<R: Threads + Sync, S: Source>(
 // Follows all that a source has, and finishes.
 fn follow_to_end<R: Threads + Wait + Sync, S: Source, K: Sink, G: Gate + Sync>(
     rt: &R,
+    alloc: Global,
     source: &mut S,
     sink: &mut K,
     piece: &mut [u8],
-    follower: &mut Follower,
+    workers: usize,
     gate: &G,
 ) -> Result<Status, Fault>
     requires some { 0 < length piece.old }
-    requires unfed { follower.old ≡ unfed }
+    requires workers { (1 ≤ workers) × (workers ≤ 64) }
     requires source { CanBeUsed (S.state source.old) }
     requires sink { CanBeUsed (K.state sink.old) }
     ensures report { IfOk result (λ s. IfKnown (S.state source.old) (λ bytes. (text : List ℕ)
@@ -67,7 +73,7 @@ fn follow_to_end<R: Threads + Wait + Sync, S: Source, K: Sink, G: Gate + Sync>(
         (devices (S.state source.old) (K.state sink.old))
         (devices (S.state source.new) (K.state sink.new))) }
 {
-    follow(rt, source, piece, follower)?;
+    let mut follower = follow(rt, alloc, source, piece, workers)?;
     let status = follower.finish(rt, gate, sink)?;
     Ok(status)
 }
@@ -98,6 +104,5 @@ pub fn replay<R: Threads + Wait + Sync, S: Source, K: Sink, G: Gate + Sync>(
         (devices (S.state source.new) (K.state sink.new))) }
 {
     let mut piece = vec![in alloc; 0u8; PIECE]?;
-    let mut follower = Follower::new(alloc, workers);
-    follow_to_end(rt, source, sink, piece.as_mut_slice(), &mut follower, gate)
+    follow_to_end(rt, alloc, source, sink, piece.as_mut_slice(), workers, gate)
 }

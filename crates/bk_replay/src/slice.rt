@@ -19,16 +19,16 @@ const SLICE: usize = 65_536;
 
 /// Batches that follow each other in an order, read and not executed.
 #[derive(Drop)]
-struct Batches {
+pub(crate) struct Batches {
     /// How many transactions each batch holds, `None` where it is void.
-    counts: Vec<Option<u16>>,
+    pub(crate) counts: Vec<Option<u16>>,
     /// The transactions of all of them.
-    txs: Vec<Option<Tx>>,
+    pub(crate) txs: Vec<Option<Tx>>,
 }
 
 impl Batches {
-    // Reads one more batch.
-    fn push(&mut self, alloc: Global, payload: &[u8]) -> Result<(), AllocError>
+    /// Reads one more batch.
+    pub(crate) fn push(&mut self, alloc: Global, payload: &[u8]) -> Result<(), AllocError>
         ensures counts { OnOk result (self.new.counts.items
             ≡ self.old.counts.items ++ count_in payload.now ∷ []) }
         ensures txs { OnOk result (self.new.txs.items

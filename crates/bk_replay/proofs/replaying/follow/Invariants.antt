@@ -4,9 +4,9 @@ use Rattle.bk_replay.proofs.replaying.follow.Given as goal
 
 abbrev pub invariant-pieces : goal.invariant-pieces
 invariant-pieces g l = record {
-  pulled : IsPulled (g.S.Source.state l.initial.source) (g.S.Source.state l.source) l.follower;
+  pulled : IsPulled (g.S.Source.state l.initial.source) (g.S.Source.state l.source) l.gathered;
   some : 0 < length l.piece;
 }
 
 abbrev pub decreases-pieces : goal.decreases-pieces
-decreases-pieces g l = room_of l.follower
+decreases-pieces g l = room_of l.gathered

@@ -9,9 +9,6 @@ returns-in_err-piece-clause-fault g c =
     let p = err_from_is_err_and c.from_residual.result c.from_residual.ensures.1 in
     rw (p.1, p.2) (read_fails fault.Memory (g.S.Source.state c.args.source.now) (g.S.Source.state c.args.source.now) (g.K.Sink.state c.args.sink.now) refl)
 
-pub follow_to_end-requires-clause-unfed : goal.follow_to_end-requires-clause-unfed
-follow_to_end-requires-clause-unfed g c = λ lives within. c.new-follower.ensures
-
 pub follow_to_end-requires-clause-some : goal.follow_to_end-requires-clause-some
 follow_to_end-requires-clause-some g c = λ lives within. rw c.as_mut_slice.ensures.value (omega (arith, c.in_ok-piece.ensures.len, c.in_ok-piece.piece.ok.0))
 

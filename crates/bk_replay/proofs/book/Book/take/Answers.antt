@@ -9,5 +9,5 @@ use Rattle.bk_replay.proofs.book.Book.take.Goals as goal
 pub returns-clause-taken : goal.returns-clause-taken
 returns-clause-taken g c = λ version before two b.
     let e = c.in_ok-take.ensures in
-    book_more version before (frames_in c.args.frames.items) (book_with c.self.inside.intake c.self.inside.ledger) c.take.new.self two e.committee e.open.1 e.taken
+    book_more version before (frames_in c.args.frames.items) (book_with c.self.inside.intake c.self.inside.ledger c.self.inside.opening.items) c.take.new.self two e.committee e.order e.open.1 e.taken
     (subst (IsBookOf (feed_of version before)) (sym c.self.view_is) b)

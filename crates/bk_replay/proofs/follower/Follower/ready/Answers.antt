@@ -4,7 +4,7 @@ use Rattle.bk_frames.specs.Feed.{feed_of}
 use Rattle.bk_replay.specs.Follower.{Followed}
 use Rattle.bk_replay.specs.private.Parts.{followed}
 use Rattle.bk_replay.proofs.Following.{good_of}
-use Rattle.bk_replay.proofs.Asking.{nothing_stops, none_stops, query_fails}
+use Rattle.bk_replay.proofs.QueryStops.{nothing_stops, none_stops, query_fails}
 use Rattle.bk_replay.proofs.follower.Follower.ready.Goals as goal
 
 pub returns-in_err-ready-in-Some-book-clause-fault : goal.returns-in_err-ready-in-Some-book-clause-fault

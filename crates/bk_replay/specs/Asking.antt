@@ -1,0 +1,125 @@
+-- What a feed replies to a query, read off its frames alone.
+use Rattle.std.specs.Prelude.{◌≡◌, ℕ, ◌<◌, List, [], ◌∷◌, ◌++◌, length, take, slice_get, Some, None}
+use Rattle.bk_frames.specs.declared.genesis.Row.{Row}
+use Rattle.bk_frames.specs.Device.{Device, Works, Fails, Receives, IfKnown}
+use Rattle.bk_frames.specs.Feed.{FeedValue, IsFeed, spelling, genesis_of}
+use Rattle.bk_frames.specs.Pulling.{RefusesInPieces}
+use Rattle.bk_order.specs.Orders.{Ordered}
+use Rattle.bk_rules.specs.declared.account.Account.{Account}
+use Rattle.bk_rules.specs.declared.receipt.Receipt.{Receipt}
+use Rattle.bk_rules.specs.Fold.{state_after, receipts_of}
+use Rattle.bk_rules.specs.Rows.{account_at}
+use Rattle.bk_replay.specs.declared.fault.Fault.{Fault}
+use Rattle.bk_replay.specs.declared.fault.Fault.TheVariants as fault
+use Rattle.bk_replay.specs.declared.line.Line.TheVariants as line
+use Rattle.bk_replay.specs.declared.query.Query.{Query}
+use Rattle.bk_replay.specs.declared.query.Query.TheVariants as query
+use Rattle.bk_replay.specs.declared.query.Reply.{Reply}
+use Rattle.bk_replay.specs.declared.query.Reply.TheVariants as reply
+use Rattle.bk_replay.specs.Answers.{Devices, IsUntouched}
+use Rattle.bk_replay.specs.Lines.{text_of}
+use Rattle.bk_replay.specs.Proofs.{ProofValue, proof_text, IsProofOf, IsAbsent}
+use Rattle.bk_replay.specs.Report.{transactions_of}
+use Rattle.bk_replay.specs.RunLines.{anchor_lines, cert_lines}
+use Rattle.bk_replay.specs.RunReport.{HasNoStopIn, IsOrderIn, IsStopped, HasPlace}
+use Rattle.bk_replay.specs.Replaying.{NothingFailed}
+
+-- ---- what a feed comes to
+
+-- where a feed ends: its order, what became of the order's transactions, and the accounts after them
+pub record Outcome : Type 0 where
+  pub ordered : Ordered
+  pub receipts : List Receipt
+  pub rows : List Row
+
+-- a feed that nothing stops ends here
+pub record IsOutcomeOf (feed : FeedValue) (end : Outcome) : Type 0 where
+  pub clear : HasNoStopIn feed
+  pub ordered : IsOrderIn feed end.ordered
+  pub receipts : end.receipts
+      ≡ receipts_of feed.version (transactions_of end.ordered.payloads.list) (genesis_of feed.frames)
+  pub rows : end.rows
+      ≡ state_after feed.version (transactions_of end.ordered.payloads.list) (genesis_of feed.frames)
+
+-- ---- the text of a reply
+
+-- the lines of the anchors and of the certificates in order
+abbrev pub order_text : Ordered → List ℕ
+order_text o = text_of (anchor_lines o.anchors ++ cert_lines o.order)
+
+-- there is an account with this id, and the text is its line
+abbrev pub ShowsAccount : List Row → ℕ → List ℕ → Type 0
+ShowsAccount rows id text =
+    (a : Account) × (account_at rows id ≡ Some a) × (text ≡ text_of (line.Account id a.balance a.seq ∷ []))
+
+-- there is a transaction at this place, and the text is its line
+abbrev pub ShowsReceipt : List Receipt → ℕ → List ℕ → Type 0
+ShowsReceipt receipts place text =
+    (r : Receipt) × (slice_get receipts place ≡ Some r) × (text ≡ text_of (line.Tx place r.status r.moved ∷ []))
+
+-- there is a proof of the account with this id, and the text is that of the proof
+abbrev pub ShowsProof : List Row → ℕ → List ℕ → Type 0
+ShowsProof rows id text = (p : ProofValue) × IsProofOf rows id p × (text ≡ proof_text p)
+
+-- what was asked for is there, and this is its text
+abbrev pub Shows : Query → Outcome → List ℕ → Type 0
+Shows query.Order end text = text ≡ order_text end.ordered
+Shows (query.Account id) end text = ShowsAccount end.rows id text
+Shows (query.Receipt place) end text = ShowsReceipt end.receipts place text
+Shows (query.Proof id) end text = ShowsProof end.rows id text
+
+-- what was asked for is not there; an order always is
+abbrev pub Lacks : Query → Outcome → Type 0
+Lacks query.Order end = ⊥
+Lacks (query.Account id) end = account_at end.rows id ≡ None
+Lacks (query.Receipt place) end = slice_get end.receipts place ≡ None
+Lacks (query.Proof id) end = IsAbsent end.rows id
+
+-- a reply and its text, which is empty where nothing is found
+abbrev pub Replies : Query → Outcome → Reply → List ℕ → Type 0
+Replies asked end reply.Found text = Shows asked end text
+Replies asked end reply.Absent text = Lacks asked end × (text ≡ [])
+
+-- a feed that nothing stops replies so
+pub record IsReplyOf (feed : FeedValue) (asked : Query) (answer : Reply) (text : List ℕ) : Type 0 where
+  pub end : Outcome
+  pub outcome : IsOutcomeOf feed end
+  pub it : Replies asked end answer text
+
+-- and so do bytes, where they are the spelling of that feed
+pub record IsReply (bytes : List ℕ) (asked : Query) (answer : Reply) (text : List ℕ) : Type 0 where
+  pub feed : FeedValue
+  pub good : IsFeed feed
+  pub spelled : bytes ≡ spelling feed
+  pub reply : IsReplyOf feed asked answer text
+
+-- ---- what a call leaves
+
+-- the sink received exactly the text of the reply of bytes
+abbrev pub IsReplied : Query → Reply → List ℕ → Device → Device → Type 0
+IsReplied asked answer bytes old new =
+    (text : List ℕ) × IsReply bytes asked answer text × Receives old new text
+
+-- the first bytes of the text of the reply are out, and not all
+abbrev pub PartOfReplyIsOut : Query → ℕ → Device → Device → List ℕ → Type 0
+PartOfReplyIsOut asked written old new bytes =
+    (text : List ℕ) × IsReply bytes asked reply.Found text × (written < length text)
+    × Receives old new (take written text)
+
+-- why there is no reply, by the fault: the source is refused; the feed is stopped; a worker took a place and did not
+-- finish it; a call of the sink failed, and exactly the first bytes of the text are out; or memory ran out. But for the sink's
+-- failure nothing is written
+abbrev pub AskFailsBy : Query → Fault → Devices → Devices → Type 0
+AskFailsBy asked (fault.Feed found) old new =
+    RefusesInPieces found old.source new.source × IsUntouched old.sink new.sink
+AskFailsBy asked (fault.Collision id) old new =
+    NothingFailed old new × IfKnown old.source (λ bytes. IsStopped bytes (fault.Collision id))
+AskFailsBy asked (fault.Equivocation round author first second) old new =
+    NothingFailed old new
+    × IfKnown old.source (λ bytes. IsStopped bytes (fault.Equivocation round author first second))
+AskFailsBy asked (fault.Unfinished place) old new =
+    NothingFailed old new × IfKnown old.source (λ bytes. HasPlace bytes place)
+AskFailsBy asked (fault.Write written) old new =
+    Works old.source new.source × Fails old.sink new.sink
+    × IfKnown old.source (PartOfReplyIsOut asked written old.sink new.sink)
+AskFailsBy asked fault.Memory old new = NothingFailed old new

@@ -1,0 +1,21 @@
+/// What can be asked of a feed.
+#[derive(Clone, Copy, Debug, PartialEq, Eq)]
+pub enum Query {
+    /// The committed anchors, oldest first, and the certificates in order.
+    Order,
+    /// The account of this id after the transactions of the order.
+    Account { id: u64 },
+    /// What became of the transaction at this place of the order.
+    Receipt { place: u32 },
+    /// A proof that the account of this id is in the state after the transactions of the order.
+    Proof { id: u64 },
+}
+
+/// Whether a feed has what was asked for.
+#[derive(Clone, Copy, Debug, PartialEq, Eq)]
+pub enum Reply {
+    /// It has, and the text is written.
+    Found,
+    /// It has no such account or place, and nothing is written.
+    Absent,
+}

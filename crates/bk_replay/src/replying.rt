@@ -1,0 +1,201 @@
+//! What a book replies to a query.
+
+ghost use Rattle.std.specs.Prelude.{◌≡◌, ◌^◌, ◌<◌, ◌++◌, [], length, None, OnOk, IfOk, IfErr, MatchOption, slice_get};
+ghost use Rattle.bk_frames.specs.Device.{CanBeUsed};
+ghost use Rattle.bk_frames.specs.Feed.{FeedValue, IsFeed};
+ghost use Rattle.bk_frames.specs.Writing.{Writes};
+ghost use Rattle.bk_rules.specs.Rows.{account_at};
+ghost use Rattle.bk_replay.specs.Asking.{Shows, ShowsAccount, ShowsReceipt, ShowsProof, order_text};
+ghost use Rattle.bk_replay.specs.Follower.{IsCurrent};
+ghost use Rattle.bk_replay.specs.Lines.{text_of};
+ghost use Rattle.bk_replay.specs.Proofs.{IsAbsent};
+ghost use Rattle.bk_replay.specs.RunLines.{anchor_lines, cert_lines};
+ghost use Rattle.bk_replay.specs.private.Pages.{Written, blank};
+ghost use Rattle.bk_replay.specs.private.Replies.{outcome_of, TextFails, IsTextOf};
+ghost use Rattle.bk_replay.specs.private.Replies.{WritesFound, WritesReply, BookReplies, BookReplyFails};
+
+use crate::book::Book;
+use crate::fault::Fault;
+use crate::groups::{put_anchors, put_certs};
+use crate::ledger::Ledger;
+use crate::line::Line;
+use crate::page::{Page, push_line};
+use crate::proof::proof_of;
+use crate::query::{Query, Reply};
+use bk_frames::{Sink, WriteFault, push_all};
+use bk_order::Intake;
+use bk_rounds::CertRef;
+use bk_rules::{Account, Receipt};
+use std::alloc::{AllocError, Global};
+use std::thread::Threads;
+
+// ---- an order
+
+// Puts the anchors and the certificates in order, a page at a time.
+fn put_order<K: Sink>(
+    sink: &mut K,
+    page: &mut Page,
+    anchors: &[CertRef],
+    order: &[CertRef],
+) -> Result<(), WriteFault>
+    requires sound { CanBeUsed (K.state sink.old) }
+    requires anchors { length anchors.now < 2 ^ 32 }
+    requires order { length order.now < 2 ^ 32 }
+    requires blank { page.old ≡ blank }
+    ensures written { Written result (K.state sink.old) (K.state sink.new) page.old page.new
+        (text_of (anchor_lines anchors.now ++ cert_lines order.now)) }
+    ensures empty { OnOk result (page.new.bytes ≡ []) }
+{
+    put_anchors(sink, page, anchors)?;
+    put_certs(sink, page, order)?;
+    page.flush(sink)
+}
+
+// Writes them.
+fn write_order<K: Sink>(alloc: Global, sink: &mut K, intake: &Intake) -> Result<(), Fault>
+    requires sound { CanBeUsed (K.state sink.old) }
+    requires anchors { length intake.now.ordered.anchors < 2 ^ 32 }
+    requires order { length intake.now.ordered.order < 2 ^ 32 }
+    ensures out { OnOk result (Writes (order_text intake.now.ordered)
+        (K.state sink.old) (K.state sink.new)) }
+    ensures fault { IfErr result (TextFails (λ text. text ≡ order_text intake.now.ordered)
+        (K.state sink.old) (K.state sink.new)) }
+{
+    let mut page = Page::new(alloc)?;
+    put_order(sink, &mut page, intake.anchors(), intake.order())?;
+    Ok(())
+}
+
+// ---- an account, a receipt or a proof
+
+// The line of the account with this id, where there is one.
+fn account_text(alloc: Global, ledger: &Ledger, id: u64) -> Result<Option<Vec<u8>>, AllocError>
+    ensures { IfOk result (λ found. MatchOption found
+        (account_at ledger.now.state.rows id ≡ None)
+        (λ text. ShowsAccount ledger.now.state.rows id text.items)) }
+{
+    let Some(account) = ledger.state.account(id) else {
+        return Ok(None);
+    };
+    let Account { balance, seq } = account;
+    let mut text = Vec::new(alloc);
+    push_line(&mut text, Line::Account { id, balance, seq })?;
+    Ok(Some(text))
+}
+
+// The line of the transaction at this place, where there is one.
+fn receipt_text(alloc: Global, ledger: &Ledger, place: u32) -> Result<Option<Vec<u8>>, AllocError>
+    ensures { IfOk result (λ found. MatchOption found
+        (slice_get ledger.now.receipts.items place ≡ None)
+        (λ text. ShowsReceipt ledger.now.receipts.items place text.items)) }
+{
+    let Some(receipt) = ledger.receipt(place) else {
+        return Ok(None);
+    };
+    let Receipt { status, moved } = receipt;
+    let mut text = Vec::new(alloc);
+    push_line(
+        &mut text,
+        Line::Tx {
+            place,
+            status,
+            moved,
+        },
+    )?;
+    Ok(Some(text))
+}
+
+// The text of the proof of the account with this id, where there is one.
+fn proof_text<R: Threads + Sync>(
+    rt: &R,
+    alloc: Global,
+    ledger: &Ledger,
+    id: u64,
+) -> Result<Option<Vec<u8>>, AllocError>
+    ensures { IfOk result (λ found. MatchOption found (IsAbsent ledger.now.state.rows id)
+        (λ text. ShowsProof ledger.now.state.rows id text.items)) }
+{
+    let rows = ledger.state.rows(alloc)?;
+    let Some(proof) = proof_of(rt, alloc, &rows, id)? else {
+        return Ok(None);
+    };
+    let text = proof.text(alloc)?;
+    Ok(Some(text))
+}
+
+// Writes what was found.
+fn write_found<K: Sink>(sink: &mut K, found: Option<Vec<u8>>) -> Result<Reply, Fault>
+    requires sound { CanBeUsed (K.state sink.old) }
+    ensures out { IfOk result (WritesFound found (K.state sink.old) (K.state sink.new)) }
+    ensures fault { IfErr result (TextFails (IsTextOf found)
+        (K.state sink.old) (K.state sink.new)) }
+{
+    let Some(text) = found else {
+        return Ok(Reply::Absent);
+    };
+    push_all(sink, &text)?;
+    Ok(Reply::Found)
+}
+
+// Writes the reply of what was ordered and executed.
+fn write_reply<R: Threads + Sync, K: Sink>(
+    rt: &R,
+    alloc: Global,
+    sink: &mut K,
+    intake: &Intake,
+    ledger: &Ledger,
+    query: Query,
+) -> Result<Reply, Fault>
+    requires sound { CanBeUsed (K.state sink.old) }
+    requires anchors { length intake.now.ordered.anchors < 2 ^ 32 }
+    requires order { length intake.now.ordered.order < 2 ^ 32 }
+    ensures reply { IfOk result (WritesReply query (outcome_of intake.now ledger.now)
+        (K.state sink.old) (K.state sink.new)) }
+    ensures fault { IfErr result (TextFails (Shows query (outcome_of intake.now ledger.now))
+        (K.state sink.old) (K.state sink.new)) }
+{
+    match query {
+        Query::Order => {
+            write_order(alloc, sink, intake)?;
+            Ok(Reply::Found)
+        }
+        Query::Account { id } => {
+            let found = account_text(alloc, ledger, id)?;
+            let reply = write_found(sink, found)?;
+            Ok(reply)
+        }
+        Query::Receipt { place } => {
+            let found = receipt_text(alloc, ledger, place)?;
+            let reply = write_found(sink, found)?;
+            Ok(reply)
+        }
+        Query::Proof { id } => {
+            let found = proof_text(rt, alloc, ledger, id)?;
+            let reply = write_found(sink, found)?;
+            Ok(reply)
+        }
+    }
+}
+
+impl Book {
+    /// Writes the reply of the feed whose frames these are, all of them settled.
+    pub(crate) fn reply<R: Threads + Sync, K: Sink>(
+        &self,
+        rt: &R,
+        sink: &mut K,
+        query: Query,
+    ) -> Result<Reply, Fault>
+        requires sound { CanBeUsed (K.state sink.old) }
+        requires current { (feed : FeedValue) × IsFeed feed × IsCurrent feed self.now }
+        ensures reply { IfOk result (BookReplies query self.now
+            (K.state sink.old) (K.state sink.new)) }
+        ensures fault { IfErr result (BookReplyFails query self.now
+            (K.state sink.old) (K.state sink.new)) }
+    {
+        let Some(ledger) = &self.ledger else {
+            unreachable!()
+        };
+        let reply = write_reply(rt, self.alloc, sink, &self.intake, ledger, query)?;
+        Ok(reply)
+    }
+}
