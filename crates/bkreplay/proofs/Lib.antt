@@ -1,2 +1,4 @@
+mod LineLemmas
 mod StatusLemmas
+mod VerdictLemmas
 mod WordLemmas

@@ -1,11 +1,17 @@
 -- The command line, and the job that its words ask for.
-use Rattle.std.specs.Prelude.{◌≡◌, ◌≤◌, ℕ, List, Option, Some, None, true, codes, option_map, option_and_then, string_bytes, pos}
+use Rattle.std.specs.Prelude.{◌≡◌, ◌≤◌, ◌<◌, ◌⊎◌, ◌^◌, ℕ, List, [], ◌∷◌, Option, Some, None, true, codes, option_map, string_bytes, pos, unwrap_or}
 use Rattle.std.specs.Str.Parse.{IsNumeral, digits_value, without_leading_plus}
 use Rattle.clap.specs.Words.{App, Rule, Row, Text, first_of, one_of, new_app, new_rule, with_rule, with_subcommand}
 use Rattle.clap.specs.declared.builder.action.ArgAction.TheVariants.{Set}
-use Rattle.clap.specs.declared.builder.value_parser.ValueParser.TheVariants.{Signed}
+use Rattle.clap.specs.declared.builder.value_parser.ValueParser.TheVariants.{Signed, Unsigned}
+use Rattle.bk_replay.specs.declared.query.Query.{Query}
+use Rattle.bk_replay.specs.declared.query.Query.TheVariants as query
 use Rattle.bkreplay.specs.declared.job.Job.{Job}
 use Rattle.bkreplay.specs.declared.job.Job.TheVariants as job
+use Rattle.bkreplay.specs.declared.verb.Verb.{Verb}
+use Rattle.bkreplay.specs.declared.verb.Verb.TheVariants as verb
+
+-- ---- the arguments
 
 -- the argument FILE
 abbrev pub file_rule : Rule
@@ -20,13 +26,57 @@ workers_rule = record (new_rule (codes "workers")) {
   parser = Some (Signed (pos 1) (pos 64));
 }
 
--- the command `run [--workers W] [FILE]`
-abbrev pub run_line : App
-run_line = with_rule (with_rule (new_app (codes "run")) workers_rule) file_rule
+-- the argument ROOT, any text
+abbrev pub root_rule : Rule
+root_rule = record (new_rule (codes "ROOT")) { action = Some Set; required = true }
 
--- the command `apply [FILE]`
-abbrev pub apply_line : App
-apply_line = with_rule (new_app (codes "apply")) file_rule
+-- the argument ID, a number below 2^64
+abbrev pub id_rule : Rule
+id_rule = record (new_rule (codes "ID")) {
+  action = Some Set;
+  required = true;
+  parser = Some (Unsigned 0 18446744073709551615);
+}
+
+-- the argument PLACE, a number below 2^32
+abbrev pub place_rule : Rule
+place_rule = record (new_rule (codes "PLACE")) {
+  action = Some Set;
+  required = true;
+  parser = Some (Signed (pos 0) (pos 4294967295));
+}
+
+-- ---- the commands
+
+-- a command `NAME [FILE]`
+abbrev pub file_line : Text → App
+file_line name = with_rule (new_app name) file_rule
+
+-- a command with one argument more in front
+abbrev pub value_line : Text → Rule → App
+value_line name rule = with_rule (with_rule (new_app name) rule) file_rule
+
+-- the word of a command
+abbrev pub word_of : Verb → Text
+word_of verb.Run = codes "run"
+word_of verb.Make = codes "make"
+word_of verb.Order = codes "order"
+word_of verb.Account = codes "account"
+word_of verb.Receipt = codes "receipt"
+word_of verb.Prove = codes "prove"
+word_of verb.CheckProof = codes "check-proof"
+word_of verb.Apply = codes "apply"
+
+-- a command with its arguments
+abbrev pub line_of : Verb → App
+line_of verb.Run = value_line (codes "run") workers_rule
+line_of verb.Make = file_line (codes "make")
+line_of verb.Order = file_line (codes "order")
+line_of verb.Account = value_line (codes "account") id_rule
+line_of verb.Receipt = value_line (codes "receipt") place_rule
+line_of verb.Prove = value_line (codes "prove") id_rule
+line_of verb.CheckProof = value_line (codes "check-proof") root_rule
+line_of verb.Apply = file_line (codes "apply")
 
 -- the program's name, with a version
 abbrev pub program : App
@@ -38,17 +88,25 @@ program = let a = new_app (codes "bkreplay") in record a {
   };
 }
 
--- the whole command line: `bkreplay run [--workers W] [FILE]` or `bkreplay apply [FILE]`
-abbrev pub command_line : App
-command_line = with_subcommand (with_subcommand program run_line.top) apply_line.top
+-- a command more
+abbrev pub with_command : App → Verb → App
+with_command a v = with_subcommand a (line_of v).top
 
--- the command that was found in the words has this name
-abbrev pub IsNamed : Option (Text × List Row) → Text → Type 0
-IsNamed found name = option_map (λ p. p.0) found ≡ Some name
+-- the program with the commands that write a report, a feed or the reply to a query
+abbrev pub asking_line : App
+asking_line =
+    with_command (with_command (with_command (with_command (with_command (with_command program
+    verb.Run) verb.Make) verb.Order) verb.Account) verb.Receipt) verb.Prove
+
+-- the whole command line: `bkreplay`, and one of the commands
+abbrev pub command_line : App
+command_line = with_command (with_command asking_line verb.CheckProof) verb.Apply
+
+-- ---- the job
 
 -- the file is the value of FILE
-abbrev pub IsFileOf : Option (Text × List Row) → Option Text → Type 0
-IsFileOf found file = option_and_then (λ p. first_of (codes "FILE") p.1) found ≡ file
+abbrev pub IsFileIn : List Row → Option Text → Type 0
+IsFileIn rows file = first_of (codes "FILE") rows ≡ file
 
 -- so many workers are named by the value of `--workers`: one where there is none
 abbrev pub AreNamedBy : Option Text → ℕ → Type 0
@@ -58,11 +116,52 @@ AreNamedBy (Some text) count =
     → digits_value 10 (without_leading_plus text) ≤ 64
     → count ≡ digits_value 10 (without_leading_plus text)
 
--- the job is that of the command that was found in the words, with the values of its arguments
+-- a number below a limit is the value of an argument that is required
+abbrev pub IsNumberBy : ℕ → Option Text → ℕ → Type 0
+IsNumberBy limit None n = n ≡ 0
+IsNumberBy limit (Some text) n =
+    IsNumeral 10 (without_leading_plus text) → digits_value 10 (without_leading_plus text) < limit
+    → n ≡ digits_value 10 (without_leading_plus text)
+
+-- the query is that of a command, with the value of its argument
+abbrev pub IsQueryAt : Text → List Row → Query → Type 0
+IsQueryAt word rows query.Order = word ≡ word_of verb.Order
+IsQueryAt word rows (query.Account id) =
+    (word ≡ word_of verb.Account) × IsNumberBy (2 ^ 64) (one_of (codes "ID") rows) id
+IsQueryAt word rows (query.Receipt place) =
+    (word ≡ word_of verb.Receipt) × IsNumberBy (2 ^ 32) (one_of (codes "PLACE") rows) place
+IsQueryAt word rows (query.Proof id) =
+    (word ≡ word_of verb.Prove) × IsNumberBy (2 ^ 64) (one_of (codes "ID") rows) id
+
+-- the job is that of a command, with the values of its arguments
+abbrev pub IsJobAt : Text → List Row → Job → Type 0
+IsJobAt word rows (job.Run workers file) =
+    (word ≡ word_of verb.Run) × AreNamedBy (one_of (codes "workers") rows) workers
+    × IsFileIn rows (option_map string_bytes file)
+IsJobAt word rows (job.Make file) =
+    (word ≡ word_of verb.Make) × IsFileIn rows (option_map string_bytes file)
+IsJobAt word rows (job.CheckProof root file) =
+    (word ≡ word_of verb.CheckProof) × (string_bytes root ≡ unwrap_or (first_of (codes "ROOT") rows) [])
+    × IsFileIn rows (option_map string_bytes file)
+IsJobAt word rows (job.Ask asked file) =
+    IsQueryAt word rows asked × IsFileIn rows (option_map string_bytes file)
+IsJobAt word rows (job.Apply file) =
+    (word ≡ word_of verb.Apply) × IsFileIn rows (option_map string_bytes file)
+
+-- the job is that of the command that was found in the words
 abbrev pub IsJobOf : Option (Text × List Row) → Job → Type 0
-IsJobOf found (job.Run workers file) =
-    IsNamed found (codes "run")
-    × AreNamedBy (option_and_then (λ p. one_of (codes "workers") p.1) found) workers
-    × IsFileOf found (option_map string_bytes file)
-IsJobOf found (job.Apply file) =
-    IsNamed found (codes "apply") × IsFileOf found (option_map string_bytes file)
+IsJobOf None j = ⊥
+IsJobOf (Some found) j = IsJobAt found.0 found.1 j
+
+-- ---- the words of the commands
+
+-- the word is one of these
+abbrev pub IsOneOf : List Text → Text → Type 0
+IsOneOf [] word = ⊥
+IsOneOf (x ∷ xs) word = (word ≡ x) ⊎ IsOneOf xs word
+
+-- the words of all commands
+abbrev pub all_words : List Text
+all_words =
+    word_of verb.Run ∷ word_of verb.Make ∷ word_of verb.Order ∷ word_of verb.Account ∷ word_of verb.Receipt
+    ∷ word_of verb.Prove ∷ word_of verb.CheckProof ∷ word_of verb.Apply ∷ []

@@ -1,63 +1,32 @@
--- How the program ends after a fault: its exit status, and the line that tells it.
-use Rattle.std.specs.Prelude.{◌≡◌, ℕ, List, ◌∷◌, ◌++◌, ◌⊎◌, codes, take}
-use Rattle.hex.specs.Hex.{encode_lower}
-use Rattle.bk_frames.specs.Device.{Device, Works, Fails, Receives}
+-- What a job leaves: its answer, or the fault that kept it from one.
+use Rattle.std.specs.Prelude.{◌≡◌, ◌↔◌, ℕ, ◌<◌, Bool, List, codes, if◌then◌else◌, length, take, string_bytes, IsTrue, Ok, Err}
+use Rattle.bk_frames.specs.Device.{Device, Works, Fails, Receives, IfKnown}
 use Rattle.bk_frames.specs.Feed.{HasFault}
-use Rattle.bk_frames.specs.Faults.{fault_text}
 use Rattle.bk_frames.specs.declared.fault.FeedFault.{FeedFault}
 use Rattle.bk_replay.specs.declared.fault.Fault.{Fault}
-use Rattle.bk_replay.specs.declared.fault.Fault.TheVariants as fault
 use Rattle.bk_replay.specs.declared.status.Status.{Status}
-use Rattle.bk_replay.specs.Answers.{Devices, FailsBy}
-use Rattle.bk_replay.specs.Lines.{spaced}
+use Rattle.bk_replay.specs.Answers.{Devices, FailsBy, IsUntouched}
+use Rattle.bk_replay.specs.Asking.{AskFailsBy, IsReplied}
+use Rattle.bk_replay.specs.Proofs.{IsGoodProof}
+use Rattle.bk_replay.specs.declared.query.Query.{Query}
+use Rattle.bk_replay.specs.declared.query.Reply.TheVariants as reply
 use Rattle.bk_replay.specs.Replaying.{RunFailsBy}
 use Rattle.bk_replay.specs.Report.{IsApplyReport}
 use Rattle.bk_replay.specs.RunReport.{IsReport, IsStopped}
-use Rattle.bkreplay.specs.Exits.{exit_at, exit_after}
+use Rattle.bk_script.specs.Answers as script
+use Rattle.bk_script.specs.Script.{LineFault, feed_of}
+use Rattle.bk_script.specs.declared.fault.ScriptFault.{ScriptFault}
+use Rattle.bk_script.specs.declared.fault.ScriptFault.TheVariants as text
+use Rattle.bkreplay.specs.Exits.{absence, exit_at, exit_by, exit_after}
+use Rattle.bkreplay.specs.FaultLines.{Reports, line_of}
 use Rattle.bkreplay.specs.declared.exit.Exit.{Exit}
 use Rattle.bkreplay.specs.declared.exit.Exit.TheVariants as exit
 use Rattle.bkreplay.specs.declared.job.Job.{Job}
 use Rattle.bkreplay.specs.declared.job.Job.TheVariants as job
+use Rattle.bkreplay.specs.declared.job_fault.JobFault.{JobFault}
+use Rattle.bkreplay.specs.declared.job_fault.JobFault.TheVariants as fault
 
--- a digest behind a space
-abbrev pub digits_of : List ℕ → List ℕ
-digits_of digest = 32 ∷ encode_lower digest
-
--- what tells twins: their round and author, and the ids of both
-abbrev pub twins_text : ℕ → ℕ → List ℕ → List ℕ → List ℕ
-twins_text round author first second =
-    codes "equivocation" ++ spaced round ++ spaced author ++ digits_of first ++ digits_of second
-
--- what tells a fault
-abbrev pub told : Fault → List ℕ
-told (fault.Feed found) = fault_text found
-told (fault.Collision id) = codes "collision" ++ digits_of id
-told (fault.Equivocation round author first second) = twins_text round author first second
-told (fault.Unfinished place) = codes "unfinished" ++ spaced place
-told (fault.Write written) = codes "write failed"
-told fault.Memory = codes "memory"
-
--- the line that tells a fault, with its line feed
-abbrev pub line_of : Fault → List ℕ
-line_of e = told e ++ codes "\n"
-
--- a sink was to receive a text: it received all of it; or one of its calls failed, and it received only some first bytes
-abbrev pub Tells : List ℕ → Device → Device → Type 0
-Tells text old new =
-    (Works old new × Receives old new text)
-    ⊎ (Fails old new × ((written : ℕ) × Receives old new (take written text)))
-
--- why a job has no answer
-abbrev pub JobFailsBy : Job → Fault → Devices → Devices → Type 0
-JobFailsBy (job.Run workers file) e old new = RunFailsBy e old new
-JobFailsBy (job.Apply file) e old new = FailsBy e old new
-
--- a job ended by this fault: its exit and its line are the fault's, and the devices are as it says
-pub record EndsBy (j : Job) (e : Fault) (end : Exit) (old new : Devices) (err err' : Device)
-    : Type 0 where
-  pub exit_is : end ≡ exit_after e
-  pub fault : JobFailsBy j e old new
-  pub line : Tells (line_of e) err err'
+-- ---- the answer of a job
 
 -- the output got the whole report of a run over the bytes, and the exit is the report's
 abbrev pub RunIsOut : Exit → Device → Device → List ℕ → Type 0
@@ -70,24 +39,139 @@ abbrev pub ReportIsOut : Exit → Device → Device → List ℕ → Type 0
 ReportIsOut end old new bytes =
     (text : List ℕ) × IsApplyReport bytes text × (end ≡ exit.Whole) × Receives old new text
 
+-- the output got the whole feed that the bytes make as a script
+abbrev pub FeedIsOut : Exit → Device → Device → List ℕ → Type 0
+FeedIsOut end old new bytes = (end ≡ exit.Whole) × script.IsMade bytes old new
+
+-- the text of a verdict on a proof
+abbrev pub verdict_text : Bool → List ℕ
+verdict_text good = if good then codes "proof good\n" else codes "proof bad\n"
+
+-- the verdict on whether the bytes are a proof of this root
+abbrev pub IsVerdict : List ℕ → List ℕ → Bool → Type 0
+IsVerdict root bytes good = IsTrue good ↔ IsGoodProof root bytes
+
+-- the output got the verdict on the bytes, and the exit is the verdict's
+abbrev pub VerdictIsOut : List ℕ → Exit → Device → Device → List ℕ → Type 0
+VerdictIsOut root end old new bytes =
+    (good : Bool) × IsVerdict root bytes good × (end ≡ exit_by good)
+    × Receives old new (verdict_text good)
+
+-- the output got the whole reply of the bytes to a query
+abbrev pub ReplyIsOut : Query → Exit → Device → Device → List ℕ → Type 0
+ReplyIsOut asked end old new bytes = (end ≡ exit.Whole) × IsReplied asked reply.Found bytes old new
+
 -- the output got the whole answer of a job over the bytes, and the exit is the answer's
 abbrev pub AnswerIsOut : Job → Exit → Device → Device → List ℕ → Type 0
 AnswerIsOut (job.Run workers file) end old new bytes = RunIsOut end old new bytes
+AnswerIsOut (job.Make file) end old new bytes = FeedIsOut end old new bytes
+AnswerIsOut (job.CheckProof root file) end old new bytes =
+    VerdictIsOut (string_bytes root) end old new bytes
+AnswerIsOut (job.Ask asked file) end old new bytes = ReplyIsOut asked end old new bytes
 AnswerIsOut (job.Apply file) end old new bytes = ReportIsOut end old new bytes
 
--- the bytes have a fault
+-- ---- why a job has no answer
+
+-- the devices of a script
+abbrev pub script_devices : Devices → script.Devices
+script_devices d = script.devices d.source d.sink
+
+-- the first bytes of the verdict are out, and not all
+abbrev pub PartOfVerdictIsOut : List ℕ → ℕ → Device → Device → List ℕ → Type 0
+PartOfVerdictIsOut root written old new bytes =
+    (good : Bool) × IsVerdict root bytes good × (written < length (verdict_text good))
+    × Receives old new (take written (verdict_text good))
+
+-- why there is no verdict, by the fault: a call of the source failed, and nothing is written; a call of the sink failed,
+-- and exactly the first bytes of the verdict are out; or memory ran out, and nothing is written
+abbrev pub CheckFailsBy : List ℕ → ScriptFault → Devices → Devices → Type 0
+CheckFailsBy root (text.Script line found) old new = ⊥
+CheckFailsBy root text.Read old new = Fails old.source new.source × IsUntouched old.sink new.sink
+CheckFailsBy root (text.Write written) old new =
+    Works old.source new.source × Fails old.sink new.sink
+    × IfKnown old.source (PartOfVerdictIsOut root written old.sink new.sink)
+CheckFailsBy root text.Memory old new =
+    Works old.source new.source × IsUntouched old.sink new.sink
+
+-- why a feed was not replayed for a job
+abbrev pub ReplayFailsBy : Job → Fault → Devices → Devices → Type 0
+ReplayFailsBy (job.Run workers file) e old new = RunFailsBy e old new
+ReplayFailsBy (job.Make file) e old new = ⊥
+ReplayFailsBy (job.CheckProof root file) e old new = ⊥
+ReplayFailsBy (job.Ask asked file) e old new = AskFailsBy asked e old new
+ReplayFailsBy (job.Apply file) e old new = FailsBy e old new
+
+-- why a text was not answered for a job
+abbrev pub TextFailsBy : Job → ScriptFault → Devices → Devices → Type 0
+TextFailsBy (job.Run workers file) e old new = ⊥
+TextFailsBy (job.Make file) e old new =
+    script.FailsBy e (script_devices old) (script_devices new)
+TextFailsBy (job.CheckProof root file) e old new = CheckFailsBy (string_bytes root) e old new
+TextFailsBy (job.Ask asked file) e old new = ⊥
+TextFailsBy (job.Apply file) e old new = ⊥
+
+-- what a query asks for is absent, and no call failed
+abbrev pub IsAbsentBy : Query → JobFault → Devices → Devices → Type 0
+IsAbsentBy asked e old new =
+    (absence asked ≡ Err e) × Works old.source new.source × Works old.sink new.sink
+    × IfKnown old.source (λ bytes. IsReplied asked reply.Absent bytes old.sink new.sink)
+
+-- what a job asks for is absent
+abbrev pub IsAbsentFor : Job → JobFault → Devices → Devices → Type 0
+IsAbsentFor (job.Run workers file) e old new = ⊥
+IsAbsentFor (job.Make file) e old new = ⊥
+IsAbsentFor (job.CheckProof root file) e old new = ⊥
+IsAbsentFor (job.Ask asked file) e old new = IsAbsentBy asked e old new
+IsAbsentFor (job.Apply file) e old new = ⊥
+
+-- why a query has no reply
+abbrev pub QueryFailsBy : Query → JobFault → Devices → Devices → Type 0
+QueryFailsBy asked (fault.Replay e) old new = AskFailsBy asked e old new
+QueryFailsBy asked (fault.Text e) old new = ⊥
+QueryFailsBy asked (fault.AbsentAccount id) old new = IsAbsentBy asked (fault.AbsentAccount id) old new
+QueryFailsBy asked (fault.AbsentPlace place) old new = IsAbsentBy asked (fault.AbsentPlace place) old new
+
+-- why a job has no answer
+abbrev pub JobFailsBy : Job → JobFault → Devices → Devices → Type 0
+JobFailsBy j (fault.Replay e) old new = ReplayFailsBy j e old new
+JobFailsBy j (fault.Text e) old new = TextFailsBy j e old new
+JobFailsBy j (fault.AbsentAccount id) old new = IsAbsentFor j (fault.AbsentAccount id) old new
+JobFailsBy j (fault.AbsentPlace place) old new = IsAbsentFor j (fault.AbsentPlace place) old new
+
+-- a job ended by this fault: its exit and its line are the fault's, and the devices are as it says
+pub record EndsBy (j : Job) (e : JobFault) (end : Exit) (old new : Devices) (err err' : Device)
+    : Type 0 where
+  pub exit_is : end ≡ exit_after e
+  pub fault : JobFailsBy j e old new
+  pub line : Reports (line_of e) err err'
+
+-- ---- bytes to blame
+
+-- the bytes have a fault of a feed
 abbrev pub AreBroken : List ℕ → Type 0
 AreBroken bytes = (found : FeedFault) × HasFault bytes found
+
+-- the bytes have a fault of a script
+abbrev pub MakeNoFeed : List ℕ → Type 0
+MakeNoFeed bytes = (found : LineFault) × (feed_of bytes ≡ Err found)
+
+-- the bytes are wrong for a job
+abbrev pub AreWrong : Job → List ℕ → Type 0
+AreWrong (job.Run workers file) bytes = AreBroken bytes
+AreWrong (job.Make file) bytes = MakeNoFeed bytes
+AreWrong (job.CheckProof root file) bytes = ⊥
+AreWrong (job.Ask asked file) bytes = AreBroken bytes
+AreWrong (job.Apply file) bytes = AreBroken bytes
 
 -- the bytes are stopped by a collision or by twins
 abbrev pub AreStopped : List ℕ → Type 0
 AreStopped bytes = (found : Fault) × IsStopped bytes found
 
 -- what bytes to blame are like, by the exit
-abbrev pub AreToBlame : Exit → List ℕ → Type 0
-AreToBlame exit.Whole bytes = ⊥
-AreToBlame exit.WrongWords bytes = ⊥
-AreToBlame exit.WrongFeed bytes = AreBroken bytes
-AreToBlame exit.Stopped bytes = AreStopped bytes
-AreToBlame exit.Failed bytes = ⊥
-AreToBlame exit.Missing bytes = ⊥
+abbrev pub AreToBlame : Job → Exit → List ℕ → Type 0
+AreToBlame j exit.Whole bytes = ⊥
+AreToBlame j exit.No bytes = ⊥
+AreToBlame j exit.WrongInput bytes = AreWrong j bytes
+AreToBlame j exit.Stopped bytes = AreStopped bytes
+AreToBlame j exit.Failed bytes = ⊥
+AreToBlame j exit.Missing bytes = ⊥

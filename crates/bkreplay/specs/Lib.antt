@@ -1,3 +1,4 @@
 pub mod Exits
+pub mod FaultLines
 pub mod Faults
 pub mod CommandLine

@@ -1,20 +1,22 @@
 //! The exit statuses of the program.
 
 ghost use Rattle.std.specs.Prelude.{◌≡◌};
-ghost use Rattle.bkreplay.specs.Exits.{exit_number, exit_at, exit_after};
+ghost use Rattle.bkreplay.specs.Exits.{exit_number, exit_at, exit_by, exit_after, exit_after_replay, exit_after_text};
 
+use crate::job_fault::JobFault;
 use bk_frames::FaultCode;
 use bk_replay::{Fault, Status};
+use bk_script::ScriptFault;
 
 /// How the program ends.
 #[derive(Clone, Copy, Debug, PartialEq, Eq)]
 pub enum Exit {
     /// The whole answer is written.
     Whole = 0,
-    /// The command line is wrong.
-    WrongWords = 1,
-    /// The bytes of the feed are wrong.
-    WrongFeed = 2,
+    /// The answer is no: the command line names no job, what was asked for is not there, or the proof is bad.
+    No = 1,
+    /// The bytes of the input are wrong.
+    WrongInput = 2,
     /// The feed is stopped by a collision or an equivocation.
     Stopped = 3,
     /// A read, a write or memory failed, or a worker did not finish.
@@ -24,7 +26,7 @@ pub enum Exit {
 }
 
 impl Exit {
-    /// The number that the program answers.
+    /// The exit status as a number.
     pub fn number(self) -> u8
         ensures { result ≡ exit_number self }
     {
@@ -41,17 +43,45 @@ impl Exit {
         }
     }
 
+    /// The exit after a verdict on a proof.
+    pub(crate) fn by(good: bool) -> Exit
+        ensures { result ≡ exit_by good }
+    {
+        if good { Exit::Whole } else { Exit::No }
+    }
+
     /// The exit after a fault.
-    pub(crate) fn after(fault: &Fault) -> Exit
+    pub(crate) fn after(fault: &JobFault) -> Exit
         ensures { result ≡ exit_after fault.now }
+    {
+        match fault {
+            JobFault::Replay(fault) => Exit::after_replay(fault),
+            JobFault::Text(fault) => Exit::after_text(fault),
+            JobFault::AbsentAccount { .. } | JobFault::AbsentPlace { .. } => Exit::No,
+        }
+    }
+
+    // The exit after a feed that was not replayed.
+    fn after_replay(fault: &Fault) -> Exit
+        ensures { result ≡ exit_after_replay fault.now }
     {
         match fault {
             Fault::Feed(found) => match found.code {
                 FaultCode::Read | FaultCode::Memory => Exit::Failed,
-                _ => Exit::WrongFeed,
+                _ => Exit::WrongInput,
             },
             Fault::Collision { .. } | Fault::Equivocation { .. } => Exit::Stopped,
             Fault::Unfinished { .. } | Fault::Write { .. } | Fault::Memory => Exit::Failed,
+        }
+    }
+
+    // The exit after a fault of a text.
+    fn after_text(fault: &ScriptFault) -> Exit
+        ensures { result ≡ exit_after_text fault.now }
+    {
+        match fault {
+            ScriptFault::Script { .. } => Exit::WrongInput,
+            ScriptFault::Read | ScriptFault::Write { .. } | ScriptFault::Memory => Exit::Failed,
         }
     }
 }

@@ -1,18 +1,20 @@
-//! The line on standard error that tells a fault.
+//! The line on standard error that reports a fault.
 
 ghost use Rattle.std.specs.Prelude.{◌≡◌, ◌+◌, ◌≤◌, ◌++◌, length};
 ghost use Rattle.arrayvec.specs.ArrayVec.{array_vec_len};
 ghost use Rattle.bk_frames.specs.Device.{CanBeUsed};
 ghost use Rattle.bk_replay.specs.Lines.{spaced};
-ghost use Rattle.bkreplay.specs.Faults.{Tells, line_of, digits_of, twins_text};
+ghost use Rattle.bkreplay.specs.FaultLines.{Reports, line_of, digits_of, twins_text, replay_text, script_text};
 
+use crate::job_fault::JobFault;
 use arrayvec::ArrayVec;
 use bk_digest::Digest32;
 use bk_frames::{Sink, push_all};
 use bk_replay::Fault;
+use bk_script::ScriptFault;
 use itoa::Buffer;
 
-/// A line of a fault, at most 192 bytes. It stands on the stack, since memory may be what is wanting.
+/// The line of a fault, at most 192 bytes. It stands on the stack, since the fault may be that memory ran out.
 type FaultLine = ArrayVec<u8, 192>;
 
 /// Puts a text where there is room for it.
@@ -46,7 +48,7 @@ fn put_digest(line: &mut FaultLine, digest: &Digest32)
     put_text(line, &digits);
 }
 
-/// Puts what tells an equivocation where there is room for 184 bytes.
+/// Puts what reports an equivocation where there is room for 184 bytes.
 fn put_equivocation(line: &mut FaultLine, place: (u32, u8), first: &Digest32, second: &Digest32)
     requires { array_vec_len line.old + 184 ≤ 192 }
     ensures items { line.new.items
@@ -61,43 +63,82 @@ fn put_equivocation(line: &mut FaultLine, place: (u32, u8), first: &Digest32, se
     put_digest(line, second);
 }
 
-/// The line that tells a fault.
-fn fault_line(fault: &Fault) -> FaultLine
-    ensures { result.items ≡ line_of fault.now }
+/// Puts what reports a feed that was not replayed where there is room for 184 bytes.
+fn put_replay(line: &mut FaultLine, fault: &Fault)
+    requires { array_vec_len line.old + 184 ≤ 192 }
+    ensures items { line.new.items ≡ line.old.items ++ replay_text fault.now }
+    ensures len { array_vec_len line.new ≤ array_vec_len line.old + 184 }
 {
-    let mut line = FaultLine::new();
     match fault {
         Fault::Feed(found) => {
-            put_text(&mut line, b"feed fault");
-            put_number(&mut line, u64::from(found.code.number()));
-            put_text(&mut line, b" at");
-            put_number(&mut line, found.offset);
+            put_text(line, b"feed fault");
+            put_number(line, u64::from(found.code.number()));
+            put_text(line, b" at");
+            put_number(line, found.offset);
         }
         Fault::Collision { id } => {
-            put_text(&mut line, b"collision");
-            put_digest(&mut line, id);
+            put_text(line, b"collision");
+            put_digest(line, id);
         }
         Fault::Equivocation {
             round,
             author,
             first,
             second,
-        } => put_equivocation(&mut line, (*round, *author), first, second),
+        } => put_equivocation(line, (*round, *author), first, second),
         Fault::Unfinished { place } => {
-            put_text(&mut line, b"unfinished");
+            put_text(line, b"unfinished");
+            put_number(line, u64::from(*place));
+        }
+        Fault::Write { .. } => put_text(line, b"write failed"),
+        Fault::Memory => put_text(line, b"memory"),
+    }
+}
+
+/// Puts what reports a fault of a text where there is room for 184 bytes.
+fn put_script(line: &mut FaultLine, fault: &ScriptFault)
+    requires { array_vec_len line.old + 184 ≤ 192 }
+    ensures items { line.new.items ≡ line.old.items ++ script_text fault.now }
+    ensures len { array_vec_len line.new ≤ array_vec_len line.old + 184 }
+{
+    match fault {
+        ScriptFault::Script { line: number, code } => {
+            put_text(line, b"script fault");
+            put_number(line, u64::from(code.number()));
+            put_text(line, b" at line");
+            put_number(line, *number);
+        }
+        ScriptFault::Read => put_text(line, b"read failed"),
+        ScriptFault::Write { .. } => put_text(line, b"write failed"),
+        ScriptFault::Memory => put_text(line, b"memory"),
+    }
+}
+
+/// The line of a fault.
+fn fault_line(fault: &JobFault) -> FaultLine
+    ensures { result.items ≡ line_of fault.now }
+{
+    let mut line = FaultLine::new();
+    match fault {
+        JobFault::Replay(fault) => put_replay(&mut line, fault),
+        JobFault::Text(fault) => put_script(&mut line, fault),
+        JobFault::AbsentAccount { id } => {
+            put_text(&mut line, b"absent account");
+            put_number(&mut line, *id);
+        }
+        JobFault::AbsentPlace { place } => {
+            put_text(&mut line, b"absent place");
             put_number(&mut line, u64::from(*place));
         }
-        Fault::Write { .. } => put_text(&mut line, b"write failed"),
-        Fault::Memory => put_text(&mut line, b"memory"),
     }
     put_text(&mut line, b"\n");
     line
 }
 
-/// Tells a fault in one line. A sink that fails is let be: there is nowhere left to tell it.
-pub(crate) fn tell<E: Sink>(fault: &Fault, err: &mut E)
+/// Reports a fault in one line. A sink that fails is ignored: there is nowhere left to report it.
+pub(crate) fn report<E: Sink>(fault: &JobFault, err: &mut E)
     requires { CanBeUsed (E.state err.old) }
-    ensures { Tells (line_of fault.now) (E.state err.old) (E.state err.new) }
+    ensures { Reports (line_of fault.now) (E.state err.old) (E.state err.new) }
 {
     let line = fault_line(fault);
     let _ = push_all(err, line.as_slice());

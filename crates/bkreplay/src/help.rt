@@ -1,30 +1,45 @@
-//! What `--help` says.
+//! What `--help` shows.
 
-pub(crate) const PROGRAM: &str = "Replays a ledger from the bytes of a feed";
+/// The help of a command: what it is for in one line, and what stands below its arguments.
+#[derive(Clone, Copy)]
+pub(crate) struct Help<'a> {
+    pub(crate) about: &'a str,
+    pub(crate) after: &'a str,
+}
 
-pub(crate) const AFTER_PROGRAM: &str = "\
-A report is one line for each thing that it says, on standard output. A fault is one line on standard error.
-
-Exit status:
-  0  the whole report is written
-  1  the command line is wrong
-  2  the feed is wrong
-  3  the feed is stopped by a collision or an equivocation
-  4  a read, a write or memory failed, or a worker did not finish
-  5  the report is written, and stops at a missing batch
-
-Example:
-  ./bkreplay run examples/one_commit.feed";
-
-pub(crate) const FILE: &str = "The path of the feed; standard input where it is left out";
-
-pub(crate) const RUN: &str =
-    "Find the order that a feed's certificates commit, execute its batches, and write the report";
+pub(crate) const FILE: &str = "The path of the file; standard input if it is left out";
 
 pub(crate) const WORKERS: &str =
-    "How many threads execute, 1 to 64; 1 where it is left out. The report is the same for any number";
+    "How many threads execute, 1 to 64; 1 if it is left out. The report is the same for any number";
 
-pub(crate) const AFTER_RUN: &str = "\
+pub(crate) const ID: &str = "The id of the account, a number below 2^64";
+
+pub(crate) const PLACE: &str =
+    "The place of the transaction, a number below 2^32; the first has place 0";
+
+pub(crate) const ROOT: &str =
+    "The digest of a state, 64 hexadecimal digits, as the line `state` of a report has it";
+
+pub(crate) const PROGRAM: Help<'static> = Help {
+    about: "Replays a ledger from the bytes of a feed",
+    after: "\
+An answer is on standard output, one line for each thing that it says. A fault is one line on standard error.
+
+Exit status:
+  0  the whole answer is written
+  1  the command line is wrong, what was asked for is absent, or the proof is bad
+  2  the feed or the script is wrong
+  3  the feed is stopped by a collision or an equivocation
+  4  a read, a write or memory failed, or a worker did not finish
+  5  the report of a run is written, and stops at a missing batch
+
+Example:
+  ./bkreplay run examples/one_commit.feed",
+};
+
+pub(crate) const RUN: Help<'static> = Help {
+    about: "Find the order that a feed's certificates commit, execute its batches, and write the report",
+    after: "\
 Reads a feed: the bytes `BKF1` or `BKF2`, then frames: the committee, the opening accounts, and then certificates and
 batches in any order. Writes these lines to standard output, in this order:
 
@@ -50,12 +65,138 @@ Exit status:
   5  the whole report is written, and stops at a missing batch
 
 Example:
-  ./bkreplay run --workers 4 examples/one_commit.feed";
+  ./bkreplay run --workers 4 examples/one_commit.feed",
+};
 
-pub(crate) const APPLY: &str =
-    "Execute all batches of a feed, in feed order and on one thread, and write the apply report";
+pub(crate) const MAKE: Help<'static> = Help {
+    about: "Write the feed that a script makes",
+    after: "\
+Reads a script: lines of at most 16,777,216 bytes in all, words separated by single spaces. Lines without words and
+lines that begin with `#` are skipped. Writes the bytes of the feed to standard output.
 
-pub(crate) const AFTER_APPLY: &str = "\
+  members N                       the committee; the first line
+  account ID BALANCE [SEQ]        an opening account
+  batch NAME                      a batch of the transactions on the lines that follow:
+    pay FROM TO AMOUNT SEQ
+    payif FROM TO AMOUNT SEQ GUARD MIN
+    sweep FROM TO KEEP SEQ
+    split FROM SEQ TO AMOUNT ..
+    raw HEX                       a transaction of these bytes; `raw -` of none
+  cert NAME ROUND AUTHOR BATCHES PARENTS SIGNERS
+                                  a certificate; lists are joined by `,`, and `-` is the empty list
+  again NAME SIGNERS              the certificate of that name once more, signed by these
+
+Exit status:
+  0  the whole feed is written
+  1  the command line is wrong
+  2  script fault CODE at line LINE: 1 the words of the line, 2 its place, 3 a number, 4 a name, 5 a range
+  4  memory, read failed, or write failed
+
+Example:
+  ./bkreplay make examples/one_commit.script | ./bkreplay run",
+};
+
+pub(crate) const ORDER: Help<'static> = Help {
+    about: "Write the committed anchors and the certificates in order",
+    after: "\
+Reads a feed, as `run` does, and finds its order up to a batch that is missing. Writes to standard output:
+
+  anchor ROUND AUTHOR             a committed anchor, oldest first
+  cert ROUND AUTHOR               a certificate of the order
+
+Exit status:
+  0  all lines are written
+  1  the command line is wrong
+  2  feed fault CODE at OFFSET, with a code of 1 to 7: the bytes are no feed
+  3  collision ID, or equivocation ROUND AUTHOR ID ID: the feed is stopped
+  4  feed fault 8 or 9, memory, read failed, write failed, or unfinished PLACE
+
+Example:
+  ./bkreplay order examples/one_commit.feed",
+};
+
+pub(crate) const ACCOUNT: Help<'static> = Help {
+    about: "Write one account as the order of a feed leaves it",
+    after: "\
+Reads a feed, as `run` does, and finds its order up to a batch that is missing. Writes to standard output:
+
+  account ID BALANCE SEQ          the account at the end
+
+Exit status:
+  0  the line is written
+  1  absent account ID: there is none; or the command line is wrong
+  2  feed fault CODE at OFFSET, with a code of 1 to 7: the bytes are no feed
+  3  collision ID, or equivocation ROUND AUTHOR ID ID: the feed is stopped
+  4  feed fault 8 or 9, memory, read failed, write failed, or unfinished PLACE
+
+Example:
+  ./bkreplay account 1 examples/one_commit.feed",
+};
+
+pub(crate) const RECEIPT: Help<'static> = Help {
+    about: "Write what became of the transaction at one place of the order",
+    after: "\
+Reads a feed, as `run` does, and finds its order up to a batch that is missing. Writes to standard output:
+
+  tx PLACE STATUS MOVED           the executed transaction
+
+Exit status:
+  0  the line is written
+  1  absent place PLACE: the order is shorter; or the command line is wrong
+  2  feed fault CODE at OFFSET, with a code of 1 to 7: the bytes are no feed
+  3  collision ID, or equivocation ROUND AUTHOR ID ID: the feed is stopped
+  4  feed fault 8 or 9, memory, read failed, write failed, or unfinished PLACE
+
+Example:
+  ./bkreplay receipt 0 examples/one_commit.feed",
+};
+
+pub(crate) const PROVE: Help<'static> = Help {
+    about: "Write a proof that one account is in the state at the end",
+    after: "\
+Reads a feed, as `run` does, and finds its order up to a batch that is missing. Writes the text that
+`check-proof` reads to standard output:
+
+  state HEX                       the digest of all accounts at the end
+  size N                          how many accounts there are
+  index I                         the index of the account among them
+  account ID BALANCE SEQ          the account
+  path HEX                        a digest of the path from the account up to the state; one line each
+
+Exit status:
+  0  the proof is written
+  1  absent account ID: there is none; or the command line is wrong
+  2  feed fault CODE at OFFSET, with a code of 1 to 7: the bytes are no feed
+  3  collision ID, or equivocation ROUND AUTHOR ID ID: the feed is stopped
+  4  feed fault 8 or 9, memory, read failed, write failed, or unfinished PLACE
+
+Example:
+  ./bkreplay prove 1 examples/one_commit.feed",
+};
+
+pub(crate) const CHECK_PROOF: Help<'static> = Help {
+    about: "Check that a text proves an account of the state of this digest",
+    after: "\
+Reads a proof: these lines, at most 65,536 bytes in all. Writes `proof good` or `proof bad` to standard output.
+
+  state HEX                       the digest of all accounts, which has to be ROOT
+  size N                          how many accounts there are
+  index I                         the index of the account among them
+  account ID BALANCE SEQ          the account
+  path HEX                        a digest of the path from the account up to the state; one line each
+
+Exit status:
+  0  the proof is good
+  1  the proof is bad, or the command line is wrong
+  4  memory, read failed, or write failed
+
+Example:
+  ./bkreplay check-proof a0f73141eeeda4cb3f115f1ee0468dde8a3de31db5fd987f0eec1df811bce063 examples/one_commit.proof",
+};
+
+pub(crate) const APPLY: Help<'static> = Help {
+    about: "Execute all batches of a feed, in feed order and on one thread, and write the apply report",
+    after: "\
 Reads a feed: the bytes `BKF1` or `BKF2`, then frames. Takes every batch as it stands and reads no certificate. Writes
 these lines to standard output, in this order:
 
@@ -71,4 +212,5 @@ Exit status:
   4  feed fault 8 or 9, memory, read failed, or write failed
 
 Example:
-  ./bkreplay apply examples/apply_two_payments.feed";
+  ./bkreplay apply examples/apply_two_payments.feed",
+};

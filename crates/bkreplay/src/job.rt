@@ -1,99 +1,61 @@
 //! What the command line asks for.
 
-ghost use Rattle.std.specs.Prelude.{◌≡◌, true, false, map, option_map, string_bytes, codes, IfOk, IfErr};
-ghost use Rattle.clap.specs.Words.{Row, app_of, rule_of, has_subcommand, kind_of, one_text, found_of};
+ghost use Rattle.std.specs.Prelude.{◌≡◌, ◌^◌, true, [], map, option_map, string_bytes, codes, unwrap_or, Some, IfOk, IfErr};
+ghost use Rattle.clap.specs.Words.{has_subcommand, kind_of, one_text, first_value, found_of, rows_of};
 ghost use Rattle.clap.specs.Words.{subcommand_of, subcommand_rows_of, takes};
-ghost use Rattle.clap.specs.declared.builder.command.Command.TheViews.{out-Command};
-ghost use Rattle.bkreplay.specs.CommandLine.{IsJobOf, AreNamedBy, command_line, run_line, apply_line, file_rule};
+ghost use Rattle.bkreplay.specs.CommandLine.{IsJobOf, IsJobAt, AreNamedBy, IsNumberBy, command_line, word_of};
 
-use crate::help;
+use crate::commands::command;
+use crate::verb::Verb;
 use crate::workers::Workers;
+use bk_replay::Query;
 use clap::error::ErrorKind;
-use clap::{Arg, ArgAction, ArgMatches, Command, Error, value_parser};
+use clap::{ArgMatches, Error};
 use std::alloc::{AllocError, Global};
 use std::convert::AsStr;
 
-/// What the program is to do.
+/// What the program is to do. A `file` is a path; standard input is read where there is none.
 #[derive(Debug, Drop)]
 pub enum Job {
     /// Finds the committed order of a feed, executes its batches and writes the report of the run.
     Run {
         /// How many threads execute.
         workers: Workers,
-        /// The path of the feed; standard input where there is none.
+        file: Option<String>,
+    },
+    /// Writes the feed that a script makes.
+    Make {
+        file: Option<String>,
+    },
+    /// Writes whether a text is a proof of an account in a state.
+    CheckProof {
+        /// The digest of the state, as the words have it.
+        root: String,
+        file: Option<String>,
+    },
+    /// Writes the reply of a feed to a query.
+    Ask {
+        /// What is asked.
+        asked: Query,
         file: Option<String>,
     },
     /// Executes the batches of a feed in feed order and writes the apply report.
     Apply {
-        /// The path of the feed; standard input where there is none.
         file: Option<String>,
     },
 }
 
 impl Job {
-    /// The path of the feed, where one is named.
+    /// The path of the file, where one is named.
     pub(crate) fn file(&self) -> Option<&str> {
         match self {
-            Job::Run { file, .. } => file.as_deref(),
-            Job::Apply { file } => file.as_deref(),
+            Job::Run { file, .. }
+            | Job::Make { file }
+            | Job::CheckProof { file, .. }
+            | Job::Ask { file, .. }
+            | Job::Apply { file } => file.as_deref(),
         }
     }
-}
-
-// The argument FILE.
-fn file_arg<'a>(alloc: Global) -> Arg<'a>
-    ensures rule { rule_of result ≡ file_rule }
-    ensures local { result.global ≡ false }
-{
-    Arg::new(alloc, "FILE")
-        .action(ArgAction::Set)
-        .help(help::FILE)
-}
-
-// The command `run`.
-fn run_command<'a>(alloc: Global) -> Result<Command<'a>, AllocError>
-    ensures line { IfOk result (λ c. app_of c ≡ run_line) }
-    ensures local { IfOk result (λ c. (out-Command c).has_globals ≡ false) }
-{
-    let workers = Arg::new(alloc, "workers")
-        .long("workers")
-        .action(ArgAction::Set)
-        .value_name("W")
-        .value_parser(value_parser!(u8).range(1..=64))
-        .help(help::WORKERS);
-    Command::new(alloc, "run")
-        .about(help::RUN)
-        .after_help(help::AFTER_RUN)
-        .arg(workers)?
-        .arg(file_arg(alloc))
-}
-
-// The command `apply`.
-fn apply_command<'a>(alloc: Global) -> Result<Command<'a>, AllocError>
-    ensures line { IfOk result (λ c. app_of c ≡ apply_line) }
-    ensures local { IfOk result (λ c. (out-Command c).has_globals ≡ false) }
-{
-    Command::new(alloc, "apply")
-        .about(help::APPLY)
-        .after_help(help::AFTER_APPLY)
-        .arg(file_arg(alloc))
-}
-
-// The command line, as `--help` tells it.
-fn command<'a>(alloc: Global) -> Result<Command<'a>, AllocError>
-    ensures line { IfOk result (λ c. app_of c ≡ command_line) }
-    ensures local { IfOk result (λ c. (out-Command c).has_globals ≡ false) }
-{
-    let run = run_command(alloc)?;
-    let apply = apply_command(alloc)?;
-    Command::new(alloc, "bkreplay")
-        .version("0.1.0")
-        .about(help::PROGRAM)
-        .after_help(help::AFTER_PROGRAM)
-        .disable_help_subcommand(true)
-        .subcommand_required(true)
-        .subcommand(run)?
-        .subcommand(apply)
 }
 
 // The matches of the words; every command line that is whole names a command.
@@ -127,9 +89,70 @@ fn workers_in(found: &ArgMatches<'_>) -> Workers
     }
 }
 
+// The value of ROOT. The parser has refused words without it.
+fn root_in(alloc: Global, found: &ArgMatches<'_>) -> Result<String, AllocError>
+    ensures { IfOk result (λ root. string_bytes root
+        ≡ unwrap_or (first_value (found_of found.now) (codes "ROOT")) []) }
+{
+    match found.get_str("ROOT") {
+        Some(root) => String::from_str(alloc, root),
+        None => Ok(String::new(alloc)),
+    }
+}
+
+// The value of ID. The parser has refused words without it.
+fn id_in(found: &ArgMatches<'_>) -> u64
+    ensures { IsNumberBy (2 ^ 64) (one_text (found_of found.now) (codes "ID")) result }
+{
+    found.get_one::<u64>("ID").unwrap_or(0)
+}
+
+// The value of PLACE. The parser has refused words without it.
+fn place_in(found: &ArgMatches<'_>) -> u32
+    ensures { IsNumberBy (2 ^ 32) (one_text (found_of found.now) (codes "PLACE")) result }
+{
+    found.get_one::<u32>("PLACE").unwrap_or(0)
+}
+
+// The job of a command, with the values of its arguments.
+fn job_of(alloc: Global, verb: Verb, found: &ArgMatches<'_>) -> Result<Job, AllocError>
+    ensures { IfOk result (IsJobAt (word_of verb) (rows_of (found_of found.now))) }
+{
+    let file = owned(alloc, found.get_str("FILE"))?;
+    match verb {
+        Verb::Run => {
+            let workers = workers_in(found);
+            Ok(Job::Run { workers, file })
+        }
+        Verb::Make => Ok(Job::Make { file }),
+        Verb::Order => {
+            let asked = Query::Order;
+            Ok(Job::Ask { asked, file })
+        }
+        Verb::Account => {
+            let asked = Query::Account { id: id_in(found) };
+            Ok(Job::Ask { asked, file })
+        }
+        Verb::Receipt => {
+            let place = place_in(found);
+            let asked = Query::Receipt { place };
+            Ok(Job::Ask { asked, file })
+        }
+        Verb::Prove => {
+            let asked = Query::Proof { id: id_in(found) };
+            Ok(Job::Ask { asked, file })
+        }
+        Verb::CheckProof => {
+            let root = root_in(alloc, found)?;
+            Ok(Job::CheckProof { root, file })
+        }
+        Verb::Apply => Ok(Job::Apply { file }),
+    }
+}
+
 /// Reads the words of a command line, of which the first is the program's name.
 ///
-/// An error is a fault of the words, a request for help or for the version, or want of memory; its kind says which.
+/// An error is a fault of the words, a request for help or for the version, or that memory ran out; its kind says which.
 pub fn parse<'a, S: AsStr>(alloc: Global, words: &'a [S]) -> Result<Job, Error>
     ensures job { IfOk result (IsJobOf (subcommand_of command_line (map S.text words.now))) }
     ensures error { IfErr result (λ e. takes command_line (map S.text words.now) ≡ true
@@ -139,10 +162,6 @@ pub fn parse<'a, S: AsStr>(alloc: Global, words: &'a [S]) -> Result<Job, Error>
     let Some((name, found)) = matches.subcommand() else {
         unreachable!()
     };
-    let file = owned(alloc, found.get_str("FILE"))?;
-    if name == "run" {
-        let workers = workers_in(found);
-        return Ok(Job::Run { workers, file });
-    }
-    Ok(Job::Apply { file })
+    let job = job_of(alloc, Verb::of(name), found)?;
+    Ok(job)
 }

@@ -1,12 +1,18 @@
 //! The program `bkreplay`: reads the command line, opens the files that it names and runs the job.
 #![tactic(auto)]
 
+mod commands;
 mod exit;
 mod fault_line;
 mod help;
 mod job;
+mod job_fault;
 mod program;
+mod queries;
+mod replaying;
 mod running;
+mod texts;
+mod verb;
 mod workers;
 
 use crate::program::program;

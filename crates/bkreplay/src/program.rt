@@ -3,16 +3,18 @@
 ghost use Rattle.std.specs.Prelude.{◌≡◌, ◌≢◌, ◌⊎◌, true, IfSome};
 ghost use Rattle.bk_frames.specs.Device.{CanBeUsed};
 ghost use Rattle.bk_replay.specs.Answers.{IsUntouched};
-ghost use Rattle.bkreplay.specs.Exits.{is_answer, is_refusal, may_end};
+ghost use Rattle.bkreplay.specs.Exits.{is_answer, is_refusal, is_report, may_end};
 ghost use Rattle.bkreplay.specs.Faults.{AnswerIsOut};
 ghost use Rattle.clap.specs.Words.{kind_of};
 
 use crate::exit::Exit;
-use crate::fault_line::tell;
+use crate::fault_line::report;
 use crate::job::{Job, parse};
+use crate::job_fault::JobFault;
 use crate::running::run_job;
 use bk_frames::{Counted, Sink, push_all};
 use bk_replay::Fault;
+use bk_script::ScriptFault;
 use clap::Error;
 use clap::error::ErrorKind;
 use std::io::{self, BufReader, Read};
@@ -24,13 +26,13 @@ use std::{env, fs};
 /// How many bytes are read ahead, so that small pulls cost little.
 const AHEAD: usize = 65_536;
 
-/// Reads the words, opens the files and runs the job; answers how the program ends.
+/// Reads the words, opens the files and runs the job; returns how the program ends.
 pub(crate) fn program<R, O: Sink, E: Sink>(rt: &R, out: &mut O, err: &mut E) -> Exit
 where
     R: Env + Files + Input + Print + Eprint + AllocGlobal + Threads + Wait + Sync,
     requires out { CanBeUsed (O.state out.old) }
     requires err { CanBeUsed (E.state err.old) }
-    ensures quiet { is_answer result ≡ true → err.new ≡ err.old }
+    ensures quiet { is_report result ≡ true → err.new ≡ err.old }
     ensures blame { is_refusal result ≡ true → IsUntouched (O.state out.old) (O.state out.new) }
 {
     let words = match words(rt) {
@@ -51,14 +53,14 @@ fn words<R: Env + AllocGlobal>(rt: &R) -> io::Result<Vec<String>> {
 /// Words that could not be read: memory was refused, or a word is not text.
 fn refuse_words<E: Sink>(error: &io::Error, err: &mut E) -> Exit
     requires { CanBeUsed (E.state err.old) }
-    ensures { (result ≡ Exit.WrongWords) ⊎ (result ≡ Exit.Failed) }
+    ensures { (result ≡ Exit.No) ⊎ (result ≡ Exit.Failed) }
 {
     if error.kind() == io::ErrorKind::OutOfMemory {
-        tell(&Fault::Memory, err);
+        report(&JobFault::Replay(Fault::Memory), err);
         return Exit::Failed;
     }
     let _ = push_all(err, b"error: a word of the command line is not UTF-8\n");
-    Exit::WrongWords
+    Exit::No
 }
 
 /// Help and the version go to standard output, a fault of the words to standard error.
@@ -67,22 +69,22 @@ fn answer_error<R: Print + Eprint, E: Sink>(rt: &R, error: &Error, err: &mut E) 
     ensures memory { kind_of error.now ≡ ErrorKind.OutOfMemory → result ≡ Exit.Failed }
     ensures mistake { kind_of error.now ≢ ErrorKind.OutOfMemory
         → kind_of error.now ≢ ErrorKind.DisplayHelp
-        → kind_of error.now ≢ ErrorKind.DisplayVersion → result ≡ Exit.WrongWords }
-    ensures quiet { is_answer result ≡ true → err.new ≡ err.old }
-    ensures ends { (result ≡ Exit.Whole) ⊎ (result ≡ Exit.WrongWords) ⊎ (result ≡ Exit.Failed) }
+        → kind_of error.now ≢ ErrorKind.DisplayVersion → result ≡ Exit.No }
+    ensures quiet { is_report result ≡ true → err.new ≡ err.old }
+    ensures ends { (result ≡ Exit.Whole) ⊎ (result ≡ Exit.No) ⊎ (result ≡ Exit.Failed) }
 {
     if error.kind() == ErrorKind::OutOfMemory {
-        tell(&Fault::Memory, err);
+        report(&JobFault::Replay(Fault::Memory), err);
         return Exit::Failed;
     }
     let printed = error.print(rt);
     if error.use_stderr() {
-        return Exit::WrongWords;
+        return Exit::No;
     }
     match printed {
         Ok(()) => Exit::Whole,
         Err(_) => {
-            tell(&Fault::Write { written: 0 }, err);
+            report(&JobFault::Replay(Fault::Write { written: 0 }), err);
             Exit::Failed
         }
     }
@@ -94,7 +96,7 @@ where
     R: Files + Input + AllocGlobal + Threads + Wait + Sync,
     requires out { CanBeUsed (O.state out.old) }
     requires err { CanBeUsed (E.state err.old) }
-    ensures quiet { is_answer result ≡ true → err.new ≡ err.old }
+    ensures quiet { is_report result ≡ true → err.new ≡ err.old }
     ensures blame { is_refusal result ≡ true → IsUntouched (O.state out.old) (O.state out.new) }
     ensures ends { may_end job.now result ≡ true }
 {
@@ -102,7 +104,7 @@ where
         Some(path) => match fs::open(rt, path) {
             Ok(file) => run_over(rt, job, file, out, err),
             Err(_) => {
-                let _ = push_all(err, b"read failed\n");
+                report(&JobFault::Text(ScriptFault::Read), err);
                 Exit::Failed
             }
         },
@@ -119,14 +121,14 @@ fn run_over<R: AllocGlobal + Threads + Wait + Sync, I: Read + Drop, O: Sink, E: 
 ) -> Exit
     requires out { CanBeUsed (O.state out.old) }
     requires err { CanBeUsed (E.state err.old) }
-    ensures whole { is_answer result ≡ true → IfSome (I.remaining input)
+    ensures whole { is_answer job.now result ≡ true → IfSome (I.remaining input)
         (AnswerIsOut job.now result (O.state out.old) (O.state out.new)) }
-    ensures quiet { is_answer result ≡ true → err.new ≡ err.old }
+    ensures quiet { is_report result ≡ true → err.new ≡ err.old }
     ensures blame { is_refusal result ≡ true → IsUntouched (O.state out.old) (O.state out.new) }
     ensures ends { may_end job.now result ≡ true }
 {
     let Ok(reader) = BufReader::with_capacity(rt.alloc(), AHEAD, input) else {
-        tell(&Fault::Memory, err);
+        report(&JobFault::Replay(Fault::Memory), err);
         return Exit::Failed;
     };
     let nothing: &[u8] = b"";

@@ -2,62 +2,21 @@
 
 ghost use Rattle.std.specs.Prelude.{◌≡◌, true, false, OnOk, IfOk, IfErr};
 ghost use Rattle.bk_frames.specs.Device.{CanBeUsed, Works, IfKnown};
-ghost use Rattle.bk_replay.specs.Answers.{devices, FailsBy, IsUntouched};
-ghost use Rattle.bk_replay.specs.Replaying.{RunFailsBy};
-ghost use Rattle.bk_replay.specs.declared.fault.Fault.{Fault as AnyFault};
+ghost use Rattle.bk_replay.specs.Answers.{devices, IsUntouched};
+ghost use Rattle.bkreplay.specs.declared.job_fault.JobFault.{JobFault as AnyFault};
 ghost use Rattle.bkreplay.specs.Exits.{is_answer, is_refusal, may_end};
-ghost use Rattle.bkreplay.specs.Faults.{EndsBy, JobFailsBy, AnswerIsOut, RunIsOut, ReportIsOut, AreToBlame};
+ghost use Rattle.bkreplay.specs.Faults.{EndsBy, JobFailsBy, AnswerIsOut, AreToBlame};
 
 use crate::exit::Exit;
-use crate::fault_line::tell;
+use crate::fault_line::report;
 use crate::job::Job;
-use crate::workers::Workers;
+use crate::job_fault::JobFault;
+use crate::queries::reply;
+use crate::replaying::{apply_all, run};
+use crate::texts::{check, make_feed};
 use bk_frames::{Sink, Source};
-use bk_pool::Open;
-use bk_replay::{Fault, apply, replay};
 use std::sync::Wait;
 use std::thread::Threads;
-
-// Writes the report of a run.
-fn run<R: Threads + Wait + Sync + AllocGlobal, S: Source, O: Sink>(
-    rt: &R,
-    workers: Workers,
-    source: &mut S,
-    out: &mut O,
-) -> Result<Exit, Fault>
-    requires source { CanBeUsed (S.state source.old) }
-    requires out { CanBeUsed (O.state out.old) }
-    ensures report { IfOk result (λ end. IfKnown (S.state source.old)
-        (RunIsOut end (O.state out.old) (O.state out.new))) }
-    ensures answer { IfOk result (λ end. is_answer end ≡ true) }
-    ensures sound { OnOk result (Works (S.state source.old) (S.state source.new)
-        × Works (O.state out.old) (O.state out.new)) }
-    ensures fault { IfErr result (λ e. RunFailsBy e (devices (S.state source.old) (O.state out.old))
-        (devices (S.state source.new) (O.state out.new))) }
-{
-    let status = replay(rt, rt.alloc(), source, out, workers.count(), &Open)?;
-    Ok(Exit::at(status))
-}
-
-// Writes the apply report.
-fn apply_all<R: AllocGlobal, S: Source, O: Sink>(
-    rt: &R,
-    source: &mut S,
-    out: &mut O,
-) -> Result<Exit, Fault>
-    requires source { CanBeUsed (S.state source.old) }
-    requires out { CanBeUsed (O.state out.old) }
-    ensures report { IfOk result (λ end. IfKnown (S.state source.old)
-        (ReportIsOut end (O.state out.old) (O.state out.new))) }
-    ensures answer { IfOk result (λ end. end ≡ Exit.Whole) }
-    ensures sound { OnOk result (Works (S.state source.old) (S.state source.new)
-        × Works (O.state out.old) (O.state out.new)) }
-    ensures fault { IfErr result (λ e. FailsBy e (devices (S.state source.old) (O.state out.old))
-        (devices (S.state source.new) (O.state out.new))) }
-{
-    apply(rt.alloc(), source, out)?;
-    Ok(Exit::Whole)
-}
 
 // Writes the answer of a job.
 fn answer<R: Threads + Wait + Sync + AllocGlobal, S: Source, O: Sink>(
@@ -65,12 +24,13 @@ fn answer<R: Threads + Wait + Sync + AllocGlobal, S: Source, O: Sink>(
     job: &Job,
     source: &mut S,
     out: &mut O,
-) -> Result<Exit, Fault>
+) -> Result<Exit, JobFault>
     requires source { CanBeUsed (S.state source.old) }
     requires out { CanBeUsed (O.state out.old) }
     ensures report { IfOk result (λ end. IfKnown (S.state source.old)
         (AnswerIsOut job.now end (O.state out.old) (O.state out.new))) }
-    ensures answer { IfOk result (λ end. (is_answer end ≡ true) × (may_end job.now end ≡ true)) }
+    ensures answer { IfOk result (λ end. (is_answer job.now end ≡ true)
+        × (may_end job.now end ≡ true)) }
     ensures sound { OnOk result (Works (S.state source.old) (S.state source.new)
         × Works (O.state out.old) (O.state out.new)) }
     ensures fault { IfErr result (λ e. JobFailsBy job.now e
@@ -78,20 +38,40 @@ fn answer<R: Threads + Wait + Sync + AllocGlobal, S: Source, O: Sink>(
         (devices (S.state source.new) (O.state out.new))) }
 {
     match job {
-        Job::Run { workers, .. } => run(rt, *workers, source, out),
-        Job::Apply { .. } => apply_all(rt, source, out),
+        Job::Run { workers, .. } => {
+            let end = run(rt, *workers, source, out)?;
+            Ok(end)
+        }
+        Job::Make { .. } => {
+            let end = make_feed(rt, source, out)?;
+            Ok(end)
+        }
+        Job::CheckProof { root, .. } => {
+            let end = check(rt, root.as_bytes(), source, out)?;
+            Ok(end)
+        }
+        Job::Ask { asked, .. } => {
+            let end = reply(rt, *asked, source, out)?;
+            Ok(end)
+        }
+        Job::Apply { .. } => {
+            let end = apply_all(rt, source, out)?;
+            Ok(end)
+        }
     }
 }
 
-/// Runs a job, and answers how the program ends.
+/// Runs a job, and returns how the program ends.
 ///
 /// The sources are the files that the job names, in their order; a job that names fewer reads fewer. `out` is standard
-/// output and `err` standard error, whose failures count for nothing.
+/// output and `err` standard error, whose failures are ignored.
 ///
-/// - `Whole` and `Missing`: the whole report is on `out`, and nothing on `err`.
-/// - `WrongFeed` and `Stopped`: the bytes are to blame. The fault is one line on `err`, and nothing is on `out`.
+/// - `Whole` and `Missing`: the whole answer is on `out`, and nothing on `err`.
+/// - `No`, of a check of a proof: the proof is bad, which is the answer on `out`. Nothing is on `err`.
+/// - `No`, of a query: what it asks for is absent, which is one line on `err`. Nothing is on `out`.
+/// - `WrongInput` and `Stopped`: the bytes are to blame. The fault is one line on `err`, and nothing is on `out`.
 /// - `Failed`: a read, a write or memory failed, or a worker did not finish. The fault is one line on `err`; after a
-///   failed write `out` has the first bytes of the report, and else nothing.
+///   failed write `out` has the first bytes of the answer, and else nothing.
 pub fn run_job<R: Threads + Wait + Sync + AllocGlobal, S1: Source, S2: Source, O: Sink, E: Sink>(
     rt: &R,
     job: &Job,
@@ -103,22 +83,22 @@ pub fn run_job<R: Threads + Wait + Sync + AllocGlobal, S1: Source, S2: Source, O
     requires first { CanBeUsed (S1.state first.old) }
     requires out { CanBeUsed (O.state out.old) }
     requires err { CanBeUsed (E.state err.old) }
-    ensures whole { is_answer result ≡ true → IfKnown (S1.state first.old)
+    ensures whole { is_answer job.now result ≡ true → IfKnown (S1.state first.old)
         (AnswerIsOut job.now result (O.state out.old) (O.state out.new)) }
-    ensures sound { is_answer result ≡ true → Works (S1.state first.old) (S1.state first.new)
+    ensures sound { is_answer job.now result ≡ true → Works (S1.state first.old) (S1.state first.new)
         × Works (O.state out.old) (O.state out.new) × (err.new ≡ err.old) }
-    ensures fault { is_answer result ≡ false → (e : AnyFault)
+    ensures fault { is_answer job.now result ≡ false → (e : AnyFault)
         × EndsBy job.now e result (devices (S1.state first.old) (O.state out.old))
         (devices (S1.state first.new) (O.state out.new)) (E.state err.old) (E.state err.new) }
     ensures ends { may_end job.now result ≡ true }
-    ensures blame { is_refusal result ≡ true → IfKnown (S1.state first.old) (AreToBlame result)
+    ensures blame { is_refusal result ≡ true → IfKnown (S1.state first.old) (AreToBlame job.now result)
         × IsUntouched (O.state out.old) (O.state out.new) }
     ensures second { _second.new ≡ _second.old }
 {
     match answer(rt, job, first, out) {
         Ok(exit) => exit,
         Err(fault) => {
-            tell(&fault, err);
+            report(&fault, err);
             Exit::after(&fault)
         }
     }

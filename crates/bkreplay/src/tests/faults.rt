@@ -1,10 +1,12 @@
-//! What tells a fault, and the exit status after it.
+//! What reports a fault, and the exit status after it.
 
 use crate::exit::Exit;
-use crate::fault_line::tell;
+use crate::fault_line::report;
+use crate::job_fault::JobFault;
 use bk_digest::Digest32;
 use bk_frames::{Counted, FaultCode, FeedFault};
 use bk_replay::{Fault, Status};
+use bk_script::{ScriptCode, ScriptFault};
 use std::process::Abort;
 use std::test::Fail;
 
@@ -14,7 +16,7 @@ const EMPTY: &str = "e3b0c44298fc1c149afbf4c8996fb92427ae41e4649b934ca495991b785
 
 fn expect<R: AllocGlobal + Abort>(
     rt: &R,
-    fault: Fault,
+    fault: JobFault,
     status: u8,
     words: &[&str],
 ) -> Result<(), Fail> {
@@ -24,25 +26,25 @@ fn expect<R: AllocGlobal + Abort>(
     }
     line.push(b'\n')?;
     let mut err = Counted::new(Vec::new(rt.alloc()));
-    tell(&fault, &mut err);
-    assert_eq!(rt; err.into_inner().as_slice(), line.as_slice(), "{fault}");
-    assert_eq!(rt; Exit::after(&fault).number(), status, "{fault}");
+    report(&fault, &mut err);
+    assert_eq!(rt; err.into_inner().as_slice(), line.as_slice(), "{words:?}");
+    assert_eq!(rt; Exit::after(&fault).number(), status, "{words:?}");
     Ok(())
 }
 
-fn found(code: FaultCode, offset: u64) -> Fault {
-    Fault::Feed(FeedFault { offset, code })
+fn found(code: FaultCode, offset: u64) -> JobFault {
+    JobFault::Replay(Fault::Feed(FeedFault { offset, code }))
 }
 
 #[test]
-fn faults_are_told(rt: HostRuntime) -> Result<(), Fail> {
+fn faults_are_reported(rt: HostRuntime) -> Result<(), Fail> {
     let id = Digest32::of(b"abc");
-    let twins = Fault::Equivocation {
+    let twins = JobFault::Replay(Fault::Equivocation {
         round: u32::MAX,
         author: 255,
         first: id,
         second: Digest32::of(b""),
-    };
+    });
     let place = u32::MAX;
     expect(&rt, found(FaultCode::Magic, 0), 2, &["feed fault 1 at 0"])?;
     expect(&rt, found(FaultCode::Extra, 51), 2, &["feed fault 7 at 51"])?;
@@ -53,7 +55,12 @@ fn faults_are_told(rt: HostRuntime) -> Result<(), Fail> {
         4,
         &["feed fault 9 at 18446744073709551615"],
     )?;
-    expect(&rt, Fault::Collision { id }, 3, &["collision ", ABC])?;
+    expect(
+        &rt,
+        JobFault::Replay(Fault::Collision { id }),
+        3,
+        &["collision ", ABC],
+    )?;
     expect(
         &rt,
         twins,
@@ -62,17 +69,37 @@ fn faults_are_told(rt: HostRuntime) -> Result<(), Fail> {
     )?;
     expect(
         &rt,
-        Fault::Unfinished { place },
+        JobFault::Replay(Fault::Unfinished { place }),
         4,
         &["unfinished 4294967295"],
     )?;
-    expect(&rt, Fault::Write { written: 7 }, 4, &["write failed"])?;
-    expect(&rt, Fault::Memory, 4, &["memory"])
+    expect(
+        &rt,
+        JobFault::Replay(Fault::Write { written: 7 }),
+        4,
+        &["write failed"],
+    )?;
+    expect(&rt, JobFault::Replay(Fault::Memory), 4, &["memory"])
+}
+
+#[test]
+fn faults_of_texts_are_reported(rt: HostRuntime) -> Result<(), Fail> {
+    let code = ScriptCode::Range;
+    let fault = ScriptFault::Script {
+        line: u64::MAX,
+        code,
+    };
+    let words = ["script fault 5 at line 18446744073709551615"];
+    expect(&rt, JobFault::Text(fault), 2, &words)?;
+    expect(&rt, JobFault::Text(ScriptFault::Read), 4, &["read failed"])?;
+    let fault = ScriptFault::Write { written: 7 };
+    expect(&rt, JobFault::Text(fault), 4, &["write failed"])?;
+    expect(&rt, JobFault::Text(ScriptFault::Memory), 4, &["memory"])
 }
 
 #[test]
 fn exits_of_reports(rt: HostRuntime) {
     assert_eq!(rt; Exit::at(Status::Whole).number(), 0);
     assert_eq!(rt; Exit::at(Status::Missing).number(), 5);
-    assert_eq!(rt; Exit::WrongWords.number(), 1);
+    assert_eq!(rt; Exit::No.number(), 1);
 }

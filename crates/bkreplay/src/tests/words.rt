@@ -5,7 +5,7 @@ use clap::error::ErrorKind;
 use std::process::Abort;
 use std::test::Fail;
 
-/// The words name a run by so many workers, or `apply` where there are none.
+/// The words name a run on so many workers, or `apply` where there are none.
 fn expect<R: AllocGlobal + Abort>(
     rt: &R,
     words: &[&str],
@@ -16,7 +16,7 @@ fn expect<R: AllocGlobal + Abort>(
     assert!(rt; job.file() == path);
     match job {
         Job::Run { workers: found, .. } => assert!(rt; workers == Some(found.count())),
-        Job::Apply { .. } => assert!(rt; workers.is_none()),
+        _ => assert!(rt; workers.is_none()),
     }
     Ok(())
 }
@@ -44,8 +44,25 @@ fn words_of_a_job(rt: HostRuntime) -> Result<(), Fail> {
 }
 
 #[test]
+fn words_of_texts(rt: HostRuntime) -> Result<(), Fail> {
+    expect(&rt, &["bkreplay", "make"], None, None)?;
+    expect(&rt, &["bkreplay", "make", "a"], None, Some("a"))?;
+    for (words, path) in [
+        (&["bkreplay", "check-proof", "no root"][..], None),
+        (&["bkreplay", "check-proof", "no root", "a"], Some("a")),
+    ] {
+        let Job::CheckProof { root, file } = parse(rt.alloc(), words)? else {
+            return Err(Fail::from("the words name another job"));
+        };
+        assert!(rt; root.as_str() == "no root");
+        assert!(rt; file.as_deref() == path);
+    }
+    Ok(())
+}
+
+#[test]
 fn words_of_no_job(rt: HostRuntime) -> Result<(), Fail> {
-    let lines: [(&[&str], ErrorKind); 12] = [
+    let lines: [(&[&str], ErrorKind); 15] = [
         (&["bkreplay"], ErrorKind::MissingSubcommand),
         (&["bkreplay", "replay"], ErrorKind::InvalidSubcommand),
         (&["bkreplay", "run", "a", "b"], ErrorKind::UnknownArgument),
@@ -65,6 +82,15 @@ fn words_of_no_job(rt: HostRuntime) -> Result<(), Fail> {
         (&["bkreplay", "apply", "a", "b"], ErrorKind::UnknownArgument),
         (
             &["bkreplay", "apply", "--workers", "2"],
+            ErrorKind::UnknownArgument,
+        ),
+        (&["bkreplay", "make", "a", "b"], ErrorKind::UnknownArgument),
+        (
+            &["bkreplay", "check-proof"],
+            ErrorKind::MissingRequiredArgument,
+        ),
+        (
+            &["bkreplay", "check-proof", "a", "b", "c"],
             ErrorKind::UnknownArgument,
         ),
         (&["bkreplay", "run", "--help"], ErrorKind::DisplayHelp),

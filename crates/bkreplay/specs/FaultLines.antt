@@ -1,0 +1,55 @@
+-- The line that reports a fault.
+use Rattle.std.specs.Prelude.{◌≡◌, ℕ, List, ◌∷◌, ◌++◌, ◌⊎◌, codes, take}
+use Rattle.hex.specs.Hex.{encode_lower}
+use Rattle.bk_frames.specs.Device.{Device, Works, Fails, Receives}
+use Rattle.bk_frames.specs.Faults.{fault_text}
+use Rattle.bk_replay.specs.declared.fault.Fault.{Fault}
+use Rattle.bk_replay.specs.declared.fault.Fault.TheVariants as replay
+use Rattle.bk_replay.specs.Lines.{spaced}
+use Rattle.bk_script.specs.Codes.{code_number}
+use Rattle.bk_script.specs.declared.fault.ScriptFault.{ScriptFault}
+use Rattle.bk_script.specs.declared.fault.ScriptFault.TheVariants as text
+use Rattle.bkreplay.specs.declared.job_fault.JobFault.{JobFault}
+use Rattle.bkreplay.specs.declared.job_fault.JobFault.TheVariants as fault
+
+-- a space and the digits of a digest
+abbrev pub digits_of : List ℕ → List ℕ
+digits_of digest = 32 ∷ encode_lower digest
+
+-- what reports twins: their round and author, and the ids of both
+abbrev pub twins_text : ℕ → ℕ → List ℕ → List ℕ → List ℕ
+twins_text round author first second =
+    codes "equivocation" ++ spaced round ++ spaced author ++ digits_of first ++ digits_of second
+
+-- what reports a feed that was not replayed
+abbrev pub replay_text : Fault → List ℕ
+replay_text (replay.Feed found) = fault_text found
+replay_text (replay.Collision id) = codes "collision" ++ digits_of id
+replay_text (replay.Equivocation round author first second) = twins_text round author first second
+replay_text (replay.Unfinished place) = codes "unfinished" ++ spaced place
+replay_text (replay.Write written) = codes "write failed"
+replay_text replay.Memory = codes "memory"
+
+-- what reports a text that has a fault, or was not read or answered
+abbrev pub script_text : ScriptFault → List ℕ
+script_text (text.Script line found) = codes "script fault" ++ spaced (code_number found) ++ codes " at line" ++ spaced line
+script_text text.Read = codes "read failed"
+script_text (text.Write written) = codes "write failed"
+script_text text.Memory = codes "memory"
+
+-- what reports a fault
+abbrev pub reported : JobFault → List ℕ
+reported (fault.Replay e) = replay_text e
+reported (fault.Text e) = script_text e
+reported (fault.AbsentAccount id) = codes "absent account" ++ spaced id
+reported (fault.AbsentPlace place) = codes "absent place" ++ spaced place
+
+-- the line of a fault, with its line feed
+abbrev pub line_of : JobFault → List ℕ
+line_of e = reported e ++ codes "\n"
+
+-- a sink was to receive a text: it received all of it; or one of its calls failed, and it received only some first bytes
+abbrev pub Reports : List ℕ → Device → Device → Type 0
+Reports text old new =
+    (Works old new × Receives old new text)
+    ⊎ (Fails old new × ((written : ℕ) × Receives old new (take written text)))

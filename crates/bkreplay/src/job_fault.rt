@@ -1,0 +1,36 @@
+//! Why a job has no answer.
+
+ghost use Rattle.std.specs.Prelude.{◌≡◌};
+ghost use Rattle.bkreplay.specs.declared.job_fault.JobFault.TheVariants as fault;
+
+use bk_replay::Fault;
+use bk_script::ScriptFault;
+
+/// Why a job has no answer. The program prints each as one line on standard error.
+#[derive(Clone, Copy, Debug, PartialEq, Eq)]
+pub enum JobFault {
+    /// A feed was not replayed.
+    Replay(Fault),
+    /// A script has a fault; or a script or a proof was not read, or the answer to it was not written.
+    Text(ScriptFault),
+    /// The feed has no account of this id.
+    AbsentAccount { id: u64 },
+    /// The order of the feed has no transaction at this place.
+    AbsentPlace { place: u32 },
+}
+
+impl From<Fault> for JobFault {
+    ghost from_gives = { λ f e. e ≡ fault.Replay f };
+
+    fn from(f: Fault) -> JobFault {
+        JobFault::Replay(f)
+    }
+}
+
+impl From<ScriptFault> for JobFault {
+    ghost from_gives = { λ f e. e ≡ fault.Text f };
+
+    fn from(f: ScriptFault) -> JobFault {
+        JobFault::Text(f)
+    }
+}
