@@ -1,6 +1,8 @@
 """What the benchmarks share: where the programs are, how they are built, and how a run is timed."""
 import argparse
+import collections
 import os
+import re
 import subprocess
 import sys
 import time
@@ -28,8 +30,18 @@ def build_bench():
         subprocess.run(["rt", "run", "--", "root", "3"], cwd=BENCH_CRATE, check=True, stdout=sys.stderr)
 
 
-def run_once(words, source=os.devnull, target=os.devnull):
-    """The seconds of one run and its peak of resident memory in bytes."""
+def commands_of(program):
+    """The commands that the program has, by its help."""
+    said = subprocess.run([program, "--help"], capture_output=True, text=True, check=True).stdout
+    return set(re.findall(r"^\s+([a-z][a-z-]+)\s", said, re.MULTILINE)) - {"help"}
+
+
+# What a run took: seconds, seconds of all its processors together, and its peak of resident memory in bytes.
+Taken = collections.namedtuple("Taken", "seconds processors peak")
+
+
+def take(words, source=os.devnull, target=os.devnull):
+    """What one run took."""
     with open(source, "rb") as stdin, open(target, "wb") as stdout:
         start = time.perf_counter()
         child = subprocess.Popen(words, stdin=stdin, stdout=stdout)
@@ -38,7 +50,13 @@ def run_once(words, source=os.devnull, target=os.devnull):
     child.returncode = os.waitstatus_to_exitcode(status)
     if child.returncode != 0:
         sys.exit(f"{words[0]} ended with status {child.returncode}")
-    return seconds, usage.ru_maxrss * 1024
+    return Taken(seconds, usage.ru_utime + usage.ru_stime, usage.ru_maxrss * 1024)
+
+
+def run_once(words, source=os.devnull, target=os.devnull):
+    """The seconds of one run and its peak of resident memory in bytes."""
+    taken = take(words, source, target)
+    return taken.seconds, taken.peak
 
 
 def best(words, runs=3, **files):

@@ -1,5 +1,4 @@
-"""Feeds that the benchmarks make: accounts, batches of transactions drawn at random, and certificates that order them."""
-import hmac
+"""Feeds that the benchmarks make: accounts, batches of transactions drawn at random, and certificates over them."""
 import os
 import random
 import struct
@@ -76,29 +75,48 @@ def put_opening(out, keys, accounts):
     put_frame(out, 2, rows)
 
 
+class TagKey:
+    """HMAC-SHA-256 under a key of 32 bytes, of which what depends on the key alone is hashed once."""
+
+    def __init__(self, key):
+        self.inner, self.outer = (sha256(bytes(byte ^ pad for byte in key.ljust(64, b"\0"))) for pad in (0x36, 0x5C))
+
+    def tag(self, text):
+        inner, outer = self.inner.copy(), self.outer.copy()
+        inner.update(text)
+        outer.update(inner.digest())
+        return outer.digest()
+
+
 class Committee:
     """Members who each make one certificate a round, on all of the round before, with the tags of a quorum."""
 
     def __init__(self, members):
         self.keys = [sha256(b"member %d" % member).digest() for member in range(members)]
         self.quorum = members - (members - 1) // 3
+        self.signers = [TagKey(key) for key in self.keys[: self.quorum]]
         self.mask = sum(1 << member for member in range(self.quorum)).to_bytes(16, "little")
         self.round = 0
         self.parents = []
 
-    def put_round(self, out, batches):
+    def next_round(self, batches):
         """The certificates of the next round: each names its share of these digests."""
         self.round += 1
-        ids = []
+        ids, certificates = [], []
         for member in range(len(self.keys)):
             named = batches[member :: len(self.keys)]
             head = struct.pack(">BIH", member, self.round, len(named)) + b"".join(named)
             head += bytes([len(self.parents)]) + b"".join(self.parents)
             name = sha256(b"\x10" + head).digest()
-            tags = b"".join(hmac.digest(key, name, "sha256") for key in self.keys[: self.quorum])
-            put_frame(out, 3, head + self.mask + tags)
+            tags = b"".join(signer.tag(name) for signer in self.signers)
+            certificates.append(head + self.mask + tags)
             ids.append(name)
         self.parents = sorted(ids)
+        return certificates
+
+    def put_round(self, out, batches):
+        for certificate in self.next_round(batches):
+            put_frame(out, 3, certificate)
 
 
 def make_ordered(path, members, kinds, accounts, transactions, sender_of=None, rounds=0):
@@ -122,3 +140,24 @@ def make_ordered(path, members, kinds, accounts, transactions, sender_of=None, r
         for _ in range(3):
             committee.put_round(out, [])
     return os.path.getsize(path)
+
+
+def make_certificates(folder, members, count):
+    """Feeds of some `count` certificates, which name no batch: in order, reversed and shuffled. Returns their paths by
+    these words, the number of certificates, and the length of one in bytes."""
+    committee = Committee(members)
+    certificates = []
+    for _ in range(count // members):
+        certificates += committee.next_round([])
+    paths = {}
+    for arrangement in ("in order", "reversed", "shuffled"):
+        if arrangement == "reversed":
+            certificates.reverse()
+        elif arrangement == "shuffled":
+            random.Random(count).shuffle(certificates)
+        paths[arrangement] = os.path.join(folder, arrangement)
+        with open(paths[arrangement], "wb", buffering=1 << 20) as out:
+            put_opening(out, committee.keys, 0)
+            for certificate in certificates:
+                put_frame(out, 3, certificate)
+    return paths, len(certificates), max(map(len, certificates))
