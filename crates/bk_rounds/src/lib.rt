@@ -3,6 +3,7 @@
 #![tactic(auto)]
 
 mod admitting;
+mod buffers;
 mod laws;
 mod members;
 mod names;

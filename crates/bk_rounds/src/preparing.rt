@@ -2,29 +2,28 @@
 
 ghost use Rattle.std.specs.Prelude.{◌≡◌, ◌<◌, OnOk, IfOk, vec_len, vec_capacity};
 ghost use Rattle.bk_rounds.specs.private.Names.{AreNames, Grows};
-ghost use Rattle.bk_rounds.specs.private.Prepared.{IsPrepared};
+ghost use Rattle.bk_rounds.specs.private.Prepared.{IsPrepared, AreClearFor};
 
+use crate::buffers::Buffers;
 use crate::names::{Names, number_of, numbers_of};
-use crate::place::CertRef;
 use crate::shared::SharedCert;
 use crate::waking::register;
 use std::alloc::{AllocError, Global};
 
-/// The numbers of a certificate and of its parents, and room for all that may become admitted.
+/// The numbers of a certificate and of its parents.
 #[derive(Drop)]
 pub(crate) struct Prepared {
     pub number: usize,
     pub parents: Vec<usize>,
-    pub out: Vec<usize>,
-    pub answer: Vec<CertRef>,
 }
 
 /// Numbers the certificate's ids, lets it wait under its parents that are not admitted, and makes
-/// room.
+/// room for it and for all that may become admitted.
 pub(crate) fn prepare(
     alloc: Global,
     names: &mut Names,
     certs: &mut Vec<SharedCert>,
+    buffers: &mut Buffers,
     cert: &SharedCert,
 ) -> Result<Prepared, AllocError>
     requires names { AreNames names.old }
@@ -33,17 +32,12 @@ pub(crate) fn prepare(
     ensures certs { certs.new.items ≡ certs.old.items }
     ensures room { OnOk result (vec_len certs.new < vec_capacity certs.new) }
     ensures prepared { IfOk result (IsPrepared names.new cert.now) }
+    ensures clear { OnOk result (AreClearFor buffers.new names.new.unmarked) }
 {
     let parents = numbers_of(alloc, names, cert.header().parents())?;
     let number = number_of(alloc, names, cert.id())?;
-    let out = Vec::with_capacity(alloc, names.unmarked)?;
-    let answer = Vec::with_capacity(alloc, names.unmarked)?;
+    buffers.clear_for(names.unmarked)?;
     certs.reserve(1)?;
     register(&names.marks, &mut names.pending, number, &parents)?;
-    Ok(Prepared {
-        number,
-        parents,
-        out,
-        answer,
-    })
+    Ok(Prepared { number, parents })
 }

@@ -18,6 +18,7 @@ ghost use Rattle.bk_rounds.specs.private.Names.{AreNames};
 ghost use Rattle.bk_rounds.specs.private.Tied.{IsPlaced, IsNumberAt, WaitsBelow, number_at};
 
 use crate::admitting::{admit, list, tell};
+use crate::buffers::{Buffers, hand_over};
 use crate::members::Members;
 use crate::names::Names;
 use crate::place::CertRef;
@@ -26,6 +27,7 @@ use crate::shared::SharedCert;
 use crate::slots::Slot;
 use crate::weights::Weights;
 use bk_cert::Header;
+use bk_certcheck::MOST_ROUND;
 use bk_committee::Committee;
 use bk_digest::Digest32;
 use std::alloc::{AllocError, Global};
@@ -42,6 +44,7 @@ pub struct Rounds {
     certs: Vec<SharedCert>,
     names: Names,
     places: BTreeMap<CertRef, usize>,
+    buffers: Buffers,
     // The greatest round of an admitted one.
     top: u32,
 }
@@ -81,6 +84,7 @@ impl Rounds {
             certs: Vec::new(alloc),
             names: Names::new(alloc),
             places: BTreeMap::new(alloc),
+            buffers: Buffers::new(alloc),
             top: 0,
         })
     }
@@ -118,18 +122,24 @@ impl Rounds {
         ensures answer { IfOk result (λ out. Lists out.items (BecomesPresent self.old self.new)) }
     {
         let alloc = self.alloc;
-        let mut room = prepare(alloc, &mut self.names, &mut self.certs, &cert)?;
+        let ready = prepare(
+            alloc,
+            &mut self.names,
+            &mut self.certs,
+            &mut self.buffers,
+            &cert,
+        )?;
         let place = CertRef {
             round: cert.header().round(),
             author: cert.header().author(),
         };
-        self.places.insert(place, room.number)?;
+        self.places.insert(place, ready.number)?;
         let slot = Slot {
             id: *cert.id(),
             round: place.round,
             author: place.author,
             cert: self.certs.len(),
-            parents: room.parents,
+            parents: ready.parents,
         };
         self.certs.push_reserved(cert);
         admit(
@@ -138,21 +148,19 @@ impl Rounds {
             &mut self.names.slots,
             &mut self.names.marks,
             &mut self.names.pending,
-            room.number,
+            ready.number,
             slot,
-            &mut room.out,
+            &mut self.buffers.out,
         );
-        self.names.unmarked -= room.out.len();
+        self.names.unmarked -= self.buffers.out.len();
         self.top = tell(
             &self.names.slots,
             &mut self.names.sets,
-            &room.out,
-            &mut room.answer,
+            &self.buffers.out,
+            &mut self.buffers.places,
             self.top,
         );
-        let mut answer = room.answer;
-        list(&mut answer);
-        Ok(answer)
+        Ok(hand_over(alloc, &mut self.buffers.places))
     }
 
     /// The admitted certificate of this place.
@@ -288,7 +296,7 @@ fn is_fit(members: u8, header: &Header) -> bool
     ensures first { IsTrue result → header.now.round ≡ 1 → header.now.parents ≡ [] }
 {
     let round = header.round();
-    if header.author() >= members || round == 0 || round > 1_000_000 {
+    if header.author() >= members || round == 0 || round > MOST_ROUND {
         return false;
     }
     if round == 1 && !header.parents().is_empty() {

@@ -1,11 +1,12 @@
 -- What is ready before a certificate is added.
 use Rattle.std.specs.Prelude.{◌≡◌, ℕ, ◌<◌, ◌≤◌, false, [], List, Contains, All, length, map, vec_capacity}
 use Rattle.bk_cert.specs.Node.{Node}
+use Rattle.bk_rounds.specs.declared.buffers.Buffers.{Buffers}
 use Rattle.bk_rounds.specs.declared.names.Names.{Names}
 use Rattle.bk_rounds.specs.declared.preparing.Prepared.{Prepared}
 use Rattle.bk_rounds.specs.private.Numbered.{id_of, row_of, is_marked}
 
--- the numbers are those of the certificate's ids, it waits where it has to, and there is room
+-- the numbers are those of the certificate's ids, and it waits where it has to
 pub record IsPrepared (n : Names) (c : Node) (p : Prepared) : Type 0 where
   pub inside : p.number < length n.slots.items
   pub id : id_of n.slots.items p.number ≡ c.id
@@ -13,7 +14,10 @@ pub record IsPrepared (n : Names) (c : Node) (p : Prepared) : Type 0 where
   pub low : All (λ q. q < length n.slots.items) p.parents.items
   pub waits : (q : ℕ) → Contains p.parents.items q → is_marked n.marks.items q ≡ false
       → Contains (row_of n.pending.items q) p.number
-  pub none : p.out.items ≡ []
-  pub room : n.unmarked ≤ vec_capacity p.out
-  pub empty : p.answer.items ≡ []
-  pub wide : n.unmarked ≤ vec_capacity p.answer
+
+-- nothing is in the buffers, and so many fit in each
+pub record AreClearFor (b : Buffers) (most : ℕ) : Type 0 where
+  pub none : b.out.items ≡ []
+  pub room : most ≤ vec_capacity b.out
+  pub empty : b.places.items ≡ []
+  pub wide : most ≤ vec_capacity b.places

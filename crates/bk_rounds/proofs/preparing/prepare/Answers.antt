@@ -57,8 +57,4 @@ returns-clause-prepared c =
           ∙ (c.in_ok-parents.ensures.ids ∙ (c.parents.ensures.all ∙ ap (λ (h : HeaderValue). h.parents) c.header.ensures));
       low = inside_more _ _ ps c.in_ok-number.ensures.grows.longer c.in_ok-parents.ensures.inside;
       waits = λ q t f. subst (λ (xs : List Pending). Contains (row_of xs q) c.in_ok-number.number) (sym e) (c.in_ok-register.ensures.all q (subst (λ (xs : List ℕ). Contains xs q) (sym c.deref-2.ensures.value) t) (subst (λ xs. is_marked xs q ≡ false) (sym c.deref.ensures.value) f));
-      none = c.in_ok-out.ensures.items;
-      room = c.in_ok-out.ensures.capacity;
-      empty = c.in_ok-answer.ensures.items;
-      wide = c.in_ok-answer.ensures.capacity;
     }

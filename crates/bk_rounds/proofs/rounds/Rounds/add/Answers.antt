@@ -24,14 +24,14 @@ use Rattle.bk_rounds.proofs.Adding.{number_free, IsAdding, IsAdmitting, tied_add
 use Rattle.bk_rounds.proofs.rounds.Rounds.add.Goals as goal
 
 pub invariant_of-self : goal.invariant_of-self
-invariant_of-self c = rw c.in_err-room.ensures.certs
+invariant_of-self c = rw c.in_err-ready.ensures.certs
     (whole_grown c.self.inside.weights c.self.inside.certs.items c.self.inside.names c.prepare.new.names (number_at c.self.inside.places) (number_at c.self.inside.places) c.self.inside.top c.self.invariant
-    c.in_err-room.ensures.grows c.in_err-room.ensures.names (λ q. refl))
+    c.in_err-ready.ensures.grows c.in_err-ready.ensures.names (λ q. refl))
 
 pub invariant_of-self-in_err-insert : goal.invariant_of-self-in_err-insert
-invariant_of-self-in_err-insert c = rw c.in_ok-room.ensures.certs
+invariant_of-self-in_err-insert c = rw c.in_ok-ready.ensures.certs
     (whole_grown c.self.inside.weights c.self.inside.certs.items c.self.inside.names c.prepare.new.names (number_at c.self.inside.places) (number_at c.insert.new.self) c.self.inside.top c.self.invariant
-    c.in_ok-room.ensures.grows c.in_ok-room.ensures.names (λ q. ap (lookup (is_at (ref_cmp q))) c.in_err-insert.ensures.err))
+    c.in_ok-ready.ensures.grows c.in_ok-ready.ensures.names (λ q. ap (lookup (is_at (ref_cmp q))) c.in_err-insert.ensures.err))
 
 pub admit-requires-clause-table : goal.admit-requires-clause-table
 admit-requires-clause-table c =
@@ -39,10 +39,10 @@ admit-requires-clause-table c =
     let held : List Node = c.self.inside.certs.items in
     let n : Names = c.prepare.new.names in
     let cert : Node = c.args.cert in
-    let k : ℕ = c.in_ok-room.room.number in
-    let p = c.in_ok-room.ensures.prepared in
+    let k : ℕ = c.in_ok-ready.ready.number in
+    let p = c.in_ok-ready.ensures.prepared in
     let w : IsWhole z held n (number_at c.self.inside.places) c.self.inside.top =
-    whole_grown z held c.self.inside.names n (number_at c.self.inside.places) (number_at c.self.inside.places) c.self.inside.top c.self.invariant c.in_ok-room.ensures.grows c.in_ok-room.ensures.names (λ q. refl) in
+    whole_grown z held c.self.inside.names n (number_at c.self.inside.places) (number_at c.self.inside.places) c.self.inside.top c.self.invariant c.in_ok-ready.ensures.grows c.in_ok-ready.ensures.names (λ q. refl) in
     let new : (d : Node) → Contains held d → d.id ≢ cert.id = λ d t. c.requires.new d (subst (λ (v : RoundsValue). Contains v.held d) c.self.view_is t) in
     let none : round_of n.slots.items k ≡ 0 = number_free z held n (number_at c.self.inside.places) c.self.inside.top w k cert p.id new in
     rw (c.deref_mut.ensures.value, c.deref_mut-2.ensures.value, c.deref_mut-3.ensures.value) w.table
@@ -53,10 +53,10 @@ admit-requires-clause-number c =
     let held : List Node = c.self.inside.certs.items in
     let n : Names = c.prepare.new.names in
     let cert : Node = c.args.cert in
-    let k : ℕ = c.in_ok-room.room.number in
-    let p = c.in_ok-room.ensures.prepared in
+    let k : ℕ = c.in_ok-ready.ready.number in
+    let p = c.in_ok-ready.ensures.prepared in
     let w : IsWhole z held n (number_at c.self.inside.places) c.self.inside.top =
-    whole_grown z held c.self.inside.names n (number_at c.self.inside.places) (number_at c.self.inside.places) c.self.inside.top c.self.invariant c.in_ok-room.ensures.grows c.in_ok-room.ensures.names (λ q. refl) in
+    whole_grown z held c.self.inside.names n (number_at c.self.inside.places) (number_at c.self.inside.places) c.self.inside.top c.self.invariant c.in_ok-ready.ensures.grows c.in_ok-ready.ensures.names (λ q. refl) in
     let new : (d : Node) → Contains held d → d.id ≢ cert.id = λ d t. c.requires.new d (subst (λ (v : RoundsValue). Contains v.held d) c.self.view_is t) in
     let none : round_of n.slots.items k ≡ 0 = number_free z held n (number_at c.self.inside.places) c.self.inside.top w k cert p.id new in
     rw c.deref_mut.ensures.value (p.inside, none)
@@ -67,10 +67,10 @@ tell-self-inside-requires-clause-inside c =
     let held : List Node = c.self.inside.certs.items in
     let n : Names = c.prepare.new.names in
     let cert : Node = c.args.cert in
-    let k : ℕ = c.in_ok-room.room.number in
-    let p = c.in_ok-room.ensures.prepared in
+    let k : ℕ = c.in_ok-ready.ready.number in
+    let p = c.in_ok-ready.ensures.prepared in
     let w : IsWhole z held n (number_at c.self.inside.places) c.self.inside.top =
-    whole_grown z held c.self.inside.names n (number_at c.self.inside.places) (number_at c.self.inside.places) c.self.inside.top c.self.invariant c.in_ok-room.ensures.grows c.in_ok-room.ensures.names (λ q. refl) in
+    whole_grown z held c.self.inside.names n (number_at c.self.inside.places) (number_at c.self.inside.places) c.self.inside.top c.self.invariant c.in_ok-ready.ensures.grows c.in_ok-ready.ensures.names (λ q. refl) in
     let new : (d : Node) → Contains held d → d.id ≢ cert.id = λ d t. c.requires.new d (subst (λ (v : RoundsValue). Contains v.held d) c.self.view_is t) in
     let none : round_of n.slots.items k ≡ 0 = number_free z held n (number_at c.self.inside.places) c.self.inside.top w k cert p.id new in
     let e_s : (with_items n.slots c.admit.new.slots).items ≡ c.admit.new.slots = with_items_is n.slots c.admit.new.slots (omega (arith, c.admit.auto.slots, ap length c.deref_mut.ensures.value, n.slots.ok.0)) in
@@ -89,10 +89,10 @@ tell-self-inside-requires-clause-parents c =
     let held : List Node = c.self.inside.certs.items in
     let n : Names = c.prepare.new.names in
     let cert : Node = c.args.cert in
-    let k : ℕ = c.in_ok-room.room.number in
-    let p = c.in_ok-room.ensures.prepared in
+    let k : ℕ = c.in_ok-ready.ready.number in
+    let p = c.in_ok-ready.ensures.prepared in
     let w : IsWhole z held n (number_at c.self.inside.places) c.self.inside.top =
-    whole_grown z held c.self.inside.names n (number_at c.self.inside.places) (number_at c.self.inside.places) c.self.inside.top c.self.invariant c.in_ok-room.ensures.grows c.in_ok-room.ensures.names (λ q. refl) in
+    whole_grown z held c.self.inside.names n (number_at c.self.inside.places) (number_at c.self.inside.places) c.self.inside.top c.self.invariant c.in_ok-ready.ensures.grows c.in_ok-ready.ensures.names (λ q. refl) in
     let new : (d : Node) → Contains held d → d.id ≢ cert.id = λ d t. c.requires.new d (subst (λ (v : RoundsValue). Contains v.held d) c.self.view_is t) in
     let none : round_of n.slots.items k ≡ 0 = number_free z held n (number_at c.self.inside.places) c.self.inside.top w k cert p.id new in
     let e_s : (with_items n.slots c.admit.new.slots).items ≡ c.admit.new.slots = with_items_is n.slots c.admit.new.slots (omega (arith, c.admit.auto.slots, ap length c.deref_mut.ensures.value, n.slots.ok.0)) in
@@ -107,17 +107,17 @@ tell-self-inside-requires-clause-authors c =
     let held : List Node = c.self.inside.certs.items in
     let n : Names = c.prepare.new.names in
     let cert : Node = c.args.cert in
-    let k : ℕ = c.in_ok-room.room.number in
-    let p = c.in_ok-room.ensures.prepared in
+    let k : ℕ = c.in_ok-ready.ready.number in
+    let p = c.in_ok-ready.ensures.prepared in
     let w : IsWhole z held n (number_at c.self.inside.places) c.self.inside.top =
-    whole_grown z held c.self.inside.names n (number_at c.self.inside.places) (number_at c.self.inside.places) c.self.inside.top c.self.invariant c.in_ok-room.ensures.grows c.in_ok-room.ensures.names (λ q. refl) in
+    whole_grown z held c.self.inside.names n (number_at c.self.inside.places) (number_at c.self.inside.places) c.self.inside.top c.self.invariant c.in_ok-ready.ensures.grows c.in_ok-ready.ensures.names (λ q. refl) in
     let new : (d : Node) → Contains held d → d.id ≢ cert.id = λ d t. c.requires.new d (subst (λ (v : RoundsValue). Contains v.held d) c.self.view_is t) in
     let none : round_of n.slots.items k ≡ 0 = number_free z held n (number_at c.self.inside.places) c.self.inside.top w k cert p.id new in
     let e_s : (with_items n.slots c.admit.new.slots).items ≡ c.admit.new.slots = with_items_is n.slots c.admit.new.slots (omega (arith, c.admit.auto.slots, ap length c.deref_mut.ensures.value, n.slots.ok.0)) in
     let e_m : (with_items n.marks c.admit.new.marks).items ≡ c.admit.new.marks = with_items_is n.marks c.admit.new.marks (omega (arith, c.admit.auto.marks, ap length c.deref_mut-2.ensures.value, n.marks.ok.0)) in
     let e_p : (with_items n.pending c.admit.new.pending).items ≡ c.admit.new.pending = with_items_is n.pending c.admit.new.pending (omega (arith, c.admit.auto.pending, ap length c.deref_mut-3.ensures.value, n.pending.ok.0)) in
     let table : IsTable z c.admit.new.slots c.admit.new.marks c.admit.new.pending = c.admit.ensures.table in
-    let slot : Slot = record { id = c.id.result.now; round = c.round.result; author = c.author.result; cert = c.len.result; parents = c.in_ok-room.room.parents } in
+    let slot : Slot = record { id = c.id.result.now; round = c.round.result; author = c.author.result; cert = c.len.result; parents = c.in_ok-ready.ready.parents } in
     let m : Names = record n { slots = with_items n.slots c.admit.new.slots; marks = with_items n.marks c.admit.new.marks; pending = with_items n.pending c.admit.new.pending } in
     let added : IsAdding held n m cert k slot = record {
       low = p.inside;
@@ -126,7 +126,7 @@ tell-self-inside-requires-clause-authors c =
       id = c.id.ensures;
       round = c.round.ensures ∙ ap (λ (h : HeaderValue). h.round) c.header.ensures;
       author = c.author.ensures ∙ ap (λ (h : HeaderValue). h.author) c.header-2.ensures;
-      cert = omega (arith, c.len.ensures, ap length c.in_ok-room.ensures.certs);
+      cert = omega (arith, c.len.ensures, ap length c.in_ok-ready.ensures.certs);
       parents = p.parents;
       slots = e_s ∙ (c.admit.ensures.slots ∙ ap (λ (ss : List Slot). set ss k slot) c.deref_mut.ensures.value);
       numbers = refl;
@@ -147,17 +147,17 @@ invariant_of-self-2 c =
     let held : List Node = c.self.inside.certs.items in
     let n : Names = c.prepare.new.names in
     let cert : Node = c.args.cert in
-    let k : ℕ = c.in_ok-room.room.number in
-    let p = c.in_ok-room.ensures.prepared in
+    let k : ℕ = c.in_ok-ready.ready.number in
+    let p = c.in_ok-ready.ensures.prepared in
     let w : IsWhole z held n (number_at c.self.inside.places) c.self.inside.top =
-    whole_grown z held c.self.inside.names n (number_at c.self.inside.places) (number_at c.self.inside.places) c.self.inside.top c.self.invariant c.in_ok-room.ensures.grows c.in_ok-room.ensures.names (λ q. refl) in
+    whole_grown z held c.self.inside.names n (number_at c.self.inside.places) (number_at c.self.inside.places) c.self.inside.top c.self.invariant c.in_ok-ready.ensures.grows c.in_ok-ready.ensures.names (λ q. refl) in
     let new : (d : Node) → Contains held d → d.id ≢ cert.id = λ d t. c.requires.new d (subst (λ (v : RoundsValue). Contains v.held d) c.self.view_is t) in
     let none : round_of n.slots.items k ≡ 0 = number_free z held n (number_at c.self.inside.places) c.self.inside.top w k cert p.id new in
     let e_s : (with_items n.slots c.admit.new.slots).items ≡ c.admit.new.slots = with_items_is n.slots c.admit.new.slots (omega (arith, c.admit.auto.slots, ap length c.deref_mut.ensures.value, n.slots.ok.0)) in
     let e_m : (with_items n.marks c.admit.new.marks).items ≡ c.admit.new.marks = with_items_is n.marks c.admit.new.marks (omega (arith, c.admit.auto.marks, ap length c.deref_mut-2.ensures.value, n.marks.ok.0)) in
     let e_p : (with_items n.pending c.admit.new.pending).items ≡ c.admit.new.pending = with_items_is n.pending c.admit.new.pending (omega (arith, c.admit.auto.pending, ap length c.deref_mut-3.ensures.value, n.pending.ok.0)) in
     let table : IsTable z c.admit.new.slots c.admit.new.marks c.admit.new.pending = c.admit.ensures.table in
-    let slot : Slot = record { id = c.id.result.now; round = c.round.result; author = c.author.result; cert = c.len.result; parents = c.in_ok-room.room.parents } in
+    let slot : Slot = record { id = c.id.result.now; round = c.round.result; author = c.author.result; cert = c.len.result; parents = c.in_ok-ready.ready.parents } in
     let m : Names = record { numbers = n.numbers; slots = with_items n.slots c.admit.new.slots; marks = with_items n.marks c.admit.new.marks; pending = with_items n.pending c.admit.new.pending; sets = with_items n.sets c.tell-self-inside.new.sets; unmarked = n.unmarked - c.len-2.result } in
     let added : IsAdding held n m cert k slot = record {
       low = p.inside;
@@ -166,7 +166,7 @@ invariant_of-self-2 c =
       id = c.id.ensures;
       round = c.round.ensures ∙ ap (λ (h : HeaderValue). h.round) c.header.ensures;
       author = c.author.ensures ∙ ap (λ (h : HeaderValue). h.author) c.header-2.ensures;
-      cert = omega (arith, c.len.ensures, ap length c.in_ok-room.ensures.certs);
+      cert = omega (arith, c.len.ensures, ap length c.in_ok-ready.ensures.certs);
       parents = p.parents;
       slots = e_s ∙ (c.admit.ensures.slots ∙ ap (λ (ss : List Slot). set ss k slot) c.deref_mut.ensures.value);
       numbers = refl;
@@ -190,7 +190,7 @@ invariant_of-self-2 c =
     let whole : IsWhole z (held ++ cert ∷ []) m (number_at c.insert.new.self) c.tell-self-inside.result =
     whole_added z held n m cert k slot (number_at c.self.inside.places) (number_at c.insert.new.self) c.self.inside.top c.tell-self-inside.result out w added good new free up
     (table_from z m c.admit.new.slots c.admit.new.marks c.admit.new.pending e_s e_m e_p table) admitted in
-    let certs : c.push_reserved.new.self.items ≡ held ++ cert ∷ [] = c.push_reserved.ensures.items ∙ ap (λ (xs : List Node). xs ++ cert ∷ []) c.in_ok-room.ensures.certs in
+    let certs : c.push_reserved.new.self.items ≡ held ++ cert ∷ [] = c.push_reserved.ensures.items ∙ ap (λ (xs : List Node). xs ++ cert ∷ []) c.in_ok-ready.ensures.certs in
     rw certs whole
 
 pub returns-clause-answer : goal.returns-clause-answer
@@ -199,17 +199,17 @@ returns-clause-answer c =
     let held : List Node = c.self.inside.certs.items in
     let n : Names = c.prepare.new.names in
     let cert : Node = c.args.cert in
-    let k : ℕ = c.in_ok-room.room.number in
-    let p = c.in_ok-room.ensures.prepared in
+    let k : ℕ = c.in_ok-ready.ready.number in
+    let p = c.in_ok-ready.ensures.prepared in
     let w : IsWhole z held n (number_at c.self.inside.places) c.self.inside.top =
-    whole_grown z held c.self.inside.names n (number_at c.self.inside.places) (number_at c.self.inside.places) c.self.inside.top c.self.invariant c.in_ok-room.ensures.grows c.in_ok-room.ensures.names (λ q. refl) in
+    whole_grown z held c.self.inside.names n (number_at c.self.inside.places) (number_at c.self.inside.places) c.self.inside.top c.self.invariant c.in_ok-ready.ensures.grows c.in_ok-ready.ensures.names (λ q. refl) in
     let new : (d : Node) → Contains held d → d.id ≢ cert.id = λ d t. c.requires.new d (subst (λ (v : RoundsValue). Contains v.held d) c.self.view_is t) in
     let none : round_of n.slots.items k ≡ 0 = number_free z held n (number_at c.self.inside.places) c.self.inside.top w k cert p.id new in
     let e_s : (with_items n.slots c.admit.new.slots).items ≡ c.admit.new.slots = with_items_is n.slots c.admit.new.slots (omega (arith, c.admit.auto.slots, ap length c.deref_mut.ensures.value, n.slots.ok.0)) in
     let e_m : (with_items n.marks c.admit.new.marks).items ≡ c.admit.new.marks = with_items_is n.marks c.admit.new.marks (omega (arith, c.admit.auto.marks, ap length c.deref_mut-2.ensures.value, n.marks.ok.0)) in
     let e_p : (with_items n.pending c.admit.new.pending).items ≡ c.admit.new.pending = with_items_is n.pending c.admit.new.pending (omega (arith, c.admit.auto.pending, ap length c.deref_mut-3.ensures.value, n.pending.ok.0)) in
     let table : IsTable z c.admit.new.slots c.admit.new.marks c.admit.new.pending = c.admit.ensures.table in
-    let slot : Slot = record { id = c.id.result.now; round = c.round.result; author = c.author.result; cert = c.len.result; parents = c.in_ok-room.room.parents } in
+    let slot : Slot = record { id = c.id.result.now; round = c.round.result; author = c.author.result; cert = c.len.result; parents = c.in_ok-ready.ready.parents } in
     let m : Names = record { numbers = n.numbers; slots = with_items n.slots c.admit.new.slots; marks = with_items n.marks c.admit.new.marks; pending = with_items n.pending c.admit.new.pending; sets = with_items n.sets c.tell-self-inside.new.sets; unmarked = n.unmarked - c.len-2.result } in
     let added : IsAdding held n m cert k slot = record {
       low = p.inside;
@@ -218,7 +218,7 @@ returns-clause-answer c =
       id = c.id.ensures;
       round = c.round.ensures ∙ ap (λ (h : HeaderValue). h.round) c.header.ensures;
       author = c.author.ensures ∙ ap (λ (h : HeaderValue). h.author) c.header-2.ensures;
-      cert = omega (arith, c.len.ensures, ap length c.in_ok-room.ensures.certs);
+      cert = omega (arith, c.len.ensures, ap length c.in_ok-ready.ensures.certs);
       parents = p.parents;
       slots = e_s ∙ (c.admit.ensures.slots ∙ ap (λ (ss : List Slot). set ss k slot) c.deref_mut.ensures.value);
       numbers = refl;
@@ -242,11 +242,11 @@ returns-clause-answer c =
     let whole : IsWhole z (held ++ cert ∷ []) m (number_at c.insert.new.self) c.tell-self-inside.result =
     whole_added z held n m cert k slot (number_at c.self.inside.places) (number_at c.insert.new.self) c.self.inside.top c.tell-self-inside.result out w added good new free up
     (table_from z m c.admit.new.slots c.admit.new.marks c.admit.new.pending e_s e_m e_p table) admitted in
-    let certs : c.push_reserved.new.self.items ≡ held ++ cert ∷ [] = c.push_reserved.ensures.items ∙ ap (λ (xs : List Node). xs ++ cert ∷ []) c.in_ok-room.ensures.certs in
-    let told : List CertRef = c.list.new.places.items in
+    let certs : c.push_reserved.new.self.items ≡ held ++ cert ∷ [] = c.push_reserved.ensures.items ∙ ap (λ (xs : List Node). xs ++ cert ∷ []) c.in_ok-ready.ensures.certs in
+    let told : List CertRef = c.hand_over.result.items in
     let answer : c.tell-self-inside.new.answer.items ≡ map (place_at m.slots.items) out = c.tell-self-inside.ensures.answer ∙ (λ i. map (place_at (c.deref.ensures.value i)) (c.deref-2.ensures.value i)) in
     let lists : Lists told (λ a. IsPresent z (held ++ cert ∷ []) a × (IsPresent z held a → ⊥)) =
     answer_added z held n m cert k slot (number_at c.self.inside.places) (number_at c.insert.new.self) c.self.inside.top c.tell-self-inside.result out told w whole added admitted
-    c.list.ensures.listed (λ a. subst (λ (xs : List CertRef). Contains told a ↔ Contains xs a) answer (c.list.ensures.same a)) in
+    c.hand_over.ensures.listed (λ a. subst (λ (xs : List CertRef). Contains told a ↔ Contains xs a) answer (c.hand_over.ensures.same a)) in
     subst (λ (xs : List Node). Lists told (λ a. IsPresent z xs a × (IsPresent c.args.self.now.sizes c.args.self.now.held a → ⊥))) (sym certs)
     (subst (λ (v : RoundsValue). Lists told (λ a. IsPresent z (held ++ cert ∷ []) a × (IsPresent v.sizes v.held a → ⊥))) c.self.view_is lists)
