@@ -15,7 +15,7 @@ use crate::hints::{Hints, Nobody};
 use crate::levels::levels;
 use crate::outcome::{ExecFault, outcome_of};
 use crate::place::Gate;
-use crate::work::serve;
+use crate::work::{serve, try_claim};
 use bk_bank::{Bank, Pass};
 use bk_conflicts::Plan;
 use bk_rules::State;
@@ -93,17 +93,33 @@ pub fn execute_with<R: Threads + Wait + Sync, G: Gate + Sync, H: Hints + Send + 
     ensures fold { IfOk result (λ o. IsFoldOf (arc_value plan.now) state o) }
     ensures unfinished { IfErr result (λ e. IsBelow (length (arc_value plan.now).txs) e) }
 {
-    let (bank, pass) = Bank::new(alloc, plan, &state)?;
     let mut ends = ends;
     put_opening(plan, &mut ends[0]);
+    run_ends(rt, alloc, plan, state, gate, ends)
+}
+
+// Executes a plan by the hints that the ends give, and then what the workers left.
+fn run_ends<R: Threads + Wait + Sync, G: Gate + Sync, H: Hints + Send + Drop>(
+    rt: &R,
+    alloc: Global,
+    plan: &Arc<Plan>,
+    state: State,
+    gate: &G,
+    ends: Vec<H>,
+) -> Result<Outcome, ExecFault>
+    requires runs { CanRunOn (arc_value plan.now) state }
+    ensures fold { IfOk result (λ o. IsFoldOf (arc_value plan.now) state o) }
+    ensures unfinished { IfErr result (λ e. IsBelow (length (arc_value plan.now).txs) e) }
+{
+    let (bank, pass) = Bank::new(alloc, plan, &state)?;
     let pass = levels(rt, &bank, plan, gate, pass, ends);
     let pass = claim_left(&bank, plan, gate, pass);
     let words = bank.close(pass);
     outcome_of(alloc, plan, state, &words)
 }
 
-/// Executes a plan from a state that it can run on, with so many workers, which steal hints from
-/// each other.
+/// Executes a plan from a state that it can run on, with so many workers. They take the places in
+/// order, a range at a time, and steal from each other what becomes ready later.
 pub fn execute<R: Threads + Wait + Sync, G: Gate + Sync>(
     rt: &R,
     alloc: Global,
@@ -117,8 +133,8 @@ pub fn execute<R: Threads + Wait + Sync, G: Gate + Sync>(
     ensures fold { IfOk result (λ o. IsFoldOf (arc_value plan.now) state o) }
     ensures unfinished { IfErr result (λ e. IsBelow (length (arc_value plan.now).txs) e) }
 {
-    let ends = ends_for(rt, alloc, workers)?;
-    execute_with(rt, alloc, plan, state, gate, ends)
+    let ends = ends_for(rt, alloc, plan.len() as u32, workers)?;
+    run_ends(rt, alloc, plan, state, gate, ends)
 }
 
 // Puts the places that wait for no other.
@@ -138,9 +154,9 @@ fn claim_left<G: Gate>(bank: &Bank, plan: &Plan, gate: &G, pass: Pass) -> Pass
 {
     let mut idle = pass;
     for place in 0..plan.len() {
-        match bank.claim(idle, place as u32) {
+        match try_claim(bank, plan, idle, place as u32) {
             Ok(hold) => idle = serve(bank, plan, gate, hold, &mut Nobody),
-            Err((pass, _)) => idle = pass,
+            Err(pass) => idle = pass,
         }
     }
     idle

@@ -60,14 +60,19 @@ fn next_hold<H: Hints>(bank: &Bank, plan: &Plan, pass: Pass, end: &mut H) -> Res
     Err(idle)
 }
 
-// Claims what a hint says, if it is a place.
-fn try_claim(bank: &Bank, plan: &Plan, pass: Pass, place: u32) -> Result<Hold, Pass>
+// Claims what a hint says, if it is a place and is ready. A look at its word costs less than an
+// exchange that is refused.
+pub(crate) fn try_claim(bank: &Bank, plan: &Plan, pass: Pass, place: u32) -> Result<Hold, Pass>
     requires own { IsPassOf bank.now pass }
     requires plan { IsBankOf plan.now bank.now }
     ensures hold { IfOk result (λ h. IsHoldOf bank.now h × IsFresh h) }
     ensures none { IfErr result (λ p. IsPassOf bank.now p) }
 {
     if plan.len() <= place as usize {
+        return Err(pass);
+    }
+    let mut pass = pass;
+    if bank.look(&mut pass, place) != 0 {
         return Err(pass);
     }
     match bank.claim(pass, place) {
