@@ -1,6 +1,7 @@
 pub mod Putting
 pub mod ReportLines
 pub mod Runs
+pub mod BatchReading
 pub mod FeedReports
 pub mod LineGroups
 pub mod RunText
@@ -17,6 +18,7 @@ pub mod Pulled
 pub mod RunAnswers
 pub mod BookReports
 pub mod SliceLemmas
+pub mod NextLemmas
 pub mod Following
 pub mod Schedules
 pub mod RunLaws

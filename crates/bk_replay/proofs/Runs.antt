@@ -142,17 +142,6 @@ few_batches feed good = let size = feed_size feed.frames in omega (arith, size.1
 
 -- ---- one frame more of a run
 
--- there is room for the transactions of the next frame
-pub room_for_next : (feed : FeedValue) (i : ℕ) (f : Frame) (genesis state : List Row) → IsFeed feed → slice_get feed.frames i ≡ Some f → AreAccounts genesis
-    → state ≡ state_after feed.version (feed_transactions (take i feed.frames)) genesis → HasRoom feed.version (length (feed_transactions (f ∷ []))) state
-room_for_next feed i f genesis state good e accounts same =
-    let before : List (Option Transaction) = feed_transactions (take i feed.frames) in
-    let next : feed_transactions (take (i + 1) feed.frames) ≡ feed_transactions (take i feed.frames) ++ feed_transactions (f ∷ []) = ap feed_transactions (take_next feed.frames i f e) ∙ feed_transactions-append (take i feed.frames) (f ∷ []) in
-    let few : length (feed_transactions (take i feed.frames)) + length (feed_transactions (f ∷ [])) < 2 ^ 63 =
-    omega (arith, few_transactions feed (i + 1) good, ap length next, length-append (feed_transactions (take i feed.frames)) (feed_transactions (f ∷ []))) in
-    subst (λ (rows : List Row). HasRoom feed.version (length (feed_transactions (f ∷ []))) rows) (sym same)
-    (room_left feed.version (feed_transactions (take i feed.frames)) (length (feed_transactions (f ∷ []))) genesis accounts few)
-
 pub counts_next : (frames : List Frame) (i : ℕ) (f : Frame) (old new : List (Option ℕ)) → slice_get frames i ≡ Some f → old ≡ map count_in (payloads_of (take i frames)) → new ≡ old ++ map count_in (payloads_of (f ∷ []))
     → new ≡ map count_in (payloads_of (take (i + 1) frames))
 counts_next frames i f old new e before grown =
@@ -160,15 +149,3 @@ counts_next frames i f old new e before grown =
 
 pub transactions_next : (frames : List Frame) (i : ℕ) (f : Frame) → slice_get frames i ≡ Some f → feed_transactions (take (i + 1) frames) ≡ feed_transactions (take i frames) ++ feed_transactions (f ∷ [])
 transactions_next frames i f e = ap feed_transactions (take_next frames i f e) ∙ feed_transactions-append (take i frames) (f ∷ [])
-
-pub receipts_next : (v : Version) (frames : List Frame) (i : ℕ) (f : Frame) (genesis state : List Row) (old new : List Receipt) → slice_get frames i ≡ Some f → state ≡ state_after v (feed_transactions (take i frames)) genesis
-    → old ≡ receipts_of v (feed_transactions (take i frames)) genesis → new ≡ old ++ receipts_of v (feed_transactions (f ∷ [])) state → new ≡ receipts_of v (feed_transactions (take (i + 1) frames)) genesis
-receipts_next v frames i f genesis state old new e same before grown =
-    grown ∙ (λ j. before j ++ receipts_of v (feed_transactions (f ∷ [])) (same j)) ∙ sym (receipts_append v (feed_transactions (take i frames)) (feed_transactions (f ∷ [])) genesis)
-    ∙ ap (λ (t : List (Option Transaction)). receipts_of v t genesis) (sym (transactions_next frames i f e))
-
-pub state_next : (v : Version) (frames : List Frame) (i : ℕ) (f : Frame) (genesis old new : List Row) → slice_get frames i ≡ Some f → old ≡ state_after v (feed_transactions (take i frames)) genesis
-    → new ≡ state_after v (feed_transactions (f ∷ [])) old → new ≡ state_after v (feed_transactions (take (i + 1) frames)) genesis
-state_next v frames i f genesis old new e before grown =
-    grown ∙ ap (state_after v (feed_transactions (f ∷ []))) before ∙ sym (state_append v (feed_transactions (take i frames)) (feed_transactions (f ∷ [])) genesis)
-    ∙ ap (λ (t : List (Option Transaction)). state_after v t genesis) (sym (transactions_next frames i f e))

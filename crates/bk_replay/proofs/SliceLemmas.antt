@@ -72,7 +72,7 @@ counts_after counts txs a b ran = ap length ran.counts_are ∙ length-append a.c
 
 -- ---- reading a slice
 
-pub slice_none : (payloads : List (List ℕ)) (from : ℕ) (b : Batches) → b.counts.items ≡ [] → b.txs.items ≡ [] → IsSliceOf payloads from b
+pub slice_none : (payloads : List (List ℕ)) (from : ℕ) (b : Batches) → b.counts.items ≡ [] → b.txs.items ≡ [] → IsSliceOf payloads from b.counts.items b.txs.items
 slice_none payloads from b counts txs = record {
   batches = [];
   split = let e : from ≡ from + length b.counts.items = omega (arith, ap length counts) in ap (λ n. drop n payloads) e;
@@ -80,8 +80,8 @@ slice_none payloads from b counts txs = record {
   txs_are = txs;
 }
 
-pub slice_more : (payloads : List (List ℕ)) (from place : ℕ) (payload : List ℕ) (b c : Batches) → IsSliceOf payloads from b → from + length b.counts.items ≡ place → slice_get payloads place ≡ Some payload
-    → c.counts.items ≡ b.counts.items ++ count_in payload ∷ [] → c.txs.items ≡ b.txs.items ++ transactions_in payload → IsSliceOf payloads from c
+pub slice_more : (payloads : List (List ℕ)) (from place : ℕ) (payload : List ℕ) (b c : Batches) → IsSliceOf payloads from b.counts.items b.txs.items → from + length b.counts.items ≡ place → slice_get payloads place ≡ Some payload
+    → c.counts.items ≡ b.counts.items ++ count_in payload ∷ [] → c.txs.items ≡ b.txs.items ++ transactions_in payload → IsSliceOf payloads from c.counts.items c.txs.items
 slice_more payloads from place payload b c slice at found counts txs =
     let longer : length c.counts.items ≡ length b.counts.items + 1 = ap length counts ∙ length-append b.counts.items (count_in payload ∷ []) in
     let next : suc place ≡ from + length c.counts.items = omega (arith, at, longer) in
@@ -102,21 +102,17 @@ way_begins payloads l = record {
   ran = record { version = refl; counts_are = sym (append-nil l.counts.items); receipts = sym (append-nil l.receipts.items); rows = refl };
 }
 
--- a slice from the first batch on that a ledger has not executed
-pub slice_here : (payloads : List (List ℕ)) (from : ℕ) (b : Batches) (l : Ledger) → from ≡ vec_len l.counts → IsSliceOf payloads from b → IsSliceOf payloads (length l.counts.items) b
-slice_here payloads from b l e slice = subst (λ (n : ℕ). IsSliceOf payloads n b) (e ∙ l.counts.ok.0) slice
-
 -- the batches of a slice that is executed
-slice_executed : (payloads : List (List ℕ)) (b : Batches) (now next : Ledger) (slice : IsSliceOf payloads (length now.counts.items) b) → HasRun b.counts.items b.txs.items now next → HasExecuted slice.batches now next
-slice_executed payloads b now next slice ran = subst (λ (s : List (Option ℕ) × List (Option Transaction)). HasRun s.0 s.1 now next) (λ i. (slice.counts_are i, slice.txs_are i)) ran
+slice_executed : (payloads : List (List ℕ)) (counts : List (Option ℕ)) (txs : List (Option Transaction)) (now next : Ledger) (slice : IsSliceOf payloads (length now.counts.items) counts txs) → HasRun counts txs now next → HasExecuted slice.batches now next
+slice_executed payloads counts txs now next slice ran = subst (λ (s : List (Option ℕ) × List (Option Transaction)). HasRun s.0 s.1 now next) (λ i. (slice.counts_are i, slice.txs_are i)) ran
 
-pub way_goes_on : (payloads : List (List ℕ)) (b : Batches) (first now next : Ledger) → IsOnTheWay payloads first now → IsSliceOf payloads (length now.counts.items) b → HasRun b.counts.items b.txs.items now next → IsOnTheWay payloads first next
-way_goes_on payloads b first now next way slice ran =
-    let longer : length next.counts.items ≡ length now.counts.items + length b.counts.items = counts_after b.counts.items b.txs.items now next ran in
+pub way_goes_on : (payloads : List (List ℕ)) (counts : List (Option ℕ)) (txs : List (Option Transaction)) (first now next : Ledger) → IsOnTheWay payloads first now → IsSliceOf payloads (length now.counts.items) counts txs → HasRun counts txs now next → IsOnTheWay payloads first next
+way_goes_on payloads counts txs first now next way slice ran =
+    let longer : length next.counts.items ≡ length now.counts.items + length counts = counts_after counts txs now next ran in
     record {
       done = way.done ++ slice.batches;
       split = way.split ∙ ap (λ (t : List (List ℕ)). way.done ++ t) (slice.split ∙ ap (λ n. slice.batches ++ drop n payloads) (sym longer)) ∙ sym (append_assoc way.done slice.batches (left_of payloads next));
-      ran = executed_then way.done slice.batches first now next way.ran (slice_executed payloads b now next slice ran);
+      ran = executed_then way.done slice.batches first now next way.ran (slice_executed payloads counts txs now next slice ran);
     }
 
 pub way_ends : (payloads : List (List ℕ)) (first now : Ledger) → IsOnTheWay payloads first now → length payloads ≤ length now.counts.items → HasExecuted (left_of payloads first) first now
@@ -125,10 +121,10 @@ way_ends payloads first now way all =
     subst (λ (t : List (List ℕ)). HasExecuted t first now) whole way.ran
 
 -- the transactions of the next slice are among those that are left
-sizes : (payloads : List (List ℕ)) (b : Batches) (first now : Ledger) → IsOnTheWay payloads first now → IsSliceOf payloads (length now.counts.items) b
-    → (length b.txs.items ≤ length (transactions_of (left_of payloads now))) × (length now.receipts.items + length (transactions_of (left_of payloads now)) ≡ length first.receipts.items + length (transactions_of (left_of payloads first)))
-sizes payloads b first now way slice =
-    let rest = drop (length now.counts.items + length b.counts.items) payloads in
+sizes : (payloads : List (List ℕ)) (counts : List (Option ℕ)) (txs : List (Option Transaction)) (first now : Ledger) → IsOnTheWay payloads first now → IsSliceOf payloads (length now.counts.items) counts txs
+    → (length txs ≤ length (transactions_of (left_of payloads now))) × (length now.receipts.items + length (transactions_of (left_of payloads now)) ≡ length first.receipts.items + length (transactions_of (left_of payloads first)))
+sizes payloads counts txs first now way slice =
+    let rest = drop (length now.counts.items + length counts) payloads in
     let part : length (transactions_of (left_of payloads now)) ≡ length (transactions_of slice.batches) + length (transactions_of rest) =
     ap (λ (t : List (List ℕ)). length (transactions_of t)) slice.split ∙ ap length (transactions-append slice.batches rest) ∙ length-append (transactions_of slice.batches) (transactions_of rest) in
     let whole : length (transactions_of (left_of payloads first)) ≡ length (transactions_of way.done) + length (transactions_of (left_of payloads now)) =
@@ -136,17 +132,17 @@ sizes payloads b first now way slice =
     (omega (arith, part, ap length slice.txs_are), omega (arith, whole, receipts_after (map count_in way.done) (transactions_of way.done) first now way.ran))
 
 -- the places of the next slice are among those of all that is left
-pub places_within : (payloads : List (List ℕ)) (b : Batches) (first now : Ledger) → IsOnTheWay payloads first now → IsSliceOf payloads (length now.counts.items) b
-    → (length first.receipts.items ≤ length now.receipts.items) × (length now.receipts.items + length b.txs.items ≤ length first.receipts.items + length (transactions_of (left_of payloads first)))
-places_within payloads b first now way slice =
-    let s = sizes payloads b first now way slice in
+pub places_within : (payloads : List (List ℕ)) (counts : List (Option ℕ)) (txs : List (Option Transaction)) (first now : Ledger) → IsOnTheWay payloads first now → IsSliceOf payloads (length now.counts.items) counts txs
+    → (length first.receipts.items ≤ length now.receipts.items) × (length now.receipts.items + length txs ≤ length first.receipts.items + length (transactions_of (left_of payloads first)))
+places_within payloads counts txs first now way slice =
+    let s = sizes payloads counts txs first now way slice in
     (omega (arith, receipts_after (map count_in way.done) (transactions_of way.done) first now way.ran), omega (arith, s.0, s.1))
 
-pub room_for_slice : (payloads : List (List ℕ)) (b : Batches) (first now : Ledger) → IsOnTheWay payloads first now → IsSliceOf payloads (length now.counts.items) b
-    → HasRoom first.state.version (length (transactions_of (left_of payloads first))) first.state.rows → HasRoom now.state.version (length b.txs.items) now.state.rows
-room_for_slice payloads b first now way slice room =
+pub room_for_slice : (payloads : List (List ℕ)) (counts : List (Option ℕ)) (txs : List (Option Transaction)) (first now : Ledger) → IsOnTheWay payloads first now → IsSliceOf payloads (length now.counts.items) counts txs
+    → HasRoom first.state.version (length (transactions_of (left_of payloads first))) first.state.rows → HasRoom now.state.version (length txs) now.state.rows
+room_for_slice payloads counts txs first now way slice room =
     let left = room_after way.done (left_of payloads now) first now way.ran (subst (λ (t : List (List ℕ)). HasRoom first.state.version (length (transactions_of t)) first.state.rows) way.split room) in
-    room_weaker now.state.version (length (transactions_of (left_of payloads now))) (length b.txs.items) now.state.rows (sizes payloads b first now way slice).0 left
+    room_weaker now.state.version (length (transactions_of (left_of payloads now))) (length txs) now.state.rows (sizes payloads counts txs first now way slice).0 left
 
 -- a place of some is one of more
 pub leaves_weaker : (first end start stop : ℕ) (e : Fault) → start ≤ first → end ≤ stop → Leaves first end e → Leaves start stop e

@@ -1,17 +1,19 @@
 //! What executing a feed's batches gives.
 
-ghost use Rattle.std.specs.Prelude.{◌≡◌, ◌^◌, ◌<◌, ◌∷◌, ◌++◌, [], All, length, map, IfOk, OnOk, slice_get};
-ghost use Rattle.bk_frames.specs.Feed.{frame_of, genesis_of};
+ghost use Rattle.std.specs.Prelude.{◌≡◌, ◌^◌, ◌<◌, ◌++◌, [], All, length, map, IfOk, OnOk, slice_get};
+ghost use Rattle.bk_frames.specs.Feed.{genesis_of};
 ghost use Rattle.bk_frames.specs.Genesis.{AreAccounts, total_of};
 ghost use Rattle.bk_rules.specs.Fold.{receipts_of, state_after, HasRoom};
 ghost use Rattle.bk_tx.specs.Batch.{IsWithin, cuts};
 ghost use Rattle.bk_tx.specs.Reading.{transaction_of};
-ghost use Rattle.bk_replay.specs.Report.{count_in, transactions_in, payloads_of, feed_transactions};
+ghost use Rattle.bk_replay.specs.Report.{count_in, payloads_of, feed_transactions};
+ghost use Rattle.bk_replay.specs.private.Slices.{HasRun};
 
+use crate::slice::Batches;
 use crate::summary::Summary;
-use bk_frames::{Feed, Kind, Row, Version};
+use bk_frames::{Feed, Row, Version};
 use bk_rules::{Receipt, State, run_in_order};
-use bk_tx::{Slice, Tx, read_batch};
+use bk_tx::{Slice, Tx};
 use std::alloc::{AllocError, Global};
 
 /// What the batches of a feed gave, so far.
@@ -43,46 +45,30 @@ pub(crate) fn decode_all(
 }
 
 impl Ledger {
-    /// Executes one more batch.
-    fn run_batch(&mut self, alloc: Global, payload: &[u8]) -> Result<(), AllocError>
+    // Executes batches that were read, and leaves none of them.
+    fn run(&mut self, alloc: Global, batches: &mut Batches) -> Result<(), AllocError>
         requires room { HasRoom self.old.state.version
-            (length (transactions_in payload.now)) self.old.state.rows }
-        ensures counts { OnOk result (self.new.counts.items
-            ≡ self.old.counts.items ++ count_in payload.now ∷ []) }
-        ensures receipts { OnOk result (self.new.receipts.items ≡ self.old.receipts.items
-            ++ receipts_of self.old.state.version (transactions_in payload.now) self.old.state.rows) }
-        ensures version { OnOk result (self.new.state.version ≡ self.old.state.version) }
-        ensures rows { OnOk result (self.new.state.rows
-            ≡ state_after self.old.state.version (transactions_in payload.now) self.old.state.rows) }
+            (length batches.old.txs.items) self.old.state.rows }
+        ensures ran { OnOk result
+            (HasRun batches.old.counts.items batches.old.txs.items self.old self.new) }
+        ensures counts { OnOk result (batches.new.counts.items ≡ []) }
+        ensures txs { OnOk result (batches.new.txs.items ≡ []) }
     {
-        let Some(slices) = read_batch(alloc, payload)? else {
-            self.counts.push(None)?;
-            return Ok(());
-        };
-        let mut txs = Vec::new(alloc);
-        decode_all(&mut txs, payload, &slices)?;
-        self.state.prepare(alloc, &txs)?;
-        let receipts = run_in_order(alloc, &mut self.state, &txs)?;
+        self.state.prepare(alloc, &batches.txs)?;
+        let receipts = run_in_order(alloc, &mut self.state, &batches.txs)?;
         self.receipts.extend_from_slice(&receipts)?;
-        self.counts.push(Some(slices.len() as u16))?;
+        self.counts.extend_from_slice(&batches.counts)?;
+        batches.txs.clear();
+        batches.counts.clear();
         Ok(())
     }
 
-    /// Executes one more frame: a batch, or nothing.
-    fn run_frame(&mut self, alloc: Global, kind: Kind, payload: &[u8]) -> Result<(), AllocError>
-        requires room { HasRoom self.old.state.version
-            (length (feed_transactions (frame_of kind payload.now ∷ []))) self.old.state.rows }
-        ensures counts { OnOk result (self.new.counts.items ≡ self.old.counts.items
-            ++ map count_in (payloads_of (frame_of kind payload.now ∷ []))) }
-        ensures receipts { OnOk result (self.new.receipts.items ≡ self.old.receipts.items
-            ++ receipts_of self.old.state.version (feed_transactions (frame_of kind payload.now ∷ [])) self.old.state.rows) }
-        ensures version { OnOk result (self.new.state.version ≡ self.old.state.version) }
-        ensures rows { OnOk result (self.new.state.rows
-            ≡ state_after self.old.state.version (feed_transactions (frame_of kind payload.now ∷ [])) self.old.state.rows) }
-    {
-        match kind {
-            Kind::Batch => self.run_batch(alloc, payload),
-            Kind::Committee | Kind::Genesis | Kind::Certificate => Ok(()),
+    // Whether batches that were read are to be executed. In version Two they may name accounts that lack a slot, and
+    // to make slots costs what all slots cost: so many transactions share that.
+    fn are_enough(&self, batches: &Batches) -> bool {
+        match self.state.version() {
+            Version::One => true,
+            Version::Two => batches.txs.len() > self.state.slots().len() / 8,
         }
     }
 
@@ -111,10 +97,15 @@ impl Ledger {
             ≡ state_after feed.now.version (feed_transactions feed.now.frames) (genesis_of feed.now.frames)) }
     {
         let mut ledger = Ledger::new(alloc, feed.version(), feed.genesis())?;
+        let mut batches = Batches::new(alloc);
         for index in 0..feed.len() {
             let (kind, payload) = feed.frame(index);
-            ledger.run_frame(alloc, kind, payload)?;
+            batches.push_frame(alloc, kind, payload)?;
+            if ledger.are_enough(&batches) {
+                ledger.run(alloc, &mut batches)?;
+            }
         }
+        ledger.run(alloc, &mut batches)?;
         Ok(ledger)
     }
 

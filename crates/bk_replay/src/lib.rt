@@ -26,6 +26,7 @@ mod proof;
 mod queries;
 mod query;
 mod reading;
+mod ready;
 mod replaying;
 mod replying;
 mod report;

@@ -1,8 +1,8 @@
 //! A feed's transactions, executed by a given list of events.
 
-ghost use Rattle.std.specs.Prelude.{◌≡◌, ℕ, ◌^◌, ◌<◌, ◌∷◌, ◌++◌, [], List, map, length, IfOk, OnOk, IfErr};
+ghost use Rattle.std.specs.Prelude.{◌≡◌, ℕ, List, map, IfOk, OnOk, IfErr};
 ghost use Rattle.bk_frames.specs.Device.{CanBeUsed, Works, Receives, IfKnown};
-ghost use Rattle.bk_frames.specs.Feed.{frame_of, IsFeed, genesis_of};
+ghost use Rattle.bk_frames.specs.Feed.{IsFeed, genesis_of};
 ghost use Rattle.bk_rules.specs.Fold.{state_after, receipts_of};
 ghost use Rattle.bk_steps.specs.Schedule.{IsWholeAmong};
 ghost use Rattle.bk_replay.specs.declared.fault.Fault.TheVariants as fault;
@@ -18,7 +18,7 @@ use crate::ledger::Ledger;
 use crate::page::Page;
 use crate::slice::Batches;
 use bk_conflicts::Plan;
-use bk_frames::{Feed, FeedFault, Kind, Sink, Source, WriteFault};
+use bk_frames::{Feed, FeedFault, Sink, Source, WriteFault};
 use bk_rules::State;
 use bk_steps::{Event, Outcome, ScheduleFault, run_schedule};
 use bk_tx::Tx;
@@ -86,37 +86,16 @@ impl<T: Drop> From<AllocFailed<T>> for ScheduleStop {
     }
 }
 
-// Reads one more frame: a batch, or nothing.
-fn push_frame(
-    batches: &mut Batches,
-    alloc: Global,
-    kind: Kind,
-    payload: &[u8],
-) -> Result<(), AllocError>
-    ensures counts { OnOk result (batches.new.counts.items ≡ batches.old.counts.items
-        ++ map count_in (payloads_of (frame_of kind payload.now ∷ []))) }
-    ensures txs { OnOk result (batches.new.txs.items ≡ batches.old.txs.items
-        ++ feed_transactions (frame_of kind payload.now ∷ [])) }
-{
-    match kind {
-        Kind::Batch => batches.push(alloc, payload),
-        Kind::Committee | Kind::Genesis | Kind::Certificate => Ok(()),
-    }
-}
-
 // The batches of a feed, in feed order.
 fn batches_of(alloc: Global, feed: &Feed) -> Result<Batches, AllocError>
     ensures counts { IfOk result (λ b. b.counts.items
         ≡ map count_in (payloads_of feed.now.frames)) }
     ensures txs { IfOk result (λ b. b.txs.items ≡ feed_transactions feed.now.frames) }
 {
-    let mut batches = Batches {
-        counts: Vec::new(alloc),
-        txs: Vec::new(alloc),
-    };
+    let mut batches = Batches::new(alloc);
     for index in 0..feed.len() {
         let (kind, payload) = feed.frame(index);
-        push_frame(&mut batches, alloc, kind, payload)?;
+        batches.push_frame(alloc, kind, payload)?;
     }
     Ok(batches)
 }

@@ -1,21 +1,34 @@
 //! Batches of an order, executed in slices by any number of workers.
+//!
+//! While a slice is executed, the one behind it is read, decoded and planned in a thread of its own.
 
-ghost use Rattle.std.specs.Prelude.{◌≡◌, ◌+◌, ◌^◌, ◌<◌, ◌≤◌, ◌∷◌, ◌++◌, [], false, length, drop, IfOk, IfErr, OnOk};
+ghost use Rattle.std.specs.Prelude.{◌≡◌, ◌+◌, ◌^◌, ◌<◌, ◌≤◌, ◌∷◌, ◌++◌, [], false, length, map, drop, IfOk, IfErr, OnOk};
+ghost use Rattle.std.specs.Arc.{arc_value};
+ghost use Rattle.std.specs.Thread.{IsSync};
+ghost use Rattle.bk_frames.specs.Feed.{frame_of};
+ghost use Rattle.bk_conflicts.specs.SceneOf.{CanRunOn};
 ghost use Rattle.bk_rules.specs.Fold.{HasRoom};
-ghost use Rattle.bk_replay.specs.Report.{count_in, transactions_in, transactions_of};
-ghost use Rattle.bk_replay.specs.private.Slices.{HasExecuted, HasRun, IsSliceOf, Leaves, left_of};
+ghost use Rattle.bk_replay.specs.Report.{count_in, feed_transactions, payloads_of, transactions_in, transactions_of};
+ghost use Rattle.bk_replay.specs.private.Slices.{HasExecuted, HasRun, IsNextOf, IsPlannedOn, IsReady, IsSame, IsSliceOf, Leaves, counts_of, left_of, txs_of};
 
 use crate::fault::Fault;
 use crate::ledger::{Ledger, decode_all};
+use crate::ready::{Next, Ready, SLOTS_END, read_ahead};
+use bk_frames::Kind;
 use bk_order::Intake;
-use bk_pool::{ExecFault, Gate, execute_all};
+use bk_pool::{ExecFault, Gate, execute};
 use bk_tx::{Tx, read_batch};
 use std::alloc::{AllocError, Global};
 use std::sync::Wait;
-use std::thread::Threads;
+use std::thread::{Threads, join};
 
-// A slice takes whole batches until it has this many transactions. A batch has fewer than 65,536.
-const SLICE: usize = 65_536;
+// A slice takes whole batches until it has so many transactions: enough to be worth its threads, and an eighth of the
+// accounts, since it copies the numbers of all of them. A batch has fewer than 65,536.
+fn least_of(slots: usize) -> usize
+    ensures { result < 2 ^ 30 }
+{
+    (slots / 8).clamp(16_384, 131_072)
+}
 
 /// Batches that follow each other in an order, read and not executed.
 #[derive(Drop)]
@@ -27,6 +40,17 @@ pub(crate) struct Batches {
 }
 
 impl Batches {
+    /// None.
+    pub(crate) fn new(alloc: Global) -> Batches
+        ensures counts { result.counts.items ≡ [] }
+        ensures txs { result.txs.items ≡ [] }
+    {
+        Batches {
+            counts: Vec::new(alloc),
+            txs: Vec::new(alloc),
+        }
+    }
+
     /// Reads one more batch.
     pub(crate) fn push(&mut self, alloc: Global, payload: &[u8]) -> Result<(), AllocError>
         ensures counts { OnOk result (self.new.counts.items
@@ -43,24 +67,47 @@ impl Batches {
         self.counts.push(Some(slices.len() as u16))?;
         Ok(())
     }
+
+    /// Reads one more frame: a batch, or nothing.
+    pub(crate) fn push_frame(
+        &mut self,
+        alloc: Global,
+        kind: Kind,
+        payload: &[u8],
+    ) -> Result<(), AllocError>
+        ensures counts { OnOk result (self.new.counts.items ≡ self.old.counts.items
+            ++ map count_in (payloads_of (frame_of kind payload.now ∷ []))) }
+        ensures txs { OnOk result (self.new.txs.items ≡ self.old.txs.items
+            ++ feed_transactions (frame_of kind payload.now ∷ [])) }
+    {
+        match kind {
+            Kind::Batch => self.push(alloc, payload),
+            Kind::Committee | Kind::Genesis | Kind::Certificate => Ok(()),
+        }
+    }
 }
 
-// Reads the batches of an order from a place on, until they make a slice or the order ends.
-fn gather(alloc: Global, intake: &Intake, from: usize) -> Result<Batches, AllocError>
+// Reads the batches of an order from a place on, until they have so many transactions or the order ends.
+pub(crate) fn gather(
+    alloc: Global,
+    intake: &Intake,
+    from: usize,
+    least: usize,
+) -> Result<Batches, AllocError>
     requires open { intake.now.failed ≡ false }
-    requires inside { from < length intake.now.ordered.payloads.list }
-    ensures slice { IfOk result (IsSliceOf intake.now.ordered.payloads.list from) }
-    ensures some { IfOk result (λ b. (0 < length b.counts.items)
-        × (from + length b.counts.items ≤ length intake.now.ordered.payloads.list)) }
-    ensures few { IfOk result (λ b. length b.txs.items < 2 ^ 17) }
+    requires within { from ≤ length intake.now.ordered.payloads.list }
+    ensures slice { IfOk result (λ b. IsSliceOf intake.now.ordered.payloads.list from
+        b.counts.items b.txs.items) }
+    ensures some { IfOk result (λ b. from < length intake.now.ordered.payloads.list
+        → 0 < length b.counts.items) }
+    ensures within { IfOk result (λ b.
+        from + length b.counts.items ≤ length intake.now.ordered.payloads.list) }
+    ensures few { IfOk result (λ b. length b.txs.items < least + 2 ^ 16) }
 {
-    let mut batches = Batches {
-        counts: Vec::new(alloc),
-        txs: Vec::new(alloc),
-    };
+    let mut batches = Batches::new(alloc);
     for place in from..intake.batches() {
         batches.push(alloc, intake.payload(place))?;
-        if batches.txs.len() >= SLICE {
+        if batches.txs.len() >= least {
             return Ok(batches);
         }
     }
@@ -68,22 +115,42 @@ fn gather(alloc: Global, intake: &Intake, from: usize) -> Result<Batches, AllocE
 }
 
 impl Ledger {
-    // Executes some more batches.
-    fn run_slice<R: Threads + Wait + Sync, G: Gate + Sync>(
+    // Makes a slice ready: in version Two it gives each account a slot that the transactions declare.
+    fn make_ready(&mut self, alloc: Global, next: Next) -> Result<Ready, AllocError>
+        requires planned { IsPlannedOn self.old.state.version self.old.state.slots next }
+        requires few { length (txs_of next) < 2 ^ 31 }
+        ensures ready { IfOk result (IsReady self.new.state.version self.new.state.slots
+            (counts_of next) (txs_of next)) }
+        ensures same { OnOk result (IsSame self.old self.new) }
+    {
+        match next {
+            Next::Ready(ready) => Ok(ready),
+            Next::Read(batches) => {
+                self.state.prepare(alloc, &batches.txs)?;
+                if SLOTS_END <= self.state.slots().len() {
+                    return Err(AllocError);
+                }
+                batches.planned(alloc, self.state.version(), self.state.ids())
+            }
+        }
+    }
+
+    // Executes a slice.
+    fn run_ready<R: Threads + Wait + Sync, G: Gate + Sync>(
         self,
         rt: &R,
         alloc: Global,
-        batches: Batches,
+        ready: Ready,
         workers: usize,
         gate: &G,
     ) -> Result<Ledger, Fault>
-        requires room { HasRoom self.state.version (length batches.txs.items) self.state.rows }
-        requires few { length batches.txs.items < 2 ^ 31 }
-        requires places { length self.receipts.items + length batches.txs.items < 2 ^ 32 }
+        requires runs { CanRunOn (arc_value ready.plan) self.state }
+        requires places { length self.receipts.items + length (arc_value ready.plan).txs < 2 ^ 32 }
         requires workers { (1 ≤ workers) × (workers ≤ 64) }
-        ensures ran { IfOk result (HasRun batches.counts.items batches.txs.items self) }
+        ensures ran { IfOk result (HasRun ready.counts.items (arc_value ready.plan).txs self) }
+        ensures slots { IfOk result (λ l. l.state.slots ≡ self.state.slots) }
         ensures fault { let first = length self.receipts.items in
-            IfErr result (Leaves first (first + length batches.txs.items)) }
+            IfErr result (Leaves first (first + length (arc_value ready.plan).txs)) }
     {
         let Ledger {
             counts,
@@ -93,9 +160,9 @@ impl Ledger {
         let mut counts = counts;
         let mut receipts = receipts;
         let first = receipts.len() as u32;
-        match execute_all(rt, alloc, state, batches.txs, workers, gate) {
+        match execute(rt, alloc, &ready.plan, state, workers, gate) {
             Ok(outcome) => {
-                counts.extend_from_slice(&batches.counts)?;
+                counts.extend_from_slice(&ready.counts)?;
                 receipts.extend_from_slice(&outcome.receipts)?;
                 let state = outcome.state;
                 Ok(Ledger {
@@ -110,6 +177,98 @@ impl Ledger {
                 Err(Fault::Unfinished { place })
             }
         }
+    }
+
+    // Executes the slice whose turn it is, and reads the one behind it, if there is one.
+    fn run_next<R: Threads + Wait + Sync, G: Gate + Sync>(
+        self,
+        rt: &R,
+        alloc: Global,
+        intake: &Intake,
+        next: Next,
+        least: usize,
+        workers: usize,
+        gate: &G,
+    ) -> Result<(Ledger, Next), Fault>
+        requires open { intake.now.failed ≡ false }
+        requires next { IsNextOf intake.now.ordered.payloads.list (length self.counts.items)
+            self.state.version self.state.slots next }
+        requires room { HasRoom self.state.version (length (txs_of next)) self.state.rows }
+        requires places { length self.receipts.items + length (txs_of next) < 2 ^ 32 }
+        requires least { least < 2 ^ 30 }
+        requires workers { (1 ≤ workers) × (workers ≤ 64) }
+        ensures ran { IfOk result (λ r. HasRun (counts_of next) (txs_of next) self r.0) }
+        ensures next { IfOk result (λ r. IsNextOf intake.now.ordered.payloads.list
+            (length r.0.counts.items) r.0.state.version r.0.state.slots r.1) }
+        ensures fault { let first = length self.receipts.items in
+            IfErr result (Leaves first (first + length (txs_of next))) }
+    {
+        let mut ledger = self;
+        let ready = ledger.make_ready(alloc, next)?;
+        let version = ledger.state.version();
+        let from = ledger.counts.len() + ready.counts.len();
+        if from == intake.batches() {
+            let ledger = ledger.run_ready(rt, alloc, ready, workers, gate)?;
+            return Ok((ledger, Next::Read(Batches::new(alloc))));
+        }
+        let ids = ledger.state.ids().share()?;
+        let (behind, ran) = join(
+            rt,
+            || -> Result<Next, AllocError>
+                requires { (intake.now.failed ≡ false) × (least < 2 ^ 30)
+                    × (from ≤ length intake.now.ordered.payloads.list) }
+                ensures { IfOk result (IsNextOf intake.entry.now.ordered.payloads.list
+                    from version ids) }
+            { read_ahead(alloc, intake, from, least, version, &ids) },
+            || -> Result<Ledger, Fault>
+                requires { IsSync R.row × IsSync G.row × CanRunOn (arc_value ready.plan) ledger.state
+                    × (length ledger.receipts.items + length (arc_value ready.plan).txs < 2 ^ 32)
+                    × (1 ≤ workers) × (workers ≤ 64) }
+                ensures { IfOk result (HasRun ready.counts.items
+                    (arc_value ready.plan).txs ledger)
+                    × IfOk result (λ l. l.state.slots ≡ ledger.state.slots)
+                    × IfErr result (Leaves (length ledger.receipts.items)
+                    (length ledger.receipts.items + length (arc_value ready.plan).txs)) }
+            { ledger.run_ready(rt, alloc, ready, workers, gate) },
+        );
+        let ledger = ran?;
+        let behind = behind?;
+        Ok((ledger, behind))
+    }
+
+    // Executes the batches of an order that follow those executed before, in slices of so many transactions at least.
+    pub(crate) fn execute_by<R: Threads + Wait + Sync, G: Gate + Sync>(
+        self,
+        rt: &R,
+        alloc: Global,
+        intake: &Intake,
+        least: usize,
+        workers: usize,
+        gate: &G,
+    ) -> Result<Ledger, Fault>
+        requires open { intake.now.failed ≡ false }
+        requires within { length self.counts.items ≤ length intake.now.ordered.payloads.list }
+        requires room { let left = transactions_of (left_of intake.now.ordered.payloads.list self) in
+            HasRoom self.state.version (length left) self.state.rows }
+        requires few { let left = transactions_of (left_of intake.now.ordered.payloads.list self) in
+            length self.receipts.items + length left < 2 ^ 32 }
+        requires least { least < 2 ^ 30 }
+        requires workers { (1 ≤ workers) × (workers ≤ 64) }
+        ensures executed { IfOk result
+            (HasExecuted (left_of intake.now.ordered.payloads.list self) self) }
+        ensures fault { let first = length self.receipts.items in
+            let left = transactions_of (left_of intake.now.ordered.payloads.list self) in
+            IfErr result (Leaves first (first + length left)) }
+    {
+        let mut ledger = self;
+        let batches = gather(alloc, intake, ledger.counts.len(), least)?;
+        let mut next = Next::Read(batches);
+        while ledger.counts.len() < intake.batches() {
+            let (after, behind) = ledger.run_next(rt, alloc, intake, next, least, workers, gate)?;
+            ledger = after;
+            next = behind;
+        }
+        Ok(ledger)
     }
 
     /// Executes the batches of an order that follow those executed before, a slice at a time, with this many workers.
@@ -136,11 +295,7 @@ impl Ledger {
             let left = transactions_of (left_of intake.now.ordered.payloads.list self) in
             IfErr result (Leaves first (first + length left)) }
     {
-        let mut ledger = self;
-        while ledger.counts.len() < intake.batches() {
-            let batches = gather(alloc, intake, ledger.counts.len())?;
-            ledger = ledger.run_slice(rt, alloc, batches, workers, gate)?;
-        }
-        Ok(ledger)
+        let least = least_of(self.state.slots().len());
+        self.execute_by(rt, alloc, intake, least, workers, gate)
     }
 }

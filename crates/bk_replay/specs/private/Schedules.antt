@@ -14,7 +14,7 @@ use Rattle.bk_replay.specs.declared.scheduling.ScheduleStop.TheVariants as stop
 use Rattle.bk_replay.specs.Report.{feed_transactions}
 use Rattle.bk_replay.specs.Scheduling.{InExecution, IsOfEvents}
 
--- the stop of a fault: want of memory is that of any other call
+-- the stop of a fault: refused memory is that of any other call
 abbrev pub stop_of : ScheduleFault → ScheduleStop
 stop_of (Refused index why) = stop.Schedule (Refused index why)
 stop_of (Unfinished place) = stop.Schedule (Unfinished place)

@@ -1,12 +1,19 @@
 -- What a ledger is after further batches.
-use Rattle.std.specs.Prelude.{◌≡◌, ℕ, ◌+◌, ◌<◌, ◌≤◌, List, ◌++◌, length, map, drop, Option}
+use Rattle.std.specs.Prelude.{◌≡◌, ℕ, ◌+◌, ◌^◌, ◌<◌, ◌≤◌, List, ◌++◌, length, map, drop, Option}
+use Rattle.std.specs.Arc.{arc_value}
+use Rattle.bk_frames.specs.declared.genesis.Row.{Row}
+use Rattle.bk_frames.specs.declared.version.Version.{Version}
+use Rattle.bk_frames.specs.Feed.{Frame}
 use Rattle.bk_tx.specs.Transaction.{Transaction}
 use Rattle.bk_rules.specs.Fold.{state_after, receipts_of}
 use Rattle.bk_replay.specs.declared.fault.Fault.{Fault}
 use Rattle.bk_replay.specs.declared.fault.Fault.TheVariants as fault
 use Rattle.bk_replay.specs.declared.ledger.Ledger.{Ledger}
+use Rattle.bk_replay.specs.declared.ready.Ready.{Ready}
+use Rattle.bk_replay.specs.declared.ready.Next.{Next}
+use Rattle.bk_replay.specs.declared.ready.Next.TheVariants as next
 use Rattle.bk_replay.specs.declared.slice.Batches.{Batches}
-use Rattle.bk_replay.specs.Report.{count_in, transactions_of}
+use Rattle.bk_replay.specs.Report.{count_in, feed_transactions, payloads_of, transactions_of}
 
 -- the batches of an order that a ledger has not executed
 abbrev pub left_of : List (List ℕ) → Ledger → List (List ℕ)
@@ -23,6 +30,16 @@ pub record HasRun (counts : List (Option ℕ)) (txs : List (Option Transaction))
 abbrev pub HasExecuted : List (List ℕ) → Ledger → Ledger → Type 0
 HasExecuted payloads = HasRun (map count_in payloads) (transactions_of payloads)
 
+-- The batches of frames: those that a ledger has executed, on these accounts, and then those that were read and are not
+-- yet executed.
+pub record HasRead (version : Version) (frames : List Frame) (opening : List Row) (l : Ledger) (b : Batches) : Type 0 where
+  pub done : List (Option Transaction)
+  pub version_is : l.state.version ≡ version
+  pub counts_are : l.counts.items ++ b.counts.items ≡ map count_in (payloads_of frames)
+  pub txs_are : done ++ b.txs.items ≡ feed_transactions frames
+  pub receipts : l.receipts.items ≡ receipts_of version done opening
+  pub rows : l.state.rows ≡ state_after version done opening
+
 -- memory ran out, or a place from `first` on, before `end`, was left undone
 abbrev pub Leaves : ℕ → ℕ → Fault → Type 0
 Leaves first end (fault.Feed found) = ⊥
@@ -32,12 +49,51 @@ Leaves first end (fault.Unfinished place) = (first ≤ place) × (place < end)
 Leaves first end (fault.Write written) = ⊥
 Leaves first end fault.Memory = Unit {0}
 
--- batches of an order, one after another from a place on, were read
-pub record IsSliceOf (payloads : List (List ℕ)) (from : ℕ) (b : Batches) : Type 0 where
+-- batches of an order, one after another from a place on: how many transactions each holds, and all of these
+pub record IsSliceOf (payloads : List (List ℕ)) (from : ℕ) (counts : List (Option ℕ)) (txs : List (Option Transaction)) : Type 0 where
   pub batches : List (List ℕ)
-  pub split : drop from payloads ≡ batches ++ drop (from + length b.counts.items) payloads
-  pub counts_are : b.counts.items ≡ map count_in batches
-  pub txs_are : b.txs.items ≡ transactions_of batches
+  pub split : drop from payloads ≡ batches ++ drop (from + length counts) payloads
+  pub counts_are : counts ≡ map count_in batches
+  pub txs_are : txs ≡ transactions_of batches
+
+-- ---- slices that are planned ahead
+
+-- how many transactions each batch of a slice holds
+abbrev pub counts_of : Next → List (Option ℕ)
+counts_of (next.Read b) = b.counts.items
+counts_of (next.Ready r) = r.counts.items
+
+-- the transactions of a slice
+abbrev pub txs_of : Next → List (Option Transaction)
+txs_of (next.Read b) = b.txs.items
+txs_of (next.Ready r) = (arc_value r.plan).txs
+
+-- if the slice is planned, then by these rules and on these slots
+abbrev pub IsPlannedOn : Version → List ℕ → Next → Type 0
+IsPlannedOn version slots (next.Read b) = Unit {0}
+IsPlannedOn version slots (next.Ready r) = ((arc_value r.plan).version ≡ version) × ((arc_value r.plan).ids ≡ slots)
+
+-- the slice of these transactions is planned, by these rules and on these slots
+pub record IsReady (version : Version) (slots : List ℕ) (counts : List (Option ℕ)) (txs : List (Option Transaction)) (r : Ready) : Type 0 where
+  pub version_is : (arc_value r.plan).version ≡ version
+  pub slots_are : (arc_value r.plan).ids ≡ slots
+  pub counts_are : r.counts.items ≡ counts
+  pub txs_are : (arc_value r.plan).txs ≡ txs
+
+-- the slice of an order that begins at a place; if it is planned, then by these rules and on these slots
+pub record IsNextOf (payloads : List (List ℕ)) (from : ℕ) (version : Version) (slots : List ℕ) (n : Next) : Type 0 where
+  pub slice : IsSliceOf payloads from (counts_of n) (txs_of n)
+  pub planned : IsPlannedOn version slots n
+  pub some : from < length payloads → 0 < length (counts_of n)
+  pub within : from + length (counts_of n) ≤ length payloads
+  pub few : length (txs_of n) < 2 ^ 31
+
+-- a ledger that has executed the same, with the same accounts
+pub record IsSame (before after : Ledger) : Type 0 where
+  pub version : after.state.version ≡ before.state.version
+  pub rows : after.state.rows ≡ before.state.rows
+  pub counts_are : after.counts.items ≡ before.counts.items
+  pub receipts : after.receipts.items ≡ before.receipts.items
 
 -- a ledger on the way from the first batches of an order to all of them
 pub record IsOnTheWay (payloads : List (List ℕ)) (before now : Ledger) : Type 0 where

@@ -1,0 +1,109 @@
+-- Slices that are planned before their turn comes.
+use Rattle.std.proofs.Common.{◌≡◌, ℕ, ◌+◌, ◌^◌, ◌<◌, ◌≤◌, List, [], ◌++◌, length, Option, refl, sym, ap, subst, ◌∙◌, arith}
+use Rattle.std.specs.Arc.{arc_value}
+use Rattle.bk_frames.specs.declared.genesis.Row.{Row}
+use Rattle.bk_frames.specs.declared.version.Version.{Version}
+use Rattle.bk_tx.specs.Transaction.{Transaction}
+use Rattle.bk_rules.specs.Fold.{state_after, receipts_of, HasRoom}
+use Rattle.bk_rules.specs.Ledger as rules
+use Rattle.bk_rules.specs.Rows.{IsLedger}
+use Rattle.bk_conflicts.specs.Plan.{PlanValue}
+use Rattle.bk_conflicts.specs.SceneOf.{CanRunOn}
+use Rattle.bk_steps.specs.declared.outcome.Outcome.{Outcome}
+use Rattle.bk_steps.specs.Schedule.{IsFoldOf}
+use Rattle.bk_replay.specs.declared.fault.Fault.{Fault}
+use Rattle.bk_replay.specs.declared.ledger.Ledger.{Ledger}
+use Rattle.bk_replay.specs.declared.ready.Ready.{Ready}
+use Rattle.bk_replay.specs.declared.ready.Next.{Next}
+use Rattle.bk_replay.specs.declared.ready.Next.TheVariants as next
+use Rattle.bk_replay.specs.declared.slice.Batches.{Batches}
+use Rattle.bk_replay.specs.private.Slices.{HasRun, IsNextOf, IsPlannedOn, IsReady, IsSame, IsSliceOf, Leaves, counts_of, txs_of}
+use Rattle.bk_replay.proofs.SliceLemmas.{slice_none}
+
+-- ---- reading
+
+-- a slice that is read
+pub read_next : (payloads : List (List ℕ)) (from : ℕ) (version : Version) (slots : List ℕ) (b : Batches) → IsSliceOf payloads from b.counts.items b.txs.items → (from < length payloads → 0 < length b.counts.items)
+    → from + length b.counts.items ≤ length payloads → length b.txs.items < 2 ^ 31 → IsNextOf payloads from version slots (next.Read b)
+read_next payloads from version slots b slice some within few = record { slice = slice; planned = tt; some = some; within = within; few = few }
+
+-- a slice that is read and planned
+pub ready_next : (payloads : List (List ℕ)) (from : ℕ) (version : Version) (slots : List ℕ) (b : Batches) (r : Ready) → IsNextOf payloads from version slots (next.Read b) → IsReady version slots b.counts.items b.txs.items r
+    → IsNextOf payloads from version slots (next.Ready r)
+ready_next payloads from version slots b r read ready =
+    let counts = sym ready.counts_are in
+    let txs = sym ready.txs_are in
+    record {
+      slice = subst (λ (s : List (Option ℕ) × List (Option Transaction)). IsSliceOf payloads from s.0 s.1) (λ i. (counts i, txs i)) read.slice;
+      planned = (ready.version_is, ready.slots_are);
+      some = λ low. subst (λ (s : List (Option ℕ)). 0 < length s) counts (read.some low);
+      within = subst (λ (s : List (Option ℕ)). from + length s ≤ length payloads) counts read.within;
+      few = subst (λ (s : List (Option Transaction)). length s < 2 ^ 31) txs read.few;
+    }
+
+-- a slice that was planned is ready as it is
+pub ready_again : (version : Version) (slots : List ℕ) (n : Next) (r : Ready) → n ≡ next.Ready r → IsPlannedOn version slots n → IsReady version slots (counts_of n) (txs_of n) r
+ready_again version slots n r is planned =
+    subst (λ (m : Next). IsPlannedOn version slots m → IsReady version slots (counts_of m) (txs_of m) r) (sym is) (λ p. record { version_is = p.0; slots_are = p.1; counts_are = refl; txs_are = refl }) planned
+
+-- nothing is left
+pub none_next : (payloads : List (List ℕ)) (l : Ledger) (b : Batches) → length l.counts.items ≡ length payloads → b.counts.items ≡ [] → b.txs.items ≡ [] → IsNextOf payloads (length l.counts.items) l.state.version l.state.slots (next.Read b)
+none_next payloads l b all counts txs = record {
+  slice = slice_none payloads (length l.counts.items) b counts txs;
+  planned = tt;
+  some = λ low. absurd (omega (arith, all, low));
+  within = omega (arith, all, ap length counts);
+  few = omega (arith, ap length txs);
+}
+
+-- the slice behind one that was executed
+pub behind_next : (payloads : List (List ℕ)) (from : ℕ) (version : Version) (slots : List ℕ) (l : Ledger) (n : Next) → from ≡ length l.counts.items → l.state.version ≡ version → l.state.slots ≡ slots
+    → IsNextOf payloads from version slots n → IsNextOf payloads (length l.counts.items) l.state.version l.state.slots n
+behind_next payloads from version slots l n at version_is slots_are behind =
+    subst (λ (s : ℕ × Version × List ℕ). IsNextOf payloads s.0 s.1 s.2 n) (λ i. (at i, sym version_is i, sym slots_are i)) behind
+
+-- ---- executing
+
+-- a plan on the slots of a ledger can run on it
+pub ready_runs : (l : rules.Ledger) (counts : List (Option ℕ)) (txs : List (Option Transaction)) (r : Ready) → IsReady l.version l.slots counts txs r → IsLedger l.rows
+    → rules.rows_shown l.version l.slots (rules.slot_numbers l) ≡ l.rows → HasRoom l.version (length txs) l.rows → CanRunOn (arc_value r.plan) l
+ready_runs l counts txs r ready is_ledger shown room = record {
+  same_version = sym ready.version_is;
+  same_slots = sym ready.slots_are;
+  is_ledger = is_ledger;
+  has_room = subst (λ (y : Version × ℕ). HasRoom y.0 y.1 l.rows) (λ j. (sym ready.version_is j, ap length (sym ready.txs_are) j)) room;
+  slots_show = (λ j. rules.rows_shown (ready.version_is j) (ready.slots_are j) (rules.slot_numbers l)) ∙ shown;
+}
+
+-- there is room on a ledger that is the same
+pub same_room : (n : ℕ) (a b : Ledger) → IsSame a b → HasRoom a.state.version n a.state.rows → HasRoom b.state.version n b.state.rows
+same_room n a b same room = subst (λ (y : Version × List Row). HasRoom y.0 n y.1) (λ j. (sym same.version j, sym same.rows j)) room
+
+-- a ledger after what its plan gave
+pub fold_ran : (counts : List (Option ℕ)) (plan : PlanValue) (a b : Ledger) (o : Outcome) → IsFoldOf plan a.state o → b.counts.items ≡ a.counts.items ++ counts → b.receipts.items ≡ a.receipts.items ++ o.receipts.items → b.state ≡ o.state
+    → HasRun counts plan.txs a b
+fold_ran counts plan a b o fold counted received state = record {
+  version = ap (λ (l : rules.Ledger). l.version) (state ∙ fold.state);
+  counts_are = counted;
+  receipts = received ∙ ap (λ rs. a.receipts.items ++ rs) fold.receipts;
+  rows = ap (λ (l : rules.Ledger). l.rows) (state ∙ fold.state);
+}
+
+-- the same, seen from the ledger before its slots were made
+same_ran : (counts : List (Option ℕ)) (txs : List (Option Transaction)) (a b c : Ledger) → IsSame a b → HasRun counts txs b c → HasRun counts txs a c
+same_ran counts txs a b c same ran = record {
+  version = ran.version ∙ same.version;
+  counts_are = ran.counts_are ∙ ap (λ (xs : List (Option ℕ)). xs ++ counts) same.counts_are;
+  receipts = ran.receipts ∙ (λ i. same.receipts i ++ receipts_of (same.version i) txs (same.rows i));
+  rows = ran.rows ∙ (λ i. state_after (same.version i) txs (same.rows i));
+}
+
+pub ready_ran : (version : Version) (slots : List ℕ) (counts : List (Option ℕ)) (txs : List (Option Transaction)) (r : Ready) (a b c : Ledger) → IsReady version slots counts txs r → IsSame a b → HasRun r.counts.items (arc_value r.plan).txs b c
+    → HasRun counts txs a c
+ready_ran version slots counts txs r a b c ready same ran =
+    same_ran counts txs a b c same (subst (λ (s : List (Option ℕ) × List (Option Transaction)). HasRun s.0 s.1 b c) (λ i. (ready.counts_are i, ready.txs_are i)) ran)
+
+pub ready_leaves : (version : Version) (slots : List ℕ) (counts : List (Option ℕ)) (txs : List (Option Transaction)) (r : Ready) (a b : Ledger) (e : Fault) → IsReady version slots counts txs r → IsSame a b
+    → Leaves (length b.receipts.items) (length b.receipts.items + length (arc_value r.plan).txs) e → Leaves (length a.receipts.items) (length a.receipts.items + length txs) e
+ready_leaves version slots counts txs r a b e ready same left =
+    subst (λ (s : ℕ × ℕ). Leaves s.0 (s.0 + s.1) e) (λ i. (length (same.receipts i), length (ready.txs_are i))) left
