@@ -1,4 +1,5 @@
 mod LineLemmas
+mod ScheduleLemmas
 mod StatusLemmas
 mod VerdictLemmas
 mod WordLemmas

@@ -18,3 +18,7 @@ feed_line o n m = flat o (codes "feed fault") (spaced n) (codes " at") (spaced m
 pub script_line : (o : List ℕ) (n m : ℕ)
     → (((o ++ codes "script fault") ++ spaced n) ++ codes " at line") ++ spaced m ≡ o ++ (codes "script fault" ++ spaced n ++ codes " at line" ++ spaced m)
 script_line o n m = flat o (codes "script fault") (spaced n) (codes " at line") (spaced m)
+
+pub event_line : (o : List ℕ) (n m : ℕ)
+    → (((o ++ codes "event") ++ spaced n) ++ codes " refused") ++ spaced m ≡ o ++ (codes "event" ++ spaced n ++ codes " refused" ++ spaced m)
+event_line o n m = flat o (codes "event") (spaced n) (codes " refused") (spaced m)

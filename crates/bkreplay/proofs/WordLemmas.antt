@@ -1,5 +1,5 @@
 -- What the words of a command line name.
-use Rattle.std.proofs.Common.{◌≡◌, ◌⊎◌, ◌∙◌, inl, inr, sym, ap, ap₂, refl, List, [], ◌∷◌, Option, Some, None, Bool, true, false, is_some, map, codes, option_map, cond, subst}
+use Rattle.std.proofs.Common.{ℕ, ◌≡◌, ◌⊎◌, ◌∙◌, inl, inr, sym, ap, ap₂, refl, List, [], ◌∷◌, Option, Some, None, Bool, true, false, is_some, map, codes, option_map, cond, subst}
 use Rattle.std.specs.Prelude.{Box, unwrap_or, find}
 use Rattle.std.specs.Str.{IsUtf8, bytes_eq}
 use Rattle.std.proofs.lemmas.Slice.Eq.{bytes_eq-Decides}
@@ -11,7 +11,7 @@ use Rattle.clap.specs.Words.{App, HasMatchesOf, Row, Text, subcommand_of, subcom
 use Rattle.clap.specs.declared.parser.matches.ArgMatches.{ArgMatches}
 use Rattle.clap.specs.declared.parser.matches.SubCommand.{SubCommand}
 use Rattle.clap.specs.declared.parser.matches.ArgMatches.TheViews.{out-ArgMatches, out-SubCommand}
-use Rattle.bkreplay.specs.CommandLine.{command_line, all_words, IsOneOf, IsJobOf, IsJobAt}
+use Rattle.bkreplay.specs.CommandLine.{command_line, all_words, AreNamedBy, IsOneOf, IsJobOf, IsJobAt}
 use Rattle.bkreplay.specs.declared.job.Job.{Job}
 
 -- ---- a parse and its rows
@@ -45,6 +45,10 @@ pub job_at_found : (found : Option (Text × List Row)) (name word : Text) (rows 
 job_at_found found name word rows j is same h =
     let is_word : found ≡ Some (word, rows) = is ∙ ap (λ (t : Text). Some (t, rows)) same in
     subst (λ (f : Option (Text × List Row)). IsJobOf f j) (sym is_word) h
+
+-- the usual number of workers by another name
+pub named_by_usual : (n usual : ℕ) (t : Option Text) (count : ℕ) → n ≡ usual → AreNamedBy n t count → AreNamedBy usual t count
+named_by_usual n usual t count e h = subst (λ (k : ℕ). AreNamedBy k t count) e h
 
 -- the command line is one of which the matches are defined
 pub named_by_words : (a : App) (words : List Text) (m : ArgMatches) → a ≡ command_line → HasMatchesOf a words m
@@ -102,4 +106,5 @@ are_text word (inr (inr (inr (inr (inl e))))) = subst IsUtf8 (sym e) (codes "rec
 are_text word (inr (inr (inr (inr (inr (inl e)))))) = subst IsUtf8 (sym e) (codes "prove", (refl, refl))
 are_text word (inr (inr (inr (inr (inr (inr (inl e))))))) = subst IsUtf8 (sym e) (codes "check-proof", (refl, refl))
 are_text word (inr (inr (inr (inr (inr (inr (inr (inl e)))))))) = subst IsUtf8 (sym e) (codes "apply", (refl, refl))
-are_text word (inr (inr (inr (inr (inr (inr (inr (inr e)))))))) = absurd e
+are_text word (inr (inr (inr (inr (inr (inr (inr (inr (inl e))))))))) = subst IsUtf8 (sym e) (codes "schedule", (refl, refl))
+are_text word (inr (inr (inr (inr (inr (inr (inr (inr (inr e))))))))) = absurd e

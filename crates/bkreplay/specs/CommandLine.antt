@@ -26,9 +26,21 @@ workers_rule = record (new_rule (codes "workers")) {
   parser = Some (Signed (pos 1) (pos 64));
 }
 
--- the argument ROOT, any text
+-- an argument that is required, any text
+abbrev pub required_rule : Text → Rule
+required_rule name = record (new_rule name) { action = Some Set; required = true }
+
+-- the argument ROOT
 abbrev pub root_rule : Rule
-root_rule = record (new_rule (codes "ROOT")) { action = Some Set; required = true }
+root_rule = required_rule (codes "ROOT")
+
+-- the argument FEED
+abbrev pub feed_rule : Rule
+feed_rule = required_rule (codes "FEED")
+
+-- the argument EVENTS
+abbrev pub events_rule : Rule
+events_rule = required_rule (codes "EVENTS")
 
 -- the argument ID, a number below 2^64
 abbrev pub id_rule : Rule
@@ -56,6 +68,12 @@ file_line name = with_rule (new_app name) file_rule
 abbrev pub value_line : Text → Rule → App
 value_line name rule = with_rule (with_rule (new_app name) rule) file_rule
 
+-- the command `schedule [--workers W] FEED EVENTS`
+abbrev pub schedule_line : App
+schedule_line =
+    let named = new_app (codes "schedule") in
+    with_rule (with_rule (with_rule named workers_rule) feed_rule) events_rule
+
 -- the word of a command
 abbrev pub word_of : Verb → Text
 word_of verb.Run = codes "run"
@@ -66,6 +84,7 @@ word_of verb.Receipt = codes "receipt"
 word_of verb.Prove = codes "prove"
 word_of verb.CheckProof = codes "check-proof"
 word_of verb.Apply = codes "apply"
+word_of verb.Schedule = codes "schedule"
 
 -- a command with its arguments
 abbrev pub line_of : Verb → App
@@ -77,6 +96,7 @@ line_of verb.Receipt = value_line (codes "receipt") place_rule
 line_of verb.Prove = value_line (codes "prove") id_rule
 line_of verb.CheckProof = value_line (codes "check-proof") root_rule
 line_of verb.Apply = file_line (codes "apply")
+line_of verb.Schedule = schedule_line
 
 -- the program's name, with a version
 abbrev pub program : App
@@ -98,9 +118,13 @@ asking_line =
     with_command (with_command (with_command (with_command (with_command (with_command program
     verb.Run) verb.Make) verb.Order) verb.Account) verb.Receipt) verb.Prove
 
+-- the program with all commands that read one file
+abbrev pub single_line : App
+single_line = with_command (with_command asking_line verb.CheckProof) verb.Apply
+
 -- the whole command line: `bkreplay`, and one of the commands
 abbrev pub command_line : App
-command_line = with_command (with_command asking_line verb.CheckProof) verb.Apply
+command_line = with_command single_line verb.Schedule
 
 -- ---- the job
 
@@ -108,10 +132,14 @@ command_line = with_command (with_command asking_line verb.CheckProof) verb.Appl
 abbrev pub IsFileIn : List Row → Option Text → Type 0
 IsFileIn rows file = first_of (codes "FILE") rows ≡ file
 
--- so many workers are named by the value of `--workers`: one where there is none
-abbrev pub AreNamedBy : Option Text → ℕ → Type 0
-AreNamedBy None count = count ≡ 1
-AreNamedBy (Some text) count =
+-- the text is the value of an argument that is required
+abbrev pub IsTextIn : List Row → Text → Text → Type 0
+IsTextIn rows name text = text ≡ unwrap_or (first_of name rows) []
+
+-- so many workers are named by the value of `--workers`: this number where there is none
+abbrev pub AreNamedBy : ℕ → Option Text → ℕ → Type 0
+AreNamedBy usual None count = count ≡ usual
+AreNamedBy usual (Some text) count =
     IsNumeral 10 (without_leading_plus text) → 1 ≤ digits_value 10 (without_leading_plus text)
     → digits_value 10 (without_leading_plus text) ≤ 64
     → count ≡ digits_value 10 (without_leading_plus text)
@@ -136,17 +164,21 @@ IsQueryAt word rows (query.Proof id) =
 -- the job is that of a command, with the values of its arguments
 abbrev pub IsJobAt : Text → List Row → Job → Type 0
 IsJobAt word rows (job.Run workers file) =
-    (word ≡ word_of verb.Run) × AreNamedBy (one_of (codes "workers") rows) workers
+    (word ≡ word_of verb.Run) × AreNamedBy 1 (one_of (codes "workers") rows) workers
     × IsFileIn rows (option_map string_bytes file)
 IsJobAt word rows (job.Make file) =
     (word ≡ word_of verb.Make) × IsFileIn rows (option_map string_bytes file)
 IsJobAt word rows (job.CheckProof root file) =
-    (word ≡ word_of verb.CheckProof) × (string_bytes root ≡ unwrap_or (first_of (codes "ROOT") rows) [])
+    (word ≡ word_of verb.CheckProof) × IsTextIn rows (codes "ROOT") (string_bytes root)
     × IsFileIn rows (option_map string_bytes file)
 IsJobAt word rows (job.Ask asked file) =
     IsQueryAt word rows asked × IsFileIn rows (option_map string_bytes file)
 IsJobAt word rows (job.Apply file) =
     (word ≡ word_of verb.Apply) × IsFileIn rows (option_map string_bytes file)
+IsJobAt word rows (job.Schedule workers feed events) =
+    (word ≡ word_of verb.Schedule) × AreNamedBy 2 (one_of (codes "workers") rows) workers
+    × IsTextIn rows (codes "FEED") (string_bytes feed)
+    × IsTextIn rows (codes "EVENTS") (string_bytes events)
 
 -- the job is that of the command that was found in the words
 abbrev pub IsJobOf : Option (Text × List Row) → Job → Type 0
@@ -164,4 +196,4 @@ IsOneOf (x ∷ xs) word = (word ≡ x) ⊎ IsOneOf xs word
 abbrev pub all_words : List Text
 all_words =
     word_of verb.Run ∷ word_of verb.Make ∷ word_of verb.Order ∷ word_of verb.Account ∷ word_of verb.Receipt
-    ∷ word_of verb.Prove ∷ word_of verb.CheckProof ∷ word_of verb.Apply ∷ []
+    ∷ word_of verb.Prove ∷ word_of verb.CheckProof ∷ word_of verb.Apply ∷ word_of verb.Schedule ∷ []

@@ -8,6 +8,7 @@ use Rattle.bk_replay.specs.declared.query.Query.{Query}
 use Rattle.bk_replay.specs.declared.query.Query.TheVariants as query
 use Rattle.bk_replay.specs.declared.status.Status.{Status}
 use Rattle.bk_replay.specs.declared.status.Status.TheVariants as status
+use Rattle.bk_script.specs.declared.events.EventsFault.TheVariants as events
 use Rattle.bk_script.specs.declared.fault.ScriptFault.{ScriptFault}
 use Rattle.bk_script.specs.declared.fault.ScriptFault.TheVariants as text
 use Rattle.bkreplay.specs.declared.exit.Exit.{Exit}
@@ -16,6 +17,8 @@ use Rattle.bkreplay.specs.declared.job.Job.{Job}
 use Rattle.bkreplay.specs.declared.job.Job.TheVariants as job
 use Rattle.bkreplay.specs.declared.job_fault.JobFault.{JobFault}
 use Rattle.bkreplay.specs.declared.job_fault.JobFault.TheVariants as fault
+use Rattle.bkreplay.specs.declared.list_fault.ListFault.{ListFault}
+use Rattle.bkreplay.specs.declared.list_fault.ListFault.TheVariants as list
 
 -- the exit status as a number
 abbrev pub exit_number : Exit → ℕ
@@ -35,6 +38,7 @@ gives_verdict (job.Make file) = false
 gives_verdict (job.CheckProof root file) = true
 gives_verdict (job.Ask asked file) = false
 gives_verdict (job.Apply file) = false
+gives_verdict (job.Schedule workers feed events) = false
 
 -- what a query asks for may be absent; an order never is
 abbrev pub may_be_absent : Query → Bool
@@ -50,14 +54,16 @@ may_say_no (job.Make file) = false
 may_say_no (job.CheckProof root file) = true
 may_say_no (job.Ask asked file) = may_be_absent asked
 may_say_no (job.Apply file) = false
+may_say_no (job.Schedule workers feed events) = false
 
--- a job that refuses bytes: those that are no feed, or no script
+-- a job that refuses bytes: those that are no feed, no script, or no events of a whole run
 abbrev pub refuses : Job → Bool
 refuses (job.Run workers file) = true
 refuses (job.Make file) = true
 refuses (job.CheckProof root file) = false
 refuses (job.Ask asked file) = true
 refuses (job.Apply file) = true
+refuses (job.Schedule workers feed events) = true
 
 -- a job that finds the order of a feed, which may be stopped
 abbrev pub finds_order : Job → Bool
@@ -66,6 +72,7 @@ finds_order (job.Make file) = false
 finds_order (job.CheckProof root file) = false
 finds_order (job.Ask asked file) = true
 finds_order (job.Apply file) = false
+finds_order (job.Schedule workers feed events) = false
 
 -- a job that says whether a batch is missing
 abbrev pub reports_missing : Job → Bool
@@ -74,6 +81,16 @@ reports_missing (job.Make file) = false
 reports_missing (job.CheckProof root file) = false
 reports_missing (job.Ask asked file) = false
 reports_missing (job.Apply file) = false
+reports_missing (job.Schedule workers feed events) = false
+
+-- a job that reads its second source
+abbrev pub reads_second : Job → Bool
+reads_second (job.Run workers file) = false
+reads_second (job.Make file) = false
+reads_second (job.CheckProof root file) = false
+reads_second (job.Ask asked file) = false
+reads_second (job.Apply file) = false
+reads_second (job.Schedule workers feed events) = true
 
 -- how a job may end
 abbrev pub may_end : Job → Exit → Bool
@@ -152,6 +169,14 @@ exit_after_text text.Read = exit.Failed
 exit_after_text (text.Write written) = exit.Failed
 exit_after_text text.Memory = exit.Failed
 
+-- after a list of events that was not read, or that is no whole run
+abbrev pub exit_after_list : ListFault → Exit
+exit_after_list (list.Unread (events.Line line)) = exit.WrongInput
+exit_after_list (list.Unread events.Read) = exit.Failed
+exit_after_list (list.Unread events.Memory) = exit.Failed
+exit_after_list (list.Refused line why) = exit.WrongInput
+exit_after_list (list.Unfinished place) = exit.Failed
+
 -- after a query whose object is absent
 abbrev pub absence : Query → Result Exit JobFault
 absence query.Order = Ok exit.Whole
@@ -163,5 +188,6 @@ absence (query.Proof id) = Err (fault.AbsentAccount id)
 abbrev pub exit_after : JobFault → Exit
 exit_after (fault.Replay e) = exit_after_replay e
 exit_after (fault.Text e) = exit_after_text e
+exit_after (fault.Events e) = exit_after_list e
 exit_after (fault.AbsentAccount id) = exit.No
 exit_after (fault.AbsentPlace place) = exit.No

@@ -6,11 +6,16 @@ use Rattle.bk_frames.specs.Faults.{fault_text}
 use Rattle.bk_replay.specs.declared.fault.Fault.{Fault}
 use Rattle.bk_replay.specs.declared.fault.Fault.TheVariants as replay
 use Rattle.bk_replay.specs.Lines.{spaced}
+use Rattle.bk_steps.specs.Refusals.{code_of}
 use Rattle.bk_script.specs.Codes.{code_number}
+use Rattle.bk_script.specs.declared.events.EventsFault.{EventsFault}
+use Rattle.bk_script.specs.declared.events.EventsFault.TheVariants as events
 use Rattle.bk_script.specs.declared.fault.ScriptFault.{ScriptFault}
 use Rattle.bk_script.specs.declared.fault.ScriptFault.TheVariants as text
 use Rattle.bkreplay.specs.declared.job_fault.JobFault.{JobFault}
 use Rattle.bkreplay.specs.declared.job_fault.JobFault.TheVariants as fault
+use Rattle.bkreplay.specs.declared.list_fault.ListFault.{ListFault}
+use Rattle.bkreplay.specs.declared.list_fault.ListFault.TheVariants as list
 
 -- a space and the digits of a digest
 abbrev pub digits_of : List ℕ → List ℕ
@@ -37,10 +42,24 @@ script_text text.Read = codes "read failed"
 script_text (text.Write written) = codes "write failed"
 script_text text.Memory = codes "memory"
 
+-- what reports a list of events that was not read
+abbrev pub unread_text : EventsFault → List ℕ
+unread_text (events.Line line) = codes "events fault at line" ++ spaced line
+unread_text events.Read = codes "read failed"
+unread_text events.Memory = codes "memory"
+
+-- what reports a list of events that was not read, or that is no whole run
+abbrev pub list_text : ListFault → List ℕ
+list_text (list.Unread e) = unread_text e
+list_text (list.Refused line why) =
+    codes "event" ++ spaced line ++ codes " refused" ++ spaced (code_of why)
+list_text (list.Unfinished place) = codes "unfinished" ++ spaced place
+
 -- what reports a fault
 abbrev pub reported : JobFault → List ℕ
 reported (fault.Replay e) = replay_text e
 reported (fault.Text e) = script_text e
+reported (fault.Events e) = list_text e
 reported (fault.AbsentAccount id) = codes "absent account" ++ spaced id
 reported (fault.AbsentPlace place) = codes "absent place" ++ spaced place
 

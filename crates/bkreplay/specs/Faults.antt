@@ -1,5 +1,5 @@
 -- What a job leaves: its answer, or the fault that kept it from one.
-use Rattle.std.specs.Prelude.{◌≡◌, ◌↔◌, ℕ, ◌<◌, Bool, List, codes, if◌then◌else◌, length, take, string_bytes, IsTrue, Ok, Err}
+use Rattle.std.specs.Prelude.{◌≡◌, ◌↔◌, ◌⊎◌, ℕ, ◌<◌, Bool, List, IfSome, codes, if◌then◌else◌, length, take, string_bytes, IsTrue, Ok, Err}
 use Rattle.bk_frames.specs.Device.{Device, Works, Fails, Receives, IfKnown}
 use Rattle.bk_frames.specs.Feed.{HasFault}
 use Rattle.bk_frames.specs.declared.fault.FeedFault.{FeedFault}
@@ -19,12 +19,15 @@ use Rattle.bk_script.specs.declared.fault.ScriptFault.{ScriptFault}
 use Rattle.bk_script.specs.declared.fault.ScriptFault.TheVariants as text
 use Rattle.bkreplay.specs.Exits.{absence, exit_at, exit_by, exit_after}
 use Rattle.bkreplay.specs.FaultLines.{Reports, line_of}
+use Rattle.bkreplay.specs.Schedules.{AreNoEvents, AreRefused, IsWholeRun, ListFailsBy, ScheduleFailsBy}
+use Rattle.bkreplay.specs.Sources.{Inputs, JobDevices, first_devices}
 use Rattle.bkreplay.specs.declared.exit.Exit.{Exit}
 use Rattle.bkreplay.specs.declared.exit.Exit.TheVariants as exit
 use Rattle.bkreplay.specs.declared.job.Job.{Job}
 use Rattle.bkreplay.specs.declared.job.Job.TheVariants as job
 use Rattle.bkreplay.specs.declared.job_fault.JobFault.{JobFault}
 use Rattle.bkreplay.specs.declared.job_fault.JobFault.TheVariants as fault
+use Rattle.bkreplay.specs.declared.list_fault.ListFault.{ListFault}
 
 -- ---- the answer of a job
 
@@ -61,14 +64,24 @@ VerdictIsOut root end old new bytes =
 abbrev pub ReplyIsOut : Query → Exit → Device → Device → List ℕ → Type 0
 ReplyIsOut asked end old new bytes = (end ≡ exit.Whole) × IsReplied asked reply.Found bytes old new
 
--- the output got the whole answer of a job over the bytes, and the exit is the answer's
-abbrev pub AnswerIsOut : Job → Exit → Device → Device → List ℕ → Type 0
-AnswerIsOut (job.Run workers file) end old new bytes = RunIsOut end old new bytes
-AnswerIsOut (job.Make file) end old new bytes = FeedIsOut end old new bytes
-AnswerIsOut (job.CheckProof root file) end old new bytes =
-    VerdictIsOut (string_bytes root) end old new bytes
-AnswerIsOut (job.Ask asked file) end old new bytes = ReplyIsOut asked end old new bytes
-AnswerIsOut (job.Apply file) end old new bytes = ReportIsOut end old new bytes
+-- the output got the whole apply report of the first source, and the exit is the report's; and the second source lists
+-- events that are a whole run of its transactions
+abbrev pub ScheduleIsOut : ℕ → Exit → Inputs → Device → Device → Type 0
+ScheduleIsOut workers end given old new =
+    IfSome given.first (ReportIsOut end old new)
+    × IfSome given.second (λ text. IfSome given.first (λ bytes. IsWholeRun workers bytes text))
+
+-- the output got the whole answer of a job over what its sources give, and the exit is the answer's
+abbrev pub AnswerIsOut : Job → Exit → Inputs → Device → Device → Type 0
+AnswerIsOut (job.Run workers file) end given old new = IfSome given.first (RunIsOut end old new)
+AnswerIsOut (job.Make file) end given old new = IfSome given.first (FeedIsOut end old new)
+AnswerIsOut (job.CheckProof root file) end given old new =
+    IfSome given.first (VerdictIsOut (string_bytes root) end old new)
+AnswerIsOut (job.Ask asked file) end given old new =
+    IfSome given.first (ReplyIsOut asked end old new)
+AnswerIsOut (job.Apply file) end given old new = IfSome given.first (ReportIsOut end old new)
+AnswerIsOut (job.Schedule workers feed events) end given old new =
+    ScheduleIsOut workers end given old new
 
 -- ---- why a job has no answer
 
@@ -94,21 +107,36 @@ CheckFailsBy root text.Memory old new =
     Works old.source new.source × IsUntouched old.sink new.sink
 
 -- why a feed was not replayed for a job
-abbrev pub ReplayFailsBy : Job → Fault → Devices → Devices → Type 0
-ReplayFailsBy (job.Run workers file) e old new = RunFailsBy e old new
+abbrev pub ReplayFailsBy : Job → Fault → JobDevices → JobDevices → Type 0
+ReplayFailsBy (job.Run workers file) e old new =
+    RunFailsBy e (first_devices old) (first_devices new)
 ReplayFailsBy (job.Make file) e old new = ⊥
 ReplayFailsBy (job.CheckProof root file) e old new = ⊥
-ReplayFailsBy (job.Ask asked file) e old new = AskFailsBy asked e old new
-ReplayFailsBy (job.Apply file) e old new = FailsBy e old new
+ReplayFailsBy (job.Ask asked file) e old new =
+    AskFailsBy asked e (first_devices old) (first_devices new)
+ReplayFailsBy (job.Apply file) e old new = FailsBy e (first_devices old) (first_devices new)
+ReplayFailsBy (job.Schedule workers feed events) e old new =
+    ScheduleFailsBy workers (fault.Replay e) old new
 
 -- why a text was not answered for a job
-abbrev pub TextFailsBy : Job → ScriptFault → Devices → Devices → Type 0
+abbrev pub TextFailsBy : Job → ScriptFault → JobDevices → JobDevices → Type 0
 TextFailsBy (job.Run workers file) e old new = ⊥
 TextFailsBy (job.Make file) e old new =
-    script.FailsBy e (script_devices old) (script_devices new)
-TextFailsBy (job.CheckProof root file) e old new = CheckFailsBy (string_bytes root) e old new
+    script.FailsBy e (script_devices (first_devices old)) (script_devices (first_devices new))
+TextFailsBy (job.CheckProof root file) e old new =
+    CheckFailsBy (string_bytes root) e (first_devices old) (first_devices new)
 TextFailsBy (job.Ask asked file) e old new = ⊥
 TextFailsBy (job.Apply file) e old new = ⊥
+TextFailsBy (job.Schedule workers feed events) e old new = ⊥
+
+-- why a list of events gives no report for a job
+abbrev pub EventsFailBy : Job → ListFault → JobDevices → JobDevices → Type 0
+EventsFailBy (job.Run workers file) e old new = ⊥
+EventsFailBy (job.Make file) e old new = ⊥
+EventsFailBy (job.CheckProof root file) e old new = ⊥
+EventsFailBy (job.Ask asked file) e old new = ⊥
+EventsFailBy (job.Apply file) e old new = ⊥
+EventsFailBy (job.Schedule workers feed events) e old new = ListFailsBy workers e old new
 
 -- what a query asks for is absent, and no call failed
 abbrev pub IsAbsentBy : Query → JobFault → Devices → Devices → Type 0
@@ -117,29 +145,33 @@ IsAbsentBy asked e old new =
     × IfKnown old.source (λ bytes. IsReplied asked reply.Absent bytes old.sink new.sink)
 
 -- what a job asks for is absent
-abbrev pub IsAbsentFor : Job → JobFault → Devices → Devices → Type 0
+abbrev pub IsAbsentFor : Job → JobFault → JobDevices → JobDevices → Type 0
 IsAbsentFor (job.Run workers file) e old new = ⊥
 IsAbsentFor (job.Make file) e old new = ⊥
 IsAbsentFor (job.CheckProof root file) e old new = ⊥
-IsAbsentFor (job.Ask asked file) e old new = IsAbsentBy asked e old new
+IsAbsentFor (job.Ask asked file) e old new =
+    IsAbsentBy asked e (first_devices old) (first_devices new)
 IsAbsentFor (job.Apply file) e old new = ⊥
+IsAbsentFor (job.Schedule workers feed events) e old new = ⊥
 
 -- why a query has no reply
 abbrev pub QueryFailsBy : Query → JobFault → Devices → Devices → Type 0
 QueryFailsBy asked (fault.Replay e) old new = AskFailsBy asked e old new
 QueryFailsBy asked (fault.Text e) old new = ⊥
+QueryFailsBy asked (fault.Events e) old new = ⊥
 QueryFailsBy asked (fault.AbsentAccount id) old new = IsAbsentBy asked (fault.AbsentAccount id) old new
 QueryFailsBy asked (fault.AbsentPlace place) old new = IsAbsentBy asked (fault.AbsentPlace place) old new
 
 -- why a job has no answer
-abbrev pub JobFailsBy : Job → JobFault → Devices → Devices → Type 0
+abbrev pub JobFailsBy : Job → JobFault → JobDevices → JobDevices → Type 0
 JobFailsBy j (fault.Replay e) old new = ReplayFailsBy j e old new
 JobFailsBy j (fault.Text e) old new = TextFailsBy j e old new
+JobFailsBy j (fault.Events e) old new = EventsFailBy j e old new
 JobFailsBy j (fault.AbsentAccount id) old new = IsAbsentFor j (fault.AbsentAccount id) old new
 JobFailsBy j (fault.AbsentPlace place) old new = IsAbsentFor j (fault.AbsentPlace place) old new
 
 -- a job ended by this fault: its exit and its line are the fault's, and the devices are as it says
-pub record EndsBy (j : Job) (e : JobFault) (end : Exit) (old new : Devices) (err err' : Device)
+pub record EndsBy (j : Job) (e : JobFault) (end : Exit) (old new : JobDevices) (err err' : Device)
     : Type 0 where
   pub exit_is : end ≡ exit_after e
   pub fault : JobFailsBy j e old new
@@ -155,23 +187,31 @@ AreBroken bytes = (found : FeedFault) × HasFault bytes found
 abbrev pub MakeNoFeed : List ℕ → Type 0
 MakeNoFeed bytes = (found : LineFault) × (feed_of bytes ≡ Err found)
 
--- the bytes are wrong for a job
-abbrev pub AreWrong : Job → List ℕ → Type 0
-AreWrong (job.Run workers file) bytes = AreBroken bytes
-AreWrong (job.Make file) bytes = MakeNoFeed bytes
-AreWrong (job.CheckProof root file) bytes = ⊥
-AreWrong (job.Ask asked file) bytes = AreBroken bytes
-AreWrong (job.Apply file) bytes = AreBroken bytes
+-- the sources of a schedule are wrong: the first is no feed; the second is no list of events; or it is one, of which an
+-- event is refused
+abbrev pub AreWrongFor : ℕ → Inputs → Type 0
+AreWrongFor workers given =
+    IfSome given.first AreBroken ⊎ IfSome given.second AreNoEvents
+    ⊎ IfSome given.second (λ text. IfSome given.first (λ bytes. AreRefused workers bytes text))
+
+-- what the sources give is wrong for a job
+abbrev pub AreWrong : Job → Inputs → Type 0
+AreWrong (job.Run workers file) given = IfSome given.first AreBroken
+AreWrong (job.Make file) given = IfSome given.first MakeNoFeed
+AreWrong (job.CheckProof root file) given = ⊥
+AreWrong (job.Ask asked file) given = IfSome given.first AreBroken
+AreWrong (job.Apply file) given = IfSome given.first AreBroken
+AreWrong (job.Schedule workers feed events) given = AreWrongFor workers given
 
 -- the bytes are stopped by a collision or by twins
 abbrev pub AreStopped : List ℕ → Type 0
 AreStopped bytes = (found : Fault) × IsStopped bytes found
 
 -- what bytes to blame are like, by the exit
-abbrev pub AreToBlame : Job → Exit → List ℕ → Type 0
-AreToBlame j exit.Whole bytes = ⊥
-AreToBlame j exit.No bytes = ⊥
-AreToBlame j exit.WrongInput bytes = AreWrong j bytes
-AreToBlame j exit.Stopped bytes = AreStopped bytes
-AreToBlame j exit.Failed bytes = ⊥
-AreToBlame j exit.Missing bytes = ⊥
+abbrev pub AreToBlame : Job → Exit → Inputs → Type 0
+AreToBlame j exit.Whole given = ⊥
+AreToBlame j exit.No given = ⊥
+AreToBlame j exit.WrongInput given = AreWrong j given
+AreToBlame j exit.Stopped given = IfSome given.first AreStopped
+AreToBlame j exit.Failed given = ⊥
+AreToBlame j exit.Missing given = ⊥

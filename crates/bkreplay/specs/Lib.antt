@@ -1,4 +1,6 @@
+pub mod CommandLine
 pub mod Exits
 pub mod FaultLines
 pub mod Faults
-pub mod CommandLine
+pub mod Schedules
+pub mod Sources

@@ -3,8 +3,8 @@
 ghost use Rattle.std.specs.Prelude.{◌≡◌, true, false, IfOk};
 ghost use Rattle.clap.specs.Words.{app_of, rule_of};
 ghost use Rattle.clap.specs.declared.builder.command.Command.TheViews.{out-Command};
-ghost use Rattle.bkreplay.specs.CommandLine.{asking_line, command_line, file_line, value_line};
-ghost use Rattle.bkreplay.specs.CommandLine.{file_rule, workers_rule, root_rule, id_rule, place_rule};
+ghost use Rattle.bkreplay.specs.CommandLine.{asking_line, single_line, command_line, file_line, value_line, schedule_line};
+ghost use Rattle.bkreplay.specs.CommandLine.{file_rule, workers_rule, required_rule, id_rule, place_rule};
 
 use crate::help::{self, Help};
 use clap::{Arg, ArgAction, Command, value_parser};
@@ -21,7 +21,7 @@ fn file_arg<'a>(alloc: Global) -> Arg<'a>
 }
 
 // The option `--workers W`.
-fn workers_arg<'a>(alloc: Global) -> Arg<'a>
+fn workers_arg<'a>(alloc: Global, text: &'a str) -> Arg<'a>
     ensures rule { rule_of result ≡ workers_rule }
     ensures local { result.global ≡ false }
 {
@@ -30,18 +30,18 @@ fn workers_arg<'a>(alloc: Global) -> Arg<'a>
         .action(ArgAction::Set)
         .value_name("W")
         .value_parser(value_parser!(u8).range(1..=64))
-        .help(help::WORKERS)
+        .help(text)
 }
 
-// The argument ROOT.
-fn root_arg<'a>(alloc: Global) -> Arg<'a>
-    ensures rule { rule_of result ≡ root_rule }
+// An argument that is required, any text.
+fn required_arg<'a>(alloc: Global, name: &'a str, text: &'a str) -> Arg<'a>
+    ensures rule { rule_of result ≡ required_rule name.now }
     ensures local { result.global ≡ false }
 {
-    Arg::new(alloc, "ROOT")
+    Arg::new(alloc, name)
         .action(ArgAction::Set)
         .required(true)
-        .help(help::ROOT)
+        .help(text)
 }
 
 // The argument ID.
@@ -102,7 +102,8 @@ fn asking_command<'a>(alloc: Global) -> Result<Command<'a>, AllocError>
     ensures line { IfOk result (λ c. app_of c ≡ asking_line) }
     ensures local { IfOk result (λ c. (out-Command c).has_globals ≡ false) }
 {
-    let run = value_command(alloc, "run", workers_arg(alloc), help::RUN)?;
+    let workers = workers_arg(alloc, help::WORKERS);
+    let run = value_command(alloc, "run", workers, help::RUN)?;
     let make = file_command(alloc, "make", help::MAKE)?;
     let order = file_command(alloc, "order", help::ORDER)?;
     let account = value_command(alloc, "account", id_arg(alloc), help::ACCOUNT)?;
@@ -122,12 +123,35 @@ fn asking_command<'a>(alloc: Global) -> Result<Command<'a>, AllocError>
         .subcommand(prove)
 }
 
+// The program with all commands that read one file.
+fn single_command<'a>(alloc: Global) -> Result<Command<'a>, AllocError>
+    ensures line { IfOk result (λ c. app_of c ≡ single_line) }
+    ensures local { IfOk result (λ c. (out-Command c).has_globals ≡ false) }
+{
+    let root = required_arg(alloc, "ROOT", help::ROOT);
+    let check = value_command(alloc, "check-proof", root, help::CHECK_PROOF)?;
+    let apply = file_command(alloc, "apply", help::APPLY)?;
+    asking_command(alloc)?.subcommand(check)?.subcommand(apply)
+}
+
+// The command `schedule [--workers W] FEED EVENTS`.
+fn schedule_command<'a>(alloc: Global) -> Result<Command<'a>, AllocError>
+    ensures line { IfOk result (λ c. app_of c ≡ schedule_line) }
+    ensures local { IfOk result (λ c. (out-Command c).has_globals ≡ false) }
+{
+    Command::new(alloc, "schedule")
+        .about(help::SCHEDULE.about)
+        .after_help(help::SCHEDULE.after)
+        .arg(workers_arg(alloc, help::EVENT_WORKERS))?
+        .arg(required_arg(alloc, "FEED", help::FEED))?
+        .arg(required_arg(alloc, "EVENTS", help::EVENTS))
+}
+
 /// All commands, in the order in which a user meets them.
 pub(crate) fn command<'a>(alloc: Global) -> Result<Command<'a>, AllocError>
     ensures line { IfOk result (λ c. app_of c ≡ command_line) }
     ensures local { IfOk result (λ c. (out-Command c).has_globals ≡ false) }
 {
-    let check = value_command(alloc, "check-proof", root_arg(alloc), help::CHECK_PROOF)?;
-    let apply = file_command(alloc, "apply", help::APPLY)?;
-    asking_command(alloc)?.subcommand(check)?.subcommand(apply)
+    let schedule = schedule_command(alloc)?;
+    single_command(alloc)?.subcommand(schedule)
 }

@@ -1,12 +1,13 @@
 //! The exit statuses of the program.
 
 ghost use Rattle.std.specs.Prelude.{◌≡◌};
-ghost use Rattle.bkreplay.specs.Exits.{exit_number, exit_at, exit_by, exit_after, exit_after_replay, exit_after_text};
+ghost use Rattle.bkreplay.specs.Exits.{exit_number, exit_at, exit_by, exit_after, exit_after_replay, exit_after_text, exit_after_list};
 
 use crate::job_fault::JobFault;
+use crate::list_fault::ListFault;
 use bk_frames::FaultCode;
 use bk_replay::{Fault, Status};
-use bk_script::ScriptFault;
+use bk_script::{EventsFault, ScriptFault};
 
 /// How the program ends.
 #[derive(Clone, Copy, Debug, PartialEq, Eq)]
@@ -57,6 +58,7 @@ impl Exit {
         match fault {
             JobFault::Replay(fault) => Exit::after_replay(fault),
             JobFault::Text(fault) => Exit::after_text(fault),
+            JobFault::Events(fault) => Exit::after_list(fault),
             JobFault::AbsentAccount { .. } | JobFault::AbsentPlace { .. } => Exit::No,
         }
     }
@@ -82,6 +84,20 @@ impl Exit {
         match fault {
             ScriptFault::Script { .. } => Exit::WrongInput,
             ScriptFault::Read | ScriptFault::Write { .. } | ScriptFault::Memory => Exit::Failed,
+        }
+    }
+
+    // The exit after a list of events that gives no report.
+    fn after_list(fault: &ListFault) -> Exit
+        ensures { result ≡ exit_after_list fault.now }
+    {
+        match fault {
+            ListFault::Unread(EventsFault::Line { .. }) | ListFault::Refused { .. } => {
+                Exit::WrongInput
+            }
+            ListFault::Unread(EventsFault::Read)
+            | ListFault::Unread(EventsFault::Memory)
+            | ListFault::Unfinished { .. } => Exit::Failed,
         }
     }
 }

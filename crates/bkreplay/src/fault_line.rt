@@ -5,13 +5,15 @@ ghost use Rattle.arrayvec.specs.ArrayVec.{array_vec_len};
 ghost use Rattle.bk_frames.specs.Device.{CanBeUsed};
 ghost use Rattle.bk_replay.specs.Lines.{spaced};
 ghost use Rattle.bkreplay.specs.FaultLines.{Reports, line_of, digits_of, twins_text, replay_text, script_text};
+ghost use Rattle.bkreplay.specs.FaultLines.{list_text, unread_text};
 
 use crate::job_fault::JobFault;
+use crate::list_fault::ListFault;
 use arrayvec::ArrayVec;
 use bk_digest::Digest32;
 use bk_frames::{Sink, push_all};
 use bk_replay::Fault;
-use bk_script::ScriptFault;
+use bk_script::{EventsFault, ScriptFault};
 use itoa::Buffer;
 
 /// The line of a fault, at most 192 bytes. It stands on the stack, since the fault may be that memory ran out.
@@ -114,6 +116,43 @@ fn put_script(line: &mut FaultLine, fault: &ScriptFault)
     }
 }
 
+/// Puts what reports a list of events that was not read where there is room for 184 bytes.
+fn put_unread(line: &mut FaultLine, fault: &EventsFault)
+    requires { array_vec_len line.old + 184 ≤ 192 }
+    ensures items { line.new.items ≡ line.old.items ++ unread_text fault.now }
+    ensures len { array_vec_len line.new ≤ array_vec_len line.old + 184 }
+{
+    match fault {
+        EventsFault::Line { line: number } => {
+            put_text(line, b"events fault at line");
+            put_number(line, u64::from(*number));
+        }
+        EventsFault::Read => put_text(line, b"read failed"),
+        EventsFault::Memory => put_text(line, b"memory"),
+    }
+}
+
+/// Puts what reports a list of events where there is room for 184 bytes.
+fn put_list(line: &mut FaultLine, fault: &ListFault)
+    requires { array_vec_len line.old + 184 ≤ 192 }
+    ensures items { line.new.items ≡ line.old.items ++ list_text fault.now }
+    ensures len { array_vec_len line.new ≤ array_vec_len line.old + 184 }
+{
+    match fault {
+        ListFault::Unread(fault) => put_unread(line, fault),
+        ListFault::Refused { line: number, code } => {
+            put_text(line, b"event");
+            put_number(line, u64::from(*number));
+            put_text(line, b" refused");
+            put_number(line, u64::from(code.code()));
+        }
+        ListFault::Unfinished { place } => {
+            put_text(line, b"unfinished");
+            put_number(line, u64::from(*place));
+        }
+    }
+}
+
 /// The line of a fault.
 fn fault_line(fault: &JobFault) -> FaultLine
     ensures { result.items ≡ line_of fault.now }
@@ -122,6 +161,7 @@ fn fault_line(fault: &JobFault) -> FaultLine
     match fault {
         JobFault::Replay(fault) => put_replay(&mut line, fault),
         JobFault::Text(fault) => put_script(&mut line, fault),
+        JobFault::Events(fault) => put_list(&mut line, fault),
         JobFault::AbsentAccount { id } => {
             put_text(&mut line, b"absent account");
             put_number(&mut line, *id);

@@ -12,6 +12,9 @@ pub(crate) const FILE: &str = "The path of the file; standard input if it is lef
 pub(crate) const WORKERS: &str =
     "How many threads execute, 1 to 64; 1 if it is left out. The report is the same for any number";
 
+pub(crate) const EVENT_WORKERS: &str =
+    "How many workers the events are among, 1 to 64; 2 if it is left out. The first is worker 0";
+
 pub(crate) const ID: &str = "The id of the account, a number below 2^64";
 
 pub(crate) const PLACE: &str =
@@ -19,6 +22,10 @@ pub(crate) const PLACE: &str =
 
 pub(crate) const ROOT: &str =
     "The digest of a state, 64 hexadecimal digits, as the line `state` of a report has it";
+
+pub(crate) const FEED: &str = "The path of the feed";
+
+pub(crate) const EVENTS: &str = "The path of the list of events";
 
 pub(crate) const PROGRAM: Help<'static> = Help {
     about: "Replays a ledger from the bytes of a feed",
@@ -28,7 +35,7 @@ An answer is on standard output, one line for each thing that it says. A fault i
 Exit status:
   0  the whole answer is written
   1  the command line is wrong, what was asked for is absent, or the proof is bad
-  2  the feed or the script is wrong
+  2  the feed, the script or the list of events is wrong
   3  the feed is stopped by a collision or an equivocation
   4  a read, a write or memory failed, or a worker did not finish
   5  the report of a run is written, and stops at a missing batch
@@ -213,4 +220,33 @@ Exit status:
 
 Example:
   ./bkreplay apply examples/apply_two_payments.feed",
+};
+
+pub(crate) const SCHEDULE: Help<'static> = Help {
+    about: "Execute all batches of a feed by a given list of events, and write the apply report",
+    after: "\
+Reads a list of events, and then a feed, as `apply` does. The list has at most 16,777,216 bytes. Lines without words and
+lines that begin with `#` are skipped; each other line is an event of a worker:
+
+  claim W P                       worker W takes the transaction at place P
+  read W X                        worker W reads word X of the bank
+  write W X                       worker W writes word X of the bank
+  finish W                        worker W is done with its transaction
+
+Of the accounts in ascending id, account A has its balance in word 2A and its sequence number in word 2A + 1; places and
+accounts count from 0. A worker reads each word of the accounts that its transaction declares, writes each word of those
+that it declares for writing, and finishes. Writes the lines of `apply` to standard output.
+
+Exit status:
+  0  the whole report is written
+  1  the command line is wrong
+  2  events fault at line LINE: the line is no event
+  2  feed fault CODE at OFFSET, with a code of 1 to 7: the bytes are no feed
+  2  event LINE refused CODE: 1 the place cannot be claimed, 2 the worker has a transaction or is none, 3 the worker has
+     no transaction, 4 the word is not one of the transaction's, 5 the event comes out of turn
+  4  feed fault 8 or 9, memory, read failed, write failed, or unfinished PLACE: after all events this transaction is not
+     done
+
+Example:
+  ./bkreplay schedule --workers 1 examples/apply_two_payments.feed examples/two_payments.events",
 };

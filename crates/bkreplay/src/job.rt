@@ -43,10 +43,19 @@ pub enum Job {
     Apply {
         file: Option<String>,
     },
+    /// Executes the batches of a feed by the events of a list, and writes the apply report.
+    Schedule {
+        /// How many workers the events are among.
+        workers: Workers,
+        /// The path of the feed.
+        feed: String,
+        /// The path of the list.
+        events: String,
+    },
 }
 
 impl Job {
-    /// The path of the file, where one is named.
+    /// The path of the first file, where one is named.
     pub(crate) fn file(&self) -> Option<&str> {
         match self {
             Job::Run { file, .. }
@@ -54,6 +63,19 @@ impl Job {
             | Job::CheckProof { file, .. }
             | Job::Ask { file, .. }
             | Job::Apply { file } => file.as_deref(),
+            Job::Schedule { feed, .. } => Some(feed.as_str()),
+        }
+    }
+
+    /// The path of the second file, where two are named.
+    pub(crate) fn second_file(&self) -> Option<&str> {
+        match self {
+            Job::Run { .. }
+            | Job::Make { .. }
+            | Job::CheckProof { .. }
+            | Job::Ask { .. }
+            | Job::Apply { .. } => None,
+            Job::Schedule { events, .. } => Some(events.as_str()),
         }
     }
 }
@@ -79,23 +101,23 @@ fn owned(alloc: Global, text: Option<&str>) -> Result<Option<String>, AllocError
     }
 }
 
-// The value of `--workers`, one where it is left out. The parser has refused what is not 1 to 64.
-fn workers_in(found: &ArgMatches<'_>) -> Workers
-    ensures { AreNamedBy (one_text (found_of found.now) (codes "workers")) result }
+// The value of `--workers`, the usual number where it is left out. The parser has refused what is not 1 to 64.
+fn workers_in(found: &ArgMatches<'_>, usual: Workers) -> Workers
+    ensures { AreNamedBy usual (one_text (found_of found.now) (codes "workers")) result }
 {
     match found.get_one::<u8>("workers") {
-        Some(count) => Workers::new(count).unwrap_or(Workers::one()),
-        None => Workers::one(),
+        Some(count) => Workers::new(count).unwrap_or(usual),
+        None => usual,
     }
 }
 
-// The value of ROOT. The parser has refused words without it.
-fn root_in(alloc: Global, found: &ArgMatches<'_>) -> Result<String, AllocError>
-    ensures { IfOk result (λ root. string_bytes root
-        ≡ unwrap_or (first_value (found_of found.now) (codes "ROOT")) []) }
+// The value of an argument that is required. The parser has refused words without it.
+fn text_in(alloc: Global, found: &ArgMatches<'_>, name: &str) -> Result<String, AllocError>
+    ensures { IfOk result (λ text. string_bytes text
+        ≡ unwrap_or (first_value (found_of found.now) name.now) []) }
 {
-    match found.get_str("ROOT") {
-        Some(root) => String::from_str(alloc, root),
+    match found.get_str(name) {
+        Some(text) => String::from_str(alloc, text),
         None => Ok(String::new(alloc)),
     }
 }
@@ -114,6 +136,20 @@ fn place_in(found: &ArgMatches<'_>) -> u32
     found.get_one::<u32>("PLACE").unwrap_or(0)
 }
 
+// The job of `schedule`, with the values of its arguments.
+fn schedule_of(alloc: Global, found: &ArgMatches<'_>) -> Result<Job, AllocError>
+    ensures { IfOk result (IsJobAt (codes "schedule") (rows_of (found_of found.now))) }
+{
+    let workers = workers_in(found, Workers::two());
+    let feed = text_in(alloc, found, "FEED")?;
+    let events = text_in(alloc, found, "EVENTS")?;
+    Ok(Job::Schedule {
+        workers,
+        feed,
+        events,
+    })
+}
+
 // The job of a command, with the values of its arguments.
 fn job_of(alloc: Global, verb: Verb, found: &ArgMatches<'_>) -> Result<Job, AllocError>
     ensures { IfOk result (IsJobAt (word_of verb) (rows_of (found_of found.now))) }
@@ -121,7 +157,7 @@ fn job_of(alloc: Global, verb: Verb, found: &ArgMatches<'_>) -> Result<Job, Allo
     let file = owned(alloc, found.get_str("FILE"))?;
     match verb {
         Verb::Run => {
-            let workers = workers_in(found);
+            let workers = workers_in(found, Workers::one());
             Ok(Job::Run { workers, file })
         }
         Verb::Make => Ok(Job::Make { file }),
@@ -143,10 +179,14 @@ fn job_of(alloc: Global, verb: Verb, found: &ArgMatches<'_>) -> Result<Job, Allo
             Ok(Job::Ask { asked, file })
         }
         Verb::CheckProof => {
-            let root = root_in(alloc, found)?;
+            let root = text_in(alloc, found, "ROOT")?;
             Ok(Job::CheckProof { root, file })
         }
         Verb::Apply => Ok(Job::Apply { file }),
+        Verb::Schedule => {
+            let job = schedule_of(alloc, found)?;
+            Ok(job)
+        }
     }
 }
 

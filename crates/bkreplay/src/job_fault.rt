@@ -2,9 +2,11 @@
 
 ghost use Rattle.std.specs.Prelude.{◌≡◌};
 ghost use Rattle.bkreplay.specs.declared.job_fault.JobFault.TheVariants as fault;
+ghost use Rattle.bkreplay.specs.declared.list_fault.ListFault.TheVariants as list;
 
+use crate::list_fault::ListFault;
 use bk_replay::Fault;
-use bk_script::ScriptFault;
+use bk_script::{EventsFault, ScriptFault};
 
 /// Why a job has no answer. The program prints each as one line on standard error.
 #[derive(Clone, Copy, Debug, PartialEq, Eq)]
@@ -13,6 +15,8 @@ pub enum JobFault {
     Replay(Fault),
     /// A script has a fault; or a script or a proof was not read, or the answer to it was not written.
     Text(ScriptFault),
+    /// A list of events gives no report.
+    Events(ListFault),
     /// The feed has no account of this id.
     AbsentAccount { id: u64 },
     /// The order of the feed has no transaction at this place.
@@ -32,5 +36,13 @@ impl From<ScriptFault> for JobFault {
 
     fn from(f: ScriptFault) -> JobFault {
         JobFault::Text(f)
+    }
+}
+
+impl From<EventsFault> for JobFault {
+    ghost from_gives = { λ f e. e ≡ fault.Events (list.Unread f) };
+
+    fn from(f: EventsFault) -> JobFault {
+        JobFault::Events(ListFault::Unread(f))
     }
 }

@@ -1,10 +1,11 @@
 //! From the words of the command line to the exit status.
 
-ghost use Rattle.std.specs.Prelude.{◌≡◌, ◌≢◌, ◌⊎◌, true, IfSome};
+ghost use Rattle.std.specs.Prelude.{◌≡◌, ◌≢◌, ◌⊎◌, true};
 ghost use Rattle.bk_frames.specs.Device.{CanBeUsed};
 ghost use Rattle.bk_replay.specs.Answers.{IsUntouched};
 ghost use Rattle.bkreplay.specs.Exits.{is_answer, is_refusal, is_report, may_end};
 ghost use Rattle.bkreplay.specs.Faults.{AnswerIsOut};
+ghost use Rattle.bkreplay.specs.Sources.{inputs};
 ghost use Rattle.clap.specs.Words.{kind_of};
 
 use crate::exit::Exit;
@@ -90,7 +91,16 @@ fn answer_error<R: Print + Eprint, E: Sink>(rt: &R, error: &Error, err: &mut E) 
     }
 }
 
-/// Opens what the job names before anything is read, and runs it.
+/// Reports a file that cannot be opened.
+fn not_opened<E: Sink>(err: &mut E) -> Exit
+    requires { CanBeUsed (E.state err.old) }
+    ensures { result ≡ Exit.Failed }
+{
+    report(&JobFault::Text(ScriptFault::Read), err);
+    Exit::Failed
+}
+
+/// Opens what the job names, in the order of its words and before anything is read, and runs it.
 fn open_and_run<R, O: Sink, E: Sink>(rt: &R, job: &Job, out: &mut O, err: &mut E) -> Exit
 where
     R: Files + Input + AllocGlobal + Threads + Wait + Sync,
@@ -102,41 +112,67 @@ where
 {
     match job.file() {
         Some(path) => match fs::open(rt, path) {
-            Ok(file) => run_over(rt, job, file, out, err),
-            Err(_) => {
-                report(&JobFault::Text(ScriptFault::Read), err);
-                Exit::Failed
-            }
+            Ok(first) => open_second(rt, job, first, out, err),
+            Err(_) => not_opened(err),
         },
-        None => run_over(rt, job, rt.reader(), out, err),
+        None => open_second(rt, job, rt.reader(), out, err),
     }
 }
 
-fn run_over<R: AllocGlobal + Threads + Wait + Sync, I: Read + Drop, O: Sink, E: Sink>(
+/// Opens the second file, where the job names one, and runs the job.
+fn open_second<R, I: Read + Drop, O: Sink, E: Sink>(
     rt: &R,
     job: &Job,
-    input: I,
+    first: I,
     out: &mut O,
     err: &mut E,
 ) -> Exit
+where
+    R: Files + AllocGlobal + Threads + Wait + Sync,
     requires out { CanBeUsed (O.state out.old) }
     requires err { CanBeUsed (E.state err.old) }
-    ensures whole { is_answer job.now result ≡ true → IfSome (I.remaining input)
-        (AnswerIsOut job.now result (O.state out.old) (O.state out.new)) }
     ensures quiet { is_report result ≡ true → err.new ≡ err.old }
     ensures blame { is_refusal result ≡ true → IsUntouched (O.state out.old) (O.state out.new) }
     ensures ends { may_end job.now result ≡ true }
 {
-    let Ok(reader) = BufReader::with_capacity(rt.alloc(), AHEAD, input) else {
+    let nothing: &[u8] = b"";
+    match job.second_file() {
+        Some(path) => match fs::open(rt, path) {
+            Ok(second) => run_over(rt, job, first, second, out, err),
+            Err(_) => not_opened(err),
+        },
+        None => run_over(rt, job, first, nothing, out, err),
+    }
+}
+
+/// Runs a job over its inputs. Small pulls are made of the first alone.
+fn run_over<R, I: Read + Drop, J: Read + Drop, O: Sink, E: Sink>(
+    rt: &R,
+    job: &Job,
+    first: I,
+    second: J,
+    out: &mut O,
+    err: &mut E,
+) -> Exit
+where
+    R: AllocGlobal + Threads + Wait + Sync,
+    requires out { CanBeUsed (O.state out.old) }
+    requires err { CanBeUsed (E.state err.old) }
+    ensures whole { is_answer job.now result ≡ true → AnswerIsOut job.now result
+        (inputs (I.remaining first) (J.remaining second)) (O.state out.old) (O.state out.new) }
+    ensures quiet { is_report result ≡ true → err.new ≡ err.old }
+    ensures blame { is_refusal result ≡ true → IsUntouched (O.state out.old) (O.state out.new) }
+    ensures ends { may_end job.now result ≡ true }
+{
+    let Ok(reader) = BufReader::with_capacity(rt.alloc(), AHEAD, first) else {
         report(&JobFault::Replay(Fault::Memory), err);
         return Exit::Failed;
     };
-    let nothing: &[u8] = b"";
     run_job(
         rt,
         job,
         &mut Counted::new(reader),
-        &mut Counted::new(nothing),
+        &mut Counted::new(second),
         out,
         err,
     )

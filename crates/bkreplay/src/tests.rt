@@ -1,4 +1,5 @@
 mod faults;
 mod feeds;
 mod runs;
+mod schedules;
 mod words;

@@ -14,6 +14,7 @@ pub(crate) enum Verb {
     Prove,
     CheckProof,
     Apply,
+    Schedule,
 }
 
 impl Verb {
@@ -43,6 +44,9 @@ impl Verb {
         if word == "check-proof" {
             return Verb::CheckProof;
         }
-        Verb::Apply
+        if word == "apply" {
+            return Verb::Apply;
+        }
+        Verb::Schedule
     }
 }

@@ -30,6 +30,13 @@ impl Workers {
         Workers { count: 1 }
     }
 
+    /// Two.
+    pub fn two() -> Workers
+        ensures { result ≡ 2 }
+    {
+        Workers { count: 2 }
+    }
+
     /// So many threads, `None` where they are not 1 to 64.
     pub fn new(count: u8) -> Option<Workers>
         ensures fit { IsSome result ↔ ((1 ≤ count) × (count ≤ 64)) }
@@ -47,5 +54,12 @@ impl Workers {
         ensures fit { (1 ≤ result) × (result ≤ 64) }
     {
         usize::from(self.count)
+    }
+
+    /// The same as a number of another type.
+    pub fn number(self) -> u32
+        ensures { result ≡ self }
+    {
+        u32::from(self.count)
     }
 }

@@ -3,10 +3,12 @@
 use crate::exit::Exit;
 use crate::fault_line::report;
 use crate::job_fault::JobFault;
+use crate::list_fault::ListFault;
 use bk_digest::Digest32;
 use bk_frames::{Counted, FaultCode, FeedFault};
 use bk_replay::{Fault, Status};
-use bk_script::{ScriptCode, ScriptFault};
+use bk_script::{EventsFault, ScriptCode, ScriptFault};
+use bk_steps::Refused;
 use std::process::Abort;
 use std::test::Fail;
 
@@ -95,6 +97,23 @@ fn faults_of_texts_are_reported(rt: HostRuntime) -> Result<(), Fail> {
     let fault = ScriptFault::Write { written: 7 };
     expect(&rt, JobFault::Text(fault), 4, &["write failed"])?;
     expect(&rt, JobFault::Text(ScriptFault::Memory), 4, &["memory"])
+}
+
+#[test]
+fn faults_of_events_are_reported(rt: HostRuntime) -> Result<(), Fail> {
+    let line = u32::MAX;
+    let unread = |fault: EventsFault| JobFault::Events(ListFault::Unread(fault));
+    let words = ["events fault at line 4294967295"];
+    expect(&rt, unread(EventsFault::Line { line }), 2, &words)?;
+    expect(&rt, unread(EventsFault::Read), 4, &["read failed"])?;
+    expect(&rt, unread(EventsFault::Memory), 4, &["memory"])?;
+    let code = Refused::OutOfTurn;
+    let fault = ListFault::Refused { line, code };
+    let words = ["event 4294967295 refused 5"];
+    expect(&rt, JobFault::Events(fault), 2, &words)?;
+    let fault = ListFault::Unfinished { place: u32::MAX };
+    let words = ["unfinished 4294967295"];
+    expect(&rt, JobFault::Events(fault), 4, &words)
 }
 
 #[test]

@@ -61,6 +61,58 @@ fn words_of_texts(rt: HostRuntime) -> Result<(), Fail> {
 }
 
 #[test]
+fn words_of_schedules(rt: HostRuntime) -> Result<(), Fail> {
+    for (words, count) in [
+        (&["bkreplay", "schedule", "a", "b"][..], 2),
+        (&["bkreplay", "schedule", "--workers", "1", "a", "b"], 1),
+        (&["bkreplay", "schedule", "a", "--workers=64", "b"], 64),
+    ] {
+        let job = parse(rt.alloc(), words)?;
+        assert!(rt; job.file() == Some("a"));
+        assert!(rt; job.second_file() == Some("b"));
+        let Job::Schedule { workers, .. } = job else {
+            return Err(Fail::from("the words name another job"));
+        };
+        assert_eq!(rt; workers.count(), count);
+    }
+    Ok(())
+}
+
+#[test]
+fn words_of_no_schedule(rt: HostRuntime) -> Result<(), Fail> {
+    let lines: [(&[&str], ErrorKind); 6] = [
+        (
+            &["bkreplay", "schedule"],
+            ErrorKind::MissingRequiredArgument,
+        ),
+        (
+            &["bkreplay", "schedule", "a"],
+            ErrorKind::MissingRequiredArgument,
+        ),
+        (
+            &["bkreplay", "schedule", "a", "b", "c"],
+            ErrorKind::UnknownArgument,
+        ),
+        (
+            &["bkreplay", "schedule", "--workers", "0", "a", "b"],
+            ErrorKind::ValueValidation,
+        ),
+        (
+            &["bkreplay", "schedule", "--workers", "65", "a", "b"],
+            ErrorKind::ValueValidation,
+        ),
+        (&["bkreplay", "schedule", "--help"], ErrorKind::DisplayHelp),
+    ];
+    for (words, kind) in lines {
+        let Err(error) = parse(rt.alloc(), words) else {
+            return Err(Fail::from("the words name no job"));
+        };
+        assert!(rt; error.kind() == kind, "{error}");
+    }
+    Ok(())
+}
+
+#[test]
 fn words_of_no_job(rt: HostRuntime) -> Result<(), Fail> {
     let lines: [(&[&str], ErrorKind); 15] = [
         (&["bkreplay"], ErrorKind::MissingSubcommand),

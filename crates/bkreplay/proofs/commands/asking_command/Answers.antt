@@ -2,7 +2,7 @@
 use Rattle.std.proofs.Common.{ap, ap₂, codes, Bool, true, false, ◌||◌, ◌≡◌, ◌∙◌}
 use Rattle.std.proofs.lemmas.Result.{IfOk-weaker}
 use Rattle.clap.specs.Simple.{app_of_fields}
-use Rattle.clap.specs.Words.{App, app_of, rule_of, with_subcommand, new_app}
+use Rattle.clap.specs.Words.{App, app_of, with_subcommand, new_app}
 use Rattle.clap.specs.declared.builder.command.Command.{Command}
 use Rattle.clap.specs.declared.builder.command.Command.TheOpen.{Command-F}
 use Rattle.clap.specs.declared.builder.command.Command.TheViews.{out-Command}
@@ -28,7 +28,7 @@ returns-clause-line c =
     let helped : app_of c.after_help.result ≡ versioned (new_app (codes "bkreplay")) = ap app_of_fields c.after_help.ensures ∙ (ap app_of_fields c.about.ensures ∙ with_version) in
     let no_help : app_of c.disable_help_subcommand.result ≡ helpless (versioned (new_app (codes "bkreplay"))) = ap app_of_fields c.disable_help_subcommand.ensures ∙ ap helpless helped in
     let program_is : app_of c.subcommand_required.result ≡ program = ap app_of_fields c.subcommand_required.ensures ∙ ap demanding no_help in
-    let run_is : app_of c.in_ok-run.run' ≡ line_of verb.Run = c.in_ok-run.ensures.line ∙ ap (value_line (codes "run")) c.workers_arg.ensures.rule in
+    let run_is : app_of c.in_ok-run.run' ≡ line_of verb.Run = c.in_ok-run.ensures.line ∙ ap (value_line (codes "run")) c.workers_arg-workers.ensures.rule in
     let account_is : app_of c.in_ok-account.account ≡ line_of verb.Account = c.in_ok-account.ensures.line ∙ ap (value_line (codes "account")) c.id_arg.ensures.rule in
     let receipt_is : app_of c.in_ok-receipt.receipt ≡ line_of verb.Receipt = c.in_ok-receipt.ensures.line ∙ ap (value_line (codes "receipt")) c.place_arg.ensures.rule in
     let prove_is : app_of c.in_ok-prove.prove ≡ line_of verb.Prove = c.in_ok-prove.ensures.line ∙ ap (value_line (codes "prove")) c.id_arg-2.ensures.rule in

@@ -1,5 +1,5 @@
 -- The command is what the definition writes: each part by its contract.
-use Rattle.std.proofs.Common.{ap, ap₂, refl, ◌≡◌, ◌∙◌}
+use Rattle.std.proofs.Common.{ap, ap₂, ◌≡◌, ◌∙◌}
 use Rattle.std.proofs.lemmas.Result.{IfOk-weaker}
 use Rattle.clap.specs.Simple.{app_of_fields}
 use Rattle.clap.specs.Words.{app_of, with_rule, new_app, rule_of}

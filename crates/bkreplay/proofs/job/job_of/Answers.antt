@@ -1,15 +1,17 @@
 -- The values of the arguments are those of the rows.
-use Rattle.std.proofs.Common.{◌≡◌, ◌∙◌, ◌^◌, ap, sym, subst, codes, Option, unwrap_or, [], refl, option_map, string_bytes}
+use Rattle.std.proofs.Common.{◌∙◌, ◌^◌, ap, sym, subst, codes, Option, unwrap_or, []}
 use Rattle.clap.proofs.WalkLemmas.{first_value-rows, one_text-rows}
-use Rattle.clap.specs.Words.{Text, found_of, rows_of, one_of}
+use Rattle.clap.specs.Words.{Text, found_of}
 use Rattle.bkreplay.specs.CommandLine.{AreNamedBy, IsNumberBy, word_of}
+use Rattle.bkreplay.proofs.WordLemmas.{named_by_usual}
 use Rattle.bkreplay.proofs.job.job_of.Goals as goal
 
 pub returns-in-Run : goal.returns-in-Run
 returns-in-Run c =
     let found = found_of c.args.found.now in (
       ap word_of c.in-Run.is,
-      subst (λ (t : Option Text). AreNamedBy t c.workers_in-workers.result) (one_text-rows found (codes "workers")) c.workers_in-workers.ensures,
+      named_by_usual c.one.result 1 _ c.workers_in-workers.result c.one.ensures
+          (subst (λ (t : Option Text). AreNamedBy c.one.result t c.workers_in-workers.result) (one_text-rows found (codes "workers")) c.workers_in-workers.ensures),
       sym (first_value-rows found (codes "FILE")) ∙ (sym c.get_str.ensures ∙ sym c.in_ok-file.ensures),
     )
 
@@ -56,3 +58,6 @@ returns-in-Prove c =
       (ap word_of c.in-Prove.is, subst (λ (t : Option Text). IsNumberBy (2 ^ 64) t c.id_in-in-Prove.result) (one_text-rows found (codes "ID")) c.id_in-in-Prove.ensures),
       sym (first_value-rows found (codes "FILE")) ∙ (sym c.get_str.ensures ∙ sym c.in_ok-file.ensures),
     )
+
+pub returns-in_ok-job-in-Schedule : goal.returns-in_ok-job-in-Schedule
+returns-in_ok-job-in-Schedule c = rw c.in-Schedule.is c.in_ok-job-in-Schedule.ensures

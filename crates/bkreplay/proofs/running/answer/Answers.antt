@@ -20,3 +20,6 @@ returns-in_ok-end-in-Apply-clause-answer g c = rw (c.in-Apply.is, c.in_ok-end-in
 
 pub returns-in_ok-end-in-Ask-clause-answer : goal.returns-in_ok-end-in-Ask-clause-answer
 returns-in_ok-end-in-Ask-clause-answer g c = rw (c.in-Ask.is, c.in_ok-end-in-Ask.ensures.answer) (refl, refl)
+
+pub returns-in_ok-end-in-Schedule-clause-answer : goal.returns-in_ok-end-in-Schedule-clause-answer
+returns-in_ok-end-in-Schedule-clause-answer g c = rw (c.in-Schedule.is, c.in_ok-end-in-Schedule.ensures.answer) (refl, refl)

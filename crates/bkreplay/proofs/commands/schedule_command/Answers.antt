@@ -1,0 +1,14 @@
+-- The command is what the definition writes: each part by its contract.
+use Rattle.std.proofs.Common.{ap, ap₂, codes, ◌≡◌, ◌∙◌}
+use Rattle.std.proofs.lemmas.Result.{IfOk-weaker}
+use Rattle.clap.specs.Simple.{app_of_fields}
+use Rattle.clap.specs.Words.{app_of, with_rule, new_app}
+use Rattle.bkreplay.specs.CommandLine.{workers_rule, feed_rule}
+use Rattle.bkreplay.proofs.commands.schedule_command.Goals as goal
+
+pub returns-clause-line : goal.returns-clause-line
+returns-clause-line c =
+    let named : app_of c.after_help.result ≡ new_app (codes "schedule") = ap app_of_fields c.after_help.ensures ∙ (ap app_of_fields c.about.ensures ∙ c.new.ensures.app) in
+    let with_workers : app_of c.in_ok-arg.field-0 ≡ with_rule (new_app (codes "schedule")) workers_rule = c.in_ok-arg.ensures.shape c.workers_arg.ensures.local ∙ ap₂ with_rule named c.workers_arg.ensures.rule in
+    let with_feed : app_of c.in_ok-arg-2.field-0 ≡ with_rule (with_rule (new_app (codes "schedule")) workers_rule) feed_rule = c.in_ok-arg-2.ensures.shape c.required_arg.ensures.local ∙ ap₂ with_rule with_workers c.required_arg.ensures.rule in
+    IfOk-weaker c.arg-3.result _ _ (λ r h. h.shape c.required_arg-2.ensures.local ∙ ap₂ with_rule with_feed c.required_arg-2.ensures.rule) c.arg-3.ensures
