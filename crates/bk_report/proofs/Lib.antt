@@ -1,0 +1,10 @@
+pub mod Runs
+pub mod Putting
+pub mod ReportLines
+pub mod LineGroups
+pub mod RunText
+pub mod ProofTexts
+pub mod ProofReading
+pub mod ProofPaths
+pub mod ProofChecks
+pub mod MadeProofs

@@ -1,0 +1,44 @@
+-- The lines of a report or of a proof, and their text.
+use Rattle.std.specs.Prelude.{ℕ, List, [], ◌∷◌, ◌++◌, codes, decimal}
+use Rattle.std.specs.List.{flat_map}
+use Rattle.hex.specs.Hex.{encode_lower}
+use Rattle.bk_certcheck.specs.Rules.{rule_number}
+use Rattle.bk_rules.specs.Numbers.{number_of}
+use Rattle.bk_report.specs.declared.line.Line.{Line}
+use Rattle.bk_report.specs.declared.line.Line.TheVariants as line
+
+-- a number behind a space
+abbrev pub spaced : ℕ → List ℕ
+spaced n = 32 ∷ decimal n
+
+-- a word, and the round and the author of a certificate
+abbrev pub placed : List ℕ → ℕ → ℕ → List ℕ
+placed word round author = word ++ spaced round ++ spaced author
+
+-- a word, a space and a digest in hexadecimal digits
+abbrev pub hashed : List ℕ → List ℕ → List ℕ
+hashed word digest = word ++ 32 ∷ encode_lower digest
+
+-- the text of a line
+abbrev pub line_text : Line → List ℕ
+line_text (line.Members members faulty quorum) =
+    codes "members" ++ spaced members ++ codes " faulty" ++ spaced faulty ++ codes " quorum" ++ spaced quorum
+line_text (line.Frames count) = codes "frames" ++ spaced count
+line_text (line.Reject frame rule) = codes "reject" ++ spaced frame ++ spaced (rule_number rule)
+line_text (line.Waiting round author) = placed (codes "waiting") round author
+line_text (line.Anchor round author) = placed (codes "anchor") round author
+line_text (line.Cert round author) = placed (codes "cert") round author
+line_text (line.Batch index count) = codes "batch" ++ spaced index ++ spaced count
+line_text (line.VoidBatch index) = codes "batch" ++ spaced index ++ codes " void"
+line_text (line.Missing digest) = hashed (codes "missing") digest
+line_text (line.Tx place status moved) = codes "tx" ++ spaced place ++ spaced (number_of status) ++ spaced moved
+line_text (line.Account id balance seq) = codes "account" ++ spaced id ++ spaced balance ++ spaced seq
+line_text (line.Money total) = codes "money" ++ spaced total
+line_text (line.State digest) = hashed (codes "state") digest
+line_text (line.Size size) = codes "size" ++ spaced size
+line_text (line.Index index) = codes "index" ++ spaced index
+line_text (line.Path digest) = hashed (codes "path") digest
+
+-- the text of lines: each line behind the one before it, with a line feed at its end
+abbrev pub text_of : List Line → List ℕ
+text_of lines = flat_map (λ (l : Line). line_text l ++ 10 ∷ []) lines

@@ -1,0 +1,30 @@
+//! The lines and the text of a report, and proofs of accounts.
+//!
+//! A report is lines in groups, put into a [`Page`] that goes out whenever it is full. Whatever puts lines answers a
+//! fault where the sink fails: the first `written` bytes of all that was put are out. [`proof_of`] makes the proof of
+//! an account, and [`check_proof`] judges the text of one.
+#![tactic(auto)]
+
+mod checking;
+mod groups;
+mod laws;
+mod leaves;
+mod line;
+mod page;
+mod proof;
+mod reading;
+mod report;
+
+pub use checking::check_proof;
+pub use groups::{
+    put_accounts, put_anchors, put_batches, put_certs, put_receipts, put_rejects, put_waiting,
+};
+pub use laws::made_proofs_are_good;
+pub use leaves::leaves_of;
+pub use line::Line;
+pub use page::{Page, push_line};
+pub use proof::{Proof, proof_of};
+pub use report::{Parts, write_run};
+
+#[cfg(test)]
+mod tests;

@@ -1,0 +1,126 @@
+ghost use Rattle.std.specs.Prelude.{Some};
+ghost use Rattle.bk_report.specs.Lines.{line_text};
+
+use bk_certcheck::Rule;
+use bk_digest::Digest32;
+use bk_rules::Status;
+use std::fmt;
+
+/// One line of a report or of a proof, without the line feed that ends it. Numbers are decimal without leading zeros.
+#[derive(Clone, Copy, Debug, PartialEq, Eq)]
+pub enum Line {
+    /// `members N faulty F quorum Q`: how many members there are, and the sizes of their committee.
+    Members {
+        members: u8,
+        faulty: u64,
+        quorum: u64,
+    },
+    /// `frames K`: how many frames the feed has.
+    Frames {
+        count: u64,
+    },
+    /// `reject FRAME RULE`: a frame of a certificate that breaks a rule.
+    Reject {
+        frame: u64,
+        rule: Rule,
+    },
+    /// `waiting ROUND AUTHOR`: a certificate that waits for a parent.
+    Waiting {
+        round: u32,
+        author: u8,
+    },
+    /// `anchor ROUND AUTHOR`: a committed anchor.
+    Anchor {
+        round: u32,
+        author: u8,
+    },
+    /// `cert ROUND AUTHOR`: an ordered certificate.
+    Cert {
+        round: u32,
+        author: u8,
+    },
+    /// `batch INDEX COUNT`: a batch, and how many transactions it holds.
+    Batch {
+        index: u32,
+        count: u16,
+    },
+    /// `batch INDEX void`: a batch whose payload is no batch.
+    VoidBatch {
+        index: u32,
+    },
+    /// `missing HEX`: the digest of the batch at which the order stops.
+    Missing {
+        digest: Digest32,
+    },
+    /// `tx PLACE STATUS MOVED`: what became of the transaction at a place.
+    Tx {
+        place: u32,
+        status: Status,
+        moved: u64,
+    },
+    /// `account ID BALANCE SEQ`: an account at the end.
+    Account {
+        id: u64,
+        balance: u64,
+        seq: u64,
+    },
+    /// `money TOTAL`: all balances at the end, added up.
+    Money {
+        total: u64,
+    },
+    /// `state HEX`: the root of the tree of all accounts at the end.
+    State {
+        digest: Digest32,
+    },
+    /// `size N`: how many accounts the tree of a proof has.
+    Size {
+        size: u64,
+    },
+    /// `index I`: where the account of a proof stands in the tree, from 0.
+    Index {
+        index: u64,
+    },
+    /// `path HEX`: a digest beside the way from the account of a proof to the root.
+    Path {
+        digest: Digest32,
+    },
+}
+
+impl fmt::Display for Line {
+    ghost output = { λ l. Some (line_text l) };
+
+    fn fmt<W: fmt::Write>(&self, f: &mut fmt::Formatter<W>) -> fmt::Result {
+        match *self {
+            Line::Members {
+                members,
+                faulty,
+                quorum,
+            } => write!(f, "members {members} faulty {faulty} quorum {quorum}"),
+            Line::Frames { count } => write!(f, "frames {count}"),
+            Line::Reject { frame, rule } => {
+                let rule = rule as u8;
+                write!(f, "reject {frame} {rule}")
+            }
+            Line::Waiting { round, author } => write!(f, "waiting {round} {author}"),
+            Line::Anchor { round, author } => write!(f, "anchor {round} {author}"),
+            Line::Cert { round, author } => write!(f, "cert {round} {author}"),
+            Line::Batch { index, count } => write!(f, "batch {index} {count}"),
+            Line::VoidBatch { index } => write!(f, "batch {index} void"),
+            Line::Missing { digest } => write!(f, "missing {digest}"),
+            Line::Tx {
+                place,
+                status,
+                moved,
+            } => {
+                let status = status.number();
+                write!(f, "tx {place} {status} {moved}")
+            }
+            Line::Account { id, balance, seq } => write!(f, "account {id} {balance} {seq}"),
+            Line::Money { total } => write!(f, "money {total}"),
+            Line::State { digest } => write!(f, "state {digest}"),
+            Line::Size { size } => write!(f, "size {size}"),
+            Line::Index { index } => write!(f, "index {index}"),
+            Line::Path { digest } => write!(f, "path {digest}"),
+        }
+    }
+}

@@ -1,0 +1,233 @@
+//! The text of lines, gathered in a page before it goes to a sink.
+
+ghost use Rattle.std.specs.Prelude.{◌≡◌, ◌+◌, ◌^◌, ◌<◌, ◌≤◌, ◌∷◌, ◌++◌, [], length, vec_len, IfOk, OnOk};
+ghost use Rattle.std.specs.Vec.{vec_capacity};
+ghost use Rattle.bk_frames.specs.Device.{CanBeUsed};
+ghost use Rattle.bk_report.specs.Lines.{line_text, spaced, placed, hashed};
+ghost use Rattle.bk_report.specs.declared.line.Line.TheVariants.{Members};
+ghost use Rattle.bk_report.specs.Pages.{Gathered, Written};
+
+use crate::line::Line;
+use bk_digest::Digest32;
+use bk_frames::{Sink, WriteFault, push_all};
+use itoa::Buffer;
+use std::alloc::{AllocError, Global};
+use std::marker::Model;
+
+/// A page goes out before it has more bytes.
+const PAGE: usize = 65_536;
+
+/// No line has more bytes, its line feed among them.
+const LINE: usize = 96;
+
+/// Puts a text where there is room for it.
+fn put_text(page: &mut Vec<u8>, text: &[u8])
+    requires { vec_len page.old + length text.now ≤ vec_capacity page.old }
+    ensures items { page.new.items ≡ page.old.items ++ text.now }
+    ensures len { vec_len page.new ≡ vec_len page.old + length text.now }
+    ensures room { vec_capacity page.old ≤ vec_capacity page.new }
+{
+    page.extend_from_slice(text).unwrap();
+}
+
+/// Puts a space and a number where there is room for 21 bytes.
+fn put_number(page: &mut Vec<u8>, number: u64)
+    requires { vec_len page.old + 21 ≤ vec_capacity page.old }
+    ensures items { page.new.items ≡ page.old.items ++ spaced number }
+    ensures len { vec_len page.new ≤ vec_len page.old + 21 }
+    ensures room { vec_capacity page.old ≤ vec_capacity page.new }
+{
+    put_text(page, b" ");
+    put_text(page, Buffer::new().format(number).as_bytes());
+}
+
+/// Puts a word, and a round and an author, where there is room for 49 bytes.
+fn put_place(page: &mut Vec<u8>, word: &[u8], round: u32, author: u8)
+    requires short { length word.now ≤ 7 }
+    requires room { vec_len page.old + 49 ≤ vec_capacity page.old }
+    ensures items { page.new.items ≡ page.old.items ++ placed word.now round author }
+    ensures len { vec_len page.new ≤ vec_len page.old + 49 }
+    ensures room { vec_capacity page.old ≤ vec_capacity page.new }
+{
+    put_text(page, word);
+    put_number(page, u64::from(round));
+    put_number(page, u64::from(author));
+}
+
+/// Puts a word, a space and a digest where there is room for 72 bytes.
+fn put_digest(page: &mut Vec<u8>, word: &[u8], digest: &Digest32)
+    requires short { length word.now ≤ 7 }
+    requires room { vec_len page.old + 72 ≤ vec_capacity page.old }
+    ensures items { page.new.items ≡ page.old.items ++ hashed word.now digest.now }
+    ensures len { vec_len page.new ≤ vec_len page.old + 72 }
+    ensures room { vec_capacity page.old ≤ vec_capacity page.new }
+{
+    let mut digits = [0u8; 64];
+    let _ = hex::encode_to_slice(digest.as_bytes(), &mut digits);
+    put_text(page, word);
+    put_text(page, b" ");
+    put_text(page, &digits);
+}
+
+/// Puts the three numbers of a committee where there is room for 84 bytes.
+fn put_members(page: &mut Vec<u8>, members: u8, faulty: u64, quorum: u64)
+    requires { vec_len page.old + 84 ≤ vec_capacity page.old }
+    ensures items { page.new.items
+        ≡ page.old.items ++ line_text (Members members faulty quorum) }
+    ensures len { vec_len page.new ≤ vec_len page.old + 84 }
+    ensures room { vec_capacity page.old ≤ vec_capacity page.new }
+{
+    put_text(page, b"members");
+    put_number(page, u64::from(members));
+    put_text(page, b" faulty");
+    put_number(page, faulty);
+    put_text(page, b" quorum");
+    put_number(page, quorum);
+}
+
+/// Puts a line and its line feed where there is room for it.
+fn put_line(page: &mut Vec<u8>, line: Line)
+    requires { vec_len page.old + 96 ≤ vec_capacity page.old }
+    ensures items { page.new.items ≡ page.old.items ++ (line_text line ++ 10 ∷ []) }
+    ensures len { vec_len page.new ≤ vec_len page.old + 96 }
+    ensures room { vec_capacity page.old ≤ vec_capacity page.new }
+{
+    match line {
+        Line::Members {
+            members,
+            faulty,
+            quorum,
+        } => put_members(page, members, faulty, quorum),
+        Line::Frames { count } => {
+            put_text(page, b"frames");
+            put_number(page, count);
+        }
+        Line::Reject { frame, rule } => {
+            put_text(page, b"reject");
+            put_number(page, frame);
+            put_number(page, u64::from(rule as u8));
+        }
+        Line::Waiting { round, author } => put_place(page, b"waiting", round, author),
+        Line::Anchor { round, author } => put_place(page, b"anchor", round, author),
+        Line::Cert { round, author } => put_place(page, b"cert", round, author),
+        Line::Batch { index, count } => {
+            put_text(page, b"batch");
+            put_number(page, u64::from(index));
+            put_number(page, u64::from(count));
+        }
+        Line::VoidBatch { index } => {
+            put_text(page, b"batch");
+            put_number(page, u64::from(index));
+            put_text(page, b" void");
+        }
+        Line::Missing { digest } => put_digest(page, b"missing", &digest),
+        Line::Tx {
+            place,
+            status,
+            moved,
+        } => {
+            put_text(page, b"tx");
+            put_number(page, u64::from(place));
+            put_number(page, u64::from(status.number()));
+            put_number(page, moved);
+        }
+        Line::Account { id, balance, seq } => {
+            put_text(page, b"account");
+            put_number(page, id);
+            put_number(page, balance);
+            put_number(page, seq);
+        }
+        Line::Money { total } => {
+            put_text(page, b"money");
+            put_number(page, total);
+        }
+        Line::State { digest } => put_digest(page, b"state", &digest),
+        Line::Size { size } => {
+            put_text(page, b"size");
+            put_number(page, size);
+        }
+        Line::Index { index } => {
+            put_text(page, b"index");
+            put_number(page, index);
+        }
+        Line::Path { digest } => put_digest(page, b"path", &digest),
+    }
+    put_text(page, b"\n");
+}
+
+/// Adds a line and its line feed to a text.
+pub fn push_line(text: &mut Vec<u8>, line: Line) -> Result<(), AllocError>
+    ensures { OnOk result (text.new.items ≡ text.old.items ++ (line_text line ++ 10 ∷ [])) }
+{
+    text.reserve(LINE)?;
+    put_line(text, line);
+    Ok(())
+}
+
+/// A page of a report, and how many bytes have gone out before it.
+#[derive(Debug, Drop)]
+pub struct Page {
+    bytes: Vec<u8>,
+    out: u64,
+}
+
+impl Model for Page {
+    ghost use Rattle.std.specs.Prelude.{◌≤◌};
+    ghost use Rattle.std.specs.Vec.{vec_capacity};
+    ghost use Rattle.bk_report.specs.Pages.{Gathered};
+
+    ghost Value = { Gathered };
+
+    ghost view = { λ p. record { out = p.out; bytes = p.bytes.items } };
+
+    ghost invariant = { λ p. 65536 ≤ vec_capacity p.bytes };
+}
+
+impl Page {
+    /// An empty page, with all the room that it ever needs.
+    pub fn new(alloc: Global) -> Result<Page, AllocError>
+        ensures { IfOk result (λ page. page ≡ record { out = 0; bytes = [] }) }
+    {
+        Ok(Page {
+            bytes: Vec::with_capacity(alloc, PAGE)?,
+            out: 0,
+        })
+    }
+
+    /// Lets what the page holds go out.
+    pub fn flush<K: Sink>(&mut self, sink: &mut K) -> Result<(), WriteFault>
+        requires sound { CanBeUsed (K.state sink.old) }
+        requires size { self.old.out + length self.old.bytes < 2 ^ 62 }
+        ensures written { Written result (K.state sink.old)
+            (K.state sink.new) self.old self.new [] }
+        ensures empty { OnOk result (self.new.bytes ≡ []) }
+    {
+        match push_all(sink, &self.bytes) {
+            Ok(()) => {
+                self.out += self.bytes.len() as u64;
+                self.bytes.clear();
+                Ok(())
+            }
+            Err(fault) => {
+                let written = self.out + fault.written;
+                Err(WriteFault { written })
+            }
+        }
+    }
+
+    /// Puts a line, and lets the page go out first where it could get too long.
+    pub fn put<K: Sink>(&mut self, sink: &mut K, line: Line) -> Result<(), WriteFault>
+        requires sound { CanBeUsed (K.state sink.old) }
+        requires size { self.old.out + length self.old.bytes < 2 ^ 62 }
+        ensures written { Written result (K.state sink.old) (K.state sink.new) self.old self.new
+            (line_text line ++ 10 ∷ []) }
+        ensures size { OnOk result
+            (self.new.out + length self.new.bytes ≤ self.old.out + length self.old.bytes + 96) }
+    {
+        if self.bytes.len() > PAGE - LINE {
+            self.flush(sink)?;
+        }
+        put_line(&mut self.bytes, line);
+        Ok(())
+    }
+}
