@@ -1,5 +1,5 @@
 -- Batches of a feed, read frame by frame and executed some at a time.
-use Rattle.std.proofs.Common.{◌≡◌, ℕ, ◌+◌, ◌^◌, ◌<◌, List, [], ◌∷◌, ◌++◌, length, map, take, Option, Some, refl, sym, ap, subst, ◌∙◌, append-nil, append_assoc, length-append, arith}
+use Rattle.std.proofs.Common.{◌≡◌, ℕ, ◌+◌, ◌^◌, ◌<◌, List, [], ◌∷◌, ◌++◌, length, map, take, Option, Some, sym, ap, subst, ◌∙◌, append-nil, append_assoc, length-append, arith}
 use Rattle.std.specs.Prelude.{slice_get}
 use Rattle.std.proofs.lemmas.List.{map-append}
 use Rattle.bk_frames.specs.declared.genesis.Row.{Row}
@@ -7,15 +7,14 @@ use Rattle.bk_frames.specs.declared.version.Version.{Version}
 use Rattle.bk_frames.specs.Feed.{Frame, FeedValue, IsFeed}
 use Rattle.bk_frames.specs.Genesis.{AreAccounts}
 use Rattle.bk_tx.specs.Transaction.{Transaction}
-use Rattle.bk_rules.specs.declared.receipt.Receipt.{Receipt}
 use Rattle.bk_rules.specs.Fold.{state_after, receipts_of, HasRoom}
 use Rattle.bk_rules.proofs.Folding.{state_append, receipts_append}
 use Rattle.bk_rules.proofs.Room.{room_left}
 use Rattle.bk_replay.specs.declared.ledger.Ledger.{Ledger}
 use Rattle.bk_replay.specs.declared.slice.Batches.{Batches}
-use Rattle.bk_replay.specs.Report.{count_in, payloads_of, feed_transactions}
+use Rattle.bk_report.specs.Report.{count_in, payloads_of, feed_transactions}
 use Rattle.bk_replay.specs.private.Slices.{HasRead, HasRun}
-use Rattle.bk_replay.proofs.Runs.{payloads_of-append, feed_transactions-append, take_next, few_transactions}
+use Rattle.bk_report.proofs.Runs.{payloads_of-append, feed_transactions-append, take_next, few_transactions}
 
 -- before the first frame
 pub nothing_read : (v : Version) (opening : List Row) (l : Ledger) (b : Batches) → l.state.version ≡ v → l.counts.items ≡ [] → l.receipts.items ≡ [] → l.state.rows ≡ opening → b.counts.items ≡ [] → b.txs.items ≡ [] → HasRead v [] opening l b

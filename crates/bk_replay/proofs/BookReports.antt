@@ -18,15 +18,15 @@ use Rattle.bk_replay.specs.declared.ledger.Ledger.{Ledger}
 use Rattle.bk_replay.specs.declared.status.Status.{Status}
 use Rattle.bk_replay.specs.Finishing.{ReportIsOut, ReportStops}
 use Rattle.bk_replay.specs.Follower.{Executed, BookValue, IsExecuted, IsCurrent}
-use Rattle.bk_replay.specs.Lines.{text_of}
-use Rattle.bk_replay.specs.Report.{transactions_of, count_in}
-use Rattle.bk_replay.specs.RunLines.{Reading, head_lines, order_lines, batches_lines, ledger_lines, run_lines}
+use Rattle.bk_report.specs.Lines.{text_of}
+use Rattle.bk_report.specs.Report.{transactions_of, count_in}
+use Rattle.bk_report.specs.RunLines.{Reading, head_lines, order_lines, batches_lines, ledger_lines, run_lines}
 use Rattle.bk_replay.specs.RunReport.{committee_in, later_frames, Reads, IsReportOf, status_of}
 use Rattle.bk_replay.specs.private.Ledgers.{executed_of, book_with}
-use Rattle.bk_replay.specs.private.Pages.{Gathered, blank, Puts, Stops}
+use Rattle.bk_report.specs.Pages.{Gathered, blank, Puts, Stops}
 use Rattle.bk_replay.proofs.Counting.{few_places, few_ordered_batches, few_waiting, few_anchors, few_in_order, few_rejects}
-use Rattle.bk_replay.proofs.Putting.{all_out, part_out, part_size}
-use Rattle.bk_replay.proofs.RunText.{run_text_is}
+use Rattle.bk_report.proofs.Putting.{all_out, part_out, part_size}
+use Rattle.bk_report.proofs.RunText.{run_text_is}
 
 -- ---- what is shown
 

@@ -1,5 +1,5 @@
 -- What two books that are compared say of their feeds.
-use Rattle.std.proofs.Common.{◌≡◌, ℕ, zero, suc, ◌+◌, ◌<◌, ◌≤◌, ◌⊎◌, inl, inr, ⊎_elim, List, [], ◌∷◌, ◌++◌, length, Option, Some, None, refl, sym, ap, subst, ◌∙◌, arith, length-append}
+use Rattle.std.proofs.Common.{◌≡◌, ℕ, suc, ◌+◌, ◌<◌, ◌≤◌, ◌⊎◌, inl, inr, ⊎_elim, List, [], ◌∷◌, ◌++◌, length, Option, Some, None, refl, sym, ap, subst, ◌∙◌, arith, length-append}
 use Rattle.std.specs.Prelude.{slice_get, MatchOption}
 use Rattle.std.proofs.lemmas.Bool.{cases_lt}
 use Rattle.std.proofs.lemmas.List.{append-nil}
@@ -9,7 +9,7 @@ use Rattle.bk_frames.specs.declared.version.Version.{Version}
 use Rattle.bk_frames.specs.declared.genesis.Row.{Row}
 use Rattle.bk_frames.specs.Feed.{Frame, FeedValue, feed_of, genesis_of}
 use Rattle.bk_committee.specs.Payload.{CommitteeValue}
-use Rattle.bk_commit.specs.Growth.{IsPartOf, Begins}
+use Rattle.bk_commit.specs.Growth.{Begins}
 use Rattle.bk_order.specs.Agreement.{OneBegins, OrderBegins}
 use Rattle.bk_order.specs.Orders.{Ordered, IsOrderOf}
 use Rattle.bk_order.specs.Stops.{HasNoStop, IsStop}
@@ -22,7 +22,7 @@ use Rattle.bk_rules.specs.declared.receipt.Receipt.{Receipt}
 use Rattle.bk_rules.specs.Fold.{state_after, receipts_of}
 use Rattle.bk_rules.proofs.Folding.{length-receipts, receipts_append}
 use Rattle.bk_tx.specs.Transaction.{Transaction}
-use Rattle.bk_replay.specs.Report.{transactions_in, transactions_of}
+use Rattle.bk_report.specs.Report.{transactions_in, transactions_of}
 use Rattle.bk_replay.specs.RunReport.{committee_in, later_frames}
 use Rattle.bk_replay.specs.Follower.{BookValue, Followed, OrdersPart, FollowsBy, Follows, HasCome, OfFrames, receipts_of_executed, receipts_in}
 use Rattle.bk_replay.specs.Queries.{rows_of_executed, rows_in}
@@ -31,7 +31,7 @@ use Rattle.bk_replay.specs.declared.differ.Differ.{Differ}
 use Rattle.bk_replay.specs.declared.differ.Differ.TheVariants as differ
 use Rattle.bk_replay.specs.declared.fault.Fault.{Fault}
 use Rattle.bk_replay.specs.declared.opening.Opened.{Opened}
-use Rattle.bk_replay.specs.Agreement.{HaveOneSetup, frames_together, HaveNoStop, HaveStop, settlement_in, BeginsWith, Agree, OfBoth, FollowersAgree, FollowersDiffer}
+use Rattle.bk_replay.specs.Agreement.{HaveOneSetup, frames_together, HaveNoStop, HaveStop, settled_in, BeginsWith, Agree, OfBoth, FollowersAgree, FollowersDiffer}
 use Rattle.bk_replay.specs.private.Books.{IsGoodBook}
 use Rattle.bk_replay.specs.private.Comparing.{differ_of, IsLesser, HaveSameSetup, OfTaken, BooksAgree, BooksDiffer}
 use Rattle.bk_replay.specs.private.Parts.{followed}
@@ -186,7 +186,7 @@ module _ (f g : FeedValue) (b c : BookValue) (good : IsGoodBook f b) (also : IsG
 
     -- what the books were settled to agrees
     pub agree_now : (a : Agreed) → IsLesser a.certs (length b.taken.ordered.order) (length c.taken.ordered.order)
-        → IsLesser a.places (length (receipts_in (Some b))) (length (receipts_in (Some c))) → Agree (settlement_in (Some b)) (settlement_in (Some c)) a
+        → IsLesser a.places (length (receipts_in (Some b))) (length (receipts_in (Some c))) → Agree (settled_in (Some b)) (settled_in (Some c)) a
     agree_now a certs places =
         let begin : OneBegins (receipts_in (Some b)) (receipts_in (Some c)) =
         subst (λ (p : List Receipt × List Receipt). OneBegins p.0 p.1) (λ i. (sym receipts_here i, sym receipts_there i))
@@ -240,11 +240,11 @@ followers_agree one other b c bytes more fs gs a come came is also h =
     let y = good_of more gs other c came also in
     record {
       clear = of_both one other b c HaveNoStop is also (λ f g good fine. (one_setup f g b c good fine h.setup, of_feeds f g b c good fine HasNoStop h.clear));
-      agree = subst (λ (p : Option BookValue × Option BookValue). Agree (settlement_in p.0) (settlement_in p.1) a) (λ i. (sym is i, sym also i))
+      agree = subst (λ (p : Option BookValue × Option BookValue). Agree (settled_in p.0) (settled_in p.1) a) (λ i. (sym is i, sym also i))
           (agree_now (feed_of x.version fs) (feed_of y.version gs) b c x.good y.good h.setup (of_feeds (feed_of x.version fs) (feed_of y.version gs) b c x.good y.good HasNoStop h.clear) a h.certs h.places);
     }
 
-version_is : (v w : Version) (known : Option Version) → known ≡ Some v → known ≡ Some w → v ≡ w
+pub version_is : (v w : Version) (known : Option Version) → known ≡ Some v → known ≡ Some w → v ≡ w
 version_is v w known e g = let same : Some v ≡ Some w = sym e ∙ g in cc
 
 pub followers_differ : (one other : Followed) (b c : BookValue) (d : Differ) → one.book ≡ Some b → other.book ≡ Some c → BooksDiffer b c d → FollowersDiffer one other d
@@ -262,7 +262,7 @@ followers_differ one other b c (differ.Twins round author first second) is also 
 followers_differ one other b c differ.Memory is also h = of_both one other b c HaveOneSetup is also (λ f g good fine. one_setup f g b c good fine h)
 
 -- where there is no book the genesis is not whole
-unopened : (v : Followed) (bytes : List ℕ) (frames : List Frame) (version : Version) → v.book ≡ None → HasCome bytes frames v → v.cut.version ≡ Some version → 2 ≤ length frames → ⊥
+pub unopened : (v : Followed) (bytes : List ℕ) (frames : List Frame) (version : Version) → v.book ≡ None → HasCome bytes frames v → v.cut.version ≡ Some version → 2 ≤ length frames → ⊥
 unopened v bytes frames version none come known two =
     no_book version frames two (subst (FollowsBy version frames v.committee) none (subst (λ (w : Option Version). Follows w frames v.committee v.book) known come.follows))
   where

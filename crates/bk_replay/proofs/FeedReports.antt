@@ -9,11 +9,11 @@ use Rattle.bk_rules.specs.declared.receipt.Receipt.{Receipt}
 use Rattle.bk_rules.specs.Fold.{state_after, receipts_of}
 use Rattle.bk_rules.proofs.Folding.{length-receipts}
 use Rattle.bk_replay.specs.Answers.{PartIsOut, AreFeed}
-use Rattle.bk_replay.specs.Lines.{text_of}
-use Rattle.bk_replay.specs.private.Pages.{Gathered, blank, Puts, Stops}
-use Rattle.bk_replay.specs.Report.{payloads_of, feed_transactions, count_in, lines_of, apply_report_of, IsApplyReport}
-use Rattle.bk_replay.proofs.Putting.{all_out, part_out, part_size}
-use Rattle.bk_replay.proofs.Runs.{few_batches, few_feed_transactions}
+use Rattle.bk_report.specs.Lines.{text_of}
+use Rattle.bk_report.specs.Pages.{Gathered, blank, Puts, Stops}
+use Rattle.bk_report.specs.Report.{payloads_of, feed_transactions, count_in, lines_of, apply_report_of, IsApplyReport}
+use Rattle.bk_report.proofs.Putting.{all_out, part_out, part_size}
+use Rattle.bk_report.proofs.Runs.{few_batches, few_feed_transactions}
 
 -- what executing a feed gave
 pub record IsLedgerOf (feed : FeedValue) (counts : List (Option ℕ)) (receipts : List Receipt) (rows : List Row) : Type 0 where

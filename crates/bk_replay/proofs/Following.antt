@@ -171,6 +171,7 @@ finishes cut committee book b new before after answer is none current h = record
       let g = good_of bytes frames (follower_of cut committee book None) b come is in
       let now = current (feed_of g.version frames) g.good in
       (come_on bytes frames cut committee new None (follower_of cut committee book None) b refl come g refl now.book, settled_by g.version cut.version frames new g.known now);
+  cut = refl;
   report = of_feed (follower_of cut committee book None) b (λ feed. ReportIsOut feed answer before after) is none (λ feed good book_good. h.0 feed good (current feed book_good));
   works = h.1;
 }

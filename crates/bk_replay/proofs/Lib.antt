@@ -1,14 +1,5 @@
-pub mod Putting
-pub mod ReportLines
-pub mod Runs
 pub mod BatchReading
 pub mod FeedReports
-pub mod LineGroups
-pub mod RunText
-pub mod ProofTexts
-pub mod ProofReading
-pub mod ProofPaths
-pub mod ProofChecks
 pub mod Counting
 pub mod Books
 pub mod Openings
@@ -22,9 +13,9 @@ pub mod NextLemmas
 pub mod Following
 pub mod Schedules
 pub mod RunLaws
-pub mod MadeProofs
 pub mod QueryStops
 pub mod OrderSoFar
 pub mod ReplyTexts
 pub mod ReplyAnswers
 pub mod ComparedBooks
+pub mod FeedEnds

@@ -1,5 +1,5 @@
 -- Slices that are planned before their turn comes.
-use Rattle.std.proofs.Common.{◌≡◌, ℕ, ◌+◌, ◌^◌, ◌<◌, ◌≤◌, List, [], ◌++◌, length, Option, refl, sym, ap, subst, ◌∙◌, arith}
+use Rattle.std.proofs.Common.{◌≡◌, ℕ, ◌+◌, ◌≤◌, List, [], ◌++◌, length, Option, refl, sym, ap, subst, ◌∙◌, arith}
 use Rattle.std.specs.Arc.{arc_value}
 use Rattle.bk_frames.specs.declared.genesis.Row.{Row}
 use Rattle.bk_frames.specs.declared.version.Version.{Version}
@@ -14,32 +14,45 @@ use Rattle.bk_steps.specs.Schedule.{IsFoldOf}
 use Rattle.bk_replay.specs.declared.fault.Fault.{Fault}
 use Rattle.bk_replay.specs.declared.ledger.Ledger.{Ledger}
 use Rattle.bk_replay.specs.declared.ready.Ready.{Ready}
+use Rattle.bk_replay.specs.declared.ready.Ahead.{Ahead}
 use Rattle.bk_replay.specs.declared.ready.Next.{Next}
 use Rattle.bk_replay.specs.declared.ready.Next.TheVariants as next
 use Rattle.bk_replay.specs.declared.slice.Batches.{Batches}
-use Rattle.bk_replay.specs.private.Slices.{HasRun, IsNextOf, IsPlannedOn, IsReady, IsSame, IsSliceOf, Leaves, counts_of, txs_of}
+use Rattle.bk_replay.specs.private.Slices.{HasRun, IsAheadOf, IsNextFrom, IsNextOf, IsNoneAhead, IsPlannedOn, IsReadOf, IsReady, IsSame, Leaves, ahead_of, counts_of, txs_of}
 use Rattle.bk_replay.proofs.SliceLemmas.{slice_none}
 
 -- ---- reading
 
 -- a slice that is read
-pub read_next : (payloads : List (List ℕ)) (from : ℕ) (version : Version) (slots : List ℕ) (b : Batches) → IsSliceOf payloads from b.counts.items b.txs.items → (from < length payloads → 0 < length b.counts.items)
-    → from + length b.counts.items ≤ length payloads → length b.txs.items < 2 ^ 31 → IsNextOf payloads from version slots (next.Read b)
-read_next payloads from version slots b slice some within few = record { slice = slice; planned = tt; some = some; within = within; few = few }
+pub read_next : (payloads : List (List ℕ)) (from : ℕ) (version : Version) (slots : List ℕ) (b : Batches) → IsReadOf payloads from b.counts.items b.txs.items → IsNextOf payloads from version slots (next.Read b)
+read_next payloads from version slots b read = record { read = read; planned = tt }
 
--- a slice that is read and planned
-pub ready_next : (payloads : List (List ℕ)) (from : ℕ) (version : Version) (slots : List ℕ) (b : Batches) (r : Ready) → IsNextOf payloads from version slots (next.Read b) → IsReady version slots b.counts.items b.txs.items r
-    → IsNextOf payloads from version slots (next.Ready r)
-ready_next payloads from version slots b r read ready =
-    let counts = sym ready.counts_are in
-    let txs = sym ready.txs_are in
-    record {
-      slice = subst (λ (s : List (Option ℕ) × List (Option Transaction)). IsSliceOf payloads from s.0 s.1) (λ i. (counts i, txs i)) read.slice;
-      planned = (ready.version_is, ready.slots_are);
-      some = λ low. subst (λ (s : List (Option ℕ)). 0 < length s) counts (read.some low);
-      within = subst (λ (s : List (Option ℕ)). from + length s ≤ length payloads) counts read.within;
-      few = subst (λ (s : List (Option Transaction)). length s < 2 ^ 31) txs read.few;
-    }
+-- the first two slices
+pub two_ahead : (payloads : List (List ℕ)) (from later : ℕ) (version : Version) (slots : List ℕ) (b c : Batches) → later ≡ from + length b.counts.items → IsReadOf payloads from b.counts.items b.txs.items → IsReadOf payloads later c.counts.items c.txs.items
+    → IsAheadOf payloads from version slots (ahead_of (next.Read b) c)
+two_ahead payloads from later version slots b c at read behind = record {
+  next = read_next payloads from version slots b read;
+  read = subst (λ (n : ℕ). IsReadOf payloads n c.counts.items c.txs.items) at behind;
+}
+
+-- a slice that was read, and planned
+pub ready_from : (b : Batches) (version : Version) (slots : List ℕ) (r : Ready) → IsReady version slots b.counts.items b.txs.items r → IsNextFrom b version slots (next.Ready r)
+ready_from b version slots r ready = record { counts_are = ready.counts_are; txs_are = ready.txs_are; planned = (ready.version_is, ready.slots_are) }
+
+-- or not
+pub read_from : (b : Batches) (version : Version) (slots : List ℕ) → IsNextFrom b version slots (next.Read b)
+read_from b version slots = record { counts_are = refl; txs_are = refl; planned = tt }
+
+-- and the one behind it
+pub from_ahead : (payloads : List (List ℕ)) (from later : ℕ) (version : Version) (slots : List ℕ) (b c : Batches) (n : Next) → IsReadOf payloads from b.counts.items b.txs.items → IsNextFrom b version slots n → later ≡ from + length b.counts.items
+    → IsReadOf payloads later c.counts.items c.txs.items → IsAheadOf payloads from version slots (ahead_of n c)
+from_ahead payloads from later version slots b c n read planned at behind = record {
+  next = record {
+    read = subst (λ (s : List (Option ℕ) × List (Option Transaction)). IsReadOf payloads from s.0 s.1) (λ i. (sym planned.counts_are i, sym planned.txs_are i)) read;
+    planned = planned.planned;
+  };
+  read = subst (λ (k : ℕ). IsReadOf payloads k c.counts.items c.txs.items) (at ∙ ap (λ (s : List (Option ℕ)). from + length s) (sym planned.counts_are)) behind;
+}
 
 -- a slice that was planned is ready as it is
 pub ready_again : (version : Version) (slots : List ℕ) (n : Next) (r : Ready) → n ≡ next.Ready r → IsPlannedOn version slots n → IsReady version slots (counts_of n) (txs_of n) r
@@ -47,20 +60,28 @@ ready_again version slots n r is planned =
     subst (λ (m : Next). IsPlannedOn version slots m → IsReady version slots (counts_of m) (txs_of m) r) (sym is) (λ p. record { version_is = p.0; slots_are = p.1; counts_are = refl; txs_are = refl }) planned
 
 -- nothing is left
-pub none_next : (payloads : List (List ℕ)) (l : Ledger) (b : Batches) → length l.counts.items ≡ length payloads → b.counts.items ≡ [] → b.txs.items ≡ [] → IsNextOf payloads (length l.counts.items) l.state.version l.state.slots (next.Read b)
-none_next payloads l b all counts txs = record {
-  slice = slice_none payloads (length l.counts.items) b counts txs;
-  planned = tt;
+read_none : (payloads : List (List ℕ)) (from : ℕ) (counts : List (Option ℕ)) (txs : List (Option Transaction)) → length payloads ≤ from → from ≤ length payloads → counts ≡ [] → txs ≡ [] → IsReadOf payloads from counts txs
+read_none payloads from counts txs all within none empty = record {
+  slice = slice_none payloads from counts txs none empty;
   some = λ low. absurd (omega (arith, all, low));
-  within = omega (arith, all, ap length counts);
-  few = omega (arith, ap length txs);
+  within = omega (arith, within, ap length none);
+  few = omega (arith, ap length empty);
 }
 
--- the slice behind one that was executed
-pub behind_next : (payloads : List (List ℕ)) (from : ℕ) (version : Version) (slots : List ℕ) (l : Ledger) (n : Next) → from ≡ length l.counts.items → l.state.version ≡ version → l.state.slots ≡ slots
-    → IsNextOf payloads from version slots n → IsNextOf payloads (length l.counts.items) l.state.version l.state.slots n
-behind_next payloads from version slots l n at version_is slots_are behind =
-    subst (λ (s : ℕ × Version × List ℕ). IsNextOf payloads s.0 s.1 s.2 n) (λ i. (at i, sym version_is i, sym slots_are i)) behind
+pub none_ahead : (payloads : List (List ℕ)) (l : Ledger) (a : Ahead) → length l.counts.items ≡ length payloads → IsNoneAhead a → IsAheadOf payloads (length l.counts.items) l.state.version l.state.slots a
+none_ahead payloads l a all none = record {
+  next = record {
+    read = read_none payloads (length l.counts.items) (counts_of a.next) (txs_of a.next) (omega (arith, all)) (omega (arith, all)) none.no_counts none.no_txs;
+    planned = none.not_planned l.state.version l.state.slots;
+  };
+  read = read_none payloads (length l.counts.items + length (counts_of a.next)) a.read.counts.items a.read.txs.items (omega (arith, all, ap length none.no_counts)) (omega (arith, all, ap length none.no_counts)) none.none_read none.none_there;
+}
+
+-- the slices behind one that was executed
+pub behind_ahead : (payloads : List (List ℕ)) (from : ℕ) (version : Version) (slots : List ℕ) (l : Ledger) (a : Ahead) → from ≡ length l.counts.items → l.state.version ≡ version → l.state.slots ≡ slots
+    → IsAheadOf payloads from version slots a → IsAheadOf payloads (length l.counts.items) l.state.version l.state.slots a
+behind_ahead payloads from version slots l a at version_is slots_are behind =
+    subst (λ (s : ℕ × Version × List ℕ). IsAheadOf payloads s.0 s.1 s.2 a) (λ i. (at i, sym version_is i, sym slots_are i)) behind
 
 -- ---- executing
 

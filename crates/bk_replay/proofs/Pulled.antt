@@ -65,20 +65,39 @@ pulled_more start now later v w piece p gave works takes =
       works = works ∙ p.works;
     }
 
+-- the frames that waited are taken
+pub taken_now : (start now : Device) (v w : Gathered) → IsPulled start now v → ((bytes : List ℕ) (taken : List Frame) → HasGathered bytes taken v → HasGathered bytes (taken ++ frames_in v.frames.items) w) → IsPulled start now w
+taken_now start now v w p takes = record {
+  bytes = p.bytes;
+  taken = p.taken ++ frames_in v.frames.items;
+  gave = p.gave;
+  come = takes p.bytes p.taken p.come;
+  works = p.works;
+}
+
 -- the source is at its end: it gave nothing, and there was room for more
-pub all_pulled : (start now later : Device) (v : Gathered) (done : Followed) (buf : List ℕ) (n : ℕ) → IsPulled start now v → Gives now later (take n buf) × (n ≡ 0 → 0 < length buf → IsAtEnd later.bytes) → n ≡ 0 → 0 < length buf
-    → ((bytes : List ℕ) (taken : List Frame) → HasGathered bytes taken v → (frames : List Frame) × HasCome bytes frames done) → IfKnown start (λ bytes. AllHasCome bytes done)
-all_pulled start now later v done buf n p read zero some come = by_known start.bytes later.bytes (consumes_then start.bytes now.bytes later.bytes p.bytes [] p.gave nothing) (read.1 zero some)
+pub all_pulled : (start now later : Device) (v : Gathered) (buf : List ℕ) (n : ℕ) → IsPulled start now v → Gives now later (take n buf) × (n ≡ 0 → 0 < length buf → IsAtEnd later.bytes) → n ≡ 0 → 0 < length buf
+    → IfKnown start (λ bytes. (taken : List Frame) × HasGathered bytes taken v)
+all_pulled start now later v buf n p read zero some = by_known start.bytes later.bytes (consumes_then start.bytes now.bytes later.bytes p.bytes [] p.gave nothing) (read.1 zero some)
   where
     nothing : Gives now later []
     nothing = subst (λ (k : ℕ). Gives now later (take k buf)) zero read.0
 
-    by_known : (a b : Option (List ℕ)) → Consumes a b (p.bytes ++ []) → IsAtEnd b → IfSome a (λ bytes. AllHasCome bytes done)
+    by_known : (a b : Option (List ℕ)) → Consumes a b (p.bytes ++ []) → IsAtEnd b → IfSome a (λ bytes. (taken : List Frame) × HasGathered bytes taken v)
     by_known None b gave end = tt
     by_known (Some bytes) None gave end = absurd gave
     by_known (Some bytes) (Some left) gave end =
         let all : bytes ≡ p.bytes = gave ∙ ap (λ (t : List ℕ). (p.bytes ++ []) ++ t) end ∙ append-nil (p.bytes ++ []) ∙ append-nil p.bytes in
-        subst (λ (t : List ℕ). AllHasCome t done) (sym all) (come p.bytes p.taken p.come)
+        (p.taken, subst (λ (t : List ℕ). HasGathered t p.taken v) (sym all) p.come)
+
+-- what was gathered has come
+pub all_come : (start : Device) (v : Gathered) (done : Followed) → IfKnown start (λ bytes. (taken : List Frame) × HasGathered bytes taken v) → ((bytes : List ℕ) (taken : List Frame) → HasGathered bytes taken v → HasCome bytes taken done)
+    → IfKnown start (λ bytes. AllHasCome bytes done)
+all_come start v done all come = by_known start.bytes all
+  where
+    by_known : (a : Option (List ℕ)) → IfSome a (λ bytes. (taken : List Frame) × HasGathered bytes taken v) → IfSome a (λ bytes. AllHasCome bytes done)
+    by_known None h = tt
+    by_known (Some bytes) h = (h.0, come bytes h.0 h.1)
 
 -- a piece was refused: what all bytes show, or where memory ran out
 refused_piece : (start now later : Device) (v : Gathered) (piece : List ℕ) (found : FeedFault) → IsPulled start now v → Gives now later piece → Works now later → RefusesPiece v.cutter piece found → RefusesInPieces found start later

@@ -6,16 +6,16 @@ use Rattle.bk_frames.specs.Device.{Device, Works, Fails}
 use Rattle.bk_frames.specs.Writing.{Writes}
 use Rattle.bk_replay.specs.declared.fault.Fault.{Fault}
 use Rattle.bk_replay.specs.declared.fault.Fault.TheVariants as fault
-use Rattle.bk_replay.specs.declared.line.Line.{Line}
+use Rattle.bk_report.specs.declared.line.Line.{Line}
 use Rattle.bk_replay.specs.declared.query.Query.{Query}
 use Rattle.bk_replay.specs.declared.query.Reply.{Reply}
 use Rattle.bk_replay.specs.declared.query.Reply.TheVariants as reply
 use Rattle.bk_replay.specs.Asking.{Outcome, Shows, Lacks}
-use Rattle.bk_replay.specs.Lines.{line_text, text_of}
-use Rattle.bk_replay.specs.private.Pages.{Gathered, blank, Puts, Stops}
+use Rattle.bk_report.specs.Lines.{line_text, text_of}
+use Rattle.bk_report.specs.Pages.{Gathered, blank, Puts, Stops}
 use Rattle.bk_replay.specs.private.Replies.{TextFails, IsTextOf, WritesFound, WritesReply}
-use Rattle.bk_replay.proofs.LineGroups.{text_one}
-use Rattle.bk_replay.proofs.Putting.{all_out, part_out, part_size}
+use Rattle.bk_report.proofs.LineGroups.{text_one}
+use Rattle.bk_report.proofs.Putting.{all_out, part_out, part_size}
 
 -- a text was put on an empty page, and went out whole
 pub page_out : (old new : Device) (page after : Gathered) (text : List ℕ) → page ≡ blank → after.bytes ≡ [] → Works old new × Puts old new page after text → Writes text old new

@@ -19,7 +19,7 @@ use Rattle.bk_replay.specs.Finishing.{OfFeed, ReportIsOut, ReportStops, Finishes
 use Rattle.bk_replay.specs.Replaying.{AllHasCome, ReadFails, PartOfRunIsOut, RunFailsBy}
 
 -- what holds of whatever has come holds of the bytes, where they are known
-of_known : (known : Device) (v : Followed) (P : List ℕ → Type 0) → IfKnown known (λ bytes. AllHasCome bytes v) → ((bytes : List ℕ) (frames : List Frame) → HasCome bytes frames v → P bytes) → IfKnown known P
+pub of_known : (known : Device) (v : Followed) (P : List ℕ → Type 0) → IfKnown known (λ bytes. AllHasCome bytes v) → ((bytes : List ℕ) (frames : List Frame) → HasCome bytes frames v → P bytes) → IfKnown known P
 of_known known v P come f = by_known known.bytes come
   where
     by_known : (o : Option (List ℕ)) → IfSome o (λ bytes. AllHasCome bytes v) → IfSome o P

@@ -23,13 +23,13 @@ use Rattle.bk_rules.specs.Fold.{state_after, receipts_of}
 use Rattle.bk_rules.proofs.Folding.{total_kept_by_fold, ledger_of_accounts}
 use Rattle.bk_replay.specs.declared.fault.Fault.{Fault}
 use Rattle.bk_replay.specs.declared.fault.Fault.TheVariants as fault
-use Rattle.bk_replay.specs.declared.line.Line.{Line}
-use Rattle.bk_replay.specs.declared.line.Line.TheVariants as line
+use Rattle.bk_report.specs.declared.line.Line.{Line}
+use Rattle.bk_report.specs.declared.line.Line.TheVariants as line
 use Rattle.bk_replay.specs.declared.status.Status.{Status}
-use Rattle.bk_replay.specs.Leaves.{state_of}
-use Rattle.bk_replay.specs.Lines.{text_of}
-use Rattle.bk_replay.specs.Report.{transactions_of, count_in, batch_line, batch_lines, tx_lines, account_lines}
-use Rattle.bk_replay.specs.RunLines.{Reading, members_line, head_lines, reject_lines, waiting_lines, anchor_lines, cert_lines, missing_lines, order_lines, batches_lines, ending_lines, run_lines}
+use Rattle.bk_report.specs.Leaves.{state_of}
+use Rattle.bk_report.specs.Lines.{text_of}
+use Rattle.bk_report.specs.Report.{transactions_of, count_in, batch_line, batch_lines, tx_lines, account_lines}
+use Rattle.bk_report.specs.RunLines.{Reading, members_line, head_lines, reject_lines, waiting_lines, anchor_lines, cert_lines, missing_lines, order_lines, batches_lines, ending_lines, run_lines}
 use Rattle.bk_replay.specs.RunReport.{committee_in, later_frames, HasNoStopIn, Reads, status_of, IsReportOf, IsReport, IsStopIn}
 use Rattle.bk_replay.specs.RunLaws.{EndsWithMoney, Answer, ComesTo, faulty, stopped, reported}
 use Rattle.bk_replay.specs.private.Stopping.{fault_of}

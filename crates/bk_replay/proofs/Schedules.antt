@@ -1,5 +1,5 @@
 -- The transactions of a feed by a list of events.
-use Rattle.std.proofs.Common.{◌≡◌, ℕ, ◌+◌, ◌^◌, ◌<◌, List, [], ◌∷◌, ◌++◌, length, take, Option, Some, None, refl, sym, ap, subst, ◌∙◌, arith}
+use Rattle.std.proofs.Common.{◌≡◌, ℕ, ◌+◌, ◌^◌, ◌<◌, List, [], ◌∷◌, ◌++◌, length, take, Option, Some, None, sym, ap, subst, ◌∙◌, arith}
 use Rattle.std.specs.Prelude.{IfSome, slice_get}
 use Rattle.bk_frames.specs.declared.genesis.Row.{Row}
 use Rattle.bk_frames.specs.declared.version.Version.{Version}
@@ -20,15 +20,14 @@ use Rattle.bk_steps.specs.declared.outcome.Outcome.{Outcome}
 use Rattle.bk_steps.specs.declared.outcome.ScheduleFault.{ScheduleFault}
 use Rattle.bk_steps.specs.declared.outcome.ScheduleFault.TheVariants.{Refused, Unfinished, OutOfMemory}
 use Rattle.bk_pool.proofs.Prepared.{can_run, room_after}
-use Rattle.bk_replay.specs.declared.fault.Fault.{Fault}
 use Rattle.bk_replay.specs.declared.fault.Fault.TheVariants as fault
 use Rattle.bk_replay.specs.declared.scheduling.ScheduleStop.{ScheduleStop}
 use Rattle.bk_replay.specs.declared.scheduling.ScheduleStop.TheVariants as stop
 use Rattle.bk_replay.specs.Answers.{devices}
-use Rattle.bk_replay.specs.Report.{feed_transactions}
+use Rattle.bk_report.specs.Report.{feed_transactions}
 use Rattle.bk_replay.specs.Scheduling.{opening_of, IsPlanOfFeed, InExecution, InExecutionOf, StopsBy}
-use Rattle.bk_replay.specs.private.Schedules.{stop_of, IsMemory, Unscheduled, IsScheduled}
-use Rattle.bk_replay.proofs.Runs.{few_feed_transactions, transactions_next}
+use Rattle.bk_replay.specs.private.Schedules.{stop_of, Unscheduled, IsScheduled}
+use Rattle.bk_report.proofs.Runs.{few_feed_transactions, transactions_next}
 use Rattle.bk_replay.proofs.FeedReports.{are_feed}
 use Rattle.bk_replay.proofs.Following.{untouched}
 

@@ -1,5 +1,5 @@
 -- Slices of an order, one after another.
-use Rattle.std.proofs.Common.{◌≡◌, ℕ, zero, suc, ◌+◌, ◌≤◌, List, [], ◌∷◌, ◌++◌, length, map, drop, Option, Some, refl, sym, ap, subst, ◌∙◌, append-nil, append_assoc, length-append, drop_of_length-le, vec_len, arith}
+use Rattle.std.proofs.Common.{◌≡◌, ℕ, zero, suc, ◌+◌, ◌≤◌, List, [], ◌∷◌, ◌++◌, length, map, drop, Option, Some, refl, sym, ap, subst, ◌∙◌, append-nil, append_assoc, length-append, drop_of_length-le, arith}
 use Rattle.std.specs.Prelude.{slice_get}
 use Rattle.std.proofs.lemmas.List.{map-append}
 use Rattle.std.proofs.lemmas.List.Concat.{flat_map-append, flat_map-cons}
@@ -14,7 +14,7 @@ use Rattle.bk_replay.specs.declared.fault.Fault.{Fault}
 use Rattle.bk_replay.specs.declared.fault.Fault.TheVariants as fault
 use Rattle.bk_replay.specs.declared.ledger.Ledger.{Ledger}
 use Rattle.bk_replay.specs.declared.slice.Batches.{Batches}
-use Rattle.bk_replay.specs.Report.{count_in, transactions_in, transactions_of}
+use Rattle.bk_report.specs.Report.{count_in, transactions_in, transactions_of}
 use Rattle.bk_replay.specs.private.Slices.{left_of, HasRun, HasExecuted, IsSliceOf, IsOnTheWay, Leaves}
 
 -- ---- lists
@@ -72,12 +72,12 @@ counts_after counts txs a b ran = ap length ran.counts_are ∙ length-append a.c
 
 -- ---- reading a slice
 
-pub slice_none : (payloads : List (List ℕ)) (from : ℕ) (b : Batches) → b.counts.items ≡ [] → b.txs.items ≡ [] → IsSliceOf payloads from b.counts.items b.txs.items
-slice_none payloads from b counts txs = record {
+pub slice_none : (payloads : List (List ℕ)) (from : ℕ) (counts : List (Option ℕ)) (txs : List (Option Transaction)) → counts ≡ [] → txs ≡ [] → IsSliceOf payloads from counts txs
+slice_none payloads from counts txs none empty = record {
   batches = [];
-  split = let e : from ≡ from + length b.counts.items = omega (arith, ap length counts) in ap (λ n. drop n payloads) e;
-  counts_are = counts;
-  txs_are = txs;
+  split = let e : from ≡ from + length counts = omega (arith, ap length none) in ap (λ n. drop n payloads) e;
+  counts_are = none;
+  txs_are = empty;
 }
 
 pub slice_more : (payloads : List (List ℕ)) (from place : ℕ) (payload : List ℕ) (b c : Batches) → IsSliceOf payloads from b.counts.items b.txs.items → from + length b.counts.items ≡ place → slice_get payloads place ≡ Some payload

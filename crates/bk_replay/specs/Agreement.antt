@@ -1,7 +1,6 @@
 -- When two Followers agree, and when they differ.
-use Rattle.std.specs.Prelude.{◌≡◌, ◌≤◌, ◌⊎◌, ℕ, List, [], ◌++◌, length, Option, Some, None}
+use Rattle.std.specs.Prelude.{◌≡◌, ◌≤◌, ◌⊎◌, ℕ, List, ◌++◌, length, Option, Some, None}
 use Rattle.bk_frames.specs.declared.version.Version.{Version}
-use Rattle.bk_frames.specs.declared.genesis.Row.{Row}
 use Rattle.bk_frames.specs.Feed.{Frame, FeedValue, feed_of, genesis_of}
 use Rattle.bk_commit.specs.Growth.{Begins}
 use Rattle.bk_order.specs.Agreement.{OneBegins}
@@ -10,7 +9,7 @@ use Rattle.bk_order.specs.Orders.{Ordered}
 use Rattle.bk_order.specs.Stops.{HasNoStop, IsStop}
 use Rattle.bk_order.specs.declared.stop.Stop.{Stop}
 use Rattle.bk_order.specs.declared.stop.Stop.TheVariants as stop
-use Rattle.bk_rules.specs.declared.receipt.Receipt.{Receipt}
+use Rattle.bk_replay.specs.Asking.{Outcome}
 use Rattle.bk_replay.specs.declared.differ.Agreed.{Agreed}
 use Rattle.bk_replay.specs.declared.differ.Differ.{Differ}
 use Rattle.bk_replay.specs.declared.differ.Differ.TheVariants as differ
@@ -44,20 +43,14 @@ HaveStop one other s =
 
 -- ---- what they were settled to
 
--- an order, what became of the transactions of its batches, and the accounts after them
-pub record Settlement : Type 0 where
-  pub ordered : Ordered
-  pub receipts : List Receipt
-  pub rows : List Row
-
 -- the order as it was settled last; nothing where there is no book
 abbrev pub ordered_in : Option BookValue → Ordered
 ordered_in None = nothing_ordered
 ordered_in (Some b) = b.taken.ordered
 
 -- what a book was settled to
-abbrev pub settlement_in : Option BookValue → Settlement
-settlement_in book =
+abbrev pub settled_in : Option BookValue → Outcome
+settled_in book =
     record { ordered = ordered_in book; receipts = receipts_in book; rows = rows_in book }
 
 -- one of two lists begins the other, and this is its length
@@ -67,7 +60,7 @@ BeginsWith {X} count xs ys =
 
 -- The orders agree as far as the shorter one goes, and so do the receipts; and where these are equally many, so do the
 -- accounts.
-pub record Agree (one other : Settlement) (a : Agreed) : Type 0 where
+pub record Agree (one other : Outcome) (a : Agreed) : Type 0 where
   pub anchors : OneBegins one.ordered.anchors other.ordered.anchors
   pub certs : BeginsWith a.certs one.ordered.order other.ordered.order
   pub places : BeginsWith a.places one.receipts other.receipts
@@ -88,7 +81,7 @@ OfBothKnown one other holds =
 -- two Followers agree: nothing stops the frames of both together, and what they were settled to agrees
 pub record FollowersAgree (one other : Followed) (a : Agreed) : Type 0 where
   pub clear : OfBoth one other HaveNoStop
-  pub agree : Agree (settlement_in one.book) (settlement_in other.book) a
+  pub agree : Agree (settled_in one.book) (settled_in other.book) a
 
 -- why they do not: they have no one setup; or the frames of both together are stopped so; or memory ran out
 abbrev pub FollowersDiffer : Followed → Followed → Differ → Type 0

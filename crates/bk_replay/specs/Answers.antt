@@ -6,7 +6,7 @@ use Rattle.bk_frames.specs.Feed.{FeedValue, IsFeed, spelling}
 use Rattle.bk_frames.specs.Pulling.{Refuses}
 use Rattle.bk_replay.specs.declared.fault.Fault.{Fault}
 use Rattle.bk_replay.specs.declared.fault.Fault.TheVariants as fault
-use Rattle.bk_replay.specs.Report.{IsApplyReport}
+use Rattle.bk_report.specs.Report.{IsApplyReport}
 
 -- the source and the sink of a replay
 pub record Devices : Type 0 where

@@ -11,16 +11,16 @@ use Rattle.bk_rules.specs.Fold.{state_after, receipts_of}
 use Rattle.bk_rules.specs.Rows.{account_at}
 use Rattle.bk_replay.specs.declared.fault.Fault.{Fault}
 use Rattle.bk_replay.specs.declared.fault.Fault.TheVariants as fault
-use Rattle.bk_replay.specs.declared.line.Line.TheVariants as line
+use Rattle.bk_report.specs.declared.line.Line.TheVariants as line
 use Rattle.bk_replay.specs.declared.query.Query.{Query}
 use Rattle.bk_replay.specs.declared.query.Query.TheVariants as query
 use Rattle.bk_replay.specs.declared.query.Reply.{Reply}
 use Rattle.bk_replay.specs.declared.query.Reply.TheVariants as reply
 use Rattle.bk_replay.specs.Answers.{Devices, IsUntouched}
-use Rattle.bk_replay.specs.Lines.{text_of}
-use Rattle.bk_replay.specs.Proofs.{ProofValue, proof_text, IsProofOf, IsAbsent}
-use Rattle.bk_replay.specs.Report.{transactions_of}
-use Rattle.bk_replay.specs.RunLines.{anchor_lines, cert_lines}
+use Rattle.bk_report.specs.Lines.{text_of}
+use Rattle.bk_report.specs.Proofs.{ProofValue, proof_text, IsProofOf, IsAbsent}
+use Rattle.bk_report.specs.Report.{transactions_of}
+use Rattle.bk_report.specs.RunLines.{anchor_lines, cert_lines}
 use Rattle.bk_replay.specs.RunReport.{HasNoStopIn, IsOrderIn, IsStopped, HasPlace}
 use Rattle.bk_replay.specs.Replaying.{NothingFailed}
 

@@ -41,6 +41,7 @@ OfFeed v holds = (bytes : List ℕ) (frames : List Frame) → HasCome bytes fram
 pub record Finishes (old new : Followed) (before after : Device) (answer : Status) : Type 0 where
   pub settled : (bytes : List ℕ) (frames : List Frame) → HasCome bytes frames old
       → HasCome bytes frames new × IsSettled frames new
+  pub cut : new.cut ≡ old.cut
   pub report : OfFeed old (λ feed. ReportIsOut feed answer before after)
   pub works : Works before after
 

@@ -1,9 +1,4 @@
-pub mod Lines
-pub mod Report
-pub mod Leaves
-pub mod RunLines
 pub mod RunReport
-pub mod Proofs
 pub mod Answers
 pub mod Follower
 pub mod Finishing
@@ -16,5 +11,5 @@ pub mod Scheduling
 pub mod private
 pub mod Laws
 pub mod RunLaws
-pub mod ProofLaws
 pub mod Agreement
+pub mod FeedAgreement

@@ -4,12 +4,12 @@ use Rattle.bk_frames.specs.declared.fault.FeedFault.{FeedFault}
 use Rattle.bk_frames.specs.Genesis.{total_of}
 use Rattle.bk_frames.specs.Feed.{FeedValue, IsFeed, HasFault, spelling, genesis_of}
 use Rattle.bk_replay.specs.declared.fault.Fault.{Fault}
-use Rattle.bk_replay.specs.declared.line.Line.{Line}
-use Rattle.bk_replay.specs.declared.line.Line.TheVariants as line
+use Rattle.bk_report.specs.declared.line.Line.{Line}
+use Rattle.bk_report.specs.declared.line.Line.TheVariants as line
 use Rattle.bk_replay.specs.declared.status.Status.{Status}
-use Rattle.bk_replay.specs.Leaves.{state_of}
-use Rattle.bk_replay.specs.Lines.{text_of}
-use Rattle.bk_replay.specs.RunLines.{Reading}
+use Rattle.bk_report.specs.Leaves.{state_of}
+use Rattle.bk_report.specs.Lines.{text_of}
+use Rattle.bk_report.specs.RunLines.{Reading}
 use Rattle.bk_replay.specs.RunReport.{Reads, IsReport, IsStopped}
 
 -- ---- money

@@ -1,4 +1,3 @@
-pub mod Pages
 pub mod Ledgers
 pub mod Stopping
 pub mod Books
@@ -10,3 +9,4 @@ pub mod Schedules
 pub mod Ordered
 pub mod Comparing
 pub mod Gathering
+pub mod Ends

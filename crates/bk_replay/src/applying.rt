@@ -2,17 +2,15 @@ ghost use Rattle.std.specs.Prelude.{◌≡◌, ℕ, ◌^◌, ◌<◌, List, [], 
 ghost use Rattle.bk_frames.specs.Device.{CanBeUsed, Works, Receives, IfKnown};
 ghost use Rattle.bk_frames.specs.Genesis.{total_of};
 ghost use Rattle.bk_replay.specs.Answers.{FailsBy, devices};
-ghost use Rattle.bk_replay.specs.Report.{IsApplyReport, lines_of};
-ghost use Rattle.bk_replay.specs.Lines.{text_of};
-ghost use Rattle.bk_replay.specs.private.Pages.{Written, blank};
+ghost use Rattle.bk_report.specs.Report.{IsApplyReport, lines_of};
+ghost use Rattle.bk_report.specs.Lines.{text_of};
+ghost use Rattle.bk_report.specs.Pages.{Written, blank};
 
 use crate::fault::Fault;
-use crate::groups::{put_accounts, put_batches, put_receipts};
 use crate::ledger::Ledger;
-use crate::line::Line;
-use crate::page::Page;
 use crate::summary::Summary;
 use bk_frames::{Feed, Sink, Source, WriteFault};
+use bk_report::{Line, Page, put_accounts, put_batches, put_receipts};
 use std::alloc::Global;
 
 /// Writes the report of a feed, a page at a time.

@@ -53,8 +53,8 @@ impl Model for Follower {
         × HasCome bytes frames (followed f.cutter f.opened)) };
 }
 
-// Whether a fault is a stop of the feed, which may go on.
-fn is_stop(fault: &Fault) -> bool
+/// Whether a fault is a stop of the feed, which may go on.
+pub(crate) fn is_stop(fault: &Fault) -> bool
     ensures { result ≡ stops fault.now }
 {
     match fault {

@@ -69,8 +69,12 @@ impl Gathered {
         Ok(())
     }
 
-    // Takes the frames that wait.
-    fn take(&mut self, rt: &(impl Threads + Sync), alloc: Global) -> Result<(), AllocError>
+    /// Takes the frames that wait.
+    pub(crate) fn take(
+        &mut self,
+        rt: &(impl Threads + Sync),
+        alloc: Global,
+    ) -> Result<(), AllocError>
         requires come { (bytes : List ℕ) × (taken : List Frame)
             × HasGathered bytes taken self.old }
         ensures takes { OnOk result ((bytes : List ℕ) (taken : List Frame)
@@ -108,22 +112,16 @@ impl Gathered {
         Ok(())
     }
 
-    /// A Follower of all that came, with 1 to 64 workers.
-    pub(crate) fn into_follower(
-        self,
-        rt: &(impl Threads + Sync),
-        alloc: Global,
-        workers: usize,
-    ) -> Result<Follower, AllocError>
+    /// A Follower of all that came and is taken, with 1 to 64 workers.
+    pub(crate) fn into_follower(self, alloc: Global, workers: usize) -> Follower
         requires come { (bytes : List ℕ) × (taken : List Frame) × HasGathered bytes taken self }
+        requires all { self.frames.items ≡ [] }
         requires workers { (1 ≤ workers) × (workers ≤ 64) }
-        ensures come { IfOk result (λ v. (bytes : List ℕ) (taken : List Frame)
-            → HasGathered bytes taken self → (frames : List Frame) × HasCome bytes frames v) }
-        ensures works { IfOk result (λ v. v.fault ≡ None) }
+        ensures come { (bytes : List ℕ) (taken : List Frame)
+            → HasGathered bytes taken self → HasCome bytes taken result }
+        ensures works { result.fault ≡ None }
     {
-        let mut all = self;
-        all.take(rt, alloc)?;
-        let Gathered { cutter, opened, .. } = all;
-        Ok(Follower::of(alloc, workers, cutter, opened))
+        let Gathered { cutter, opened, .. } = self;
+        Follower::of(alloc, workers, cutter, opened)
     }
 }

@@ -1,7 +1,6 @@
 //! Laws of the report, each the contract of a function that does nothing.
 
 ghost use Rattle.bk_replay.specs.Laws.{MoneyIsGenesis, OneReport};
-ghost use Rattle.bk_replay.specs.ProofLaws.{MadeProofsAreGood};
 ghost use Rattle.bk_replay.specs.RunLaws.{MoneyLineIsGenesis, OneAnswer, RunKeepsMoney};
 
 /// Executing a feed makes and loses no money: the `money` line is the sum of the opening balances.
@@ -24,9 +23,4 @@ pub fn run_keeps_money()
 /// A byte string comes to one thing at most: it has a fault, is stopped, or has a report with its status.
 pub fn one_answer()
     ensures { OneAnswer }
-{}
-
-/// A proof that is made of accounts is a good one of their state.
-pub fn made_proofs_are_good()
-    ensures { MadeProofsAreGood }
 {}

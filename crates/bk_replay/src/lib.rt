@@ -4,55 +4,42 @@
 //! the one fault of the feed and writes nothing.
 #![tactic(auto)]
 
+mod agreeing;
 mod applying;
 mod asking;
 mod book;
-mod checking;
 mod comparing;
 mod differ;
 mod fault;
 mod follower;
 mod gathering;
-mod groups;
 mod laws;
-mod leaves;
 mod ledger;
-mod line;
 mod nowhere;
 mod opening;
 mod order;
-mod page;
-mod proof;
 mod queries;
 mod query;
-mod reading;
 mod ready;
 mod replaying;
 mod replying;
-mod report;
 mod scheduling;
 mod slice;
 mod status;
 mod summary;
 mod writing;
 
+pub use agreeing::{CompareStop, compare};
 pub use applying::apply;
 pub use asking::ask;
-pub use checking::check_proof;
+pub use bk_report::{Line, Proof, check_proof, made_proofs_are_good};
 pub use differ::{Agreed, Differ};
 pub use fault::Fault;
 pub use follower::Follower;
-pub use laws::{
-    made_proofs_are_good, money_is_that_of_genesis, one_answer, one_report, run_keeps_money,
-};
-pub use line::Line;
+pub use laws::{money_is_that_of_genesis, one_answer, one_report, run_keeps_money};
 pub use nowhere::Nowhere;
 pub use order::Order;
-pub use proof::Proof;
 pub use query::{Query, Reply};
 pub use replaying::replay;
 pub use scheduling::{ScheduleStop, apply_schedule};
 pub use status::Status;
-
-#[cfg(test)]
-mod tests;

@@ -3,14 +3,14 @@
 ghost use Rattle.std.specs.Prelude.{◌≡◌, Some, None, Err, OnOk, IfOk, IfErr, IfSome, MatchOption, slice_get};
 ghost use Rattle.bk_rules.specs.Rows.{account_at};
 ghost use Rattle.bk_replay.specs.Follower.{receipts_in, executed_in};
-ghost use Rattle.bk_replay.specs.Proofs.{IsProofOf, IsAbsent};
+ghost use Rattle.bk_report.specs.Proofs.{IsProofOf, IsAbsent};
 ghost use Rattle.bk_replay.specs.Queries.{rows_in, NothingStops, QueryFails};
 ghost use Rattle.bk_replay.specs.private.Ledgers.{executed_of};
 
 use crate::fault::Fault;
 use crate::follower::Follower;
 use crate::ledger::Ledger;
-use crate::proof::{Proof, proof_of};
+use bk_report::{Proof, proof_of};
 use bk_rules::{Account, Receipt};
 use std::thread::Threads;
 

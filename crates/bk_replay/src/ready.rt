@@ -1,10 +1,10 @@
 //! Slices of an order that are planned before it is their turn.
 
-ghost use Rattle.std.specs.Prelude.{◌≡◌, ◌+◌, ◌^◌, ◌<◌, ◌≤◌, false, true, length, IfOk};
+ghost use Rattle.std.specs.Prelude.{◌≡◌, ◌+◌, ◌^◌, ◌<◌, ◌≤◌, ℕ, List, false, true, length, IfOk};
 ghost use Rattle.std.specs.List.{list_all};
 ghost use Rattle.std.specs.Option.{option_copied};
 ghost use Rattle.bk_rules.specs.Ledger.{are_covered, has_slot, is_covered};
-ghost use Rattle.bk_replay.specs.private.Slices.{IsNextOf, IsReady};
+ghost use Rattle.bk_replay.specs.private.Slices.{IsAheadOf, IsNextFrom, IsNoneAhead, IsReadOf, IsReady};
 
 use crate::slice::{Batches, gather};
 use bk_conflicts::Plan;
@@ -13,7 +13,8 @@ use bk_order::Intake;
 use bk_rules::Ids;
 use bk_tx::{Declarations, Tx};
 use std::alloc::{AllocError, Global};
-use std::sync::Arc;
+use std::sync::{Arc, Wait};
+use std::thread::{Threads, join};
 
 /// A plan has fewer slots than this.
 pub(crate) const SLOTS_END: usize = 1 << 31;
@@ -36,6 +37,13 @@ pub(crate) enum Next {
     Ready(Ready),
 }
 
+/// The slice whose turn is next, and the one behind it, which is read and not planned.
+#[derive(Drop)]
+pub(crate) struct Ahead {
+    pub(crate) next: Next,
+    pub(crate) read: Batches,
+}
+
 impl Batches {
     /// Plans the transactions, all of whose accounts have a slot.
     pub(crate) fn planned(
@@ -56,21 +64,47 @@ impl Batches {
     }
 }
 
-/// Reads the slice from a place on, and plans it if each account that it declares has a slot among these.
-pub(crate) fn read_ahead(
+impl Ahead {
+    /// No slice.
+    pub(crate) fn none(alloc: Global) -> Ahead
+        ensures { IsNoneAhead result }
+    {
+        let next = Next::Read(Batches::new(alloc));
+        let read = Batches::new(alloc);
+        Ahead { next, read }
+    }
+}
+
+/// Reads the slice from a place on, and the one behind it.
+pub(crate) fn read_two(
     alloc: Global,
     intake: &Intake,
     from: usize,
     least: usize,
+) -> Result<Ahead, AllocError>
+    requires open { intake.now.failed ≡ false }
+    requires within { from ≤ length intake.now.ordered.payloads.list }
+    requires fits { length intake.now.ordered.payloads.list < 2 ^ 64 }
+    requires least { least < 2 ^ 30 }
+    ensures { IfOk result (λ a. (version : Version) (slots : List ℕ)
+        → IsAheadOf intake.now.ordered.payloads.list from version slots a) }
+{
+    let first = gather(alloc, intake, from, least)?;
+    let read = gather(alloc, intake, from + first.counts.len(), least)?;
+    let next = Next::Read(first);
+    Ok(Ahead { next, read })
+}
+
+// Plans a slice, if each account that it declares has a slot among these.
+fn plan_ahead(
+    alloc: Global,
+    batches: Batches,
     version: Version,
     ids: &Ids,
 ) -> Result<Next, AllocError>
-    requires open { intake.now.failed ≡ false }
-    requires within { from ≤ length intake.now.ordered.payloads.list }
-    requires least { least < 2 ^ 30 }
-    ensures { IfOk result (IsNextOf intake.now.ordered.payloads.list from version ids.now) }
+    requires few { length batches.txs.items < 2 ^ 31 }
+    ensures { IfOk result (IsNextFrom batches version ids.now) }
 {
-    let batches = gather(alloc, intake, from, least)?;
     if ids.len() < SLOTS_END {
         if all_have_slots(version, ids, &batches.txs) {
             let ready = batches.planned(alloc, version, ids)?;
@@ -78,6 +112,43 @@ pub(crate) fn read_ahead(
         }
     }
     Ok(Next::Read(batches))
+}
+
+/// Plans the slice that was read from a place on, while the one behind it is read in a thread of its own.
+pub(crate) fn look_ahead<R: Threads + Wait + Sync>(
+    rt: &R,
+    alloc: Global,
+    intake: &Intake,
+    read: Batches,
+    from: usize,
+    least: usize,
+    version: Version,
+    ids: &Ids,
+) -> Result<Ahead, AllocError>
+    requires open { intake.now.failed ≡ false }
+    requires read { IsReadOf intake.now.ordered.payloads.list from
+        read.counts.items read.txs.items }
+    requires fits { length intake.now.ordered.payloads.list < 2 ^ 64 }
+    requires least { least < 2 ^ 30 }
+    ensures { IfOk result (IsAheadOf intake.now.ordered.payloads.list from version ids.now) }
+{
+    let later = from + read.counts.len();
+    let (behind, planned) = join(
+        rt,
+        || -> Result<Batches, AllocError>
+            requires { (intake.now.failed ≡ false) × (least < 2 ^ 30)
+                × (later ≤ length intake.now.ordered.payloads.list) }
+            ensures { IfOk result (λ b. IsReadOf intake.entry.now.ordered.payloads.list
+                later b.counts.items b.txs.items) }
+        { gather(alloc, intake, later, least) },
+        || -> Result<Next, AllocError>
+            requires { length read.txs.items < 2 ^ 31 }
+            ensures { IfOk result (IsNextFrom read version ids.entry.now) }
+        { plan_ahead(alloc, read, version, ids) },
+    );
+    let next = planned?;
+    let read = behind?;
+    Ok(Ahead { next, read })
 }
 
 // Whether each account that these transactions declare has a slot. In version One none is needed.

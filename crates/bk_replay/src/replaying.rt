@@ -1,8 +1,10 @@
-ghost use Rattle.std.specs.Prelude.{◌≡◌, ℕ, ◌<◌, ◌≤◌, List, length, None, OnOk, IfOk, IfErr};
+ghost use Rattle.std.specs.Prelude.{◌≡◌, ℕ, ◌<◌, ◌≤◌, [], List, length, None, OnOk, IfOk, IfErr};
 ghost use Rattle.bk_frames.specs.Device.{CanBeUsed, Works, Receives, IfKnown};
+ghost use Rattle.bk_frames.specs.Feed.{Frame};
 ghost use Rattle.bk_replay.specs.RunReport.{IsReport};
 ghost use Rattle.bk_replay.specs.Answers.{devices};
 ghost use Rattle.bk_replay.specs.Replaying.{RunFailsBy, ReadFails, AllHasCome};
+ghost use Rattle.bk_replay.specs.private.Gathering.{HasGathered};
 
 use crate::fault::Fault;
 use crate::follower::Follower;
@@ -17,7 +19,42 @@ use std::thread::Threads;
 /// A source is asked for at most this many bytes at once.
 pub(crate) const PIECE: usize = 65_536;
 
-/// Follows all that a source has. Each piece is cut before the next is pulled.
+// Gathers all that a source has, and takes it. Each piece is cut before the next is pulled.
+fn pull_all<R: Threads + Sync, S: Source>(
+    rt: &R,
+    alloc: Global,
+    source: &mut S,
+    piece: &mut [u8],
+    gathered: &mut Gathered,
+) -> Result<(), Fault>
+    requires sound { CanBeUsed (S.state source.old) }
+    requires some { 0 < length piece.old }
+    requires first { HasGathered [] [] gathered.old }
+    ensures works { OnOk result (Works (S.state source.old) (S.state source.new)) }
+    ensures come { OnOk result ((bytes : List ℕ) × (taken : List Frame)
+        × HasGathered bytes taken gathered.new) }
+    ensures taken { OnOk result (gathered.new.frames.items ≡ []) }
+    ensures all { OnOk result (IfKnown (S.state source.old) (λ bytes.
+        (taken : List Frame) × HasGathered bytes taken gathered.new)) }
+    ensures fault { IfErr result (λ f. ReadFails f (S.state source.old) (S.state source.new)) }
+{
+    'pieces: loop {
+        let offset = gathered.offset();
+        match source.pull(piece) {
+            Ok(0) => {
+                gathered.take(rt, alloc)?;
+                return Ok(());
+            }
+            Ok(count) => gathered.feed(rt, alloc, &piece[..count])?,
+            Err(_) => {
+                let code = FaultCode::Read;
+                return Err(Fault::Feed(FeedFault { offset, code }));
+            }
+        }
+    }
+}
+
+/// Follows all that a source has.
 pub(crate) fn follow<R: Threads + Sync, S: Source>(
     rt: &R,
     alloc: Global,
@@ -35,20 +72,8 @@ pub(crate) fn follow<R: Threads + Sync, S: Source>(
     ensures fault { IfErr result (λ f. ReadFails f (S.state source.old) (S.state source.new)) }
 {
     let mut gathered = Gathered::new(alloc);
-    'pieces: loop {
-        let offset = gathered.offset();
-        match source.pull(piece) {
-            Ok(0) => {
-                let follower = gathered.into_follower(rt, alloc, workers)?;
-                return Ok(follower);
-            }
-            Ok(count) => gathered.feed(rt, alloc, &piece[..count])?,
-            Err(_) => {
-                let code = FaultCode::Read;
-                return Err(Fault::Feed(FeedFault { offset, code }));
-            }
-        }
-    }
+    pull_all(rt, alloc, source, piece, &mut gathered)?;
+    Ok(gathered.into_follower(alloc, workers))
 }
 
 // Follows all that a source has, and finishes.

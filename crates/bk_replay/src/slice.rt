@@ -1,6 +1,7 @@
 //! Batches of an order, executed in slices by any number of workers.
 //!
-//! While a slice is executed, the one behind it is read, decoded and planned in a thread of its own.
+//! While a slice is executed, the one behind it is planned in a thread of its own, and the next one is read and decoded
+//! in another.
 
 ghost use Rattle.std.specs.Prelude.{◌≡◌, ◌+◌, ◌^◌, ◌<◌, ◌≤◌, ◌∷◌, ◌++◌, [], false, length, map, drop, IfOk, IfErr, OnOk};
 ghost use Rattle.std.specs.Arc.{arc_value};
@@ -8,12 +9,12 @@ ghost use Rattle.std.specs.Thread.{IsSync};
 ghost use Rattle.bk_frames.specs.Feed.{frame_of};
 ghost use Rattle.bk_conflicts.specs.SceneOf.{CanRunOn};
 ghost use Rattle.bk_rules.specs.Fold.{HasRoom};
-ghost use Rattle.bk_replay.specs.Report.{count_in, feed_transactions, payloads_of, transactions_in, transactions_of};
-ghost use Rattle.bk_replay.specs.private.Slices.{HasExecuted, HasRun, IsNextOf, IsPlannedOn, IsReady, IsSame, IsSliceOf, Leaves, counts_of, left_of, txs_of};
+ghost use Rattle.bk_report.specs.Report.{count_in, feed_transactions, payloads_of, transactions_in, transactions_of};
+ghost use Rattle.bk_replay.specs.private.Slices.{HasExecuted, HasRun, IsAheadOf, IsPlannedOn, IsReadOf, IsReady, IsSame, Leaves, counts_of, left_of, txs_of};
 
 use crate::fault::Fault;
 use crate::ledger::{Ledger, decode_all};
-use crate::ready::{Next, Ready, SLOTS_END, read_ahead};
+use crate::ready::{Ahead, Next, Ready, SLOTS_END, look_ahead, read_two};
 use bk_frames::Kind;
 use bk_order::Intake;
 use bk_pool::{ExecFault, Gate, execute};
@@ -96,13 +97,9 @@ pub(crate) fn gather(
 ) -> Result<Batches, AllocError>
     requires open { intake.now.failed ≡ false }
     requires within { from ≤ length intake.now.ordered.payloads.list }
-    ensures slice { IfOk result (λ b. IsSliceOf intake.now.ordered.payloads.list from
+    requires least { least < 2 ^ 30 }
+    ensures { IfOk result (λ b. IsReadOf intake.now.ordered.payloads.list from
         b.counts.items b.txs.items) }
-    ensures some { IfOk result (λ b. from < length intake.now.ordered.payloads.list
-        → 0 < length b.counts.items) }
-    ensures within { IfOk result (λ b.
-        from + length b.counts.items ≤ length intake.now.ordered.payloads.list) }
-    ensures few { IfOk result (λ b. length b.txs.items < least + 2 ^ 16) }
 {
     let mut batches = Batches::new(alloc);
     for place in from..intake.batches() {
@@ -179,49 +176,54 @@ impl Ledger {
         }
     }
 
-    // Executes the slice whose turn it is, and reads the one behind it, if there is one.
+    // Executes the slice whose turn it is, and looks at those behind it, if there are any.
     fn run_next<R: Threads + Wait + Sync, G: Gate + Sync>(
         self,
         rt: &R,
         alloc: Global,
         intake: &Intake,
-        next: Next,
+        ahead: Ahead,
         least: usize,
         workers: usize,
         gate: &G,
-    ) -> Result<(Ledger, Next), Fault>
+    ) -> Result<(Ledger, Ahead), Fault>
         requires open { intake.now.failed ≡ false }
-        requires next { IsNextOf intake.now.ordered.payloads.list (length self.counts.items)
-            self.state.version self.state.slots next }
-        requires room { HasRoom self.state.version (length (txs_of next)) self.state.rows }
-        requires places { length self.receipts.items + length (txs_of next) < 2 ^ 32 }
+        requires ahead { IsAheadOf intake.now.ordered.payloads.list (length self.counts.items)
+            self.state.version self.state.slots ahead }
+        requires room { HasRoom self.state.version (length (txs_of ahead.next)) self.state.rows }
+        requires places { length self.receipts.items + length (txs_of ahead.next) < 2 ^ 32 }
         requires least { least < 2 ^ 30 }
         requires workers { (1 ≤ workers) × (workers ≤ 64) }
-        ensures ran { IfOk result (λ r. HasRun (counts_of next) (txs_of next) self r.0) }
-        ensures next { IfOk result (λ r. IsNextOf intake.now.ordered.payloads.list
+        ensures ran { IfOk result
+            (λ r. HasRun (counts_of ahead.next) (txs_of ahead.next) self r.0) }
+        ensures ahead { IfOk result (λ r. IsAheadOf intake.now.ordered.payloads.list
             (length r.0.counts.items) r.0.state.version r.0.state.slots r.1) }
         ensures fault { let first = length self.receipts.items in
-            IfErr result (Leaves first (first + length (txs_of next))) }
+            IfErr result (Leaves first (first + length (txs_of ahead.next))) }
     {
+        let Ahead { next, read } = ahead;
         let mut ledger = self;
         let ready = ledger.make_ready(alloc, next)?;
         let version = ledger.state.version();
         let from = ledger.counts.len() + ready.counts.len();
         if from == intake.batches() {
             let ledger = ledger.run_ready(rt, alloc, ready, workers, gate)?;
-            return Ok((ledger, Next::Read(Batches::new(alloc))));
+            return Ok((ledger, Ahead::none(alloc)));
         }
         let ids = ledger.state.ids().share()?;
         let (behind, ran) = join(
             rt,
-            || -> Result<Next, AllocError>
-                requires { (intake.now.failed ≡ false) × (least < 2 ^ 30)
-                    × (from ≤ length intake.now.ordered.payloads.list) }
-                ensures { IfOk result (IsNextOf intake.entry.now.ordered.payloads.list
+            || -> Result<Ahead, AllocError>
+                requires { IsSync R.row × (intake.now.failed ≡ false) × (least < 2 ^ 30)
+                    × (length intake.now.ordered.payloads.list < 2 ^ 64)
+                    × IsReadOf intake.now.ordered.payloads.list from
+                    read.counts.items read.txs.items }
+                ensures { IfOk result (IsAheadOf intake.entry.now.ordered.payloads.list
                     from version ids) }
-            { read_ahead(alloc, intake, from, least, version, &ids) },
+            { look_ahead(rt, alloc, intake, read, from, least, version, &ids) },
             || -> Result<Ledger, Fault>
-                requires { IsSync R.row × IsSync G.row × CanRunOn (arc_value ready.plan) ledger.state
+                requires { IsSync R.row × IsSync G.row
+                    × CanRunOn (arc_value ready.plan) ledger.state
                     × (length ledger.receipts.items + length (arc_value ready.plan).txs < 2 ^ 32)
                     × (1 ≤ workers) × (workers ≤ 64) }
                 ensures { IfOk result (HasRun ready.counts.items
@@ -261,12 +263,12 @@ impl Ledger {
             IfErr result (Leaves first (first + length left)) }
     {
         let mut ledger = self;
-        let batches = gather(alloc, intake, ledger.counts.len(), least)?;
-        let mut next = Next::Read(batches);
-        while ledger.counts.len() < intake.batches() {
-            let (after, behind) = ledger.run_next(rt, alloc, intake, next, least, workers, gate)?;
+        let end = intake.batches();
+        let mut ahead = read_two(alloc, intake, ledger.counts.len(), least)?;
+        while ledger.counts.len() < end {
+            let (after, behind) = ledger.run_next(rt, alloc, intake, ahead, least, workers, gate)?;
             ledger = after;
-            next = behind;
+            ahead = behind;
         }
         Ok(ledger)
     }

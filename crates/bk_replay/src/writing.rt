@@ -8,22 +8,19 @@ ghost use Rattle.bk_order.specs.Intake.{HasTaken};
 ghost use Rattle.bk_order.specs.Orders.{AreWaiting};
 ghost use Rattle.bk_order.specs.Stops.{HasNoStop};
 ghost use Rattle.bk_replay.specs.Follower.{IsCurrent};
-ghost use Rattle.bk_replay.specs.Leaves.{state_of};
-ghost use Rattle.bk_replay.specs.Lines.{text_of};
-ghost use Rattle.bk_replay.specs.RunLines.{head_lines, order_lines, batches_lines, ledger_lines};
+ghost use Rattle.bk_report.specs.Leaves.{leaves_of};
+ghost use Rattle.bk_report.specs.Lines.{text_of};
+ghost use Rattle.bk_report.specs.RunLines.{head_lines, order_lines, batches_lines, ledger_lines};
 ghost use Rattle.bk_replay.specs.private.Books.{WritesBook, WriteFails};
-ghost use Rattle.bk_replay.specs.private.Pages.{Written, blank};
+ghost use Rattle.bk_report.specs.Pages.{Written, blank};
 
 use crate::book::Book;
 use crate::fault::Fault;
-use crate::leaves::state_digest;
 use crate::ledger::Ledger;
-use crate::page::Page;
-use crate::report::{Parts, write_run};
 use crate::status::Status;
-use bk_digest::Digest32;
 use bk_frames::{Row, Sink, WriteFault};
 use bk_order::Intake;
+use bk_report::{Page, Parts, leaves_of, write_run};
 use bk_rounds::CertRef;
 use std::alloc::{AllocError, Global};
 use std::thread::Threads;
@@ -35,23 +32,18 @@ struct Shown {
     rows: Vec<Row>,
     // The balances of the rows, added up.
     total: u64,
-    // The root of their tree.
-    state: Digest32,
+    // The leaves of their tree.
+    leaves: Vec<[u8; 24]>,
 }
 
 // Finds what waits and the accounts.
-fn find_shown<R: Threads + Sync>(
-    rt: &R,
-    alloc: Global,
-    intake: &Intake,
-    ledger: &Ledger,
-) -> Result<Shown, AllocError>
+fn find_shown(alloc: Global, intake: &Intake, ledger: &Ledger) -> Result<Shown, AllocError>
     ensures waiting { IfOk result (λ s. (frames : List Frame) → HasTaken frames intake.now
         → intake.now.failed ≡ false → HasNoStop intake.now.committee frames
         → AreWaiting intake.now.committee frames s.waiting.items) }
     ensures rows { IfOk result (λ s. s.rows.items ≡ ledger.now.state.rows) }
     ensures total { IfOk result (λ s. s.total ≡ total_of s.rows.items) }
-    ensures state { IfOk result (λ s. s.state ≡ state_of s.rows.items) }
+    ensures leaves { IfOk result (λ s. s.leaves.items ≡ leaves_of s.rows.items) }
     ensures few { IfOk result (λ s. length s.rows.items < 2 ^ 32) }
 {
     let waiting = intake.waiting()?;
@@ -60,18 +52,19 @@ fn find_shown<R: Threads + Sync>(
     if rows.len() >= 1 << 32 {
         return Err(AllocError);
     }
-    let state = state_digest(rt, alloc, &rows)?;
+    let leaves = leaves_of(alloc, &rows)?;
     let total = ledger.state.total();
     Ok(Shown {
         waiting,
         rows,
         total,
-        state,
+        leaves,
     })
 }
 
 // Writes the report of what was taken and executed.
-fn write_shown<K: Sink>(
+fn write_shown<R: Threads + Sync, K: Sink>(
+    rt: &R,
     sink: &mut K,
     page: &mut Page,
     intake: &Intake,
@@ -87,7 +80,7 @@ fn write_shown<K: Sink>(
     requires receipts { length ledger.now.receipts.items < 2 ^ 32 }
     requires rows { length shown.now.rows.items < 2 ^ 32 }
     requires total { shown.now.total ≡ total_of shown.now.rows.items }
-    requires state { shown.now.state ≡ state_of shown.now.rows.items }
+    requires leaves { shown.now.leaves.items ≡ leaves_of shown.now.rows.items }
     requires blank { page.old ≡ blank }
     ensures written { Written result (K.state sink.old) (K.state sink.new) page.old page.new
         (text_of (head_lines intake.now.committee intake.now.kept.next
@@ -109,9 +102,9 @@ fn write_shown<K: Sink>(
         receipts: &ledger.receipts,
         rows: &shown.rows,
         total: shown.total,
-        state: shown.state,
+        leaves: &shown.leaves,
     };
-    write_run(sink, page, &parts)
+    write_run(rt, sink, page, &parts)
 }
 
 impl Book {
@@ -131,9 +124,9 @@ impl Book {
         let Some(ledger) = &self.ledger else {
             unreachable!()
         };
-        let shown = find_shown(rt, self.alloc, &self.intake, ledger)?;
+        let shown = find_shown(self.alloc, &self.intake, ledger)?;
         let mut page = Page::new(self.alloc)?;
-        write_shown(sink, &mut page, &self.intake, ledger, &shown)?;
+        write_shown(rt, sink, &mut page, &self.intake, ledger, &shown)?;
         match self.intake.missing() {
             Some(_) => Ok(Status::Missing),
             None => Ok(Status::Whole),

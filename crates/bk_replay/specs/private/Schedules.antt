@@ -1,5 +1,5 @@
 -- What the private functions of a schedule say.
-use Rattle.std.specs.Prelude.{◌≡◌, ℕ, List, map}
+use Rattle.std.specs.Prelude.{◌≡◌, ℕ, List}
 use Rattle.bk_frames.specs.Feed.{FeedValue, genesis_of}
 use Rattle.bk_rules.specs.Fold.{state_after, receipts_of}
 use Rattle.bk_steps.specs.Schedule.{IsWholeAmong, IsFault}
@@ -11,7 +11,7 @@ use Rattle.bk_replay.specs.declared.fault.Fault.{Fault}
 use Rattle.bk_replay.specs.declared.fault.Fault.TheVariants as fault
 use Rattle.bk_replay.specs.declared.scheduling.ScheduleStop.{ScheduleStop}
 use Rattle.bk_replay.specs.declared.scheduling.ScheduleStop.TheVariants as stop
-use Rattle.bk_replay.specs.Report.{feed_transactions}
+use Rattle.bk_report.specs.Report.{feed_transactions}
 use Rattle.bk_replay.specs.Scheduling.{InExecution, IsOfEvents}
 
 -- the stop of a fault: refused memory is that of any other call

@@ -1,5 +1,5 @@
 -- What a ledger is after further batches.
-use Rattle.std.specs.Prelude.{◌≡◌, ℕ, ◌+◌, ◌^◌, ◌<◌, ◌≤◌, List, ◌++◌, length, map, drop, Option}
+use Rattle.std.specs.Prelude.{◌≡◌, ℕ, ◌+◌, ◌^◌, ◌<◌, ◌≤◌, List, [], ◌++◌, length, map, drop, Option}
 use Rattle.std.specs.Arc.{arc_value}
 use Rattle.bk_frames.specs.declared.genesis.Row.{Row}
 use Rattle.bk_frames.specs.declared.version.Version.{Version}
@@ -10,10 +10,11 @@ use Rattle.bk_replay.specs.declared.fault.Fault.{Fault}
 use Rattle.bk_replay.specs.declared.fault.Fault.TheVariants as fault
 use Rattle.bk_replay.specs.declared.ledger.Ledger.{Ledger}
 use Rattle.bk_replay.specs.declared.ready.Ready.{Ready}
+use Rattle.bk_replay.specs.declared.ready.Ahead.{Ahead}
 use Rattle.bk_replay.specs.declared.ready.Next.{Next}
 use Rattle.bk_replay.specs.declared.ready.Next.TheVariants as next
 use Rattle.bk_replay.specs.declared.slice.Batches.{Batches}
-use Rattle.bk_replay.specs.Report.{count_in, feed_transactions, payloads_of, transactions_of}
+use Rattle.bk_report.specs.Report.{count_in, feed_transactions, payloads_of, transactions_of}
 
 -- the batches of an order that a ledger has not executed
 abbrev pub left_of : List (List ℕ) → Ledger → List (List ℕ)
@@ -80,13 +81,40 @@ pub record IsReady (version : Version) (slots : List ℕ) (counts : List (Option
   pub counts_are : r.counts.items ≡ counts
   pub txs_are : (arc_value r.plan).txs ≡ txs
 
--- the slice of an order that begins at a place; if it is planned, then by these rules and on these slots
+-- the slice of an order that begins at a place: batches where there are some, and not too many transactions
+pub record IsReadOf (payloads : List (List ℕ)) (from : ℕ) (counts : List (Option ℕ)) (txs : List (Option Transaction)) : Type 0 where
+  pub slice : IsSliceOf payloads from counts txs
+  pub some : from < length payloads → 0 < length counts
+  pub within : from + length counts ≤ length payloads
+  pub few : length txs < 2 ^ 31
+
+-- the same; if it is planned, then by these rules and on these slots
 pub record IsNextOf (payloads : List (List ℕ)) (from : ℕ) (version : Version) (slots : List ℕ) (n : Next) : Type 0 where
-  pub slice : IsSliceOf payloads from (counts_of n) (txs_of n)
+  pub read : IsReadOf payloads from (counts_of n) (txs_of n)
   pub planned : IsPlannedOn version slots n
-  pub some : from < length payloads → 0 < length (counts_of n)
-  pub within : from + length (counts_of n) ≤ length payloads
-  pub few : length (txs_of n) < 2 ^ 31
+
+-- a slice, and batches behind it
+abbrev pub ahead_of : Next → Batches → Ahead
+ahead_of n b = record { next = n; read = b }
+
+-- the slice of an order that begins at a place, and the one behind it
+pub record IsAheadOf (payloads : List (List ℕ)) (from : ℕ) (version : Version) (slots : List ℕ) (a : Ahead) : Type 0 where
+  pub next : IsNextOf payloads from version slots a.next
+  pub read : IsReadOf payloads (from + length (counts_of a.next)) a.read.counts.items a.read.txs.items
+
+-- batches that were read, planned by these rules and on these slots, or as they are
+pub record IsNextFrom (b : Batches) (version : Version) (slots : List ℕ) (n : Next) : Type 0 where
+  pub counts_are : counts_of n ≡ b.counts.items
+  pub txs_are : txs_of n ≡ b.txs.items
+  pub planned : IsPlannedOn version slots n
+
+-- no batch
+pub record IsNoneAhead (a : Ahead) : Type 0 where
+  pub no_counts : counts_of a.next ≡ []
+  pub no_txs : txs_of a.next ≡ []
+  pub not_planned : (version : Version) (slots : List ℕ) → IsPlannedOn version slots a.next
+  pub none_read : a.read.counts.items ≡ []
+  pub none_there : a.read.txs.items ≡ []
 
 -- a ledger that has executed the same, with the same accounts
 pub record IsSame (before after : Ledger) : Type 0 where

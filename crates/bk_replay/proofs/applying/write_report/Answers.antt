@@ -1,11 +1,11 @@
 use Rattle.std.proofs.Common.{◌++◌, ◌∷◌, [], sym, ap, ◌∙◌}
 use Rattle.std.proofs.lemmas.Result.{err_from_is_err_and}
 use Rattle.bk_frames.specs.Genesis.{total_of}
-use Rattle.bk_replay.specs.declared.line.Line.TheVariants as line
-use Rattle.bk_replay.specs.Lines.{text_of}
-use Rattle.bk_replay.specs.Report.{batch_lines, tx_lines, account_lines}
-use Rattle.bk_replay.proofs.LineGroups.{groups_put, group_stops, stops_before, put_one, stops_one}
-use Rattle.bk_replay.proofs.Putting.{written_last}
+use Rattle.bk_report.specs.declared.line.Line.TheVariants as line
+use Rattle.bk_report.specs.Lines.{text_of}
+use Rattle.bk_report.specs.Report.{batch_lines, tx_lines, account_lines}
+use Rattle.bk_report.proofs.LineGroups.{groups_put, group_stops, stops_before, put_one, stops_one}
+use Rattle.bk_report.proofs.Putting.{written_last}
 use Rattle.bk_replay.proofs.applying.write_report.Goals as goal
 
 pub returns-in_err-put_batches-clause-written : goal.returns-in_err-put_batches-clause-written

@@ -1,4 +1,4 @@
-use Rattle.std.proofs.Common.{◌≡◌, refl, sym, ap, ◌∙◌}
+use Rattle.std.proofs.Common.{refl, sym, ap, ◌∙◌}
 use Rattle.bk_committee.specs.Payload.{CommitteeValue}
 use Rattle.std.proofs.lemmas.Bool.{false≢true}
 use Rattle.bk_replay.proofs.ComparedBooks.{committee_same}

@@ -1,4 +1,4 @@
-use Rattle.std.proofs.Common.{◌≡◌, [], ◌∷◌, sym, ap, ◌∙◌}
+use Rattle.std.proofs.Common.{[], ◌∷◌, sym, ap, ◌∙◌}
 use Rattle.bk_frames.specs.declared.genesis.Row.{Row}
 use Rattle.bk_replay.proofs.ComparedBooks.{row_of_fields}
 use Rattle.bk_replay.proofs.comparing.same_row.Goals as goal

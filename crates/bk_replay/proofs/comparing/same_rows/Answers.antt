@@ -1,4 +1,4 @@
-use Rattle.std.proofs.Common.{◌≡◌, ℕ, ◌<◌, refl, arith}
+use Rattle.std.proofs.Common.{refl, arith}
 use Rattle.std.proofs.lemmas.Bool.{false≢true}
 use Rattle.bk_replay.proofs.ComparedBooks.{same_by_items, same_item, same_on}
 use Rattle.bk_replay.proofs.comparing.same_rows.Goals as goal

@@ -1,8 +1,8 @@
 use Rattle.std.proofs.Common.{◌∙◌, ap, sym}
 use Rattle.bk_frames.specs.Feed.{FeedValue}
 use Rattle.bk_frames.proofs.OneReading.{one_feed}
-use Rattle.bk_replay.specs.Lines.{text_of}
-use Rattle.bk_replay.specs.Report.{apply_report_of}
+use Rattle.bk_report.specs.Lines.{text_of}
+use Rattle.bk_report.specs.Report.{apply_report_of}
 use Rattle.bk_replay.proofs.laws.one_report.Goals as goal
 
 pub returns : goal.returns

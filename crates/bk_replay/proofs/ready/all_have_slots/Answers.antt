@@ -1,4 +1,4 @@
-use Rattle.std.proofs.Common.{◌≡◌, ◌&&◌, Bool, Option, None, sym, ap, ap₂, ◌∙◌, get_or}
+use Rattle.std.proofs.Common.{◌&&◌, Bool, None, sym, ap, ap₂, ◌∙◌}
 use Rattle.std.proofs.lemmas.List.{get_or_default}
 use Rattle.std.proofs.lemmas.List.Folds.{list_all_at, list_all_more}
 use Rattle.bk_rules.specs.Ledger.{is_covered}

@@ -1,7 +1,7 @@
 use Rattle.std.proofs.Common.{◌≡◌, List, Option, subst, ◌∙◌}
 use Rattle.std.specs.Prelude.{MatchOption}
 use Rattle.bk_frames.specs.declared.genesis.Row.{Row}
-use Rattle.bk_replay.specs.Proofs.{ProofValue, IsProofOf, IsAbsent}
+use Rattle.bk_report.specs.Proofs.{ProofValue, IsProofOf, IsAbsent}
 use Rattle.bk_replay.proofs.replying.proof_text.Goals as goal
 
 pub returns-in_default : goal.returns-in_default

@@ -1,9 +1,9 @@
 use Rattle.std.proofs.Common.{◌++◌}
 use Rattle.std.proofs.lemmas.Result.{err_from_is_err_and}
-use Rattle.bk_replay.specs.Lines.{text_of}
-use Rattle.bk_replay.specs.RunLines.{anchor_lines, cert_lines}
-use Rattle.bk_replay.proofs.Putting.{written_last}
-use Rattle.bk_replay.proofs.LineGroups.{groups_put, group_stops, stops_before}
+use Rattle.bk_report.specs.Lines.{text_of}
+use Rattle.bk_report.specs.RunLines.{anchor_lines, cert_lines}
+use Rattle.bk_report.proofs.Putting.{written_last}
+use Rattle.bk_report.proofs.LineGroups.{groups_put, group_stops, stops_before}
 use Rattle.bk_replay.proofs.replying.put_order.Goals as goal
 
 pub returns-in_err-put_anchors-clause-written : goal.returns-in_err-put_anchors-clause-written

@@ -1,4 +1,4 @@
-use Rattle.bk_replay.proofs.Runs.{counts_next}
+use Rattle.bk_report.proofs.Runs.{counts_next}
 use Rattle.bk_replay.proofs.Schedules.{txs_next}
 use Rattle.bk_replay.proofs.scheduling.batches_of.Goals as goal
 

@@ -7,22 +7,22 @@ use Rattle.bk_replay.proofs.BookReports.{IsSettledBook, shown_of, few_rejected, 
 use Rattle.bk_replay.proofs.book.Book.write.Goals as goal
 
 pub write_shown-requires-clause-rejected : goal.write_shown-requires-clause-rejected
-write_shown-requires-clause-rejected g c = few_rejected (book_with c.self.inside.intake c.self.inside.ledger c.self.inside.opening.items) (subst IsSettledBook (sym c.self.view_is) c.requires.current)
+write_shown-requires-clause-rejected g c = λ _ _. few_rejected (book_with c.self.inside.intake c.self.inside.ledger c.self.inside.opening.items) (subst IsSettledBook (sym c.self.view_is) c.requires.current)
 
 pub write_shown-requires-clause-waiting : goal.write_shown-requires-clause-waiting
-write_shown-requires-clause-waiting g c = few_waits (book_with c.self.inside.intake c.self.inside.ledger c.self.inside.opening.items) (executed_of c.in-Some.ledger) c.in_ok-shown.shown.waiting.items c.in_ok-shown.shown.rows.items (subst IsSettledBook (sym c.self.view_is) c.requires.current) (shown_of c.self.inside.intake c.self.inside.ledger c.self.inside.opening.items c.in-Some.ledger c.in_ok-shown.shown.waiting.items c.in_ok-shown.shown.rows.items c.in-Some.is c.in_ok-shown.ensures.rows c.in_ok-shown.ensures.waiting)
+write_shown-requires-clause-waiting g c = λ _ _. few_waits (book_with c.self.inside.intake c.self.inside.ledger c.self.inside.opening.items) (executed_of c.in-Some.ledger) c.in_ok-shown.shown.waiting.items c.in_ok-shown.shown.rows.items (subst IsSettledBook (sym c.self.view_is) c.requires.current) (shown_of c.self.inside.intake c.self.inside.ledger c.self.inside.opening.items c.in-Some.ledger c.in_ok-shown.shown.waiting.items c.in_ok-shown.shown.rows.items c.in-Some.is c.in_ok-shown.ensures.rows c.in_ok-shown.ensures.waiting)
 
 pub write_shown-requires-clause-anchors : goal.write_shown-requires-clause-anchors
-write_shown-requires-clause-anchors g c = few_of_anchors (book_with c.self.inside.intake c.self.inside.ledger c.self.inside.opening.items) (subst IsSettledBook (sym c.self.view_is) c.requires.current)
+write_shown-requires-clause-anchors g c = λ _ _. few_of_anchors (book_with c.self.inside.intake c.self.inside.ledger c.self.inside.opening.items) (subst IsSettledBook (sym c.self.view_is) c.requires.current)
 
 pub write_shown-requires-clause-order : goal.write_shown-requires-clause-order
-write_shown-requires-clause-order g c = few_of_order (book_with c.self.inside.intake c.self.inside.ledger c.self.inside.opening.items) (subst IsSettledBook (sym c.self.view_is) c.requires.current)
+write_shown-requires-clause-order g c = λ _ _. few_of_order (book_with c.self.inside.intake c.self.inside.ledger c.self.inside.opening.items) (subst IsSettledBook (sym c.self.view_is) c.requires.current)
 
 pub write_shown-requires-clause-counts : goal.write_shown-requires-clause-counts
-write_shown-requires-clause-counts g c = few_counts (book_with c.self.inside.intake c.self.inside.ledger c.self.inside.opening.items) (executed_of c.in-Some.ledger) c.in_ok-shown.shown.waiting.items c.in_ok-shown.shown.rows.items (subst IsSettledBook (sym c.self.view_is) c.requires.current) (shown_of c.self.inside.intake c.self.inside.ledger c.self.inside.opening.items c.in-Some.ledger c.in_ok-shown.shown.waiting.items c.in_ok-shown.shown.rows.items c.in-Some.is c.in_ok-shown.ensures.rows c.in_ok-shown.ensures.waiting)
+write_shown-requires-clause-counts g c = λ _ _. few_counts (book_with c.self.inside.intake c.self.inside.ledger c.self.inside.opening.items) (executed_of c.in-Some.ledger) c.in_ok-shown.shown.waiting.items c.in_ok-shown.shown.rows.items (subst IsSettledBook (sym c.self.view_is) c.requires.current) (shown_of c.self.inside.intake c.self.inside.ledger c.self.inside.opening.items c.in-Some.ledger c.in_ok-shown.shown.waiting.items c.in_ok-shown.shown.rows.items c.in-Some.is c.in_ok-shown.ensures.rows c.in_ok-shown.ensures.waiting)
 
 pub write_shown-requires-clause-receipts : goal.write_shown-requires-clause-receipts
-write_shown-requires-clause-receipts g c = few_receipts (book_with c.self.inside.intake c.self.inside.ledger c.self.inside.opening.items) (executed_of c.in-Some.ledger) c.in_ok-shown.shown.waiting.items c.in_ok-shown.shown.rows.items (subst IsSettledBook (sym c.self.view_is) c.requires.current) (shown_of c.self.inside.intake c.self.inside.ledger c.self.inside.opening.items c.in-Some.ledger c.in_ok-shown.shown.waiting.items c.in_ok-shown.shown.rows.items c.in-Some.is c.in_ok-shown.ensures.rows c.in_ok-shown.ensures.waiting)
+write_shown-requires-clause-receipts g c = λ _ _. few_receipts (book_with c.self.inside.intake c.self.inside.ledger c.self.inside.opening.items) (executed_of c.in-Some.ledger) c.in_ok-shown.shown.waiting.items c.in_ok-shown.shown.rows.items (subst IsSettledBook (sym c.self.view_is) c.requires.current) (shown_of c.self.inside.intake c.self.inside.ledger c.self.inside.opening.items c.in-Some.ledger c.in_ok-shown.shown.waiting.items c.in_ok-shown.shown.rows.items c.in-Some.is c.in_ok-shown.ensures.rows c.in_ok-shown.ensures.waiting)
 
 pub returns-in_err-write_shown-clause-fault : goal.returns-in_err-write_shown-clause-fault
 returns-in_err-write_shown-clause-fault g c =

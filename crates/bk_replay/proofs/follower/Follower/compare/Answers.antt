@@ -1,4 +1,4 @@
-use Rattle.std.proofs.Common.{◌≡◌, sym, ap, ◌∙◌}
+use Rattle.std.proofs.Common.{sym, ap, ◌∙◌}
 use Rattle.std.proofs.lemmas.Result.{err_from_is_err_and}
 use Rattle.bk_replay.specs.Follower.{Followed}
 use Rattle.bk_replay.proofs.ComparedBooks.{first_unopened, second_unopened, followers_differ, followers_agree, something}

@@ -3,7 +3,7 @@ use Rattle.std.specs.Prelude.{Contains, MatchOption}
 use Rattle.bk_frames.specs.declared.genesis.Row.{Row}
 use Rattle.bk_replay.specs.Follower.{Executed}
 use Rattle.bk_replay.specs.Queries.{rows_of_executed, rows_in}
-use Rattle.bk_replay.specs.Proofs.{IsAbsent, IsProofOf}
+use Rattle.bk_report.specs.Proofs.{IsAbsent, IsProofOf}
 use Rattle.bk_replay.proofs.follower.Follower.prove.Goals as goal
 
 pub returns-in_default-clause-proof : goal.returns-in_default-clause-proof

@@ -1,6 +1,4 @@
-use Rattle.std.proofs.Common.{◌++◌, List, ℕ, refl, sym, ap, subst, ◌∙◌}
-use Rattle.std.specs.Global.{Vec}
-use Rattle.bk_frames.specs.declared.kind.Kind.{Kind}
+use Rattle.std.proofs.Common.{◌++◌, refl, sym, ap, subst, ◌∙◌}
 use Rattle.bk_frames.specs.Cutting.{frames_in}
 use Rattle.bk_replay.specs.Follower.{FollowsBy}
 use Rattle.bk_replay.specs.private.Books.{HasFollowed}

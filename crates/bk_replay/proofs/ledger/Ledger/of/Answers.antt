@@ -2,7 +2,7 @@ use Rattle.std.proofs.Common.{◌+◌, List, subst, take_all, arith}
 use Rattle.bk_frames.specs.Feed.{Frame, genesis_of}
 use Rattle.bk_frames.specs.Genesis.{AreAccounts}
 use Rattle.bk_replay.specs.private.Slices.{HasRead}
-use Rattle.bk_replay.proofs.BatchReading.{nothing_read, frame_read, all_run, room_to_run, read_receipts, read_rows}
+use Rattle.bk_replay.proofs.BatchReading.{frame_read, all_run, room_to_run, read_receipts, read_rows}
 use Rattle.bk_replay.proofs.ledger.Ledger.of.Goals as goal
 use Rattle.bk_replay.proofs.ledger.Ledger.of.Goals.{then-are_enough+in_ok-run, else-are_enough}
 

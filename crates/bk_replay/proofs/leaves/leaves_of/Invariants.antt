@@ -1,6 +1,0 @@
-use Rattle.std.proofs.Common.{◌≡◌, take}
-use Rattle.bk_replay.specs.Leaves.{leaves_of}
-use Rattle.bk_replay.proofs.leaves.leaves_of.Given as goal
-
-abbrev pub invariant-loop-row : goal.invariant-loop-row
-invariant-loop-row l = l.leaves.items ≡ leaves_of (take l.row-index l.rows)

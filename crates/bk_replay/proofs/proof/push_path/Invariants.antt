@@ -1,7 +1,0 @@
-use Rattle.std.proofs.Common.{◌≡◌, ◌++◌, take}
-use Rattle.bk_replay.specs.Lines.{text_of}
-use Rattle.bk_replay.specs.Proofs.{path_lines}
-use Rattle.bk_replay.proofs.proof.push_path.Given as goal
-
-abbrev pub invariant-loop-digest : goal.invariant-loop-digest
-invariant-loop-digest l = l.text.items ≡ l.initial.text.items ++ text_of (take l.digest-index (path_lines l.path))
