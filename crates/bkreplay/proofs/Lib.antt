@@ -1,3 +1,4 @@
+mod BlameLemmas
 mod LineLemmas
 mod ScheduleLemmas
 mod StatusLemmas

@@ -1,21 +1,19 @@
 -- What a schedule leaves: its report, or why there is none.
-use Rattle.std.proofs.Common.{◌≡◌, ◌⊎◌, ℕ, List, Option, Some, None, IfSome, refl, sym}
-use Rattle.std.specs.Prelude.{Ok, Err, slice_index_or}
+use Rattle.std.proofs.Common.{◌≡◌, ℕ, List, Option, Some, None, IfSome, refl}
+use Rattle.std.specs.Prelude.{Ok, slice_index_or}
 use Rattle.std.specs.Io.KnownBytes.{Keeps}
-use Rattle.bk_frames.specs.Device.{Device, Works, Receives, IfKnown}
-use Rattle.bk_steps.specs.declared.event.Event.{Event}
+use Rattle.bk_frames.specs.Device.{Device, Receives, IfKnown}
 use Rattle.bk_steps.specs.declared.outcome.ScheduleFault.TheVariants as schedule
-use Rattle.bk_steps.specs.declared.refused.Refused as reason
-use Rattle.bk_replay.specs.Answers.{IsUntouched, devices}
-use Rattle.bk_replay.specs.Report.{IsApplyReport}
-use Rattle.bk_replay.specs.Scheduling.{IsNotWholeFor, IsWholeFor, StopsBy}
+use Rattle.bk_replay.specs.Answers.{devices}
+use Rattle.bk_report.specs.Report.{IsApplyReport}
+use Rattle.bk_replay.specs.Scheduling.{IsWholeFor, StopsBy}
 use Rattle.bk_replay.specs.declared.scheduling.ScheduleStop.{ScheduleStop}
 use Rattle.bk_replay.specs.declared.scheduling.ScheduleStop.TheVariants as stop
 use Rattle.bk_script.specs.Events.{AreEvents, EventList, HasNoEvents, event_list, events_of}
 use Rattle.bk_script.specs.declared.events.Events.{Events}
 use Rattle.bk_script.specs.declared.events.EventsFault.{EventsFault}
 use Rattle.bkreplay.specs.Faults.{ReportIsOut, ScheduleIsOut}
-use Rattle.bkreplay.specs.Schedules.{IsLeftBy, IsList, IsRefusedAt, IsWholeRun, Lists, ListFailsBy, ScheduleFailsBy, fault_at}
+use Rattle.bkreplay.specs.Schedules.{IsLeftBy, IsList, IsRefusedAt, IsWholeRun, Lists, ScheduleFailsBy, fault_at}
 use Rattle.bkreplay.specs.Sources.{inputs, job_devices}
 use Rattle.bkreplay.specs.declared.exit.Exit.TheVariants as exit
 use Rattle.bkreplay.specs.declared.list_fault.ListFault.TheVariants as list

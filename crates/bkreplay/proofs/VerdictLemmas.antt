@@ -1,5 +1,5 @@
 -- The verdict on a text that was read is that on all bytes of the source.
-use Rattle.std.proofs.Common.{◌≡◌, ◌≤◌, ◌+◌, ◌<◌, ◌⊎◌, ◌∙◌, ℕ, List, Option, Some, None, Bool, true, false, length, take, inl, inr, sym, ap, refl, rules, arith, subst, IfSome}
+use Rattle.std.proofs.Common.{◌≡◌, ◌<◌, ◌⊎◌, ◌∙◌, ℕ, List, Option, Some, None, Bool, true, false, length, inl, inr, ap, refl, arith, subst, IfSome}
 use Rattle.std.specs.Prelude.{◌↔◌, IsTrue}
 use Rattle.std.proofs.lemmas.Bool.{cases_lt}
 use Rattle.std.proofs.lemmas.List.{length-take-le, take_all}
@@ -8,13 +8,12 @@ use Rattle.bk_frames.specs.Device.{Device, Receives, IfKnown}
 use Rattle.bk_frames.specs.Writing.{StopsWriting}
 use Rattle.bk_frames.specs.declared.writing.WriteFault.{WriteFault}
 use Rattle.bk_replay.specs.Answers.{devices}
-use Rattle.bk_replay.specs.Proofs.{IsGoodProof}
+use Rattle.bk_report.specs.Proofs.{IsGoodProof}
 use Rattle.bk_script.specs.Answers.{HasRead, IsNotRead, IsRead}
 use Rattle.bk_script.specs.declared.fault.ScriptFault.{ScriptFault}
 use Rattle.bk_script.specs.declared.fault.ScriptFault.TheVariants as fault
 use Rattle.bkreplay.specs.Exits.{exit_by}
 use Rattle.bkreplay.specs.Faults.{CheckFailsBy, IsVerdict, PartOfVerdictIsOut, VerdictIsOut, verdict_text}
-use Rattle.bkreplay.specs.declared.exit.Exit.{Exit}
 use Rattle.bkreplay.specs.declared.exit.Exit.TheVariants as exit
 
 -- all bytes were read, or too many for a proof

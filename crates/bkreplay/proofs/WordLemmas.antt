@@ -1,5 +1,5 @@
 -- What the words of a command line name.
-use Rattle.std.proofs.Common.{ℕ, ◌≡◌, ◌⊎◌, ◌∙◌, inl, inr, sym, ap, ap₂, refl, List, [], ◌∷◌, Option, Some, None, Bool, true, false, is_some, map, codes, option_map, cond, subst}
+use Rattle.std.proofs.Common.{ℕ, ◌≡◌, ◌⊎◌, ◌∙◌, inl, inr, sym, ap, ap₂, refl, List, [], ◌∷◌, Option, Some, None, Bool, true, false, map, codes, option_map, cond, subst}
 use Rattle.std.specs.Prelude.{Box, unwrap_or, find}
 use Rattle.std.specs.Str.{IsUtf8, bytes_eq}
 use Rattle.std.proofs.lemmas.Slice.Eq.{bytes_eq-Decides}
@@ -107,4 +107,5 @@ are_text word (inr (inr (inr (inr (inr (inl e)))))) = subst IsUtf8 (sym e) (code
 are_text word (inr (inr (inr (inr (inr (inr (inl e))))))) = subst IsUtf8 (sym e) (codes "check-proof", (refl, refl))
 are_text word (inr (inr (inr (inr (inr (inr (inr (inl e)))))))) = subst IsUtf8 (sym e) (codes "apply", (refl, refl))
 are_text word (inr (inr (inr (inr (inr (inr (inr (inr (inl e))))))))) = subst IsUtf8 (sym e) (codes "schedule", (refl, refl))
-are_text word (inr (inr (inr (inr (inr (inr (inr (inr (inr e))))))))) = absurd e
+are_text word (inr (inr (inr (inr (inr (inr (inr (inr (inr (inl e)))))))))) = subst IsUtf8 (sym e) (codes "compare", (refl, refl))
+are_text word (inr (inr (inr (inr (inr (inr (inr (inr (inr (inr e)))))))))) = absurd e

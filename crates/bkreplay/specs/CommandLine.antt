@@ -42,6 +42,14 @@ feed_rule = required_rule (codes "FEED")
 abbrev pub events_rule : Rule
 events_rule = required_rule (codes "EVENTS")
 
+-- the argument FEED1
+abbrev pub first_feed_rule : Rule
+first_feed_rule = required_rule (codes "FEED1")
+
+-- the argument FEED2
+abbrev pub second_feed_rule : Rule
+second_feed_rule = required_rule (codes "FEED2")
+
 -- the argument ID, a number below 2^64
 abbrev pub id_rule : Rule
 id_rule = record (new_rule (codes "ID")) {
@@ -74,6 +82,10 @@ schedule_line =
     let named = new_app (codes "schedule") in
     with_rule (with_rule (with_rule named workers_rule) feed_rule) events_rule
 
+-- the command `compare FEED1 FEED2`
+abbrev pub compare_line : App
+compare_line = with_rule (with_rule (new_app (codes "compare")) first_feed_rule) second_feed_rule
+
 -- the word of a command
 abbrev pub word_of : Verb → Text
 word_of verb.Run = codes "run"
@@ -85,6 +97,7 @@ word_of verb.Prove = codes "prove"
 word_of verb.CheckProof = codes "check-proof"
 word_of verb.Apply = codes "apply"
 word_of verb.Schedule = codes "schedule"
+word_of verb.Compare = codes "compare"
 
 -- a command with its arguments
 abbrev pub line_of : Verb → App
@@ -97,6 +110,7 @@ line_of verb.Prove = value_line (codes "prove") id_rule
 line_of verb.CheckProof = value_line (codes "check-proof") root_rule
 line_of verb.Apply = file_line (codes "apply")
 line_of verb.Schedule = schedule_line
+line_of verb.Compare = compare_line
 
 -- the program's name, with a version
 abbrev pub program : App
@@ -124,7 +138,7 @@ single_line = with_command (with_command asking_line verb.CheckProof) verb.Apply
 
 -- the whole command line: `bkreplay`, and one of the commands
 abbrev pub command_line : App
-command_line = with_command single_line verb.Schedule
+command_line = with_command (with_command single_line verb.Schedule) verb.Compare
 
 -- ---- the job
 
@@ -179,6 +193,9 @@ IsJobAt word rows (job.Schedule workers feed events) =
     (word ≡ word_of verb.Schedule) × AreNamedBy 2 (one_of (codes "workers") rows) workers
     × IsTextIn rows (codes "FEED") (string_bytes feed)
     × IsTextIn rows (codes "EVENTS") (string_bytes events)
+IsJobAt word rows (job.Compare first second) =
+    (word ≡ word_of verb.Compare) × IsTextIn rows (codes "FEED1") (string_bytes first)
+    × IsTextIn rows (codes "FEED2") (string_bytes second)
 
 -- the job is that of the command that was found in the words
 abbrev pub IsJobOf : Option (Text × List Row) → Job → Type 0
@@ -196,4 +213,5 @@ IsOneOf (x ∷ xs) word = (word ≡ x) ⊎ IsOneOf xs word
 abbrev pub all_words : List Text
 all_words =
     word_of verb.Run ∷ word_of verb.Make ∷ word_of verb.Order ∷ word_of verb.Account ∷ word_of verb.Receipt
-    ∷ word_of verb.Prove ∷ word_of verb.CheckProof ∷ word_of verb.Apply ∷ word_of verb.Schedule ∷ []
+    ∷ word_of verb.Prove ∷ word_of verb.CheckProof ∷ word_of verb.Apply ∷ word_of verb.Schedule
+    ∷ word_of verb.Compare ∷ []

@@ -2,6 +2,10 @@
 use Rattle.std.specs.Prelude.{ℕ, Bool, true, false, if◌then◌else◌, Result, Ok, Err}
 use Rattle.bk_frames.specs.declared.fault.FaultCode.{FaultCode}
 use Rattle.bk_frames.specs.declared.fault.FaultCode.TheVariants as code
+use Rattle.bk_replay.specs.declared.agreeing.CompareStop.{CompareStop}
+use Rattle.bk_replay.specs.declared.agreeing.CompareStop.TheVariants as compared
+use Rattle.bk_replay.specs.declared.differ.Differ.{Differ}
+use Rattle.bk_replay.specs.declared.differ.Differ.TheVariants as differ
 use Rattle.bk_replay.specs.declared.fault.Fault.{Fault}
 use Rattle.bk_replay.specs.declared.fault.Fault.TheVariants as replay
 use Rattle.bk_replay.specs.declared.query.Query.{Query}
@@ -39,6 +43,7 @@ gives_verdict (job.CheckProof root file) = true
 gives_verdict (job.Ask asked file) = false
 gives_verdict (job.Apply file) = false
 gives_verdict (job.Schedule workers feed events) = false
+gives_verdict (job.Compare first second) = false
 
 -- what a query asks for may be absent; an order never is
 abbrev pub may_be_absent : Query → Bool
@@ -55,8 +60,9 @@ may_say_no (job.CheckProof root file) = true
 may_say_no (job.Ask asked file) = may_be_absent asked
 may_say_no (job.Apply file) = false
 may_say_no (job.Schedule workers feed events) = false
+may_say_no (job.Compare first second) = false
 
--- a job that refuses bytes: those that are no feed, no script, or no events of a whole run
+-- a job that refuses bytes: those that are no feed, no script, no events of a whole run, or feeds of no one setup
 abbrev pub refuses : Job → Bool
 refuses (job.Run workers file) = true
 refuses (job.Make file) = true
@@ -64,8 +70,9 @@ refuses (job.CheckProof root file) = false
 refuses (job.Ask asked file) = true
 refuses (job.Apply file) = true
 refuses (job.Schedule workers feed events) = true
+refuses (job.Compare first second) = true
 
--- a job that finds the order of a feed, which may be stopped
+-- a job that finds the order of a feed, or compares those of two, which may be stopped
 abbrev pub finds_order : Job → Bool
 finds_order (job.Run workers file) = true
 finds_order (job.Make file) = false
@@ -73,6 +80,7 @@ finds_order (job.CheckProof root file) = false
 finds_order (job.Ask asked file) = true
 finds_order (job.Apply file) = false
 finds_order (job.Schedule workers feed events) = false
+finds_order (job.Compare first second) = true
 
 -- a job that says whether a batch is missing
 abbrev pub reports_missing : Job → Bool
@@ -82,6 +90,7 @@ reports_missing (job.CheckProof root file) = false
 reports_missing (job.Ask asked file) = false
 reports_missing (job.Apply file) = false
 reports_missing (job.Schedule workers feed events) = false
+reports_missing (job.Compare first second) = false
 
 -- a job that reads its second source
 abbrev pub reads_second : Job → Bool
@@ -91,6 +100,7 @@ reads_second (job.CheckProof root file) = false
 reads_second (job.Ask asked file) = false
 reads_second (job.Apply file) = false
 reads_second (job.Schedule workers feed events) = true
+reads_second (job.Compare first second) = true
 
 -- how a job may end
 abbrev pub may_end : Job → Exit → Bool
@@ -177,6 +187,19 @@ exit_after_list (list.Unread events.Memory) = exit.Failed
 exit_after_list (list.Refused line why) = exit.WrongInput
 exit_after_list (list.Unfinished place) = exit.Failed
 
+-- after two feeds that differ
+abbrev pub exit_after_differ : Differ → Exit
+exit_after_differ differ.Setup = exit.WrongInput
+exit_after_differ (differ.Collision id) = exit.Stopped
+exit_after_differ (differ.Twins round author first second) = exit.Stopped
+exit_after_differ differ.Memory = exit.Failed
+
+-- after two feeds that do not agree
+abbrev pub exit_after_compare : CompareStop → Exit
+exit_after_compare (compared.First e) = exit_after_replay e
+exit_after_compare (compared.Second e) = exit_after_replay e
+exit_after_compare (compared.Differ e) = exit_after_differ e
+
 -- after a query whose object is absent
 abbrev pub absence : Query → Result Exit JobFault
 absence query.Order = Ok exit.Whole
@@ -189,5 +212,6 @@ abbrev pub exit_after : JobFault → Exit
 exit_after (fault.Replay e) = exit_after_replay e
 exit_after (fault.Text e) = exit_after_text e
 exit_after (fault.Events e) = exit_after_list e
+exit_after (fault.Compared e) = exit_after_compare e
 exit_after (fault.AbsentAccount id) = exit.No
 exit_after (fault.AbsentPlace place) = exit.No

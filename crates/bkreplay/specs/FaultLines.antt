@@ -1,11 +1,15 @@
 -- The line that reports a fault.
-use Rattle.std.specs.Prelude.{◌≡◌, ℕ, List, ◌∷◌, ◌++◌, ◌⊎◌, codes, take}
+use Rattle.std.specs.Prelude.{ℕ, List, ◌∷◌, ◌++◌, ◌⊎◌, codes, take}
 use Rattle.hex.specs.Hex.{encode_lower}
 use Rattle.bk_frames.specs.Device.{Device, Works, Fails, Receives}
 use Rattle.bk_frames.specs.Faults.{fault_text}
+use Rattle.bk_replay.specs.declared.agreeing.CompareStop.{CompareStop}
+use Rattle.bk_replay.specs.declared.agreeing.CompareStop.TheVariants as compared
+use Rattle.bk_replay.specs.declared.differ.Differ.{Differ}
+use Rattle.bk_replay.specs.declared.differ.Differ.TheVariants as differ
 use Rattle.bk_replay.specs.declared.fault.Fault.{Fault}
 use Rattle.bk_replay.specs.declared.fault.Fault.TheVariants as replay
-use Rattle.bk_replay.specs.Lines.{spaced}
+use Rattle.bk_report.specs.Lines.{spaced}
 use Rattle.bk_steps.specs.Refusals.{code_of}
 use Rattle.bk_script.specs.Codes.{code_number}
 use Rattle.bk_script.specs.declared.events.EventsFault.{EventsFault}
@@ -55,11 +59,25 @@ list_text (list.Refused line why) =
     codes "event" ++ spaced line ++ codes " refused" ++ spaced (code_of why)
 list_text (list.Unfinished place) = codes "unfinished" ++ spaced place
 
+-- what reports two feeds that differ
+abbrev pub differ_text : Differ → List ℕ
+differ_text differ.Setup = codes "differ setup"
+differ_text (differ.Collision id) = codes "collision" ++ digits_of id
+differ_text (differ.Twins round author first second) = twins_text round author first second
+differ_text differ.Memory = codes "memory"
+
+-- what reports two feeds that do not agree: the fault of one of them, as a run of it reports it, or that they differ
+abbrev pub compare_text : CompareStop → List ℕ
+compare_text (compared.First e) = replay_text e
+compare_text (compared.Second e) = replay_text e
+compare_text (compared.Differ e) = differ_text e
+
 -- what reports a fault
 abbrev pub reported : JobFault → List ℕ
 reported (fault.Replay e) = replay_text e
 reported (fault.Text e) = script_text e
 reported (fault.Events e) = list_text e
+reported (fault.Compared e) = compare_text e
 reported (fault.AbsentAccount id) = codes "absent account" ++ spaced id
 reported (fault.AbsentPlace place) = codes "absent place" ++ spaced place
 

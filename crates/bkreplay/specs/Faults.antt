@@ -1,26 +1,26 @@
 -- What a job leaves: its answer, or the fault that kept it from one.
-use Rattle.std.specs.Prelude.{◌≡◌, ◌↔◌, ◌⊎◌, ℕ, ◌<◌, Bool, List, IfSome, codes, if◌then◌else◌, length, take, string_bytes, IsTrue, Ok, Err}
+use Rattle.std.specs.Prelude.{◌≡◌, ◌↔◌, ◌⊎◌, ℕ, ◌<◌, Bool, List, IfSome, codes, if◌then◌else◌, length, take, string_bytes, IsTrue, Err}
 use Rattle.bk_frames.specs.Device.{Device, Works, Fails, Receives, IfKnown}
-use Rattle.bk_frames.specs.Feed.{HasFault}
-use Rattle.bk_frames.specs.declared.fault.FeedFault.{FeedFault}
+use Rattle.bk_replay.specs.declared.agreeing.CompareStop.{CompareStop}
 use Rattle.bk_replay.specs.declared.fault.Fault.{Fault}
 use Rattle.bk_replay.specs.declared.status.Status.{Status}
 use Rattle.bk_replay.specs.Answers.{Devices, FailsBy, IsUntouched}
 use Rattle.bk_replay.specs.Asking.{AskFailsBy, IsReplied}
-use Rattle.bk_replay.specs.Proofs.{IsGoodProof}
+use Rattle.bk_report.specs.Proofs.{IsGoodProof}
 use Rattle.bk_replay.specs.declared.query.Query.{Query}
 use Rattle.bk_replay.specs.declared.query.Reply.TheVariants as reply
 use Rattle.bk_replay.specs.Replaying.{RunFailsBy}
-use Rattle.bk_replay.specs.Report.{IsApplyReport}
+use Rattle.bk_report.specs.Report.{IsApplyReport}
 use Rattle.bk_replay.specs.RunReport.{IsReport, IsStopped}
 use Rattle.bk_script.specs.Answers as script
 use Rattle.bk_script.specs.Script.{LineFault, feed_of}
 use Rattle.bk_script.specs.declared.fault.ScriptFault.{ScriptFault}
 use Rattle.bk_script.specs.declared.fault.ScriptFault.TheVariants as text
+use Rattle.bkreplay.specs.Comparisons.{AgreeNot, AgreementFailsBy, AgreementIsOut, AreStoppedTogether, AreWrongTogether}
 use Rattle.bkreplay.specs.Exits.{absence, exit_at, exit_by, exit_after}
 use Rattle.bkreplay.specs.FaultLines.{Reports, line_of}
 use Rattle.bkreplay.specs.Schedules.{AreNoEvents, AreRefused, IsWholeRun, ListFailsBy, ScheduleFailsBy}
-use Rattle.bkreplay.specs.Sources.{Inputs, JobDevices, first_devices}
+use Rattle.bkreplay.specs.Sources.{AreBroken, Inputs, JobDevices, first_devices}
 use Rattle.bkreplay.specs.declared.exit.Exit.{Exit}
 use Rattle.bkreplay.specs.declared.exit.Exit.TheVariants as exit
 use Rattle.bkreplay.specs.declared.job.Job.{Job}
@@ -82,6 +82,7 @@ AnswerIsOut (job.Ask asked file) end given old new =
 AnswerIsOut (job.Apply file) end given old new = IfSome given.first (ReportIsOut end old new)
 AnswerIsOut (job.Schedule workers feed events) end given old new =
     ScheduleIsOut workers end given old new
+AnswerIsOut (job.Compare first second) end given old new = AgreementIsOut end given old new
 
 -- ---- why a job has no answer
 
@@ -117,6 +118,7 @@ ReplayFailsBy (job.Ask asked file) e old new =
 ReplayFailsBy (job.Apply file) e old new = FailsBy e (first_devices old) (first_devices new)
 ReplayFailsBy (job.Schedule workers feed events) e old new =
     ScheduleFailsBy workers (fault.Replay e) old new
+ReplayFailsBy (job.Compare first second) e old new = AgreementFailsBy e old new
 
 -- why a text was not answered for a job
 abbrev pub TextFailsBy : Job → ScriptFault → JobDevices → JobDevices → Type 0
@@ -128,6 +130,7 @@ TextFailsBy (job.CheckProof root file) e old new =
 TextFailsBy (job.Ask asked file) e old new = ⊥
 TextFailsBy (job.Apply file) e old new = ⊥
 TextFailsBy (job.Schedule workers feed events) e old new = ⊥
+TextFailsBy (job.Compare first second) e old new = ⊥
 
 -- why a list of events gives no report for a job
 abbrev pub EventsFailBy : Job → ListFault → JobDevices → JobDevices → Type 0
@@ -137,6 +140,17 @@ EventsFailBy (job.CheckProof root file) e old new = ⊥
 EventsFailBy (job.Ask asked file) e old new = ⊥
 EventsFailBy (job.Apply file) e old new = ⊥
 EventsFailBy (job.Schedule workers feed events) e old new = ListFailsBy workers e old new
+EventsFailBy (job.Compare first second) e old new = ⊥
+
+-- why two feeds that do not agree give no answer for a job
+abbrev pub ComparisonFailsBy : Job → CompareStop → JobDevices → JobDevices → Type 0
+ComparisonFailsBy (job.Run workers file) e old new = ⊥
+ComparisonFailsBy (job.Make file) e old new = ⊥
+ComparisonFailsBy (job.CheckProof root file) e old new = ⊥
+ComparisonFailsBy (job.Ask asked file) e old new = ⊥
+ComparisonFailsBy (job.Apply file) e old new = ⊥
+ComparisonFailsBy (job.Schedule workers feed events) e old new = ⊥
+ComparisonFailsBy (job.Compare first second) e old new = AgreeNot e old new
 
 -- what a query asks for is absent, and no call failed
 abbrev pub IsAbsentBy : Query → JobFault → Devices → Devices → Type 0
@@ -153,12 +167,14 @@ IsAbsentFor (job.Ask asked file) e old new =
     IsAbsentBy asked e (first_devices old) (first_devices new)
 IsAbsentFor (job.Apply file) e old new = ⊥
 IsAbsentFor (job.Schedule workers feed events) e old new = ⊥
+IsAbsentFor (job.Compare first second) e old new = ⊥
 
 -- why a query has no reply
 abbrev pub QueryFailsBy : Query → JobFault → Devices → Devices → Type 0
 QueryFailsBy asked (fault.Replay e) old new = AskFailsBy asked e old new
 QueryFailsBy asked (fault.Text e) old new = ⊥
 QueryFailsBy asked (fault.Events e) old new = ⊥
+QueryFailsBy asked (fault.Compared e) old new = ⊥
 QueryFailsBy asked (fault.AbsentAccount id) old new = IsAbsentBy asked (fault.AbsentAccount id) old new
 QueryFailsBy asked (fault.AbsentPlace place) old new = IsAbsentBy asked (fault.AbsentPlace place) old new
 
@@ -167,6 +183,7 @@ abbrev pub JobFailsBy : Job → JobFault → JobDevices → JobDevices → Type 
 JobFailsBy j (fault.Replay e) old new = ReplayFailsBy j e old new
 JobFailsBy j (fault.Text e) old new = TextFailsBy j e old new
 JobFailsBy j (fault.Events e) old new = EventsFailBy j e old new
+JobFailsBy j (fault.Compared e) old new = ComparisonFailsBy j e old new
 JobFailsBy j (fault.AbsentAccount id) old new = IsAbsentFor j (fault.AbsentAccount id) old new
 JobFailsBy j (fault.AbsentPlace place) old new = IsAbsentFor j (fault.AbsentPlace place) old new
 
@@ -178,10 +195,6 @@ pub record EndsBy (j : Job) (e : JobFault) (end : Exit) (old new : JobDevices) (
   pub line : Reports (line_of e) err err'
 
 -- ---- bytes to blame
-
--- the bytes have a fault of a feed
-abbrev pub AreBroken : List ℕ → Type 0
-AreBroken bytes = (found : FeedFault) × HasFault bytes found
 
 -- the bytes have a fault of a script
 abbrev pub MakeNoFeed : List ℕ → Type 0
@@ -202,16 +215,27 @@ AreWrong (job.CheckProof root file) given = ⊥
 AreWrong (job.Ask asked file) given = IfSome given.first AreBroken
 AreWrong (job.Apply file) given = IfSome given.first AreBroken
 AreWrong (job.Schedule workers feed events) given = AreWrongFor workers given
+AreWrong (job.Compare first second) given = AreWrongTogether given
 
 -- the bytes are stopped by a collision or by twins
 abbrev pub AreStopped : List ℕ → Type 0
 AreStopped bytes = (found : Fault) × IsStopped bytes found
+
+-- what the sources give is stopped, for a job that finds an order
+abbrev pub AreStoppedFor : Job → Inputs → Type 0
+AreStoppedFor (job.Run workers file) given = IfSome given.first AreStopped
+AreStoppedFor (job.Make file) given = ⊥
+AreStoppedFor (job.CheckProof root file) given = ⊥
+AreStoppedFor (job.Ask asked file) given = IfSome given.first AreStopped
+AreStoppedFor (job.Apply file) given = ⊥
+AreStoppedFor (job.Schedule workers feed events) given = ⊥
+AreStoppedFor (job.Compare first second) given = AreStoppedTogether given
 
 -- what bytes to blame are like, by the exit
 abbrev pub AreToBlame : Job → Exit → Inputs → Type 0
 AreToBlame j exit.Whole given = ⊥
 AreToBlame j exit.No given = ⊥
 AreToBlame j exit.WrongInput given = AreWrong j given
-AreToBlame j exit.Stopped given = IfSome given.first AreStopped
+AreToBlame j exit.Stopped given = AreStoppedFor j given
 AreToBlame j exit.Failed given = ⊥
 AreToBlame j exit.Missing given = ⊥

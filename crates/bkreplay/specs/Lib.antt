@@ -1,4 +1,5 @@
 pub mod CommandLine
+pub mod Comparisons
 pub mod Exits
 pub mod FaultLines
 pub mod Faults

@@ -1,17 +1,16 @@
 -- The job of a schedule. Its feed is the first source; its list of events, which is read before the feed, the second.
-use Rattle.std.specs.Prelude.{◌≡◌, ℕ, List, slice_index_or, IfSome, Ok, Err}
+use Rattle.std.specs.Prelude.{◌≡◌, ℕ, List, slice_index_or, Ok, Err}
 use Rattle.bk_frames.specs.Device.{Device, Works, IfKnown}
 use Rattle.bk_steps.specs.declared.outcome.ScheduleFault.TheVariants as schedule
 use Rattle.bk_steps.specs.declared.refused.Refused as reason
 use Rattle.bk_replay.specs.Answers.{FailsBy, IsUntouched}
 use Rattle.bk_replay.specs.Replaying.{NothingFailed}
-use Rattle.bk_replay.specs.Report.{IsApplyReport}
 use Rattle.bk_replay.specs.Scheduling.{IsNotWholeFor, IsWholeFor}
 use Rattle.bk_replay.specs.declared.fault.Fault.TheVariants as replay
 use Rattle.bk_replay.specs.declared.scheduling.ScheduleStop.{ScheduleStop}
 use Rattle.bk_replay.specs.declared.scheduling.ScheduleStop.TheVariants as stop
 use Rattle.bk_script.specs.Events.{EventList, HasNoEvents, events_of}
-use Rattle.bkreplay.specs.Sources.{Inputs, JobDevices, first_devices}
+use Rattle.bkreplay.specs.Sources.{JobDevices, first_devices}
 use Rattle.bkreplay.specs.declared.job_fault.JobFault.{JobFault}
 use Rattle.bkreplay.specs.declared.job_fault.JobFault.TheVariants as fault
 use Rattle.bkreplay.specs.declared.list_fault.ListFault.{ListFault}
@@ -75,6 +74,7 @@ ScheduleFailsBy workers (fault.Replay e) old new =
     × FailsBy e (first_devices old) (first_devices new)
 ScheduleFailsBy workers (fault.Text e) old new = ⊥
 ScheduleFailsBy workers (fault.Events e) old new = ListFailsBy workers e old new
+ScheduleFailsBy workers (fault.Compared e) old new = ⊥
 ScheduleFailsBy workers (fault.AbsentAccount id) old new = ⊥
 ScheduleFailsBy workers (fault.AbsentPlace place) old new = ⊥
 

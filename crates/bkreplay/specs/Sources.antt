@@ -1,7 +1,9 @@
 -- The sources and the sink of a job.
 use Rattle.std.specs.Prelude.{ℕ, List, Option}
 use Rattle.bk_frames.specs.Device.{Device, Works}
-use Rattle.bk_replay.specs.Answers.{Devices, IsUntouched, devices}
+use Rattle.bk_frames.specs.Feed.{HasFault}
+use Rattle.bk_frames.specs.declared.fault.FeedFault.{FeedFault}
+use Rattle.bk_replay.specs.Answers.{Devices, devices}
 
 -- the devices of a job: its sources, in the order of the files that it names, and standard output
 pub record JobDevices : Type 0 where
@@ -33,3 +35,7 @@ inputs first second = record { first = first; second = second }
 -- what the sources among these devices give
 abbrev pub inputs_of : JobDevices → Inputs
 inputs_of d = inputs d.first.bytes d.second.bytes
+
+-- the bytes have a fault of a feed
+abbrev pub AreBroken : List ℕ → Type 0
+AreBroken bytes = (found : FeedFault) × HasFault bytes found

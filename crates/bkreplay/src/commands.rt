@@ -4,7 +4,7 @@ ghost use Rattle.std.specs.Prelude.{◌≡◌, true, false, IfOk};
 ghost use Rattle.clap.specs.Words.{app_of, rule_of};
 ghost use Rattle.clap.specs.declared.builder.command.Command.TheViews.{out-Command};
 ghost use Rattle.bkreplay.specs.CommandLine.{asking_line, single_line, command_line, file_line, value_line, schedule_line};
-ghost use Rattle.bkreplay.specs.CommandLine.{file_rule, workers_rule, required_rule, id_rule, place_rule};
+ghost use Rattle.bkreplay.specs.CommandLine.{file_rule, workers_rule, required_rule, id_rule, place_rule, compare_line};
 
 use crate::help::{self, Help};
 use clap::{Arg, ArgAction, Command, value_parser};
@@ -147,11 +147,26 @@ fn schedule_command<'a>(alloc: Global) -> Result<Command<'a>, AllocError>
         .arg(required_arg(alloc, "EVENTS", help::EVENTS))
 }
 
+// The command `compare FEED1 FEED2`.
+fn compare_command<'a>(alloc: Global) -> Result<Command<'a>, AllocError>
+    ensures line { IfOk result (λ c. app_of c ≡ compare_line) }
+    ensures local { IfOk result (λ c. (out-Command c).has_globals ≡ false) }
+{
+    Command::new(alloc, "compare")
+        .about(help::COMPARE.about)
+        .after_help(help::COMPARE.after)
+        .arg(required_arg(alloc, "FEED1", help::FEED1))?
+        .arg(required_arg(alloc, "FEED2", help::FEED2))
+}
+
 /// All commands, in the order in which a user meets them.
 pub(crate) fn command<'a>(alloc: Global) -> Result<Command<'a>, AllocError>
     ensures line { IfOk result (λ c. app_of c ≡ command_line) }
     ensures local { IfOk result (λ c. (out-Command c).has_globals ≡ false) }
 {
     let schedule = schedule_command(alloc)?;
-    single_command(alloc)?.subcommand(schedule)
+    let compare = compare_command(alloc)?;
+    single_command(alloc)?
+        .subcommand(schedule)?
+        .subcommand(compare)
 }

@@ -2,11 +2,12 @@
 
 ghost use Rattle.std.specs.Prelude.{◌≡◌};
 ghost use Rattle.bkreplay.specs.Exits.{exit_number, exit_at, exit_by, exit_after, exit_after_replay, exit_after_text, exit_after_list};
+ghost use Rattle.bkreplay.specs.Exits.{exit_after_compare, exit_after_differ};
 
 use crate::job_fault::JobFault;
 use crate::list_fault::ListFault;
 use bk_frames::FaultCode;
-use bk_replay::{Fault, Status};
+use bk_replay::{CompareStop, Differ, Fault, Status};
 use bk_script::{EventsFault, ScriptFault};
 
 /// How the program ends.
@@ -16,9 +17,9 @@ pub enum Exit {
     Whole = 0,
     /// The answer is no: the command line names no job, what was asked for is not there, or the proof is bad.
     No = 1,
-    /// The bytes of the input are wrong.
+    /// The bytes of the input are wrong, or those of two feeds have no one setup.
     WrongInput = 2,
-    /// The feed is stopped by a collision or an equivocation.
+    /// A feed, or two feeds together, are stopped by a collision or an equivocation.
     Stopped = 3,
     /// A read, a write or memory failed, or a worker did not finish.
     Failed = 4,
@@ -59,6 +60,7 @@ impl Exit {
             JobFault::Replay(fault) => Exit::after_replay(fault),
             JobFault::Text(fault) => Exit::after_text(fault),
             JobFault::Events(fault) => Exit::after_list(fault),
+            JobFault::Compared(stop) => Exit::after_compare(stop),
             JobFault::AbsentAccount { .. } | JobFault::AbsentPlace { .. } => Exit::No,
         }
     }
@@ -98,6 +100,27 @@ impl Exit {
             ListFault::Unread(EventsFault::Read)
             | ListFault::Unread(EventsFault::Memory)
             | ListFault::Unfinished { .. } => Exit::Failed,
+        }
+    }
+
+    // The exit after two feeds that do not agree.
+    fn after_compare(stop: &CompareStop) -> Exit
+        ensures { result ≡ exit_after_compare stop.now }
+    {
+        match stop {
+            CompareStop::First(fault) | CompareStop::Second(fault) => Exit::after_replay(fault),
+            CompareStop::Differ(differ) => Exit::after_differ(differ),
+        }
+    }
+
+    // The exit after two feeds that differ.
+    fn after_differ(differ: &Differ) -> Exit
+        ensures { result ≡ exit_after_differ differ.now }
+    {
+        match differ {
+            Differ::Setup => Exit::WrongInput,
+            Differ::Collision { .. } | Differ::Twins { .. } => Exit::Stopped,
+            Differ::Memory => Exit::Failed,
         }
     }
 }

@@ -3,43 +3,19 @@
 ghost use Rattle.std.specs.Prelude.{◌≡◌, ◌+◌, ◌≤◌, ◌++◌, length};
 ghost use Rattle.arrayvec.specs.ArrayVec.{array_vec_len};
 ghost use Rattle.bk_frames.specs.Device.{CanBeUsed};
-ghost use Rattle.bk_replay.specs.Lines.{spaced};
 ghost use Rattle.bkreplay.specs.FaultLines.{Reports, line_of, digits_of, twins_text, replay_text, script_text};
-ghost use Rattle.bkreplay.specs.FaultLines.{list_text, unread_text};
+ghost use Rattle.bkreplay.specs.FaultLines.{list_text, unread_text, compare_text, differ_text};
 
 use crate::job_fault::JobFault;
+use crate::line::{ShortLine, put_number, put_text};
 use crate::list_fault::ListFault;
-use arrayvec::ArrayVec;
 use bk_digest::Digest32;
 use bk_frames::{Sink, push_all};
-use bk_replay::Fault;
+use bk_replay::{CompareStop, Differ, Fault};
 use bk_script::{EventsFault, ScriptFault};
-use itoa::Buffer;
-
-/// The line of a fault, at most 192 bytes. It stands on the stack, since the fault may be that memory ran out.
-type FaultLine = ArrayVec<u8, 192>;
-
-/// Puts a text where there is room for it.
-fn put_text(line: &mut FaultLine, text: &[u8])
-    requires { array_vec_len line.old + length text.now ≤ 192 }
-    ensures items { line.new.items ≡ line.old.items ++ text.now }
-    ensures len { array_vec_len line.new ≡ array_vec_len line.old + length text.now }
-{
-    line.try_extend_from_slice(text).unwrap();
-}
-
-/// Puts a space and a number where there is room for 21 bytes.
-fn put_number(line: &mut FaultLine, number: u64)
-    requires { array_vec_len line.old + 21 ≤ 192 }
-    ensures items { line.new.items ≡ line.old.items ++ spaced number }
-    ensures len { array_vec_len line.new ≤ array_vec_len line.old + 21 }
-{
-    put_text(line, b" ");
-    put_text(line, Buffer::new().format(number).as_bytes());
-}
 
 /// Puts a space and the digits of a digest where there is room for 65 bytes.
-fn put_digest(line: &mut FaultLine, digest: &Digest32)
+fn put_digest(line: &mut ShortLine, digest: &Digest32)
     requires { array_vec_len line.old + 65 ≤ 192 }
     ensures items { line.new.items ≡ line.old.items ++ digits_of digest.now }
     ensures len { array_vec_len line.new ≡ array_vec_len line.old + 65 }
@@ -51,7 +27,7 @@ fn put_digest(line: &mut FaultLine, digest: &Digest32)
 }
 
 /// Puts what reports an equivocation where there is room for 184 bytes.
-fn put_equivocation(line: &mut FaultLine, place: (u32, u8), first: &Digest32, second: &Digest32)
+fn put_equivocation(line: &mut ShortLine, place: (u32, u8), first: &Digest32, second: &Digest32)
     requires { array_vec_len line.old + 184 ≤ 192 }
     ensures items { line.new.items
         ≡ line.old.items ++ twins_text place.0 place.1 first.now second.now }
@@ -66,7 +42,7 @@ fn put_equivocation(line: &mut FaultLine, place: (u32, u8), first: &Digest32, se
 }
 
 /// Puts what reports a feed that was not replayed where there is room for 184 bytes.
-fn put_replay(line: &mut FaultLine, fault: &Fault)
+fn put_replay(line: &mut ShortLine, fault: &Fault)
     requires { array_vec_len line.old + 184 ≤ 192 }
     ensures items { line.new.items ≡ line.old.items ++ replay_text fault.now }
     ensures len { array_vec_len line.new ≤ array_vec_len line.old + 184 }
@@ -98,7 +74,7 @@ fn put_replay(line: &mut FaultLine, fault: &Fault)
 }
 
 /// Puts what reports a fault of a text where there is room for 184 bytes.
-fn put_script(line: &mut FaultLine, fault: &ScriptFault)
+fn put_script(line: &mut ShortLine, fault: &ScriptFault)
     requires { array_vec_len line.old + 184 ≤ 192 }
     ensures items { line.new.items ≡ line.old.items ++ script_text fault.now }
     ensures len { array_vec_len line.new ≤ array_vec_len line.old + 184 }
@@ -117,7 +93,7 @@ fn put_script(line: &mut FaultLine, fault: &ScriptFault)
 }
 
 /// Puts what reports a list of events that was not read where there is room for 184 bytes.
-fn put_unread(line: &mut FaultLine, fault: &EventsFault)
+fn put_unread(line: &mut ShortLine, fault: &EventsFault)
     requires { array_vec_len line.old + 184 ≤ 192 }
     ensures items { line.new.items ≡ line.old.items ++ unread_text fault.now }
     ensures len { array_vec_len line.new ≤ array_vec_len line.old + 184 }
@@ -133,7 +109,7 @@ fn put_unread(line: &mut FaultLine, fault: &EventsFault)
 }
 
 /// Puts what reports a list of events where there is room for 184 bytes.
-fn put_list(line: &mut FaultLine, fault: &ListFault)
+fn put_list(line: &mut ShortLine, fault: &ListFault)
     requires { array_vec_len line.old + 184 ≤ 192 }
     ensures items { line.new.items ≡ line.old.items ++ list_text fault.now }
     ensures len { array_vec_len line.new ≤ array_vec_len line.old + 184 }
@@ -153,15 +129,50 @@ fn put_list(line: &mut FaultLine, fault: &ListFault)
     }
 }
 
+/// Puts what reports two feeds that differ where there is room for 184 bytes.
+fn put_differ(line: &mut ShortLine, differ: &Differ)
+    requires { array_vec_len line.old + 184 ≤ 192 }
+    ensures items { line.new.items ≡ line.old.items ++ differ_text differ.now }
+    ensures len { array_vec_len line.new ≤ array_vec_len line.old + 184 }
+{
+    match differ {
+        Differ::Setup => put_text(line, b"differ setup"),
+        Differ::Collision { id } => {
+            put_text(line, b"collision");
+            put_digest(line, id);
+        }
+        Differ::Twins {
+            round,
+            author,
+            first,
+            second,
+        } => put_equivocation(line, (*round, *author), first, second),
+        Differ::Memory => put_text(line, b"memory"),
+    }
+}
+
+/// Puts what reports two feeds that do not agree where there is room for 184 bytes.
+fn put_compare(line: &mut ShortLine, stop: &CompareStop)
+    requires { array_vec_len line.old + 184 ≤ 192 }
+    ensures items { line.new.items ≡ line.old.items ++ compare_text stop.now }
+    ensures len { array_vec_len line.new ≤ array_vec_len line.old + 184 }
+{
+    match stop {
+        CompareStop::First(fault) | CompareStop::Second(fault) => put_replay(line, fault),
+        CompareStop::Differ(differ) => put_differ(line, differ),
+    }
+}
+
 /// The line of a fault.
-fn fault_line(fault: &JobFault) -> FaultLine
+fn fault_line(fault: &JobFault) -> ShortLine
     ensures { result.items ≡ line_of fault.now }
 {
-    let mut line = FaultLine::new();
+    let mut line = ShortLine::new();
     match fault {
         JobFault::Replay(fault) => put_replay(&mut line, fault),
         JobFault::Text(fault) => put_script(&mut line, fault),
         JobFault::Events(fault) => put_list(&mut line, fault),
+        JobFault::Compared(stop) => put_compare(&mut line, stop),
         JobFault::AbsentAccount { id } => {
             put_text(&mut line, b"absent account");
             put_number(&mut line, *id);

@@ -27,6 +27,10 @@ pub(crate) const FEED: &str = "The path of the feed";
 
 pub(crate) const EVENTS: &str = "The path of the list of events";
 
+pub(crate) const FEED1: &str = "The path of the feed that is read first";
+
+pub(crate) const FEED2: &str = "The path of the other feed";
+
 pub(crate) const PROGRAM: Help<'static> = Help {
     about: "Replays a ledger from the bytes of a feed",
     after: "\
@@ -35,8 +39,8 @@ An answer is on standard output, one line for each thing that it says. A fault i
 Exit status:
   0  the whole answer is written
   1  the command line is wrong, what was asked for is absent, or the proof is bad
-  2  the feed, the script or the list of events is wrong
-  3  the feed is stopped by a collision or an equivocation
+  2  a feed, the script or the list of events is wrong, or two feeds have no one setup
+  3  a feed, or two together, are stopped by a collision or an equivocation
   4  a read, a write or memory failed, or a worker did not finish
   5  the report of a run is written, and stops at a missing batch
 
@@ -249,4 +253,26 @@ Exit status:
 
 Example:
   ./bkreplay schedule --workers 1 examples/apply_two_payments.feed examples/two_payments.events",
+};
+
+pub(crate) const COMPARE: Help<'static> = Help {
+    about: "Compare the orders of two feeds and what was executed by them",
+    after: "\
+Reads FEED1 and then FEED2, each as `run` does, and finds the order of each up to a batch that is missing. The feeds
+agree where they have one version, one committee and the same opening accounts, and no certificates or batches collide
+and no member has twins among the frames of both together. Then the order of one begins with that of the other, and so
+do the transactions with what became of them. Writes to standard output:
+
+  agree CERTS PLACES              how many certificates the shorter order has, and how many transactions
+
+Exit status:
+  0  the line is written: the feeds agree
+  1  the command line is wrong
+  2  feed fault CODE at OFFSET, with a code of 1 to 7: the bytes of FEED1 are no feed, or else those of FEED2
+  2  differ setup: the versions, the committees or the opening accounts differ, or a feed ends before its accounts
+  3  collision ID, or equivocation ROUND AUTHOR ID ID: in one of the feeds, or between the two
+  4  feed fault 8 or 9, memory, read failed, write failed, or unfinished PLACE
+
+Example:
+  ./bkreplay compare examples/ahead.feed examples/behind.feed",
 };

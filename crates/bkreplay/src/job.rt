@@ -52,6 +52,13 @@ pub enum Job {
         /// The path of the list.
         events: String,
     },
+    /// Writes how far the orders of two feeds agree.
+    Compare {
+        /// The path of the feed that is read first.
+        first: String,
+        /// The path of the other.
+        second: String,
+    },
 }
 
 impl Job {
@@ -64,6 +71,7 @@ impl Job {
             | Job::Ask { file, .. }
             | Job::Apply { file } => file.as_deref(),
             Job::Schedule { feed, .. } => Some(feed.as_str()),
+            Job::Compare { first, .. } => Some(first.as_str()),
         }
     }
 
@@ -76,6 +84,7 @@ impl Job {
             | Job::Ask { .. }
             | Job::Apply { .. } => None,
             Job::Schedule { events, .. } => Some(events.as_str()),
+            Job::Compare { second, .. } => Some(second.as_str()),
         }
     }
 }
@@ -150,6 +159,15 @@ fn schedule_of(alloc: Global, found: &ArgMatches<'_>) -> Result<Job, AllocError>
     })
 }
 
+// The job of `compare`, with the values of its arguments.
+fn compare_of(alloc: Global, found: &ArgMatches<'_>) -> Result<Job, AllocError>
+    ensures { IfOk result (IsJobAt (codes "compare") (rows_of (found_of found.now))) }
+{
+    let first = text_in(alloc, found, "FEED1")?;
+    let second = text_in(alloc, found, "FEED2")?;
+    Ok(Job::Compare { first, second })
+}
+
 // The job of a command, with the values of its arguments.
 fn job_of(alloc: Global, verb: Verb, found: &ArgMatches<'_>) -> Result<Job, AllocError>
     ensures { IfOk result (IsJobAt (word_of verb) (rows_of (found_of found.now))) }
@@ -185,6 +203,10 @@ fn job_of(alloc: Global, verb: Verb, found: &ArgMatches<'_>) -> Result<Job, Allo
         Verb::Apply => Ok(Job::Apply { file }),
         Verb::Schedule => {
             let job = schedule_of(alloc, found)?;
+            Ok(job)
+        }
+        Verb::Compare => {
+            let job = compare_of(alloc, found)?;
             Ok(job)
         }
     }

@@ -5,18 +5,20 @@ ghost use Rattle.bkreplay.specs.declared.job_fault.JobFault.TheVariants as fault
 ghost use Rattle.bkreplay.specs.declared.list_fault.ListFault.TheVariants as list;
 
 use crate::list_fault::ListFault;
-use bk_replay::Fault;
+use bk_replay::{CompareStop, Fault};
 use bk_script::{EventsFault, ScriptFault};
 
 /// Why a job has no answer. The program prints each as one line on standard error.
 #[derive(Clone, Copy, Debug, PartialEq, Eq)]
 pub enum JobFault {
-    /// A feed was not replayed.
+    /// A feed was not replayed, or the answer of a comparison was not written.
     Replay(Fault),
     /// A script has a fault; or a script or a proof was not read, or the answer to it was not written.
     Text(ScriptFault),
     /// A list of events gives no report.
     Events(ListFault),
+    /// Two feeds do not agree.
+    Compared(CompareStop),
     /// The feed has no account of this id.
     AbsentAccount { id: u64 },
     /// The order of the feed has no transaction at this place.
@@ -44,5 +46,13 @@ impl From<EventsFault> for JobFault {
 
     fn from(f: EventsFault) -> JobFault {
         JobFault::Events(ListFault::Unread(f))
+    }
+}
+
+impl From<CompareStop> for JobFault {
+    ghost from_gives = { λ f e. e ≡ fault.Compared f };
+
+    fn from(f: CompareStop) -> JobFault {
+        JobFault::Compared(f)
     }
 }

@@ -2,11 +2,13 @@
 #![tactic(auto)]
 
 mod commands;
+mod comparing;
 mod exit;
 mod fault_line;
 mod help;
 mod job;
 mod job_fault;
+mod line;
 mod list_fault;
 mod program;
 mod queries;

@@ -8,6 +8,7 @@ ghost use Rattle.bkreplay.specs.Exits.{is_answer, is_refusal, may_end, reads_sec
 ghost use Rattle.bkreplay.specs.Faults.{EndsBy, JobFailsBy, AnswerIsOut, AreToBlame};
 ghost use Rattle.bkreplay.specs.Sources.{AllWork, inputs, job_devices};
 
+use crate::comparing::compare_feeds;
 use crate::exit::Exit;
 use crate::fault_line::report;
 use crate::job::Job;
@@ -67,6 +68,10 @@ fn answer<R: Threads + Wait + Sync + AllocGlobal, S1: Source, S2: Source, O: Sin
         }
         Job::Schedule { workers, .. } => {
             let end = schedule(rt, *workers, first, second, out)?;
+            Ok(end)
+        }
+        Job::Compare { .. } => {
+            let end = compare_feeds(rt, first, second, out)?;
             Ok(end)
         }
     }

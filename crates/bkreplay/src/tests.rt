@@ -1,3 +1,4 @@
+mod comparing;
 mod faults;
 mod feeds;
 mod runs;

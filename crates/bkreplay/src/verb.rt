@@ -15,6 +15,7 @@ pub(crate) enum Verb {
     CheckProof,
     Apply,
     Schedule,
+    Compare,
 }
 
 impl Verb {
@@ -47,6 +48,9 @@ impl Verb {
         if word == "apply" {
             return Verb::Apply;
         }
-        Verb::Schedule
+        if word == "schedule" {
+            return Verb::Schedule;
+        }
+        Verb::Compare
     }
 }

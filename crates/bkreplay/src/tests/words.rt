@@ -157,3 +157,13 @@ fn words_of_no_job(rt: HostRuntime) -> Result<(), Fail> {
     }
     Ok(())
 }
+
+#[test]
+fn words_of_a_comparison(rt: HostRuntime) -> Result<(), Fail> {
+    let words = ["bkreplay", "compare", "a", "b"];
+    let job = parse(rt.alloc(), &words)?;
+    assert!(rt; job.file() == Some("a"));
+    assert!(rt; job.second_file() == Some("b"));
+    assert!(rt; matches!(job, Job::Compare { .. }));
+    Ok(())
+}

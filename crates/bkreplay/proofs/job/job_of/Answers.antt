@@ -61,3 +61,6 @@ returns-in-Prove c =
 
 pub returns-in_ok-job-in-Schedule : goal.returns-in_ok-job-in-Schedule
 returns-in_ok-job-in-Schedule c = rw c.in-Schedule.is c.in_ok-job-in-Schedule.ensures
+
+pub returns-in_ok-job-in-Compare : goal.returns-in_ok-job-in-Compare
+returns-in_ok-job-in-Compare c = rw c.in-Compare.is c.in_ok-job-in-Compare.ensures

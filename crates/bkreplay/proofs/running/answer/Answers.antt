@@ -23,3 +23,6 @@ returns-in_ok-end-in-Ask-clause-answer g c = rw (c.in-Ask.is, c.in_ok-end-in-Ask
 
 pub returns-in_ok-end-in-Schedule-clause-answer : goal.returns-in_ok-end-in-Schedule-clause-answer
 returns-in_ok-end-in-Schedule-clause-answer g c = rw (c.in-Schedule.is, c.in_ok-end-in-Schedule.ensures.answer) (refl, refl)
+
+pub returns-in_ok-end-in-Compare-clause-answer : goal.returns-in_ok-end-in-Compare-clause-answer
+returns-in_ok-end-in-Compare-clause-answer g c = rw (c.in-Compare.is, c.in_ok-end-in-Compare.ensures.answer) (refl, refl)

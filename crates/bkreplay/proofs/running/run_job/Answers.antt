@@ -1,8 +1,9 @@
 -- An answer blames nothing; a fault is no answer, and it says where the bytes are to blame.
-use Rattle.std.proofs.Common.{◌≡◌, ◌∙◌, sym, true, false, true≢false}
+use Rattle.std.proofs.Common.{◌≡◌, ◌∙◌, sym, false, true≢false}
 use Rattle.bkreplay.specs.Sources.{job_devices}
-use Rattle.bkreplay.specs.Exits.{is_answer, is_refusal}
-use Rattle.bkreplay.proofs.StatusLemmas.{bytes_to_blame, ends_by_fault, fault_is_none, answer_is_no_refusal}
+use Rattle.bkreplay.specs.Exits.{is_answer}
+use Rattle.bkreplay.proofs.BlameLemmas.{bytes_to_blame}
+use Rattle.bkreplay.proofs.StatusLemmas.{ends_by_fault, fault_is_none, answer_is_no_refusal}
 use Rattle.bkreplay.proofs.running.run_job.Goals as goal
 
 pub returns-in-Ok-clause-blame : goal.returns-in-Ok-clause-blame
