@@ -1,81 +1,18 @@
 //! Ids by ascending order, and the index of one of them.
 
-ghost use Rattle.std.specs.Prelude.{◌≡◌, ◌==◌, ◌<◌, ℕ, IsTrue, IfOk, IfSome, length, slice_index};
+ghost use Rattle.std.specs.Prelude.{◌≡◌, ◌==◌, ◌<◌, ℕ, IsTrue, IfOk, length};
 ghost use Rattle.std.specs.List.{position, list_any};
 ghost use Rattle.bk_frames.specs.Numbers.{is_ascending};
 ghost use Rattle.bk_rules.specs.private.Slots.{index_or_len};
 
+use crate::hints::Hints;
+use bk_tx::{Declarations, Tx};
 use std::alloc::{AllocError, Global};
 use std::marker::Model;
 use std::sync::Arc;
 
-// A slot that holds no hint: there are never so many ids.
-const EMPTY: u32 = u32::MAX;
-
-// How many slots from an id's own one on are looked at before the ids are searched.
-const MOST_TRIES: usize = 16;
-
-// 2^64 over the golden ratio: ids in sequence, or with a common stride, fall on slots far apart.
-const SPREAD: u64 = 0x9e37_79b9_7f4a_7c15;
-
-// A table with a likely index of each id, so that most look-ups read one slot and one id.
-//
-// An index is believed only where the id stands there, and else the ids are searched. So no result depends on the
-// slots, and no contract speaks of them.
-#[derive(Debug, Drop)]
-struct Hints {
-    slots: Vec<u32>,
-    shift: u32,
-}
-
-impl Hints {
-    // Hints for these ids: four bytes a slot, and at most three slots an id and a few.
-    fn new(alloc: Global, ids: &[u64]) -> Result<Hints, AllocError> {
-        let slots = ids.len().saturating_add(ids.len() / 2).max(1);
-        let shift = (slots as u64).leading_zeros();
-        let most = u64::MAX.wrapping_shr(shift) as usize;
-        let mut hints = Hints {
-            slots: vec![in alloc; EMPTY; most.saturating_add(MOST_TRIES)]?,
-            shift,
-        };
-        for (index, id) in ids.iter().enumerate() {
-            if let Ok(index) = u32::try_from(index) {
-                hints.keep(*id, index);
-            }
-        }
-        Ok(hints)
-    }
-
-    // The slot where an id's hint stands, if those before it are free.
-    fn home(&self, id: u64) -> usize {
-        id.wrapping_mul(SPREAD).wrapping_shr(self.shift) as usize
-    }
-
-    // Puts a hint into the first free slot, if one is near enough.
-    fn keep(&mut self, id: u64, index: u32) {
-        let home = self.home(id);
-        for step in 0..MOST_TRIES {
-            let slot = home.saturating_add(step);
-            if self.slots.get(slot) == Some(&EMPTY) {
-                self.slots[slot] = index;
-                return;
-            }
-        }
-    }
-
-    // The index of an id, if a hint leads there.
-    fn guess(&self, ids: &[u64], id: u64) -> Option<usize>
-        ensures { IfSome result (λ k. (k < length ids.now) × (slice_index ids.now k ≡ id)) }
-    {
-        for slot in self.slots.get(self.home(id)..)?.iter().take(MOST_TRIES) {
-            let index = *slot as usize;
-            if *ids.get(index)? == id {
-                return Some(index);
-            }
-        }
-        None
-    }
-}
+// How many transactions are looked up together: reads that depend on none before them overlap.
+const BLOCK: usize = 256;
 
 // What holders of the same ids share.
 #[derive(Debug, Drop)]
@@ -159,6 +96,62 @@ impl Ids {
         self.index_of(id).is_some()
     }
 
+    /// The index of an id, if it is there; a likely index is looked at first.
+    pub fn index_by(&self, id: u64, near: usize) -> Option<usize>
+        ensures { result ≡ position (λ i. i == id) self.now }
+    {
+        let ids = self.as_slice();
+        if near < ids.len() {
+            if ids[near] == id {
+                return Some(near);
+            }
+        }
+        self.index_of(id)
+    }
+
+    /// Puts a likely index of each account that the transactions declare at the end, in their order, for `index_by`.
+    ///
+    /// No contract says that they are right: where one is not, the look-up takes longer.
+    pub fn push_likely(&self, near: &mut Vec<u32>, txs: &[Option<Tx>]) -> Result<(), AllocError> {
+        for block in txs.chunks(BLOCK) {
+            let from = near.len();
+            for tx in block {
+                if let Some(tx) = tx {
+                    self.push_slots(near, tx.declared())?;
+                }
+            }
+            let mut at = from;
+            for tx in block {
+                if let Some(tx) = tx {
+                    self.mend(near, at, tx.declared());
+                    at = at.saturating_add(tx.declared().len());
+                }
+            }
+        }
+        Ok(())
+    }
+
+    // What the slot of each declared account says.
+    fn push_slots(&self, near: &mut Vec<u32>, declared: &Declarations) -> Result<(), AllocError> {
+        for k in 0..declared.len() {
+            near.push(self.table.hints.slot(declared.get(k).id))?;
+        }
+        Ok(())
+    }
+
+    // Looks further for the declared accounts that do not stand where their slot says.
+    fn mend(&self, near: &mut [u32], from: usize, declared: &Declarations) {
+        let Table { ids, hints } = &*self.table;
+        for k in 0..declared.len() {
+            let id = declared.get(k).id;
+            if let Some(index) = near.get_mut(from.saturating_add(k)) {
+                if ids.get(*index as usize) != Some(&id) {
+                    *index = hints.search(ids, id);
+                }
+            }
+        }
+    }
+
     // The index of an id, or the length where it is not there.
     pub(crate) fn index_or_len(&self, id: u64) -> usize
         ensures { result ≡ index_or_len self.now id }
@@ -173,22 +166,15 @@ impl Ids {
     pub(crate) fn index_near(&self, id: u64, near: usize) -> usize
         ensures { result ≡ index_or_len self.now id }
     {
-        let ids = self.as_slice();
-        if near < ids.len() {
-            if ids[near] == id {
-                return near;
-            }
+        match self.index_by(id, near) {
+            Some(index) => index,
+            None => self.len(),
         }
-        self.index_or_len(id)
     }
 
     // A likely index of an id: what is asked of its slot alone, whatever stands at that index.
     pub(crate) fn likely(&self, id: u64) -> usize {
-        let hints = &self.table.hints;
-        hints
-            .slots
-            .get(hints.home(id))
-            .map_or(0, |index| *index as usize)
+        self.table.hints.slot(id) as usize
     }
 }
 

@@ -2,6 +2,7 @@
 #![tactic(auto)]
 
 mod account;
+mod hints;
 mod ids;
 mod laws;
 mod local;

@@ -1,6 +1,9 @@
-use Rattle.std.proofs.Common.{sym}
-use Rattle.bk_rules.proofs.Finding.{first_is}
+use Rattle.std.proofs.Common.{◌∙◌}
+use Rattle.bk_rules.proofs.Finding.{index_some, index_none}
 use Rattle.bk_rules.proofs.ids.Ids.index_near.Goals as goal
 
-pub returns-then-ids-near : goal.returns-then-ids-near
-returns-then-ids-near c = sym (first_is c.args.self.now c.as_slice-ids.ensures.ascending c.args.id c.args.near (rw c.as_slice-ids.ensures.all at c.if-near-ids.true) (rw c.as_slice-ids.ensures.all at c.if-ids-near.true))
+pub returns-in-Some : goal.returns-in-Some
+returns-in-Some c = index_some c.args.self.now c.args.id c.in-Some.index c.in-Some.ensures
+
+pub returns-in-None : goal.returns-in-None
+returns-in-None c = c.len.ensures ∙ index_none c.args.self.now c.args.id c.in-None.ensures
