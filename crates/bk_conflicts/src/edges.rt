@@ -14,7 +14,7 @@ ghost use Rattle.bk_conflicts.specs.private.Trail.{direct, Stands, IsTrail};
 
 use crate::rows::{Rows, filled, lengths, no_rows, push_row, turned_round};
 use crate::trail::{Trail, meet_all, no_trail};
-use crate::words::{WordRows, list_accesses, no_words, push_word_row};
+use crate::words::{WordRows, likely_after, list_accesses, no_words, push_word_row};
 use bk_frames::Version;
 use bk_rules::Ids;
 use bk_tx::Tx;
@@ -35,11 +35,13 @@ pub(crate) struct Lists {
     pub(crate) after: Rows,
 }
 
-// One pass over the places, from the first.
+// One pass over the places, from the first. `near` has likely slots of all declared accounts, in their order, as far as
+// it goes.
 fn meet_places(
     alloc: Global,
     ids: &Ids,
     txs: &[Option<Tx>],
+    near: &[u32],
     trail: &mut Trail,
     stamp: &mut [u32],
 ) -> Result<Met, AllocError>
@@ -63,9 +65,11 @@ fn meet_places(
     let mut xs = Vec::new(alloc);
     let mut words = no_words(alloc, txs.len())?;
     let mut earlier = no_rows(alloc, txs.len())?;
+    let mut rest = near;
     for q in 0..txs.len() {
         found.clear();
-        list_accesses(ids, txs, q, &mut xs)?;
+        list_accesses(ids, txs, q, rest, &mut xs)?;
+        rest = likely_after(rest, txs[q].as_ref());
         meet_all(trail, stamp, &mut found, q as u32, &xs)?;
         push_word_row(&mut words, &xs)?;
         push_row(&mut earlier, &found)?;
@@ -74,7 +78,7 @@ fn meet_places(
 }
 
 // The same, from nothing.
-fn meet(alloc: Global, ids: &Ids, txs: &[Option<Tx>]) -> Result<Met, AllocError>
+fn meet(alloc: Global, ids: &Ids, txs: &[Option<Tx>], near: &[u32]) -> Result<Met, AllocError>
     requires few { length txs.now < 2 ^ 31 }
     requires few_slots { length ids.now < 2 ^ 31 }
     ensures words { IfOk result (λ r.
@@ -89,7 +93,7 @@ fn meet(alloc: Global, ids: &Ids, txs: &[Option<Tx>]) -> Result<Met, AllocError>
     let slots = ids.as_slice().len();
     let mut trail = no_trail(alloc, slots)?;
     let mut stamp = filled(alloc, 0, txs.len())?;
-    meet_places(alloc, ids, txs, &mut trail, &mut stamp)
+    meet_places(alloc, ids, txs, near, &mut trail, &mut stamp)
 }
 
 // The lists of the plan of these transactions.
@@ -98,6 +102,7 @@ pub(crate) fn lists_of(
     version: Version,
     ids: &Ids,
     txs: &[Option<Tx>],
+    near: &[u32],
 ) -> Result<Lists, AllocError>
     requires covered { are_covered version ids.now txs.now ≡ true }
     requires few { length txs.now < 2 ^ 31 }
@@ -107,7 +112,7 @@ pub(crate) fn lists_of(
         r.before.items r.after.start.items r.after.items.items) }
 {
     let _ = version;
-    let met = meet(alloc, ids, txs)?;
+    let met = meet(alloc, ids, txs, near)?;
     let before = lengths(alloc, &met.earlier.start)?;
     let after = turned_round(alloc, &met.earlier.start, &met.earlier.items, txs.len())?;
     Ok(Lists {

@@ -48,11 +48,12 @@ pub(crate) fn no_words(alloc: Global, places: usize) -> Result<WordRows, AllocEr
     })
 }
 
-// Puts the slots that a place accesses in place of others.
+// Puts the slots that a place accesses in place of others. `near` has likely slots of its accounts, if it has any.
 pub(crate) fn list_accesses(
     ids: &Ids,
     txs: &[Option<Tx>],
     place: usize,
+    near: &[u32],
     xs: &mut Vec<Access>,
 ) -> Result<(), AllocError>
     requires { place < length txs.now }
@@ -62,17 +63,22 @@ pub(crate) fn list_accesses(
     xs.clear();
     match &txs[place] {
         None => Ok(()),
-        Some(tx) => push_accesses(ids, tx.declared(), xs),
+        Some(tx) => push_accesses(ids, tx.declared(), near, xs),
     }
 }
 
 // Puts the slots of these accounts at the end.
-fn push_accesses(ids: &Ids, declared: &Declarations, xs: &mut Vec<Access>) -> Result<(), AllocError>
+fn push_accesses(
+    ids: &Ids,
+    declared: &Declarations,
+    near: &[u32],
+    xs: &mut Vec<Access>,
+) -> Result<(), AllocError>
     ensures { OnOk result (xs.new.items ≡ xs.old.items ++ accesses_of ids.now declared.now) }
 {
     for k in 0..declared.len() {
         let account = declared.get(k);
-        if let Some(slot) = ids.index_of(account.id) {
+        if let Some(slot) = ids.index_by(account.id, likely_at(near, k)) {
             xs.push(Access {
                 slot,
                 writable: account.writable,
@@ -80,6 +86,26 @@ fn push_accesses(ids: &Ids, declared: &Declarations, xs: &mut Vec<Access>) -> Re
         }
     }
     Ok(())
+}
+
+// A likely slot, if one is known; else a number that is none.
+fn likely_at(near: &[u32], k: usize) -> usize {
+    match near.get(k) {
+        Some(slot) => *slot as usize,
+        None => usize::MAX,
+    }
+}
+
+// The likely slots that follow those of a transaction.
+pub(crate) fn likely_after<'a>(near: &'a [u32], tx: Option<&Tx>) -> &'a [u32] {
+    let declared = match tx {
+        None => 0,
+        Some(tx) => tx.declared().len(),
+    };
+    match near.get(declared..) {
+        Some(rest) => rest,
+        None => &[],
+    }
 }
 
 // Puts the words of these slots at the end.
