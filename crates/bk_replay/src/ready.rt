@@ -6,7 +6,7 @@ ghost use Rattle.std.specs.Option.{option_copied};
 ghost use Rattle.bk_rules.specs.Ledger.{are_covered, has_slot, is_covered};
 ghost use Rattle.bk_replay.specs.private.Slices.{IsAheadOf, IsNextFrom, IsNoneAhead, IsReadOf, IsReady};
 
-use crate::slice::{Batches, gather};
+use crate::slice::{Batches, gather_near};
 use bk_conflicts::Plan;
 use bk_frames::Version;
 use bk_order::Intake;
@@ -57,8 +57,8 @@ impl Batches {
         requires few_slots { length ids.now < 2 ^ 31 }
         ensures { IfOk result (IsReady version ids.now self.counts.items self.txs.items) }
     {
-        let Batches { counts, txs } = self;
-        let plan = Plan::make(alloc, version, ids, txs)?;
+        let Batches { counts, txs, near } = self;
+        let plan = Plan::make_near(alloc, version, ids, txs, &near)?;
         let plan = Arc::new(alloc, plan)?;
         Ok(Ready { counts, plan })
     }
@@ -79,6 +79,7 @@ impl Ahead {
 pub(crate) fn read_two(
     alloc: Global,
     intake: &Intake,
+    ids: &Ids,
     from: usize,
     least: usize,
 ) -> Result<Ahead, AllocError>
@@ -89,8 +90,8 @@ pub(crate) fn read_two(
     ensures { IfOk result (λ a. (version : Version) (slots : List ℕ)
         → IsAheadOf intake.now.ordered.payloads.list from version slots a) }
 {
-    let first = gather(alloc, intake, from, least)?;
-    let read = gather(alloc, intake, from + first.counts.len(), least)?;
+    let first = gather_near(alloc, intake, ids, from, least)?;
+    let read = gather_near(alloc, intake, ids, from + first.counts.len(), least)?;
     let next = Next::Read(first);
     Ok(Ahead { next, read })
 }
@@ -140,7 +141,7 @@ pub(crate) fn look_ahead<R: Threads + Wait + Sync>(
                 × (later ≤ length intake.now.ordered.payloads.list) }
             ensures { IfOk result (λ b. IsReadOf intake.entry.now.ordered.payloads.list
                 later b.counts.items b.txs.items) }
-        { gather(alloc, intake, later, least) },
+        { gather_near(alloc, intake, ids, later, least) },
         || -> Result<Next, AllocError>
             requires { length read.txs.items < 2 ^ 31 }
             ensures { IfOk result (IsNextFrom read version ids.entry.now) }

@@ -142,7 +142,7 @@ fn scheduled(
         (λ s. IsWholeAmong s workers events.now)) }
     ensures stop { IfErr result (λ e. Unscheduled feed.now workers events.now e) }
 {
-    let Batches { counts, txs } = batches_of(alloc, feed)?;
+    let Batches { counts, txs, .. } = batches_of(alloc, feed)?;
     let Outcome { state, receipts } = run_events(alloc, feed, txs, workers, events)?;
     Ok(Ledger {
         counts,

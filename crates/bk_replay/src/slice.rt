@@ -1,7 +1,7 @@
 //! Batches of an order, executed in slices by any number of workers.
 //!
 //! While a slice is executed, the one behind it is planned in a thread of its own, and the next one is read and decoded
-//! in another.
+//! in another, which also looks up its accounts.
 
 ghost use Rattle.std.specs.Prelude.{◌≡◌, ◌+◌, ◌^◌, ◌<◌, ◌≤◌, ◌∷◌, ◌++◌, [], false, length, map, drop, IfOk, IfErr, OnOk};
 ghost use Rattle.std.specs.Arc.{arc_value};
@@ -18,6 +18,7 @@ use crate::ready::{Ahead, Next, Ready, SLOTS_END, look_ahead, read_two};
 use bk_frames::Kind;
 use bk_order::Intake;
 use bk_pool::{ExecFault, Gate, execute};
+use bk_rules::Ids;
 use bk_tx::{Tx, read_batch};
 use std::alloc::{AllocError, Global};
 use std::sync::Wait;
@@ -38,6 +39,8 @@ pub(crate) struct Batches {
     pub(crate) counts: Vec<Option<u16>>,
     /// The transactions of all of them.
     pub(crate) txs: Vec<Option<Tx>>,
+    /// Likely slots of the accounts that these declare, in their order, for as many as were looked up.
+    pub(crate) near: Vec<u32>,
 }
 
 impl Batches {
@@ -49,6 +52,7 @@ impl Batches {
         Batches {
             counts: Vec::new(alloc),
             txs: Vec::new(alloc),
+            near: Vec::new(alloc),
         }
     }
 
@@ -89,12 +93,7 @@ impl Batches {
 }
 
 // Reads the batches of an order from a place on, until they have so many transactions or the order ends.
-pub(crate) fn gather(
-    alloc: Global,
-    intake: &Intake,
-    from: usize,
-    least: usize,
-) -> Result<Batches, AllocError>
+fn gather(alloc: Global, intake: &Intake, from: usize, least: usize) -> Result<Batches, AllocError>
     requires open { intake.now.failed ≡ false }
     requires within { from ≤ length intake.now.ordered.payloads.list }
     requires least { least < 2 ^ 30 }
@@ -108,6 +107,25 @@ pub(crate) fn gather(
             return Ok(batches);
         }
     }
+    Ok(batches)
+}
+
+/// The same, and looks up the accounts that the transactions declare.
+pub(crate) fn gather_near(
+    alloc: Global,
+    intake: &Intake,
+    ids: &Ids,
+    from: usize,
+    least: usize,
+) -> Result<Batches, AllocError>
+    requires open { intake.now.failed ≡ false }
+    requires within { from ≤ length intake.now.ordered.payloads.list }
+    requires least { least < 2 ^ 30 }
+    ensures { IfOk result (λ b. IsReadOf intake.now.ordered.payloads.list from
+        b.counts.items b.txs.items) }
+{
+    let mut batches = gather(alloc, intake, from, least)?;
+    ids.push_likely(&mut batches.near, &batches.txs)?;
     Ok(batches)
 }
 
@@ -264,7 +282,8 @@ impl Ledger {
     {
         let mut ledger = self;
         let end = intake.batches();
-        let mut ahead = read_two(alloc, intake, ledger.counts.len(), least)?;
+        let from = ledger.counts.len();
+        let mut ahead = read_two(alloc, intake, ledger.state.ids(), from, least)?;
         while ledger.counts.len() < end {
             let (after, behind) = ledger.run_next(rt, alloc, intake, ahead, least, workers, gate)?;
             ledger = after;

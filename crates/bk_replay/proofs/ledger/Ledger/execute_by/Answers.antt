@@ -5,10 +5,10 @@ use Rattle.bk_replay.proofs.NextLemmas.{behind_ahead}
 use Rattle.bk_replay.proofs.ledger.Ledger.execute_by.Goals as goal
 
 pub read_two-requires-clause-within : goal.read_two-requires-clause-within
-read_two-requires-clause-within g c = omega (arith, c.requires.within, c.len.ensures, c.args.self.counts.ok.0)
+read_two-requires-clause-within g c = omega (arith, c.requires.within, c.len-from.ensures, c.args.self.counts.ok.0)
 
 pub loop-alloc-init : goal.loop-alloc-init
-loop-alloc-init g c = record { way = way_begins _ _; within = c.requires.within; ahead = behind_ahead _ _ _ _ c.args.self _ (c.len.ensures ∙ c.args.self.counts.ok.0) refl refl (c.in_ok-ahead.ensures c.args.self.state.version c.args.self.state.slots) }
+loop-alloc-init g c = record { way = way_begins _ _; within = c.requires.within; ahead = behind_ahead _ _ _ _ c.args.self _ (c.len-from.ensures ∙ c.args.self.counts.ok.0) refl refl (c.in_ok-ahead.ensures c.args.self.state.version c.args.self.state.slots) }
 
 pub run_next-requires-clause-ahead : goal.run_next-requires-clause-ahead
 run_next-requires-clause-ahead g c = λ _ _. c.loop-alloc.invariant.ahead
