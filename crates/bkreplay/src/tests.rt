@@ -1,3 +1,4 @@
+mod asking;
 mod comparing;
 mod faults;
 mod feeds;
