@@ -4,6 +4,8 @@ pub mod Each
 pub mod Filled
 pub mod Declaring
 pub mod Written
+pub mod Held
+pub mod Named
 pub mod Sorted
 pub mod Masks
 pub mod TextLines

@@ -12,10 +12,6 @@ use Rattle.bk_committee.specs.Payload.{weights_bytes}
 use Rattle.bk_script.specs.Sealing.{member_key, member_keys, members_text}
 use Rattle.bk_script.specs.Transactions.{payments_in}
 
--- read past the end
-abbrev pub no_row : Row
-no_row = record { id = 0; balance = 0; seq = 0 }
-
 -- an item more is written
 pub item_more : {X : Type 0} (f : X → List ℕ) (xs : List X) (i : ℕ) (d : X) (out next all : List ℕ) → i < length xs → next ≡ out ++ f (get_or xs i d)
     → out ++ flat_map f (drop i xs) ≡ all → next ++ flat_map f (drop (i + 1) xs) ≡ all

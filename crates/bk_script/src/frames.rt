@@ -1,12 +1,13 @@
 //! The bytes of a feed, put together.
 
 ghost use Rattle.std.specs.Prelude.{◌≡◌, ◌++◌, ◌<◌, ◌≤◌, ◌^◌, length, OnOk, IfOk};
-ghost use Rattle.bk_frames.specs.Genesis.{genesis_text, row_text};
+ghost use Rattle.bk_frames.specs.Genesis.{genesis_text};
 ghost use Rattle.bk_frames.specs.Feed.{frame_of, frame_text};
 ghost use Rattle.bk_script.specs.Feeds.{feed_text};
 
+use crate::accounts::Accounts;
 use crate::sealing::members_payload;
-use bk_frames::{Kind, Row, Version};
+use bk_frames::{Kind, Version};
 use std::alloc::{AllocError, Global};
 
 /// Writes a frame at the end.
@@ -20,25 +21,15 @@ pub(crate) fn put_frame(out: &mut Vec<u8>, kind: Kind, payload: &[u8]) -> Result
     out.extend_from_slice(payload)
 }
 
-// Writes an account at the end.
-fn put_row(out: &mut Vec<u8>, row: &Row) -> Result<(), AllocError>
-    ensures { OnOk result (out.new.items ≡ out.old.items ++ row_text row.now) }
-{
-    out.extend_from_slice(&row.id.to_be_bytes())?;
-    out.extend_from_slice(&row.balance.to_be_bytes())?;
-    out.extend_from_slice(&row.seq.to_be_bytes())
-}
-
 // The payload of genesis.
-fn genesis_payload(alloc: Global, rows: &[Row]) -> Result<Vec<u8>, AllocError>
-    requires { length rows.now < 2 ^ 24 }
-    ensures { IfOk result (λ payload. payload.items ≡ genesis_text rows.now) }
+fn genesis_payload(alloc: Global, accounts: &Accounts) -> Result<Vec<u8>, AllocError>
+    ensures text { IfOk result (λ payload. payload.items ≡ genesis_text accounts.now) }
+    ensures few { length accounts.now < 2 ^ 24 }
 {
-    let mut payload = Vec::new(alloc);
-    payload.extend_from_slice(&(rows.len() as u32).to_be_bytes())?;
-    for row in rows {
-        put_row(&mut payload, row)?;
-    }
+    let count = accounts.len();
+    let mut payload = Vec::with_capacity(alloc, 4 + 24 * count)?;
+    payload.extend_from_slice(&(count as u32).to_be_bytes())?;
+    accounts.put_rows(&mut payload)?;
     Ok(payload)
 }
 
@@ -47,13 +38,12 @@ pub(crate) fn feed_bytes(
     alloc: Global,
     version: Version,
     weights: &[u32],
-    rows: &[Row],
+    accounts: &Accounts,
     body: &[u8],
 ) -> Result<Vec<u8>, AllocError>
-    requires few { length rows.now < 2 ^ 24 }
-    requires members { length weights.now ≤ 128 }
+    requires { length weights.now ≤ 128 }
     ensures { IfOk result (λ feed. feed.items
-        ≡ feed_text version weights.now rows.now body.now) }
+        ≡ feed_text version weights.now accounts.now body.now) }
 {
     let magic = match version {
         Version::One => *b"BKF1",
@@ -65,7 +55,7 @@ pub(crate) fn feed_bytes(
         Kind::Committee,
         &members_payload(alloc, version, weights)?,
     )?;
-    put_frame(&mut feed, Kind::Genesis, &genesis_payload(alloc, rows)?)?;
+    put_frame(&mut feed, Kind::Genesis, &genesis_payload(alloc, accounts)?)?;
     feed.extend_from_slice(body)?;
     Ok(feed)
 }

@@ -14,7 +14,7 @@ use crate::batch::OpenBatch;
 use crate::fault::{ScriptCode, Stop};
 use crate::frames::{feed_bytes, put_frame};
 use crate::line::{Keyword, is_ascii, is_skipped, kind};
-use crate::names::{Named, all_meant, is_new_name, place};
+use crate::names::{Names, all_meant, is_new_name, place};
 use crate::parts::{
     header_in, members_size, parents_of, signers_in, weights_for, weights_listed, word,
 };
@@ -38,8 +38,8 @@ pub struct Script {
     weights: Option<Vec<u32>>,
     late: bool,
     accounts: Accounts,
-    batches: Vec<Named>,
-    certs: Vec<Named>,
+    batches: Names,
+    certs: Names,
     headers: Vec<Header>,
     batch: Option<OpenBatch>,
     body: Vec<u8>,
@@ -54,7 +54,7 @@ impl Model for Script {
 
     ghost Value = { Known };
 
-    ghost view = { λ s. record { version = s.version; versioned = s.versioned; weights = option_map (λ (v : Vec ℕ). v.items) s.weights; late = s.late; accounts = s.accounts; batches = s.batches.items; certs = s.certs.items; headers = s.headers.items; batch = s.batch; body = s.body.items; size = s.size } };
+    ghost view = { λ s. record { version = s.version; versioned = s.versioned; weights = option_map (λ (v : Vec ℕ). v.items) s.weights; late = s.late; accounts = s.accounts; batches = s.batches; certs = s.certs; headers = s.headers.items; batch = s.batch; body = s.body.items; size = s.size } };
 
     ghost invariant = { λ s. (s.sealer.keys ≡ member_keys 128)
         × (length (unwrap_or (option_map (λ (v : Vec ℕ). v.items) s.weights) []) ≤ 128) };
@@ -73,8 +73,8 @@ impl Script {
             weights: None,
             late: false,
             accounts: Accounts::new(alloc),
-            batches: Vec::new(alloc),
-            certs: Vec::new(alloc),
+            batches: Names::new(alloc),
+            certs: Names::new(alloc),
             headers: Vec::new(alloc),
             batch: None,
             body: Vec::new(alloc),
@@ -130,8 +130,7 @@ impl Script {
         let payload = batch.payload(self.alloc)?;
         self.put_frame(Kind::Batch, &payload)?;
         let digest = Digest32::of(&payload);
-        self.batches.push(Named::new(batch.into_name(), digest))?;
-        Ok(())
+        self.batches.push(self.alloc, batch.into_name(), digest)
     }
 
     #[tactic(auto, unfolding(crate::specs::Judging::version_line))]
@@ -251,8 +250,8 @@ impl Script {
             (with_named self.old name.now header signers.now) }
     {
         self.put_certificate(&header, signers)?;
-        let named = Named::new(name.to_vec(self.alloc)?, header.id());
-        self.certs.push(named)?;
+        let name = name.to_vec(self.alloc)?;
+        self.certs.push(self.alloc, name, header.id())?;
         self.headers.push(header)?;
         self.late = true;
         Ok(())
@@ -361,7 +360,7 @@ impl Script {
                 self.alloc,
                 self.version,
                 weights,
-                self.accounts.rows(),
+                &self.accounts,
                 &self.body,
             )?)),
         }
