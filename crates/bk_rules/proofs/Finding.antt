@@ -60,6 +60,29 @@ stands_nowhere ids id nowhere =
     let outside : ltb (length ids) (length ids) ≡ false = grind (arith, nat_tests) in
     rw (past, outside) refl
 
+-- an id that falls between two neighbours stands nowhere
+pub falls_nowhere : (ids : List ℕ) → Rises ids → (id c : ℕ) → c ≤ length ids → (c < length ids → id < get_or ids c 0) → ((b : ℕ) → b + 1 ≡ c → get_or ids b 0 < id) → index_or_len ids id ≡ length ids
+falls_nowhere ids up id c within above below = position_or_len_is (λ (i : ℕ). eqb i id) ids (length ids) 0 (omega arith) (λ j lt. ne_eqb _ _ (apart j lt)) (λ lt. absurd (omega arith))
+  where
+    low : (n j : ℕ) → n ≡ c → j < n → j < length ids → get_or ids j 0 < id
+    low zero j is lt inside = absurd (omega arith)
+    low (suc b) j is lt inside = elim (cases_lt j b) [
+      | inl before ↦ (let rise = rises_by_index ids up j b before (omega arith) in let last = below b (omega arith) in omega arith)
+      | inr same ↦ (let eq : b ≡ j = omega arith in subst (λ (k : ℕ). get_or ids k 0 < id) eq (below b (omega arith)))
+    ]
+
+    high : (j : ℕ) → c ≤ j → j < length ids → id < get_or ids j 0
+    high j le inside = elim (cases_lt c j) [
+      | inl past ↦ (let rise = rises_by_index ids up c j past inside in let first = above (omega arith) in omega arith)
+      | inr same ↦ (let eq : c ≡ j = omega arith in subst (λ (k : ℕ). id < get_or ids k 0) eq (above (omega arith)))
+    ]
+
+    apart : (j : ℕ) → j < length ids → get_or ids j 0 ≢ id
+    apart j inside same = absurd (elim (cases_lt j c) [
+      | inl before ↦ (let is_low = low c j refl before inside in omega arith)
+      | inr past ↦ (let is_high = high j past inside in omega arith)
+    ])
+
 -- what a hint leads to
 pub guessed : (ids : List ℕ) → Rises ids → (id : ℕ) (o : Option ℕ) → IfSome o (λ k. (k < length ids) × (get_or ids k 0 ≡ id)) → (k : ℕ) → o ≡ Some k → Some k ≡ position (λ (i : ℕ). eqb i id) ids
 guessed ids up id o there k e = let at = subst (λ (x : Option ℕ). IfSome x (λ k. (k < length ids) × (get_or ids k 0 ≡ id))) e there in stands_at ids up id k at.0 at.1

@@ -25,7 +25,7 @@ const MEETING: usize = 32;
 //
 // Whoever knows `SPREAD` can choose ids that all fall on one slot. Against that the ids are mixed with a key that is
 // taken from a digest of all of them, so that it is not known before the last of them is chosen. The key is 0 where
-// the ids do not meet without it.
+// the ids do not meet without it. Ids that join others are tried with the key of those first.
 #[derive(Debug, Drop)]
 pub(crate) struct Hints {
     slots: Vec<u32>,
@@ -34,15 +34,16 @@ pub(crate) struct Hints {
 }
 
 impl Hints {
-    // Hints for these ids: four bytes a slot, and at most three slots an id and a few.
-    pub(crate) fn new(alloc: Global, ids: &[u64]) -> Result<Hints, AllocError> {
+    // Hints for these ids: four bytes a slot, and at most three slots an id and a few. The key is 0, or that of hints of
+    // some of the ids.
+    pub(crate) fn new(alloc: Global, ids: &[u64], key: u64) -> Result<Hints, AllocError> {
         let slots = ids.len().saturating_add(ids.len() / 2).max(1);
         let shift = (slots as u64).leading_zeros();
         let most = u64::MAX.wrapping_shr(shift) as usize;
         let mut hints = Hints {
             slots: vec![in alloc; EMPTY; most.saturating_add(MOST_TRIES)]?,
             shift,
-            key: 0,
+            key,
         };
         if !hints.keep_all(ids, ids.len() / MEETING) {
             hints.slots.fill(EMPTY);
@@ -50,6 +51,11 @@ impl Hints {
             hints.keep_all(ids, usize::MAX);
         }
         Ok(hints)
+    }
+
+    // The key with which ids are mixed, or 0.
+    pub(crate) fn key(&self) -> u64 {
+        self.key
     }
 
     // The slot where an id's hint stands, if those before it are free.

@@ -1,6 +1,6 @@
 //! Ids by ascending order, and the index of one of them.
 
-ghost use Rattle.std.specs.Prelude.{◌≡◌, ◌==◌, ◌<◌, ℕ, IsTrue, IfOk, length};
+ghost use Rattle.std.specs.Prelude.{◌≡◌, ◌==◌, ◌<◌, ℕ, IsTrue, IfOk, length, true};
 ghost use Rattle.std.specs.List.{position, list_any};
 ghost use Rattle.bk_frames.specs.Numbers.{is_ascending};
 ghost use Rattle.bk_rules.specs.private.Slots.{index_or_len};
@@ -47,7 +47,23 @@ impl Ids {
         requires { IsTrue (is_ascending ids.items) }
         ensures { IfOk result (λ i. i ≡ ids.items) }
     {
-        let hints = Hints::new(alloc, &ids)?;
+        Ids::keyed(alloc, ids, 0)
+    }
+
+    // The same, where these ids hold those of `self` and more.
+    pub(crate) fn grown(&self, alloc: Global, ids: Vec<u64>) -> Result<Ids, AllocError>
+        requires { IsTrue (is_ascending ids.items) }
+        ensures { IfOk result (λ i. i ≡ ids.items) }
+    {
+        Ids::keyed(alloc, ids, self.table.hints.key())
+    }
+
+    // The same, with the key of hints of some of them, or 0.
+    fn keyed(alloc: Global, ids: Vec<u64>, key: u64) -> Result<Ids, AllocError>
+        requires { IsTrue (is_ascending ids.items) }
+        ensures { IfOk result (λ i. i ≡ ids.items) }
+    {
+        let hints = Hints::new(alloc, &ids, key)?;
         let table = Arc::new(alloc, Table { ids, hints })?;
         Ok(Ids { table })
     }
@@ -172,10 +188,36 @@ impl Ids {
         }
     }
 
+    // The same, where the id is likely to be at this index or, if it is not there, to fall before what is.
+    pub(crate) fn index_along(&self, id: u64, near: usize) -> usize
+        ensures { result ≡ index_or_len self.now id }
+    {
+        let ids = self.as_slice();
+        if falls_at(ids, id, near) {
+            ids.len()
+        } else {
+            self.index_near(id, near)
+        }
+    }
+
     // A likely index of an id: what is asked of its slot alone, whatever stands at that index.
     pub(crate) fn likely(&self, id: u64) -> usize {
         self.table.hints.slot(id) as usize
     }
+}
+
+// Whether an id falls between the id at an index and the one before it, so that it is none of them.
+fn falls_at(ids: &[u64], id: u64, index: usize) -> bool
+    requires { IsTrue (is_ascending ids.now) }
+    ensures { result ≡ true → index_or_len ids.now id ≡ length ids.now }
+{
+    if ids.len() < index {
+        return false;
+    }
+    if index < ids.len() && ids[index] <= id {
+        return false;
+    }
+    index == 0 || ids[index - 1] < id
 }
 
 // The index of an id, by a hint or by a binary search.

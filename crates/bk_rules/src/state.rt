@@ -154,7 +154,7 @@ impl State {
                 }
                 let wide = wider(&self.ids, lacking)?;
                 let numbers = moved(alloc, &self.ids, &self.numbers, &wide)?;
-                let ids = Ids::new(alloc, wide)?;
+                let ids = self.ids.grown(alloc, wide)?;
                 self.ids = ids;
                 self.numbers = numbers;
                 Ok(())

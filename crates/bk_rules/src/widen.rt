@@ -65,17 +65,18 @@ pub(crate) fn wider(ids: &Ids, more: Vec<u64>) -> Result<Vec<u64>, AllocError>
         ≡ is_grown ids.now more.items i) }
 {
     let mut wide = more;
-    wide.extend_from_slice(ids.as_slice())?;
     wide.sort_unstable();
+    wide.extend_from_slice(ids.as_slice())?;
+    // It merges two lists that ascend.
+    wide.sort()?;
     wide.dedup();
     Ok(wide)
 }
 
-// The numbers of an id, or those of an absent account.
-fn numbers_at(ids: &Ids, numbers: &[Account], id: u64) -> Account
-    ensures { result ≡ numbers_or_absent numbers.now (index_or_len ids.now id) }
+// The numbers at an index, or those of an absent account.
+fn numbers_at(numbers: &[Account], index: usize) -> Account
+    ensures { result ≡ numbers_or_absent numbers.now index }
 {
-    let index = ids.index_or_len(id);
     if index < numbers.len() {
         numbers[index]
     } else {
@@ -87,6 +88,8 @@ fn numbers_at(ids: &Ids, numbers: &[Account], id: u64) -> Account
 }
 
 /// The numbers of each id, taken over from those that had a slot.
+///
+/// Both lists ascend, so that each id is found behind the one before it: no table is asked.
 pub(crate) fn moved(
     alloc: Global,
     ids: &Ids,
@@ -97,8 +100,13 @@ pub(crate) fn moved(
         moved.items ≡ map (λ i. numbers_or_absent numbers.now (index_or_len ids.now i)) wide.now) }
 {
     let mut moved = Vec::with_capacity(alloc, wide.len())?;
+    let mut near = 0usize;
     for id in wide {
-        moved.push(numbers_at(ids, numbers, *id))?;
+        let index = ids.index_along(*id, near);
+        if index < ids.len() {
+            near = index + 1;
+        }
+        moved.push(numbers_at(numbers, index))?;
     }
     Ok(moved)
 }
