@@ -84,7 +84,8 @@ impl Follower {
 
     /// A proof of the account of this id as of the last settle, `None` for one that is absent.
     ///
-    /// `Collision` or `Equivocation` where the whole frames so far are stopped.
+    /// `Collision` or `Equivocation` where the whole frames so far are stopped, `Memory` where memory was refused. The
+    /// Follower stays as it was.
     pub fn prove<R: Threads + Sync>(&self, rt: &R, id: u64) -> Result<Option<Proof>, Fault>
         ensures proof { IfOk result (λ found. MatchOption found
             (IsAbsent (rows_in self.now.book) id) (IsProofOf (rows_in self.now.book) id)) }

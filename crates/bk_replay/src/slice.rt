@@ -24,12 +24,16 @@ use std::alloc::{AllocError, Global};
 use std::sync::Wait;
 use std::thread::{Threads, join};
 
-// A slice takes whole batches until it has so many transactions: enough to be worth its threads, and an eighth of the
-// accounts, since it copies the numbers of all of them. A batch has fewer than 65,536.
-fn least_of(slots: usize) -> usize
+// A slice has enough transactions to be worth its threads.
+const FEWEST: usize = 16_384;
+
+// A slice takes whole batches until it has so many transactions: an eighth of the accounts, since it copies the numbers
+// of all of them, if these are no fewer than a given number. A batch has fewer than 65,536.
+fn least_of(slots: usize, fewest: usize) -> usize
+    requires { fewest < 2 ^ 30 }
     ensures { result < 2 ^ 30 }
 {
-    (slots / 8).clamp(16_384, 131_072)
+    (slots / 8).min(524_288).max(fewest)
 }
 
 /// Batches that follow each other in an order, read and not executed.
@@ -256,13 +260,13 @@ impl Ledger {
         Ok((ledger, behind))
     }
 
-    // Executes the batches of an order that follow those executed before, in slices of so many transactions at least.
+    // Executes the batches of an order that follow those executed before, in slices of at least so many transactions.
     pub(crate) fn execute_by<R: Threads + Wait + Sync, G: Gate + Sync>(
         self,
         rt: &R,
         alloc: Global,
         intake: &Intake,
-        least: usize,
+        fewest: usize,
         workers: usize,
         gate: &G,
     ) -> Result<Ledger, Fault>
@@ -272,7 +276,7 @@ impl Ledger {
             HasRoom self.state.version (length left) self.state.rows }
         requires few { let left = transactions_of (left_of intake.now.ordered.payloads.list self) in
             length self.receipts.items + length left < 2 ^ 32 }
-        requires least { least < 2 ^ 30 }
+        requires fewest { fewest < 2 ^ 30 }
         requires workers { (1 ≤ workers) × (workers ≤ 64) }
         ensures executed { IfOk result
             (HasExecuted (left_of intake.now.ordered.payloads.list self) self) }
@@ -283,8 +287,11 @@ impl Ledger {
         let mut ledger = self;
         let end = intake.batches();
         let from = ledger.counts.len();
+        let least = least_of(ledger.state.slots().len(), fewest);
         let mut ahead = read_two(alloc, intake, ledger.state.ids(), from, least)?;
         while ledger.counts.len() < end {
+            // New accounts make slices longer.
+            let least = least_of(ledger.state.slots().len(), fewest);
             let (after, behind) = ledger.run_next(rt, alloc, intake, ahead, least, workers, gate)?;
             ledger = after;
             ahead = behind;
@@ -316,7 +323,6 @@ impl Ledger {
             let left = transactions_of (left_of intake.now.ordered.payloads.list self) in
             IfErr result (Leaves first (first + length left)) }
     {
-        let least = least_of(self.state.slots().len());
-        self.execute_by(rt, alloc, intake, least, workers, gate)
+        self.execute_by(rt, alloc, intake, FEWEST, workers, gate)
     }
 }
