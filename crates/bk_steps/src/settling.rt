@@ -9,10 +9,27 @@ ghost use Rattle.bk_conflicts.specs.Words.{words_at};
 ghost use Rattle.bk_conflicts.specs.SceneOf.{accounts_by, word_by, tx_at};
 ghost use Rattle.bk_steps.specs.Settling.{wide, said_at, put_at, words_in, Say, AreOf, AreLow, Does};
 
-use bk_conflicts::Plan;
+use bk_conflicts::{Plan, WordRef};
 use bk_frames::Version;
 use bk_rules::{Account, Ids, Local, Receipt, Status, settle};
 use bk_tx::{Declarations, Tx};
+
+// The likely slot of the account whose words are at an index among those of a place, if they are there.
+fn slot_at(words: &[WordRef], at: usize) -> usize {
+    match words.get(at) {
+        Some(word) => word.word as usize / 2,
+        None => usize::MAX,
+    }
+}
+
+// The words of a place, if there is such a place.
+fn words_of(plan: &Plan, place: u32) -> &[WordRef] {
+    if (place as usize) < plan.len() {
+        plan.words_of(place)
+    } else {
+        &[]
+    }
+}
 
 // How many words an account has: none where it has no slot.
 fn wide(slot: Option<usize>) -> usize
@@ -67,7 +84,15 @@ fn put(values: &mut [u64], at: usize, slot: Option<usize>, account: Option<Accou
 }
 
 // The accounts that the words of a place say, the i-th being the i-th that is declared.
-fn accounts_in(version: Version, ids: &Ids, declared: &Declarations, values: &[u64]) -> Local
+//
+// The words of the plan say where each account is likely to be, so that no table is asked.
+fn accounts_in(
+    version: Version,
+    ids: &Ids,
+    declared: &Declarations,
+    words: &[WordRef],
+    values: &[u64],
+) -> Local
     requires few { length (words_in ids.now declared.now) ≤ length values.now }
     ensures found { (f : ℕ → ℕ) → Say f ids.now declared.now values.now
         → (k : ℕ) → k < length declared.now
@@ -77,7 +102,7 @@ fn accounts_in(version: Version, ids: &Ids, declared: &Declarations, values: &[u
     let mut local = Local::new();
     let mut at = 0;
     for k in 0..declared.len() {
-        let slot = ids.index_of(declared.get(k).id);
+        let slot = ids.index_by(declared.get(k).id, slot_at(words, at));
         let account = said(version, slot, values, at);
         local.set(k, account);
         at += wide(slot);
@@ -86,30 +111,36 @@ fn accounts_in(version: Version, ids: &Ids, declared: &Declarations, values: &[u
 }
 
 // Sets the words of a place to those of its accounts.
-fn put_accounts(ids: &Ids, declared: &Declarations, local: &Local, values: &mut [u64])
+fn put_accounts(
+    ids: &Ids,
+    declared: &Declarations,
+    words: &[WordRef],
+    local: &Local,
+    values: &mut [u64],
+)
     requires few { length (words_in ids.now declared.now) ≤ length values.old }
     ensures { (accounts : Accounts) → AreOf accounts declared.now local.now
         → Say (word_by ids.now accounts) ids.now declared.now values.new }
 {
     let mut at = 0;
     for k in 0..declared.len() {
-        let slot = ids.index_of(declared.get(k).id);
+        let slot = ids.index_by(declared.get(k).id, slot_at(words, at));
         put(values, at, slot, local.account(k));
         at += wide(slot);
     }
 }
 
 // Does a transaction on the words of its place.
-fn settle_tx(version: Version, ids: &Ids, tx: &Tx, values: &mut [u64]) -> Receipt
+fn settle_tx(version: Version, ids: &Ids, tx: &Tx, words: &[WordRef], values: &mut [u64]) -> Receipt
     requires few { length (words_in ids.now tx.now.declared) ≤ length values.old }
     requires low { AreLow version ids.now tx.now.declared values.old }
     ensures { (f : ℕ → ℕ) → Say f ids.now tx.now.declared values.old
         → Does version ids.now (Some tx.now) f result values.new }
 {
     let declared = tx.declared();
-    let mut local = accounts_in(version, ids, declared, values);
+    let mut local = accounts_in(version, ids, declared, words, values);
     let receipt = settle(version, tx, &mut local);
-    put_accounts(ids, declared, &local, values);
+    put_accounts(ids, declared, words, &local, values);
     receipt
 }
 
@@ -127,6 +158,12 @@ pub fn settle_words(plan: &Plan, place: u32, values: &mut [u64]) -> Receipt
             status: Status::Malformed,
             moved: 0,
         },
-        Some(tx) => settle_tx(plan.version(), plan.ids(), tx, values),
+        Some(tx) => settle_tx(
+            plan.version(),
+            plan.ids(),
+            tx,
+            words_of(plan, place),
+            values,
+        ),
     }
 }
