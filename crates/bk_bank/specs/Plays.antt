@@ -1,4 +1,4 @@
--- What a step on the words tells the seat that takes it.
+-- What the seat that takes a step on the words learns by it.
 use Rattle.std.specs.Prelude.{◌≡◌, ◌≢◌, ℕ, suc, ◌+◌, ◌^◌, ◌<◌, ◌≤◌, ◌==◌, List, [], ◌∷◌, ◌++◌, length, Bool, true, false}
 use Rattle.atomic_table.specs.Table.{Me, Step}
 use Rattle.bk_conflicts.specs.Scene.{Scene, status_at}
@@ -49,7 +49,7 @@ stay v st = record { setting = v.setting; seen = v.seen; stage = st }
 abbrev pub Grows : View → View → Type 0
 Grows v w = (q : ℕ) → Has v.seen q → Has w.seen q
 
--- what the state word n of p tells the view v, which becomes w: a place seen done shows its
+-- what the view v, which becomes w, learns from the state word n of p: a place seen done shows its
 -- receipt, and what shows 2^63 or more is one
 pub record Learns (v w : View) (p n : ℕ) : Type 0 where
   pub setting : w.setting ≡ v.setting

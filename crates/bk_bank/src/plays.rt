@@ -1,4 +1,4 @@
-//! What each step tells.
+//! What a seat learns by each step.
 ghost use Rattle.bk_bank.specs.Plays.{claimed, looked, has_read, has_written, has_moved, finished, released, rested, pooled, spent};
 
 use crate::view::View;

@@ -12,7 +12,7 @@ pub struct About {
     pub opening: Snapshot<State>,
 }
 
-/// Where a seat stands. A clause reads an array as a list, of any length.
+/// The stage that a seat is at. A clause reads an array as a list, of any length.
 pub enum Stage {
     Idle,
     /// The place, the words that were read with their values, newest first, the words that are

@@ -1,4 +1,4 @@
-//! Work for `bench/digest` and `bench/certs` to time: one kind of work a call, as often as it is told.
+//! Work for `bench/digest` and `bench/certs` to time: one kind of work a call, as often as is asked.
 //!
 //! `bk_bench WORK COUNT` hashes, `bk_bench WORK COUNT SIZE` works on certificates, `small` or `large` ones. Each prints
 //! one digest, which depends on the work.

@@ -6,7 +6,7 @@ use Rattle.bk_cert.specs.Values.{HeaderValue, CertValue}
 use Rattle.bk_cert.specs.Mask.{is_signer, signers_of}
 use Rattle.bk_cert.specs.Spelling.{header_text}
 
--- the id of a header: SHA-256 of the byte 0x10 and the header's spelling
+-- the id of a header: SHA-256 of the byte 0x10 and the header's encoding
 abbrev pub id_of : HeaderValue → List ℕ
 id_of header = tagged_of 0x10 (header_text header)
 

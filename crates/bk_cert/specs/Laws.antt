@@ -6,11 +6,11 @@ use Rattle.bk_cert.specs.Spelling.{IsHeader, IsCertificate, header_text, seal_te
 use Rattle.bk_cert.specs.Reading.{certificate_of}
 use Rattle.bk_cert.specs.Equality.{header_eq}
 
--- what bytes are read as is spelled so
+-- what bytes are read as encodes to the same bytes
 abbrev pub CertificateIsSpelled : Type 0
 CertificateIsSpelled = (bytes : List ℕ) (c : CertValue) → IsBytes bytes → certificate_of bytes ≡ Some c → IsCertificate c × (bytes ≡ certificate_text c)
 
--- what spells a certificate is read so
+-- the encoding of a certificate is read as that certificate
 abbrev pub CertificateIsRead : Type 0
 CertificateIsRead = (c : CertValue) → IsCertificate c → certificate_of (certificate_text c) ≡ Some c
 
@@ -18,7 +18,7 @@ CertificateIsRead = (c : CertValue) → IsCertificate c → certificate_of (cert
 abbrev pub HeaderThenSeal : Type 0
 HeaderThenSeal = (c : CertValue) → (take (length (header_text c.header)) (certificate_text c) ≡ header_text c.header) × (drop (length (header_text c.header)) (certificate_text c) ≡ seal_text c.mask c.tags)
 
--- no two headers are spelled alike
+-- no two headers have one encoding
 abbrev pub OneHeader : Type 0
 OneHeader = (h other : HeaderValue) → IsHeader h → IsHeader other → header_text h ≡ header_text other → h ≡ other
 

@@ -1,4 +1,4 @@
--- How the bytes of a certificate are read: what they spell, or nothing.
+-- How the bytes of a certificate are read: what they encode, or nothing.
 use Rattle.std.specs.Prelude.{ℕ, ◌*◌, List, length, Option, Some, None, nat_le, ◌==◌, if◌then◌else◌}
 use Rattle.std.specs.Simd.{first_chunks}
 use Rattle.std.specs.Int.{w8, w16, w32}
@@ -23,7 +23,7 @@ header_at bytes = do
   parents ← (if nat_le parent_count.0 128 then digests_at parent_count.0 parent_count.1 else None)
   Some (header_with author.0 round.0 batches.0 parents.0, parents.1)
 
--- the certificate that the bytes spell, all of them
+-- the certificate that the bytes encode, all of them
 unfoldable pub certificate_of : List ℕ → Option CertValue
 certificate_of bytes = do
   header ← header_at bytes

@@ -1,4 +1,4 @@
--- What headers and certificates are, and the one spelling of each.
+-- What headers and certificates are, and the one encoding of each.
 use Rattle.std.specs.Prelude.{◌≡◌, ℕ, ◌^◌, ◌<◌, ◌≤◌, List, ◌∷◌, ◌++◌, length}
 use Rattle.std.specs.List.{AllByRecursion, concat}
 use Rattle.std.specs.Int.{w16, w32, to_be_bytes}
@@ -18,7 +18,7 @@ pub record IsHeader (h : HeaderValue) : Type 0 where
   pub batches_sized : AreDigests h.batches
   pub parents_sized : AreDigests h.parents
 
--- the spelling of a header: author, round, count of batches, these, count of parents, these
+-- the encoding of a header: author, round, count of batches, these, count of parents, these
 abbrev pub header_text : HeaderValue → List ℕ
 header_text h = h.author ∷ to_be_bytes w32 h.round ++ to_be_bytes w16 (length h.batches) ++ concat h.batches ++ length h.parents ∷ concat h.parents
 
@@ -29,10 +29,10 @@ pub record IsCertificate (c : CertValue) : Type 0 where
   pub tag_each : length c.tags ≡ signer_count c.mask
   pub tags_sized : AreDigests c.tags
 
--- the spelling of a seal: the mask, and then the tags
+-- the encoding of a seal: the mask, and then the tags
 abbrev pub seal_text : List ℕ → List (List ℕ) → List ℕ
 seal_text mask tags = mask ++ concat tags
 
--- the spelling of a certificate: that of its header, and then that of its seal
+-- the encoding of a certificate: that of its header, and then that of its seal
 abbrev pub certificate_text : CertValue → List ℕ
 certificate_text c = header_text c.header ++ seal_text c.mask c.tags

@@ -38,10 +38,10 @@ impl Model for Cert {
 }
 
 impl Cert {
-    /// The certificate that the bytes spell, all of the bytes; nothing where they spell none.
+    /// The certificate that the bytes encode, all of the bytes; nothing where they encode none.
     ///
-    /// It reserves three times at most, for no more than the bytes hold. An `Err` comes only for want of
-    /// memory, and only for bytes that do spell a certificate.
+    /// It reserves three times at most, for no more than the bytes hold. An `Err` comes only for lack of
+    /// memory, and only for bytes that do encode a certificate.
     pub fn decode(alloc: Global, bytes: &[u8]) -> Result<Option<Cert>, AllocError>
         ensures exact { IfOk result (λ found. found ≡ certificate_of bytes.now) }
         ensures found { IfOk result (λ found. IfSome found (λ c. IsCertificate c
@@ -109,7 +109,7 @@ impl Cert {
         tags_of(alloc, committee, &self.mask, id)
     }
 
-    /// Its one spelling. It reserves once.
+    /// Its one encoding. It reserves once.
     pub fn encode(&self, alloc: Global) -> Result<Vec<u8>, AllocError>
         ensures { IfOk result (λ text. text.items ≡ certificate_text self.now) }
     {

@@ -23,7 +23,7 @@ pub(crate) const MOST_BATCHES: usize = 1_000;
 /// The most parents that a header may name.
 pub(crate) const MOST_PARENTS: usize = 128;
 
-/// The byte that stands before a header's bytes where its id is hashed.
+/// The byte that comes before a header's bytes where its id is hashed.
 const ID_PREFIX: u8 = 0x10;
 
 /// The header of a certificate. Contracts see it as its values, and `==` answers whether they are the same.
@@ -101,7 +101,7 @@ impl Header {
         self.round
     }
 
-    /// The digests of its batches, at most 1,000, in its order. One may stand twice.
+    /// The digests of its batches, at most 1,000, in its order. One may be there twice.
     pub fn batches(&self) -> &[Digest32]
         ensures all { result.now ≡ self.now.batches }
         ensures header { IsHeader self.now }
@@ -141,7 +141,7 @@ impl Header {
         8 + 32 * (self.batches.len() + self.parents.len())
     }
 
-    /// Its one spelling. It reserves once.
+    /// Its one encoding. It reserves once.
     pub fn header_bytes(&self, alloc: Global) -> Result<Vec<u8>, AllocError>
         ensures { IfOk result (λ text. text.items ≡ header_text self.now) }
     {
@@ -150,7 +150,7 @@ impl Header {
         Ok(text)
     }
 
-    /// Its id: SHA-256 of the byte 0x10 and its spelling (FIPS 180-4). It takes no memory.
+    /// Its id: SHA-256 of the byte 0x10 and its encoding (FIPS 180-4). It takes no memory.
     pub fn id(&self) -> Digest32
         ensures { result ≡ id_of self.now }
     {
@@ -163,7 +163,7 @@ impl Header {
         Digest32::new(hasher.finalize())
     }
 
-    /// What stands before the first batch: author, round and the count of batches.
+    /// What is before the first batch: author, round and the count of batches.
     pub(crate) fn opening(&self) -> [u8; 7]
         ensures { result ≡ self.now.author ∷ to_be_bytes w32 self.now.round ++ to_be_bytes w16
             (length self.now.batches) }
@@ -211,7 +211,7 @@ pub fn id_of_bytes(header_bytes: &[u8]) -> Digest32
     tagged(ID_PREFIX, header_bytes)
 }
 
-/// The digests that stand so in bytes.
+/// The digests whose bytes these are.
 pub(crate) fn digests_of(alloc: Global, pieces: &[[u8; 32]]) -> Result<Vec<Digest32>, AllocError>
     ensures { IfOk result (λ digests. digests.items ≡ pieces.now) }
 {

@@ -1,7 +1,7 @@
 //! Certificates: a header over batches and parents, its id, and the seal of members under it.
 //!
-//! `Cert::decode` answers exactly what the bytes spell, and nothing where they spell no certificate;
-//! `Cert::encode` writes the one spelling. `Cert::seal` makes the certificate that given members sign.
+//! `Cert::decode` answers exactly what the bytes encode, and nothing where they encode no certificate;
+//! `Cert::encode` writes the one encoding. `Cert::seal` makes the certificate that given members sign.
 //! That a tag is its member's is judged elsewhere: here a certificate is only well formed.
 #![tactic(auto)]
 

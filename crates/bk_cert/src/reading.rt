@@ -10,7 +10,7 @@ use crate::mask::Mask;
 use bk_frames::Fields;
 use std::marker::Model;
 
-/// The fields of a header, as they stand in bytes. Contracts see them as the header.
+/// The fields of a header, as they are in the bytes. Contracts see them as the header.
 #[derive(Drop)]
 pub struct HeaderParts<'a> {
     pub author: u8,
@@ -27,7 +27,7 @@ impl<'a> Model for HeaderParts<'a> {
     ghost view = { λ h. header_with h.author h.round h.batches.now h.parents.now };
 }
 
-/// The fields of a certificate, as they stand in bytes. Contracts see them as the certificate.
+/// The fields of a certificate, as they are in the bytes. Contracts see them as the certificate.
 #[derive(Drop)]
 pub struct Parts<'a> {
     pub header: HeaderParts<'a>,
@@ -84,7 +84,7 @@ fn header<'a>(fields: &mut Fields<'a>) -> Option<HeaderParts<'a>>
     })
 }
 
-/// The fields of the certificate that the bytes spell, all of the bytes.
+/// The fields of the certificate that the bytes encode, all of the bytes.
 #[tactic(auto, unfolding(crate::specs::Reading::certificate_of))]
 pub fn certificate<'a>(bytes: &'a [u8]) -> Option<Parts<'a>>
     ensures { result ≡ certificate_of bytes.now }

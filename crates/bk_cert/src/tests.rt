@@ -160,7 +160,7 @@ fn one_byte_wrong(rt: HostRuntime) -> Result<(), Fail> {
     Ok(())
 }
 
-// Each member's tag of this id stands at its number.
+// Each member's tag of this id is at its number.
 fn expect_tags(rt: &impl Abort, committee: &Committee, tags: &[Digest32], id: Digest32) {
     assert!(rt; tags.len() == committee.n());
     for member in 0..committee.n() {

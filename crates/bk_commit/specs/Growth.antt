@@ -1,4 +1,4 @@
--- When one list begins another, and one set lies in another.
+-- When one list begins another, and one set is part of another.
 use Rattle.std.specs.Prelude.{◌≡◌, List, ◌++◌, Contains}
 use Rattle.bk_committee.specs.Sizes.{Sizes}
 use Rattle.bk_cert.specs.Node.{Node}

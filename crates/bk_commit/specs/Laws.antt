@@ -13,7 +13,7 @@ abbrev pub VotedIsReached : Type 0
 VotedIsReached = (z : Sizes) (held : List Node) (a c : CertRef) → IsVoted z held a
     → IsPresent z held c → a.round + 2 ≤ c.round → InHistory z held c a
 
--- where the one held set lies in the other, its committed anchors begin the other's
+-- where the one held set is part of the other, its committed anchors begin the other's
 abbrev pub AnchorsGrow : Type 0
 AnchorsGrow = (z : Sizes) (small large : List Node) (xs ys : List CertRef) → IsClear large
     → IsPartOf small large → IsCommitted z small xs → IsCommitted z large ys → Begins xs ys

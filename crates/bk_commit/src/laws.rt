@@ -8,7 +8,7 @@ pub fn voted_is_reached()
     ensures { VotedIsReached }
 {}
 
-/// Where the one held set lies in the other, its committed anchors begin the other's.
+/// Where the one held set is part of the other, its committed anchors begin the other's.
 pub fn anchors_grow()
     ensures { AnchorsGrow }
 {}

@@ -68,7 +68,7 @@ pub(crate) fn first_bad(version: Version, count: u8, bytes: &[u8]) -> Option<Bad
     }
 }
 
-// The members with the keys that stand first.
+// The members with the keys that come first.
 pub(crate) fn read_members(
     alloc: Global,
     count: usize,

@@ -29,7 +29,7 @@ pub record StandsAt (slots : List ℕ) (id s : ℕ) : Type 0 where
 pub slot_there : (slots : List ℕ) (id s : ℕ) → slot_of slots id ≡ Some s → StandsAt slots id s
 slot_there slots id s e = let w = position-Some (λ (i : ℕ). eqb i id) slots s 0 e in record { inside = w.0; id_is = eqb-true (get_or slots s 0) id w.1 }
 
--- slots stand in the order of their ids
+-- slots are in the order of their ids
 pub slots_order : (slots : List ℕ) → Rises slots → (id jd s u : ℕ) → StandsAt slots id s → StandsAt slots jd u → id < jd → s < u
 slots_order slots up id jd s u a b l = dite (dec_le (suc s) u) (λ m. m)
     (λ n. let ai = a.id_is in let bi = b.id_is in dite (ℕ_discrete u s)

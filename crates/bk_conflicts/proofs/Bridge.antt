@@ -18,7 +18,7 @@ use Rattle.bk_conflicts.proofs.Cover.{nearest_as}
 use Rattle.bk_conflicts.proofs.Sources.{clash_parts}
 use Rattle.bk_tx.specs.Access as access
 
--- a slot is that of an id exactly where it stands there
+-- a slot is that of an id exactly where that id is there
 slot_is : (slots : List ℕ) → Rises slots → (id s u : ℕ) → s < length slots → StandsAt slots id u → (u == s) ≡ (id == get_or slots s 0)
 slot_is slots up id s u l h = dite (ℕ_discrete u s)
     (λ e. eq-eqb u s e ∙ sym (eq-eqb id (get_or slots s 0) (sym (h.id_is) ∙ ap (λ (k : ℕ). get_or slots k 0) e)))

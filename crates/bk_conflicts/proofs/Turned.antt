@@ -1,4 +1,4 @@
--- The rows turned round: what stands in each, in which order, and how often.
+-- The rows turned round: what is in each, in which order, and how often.
 use Rattle.std.proofs.Common.{◌≡◌, ◌≢◌, ℕ, zero, suc, ◌+◌, ◌-◌, ◌<◌, ◌≤◌, List, [], ◌∷◌, ◌++◌, length, take, drop, get_or, replicate, AllPairs, true, cond, eqb, refl, sym, ap, ◌∙◌, subst, arith, append-nil, append_assoc}
 use mathlib.Core.Logic.{dite}
 use native.Mathlib.Decide.{ℕ_discrete, dec_le}
@@ -22,14 +22,14 @@ unfolding times
 times_other q n zero o = refl
 times_other q n (suc k) o = let a = times_other q n k o in let h = miss n q o in let e : cond {A = ℕ} (eqb n q) 1 0 + times q (replicate k n) ≡ 0 = omega arith in e
 
--- beyond the rows nothing stands
+-- beyond the rows there is nothing
 pub turned_beyond : (f : ℕ → List ℕ) (n p q : ℕ) → n ≤ q → times q (turned f n p) ≡ 0
 unfolding turned times
 turned_beyond f zero p q l = refl
 turned_beyond f (suc n) p q l = let a = turned_beyond f n p q (omega arith) in let b = times_other q n (times p (f n)) (λ e. absurd (omega arith)) in let c = times_append q (turned f n p) (replicate (times p (f n)) n) in
     let e : times q (turned f n p ++ replicate (times p (f n)) n) ≡ 0 = omega arith in e
 
--- q stands in row p as often as p stood in row q
+-- q is in row p as often as p was in row q
 pub turned_times : (f : ℕ → List ℕ) (n p q : ℕ) → q < n → times q (turned f n p) ≡ times p (f q)
 unfolding turned
 turned_times f zero p q l = absurd (omega arith)
@@ -83,7 +83,7 @@ unfolding turned
 turned_same f g zero p e = refl
 turned_same f g (suc n) p e = λ i. turned_same f g n p (λ q l. e q (omega arith)) i ++ replicate (times p (e n (omega arith) i)) n
 
--- rows are the rows that their starts tell
+-- rows are the rows that their starts give
 pub rows_own : (f : ℕ → List ℕ) (n : ℕ) (start items : List ℕ) → IsRows f n start items → IsRows (row_at start items) n start items
 rows_own f n start items r = let e : (k : ℕ) → k ≤ n → laid f k ≡ laid (row_at start items) k = λ k l. laid_same f (row_at start items) k (λ q m. sym (row_is f n q start items r (omega arith))) in
     record { long = r.long; starts = λ q l. r.starts q l ∙ ap length (e q l); all = r.all ∙ e n (omega arith) }

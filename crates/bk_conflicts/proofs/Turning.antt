@@ -1,4 +1,4 @@
--- Counts, rows in one list, and what stands where after each is put into the rows that it names.
+-- Counts, rows in one list, and what is where after each is put into the rows that it names.
 use Rattle.std.proofs.Common.{◌≡◌, ◌≢◌, ℕ, zero, suc, ◌+◌, ◌-◌, ◌<◌, ◌≤◌, List, [], ◌∷◌, ◌++◌, length, take, get_or, set, replicate, Bool, cond, eqb, refl, sym, ap, ◌∙◌, subst, arith, length-append, length-set, append-nil, take_all, get_or-set_same, get_or-set_other, ext_get_or, eq-eqb, ne_eqb, append_assoc}
 use mathlib.Core.Logic.{dite}
 use native.Mathlib.Decide.{ℕ_discrete, dec_le}
@@ -62,7 +62,7 @@ place f (suc n) k l = dite (dec_le (suc k) (length (laid f n)))
     (λ m. let w = place f n k m in (w.0, w.1, omega arith, w.3, w.4))
     (λ m. (n, k - length (laid f n), omega arith, (let g = length-append (laid f n) (f n) in omega arith), omega arith))
 
--- what lies in one list is what each row says
+-- what is in one list is what each row says
 pub laid_from : (f : ℕ → List ℕ) (n : ℕ) (xs : List ℕ) → length xs ≡ length (laid f n) → ((p i : ℕ) → p < n → i < length (f p) → get_or xs (length (laid f p) + i) 0 ≡ get_or (f p) i 0) → xs ≡ laid f n
 laid_from f n xs e h = ext_get_or 0 xs (laid f n) e (λ k l. let w = place f n k (omega arith) in
     ap (λ (j : ℕ). get_or xs j 0) w.4 ∙ (h w.0 w.1 w.2 w.3 ∙ (sym (laid_at f n w.0 w.1 w.2 w.3) ∙ ap (λ (j : ℕ). get_or (laid f n) j 0) (sym w.4))))

@@ -59,7 +59,7 @@ earlier_row t q asc k d m = let h = (direct_edge t (get_or (direct t q) k 0) q a
 low_row : (t : Places) (n q : ℕ) → IsAscending (t q) → q < n → All (λ x. x < n) (direct t q)
 low_row t n q asc l k d m = let h = earlier_row t q asc k d m in omega arith
 
--- each of the numbers below w stands there once at most
+-- each of the numbers below w is there once at most
 sum_least : (f : ℕ → ℕ) (w : ℕ) → ((p : ℕ) → f p ≤ 1) → sum_below f w ≤ w
 unfolding sum_below
 sum_least f zero one = omega arith

@@ -31,7 +31,7 @@ moved_at s p = s.moved p (s.fold p)
 
 -- ---- edges
 
--- how often x stands in the list
+-- how often x is in the list
 unfoldable pub times : ℕ → List ℕ → ℕ
 times x [] = 0
 times x (y ∷ ys) = (if y == x then 1 else 0) + times x ys

@@ -61,7 +61,7 @@ pub(crate) fn no_rows(alloc: Global, rows: usize) -> Result<Rows, AllocError>
     })
 }
 
-// How often each number below `width` stands in `items`.
+// How often each number below `width` is in `items`.
 fn counted(alloc: Global, items: &[u32], width: usize) -> Result<Vec<usize>, AllocError>
     requires low { All (λ x. x < width) items.now }
     requires few { length items.now < 2 ^ 64 }

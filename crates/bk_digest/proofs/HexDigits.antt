@@ -43,7 +43,7 @@ IsUtf8-encode_lower bytes = IsUtf8-from_ascii _ (IsAscii-encode_with lower_digit
 abbrev place_of : ℕ → ℕ
 place_of c = if nat_le c 57 then c - 48 else c - 87
 
--- the test that the digit c stands at its place
+-- the test that the digit c is at its place
 abbrev stands : ℕ → Bool
 stands c = not (is_lower_hex c) || slice_index lower_digits (place_of c) == c
 
@@ -74,7 +74,7 @@ or_then false b h s = cc h
 place_below : (c : ℕ) → is_lower_hex c ≡ true → place_of c < 16
 place_below c h = grind (arith)
 
--- a lower-case digit stands in the table
+-- a lower-case digit is in the table
 digit_place : (c : ℕ) → is_lower_hex c ≡ true → (place_of c < 16) × (slice_index lower_digits (place_of c) ≡ c)
 digit_place c h =
     let low = lower_below c h in

@@ -16,7 +16,7 @@ pub record RootIsMerkleTreeHash : Type 0 where
   pub splits : (n : ℕ) → 1 < n → (k : ℕ) × IsSplit k n
 
 -- The Merkle audit path (section 2.1.1): of a single leaf it is empty. Among more leaves it is the path
--- within the half where the leaf stands, and then the root of the other half.
+-- within the half where the leaf is, and then the root of the other half.
 pub record PathIsMerkleAuditPath : Type 0 where
   pub one : (leaf : List ℕ) → path_of (leaf ∷ []) 0 ≡ []
   pub left : (leaves : List (List ℕ)) (k i : ℕ) → 1 < length leaves → IsSplit k (length leaves) → i < k
@@ -25,7 +25,7 @@ pub record PathIsMerkleAuditPath : Type 0 where
       → path_of leaves i ≡ path_of (drop k leaves) (i - k) ++ root_of (take k leaves) ∷ []
 
 -- The climb: in a tree of one leaf it is the leaf's hash, with no path. In a larger tree the path's last
--- hash stands beside what the others lead to, on the side where the leaf is not.
+-- hash is beside what the others lead to, on the side where the leaf is not.
 pub record ClimbGoesUp : Type 0 where
   pub one : (hash : List ℕ) → climb hash 0 1 [] ≡ Some hash
   pub too_many : (hash : List ℕ) (rest : List (List ℕ)) (last : List ℕ) → climb hash 0 1 (rest ++ last ∷ []) ≡ None

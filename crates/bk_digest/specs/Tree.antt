@@ -40,7 +40,7 @@ unfoldable pub path_of : List (List ℕ) → ℕ → List (List ℕ)
 path_of leaves i = path_within (length leaves) leaves i
 
 -- the root that a leaf's hash at place i among size leaves gives with the hashes beside its way, which
--- stand here from the root down; none where they are too few or too many. At most 2 ^ depth leaves
+-- are here from the root down; none where they are too few or too many. At most 2 ^ depth leaves
 unfoldable pub climb_within : ℕ → List ℕ → ℕ → ℕ → List (List ℕ) → Option (List ℕ)
 climb_within zero hash i size [] = Some hash
 climb_within zero hash i size (sibling ∷ rest) = None

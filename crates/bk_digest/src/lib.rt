@@ -1,5 +1,5 @@
-//! Digests for the other crates: SHA-256 behind a tag byte, HMAC, and the Merkle tree hash of
-//! RFC 6962 with its audit paths.
+//! Digests for the other crates: SHA-256 with a tag byte in front, HMAC, and the Merkle tree hash
+//! of RFC 6962 with its audit paths.
 //!
 //! Each digest is exactly the one that its standard defines, and a path check answers true exactly
 //! where the path leads from the leaf to the root. That two texts have different digests is not

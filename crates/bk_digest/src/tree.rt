@@ -177,7 +177,7 @@ fn node_hash(left: &Digest32, right: &Digest32) -> Digest32
     Digest32::new(hasher.finalize())
 }
 
-// How many leaves stand on the left of a tree with `size` of them.
+// How many leaves are on the left of a tree with `size` of them.
 fn split_size(size: usize) -> usize
     requires { 1 < size }
     ensures { IsSplit result size }

@@ -70,7 +70,7 @@ none_or_some None = inl refl
 none_or_some (Some k) = inr (k, refl)
 
 module _ {E S : Type 0} (name : E → List ℕ) (xs : List E) (m : IndexMap (List ℕ) ℕ S) (indexed : IsIndexed name xs m) where
-  -- what has an index stands there
+  -- what has an index is there
   pub indexed_at : (id : List ℕ) (k : ℕ) → get bytes_eq m id ≡ Some k → (k < length xs) × ((d : E) → name (slice_index_or xs k d) ≡ id)
   indexed_at id k h =
       let at : (d : E) → (k < length xs) × (is_named name id (slice_index_or xs k d) ≡ true) × ((j : ℕ) → j < k → is_named name id (slice_index_or xs j d) ≡ false) =

@@ -1,4 +1,4 @@
--- What an offer answers, and what is told of the places.
+-- What an offer answers, and what is known of the places.
 use Rattle.std.proofs.Common.{◌≡◌, ◌≢◌, ◌⊎◌, ℕ, Bool, List, [], Option, Some, None, refl, sym, ap, subst, ◌∙◌, inl, inr, ⊎_elim}
 use Rattle.std.specs.Prelude.{MatchOption, IsTrue, ◌↔◌, option_map}
 use Rattle.std.specs.Map.{lookup}

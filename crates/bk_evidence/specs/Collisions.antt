@@ -5,15 +5,15 @@ use Rattle.std.specs.Cmp.Lexicographic.{slice_cmp}
 use Rattle.std.specs.declared.cmp.Ordering.{Ordering}
 use Rattle.std.specs.declared.cmp.Ordering.TheVariants.{Less, Greater}
 
--- ids and digests stand in the order of their bytes
+-- ids and digests are in the order of their bytes
 abbrev pub id_cmp : List ℕ → List ℕ → Ordering
 id_cmp = slice_cmp nat_cmp
 
--- the one stands before the other
+-- the one is before the other
 abbrev pub IsBelow : List ℕ → List ℕ → Type 0
 IsBelow x y = id_cmp x y ≡ Less
 
--- the one stands before the other, or they are the same
+-- the one is before the other, or they are the same
 abbrev pub IsAtMost : List ℕ → List ℕ → Type 0
 IsAtMost x y = id_cmp x y ≢ Greater
 

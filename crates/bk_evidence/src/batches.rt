@@ -120,7 +120,7 @@ impl Batches {
         Some(payload_at(&self.stored, index))
     }
 
-    /// Where the batch stands whose payload `get` gives.
+    /// The index of the batch whose payload `get` gives.
     pub fn index_of(&self, digest: &Digest32) -> Option<BatchRef>
         ensures { option_map (λ b. b.index) result ≡ position (has_digest digest.now) self.now }
     {

@@ -1,4 +1,4 @@
--- Where one held set lies in another, its batches begin the other's.
+-- Where one held set is part of another, its batches begin the other's.
 use Rattle.std.proofs.Common.{◌≡◌, ◌≢◌, ℕ, zero, suc, ◌+◌, ◌<◌, ◌≤◌, Bool, true, false, cond, eqb, List, [], ◌∷◌, ◌++◌, length, Option, Some, None, refl, sym, ap, subst, ◌∙◌, ◌⊎◌, inl, inr, ⊎_elim, arith, length-append, append_assoc}
 use Rattle.std.specs.Prelude.{reverse, not, ◌&&◌, filter, option_map, unwrap_or}
 use Rattle.std.specs.Str.{bytes_eq}

@@ -13,7 +13,7 @@ use Rattle.bk_commit.proofs.Settled.{back_present, in_reverse}
 pub reverse_push : (xs : List CertRef) (a : CertRef) → reverse (xs ++ a ∷ []) ≡ a ∷ reverse xs
 reverse_push xs a = reverse-append xs (a ∷ [])
 
--- the list before an index, what stands there, and the rest
+-- the list before an index, what is there, and the rest
 split_at : (xs : List CertRef) (i : ℕ) (d : CertRef) → i < length xs → (rest : List CertRef) × (xs ≡ (take i xs ++ get_or xs i d ∷ []) ++ rest)
 split_at [] i d low = absurd (omega (arith, low))
 split_at (x ∷ xs) zero d low = (xs, refl)

@@ -11,7 +11,7 @@ use Rattle.bk_evidence.specs.Batches.{Batch, AreApart}
 use Rattle.bk_evidence.specs.declared.batches.BatchRef.{BatchRef}
 use Rattle.bk_flatten.specs.Batches.{Listed, AreFound, IsFoundWhole, payloads_of, digests_of, batches_of}
 
--- where the one held set lies in the other, its order begins the other's
+-- where the one held set is part of the other, its order begins the other's
 abbrev pub OrderGrows : Type 0
 OrderGrows = (z : Sizes) (small large : List Node) (xs ys : List CertRef) → IsClear large
     → IsPartOf small large → IsWholeOrder z small xs → IsWholeOrder z large ys → Begins xs ys
@@ -59,7 +59,7 @@ abbrev pub FoundStays : Type 0
 FoundStays = (batches more : List Batch) (digests rest : List (List ℕ)) (found : List BatchRef)
     → AreFound batches digests found → AreFound (batches ++ more) (digests ++ rest) found
 
--- where the one held set lies in the other, the digests of an order of the one are those in the other
+-- where the one held set is part of the other, the digests of an order of the one are those in the other
 abbrev pub DigestsStay : Type 0
 DigestsStay = (z : Sizes) (small large : List Node) (order : List CertRef)
     → IsPartOf small large → IsClear large

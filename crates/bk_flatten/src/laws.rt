@@ -2,7 +2,7 @@
 
 ghost use Rattle.bk_flatten.specs.Laws.{OrderGrows, OneOrder, OneWholeOrder, OrderedIsPresent, OrderHasHistory, BatchesGrow, FoundIsBatches, FoundStays, DigestsStay};
 
-/// Where the one held set lies in the other, its order begins the other's.
+/// Where the one held set is part of the other, its order begins the other's.
 pub fn order_grows()
     ensures { OrderGrows }
 {}
@@ -24,7 +24,7 @@ pub fn batches_grow()
     ensures { BatchesGrow }
 {}
 
-/// A list that is kept from step to step tells the batches of the order, and stays right as the
+/// A list that is kept from step to step gives the batches of the order, and stays right as the
 /// order and what is held grow.
 pub fn batches_in_steps()
     ensures whole { FoundIsBatches }

@@ -29,7 +29,7 @@ accounts_from_test rows h =
     let inner = and_true (is_ascending (ids_of rows)) (list_all (λ (r : Row). ltb r.seq (2 ^ 63)) rows) outer.0 in
     record { ascending = inner.0; young = all_young rows inner.1; within = ltb-true _ _ outer.1 }
 
--- the rows that a payload spells are accounts
+-- the rows that a payload encodes are accounts
 pub rows_are_accounts : (payload : List ℕ) (rows : List Row) → rows_of payload ≡ Some rows → AreAccounts rows
 unfolding rows_of
 rows_are_accounts payload rows e =
@@ -38,7 +38,7 @@ rows_are_accounts payload rows e =
     let g = guard_some (eqb (length b.0.1) 0 && are_accounts b.0.0) b.0.0 rows b.2 in
     subst AreAccounts g.1 (accounts_from_test b.0.0 (and_true (eqb (length b.0.1) 0) (are_accounts b.0.0) g.0).1)
 
--- the rows that a payload spells are at most 600,000
+-- the rows that a payload encodes are at most 600,000
 rows_are_few : (payload : List ℕ) (rows : List Row) → rows_of payload ≡ Some rows → length rows ≤ MOST_ACCOUNTS
 unfolding rows_of
 rows_are_few payload rows e =

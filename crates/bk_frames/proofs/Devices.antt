@@ -11,7 +11,7 @@ consumes_then (Some bs) None c xs ys p q = absurd p
 consumes_then (Some bs) (Some cs) None xs ys p q = absurd q
 consumes_then (Some bs) (Some cs) (Some ds) xs ys p q = p ∙ ap (λ (t : List ℕ). xs ++ t) q ∙ sym (append_assoc xs ys ds)
 
--- what holds of the bytes that are left holds of all of them behind what was given
+-- what holds of the bytes that are left holds of all of them after what was given
 pub known_before : (a b : Option (List ℕ)) (xs : List ℕ) (P Q : List ℕ → Type 0) → Consumes a b xs → IfSome b P → ((rest : List ℕ) → P rest → Q (xs ++ rest)) → IfSome a Q
 known_before None b xs P Q p h f = tt
 known_before (Some bs) None xs P Q p h f = absurd p

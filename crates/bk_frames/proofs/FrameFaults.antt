@@ -34,15 +34,15 @@ by_code code.Committee P Q R P' Q' R' f g h x = h x
 by_code code.Genesis P Q R P' Q' R' f g h x = h x
 by_code code.Extra P Q R P' Q' R' f g h x = h x
 
--- a finding is no failure and no want of memory
+-- a finding is no failure and no lack of memory
 pub by_code_found : (e : FaultCode) (failed refused P Q : Type 0) → (P → Q) → ByCode e ⊥ ⊥ P → ByCode e failed refused Q
 by_code_found e failed refused P Q f = by_code e ⊥ ⊥ P failed refused Q (λ h. absurd h) (λ h. absurd h) f
 
--- what holds of given bytes, behind bytes that were given before them
+-- what holds of given bytes, after bytes that were given before them
 pub gave_more : (start mid now : Device) (front : List ℕ) (P Q : List ℕ → Type 0) → Gives start mid front → ((part : List ℕ) → P part → Q (front ++ part)) → Gave mid now P → Gave start now Q
 gave_more start mid now front P Q gave f g = (front ++ g.0, consumes_then start.bytes mid.bytes now.bytes front g.0 gave g.1, f g.0 g.2)
 
--- a reason to give up, behind bytes that were given before
+-- a reason to give up, after bytes that were given before
 pub gives_up_more : (e : FaultCode) (start mid now : Device) (front : List ℕ) (P Q R P' Q' R' : List ℕ → Type 0) → Works start mid → Gives start mid front
     → ((part : List ℕ) → P part → P' (front ++ part)) → ((part : List ℕ) → Q part → Q' (front ++ part)) → ((rest : List ℕ) → R rest → R' (front ++ rest))
     → GivesUp e mid now P Q R → GivesUp e start now P' Q' R'
@@ -61,7 +61,7 @@ kind_found e at number a b same gave found =
     shown (Some bs) None gave h = absurd gave
     shown (Some bs) (Some cs) gave h = rw (gave, h) refl
 
--- a length that is cut short behind a good kind cuts the frame short
+-- a length that is cut short after a good kind cuts the frame short
 short_length : (version : Version) (index offset number : ℕ) (part : List ℕ) → kind_fault index number ≡ None → length part < 4 → frame_fault version index offset (number ∷ part) ≡ Some code.Truncated
 short_length version index offset number part good lt = let four : ltb (length part) 4 ≡ true = lt-ltb _ _ lt in rw (good, four) refl
 
@@ -70,7 +70,7 @@ pub length_failed : (at : FrameStart) (number : ℕ) (a b c : Device) → Works 
 length_failed at number a b c same fails gave good part =
     (fails ∙ ap (λ (n : ℕ). n + 1) same, gave_more a b c (number ∷ []) (λ part. length part < 4) (StopsInFrame at) gave (λ part lt. inr (short_length at.version at.index at.offset number part good lt)) part)
 
--- a payload that is cut short behind a good kind and length cuts the frame short
+-- a payload that is cut short after a good kind and length cuts the frame short
 short_payload : (version : Version) (index offset number len : ℕ) (part : List ℕ) → kind_fault index number ≡ None → length_fault offset len ≡ None → len < 2 ^ 32 → length part < len
     → frame_fault version index offset (number ∷ (to_be_bytes w32 len ++ part)) ≡ Some code.Truncated
 short_payload version index offset number len part good fits wide lt =
@@ -89,7 +89,7 @@ length_limits offset len h = split (ltb MOST_PAYLOAD len) (ltb MOST_FEED (offset
     split false true hp hq e = absurd cc
     split false false hp hq e = (ltb-false _ _ hp, ltb-false _ _ hq)
 
--- a part of a payload behind a good kind and length is a part of a frame
+-- a part of a payload after a good kind and length is a part of a frame
 pub part_of_frame : (index offset : ℕ) (k : Kind) (len : ℕ) (part : List ℕ) → IsTrue (stands_at index k) → length_fault offset len ≡ None → length part ≤ len → IsPartAt index offset (kind_number k ∷ (to_be_bytes w32 len ++ part))
 part_of_frame index offset k len part in_place fits le =
     let filler : List ℕ = replicate (len - length part) 0 in

@@ -64,7 +64,7 @@ feed_read start now feed offset read two end = (record { good = read.good; opene
     whole (Some bs) None gave end = absurd gave
     whole (Some bs) (Some cs) gave end = gave ∙ ap (λ (t : List ℕ). spelling feed ++ t) end ∙ append-nil (spelling feed)
 
--- bytes that stop in the frame behind good frames stop at that frame
+-- bytes that stop in the frame after good frames stop at that frame
 stops_there : (index offset : ℕ) (front : FeedValue) (part : List ℕ) → index ≡ length front.frames → AreGoodFrom front.version 0 4 front.frames → offset ≡ length (spelling front) → (part ≡ []) ⊎ (frame_fault front.version index offset part ≡ Some code.Truncated)
     → StopsAt (spelling front ++ part) offset
 stops_there index offset front part place good next (inr found) =
@@ -109,7 +109,7 @@ read_start source version = by_bytes source.bytes refl
     by_bytes None e = record { sound = refl; gave = subst (λ (k : Option (List ℕ)). Consumes (prepend_known (magic version) k) k (spelling (feed_of version []))) e tt; good = tt; next = next }
     by_bytes (Some bs) e = record { sound = refl; gave = subst (λ (k : Option (List ℕ)). Consumes (prepend_known (magic version) k) k (spelling (feed_of version []))) e (ap (λ (t : List ℕ). t ++ bs) text); good = tt; next = next }
 
--- what a source has behind a magic that it gave, it had before that
+-- what a source has after a magic that it gave, it had before that
 magic_back : (version : Version) (a b c : Option (List ℕ)) (given : List ℕ) → Consumes a b (magic version) → Consumes (prepend_known (magic version) b) c given → Consumes a c given
 magic_back version None b c given gave h = tt
 magic_back version (Some bs) None c given gave h = absurd gave
@@ -121,11 +121,11 @@ known_back version None b P gave h = tt
 known_back version (Some bs) None P gave h = absurd gave
 known_back version (Some bs) (Some cs) P gave h = subst P (sym gave) h
 
--- a feed that was read behind its magic
+-- a feed that was read after its magic
 pub feed_behind_magic : (start mid : Device) (version : Version) (feed : FeedValue) → Gives start mid (magic version) → IfKnown (before_magic version mid) (λ bytes. bytes ≡ spelling feed) → IfKnown start (λ bytes. bytes ≡ spelling feed)
 feed_behind_magic start mid version feed gave h = known_back version start.bytes mid.bytes (λ bytes. bytes ≡ spelling feed) gave h
 
--- a feed that was refused behind its magic
+-- a feed that was refused after its magic
 pub refused_behind_magic : (start mid now : Device) (version : Version) (fault : FeedFault) → Works start mid → Gives start mid (magic version) → Refuses fault (before_magic version mid) now → Refuses fault start now
 refused_behind_magic start mid now version fault same gave refuses =
     by_code fault.code _ _ _ _ _ _

@@ -252,7 +252,7 @@ unfaulted : (b : Bool) (c : FaultCode) → fault_if b c ≡ None → b ≡ false
 unfaulted true c h = absurd cc
 unfaulted false c h = refl
 
--- a kind that shows no fault stands in its place
+-- a kind that shows no fault is in its place
 place_one : (index : ℕ) → kind_fault index 1 ≡ None → IsTrue (stands_at index kind.Committee)
 place_one zero h = refl
 place_one (suc zero) h = absurd (no_code code.Genesis (sym h))

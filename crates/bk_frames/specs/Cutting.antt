@@ -53,7 +53,7 @@ fault_at (Some version) index offset bytes = frame_fault version index offset by
 abbrev pub IsOpen : Cut → Type 0
 IsOpen c = 0 < length c.kept → fault_at c.version c.index c.offset c.kept ≡ Some code.Truncated
 
--- what was kept and what came show this fault, behind the frames that are whole
+-- what was kept and what came show this fault, after the frames that are whole
 pub record ShowsFault (old : Cut) (came : List ℕ) (fault : FeedFault) : Type 0 where
   pub out : List Frame
   pub at : Cut

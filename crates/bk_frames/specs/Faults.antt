@@ -1,4 +1,4 @@
--- The numbers of faults, and the text that tells one.
+-- The numbers of faults, and the text that reports one.
 use Rattle.std.specs.Prelude.{ℕ, List, ◌++◌, codes, decimal}
 use Rattle.bk_frames.specs.declared.fault.FaultCode.{FaultCode}
 use Rattle.bk_frames.specs.declared.fault.FaultCode.TheVariants as code

@@ -1,4 +1,4 @@
--- The opening accounts: what they are held to, their one spelling, and how it is read.
+-- The opening accounts: what they are held to, their one encoding, and how it is read.
 use Rattle.std.specs.Prelude.{ℕ, ◌^◌, ◌<◌, ◌≤◌, Bool, List, ◌++◌, length, map, Option, Some, None, IsTrue, is_some, nat_lt, nat_le, ◌==◌, ◌&&◌, if◌then◌else◌}
 use Rattle.std.specs.Int.{w32, w64, to_be_bytes}
 use Rattle.std.specs.List.{flat_map, list_all, AllByRecursion, sum_by}
@@ -24,13 +24,13 @@ pub record AreAccounts (rows : List Row) : Type 0 where
 abbrev pub are_accounts : List Row → Bool
 are_accounts rows = is_ascending (ids_of rows) && list_all (λ (r : Row). nat_lt r.seq (2 ^ 63)) rows && nat_lt (total_of rows) (2 ^ 63)
 
--- ---- the spelling
+-- ---- the encoding
 
 -- a row's id, balance and sequence number in eight bytes each
 abbrev pub row_text : Row → List ℕ
 row_text r = to_be_bytes w64 r.id ++ to_be_bytes w64 r.balance ++ to_be_bytes w64 r.seq
 
--- the spelling of opening accounts: their count in four bytes, then each row
+-- the encoding of opening accounts: their count in four bytes, then each row
 abbrev pub genesis_text : List Row → List ℕ
 genesis_text rows = to_be_bytes w32 (length rows) ++ flat_map row_text rows
 
@@ -50,13 +50,13 @@ row_at bytes = do
   seq ← number_at w64 balance.1
   Some (record { id = id.0; balance = balance.0; seq = seq.0 }, seq.1)
 
--- the opening accounts that a payload spells, if it spells any: all of its bytes
+-- the opening accounts that a payload encodes, if it encodes any: all of its bytes
 unfoldable pub rows_of : List ℕ → Option (List Row)
 rows_of payload = do
   count ← number_at w32 payload
   rows ← if nat_le count.0 MOST_ACCOUNTS then list_at row_at count.0 count.1 else None
   if length rows.1 == 0 && are_accounts rows.0 then Some rows.0 else None
 
--- the payload spells opening accounts
+-- the payload encodes opening accounts
 abbrev pub is_genesis : List ℕ → Bool
 is_genesis payload = is_some (rows_of payload)

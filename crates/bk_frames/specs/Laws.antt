@@ -10,19 +10,19 @@ use Rattle.bk_frames.specs.Numbers.{IsBytes}
 use Rattle.bk_frames.specs.Pulling.{StopsAt, IsPartAt, CallsForMemoryAt, FrontCallsForMemoryAt}
 use Rattle.bk_frames.specs.Cutting.{Cut, fresh, Cuts, IsOpen, ShowsFault, Reaches, EndsShort}
 
--- the bytes are the spelling of a feed, or have a fault
+-- the bytes are the encoding of a feed, or have a fault
 abbrev pub IsFeedOrHasFault : List ℕ → Type 0
 IsFeedOrHasFault bytes = ((feed : FeedValue) × IsFeed feed × (bytes ≡ spelling feed)) ⊎ ((fault : FeedFault) × HasFault bytes fault)
 
--- every byte string is the spelling of a feed or has a fault
+-- every byte string is the encoding of a feed or has a fault
 abbrev pub IsFeedOrFault : Type 0
 IsFeedOrFault = (bytes : List ℕ) → IsBytes bytes → IsFeedOrHasFault bytes
 
--- no byte string is the spelling of two feeds
+-- no byte string is the encoding of two feeds
 abbrev pub OneFeed : Type 0
 OneFeed = (feed other : FeedValue) → IsFeed feed → IsFeed other → spelling feed ≡ spelling other → feed ≡ other
 
--- no feed's spelling has a fault
+-- no feed's encoding has a fault
 abbrev pub NoFaultInFeed : Type 0
 NoFaultInFeed = (feed : FeedValue) (fault : FeedFault) → IsFeed feed → ¬ HasFault (spelling feed) fault
 
@@ -42,11 +42,11 @@ OneCallForMemory = (bytes : List ℕ) (one other : ℕ) → CallsForMemoryAt byt
 abbrev pub PartIsMeasured : Type 0
 PartIsMeasured = (index offset : ℕ) (part : List ℕ) (p : IsPartAt index offset part) → take 5 part ≡ take 5 (frame_text p.frame)
 
--- what is read of a genesis is spelled so
+-- what is read of a genesis encodes to the same bytes
 abbrev pub GenesisIsSpelled : Type 0
 GenesisIsSpelled = (payload : List ℕ) (rows : List Row) → IsBytes payload → rows_of payload ≡ Some rows → IsGenesis rows × (payload ≡ genesis_text rows)
 
--- what spells opening accounts is read so
+-- the encoding of opening accounts is read as these
 abbrev pub GenesisIsRead : Type 0
 GenesisIsRead = (rows : List Row) → IsGenesis rows → rows_of (genesis_text rows) ≡ Some rows
 

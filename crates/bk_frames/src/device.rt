@@ -2,7 +2,7 @@ ghost use Rattle.std.specs.Prelude.{◌≡◌, ◌<◌, ◌≤◌, length, IfOk}
 ghost use Rattle.std.specs.Io.KnownBytes.{ReadConsumes, WriteAppends};
 ghost use Rattle.bk_frames.specs.Device.{Device, CanBeUsed, Counts};
 
-/// A call of a device failed. Its count of failures tells.
+/// A call of a device failed. Its count of failures says so.
 #[derive(Clone, Copy, Debug, PartialEq, Eq)]
 pub struct Failed;
 

@@ -161,7 +161,7 @@ fn next_frame<S: Source>(
     Ok(Some(frame))
 }
 
-// Reads the frames of a feed to its end, behind the magic of this version.
+// Reads the frames of a feed to its end, after the magic of this version.
 fn read_frames<S: Source>(
     alloc: Global,
     source: &mut S,

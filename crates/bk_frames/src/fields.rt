@@ -86,7 +86,7 @@ impl<'a> Fields<'a> {
         ]))
     }
 
-    /// Thirty-two bytes, as they stand.
+    /// Thirty-two bytes, as they are.
     pub fn bytes32(&mut self) -> Option<&'a [u8]>
         ensures found { option_map (λ s. (s.now, self.new)) result ≡ bytes_at 32 self.old }
         ensures none { IfNone result (self.new ≡ self.old) }
@@ -94,7 +94,7 @@ impl<'a> Fields<'a> {
         self.take(32)
     }
 
-    /// So many bytes, as they stand.
+    /// So many bytes, as they are.
     pub fn take(&mut self, len: usize) -> Option<&'a [u8]>
         ensures found { option_map (λ s. (s.now, self.new)) result ≡ bytes_at len self.old }
         ensures none { IfNone result (self.new ≡ self.old) }

@@ -9,7 +9,7 @@ use crate::fields::Fields;
 use crate::limits::MOST_ACCOUNTS;
 use std::alloc::{AllocError, Global};
 
-/// An account as it stands at the opening, or at any later moment.
+/// An account as it is at the opening, or at any later moment.
 #[derive(Clone, Copy, Debug, PartialEq, Eq)]
 pub struct Row {
     /// The account's number.

@@ -14,7 +14,7 @@ use crate::limits::{MOST_FEED, MOST_PAYLOAD};
 use crate::version::Version;
 use std::alloc::Global;
 
-// The kind of this number, where a frame of it may stand at this place.
+// The kind of this number, where a frame of it may be at this place.
 pub(crate) fn kind_at(index: usize, number: u8) -> Result<Kind, FaultCode>
     ensures ok { IfOk result (λ k. (kind_fault index number ≡ None) × (kind_number k ≡ number)
         × IsTrue (stands_at index k)) }
@@ -33,7 +33,7 @@ pub(crate) fn kind_at(index: usize, number: u8) -> Result<Kind, FaultCode>
     }
 }
 
-// Whether a payload of this length may stand in a frame at this offset.
+// Whether a payload of this length may be in a frame at this offset.
 pub(crate) fn length_fits(offset: u64, len: u32) -> bool
     requires { offset ≤ MOST_FEED }
     ensures fits { IsTrue result → length_fault offset len ≡ None }

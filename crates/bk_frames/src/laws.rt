@@ -18,8 +18,8 @@ pub fn feed_or_fault()
     ensures one_fault { OneFault }
 {}
 
-/// What a source has given tells the one offset of the frame that was being read: where it failed, and where memory was
-/// refused.
+/// What a source has given determines the one offset of the frame that was being read: where it failed, and where
+/// memory was refused.
 pub fn one_frame_was_read()
     ensures failed { OneStop }
     ensures refused { OneCallForMemory }

@@ -23,7 +23,7 @@ pub record AreCerts (k : CommitteeValue) (frames : List Frame) (certs : List Nod
   pub sound : (c : Node) → Contains certs c → IsCertIn k frames c
   pub complete : (c : Node) → IsCertIn k frames c → Contains certs c
 
--- the batch of a payload: it stands under its SHA-256
+-- the batch of a payload: its digest is the payload's SHA-256
 abbrev pub batch_of : List ℕ → Batch
 batch_of payload = batch_with (sha256 payload) payload
 

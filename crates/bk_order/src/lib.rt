@@ -1,6 +1,6 @@
 //! From the frames of a feed to the committed order.
 //!
-//! An `Intake` takes the frames after the genesis in whatever pieces they come, and tells which
+//! An `Intake` takes the frames after the genesis in whatever pieces they come, and reports which
 //! certificates are rejected, whether a collision or twins stop the feed, and, where nothing does,
 //! the committed anchors, the order and its batches. All of it is of the frames taken so far as a
 //! set: their order counts for nothing but the numbers of the rejected.

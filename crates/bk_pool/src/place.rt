@@ -34,7 +34,7 @@ impl Gate for Open {
 const MOST: usize = 16;
 
 /// Executes the place that is held: reads its words, does its transaction on them, writes those
-/// that it may, and leaves it with its receipt. Nothing but the bank says what stands in a word.
+/// that it may, and leaves it with its receipt. Nothing but the bank says what is in a word.
 pub fn run_place<G: Gate>(bank: &Bank, plan: &Plan, hold: Hold, gate: &G) -> Leaving
     requires own { IsHoldOf bank.now hold }
     requires plan { IsBankOf plan.now bank.now }

@@ -277,7 +277,7 @@ first_unopened one other none = λ bytes more fs gs v w come came known named se
 pub second_unopened : (one other : Followed) → other.book ≡ None → FollowersDiffer one other differ.Setup
 second_unopened one other none = λ bytes more fs gs v w come came known named setup. unopened other more gs w none came named setup.also_opened
 
--- what has come to a Follower, in which no fault stands
+-- what has come to a Follower, in which no fault is kept
 pub record HasSomething (v : Followed) : Type 0 where
   pub bytes : List ℕ
   pub frames : List Frame

@@ -60,7 +60,7 @@ five_each : {X : Type 0} (xs : List X) → total (λ (x : X). 5) xs ≡ 5 * leng
 five_each {X} [] = refl
 five_each {X} (x ∷ xs) = omega (arith, five_each xs)
 
--- what stands before an element, and what after it
+-- what is before an element, and what is after it
 around : {X : Type 0} (xs : List X) (x : X) → Contains xs x → (front : List X) × (back : List X) × (xs ≡ front ++ x ∷ back)
 around {X} [] x h = absurd (none_in_nil x h)
 around {X} (y ∷ ys) x h = ⊎_elim

@@ -98,7 +98,7 @@ ends_by_stop (fault.Unfinished place) old new e h = absurd cc
 ends_by_stop (fault.Write written) old new e h = absurd cc
 ends_by_stop fault.Memory old new e h = absurd cc
 
--- a stop lets nothing stand
+-- after a stop no fault is kept
 pub works_by_stop : (f : Fault) (old new : Followed) → stops f ≡ true → old.fault ≡ None → FinishFails old new nowhere nowhere f → new.fault ≡ None
 works_by_stop (fault.Feed found) old new e none h = absurd cc
 works_by_stop (fault.Collision id) old new e none h = ap (λ (v : Followed). v.fault) h.1 ∙ none

@@ -85,7 +85,7 @@ settles_none v none = record {
     none_settled None frames book e = tt
     none_settled (Some version) frames book e = subst (λ (x : Option BookValue). IfSome x (λ b. IsCurrent (feed_of version frames) b)) (sym e) tt
 
--- after a fault that does not stand the book is as it was
+-- after a fault that is not kept the book is as it was
 pub stop_same : (f : Fault) (old new : BookValue) → kept_fault f ≡ None → BookSettleFails old new f → new ≡ old
 stop_same (fault.Feed found) old new none h = absurd h
 stop_same (fault.Collision id) old new none h = h.0
@@ -112,7 +112,7 @@ settle_fails fault.Memory cut committee book stands kept b new is none e h = e
 
 -- ---- the end of a feed
 
--- what has come is a feed, where it ends with a frame behind the genesis
+-- what has come is a feed, where it ends with a frame after the genesis
 pub feed_of_book : (bytes : List ℕ) (frames : List Frame) (v : Followed) (b : BookValue) → HasCome bytes frames v → (g : IsOfGoodBook frames v b) → v.cut.kept ≡ [] → IsFeed (feed_of g.version frames) × (bytes ≡ spelling (feed_of g.version frames))
 feed_of_book bytes frames v b come g none =
     let so_far = (bytes_so_far bytes frames v.cut g.version come.cuts g.known).0 in
@@ -176,7 +176,7 @@ finishes cut committee book b new before after answer is none current h = record
   works = h.1;
 }
 
--- after a fault that does not stand everything is as it was
+-- after a fault that is not kept everything is as it was
 pub end_stop_same : (f : Fault) (old new : Followed) (before after : Device) → kept_fault f ≡ None → EndFails old new before after f → new ≡ old
 end_stop_same (fault.Feed found) old new before after none h = absurd cc
 end_stop_same (fault.Collision id) old new before after none h = h.1
@@ -185,7 +185,7 @@ end_stop_same (fault.Unfinished place) old new before after none h = absurd cc
 end_stop_same (fault.Write written) old new before after none h = absurd cc
 end_stop_same fault.Memory old new before after none h = absurd cc
 
--- with the fault that stands after it
+-- with the fault that is kept after it
 pub finish_fails : (f : Fault) (old new : Followed) (kept : Option Fault) (before after : Device) → old.fault ≡ None → kept ≡ kept_fault f → EndFails old new before after f → FinishFails old (follower_of new.cut new.committee new.book kept) before after f
 finish_fails (fault.Feed found) old new kept before after none e h = (h.0, e, h.1)
 finish_fails (fault.Collision id) old new kept before after none e h = (h.0, (λ i. follower_of (h.1 i).cut (h.1 i).committee (h.1 i).book ((e ∙ sym none) i)), h.2)

@@ -43,7 +43,7 @@ ready_from b version slots r ready = record { counts_are = ready.counts_are; txs
 pub read_from : (b : Batches) (version : Version) (slots : List ℕ) → IsNextFrom b version slots (next.Read b)
 read_from b version slots = record { counts_are = refl; txs_are = refl; planned = tt }
 
--- and the one behind it
+-- and the one after it
 pub from_ahead : (payloads : List (List ℕ)) (from later : ℕ) (version : Version) (slots : List ℕ) (b c : Batches) (n : Next) → IsReadOf payloads from b.counts.items b.txs.items → IsNextFrom b version slots n → later ≡ from + length b.counts.items
     → IsReadOf payloads later c.counts.items c.txs.items → IsAheadOf payloads from version slots (ahead_of n c)
 from_ahead payloads from later version slots b c n read planned at behind = record {
@@ -77,7 +77,7 @@ none_ahead payloads l a all none = record {
   read = read_none payloads (length l.counts.items + length (counts_of a.next)) a.read.counts.items a.read.txs.items (omega (arith, all, ap length none.no_counts)) (omega (arith, all, ap length none.no_counts)) none.none_read none.none_there;
 }
 
--- the slices behind one that was executed
+-- the slices after one that was executed
 pub behind_ahead : (payloads : List (List ℕ)) (from : ℕ) (version : Version) (slots : List ℕ) (l : Ledger) (a : Ahead) → from ≡ length l.counts.items → l.state.version ≡ version → l.state.slots ≡ slots
     → IsAheadOf payloads from version slots a → IsAheadOf payloads (length l.counts.items) l.state.version l.state.slots a
 behind_ahead payloads from version slots l a at version_is slots_are behind =

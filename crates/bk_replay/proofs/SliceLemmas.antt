@@ -25,7 +25,7 @@ transactions-append xs ys = flat_map-append transactions_in xs ys
 transactions-one : (payload : List ℕ) → transactions_of (payload ∷ []) ≡ transactions_in payload
 transactions-one payload = flat_map-cons transactions_in payload [] ∙ append-nil (transactions_in payload)
 
--- what is there from a place on begins with what stands at the place
+-- what is there from a place on begins with what is at the place
 drop_next : {A : Type 0} (xs : List A) (i : ℕ) (a : A) → slice_get xs i ≡ Some a → drop i xs ≡ a ∷ drop (suc i) xs
 drop_next [] i a e = absurd cc
 drop_next (x ∷ xs) zero a e = let same : x ≡ a = cc in ap (λ b. b ∷ xs) same

@@ -86,7 +86,7 @@ pub record IsReplyOf (feed : FeedValue) (asked : Query) (answer : Reply) (text :
   pub outcome : IsOutcomeOf feed end
   pub it : Replies asked end answer text
 
--- and so do bytes, where they are the spelling of that feed
+-- and so do bytes, where they are the encoding of that feed
 pub record IsReply (bytes : List ℕ) (asked : Query) (answer : Reply) (text : List ℕ) : Type 0 where
   pub feed : FeedValue
   pub good : IsFeed feed

@@ -100,7 +100,7 @@ pub record HasCome (bytes : List ℕ) (frames : List Frame) (v : Followed) : Typ
   pub follows : Follows v.cut.version frames v.committee v.book
   pub works : v.fault ≡ None
 
--- a piece was taken: whatever came before, the piece has come behind it
+-- a piece was taken: whatever came before, the piece has come after it
 abbrev pub Takes : Followed → List ℕ → Followed → Type 0
 Takes old piece new =
     (bytes : List ℕ) (frames : List Frame) → HasCome bytes frames old

@@ -26,7 +26,7 @@ pub record EndsWithMoney (text : List ℕ) (total : ℕ) (state : List ℕ) : Ty
   pub no_other : (other : ℕ) → ¬ Contains front (line.Money other)
   pub text_is : text ≡ text_of (front ++ line.Money total ∷ line.State state ∷ [])
 
--- the money line of the report of a feed has the money of its genesis, and stands before the state of
+-- the money line of the report of a feed has the money of its genesis, and is before the state of
 -- the accounts that the rules read off its frames
 abbrev pub MoneyLineIsGenesis : Type 0
 MoneyLineIsGenesis = (feed : FeedValue) (text : List ℕ) (status : Status) → IsFeed feed

@@ -61,7 +61,7 @@ pub record IsReportOf (feed : FeedValue) (text : List ℕ) (answer : Status) : T
   pub report : text ≡ text_of (run_lines (committee_in feed) (length feed.frames) reading)
   pub status_is : answer ≡ status_of reading.ordered.payloads.missing
 
--- and of bytes, where they are the spelling of that feed
+-- and of bytes, where they are the encoding of that feed
 pub record IsReport (bytes text : List ℕ) (answer : Status) : Type 0 where
   pub feed : FeedValue
   pub good : IsFeed feed
@@ -79,7 +79,7 @@ IsStopIn feed (fault.Unfinished place) = ⊥
 IsStopIn feed (fault.Write written) = ⊥
 IsStopIn feed fault.Memory = ⊥
 
--- bytes are stopped so, where they are the spelling of a feed that is
+-- bytes are stopped so, where they are the encoding of a feed that is
 pub record IsStopped (bytes : List ℕ) (found : Fault) : Type 0 where
   pub feed : FeedValue
   pub good : IsFeed feed
@@ -91,7 +91,7 @@ abbrev pub HasPlaceIn : FeedValue → ℕ → Type 0
 HasPlaceIn feed place =
     (o : Ordered) × IsOrderIn feed o × (place < length (transactions_of o.payloads.list))
 
--- and that of bytes, where they are the spelling of that feed
+-- and that of bytes, where they are the encoding of that feed
 pub record HasPlace (bytes : List ℕ) (place : ℕ) : Type 0 where
   pub feed : FeedValue
   pub good : IsFeed feed

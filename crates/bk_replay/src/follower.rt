@@ -64,7 +64,7 @@ pub(crate) fn is_stop(fault: &Fault) -> bool
     }
 }
 
-// Lets a fault stand: every later call returns it.
+// Keeps a fault: every later call returns it.
 fn stand(standing: &mut Option<Fault>, fault: Fault) -> Fault
     ensures standing { standing.new ≡ Some fault }
     ensures same { result ≡ fault }
@@ -131,7 +131,7 @@ impl Follower {
         }
     }
 
-    /// A Follower of what has come, in which no fault stands.
+    /// A Follower of what has come, in which no fault is kept.
     pub(crate) fn of(alloc: Global, workers: usize, cutter: Cutter, opened: Opened) -> Follower
         requires workers { (1 ≤ workers) × (workers ≤ 64) }
         requires come { (bytes : List ℕ) × (frames : List Frame)

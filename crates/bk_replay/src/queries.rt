@@ -15,7 +15,7 @@ use bk_rules::{Account, Receipt};
 use std::thread::Threads;
 
 impl Follower {
-    // The fault that stands, or the stop of the whole frames so far.
+    // The fault that is kept, or the stop of the whole frames so far.
     fn ready(&self) -> Result<(), Fault>
         ensures clear { OnOk result (NothingStops self.now) }
         ensures works { OnOk result (self.now.fault ≡ None) }

@@ -37,7 +37,7 @@ pub(crate) enum Next {
     Ready(Ready),
 }
 
-/// The slice whose turn is next, and the one behind it, which is read and not planned.
+/// The slice whose turn is next, and the one after it, which is read and not planned.
 #[derive(Drop)]
 pub(crate) struct Ahead {
     pub(crate) next: Next,
@@ -75,7 +75,7 @@ impl Ahead {
     }
 }
 
-/// Reads the slice from a place on, and the one behind it.
+/// Reads the slice from a place on, and the one after it.
 pub(crate) fn read_two(
     alloc: Global,
     intake: &Intake,
@@ -115,7 +115,7 @@ fn plan_ahead(
     Ok(Next::Read(batches))
 }
 
-/// Plans the slice that was read from a place on, while the one behind it is read in a thread of its own.
+/// Plans the slice that was read from a place on, while the one after it is read in a thread of its own.
 pub(crate) fn look_ahead<R: Threads + Wait + Sync>(
     rt: &R,
     alloc: Global,

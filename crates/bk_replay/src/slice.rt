@@ -1,6 +1,6 @@
 //! Batches of an order, executed in slices by any number of workers.
 //!
-//! While a slice is executed, the one behind it is planned in a thread of its own, and the next one is read and decoded
+//! While a slice is executed, the one after it is planned in a thread of its own, and the next one is read and decoded
 //! in another, which also looks up its accounts.
 
 ghost use Rattle.std.specs.Prelude.{◌≡◌, ◌+◌, ◌^◌, ◌<◌, ◌≤◌, ◌∷◌, ◌++◌, [], false, length, map, drop, IfOk, IfErr, OnOk};
@@ -198,7 +198,7 @@ impl Ledger {
         }
     }
 
-    // Executes the slice whose turn it is, and looks at those behind it, if there are any.
+    // Executes the slice whose turn it is, and looks at those after it, if there are any.
     fn run_next<R: Threads + Wait + Sync, G: Gate + Sync>(
         self,
         rt: &R,

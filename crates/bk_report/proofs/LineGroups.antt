@@ -69,17 +69,17 @@ pub groups_put : (a b c : Device) (p q r : Gathered) (xs ys : List Line) → Wor
 groups_put a b c p q r xs ys first second =
     (second.0 ∙ first.0, subst (λ (t : List ℕ). Puts a c p r t) (text_two xs ys) (puts_then a b c p q r (text_of xs) (text_of ys) first.1 second.1))
 
--- a group that stops, behind one that is put
+-- a group that stops, after one that is put
 pub group_stops : (a b c : Device) (p q : Gathered) (xs ys : List Line) (written : ℕ) → Works a b × Puts a b p q (text_of xs) → Fails b c × Stops b c q (text_of ys) written → Fails a c × Stops a c p (text_of (xs ++ ys)) written
 group_stops a b c p q xs ys written first second =
     (second.0 ∙ ap (λ (n : ℕ). n + 1) first.0, subst (λ (t : List ℕ). Stops a c p t written) (text_two xs ys) (stops_then a b c p q (text_of xs) (text_of ys) written first.1 second.1))
 
--- a group that stops, with another behind it
+-- a group that stops, with another after it
 pub stops_before : (a b : Device) (p : Gathered) (xs ys : List Line) (written : ℕ) → Fails a b × Stops a b p (text_of xs) written → Fails a b × Stops a b p (text_of (xs ++ ys)) written
 stops_before a b p xs ys written stop =
     (stop.0, subst (λ (t : List ℕ). Stops a b p t written) (text_two xs ys) (stops_more a b p (text_of xs) (text_of ys) written stop.1))
 
--- what came of the last group, behind one that is put
+-- what came of the last group, after one that is put
 pub written_then : {X : Type 0} (result : Result X WriteFault) (a b c : Device) (p q r : Gathered) (xs ys : List Line) → Works a b × Puts a b p q (text_of xs) → Written result b c q r (text_of ys) → Written result a c p r (text_of (xs ++ ys))
 written_then (Ok x) a b c p q r xs ys first last = groups_put a b c p q r xs ys first last
 written_then (Err e) a b c p q r xs ys first last = group_stops a b c p q xs ys e.written first last

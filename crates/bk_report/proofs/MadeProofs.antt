@@ -113,7 +113,7 @@ row_found [] i a h e = absurd cc
 row_found (r ∷ rows) zero a h e = let same : r ≡ a = cc in subst IsRow same (All-head IsRow r rows h)
 row_found (r ∷ rows) (suc i) a h e = row_found rows i a (All-tail IsRow r rows h) e
 
--- its leaf stands where it stands
+-- its leaf is at the same index
 leaf_found : (rows : List Row) (i : ℕ) (a : Row) → slice_get rows i ≡ Some a → (i < length rows) × (get_or (leaves_of rows) i [] ≡ row_text a)
 leaf_found [] i a e = absurd cc
 leaf_found (r ∷ rows) zero a e = let same : r ≡ a = cc in (omega arith, ap row_text same)

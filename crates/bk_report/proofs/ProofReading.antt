@@ -40,7 +40,7 @@ has_end end (b ∷ word) rest = or_true (b == end) (list_any (λ (x : ℕ). x ==
 pub some_end : (end : ℕ) (word rest text : List ℕ) → text ≡ word ++ end ∷ rest → position (λ (b : ℕ). b == end) text ≡ None → ⊥
 some_end end word rest text e none = absurd (cc (sym (has_end end word rest) ∙ ap (list_any (λ (b : ℕ). b == end)) (sym e) ∙ sym (position_is (λ (b : ℕ). b == end) text) ∙ ap is_some none))
 
--- the first end in a text is the one behind the word
+-- the first end in a text is the one after the word
 pub first_end : (end : ℕ) (word rest text : List ℕ) (place : ℕ) → text ≡ word ++ end ∷ rest → list_any (λ (b : ℕ). b == end) word ≡ false → position (λ (b : ℕ). b == end) text ≡ Some place → place ≡ length word
 first_end end word rest text place e none found =
     let at = position-Some (λ (b : ℕ). b == end) (word ++ end ∷ rest) place 0 (ap (position (λ (b : ℕ). b == end)) (sym e) ∙ found) in
@@ -51,7 +51,7 @@ first_end end word rest text place e none found =
     by_order false true low high here before = absurd (cc (sym (before (length word) (ltb-true _ _ high)) ∙ eq-eqb _ _ (end_at end word rest 0)))
     by_order false false low high here before = omega (arith, ltb-false _ _ low, ltb-false _ _ high)
 
--- the word and what is behind its end
+-- the word and what is after its end
 pub cut_there : (end : ℕ) (word rest text : List ℕ) (place : ℕ) → text ≡ word ++ end ∷ rest → place ≡ length word → (take place text ≡ word) × (drop 1 (drop place text) ≡ rest)
 cut_there end word rest text place e at =
     (ap (take place) e ∙ take_at word (end ∷ rest) place (sym at), ap (λ (t : List ℕ). drop 1 (drop place t)) e ∙ ap (drop 1) (drop_at word (end ∷ rest) place (sym at)))

@@ -10,13 +10,13 @@ use Rattle.bk_report.specs.Proofs.{ProofValue, path_lines, proof_text}
 use Rattle.bk_report.proofs.LineGroups.{line_of_item, all_items}
 use Rattle.bk_report.proofs.Putting.{text_next}
 
--- a line behind the text of lines
+-- a line after the text of lines
 line_behind : (xs : List Line) (l : Line) (old new : List ℕ) → old ≡ text_of xs → new ≡ old ++ (line_text l ++ 10 ∷ []) → new ≡ text_of (xs ++ l ∷ [])
 line_behind xs l old new before grown =
     grown ∙ ap (λ (t : List ℕ). t ++ (line_text l ++ 10 ∷ [])) before
     ∙ sym (flat_map-append (λ (x : Line). line_text x ++ 10 ∷ []) xs (l ∷ []) ∙ ap (λ (t : List ℕ). text_of xs ++ t) (flat_map-cons (λ (x : Line). line_text x ++ 10 ∷ []) l [] ∙ append-nil (line_text l ++ 10 ∷ [])))
 
--- the lines of a proof, put one behind the other
+-- the lines of a proof, put one after the other
 pub proof_text_is : (p : ProofValue) (none state size index account all : List ℕ) → none ≡ [] → state ≡ none ++ (line_text (line.State p.state) ++ 10 ∷ []) → size ≡ state ++ (line_text (line.Size p.size) ++ 10 ∷ [])
     → index ≡ size ++ (line_text (line.Index p.index) ++ 10 ∷ []) → account ≡ index ++ (line_text (line.Account p.account.id p.account.balance p.account.seq) ++ 10 ∷ []) → all ≡ account ++ text_of (path_lines p.path) → all ≡ proof_text p
 proof_text_is p none state size index account all empty one two three four five =

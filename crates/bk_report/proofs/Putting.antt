@@ -42,7 +42,7 @@ puts_then a b c p q r xs ys first second = record {
   out = omega (arith, first.out, second.out, length-append first.pushed second.pushed);
 }
 
--- a text that is put in part, behind one that is put
+-- a text that is put in part, after one that is put
 pub stops_then : (a b c : Device) (p q : Gathered) (xs ys : List ℕ) (written : ℕ) → Puts a b p q xs → Stops b c q ys written → Stops a c p (xs ++ ys) written
 stops_then a b c p q xs ys written first second = record {
   pushed = first.pushed ++ second.pushed;
@@ -80,7 +80,7 @@ pub text_split : (lines : List Line) (i : ℕ) (l : Line) → slice_get lines i 
 text_split lines i l e =
     ap (λ (t : List ℕ). t ++ text_of (drop (i + 1) lines)) (sym (text_next lines i l e)) ∙ sym (flat_map-append (λ (x : Line). line_text x ++ 10 ∷ []) (take (i + 1) lines) (drop (i + 1) lines)) ∙ ap text_of (take-append-drop (i + 1) lines)
 
--- a line is put behind the lines before it
+-- a line is put after the lines before it
 pub line_put : (a b c : Device) (p q r : Gathered) (lines : List Line) (i : ℕ) (l : Line) → slice_get lines i ≡ Some l → Puts a b p q (text_of (take i lines)) → Puts b c q r (line_text l ++ 10 ∷ []) → Puts a c p r (text_of (take (i + 1) lines))
 line_put a b c p q r lines i l e before put = subst (λ (t : List ℕ). Puts a c p r t) (sym (text_next lines i l e)) (puts_then a b c p q r (text_of (take i lines)) (line_text l ++ 10 ∷ []) before put)
 

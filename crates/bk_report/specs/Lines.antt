@@ -7,7 +7,7 @@ use Rattle.bk_rules.specs.Numbers.{number_of}
 use Rattle.bk_report.specs.declared.line.Line.{Line}
 use Rattle.bk_report.specs.declared.line.Line.TheVariants as line
 
--- a number behind a space
+-- a number after a space
 abbrev pub spaced : ℕ → List ℕ
 spaced n = 32 ∷ decimal n
 
@@ -39,6 +39,6 @@ line_text (line.Size size) = codes "size" ++ spaced size
 line_text (line.Index index) = codes "index" ++ spaced index
 line_text (line.Path digest) = hashed (codes "path") digest
 
--- the text of lines: each line behind the one before it, with a line feed at its end
+-- the text of lines: each line after the one before it, with a line feed at its end
 abbrev pub text_of : List Line → List ℕ
 text_of lines = flat_map (λ (l : Line). line_text l ++ 10 ∷ []) lines

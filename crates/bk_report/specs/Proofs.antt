@@ -11,7 +11,7 @@ use Rattle.bk_report.specs.Leaves.{leaves_of, state_of}
 use Rattle.bk_report.specs.Lines.{text_of}
 
 -- a proof that an account is in a state: the digest of the state, how many accounts it has, where
--- the account stands among them, the account, and the digests beside its way up to the root
+-- the account is among them, the account, and the digests beside its way up to the root
 pub record ProofValue : Type 0 where
   pub state : List ℕ
   pub size : ℕ

@@ -1,4 +1,4 @@
-//! The groups of a report's lines, each put behind the one before it.
+//! The groups of a report's lines, each put after the one before it.
 
 ghost use Rattle.std.specs.Prelude.{◌≡◌, ℕ, ◌+◌, ◌*◌, ◌^◌, ◌<◌, ◌≤◌, length, OnOk};
 ghost use Rattle.bk_frames.specs.Device.{CanBeUsed};

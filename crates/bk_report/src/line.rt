@@ -76,7 +76,7 @@ pub enum Line {
     Size {
         size: u64,
     },
-    /// `index I`: where the account of a proof stands in the tree, from 0.
+    /// `index I`: where the account of a proof is in the tree, from 0.
     Index {
         index: u64,
     },

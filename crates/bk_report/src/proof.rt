@@ -22,7 +22,7 @@ pub struct Proof {
     pub state: Digest32,
     /// How many accounts the tree has.
     pub size: u64,
-    /// Where the account stands among them, from 0.
+    /// Where the account is among them, from 0.
     pub index: u64,
     /// The account.
     pub account: Row,
@@ -72,7 +72,7 @@ fn push_path(text: &mut Vec<u8>, path: &[Digest32]) -> Result<(), AllocError>
     Ok(())
 }
 
-/// Where the account with an id stands.
+/// The index of the account with an id.
 fn find(rows: &[Row], id: u64) -> Option<usize>
     ensures { result ≡ position (λ (r : Row). r.id == id) rows.now }
 {

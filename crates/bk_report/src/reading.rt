@@ -1,5 +1,5 @@
-//! Proof texts, read back. Only a text that is spelled as a proof is sure to be read; whoever reads
-//! another compares what comes of it.
+//! Proof texts, read back. Only the text of a proof is sure to be read; whoever reads another
+//! compares what comes of it.
 
 ghost use Rattle.std.specs.Prelude.{◌≡◌, ℕ, ◌==◌, ◌^◌, ◌<◌, ◌≤◌, ◌∷◌, ◌++◌, List, Some, IfSome};
 ghost use Rattle.std.specs.Prelude.{All, false, IfOk, length, decimal, codes, IsSomeAnd};
@@ -16,7 +16,7 @@ use bk_frames::Row;
 use std::alloc::{AllocError, Global};
 use std::str;
 
-/// The text after a word. What stands in its place is not looked at.
+/// The text after a word. What is in its place is not looked at.
 fn after<'a>(text: &'a [u8], word: &[u8]) -> Option<&'a [u8]>
     ensures found { (rest : List ℕ) → text.now ≡ word.now ++ rest
         → IsSomeAnd result (λ r. r.now ≡ rest) }
@@ -28,7 +28,7 @@ fn after<'a>(text: &'a [u8], word: &[u8]) -> Option<&'a [u8]>
     Some(&text[word.len()..])
 }
 
-/// Where a byte first stands.
+/// The first place of a byte.
 fn place_of(text: &[u8], end: u8) -> Option<usize>
     ensures { result ≡ position (λ b. b == end) text.now }
 {

@@ -71,7 +71,7 @@ filled z slots marks pending k s t none = record {
   parents = λ m n. field_other (λ (x : Slot). x.parents.items) slots k s [] m n;
 }
 
--- what parents weigh is told by their authors
+-- what parents weigh is given by their authors
 pub heavy_same : (z : Sizes) (slots after : List Slot) (ps : List ℕ) → ((p : ℕ) → Contains ps p → author_of after p ≡ author_of slots p)
     → is_heavy_in z after ps ≡ is_heavy_in z slots ps
 heavy_same z slots after ps same = ap (nat_le (quorum z)) (sums ps same)

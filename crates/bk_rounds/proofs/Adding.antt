@@ -180,7 +180,7 @@ placed_added held n m c k slot h from placed placed' p t free up = record {
         (λ e. inr (λ q. e (ap (λ (x : CertRef). x.round) q)))
         (cases_eq a.round b.round)
 
--- what admit and tell leave
+-- what `admit` and `tell` leave
 pub record IsAdmitting (n m : Names) (out : List ℕ) (top top' : ℕ) : Type 0 where
   pub stay : (i : ℕ) → is_marked n.marks.items i ≡ true → is_marked m.marks.items i ≡ true
   pub out_is : (i : ℕ) → Contains out i ↔ ((is_marked m.marks.items i ≡ true) × (is_marked n.marks.items i ≡ false))
@@ -291,7 +291,7 @@ whole_added z held n m c k slot placed placed' top top' out w h it new free up t
           (λ (p, among, e). let among' = subst (λ (ps : List ℕ). Contains ps p) row among in (w.sets i was x).1 (p, among', sym (author p among') ∙ e)),
         )
 
--- what is told is what has become present
+-- what is answered is what has become present
 pub answer_added : (z : Sizes) (held : List Node) (n m : Names) (c : Node) (k : ℕ) (slot : Slot) (placed placed' : CertRef → Option ℕ) (top top' : ℕ) (out : List ℕ) (told : List CertRef)
     → IsWhole z held n placed top → IsWhole z (held ++ c ∷ []) m placed' top' → IsAdding held n m c k slot → IsAdmitting n m out top top'
     → IsListed told → ((a : CertRef) → Contains told a ↔ Contains (map (place_at m.slots.items) out) a)

@@ -1,4 +1,4 @@
--- What stands at a place.
+-- What is at a place.
 use Rattle.std.proofs.Common.{◌≡◌, ℕ, zero, suc, ◌+◌, ◌-◌, ◌<◌, ◌≤◌, ◌↔◌, IsTrue, Bool, true, false, List, [], ◌∷◌, map, length, Option, Some, None, get_or, refl, sym, ap, subst, ◌∙◌, ⊎_elim, arith}
 use Rattle.std.specs.List.{Contains}
 use Rattle.std.specs.Option.{is_some}
@@ -25,7 +25,7 @@ unfolding IsAdmittedAt
 admitted_some_round z slots zero i h = absurd h
 admitted_some_round z slots (suc r) i h = omega arith
 
--- an admitted number, its certificate and that it stands there
+-- an admitted number, its certificate and that it is there
 pub record IsStanding (z : Sizes) (held : List Node) (n : Names) (k : ℕ) : Type 0 where
   pub cert : Node
   pub at : IsAt held (cert_of n.slots.items k) cert

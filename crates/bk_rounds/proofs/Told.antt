@@ -11,7 +11,7 @@ use Rattle.bk_rounds.specs.private.Names.{set_of}
 use Rattle.bk_rounds.specs.private.Tied.{IsAuthorIn}
 use Rattle.bk_rounds.proofs.Lists.{none_in_nil}
 
--- the sets of these are told, the others stay, and the greatest round is known
+-- the sets of these are given, the others stay, and the greatest round is known
 pub record IsTold (slots : List Slot) (old new : List ℕ) (done : List ℕ) (top highest : ℕ) : Type 0 where
   pub here : (k : ℕ) → Contains done k → (x : ℕ) → Has (set_of new k) x ↔ IsAuthorIn slots (parents_of slots k) x
   pub other : (k : ℕ) → (Contains done k → ⊥) → set_of new k ≡ set_of old k

@@ -49,7 +49,7 @@ pub(crate) fn admit(
     }
 }
 
-/// Tells the places of these, keeps the authors of their parents, and answers the greatest round.
+/// Reports the places of these, keeps the authors of their parents, and answers the greatest round.
 pub(crate) fn tell(
     slots: &[Slot],
     sets: &mut [Members],

@@ -13,7 +13,7 @@ use std::collections::HashMap;
 
 /// The ids that were met, those of parents that are not held among them, each with its number.
 ///
-/// What is known of a number stands at it in each of the lists.
+/// What is known of a number is at that index in each of the lists.
 #[derive(Drop)]
 pub(crate) struct Names {
     pub numbers: HashMap<Digest32, usize>,

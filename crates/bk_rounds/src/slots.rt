@@ -14,7 +14,7 @@ pub(crate) struct Slot {
     pub id: Digest32,
     pub round: u32,
     pub author: u8,
-    // Where the certificate stands among those that were added.
+    // Where the certificate is among those that were added.
     pub cert: usize,
     pub parents: Vec<usize>,
 }

@@ -39,9 +39,9 @@ rises_by_index (n ∷ ids) up i zero lt low = absurd (omega arith)
 rises_by_index (n ∷ ids) up zero (suc j) lt low = rises_head n ids up j (omega arith)
 rises_by_index (n ∷ ids) up (suc i) (suc j) lt low = rises_by_index ids (rises_tail n ids up) i j (omega arith) (omega arith)
 
--- ---- an id that stands at an index, or nowhere
+-- ---- an id that is at an index, or nowhere
 
--- the first index of an id is the one where it stands
+-- the first index of an id is the one where it is
 pub first_is : (ids : List ℕ) → Rises ids → (id k : ℕ) → k < length ids → get_or ids k 0 ≡ id → index_or_len ids id ≡ k
 first_is ids up id k low here =
     position_or_len_is (λ (i : ℕ). eqb i id) ids k 0 (omega arith)
@@ -60,7 +60,7 @@ stands_nowhere ids id nowhere =
     let outside : ltb (length ids) (length ids) ≡ false = grind (arith, nat_tests) in
     rw (past, outside) refl
 
--- an id that falls between two neighbours stands nowhere
+-- an id that falls between two neighbours is nowhere
 pub falls_nowhere : (ids : List ℕ) → Rises ids → (id c : ℕ) → c ≤ length ids → (c < length ids → id < get_or ids c 0) → ((b : ℕ) → b + 1 ≡ c → get_or ids b 0 < id) → index_or_len ids id ≡ length ids
 falls_nowhere ids up id c within above below = position_or_len_is (λ (i : ℕ). eqb i id) ids (length ids) 0 (omega arith) (λ j lt. ne_eqb _ _ (apart j lt)) (λ lt. absurd (omega arith))
   where

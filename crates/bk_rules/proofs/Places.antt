@@ -60,7 +60,7 @@ rise_head d (e ∷ ds) up (suc k) low =
     let above : e.id < nth_id ds k = rise_head e ds (and_right (ltb d.id e.id) _ up) k (omega arith) in
     grind (arith, nat_tests)
 
--- what is seen of an id is what stands at its place
+-- what is seen of an id is what is at its place
 pub seen_at : (ds : List Declared) → Rise ds → (view : List (Option Account)) (id k : ℕ) → IsAt ds id k → seen ds view id ≡ nth view k
 seen_at [] up view id k at = absurd (omega (arith, at.in_range))
 seen_at (d ∷ ds) up [] id k at = refl

@@ -68,7 +68,7 @@ look_first r rows id = by_test (eqb r.id id)
     by_test true = refl
     by_test false = refl
 
--- the row stands further on
+-- the row is further on
 further : (c : Change) (r : Row) (id : ℕ) (rest : Option Account) (b d : Bool) → r.id ≢ c.id → b ≡ eqb c.id id → d ≡ eqb r.id id → cond d (Some (account_of r)) (cond b (Some (c.makes (unwrap_or rest new_account))) rest) ≡ cond b (Some (c.makes (unwrap_or (cond d (Some (account_of r)) rest) new_account))) (cond d (Some (account_of r)) rest)
 further c r id rest true true apart e f = absurd (grind (arith, nat_tests))
 further c r id rest false false apart e f = refl

@@ -6,7 +6,7 @@ use Rattle.bk_rules.specs.View.{nth}
 use Rattle.bk_rules.specs.private.Sides.{side_by_side}
 use Rattle.bk_rules.specs.Rule.{balance_of, seq_of, sent, received, new_account}
 
--- an account by what stands in the three lists
+-- an account by what is in the three lists
 abbrev pub entry : Bool → ℕ → ℕ → Option Account
 entry b x s = cond b (Some (record { balance = x; seq = s })) None
 

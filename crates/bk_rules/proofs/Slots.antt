@@ -32,7 +32,7 @@ absent_under v n (i ∷ ids) (a ∷ numbers) up id low = by_account (shown_by v 
     by_account None rest = rest
     by_account (Some b) rest = let apart : eqb i id ≡ false = (let c = above in grind (arith, nat_tests)) in look_first (row_of i b) (rows_shown v ids numbers) id ∙ ap (λ (t : Bool). cond t (Some b) (account_at (rows_shown v ids numbers) id)) apart ∙ rest
 
--- what is found is what stands at the index of the id
+-- what is found is what is at the index of the id
 pub account_at-shown : (v : Version) (ids : List ℕ) (numbers : List Account) → Rises ids → length numbers ≡ length ids → (id : ℕ) → account_at (rows_shown v ids numbers) id ≡ shown_at v numbers (index_or_len ids id)
 account_at-shown v [] [] up same id = refl
 account_at-shown v [] (a ∷ numbers) up same id = absurd (omega arith)

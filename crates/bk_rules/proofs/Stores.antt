@@ -55,7 +55,7 @@ set-past {A = A} (y ∷ xs) (suc k) x past = ap (λ (more : List A). y ∷ more)
 
 -- ---- the index of an id
 
--- the id stands at its index
+-- the id is at its index
 pub index_reads : (ids : List ℕ) (id : ℕ) → index_or_len ids id < length ids → get_or ids (index_or_len ids id) 0 ≡ id
 index_reads [] id low = absurd (omega arith)
 index_reads (i ∷ ids) id low = by_test (eqb i id) refl low (index_reads ids id)

@@ -65,7 +65,7 @@ rows_same (x ∷ xs) (y ∷ ys) ux uy same = elim (order x.id y.id) [
             let f : eqb y.id id ≡ false = ap (λ (n : ℕ). eqb n id) (sym equal) ∙ sym e in
             ap (λ (b : Bool). cond b (Some (account_of x)) (account_at xs id)) e ∙ sym (look_first x xs id) ∙ same id ∙ look_first y ys id ∙ ap (λ (b : Bool). cond b (Some (account_of y)) (account_at ys id)) f
 
--- ---- where a declared id stands
+-- ---- where a declared id is
 
 pub record Stands (ds : List Declared) (id : ℕ) (test : ℕ → Bool) : Type 0 where
   pub place : ℕ

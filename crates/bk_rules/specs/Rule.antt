@@ -1,4 +1,4 @@
--- The transaction rule: what becomes of one transaction on the accounts as they stand.
+-- The transaction rule: what becomes of one transaction on the accounts as they are.
 use Rattle.std.specs.Prelude.{ℕ, ◌+◌, ◌-◌, Bool, true, List, [], ◌∷◌, map, Option, Some, None, option_map, unwrap_or, is_some, not, nat_lt, ◌==◌, ◌&&◌, if◌then◌else◌}
 use Rattle.std.specs.List.{list_all, sum_by}
 use Rattle.bk_tx.specs.declared.payments.Payment.{Payment}

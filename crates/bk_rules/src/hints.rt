@@ -20,7 +20,7 @@ const MEETING: usize = 32;
 
 // A table with a likely index of each id, so that most look-ups read one slot and one id.
 //
-// An index is believed only where the id stands there, and else the ids are searched. So no result depends on the
+// An index is believed only where the id is there, and else the ids are searched. So no result depends on the
 // slots, and no contract speaks of them.
 //
 // Whoever knows `SPREAD` can choose ids that all fall on one slot. Against that the ids are mixed with a key that is
@@ -58,7 +58,7 @@ impl Hints {
         self.key
     }
 
-    // The slot where an id's hint stands, if those before it are free.
+    // The slot where an id's hint is, if those before it are free.
     fn home(&self, id: u64) -> usize {
         let spread = id.wrapping_mul(SPREAD);
         let spread = if self.key == 0 {
@@ -113,7 +113,7 @@ impl Hints {
         None
     }
 
-    // A likely index of an id: what its slot alone says, whatever stands at that index.
+    // A likely index of an id: what its slot alone says, whatever is at that index.
     pub(crate) fn slot(&self, id: u64) -> u32 {
         match self.slots.get(self.home(id)) {
             Some(index) => *index,

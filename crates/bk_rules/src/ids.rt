@@ -155,7 +155,7 @@ impl Ids {
         Ok(())
     }
 
-    // Looks further for the declared accounts that do not stand where their slot says.
+    // Looks further for the declared accounts that are not where their slot says.
     fn mend(&self, near: &mut [u32], from: usize, declared: &Declarations) {
         let Table { ids, hints } = &*self.table;
         for k in 0..declared.len() {
@@ -200,7 +200,7 @@ impl Ids {
         }
     }
 
-    // A likely index of an id: what is asked of its slot alone, whatever stands at that index.
+    // A likely index of an id: what is asked of its slot alone, whatever is at that index.
     pub(crate) fn likely(&self, id: u64) -> usize {
         self.table.hints.slot(id) as usize
     }

@@ -1,4 +1,4 @@
-//! What a transaction asks for, and where the accounts that it names stand among those that it declares.
+//! What a transaction asks for, and where the accounts that it names are among those that it declares.
 
 ghost use Rattle.std.specs.Prelude.{◌≡◌, ◌&&◌, ◌==◌, ◌≤◌, true, [], ◌∷◌, IfSome, is_some, length, option_map};
 ghost use Rattle.std.specs.List.{list_all, position};
@@ -23,7 +23,7 @@ pub(crate) struct FloorAt {
     pub least: u64,
 }
 
-// Where the accounts that a transaction names stand among those that it declares.
+// Where the accounts that a transaction names are among those that it declares.
 #[derive(Clone, Copy)]
 pub(crate) struct Roles {
     pub from: usize,
@@ -70,7 +70,7 @@ fn guard_of(body: &Body) -> Option<Floor>
     }
 }
 
-// Where an account stands that is declared for writing.
+// The index of an account that is declared for writing.
 pub(crate) fn writable_at(declared: &Declarations, id: u64) -> Option<usize>
     ensures first { result ≡ position (λ d. d.writable && d.id == id) declared.now }
     ensures found { IfSome result (IsAt declared.now id) }
@@ -78,7 +78,7 @@ pub(crate) fn writable_at(declared: &Declarations, id: u64) -> Option<usize>
     declared.writable_at(id)
 }
 
-// Where an account stands that is declared.
+// The index of an account that is declared.
 fn declared_at(declared: &Declarations, id: u64) -> Option<usize>
     ensures first { result ≡ position (λ d. d.id == id) declared.now }
     ensures found { IfSome result (IsAt declared.now id) }
@@ -86,7 +86,7 @@ fn declared_at(declared: &Declarations, id: u64) -> Option<usize>
     declared.declared_at(id)
 }
 
-// Where the receivers stand, in their order, if all are declared for writing.
+// The indices of the receivers, in their order, if all are declared for writing.
 fn receivers_at(declared: &Declarations, payments: &[Payment]) -> Option<[usize; 6]>
     requires few { length payments.now ≤ 6 }
     ensures known { is_some result ≡ list_all (λ p. writes declared.now p.to) payments.now }
@@ -99,7 +99,7 @@ fn receivers_at(declared: &Declarations, payments: &[Payment]) -> Option<[usize;
     Some(places)
 }
 
-// Where the accounts stand that a transaction names, if they are declared as they have to be.
+// The indices of the accounts that a transaction names, if they are declared as they have to be.
 pub(crate) fn roles_of(tx: &Tx, from: usize, payments: &[Payment]) -> Option<Roles>
     requires sender { IsAt tx.now.declared tx.now.from from }
     requires writable { writes tx.now.declared tx.now.from ≡ true }

@@ -89,7 +89,7 @@ fn numbers_at(numbers: &[Account], index: usize) -> Account
 
 /// The numbers of each id, taken over from those that had a slot.
 ///
-/// Both lists ascend, so that each id is found behind the one before it: no table is asked.
+/// Both lists ascend, so that each id is found after the one before it: no table is asked.
 pub(crate) fn moved(
     alloc: Global,
     ids: &Ids,

@@ -29,7 +29,7 @@ piece_step sep text start end h l =
 pub piece_found : {X : Type 0} (f : X → List ℕ) (xs : List X) (x : X) (more : List (List ℕ)) → map f (xs ++ x ∷ []) ++ more ≡ map f xs ++ (f x ∷ more)
 piece_found f xs x more = ap (λ l. l ++ more) (map_push f xs x) ∙ append_assoc (map f xs) (f x ∷ []) more
 
--- the piece that ends here is found, and the next begins behind the separator
+-- the piece that ends here is found, and the next begins after the separator
 pub ended : {X : Type 0} (f : X → List ℕ) (xs ys : List X) (x : X) (sep : ℕ) (text : List ℕ) (start end : ℕ) → start ≤ end → end < length text
     → get_or text end 0 ≡ sep → f x ≡ take (end - start) (drop start text) → ys ≡ xs ++ x ∷ []
     → map f xs ++ pieces_after sep (take (end - start) (drop start text)) (drop end text) ≡ pieces_after sep [] text

@@ -11,7 +11,7 @@ use Rattle.bk_script.proofs.TextLines.{next_line, ended_begin, pieces_end, ended
 
 -- ---- what lines say after others
 
--- lines behind a first one
+-- lines after a first one
 list_one : (k : EventList) (n : ℕ) (first : Result EventList ℕ) (before lines : List (List ℕ))
     → ((a : EventList) → listed a (n + 1) (before ++ lines) ≡ then_list (listed a (n + 1) before) (λ b. listed b (n + 1 + length before) lines))
     → then_list first (λ a. listed a (n + 1) (before ++ lines)) ≡ then_list (then_list first (λ a. listed a (n + 1) before)) (λ b. listed b (n + suc (length before)) lines)

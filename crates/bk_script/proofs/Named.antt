@@ -15,7 +15,7 @@ use Rattle.std.proofs.lemmas.Slice.Eq.{bytes_eq-Decides}
 use Rattle.bk_script.specs.Known.{NamedValue, place_of}
 use Rattle.bk_script.specs.private.Places.{noted_at, ArePlaces, IsNoted}
 
--- ---- the first that passes, where one more comes behind the others
+-- ---- the first that passes, where one more comes after the others
 
 position_cons : {X : Type 0} (p : X → Bool) (x : X) (xs : List X) → position p (x ∷ xs) ≡ cond (p x) (Some 0) (option_map suc (position p xs))
 position_cons p x xs = by_test (p x)

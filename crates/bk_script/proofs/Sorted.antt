@@ -25,7 +25,7 @@ step_of id ids i r l e =
     at_drop_more (λ xs. with_id xs id) ids i [] l
     ∙ ap (λ o. beside o (id ∷ get_or ids i [] ∷ drop (i + 1) ids) (with_id (drop (i + 1) ids) id >>= (λ more. Ok (get_or ids i [] ∷ more)))) e
 
--- it is behind the id here
+-- it is after the id here
 pub behind : (id : List ℕ) (ids : List (List ℕ)) (i : ℕ) → i < length ids → slice_cmp nat_cmp id (get_or ids i []) ≡ Greater
     → with_front (take i ids) (with_id (drop i ids) id) ≡ with_id ids id → with_front (take (i + 1) ids) (with_id (drop (i + 1) ids) id) ≡ with_id ids id
 behind id ids i l e inv =
@@ -45,7 +45,7 @@ before_one id ids out i l e is inv =
     sym inv ∙ ap (with_front (take i ids)) (step_of id ids i Less l e)
     ∙ ap (λ t. Ok (take i ids ++ id ∷ t)) (sym (drop_more ids i [] l)) ∙ ap Ok (sym is)
 
--- it is behind them all
+-- it is after them all
 pub last_one : (id : List ℕ) (ids out : List (List ℕ)) (i : ℕ) → length ids ≤ i → out ≡ ids ++ id ∷ []
     → with_front (take i ids) (with_id (drop i ids) id) ≡ with_id ids id → with_id ids id ≡ Ok out
 unfolding with_id

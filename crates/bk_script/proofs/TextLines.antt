@@ -13,7 +13,7 @@ use Rattle.bk_script.proofs.Cuts.{piece_step, goes_on}
 
 -- ---- what is known after lines
 
--- lines behind a first one
+-- lines after a first one
 after_one : (k : Known) (n : ℕ) (first : Result Known LineFault) (line : List ℕ) (before lines : List (List ℕ))
     → ((a : Known) → after_lines a (n + 1) (before ++ lines) ≡ then_from (after_lines a (n + 1) before) (λ b. after_lines b (n + 1 + length before) lines))
     → then_from first (λ a. after_lines a (n + 1) (before ++ lines)) ≡ then_from (then_from first (λ a. after_lines a (n + 1) before)) (λ b. after_lines b (n + suc (length before)) lines)
@@ -68,7 +68,7 @@ take_behind : {X : Type 0} (xs ys : List X) (n : ℕ) → take (length xs + n) (
 take_behind [] ys n = let e : zero + n ≡ n = omega arith in ap (λ m. take m ys) e
 take_behind (x ∷ xs) ys n = let e : suc (length xs) + n ≡ suc (length xs + n) = omega arith in rw e (ap (λ t. x ∷ t) (take_behind xs ys n))
 
--- the piece that ends at a line feed, and the pieces behind it
+-- the piece that ends at a line feed, and the pieces after it
 pub line_found : (text : List ℕ) (start end : ℕ) → start ≤ end → end < length text → get_or text end 0 ≡ 10
     → pieces_after 10 (take (end - start) (drop start text)) (drop end text) ≡ take (end - start) (drop start text) ∷ pieces_after 10 [] (drop (end + 1) text)
 line_found text start end h l e =
@@ -113,7 +113,7 @@ ended_all before text last all =
     let many : length (before ++ last ∷ []) - 1 ≡ length before = omega (arith, length-append before (last ∷ [])) in
     ap (λ (ps : List (List ℕ)). take (length ps - 1) ps) (sym all) ∙ ap (λ n. take n (before ++ last ∷ [])) many ∙ take_at before (last ∷ []) (length before) refl
 
--- and the last is what stands behind them
+-- and the last is what is after them
 pub last_of_all : (before : List (List ℕ)) (text last : List ℕ) → before ++ last ∷ [] ≡ pieces 10 text → last_line text ≡ last
 last_of_all before text last all =
     let many : length (before ++ last ∷ []) - 1 ≡ length before = omega (arith, length-append before (last ∷ [])) in

@@ -54,7 +54,7 @@ ended_stops k most text (fault.Line line) none few bad =
 ended_stops k most text fault.Read none few bad = bad
 ended_stops k most text fault.Memory none few bad = bad
 
--- ---- bytes behind the last line feed
+-- ---- bytes after the last line feed
 
 -- there are none
 lines_none : (text last : List ℕ) (end : ℕ) → last ≡ take (length text - end) (drop end text) → drop end text ≡ last_line text → true ≡ (length last == 0)

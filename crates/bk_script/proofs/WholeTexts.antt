@@ -74,7 +74,7 @@ within_short most text few =
     let test : nat_le (length text) most ≡ true = grind (arith, nat_tests) in
     ap (λ b. if b then feed_of_lines (lines_of text) else crossing (take (most + 1) text)) test
 
--- bytes behind the last line feed
+-- bytes after the last line feed
 pub rest_is : (text last : List ℕ) (end : ℕ) → last ≡ take (length text - end) (drop end text) → drop end text ≡ last_line text → last ≡ last_line text
 rest_is text last end is rest = is ∙ take_all (length text - end) (drop end text) (omega (arith, length-drop end text)) ∙ rest
 

@@ -28,7 +28,7 @@ event_list events = record { list = events.list.items; lines = events.lines.item
 
 -- ---- one line
 
--- the event of a first word and the numbers behind it, None where there is no such event
+-- the event of a first word and the numbers after it, None where there is no such event
 unfoldable pub event_named : List ℕ → List ℕ → Option Event
 event_named name [] = None
 event_named name (worker ∷ []) = if bytes_eq name (codes "finish") then Some (Finish worker) else None
@@ -38,7 +38,7 @@ event_named name (worker ∷ item ∷ []) =
     else (if bytes_eq name (codes "write") then Some (Write worker item) else None))
 event_named name (worker ∷ item ∷ more ∷ others) = None
 
--- the same, where the words behind the first are numbers
+-- the same, where the words after the first are numbers
 abbrev pub event_numbered : List ℕ → Result (List ℕ) ScriptCode → Option Event
 event_numbered name (Ok numbers) = event_named name numbers
 event_numbered name (Err found) = None

@@ -7,7 +7,7 @@ use Rattle.bk_frames.specs.Genesis.{genesis_text}
 use Rattle.bk_frames.specs.Feed.{frame_of, frame_text, magic}
 use Rattle.bk_script.specs.Sealing.{members_text}
 
--- the magic, the committee, the genesis, and the bytes of the frames behind them
+-- the magic, the committee, the genesis, and the bytes of the frames after them
 abbrev pub feed_text : Version → List ℕ → List Row → List ℕ → List ℕ
 feed_text version weights rows body =
     magic version ++ frame_text (frame_of kind.Committee (members_text version weights)) ++ frame_text (frame_of kind.Genesis (genesis_text rows)) ++ body

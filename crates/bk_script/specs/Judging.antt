@@ -53,7 +53,7 @@ weights_listed words =
 abbrev pub are_weights : ℕ → List ℕ → Bool
 are_weights n weights = length weights == n && list_all (λ w. nat_lt 0 w && nat_lt w (2 ^ 32)) weights
 
--- the committee and an empty genesis, in the feed behind its magic
+-- the committee and an empty genesis, in the feed after its magic
 unfoldable pub members_line : Known → List (List ℕ) → Result Known ScriptCode
 members_line k words = do
   n ← number_of (word words 1)
@@ -98,7 +98,7 @@ raw_line k words = do
 
 -- ---- certificates
 
--- where an id belongs that compares so to the first of others: before it, or behind it; it is not to be there already
+-- where an id belongs that compares so to the first of others: before it, or after it; it is not to be there already
 abbrev pub beside : Ordering → List (List ℕ) → Result (List (List ℕ)) ScriptCode → Result (List (List ℕ)) ScriptCode
 beside Less before behind = Ok before
 beside Equal before behind = Err code.Range
@@ -178,7 +178,7 @@ again_line k words = do
 
 -- ---- every line
 
--- a transaction stands in a batch; every other line ends it
+-- a transaction is in a batch; every other line ends it
 abbrev pub is_transaction : Keyword → Bool
 is_transaction keyword.Pay = true
 is_transaction keyword.PayIf = true

@@ -28,7 +28,7 @@ pub record OpenValue : Type 0 where
 
 -- What the lines so far say. `versioned`: there was a `version` line. `weights`: of the members, once there was a
 -- `members` line. `late`: there was a `batch` or a `cert` line. `accounts`: by ascending id. `headers`: of the named
--- certificates. `batch`: the one that goes on. `body`: the bytes of the frames behind genesis that are complete.
+-- certificates. `batch`: the one that goes on. `body`: the bytes of the frames after genesis that are complete.
 -- `size`: how many bytes the feed has so far, the open batch with it.
 pub record Known : Type 0 where
   pub version : Version
@@ -49,7 +49,7 @@ nothing_known = record { version = version.One; versioned = false; weights = Non
 
 -- ---- names
 
--- where a name stands
+-- where a name is
 abbrev pub place_of : List NamedValue → List ℕ → Option ℕ
 place_of named name = position (λ (n : NamedValue). bytes_eq n.name name) named
 

@@ -40,12 +40,12 @@ keyword_of word =
     else (if bytes_eq word (codes "again") then Some keyword.Again
     else None))))))))))
 
--- a list of weights may stand behind `members` in version Two
+-- a list of weights may come after `members` in version Two
 abbrev pub may_weigh : Version → Bool
 may_weigh version.One = false
 may_weigh version.Two = true
 
--- a line of this kind may have this many words behind the first
+-- a line of this kind may have this many words after the first
 abbrev pub takes : Version → Keyword → ℕ → Bool
 takes v keyword.Version n = n == 1
 takes v keyword.Members n = n == 1 || (n == 2 && may_weigh v)
@@ -59,7 +59,7 @@ takes v keyword.Raw n = n == 1
 takes v keyword.Cert n = n == 6
 takes v keyword.Again n = n == 2
 
--- this kind, where this many words may stand behind the first
+-- this kind, where this many words may come after the first
 abbrev pub fitting : Version → Option Keyword → ℕ → Option Keyword
 fitting v None n = None
 fitting v (Some found) n = if takes v found n then Some found else None

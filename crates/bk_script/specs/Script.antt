@@ -14,7 +14,7 @@ use Rattle.bk_script.specs.Feeds.{feed_text}
 abbrev pub ended_lines : List ℕ → List (List ℕ)
 ended_lines text = take (length (pieces 10 text) - 1) (pieces 10 text)
 
--- the bytes behind the last line feed
+-- the bytes after the last line feed
 abbrev pub last_line : List ℕ → List ℕ
 last_line text = slice_index_or (pieces 10 text) (length (pieces 10 text) - 1) []
 

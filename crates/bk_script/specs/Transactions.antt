@@ -45,9 +45,9 @@ unfoldable pub text_of : ℕ → ℕ → Body → Result (List ℕ) ScriptCode
 text_of from seq body =
     if is_payable from body then Ok (transaction_text (transaction (declared_by from body) seq from body)) else Err code.Range
 
--- ---- what the words say: numbers behind the first word
+-- ---- what the words say: numbers after the first word
 
--- the number that stands at a place, 0 past the end
+-- the number at a place, 0 past the end
 abbrev pub at : List ℕ → ℕ → ℕ
 at numbers i = slice_index_or numbers i 0
 
@@ -76,7 +76,7 @@ swept ns = record { from = at ns 0; seq = at ns 3; body = Sweep (at ns 1) (at ns
 abbrev pub split_up : List ℕ → SaidValue
 split_up ns = record { from = at ns 0; seq = at ns 1; body = Split (payments_in (drop 2 ns)) }
 
--- what the numbers behind the first word of a transaction line of this kind say
+-- what the numbers after the first word of a transaction line of this kind say
 abbrev pub said_by : Keyword → List ℕ → SaidValue
 said_by keyword.PayIf ns = paid_if ns
 said_by keyword.Sweep ns = swept ns
@@ -90,7 +90,7 @@ said_by keyword.Raw ns = paid ns
 said_by keyword.Cert ns = paid ns
 said_by keyword.Again ns = paid ns
 
--- the text of a transaction line of this kind, of the words behind the first
+-- the text of a transaction line of this kind, of the words after the first
 unfoldable pub line_text : Keyword → List (List ℕ) → Result (List ℕ) ScriptCode
 line_text found words = do
   ns ← numbers_of words
@@ -98,7 +98,7 @@ line_text found words = do
 
 -- ---- the open batch
 
--- a text of this many bytes can come behind these: the counts and the payload can hold it
+-- a text of this many bytes can come after these: the counts and the payload can hold it
 abbrev pub has_room : List (List ℕ) → ℕ → Bool
 has_room texts len = nat_lt (length texts) 65535 && nat_lt len 65536 && nat_le (length (batch_text texts) + 2 + len) MOST_PAYLOAD
 

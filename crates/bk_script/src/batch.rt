@@ -45,14 +45,14 @@ impl OpenBatch {
         }
     }
 
-    /// Whether a text of this many bytes can come behind the others.
+    /// Whether a text of this many bytes can come after the others.
     pub(crate) fn has_room(&self, len: usize) -> bool
         ensures { result ≡ has_room self.now.texts len }
     {
         self.texts.len() < 65_535 && len < 65_536 && self.size + 2 + len <= MOST_PAYLOAD as usize
     }
 
-    /// Puts one more text behind the others.
+    /// Puts one more text after the others.
     pub(crate) fn push(&mut self, text: Vec<u8>) -> Result<(), AllocError>
         requires { IsTrue (has_room self.old.texts (length text.items)) }
         ensures { OnOk result

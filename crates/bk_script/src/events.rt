@@ -57,7 +57,7 @@ impl<T: Drop> From<AllocFailed<T>> for EventsFault {
     }
 }
 
-// The event of a first word and the numbers behind it.
+// The event of a first word and the numbers after it.
 #[tactic(auto, unfolding(crate::specs::Events::event_named))]
 fn event_named(name: &[u8], numbers: &[u64]) -> Option<Event>
     ensures { result ≡ event_named name.now numbers.now }

@@ -33,7 +33,7 @@ fn genesis_payload(alloc: Global, accounts: &Accounts) -> Result<Vec<u8>, AllocE
     Ok(payload)
 }
 
-/// A feed: its magic, the committee, the genesis, and the bytes of the frames behind them.
+/// A feed: its magic, the committee, the genesis, and the bytes of the frames after them.
 pub(crate) fn feed_bytes(
     alloc: Global,
     version: Version,

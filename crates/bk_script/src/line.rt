@@ -69,7 +69,7 @@ pub fn keyword_named(word: &[u8]) -> Option<Keyword>
     }
 }
 
-/// Whether a line of this kind may have this many words behind the first.
+/// Whether a line of this kind may have this many words after the first.
 pub fn takes(version: Version, keyword: Keyword, count: usize) -> bool
     ensures { result ≡ takes version keyword count }
 {

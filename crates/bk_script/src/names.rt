@@ -35,7 +35,7 @@ impl Model for Named {
 #[derive(Drop)]
 pub(crate) struct Names {
     named: Vec<Named>,
-    // Where each name stands, the first of equal ones.
+    // Where each name is, the first of equal ones.
     places: BTreeMap<Vec<u8>, usize>,
 }
 
@@ -51,7 +51,7 @@ impl Model for Names {
     ghost invariant = { λ n. ArePlaces n.named.items n.places };
 }
 
-// Notes that a name stands at a place, unless it stands at one already.
+// Notes that a name is at a place, unless it is at one already.
 fn note(
     places: &mut BTreeMap<Vec<u8>, usize>,
     name: Vec<u8>,
@@ -78,7 +78,7 @@ impl Names {
         }
     }
 
-    /// Puts one more name behind the others, with what it stands for.
+    /// Puts one more name after the others, with what it stands for.
     pub(crate) fn push(
         &mut self,
         alloc: Global,
@@ -96,7 +96,7 @@ impl Names {
     }
 }
 
-/// Where a name stands.
+/// Where a name is.
 pub(crate) fn place(names: &Names, name: &[u8]) -> Option<usize>
     ensures { result ≡ place_of names.now name.now }
 {

@@ -67,7 +67,7 @@ pub(crate) fn weights_for(alloc: Global, n: u64, listed: Option<Vec<u64>>) -> Re
     }
 }
 
-/// How many bytes a feed of this many members has without accounts and frames behind them.
+/// How many bytes a feed of this many members has without accounts and frames after them.
 pub(crate) fn members_size(version: Version, n: u64) -> u64
     requires { n ≤ 128 }
     ensures { result ≡ 19 + member_size version * n }

@@ -328,7 +328,7 @@ impl Script {
         }
     }
 
-    /// Takes the next line. After an error the value is of no further use: what it then knows is not told.
+    /// Takes the next line. After an error the value is of no further use: what it then knows is not said.
     #[tactic(auto, unfolding(crate::specs::Judging::judged, crate::specs::Judging::placed))]
     pub fn take(&mut self, line: &[u8]) -> Result<(), Stop>
         ensures { Answers (λ _. self.new) result (judged self.old line.now) }

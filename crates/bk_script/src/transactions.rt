@@ -129,7 +129,7 @@ fn payments_in(numbers: &[u64]) -> Payments
     Payments::new(&read[..count]).unwrap()
 }
 
-// What the numbers behind this keyword say.
+// What the numbers after this keyword say.
 fn said_by(keyword: Keyword, numbers: &[u64]) -> Said
     requires { 4 ≤ length numbers.now × length numbers.now ≤ 14 }
     ensures { result ≡ said_by keyword numbers.now }
@@ -167,7 +167,7 @@ fn said_by(keyword: Keyword, numbers: &[u64]) -> Said
     Said { from, seq, body }
 }
 
-/// The text of a transaction line of this kind, of the words behind the first.
+/// The text of a transaction line of this kind, of the words after the first.
 #[tactic(auto, unfolding(crate::specs::Transactions::line_text))]
 pub(crate) fn line_text(alloc: Global, keyword: Keyword, words: &[&[u8]]) -> Result<Vec<u8>, Stop>
     requires { 4 ≤ length words.now × length words.now ≤ 14 }

@@ -11,7 +11,7 @@ use Rattle.bk_steps.specs.declared.event.Event.TheVariants.{Claim, Read, Write, 
 use Rattle.bk_steps.specs.declared.refused.Refused.{Refused}
 use Rattle.bk_steps.specs.declared.refused.Refused.TheVariants.{NotReady, NotIdle, NotHolder, NotDeclared, OutOfTurn}
 
--- ---- what can be told
+-- ---- what can be decided
 
 hand_cases : (h : Hand) → (h ≡ free) ⊎ ((p : ℕ) × (rs : List (ℕ × ℕ)) × (ws : List ℕ) × (h ≡ busy p rs ws))
 hand_cases free = inl refl
@@ -41,7 +41,7 @@ read_cases (r ∷ rs) x = ⊎_elim
     (λ (n : r.0 ≢ x). ⊎_elim (λ (h : HasRead rs x). inl (inr h)) (λ (m : ¬ HasRead rs x). inr (λ h. ⊎_elim n m h)) (read_cases rs x))
     (cases_eq r.0 x)
 
--- what can be told of each number can be told of all those below n that meet a test
+-- what can be decided of each number can be decided of all those below n that meet a test
 all_cases : (D : ℕ → Type 0) (P : ℕ → Bool) → ((x : ℕ) → D x ⊎ (¬ D x)) → (n : ℕ)
     → ((x : ℕ) → x < n → P x ≡ true → D x) ⊎ (¬ ((x : ℕ) → x < n → P x ≡ true → D x))
 all_cases D P told zero = inl (λ x l e. absurd (omega arith))

@@ -1,4 +1,4 @@
--- Where the words of a declared account stand among those of all.
+-- Where the words of a declared account are among those of all.
 use Rattle.std.proofs.Common.{◌≡◌, ℕ, zero, suc, ◌+◌, ◌*◌, ◌<◌, ◌≤◌, List, [], ◌∷◌, ◌++◌, length, get_or, set, Bool, Option, None, Some, refl, sym, ap, ◌∙◌, arith, length-set, get_or-set_other, get_or-set_same}
 use mathlib.Core.Logic.{dite}
 use native.Mathlib.Decide.{ℕ_discrete}

@@ -7,7 +7,7 @@ use Rattle.bk_conflicts.specs.Scene.{Scene}
 unfoldable pub put : {A : Type 0} → (ℕ → A) → ℕ → A → ℕ → A
 put f i a j = if j == i then a else f j
 
--- the number stands in the list
+-- the number is in the list
 abbrev pub Has : List ℕ → ℕ → Type 0
 Has [] x = ⊥
 Has (y ∷ ys) x = (y ≡ x) ⊎ Has ys x

@@ -1,5 +1,5 @@
 -- Why an event is refused among so many workers: for the first test that it fails, in the order in
--- which the rules stand here.
+-- which the rules are written here.
 use Rattle.std.specs.Prelude.{◌≡◌, ℕ, ◌<◌, List, [], true}
 use Rattle.bk_conflicts.specs.Scene.{Scene}
 use Rattle.bk_steps.specs.Course.{Course, waiting, free, busy, Has}

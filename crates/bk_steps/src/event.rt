@@ -1,5 +1,5 @@
 /// What a worker does in one step. Workers, places and words go by number, from 0; any number can
-/// stand here, and an event is refused where nothing has its number.
+/// be given here, and an event is refused where nothing has its number.
 #[derive(Clone, Copy, Debug, PartialEq, Eq)]
 pub enum Event {
     /// The worker takes the place.

@@ -175,8 +175,8 @@ impl Machine {
         Ok(())
     }
 
-    /// Does an event, and tells the value that a read or a write is about. An event that is refused
-    /// changes nothing. It takes no memory.
+    /// Does an event, and returns the value that a read or a write is about. An event that is
+    /// refused changes nothing. It takes no memory.
     pub fn step(&mut self, event: Event) -> Result<Option<u64>, Refused>
         ensures allowed { OnOk result (Steps self.old event self.new) }
         ensures value { IfOk result (λ v. v ≡ learned self.new event) }

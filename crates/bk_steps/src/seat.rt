@@ -1,4 +1,4 @@
-//! Where workers stand.
+//! The states of workers.
 
 ghost use Rattle.std.specs.Prelude.{◌≡◌, ◌≢◌, ◌&&◌, ◌==◌, ℕ, ◌<◌, ◌≤◌, true, false, length, replicate, IfOk, IfSome, IfNone, slice_index, slice_index_or, nat_lt, is_none, is_some, unwrap_or, Some, None};
 ghost use Rattle.std.specs.List.{list_any};
@@ -7,7 +7,7 @@ ghost use Rattle.bk_steps.specs.Machine.{no_seat, no_word};
 use bk_conflicts::WordRef;
 use std::alloc::{AllocError, Global};
 
-/// Where a worker stands.
+/// The state of a worker.
 #[derive(Clone, Copy, Debug, PartialEq, Eq)]
 pub struct Seat {
     /// The place that it holds, if it holds one.

@@ -1,4 +1,4 @@
-//! Where places stand.
+//! The stages of places.
 
 ghost use Rattle.std.specs.Prelude.{◌≡◌, ◌==◌, ◌&&◌, length, replicate, IfOk, nat_lt, slice_index, slice_index_or};
 ghost use Rattle.bk_steps.specs.private.Machine.{is_waiting};
@@ -7,7 +7,7 @@ ghost use Rattle.bk_steps.specs.declared.stage.Stage.TheVariants.{Waiting};
 use bk_rules::Receipt;
 use std::alloc::{AllocError, Global};
 
-/// Where a place stands.
+/// The stage of a place.
 #[derive(Clone, Copy, Debug, PartialEq, Eq)]
 pub enum Stage {
     /// Nobody has taken it.

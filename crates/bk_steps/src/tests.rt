@@ -78,7 +78,7 @@ fn fault(rt: &HostRuntime, events: &[Event]) -> Result<Option<ScheduleFault>, Fa
     Ok(run_schedule(rt.alloc(), plan, state, 2, events).err())
 }
 
-// What each worker is told that claims a place, one after the other.
+// The answer to each worker that claims a place, one after the other.
 fn expect_claims(
     rt: &impl Abort,
     machine: &mut Machine,
@@ -106,7 +106,7 @@ fn places_are_claimed_in_turn(rt: HostRuntime) -> Result<(), Fail> {
     Ok(())
 }
 
-// What each worker is told that reads a word, one after the other.
+// The answer to each worker that reads a word, one after the other.
 fn expect_reads(
     rt: &impl Abort,
     machine: &mut Machine,

@@ -1,4 +1,4 @@
--- The bodies of a sweep and of a split: what is read is spelled so, and what is spelled so is read.
+-- The bodies of a sweep and of a split: what is read encodes to the same bytes, and what is encoded is read again.
 use Rattle.std.proofs.Common.{◌≡◌, ℕ, zero, suc, ◌*◌, ◌^◌, ◌<◌, ◌≤◌, Bool, true, false, cond, leb, eqb, ◌||◌, List, [], ◌∷◌, ◌++◌, length, Option, Some, None, refl, sym, ap, subst, ◌∙◌, append_assoc, length-append, arith}
 use Rattle.std.specs.List.{flat_map, AllByRecursion, list_any}
 use Rattle.std.specs.Int.{w8, w64}

@@ -1,4 +1,4 @@
--- The two laws of a transaction: what is read is spelled so, and what is spelled so is read.
+-- The two laws of a transaction: what is read encodes to the same bytes, and what is encoded is read again.
 use Rattle.std.proofs.Common.{◌≡◌, ◌≢◌, ℕ, zero, suc, ◌^◌, ◌<◌, ◌≤◌, Bool, true, false, cond, eqb, leb, not, ◌&&◌, IsTrue, List, [], ◌∷◌, ◌++◌, length, Option, Some, None, refl, sym, ap, subst, ◌∙◌, append_assoc, ◌⊎◌, inl, inr, arith}
 use Rattle.std.specs.Prelude.{IfSome, IfNone, IsSome, ◌↔◌}
 use Rattle.std.specs.List.{flat_map, AllByRecursion, list_any}

@@ -1,4 +1,4 @@
--- How the bytes of a transaction and of a batch are read: what they spell, or nothing.
+-- How the bytes of a transaction and of a batch are read: what they encode, or nothing.
 use Rattle.std.specs.Prelude.{ℕ, zero, suc, Bool, true, false, List, [], ◌∷◌, length, Option, Some, None, nat_le, ◌==◌, ◌&&◌, not, if◌then◌else◌}
 use Rattle.std.specs.List.{list_any}
 use Rattle.std.specs.Int.{w8, w16, w64}
@@ -106,7 +106,7 @@ body_at kind bytes =
 abbrev pub pays : Body → ℕ → Bool
 pays body id = list_any (λ to. to == id) (receivers_of body)
 
--- the transaction that the bytes spell, all of them
+-- the transaction that the bytes encode, all of them
 unfoldable pub transaction_of : List ℕ → Option Transaction
 transaction_of bytes = do
   kind ← number_at w8 bytes
@@ -116,7 +116,7 @@ transaction_of bytes = do
   body ← body_at kind.0 from.1
   if length body.1 == 0 && not (pays body.0 from.0) then Some (record { declared = declared.0; seq = seq.0; from = from.0; body = body.0 }) else None
 
--- a text behind its length at the front
+-- a text after its length at the front
 unfoldable pub text_at : List ℕ → Option (List ℕ × List ℕ)
 text_at bytes = do
   len ← number_at w16 bytes
@@ -130,7 +130,7 @@ texts_at (suc n) bytes = do
   others ← texts_at n first.1
   Some (first.0 ∷ others.0, others.1)
 
--- the texts of the batch that the bytes spell, all of them
+-- the texts of the batch that the bytes encode, all of them
 unfoldable pub texts_of : List ℕ → Option (List (List ℕ))
 texts_of bytes = do
   count ← number_at w16 bytes

@@ -1,4 +1,4 @@
--- What transactions and batches are, and the one spelling of each.
+-- What transactions and batches are, and the one encoding of each.
 use Rattle.std.specs.Prelude.{◌≢◌, ℕ, ◌^◌, ◌<◌, ◌≤◌, List, [], ◌∷◌, ◌++◌, length, map, IsTrue, if◌then◌else◌}
 use Rattle.std.specs.List.{flat_map, AllByRecursion}
 use Rattle.std.specs.Int.{w16, w64, to_be_bytes}
@@ -36,7 +36,7 @@ body_text (PayIf to amount guard min) = wide to ++ wide amount ++ wide guard ++ 
 body_text (Sweep to keep) = wide to ++ wide keep
 body_text (Split payments) = length payments ∷ flat_map payment_text payments
 
--- the spelling of a transaction: kind, count of declared accounts, these, sequence number, sender, body
+-- the encoding of a transaction: kind, count of declared accounts, these, sequence number, sender, body
 abbrev pub transaction_text : Transaction → List ℕ
 transaction_text t = kind_of t.body ∷ length t.declared ∷ flat_map declared_text t.declared ++ wide t.seq ++ wide t.from ++ body_text t.body
 
@@ -72,11 +72,11 @@ pub record IsTransaction (t : Transaction) : Type 0 where
   pub from_fits : t.from < 2 ^ 64
   pub body_fits : BodyFits t.body
 
--- a text behind its length in two bytes
+-- a text after its length in two bytes
 abbrev pub text_in_batch : List ℕ → List ℕ
 text_in_batch text = to_be_bytes w16 (length text) ++ text
 
--- the spelling of a batch of these texts: their count in two bytes, then each behind its length
+-- the encoding of a batch of these texts: their count in two bytes, then each after its length
 abbrev pub batch_text : List (List ℕ) → List ℕ
 batch_text texts = to_be_bytes w16 (length texts) ++ flat_map text_in_batch texts
 

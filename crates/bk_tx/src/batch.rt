@@ -28,7 +28,7 @@ impl Slice {
     }
 }
 
-// The text whose length stands at this offset.
+// The text whose length is at this offset.
 fn slice_at(bytes: &[u8], at: usize) -> Option<Slice>
     requires within { at ≤ length bytes.now }
     requires low { at + 2 < 2 ^ 32 }
@@ -95,7 +95,7 @@ pub fn read_batch(alloc: Global, bytes: &[u8]) -> Result<Option<Vec<Slice>>, All
     batch(alloc, bytes)
 }
 
-// Writes a text behind its length at the end.
+// Writes the length of a text, and then the text, at the end.
 fn put_text(out: &mut Vec<u8>, text: &[u8]) -> Result<(), AllocError>
     requires { length text.now < 2 ^ 16 }
     ensures { OnOk result (out.new.items ≡ out.old.items ++ text_in_batch text.now) }

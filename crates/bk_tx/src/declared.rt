@@ -120,7 +120,7 @@ impl Declarations {
         &self.ids[..self.count]
     }
 
-    /// Where an account stands that is declared for writing.
+    /// The index of an account that is declared for writing.
     pub fn writable_at(&self, id: u64) -> Option<usize>
         ensures { result ≡ position (λ d. d.writable && d.id == id) self.now }
     {
@@ -132,7 +132,7 @@ impl Declarations {
         None
     }
 
-    /// Where an account stands that is declared, for reading or for writing.
+    /// The index of an account that is declared, for reading or for writing.
     pub fn declared_at(&self, id: u64) -> Option<usize>
         ensures { result ≡ position (λ d. d.id == id) self.now }
     {
@@ -163,7 +163,7 @@ impl Declarations {
     }
 }
 
-// Where a number stands.
+// The index of a number.
 fn index_of(ids: &[u64], id: u64) -> Option<usize>
     ensures { result ≡ position (λ x. x == id) ids.now }
 {

@@ -1,4 +1,4 @@
--- Lines in four parts behind what stands already.
+-- Lines in four parts after what is there already.
 use Rattle.std.proofs.Common.{◌≡◌, ◌∙◌, ◌++◌, ◌∷◌, ℕ, List, sym, ap, append_assoc, codes}
 use Rattle.std.specs.Prelude.{decimal}
 use Rattle.bk_report.specs.Lines.{spaced}

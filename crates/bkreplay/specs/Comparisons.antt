@@ -32,7 +32,7 @@ both_sources d = sources d.first d.second
 abbrev pub agree_text : Agreed → List ℕ
 agree_text a = codes "agree" ++ spaced a.certs ++ spaced a.places ++ codes "\n"
 
--- both byte strings spell feeds, and these agree so far
+-- both byte strings encode feeds, and these agree so far
 abbrev pub SpellAgreed : Agreed → List ℕ → List ℕ → Type 0
 SpellAgreed a bytes more = OfTheirFeeds bytes more (λ f g. FeedsAgree f g a)
 

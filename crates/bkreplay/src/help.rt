@@ -1,6 +1,6 @@
 //! What `--help` shows.
 
-/// The help of a command: what it is for in one line, and what stands below its arguments.
+/// The help of a command: what it is for in one line, and what is below its arguments.
 #[derive(Clone, Copy)]
 pub(crate) struct Help<'a> {
     pub(crate) about: &'a str,

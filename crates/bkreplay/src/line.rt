@@ -1,4 +1,4 @@
-//! Short lines: words, and numbers behind spaces.
+//! Short lines: words, and numbers after spaces.
 
 ghost use Rattle.std.specs.Prelude.{◌≡◌, ◌+◌, ◌≤◌, ◌++◌, length};
 ghost use Rattle.arrayvec.specs.ArrayVec.{array_vec_len};
@@ -7,7 +7,7 @@ ghost use Rattle.bk_report.specs.Lines.{spaced};
 use arrayvec::ArrayVec;
 use itoa::Buffer;
 
-/// A line of at most 192 bytes. It stands on the stack: what it reports may be that memory ran out.
+/// A line of at most 192 bytes. It is on the stack: what it reports may be that memory ran out.
 pub(crate) type ShortLine = ArrayVec<u8, 192>;
 
 /// Puts a text where there is room for it.

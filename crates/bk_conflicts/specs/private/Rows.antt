@@ -17,7 +17,7 @@ pub record IsRows {A : Type 0} (f : ℕ → List A) (n : ℕ) (start : List ℕ)
 abbrev pub row_at : {A : Type 0} → List ℕ → List A → ℕ → List A
 row_at start items q = slice_range items (slice_index_or start q 0) (slice_index_or start (q + 1) 0)
 
--- the rows turned round: q stands in row p as often as p stood in row q
+-- the rows turned round: q is in row p as often as p was in row q
 unfoldable pub turned : (ℕ → List ℕ) → ℕ → ℕ → List ℕ
 turned f zero p = []
 turned f (suc q) p = turned f q p ++ replicate (times p (f q)) q

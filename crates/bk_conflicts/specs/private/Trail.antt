@@ -9,7 +9,7 @@ use Rattle.bk_conflicts.specs.private.Accesses.{Places, uses, writes, uses_in, w
 abbrev pub none : ℕ
 none = 4294967295
 
--- whether p stands in the list
+-- whether p is in the list
 unfoldable pub has : ℕ → List ℕ → Bool
 has p xs = list_any (λ x. x == p) xs
 
@@ -33,7 +33,7 @@ sources_of true (r ∷ rs) ws = r ∷ rs
 unfoldable pub gathered : Places → ℕ → List Access → List ℕ
 gathered t q xs = flat_map (λ x. sources_of x.writable (readers t x.slot q) (last_writer t x.slot q)) xs
 
--- x at the end, where it does not stand there
+-- x at the end, where it is not there
 abbrev pub with_once : List ℕ → ℕ → List ℕ
 with_once xs x = cond (has x xs) xs (xs ++ x ∷ [])
 
@@ -76,7 +76,7 @@ pub record Shows (r : Trail) (a : ℕ) (rs ws : List ℕ) : Type 0 where
   pub linked : Linked r.place.items r.prev.items (slice_index_or r.newest.items a 0) rs
   pub last : WriterIs (slice_index_or r.writer.items a 0) ws
 
--- the stamps tell what was found: whose stamp is the mark
+-- the stamps say what was found: whose stamp is the mark
 pub record IsMarked (mark : ℕ) (stamp found : List ℕ) : Type 0 where
   pub marks : (p : ℕ) → p < length stamp → (slice_index_or stamp p 0 == mark) ≡ has p found
   pub low : (p : ℕ) → p < length stamp → slice_index_or stamp p 0 ≤ mark

@@ -108,7 +108,7 @@ fn names_the_version_with_the_magic(rt: HostRuntime) -> Result<(), Fail> {
     Ok(())
 }
 
-// A cutter that has these bytes hands out no frame, but this fault.
+// A cutter that has these bytes returns no frame, but this fault.
 fn expect_refused(rt: &impl Abort, cutter: &mut Cutter, bytes: &[u8], fault: FeedFault) {
     assert!(rt; cutter.feed(bytes).err() == Some(fault));
 }

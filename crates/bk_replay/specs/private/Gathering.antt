@@ -12,7 +12,7 @@ pub record HasGathered (bytes : List ℕ) (taken : List Frame) (g : Gathered) : 
   pub reads : g.cutter.fault ≡ None
   pub follows : Follows g.cutter.version taken g.opened.committee g.opened.book
 
--- a piece came: whatever came before, the piece has come behind it
+-- a piece came: whatever came before, the piece has come after it
 abbrev pub Gathers : Gathered → List ℕ → Gathered → Type 0
 Gathers old piece new =
     (bytes : List ℕ) (taken : List Frame) → HasGathered bytes taken old

@@ -10,11 +10,11 @@ use Rattle.bk_replay.specs.Finishing.{OfFeed, ReportStops}
 use Rattle.bk_replay.specs.Follower.{Followed}
 use Rattle.bk_replay.specs.RunReport.{IsStopIn, HasPlaceIn}
 
--- a Follower of these parts, in which no fault stands
+-- a Follower of these parts, in which no fault is kept
 abbrev pub followed : Cut → Opened → Followed
 followed cut opened = record { cut = cut; committee = opened.committee; book = opened.book; fault = None }
 
--- why a feed that is followed did not end in a report, but for the fault that stands after it
+-- why a feed that is followed did not end in a report, but for the fault that is kept after it
 abbrev pub EndFails : Followed → Followed → Device → Device → Fault → Type 0
 EndFails old new before after (fault.Feed found) = EndsShort old.cut found × IsUntouched before after
 EndFails old new before after (fault.Collision id) =

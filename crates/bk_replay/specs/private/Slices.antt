@@ -93,11 +93,11 @@ pub record IsNextOf (payloads : List (List ℕ)) (from : ℕ) (version : Version
   pub read : IsReadOf payloads from (counts_of n) (txs_of n)
   pub planned : IsPlannedOn version slots n
 
--- a slice, and batches behind it
+-- a slice, and batches after it
 abbrev pub ahead_of : Next → Batches → Ahead
 ahead_of n b = record { next = n; read = b }
 
--- the slice of an order that begins at a place, and the one behind it
+-- the slice of an order that begins at a place, and the one after it
 pub record IsAheadOf (payloads : List (List ℕ)) (from : ℕ) (version : Version) (slots : List ℕ) (a : Ahead) : Type 0 where
   pub next : IsNextOf payloads from version slots a.next
   pub read : IsReadOf payloads (from + length (counts_of a.next)) a.read.counts.items a.read.txs.items

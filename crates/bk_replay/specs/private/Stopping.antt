@@ -1,4 +1,4 @@
--- The faults of stops, and which faults stand.
+-- The faults of stops, and which faults are kept.
 use Rattle.std.specs.Prelude.{Option, Some, None, Bool, true, false}
 use Rattle.bk_order.specs.declared.stop.Stop.{Stop}
 use Rattle.bk_order.specs.declared.stop.Stop.TheVariants as stop
@@ -10,7 +10,7 @@ abbrev pub fault_of : Stop → Fault
 fault_of (stop.Collision id) = fault.Collision id
 fault_of (stop.Twins e) = fault.Equivocation e.round e.author e.first e.second
 
--- the fault that stands after a call that failed: none after a stop
+-- the fault that is kept after a call that failed: none after a stop
 abbrev pub kept_fault : Fault → Option Fault
 kept_fault (fault.Feed found) = Some (fault.Feed found)
 kept_fault (fault.Collision id) = None

@@ -73,7 +73,7 @@ abbrev pub IsSound : Sizes → List Slot → List Bool → Type 0
 IsSound z slots marks = (i : ℕ) → is_marked marks i ≡ true
     → IsAdmittedAt z slots (round_of slots i) i
 
--- who waits stands in the row of each parent that is not marked
+-- who waits is in the row of each parent that is not marked
 abbrev pub IsRegistered : List Slot → List Bool → List Pending → Type 0
 IsRegistered slots marks pending =
     (i p : ℕ) → Contains (parents_of slots i) p → is_marked marks i ≡ false

@@ -17,7 +17,7 @@ use Rattle.bk_rounds.specs.private.Names.{set_of, AreNames}
 abbrev pub place_at : List Slot → ℕ → CertRef
 place_at slots i = record { round = round_of slots i; author = author_of slots i }
 
--- the certificate stands at this index
+-- the certificate is at this index
 abbrev pub IsAt : List Node → ℕ → Node → Type 0
 IsAt held k c = (k < length held) × ((d : Node) → slice_index_or held k d ≡ c)
 
@@ -44,7 +44,7 @@ pub record IsPlaced (slots : List Slot) (placed : CertRef → Option ℕ) : Type
 abbrev pub IsAuthorIn : List Slot → List ℕ → ℕ → Type 0
 IsAuthorIn slots ps x = (p : ℕ) × Contains ps p × (author_of slots p ≡ x)
 
--- with each admitted one stand the authors of its parents
+-- with each admitted one are the authors of its parents
 abbrev pub AreSets : Names → Type 0
 AreSets n = (i : ℕ) → is_marked n.marks.items i ≡ true → (x : ℕ)
     → Has (set_of n.sets.items i) x ↔ IsAuthorIn n.slots.items (parents_of n.slots.items i) x

@@ -1,4 +1,4 @@
--- Where the accounts that a transaction names stand among those that it declares.
+-- Where the accounts that a transaction names are among those that it declares.
 use Rattle.std.specs.Prelude.{Bool, true, ◌≡◌, ℕ, ◌<◌, List, [], ◌∷◌, length, slice_set, slice_index, slice_index_or, Option, Some, None, option_map, unwrap_or, IsSomeAnd}
 use Rattle.bk_tx.specs.declared.declared.Declared.{Declared}
 use Rattle.bk_tx.specs.declared.payments.Payment.{Payment}
@@ -21,7 +21,7 @@ pub record IsAt (ds : List Declared) (id k : ℕ) : Type 0 where
 abbrev pub no_payment : Payment
 no_payment = record { to = 0; amount = 0 }
 
--- the receiver of each payment stands at the place of the same index
+-- the receiver of each payment is at the place of the same index
 abbrev pub AllAt : List Declared → List Payment → List ℕ → Type 0
 AllAt ds payments places = (k : ℕ) → k < length payments → IsAt ds (slice_index_or payments k no_payment).to (slice_index places k)
 
@@ -29,12 +29,12 @@ AllAt ds payments places = (k : ℕ) → k < length payments → IsAt ds (slice_
 abbrev pub guard_in : Floor → Guard
 guard_in f = record { id = f.id; least = f.least }
 
--- the guard stands at this place, and there is a place only where there is a guard
+-- the guard is at this place, and there is a place only where there is a guard
 abbrev pub GuardIsAt : List Declared → Option Guard → Option FloorAt → Type 0
 GuardIsAt ds None at = at ≡ None
 GuardIsAt ds (Some g) at = IsSomeAnd at (λ p. IsAt ds g.id p.at × (p.least ≡ g.least))
 
--- all that a transaction names stands at these places
+-- all that a transaction names is at these places
 pub record AreAt (t : Transaction) (payments : List Payment) (roles : Roles) : Type 0 where
   pub sender : IsAt t.declared t.from roles.from
   pub receivers : AllAt t.declared payments roles.to

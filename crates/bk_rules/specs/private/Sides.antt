@@ -2,7 +2,7 @@
 use Rattle.std.specs.Prelude.{ℕ, Bool, List, [], ◌∷◌, Option, Some, None, if◌then◌else◌}
 use Rattle.bk_rules.specs.declared.account.Account.{Account}
 
--- accounts whose numbers stand in lists of their own, beside a list that says which are there
+-- accounts whose numbers are in lists of their own, beside a list that says which are there
 abbrev pub side_by_side : List Bool → List ℕ → List ℕ → List (Option Account)
 side_by_side [] balances seqs = []
 side_by_side (b ∷ there) [] seqs = []
