@@ -9,9 +9,9 @@ use Rattle.std.proofs.lemmas.List.Concat.{flat_map-append, flat_map-cons}
 use Rattle.bk_frames.specs.declared.limits.TheConstants.{MOST_FEED}
 use Rattle.bk_frames.specs.declared.version.Version.{Version}
 use Rattle.bk_frames.specs.Feed.{Frame, FeedValue, frame_text, AreGoodFrom, IsFeed}
-use Rattle.bk_frames.specs.Numbers.{◌>>=◌, number_at, bytes_at}
+use Rattle.bk_frames.specs.Numbers.{◌>>=◌, number_at, list_at, bytes_at}
 use Rattle.bk_frames.proofs.FieldLemmas.{bind_some, guard_some}
-use Rattle.bk_tx.specs.Reading.{transaction_of, text_at, texts_at, texts_of}
+use Rattle.bk_tx.specs.Reading.{transaction_of, text_at, texts_of}
 use Rattle.bk_report.specs.Report.{is_batch, payloads_of, transactions_in, transactions_of, feed_transactions, count_in}
 
 -- ---- frames in two parts
@@ -59,20 +59,20 @@ text_size bytes x e =
     omega (arith, number_size bytes a.0 a.1, rest_size a.0.0 a.0.1 x a.2)
 
 -- so many texts take two bytes each at least
-texts_size : (n : ℕ) (bytes : List ℕ) (x : List (List ℕ) × List ℕ) → texts_at n bytes ≡ Some x → 2 * length x.0 + length x.1 ≤ length bytes
-unfolding texts_at
+texts_size : (n : ℕ) (bytes : List ℕ) (x : List (List ℕ) × List ℕ) → list_at text_at n bytes ≡ Some x → 2 * length x.0 + length x.1 ≤ length bytes
+unfolding list_at
 texts_size zero bytes x e = let same : ([], bytes) ≡ x = cc in subst (λ (y : List (List ℕ) × List ℕ). 2 * length y.0 + length y.1 ≤ length bytes) same (omega arith)
 texts_size (suc n) bytes x e =
-    let a = bind_some (text_at bytes) (λ first. texts_at n first.1 >>= λ others. Some (first.0 ∷ others.0, others.1)) x e in
-    let b = bind_some (texts_at n a.0.1) (λ others. Some (a.0.0 ∷ others.0, others.1)) x a.2 in
+    let a = bind_some (text_at bytes) (λ first. list_at text_at n first.1 >>= λ others. Some (first.0 ∷ others.0, others.1)) x e in
+    let b = bind_some (list_at text_at n a.0.1) (λ others. Some (a.0.0 ∷ others.0, others.1)) x a.2 in
     let same : (a.0.0 ∷ b.0.0, b.0.1) ≡ x = cc in
     subst (λ (y : List (List ℕ) × List ℕ). 2 * length y.0 + length y.1 ≤ length bytes) same (omega (arith, texts_size n a.0.1 b.0 b.1, text_size bytes a.0 a.1))
 
 batch_size : (payload : List ℕ) (texts : List (List ℕ)) → texts_of payload ≡ Some texts → 2 * length texts ≤ length payload
 unfolding texts_of
 batch_size payload texts e =
-    let a = bind_some (number_at w16 payload) (λ count. texts_at count.0 count.1 >>= λ x. cond (eqb (length x.1) 0) (Some x.0) None) texts e in
-    let b = bind_some (texts_at a.0.0 a.0.1) (λ x. cond (eqb (length x.1) 0) (Some x.0) None) texts a.2 in
+    let a = bind_some (number_at w16 payload) (λ count. list_at text_at count.0 count.1 >>= λ x. cond (eqb (length x.1) 0) (Some x.0) None) texts e in
+    let b = bind_some (list_at text_at a.0.0 a.0.1) (λ x. cond (eqb (length x.1) 0) (Some x.0) None) texts a.2 in
     let g = guard_some (eqb (length b.0.1) 0) b.0.0 texts b.2 in
     omega (arith, texts_size a.0.0 a.0.1 b.0 b.1, number_size payload a.0 a.1, ap length g.1)
 

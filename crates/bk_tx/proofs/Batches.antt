@@ -1,19 +1,18 @@
 -- The two laws of a batch, and what its texts need.
-use Rattle.std.proofs.Common.{◌≡◌, ℕ, zero, suc, ◌+◌, ◌*◌, ◌^◌, ◌<◌, ◌≤◌, ◌≢◌, true, false, cond, eqb, List, [], ◌∷◌, ◌++◌, length, map, get_or, take, drop, Option, Some, None, Result, Ok, Err, option_map, refl, sym, ap, subst, ◌∙◌, append_assoc, arith}
+use Rattle.std.proofs.Common.{◌≡◌, ℕ, zero, suc, ◌+◌, ◌*◌, ◌^◌, ◌<◌, ◌≤◌, ◌≢◌, true, false, cond, eqb, List, [], ◌∷◌, ◌++◌, length, map, get_or, take, drop, Option, Some, None, Result, Ok, Err, option_map, refl, sym, ap, subst, ◌∙◌, arith}
 use Rattle.std.specs.Prelude.{IfOk, IfSome, IfNone}
 use Rattle.std.specs.Global.{Vec}
 use Rattle.std.specs.List.{flat_map, AllByRecursion}
 use Rattle.std.specs.Int.{w16, to_be_bytes}
 use Rattle.std.proofs.lemmas.Bool.{eqb-true, eq-eqb, ne_eqb}
 use Rattle.std.proofs.lemmas.List.{append-nil, nil_from_length, drop-drop, length-drop}
-use Rattle.std.proofs.lemmas.List.Concat.{flat_map-cons}
 use Rattle.std.proofs.lemmas.Option.{cond_some, none-some}
-use Rattle.bk_frames.specs.Numbers.{IsBytes, ◌>>=◌, number_at, bytes_at}
+use Rattle.bk_frames.specs.Numbers.{IsBytes, ◌>>=◌, number_at, list_at, bytes_at}
 use Rattle.bk_tx.specs.declared.batch.Slice.{Slice}
 use Rattle.bk_tx.specs.Batch.{cuts, FollowFrom}
 use Rattle.bk_tx.specs.Spelling.{text_in_batch, batch_text, IsBatch}
-use Rattle.bk_tx.specs.Reading.{text_at, texts_at, texts_of}
-use Rattle.bk_tx.proofs.Fields.{bind_some, some_is, Takes, Takes-then, wide16, number_rest, number_takes, number_again, bytes_rest, bytes_take, bytes_again}
+use Rattle.bk_tx.specs.Reading.{text_at, texts_of}
+use Rattle.bk_frames.proofs.FieldLemmas.{list_takes, list_again, bind_some, Takes, Takes-then, wide16, number_rest, number_takes, number_again, bytes_rest, bytes_take, bytes_again}
 
 abbrev IsShort : List ℕ → Type 0
 IsShort text = length text < 2 ^ 16
@@ -34,50 +33,26 @@ text_steps bytes r0 r1 text len e0 e1 = rw e0 e1
 text_again : (text rest : List ℕ) → IsShort text → text_at (text_in_batch text ++ rest) ≡ Some (text, rest)
 text_again text rest short = text_steps (text_in_batch text ++ rest) (text ++ rest) rest text (length text) (number_again w16 (2 ^ 16) wide16 (length text) (text ++ rest) short) (bytes_again text rest)
 
-texts_take : (n : ℕ) (bytes : List ℕ) (x : List (List ℕ) × List ℕ) → IsBytes bytes → texts_at n bytes ≡ Some x → Takes bytes (flat_map text_in_batch x.0) x.1 × (length x.0 ≡ n) × AllByRecursion IsShort x.0
-unfolding texts_at
-texts_take zero bytes x fits e =
-    subst (λ (y : List (List ℕ) × List ℕ). Takes bytes (flat_map text_in_batch y.0) y.1 × (length y.0 ≡ 0) × AllByRecursion IsShort y.0) (some_is ([], bytes) x e) (record { parts = refl; rest_fits = fits }, refl, tt)
-texts_take (suc n) bytes x fits e =
-    let a = bind_some (text_at bytes) (λ first. texts_at n first.1 >>= λ others. Some (first.0 ∷ others.0, others.1)) x e in
-    let b = bind_some (texts_at n a.0.1) (λ others. Some (a.0.0 ∷ others.0, others.1)) x a.2 in
-    let first = text_takes bytes a.0 fits a.1 in
-    let second = texts_take n a.0.1 b.0 first.0.rest_fits b.1 in
-    let both = Takes-then bytes (text_in_batch a.0.0) a.0.1 (flat_map text_in_batch b.0.0) b.0.1 first.0 second.0 in
-    let made : List (List ℕ) × List ℕ = (a.0.0 ∷ b.0.0, b.0.1) in
-    subst (λ (y : List (List ℕ) × List ℕ). Takes bytes (flat_map text_in_batch y.0) y.1 × (length y.0 ≡ suc n) × AllByRecursion IsShort y.0) (some_is made x b.2) (rw flat_map-cons both, ap suc second.1, (first.1, second.2))
-
-texts_steps : (n : ℕ) (bytes r0 r1 text : List ℕ) (texts : List (List ℕ)) → text_at bytes ≡ Some (text, r0) → texts_at n r0 ≡ Some (texts, r1) → texts_at (suc n) bytes ≡ Some (text ∷ texts, r1)
-unfolding texts_at
-texts_steps n bytes r0 r1 text texts e0 e1 = rw (e0, e1) refl
-
-texts_again : (texts : List (List ℕ)) (rest : List ℕ) → AllByRecursion IsShort texts → texts_at (length texts) (flat_map text_in_batch texts ++ rest) ≡ Some (texts, rest)
-unfolding texts_at
-texts_again [] rest fits = refl
-texts_again (t ∷ ts) rest fits =
-    let regrouped : flat_map text_in_batch (t ∷ ts) ++ rest ≡ text_in_batch t ++ (flat_map text_in_batch ts ++ rest) = ap (λ (x : List ℕ). x ++ rest) (flat_map-cons text_in_batch t ts) ∙ append_assoc (text_in_batch t) (flat_map text_in_batch ts) rest in
-    ap (texts_at (suc (length ts))) regrouped ∙ texts_steps (length ts) (text_in_batch t ++ (flat_map text_in_batch ts ++ rest)) (flat_map text_in_batch ts ++ rest) rest t ts (text_again t (flat_map text_in_batch ts ++ rest) fits.0) (texts_again ts rest fits.1)
-
 pub batch_takes : (bytes : List ℕ) (texts : List (List ℕ)) → IsBytes bytes → texts_of bytes ≡ Some texts → IsBatch texts × (bytes ≡ batch_text texts)
 unfolding texts_of
 batch_takes bytes texts fits e =
-    let a = bind_some (number_at w16 bytes) (λ count. texts_at count.0 count.1 >>= λ x. cond (eqb (length x.1) 0) (Some x.0) None) texts e in
-    let b = bind_some (texts_at a.0.0 a.0.1) (λ x. cond (eqb (length x.1) 0) (Some x.0) None) texts a.2 in
+    let a = bind_some (number_at w16 bytes) (λ count. list_at text_at count.0 count.1 >>= λ x. cond (eqb (length x.1) 0) (Some x.0) None) texts e in
+    let b = bind_some (list_at text_at a.0.0 a.0.1) (λ x. cond (eqb (length x.1) 0) (Some x.0) None) texts a.2 in
     let g = cond_some (eqb (length b.0.1) 0) b.0.0 texts b.2 in
     let first = number_takes w16 (2 ^ 16) wide16 bytes a.0.0 a.0.1 fits a.1 in
-    let second = texts_take a.0.0 a.0.1 b.0 first.0.rest_fits b.1 in
+    let second = list_takes text_at text_in_batch IsShort text_takes a.0.0 a.0.1 b.0 first.0.rest_fits b.1 in
     let nothing : b.0.1 ≡ [] = nil_from_length b.0.1 (eqb-true _ _ g.0) in
     let both = (Takes-then bytes (to_be_bytes w16 a.0.0) a.0.1 (flat_map text_in_batch b.0.0) b.0.1 first.0 second.0).parts in
     let whole : bytes ≡ batch_text b.0.0 = both ∙ ap (λ (r : List ℕ). (to_be_bytes w16 a.0.0 ++ flat_map text_in_batch b.0.0) ++ r) nothing ∙ append-nil (to_be_bytes w16 a.0.0 ++ flat_map text_in_batch b.0.0) ∙ ap (λ (k : ℕ). to_be_bytes w16 k ++ flat_map text_in_batch b.0.0) (sym second.1) in
     subst (λ (v : List (List ℕ)). IsBatch v × (bytes ≡ batch_text v)) g.1 (record { few = omega (arith, second.1, first.1); short = second.2 }, whole)
 
-batch_steps : (bytes r0 : List ℕ) (count : ℕ) (texts : List (List ℕ)) → number_at w16 bytes ≡ Some (count, r0) → texts_at count r0 ≡ Some (texts, []) → texts_of bytes ≡ Some texts
+batch_steps : (bytes r0 : List ℕ) (count : ℕ) (texts : List (List ℕ)) → number_at w16 bytes ≡ Some (count, r0) → list_at text_at count r0 ≡ Some (texts, []) → texts_of bytes ≡ Some texts
 unfolding texts_of
 batch_steps bytes r0 count texts e0 e1 = rw (e0, e1) refl
 
 pub batch_again : (texts : List (List ℕ)) → IsBatch texts → texts_of (batch_text texts) ≡ Some texts
 batch_again texts h =
-    let rest : texts_at (length texts) (flat_map text_in_batch texts) ≡ Some (texts, []) = ap (texts_at (length texts)) (sym (append-nil (flat_map text_in_batch texts))) ∙ texts_again texts [] h.short in
+    let rest : list_at text_at (length texts) (flat_map text_in_batch texts) ≡ Some (texts, []) = ap (list_at text_at (length texts)) (sym (append-nil (flat_map text_in_batch texts))) ∙ list_again text_at text_in_batch IsShort text_again texts [] h.short in
     batch_steps (batch_text texts) (flat_map text_in_batch texts) (length texts) texts (number_again w16 (2 ^ 16) wide16 (length texts) (flat_map text_in_batch texts) h.few) rest
 
 -- ---- where texts lie in a payload
@@ -100,12 +75,12 @@ unfolding text_at
 text_cut_off bytes rest len e0 e1 = rw (← e0, ← e1) refl
 
 -- each text takes two bytes at least
-texts_need : (n : ℕ) (bytes : List ℕ) (x : List (List ℕ) × List ℕ) → texts_at n bytes ≡ Some x → 2 * n ≤ length bytes
-unfolding texts_at text_at
+texts_need : (n : ℕ) (bytes : List ℕ) (x : List (List ℕ) × List ℕ) → list_at text_at n bytes ≡ Some x → 2 * n ≤ length bytes
+unfolding list_at text_at
 texts_need zero bytes x e = omega arith
 texts_need (suc n) bytes x e =
-    let a = bind_some (text_at bytes) (λ first. texts_at n first.1 >>= λ others. Some (first.0 ∷ others.0, others.1)) x e in
-    let b = bind_some (texts_at n a.0.1) (λ others. Some (a.0.0 ∷ others.0, others.1)) x a.2 in
+    let a = bind_some (text_at bytes) (λ first. list_at text_at n first.1 >>= λ others. Some (first.0 ∷ others.0, others.1)) x e in
+    let b = bind_some (list_at text_at n a.0.1) (λ others. Some (a.0.0 ∷ others.0, others.1)) x a.2 in
     let d = bind_some (number_at w16 bytes) (λ len. bytes_at len.0 len.1) a.0 a.1 in
     let first = number_rest w16 bytes d.0.0 d.0.1 d.1 in
     let second = bytes_rest d.0.0 d.0.1 a.0.0 a.0.1 d.2 in
@@ -155,24 +130,24 @@ pub count_missing : (bytes : List ℕ) → None ≡ number_at w16 bytes → None
 unfolding texts_of
 count_missing bytes e = rw (← e) refl
 
-texts_missing : (bytes rest : List ℕ) (count : ℕ) → number_at w16 bytes ≡ Some (count, rest) → None ≡ texts_at count rest → None ≡ texts_of bytes
+texts_missing : (bytes rest : List ℕ) (count : ℕ) → number_at w16 bytes ≡ Some (count, rest) → None ≡ list_at text_at count rest → None ≡ texts_of bytes
 unfolding texts_of
 texts_missing bytes rest count e0 e1 = rw (e0, ← e1) refl
 
 pub no_room : (bytes rest : List ℕ) (count : ℕ) → number_at w16 bytes ≡ Some (count, rest) → length rest < 2 * count → None ≡ texts_of bytes
-no_room bytes rest count e lt = texts_missing bytes rest count e (none_or (texts_at count rest) (λ x r. let need = texts_need count rest x r in omega arith))
+no_room bytes rest count e lt = texts_missing bytes rest count e (none_or (list_at text_at count rest) (λ x r. let need = texts_need count rest x r in omega arith))
 
-pub text_void : (bytes rest : List ℕ) (count : ℕ) → number_at w16 bytes ≡ Some (count, rest) → None ≡ texts_at count (drop 2 bytes) → None ≡ texts_of bytes
+pub text_void : (bytes rest : List ℕ) (count : ℕ) → number_at w16 bytes ≡ Some (count, rest) → None ≡ list_at text_at count (drop 2 bytes) → None ≡ texts_of bytes
 text_void bytes rest count e none = texts_missing bytes rest count e (rw (number_rest w16 bytes count rest e).2 at none)
 
-pub bytes_left : (bytes rest : List ℕ) (count at : ℕ) (texts : List (List ℕ)) → number_at w16 bytes ≡ Some (count, rest) → Some (texts, drop at bytes) ≡ texts_at count (drop 2 bytes) → at < length bytes → None ≡ texts_of bytes
+pub bytes_left : (bytes rest : List ℕ) (count at : ℕ) (texts : List (List ℕ)) → number_at w16 bytes ≡ Some (count, rest) → Some (texts, drop at bytes) ≡ list_at text_at count (drop 2 bytes) → at < length bytes → None ≡ texts_of bytes
 unfolding texts_of
 bytes_left bytes rest count at texts e read lt =
     let r = (number_rest w16 bytes count rest e).2 in
     let long : eqb (length (drop at bytes)) 0 ≡ false = ne_eqb _ _ (λ z. omega (arith, length-drop at bytes)) in
     rw (e, ← r, ← read, long) refl
 
-pub all_read : (bytes rest : List ℕ) (count at : ℕ) (texts : List (List ℕ)) → number_at w16 bytes ≡ Some (count, rest) → Some (texts, drop at bytes) ≡ texts_at count (drop 2 bytes) → length bytes ≤ at → Some texts ≡ texts_of bytes
+pub all_read : (bytes rest : List ℕ) (count at : ℕ) (texts : List (List ℕ)) → number_at w16 bytes ≡ Some (count, rest) → Some (texts, drop at bytes) ≡ list_at text_at count (drop 2 bytes) → length bytes ≤ at → Some texts ≡ texts_of bytes
 unfolding texts_of
 all_read bytes rest count at texts e read le =
     let r = (number_rest w16 bytes count rest e).2 in

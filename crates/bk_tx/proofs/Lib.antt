@@ -1,9 +1,7 @@
 pub mod Ascending
 pub mod Batches
-pub mod Fields
-pub mod Loop
+pub mod Bodies
 pub mod Pairs
 pub mod Positions
-pub mod Splits
 pub mod Transactions
 pub mod Written

@@ -5,18 +5,17 @@ use Rattle.std.specs.List.{flat_map, AllByRecursion, list_any}
 use Rattle.std.specs.Int.{w8, w64}
 use Rattle.std.proofs.lemmas.Bool.{eqb-true, eqb-false, ne_eqb, leb-true, le-leb, and_parts, and_from, not-true, or_parts, or_from}
 use Rattle.std.proofs.lemmas.List.{append-nil, nil_from_length}
-use Rattle.std.proofs.lemmas.List.Concat.{flat_map-cons}
 use Rattle.std.proofs.lemmas.Option.{cond_some, none-some}
-use Rattle.bk_frames.specs.Numbers.{IsBytes, ◌>>=◌, number_at, is_ascending}
+use Rattle.bk_frames.specs.Numbers.{IsBytes, ◌>>=◌, number_at, list_at, is_ascending}
 use Rattle.bk_tx.specs.declared.declared.Declared.{Declared}
 use Rattle.bk_tx.specs.Transaction.{Transaction}
 use Rattle.bk_tx.specs.declared.body.Body.{Body}
 use Rattle.bk_tx.specs.declared.body.Body.TheVariants.{Pay, PayIf, Sweep, Split}
 use Rattle.bk_tx.specs.Access.{declared_ids, IdsFit}
 use Rattle.bk_tx.specs.Spelling.{wide, declared_text, kind_of, body_text, receivers_of, BodyFits, transaction_text, IsTransaction}
-use Rattle.bk_tx.specs.Reading.{writable_of, declared_at, entries_at, is_count, declarations_at, pay_at, pay_if_at, sweep_at, split_at, body_at, pays, transaction_of}
-use Rattle.bk_tx.proofs.Fields.{bind_some, some_is, Takes, Takes-then, byte_takes, byte_again, wide64, number_takes, number_again}
-use Rattle.bk_tx.proofs.Splits.{sweep_takes, sweep_steps, split_takes, split_again}
+use Rattle.bk_tx.specs.Reading.{writable_of, declared_at, is_count, declarations_at, pay_at, pay_if_at, sweep_at, split_at, body_at, pays, transaction_of}
+use Rattle.bk_frames.proofs.FieldLemmas.{list_takes, list_again, bind_some, if_some, some_is, Takes, Takes-then, byte_takes, byte_again, wide64, number_takes, number_again}
+use Rattle.bk_tx.proofs.Bodies.{sweep_takes, sweep_steps, split_takes, split_again}
 
 -- ---- one declared account
 
@@ -58,30 +57,6 @@ declared_again d rest lt = declared_steps (declared_text d ++ rest) (wide d.id +
 abbrev IdFits : Declared → Type 0
 IdFits d = d.id < 2 ^ 64
 
-entries_take : (n : ℕ) (bytes : List ℕ) (x : List Declared × List ℕ) → IsBytes bytes → entries_at n bytes ≡ Some x → Takes bytes (flat_map declared_text x.0) x.1 × (length x.0 ≡ n) × AllByRecursion IdFits x.0
-unfolding entries_at
-entries_take zero bytes x fits e =
-    subst (λ (y : List Declared × List ℕ). Takes bytes (flat_map declared_text y.0) y.1 × (length y.0 ≡ 0) × AllByRecursion IdFits y.0) (some_is ([], bytes) x e) (record { parts = refl; rest_fits = fits }, refl, tt)
-entries_take (suc n) bytes x fits e =
-    let a = bind_some (declared_at bytes) (λ first. entries_at n first.1 >>= λ others. Some (first.0 ∷ others.0, others.1)) x e in
-    let b = bind_some (entries_at n a.0.1) (λ others. Some (a.0.0 ∷ others.0, others.1)) x a.2 in
-    let first = declared_takes bytes a.0 fits a.1 in
-    let second = entries_take n a.0.1 b.0 first.0.rest_fits b.1 in
-    let both = Takes-then bytes (declared_text a.0.0) a.0.1 (flat_map declared_text b.0.0) b.0.1 first.0 second.0 in
-    let made : List Declared × List ℕ = (a.0.0 ∷ b.0.0, b.0.1) in
-    subst (λ (y : List Declared × List ℕ). Takes bytes (flat_map declared_text y.0) y.1 × (length y.0 ≡ suc n) × AllByRecursion IdFits y.0) (some_is made x b.2) (rw flat_map-cons both, ap suc second.1, (first.1, second.2))
-
-entries_steps : (n : ℕ) (bytes r0 r1 : List ℕ) (d : Declared) (ds : List Declared) → declared_at bytes ≡ Some (d, r0) → entries_at n r0 ≡ Some (ds, r1) → entries_at (suc n) bytes ≡ Some (d ∷ ds, r1)
-unfolding entries_at
-entries_steps n bytes r0 r1 d ds e0 e1 = rw (e0, e1) refl
-
-entries_again : (ds : List Declared) (rest : List ℕ) → AllByRecursion IdFits ds → entries_at (length ds) (flat_map declared_text ds ++ rest) ≡ Some (ds, rest)
-unfolding entries_at
-entries_again [] rest fits = refl
-entries_again (d ∷ ds) rest fits =
-    let regrouped : flat_map declared_text (d ∷ ds) ++ rest ≡ declared_text d ++ (flat_map declared_text ds ++ rest) = ap (λ (x : List ℕ). x ++ rest) (flat_map-cons declared_text d ds) ∙ append_assoc (declared_text d) (flat_map declared_text ds) rest in
-    ap (entries_at (suc (length ds))) regrouped ∙ entries_steps (length ds) (declared_text d ++ (flat_map declared_text ds ++ rest)) (flat_map declared_text ds ++ rest) rest d ds (declared_again d (flat_map declared_text ds ++ rest) fits.0) (entries_again ds rest fits.1)
-
 -- lists of accounts that a transaction can declare
 record AreDeclared (ds : List Declared) : Type 0 where
   some : 1 ≤ length ds
@@ -89,36 +64,32 @@ record AreDeclared (ds : List Declared) : Type 0 where
   ascending : IsTrue (is_ascending (declared_ids ds))
   ids_fit : AllByRecursion IdFits ds
 
-taken : {A : Type 0} (b : Bool) (o : Option A) (x : A) → cond b o None ≡ Some x → (b ≡ true) × (o ≡ Some x)
-taken true o x e = (refl, e)
-taken false o x e = absurd cc
-
 count_is : {A : Type 0} (n : ℕ) (o : Option A) (x : A) → cond (is_count n) o None ≡ Some x → (1 ≤ n) × (n ≤ 8) × (o ≡ Some x)
 count_is n o x e =
-    let t = taken (is_count n) o x e in
+    let t = if_some (is_count n) o x e in
     let p = and_parts (leb 1 n) (leb n 8) t.0 in
     (leb-true 1 n p.0, leb-true n 8 p.1, t.1)
 
 declarations_take : (bytes : List ℕ) (x : List Declared × List ℕ) → IsBytes bytes → declarations_at bytes ≡ Some x → Takes bytes (length x.0 ∷ flat_map declared_text x.0) x.1 × AreDeclared x.0
 unfolding declarations_at
 declarations_take bytes x fits e =
-    let a = bind_some (number_at w8 bytes) (λ count. cond (is_count count.0) (entries_at count.0 count.1) None >>= λ entries. cond (is_ascending (declared_ids entries.0)) (Some entries) None) x e in
-    let b = bind_some (cond (is_count a.0.0) (entries_at a.0.0 a.0.1) None) (λ entries. cond (is_ascending (declared_ids entries.0)) (Some entries) None) x a.2 in
-    let n = count_is a.0.0 (entries_at a.0.0 a.0.1) b.0 b.1 in
+    let a = bind_some (number_at w8 bytes) (λ count. cond (is_count count.0) (list_at declared_at count.0 count.1) None >>= λ entries. cond (is_ascending (declared_ids entries.0)) (Some entries) None) x e in
+    let b = bind_some (cond (is_count a.0.0) (list_at declared_at a.0.0 a.0.1) None) (λ entries. cond (is_ascending (declared_ids entries.0)) (Some entries) None) x a.2 in
+    let n = count_is a.0.0 (list_at declared_at a.0.0 a.0.1) b.0 b.1 in
     let g = cond_some (is_ascending (declared_ids b.0.0)) b.0 x b.2 in
     let t0 = byte_takes bytes a.0.0 a.0.1 fits a.1 in
-    let t1 = entries_take a.0.0 a.0.1 b.0 t0.0.rest_fits n.2 in
+    let t1 = list_takes declared_at declared_text IdFits declared_takes a.0.0 a.0.1 b.0 t0.0.rest_fits n.2 in
     let both = Takes-then bytes (a.0.0 ∷ []) a.0.1 (flat_map declared_text b.0.0) b.0.1 t0.0 t1.0 in
     let spelled : Takes bytes (length b.0.0 ∷ flat_map declared_text b.0.0) b.0.1 = subst (λ (k : ℕ). Takes bytes (k ∷ flat_map declared_text b.0.0) b.0.1) (sym t1.1) both in
     subst (λ (y : List Declared × List ℕ). Takes bytes (length y.0 ∷ flat_map declared_text y.0) y.1 × AreDeclared y.0) g.1 (spelled, record { some = omega (arith, t1.1, n.0); few = omega (arith, t1.1, n.1); ascending = g.0; ids_fit = t1.2 })
 
-declarations_steps : (bytes r0 r1 : List ℕ) (n : ℕ) (ds : List Declared) → number_at w8 bytes ≡ Some (n, r0) → is_count n ≡ true → entries_at n r0 ≡ Some (ds, r1) → is_ascending (declared_ids ds) ≡ true → declarations_at bytes ≡ Some (ds, r1)
+declarations_steps : (bytes r0 r1 : List ℕ) (n : ℕ) (ds : List Declared) → number_at w8 bytes ≡ Some (n, r0) → is_count n ≡ true → list_at declared_at n r0 ≡ Some (ds, r1) → is_ascending (declared_ids ds) ≡ true → declarations_at bytes ≡ Some (ds, r1)
 unfolding declarations_at
 declarations_steps bytes r0 r1 n ds e0 e1 e2 e3 = rw (e0, e1, e2, e3) refl
 
 declarations_again : (ds : List Declared) (rest : List ℕ) → AreDeclared ds → declarations_at (length ds ∷ (flat_map declared_text ds ++ rest)) ≡ Some (ds, rest)
 declarations_again ds rest h =
-    declarations_steps (length ds ∷ (flat_map declared_text ds ++ rest)) (flat_map declared_text ds ++ rest) rest (length ds) ds (byte_again (length ds) (flat_map declared_text ds ++ rest)) (and_from _ _ (le-leb 1 (length ds) h.some) (le-leb (length ds) 8 h.few)) (entries_again ds rest h.ids_fit) h.ascending
+    declarations_steps (length ds ∷ (flat_map declared_text ds ++ rest)) (flat_map declared_text ds ++ rest) rest (length ds) ds (byte_again (length ds) (flat_map declared_text ds ++ rest)) (and_from _ _ (le-leb 1 (length ds) h.some) (le-leb (length ds) 8 h.few)) (list_again declared_at declared_text IdFits declared_again ds rest h.ids_fit) h.ascending
 
 -- ---- the body
 
@@ -159,7 +130,7 @@ last_take : (kind : ℕ) (bytes : List ℕ) (x : Body × List ℕ) → IsBytes b
 last_take kind bytes x fits e =
     elim (chosen (eqb kind 3) (sweep_at bytes) (cond (eqb kind 4) (split_at bytes) None) x e) [
       | inl h ↦ let t = sweep_takes bytes x fits h.1 in (t.0, t.1, t.2 ∙ sym (eqb-true kind 3 h.0))
-      | inr h ↦ let g = taken (eqb kind 4) (split_at bytes) x h.1 in let t = split_takes bytes x fits g.1 in (t.0, t.1, t.2 ∙ sym (eqb-true kind 4 g.0))
+      | inr h ↦ let g = if_some (eqb kind 4) (split_at bytes) x h.1 in let t = split_takes bytes x fits g.1 in (t.0, t.1, t.2 ∙ sym (eqb-true kind 4 g.0))
     ]
 
 -- the kinds above 1

@@ -1,8 +1,8 @@
 -- How the bytes of a transaction and of a batch are read: what they encode, or nothing.
-use Rattle.std.specs.Prelude.{ℕ, zero, suc, Bool, true, false, List, [], ◌∷◌, length, Option, Some, None, nat_le, ◌==◌, ◌&&◌, not, if◌then◌else◌}
+use Rattle.std.specs.Prelude.{ℕ, zero, suc, Bool, true, false, List, length, Option, Some, None, nat_le, ◌==◌, ◌&&◌, not, if◌then◌else◌}
 use Rattle.std.specs.List.{list_any}
 use Rattle.std.specs.Int.{w8, w16, w64}
-use Rattle.bk_frames.specs.Numbers.{◌>>=◌, number_at, bytes_at, is_ascending}
+use Rattle.bk_frames.specs.Numbers.{◌>>=◌, number_at, bytes_at, list_at, is_ascending}
 use Rattle.bk_tx.specs.declared.declared.Declared.{Declared}
 use Rattle.bk_tx.specs.declared.payments.Payment.{Payment}
 use Rattle.bk_tx.specs.Transaction.{Transaction}
@@ -25,14 +25,6 @@ declared_at bytes = do
   id ← number_at w64 mode.1
   Some (record { id = id.0; writable = writable }, id.1)
 
--- so many declared accounts at the front
-unfoldable pub entries_at : ℕ → List ℕ → Option (List Declared × List ℕ)
-entries_at zero bytes = Some ([], bytes)
-entries_at (suc n) bytes = do
-  first ← declared_at bytes
-  others ← entries_at n first.1
-  Some (first.0 ∷ others.0, others.1)
-
 -- one to eight
 abbrev pub is_count : ℕ → Bool
 is_count n = nat_le 1 n && nat_le n 8
@@ -41,7 +33,7 @@ is_count n = nat_le 1 n && nat_le n 8
 unfoldable pub declarations_at : List ℕ → Option (List Declared × List ℕ)
 declarations_at bytes = do
   count ← number_at w8 bytes
-  entries ← (if is_count count.0 then entries_at count.0 count.1 else None)
+  entries ← (if is_count count.0 then list_at declared_at count.0 count.1 else None)
   if is_ascending (declared_ids entries.0) then Some entries else None
 
 -- receiver and amount at the front
@@ -74,14 +66,6 @@ payment_at bytes = do
   amount ← number_at w64 to.1
   Some (record { to = to.0; amount = amount.0 }, amount.1)
 
--- so many payments at the front
-unfoldable pub payments_at : ℕ → List ℕ → Option (List Payment × List ℕ)
-payments_at zero bytes = Some ([], bytes)
-payments_at (suc n) bytes = do
-  first ← payment_at bytes
-  others ← payments_at n first.1
-  Some (first.0 ∷ others.0, others.1)
-
 -- one to six
 abbrev pub is_payment_count : ℕ → Bool
 is_payment_count n = nat_le 1 n && nat_le n 6
@@ -90,7 +74,7 @@ is_payment_count n = nat_le 1 n && nat_le n 6
 unfoldable pub split_at : List ℕ → Option (Body × List ℕ)
 split_at bytes = do
   count ← number_at w8 bytes
-  payments ← (if is_payment_count count.0 then payments_at count.0 count.1 else None)
+  payments ← (if is_payment_count count.0 then list_at payment_at count.0 count.1 else None)
   if is_ascending (receivers_in payments.0) then Some (Split payments.0, payments.1) else None
 
 -- the body of a transaction of this kind at the front
@@ -122,17 +106,9 @@ text_at bytes = do
   len ← number_at w16 bytes
   bytes_at len.0 len.1
 
--- so many texts at the front
-unfoldable pub texts_at : ℕ → List ℕ → Option (List (List ℕ) × List ℕ)
-texts_at zero bytes = Some ([], bytes)
-texts_at (suc n) bytes = do
-  first ← text_at bytes
-  others ← texts_at n first.1
-  Some (first.0 ∷ others.0, others.1)
-
 -- the texts of the batch that the bytes encode, all of them
 unfoldable pub texts_of : List ℕ → Option (List (List ℕ))
 texts_of bytes = do
   count ← number_at w16 bytes
-  texts ← texts_at count.0 count.1
+  texts ← list_at text_at count.0 count.1
   if length texts.1 == 0 then Some texts.0 else None

@@ -1,7 +1,8 @@
 //! A transaction from its bytes, field by field.
 
 ghost use Rattle.std.specs.Prelude.{◌≡◌, ◌≤◌, option_map};
-ghost use Rattle.bk_tx.specs.Reading.{writable_of, declared_at, entries_at, declarations_at, pay_at, pay_if_at, sweep_at, payment_at, payments_at, split_at, body_at, transaction_of};
+ghost use Rattle.bk_frames.specs.Numbers.{list_at};
+ghost use Rattle.bk_tx.specs.Reading.{writable_of, declared_at, declarations_at, pay_at, pay_if_at, sweep_at, payment_at, split_at, body_at, transaction_of};
 
 use crate::body::Body;
 use crate::declared::{Declarations, Declared, MOST_DECLARED};
@@ -31,7 +32,7 @@ fn declared(fields: &mut Fields) -> Option<Declared>
 
 fn entries(count: usize, fields: &mut Fields) -> Option<Declarations>
     requires { count ≤ 8 }
-    ensures { option_map (λ read. (read, fields.new)) result ≡ entries_at count fields.old }
+    ensures { option_map (λ read. (read, fields.new)) result ≡ list_at declared_at count fields.old }
 {
     let mut read = Declarations::none();
     for _ in 0..count {
@@ -101,7 +102,7 @@ fn payment(fields: &mut Fields) -> Option<Payment>
 
 fn payments(count: usize, fields: &mut Fields) -> Option<Payments>
     requires { count ≤ 6 }
-    ensures { option_map (λ read. (read, fields.new)) result ≡ payments_at count fields.old }
+    ensures { option_map (λ read. (read, fields.new)) result ≡ list_at payment_at count fields.old }
 {
     let mut read = Payments::none();
     for _ in 0..count {

@@ -2,9 +2,10 @@ use Rattle.std.proofs.Common.{◌≡◌, ◌+◌, ◌++◌, ◌∷◌, [], drop,
 use Rattle.std.proofs.lemmas.List.{map_push}
 use Rattle.std.proofs.lemmas.List.Elements.{All-push}
 use Rattle.bk_tx.specs.Batch.{IsWithin, cut, cuts}
-use Rattle.bk_tx.specs.Reading.{texts_at}
+use Rattle.bk_frames.specs.Numbers.{list_at}
+use Rattle.bk_tx.specs.Reading.{text_at}
 use Rattle.bk_tx.proofs.Batches.{end-push, FollowFrom-push, count_missing, no_room, text_void, bytes_left, all_read}
-use Rattle.bk_tx.proofs.Loop.{texts_go_on, texts_end, texts_done}
+use Rattle.bk_frames.proofs.Lists.{list_goes_on, list_ends, list_done}
 use Rattle.bk_tx.proofs.batch.batch.Goals as goal
 
 pub returns-in_default-clause-exact : goal.returns-in_default-clause-exact
@@ -19,7 +20,7 @@ pub returns-in_default-slice_at-clause-exact : goal.returns-in_default-slice_at-
 returns-in_default-slice_at-clause-exact c =
     let bytes = c.args.bytes.now in
     let read = rw c.new-fields.ensures at c.in-Some.ensures.found in
-    text_void bytes c.u16.new.self c.in-Some.count (sym read) (texts_end (cuts bytes c.loop.slices.items) c.in-Some.count c.loop.counter (drop c.loop.at bytes) (texts_at c.in-Some.count (drop 2 bytes)) c.loop-test.true c.in_default-slice_at.ensures.found c.loop.invariant.read)
+    text_void bytes c.u16.new.self c.in-Some.count (sym read) (list_ends text_at (cuts bytes c.loop.slices.items) c.in-Some.count c.loop.counter (drop c.loop.at bytes) (list_at text_at c.in-Some.count (drop 2 bytes)) c.loop-test.true c.in_default-slice_at.ensures.found c.loop.invariant.read)
 
 pub slice_at-requires-clause-low : goal.slice_at-requires-clause-low
 slice_at-requires-clause-low c = omega (arith, c.loop.invariant.low, c.loop-test.true)
@@ -35,17 +36,17 @@ loop-preserved c =
       places = rw c.in_ok-push.ensures.items (FollowFrom-push 2 c.loop.slices.items slice c.loop.invariant.places (rw c.loop.invariant.end c.in-Some-slice_at.ensures.place.0));
       inside = c.in-Some-slice_at.ensures.inside;
       within = rw c.in_ok-push.ensures.items (All-push (IsWithin bytes) c.loop.slices.items slice c.loop.invariant.within c.in-Some-slice_at.ensures.inside);
-      read = rw longer (texts_go_on (cuts bytes c.loop.slices.items) c.in-Some.count c.loop.counter (drop c.loop.at bytes) (cut bytes slice) (drop (slice.start + slice.len) bytes) (texts_at c.in-Some.count (drop 2 bytes)) c.loop-test.true c.in-Some-slice_at.ensures.found c.loop.invariant.read);
+      read = rw longer (list_goes_on text_at (cuts bytes c.loop.slices.items) c.in-Some.count c.loop.counter (drop c.loop.at bytes) (cut bytes slice) (drop (slice.start + slice.len) bytes) (list_at text_at c.in-Some.count (drop 2 bytes)) c.loop-test.true c.in-Some-slice_at.ensures.found c.loop.invariant.read);
     }
 
 pub returns-then-at-bytes-clause-exact : goal.returns-then-at-bytes-clause-exact
 returns-then-at-bytes-clause-exact c =
     let bytes = c.args.bytes.now in
     let read = rw c.new-fields.ensures at c.in-Some.ensures.found in
-    bytes_left bytes c.u16.new.self c.in-Some.count c.loop.at (cuts bytes c.loop.slices.items) (sym read) (texts_done (cuts bytes c.loop.slices.items) c.in-Some.count c.loop.counter (drop c.loop.at bytes) (texts_at c.in-Some.count (drop 2 bytes)) c.loop-test.false c.loop.invariant.read) (omega (arith, c.if-at-bytes.true))
+    bytes_left bytes c.u16.new.self c.in-Some.count c.loop.at (cuts bytes c.loop.slices.items) (sym read) (list_done text_at (cuts bytes c.loop.slices.items) c.in-Some.count c.loop.counter (drop c.loop.at bytes) (list_at text_at c.in-Some.count (drop 2 bytes)) c.loop-test.false c.loop.invariant.read) (omega (arith, c.if-at-bytes.true))
 
 pub returns-clause-exact : goal.returns-clause-exact
 returns-clause-exact c =
     let bytes = c.args.bytes.now in
     let read = rw c.new-fields.ensures at c.in-Some.ensures.found in
-    all_read bytes c.u16.new.self c.in-Some.count c.loop.at (cuts bytes c.loop.slices.items) (sym read) (texts_done (cuts bytes c.loop.slices.items) c.in-Some.count c.loop.counter (drop c.loop.at bytes) (texts_at c.in-Some.count (drop 2 bytes)) c.loop-test.false c.loop.invariant.read) (omega (arith, c.if-at-bytes.false))
+    all_read bytes c.u16.new.self c.in-Some.count c.loop.at (cuts bytes c.loop.slices.items) (sym read) (list_done text_at (cuts bytes c.loop.slices.items) c.in-Some.count c.loop.counter (drop c.loop.at bytes) (list_at text_at c.in-Some.count (drop 2 bytes)) c.loop-test.false c.loop.invariant.read) (omega (arith, c.if-at-bytes.false))

@@ -1,8 +1,9 @@
 use Rattle.std.proofs.Common.{◌≡◌, ◌+◌, ◌*◌, ◌-◌, ◌≤◌, length, drop, All}
 use Rattle.bk_tx.specs.Batch.{IsWithin, cuts, FollowFrom}
 use Rattle.bk_tx.proofs.Batches.{end_of}
-use Rattle.bk_tx.specs.Reading.{texts_at}
-use Rattle.bk_tx.proofs.Loop.{with_front}
+use Rattle.bk_frames.specs.Numbers.{list_at}
+use Rattle.bk_tx.specs.Reading.{text_at}
+use Rattle.bk_frames.proofs.Lists.{with_front}
 use Rattle.bk_tx.proofs.batch.batch.Given as goal
 
 abbrev pub invariant-loop : goal.invariant-loop
@@ -12,5 +13,5 @@ invariant-loop l = record {
   places : FollowFrom 2 l.slices.items;
   inside : l.at ≤ length l.bytes;
   within : All (IsWithin l.bytes) l.slices.items;
-  read : with_front (cuts l.bytes l.slices.items) (texts_at (l.count - l.counter) (drop l.at l.bytes)) ≡ texts_at l.count (drop 2 l.bytes);
+  read : with_front (cuts l.bytes l.slices.items) (list_at text_at (l.count - l.counter) (drop l.at l.bytes)) ≡ list_at text_at l.count (drop 2 l.bytes);
 }

@@ -1,10 +1,11 @@
 use Rattle.std.proofs.Common.{◌≡◌, ◌-◌, length}
-use Rattle.bk_tx.specs.Reading.{entries_at}
-use Rattle.bk_tx.proofs.Loop.{with_front}
+use Rattle.bk_frames.specs.Numbers.{list_at}
+use Rattle.bk_tx.specs.Reading.{declared_at}
+use Rattle.bk_frames.proofs.Lists.{with_front}
 use Rattle.bk_tx.proofs.reading.entries.Given as goal
 
 abbrev pub invariant-loop : goal.invariant-loop
 invariant-loop l = record {
   passed : length l.read ≡ l.counter;
-  read : with_front l.read (entries_at (l.count - l.counter) l.fields) ≡ entries_at l.count l.initial.fields;
+  read : with_front l.read (list_at declared_at (l.count - l.counter) l.fields) ≡ list_at declared_at l.count l.initial.fields;
 }

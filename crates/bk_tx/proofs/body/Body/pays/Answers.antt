@@ -1,5 +1,5 @@
 use Rattle.std.proofs.Common.{◌∙◌}
-use Rattle.bk_tx.proofs.Splits.{pays_receiver}
+use Rattle.bk_tx.proofs.Bodies.{pays_receiver}
 use Rattle.bk_tx.proofs.body.Body.pays.Goals as goal
 
 pub returns-in-Split : goal.returns-in-Split

@@ -1,5 +1,5 @@
 use Rattle.std.proofs.Common.{length, ap, arith}
-use Rattle.bk_tx.proofs.Splits.{length-payments}
+use Rattle.bk_tx.proofs.Bodies.{length-payments}
 use Rattle.bk_tx.proofs.body.Body.text_len.Goals as goal
 
 pub returns-in-Split-clause-len : goal.returns-in-Split-clause-len

@@ -1,18 +1,18 @@
 -- The bodies of a sweep and of a split: what is read encodes to the same bytes, and what is encoded is read again.
-use Rattle.std.proofs.Common.{◌≡◌, ℕ, zero, suc, ◌*◌, ◌^◌, ◌<◌, ◌≤◌, Bool, true, false, cond, leb, eqb, ◌||◌, List, [], ◌∷◌, ◌++◌, length, Option, Some, None, refl, sym, ap, subst, ◌∙◌, append_assoc, length-append, arith}
-use Rattle.std.specs.List.{flat_map, AllByRecursion, list_any}
+use Rattle.std.proofs.Common.{◌≡◌, ℕ, ◌*◌, ◌^◌, ◌<◌, ◌≤◌, Bool, true, cond, leb, eqb, ◌||◌, List, [], ◌∷◌, ◌++◌, length, Option, Some, None, refl, sym, ap, subst, length-append, arith}
+use Rattle.std.specs.List.{flat_map, list_any}
 use Rattle.std.specs.Int.{w8, w64}
 use Rattle.std.proofs.lemmas.Bool.{leb-true, le-leb, and_parts, and_from}
 use Rattle.std.proofs.lemmas.List.Concat.{flat_map-cons}
 use Rattle.std.proofs.lemmas.Option.{cond_some}
-use Rattle.bk_frames.specs.Numbers.{IsBytes, ◌>>=◌, number_at, is_ascending}
+use Rattle.bk_frames.specs.Numbers.{IsBytes, ◌>>=◌, number_at, list_at, is_ascending}
 use Rattle.bk_tx.specs.declared.payments.Payment.{Payment}
 use Rattle.bk_tx.specs.declared.body.Body.{Body}
 use Rattle.bk_tx.specs.declared.body.Body.TheVariants.{Sweep, Split}
 use Rattle.bk_tx.specs.Access.{receivers_in}
 use Rattle.bk_tx.specs.Spelling.{wide, payment_text, kind_of, body_text, ArePayments, BodyFits}
-use Rattle.bk_tx.specs.Reading.{sweep_at, payment_at, payments_at, is_payment_count, split_at}
-use Rattle.bk_tx.proofs.Fields.{bind_some, some_is, Takes, Takes-then, byte_takes, byte_again, wide64, number_takes, number_again}
+use Rattle.bk_tx.specs.Reading.{sweep_at, payment_at, is_payment_count, split_at}
+use Rattle.bk_frames.proofs.FieldLemmas.{list_takes, list_again, bind_some, if_some, some_is, Takes, Takes-then, byte_takes, byte_again, wide64, number_takes, number_again}
 
 -- ---- a sweep
 
@@ -58,31 +58,6 @@ payment_again p rest fits =
 
 -- ---- all payments
 
-payments_take : (n : ℕ) (bytes : List ℕ) (x : List Payment × List ℕ) → IsBytes bytes → payments_at n bytes ≡ Some x → Takes bytes (flat_map payment_text x.0) x.1 × (length x.0 ≡ n) × AllByRecursion Fits x.0
-unfolding payments_at
-payments_take zero bytes x fits e =
-    subst (λ (y : List Payment × List ℕ). Takes bytes (flat_map payment_text y.0) y.1 × (length y.0 ≡ 0) × AllByRecursion Fits y.0) (some_is ([], bytes) x e) (record { parts = refl; rest_fits = fits }, refl, tt)
-payments_take (suc n) bytes x fits e =
-    let a = bind_some (payment_at bytes) (λ first. payments_at n first.1 >>= λ others. Some (first.0 ∷ others.0, others.1)) x e in
-    let b = bind_some (payments_at n a.0.1) (λ others. Some (a.0.0 ∷ others.0, others.1)) x a.2 in
-    let first = payment_takes bytes a.0 fits a.1 in
-    let second = payments_take n a.0.1 b.0 first.0.rest_fits b.1 in
-    let both = Takes-then bytes (payment_text a.0.0) a.0.1 (flat_map payment_text b.0.0) b.0.1 first.0 second.0 in
-    let made : List Payment × List ℕ = (a.0.0 ∷ b.0.0, b.0.1) in
-    subst (λ (y : List Payment × List ℕ). Takes bytes (flat_map payment_text y.0) y.1 × (length y.0 ≡ suc n) × AllByRecursion Fits y.0) (some_is made x b.2) (rw flat_map-cons both, ap suc second.1, (first.1, second.2))
-
-payments_steps : (n : ℕ) (bytes r0 r1 : List ℕ) (p : Payment) (ps : List Payment) → payment_at bytes ≡ Some (p, r0) → payments_at n r0 ≡ Some (ps, r1) → payments_at (suc n) bytes ≡ Some (p ∷ ps, r1)
-unfolding payments_at
-payments_steps n bytes r0 r1 p ps e0 e1 = rw (e0, e1) refl
-
-payments_again : (ps : List Payment) (rest : List ℕ) → AllByRecursion Fits ps → payments_at (length ps) (flat_map payment_text ps ++ rest) ≡ Some (ps, rest)
-unfolding payments_at
-payments_again [] rest fits = refl
-payments_again (p ∷ ps) rest fits =
-    let others : List ℕ = flat_map payment_text ps ++ rest in
-    let regrouped : flat_map payment_text (p ∷ ps) ++ rest ≡ payment_text p ++ others = ap (λ (x : List ℕ). x ++ rest) (flat_map-cons payment_text p ps) ∙ append_assoc (payment_text p) (flat_map payment_text ps) rest in
-    ap (payments_at (suc (length ps))) regrouped ∙ payments_steps (length ps) (payment_text p ++ others) others rest p ps (payment_again p others fits.0) (payments_again ps rest fits.1)
-
 -- each payment takes sixteen bytes
 pub length-payments : (ps : List Payment) → length (flat_map payment_text ps) ≡ 16 * length ps
 length-payments [] = refl
@@ -95,36 +70,32 @@ pays_receiver (p ∷ ps) id = ap (λ (b : Bool). eqb p.to id || b) (pays_receive
 
 -- ---- a split
 
-taken : {A : Type 0} (b : Bool) (o : Option A) (x : A) → cond b o None ≡ Some x → (b ≡ true) × (o ≡ Some x)
-taken true o x e = (refl, e)
-taken false o x e = absurd cc
-
 count_is : {A : Type 0} (n : ℕ) (o : Option A) (x : A) → cond (is_payment_count n) o None ≡ Some x → (1 ≤ n) × (n ≤ 6) × (o ≡ Some x)
 count_is n o x e =
-    let t = taken (is_payment_count n) o x e in
+    let t = if_some (is_payment_count n) o x e in
     let p = and_parts (leb 1 n) (leb n 6) t.0 in
     (leb-true 1 n p.0, leb-true n 6 p.1, t.1)
 
 pub split_takes : (bytes : List ℕ) (x : Body × List ℕ) → IsBytes bytes → split_at bytes ≡ Some x → Takes bytes (body_text x.0) x.1 × BodyFits x.0 × (kind_of x.0 ≡ 4)
 unfolding split_at
 split_takes bytes x fits e =
-    let a = bind_some (number_at w8 bytes) (λ count. cond (is_payment_count count.0) (payments_at count.0 count.1) None >>= λ payments. cond (is_ascending (receivers_in payments.0)) (Some (Split payments.0, payments.1)) None) x e in
-    let b = bind_some (cond (is_payment_count a.0.0) (payments_at a.0.0 a.0.1) None) (λ payments. cond (is_ascending (receivers_in payments.0)) (Some (Split payments.0, payments.1)) None) x a.2 in
-    let n = count_is a.0.0 (payments_at a.0.0 a.0.1) b.0 b.1 in
+    let a = bind_some (number_at w8 bytes) (λ count. cond (is_payment_count count.0) (list_at payment_at count.0 count.1) None >>= λ payments. cond (is_ascending (receivers_in payments.0)) (Some (Split payments.0, payments.1)) None) x e in
+    let b = bind_some (cond (is_payment_count a.0.0) (list_at payment_at a.0.0 a.0.1) None) (λ payments. cond (is_ascending (receivers_in payments.0)) (Some (Split payments.0, payments.1)) None) x a.2 in
+    let n = count_is a.0.0 (list_at payment_at a.0.0 a.0.1) b.0 b.1 in
     let made : Body × List ℕ = (Split b.0.0, b.0.1) in
     let g = cond_some (is_ascending (receivers_in b.0.0)) made x b.2 in
     let t0 = byte_takes bytes a.0.0 a.0.1 fits a.1 in
-    let t1 = payments_take a.0.0 a.0.1 b.0 t0.0.rest_fits n.2 in
+    let t1 = list_takes payment_at payment_text Fits payment_takes a.0.0 a.0.1 b.0 t0.0.rest_fits n.2 in
     let both = Takes-then bytes (a.0.0 ∷ []) a.0.1 (flat_map payment_text b.0.0) b.0.1 t0.0 t1.0 in
     let spelled : Takes bytes (length b.0.0 ∷ flat_map payment_text b.0.0) b.0.1 = subst (λ (k : ℕ). Takes bytes (k ∷ flat_map payment_text b.0.0) b.0.1) (sym t1.1) both in
     let good : ArePayments b.0.0 = record { some = omega (arith, t1.1, n.0); few = omega (arith, t1.1, n.1); ascending = g.0; fit = t1.2 } in
     subst (λ (y : Body × List ℕ). Takes bytes (body_text y.0) y.1 × BodyFits y.0 × (kind_of y.0 ≡ 4)) g.1 (spelled, good, refl)
 
-split_steps : (bytes r0 r1 : List ℕ) (n : ℕ) (ps : List Payment) → number_at w8 bytes ≡ Some (n, r0) → is_payment_count n ≡ true → payments_at n r0 ≡ Some (ps, r1) → is_ascending (receivers_in ps) ≡ true → split_at bytes ≡ Some (Split ps, r1)
+split_steps : (bytes r0 r1 : List ℕ) (n : ℕ) (ps : List Payment) → number_at w8 bytes ≡ Some (n, r0) → is_payment_count n ≡ true → list_at payment_at n r0 ≡ Some (ps, r1) → is_ascending (receivers_in ps) ≡ true → split_at bytes ≡ Some (Split ps, r1)
 unfolding split_at
 split_steps bytes r0 r1 n ps e0 e1 e2 e3 = rw (e0, e1, e2, e3) refl
 
 pub split_again : (ps : List Payment) (rest : List ℕ) → ArePayments ps → split_at (length ps ∷ (flat_map payment_text ps ++ rest)) ≡ Some (Split ps, rest)
 split_again ps rest h =
     let others : List ℕ = flat_map payment_text ps ++ rest in
-    split_steps (length ps ∷ others) others rest (length ps) ps (byte_again (length ps) others) (and_from _ _ (le-leb 1 (length ps) h.some) (le-leb (length ps) 6 h.few)) (payments_again ps rest h.fit) h.ascending
+    split_steps (length ps ∷ others) others rest (length ps) ps (byte_again (length ps) others) (and_from _ _ (le-leb 1 (length ps) h.some) (le-leb (length ps) 6 h.few)) (list_again payment_at payment_text Fits payment_again ps rest h.fit) h.ascending
