@@ -15,7 +15,7 @@ mod trail;
 mod words;
 
 pub use laws::{scene_is_sound, shared_accounts_count, waits_are_conflicts, words_show_rows};
-pub use plan::Plan;
+pub use plan::{Plan, SLOTS_END};
 pub use words::WordRef;
 
 #[cfg(test)]

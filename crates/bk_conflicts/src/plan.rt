@@ -15,6 +15,9 @@ use bk_tx::Tx;
 use std::alloc::{AllocError, Global};
 use std::marker::Model;
 
+/// A plan has fewer slots than this.
+pub const SLOTS_END: usize = 1 << 31;
+
 /// The transactions of an execution, the words of each, and which of them wait for which. A place
 /// is the index of a transaction.
 #[derive(Drop)]

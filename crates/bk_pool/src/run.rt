@@ -17,16 +17,13 @@ use crate::outcome::{ExecFault, outcome_of};
 use crate::place::Gate;
 use crate::work::{serve, try_claim};
 use bk_bank::{Bank, Pass};
-use bk_conflicts::Plan;
+use bk_conflicts::{Plan, SLOTS_END};
 use bk_rules::State;
 use bk_steps::Outcome;
 use bk_tx::Tx;
 use std::alloc::{AllocError, Global};
 use std::sync::{Arc, Wait};
 use std::thread::Threads;
-
-// A plan has fewer slots than this.
-const SLOTS_END: usize = 1 << 31;
 
 /// Executes transactions from a state, with so many workers. The accounts and the receipts are what
 /// the transactions give one at a time, however the workers run.

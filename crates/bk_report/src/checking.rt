@@ -14,7 +14,7 @@ use bk_rules::{Account, account_leaf};
 use std::alloc::{AllocError, Global};
 
 /// No text of a proof is longer.
-const MOST_PROOF: usize = 65_536;
+pub const MOST_PROOF: usize = 65_536;
 
 /// Whether the path of a proof leads from its account to the digest of its state.
 fn leads(proof: &Proof) -> bool

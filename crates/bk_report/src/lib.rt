@@ -15,7 +15,7 @@ mod proof;
 mod reading;
 mod report;
 
-pub use checking::check_proof;
+pub use checking::{MOST_PROOF, check_proof};
 pub use groups::{
     put_accounts, put_anchors, put_batches, put_certs, put_receipts, put_rejects, put_waiting,
 };
