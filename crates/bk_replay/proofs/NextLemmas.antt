@@ -78,9 +78,9 @@ none_ahead payloads l a all none = record {
 }
 
 -- the slices after one that was executed
-pub behind_ahead : (payloads : List (List ℕ)) (from : ℕ) (version : Version) (slots : List ℕ) (l : Ledger) (a : Ahead) → from ≡ length l.counts.items → l.state.version ≡ version → l.state.slots ≡ slots
+pub ahead_after : (payloads : List (List ℕ)) (from : ℕ) (version : Version) (slots : List ℕ) (l : Ledger) (a : Ahead) → from ≡ length l.counts.items → l.state.version ≡ version → l.state.slots ≡ slots
     → IsAheadOf payloads from version slots a → IsAheadOf payloads (length l.counts.items) l.state.version l.state.slots a
-behind_ahead payloads from version slots l a at version_is slots_are behind =
+ahead_after payloads from version slots l a at version_is slots_are behind =
     subst (λ (s : ℕ × Version × List ℕ). IsAheadOf payloads s.0 s.1 s.2 a) (λ i. (at i, sym version_is i, sym slots_are i)) behind
 
 -- ---- executing

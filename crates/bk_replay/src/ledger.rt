@@ -45,8 +45,8 @@ pub(crate) fn decode_all(
 }
 
 impl Ledger {
-    // Executes batches that were read, and leaves none of them.
-    fn run(&mut self, alloc: Global, batches: &mut Batches) -> Result<(), AllocError>
+    /// Executes batches that were read, and leaves none of them.
+    pub(crate) fn run(&mut self, alloc: Global, batches: &mut Batches) -> Result<(), AllocError>
         requires room { HasRoom self.old.state.version
             (length batches.old.txs.items) self.old.state.rows }
         ensures ran { OnOk result

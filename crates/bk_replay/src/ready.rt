@@ -7,7 +7,7 @@ ghost use Rattle.bk_rules.specs.Ledger.{are_covered, has_slot, is_covered};
 ghost use Rattle.bk_replay.specs.private.Slices.{IsAheadOf, IsNextFrom, IsNoneAhead, IsReadOf, IsReady};
 
 use crate::slice::{Batches, gather_near};
-use bk_conflicts::Plan;
+use bk_conflicts::{Plan, SLOTS_END};
 use bk_frames::Version;
 use bk_order::Intake;
 use bk_rules::Ids;
@@ -15,9 +15,6 @@ use bk_tx::{Declarations, Tx};
 use std::alloc::{AllocError, Global};
 use std::sync::{Arc, Wait};
 use std::thread::{Threads, join};
-
-/// A plan has fewer slots than this.
-pub(crate) const SLOTS_END: usize = 1 << 31;
 
 /// Batches that follow each other in an order, and the plan of their transactions.
 #[derive(Drop)]
@@ -134,7 +131,7 @@ pub(crate) fn look_ahead<R: Threads + Wait + Sync>(
     ensures { IfOk result (IsAheadOf intake.now.ordered.payloads.list from version ids.now) }
 {
     let later = from + read.counts.len();
-    let (behind, planned) = join(
+    let (gathered, planned) = join(
         rt,
         || -> Result<Batches, AllocError>
             requires { (intake.now.failed ≡ false) × (least < 2 ^ 30)
@@ -148,7 +145,7 @@ pub(crate) fn look_ahead<R: Threads + Wait + Sync>(
         { plan_ahead(alloc, read, version, ids) },
     );
     let next = planned?;
-    let read = behind?;
+    let read = gathered?;
     Ok(Ahead { next, read })
 }
 

@@ -16,16 +16,13 @@ use crate::applying::write_report;
 use crate::fault::Fault;
 use crate::ledger::Ledger;
 use crate::slice::Batches;
-use bk_conflicts::Plan;
+use bk_conflicts::{Plan, SLOTS_END};
 use bk_frames::{Feed, FeedFault, Sink, Source, WriteFault};
 use bk_report::Page;
 use bk_rules::State;
 use bk_steps::{Event, Outcome, ScheduleFault, run_schedule};
 use bk_tx::Tx;
 use std::alloc::{AllocError, AllocFailed, Global};
-
-// A plan has fewer slots than this.
-const SLOTS_END: usize = 1 << 31;
 
 /// Why a schedule gives no report.
 #[derive(Clone, Copy, Debug, PartialEq, Eq)]

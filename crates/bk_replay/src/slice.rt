@@ -14,7 +14,8 @@ ghost use Rattle.bk_replay.specs.private.Slices.{HasExecuted, HasRun, IsAheadOf,
 
 use crate::fault::Fault;
 use crate::ledger::{Ledger, decode_all};
-use crate::ready::{Ahead, Next, Ready, SLOTS_END, look_ahead, read_two};
+use crate::ready::{Ahead, Next, Ready, look_ahead, read_two};
+use bk_conflicts::SLOTS_END;
 use bk_frames::Kind;
 use bk_order::Intake;
 use bk_pool::{ExecFault, Gate, execute};
@@ -24,8 +25,8 @@ use std::alloc::{AllocError, Global};
 use std::sync::Wait;
 use std::thread::{Threads, join};
 
-// A slice has enough transactions to be worth its threads.
-const FEWEST: usize = 16_384;
+/// A slice has enough transactions to be worth its threads.
+pub(crate) const FEWEST: usize = 16_384;
 
 // A slice takes whole batches until it has so many transactions: an eighth of the accounts, since it copies the numbers
 // of all of them, if these are no fewer than a given number. A batch has fewer than 65,536.
@@ -96,8 +97,13 @@ impl Batches {
     }
 }
 
-// Reads the batches of an order from a place on, until they have so many transactions or the order ends.
-fn gather(alloc: Global, intake: &Intake, from: usize, least: usize) -> Result<Batches, AllocError>
+/// Reads the batches of an order from a place on, until they have so many transactions or the order ends.
+pub(crate) fn gather(
+    alloc: Global,
+    intake: &Intake,
+    from: usize,
+    least: usize,
+) -> Result<Batches, AllocError>
     requires open { intake.now.failed ≡ false }
     requires within { from ≤ length intake.now.ordered.payloads.list }
     requires least { least < 2 ^ 30 }
@@ -233,7 +239,7 @@ impl Ledger {
             return Ok((ledger, Ahead::none(alloc)));
         }
         let ids = ledger.state.ids().share()?;
-        let (behind, ran) = join(
+        let (later, ran) = join(
             rt,
             || -> Result<Ahead, AllocError>
                 requires { IsSync R.row × (intake.now.failed ≡ false) × (least < 2 ^ 30)
@@ -256,8 +262,8 @@ impl Ledger {
             { ledger.run_ready(rt, alloc, ready, workers, gate) },
         );
         let ledger = ran?;
-        let behind = behind?;
-        Ok((ledger, behind))
+        let later = later?;
+        Ok((ledger, later))
     }
 
     // Executes the batches of an order that follow those executed before, in slices of at least so many transactions.
@@ -292,9 +298,9 @@ impl Ledger {
         while ledger.counts.len() < end {
             // New accounts make slices longer.
             let least = least_of(ledger.state.slots().len(), fewest);
-            let (after, behind) = ledger.run_next(rt, alloc, intake, ahead, least, workers, gate)?;
+            let (after, later) = ledger.run_next(rt, alloc, intake, ahead, least, workers, gate)?;
             ledger = after;
-            ahead = behind;
+            ahead = later;
         }
         Ok(ledger)
     }
@@ -323,6 +329,10 @@ impl Ledger {
             let left = transactions_of (left_of intake.now.ordered.payloads.list self) in
             IfErr result (Leaves first (first + length left)) }
     {
+        if self.has_little_left(intake) {
+            let ledger = self.execute_few(alloc, intake)?;
+            return Ok(ledger);
+        }
         self.execute_by(rt, alloc, intake, FEWEST, workers, gate)
     }
 }

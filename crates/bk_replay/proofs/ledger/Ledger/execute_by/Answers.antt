@@ -1,14 +1,14 @@
 use Rattle.std.proofs.Common.{◌<◌, length, refl, ◌∙◌, arith}
 use Rattle.std.proofs.lemmas.Result.{err_from_is_err_and}
 use Rattle.bk_replay.proofs.SliceLemmas.{way_begins, way_goes_on, way_ends, places_within, room_for_slice, counts_after, leaves_weaker}
-use Rattle.bk_replay.proofs.NextLemmas.{behind_ahead}
+use Rattle.bk_replay.proofs.NextLemmas.{ahead_after}
 use Rattle.bk_replay.proofs.ledger.Ledger.execute_by.Goals as goal
 
 pub read_two-requires-clause-within : goal.read_two-requires-clause-within
 read_two-requires-clause-within g c = omega (arith, c.requires.within, c.len-from.ensures, c.args.self.counts.ok.0)
 
 pub loop-alloc-init : goal.loop-alloc-init
-loop-alloc-init g c = record { way = way_begins _ _; within = c.requires.within; ahead = behind_ahead _ _ _ _ c.args.self _ (c.len-from.ensures ∙ c.args.self.counts.ok.0) refl refl (c.in_ok-ahead.ensures c.args.self.state.version c.args.self.state.slots) }
+loop-alloc-init g c = record { way = way_begins _ _; within = c.requires.within; ahead = ahead_after _ _ _ _ c.args.self _ (c.len-from.ensures ∙ c.args.self.counts.ok.0) refl refl (c.in_ok-ahead.ensures c.args.self.state.version c.args.self.state.slots) }
 
 pub run_next-requires-clause-ahead : goal.run_next-requires-clause-ahead
 run_next-requires-clause-ahead g c = λ _ _. c.loop-alloc.invariant.ahead
