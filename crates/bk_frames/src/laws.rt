@@ -19,7 +19,7 @@ pub fn feed_or_fault()
 {}
 
 /// What a source has given determines the one offset of the frame that was being read: where it failed, and where
-/// memory was refused.
+/// memory was refused. Of a part of a frame its kind and its length are known.
 pub fn one_frame_was_read()
     ensures failed { OneStop }
     ensures refused { OneCallForMemory }

@@ -58,7 +58,7 @@ impl Hints {
         self.key
     }
 
-    // The slot where an id's hint is, if those before it are free.
+    // The slot where an id's hint is, if that was free when it was put there.
     fn home(&self, id: u64) -> usize {
         let spread = id.wrapping_mul(SPREAD);
         let spread = if self.key == 0 {

@@ -8,7 +8,7 @@ use Rattle.bk_script.specs.Judging.{judged}
 use Rattle.bk_script.specs.Script.{LineFault, ended_lines, last_line, in_line, then_from, after_lines}
 use Rattle.bk_script.specs.declared.fault.ScriptFault.{ScriptFault}
 use Rattle.bk_script.specs.declared.fault.ScriptFault.TheVariants as fault
-use Rattle.bk_script.specs.private.Telling.{Tells}
+use Rattle.bk_script.specs.private.Agreeing.{Agrees}
 use Rattle.bk_script.proofs.Cuts.{piece_step, goes_on}
 
 -- ---- what is known after lines
@@ -147,8 +147,8 @@ none_ended k a count start end text h l e (before, parts, n, known) = (before, g
 
 -- a line has a fault
 pub one_stops : (k a : Known) (count start end : ℕ) (text : List ℕ) (e : ScriptFault) → start ≤ end → end < length text → get_or text end 0 ≡ 10
-    → Tells {A = Unit {0}} {B = Known} (λ _. k) (Err e) (in_line (count + 1) (judged a (take (end - start) (drop start text)))) → HasTaken k a count start end text
-    → Tells {A = Unit {0}} {B = Known} (λ _. k) (Err e) (after_lines k 1 (ended_lines text))
+    → Agrees {A = Unit {0}} {B = Known} (λ _. k) (Err e) (in_line (count + 1) (judged a (take (end - start) (drop start text)))) → HasTaken k a count start end text
+    → Agrees {A = Unit {0}} {B = Known} (λ _. k) (Err e) (after_lines k 1 (ended_lines text))
 one_stops k a count start end text (fault.Script line found) h l e bad (before, parts, n, known) =
     let (more, begins) = ended_begin before text start end h l e parts in
     ap (after_lines k 1) begins ∙ after_bad k a (count + 1) before more (take (end - start) (drop start text)) (record { line = line; code = found }) known (omega (arith, n)) bad

@@ -13,10 +13,10 @@ use Rattle.bk_script.specs.declared.fault.ScriptFault.{ScriptFault}
 use Rattle.bk_script.specs.declared.fault.ScriptFault.TheVariants as fault
 use Rattle.bk_script.specs.Known.{Known, nothing_known}
 use Rattle.bk_script.specs.Judging.{judged}
-use Rattle.bk_script.specs.Script.{LineFault, ended_lines, last_line, lines_of, in_line, then_from, after_lines, feed_behind, feed_of_lines, crossing, feed_within, feed_of}
+use Rattle.bk_script.specs.Script.{LineFault, ended_lines, last_line, lines_of, in_line, then_from, after_lines, feed_after, feed_of_lines, crossing, feed_within, feed_of}
 use Rattle.bk_script.specs.declared.making.TheConstants.{MOST_SCRIPT}
 use Rattle.bk_script.specs.Answers.{FailsBy, IsMade, IsMadeInPart, devices, IsRead, HasRead, IsNotRead}
-use Rattle.bk_script.specs.private.Telling.{IsFeedFrom, IsNoFeedFrom, Tells}
+use Rattle.bk_script.specs.private.Agreeing.{IsFeedFrom, IsNoFeedFrom, Agrees}
 use Rattle.bk_script.proofs.TextLines.{after_append, after_good, after_bad}
 
 -- ---- what was read of a source
@@ -53,13 +53,13 @@ with_fault false k ls last f e = after_append k 1 ls (last ∷ []) ∙ ap (λ r.
 short_or_long : (b : Bool) (most : ℕ) (text : List ℕ) (f : LineFault) → length text ≤ most + 1 → after_lines nothing_known 1 (ended_lines text) ≡ Err f
     → (if b then feed_of_lines (lines_of text) else crossing (take (most + 1) text)) ≡ Err f
 short_or_long true most text f few e =
-    ap (λ r. then_from r (λ k. feed_behind (length (lines_of text)) k)) (with_fault (length (last_line text) == 0) nothing_known (ended_lines text) (last_line text) f e)
+    ap (λ r. then_from r (λ k. feed_after (length (lines_of text)) k)) (with_fault (length (last_line text) == 0) nothing_known (ended_lines text) (last_line text) f e)
 short_or_long false most text f few e =
     ap crossing (take_all (most + 1) text few) ∙ ap (λ r. then_from {A = List ℕ} r (λ k. Err (record { line = length (lines_of text); code = code.Range }))) e
 
 -- a line that a line feed ends has a fault
 pub ended_fault : (k : Known) (most : ℕ) (text : List ℕ) (e : ScriptFault) → k ≡ nothing_known → length text ≤ most + 1
-    → Tells {A = Unit {0}} {B = Known} (λ _. k) (Err e) (after_lines k 1 (ended_lines text)) → Tells {A = Unit {0}} {B = List ℕ} (λ _. []) (Err e) (feed_within most text)
+    → Agrees {A = Unit {0}} {B = Known} (λ _. k) (Err e) (after_lines k 1 (ended_lines text)) → Agrees {A = Unit {0}} {B = List ℕ} (λ _. []) (Err e) (feed_within most text)
 unfolding feed_within
 ended_fault k most text (fault.Script line found) none few bad =
     short_or_long (nat_le (length text) most) most text (record { line = line; code = found }) few (ap (λ a. after_lines a 1 (ended_lines text)) (sym none) ∙ bad)
@@ -79,16 +79,16 @@ pub rest_is : (text last : List ℕ) (end : ℕ) → last ≡ take (length text 
 rest_is text last end is rest = is ∙ take_all (length text - end) (drop end text) (omega (arith, length-drop end text)) ∙ rest
 
 -- there are none
-pub behind_none : (k a : Known) (most count lines end : ℕ) (text last : List ℕ) → k ≡ nothing_known → length text ≤ most → after_lines k 1 (ended_lines text) ≡ Ok a
+pub feed_after_none : (k a : Known) (most count lines end : ℕ) (text last : List ℕ) → k ≡ nothing_known → length text ≤ most → after_lines k 1 (ended_lines text) ≡ Ok a
     → count ≡ length (ended_lines text) → lines ≡ count → last ≡ take (length text - end) (drop end text) → drop end text ≡ last_line text → true ≡ (length last == 0)
-    → feed_within most text ≡ feed_behind lines a
-behind_none k a most count lines end text last none few known n counted is rest empty =
+    → feed_within most text ≡ feed_after lines a
+feed_after_none k a most count lines end text last none few known n counted is rest empty =
     let no_bytes : length (last_line text) ≡ 0 = ap length (sym (rest_is text last end is rest)) ∙ eqb-true (length last) 0 (sym empty) in
     let same : lines_of text ≡ ended_lines text = ap (λ b. if b then ended_lines text else ended_lines text ++ last_line text ∷ []) (eq-eqb (length (last_line text)) 0 no_bytes) in
     within_short most text few ∙ ap feed_of_lines same
-    ∙ ap (λ b. then_from (after_lines b 1 (ended_lines text)) (λ k. feed_behind (length (ended_lines text)) k)) (sym none)
-    ∙ ap (λ r. then_from r (λ k. feed_behind (length (ended_lines text)) k)) known
-    ∙ ap (λ m. feed_behind m a) (sym n ∙ sym counted)
+    ∙ ap (λ b. then_from (after_lines b 1 (ended_lines text)) (λ k. feed_after (length (ended_lines text)) k)) (sym none)
+    ∙ ap (λ r. then_from r (λ k. feed_after (length (ended_lines text)) k)) known
+    ∙ ap (λ m. feed_after m a) (sym n ∙ sym counted)
 
 -- the line without a line feed
 pub lines_one : (text last : List ℕ) (end : ℕ) → last ≡ take (length text - end) (drop end text) → drop end text ≡ last_line text → false ≡ (length last == 0)
@@ -98,26 +98,26 @@ lines_one text last end is rest some =
     ap (λ b. if b then ended_lines text else ended_lines text ++ last_line text ∷ []) (ap (λ l. length l == 0) (sym same) ∙ sym some)
     ∙ ap (λ (l : List ℕ). ended_lines text ++ l ∷ []) (sym same)
 
-pub behind_one : (k a b : Known) (most count lines end : ℕ) (text last : List ℕ) → k ≡ nothing_known → length text ≤ most → after_lines k 1 (ended_lines text) ≡ Ok a
+pub feed_after_one : (k a b : Known) (most count lines end : ℕ) (text last : List ℕ) → k ≡ nothing_known → length text ≤ most → after_lines k 1 (ended_lines text) ≡ Ok a
     → count ≡ length (ended_lines text) → lines ≡ count + 1 → last ≡ take (length text - end) (drop end text) → drop end text ≡ last_line text → false ≡ (length last == 0)
-    → in_line lines (judged a last) ≡ Ok b → feed_within most text ≡ feed_behind lines b
-behind_one k a b most count lines end text last none few known n counted is rest some good =
+    → in_line lines (judged a last) ≡ Ok b → feed_within most text ≡ feed_after lines b
+feed_after_one k a b most count lines end text last none few known n counted is rest some good =
     let all = ended_lines text ++ last ∷ [] in
     let many : length all ≡ lines = omega (arith, n, counted, length-append (ended_lines text) (last ∷ [])) in
     within_short most text few ∙ ap feed_of_lines (lines_one text last end is rest some)
-    ∙ ap (λ j. then_from (after_lines j 1 all) (λ k. feed_behind (length all) k)) (sym none)
-    ∙ ap (λ r. then_from r (λ k. feed_behind (length all) k)) (after_good k a b lines (ended_lines text) last known (omega (arith, n, counted)) good)
-    ∙ ap (λ m. feed_behind m b) many
+    ∙ ap (λ j. then_from (after_lines j 1 all) (λ k. feed_after (length all) k)) (sym none)
+    ∙ ap (λ r. then_from r (λ k. feed_after (length all) k)) (after_good k a b lines (ended_lines text) last known (omega (arith, n, counted)) good)
+    ∙ ap (λ m. feed_after m b) many
 
 -- it has a fault
 pub last_fault : (k a : Known) (most count lines end : ℕ) (text last : List ℕ) (e : ScriptFault) → k ≡ nothing_known → length text ≤ most → after_lines k 1 (ended_lines text) ≡ Ok a
     → count ≡ length (ended_lines text) → lines ≡ count + 1 → last ≡ take (length text - end) (drop end text) → drop end text ≡ last_line text → false ≡ (length last == 0)
-    → Tells {A = Unit {0}} {B = Known} (λ _. k) (Err e) (in_line lines (judged a last)) → Tells {A = Unit {0}} {B = List ℕ} (λ _. []) (Err e) (feed_within most text)
+    → Agrees {A = Unit {0}} {B = Known} (λ _. k) (Err e) (in_line lines (judged a last)) → Agrees {A = Unit {0}} {B = List ℕ} (λ _. []) (Err e) (feed_within most text)
 last_fault k a most count lines end text last (fault.Script line found) none few known n counted is rest some bad =
     let all = ended_lines text ++ last ∷ [] in
     within_short most text few ∙ ap feed_of_lines (lines_one text last end is rest some)
-    ∙ ap (λ j. then_from (after_lines j 1 all) (λ k. feed_behind (length all) k)) (sym none)
-    ∙ ap (λ r. then_from r (λ k. feed_behind (length all) k)) (after_bad k a lines (ended_lines text) [] last (record { line = line; code = found }) known (omega (arith, n, counted)) bad)
+    ∙ ap (λ j. then_from (after_lines j 1 all) (λ k. feed_after (length all) k)) (sym none)
+    ∙ ap (λ r. then_from r (λ k. feed_after (length all) k)) (after_bad k a lines (ended_lines text) [] last (record { line = line; code = found }) known (omega (arith, n, counted)) bad)
 last_fault k a most count lines end text last fault.Read none few known n counted is rest some bad = bad
 last_fault k a most count lines end text last (fault.Write written) none few known n counted is rest some bad = bad
 last_fault k a most count lines end text last fault.Memory none few known n counted is rest some bad = bad
@@ -154,7 +154,7 @@ text_gives most old new text feed read e =
     (read.0, known_then old.bytes (λ bytes. IsRead most bytes text) (λ bytes. feed_within most bytes ≡ Ok feed) (λ bytes is. sym (feed_of_read most bytes text is) ∙ e) read.2)
 
 pub text_fails : (most : ℕ) (old new : Device) (text : List ℕ) (e : ScriptFault) → HasRead most old new text
-    → Tells {A = Unit {0}} {B = List ℕ} (λ _. []) (Err e) (feed_within most text) → IsNoFeedFrom most e old new
+    → Agrees {A = Unit {0}} {B = List ℕ} (λ _. []) (Err e) (feed_within most text) → IsNoFeedFrom most e old new
 text_fails most old new text (fault.Script line found) read h =
     (read.0, known_then old.bytes (λ bytes. IsRead most bytes text) (λ bytes. feed_within most bytes ≡ Err (record { line = line; code = found })) (λ bytes is. sym (feed_of_read most bytes text is) ∙ h) read.2)
 text_fails most old new text fault.Read read h = absurd h

@@ -194,18 +194,18 @@ is_transaction keyword.Again = false
 
 -- the line is in its place: `version` first of all, then `members`, accounts before the first `batch` or `cert`, and
 -- a transaction in a batch
-abbrev pub stands : Known → Keyword → Bool
-stands k keyword.Version = not k.versioned && not (is_some k.weights)
-stands k keyword.Members = not (is_some k.weights)
-stands k keyword.Account = is_some k.weights && not k.late
-stands k keyword.Batch = is_some k.weights
-stands k keyword.Cert = is_some k.weights
-stands k keyword.Again = is_some k.weights
-stands k keyword.Pay = is_some k.batch
-stands k keyword.PayIf = is_some k.batch
-stands k keyword.Sweep = is_some k.batch
-stands k keyword.Split = is_some k.batch
-stands k keyword.Raw = is_some k.batch
+abbrev pub is_in_place : Known → Keyword → Bool
+is_in_place k keyword.Version = not k.versioned && not (is_some k.weights)
+is_in_place k keyword.Members = not (is_some k.weights)
+is_in_place k keyword.Account = is_some k.weights && not k.late
+is_in_place k keyword.Batch = is_some k.weights
+is_in_place k keyword.Cert = is_some k.weights
+is_in_place k keyword.Again = is_some k.weights
+is_in_place k keyword.Pay = is_some k.batch
+is_in_place k keyword.PayIf = is_some k.batch
+is_in_place k keyword.Sweep = is_some k.batch
+is_in_place k keyword.Split = is_some k.batch
+is_in_place k keyword.Raw = is_some k.batch
 
 -- a line of this kind and of these words, in its place
 abbrev pub meaning : Known → Keyword → List (List ℕ) → Result Known ScriptCode
@@ -224,7 +224,7 @@ meaning k keyword.Again words = again_line (closed k) words
 -- the same once its place is judged, None being a line of no kind
 unfoldable pub placed : Known → Option Keyword → List (List ℕ) → Result Known ScriptCode
 placed k None words = Err code.Word
-placed k (Some found) words = if stands k found then meaning k found words else Err code.Place
+placed k (Some found) words = if is_in_place k found then meaning k found words else Err code.Place
 
 -- what is known after a line, or what is wrong with it
 unfoldable pub judged : Known → List ℕ → Result Known ScriptCode

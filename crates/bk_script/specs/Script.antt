@@ -56,12 +56,12 @@ feed_with n k None = Err (record { line = n; code = code.Place })
 feed_with n k (Some weights) = Ok (feed_text k.version weights k.accounts k.body)
 
 -- the feed of what is known after this many lines, once an open batch is closed
-abbrev pub feed_behind : ℕ → Known → Result (List ℕ) LineFault
-feed_behind lines k = feed_with (lines + 1) (closed k) (closed k).weights
+abbrev pub feed_after : ℕ → Known → Result (List ℕ) LineFault
+feed_after lines k = feed_with (lines + 1) (closed k) (closed k).weights
 
 -- the feed of lines
 abbrev pub feed_of_lines : List (List ℕ) → Result (List ℕ) LineFault
-feed_of_lines lines = then_from (after_lines nothing_known 1 lines) (λ k. feed_behind (length lines) k)
+feed_of_lines lines = then_from (after_lines nothing_known 1 lines) (λ k. feed_after (length lines) k)
 
 -- a text that crosses the limit in its last line: this is a fault of the range, unless a line that a line feed ends has
 -- a fault

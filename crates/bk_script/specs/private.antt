@@ -1,5 +1,5 @@
 pub mod Saying
-pub mod Telling
+pub mod Agreeing
 pub mod Listing
 pub mod Held
 pub mod Places

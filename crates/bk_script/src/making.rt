@@ -4,8 +4,8 @@ ghost use Rattle.std.specs.Prelude.{◌≡◌, ◌+◌, ◌≤◌, ◌<◌, ◌^
 ghost use Rattle.bk_frames.specs.Device.{CanBeUsed, Works, IfKnown};
 ghost use Rattle.bk_script.specs.Answers.{FailsBy, IsMade, devices};
 ghost use Rattle.bk_script.specs.Judging.{judged};
-ghost use Rattle.bk_script.specs.Script.{after_lines, ended_lines, feed_behind, feed_within, in_line, last_line};
-ghost use Rattle.bk_script.specs.private.Telling.{IsFeedFrom, IsNoFeedFrom, Tells};
+ghost use Rattle.bk_script.specs.Script.{after_lines, ended_lines, feed_after, feed_within, in_line, last_line};
+ghost use Rattle.bk_script.specs.private.Agreeing.{IsFeedFrom, IsNoFeedFrom, Agrees};
 
 use crate::fault::{ScriptCode, ScriptFault, Stop};
 use crate::reading::read_text;
@@ -21,7 +21,7 @@ pub(crate) const PIECE: usize = 65_536;
 
 // Takes the line of this number.
 fn take_line(script: &mut Script, number: u64, line: &[u8]) -> Result<(), ScriptFault>
-    ensures { Tells (λ _. script.new) result (in_line number (judged script.old line.now)) }
+    ensures { Agrees (λ _. script.new) result (in_line number (judged script.old line.now)) }
 {
     match script.take(line) {
         Ok(()) => Ok(()),
@@ -39,7 +39,7 @@ pub(crate) struct Ended {
 
 // Takes the lines that a line feed ends.
 fn take_ended(script: &mut Script, text: &[u8]) -> Result<Ended, ScriptFault>
-    ensures lines { Tells (λ _. script.new) result
+    ensures lines { Agrees (λ _. script.new) result
         (after_lines script.old 1 (ended_lines text.now)) }
     ensures count { IfOk result (λ ended. (ended.count ≡ length (ended_lines text.now))
         × (ended.count ≤ length text.now)) }
@@ -59,9 +59,9 @@ fn take_ended(script: &mut Script, text: &[u8]) -> Result<Ended, ScriptFault>
 }
 
 // The feed of what is known after this many lines.
-fn feed_behind(mut script: Script, lines: u64) -> Result<Vec<u8>, ScriptFault>
+fn feed_after(mut script: Script, lines: u64) -> Result<Vec<u8>, ScriptFault>
     requires { lines < 2 ^ 32 }
-    ensures { Tells (λ feed. feed.items) result (feed_behind lines script) }
+    ensures { Agrees (λ feed. feed.items) result (feed_after lines script) }
 {
     script.close()?;
     match script.feed()? {
@@ -79,7 +79,7 @@ fn feed_behind(mut script: Script, lines: u64) -> Result<Vec<u8>, ScriptFault>
 pub(crate) fn feed_within(alloc: Global, text: &[u8], most: usize) -> Result<Vec<u8>, ScriptFault>
     requires few { length text.now ≤ most + 1 }
     requires most { most < 2 ^ 31 }
-    ensures { Tells (λ feed. feed.items) result (feed_within most text.now) }
+    ensures { Agrees (λ feed. feed.items) result (feed_within most text.now) }
 {
     let mut script = Script::new(alloc)?;
     let ended = take_ended(&mut script, text)?;
@@ -96,7 +96,7 @@ pub(crate) fn feed_within(alloc: Global, text: &[u8], most: usize) -> Result<Vec
     if !last.is_empty() {
         take_line(&mut script, lines, last)?;
     }
-    feed_behind(script, lines)
+    feed_after(script, lines)
 }
 
 // The feed of the script that a source gives, whose text may have `most` bytes.

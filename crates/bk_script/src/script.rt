@@ -3,7 +3,7 @@
 ghost use Rattle.std.specs.Prelude.{◌≡◌, ◌++◌, ◌≤◌, ◌<◌, ◌-◌, ◌^◌, Ok, Err, MatchResult, IfOk, OnOk, IsTrue, length, map, All, Some, option_map};
 ghost use Rattle.bk_frames.specs.Feed.{frame_of, frame_text};
 ghost use Rattle.bk_script.specs.Known.{nothing_known, closed, grown, with_frame};
-ghost use Rattle.bk_script.specs.Judging.{stands, meaning, judged, version_line, members_line, account_line, batch_line, transaction_line, raw_line, cert_line, again_line, with_certificate, with_named};
+ghost use Rattle.bk_script.specs.Judging.{is_in_place, meaning, judged, version_line, members_line, account_line, batch_line, transaction_line, raw_line, cert_line, again_line, with_certificate, with_named};
 ghost use Rattle.bk_script.specs.Transactions.{with_text};
 ghost use Rattle.bk_script.specs.Feeds.{feed_text};
 ghost use Rattle.bk_script.specs.Lines.{takes};
@@ -83,8 +83,8 @@ impl Script {
     }
 
     // Whether a line of this kind is in its place.
-    fn stands(&self, keyword: Keyword) -> bool
-        ensures { result ≡ stands self.now keyword }
+    fn is_in_place(&self, keyword: Keyword) -> bool
+        ensures { result ≡ is_in_place self.now keyword }
     {
         match keyword {
             Keyword::Version => !self.versioned && self.weights.is_none(),
@@ -343,7 +343,7 @@ impl Script {
         let Some(keyword) = kind(self.version, &words) else {
             return Err(Stop::Code(ScriptCode::Word));
         };
-        if !self.stands(keyword) {
+        if !self.is_in_place(keyword) {
             return Err(Stop::Code(ScriptCode::Place));
         }
         self.mean(keyword, &words)

@@ -8,11 +8,8 @@ ghost use Rattle.bkreplay.specs.Faults.{FeedIsOut, VerdictIsOut, CheckFailsBy, v
 
 use crate::exit::Exit;
 use bk_frames::{Sink, Source, push_all};
-use bk_replay::check_proof;
+use bk_replay::{MOST_PROOF, check_proof};
 use bk_script::{ScriptFault, make, read_text};
-
-/// No text of a proof is longer.
-const MOST_PROOF: usize = 65_536;
 
 /// How many bytes of a proof are asked for at once, at most.
 const PIECE: usize = 4_096;

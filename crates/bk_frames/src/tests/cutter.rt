@@ -114,7 +114,7 @@ fn expect_refused(rt: &impl Abort, cutter: &mut Cutter, bytes: &[u8], fault: Fee
 }
 
 #[test]
-fn tells_a_fault_with_its_first_byte(rt: HostRuntime) {
+fn reports_a_fault_with_its_first_byte(rt: HostRuntime) {
     let fault = FeedFault {
         offset: 4,
         code: FaultCode::Committee,
@@ -127,7 +127,7 @@ fn tells_a_fault_with_its_first_byte(rt: HostRuntime) {
 }
 
 #[test]
-fn tells_a_fault_of_the_magic(rt: HostRuntime) {
+fn reports_a_fault_of_the_magic(rt: HostRuntime) {
     let fault = FeedFault {
         offset: 0,
         code: FaultCode::Magic,
@@ -148,7 +148,7 @@ fn hands_out_no_frame_with_a_fault(rt: HostRuntime) -> Result<(), Fail> {
 }
 
 #[test]
-fn tells_a_length_before_its_payload(rt: HostRuntime) -> Result<(), Fail> {
+fn reports_a_length_before_its_payload(rt: HostRuntime) -> Result<(), Fail> {
     let fault = FeedFault {
         offset: 51,
         code: FaultCode::Length,

@@ -52,7 +52,7 @@ fn reader(calls: u32) -> Reader<'static> {
 }
 
 #[test]
-fn tells_a_failed_read(rt: HostRuntime) {
+fn reports_a_failed_read(rt: HostRuntime) {
     for calls in 0..100u32 {
         let mut source = Counted::new(reader(calls));
         let read = Feed::read(rt.alloc(), &mut source);
@@ -62,7 +62,7 @@ fn tells_a_failed_read(rt: HostRuntime) {
 }
 
 #[test]
-fn tells_each_call_that_a_fuse_fails(rt: HostRuntime) {
+fn reports_each_call_that_a_fuse_fails(rt: HostRuntime) {
     for k in 0..100u64 {
         let mut source = Fuse::new(Counted::new(reader(1000)), k);
         let read = Feed::read(rt.alloc(), &mut source);
@@ -119,7 +119,7 @@ fn writes_what_it_reads(rt: HostRuntime) -> Result<(), Fail> {
 }
 
 #[test]
-fn tells_what_was_written_before_a_fault(rt: HostRuntime) {
+fn reports_what_was_written_before_a_fault(rt: HostRuntime) {
     let whole = EMPTY_LEDGER.as_slice();
     for calls in 0..9u32 {
         let writer = Writer {
@@ -212,7 +212,7 @@ fn asks_a_source_once_at_its_end(rt: HostRuntime) -> Result<(), Fail> {
 }
 
 #[test]
-fn tells_a_write_of_no_byte(rt: HostRuntime) -> Result<(), Fail> {
+fn reports_a_write_of_no_byte(rt: HostRuntime) -> Result<(), Fail> {
     let writer = Writer {
         held: Vec::new(rt.alloc()),
         most: 1000,

@@ -22,7 +22,7 @@ fn reads_an_empty_ledger(rt: HostRuntime) -> Result<(), Fail> {
 }
 
 #[test]
-fn tells_each_cut_of_the_shortest_feed(rt: HostRuntime) {
+fn reports_each_cut_of_the_shortest_feed(rt: HostRuntime) {
     let whole = EMPTY_LEDGER.as_slice();
     for kept in 0..51usize {
         let offset = offset_of_cut(kept);
@@ -37,7 +37,7 @@ fn tells_each_cut_of_the_shortest_feed(rt: HostRuntime) {
 }
 
 #[test]
-fn tells_a_fault_of_the_magic(rt: HostRuntime) {
+fn reports_a_fault_of_the_magic(rt: HostRuntime) {
     for magic in [b"BKF9".as_slice(), b"BKF0", b"BKF3", b"BL"] {
         expect_fault(&rt, rt.alloc(), magic, 0, FaultCode::Magic);
     }
@@ -58,7 +58,7 @@ fn expect_fault_at_once(
 }
 
 #[test]
-fn tells_a_fault_of_the_first_frame(rt: HostRuntime) -> Result<(), Fail> {
+fn reports_a_fault_of_the_first_frame(rt: HostRuntime) -> Result<(), Fail> {
     let heads: [(&[u8], FaultCode); 7] = [
         (b"\x00", FaultCode::Kind),
         (b"\x05", FaultCode::Kind),
@@ -75,7 +75,7 @@ fn tells_a_fault_of_the_first_frame(rt: HostRuntime) -> Result<(), Fail> {
 }
 
 #[test]
-fn tells_a_fault_after_the_genesis(rt: HostRuntime) -> Result<(), Fail> {
+fn reports_a_fault_after_the_genesis(rt: HostRuntime) -> Result<(), Fail> {
     let alloc = rt.alloc();
     let tail: [(&[u8], u64, FaultCode); 6] = [
         (b"\x01", 51, FaultCode::Extra),
@@ -94,7 +94,7 @@ fn tells_a_fault_after_the_genesis(rt: HostRuntime) -> Result<(), Fail> {
 }
 
 #[test]
-fn tells_a_second_frame_of_another_kind(rt: HostRuntime) -> Result<(), Fail> {
+fn reports_a_second_frame_of_another_kind(rt: HostRuntime) -> Result<(), Fail> {
     let alloc = rt.alloc();
     let mut second = Vec::from_slice(alloc, &EMPTY_LEDGER[..42])?;
     second.push(4)?;

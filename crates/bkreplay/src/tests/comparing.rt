@@ -64,7 +64,7 @@ fn balances_differ(rt: HostRuntime) -> Result<(), Fail> {
 }
 
 #[test]
-fn first_fault_is_told(rt: HostRuntime) -> Result<(), Fail> {
+fn first_fault_is_reported(rt: HostRuntime) -> Result<(), Fail> {
     let one = feed(rt.alloc(), &[], &[])?;
     let mut cut = feed(rt.alloc(), &[], &[])?;
     let _ = cut.pop();

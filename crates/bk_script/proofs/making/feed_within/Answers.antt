@@ -1,6 +1,6 @@
 use Rattle.std.proofs.Common.{◌≡◌, true, false, refl, sym, ◌∙◌}
 use Rattle.std.proofs.lemmas.Result.{err_from_is_err_and}
-use Rattle.bk_script.proofs.WholeTexts.{ended_fault, behind_none, behind_one, last_fault}
+use Rattle.bk_script.proofs.WholeTexts.{ended_fault, feed_after_none, feed_after_one, last_fault}
 use Rattle.bk_script.proofs.making.feed_within.Goals as goal
 use Rattle.bk_script.proofs.making.feed_within.Goals.{then-is_empty, else-is_empty, then-not-is_empty+in_ok-take_line, else-not-is_empty}
 
@@ -22,10 +22,10 @@ returns c =
     elim c.if-not-is_empty.branch [
       | then-not-is_empty+in_ok-take_line v ↦ elim c.if-is_empty.branch [
         | then-is_empty w ↦ (let both : true ≡ false = w.if-is_empty.ensures ∙ sym v.if-not-is_empty.ensures in absurd cc)
-        | else-is_empty w ↦ rw (behind_one c.in_ok-script.script c.take_ended.new.script v.take_line.new.script c.args.most c.in_ok-ended.ended.count c.if-is_empty.lines c.in_ok-ended.ended.end c.args.text.now _ c.in_ok-script.ensures c.if-text-most.false c.in_ok-ended.ensures.lines c.in_ok-ended.ensures.count.0 w.lines-is refl c.in_ok-ended.ensures.rest.1 w.if-is_empty.ensures v.in_ok-take_line.ensures, ← v.script-is) c.feed_behind.ensures
+        | else-is_empty w ↦ rw (feed_after_one c.in_ok-script.script c.take_ended.new.script v.take_line.new.script c.args.most c.in_ok-ended.ended.count c.if-is_empty.lines c.in_ok-ended.ended.end c.args.text.now _ c.in_ok-script.ensures c.if-text-most.false c.in_ok-ended.ensures.lines c.in_ok-ended.ensures.count.0 w.lines-is refl c.in_ok-ended.ensures.rest.1 w.if-is_empty.ensures v.in_ok-take_line.ensures, ← v.script-is) c.feed_after.ensures
       ]
       | else-not-is_empty v ↦ elim c.if-is_empty.branch [
-        | then-is_empty w ↦ rw (behind_none c.in_ok-script.script c.take_ended.new.script c.args.most c.in_ok-ended.ended.count c.if-is_empty.lines c.in_ok-ended.ended.end c.args.text.now _ c.in_ok-script.ensures c.if-text-most.false c.in_ok-ended.ensures.lines c.in_ok-ended.ensures.count.0 w.lines-is refl c.in_ok-ended.ensures.rest.1 w.if-is_empty.ensures, ← v.script-is) c.feed_behind.ensures
+        | then-is_empty w ↦ rw (feed_after_none c.in_ok-script.script c.take_ended.new.script c.args.most c.in_ok-ended.ended.count c.if-is_empty.lines c.in_ok-ended.ended.end c.args.text.now _ c.in_ok-script.ensures c.if-text-most.false c.in_ok-ended.ensures.lines c.in_ok-ended.ensures.count.0 w.lines-is refl c.in_ok-ended.ensures.rest.1 w.if-is_empty.ensures, ← v.script-is) c.feed_after.ensures
         | else-is_empty w ↦ (let both : true ≡ false = v.if-not-is_empty.ensures ∙ sym w.if-is_empty.ensures in absurd cc)
       ]
     ]

@@ -7,12 +7,12 @@ use Rattle.bk_script.specs.Script.{LineFault, feed_within}
 
 -- a function that uses no device and may be refused memory answers as defined: with this value, or with what is wrong
 -- and in which line
-abbrev pub Tells : {A B : Type 0} → (A → B) → Result A ScriptFault → Result B LineFault → Type 0
-Tells view (Ok a) defined = defined ≡ Ok (view a)
-Tells view (Err (fault.Script line found)) defined = defined ≡ Err (record { line = line; code = found })
-Tells view (Err fault.Read) defined = ⊥
-Tells view (Err (fault.Write written)) defined = ⊥
-Tells view (Err fault.Memory) defined = Unit {0}
+abbrev pub Agrees : {A B : Type 0} → (A → B) → Result A ScriptFault → Result B LineFault → Type 0
+Agrees view (Ok a) defined = defined ≡ Ok (view a)
+Agrees view (Err (fault.Script line found)) defined = defined ≡ Err (record { line = line; code = found })
+Agrees view (Err fault.Read) defined = ⊥
+Agrees view (Err (fault.Write written)) defined = ⊥
+Agrees view (Err fault.Memory) defined = Unit {0}
 
 -- the bytes of a source make this feed, and no call failed
 abbrev pub IsFeedFrom : ℕ → Device → Device → List ℕ → Type 0
