@@ -1,0 +1,14 @@
+pub mod Deciding
+pub mod Weights
+pub mod Listings
+pub mod Admitting
+pub mod Anchors
+pub mod Orders
+pub mod Verdicts
+pub mod Stops
+pub mod Answers
+pub mod Texts
+pub mod Fitting
+pub mod Proving
+pub mod Replying
+pub mod Growing

@@ -1,0 +1,196 @@
+-- A feed that has a report replies to each query in one way.
+use Rattle.std.proofs.Common.{◌≡◌, ◌⊎◌, ℕ, zero, suc, List, [], ◌∷◌, length, get_or, Option, Some, None, refl, sym, ap, subst, ◌∙◌, inl, inr, ⊎_elim, arith}
+use Rattle.std.specs.Prelude.{slice_get}
+use Rattle.std.specs.List.{Contains}
+use Rattle.std.proofs.lemmas.Bool.{cases_eq, cases_lt}
+use Rattle.std.proofs.lemmas.Option.{slice_get_within}
+use Rattle.bk_digest.specs.Tree.{path_of}
+use Rattle.bk_frames.specs.declared.genesis.Row.{Row}
+use Rattle.bk_frames.specs.Feed.{FeedValue, IsFeed, genesis_of, spelling}
+use Rattle.bk_frames.specs.Genesis.{ids_of}
+use Rattle.bk_frames.proofs.Accounts.{genesis_accounts}
+use Rattle.bk_frames.proofs.OneReading.{one_feed}
+use Rattle.bk_order.proofs.OneReading.{one_ordered}
+use Rattle.bk_order.specs.Orders.{Ordered}
+use Rattle.bk_rounds.proofs.Lists.{none_in_nil, contains_cases, contains_first, contains_later}
+use Rattle.bk_rules.specs.declared.account.Account.{Account}
+use Rattle.bk_rules.specs.declared.receipt.Receipt.{Receipt}
+use Rattle.bk_rules.specs.Fold.{receipts_of, state_after}
+use Rattle.bk_rules.specs.Rows.{IsLedger, account_at}
+use Rattle.bk_rules.proofs.Finding.{rises_by_index}
+use Rattle.bk_rules.proofs.Folding.{ledger_kept_by_fold, ledger_of_accounts}
+use Rattle.bk_report.specs.Leaves.{leaves_of, state_of}
+use Rattle.bk_report.specs.Lines.{text_of}
+use Rattle.bk_report.specs.declared.line.Line.TheVariants as line
+use Rattle.bk_report.specs.Proofs.{IsAbsent, IsProofOf, ProofValue, proof_text}
+use Rattle.bk_report.specs.Report.{transactions_of}
+use Rattle.bk_replay.specs.declared.query.Query.{Query}
+use Rattle.bk_replay.specs.declared.query.Query.TheVariants as query
+use Rattle.bk_replay.specs.declared.query.Reply.{Reply}
+use Rattle.bk_replay.specs.declared.query.Reply.TheVariants as reply
+use Rattle.bk_replay.specs.declared.status.Status.{Status}
+use Rattle.bk_replay.specs.Asking.{IsOutcomeOf, IsReply, Outcome, Replies, order_text}
+use Rattle.bk_replay.specs.RunReport.{IsReport, committee_in, later_frames}
+
+-- ---- the one account of an id
+
+id_at : (rows : List Row) (i : ℕ) (a : Row) → slice_get rows i ≡ Some a → get_or (ids_of rows) i 0 ≡ a.id
+id_at [] i a e = absurd cc
+id_at (r ∷ rows) zero a e = let same : r ≡ a = cc in ap (λ (x : Row). x.id) same
+id_at (r ∷ rows) (suc i) a e = id_at rows i a e
+
+length-ids : (rows : List Row) → length (ids_of rows) ≡ length rows
+length-ids [] = refl
+length-ids (r ∷ rows) = omega (arith, length-ids rows)
+
+one_index : (rows : List Row) (i j : ℕ) (a b : Row) → IsLedger rows → slice_get rows i ≡ Some a → slice_get rows j ≡ Some b → a.id ≡ b.id → i ≡ j
+one_index rows i j a b ledger e f same =
+    let at_i = id_at rows i a e in
+    let at_j = id_at rows j b f in
+    let low_i = slice_get_within rows i a e in
+    let low_j = slice_get_within rows j b f in
+    let count = length-ids rows in
+    ⊎_elim
+    (λ lt. absurd (let rises = rises_by_index (ids_of rows) ledger.ascending i j lt (omega arith) in omega arith))
+    (λ ge. ⊎_elim (λ lt. absurd (let rises = rises_by_index (ids_of rows) ledger.ascending j i lt (omega arith) in omega arith)) (λ le. omega arith) (cases_lt j i))
+    (cases_lt i j)
+
+one_proof : (rows : List Row) (id : ℕ) (p q : ProofValue) → IsLedger rows → IsProofOf rows id p → IsProofOf rows id q → p ≡ q
+one_proof rows id p q ledger h g =
+    let index : p.index ≡ q.index = one_index rows p.index q.index p.account q.account ledger h.found g.found (h.same_id ∙ sym g.same_id) in
+    let found : Some p.account ≡ Some q.account = sym h.found ∙ (ap (slice_get rows) index ∙ g.found) in
+    let account : p.account ≡ q.account = cc in
+    let state : p.state ≡ q.state = h.state ∙ sym g.state in
+    let size : p.size ≡ q.size = h.size ∙ sym g.size in
+    let path : p.path ≡ q.path = h.path ∙ (ap (path_of (leaves_of rows)) index ∙ sym g.path) in
+    λ i. record { state = state i; size = size i; index = index i; account = account i; path = path i }
+
+-- ---- a reply is the one
+
+found_in : (rows : List Row) (i : ℕ) (a : Row) → slice_get rows i ≡ Some a → Contains rows a
+found_in [] i a e = absurd cc
+found_in (r ∷ rows) zero a e = let same : r ≡ a = cc in subst (Contains (r ∷ rows)) same (contains_first r rows)
+found_in (r ∷ rows) (suc i) a e = contains_later r rows a (found_in rows i a e)
+
+-- an answer and its text
+IsSame : Reply → List ℕ → Reply → List ℕ → Type 0
+IsSame a t b u = (a ≡ b) × (t ≡ u)
+
+some_not_none : {X : Type 0} (o : Option X) (x : X) → o ≡ Some x → o ≡ None → ⊥
+some_not_none o x e f = absurd cc
+
+one_reply : (asked : Query) (end : Outcome) (a b : Reply) (t u : List ℕ) → IsLedger end.rows → Replies asked end a t → Replies asked end b u → IsSame a t b u
+unfolding IsSame
+one_reply query.Order end reply.Found reply.Found t u ledger h g = (refl, h ∙ sym g)
+one_reply query.Order end reply.Found reply.Absent t u ledger h g = absurd g.0
+one_reply query.Order end reply.Absent b t u ledger h g = absurd h.0
+one_reply (query.Account id) end reply.Found reply.Found t u ledger h g =
+    let found : Some h.0 ≡ Some g.0 = sym h.1 ∙ g.1 in
+    let same : h.0 ≡ g.0 = cc in
+    (refl, h.2 ∙ (ap (λ (a : Account). text_of (line.Account id a.balance a.seq ∷ [])) same ∙ sym g.2))
+one_reply (query.Account id) end reply.Found reply.Absent t u ledger h g = absurd (some_not_none (account_at end.rows id) h.0 h.1 g.0)
+one_reply (query.Account id) end reply.Absent reply.Found t u ledger h g = absurd (some_not_none (account_at end.rows id) g.0 g.1 h.0)
+one_reply (query.Account id) end reply.Absent reply.Absent t u ledger h g = (refl, h.1 ∙ sym g.1)
+one_reply (query.Receipt place) end reply.Found reply.Found t u ledger h g =
+    let found : Some h.0 ≡ Some g.0 = sym h.1 ∙ g.1 in
+    let same : h.0 ≡ g.0 = cc in
+    (refl, h.2 ∙ (ap (λ (r : Receipt). text_of (line.Tx place r.status r.moved ∷ [])) same ∙ sym g.2))
+one_reply (query.Receipt place) end reply.Found reply.Absent t u ledger h g = absurd (some_not_none (slice_get end.receipts place) h.0 h.1 g.0)
+one_reply (query.Receipt place) end reply.Absent reply.Found t u ledger h g = absurd (some_not_none (slice_get end.receipts place) g.0 g.1 h.0)
+one_reply (query.Receipt place) end reply.Absent reply.Absent t u ledger h g = (refl, h.1 ∙ sym g.1)
+one_reply (query.Proof id) end reply.Found reply.Found t u ledger h g = (refl, h.2 ∙ (ap proof_text (one_proof end.rows id h.0 g.0 ledger h.1 g.1) ∙ sym g.2))
+one_reply (query.Proof id) end reply.Found reply.Absent t u ledger h g = absurd (g.0 h.0.account (found_in end.rows h.0.index h.0.account h.1.found) h.1.same_id)
+one_reply (query.Proof id) end reply.Absent reply.Found t u ledger h g = absurd (h.0 g.0.account (found_in end.rows g.0.index g.0.account g.1.found) g.1.same_id)
+one_reply (query.Proof id) end reply.Absent reply.Absent t u ledger h g = (refl, h.1 ∙ sym g.1)
+
+-- ---- and there is one
+
+SomeReply : Query → Outcome → Type 0
+SomeReply asked end = (a : Reply) × (text : List ℕ) × Replies asked end a text
+
+account_reply : (id : ℕ) (end : Outcome) (o : Option Account) → account_at end.rows id ≡ o → SomeReply (query.Account id) end
+unfolding SomeReply
+account_reply id end None e = (reply.Absent, [], (e, refl))
+account_reply id end (Some a) e = (reply.Found, text_of (line.Account id a.balance a.seq ∷ []), (a, e, refl))
+
+receipt_reply : (place : ℕ) (end : Outcome) (o : Option Receipt) → slice_get end.receipts place ≡ o → SomeReply (query.Receipt place) end
+unfolding SomeReply
+receipt_reply place end None e = (reply.Absent, [], (e, refl))
+receipt_reply place end (Some r) e = (reply.Found, text_of (line.Tx place r.status r.moved ∷ []), (r, e, refl))
+
+-- the index of an id, or none has it
+IsThere : List Row → ℕ → Type 0
+IsThere rows id = (i : ℕ) × (a : Row) × (slice_get rows i ≡ Some a) × (a.id ≡ id)
+
+there_or_absent : (rows : List Row) (id : ℕ) → IsThere rows id ⊎ IsAbsent rows id
+unfolding IsThere
+there_or_absent [] id = inr (λ r h e. none_in_nil r h)
+there_or_absent (r ∷ rows) id = ⊎_elim
+    (λ (e : r.id ≡ id). inl (0, r, refl, e))
+    (λ n. ⊎_elim
+    (λ (h : IsThere rows id). inl (later h))
+    (λ (h : IsAbsent rows id). inr (λ s t e. ⊎_elim (λ (same : r ≡ s). n (ap (λ (x : Row). x.id) same ∙ e)) (λ (u : Contains rows s). h s u e) (contains_cases r rows s t)))
+    (there_or_absent rows id))
+    (cases_eq r.id id)
+  where
+    later : IsThere rows id → IsThere (r ∷ rows) id
+    later h = (suc h.0, h.1, h.2, h.3)
+
+proof_reply : (id : ℕ) (end : Outcome) → SomeReply (query.Proof id) end
+unfolding SomeReply IsThere
+proof_reply id end = ⊎_elim
+    (λ (h : IsThere end.rows id).
+    let p : ProofValue = record { state = state_of end.rows; size = length end.rows; index = h.0; account = h.1; path = path_of (leaves_of end.rows) h.0 } in
+    (reply.Found, proof_text p, (p, record { found = h.2; same_id = h.3; size = refl; path = refl; state = refl }, refl)))
+    (λ (h : IsAbsent end.rows id). (reply.Absent, [], (h, refl)))
+    (there_or_absent end.rows id)
+
+some_reply : (asked : Query) (end : Outcome) → SomeReply asked end
+unfolding SomeReply
+some_reply query.Order end = (reply.Found, order_text end.ordered, refl)
+some_reply (query.Account id) end = account_reply id end (account_at end.rows id) refl
+some_reply (query.Receipt place) end = receipt_reply place end (slice_get end.receipts place) refl
+some_reply (query.Proof id) end = proof_reply id end
+
+-- ---- of a feed
+
+one_outcome : (feed : FeedValue) (x y : Outcome) → IsOutcomeOf feed x → IsOutcomeOf feed y → x ≡ y
+one_outcome feed x y h g =
+    let ordered : x.ordered ≡ y.ordered = one_ordered (committee_in feed) (later_frames feed) x.ordered y.ordered h.clear h.ordered g.ordered in
+    let receipts : x.receipts ≡ y.receipts = h.receipts ∙ (ap (λ (o : Ordered). receipts_of feed.version (transactions_of o.payloads.list) (genesis_of feed.frames)) ordered ∙ sym g.receipts) in
+    let rows : x.rows ≡ y.rows = h.rows ∙ (ap (λ (o : Ordered). state_after feed.version (transactions_of o.payloads.list) (genesis_of feed.frames)) ordered ∙ sym g.rows) in
+    λ i. record { ordered = ordered i; receipts = receipts i; rows = rows i }
+
+ledger_at_end : (feed : FeedValue) (end : Outcome) → IsFeed feed → IsOutcomeOf feed end → IsLedger end.rows
+ledger_at_end feed end good h = subst IsLedger (sym h.rows)
+    (ledger_kept_by_fold feed.version (transactions_of end.ordered.payloads.list) (genesis_of feed.frames) (ledger_of_accounts (genesis_of feed.frames) (genesis_accounts feed.version feed.frames good)))
+
+outcome_of_report : (bytes text : List ℕ) (status : Status) (h : IsReport bytes text status) → (end : Outcome) × IsOutcomeOf h.feed end
+outcome_of_report bytes text status h =
+    let r = h.report.reading in
+    let reads = h.report.reads in (
+      record { ordered = r.ordered; receipts = r.receipts; rows = r.rows },
+      record { clear = h.report.clear; ordered = reads.ordered; receipts = reads.folded.receipts; rows = reads.folded.rows },
+    )
+
+same_reply : (bytes : List ℕ) (asked : Query) (feed : FeedValue) (end : Outcome) (a b : Reply) (t u : List ℕ) → IsFeed feed → bytes ≡ spelling feed → IsOutcomeOf feed end
+    → Replies asked end a t → IsReply bytes asked b u → (a ≡ b) × (t ≡ u)
+unfolding IsSame
+same_reply bytes asked feed end a b t u good spelled is h g =
+    let one : g.feed ≡ feed = one_feed g.feed feed g.good good (sym g.spelled ∙ spelled) in
+    let other : IsOutcomeOf feed g.reply.end = subst (λ (f : FeedValue). IsOutcomeOf f g.reply.end) one g.reply.outcome in
+    one_reply asked end a b t u (ledger_at_end feed end good is) h
+    (subst (λ (x : Outcome). Replies asked x b u) (one_outcome feed g.reply.end end other is) g.reply.it)
+
+pub exactly_one_reply : (bytes text : List ℕ) (status : Status) (asked : Query) → IsReport bytes text status
+    → (answer : Reply) × (words : List ℕ) × IsReply bytes asked answer words
+    × ((other : Reply) (others : List ℕ) → IsReply bytes asked other others → (answer ≡ other) × (words ≡ others))
+unfolding SomeReply
+exactly_one_reply bytes text status asked h =
+    let end = outcome_of_report bytes text status h in
+    let it = some_reply asked end.0 in (
+      it.0,
+      it.1,
+      record { feed = h.feed; good = h.good; spelled = h.spelled; reply = record { end = end.0; outcome = end.1; it = it.2 } },
+      λ other others g. same_reply bytes asked h.feed end.0 it.0 other it.1 others h.good h.spelled end.1 it.2 g,
+    )

@@ -1,0 +1,94 @@
+-- What the definitions of all crates say together.
+use Rattle.std.specs.Prelude.{◌≡◌, ◌⊎◌, ℕ, ◌^◌, ◌<◌, List, All, length}
+use Rattle.hex.specs.Hex.{encode_lower}
+use Rattle.bk_frames.specs.declared.fault.FeedFault.{FeedFault}
+use Rattle.bk_frames.specs.Feed.{FeedValue, IsFeed, HasFault, spelling}
+use Rattle.bk_frames.specs.Numbers.{IsBytes}
+use Rattle.bk_commit.specs.Growth.{Begins, IsPartOf}
+use Rattle.bk_report.specs.Proofs.{IsRow, IsGoodProof}
+use Rattle.bk_report.specs.Report.{IsApplyReport}
+use Rattle.bk_report.specs.RunLines.{Reading}
+use Rattle.bk_replay.specs.declared.query.Query.{Query}
+use Rattle.bk_replay.specs.declared.query.Query.TheVariants as query
+use Rattle.bk_replay.specs.declared.query.Reply.{Reply}
+use Rattle.bk_replay.specs.declared.query.Reply.TheVariants as reply
+use Rattle.bk_replay.specs.declared.status.Status.{Status}
+use Rattle.bk_replay.specs.Agreement.{HaveOneSetup}
+use Rattle.bk_replay.specs.Asking.{IsReply}
+use Rattle.bk_replay.specs.RunLaws.{Answer, ComesTo, EndsWithMoney}
+use Rattle.bk_replay.specs.RunReport.{HasNoStopIn, Reads, IsReport, later_frames}
+
+-- ---- answers
+
+-- every byte string comes to something, and to nothing else: a fault of the feed, a stop, or a
+-- report with its status
+abbrev pub ExactlyOneAnswer : Type 0
+ExactlyOneAnswer = (bytes : List ℕ) → IsBytes bytes
+    → (answer : Answer) × ComesTo bytes answer
+    × ((other : Answer) → ComesTo bytes other → answer ≡ other)
+
+-- every byte string has a fault of the feed or an apply report
+abbrev pub FaultOrApplyReport : Type 0
+FaultOrApplyReport = (bytes : List ℕ) → IsBytes bytes
+    → ((fault : FeedFault) × HasFault bytes fault) ⊎ ((text : List ℕ) × IsApplyReport bytes text)
+
+-- where bytes have a report, each query has one reply and one text of it
+abbrev pub ExactlyOneReply : Type 0
+ExactlyOneReply = (bytes report : List ℕ) (status : Status) (asked : Query)
+    → IsReport bytes report status
+    → (answer : Reply) × (text : List ℕ) × IsReply bytes asked answer text
+    × ((other : Reply) (words : List ℕ) → IsReply bytes asked other words
+    → (answer ≡ other) × (text ≡ words))
+
+-- ---- feeds that grow
+
+-- a feed is part of another: they have one setup, and each frame after the genesis is also in the other
+pub record IsPartOfFeed (small large : FeedValue) : Type 0 where
+  pub setup : HaveOneSetup small large
+  pub frames : IsPartOf (later_frames small) (later_frames large)
+
+-- what is read of one feed begins what is read of another: anchors, certificates, batches, receipts
+pub record Continues (r s : Reading) : Type 0 where
+  pub anchors : Begins r.ordered.anchors s.ordered.anchors
+  pub order : Begins r.ordered.order s.ordered.order
+  pub batches : Begins r.ordered.payloads.list s.ordered.payloads.list
+  pub receipts : Begins r.receipts s.receipts
+
+-- what a feed has ordered and executed stays as it is in every larger feed that nothing stops
+abbrev pub OrderedIsFinal : Type 0
+OrderedIsFinal = (small large : FeedValue) (r s : Reading) → IsPartOfFeed small large
+    → HasNoStopIn large → Reads small r → Reads large s → Continues r s
+
+-- what is read of two feeds is the same but for the numbers of rejected frames
+pub record AreAlike (r s : Reading) : Type 0 where
+  pub waiting : r.waiting ≡ s.waiting
+  pub ordered : r.ordered ≡ s.ordered
+  pub receipts : r.receipts ≡ s.receipts
+  pub rows : r.rows ≡ s.rows
+
+-- neither the order of frames after the genesis nor their repeats change what is read of a feed
+abbrev pub OrderOfFramesIsNothing : Type 0
+OrderOfFramesIsNothing = (one other : FeedValue) (r s : Reading) → IsPartOfFeed one other
+    → IsPartOfFeed other one → HasNoStopIn one → Reads one r → Reads other s → AreAlike r s
+
+-- ---- proofs of accounts
+
+-- the numbers of the accounts at the end of a run, and how many they are, fit 64 bits
+abbrev pub AccountsFit : Type 0
+AccountsFit = (feed : FeedValue) (r : Reading) → IsBytes (spelling feed) → IsFeed feed
+    → Reads feed r → All IsRow r.rows × (length r.rows < 2 ^ 64)
+
+-- bytes have a report, and the text is a good proof for the digest in the report's last line
+pub record ProvesInReport (bytes text : List ℕ) : Type 0 where
+  pub report : List ℕ
+  pub status : Status
+  pub money : ℕ
+  pub state : List ℕ
+  pub reported : IsReport bytes report status
+  pub ends : EndsWithMoney report money state
+  pub good : IsGoodProof (encode_lower state) text
+
+-- the proof of an account, which a feed gives, is a good one for the state in the feed's report
+abbrev pub ProofsOfFeedsAreGood : Type 0
+ProofsOfFeedsAreGood = (bytes text : List ℕ) (id : ℕ) → IsBytes bytes
+    → IsReply bytes (query.Proof id) reply.Found text → ProvesInReport bytes text
