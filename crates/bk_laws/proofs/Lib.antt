@@ -12,3 +12,4 @@ pub mod Fitting
 pub mod Proving
 pub mod Replying
 pub mod Growing
+pub mod Comparing

@@ -154,7 +154,7 @@ some_reply (query.Proof id) end = proof_reply id end
 
 -- ---- of a feed
 
-one_outcome : (feed : FeedValue) (x y : Outcome) → IsOutcomeOf feed x → IsOutcomeOf feed y → x ≡ y
+pub one_outcome : (feed : FeedValue) (x y : Outcome) → IsOutcomeOf feed x → IsOutcomeOf feed y → x ≡ y
 one_outcome feed x y h g =
     let ordered : x.ordered ≡ y.ordered = one_ordered (committee_in feed) (later_frames feed) x.ordered y.ordered h.clear h.ordered g.ordered in
     let receipts : x.receipts ≡ y.receipts = h.receipts ∙ (ap (λ (o : Ordered). receipts_of feed.version (transactions_of o.payloads.list) (genesis_of feed.frames)) ordered ∙ sym g.receipts) in

@@ -5,16 +5,19 @@ use Rattle.bk_frames.specs.declared.fault.FeedFault.{FeedFault}
 use Rattle.bk_frames.specs.Feed.{FeedValue, IsFeed, HasFault, spelling}
 use Rattle.bk_frames.specs.Numbers.{IsBytes}
 use Rattle.bk_commit.specs.Growth.{Begins, IsPartOf}
+use Rattle.bk_order.specs.declared.stop.Stop.{Stop}
 use Rattle.bk_report.specs.Proofs.{IsRow, IsGoodProof}
 use Rattle.bk_report.specs.Report.{IsApplyReport}
 use Rattle.bk_report.specs.RunLines.{Reading}
+use Rattle.bk_replay.specs.declared.differ.Agreed.{Agreed}
 use Rattle.bk_replay.specs.declared.query.Query.{Query}
 use Rattle.bk_replay.specs.declared.query.Query.TheVariants as query
 use Rattle.bk_replay.specs.declared.query.Reply.{Reply}
 use Rattle.bk_replay.specs.declared.query.Reply.TheVariants as reply
 use Rattle.bk_replay.specs.declared.status.Status.{Status}
-use Rattle.bk_replay.specs.Agreement.{HaveOneSetup}
+use Rattle.bk_replay.specs.Agreement.{HaveOneSetup, HaveStop}
 use Rattle.bk_replay.specs.Asking.{IsReply}
+use Rattle.bk_replay.specs.FeedAgreement.{FeedsAgree}
 use Rattle.bk_replay.specs.RunLaws.{Answer, ComesTo, EndsWithMoney}
 use Rattle.bk_replay.specs.RunReport.{HasNoStopIn, Reads, IsReport, later_frames}
 
@@ -40,9 +43,30 @@ ExactlyOneReply = (bytes report : List ℕ) (status : Status) (asked : Query)
     × ((other : Reply) (words : List ℕ) → IsReply bytes asked other words
     → (answer ≡ other) × (text ≡ words))
 
+-- ---- two feeds
+
+-- what two feeds come to: they agree so far, or have no one setup, or both together are stopped
+pub data Comparison : Type 0 where
+  agreed : Agreed → Comparison
+  differing : Comparison
+  stopped : Stop → Comparison
+
+-- two feeds come to this
+abbrev pub ComparesTo : FeedValue → FeedValue → Comparison → Type 0
+ComparesTo one other (agreed a) = FeedsAgree one other a
+ComparesTo one other differing = HaveOneSetup one other → ⊥
+ComparesTo one other (stopped s) = HaveStop one other s
+
+-- two feeds come to one thing and no other: never to orders that differ
+abbrev pub ExactlyOneComparison : Type 0
+ExactlyOneComparison = (one other : FeedValue) → IsFeed one → IsFeed other
+    → (c : Comparison) × ComparesTo one other c
+    × ((d : Comparison) → ComparesTo one other d → c ≡ d)
+
 -- ---- feeds that grow
 
--- a feed is part of another: they have one setup, and each frame after the genesis is also in the other
+-- a feed is part of another: they have one setup, and each of its frames after the genesis is also
+-- in the other
 pub record IsPartOfFeed (small large : FeedValue) : Type 0 where
   pub setup : HaveOneSetup small large
   pub frames : IsPartOf (later_frames small) (later_frames large)
@@ -59,14 +83,20 @@ abbrev pub OrderedIsFinal : Type 0
 OrderedIsFinal = (small large : FeedValue) (r s : Reading) → IsPartOfFeed small large
     → HasNoStopIn large → Reads small r → Reads large s → Continues r s
 
--- what is read of two feeds is the same but for the numbers of rejected frames
+-- where nothing stops the larger feed, nothing stops the smaller one: a stop stays
+abbrev pub StopsStay : Type 0
+StopsStay = (small large : FeedValue) → IsPartOfFeed small large → HasNoStopIn large
+    → HasNoStopIn small
+
+-- what is read of two feeds is the same, but for what is rejected
 pub record AreAlike (r s : Reading) : Type 0 where
   pub waiting : r.waiting ≡ s.waiting
   pub ordered : r.ordered ≡ s.ordered
   pub receipts : r.receipts ≡ s.receipts
   pub rows : r.rows ≡ s.rows
 
--- neither the order of frames after the genesis nor their repeats change what is read of a feed
+-- where nothing stops a feed, neither the order of its frames after the genesis nor their repeats
+-- change what is read of it, but for what is rejected
 abbrev pub OrderOfFramesIsNothing : Type 0
 OrderOfFramesIsNothing = (one other : FeedValue) (r s : Reading) → IsPartOfFeed one other
     → IsPartOfFeed other one → HasNoStopIn one → Reads one r → Reads other s → AreAlike r s

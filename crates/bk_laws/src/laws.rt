@@ -1,6 +1,6 @@
 //! The laws, each the contract of a function that does nothing.
 
-ghost use Rattle.bk_laws.specs.Laws.{AccountsFit, ExactlyOneAnswer, ExactlyOneReply, FaultOrApplyReport, OrderedIsFinal, OrderOfFramesIsNothing, ProofsOfFeedsAreGood};
+ghost use Rattle.bk_laws.specs.Laws.{AccountsFit, ExactlyOneAnswer, ExactlyOneComparison, ExactlyOneReply, FaultOrApplyReport, OrderedIsFinal, OrderOfFramesIsNothing, ProofsOfFeedsAreGood, StopsStay};
 
 /// A byte string comes to exactly one thing: it has a fault, is stopped, or has a report of `run` with its status.
 pub fn exactly_one_answer()
@@ -17,14 +17,25 @@ pub fn exactly_one_reply()
     ensures { ExactlyOneReply }
 {}
 
+/// Two feeds come to exactly one thing: they agree, so far as the shorter order and the shorter list of receipts go, or
+/// they have no one setup, or both together are stopped. Two orders that differ are none of these.
+pub fn exactly_one_comparison()
+    ensures { ExactlyOneComparison }
+{}
+
 /// Where a feed's frames are part of those of a larger feed that nothing stops, with one setup, its anchors, its order,
 /// its batches and its receipts begin those of the larger one: what was final stays so.
 pub fn ordered_is_final()
     ensures { OrderedIsFinal }
 {}
 
-/// Neither the order of the frames after the genesis nor their repeats change what is read of a feed, but for the
-/// numbers of rejected frames and how many frames there are.
+/// Where nothing stops a feed, nothing stops a part of it: what stops a feed stops every larger one.
+pub fn stops_stay()
+    ensures { StopsStay }
+{}
+
+/// Where nothing stops a feed, neither the order of its frames after the genesis nor their repeats change what waits,
+/// what is ordered, the receipts and the accounts. Of what is rejected nothing is said.
 pub fn order_of_frames_is_nothing()
     ensures { OrderOfFramesIsNothing }
 {}

@@ -1,13 +1,14 @@
-//! Laws that need the definitions of all crates below the program.
+//! Laws of reports, replies and comparisons: what the definitions of a feed's answers say together.
 //!
-//! Every byte string comes to exactly one thing, and every query of a feed that has a report to one reply. What a feed
-//! has ordered and executed stays so as it grows, in whatever order its frames come. The proof of an account is good for
-//! the state in the report. Nothing else stands on this crate.
+//! Every byte string comes to exactly one thing, every query of a feed that has a report to one reply, and every two feeds
+//! to one comparison. What a feed has ordered and executed stays so as it grows, in whatever order its frames come. The
+//! proof of an account is good for the state in the report. Nothing else stands on this crate.
 #![tactic(auto)]
 
 mod laws;
 
 pub use laws::{
-    accounts_fit, exactly_one_answer, exactly_one_reply, fault_or_apply_report,
-    order_of_frames_is_nothing, ordered_is_final, proofs_of_feeds_are_good,
+    accounts_fit, exactly_one_answer, exactly_one_comparison, exactly_one_reply,
+    fault_or_apply_report, order_of_frames_is_nothing, ordered_is_final, proofs_of_feeds_are_good,
+    stops_stay,
 };
