@@ -14,9 +14,8 @@ use Rattle.bk_rules.specs.Fold.{state_after, receipts_of}
 use Rattle.bk_report.specs.Lines.{text_of}
 use Rattle.bk_report.specs.Report.{IsApplyReport, apply_report_of, transactions_of}
 use Rattle.bk_report.specs.RunLines.{Reading, run_lines}
-use Rattle.bk_replay.specs.RunReport.{committee_in, later_frames, HasNoStopIn, Reads, IsStopIn, status_of}
+use Rattle.bk_replay.specs.RunReport.{committee_in, later_frames, HasNoStopIn, Reads, IsStopIn, fault_of, status_of}
 use Rattle.bk_replay.specs.RunLaws.{Answer, ComesTo, faulty, stopped, reported}
-use Rattle.bk_replay.specs.private.Stopping.{fault_of}
 use Rattle.bk_frames.proofs.OneReading.{feed_or_fault}
 use Rattle.bk_replay.proofs.RunLaws.{one_answer}
 use Rattle.bk_laws.proofs.Anchors.{anchors_exist}

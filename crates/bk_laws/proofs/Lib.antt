@@ -13,3 +13,6 @@ pub mod Proving
 pub mod Replying
 pub mod Growing
 pub mod Comparing
+pub mod Rejecting
+pub mod Scheduling
+pub mod Runnable

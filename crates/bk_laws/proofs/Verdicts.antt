@@ -185,7 +185,7 @@ decided_batch kind.Batch = inl refl
 
 -- ---- certificates
 
-lone : {X : Type 0} (x y : X) → Contains (x ∷ []) y → x ≡ y
+pub lone : {X : Type 0} (x y : X) → Contains (x ∷ []) y → x ≡ y
 lone {X} x y h = ⊎_elim (λ (e : x ≡ y). e) (λ (later : Contains {X = X} [] y). absurd (none_in_nil y later)) (contains_cases x [] y h)
 
 certs_of_verdict : (k : CommitteeValue) (payload : List ℕ) (v : Verdict) → IsVerdict k payload v → AreOf (IsGood k) payload (certs_by v)

@@ -1,14 +1,20 @@
 -- What the definitions of all crates say together.
-use Rattle.std.specs.Prelude.{◌≡◌, ◌⊎◌, ℕ, ◌^◌, ◌<◌, List, All, length}
+use Rattle.std.specs.Prelude.{◌≡◌, ◌⊎◌, ◌↔◌, ℕ, ◌+◌, ◌^◌, ◌<◌, List, All, Contains, length, Some, slice_get}
 use Rattle.hex.specs.Hex.{encode_lower}
 use Rattle.bk_frames.specs.declared.fault.FeedFault.{FeedFault}
-use Rattle.bk_frames.specs.Feed.{FeedValue, IsFeed, HasFault, spelling}
+use Rattle.bk_frames.specs.declared.kind.Kind.TheVariants as kind
+use Rattle.bk_frames.specs.Feed.{FeedValue, IsFeed, HasFault, frame_of, spelling}
 use Rattle.bk_frames.specs.Numbers.{IsBytes}
+use Rattle.bk_certcheck.specs.declared.rule.Rule.{Rule}
+use Rattle.bk_certcheck.specs.Verdicts.{IsBroken}
 use Rattle.bk_commit.specs.Growth.{Begins, IsPartOf}
+use Rattle.bk_order.specs.Intake.{first_frame}
 use Rattle.bk_order.specs.declared.stop.Stop.{Stop}
 use Rattle.bk_report.specs.Proofs.{IsRow, IsGoodProof}
-use Rattle.bk_report.specs.Report.{IsApplyReport}
+use Rattle.bk_report.specs.Report.{IsApplyReport, feed_transactions, transactions_of}
 use Rattle.bk_report.specs.RunLines.{Reading}
+use Rattle.bk_steps.specs.declared.event.Event.{Event}
+use Rattle.bk_steps.specs.declared.outcome.ScheduleFault.{ScheduleFault}
 use Rattle.bk_replay.specs.declared.differ.Agreed.{Agreed}
 use Rattle.bk_replay.specs.declared.query.Query.{Query}
 use Rattle.bk_replay.specs.declared.query.Query.TheVariants as query
@@ -19,7 +25,8 @@ use Rattle.bk_replay.specs.Agreement.{HaveOneSetup, HaveStop}
 use Rattle.bk_replay.specs.Asking.{IsReply}
 use Rattle.bk_replay.specs.FeedAgreement.{FeedsAgree}
 use Rattle.bk_replay.specs.RunLaws.{Answer, ComesTo, EndsWithMoney}
-use Rattle.bk_replay.specs.RunReport.{HasNoStopIn, Reads, IsReport, later_frames}
+use Rattle.bk_replay.specs.RunReport.{HasNoStopIn, Reads, IsReport, committee_in, later_frames}
+use Rattle.bk_replay.specs.Scheduling.{InExecutionOf, IsNotWholeFor, IsOfEvents, IsWholeFor}
 
 -- ---- answers
 
@@ -96,10 +103,63 @@ pub record AreAlike (r s : Reading) : Type 0 where
   pub rows : r.rows ≡ s.rows
 
 -- where nothing stops a feed, neither the order of its frames after the genesis nor their repeats
--- change what is read of it, but for what is rejected
+-- change what is read of it, but for what is rejected: each certificate is rejected by the number of
+-- its frame
 abbrev pub OrderOfFramesIsNothing : Type 0
 OrderOfFramesIsNothing = (one other : FeedValue) (r s : Reading) → IsPartOfFeed one other
     → IsPartOfFeed other one → HasNoStopIn one → Reads one r → Reads other s → AreAlike r s
+
+-- ---- what is rejected
+
+-- the frame of this number, one after the genesis, holds a certificate of these bytes
+abbrev pub HoldsCertificate : FeedValue → ℕ → List ℕ → Type 0
+HoldsCertificate feed number bytes =
+    (i : ℕ) × (number ≡ first_frame + i)
+    × (slice_get (later_frames feed) i ≡ Some (frame_of kind.Certificate bytes))
+
+-- what is rejected is each certificate that breaks a rule, by the number of its frame and the least
+-- rule that it breaks, and nothing else
+abbrev pub RejectedAreBroken : Type 0
+RejectedAreBroken = (feed : FeedValue) (r : Reading) (number : ℕ) (why : Rule) → Reads feed r
+    → Contains r.rejected (record { frame = number; rule = why })
+    ↔ ((bytes : List ℕ) × HoldsCertificate feed number bytes × IsBroken (committee_in feed) bytes why)
+
+-- a feed holds a certificate of these bytes, and it is rejected by this rule
+abbrev pub Rejects : FeedValue → Reading → List ℕ → Rule → Type 0
+Rejects feed r bytes why =
+    (number : ℕ) × HoldsCertificate feed number bytes
+    × Contains r.rejected (record { frame = number; rule = why })
+
+-- what is rejected of a feed is rejected of every larger one, by the same rule
+abbrev pub RejectedStay : Type 0
+RejectedStay = (small large : FeedValue) (r s : Reading) (bytes : List ℕ) (why : Rule)
+    → IsPartOfFeed small large → Reads small r → Reads large s → Rejects small r bytes why
+    → Rejects large s bytes why
+
+-- ---- schedules
+
+-- what a list of events comes to on the transactions of a feed: it is a whole run of them, or has a
+-- fault
+pub data ScheduleAnswer : Type 0 where
+  whole : ScheduleAnswer
+  not_whole : ScheduleFault → ScheduleAnswer
+
+-- so many workers and these events come to this on these bytes
+abbrev pub SchedulesTo : ℕ → List Event → List ℕ → ScheduleAnswer → Type 0
+SchedulesTo workers events bytes whole = IsWholeFor workers events bytes
+SchedulesTo workers events bytes (not_whole found) =
+    IsOfEvents found × IsNotWholeFor workers events found bytes
+
+-- bytes encode a feed whose transactions have a plan
+abbrev pub HasPlan : List ℕ → Type 0
+HasPlan bytes = InExecutionOf bytes (λ s. Unit {0})
+
+-- there every list of events comes to one thing and no other, whichever plan and ledger of the feed
+-- one takes
+abbrev pub ExactlyOneScheduleAnswer : Type 0
+ExactlyOneScheduleAnswer = (workers : ℕ) (events : List Event) (bytes : List ℕ) → HasPlan bytes
+    → (answer : ScheduleAnswer) × SchedulesTo workers events bytes answer
+    × ((other : ScheduleAnswer) → SchedulesTo workers events bytes other → answer ≡ other)
 
 -- ---- proofs of accounts
 
@@ -107,6 +167,12 @@ OrderOfFramesIsNothing = (one other : FeedValue) (r s : Reading) → IsPartOfFee
 abbrev pub AccountsFit : Type 0
 AccountsFit = (feed : FeedValue) (r : Reading) → IsBytes (spelling feed) → IsFeed feed
     → Reads feed r → All IsRow r.rows × (length r.rows < 2 ^ 64)
+
+-- a feed has fewer than 2^31 transactions, and so have the batches of its order
+abbrev pub FewPlaces : Type 0
+FewPlaces = (feed : FeedValue) (r : Reading) → IsFeed feed → Reads feed r
+    → (length (feed_transactions feed.frames) < 2 ^ 31)
+    × (length (transactions_of r.ordered.payloads.list) < 2 ^ 31)
 
 -- bytes have a report, and the text is a good proof for the digest in the report's last line
 pub record ProvesInReport (bytes text : List ℕ) : Type 0 where

@@ -1,6 +1,8 @@
 //! The laws, each the contract of a function that does nothing.
 
-ghost use Rattle.bk_laws.specs.Laws.{AccountsFit, ExactlyOneAnswer, ExactlyOneComparison, ExactlyOneReply, FaultOrApplyReport, OrderedIsFinal, OrderOfFramesIsNothing, ProofsOfFeedsAreGood, StopsStay};
+ghost use Rattle.bk_laws.specs.Laws.{AccountsFit, ExactlyOneAnswer, ExactlyOneComparison, ExactlyOneReply, ExactlyOneScheduleAnswer, FaultOrApplyReport, FewPlaces, OrderedIsFinal, OrderOfFramesIsNothing, ProofsOfFeedsAreGood, RejectedAreBroken, RejectedStay, StopsStay};
+
+use bk_steps::one_answer;
 
 /// A byte string comes to exactly one thing: it has a fault, is stopped, or has a report of `run` with its status.
 pub fn exactly_one_answer()
@@ -35,14 +37,40 @@ pub fn stops_stay()
 {}
 
 /// Where nothing stops a feed, neither the order of its frames after the genesis nor their repeats change what waits,
-/// what is ordered, the receipts and the accounts. Of what is rejected nothing is said.
+/// what is ordered, the receipts and the accounts. What is rejected is named by the numbers of frames: see
+/// [`rejected_stay`].
 pub fn order_of_frames_is_nothing()
     ensures { OrderOfFramesIsNothing }
 {}
 
+/// What is rejected of a feed is each certificate that breaks a rule, by the number of its frame and the least rule that
+/// it breaks, and nothing else.
+pub fn rejected_are_broken()
+    ensures { RejectedAreBroken }
+{}
+
+/// A certificate that is rejected of a feed is rejected of every larger one with its setup, by the same rule.
+pub fn rejected_stay()
+    ensures { RejectedStay }
+{}
+
+/// Where the transactions of a feed have a plan, each list of events by so many workers comes to exactly one thing: it is
+/// a whole run of them, or has one fault. Plans of one feed differ in nothing that an event asks for.
+pub fn exactly_one_schedule_answer()
+    ensures { ExactlyOneScheduleAnswer }
+{
+    one_answer();
+}
+
 /// The numbers of the accounts at the end of a run, and how many they are, fit 64 bits.
 pub fn accounts_fit()
     ensures { AccountsFit }
+{}
+
+/// A feed has fewer than 2^31 transactions, and so have the batches of its order: every place fits four bytes, and a
+/// plan.
+pub fn few_places()
+    ensures { FewPlaces }
 {}
 
 /// Whatever feed a proof of an account comes from, it is a good proof for the digest of the state in the last line of
