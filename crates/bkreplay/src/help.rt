@@ -85,7 +85,8 @@ pub(crate) const MAKE: Help<'static> = Help {
 Reads a script: lines of at most 16,777,216 bytes in all, words separated by single spaces. Lines without words and
 lines that begin with `#` are skipped. Writes the bytes of the feed to standard output.
 
-  members N                       the committee; the first line
+  version V                       1 or 2, before `members`; 1 if it is left out
+  members N [WEIGHTS]             the committee; each member weighs 1, or in version 2 what the list says
   account ID BALANCE [SEQ]        an opening account
   batch NAME                      a batch of the transactions on the lines that follow:
     pay FROM TO AMOUNT SEQ
