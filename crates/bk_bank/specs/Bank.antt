@@ -35,18 +35,23 @@ pub record LeavingData : Type 0 where
   pub place : ℕ
   pub next : ℕ
 
+-- the bank of this table, about this execution
 abbrev pub bank_data : TableId → About → BankData
 bank_data table about = record { table = table; setting = setting_of about }
 
+-- the pass of this table that knows this
 abbrev pub pass_data : TableId → View → PassData
 pass_data table view = record { table = table; view = view }
 
+-- the hold of this place
 abbrev pub hold_data : TableId → View → ℕ → HoldData
 hold_data table view place = record { table = table; view = view; place = place }
 
+-- the leaving of this place, with so many successors released
 abbrev pub leaving_data : TableId → View → ℕ → ℕ → LeavingData
 leaving_data table view place next = record { table = table; view = view; place = place; next = next }
 
+-- the execution of a bank, word by word
 abbrev pub bank_scene : BankData → Scene
 bank_scene b = scene_of b.setting
 
@@ -58,9 +63,11 @@ IsOf b table view = (table ≡ b.table) × (view_scene view ≡ bank_scene b)
 abbrev pub IsPassOf : BankData → PassData → Type 0
 IsPassOf b p = IsOf b p.table p.view
 
+-- the hold is one of this bank, of a place that the bank has
 abbrev pub IsHoldOf : BankData → HoldData → Type 0
 IsHoldOf b h = IsOf b h.table h.view × (h.place < (bank_scene b).places)
 
+-- the leaving is one of this bank, of a place that the bank has
 abbrev pub IsLeavingOf : BankData → LeavingData → Type 0
 IsLeavingOf b l = IsOf b l.table l.view × (l.place < (bank_scene b).places)
 

@@ -9,9 +9,11 @@ use Rattle.bk_bank.specs.declared.view.Stage.{Stage}
 use Rattle.bk_bank.specs.declared.view.Stage.TheVariants.{Idle, Holding, Leaving, Spent}
 use Rattle.bk_bank.specs.declared.view.View.{View}
 
+-- a seat: what it owns, and what it knows
 abbrev Sat : Type 0
 Sat = Me (Unit {0}) View
 
+-- a step on one word
 abbrev At : Type 0
 At = Step (Unit {0})
 
@@ -22,17 +24,21 @@ at_rest s (Holding p rs ws mv) = false
 at_rest s (Leaving p k f) = k == length (s.next p)
 at_rest s Spent = false
 
+-- the view is of a seat at rest
 abbrev pub IsAtRest : View → Type 0
 IsAtRest v = at_rest (view_scene v) v.stage ≡ true
 
+-- what was read of the place that is held, the last first
 abbrev pub reads_of : Stage → List (ℕ × ℕ)
 reads_of (Holding p rs ws mv) = rs
 reads_of _ = []
 
+-- which words of the place that is held were written, the last first
 abbrev pub writes_of : Stage → List ℕ
 writes_of (Holding p rs ws mv) = ws
 writes_of _ = []
 
+-- what was found in the count of the successor that was released last
 abbrev pub found_of : Stage → ℕ
 found_of (Leaving p k f) = f
 found_of _ = 0
@@ -61,38 +67,46 @@ pub record Learns (v w : View) (p n : ℕ) : Type 0 where
 abbrev pub SawEarlier : View → ℕ → Type 0
 SawEarlier v p = (q : ℕ) → q < p → (view_scene v).clash q p ≡ true → Has v.seen q
 
+-- what a load of the state word of a place shows a seat: the seat stays where it is
 abbrev pub looked : At → Sat → ℕ → Sat → Type 0
 looked at me n then = (then.1 ≡ me.1)
     × ((p : ℕ) → at.word ≡ state_word (view_scene me.0) p
     → Learns me.0 then.0 p n × (then.0.stage ≡ me.0.stage))
 
+-- what a try to claim a place shows: where its word was 0, the seat holds the place, and has seen all
+-- earlier places in conflict with it done; else it stays where it is
 abbrev pub claimed : At → Sat → ℕ → Sat → Type 0
 claimed at me n then = (then.1 ≡ me.1)
     × ((p : ℕ) → at.word ≡ state_word (view_scene me.0) p → Learns me.0 then.0 p n
     × (n ≡ 0 → (then.0.stage ≡ Holding p [] [] false) × SawEarlier then.0 p)
     × (n ≢ 0 → then.0.stage ≡ me.0.stage))
 
+-- what a read shows: the value of the fold before the place, which the seat notes
 abbrev pub has_read : At → Sat → ℕ → Sat → Type 0
 has_read at me n then = (then.1 ≡ me.1)
     × ((p : ℕ) (rs : List (ℕ × ℕ)) → me.0.stage ≡ Holding p rs [] false
     → (then.0 ≡ stay me.0 (Holding p ((at.word, n) ∷ rs) [] false))
     × (n ≡ (view_scene me.0).fold p at.word))
 
+-- a write: the seat notes the word
 abbrev pub has_written : At → Sat → ℕ → Sat → Type 0
 has_written at me n then = (then.1 ≡ me.1)
     × ((p : ℕ) (rs : List (ℕ × ℕ)) (ws : List ℕ) (mv : Bool) → me.0.stage ≡ Holding p rs ws mv
     → then.0 ≡ stay me.0 (Holding p rs (at.word ∷ ws) mv))
 
+-- a write of how much the place moved: the seat notes that it is written
 abbrev pub has_moved : At → Sat → ℕ → Sat → Type 0
 has_moved at me n then = (then.1 ≡ me.1)
     × ((p : ℕ) (rs : List (ℕ × ℕ)) (ws : List ℕ) (mv : Bool) → me.0.stage ≡ Holding p rs ws mv
     → then.0 ≡ stay me.0 (Holding p rs ws true))
 
+-- the status of the place is written: the seat leaves the place, and has released nothing yet
 abbrev pub finished : At → Sat → ℕ → Sat → Type 0
 finished at me n then = (then.1 ≡ me.1)
     × ((p : ℕ) (rs : List (ℕ × ℕ)) (ws : List ℕ) → me.0.stage ≡ Holding p rs ws true
     → then.0 ≡ stay me.0 (Leaving p 0 0))
 
+-- the next successor is counted down: the seat notes the count that it found, which was above 0
 abbrev pub released : At → Sat → ℕ → Sat → Type 0
 released at me n then = (then.1 ≡ me.1)
     × ((p k f : ℕ) → me.0.stage ≡ Leaving p k f

@@ -25,9 +25,11 @@ starting g = record { setting = g; seen = []; stage = Idle }
 abbrev pub state_word : Scene → ℕ → ℕ
 state_word s q = s.words + 2 * q
 
+-- the word that says how much a place moved
 abbrev pub moved_word : Scene → ℕ → ℕ
 moved_word s q = s.words + (2 * q + 1)
 
+-- how many words the table has
 abbrev pub width : Scene → ℕ
 width s = s.words + (2 * s.places + 1)
 
@@ -52,6 +54,7 @@ StageOk s d paid leaver words id (Leaving p k f) = (d.hand id ≡ free) × (p < 
     × IsDone (d.phase p) × (paid p ≡ k) × (leaver p ≡ id)
 StageOk s d paid leaver words id Spent = d.hand id ≡ free
 
+-- what a seat's view says of the course: its stage, the execution unless it is spent, and what it has seen done
 pub record ViewOk (s : Scene) (d : Course) (paid leaver : ℕ → ℕ) (words : List ℕ) (id : ℕ) (v : View) : Type 0 where
   pub stage : StageOk s d paid leaver words id v.stage
   pub scene : v.stage ≢ Spent → view_scene v ≡ s
@@ -75,5 +78,6 @@ pub record Shows (s : Scene) (course : Course) (t : State (Unit {0}) View) : Typ
       → ViewOk s course paid leaver t.words id v
   pub beyond : (id : ℕ) → length t.views ≤ id → course.hand id ≡ free
 
+-- the rule of the words: they and the views show a course that is kept
 abbrev pub IsOrdered : Scene → State (Unit {0}) View → Type 0
 IsOrdered s t = (d : Course) × Shows s d t

@@ -26,6 +26,7 @@ scene_of g = executions.scene_of g.plan g.opening
 abbrev pub words_at : PlanValue → ℕ → List WordRef
 words_at plan p = places.words_at plan.ids plan.txs p
 
+-- a word past the end
 abbrev pub no_word : WordRef
 no_word = record { word = 0; writable = false }
 
@@ -33,6 +34,7 @@ no_word = record { word = 0; writable = false }
 abbrev pub word_at : PlanValue → ℕ → ℕ → ℕ
 word_at plan p i = (slice_index_or (words_at plan p) i no_word).word
 
+-- whether the place may write its i-th word
 abbrev pub may_write : PlanValue → ℕ → ℕ → Bool
 may_write plan p i = (slice_index_or (words_at plan p) i no_word).writable
 

@@ -7,6 +7,7 @@ pub record WordsData : Type 0 where
   pub places : ℕ
   pub items : List ℕ
 
+-- the words at the end, of so many for accounts and so many places
 abbrev pub words_data : ℕ → ℕ → List ℕ → WordsData
 words_data words places items = record { words = words; places = places; items = items }
 
@@ -14,6 +15,7 @@ words_data words places items = record { words = words; places = places; items =
 abbrev pub state_at : WordsData → ℕ → ℕ
 state_at d p = slice_index d.items (d.words + 2 * p)
 
+-- how much the place moved
 abbrev pub moved_word_at : WordsData → ℕ → ℕ
 moved_word_at d p = slice_index d.items (d.words + 2 * p + 1)
 

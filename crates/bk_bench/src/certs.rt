@@ -85,7 +85,7 @@ impl Maker {
     }
 }
 
-/// The digests of so many texts of one byte.
+// The digests of so many texts of one byte.
 fn digests(alloc: Global, count: u8) -> Result<Vec<Digest32>, AllocError> {
     let mut digests = Vec::new(alloc);
     for byte in 0..count {

@@ -13,7 +13,7 @@ use std::alloc::{AllocError, Global};
 use std::env;
 use std::thread::Threads;
 
-/// The leaf data of so many accounts, each of its own number.
+// The leaf data of so many accounts, each of its own number.
 fn leaves(alloc: Global, count: u32) -> Result<Vec<[u8; 24]>, AllocError> {
     let mut leaves = Vec::new(alloc);
     for id in 0..count {
@@ -28,7 +28,7 @@ fn leaves(alloc: Global, count: u32) -> Result<Vec<[u8; 24]>, AllocError> {
     Ok(leaves)
 }
 
-/// So many tags, each over the one before it, under a key that is prepared for each.
+// So many tags, each over the one before it, under a key that is prepared for each.
 fn tags(count: u32) -> Digest32 {
     let mut last = Digest32::of(b"");
     for _ in 0..count {
@@ -37,7 +37,7 @@ fn tags(count: u32) -> Digest32 {
     last
 }
 
-/// The same tags, under a key that is prepared once.
+// The same tags, under a key that is prepared once.
 fn prepared_tags(count: u32) -> Digest32 {
     let key = MacKey::new(&[7; 32]);
     let mut last = Digest32::of(b"");
@@ -47,7 +47,7 @@ fn prepared_tags(count: u32) -> Digest32 {
     last
 }
 
-/// Hashes as the word says, so often.
+// Hashes as the word says, so often.
 fn hashing<R: Threads + Sync>(rt: &R, alloc: Global, work: &str, count: u32) -> Result<Digest32> {
     Ok(match work {
         // Hashes so many bytes in one go.

@@ -83,6 +83,7 @@ fn way_back(
     ensures { IfOk result (λ back. IsWayTo rounds.now.sizes rounds.now.held last floor back.items) }
 {
     rounds.sound();
+    // The number of members also says that it is 1 to 128.
     let _ = rounds.members();
     let mut back = Vec::new(alloc);
     let mut level = first_level(last.author);
@@ -107,6 +108,7 @@ fn has_leader(rounds: &Rounds, level: Members, round: u32) -> bool
     requires { 1 ≤ round }
     ensures { IsTrue result ↔ ((round % 2 ≡ 1) × Has level (leader rounds.now.sizes round)) }
 {
+    // The number of members also says that it is 1 to 128.
     let _ = rounds.members();
     round % 2 == 1 && level.has(rounds.leader(round))
 }

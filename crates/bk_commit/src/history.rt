@@ -39,6 +39,7 @@ fn is_below(rounds: &Rounds, a: CertRef, b: CertRef) -> bool
     ensures { IsTrue result ↔ InHistory rounds.now.sizes rounds.now.held a b }
 {
     rounds.sound();
+    // The number of members also says that it is 1 to 128.
     let _ = rounds.members();
     if a.round < b.round {
         return false;

@@ -111,6 +111,7 @@ pub(crate) fn lists_of(
         AreFlat version ids.now txs.now r.words.start.items r.words.items.items
         r.before.items r.after.start.items r.after.items.items) }
 {
+    // The version is named in the condition alone.
     let _ = version;
     let met = meet(alloc, ids, txs, near)?;
     let before = lengths(alloc, &met.earlier.start)?;

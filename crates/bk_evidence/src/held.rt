@@ -233,6 +233,7 @@ fn put_index(firsts: &mut IndexMap<Digest32, usize>, id: Digest32, index: usize)
     ensures { (q : List ℕ) → get bytes_eq firsts.new q
         ≡ cond (bytes_eq id q) (Some index) (get bytes_eq firsts.old q) }
 {
+    // Nothing was there under this id.
     let _ = firsts.insert(id, index);
 }
 

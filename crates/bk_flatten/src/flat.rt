@@ -67,6 +67,7 @@ impl Flat {
         ensures err { OnErr result (self.new ≡ self.old) }
     {
         rounds.sound();
+        // The number of members also says that it is 1 to 128.
         let _ = rounds.members();
         let part = self.part_of(rounds, anchor)?;
         make_rows(&mut self.marks, anchor.round)?;
@@ -84,6 +85,7 @@ impl Flat {
             (λ part. Lists part.items (IsNew rounds.now.sizes rounds.now.held a self.now)) }
     {
         rounds.sound();
+        // The number of members also says that it is 1 to 128.
         let _ = rounds.members();
         let mut out = Vec::new(self.alloc);
         let mut fresh = first_level(a.author).without(marks_at(&self.marks, a.round));

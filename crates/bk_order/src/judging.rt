@@ -16,7 +16,7 @@ use rayon::prelude::*;
 use std::alloc::{AllocError, Global};
 use std::thread::Threads;
 
-/// So many frames at least are worth a thread.
+// So many frames at least are worth a thread.
 const FEWEST: usize = 8;
 
 /// A payload under its SHA-256.

@@ -61,6 +61,7 @@ fn hold(
     ensures held { OnOk result (HaveSame held.new (held.old ++ good ∷ [])) }
     ensures rounds { OnOk result (IsPartOf rounds.old.held rounds.new.held) }
 {
+    // The number of members also says that it is 1 to 128.
     let _ = committee.n();
     let id = good.id();
     let cert = SharedCert::new(alloc, id, good.into_header())?;

@@ -47,6 +47,7 @@ pub fn outcome_of(
     ensures left { IfErr result (λ e. IsLeft words.now e) }
     ensures below { IfErr result (λ e. IsBelow (length plan.now.txs) e) }
 {
+    // A plan's length also says that its accounts are few.
     let _ = plan.len();
     if let Some(place) = words.first_unfinished() {
         return Err(ExecFault::Unfinished(place));

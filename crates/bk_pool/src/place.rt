@@ -46,6 +46,7 @@ pub fn run_place<G: Gate>(bank: &Bank, plan: &Plan, hold: Hold, gate: &G) -> Lea
     gate.inside(place);
     let mut hold = hold;
     let mut values = [0; MOST];
+    // A plan's length also says that its accounts are few.
     let _ = plan.len();
     let count = plan.words_of(place).len();
     read_all(bank, &mut hold, count, &mut values);

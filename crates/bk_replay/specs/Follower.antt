@@ -116,6 +116,7 @@ abbrev pub receipts_of_executed : Option Executed → List Receipt
 receipts_of_executed None = []
 receipts_of_executed (Some e) = e.receipts
 
+-- the receipts of what a book has executed
 abbrev pub receipts_in : Option BookValue → List Receipt
 receipts_in book = receipts_of_executed (executed_in book)
 
@@ -133,6 +134,7 @@ abbrev pub IsSettledBy : Option Version → List Frame → Option BookValue → 
 IsSettledBy None frames book = Unit {0}
 IsSettledBy (Some version) frames book = IfSome book (λ b. IsCurrent (feed_of version frames) b)
 
+-- a Follower has settled all of these frames
 abbrev pub IsSettled : List Frame → Followed → Type 0
 IsSettled frames v = IsSettledBy v.cut.version frames v.book
 

@@ -13,6 +13,7 @@ abbrev pub rows_of_executed : Option Executed → List Row
 rows_of_executed None = []
 rows_of_executed (Some e) = e.rows
 
+-- the accounts after what a book has executed
 abbrev pub rows_in : Option BookValue → List Row
 rows_in book = rows_of_executed (executed_in book)
 

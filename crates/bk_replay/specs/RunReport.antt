@@ -6,6 +6,7 @@ use Rattle.bk_order.specs.Frames.{AreRejects}
 use Rattle.bk_order.specs.Intake.{first_frame}
 use Rattle.bk_order.specs.Orders.{Ordered, AreWaiting, IsOrderOf}
 use Rattle.bk_order.specs.Stops.{IsStop, HasNoStop}
+use Rattle.bk_order.specs.declared.stop.Stop.{Stop}
 use Rattle.bk_order.specs.declared.stop.Stop.TheVariants as stop
 use Rattle.bk_rules.specs.Fold.{state_after, receipts_of}
 use Rattle.bk_replay.specs.declared.fault.Fault.{Fault}
@@ -67,6 +68,11 @@ pub record IsReport (bytes text : List ℕ) (answer : Status) : Type 0 where
   pub good : IsFeed feed
   pub spelled : bytes ≡ spelling feed
   pub report : IsReportOf feed text answer
+
+-- the fault of a stop
+abbrev pub fault_of : Stop → Fault
+fault_of (stop.Collision id) = fault.Collision id
+fault_of (stop.Twins e) = fault.Equivocation e.round e.author e.first e.second
 
 -- a feed is stopped so: by its least collision, and only where there is none by the evidence of twins
 abbrev pub IsStopIn : FeedValue → Fault → Type 0

@@ -1,6 +1,6 @@
 ghost use Rattle.std.specs.Prelude.{◌≡◌};
 ghost use Rattle.bk_replay.specs.declared.fault.Fault.TheVariants as fault;
-ghost use Rattle.bk_replay.specs.private.Stopping.{fault_of};
+ghost use Rattle.bk_replay.specs.RunReport.{fault_of};
 
 use bk_digest::Digest32;
 use bk_evidence::Evidence;

@@ -13,7 +13,7 @@ use crate::slice::{FEWEST, gather};
 use bk_order::Intake;
 use std::alloc::{AllocError, Global};
 
-// Whether the batches of an order, from a place on, have no more than so many bytes together, with one more for each.
+// Whether the batches of an order, from a place on, have fewer than `bytes` bytes together, with one more for each.
 pub(crate) fn are_short(intake: &Intake, from: usize, bytes: usize) -> bool
     requires open { intake.now.failed ≡ false }
 {

@@ -15,7 +15,7 @@ use std::alloc::{AllocError, Global};
 use std::mem::replace;
 use std::thread::Threads;
 
-/// How many bytes come before their frames are taken: enough to share among processors.
+// How many bytes come before their frames are taken: enough to share among processors.
 const ENOUGH: usize = 1 << 22;
 
 /// What a feed has come to. Its bytes are cut at once; of its whole frames the first are taken, and the others wait.
@@ -65,6 +65,7 @@ impl Gathered {
     {
         let mut frames = self.cutter.feed(piece)?;
         self.frames.append(&mut frames)?;
+        // The count says when to judge, and no more: it need not be right where it is huge.
         self.count = self.count.saturating_add(piece.len());
         Ok(())
     }

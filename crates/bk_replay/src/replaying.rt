@@ -16,7 +16,7 @@ use std::alloc::Global;
 use std::sync::Wait;
 use std::thread::Threads;
 
-/// A source is asked for at most this many bytes at once.
+/// A source is asked for at most this many bytes at once. The number is none of the format's.
 pub(crate) const PIECE: usize = 65_536;
 
 // Gathers all that a source has, and takes it. Each piece is cut before the next is pulled.
@@ -38,6 +38,7 @@ fn pull_all<R: Threads + Sync, S: Source>(
         (taken : List Frame) × HasGathered bytes taken gathered.new)) }
     ensures fault { IfErr result (λ f. ReadFails f (S.state source.old) (S.state source.new)) }
 {
+    // The label names the loop for its proof.
     'pieces: loop {
         let offset = gathered.offset();
         match source.pull(piece) {

@@ -116,6 +116,7 @@ fn run_events(
         return Err(ScheduleStop::Fault(Fault::Memory));
     }
     let plan = Plan::make(alloc, state.version(), state.ids(), txs)?;
+    // A plan's length also says that its accounts are few.
     let _ = plan.len();
     let outcome = run_schedule(alloc, plan, state, workers, events)?;
     Ok(outcome)

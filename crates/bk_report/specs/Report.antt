@@ -41,6 +41,7 @@ count_in payload = option_map length (texts_of payload)
 
 -- ---- the lines
 
+-- the line of a batch: void, or how many transactions it holds
 abbrev pub batch_line : ℕ → Option ℕ → Line
 batch_line index None = line.VoidBatch index
 batch_line index (Some count) = line.Batch index count

@@ -16,7 +16,7 @@ use std::alloc::{AllocError, Global};
 /// No text of a proof is longer.
 pub const MOST_PROOF: usize = 65_536;
 
-/// Whether the path of a proof leads from its account to the digest of its state.
+// Whether the path of a proof leads from its account to the digest of its state.
 fn leads(proof: &Proof) -> bool
     ensures { IsTrue result ↔ ((proof.now.index < proof.now.size)
         × (climb (tagged_of 0x00 (row_text proof.now.account)) proof.now.index proof.now.size

@@ -94,7 +94,7 @@ pub fn put_certs<K: Sink>(
     Ok(())
 }
 
-/// The line of a batch.
+// The line of a batch.
 fn batch_line(index: u32, count: Option<u16>) -> Line
     ensures { result ≡ batch_line index count }
 {

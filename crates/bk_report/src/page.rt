@@ -14,13 +14,13 @@ use itoa::Buffer;
 use std::alloc::{AllocError, Global};
 use std::marker::Model;
 
-/// A page goes out before it has more bytes.
+// A page goes out before it has more bytes. The number is none of the format's.
 const PAGE: usize = 65_536;
 
-/// No line has more bytes, its line feed among them.
+// No line has more bytes, its line feed among them.
 const LINE: usize = 96;
 
-/// Puts a text where there is room for it.
+// Puts a text where there is room for it.
 fn put_text(page: &mut Vec<u8>, text: &[u8])
     requires { vec_len page.old + length text.now ≤ vec_capacity page.old }
     ensures items { page.new.items ≡ page.old.items ++ text.now }
@@ -30,7 +30,7 @@ fn put_text(page: &mut Vec<u8>, text: &[u8])
     page.extend_from_slice(text).unwrap();
 }
 
-/// Puts a space and a number where there is room for 21 bytes.
+// Puts a space and a number where there is room for 21 bytes.
 fn put_number(page: &mut Vec<u8>, number: u64)
     requires { vec_len page.old + 21 ≤ vec_capacity page.old }
     ensures items { page.new.items ≡ page.old.items ++ spaced number }
@@ -41,7 +41,7 @@ fn put_number(page: &mut Vec<u8>, number: u64)
     put_text(page, Buffer::new().format(number).as_bytes());
 }
 
-/// Puts a word, and a round and an author, where there is room for 49 bytes.
+// Puts a word, and a round and an author, where there is room for 49 bytes.
 fn put_place(page: &mut Vec<u8>, word: &[u8], round: u32, author: u8)
     requires short { length word.now ≤ 7 }
     requires room { vec_len page.old + 49 ≤ vec_capacity page.old }
@@ -54,7 +54,7 @@ fn put_place(page: &mut Vec<u8>, word: &[u8], round: u32, author: u8)
     put_number(page, u64::from(author));
 }
 
-/// Puts a word, a space and a digest where there is room for 72 bytes.
+// Puts a word, a space and a digest where there is room for 72 bytes.
 fn put_digest(page: &mut Vec<u8>, word: &[u8], digest: &Digest32)
     requires short { length word.now ≤ 7 }
     requires room { vec_len page.old + 72 ≤ vec_capacity page.old }
@@ -63,13 +63,14 @@ fn put_digest(page: &mut Vec<u8>, word: &[u8], digest: &Digest32)
     ensures room { vec_capacity page.old ≤ vec_capacity page.new }
 {
     let mut digits = [0u8; 64];
+    // There is room for all 64 digits.
     let _ = hex::encode_to_slice(digest.as_bytes(), &mut digits);
     put_text(page, word);
     put_text(page, b" ");
     put_text(page, &digits);
 }
 
-/// Puts the three numbers of a committee where there is room for 84 bytes.
+// Puts the three numbers of a committee where there is room for 84 bytes.
 fn put_members(page: &mut Vec<u8>, members: u8, faulty: u64, quorum: u64)
     requires { vec_len page.old + 84 ≤ vec_capacity page.old }
     ensures items { page.new.items
@@ -85,7 +86,7 @@ fn put_members(page: &mut Vec<u8>, members: u8, faulty: u64, quorum: u64)
     put_number(page, quorum);
 }
 
-/// Puts a line and its line feed where there is room for it.
+// Puts a line and its line feed where there is room for it.
 fn put_line(page: &mut Vec<u8>, line: Line)
     requires { vec_len page.old + 96 ≤ vec_capacity page.old }
     ensures items { page.new.items ≡ page.old.items ++ (line_text line ++ 10 ∷ []) }

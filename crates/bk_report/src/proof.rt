@@ -62,7 +62,7 @@ impl Proof {
     }
 }
 
-/// Adds a line for each digest of a path.
+// Adds a line for each digest of a path.
 fn push_path(text: &mut Vec<u8>, path: &[Digest32]) -> Result<(), AllocError>
     ensures { OnOk result (text.new.items ≡ text.old.items ++ text_of (path_lines path.now)) }
 {
@@ -72,7 +72,7 @@ fn push_path(text: &mut Vec<u8>, path: &[Digest32]) -> Result<(), AllocError>
     Ok(())
 }
 
-/// The index of the account with an id.
+// The index of the account with an id.
 fn find(rows: &[Row], id: u64) -> Option<usize>
     ensures { result ≡ position (λ (r : Row). r.id == id) rows.now }
 {

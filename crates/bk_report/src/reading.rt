@@ -16,7 +16,7 @@ use bk_frames::Row;
 use std::alloc::{AllocError, Global};
 use std::str;
 
-/// The text after a word. What is in its place is not looked at.
+// The text after a word. What is in its place is not looked at.
 fn after<'a>(text: &'a [u8], word: &[u8]) -> Option<&'a [u8]>
     ensures found { (rest : List ℕ) → text.now ≡ word.now ++ rest
         → IsSomeAnd result (λ r. r.now ≡ rest) }
@@ -28,14 +28,14 @@ fn after<'a>(text: &'a [u8], word: &[u8]) -> Option<&'a [u8]>
     Some(&text[word.len()..])
 }
 
-/// The first place of a byte.
+// The first place of a byte.
 fn place_of(text: &[u8], end: u8) -> Option<usize>
     ensures { result ≡ position (λ b. b == end) text.now }
 {
     text.iter().position(|b| *b == end)
 }
 
-/// The text before the first of a byte, and the text after it.
+// The text before the first of a byte, and the text after it.
 fn cut(text: &[u8], end: u8) -> Option<(&[u8], &[u8])>
     ensures found { (word rest : List ℕ) → list_any (λ b. b == end) word ≡ false
         → text.now ≡ word ++ end ∷ rest
@@ -46,7 +46,7 @@ fn cut(text: &[u8], end: u8) -> Option<(&[u8], &[u8])>
     Some((word, &rest[1..]))
 }
 
-/// The number of a decimal text.
+// The number of a decimal text.
 fn number(word: &[u8]) -> Option<u64>
     ensures found { (n : ℕ) → n < 2 ^ 64 → word.now ≡ decimal n → result ≡ Some n }
     ensures fits { IfSome result (λ n. n < 2 ^ 64) }
@@ -60,7 +60,7 @@ fn number(word: &[u8]) -> Option<u64>
     }
 }
 
-/// The digest of a hexadecimal text.
+// The digest of a hexadecimal text.
 fn digest(word: &[u8]) -> Option<Digest32>
     ensures found { (d : List ℕ) → IsDigest d → word.now ≡ encode_lower d → result ≡ Some d }
     ensures digest { IfSome result IsDigest }
@@ -72,7 +72,7 @@ fn digest(word: &[u8]) -> Option<Digest32>
     }
 }
 
-/// A line of a name and a number, and the text after it.
+// A line of a name and a number, and the text after it.
 fn number_line<'a>(text: &'a [u8], name: &[u8]) -> Option<(u64, &'a [u8])>
     ensures found { (n : ℕ) (rest : List ℕ) → n < 2 ^ 64
         → text.now ≡ name.now ++ (decimal n ++ 10 ∷ rest)
@@ -83,7 +83,7 @@ fn number_line<'a>(text: &'a [u8], name: &[u8]) -> Option<(u64, &'a [u8])>
     Some((number(word)?, rest))
 }
 
-/// A line of a name and a digest, and the text after it.
+// A line of a name and a digest, and the text after it.
 fn digest_line<'a>(text: &'a [u8], name: &[u8]) -> Option<(Digest32, &'a [u8])>
     ensures found { (d rest : List ℕ) → IsDigest d
         → text.now ≡ name.now ++ (encode_lower d ++ 10 ∷ rest)
@@ -95,7 +95,7 @@ fn digest_line<'a>(text: &'a [u8], name: &[u8]) -> Option<(Digest32, &'a [u8])>
     Some((digest(word)?, rest))
 }
 
-/// The line of an account, and the text after it.
+// The line of an account, and the text after it.
 fn account_line(text: &[u8]) -> Option<(Row, &[u8])>
     ensures found { (r : Row) (rest : List ℕ) → IsRow r
         → text.now ≡ codes "account " ++ (decimal r.id ++ 32 ∷ (decimal r.balance ++ 32
@@ -114,7 +114,7 @@ fn account_line(text: &[u8]) -> Option<(Row, &[u8])>
     Some((row, rest))
 }
 
-/// The digests of the lines of a path, up to the end of the text.
+// The digests of the lines of a path, up to the end of the text.
 fn read_path(alloc: Global, text: &[u8]) -> Result<Option<Vec<Digest32>>, AllocError>
     ensures found { IfOk result (λ found. (path : List (List ℕ)) → All IsDigest path
         → text.now ≡ text_of (path_lines path) → IsSomeAnd found (λ v. v.items ≡ path)) }

@@ -49,7 +49,7 @@ pub struct Parts<'a> {
     pub leaves: &'a [[u8; 24]],
 }
 
-/// The line of a committee's sizes.
+// The line of a committee's sizes.
 fn members_line(committee: &Committee) -> Line
     ensures { result ≡ members_line committee.now }
 {
@@ -60,7 +60,7 @@ fn members_line(committee: &Committee) -> Line
     }
 }
 
-/// Puts the sizes of the committee and the number of frames.
+// Puts the sizes of the committee and the number of frames.
 fn put_head<K: Sink>(
     sink: &mut K,
     page: &mut Page,
@@ -77,7 +77,7 @@ fn put_head<K: Sink>(
     page.put(sink, Line::Frames { count: frames })
 }
 
-/// Puts what is rejected, what waits, the anchors and the order.
+// Puts what is rejected, what waits, the anchors and the order.
 fn put_order<K: Sink>(sink: &mut K, page: &mut Page, parts: &Parts) -> Result<(), WriteFault>
     requires sound { CanBeUsed (K.state sink.old) }
     requires rejected { length parts.now.rejected.now < 2 ^ 32 }
@@ -96,7 +96,7 @@ fn put_order<K: Sink>(sink: &mut K, page: &mut Page, parts: &Parts) -> Result<()
     put_certs(sink, page, parts.order)
 }
 
-/// Puts the batches, and the digest of the one that is missing.
+// Puts the batches, and the digest of the one that is missing.
 fn put_payloads<K: Sink>(
     sink: &mut K,
     page: &mut Page,
@@ -117,7 +117,7 @@ fn put_payloads<K: Sink>(
     }
 }
 
-/// Puts the transactions and the accounts.
+// Puts the transactions and the accounts.
 fn put_rows<K: Sink>(sink: &mut K, page: &mut Page, parts: &Parts) -> Result<(), WriteFault>
     requires sound { CanBeUsed (K.state sink.old) }
     requires receipts { length parts.now.receipts.now < 2 ^ 32 }
@@ -131,7 +131,7 @@ fn put_rows<K: Sink>(sink: &mut K, page: &mut Page, parts: &Parts) -> Result<(),
     put_accounts(sink, page, parts.rows)
 }
 
-/// Puts the money and the digest of the state.
+// Puts the money and the digest of the state.
 fn put_ending<K: Sink>(
     sink: &mut K,
     page: &mut Page,
@@ -148,7 +148,7 @@ fn put_ending<K: Sink>(
     page.put(sink, Line::State { digest: state })
 }
 
-/// Puts the transactions and the accounts, and finds the digest of the state in a thread of its own.
+// Puts the transactions and the accounts, and finds the digest of the state in a thread of its own.
 fn put_beside<R: Threads + Sync, K: Sink>(
     rt: &R,
     sink: &mut K,
@@ -182,7 +182,7 @@ fn put_beside<R: Threads + Sync, K: Sink>(
     )
 }
 
-/// Puts the transactions and the accounts, and then the money and the digest of the state.
+// Puts the transactions and the accounts, and then the money and the digest of the state.
 fn put_ledger<R: Threads + Sync, K: Sink>(
     rt: &R,
     sink: &mut K,

@@ -6,6 +6,10 @@ use Rattle.bk_rounds.specs.declared.place.CertRef.{CertRef}
 use Rattle.bk_rounds.specs.Admission.{IsPresent}
 use Rattle.bk_cert.specs.Values.{HeaderValue}
 
+-- the sizes of members of these weights
+abbrev pub sizes_with : List ℕ → Sizes
+sizes_with ws = record { weights = ws }
+
 -- a committee, and the certificates that were added, the oldest first
 pub record RoundsValue : Type 0 where
   pub sizes : Sizes

@@ -12,8 +12,8 @@ ghost use Rattle.bk_rounds.specs.Admission.{StandsAt, IsPresent, IsClear, IsFit,
 ghost use Rattle.bk_rounds.specs.Links.{Links};
 ghost use Rattle.bk_rounds.specs.Listing.{Lists};
 ghost use Rattle.bk_rounds.specs.Members.{Has, IsWeightOf};
-ghost use Rattle.bk_rounds.specs.Rounds.{rounds_with, BecomesPresent};
-ghost use Rattle.bk_rounds.specs.private.Numbered.{sizes_with, is_marked};
+ghost use Rattle.bk_rounds.specs.Rounds.{rounds_with, sizes_with, BecomesPresent};
+ghost use Rattle.bk_rounds.specs.private.Numbered.{is_marked};
 ghost use Rattle.bk_rounds.specs.private.Names.{AreNames};
 ghost use Rattle.bk_rounds.specs.private.Tied.{IsPlaced, IsNumberAt, WaitsBelow, number_at};
 
@@ -65,6 +65,7 @@ impl Rounds {
     pub fn new(alloc: Global, committee: &Committee) -> Result<Rounds, AllocError>
         ensures { IfOk result (λ rounds. rounds ≡ rounds_with (sizes_of committee.now) []) }
     {
+        // The number of members also says that it is 1 to 128.
         let _ = committee.n();
         let rounds = Rounds::with_weights(alloc, committee.weights())?;
         Ok(rounds)

@@ -3,7 +3,7 @@
 ghost use Rattle.std.specs.Prelude.{◌≡◌, ℕ, ◌<◌, ◌≤◌, ◌^◌, List, IfOk, sum, length};
 ghost use Rattle.bk_committee.specs.Sizes.{members, total, faulty, quorum, weight, leader};
 ghost use Rattle.bk_rounds.specs.Members.{Has, IsWeightOf};
-ghost use Rattle.bk_rounds.specs.private.Numbered.{sizes_with, IsScale};
+ghost use Rattle.bk_rounds.specs.Rounds.{sizes_with};
 
 use crate::members::Members;
 use std::alloc::{AllocError, Global};
@@ -18,7 +18,8 @@ pub(crate) struct Weights {
 
 impl Model for Weights {
     ghost use Rattle.bk_committee.specs.Sizes.{Sizes};
-    ghost use Rattle.bk_rounds.specs.private.Numbered.{sizes_with, IsScale};
+    ghost use Rattle.bk_rounds.specs.Rounds.{sizes_with};
+    ghost use Rattle.bk_rounds.specs.private.Numbered.{IsScale};
 
     ghost Value = { Sizes };
 

@@ -34,6 +34,7 @@ in_range test value = if test then Ok value else Err code.Range
 
 -- ---- version, members, accounts
 
+-- `version V`: the feed is of this version
 unfoldable pub version_line : Known → List (List ℕ) → Result Known ScriptCode
 version_line k words = do
   n ← number_of (word words 1)
@@ -70,6 +71,7 @@ with_account rows row =
     then Ok (insert rows (position_or_len (λ (r : Row). nat_lt row.id r.id) rows) row)
     else Err code.Range
 
+-- `account ID BALANCE [SEQ]`: one opening account more
 unfoldable pub account_line : Known → List (List ℕ) → Result Known ScriptCode
 account_line k words = do
   id ← number_of (word words 1)
@@ -80,17 +82,20 @@ account_line k words = do
 
 -- ---- batches and their transactions
 
+-- `batch NAME`: a batch of this name, without transactions, is the one that lines add to
 unfoldable pub batch_line : Known → List (List ℕ) → Result Known ScriptCode
 batch_line k words =
     if is_new_name k.batches (word words 1)
     then grown (record k { batch = Some (record { name = word words 1; texts = [] }); late = true }) 7
     else Err code.Name
 
+-- a line of a transaction: its text comes to the batch
 unfoldable pub transaction_line : Known → Keyword → List (List ℕ) → Result Known ScriptCode
 transaction_line k found words = do
   text ← line_text found (drop 1 words)
   with_text k k.batch text
 
+-- `raw HEX`: these bytes come to the batch
 unfoldable pub raw_line : Known → List (List ℕ) → Result Known ScriptCode
 raw_line k words = do
   text ← hex_of (word words 1)
@@ -142,6 +147,7 @@ with_named k name header signers = do
     late = true;
   })
 
+-- `cert NAME ROUND AUTHOR BATCHES PARENTS SIGNERS`: a certificate of this name
 unfoldable pub cert_line : Known → List (List ℕ) → Result Known ScriptCode
 cert_line k words = do
   round ← number_of (word words 2)
@@ -168,6 +174,7 @@ abbrev pub header_found : List HeaderValue → Option ℕ → Result HeaderValue
 header_found headers None = Err code.Name
 header_found headers (Some place) = some_header (slice_get headers place)
 
+-- `again NAME SIGNERS`: the certificate of that name once more, signed by these
 unfoldable pub again_line : Known → List (List ℕ) → Result Known ScriptCode
 again_line k words = do
   items ← list_of (word words 2)

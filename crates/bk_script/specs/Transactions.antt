@@ -63,16 +63,19 @@ pub record SaidValue : Type 0 where
   pub seq : ℕ
   pub body : Body
 
--- `pay FROM TO AMOUNT SEQ`, `payif FROM TO AMOUNT SEQ GUARD MIN`, `sweep FROM TO KEEP SEQ`, `split FROM SEQ TO AMOUNT ..`
+-- `pay FROM TO AMOUNT SEQ`
 abbrev pub paid : List ℕ → SaidValue
 paid ns = record { from = at ns 0; seq = at ns 3; body = Pay (at ns 1) (at ns 2) }
 
+-- `payif FROM TO AMOUNT SEQ GUARD MIN`
 abbrev pub paid_if : List ℕ → SaidValue
 paid_if ns = record { from = at ns 0; seq = at ns 3; body = PayIf (at ns 1) (at ns 2) (at ns 4) (at ns 5) }
 
+-- `sweep FROM TO KEEP SEQ`
 abbrev pub swept : List ℕ → SaidValue
 swept ns = record { from = at ns 0; seq = at ns 3; body = Sweep (at ns 1) (at ns 2) }
 
+-- `split FROM SEQ TO AMOUNT ..`
 abbrev pub split_up : List ℕ → SaidValue
 split_up ns = record { from = at ns 0; seq = at ns 1; body = Split (payments_in (drop 2 ns)) }
 

@@ -14,7 +14,7 @@ use std::alloc::{AllocError, Global};
 use std::collections::BTreeMap;
 use std::marker::Model;
 
-/// What an account holds.
+// What an account holds.
 #[derive(Clone, Copy)]
 struct Held {
     balance: u64,

@@ -74,7 +74,7 @@ pub(crate) fn text_of(alloc: Global, from: u64, seq: u64, body: Body) -> Result<
     }
 }
 
-/// A transaction as a line says it.
+// A transaction as a line says it.
 #[derive(Drop)]
 struct Said {
     from: u64,

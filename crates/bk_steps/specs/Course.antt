@@ -23,6 +23,7 @@ pub data Hand : Type 0 where
   free : Hand
   busy : ℕ → List (ℕ × ℕ) → List ℕ → Hand
 
+-- the state of an execution: the phase of each place, the value of each word, the hand of each worker
 pub record Course : Type 0 where
   pub phase : ℕ → Phase
   pub value : ℕ → ℕ
@@ -32,6 +33,7 @@ pub record Course : Type 0 where
 abbrev pub opened : Scene → Course
 opened s = record { phase = λ _. waiting; value = s.fold 0; hand = λ _. free }
 
+-- the place is done
 abbrev pub IsDone : Phase → Type 0
 IsDone waiting = ⊥
 IsDone (held w) = ⊥

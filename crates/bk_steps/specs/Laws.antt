@@ -11,6 +11,7 @@ use Rattle.bk_steps.specs.declared.outcome.ScheduleFault.{ScheduleFault}
 use Rattle.bk_steps.specs.declared.outcome.ScheduleFault.TheVariants.{OutOfMemory}
 use Rattle.bk_steps.specs.declared.refused.Refused.{Refused}
 
+-- the opening course is kept
 abbrev pub OpeningIsKept : Type 0
 OpeningIsKept = (s : Scene) → IsSound s → IsKept s (opened s)
 
@@ -44,6 +45,7 @@ abbrev pub EventKeeps : Type 0
 EventKeeps = (s : Scene) → IsSound s → (d next : Course) (e : Event) → IsKept s d → Moves s d e next
     → IsKept s next
 
+-- and so does a run of any length
 abbrev pub RunsKeep : Type 0
 RunsKeep = (s : Scene) → IsSound s → (es : List Event) (d end : Course) → IsKept s d
     → Runs s d es end → IsKept s end
@@ -72,6 +74,7 @@ abbrev pub DoneAreClosed : Type 0
 DoneAreClosed = (s : Scene) → IsSound s → EdgesAreConflicts s → (d : Course) → IsKept s d
     → (p q : ℕ) → Chain s p q → IsSettled (d.phase q) → IsDone (d.phase p)
 
+-- every interleaving ends where the one-at-a-time fold ends
 abbrev pub WholeRunsAreFold : Type 0
 WholeRunsAreFold = (s : Scene) → IsSound s → (es : List Event) (end : Course)
     → IsWholeRun s es end → IsFold s end
@@ -81,6 +84,7 @@ pub record EndAlike (s : Scene) (d c : Course) : Type 0 where
   pub values : (x : ℕ) → d.value x ≡ c.value x
   pub receipts : (p : ℕ) → p < s.places → d.phase p ≡ c.phase p
 
+-- so any two interleavings end alike
 abbrev pub OrderMakesNoDifference : Type 0
 OrderMakesNoDifference = (s : Scene) → IsSound s → (es others : List Event) (end other : Course)
     → IsWholeRun s es end → IsWholeRun s others other → EndAlike s end other

@@ -36,9 +36,11 @@ phase_of (Done r) = done (number_of r.status) r.moved
 abbrev pub no_seat : Seat
 no_seat = record { place = None; read = []; written = [] }
 
+-- the stage of a place
 abbrev pub stage_at : MachineValue → ℕ → Stage
 stage_at m p = slice_index_or m.stages p Waiting
 
+-- the seat of a worker
 abbrev pub seat_at : MachineValue → ℕ → Seat
 seat_at m w = slice_index_or m.seats w no_seat
 

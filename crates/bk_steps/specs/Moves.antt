@@ -71,6 +71,7 @@ abbrev pub Runs : Scene → Course → List Event → Course → Type 0
 Runs s d [] end = end ≡ d
 Runs s d (e ∷ es) end = (next : Course) × Moves s d e next × Runs s next es end
 
+-- every place is done
 abbrev pub AllAreDone : Scene → Course → Type 0
 AllAreDone s d = (p : ℕ) → p < s.places → IsDone (d.phase p)
 

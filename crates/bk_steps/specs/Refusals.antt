@@ -44,6 +44,7 @@ IsHolder workers d w = (p : ℕ) × (rs : List (ℕ × ℕ)) × (ws : List ℕ) 
 abbrev pub IsReady : Scene → Course → ℕ → Type 0
 IsReady s d p = (p < s.places) × (d.phase p ≡ waiting) × EarlierAreDone s d p
 
+-- the event is refused after the course among so many workers, for this reason
 pub data Refuses (s : Scene) (workers : ℕ) (d : Course) : Event → Refused → Type 0 where
   not_idle : (w p : ℕ) → ¬ IsIdle workers d w → Refuses s workers d (Claim w p) NotIdle
   not_ready : (w p : ℕ) → IsIdle workers d w → ¬ IsReady s d p

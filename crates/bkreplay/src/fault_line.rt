@@ -14,19 +14,20 @@ use bk_frames::{Sink, push_all};
 use bk_replay::{CompareStop, Differ, Fault};
 use bk_script::{EventsFault, ScriptFault};
 
-/// Puts a space and the digits of a digest where there is room for 65 bytes.
+// Puts a space and the digits of a digest where there is room for 65 bytes.
 fn put_digest(line: &mut ShortLine, digest: &Digest32)
     requires { array_vec_len line.old + 65 ≤ 192 }
     ensures items { line.new.items ≡ line.old.items ++ digits_of digest.now }
     ensures len { array_vec_len line.new ≡ array_vec_len line.old + 65 }
 {
     let mut digits = [0u8; 64];
+    // There is room for all 64 digits.
     let _ = hex::encode_to_slice(digest.as_bytes(), &mut digits);
     put_text(line, b" ");
     put_text(line, &digits);
 }
 
-/// Puts what reports an equivocation where there is room for 184 bytes.
+// Puts what reports an equivocation where there is room for 184 bytes.
 fn put_equivocation(line: &mut ShortLine, place: (u32, u8), first: &Digest32, second: &Digest32)
     requires { array_vec_len line.old + 184 ≤ 192 }
     ensures items { line.new.items
@@ -41,7 +42,7 @@ fn put_equivocation(line: &mut ShortLine, place: (u32, u8), first: &Digest32, se
     put_digest(line, second);
 }
 
-/// Puts what reports a feed that was not replayed where there is room for 184 bytes.
+// Puts what reports a feed that was not replayed where there is room for 184 bytes.
 fn put_replay(line: &mut ShortLine, fault: &Fault)
     requires { array_vec_len line.old + 184 ≤ 192 }
     ensures items { line.new.items ≡ line.old.items ++ replay_text fault.now }
@@ -73,7 +74,7 @@ fn put_replay(line: &mut ShortLine, fault: &Fault)
     }
 }
 
-/// Puts what reports a fault of a text where there is room for 184 bytes.
+// Puts what reports a fault of a text where there is room for 184 bytes.
 fn put_script(line: &mut ShortLine, fault: &ScriptFault)
     requires { array_vec_len line.old + 184 ≤ 192 }
     ensures items { line.new.items ≡ line.old.items ++ script_text fault.now }
@@ -92,7 +93,7 @@ fn put_script(line: &mut ShortLine, fault: &ScriptFault)
     }
 }
 
-/// Puts what reports a list of events that was not read where there is room for 184 bytes.
+// Puts what reports a list of events that was not read where there is room for 184 bytes.
 fn put_unread(line: &mut ShortLine, fault: &EventsFault)
     requires { array_vec_len line.old + 184 ≤ 192 }
     ensures items { line.new.items ≡ line.old.items ++ unread_text fault.now }
@@ -108,7 +109,7 @@ fn put_unread(line: &mut ShortLine, fault: &EventsFault)
     }
 }
 
-/// Puts what reports a list of events where there is room for 184 bytes.
+// Puts what reports a list of events where there is room for 184 bytes.
 fn put_list(line: &mut ShortLine, fault: &ListFault)
     requires { array_vec_len line.old + 184 ≤ 192 }
     ensures items { line.new.items ≡ line.old.items ++ list_text fault.now }
@@ -129,7 +130,7 @@ fn put_list(line: &mut ShortLine, fault: &ListFault)
     }
 }
 
-/// Puts what reports two feeds that differ where there is room for 184 bytes.
+// Puts what reports two feeds that differ where there is room for 184 bytes.
 fn put_differ(line: &mut ShortLine, differ: &Differ)
     requires { array_vec_len line.old + 184 ≤ 192 }
     ensures items { line.new.items ≡ line.old.items ++ differ_text differ.now }
@@ -151,7 +152,7 @@ fn put_differ(line: &mut ShortLine, differ: &Differ)
     }
 }
 
-/// Puts what reports two feeds that do not agree where there is room for 184 bytes.
+// Puts what reports two feeds that do not agree where there is room for 184 bytes.
 fn put_compare(line: &mut ShortLine, stop: &CompareStop)
     requires { array_vec_len line.old + 184 ≤ 192 }
     ensures items { line.new.items ≡ line.old.items ++ compare_text stop.now }
@@ -163,7 +164,7 @@ fn put_compare(line: &mut ShortLine, stop: &CompareStop)
     }
 }
 
-/// The line of a fault.
+// The line of a fault.
 fn fault_line(fault: &JobFault) -> ShortLine
     ensures { result.items ≡ line_of fault.now }
 {
@@ -192,5 +193,6 @@ pub(crate) fn report<E: Sink>(fault: &JobFault, err: &mut E)
     ensures { Reports (line_of fault.now) (E.state err.old) (E.state err.new) }
 {
     let line = fault_line(fault);
+    // A line that cannot be written is reported nowhere.
     let _ = push_all(err, line.as_slice());
 }

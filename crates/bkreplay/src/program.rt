@@ -24,7 +24,7 @@ use std::sync::Wait;
 use std::thread::Threads;
 use std::{env, fs};
 
-/// How many bytes are read ahead, so that small pulls cost little.
+// How many bytes are read ahead, so that small pulls cost little. The number is none of the format's.
 const AHEAD: usize = 65_536;
 
 /// Reads the words, opens the files and runs the job; returns how the program ends.
@@ -51,7 +51,7 @@ fn words<R: Env + AllocGlobal>(rt: &R) -> io::Result<Vec<String>> {
     Ok(words)
 }
 
-/// Words that could not be read: memory was refused, or a word is not text.
+// Words that could not be read: memory was refused, or a word is not text.
 fn refuse_words<E: Sink>(error: &io::Error, err: &mut E) -> Exit
     requires { CanBeUsed (E.state err.old) }
     ensures { (result ≡ Exit.No) ⊎ (result ≡ Exit.Failed) }
@@ -60,11 +60,12 @@ fn refuse_words<E: Sink>(error: &io::Error, err: &mut E) -> Exit
         report(&JobFault::Replay(Fault::Memory), err);
         return Exit::Failed;
     }
+    // A line that cannot be written is reported nowhere.
     let _ = push_all(err, b"error: a word of the command line is not UTF-8\n");
     Exit::No
 }
 
-/// Help and the version go to standard output, a fault of the words to standard error.
+// Help and the version go to standard output, a fault of the words to standard error.
 fn answer_error<R: Print + Eprint, E: Sink>(rt: &R, error: &Error, err: &mut E) -> Exit
     requires { CanBeUsed (E.state err.old) }
     ensures memory { kind_of error.now ≡ ErrorKind.OutOfMemory → result ≡ Exit.Failed }
@@ -91,7 +92,7 @@ fn answer_error<R: Print + Eprint, E: Sink>(rt: &R, error: &Error, err: &mut E) 
     }
 }
 
-/// Reports a file that cannot be opened.
+// Reports a file that cannot be opened.
 fn not_opened<E: Sink>(err: &mut E) -> Exit
     requires { CanBeUsed (E.state err.old) }
     ensures { result ≡ Exit.Failed }
@@ -100,7 +101,7 @@ fn not_opened<E: Sink>(err: &mut E) -> Exit
     Exit::Failed
 }
 
-/// Opens what the job names, in the order of its words and before anything is read, and runs it.
+// Opens what the job names, in the order of its words and before anything is read, and runs it.
 fn open_and_run<R, O: Sink, E: Sink>(rt: &R, job: &Job, out: &mut O, err: &mut E) -> Exit
 where
     R: Files + Input + AllocGlobal + Threads + Wait + Sync,
@@ -119,7 +120,7 @@ where
     }
 }
 
-/// Opens the second file, where the job names one, and runs the job.
+// Opens the second file, where the job names one, and runs the job.
 fn open_second<R, I: Read + Drop, O: Sink, E: Sink>(
     rt: &R,
     job: &Job,
@@ -145,7 +146,7 @@ where
     }
 }
 
-/// Runs a job over its inputs. Small pulls are made of the first alone.
+// Runs a job over its inputs. Small pulls are made of the first alone.
 fn run_over<R, I: Read + Drop, J: Read + Drop, O: Sink, E: Sink>(
     rt: &R,
     job: &Job,

@@ -11,7 +11,7 @@ use bk_frames::{Sink, Source, push_all};
 use bk_replay::{MOST_PROOF, check_proof};
 use bk_script::{ScriptFault, make, read_text};
 
-/// How many bytes of a proof are asked for at once, at most.
+// How many bytes of a proof are asked for at once, at most.
 const PIECE: usize = 4_096;
 
 /// Writes the feed of a script.

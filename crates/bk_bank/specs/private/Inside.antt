@@ -22,14 +22,17 @@ pub record IsBank (table : TableId) (about : About) (plan : PlanValue) : Type 0 
   pub next_inside : (p q : ℕ) → IsEdge (scene_of (setting_of about)) p q
       → q < (scene_of (setting_of about)).places
 
+-- a pass is at rest, and owns no slot
 abbrev pub IsPass : View → List (ℕ × Unit {0}) → Type 0
 IsPass view slots = IsAtRest view × (slots ≡ [])
 
+-- a hold owns no slot, and holds its place
 pub record IsHold (view : View) (slots : List (ℕ × Unit {0})) (place : ℕ) : Type 0 where
   pub none : slots ≡ []
   pub inside : place < (view_scene view).places
   pub holds : view.stage ≡ holding view place
 
+-- a leaving owns no slot, and has left its place with so many successors released
 pub record IsLeaving (view : View) (slots : List (ℕ × Unit {0})) (place next : ℕ) : Type 0 where
   pub none : slots ≡ []
   pub inside : place < (view_scene view).places

@@ -24,9 +24,11 @@ Places = ℕ → List Access
 unfoldable pub places_of : List ℕ → List (Option Transaction) → Places
 places_of slots txs place = accesses_of slots (declared_at txs place)
 
+-- one of the accesses is of this slot
 abbrev pub uses_in : List Access → ℕ → Bool
 uses_in xs a = list_any (λ (x : Access). x.slot == a) xs
 
+-- one of the accesses may write this slot
 abbrev pub writes_in : List Access → ℕ → Bool
 writes_in xs a = list_any (λ (x : Access). (x.slot == a) && x.writable) xs
 

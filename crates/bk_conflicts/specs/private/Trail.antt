@@ -89,5 +89,6 @@ Stands t k r = (a : ℕ) → a < length r.newest.items → Shows r a (readers t 
 abbrev pub readers_in : Places → ℕ → List Access → ℕ → List ℕ
 readers_in t q xs a = cond (writes_in xs a) [] (cond (uses_in xs a) (q ∷ readers t a q) (readers t a q))
 
+-- the same for the last that may write it
 abbrev pub writer_in : Places → ℕ → List Access → ℕ → List ℕ
 writer_in t q xs a = cond (writes_in xs a) (q ∷ []) (last_writer t a q)

@@ -10,6 +10,7 @@ use Rattle.bk_bank.specs.Words.{WordsData, state_at, moved_word_at}
 abbrev pub no_receipt : Receipt
 no_receipt = record { status = status.Ok; moved = 0 }
 
+-- the receipt of a place
 abbrev pub receipt_at : List Receipt → ℕ → Receipt
 receipt_at rs p = slice_index_or rs p no_receipt
 

@@ -1,14 +1,7 @@
--- The faults of stops, and which faults are kept.
+-- Which faults are kept.
 use Rattle.std.specs.Prelude.{Option, Some, None, Bool, true, false}
-use Rattle.bk_order.specs.declared.stop.Stop.{Stop}
-use Rattle.bk_order.specs.declared.stop.Stop.TheVariants as stop
 use Rattle.bk_replay.specs.declared.fault.Fault.{Fault}
 use Rattle.bk_replay.specs.declared.fault.Fault.TheVariants as fault
-
--- the fault of a stop
-abbrev pub fault_of : Stop → Fault
-fault_of (stop.Collision id) = fault.Collision id
-fault_of (stop.Twins e) = fault.Equivocation e.round e.author e.first e.second
 
 -- the fault that is kept after a call that failed: none after a stop
 abbrev pub kept_fault : Fault → Option Fault

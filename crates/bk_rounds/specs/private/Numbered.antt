@@ -113,10 +113,6 @@ pub record IsTable (z : Sizes) (slots : List Slot) (marks : List Bool) (pending 
   pub exact : IsExact z slots marks
   pub registered : IsRegistered slots marks pending
 
--- the sizes of members of these weights
-abbrev pub sizes_with : List ℕ → Sizes
-sizes_with ws = record { weights = ws }
-
 -- sizes of 1 to 128 members, with the weight of all of them
 pub record IsScale (z : Sizes) (all : ℕ) : Type 0 where
   pub some : 1 ≤ members z

@@ -9,6 +9,7 @@ use Rattle.bk_steps.specs.declared.stage.Stage.{Stage}
 use Rattle.bk_steps.specs.declared.stage.Stage.TheVariants.{Waiting, Held, Done}
 use Rattle.bk_steps.specs.declared.seat.Seat.{Seat}
 
+-- the machine of these parts
 abbrev pub machine_value : PlanValue → Ledger → List ℕ → List Stage → List Seat → MachineValue
 machine_value plan opening words stages seats = record {
   plan = plan;
@@ -18,11 +19,13 @@ machine_value plan opening words stages seats = record {
   seats = seats;
 }
 
+-- the stage is that of a place that is done
 abbrev pub is_done : Stage → Bool
 is_done Waiting = false
 is_done (Held w) = false
 is_done (Done r) = true
 
+-- the stage is that of a place that waits
 abbrev pub is_waiting : Stage → Bool
 is_waiting Waiting = true
 is_waiting (Held w) = false
@@ -46,6 +49,7 @@ AreCounts plan opening stages waits = (length waits ≡ length plan.txs)
     × ((q : ℕ) → q < length plan.txs
     → slice_index_or waits q 0 ≡ owed (scene_of plan opening) (released plan stages) q)
 
+-- what is true of the fields of a machine
 pub record IsInside (plan : PlanValue) (opening : Ledger) (words : List ℕ) (stages : List Stage)
     (seats : List Seat) (waits : List ℕ) : Type 0 where
   pub machine : IsMachine (machine_value plan opening words stages seats)

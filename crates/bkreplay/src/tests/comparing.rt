@@ -9,7 +9,7 @@ use std::sync::Wait;
 use std::test::Fail;
 use std::thread::Threads;
 
-/// More calls than any of these runs makes.
+// More calls than any of these runs makes.
 const ALL: u32 = 1_000_000;
 
 fn reader(rest: &[u8]) -> Reader<'_> {
@@ -18,7 +18,7 @@ fn reader(rest: &[u8]) -> Reader<'_> {
     Reader { rest, most, calls }
 }
 
-/// Compares two feeds with a writer that fails after so many calls; returns how many bytes of the second are left.
+// Compares two feeds with a writer that fails after so many calls; returns how many bytes of the second are left.
 fn expect<R: AllocGlobal + Threads + Wait + Sync + Abort>(
     rt: &R,
     feeds: (&[u8], &[u8]),

@@ -66,7 +66,7 @@ pub fn declared(id: u64, writable: bool) -> Declared {
     Declared { id, writable }
 }
 
-/// The bytes of a transaction of the sender `from`, at this sequence number.
+// The bytes of a transaction of the sender `from`, at this sequence number.
 fn tx_at(
     alloc: Global,
     declared: &[Declared],
@@ -84,7 +84,7 @@ pub fn tx(alloc: Global, declared: &[Declared], from: u64, body: Body) -> Result
     tx_at(alloc, declared, from, 0, body)
 }
 
-/// Pays accounts 2 and 3 these amounts.
+// Pays accounts 2 and 3 these amounts.
 fn split(second: u64, third: u64) -> Result<Body, Fail> {
     let entries = [
         Payment {

@@ -13,13 +13,13 @@ use std::sync::Wait;
 use std::test::Fail;
 use std::thread::Threads;
 
-/// More calls than any of these runs makes.
+// More calls than any of these runs makes.
 const ALL: u32 = 1_000_000;
 
 const TWO_PAYMENTS: &str =
     "batch 0 2\ntx 0 0 10\ntx 1 0 50\naccount 1 140 1\naccount 2 0 1\naccount 3 20 0\nmoney 160\n";
 
-/// What a run left.
+// What a run left.
 #[derive(Drop)]
 struct Outcome {
     status: u8,
@@ -27,8 +27,8 @@ struct Outcome {
     err: Vec<u8>,
 }
 
-/// Runs `apply` over a reader that fails after `reads` calls, and a writer that takes at most `most` bytes a call and
-/// fails after `writes` calls.
+// Runs `apply` over a reader that fails after `reads` calls, and a writer that takes at most `most` bytes a call and
+// fails after `writes` calls.
 fn run<R: AllocGlobal + Threads + Wait + Sync>(
     rt: &R,
     feed: &[u8],

@@ -11,13 +11,13 @@ use std::sync::Wait;
 use std::test::Fail;
 use std::thread::Threads;
 
-/// More calls than any of these runs makes.
+// More calls than any of these runs makes.
 const ALL: u32 = 1_000_000;
 
 const TWO_PAYMENTS: &str =
     "batch 0 2\ntx 0 0 10\ntx 1 0 50\naccount 1 140 1\naccount 2 0 1\naccount 3 20 0\nmoney 160\n";
 
-/// A whole run by one worker.
+// A whole run by one worker.
 const WHOLE: [&str; 22] = [
     "claim 0 0",
     "read 0 0",
@@ -43,7 +43,7 @@ const WHOLE: [&str; 22] = [
     "finish 0",
 ];
 
-/// These lines, each ended by a line feed.
+// These lines, each ended by a line feed.
 fn text(alloc: Global, lines: &[&str]) -> Result<Vec<u8>, Fail> {
     let mut text = Vec::new(alloc);
     for line in lines {
@@ -53,7 +53,7 @@ fn text(alloc: Global, lines: &[&str]) -> Result<Vec<u8>, Fail> {
     Ok(text)
 }
 
-/// The whole run with one more line at this index, in place of the line there or before it.
+// The whole run with one more line at this index, in place of the line there or before it.
 fn with_line(alloc: Global, at: usize, line: &str, replaced: bool) -> Result<Vec<u8>, Fail> {
     let mut lines = Vec::new(alloc);
     for (index, whole) in WHOLE.iter().enumerate() {
@@ -67,7 +67,7 @@ fn with_line(alloc: Global, at: usize, line: &str, replaced: bool) -> Result<Vec
     text(alloc, lines.as_slice())
 }
 
-/// What a run left.
+// What a run left.
 #[derive(Drop)]
 struct Outcome {
     status: u8,
@@ -77,7 +77,7 @@ struct Outcome {
     unread: usize,
 }
 
-/// How the devices fail: each after so many calls.
+// How the devices fail: each after so many calls.
 #[derive(Clone, Copy)]
 struct Calls {
     feed: u32,
@@ -128,7 +128,7 @@ fn run<R: AllocGlobal + Threads + Wait + Sync>(
     })
 }
 
-/// Two workers do these events on the two payments.
+// Two workers do these events on the two payments.
 fn expect<R: AllocGlobal + Threads + Wait + Sync + Abort>(
     rt: &R,
     events: &[u8],

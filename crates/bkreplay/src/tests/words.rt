@@ -5,7 +5,7 @@ use clap::error::ErrorKind;
 use std::process::Abort;
 use std::test::Fail;
 
-/// The words name a run on so many workers, or `apply` where there are none.
+// The words name a run on so many workers, or `apply` where there are none.
 fn expect<R: AllocGlobal + Abort>(
     rt: &R,
     words: &[&str],
