@@ -1,7 +1,8 @@
 //! What the command line asks for.
 
 ghost use Rattle.std.specs.Prelude.{◌≡◌, ◌^◌, true, [], map, option_map, string_bytes, codes, unwrap_or, Some, IfOk, IfErr};
-ghost use Rattle.clap.specs.Words.{has_subcommand, kind_of, one_text, first_value, found_of, rows_of};
+ghost use Rattle.clap.specs.Kinds.{FailsBy};
+ghost use Rattle.clap.specs.Words.{fault_of, has_subcommand, kind_of, one_text, first_value, found_of, rows_of};
 ghost use Rattle.clap.specs.Words.{subcommand_of, subcommand_rows_of, takes};
 ghost use Rattle.bkreplay.specs.CommandLine.{IsJobOf, IsJobAt, AreNamedBy, IsNumberBy, command_line, word_of};
 
@@ -94,6 +95,7 @@ fn matches_of<'a, S: AsStr>(alloc: Global, words: &'a [S]) -> Result<ArgMatches<
     ensures found { IfOk result (λ m. subcommand_rows_of m
         ≡ subcommand_of command_line (map S.text words.now)) }
     ensures named { IfOk result (λ m. has_subcommand m ≡ true) }
+    ensures kinds { FailsBy (fault_of command_line (map S.text words.now)) result }
     ensures error { IfErr result (λ e. takes command_line (map S.text words.now) ≡ true
         → kind_of e ≡ ErrorKind.OutOfMemory) }
 {
@@ -215,8 +217,10 @@ fn job_of(alloc: Global, verb: Verb, found: &ArgMatches<'_>) -> Result<Job, Allo
 /// Reads the words of a command line, of which the first is the program's name.
 ///
 /// An error is a fault of the words, a request for help or for the version, or that memory ran out; its kind says which.
+/// Words without a fault give a job, and those with one an error of the fault's kind, unless memory ran out.
 pub fn parse<'a, S: AsStr>(alloc: Global, words: &'a [S]) -> Result<Job, Error>
     ensures job { IfOk result (IsJobOf (subcommand_of command_line (map S.text words.now))) }
+    ensures kinds { FailsBy (fault_of command_line (map S.text words.now)) result }
     ensures error { IfErr result (λ e. takes command_line (map S.text words.now) ≡ true
         → kind_of e ≡ ErrorKind.OutOfMemory) }
 {

@@ -1,9 +1,20 @@
 -- The parser's own clause, at the command line that the definition writes.
-use Rattle.std.proofs.Common.{ap, map, ◌∙◌}
+use Rattle.std.proofs.Common.{ap, map, refl, subst, true, ◌∙◌, ◌≡◌}
 use Rattle.std.proofs.lemmas.Result.{IfErr-weaker, IfOk-weaker}
-use Rattle.clap.specs.Words.{takes}
+use Rattle.clap.specs.Kinds.{FailsBy}
+use Rattle.clap.specs.Words.{App, fault_of, is_simple_and_free, takes}
+use Rattle.bkreplay.specs.CommandLine.{command_line}
 use Rattle.bkreplay.proofs.WordLemmas.{named_by_words}
 use Rattle.bkreplay.proofs.job.matches_of.Goals as goal
+
+-- the parser's clause speaks of commands like this one
+is_of_this_form : (a : App) → a ≡ command_line → is_simple_and_free a ≡ true
+is_of_this_form a same = ap is_simple_and_free same ∙ refl
+
+pub returns-clause-kinds : goal.returns-clause-kinds
+returns-clause-kinds g c =
+    subst (λ (a : App). FailsBy (fault_of a (map g.S.AsStr.text c.args.words.now)) c.try_get_matches_from.result) c.in_ok-command.ensures.line
+    (c.try_get_matches_from.ensures.kinds (is_of_this_form _ c.in_ok-command.ensures.line))
 
 pub returns-clause-error : goal.returns-clause-error
 returns-clause-error g c = IfErr-weaker c.try_get_matches_from.result _ _
