@@ -2,10 +2,10 @@ ghost use Rattle.std.specs.Prelude.{◌≡◌, true, length, IfOk, OnOk, OnErr};
 ghost use Rattle.bk_rules.specs.Fold.{state_after, receipts_of, HasRoom};
 ghost use Rattle.bk_rules.specs.Ledger.{ledger_of, are_covered};
 
-use crate::ids::Ids;
+use crate::account::Account;
 use crate::receipt::Receipt;
 use crate::state::{State, likely_places, places_near};
-use bk_tx::Tx;
+use bk_tx::{Declarations, Tx};
 use std::alloc::{AllocError, Global};
 
 // How many transactions are looked up together: reads that depend on none before them overlap.
@@ -31,7 +31,7 @@ pub fn run_in_order(
     let mut near = [[0; 8]; BLOCK];
     for (i, tx) in txs.iter().enumerate() {
         if i % BLOCK == 0 {
-            look_up(&mut near, state.ids(), &txs[i..]);
+            look_up(&mut near, state, &txs[i..]);
         }
         let places = near[i % BLOCK];
         receipts.push(state.apply_near(tx.as_ref(), &places))?;
@@ -40,8 +40,9 @@ pub fn run_in_order(
 }
 
 // Finds the likely indexes of all accounts that the first transactions declare: first the hints of all, then the ids
-// that they lead to.
-fn look_up(near: &mut [[usize; 8]], ids: &Ids, txs: &[Option<Tx>]) {
+// that they lead to, then the rows beside these.
+fn look_up(near: &mut [[usize; 8]], state: &State, txs: &[Option<Tx>]) {
+    let ids = state.ids();
     let count = near.len().min(txs.len());
     for k in 0..count {
         if let Some(tx) = &txs[k] {
@@ -54,4 +55,27 @@ fn look_up(near: &mut [[usize; 8]], ids: &Ids, txs: &[Option<Tx>]) {
             near[k] = places_near(ids, tx.declared(), &likely);
         }
     }
+    for k in 0..count {
+        if let Some(tx) = &txs[k] {
+            let mut likely = near[k];
+            likely[7] = load_rows(state.numbers(), tx.declared(), &likely);
+            near[k] = likely;
+        }
+    }
+}
+
+// Loads the rows at the first indexes, and returns the last index as it is, or what is of no use where fewer than eight
+// accounts are declared: a load whose value nobody keeps would not be made.
+fn load_rows(numbers: &[Account], declared: &Declarations, near: &[usize; 8]) -> usize {
+    let count = declared.len();
+    if count >= near.len() {
+        return near[7];
+    }
+    let mut sum = 0usize;
+    for k in 0..count {
+        if let Some(account) = numbers.get(near[k]) {
+            sum = sum.wrapping_add(account.seq as usize);
+        }
+    }
+    sum
 }
