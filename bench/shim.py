@@ -1,5 +1,5 @@
-"""A library that is loaded in front of the C library, and refuses one call for memory, all large ones, or one start of a
-thread.
+"""A library that is loaded in front of the C library, and refuses one call for memory, all large ones, or one start of
+a thread.
 """
 import os
 import shutil

@@ -60,7 +60,7 @@ impl Maker {
         Ok(Cert::seal(alloc, self.header(alloc)?, &self.committee, &self.signers)?)
     }
 
-    /// Does the work so often, and gives a digest that depends on it.
+    /// Does the work `count` times, and gives a digest that depends on it.
     pub(crate) fn repeat(&self, alloc: Global, work: &str, count: u32) -> Result<Digest32> {
         let cert = self.cert(alloc)?;
         let bytes = cert.encode(alloc)?;
@@ -85,7 +85,7 @@ impl Maker {
     }
 }
 
-// The digests of so many texts of one byte.
+// The digests of the first texts of one byte: `count` of them.
 fn digests(alloc: Global, count: u8) -> Result<Vec<Digest32>, AllocError> {
     let mut digests = Vec::new(alloc);
     for byte in 0..count {

@@ -13,7 +13,7 @@ use std::alloc::{AllocError, Global};
 use std::env;
 use std::thread::Threads;
 
-// The leaf data of so many accounts, each of its own number.
+// The leaf data of `count` accounts, each of its own number.
 fn leaves(alloc: Global, count: u32) -> Result<Vec<[u8; 24]>, AllocError> {
     let mut leaves = Vec::new(alloc);
     for id in 0..count {
@@ -28,7 +28,7 @@ fn leaves(alloc: Global, count: u32) -> Result<Vec<[u8; 24]>, AllocError> {
     Ok(leaves)
 }
 
-// So many tags, each over the one before it, under a key that is prepared for each.
+// The last of `count` tags, each over the one before it, under a key that is prepared for each.
 fn tags(count: u32) -> Digest32 {
     let mut last = Digest32::of(b"");
     for _ in 0..count {
@@ -47,10 +47,10 @@ fn prepared_tags(count: u32) -> Digest32 {
     last
 }
 
-// Hashes as the word says, so often.
+// Hashes as the word says, `count` times or `count` bytes.
 fn hashing<R: Threads + Sync>(rt: &R, alloc: Global, work: &str, count: u32) -> Result<Digest32> {
     Ok(match work {
-        // Hashes so many bytes in one go.
+        // Hashes `count` bytes in one go.
         "bytes" => Digest32::of(vec![in alloc; 0u8; count as usize]?.as_slice()),
         "tags" => tags(count),
         "prepared" => prepared_tags(count),
