@@ -15,10 +15,6 @@ use Rattle.bk_cert.proofs.Marks.{marked}
 abbrev has_bit : ℕ → ℕ → Bool
 has_bit n i = eqb (bit_at n i) 1
 
-length-head : (b : Bool) (x : ℕ) (xs : List ℕ) → length (cond b (x ∷ xs) xs) ≡ cond {A = ℕ} b 1 0 + length xs
-length-head true x xs = omega arith
-length-head false x xs = omega arith
-
 one_bit : (r : ℕ) → r < 2 → count_ones r ≡ cond {A = ℕ} (eqb r 1) 1 0
 unfolding count_ones
 one_bit zero lt = refl

@@ -38,7 +38,7 @@ impl Model for Cert {
 }
 
 impl Cert {
-    /// The certificate that the bytes encode, all of the bytes; nothing where they encode none.
+    /// The certificate that the bytes encode, all of the bytes; nothing where they encode none. O(n).
     ///
     /// It reserves three times at most, for no more than the bytes hold. An `Err` comes only for lack of
     /// memory, and only for bytes that do encode a certificate.
@@ -109,7 +109,7 @@ impl Cert {
         tags_of(alloc, committee, &self.mask, id)
     }
 
-    /// Its one encoding. It reserves once.
+    /// Its one encoding, O(n). It reserves once.
     pub fn encode(&self, alloc: Global) -> Result<Vec<u8>, AllocError>
         ensures { IfOk result (λ text. text.items ≡ certificate_text self.now) }
     {

@@ -117,7 +117,7 @@ impl Header {
         &self.parents
     }
 
-    /// The same header once more. It fails only where memory runs out.
+    /// The same header once more, O(n). It fails only where memory runs out.
     pub fn try_clone(&self, alloc: Global) -> Result<Header, AllocError>
         ensures { IfOk result (λ h. h ≡ self.now) }
     {
@@ -141,7 +141,7 @@ impl Header {
         8 + 32 * (self.batches.len() + self.parents.len())
     }
 
-    /// Its one encoding. It reserves once.
+    /// Its one encoding, O(n). It reserves once.
     pub fn header_bytes(&self, alloc: Global) -> Result<Vec<u8>, AllocError>
         ensures { IfOk result (λ text. text.items ≡ header_text self.now) }
     {
@@ -150,7 +150,7 @@ impl Header {
         Ok(text)
     }
 
-    /// Its id: SHA-256 of the byte 0x10 and its encoding (FIPS 180-4). It takes no memory.
+    /// Its id: SHA-256 of the byte 0x10 and its encoding (FIPS 180-4). O(n). It takes no memory.
     pub fn id(&self) -> Digest32
         ensures { result ≡ id_of self.now }
     {

@@ -10,7 +10,7 @@ use std::alloc::{AllocError, Global};
 use std::thread::Threads;
 
 /// The verdict on each payload, in their order, found on as many threads as there are processors. It fails only where
-/// memory runs out.
+/// memory runs out. O(n) in all bytes together.
 pub fn check_all(
     rt: &(impl Threads + Sync),
     alloc: Global,

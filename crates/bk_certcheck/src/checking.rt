@@ -28,7 +28,7 @@ fn has_own_tags(
 }
 
 /// The verdict on the bytes of a certificate: the least rule that they break, or the certificate under its id. The id
-/// is hashed once. It fails only where memory runs out.
+/// is hashed once. O(n). It fails only where memory runs out.
 pub fn check(alloc: Global, committee: &Committee, bytes: &[u8]) -> Result<Verdict, AllocError>
     ensures { IfOk result (IsVerdict committee.now bytes.now) }
 {

@@ -6,7 +6,8 @@ use Rattle.std.specs.Ordering.{is_eq}
 use Rattle.std.specs.Str.{bytes_eq}
 use Rattle.std.proofs.lemmas.Slice.Eq.{bytes_eq-Decides}
 use Rattle.bk_cert.specs.Node.{Node}
-use Rattle.bk_cert.specs.Equality.{header_eq, header_decided}
+use Rattle.bk_cert.specs.Equality.{header_eq}
+use Rattle.bk_cert.proofs.Equality.{header_decided}
 use Rattle.bk_rounds.specs.declared.place.CertRef.{CertRef}
 use Rattle.bk_rounds.specs.Admission.{place_of}
 use Rattle.bk_rounds.specs.Rounds.{node_with}

@@ -70,7 +70,7 @@ impl Held {
         }
     }
 
-    /// Stores a header under an id, unless it is stored there.
+    /// Stores a header under an id, unless it is stored there. O(log n) in what is held.
     ///
     /// An `Err` comes only where memory runs out, and leaves what is held as it was.
     pub fn offer(&mut self, cert: SharedCert) -> Result<Offer, AllocError>

@@ -54,8 +54,8 @@ pub fn rejected_stay()
     ensures { RejectedStay }
 {}
 
-/// Where the transactions of a feed have a plan, each list of events by so many workers comes to exactly one thing: it is
-/// a whole run of them, or has one fault. Plans of one feed differ in nothing that an event asks for.
+/// Where the transactions of a feed have a plan, each list of events by some number of workers comes to exactly one
+/// thing: it is a whole run of them, or has one fault. Plans of one feed differ in nothing that an event asks for.
 pub fn exactly_one_schedule_answer()
     ensures { ExactlyOneScheduleAnswer }
 {

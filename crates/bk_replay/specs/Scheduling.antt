@@ -38,11 +38,11 @@ InExecution feed P = (plan : PlanValue) × (ledger : Ledger) × IsPlanOfFeed fee
 abbrev pub InExecutionOf : List ℕ → (Scene → Type 0) → Type 0
 InExecutionOf bytes P = (feed : FeedValue) × IsFeed feed × (bytes ≡ spelling feed) × InExecution feed P
 
--- bytes encode a feed, and the events are a whole run of its transactions, by so many workers
+-- bytes encode a feed, and the events are a whole run of its transactions, by this many workers
 abbrev pub IsWholeFor : ℕ → List Event → List ℕ → Type 0
 IsWholeFor workers events bytes = InExecutionOf bytes (λ s. IsWholeAmong s workers events)
 
--- bytes encode a feed, of whose transactions the events are no whole run, by so many workers, and this is why: the
+-- bytes encode a feed, of whose transactions the events are no whole run, by this many workers, and this is why: the
 -- first event that is refused, or the least place that is not done when all were allowed
 abbrev pub IsNotWholeFor : ℕ → List Event → ScheduleFault → List ℕ → Type 0
 IsNotWholeFor workers events found bytes = InExecutionOf bytes (λ s. IsFault s workers events found)

@@ -48,7 +48,7 @@ impl Follower {
         }
     }
 
-    /// The account of this id as of the last settle, `None` for one that is absent.
+    /// The account of this id as of the last settle, `None` for one that is absent. O(log n) at most.
     ///
     /// `Collision` or `Equivocation` where the whole frames so far are stopped.
     pub fn account(&self, id: u64) -> Result<Option<Account>, Fault>
@@ -82,7 +82,7 @@ impl Follower {
         }
     }
 
-    /// A proof of the account of this id as of the last settle, `None` for one that is absent.
+    /// A proof of the account of this id as of the last settle, `None` for one that is absent. O(n).
     ///
     /// `Collision` or `Equivocation` where the whole frames so far are stopped, `Memory` where memory was refused. The
     /// Follower stays as it was.

@@ -151,8 +151,8 @@ fn scheduled(
 
 /// Reads a feed, does these events on the transactions of its batches, in feed order, and writes the apply report.
 ///
-/// It is `Ok` exactly where the events are a whole run by so many workers. The faults are those of [`crate::apply`], and
-/// `Schedule`, with which nothing is written.
+/// It is `Ok` exactly where the events are a whole run by this many workers. The faults are those of
+/// [`crate::apply`], and `Schedule`, with which nothing is written.
 pub fn apply_schedule<S: Source, K: Sink>(
     alloc: Global,
     source: &mut S,

@@ -7,7 +7,7 @@ use bk_frames::Row;
 use bk_rules::{Account, account_leaf};
 use std::alloc::{AllocError, Global};
 
-/// The leaves of accounts, in their order.
+/// The leaves of accounts, in their order. O(n).
 pub fn leaves_of(alloc: Global, rows: &[Row]) -> Result<Vec<[u8; 24]>, AllocError>
     ensures { IfOk result (λ leaves. leaves.items ≡ leaves_of rows.now) }
 {

@@ -79,7 +79,7 @@ fn find(rows: &[Row], id: u64) -> Option<usize>
     rows.iter().position(|row| row.id == id)
 }
 
-/// The proof of the account with an id among these accounts, or `None` where none has it.
+/// The proof of the account with an id among these accounts, or `None` where none has it. O(n).
 pub fn proof_of<R: Threads + Sync>(
     rt: &R,
     alloc: Global,

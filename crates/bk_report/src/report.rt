@@ -204,7 +204,7 @@ fn put_ledger<R: Threads + Sync, K: Sink>(
     put_ending(sink, page, parts.total, state)
 }
 
-/// Writes the report of a run, a page at a time.
+/// Writes the report of a run, a page at a time. O(n).
 pub fn write_run<R: Threads + Sync, K: Sink>(
     rt: &R,
     sink: &mut K,

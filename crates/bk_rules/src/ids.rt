@@ -105,7 +105,7 @@ impl Ids {
         index_in(self.as_slice(), &self.table.hints, id)
     }
 
-    /// Whether the id is there.
+    /// Whether the id is there: O(1) in most cases, and O(log n) at most.
     pub fn contains(&self, id: u64) -> bool
         ensures { result ≡ list_any (λ i. i == id) self.now }
     {

@@ -11,7 +11,7 @@ use std::alloc::{AllocError, Global};
 // How many transactions are looked up together: reads that depend on none before them overlap.
 const BLOCK: usize = 512;
 
-/// Applies transactions one after another, and returns their receipts in order.
+/// Applies transactions one after another, and returns their receipts in order. O(n) look-ups of accounts.
 ///
 /// The memory for the receipts is reserved first, so an `Err` leaves the accounts as they were.
 pub fn run_in_order(

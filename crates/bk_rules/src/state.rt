@@ -41,7 +41,7 @@ impl Model for State {
 }
 
 impl State {
-    /// The ledger of these rows, each of which has a slot.
+    /// The ledger of these rows, each of which has a slot. O(n).
     pub fn new(alloc: Global, version: Version, rows: &[Row]) -> Result<State, AllocError>
         requires ledger { IsLedger rows.now }
         requires room { HasRoom version 0 rows.now }
@@ -83,21 +83,21 @@ impl State {
         self.ids.as_slice()
     }
 
-    /// The account of this id, if it is there.
+    /// The account of this id, if it is there: O(1) in most cases, and O(log n) at most.
     pub fn account(&self, id: u64) -> Option<Account>
         ensures { result ≡ account_at self.now.rows id }
     {
         account_in(self.version, &self.numbers, self.ids.index_or_len(id))
     }
 
-    /// All the money there is. No transaction changes it.
+    /// All the money there is, O(n). No transaction changes it.
     pub fn total(&self) -> u64
         ensures { result ≡ total_of self.now.rows }
     {
         sum_of_balances(&self.numbers)
     }
 
-    /// All rows, by ascending id: a copy, reserved once.
+    /// All rows, by ascending id: a copy, reserved once. O(n).
     pub fn rows(&self, alloc: Global) -> Result<Vec<Row>, AllocError>
         ensures { IfOk result (λ rows. rows.items ≡ self.now.rows) }
     {
@@ -113,7 +113,7 @@ impl State {
     }
 
     /// Sets all accounts: slot k has balance `words[2 * k]` and sequence number `words[2 * k + 1]`, which in version
-    /// Two is 2^64 - 1 where the account is absent.
+    /// Two is 2^64 - 1 where the account is absent. O(n).
     pub fn set_words(&mut self, words: &[u64])
         requires length { length words.now ≡ 2 * length self.old.slots }
         requires within { total_of (rows_shown self.old.version self.old.slots

@@ -49,7 +49,7 @@ impl Model for Machine {
 }
 
 impl Machine {
-    /// The execution of a plan on these accounts by so many workers, before the first event.
+    /// The execution of a plan on these accounts by this many workers, before the first event.
     pub fn new(alloc: Global, plan: Plan, state: State, workers: u32) -> Result<Machine, AllocError>
         requires { CanRunOn plan state }
         ensures plan { IfOk result (λ m. m.plan ≡ plan) }

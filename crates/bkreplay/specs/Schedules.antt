@@ -26,7 +26,7 @@ IsList text = (events : EventList) × (events_of text ≡ Ok events)
 
 -- ---- the answer
 
--- the text is a list of events that are a whole run of the feed's transactions, by so many workers
+-- the text is a list of events that are a whole run of the feed's transactions, by this many workers
 abbrev pub IsWholeRun : ℕ → List ℕ → List ℕ → Type 0
 IsWholeRun workers bytes text = Lists (λ events. IsWholeFor workers events.list bytes) text
 

@@ -47,7 +47,7 @@ fn lay(alloc: Global, plan: &Plan, state: &State) -> Result<Vec<u64>, AllocError
 }
 
 impl Bank {
-    /// A bank of the opening words, with the only pass to it. It shares the plan.
+    /// A bank of the opening words, with the only pass to it, O(n). It shares the plan.
     pub fn new(alloc: Global, plan: &Arc<Plan>, state: &State) -> Result<(Bank, Pass), AllocError>
         requires { CanRunOn (arc_value plan.now) state.now }
         ensures own { IfOk result (λ b. IsPassOf b.0 b.1) }

@@ -17,7 +17,7 @@ const SECOND: &str = "state 58adcc856b347f0dd4813ad33cdb8253d78a0cd40d3f41ac066b
     size 2\nindex 1\naccount 2 50 0\n\
     path 5b2d207a8426e99fad298132eb18de130e9a23498b86f98b5f1778476ede759d\n";
 
-// Asks a feed of two accounts with a writer that fails after so many calls.
+// Asks a feed of two accounts with a writer that fails after some calls.
 fn expect<R: AllocGlobal + Threads + Wait + Sync + Abort>(
     rt: &R,
     asked: Query,

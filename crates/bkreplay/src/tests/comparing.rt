@@ -18,7 +18,7 @@ fn reader(rest: &[u8]) -> Reader<'_> {
     Reader { rest, most, calls }
 }
 
-// Compares two feeds with a writer that fails after so many calls; returns how many bytes of the second are left.
+// Compares two feeds with a writer that fails after some calls; returns how many bytes of the second are left.
 fn expect<R: AllocGlobal + Threads + Wait + Sync + Abort>(
     rt: &R,
     feeds: (&[u8], &[u8]),

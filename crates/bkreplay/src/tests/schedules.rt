@@ -77,7 +77,7 @@ struct Outcome {
     unread: usize,
 }
 
-// How the devices fail: each after so many calls.
+// How the devices fail: each after some calls.
 #[derive(Clone, Copy)]
 struct Calls {
     feed: u32,

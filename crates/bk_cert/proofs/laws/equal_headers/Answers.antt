@@ -1,4 +1,4 @@
-use Rattle.bk_cert.specs.Equality.{header_decided}
+use Rattle.bk_cert.proofs.Equality.{header_decided}
 use Rattle.bk_cert.proofs.laws.equal_headers.Goals as goal
 
 pub returns : goal.returns
