@@ -12,7 +12,8 @@ use Rattle.bk_order.specs.Stops.{IsStop, StopsAt, AreClear}
 use Rattle.bk_flatten.specs.Batches.{batches_of}
 use Rattle.bk_rules.specs.Fold.{state_after, receipts_of}
 use Rattle.bk_report.specs.Lines.{text_of}
-use Rattle.bk_report.specs.Report.{IsApplyReport, apply_report_of, transactions_of}
+use Rattle.bk_tx.specs.Batches.{transactions_of}
+use Rattle.bk_report.specs.Report.{IsApplyReport, apply_report_of}
 use Rattle.bk_report.specs.RunLines.{Reading, run_lines}
 use Rattle.bk_replay.specs.RunReport.{committee_in, later_frames, HasNoStopIn, Reads, IsStopIn, fault_of, status_of}
 use Rattle.bk_replay.specs.RunLaws.{Answer, ComesTo, faulty, stopped, reported}

@@ -28,7 +28,7 @@ use Rattle.bk_rules.specs.Rows.{account_at, account_of, changed, outcome_of, row
 use Rattle.bk_rules.proofs.Folding.{total_below}
 use Rattle.bk_rules.proofs.Room.{room_left}
 use Rattle.bk_report.specs.Proofs.{IsRow}
-use Rattle.bk_report.specs.Report.{transactions_of}
+use Rattle.bk_tx.specs.Batches.{transactions_of}
 use Rattle.bk_report.specs.RunLines.{Reading}
 use Rattle.bk_replay.specs.RunReport.{Reads, committee_in, later_frames}
 use Rattle.bk_replay.proofs.Counting.{few_places}

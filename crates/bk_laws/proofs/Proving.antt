@@ -11,7 +11,7 @@ use Rattle.bk_rules.specs.Fold.{state_after}
 use Rattle.bk_report.specs.Leaves.{state_of}
 use Rattle.bk_report.specs.Lines.{text_of}
 use Rattle.bk_report.specs.Proofs.{IsGoodProof, IsProofOf}
-use Rattle.bk_report.specs.Report.{transactions_of}
+use Rattle.bk_tx.specs.Batches.{transactions_of}
 use Rattle.bk_report.specs.RunLines.{Reading, run_lines}
 use Rattle.bk_report.proofs.MadeProofs.{made_is_good}
 use Rattle.bk_replay.specs.declared.query.Query.TheVariants as query

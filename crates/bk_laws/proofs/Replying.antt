@@ -23,7 +23,7 @@ use Rattle.bk_report.specs.Leaves.{leaves_of, state_of}
 use Rattle.bk_report.specs.Lines.{text_of}
 use Rattle.bk_report.specs.declared.line.Line.TheVariants as line
 use Rattle.bk_report.specs.Proofs.{IsAbsent, IsProofOf, ProofValue, proof_text}
-use Rattle.bk_report.specs.Report.{transactions_of}
+use Rattle.bk_tx.specs.Batches.{transactions_of}
 use Rattle.bk_replay.specs.declared.query.Query.{Query}
 use Rattle.bk_replay.specs.declared.query.Query.TheVariants as query
 use Rattle.bk_replay.specs.declared.query.Reply.{Reply}

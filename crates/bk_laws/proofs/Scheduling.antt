@@ -18,7 +18,7 @@ use Rattle.bk_steps.specs.declared.event.Event.{Event}
 use Rattle.bk_steps.specs.declared.refused.Refused as reason
 use Rattle.bk_steps.specs.declared.outcome.ScheduleFault.{ScheduleFault}
 use Rattle.bk_steps.specs.declared.outcome.ScheduleFault.TheVariants.{Refused, Unfinished, OutOfMemory}
-use Rattle.bk_report.specs.Report.{feed_transactions}
+use Rattle.bk_tx.specs.Batches.{feed_transactions}
 use Rattle.bk_replay.specs.Scheduling.{opening_of, IsNotWholeFor, IsOfEvents, IsPlanOfFeed, IsWholeFor}
 
 -- ---- ids in ascending order are one list where they are the same

@@ -11,7 +11,8 @@ use Rattle.bk_commit.specs.Growth.{Begins, IsPartOf}
 use Rattle.bk_order.specs.Intake.{first_frame}
 use Rattle.bk_order.specs.declared.stop.Stop.{Stop}
 use Rattle.bk_report.specs.Proofs.{IsRow, IsGoodProof}
-use Rattle.bk_report.specs.Report.{IsApplyReport, feed_transactions, transactions_of}
+use Rattle.bk_tx.specs.Batches.{feed_transactions, transactions_of}
+use Rattle.bk_report.specs.Report.{IsApplyReport}
 use Rattle.bk_report.specs.RunLines.{Reading}
 use Rattle.bk_steps.specs.declared.event.Event.{Event}
 use Rattle.bk_steps.specs.declared.outcome.ScheduleFault.{ScheduleFault}

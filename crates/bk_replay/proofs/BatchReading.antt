@@ -12,7 +12,7 @@ use Rattle.bk_rules.proofs.Folding.{state_append, receipts_append}
 use Rattle.bk_rules.proofs.Room.{room_left}
 use Rattle.bk_replay.specs.declared.ledger.Ledger.{Ledger}
 use Rattle.bk_replay.specs.declared.slice.Batches.{Batches}
-use Rattle.bk_report.specs.Report.{count_in, payloads_of, feed_transactions}
+use Rattle.bk_tx.specs.Batches.{count_in, payloads_of, feed_transactions}
 use Rattle.bk_replay.specs.private.Slices.{HasRead, HasRun}
 use Rattle.bk_report.proofs.Runs.{payloads_of-append, feed_transactions-append, take_next, few_transactions}
 

@@ -19,7 +19,7 @@ use Rattle.bk_replay.specs.declared.status.Status.{Status}
 use Rattle.bk_replay.specs.Finishing.{ReportIsOut, ReportStops}
 use Rattle.bk_replay.specs.Follower.{Executed, BookValue, IsExecuted, IsCurrent}
 use Rattle.bk_report.specs.Lines.{text_of}
-use Rattle.bk_report.specs.Report.{transactions_of, count_in}
+use Rattle.bk_tx.specs.Batches.{transactions_of, count_in}
 use Rattle.bk_report.specs.RunLines.{Reading, head_lines, order_lines, batches_lines, ledger_lines, run_lines}
 use Rattle.bk_replay.specs.RunReport.{committee_in, later_frames, Reads, IsReportOf, status_of}
 use Rattle.bk_replay.specs.private.Ledgers.{executed_of, book_with}

@@ -22,7 +22,7 @@ use Rattle.bk_rules.specs.declared.receipt.Receipt.{Receipt}
 use Rattle.bk_rules.specs.Fold.{state_after, receipts_of}
 use Rattle.bk_rules.proofs.Folding.{length-receipts, receipts_append}
 use Rattle.bk_tx.specs.Transaction.{Transaction}
-use Rattle.bk_report.specs.Report.{transactions_in, transactions_of}
+use Rattle.bk_tx.specs.Batches.{transactions_in, transactions_of}
 use Rattle.bk_replay.specs.RunReport.{committee_in, later_frames}
 use Rattle.bk_replay.specs.Follower.{BookValue, Followed, OrdersPart, FollowsBy, Follows, HasCome, OfFrames, receipts_of_executed, receipts_in}
 use Rattle.bk_replay.specs.Queries.{rows_of_executed, rows_in}

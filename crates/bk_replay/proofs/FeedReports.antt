@@ -11,7 +11,8 @@ use Rattle.bk_rules.proofs.Folding.{length-receipts}
 use Rattle.bk_replay.specs.Answers.{PartIsOut, AreFeed}
 use Rattle.bk_report.specs.Lines.{text_of}
 use Rattle.bk_report.specs.Pages.{Gathered, blank, Puts, Stops}
-use Rattle.bk_report.specs.Report.{payloads_of, feed_transactions, count_in, lines_of, apply_report_of, IsApplyReport}
+use Rattle.bk_tx.specs.Batches.{payloads_of, feed_transactions, count_in}
+use Rattle.bk_report.specs.Report.{lines_of, apply_report_of, IsApplyReport}
 use Rattle.bk_report.proofs.Putting.{all_out, part_out, part_size}
 use Rattle.bk_report.proofs.Runs.{few_batches, few_feed_transactions}
 

@@ -24,7 +24,7 @@ use Rattle.bk_replay.specs.declared.fault.Fault.TheVariants as fault
 use Rattle.bk_replay.specs.declared.scheduling.ScheduleStop.{ScheduleStop}
 use Rattle.bk_replay.specs.declared.scheduling.ScheduleStop.TheVariants as stop
 use Rattle.bk_replay.specs.Answers.{devices}
-use Rattle.bk_report.specs.Report.{feed_transactions}
+use Rattle.bk_tx.specs.Batches.{feed_transactions}
 use Rattle.bk_replay.specs.Scheduling.{opening_of, IsPlanOfFeed, InExecution, InExecutionOf, StopsBy}
 use Rattle.bk_replay.specs.private.Schedules.{stop_of, Unscheduled, IsScheduled}
 use Rattle.bk_report.proofs.Runs.{few_feed_transactions, transactions_next}

@@ -14,7 +14,7 @@ use Rattle.bk_replay.specs.declared.fault.Fault.{Fault}
 use Rattle.bk_replay.specs.declared.fault.Fault.TheVariants as fault
 use Rattle.bk_replay.specs.declared.ledger.Ledger.{Ledger}
 use Rattle.bk_replay.specs.declared.slice.Batches.{Batches}
-use Rattle.bk_report.specs.Report.{count_in, transactions_in, transactions_of}
+use Rattle.bk_tx.specs.Batches.{count_in, transactions_in, transactions_of}
 use Rattle.bk_replay.specs.private.Slices.{left_of, HasRun, HasExecuted, IsSliceOf, IsOnTheWay, Leaves}
 
 -- ---- lists

@@ -19,7 +19,7 @@ use Rattle.bk_replay.specs.declared.query.Reply.TheVariants as reply
 use Rattle.bk_replay.specs.Answers.{Devices, IsUntouched}
 use Rattle.bk_report.specs.Lines.{text_of}
 use Rattle.bk_report.specs.Proofs.{ProofValue, proof_text, IsProofOf, IsAbsent}
-use Rattle.bk_report.specs.Report.{transactions_of}
+use Rattle.bk_tx.specs.Batches.{transactions_of}
 use Rattle.bk_report.specs.RunLines.{anchor_lines, cert_lines}
 use Rattle.bk_replay.specs.RunReport.{HasNoStopIn, IsOrderIn, IsStopped, HasPlace}
 use Rattle.bk_replay.specs.Replaying.{NothingFailed}

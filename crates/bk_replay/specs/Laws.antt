@@ -3,7 +3,8 @@ use Rattle.std.specs.Prelude.{◌≡◌, ℕ, List}
 use Rattle.bk_frames.specs.Genesis.{total_of}
 use Rattle.bk_frames.specs.Feed.{FeedValue, IsFeed, genesis_of}
 use Rattle.bk_rules.specs.Fold.{state_after}
-use Rattle.bk_report.specs.Report.{feed_transactions, IsApplyReport}
+use Rattle.bk_tx.specs.Batches.{feed_transactions}
+use Rattle.bk_report.specs.Report.{IsApplyReport}
 
 -- the money at the end is the money of the opening accounts
 abbrev pub MoneyIsGenesis : Type 0

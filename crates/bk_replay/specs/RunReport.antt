@@ -14,7 +14,7 @@ use Rattle.bk_replay.specs.declared.fault.Fault.TheVariants as fault
 use Rattle.bk_replay.specs.declared.status.Status.{Status}
 use Rattle.bk_replay.specs.declared.status.Status.TheVariants as status
 use Rattle.bk_report.specs.Lines.{text_of}
-use Rattle.bk_report.specs.Report.{transactions_of}
+use Rattle.bk_tx.specs.Batches.{transactions_of}
 use Rattle.bk_report.specs.RunLines.{Reading, run_lines}
 
 -- the committee of a feed: the one that frame 0 holds

@@ -15,7 +15,7 @@ use Rattle.bk_replay.specs.declared.scheduling.ScheduleStop.{ScheduleStop}
 use Rattle.bk_replay.specs.declared.scheduling.ScheduleStop.TheVariants as stop
 use Rattle.bk_replay.specs.Answers.{Devices, FailsBy}
 use Rattle.bk_replay.specs.Replaying.{NothingFailed}
-use Rattle.bk_report.specs.Report.{feed_transactions}
+use Rattle.bk_tx.specs.Batches.{feed_transactions}
 
 -- the accounts before the first transaction: those of genesis, each of which has a slot
 abbrev pub opening_of : FeedValue → Ledger

@@ -5,7 +5,7 @@
 
 ghost use Rattle.std.specs.Prelude.{◌≡◌, ◌≤◌, false, length, IfOk};
 ghost use Rattle.bk_rules.specs.Fold.{HasRoom};
-ghost use Rattle.bk_report.specs.Report.{transactions_of};
+ghost use Rattle.bk_tx.specs.Batches.{transactions_of};
 ghost use Rattle.bk_replay.specs.private.Slices.{HasExecuted, left_of};
 
 use crate::ledger::Ledger;

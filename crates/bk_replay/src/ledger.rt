@@ -6,7 +6,7 @@ ghost use Rattle.bk_frames.specs.Genesis.{AreAccounts, total_of};
 ghost use Rattle.bk_rules.specs.Fold.{receipts_of, state_after, HasRoom};
 ghost use Rattle.bk_tx.specs.Batch.{IsWithin, cuts};
 ghost use Rattle.bk_tx.specs.Reading.{transaction_of};
-ghost use Rattle.bk_report.specs.Report.{count_in, payloads_of, feed_transactions};
+ghost use Rattle.bk_tx.specs.Batches.{count_in, payloads_of, feed_transactions};
 ghost use Rattle.bk_replay.specs.private.Slices.{HasRun};
 
 use crate::slice::Batches;

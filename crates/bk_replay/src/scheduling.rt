@@ -8,7 +8,8 @@ ghost use Rattle.bk_steps.specs.Schedule.{IsWholeAmong};
 ghost use Rattle.bk_replay.specs.declared.fault.Fault.TheVariants as fault;
 ghost use Rattle.bk_replay.specs.declared.scheduling.ScheduleStop.TheVariants as stop;
 ghost use Rattle.bk_replay.specs.Answers.{devices};
-ghost use Rattle.bk_report.specs.Report.{IsApplyReport, count_in, payloads_of, feed_transactions};
+ghost use Rattle.bk_tx.specs.Batches.{count_in, payloads_of, feed_transactions};
+ghost use Rattle.bk_report.specs.Report.{IsApplyReport};
 ghost use Rattle.bk_replay.specs.Scheduling.{InExecution, IsWholeFor, StopsBy};
 ghost use Rattle.bk_replay.specs.private.Schedules.{stop_of, Unscheduled, IsScheduled};
 

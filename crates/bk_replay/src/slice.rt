@@ -9,7 +9,7 @@ ghost use Rattle.std.specs.Thread.{IsSync};
 ghost use Rattle.bk_frames.specs.Feed.{frame_of};
 ghost use Rattle.bk_conflicts.specs.SceneOf.{CanRunOn};
 ghost use Rattle.bk_rules.specs.Fold.{HasRoom};
-ghost use Rattle.bk_report.specs.Report.{count_in, feed_transactions, payloads_of, transactions_in, transactions_of};
+ghost use Rattle.bk_tx.specs.Batches.{count_in, feed_transactions, payloads_of, transactions_in, transactions_of};
 ghost use Rattle.bk_replay.specs.private.Slices.{HasExecuted, HasRun, IsAheadOf, IsPlannedOn, IsReadOf, IsReady, IsSame, Leaves, counts_of, left_of, txs_of};
 
 use crate::fault::Fault;

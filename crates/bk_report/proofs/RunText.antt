@@ -2,7 +2,7 @@
 use Rattle.std.proofs.Common.{◌≡◌, ℕ, List, ◌++◌, map, Option}
 use Rattle.bk_committee.specs.Payload.{CommitteeValue}
 use Rattle.bk_report.specs.Lines.{text_of}
-use Rattle.bk_report.specs.Report.{count_in}
+use Rattle.bk_tx.specs.Batches.{count_in}
 use Rattle.bk_report.specs.RunLines.{Reading, head_lines, order_lines, batches_lines, ledger_lines, run_lines}
 
 -- where the counts and the missing digest are those of the ordered batches, the text is that of the report

@@ -12,7 +12,7 @@ use Rattle.bk_frames.specs.Feed.{Frame, FeedValue, frame_text, AreGoodFrom, IsFe
 use Rattle.bk_frames.specs.Numbers.{◌>>=◌, number_at, list_at, bytes_at}
 use Rattle.bk_frames.proofs.FieldLemmas.{bind_some, guard_some}
 use Rattle.bk_tx.specs.Reading.{transaction_of, text_at, texts_of}
-use Rattle.bk_report.specs.Report.{is_batch, payloads_of, transactions_in, transactions_of, feed_transactions, count_in}
+use Rattle.bk_tx.specs.Batches.{is_batch, payloads_of, transactions_in, transactions_of, feed_transactions, count_in}
 
 -- ---- frames in two parts
 

@@ -11,7 +11,8 @@ use Rattle.bk_rules.specs.declared.receipt.Receipt.{Receipt}
 use Rattle.bk_report.specs.declared.line.Line.{Line}
 use Rattle.bk_report.specs.declared.line.Line.TheVariants as line
 use Rattle.bk_report.specs.Leaves.{state_of}
-use Rattle.bk_report.specs.Report.{count_in, batch_lines, tx_lines, account_lines}
+use Rattle.bk_tx.specs.Batches.{count_in}
+use Rattle.bk_report.specs.Report.{batch_lines, tx_lines, account_lines}
 
 -- what a run reads off the frames of a feed: what is rejected, what waits, what is ordered, and
 -- what became of the transactions and of the accounts

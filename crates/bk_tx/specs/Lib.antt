@@ -1,5 +1,6 @@
 pub mod Access
 pub mod Batch
+pub mod Batches
 pub mod Reading
 pub mod Spelling
 pub mod Transaction

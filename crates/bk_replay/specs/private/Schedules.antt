@@ -11,7 +11,7 @@ use Rattle.bk_replay.specs.declared.fault.Fault.{Fault}
 use Rattle.bk_replay.specs.declared.fault.Fault.TheVariants as fault
 use Rattle.bk_replay.specs.declared.scheduling.ScheduleStop.{ScheduleStop}
 use Rattle.bk_replay.specs.declared.scheduling.ScheduleStop.TheVariants as stop
-use Rattle.bk_report.specs.Report.{feed_transactions}
+use Rattle.bk_tx.specs.Batches.{feed_transactions}
 use Rattle.bk_replay.specs.Scheduling.{InExecution, IsOfEvents}
 
 -- the stop of a fault: refused memory is that of any other call

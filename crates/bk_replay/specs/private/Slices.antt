@@ -14,7 +14,7 @@ use Rattle.bk_replay.specs.declared.ready.Ahead.{Ahead}
 use Rattle.bk_replay.specs.declared.ready.Next.{Next}
 use Rattle.bk_replay.specs.declared.ready.Next.TheVariants as next
 use Rattle.bk_replay.specs.declared.slice.Batches.{Batches}
-use Rattle.bk_report.specs.Report.{count_in, feed_transactions, payloads_of, transactions_of}
+use Rattle.bk_tx.specs.Batches.{count_in, feed_transactions, payloads_of, transactions_of}
 
 -- the batches of an order that a ledger has not executed
 abbrev pub left_of : List (List ℕ) → Ledger → List (List ℕ)

@@ -1,5 +1,5 @@
 use Rattle.std.proofs.Common.{◌≡◌, map, take}
-use Rattle.bk_report.specs.Report.{count_in, payloads_of, feed_transactions}
+use Rattle.bk_tx.specs.Batches.{count_in, payloads_of, feed_transactions}
 use Rattle.bk_replay.proofs.scheduling.batches_of.Given as goal
 
 abbrev pub invariant-loop-index : goal.invariant-loop-index

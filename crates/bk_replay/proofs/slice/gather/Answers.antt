@@ -1,5 +1,5 @@
 use Rattle.std.proofs.Common.{ap, length, length-append, [], ◌∷◌, arith}
-use Rattle.bk_report.specs.Report.{count_in}
+use Rattle.bk_tx.specs.Batches.{count_in}
 use Rattle.bk_replay.proofs.SliceLemmas.{slice_none, slice_more}
 use Rattle.bk_replay.proofs.slice.gather.Goals as goal
 
