@@ -1,6 +1,7 @@
 """What the benchmarks share: where the programs are, how they are built, and how a run is timed."""
 import argparse
 import collections
+import glob
 import os
 import re
 import subprocess
@@ -9,9 +10,17 @@ import time
 
 ROOT = os.path.dirname(os.path.dirname(os.path.abspath(__file__)))
 LAUNCHER = os.path.join(ROOT, "bkreplay")
-PROGRAM = os.path.join(ROOT, "crates", "bkreplay", "out", "bkreplay")
+# The processor that the launcher builds for.
+CPU = subprocess.run([os.path.join(ROOT, "launcher", "cpu")], check=True, capture_output=True, text=True).stdout.strip()
+PROGRAM = os.path.join(ROOT, "out", CPU, "bkreplay")
 BENCH_CRATE = os.path.join(ROOT, "crates", "bk_bench")
 BENCH = os.path.join(BENCH_CRATE, "out", "bk_bench")
+
+
+def example_feeds():
+    """The feeds in examples/ that have accounts: some of them are stopped or cut short."""
+    groups = [glob.glob(os.path.join(ROOT, "examples", group, "*.feed")) for group in ("order", "payments")]
+    return sorted(path for group in groups for path in group)
 
 
 def parser(text):
