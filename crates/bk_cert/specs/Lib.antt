@@ -4,5 +4,7 @@ pub mod Spelling
 pub mod Reading
 pub mod Identity
 pub mod Node
+pub mod Place
+pub mod Clear
 pub mod Equality
 pub mod Laws

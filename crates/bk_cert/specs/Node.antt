@@ -8,6 +8,10 @@ pub record Node : Type 0 where
   pub id : List ℕ
   pub header : HeaderValue
 
+-- the certificate of these parts
+abbrev pub node_with : List ℕ → HeaderValue → Node
+node_with id header = record { id = id; header = header }
+
 -- a header under its own id
 abbrev pub node_of : HeaderValue → Node
 node_of header = record { id = id_of header; header = header }

@@ -3,19 +3,26 @@
 //! `Cert::decode` answers exactly what the bytes encode, and nothing where they encode no certificate;
 //! `Cert::encode` writes the one encoding. `Cert::seal` makes the certificate that given members sign.
 //! That a tag is its member's is judged elsewhere: here a certificate is only well formed.
+//!
+//! `CertRef` is the place of a certificate, its round and its author; a `SharedCert` is a header
+//! under its id that several tables hold, kept once.
 #![tactic(auto)]
 
 mod cert;
 mod header;
 mod laws;
 mod mask;
+mod place;
 mod reading;
+mod shared;
 mod writing;
 
 pub use cert::Cert;
 pub use header::{Header, id_of_bytes};
 pub use laws::{certificate_grammar, equal_headers};
 pub use mask::Mask;
+pub use place::CertRef;
+pub use shared::SharedCert;
 
 #[cfg(test)]
 mod tests;

@@ -3,10 +3,10 @@ use Rattle.std.proofs.Common.{◌≡◌, ℕ, zero, suc, ◌-◌, ◌%◌, ◌<�
 use Rattle.std.proofs.lemmas.Bool.{cases_lt}
 use Rattle.bk_committee.specs.Sizes.{Sizes, leader}
 use Rattle.bk_cert.specs.Node.{Node}
-use Rattle.bk_rounds.specs.declared.place.CertRef.{CertRef}
+use Rattle.bk_cert.specs.declared.place.CertRef.{CertRef}
 use Rattle.bk_rounds.specs.Admission.{IsPresent}
 use Rattle.bk_rounds.specs.Members.{Has}
-use Rattle.bk_rounds.proofs.Admitted.{same_place}
+use Rattle.bk_cert.proofs.Refs.{same_place}
 use Rattle.bk_commit.specs.Ordering.{Walk, InHistory, IsEarlier, IsPrior, IsWayBack}
 use Rattle.bk_commit.specs.Level.{IsLevel, IsNextLevel}
 use Rattle.bk_commit.specs.private.Way.{IsPath, IsOnTheWay}

@@ -3,14 +3,17 @@ use Rattle.std.proofs.Common.{◌≡◌, ℕ, zero, suc, ◌+◌, ◌%◌, ◌<�
 use Rattle.std.specs.List.{Contains}
 use Rattle.std.proofs.lemmas.Bool.{cases_lt}
 use Rattle.std.proofs.lemmas.List.{append-nil}
-use Rattle.bk_rounds.specs.declared.place.CertRef.{CertRef}
+use Rattle.bk_cert.specs.declared.place.CertRef.{CertRef}
 use Rattle.bk_committee.specs.Sizes.{leader, quorum, faulty}
 use Rattle.bk_cert.specs.Node.{Node}
-use Rattle.bk_rounds.specs.Admission.{IsAdmittedIn, StandsAt, IsPresent, IsClear, place_of}
+use Rattle.bk_cert.specs.Place.{place_of}
+use Rattle.bk_cert.specs.Clear.{IsClear}
+use Rattle.bk_rounds.specs.Admission.{IsAdmittedIn, StandsAt, IsPresent}
 use Rattle.bk_rounds.specs.Links.{Links}
 use Rattle.bk_commit.specs.Ordering.{VotesFor, Walk, InHistory, IsAnchor, IsVoted, IsEarlier, IsPrior, IsWayBack, IsCommittedBack}
 use Rattle.bk_commit.specs.Growth.{IsPartOf}
-use Rattle.bk_rounds.proofs.Admitted.{admitted_held, parent_named, same_place, IsParent}
+use Rattle.bk_cert.proofs.Refs.{same_place}
+use Rattle.bk_rounds.proofs.Admitted.{admitted_held, parent_named, IsParent}
 use Rattle.bk_rounds.proofs.Counting.{weigh_more}
 use Rattle.bk_commit.proofs.Voted.{link_to, voted_in_history}
 use Rattle.bk_committee.specs.Sizes.{Sizes}

@@ -4,9 +4,10 @@ use Rattle.std.proofs.lemmas.Bool.{cases_eq, both_ways, and_from, eq-eqb}
 use Rattle.std.proofs.lemmas.List.{reverse-append, reverse-reverse}
 use Rattle.bk_committee.specs.Sizes.{Sizes, leader, faulty, members, Weigh}
 use Rattle.bk_cert.specs.Node.{Node}
-use Rattle.bk_rounds.specs.declared.place.CertRef.{CertRef}
+use Rattle.bk_cert.specs.declared.place.CertRef.{CertRef}
 use Rattle.bk_rounds.specs.Admission.{IsPresent, AreFit, last_round}
-use Rattle.bk_rounds.proofs.Admitted.{same_place, admitted_held}
+use Rattle.bk_cert.proofs.Refs.{same_place}
+use Rattle.bk_rounds.proofs.Admitted.{admitted_held}
 use Rattle.bk_commit.proofs.Grown.{walk_present}
 use Rattle.bk_commit.specs.Ordering.{IsAnchor, InHistory, IsVoted, IsLast, IsWayBack, IsCommitted, IsCommittedBack, VotesFor}
 

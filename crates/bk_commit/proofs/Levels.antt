@@ -3,11 +3,12 @@ use Rattle.std.proofs.Common.{◌≡◌, ◌≢◌, ℕ, zero, suc, ◌+◌, ◌
 use Rattle.std.proofs.lemmas.Bool.{cases_eq}
 use Rattle.bk_committee.specs.Sizes.{Sizes, members}
 use Rattle.bk_cert.specs.Node.{Node}
-use Rattle.bk_rounds.specs.declared.place.CertRef.{CertRef}
+use Rattle.bk_cert.specs.declared.place.CertRef.{CertRef}
 use Rattle.bk_rounds.specs.Admission.{AreFit}
 use Rattle.bk_rounds.specs.Links.{Links}
 use Rattle.bk_rounds.specs.Members.{Has}
-use Rattle.bk_rounds.proofs.Admitted.{admitted_held, same_place}
+use Rattle.bk_cert.proofs.Refs.{same_place}
+use Rattle.bk_rounds.proofs.Admitted.{admitted_held}
 use Rattle.bk_commit.specs.Ordering.{Walk, InHistory, VotesFor}
 use Rattle.bk_commit.specs.Level.{IsLinkedFrom, IsNextLevel, IsLevel}
 

@@ -4,14 +4,15 @@ use Rattle.std.proofs.lemmas.Bool.{false≢true}
 use Rattle.std.proofs.lemmas.List.{reverse-append, reverse-reverse, append-nil}
 use Rattle.bk_committee.specs.Sizes.{Sizes}
 use Rattle.bk_cert.specs.Node.{Node}
-use Rattle.bk_rounds.specs.declared.place.CertRef.{CertRef}
-use Rattle.bk_rounds.specs.Admission.{IsPresent, IsClear}
+use Rattle.bk_cert.specs.Clear.{IsClear}
+use Rattle.bk_cert.specs.declared.place.CertRef.{CertRef}
+use Rattle.bk_rounds.specs.Admission.{IsPresent}
 use Rattle.bk_commit.specs.Ordering.{InHistory, IsAnchor, IsVoted, IsLast, IsEarlier, IsPrior, IsWayBack, IsCommitted, IsCommittedBack}
 use Rattle.bk_commit.specs.Growth.{IsPartOf, WereCommitted}
 use Rattle.bk_commit.specs.private.Way.{IsPath, IsOnTheWay, IsWayTo, newest_in}
 use Rattle.bk_commit.proofs.Grown.{voted_more, way_back_more, voted_earlier}
 use Rattle.bk_commit.proofs.Back.{present_low}
-use Rattle.bk_rounds.proofs.Lists.{none_in_nil}
+use Rattle.bk_cert.proofs.Lists.{none_in_nil}
 use Rattle.bk_rounds.proofs.Admitted.{admitted_held}
 
 pub newest_snoc : (xs : List CertRef) (c : CertRef) → newest_in (xs ++ c ∷ []) ≡ c.round

@@ -5,9 +5,10 @@ use Rattle.std.proofs.lemmas.List.{append-nil, reverse-append, reverse-reverse}
 use Rattle.std.proofs.lemmas.List.Elements.{Contains-append_left, Contains-append_right}
 use Rattle.bk_committee.specs.Sizes.{Sizes}
 use Rattle.bk_cert.specs.Node.{Node}
-use Rattle.bk_rounds.specs.declared.place.CertRef.{CertRef}
-use Rattle.bk_rounds.specs.Admission.{IsClear, IsPresent}
-use Rattle.bk_rounds.proofs.Lists.{none_in_nil, contains_cases, contains_first}
+use Rattle.bk_cert.specs.Clear.{IsClear}
+use Rattle.bk_cert.specs.declared.place.CertRef.{CertRef}
+use Rattle.bk_rounds.specs.Admission.{IsPresent}
+use Rattle.bk_cert.proofs.Lists.{none_in_nil, contains_cases, contains_first}
 use Rattle.bk_commit.specs.Ordering.{IsWayBack, IsCommittedBack, IsCommitted}
 use Rattle.bk_commit.specs.Growth.{IsPartOf, Begins}
 use Rattle.bk_commit.proofs.Grown.{committed_more}

@@ -1,13 +1,15 @@
 -- An anchor whose voters weigh f + 1 is in the history of whatever is admitted two rounds later or more.
 use Rattle.std.proofs.Common.{◌≡◌, ℕ, zero, suc, ◌+◌, ◌-◌, ◌/◌, ◌<◌, ◌≤◌, List, refl, sym, ap, ◌∙◌, subst, arith}
 use Rattle.std.specs.List.{Contains}
-use Rattle.bk_rounds.specs.declared.place.CertRef.{CertRef}
+use Rattle.bk_cert.specs.declared.place.CertRef.{CertRef}
 use Rattle.bk_committee.specs.Sizes.{Sizes, Weigh, faulty, quorum}
 use Rattle.bk_cert.specs.Node.{Node}
-use Rattle.bk_rounds.specs.Admission.{IsAdmittedIn, IsAdmitted, StandsAt, IsPresent, place_of}
+use Rattle.bk_cert.specs.Place.{place_of}
+use Rattle.bk_rounds.specs.Admission.{IsAdmittedIn, IsAdmitted, StandsAt, IsPresent}
 use Rattle.bk_rounds.specs.Links.{Links}
 use Rattle.bk_commit.specs.Ordering.{InHistory, VotesFor}
-use Rattle.bk_rounds.proofs.Admitted.{admitted_round, admitted_here, IsParent, parents_weigh, same_place}
+use Rattle.bk_cert.proofs.Refs.{same_place}
+use Rattle.bk_rounds.proofs.Admitted.{admitted_round, admitted_here, IsParent, parents_weigh}
 use Rattle.bk_rounds.proofs.Counting.{shared}
 
 pub link_to : (z : Sizes) (held : List Node) (c : CertRef) (child : Node) → StandsAt z held c child → (r : ℕ) (d : Node) → IsAdmittedIn z held r d

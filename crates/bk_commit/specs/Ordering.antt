@@ -2,7 +2,7 @@
 use Rattle.std.specs.Prelude.{◌≡◌, ℕ, zero, suc, ◌+◌, ◌%◌, ◌≤◌, List, [], ◌∷◌, reverse}
 use Rattle.bk_committee.specs.Sizes.{Sizes, faulty, leader, Weigh}
 use Rattle.bk_cert.specs.Node.{Node}
-use Rattle.bk_rounds.specs.declared.place.CertRef.{CertRef}
+use Rattle.bk_cert.specs.declared.place.CertRef.{CertRef}
 use Rattle.bk_rounds.specs.Admission.{IsPresent}
 use Rattle.bk_rounds.specs.Links.{Links}
 

@@ -2,12 +2,13 @@
 
 ghost use Rattle.std.specs.Prelude.{◌≡◌, ℕ, ◌+◌, ◌<◌, ◌≤◌, ◌↔◌, ◌%◌, IsTrue, IfSome, IfNone};
 ghost use Rattle.bk_committee.specs.Sizes.{faulty, leader, members, Weigh};
-ghost use Rattle.bk_rounds.specs.declared.place.CertRef.{CertRef};
+ghost use Rattle.bk_cert.specs.declared.place.CertRef.{CertRef};
 ghost use Rattle.bk_rounds.specs.Admission.{IsPresent, last_round};
 ghost use Rattle.bk_rounds.specs.Members.{Has};
 ghost use Rattle.bk_commit.specs.Ordering.{IsAnchor, IsVoted, VotesFor, IsAnchorOf};
 
-use bk_rounds::{CertRef, Members, Rounds};
+use bk_cert::CertRef;
+use bk_rounds::{Members, Rounds};
 
 /// The anchor of a round: the admitted certificate of an odd round by the round's leader.
 pub fn anchor(rounds: &Rounds, round: u32) -> Option<CertRef>

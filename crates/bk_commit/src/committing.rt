@@ -2,7 +2,7 @@
 
 ghost use Rattle.std.specs.Prelude.{◌≡◌, ◌++◌, ℕ, ◌<◌, ◌≤◌, ◌↔◌, ◌%◌, List, IsTrue, IfOk, MatchOption};
 ghost use Rattle.bk_committee.specs.Sizes.{leader, members};
-ghost use Rattle.bk_rounds.specs.declared.place.CertRef.{CertRef};
+ghost use Rattle.bk_cert.specs.declared.place.CertRef.{CertRef};
 ghost use Rattle.bk_rounds.specs.Members.{Has};
 ghost use Rattle.bk_commit.specs.Ordering.{IsAnchor, IsVoted, IsLast, IsCommitted};
 ghost use Rattle.bk_commit.specs.Growth.{WereCommitted};
@@ -10,7 +10,8 @@ ghost use Rattle.bk_commit.specs.private.Way.{newest_in, IsWayTo};
 
 use crate::anchors::{anchor, is_voted};
 use crate::history::{first_level, next_level};
-use bk_rounds::{CertRef, Members, Rounds};
+use bk_cert::CertRef;
+use bk_rounds::{Members, Rounds};
 use std::alloc::{AllocError, Global};
 
 /// The committed anchors, oldest first.

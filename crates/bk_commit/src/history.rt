@@ -7,7 +7,8 @@ ghost use Rattle.bk_rounds.specs.Members.{Has};
 ghost use Rattle.bk_commit.specs.Ordering.{InHistory};
 ghost use Rattle.bk_commit.specs.Level.{IsNextLevel};
 
-use bk_rounds::{CertRef, Members, Rounds};
+use bk_cert::CertRef;
+use bk_rounds::{Members, Rounds};
 
 /// Whether b is in the history of a.
 pub fn reaches(rounds: &Rounds, a: CertRef, b: CertRef) -> bool

@@ -5,7 +5,8 @@ ghost use Rattle.bk_commit.specs.Ordering.{IsCommitted};
 ghost use Rattle.bk_commit.specs.Growth.{WereCommitted};
 
 use crate::committing::{anchors_above, newest_round};
-use bk_rounds::{CertRef, Rounds};
+use bk_cert::CertRef;
+use bk_rounds::Rounds;
 use std::alloc::{AllocError, Global};
 use std::marker::Model;
 
@@ -18,7 +19,7 @@ pub struct Walk {
 
 impl Model for Walk {
     ghost use Rattle.std.specs.Prelude.{List};
-    ghost use Rattle.bk_rounds.specs.declared.place.CertRef.{CertRef};
+    ghost use Rattle.bk_cert.specs.declared.place.CertRef.{CertRef};
 
     ghost Value = { List CertRef };
 

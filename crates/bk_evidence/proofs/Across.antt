@@ -7,7 +7,7 @@ use Rattle.std.specs.Str.{bytes_eq}
 use Rattle.std.proofs.lemmas.List.{take_more, take_all}
 use Rattle.std.proofs.lemmas.List.Elements.{Contains-get_or, Contains-append_left, Contains-append_right, Contains-append_cases, Contains-push, Contains-push_cases}
 use Rattle.indexmap.specs.IndexMap.{IndexMap, get}
-use Rattle.bk_rounds.proofs.Lists.{none_in_nil}
+use Rattle.bk_cert.proofs.Lists.{none_in_nil}
 use Rattle.bk_evidence.specs.Batches.{Batch, AreApart, IsBatchCollision}
 use Rattle.bk_evidence.specs.Collisions.{id_cmp, CollidesBy}
 use Rattle.bk_evidence.specs.private.Indexed.{IsIndexed, HasOther, CollidesWith, in_held, in_more, across}

@@ -5,14 +5,13 @@ use Rattle.std.specs.Map.{lookup}
 use Rattle.std.specs.Ordering.{is_eq}
 use Rattle.std.specs.Str.{bytes_eq}
 use Rattle.std.proofs.lemmas.Slice.Eq.{bytes_eq-Decides}
-use Rattle.bk_cert.specs.Node.{Node}
+use Rattle.bk_cert.specs.Node.{Node, node_with}
 use Rattle.bk_cert.specs.Equality.{header_eq}
 use Rattle.bk_cert.proofs.Equality.{header_decided}
-use Rattle.bk_rounds.specs.declared.place.CertRef.{CertRef}
-use Rattle.bk_rounds.specs.Admission.{place_of}
-use Rattle.bk_rounds.specs.Rounds.{node_with}
-use Rattle.bk_rounds.proofs.Refs.{before_from_less}
-use Rattle.bk_rounds.proofs.Lists.{none_in_nil}
+use Rattle.bk_cert.proofs.Lists.{none_in_nil}
+use Rattle.bk_cert.proofs.Refs.{before_from_less}
+use Rattle.bk_cert.specs.Place.{place_of, place_cmp}
+use Rattle.bk_cert.specs.declared.place.CertRef.{CertRef}
 use Rattle.bk_evidence.specs.Collisions.{id_cmp}
 use Rattle.bk_evidence.specs.Twins.{IsIdAt, IsEvidence, NoTwins}
 use Rattle.bk_evidence.specs.Held.{IsNewId, IsOffer}
@@ -20,7 +19,7 @@ use Rattle.bk_evidence.specs.declared.places.LeastIds.{LeastIds}
 use Rattle.bk_evidence.specs.declared.places.Places.{Places}
 use Rattle.bk_evidence.specs.private.Answers.{offer_of}
 use Rattle.bk_evidence.specs.private.Least.{IsLeastBy}
-use Rattle.bk_evidence.specs.private.Places.{place_cmp, second_in, AreLeastIds, ids_at, evidence_with, evidence_at, evidence_in, HasTwins, ArePlaces, AreSamePlaces, IsEmptyPlaces}
+use Rattle.bk_evidence.specs.private.Places.{second_in, AreLeastIds, ids_at, evidence_with, evidence_at, evidence_in, HasTwins, ArePlaces, AreSamePlaces, IsEmptyPlaces}
 use Rattle.bk_evidence.proofs.Lesser.{less_from, same_or_not}
 use Rattle.bk_evidence.proofs.Colliding.{id_order}
 use Rattle.bk_evidence.proofs.Payloads.{decided_same}

@@ -1,8 +1,9 @@
 -- There is one answer, one collision and one evidence.
 use Rattle.std.proofs.Common.{◌≡◌, ◌≢◌, ◌⊎◌, ℕ, List, refl, sym, ap, subst, ◌∙◌, inl, inr, ⊎_elim, arith}
 use Rattle.bk_cert.specs.Node.{Node}
-use Rattle.bk_rounds.specs.declared.place.CertRef.{CertRef}
-use Rattle.bk_rounds.specs.Listing.{IsBefore}
+use Rattle.bk_cert.proofs.Listed.{one_way}
+use Rattle.bk_cert.specs.Place.{IsBefore}
+use Rattle.bk_cert.specs.declared.place.CertRef.{CertRef}
 use Rattle.bk_evidence.specs.Batches.{Batch, IsBatchOffer}
 use Rattle.bk_evidence.specs.Collisions.{id_cmp, IsCollisionBy, IsAtMost}
 use Rattle.bk_evidence.specs.Held.{IsOffer}
@@ -50,16 +51,10 @@ collision_is_one name held x y h k = both_at_most id_order x y (h.least y k.coll
 
 -- ---- the evidence
 
-before_both : (a b : CertRef) → IsBefore a b → IsBefore b a → ⊥
-before_both a b (inl h) (inl k) = omega arith
-before_both a b (inl h) (inr k) = let e = k.0 in omega arith
-before_both a b (inr h) (inl k) = let e = h.0 in omega arith
-before_both a b (inr h) (inr k) = let e = h.1 in let f = k.1 in omega arith
-
 one_place : (a b : CertRef) → (a ≡ b) ⊎ IsBefore a b → (b ≡ a) ⊎ IsBefore b a → a ≡ b
 one_place a b (inl e) k = e
 one_place a b (inr h) (inl e) = sym e
-one_place a b (inr h) (inr k) = absurd (before_both a b h k)
+one_place a b (inr h) (inr k) = absurd (one_way a b h k)
 
 evidence_parts : (x y : Evidence) → place_in x ≡ place_in y → x.first ≡ y.first → x.second ≡ y.second → x ≡ y
 evidence_parts x y p f s = λ i. record { round = (p i).round; author = (p i).author; first = f i; second = s i }

@@ -6,15 +6,15 @@ use Rattle.std.specs.declared.cmp.Ordering.{Ordering}
 use Rattle.std.specs.declared.cmp.Ordering.TheVariants.{Less, Equal, Greater}
 use Rattle.std.proofs.lemmas.List.Elements.{Contains-push, Contains-push_cases, Contains-append_left}
 use Rattle.bk_cert.specs.Node.{Node}
-use Rattle.bk_rounds.specs.declared.place.CertRef.{CertRef}
-use Rattle.bk_rounds.specs.Admission.{place_of}
-use Rattle.bk_rounds.proofs.Refs.{ref_total, exact_ref}
+use Rattle.bk_cert.proofs.Refs.{ref_total, exact_ref}
+use Rattle.bk_cert.specs.Place.{place_of, place_cmp}
+use Rattle.bk_cert.specs.declared.place.CertRef.{CertRef}
 use Rattle.bk_evidence.specs.Collisions.{id_cmp}
 use Rattle.bk_evidence.specs.Twins.{IsIdAt, AreTwins}
 use Rattle.bk_evidence.specs.declared.places.LeastIds.{LeastIds}
 use Rattle.bk_evidence.specs.declared.places.Places.{Places}
 use Rattle.bk_evidence.specs.private.Least.{least_of, IsLeastBy}
-use Rattle.bk_evidence.specs.private.Places.{place_cmp, lone_id, two_ids, second_in, ids_with, AreLeastIds, ids_at, twins_with, IsNoted, HasTwins, ArePlaces}
+use Rattle.bk_evidence.specs.private.Places.{lone_id, two_ids, second_in, ids_with, AreLeastIds, ids_at, twins_with, IsNoted, HasTwins, ArePlaces}
 use Rattle.bk_evidence.proofs.Lesser.{IsExactOrder, less_apart, flipped, same_or_not, least_same, least_step}
 use Rattle.bk_evidence.proofs.Colliding.{id_order}
 

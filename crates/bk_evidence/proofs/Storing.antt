@@ -7,7 +7,7 @@ use Rattle.std.proofs.lemmas.Bool.{false≢true}
 use Rattle.std.proofs.lemmas.List.{take_more, take_all}
 use Rattle.std.proofs.lemmas.List.Elements.{Contains-get_or, Contains-push_cases}
 use Rattle.indexmap.specs.IndexMap.{IndexMap, get}
-use Rattle.bk_rounds.proofs.Lists.{none_in_nil}
+use Rattle.bk_cert.proofs.Lists.{none_in_nil}
 use Rattle.bk_evidence.specs.Collisions.{id_cmp, CollidesBy}
 use Rattle.bk_evidence.specs.Batches.{Batch, batch_with, has_digest, payload_of}
 use Rattle.bk_evidence.specs.private.Indexed.{IsIndexed}

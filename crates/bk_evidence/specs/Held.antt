@@ -1,7 +1,7 @@
 -- The certificates that are held, each a header under its id.
 use Rattle.std.specs.Prelude.{◌≡◌, ◌≢◌, ℕ, List, [], ◌∷◌, ◌++◌, Contains}
 use Rattle.bk_cert.specs.Node.{Node}
-use Rattle.bk_rounds.specs.Admission.{place_of}
+use Rattle.bk_cert.specs.Place.{place_of}
 use Rattle.bk_evidence.specs.Collisions.{IsAtMost, CollidesBy, IsCollisionBy, NoCollisionBy}
 use Rattle.bk_evidence.specs.Twins.{IsIdAt}
 use Rattle.bk_evidence.specs.declared.offer.Offer.{Offer}

@@ -1,7 +1,7 @@
 -- What the definitions of evidence say together.
 use Rattle.std.specs.Prelude.{◌≡◌, ℕ, ◌↔◌, List, Contains}
 use Rattle.bk_cert.specs.Node.{Node}
-use Rattle.bk_rounds.specs.Admission.{IsClear}
+use Rattle.bk_cert.specs.Clear.{IsClear}
 use Rattle.bk_evidence.specs.Batches.{Batch, AreApart, IsBatchCollision, IsBatchOffer}
 use Rattle.bk_evidence.specs.Held.{IsCollision, IsOffer, NoCollision}
 use Rattle.bk_evidence.specs.Twins.{IsEvidence, NoTwins}

@@ -1,9 +1,8 @@
 -- Twins: two different ids of one round and author, and the evidence that is named of them.
 use Rattle.std.specs.Prelude.{◌≡◌, ◌≢◌, ◌⊎◌, ℕ, List, Contains}
 use Rattle.bk_cert.specs.Node.{Node}
-use Rattle.bk_rounds.specs.declared.place.CertRef.{CertRef}
-use Rattle.bk_rounds.specs.Admission.{place_of}
-use Rattle.bk_rounds.specs.Listing.{IsBefore}
+use Rattle.bk_cert.specs.Place.{place_of, IsBefore}
+use Rattle.bk_cert.specs.declared.place.CertRef.{CertRef}
 use Rattle.bk_evidence.specs.Collisions.{IsBelow, IsAtMost}
 use Rattle.bk_evidence.specs.declared.evidence.Evidence.{Evidence}
 

@@ -3,10 +3,10 @@
 ghost use Rattle.std.specs.Prelude.{◌≡◌};
 ghost use Rattle.bk_evidence.specs.Collisions.{id_cmp};
 ghost use Rattle.bk_evidence.specs.private.Least.{least_of, lesser_of};
-ghost use Rattle.bk_evidence.specs.private.Places.{place_cmp};
+ghost use Rattle.bk_cert.specs.Place.{place_cmp};
 
+use bk_cert::CertRef;
 use bk_digest::Digest32;
-use bk_rounds::CertRef;
 use std::cmp::Ordering;
 
 /// The lesser of the id that is known, if one is, and one more.

@@ -6,8 +6,8 @@ ghost use Rattle.bk_evidence.specs.private.Places.{AreSamePlaces, IsEmptyPlaces,
 
 use crate::evidence::Evidence;
 use crate::least::{least_id, least_place};
+use bk_cert::CertRef;
 use bk_digest::Digest32;
-use bk_rounds::CertRef;
 use std::alloc::{AllocError, Global};
 use std::cmp::Ordering;
 use std::collections::BTreeMap;

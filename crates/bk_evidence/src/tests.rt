@@ -1,9 +1,8 @@
 //! Offers by hand, and many small lists of offers compared with plain slow bodies.
 
 use crate::*;
-use bk_cert::Header;
+use bk_cert::{Header, SharedCert};
 use bk_digest::Digest32;
-use bk_rounds::SharedCert;
 use std::alloc::{AllocError, Global};
 use std::process::Abort;
 use std::test::Fail;

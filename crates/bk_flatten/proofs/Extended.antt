@@ -5,11 +5,11 @@ use Rattle.std.proofs.lemmas.Bool.{cases_eq}
 use Rattle.std.proofs.lemmas.List.Elements.{Contains-append_left, Contains-append_right, Contains-append_cases}
 use Rattle.bk_committee.specs.Sizes.{Sizes}
 use Rattle.bk_cert.specs.Node.{Node}
-use Rattle.bk_rounds.specs.declared.place.CertRef.{CertRef}
-use Rattle.bk_rounds.specs.Listing.{Lists}
-use Rattle.bk_rounds.proofs.Admitted.{same_place}
-use Rattle.bk_rounds.proofs.Lists.{none_in_nil, contains_cases, contains_first, contains_later}
-use Rattle.bk_rounds.proofs.Listed.{same_listing}
+use Rattle.bk_cert.proofs.Listed.{same_listing}
+use Rattle.bk_cert.proofs.Lists.{none_in_nil, contains_cases, contains_first, contains_later}
+use Rattle.bk_cert.proofs.Refs.{same_place}
+use Rattle.bk_cert.specs.Place.{Lists}
+use Rattle.bk_cert.specs.declared.place.CertRef.{CertRef}
 use Rattle.bk_commit.specs.Ordering.{Walk, InHistory, IsWayBack}
 use Rattle.bk_commit.proofs.Grown.{one_way_back}
 use Rattle.bk_commit.proofs.Levels.{walk_snoc}

@@ -10,10 +10,12 @@ use Rattle.std.proofs.lemmas.List.Elements.{filter-append, Contains-append_cases
 use Rattle.std.proofs.lemmas.List.Concat.{flat_map-append, flat_map-cons}
 use Rattle.bk_committee.specs.Sizes.{Sizes}
 use Rattle.bk_cert.specs.Node.{Node}
-use Rattle.bk_rounds.specs.declared.place.CertRef.{CertRef}
-use Rattle.bk_rounds.specs.Admission.{IsClear, IsPresent, place_of}
+use Rattle.bk_cert.specs.Place.{place_of}
+use Rattle.bk_cert.specs.Clear.{IsClear}
+use Rattle.bk_cert.specs.declared.place.CertRef.{CertRef}
+use Rattle.bk_rounds.specs.Admission.{IsPresent}
 use Rattle.bk_rounds.proofs.Admitted.{admitted_held}
-use Rattle.bk_rounds.proofs.Lists.{none_in_nil, contains_cases, contains_first, contains_later}
+use Rattle.bk_cert.proofs.Lists.{none_in_nil, contains_cases, contains_first, contains_later}
 use Rattle.bk_commit.specs.Growth.{IsPartOf, Begins}
 use Rattle.bk_evidence.specs.Batches.{Batch, AreApart, payload_of}
 use Rattle.bk_flatten.specs.Batches.{stands, named_at, once, Payloads, cons_payload, before_missing, batches_of}

@@ -5,11 +5,12 @@ use Rattle.std.proofs.lemmas.List.{append-nil}
 use Rattle.std.proofs.lemmas.List.Elements.{Contains-append_cases}
 use Rattle.bk_committee.specs.Sizes.{Sizes}
 use Rattle.bk_cert.specs.Node.{Node}
-use Rattle.bk_rounds.specs.declared.place.CertRef.{CertRef}
-use Rattle.bk_rounds.specs.Admission.{IsClear, IsPresent}
-use Rattle.bk_rounds.specs.Listing.{Lists}
-use Rattle.bk_rounds.proofs.Lists.{none_in_nil}
-use Rattle.bk_rounds.proofs.Listed.{one_listing, same_listing}
+use Rattle.bk_cert.specs.Clear.{IsClear}
+use Rattle.bk_cert.specs.declared.place.CertRef.{CertRef}
+use Rattle.bk_rounds.specs.Admission.{IsPresent}
+use Rattle.bk_cert.proofs.Listed.{one_listing, same_listing}
+use Rattle.bk_cert.proofs.Lists.{none_in_nil}
+use Rattle.bk_cert.specs.Place.{Lists}
 use Rattle.bk_commit.specs.Ordering.{InHistory, IsWayBack, IsCommittedBack}
 use Rattle.bk_commit.specs.Growth.{IsPartOf, Begins}
 use Rattle.bk_commit.proofs.Grown.{history_more, history_back, committed_more, walk_present}

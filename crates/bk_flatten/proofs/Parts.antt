@@ -6,13 +6,13 @@ use Rattle.std.proofs.lemmas.List.{reverse-append, reverse-reverse, get_or-set_s
 use Rattle.std.proofs.lemmas.List.Elements.{Contains-push, Contains-push_cases, Contains-append_left, Contains-append_right, Contains-append_cases}
 use Rattle.bk_committee.specs.Sizes.{Sizes}
 use Rattle.bk_cert.specs.Node.{Node}
-use Rattle.bk_rounds.specs.declared.place.CertRef.{CertRef}
+use Rattle.bk_cert.specs.declared.place.CertRef.{CertRef}
 use Rattle.bk_rounds.specs.Admission.{IsPresent}
 use Rattle.bk_rounds.specs.Links.{Links}
-use Rattle.bk_rounds.specs.Listing.{IsBefore, IsListed, Lists}
+use Rattle.bk_cert.specs.Place.{IsBefore, IsListed, Lists}
 use Rattle.bk_rounds.specs.Members.{Has}
-use Rattle.bk_rounds.proofs.Admitted.{same_place}
-use Rattle.bk_rounds.proofs.Lists.{contains_first, none_in_nil}
+use Rattle.bk_cert.proofs.Lists.{contains_first, none_in_nil}
+use Rattle.bk_cert.proofs.Refs.{same_place}
 use Rattle.bk_rounds.proofs.Named.{push_at}
 use Rattle.bk_rounds.proofs.Bits.{has_none as has_nobody}
 use Rattle.bk_commit.specs.Ordering.{Walk, InHistory}

@@ -13,8 +13,10 @@ use Rattle.std.proofs.lemmas.List.Elements.{filter-append}
 use Rattle.indexmap.specs.IndexSet.{insert_key, insert_all}
 use Rattle.bk_committee.specs.Sizes.{Sizes}
 use Rattle.bk_cert.specs.Node.{Node}
-use Rattle.bk_rounds.specs.declared.place.CertRef.{CertRef}
-use Rattle.bk_rounds.specs.Admission.{IsClear, StandsAt, place_of}
+use Rattle.bk_cert.specs.Place.{place_of}
+use Rattle.bk_cert.specs.Clear.{IsClear}
+use Rattle.bk_cert.specs.declared.place.CertRef.{CertRef}
+use Rattle.bk_rounds.specs.Admission.{StandsAt}
 use Rattle.bk_rounds.proofs.Admitted.{admitted_held}
 use Rattle.bk_evidence.specs.declared.batches.BatchRef.{BatchRef}
 use Rattle.bk_evidence.specs.Batches.{Batch, batch_with, has_digest, payload_of}

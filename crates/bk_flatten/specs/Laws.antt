@@ -2,8 +2,9 @@
 use Rattle.std.specs.Prelude.{◌≡◌, ℕ, List, [], ◌∷◌, ◌++◌, Contains, ◌↔◌, reverse}
 use Rattle.bk_committee.specs.Sizes.{Sizes}
 use Rattle.bk_cert.specs.Node.{Node}
-use Rattle.bk_rounds.specs.declared.place.CertRef.{CertRef}
-use Rattle.bk_rounds.specs.Admission.{IsClear, IsPresent}
+use Rattle.bk_cert.specs.Clear.{IsClear}
+use Rattle.bk_cert.specs.declared.place.CertRef.{CertRef}
+use Rattle.bk_rounds.specs.Admission.{IsPresent}
 use Rattle.bk_commit.specs.Ordering.{InHistory, IsWayBack, IsCommitted}
 use Rattle.bk_commit.specs.Growth.{IsPartOf, Begins}
 use Rattle.bk_flatten.specs.Order.{IsOrder, IsOrderBack, IsWholeOrder}

@@ -2,8 +2,8 @@
 use Rattle.std.specs.Prelude.{◌≡◌, List, [], ◌∷◌, ◌++◌, reverse}
 use Rattle.bk_committee.specs.Sizes.{Sizes}
 use Rattle.bk_cert.specs.Node.{Node}
-use Rattle.bk_rounds.specs.declared.place.CertRef.{CertRef}
-use Rattle.bk_rounds.specs.Listing.{Lists}
+use Rattle.bk_cert.specs.Place.{Lists}
+use Rattle.bk_cert.specs.declared.place.CertRef.{CertRef}
 use Rattle.bk_commit.specs.Ordering.{InHistory, IsWayBack, IsCommitted}
 
 -- The order up to a, whose way back this is: that up to its prior, and then what is in the

@@ -5,14 +5,15 @@ ghost use Rattle.std.specs.List.{flat_map};
 ghost use Rattle.std.specs.Option.{option_copied};
 ghost use Rattle.std.specs.Str.{bytes_eq};
 ghost use Rattle.indexmap.specs.IndexSet.{insert_all, spare};
-ghost use Rattle.bk_rounds.specs.declared.place.CertRef.{CertRef};
+ghost use Rattle.bk_cert.specs.declared.place.CertRef.{CertRef};
 ghost use Rattle.bk_rounds.specs.Admission.{IsPresent};
 ghost use Rattle.bk_evidence.specs.declared.batches.BatchRef.{BatchRef};
 ghost use Rattle.bk_flatten.specs.Batches.{named_at, once, listed_with, AreFound, IsFoundWhole, payloads_of, batches_of};
 
+use bk_cert::CertRef;
 use bk_digest::Digest32;
 use bk_evidence::{BatchRef, Batches};
-use bk_rounds::{CertRef, Rounds};
+use bk_rounds::Rounds;
 use indexmap::IndexSet;
 use std::alloc::{AllocError, Global};
 use std::marker::Model;

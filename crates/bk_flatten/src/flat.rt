@@ -1,16 +1,17 @@
 //! The order so far.
 
 ghost use Rattle.std.specs.Prelude.{◌≡◌, ◌++◌, ◌∷◌, [], List, IfOk, OnOk, OnErr};
-ghost use Rattle.bk_rounds.specs.declared.place.CertRef.{CertRef};
+ghost use Rattle.bk_cert.specs.declared.place.CertRef.{CertRef};
 ghost use Rattle.bk_rounds.specs.Admission.{IsPresent};
-ghost use Rattle.bk_rounds.specs.Listing.{Lists};
+ghost use Rattle.bk_cert.specs.Place.{Lists};
 ghost use Rattle.bk_commit.specs.Ordering.{IsWayBack};
 ghost use Rattle.bk_flatten.specs.Order.{IsOrder, IsKept, IsWholeOrder};
 ghost use Rattle.bk_flatten.specs.private.Part.{IsNew, IsClosed};
 
 use crate::part::{make_rows, mark, marks_at, push_level};
+use bk_cert::CertRef;
 use bk_commit::{committed, first_level, next_level};
-use bk_rounds::{CertRef, Members, Rounds};
+use bk_rounds::{Members, Rounds};
 use std::alloc::{AllocError, Global};
 use std::marker::Model;
 
@@ -25,7 +26,7 @@ pub struct Flat {
 
 impl Model for Flat {
     ghost use Rattle.std.specs.Prelude.{List};
-    ghost use Rattle.bk_rounds.specs.declared.place.CertRef.{CertRef};
+    ghost use Rattle.bk_cert.specs.declared.place.CertRef.{CertRef};
     ghost use Rattle.bk_flatten.specs.private.Part.{AreMarks};
 
     ghost Value = { List CertRef };

@@ -1,12 +1,13 @@
 //! What an anchor adds to the order.
 
 ghost use Rattle.std.specs.Prelude.{◌≡◌, ℕ, ◌<◌, ◌↔◌, ◌⊎◌, reverse, Contains, length, OnOk};
-ghost use Rattle.bk_rounds.specs.declared.place.CertRef.{CertRef};
-ghost use Rattle.bk_rounds.specs.Listing.{IsListed};
+ghost use Rattle.bk_cert.specs.Place.{IsListed};
+ghost use Rattle.bk_cert.specs.declared.place.CertRef.{CertRef};
 ghost use Rattle.bk_rounds.specs.Members.{Has};
 ghost use Rattle.bk_flatten.specs.private.Part.{IsNewAt, Gains, marks_of};
 
-use bk_rounds::{CertRef, Members};
+use bk_cert::CertRef;
+use bk_rounds::Members;
 use std::alloc::AllocError;
 
 /// The set of this round.

@@ -1,8 +1,8 @@
 use crate::whole_order;
-use bk_cert::Header;
+use bk_cert::{CertRef, Header, SharedCert};
 use bk_commit::{anchor, committed, reaches, votes};
 use bk_digest::Digest32;
-use bk_rounds::{CertRef, Rounds, SharedCert};
+use bk_rounds::Rounds;
 use std::alloc::{AllocError, Global};
 use std::process::Abort;
 use std::test::Fail;

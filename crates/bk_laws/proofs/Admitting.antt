@@ -3,11 +3,13 @@ use Rattle.std.proofs.Common.{◌≡◌, ℕ, zero, suc, ◌+◌, ◌<◌, List,
 use Rattle.std.specs.List.{Contains}
 use Rattle.bk_committee.specs.Sizes.{Sizes, Weigh, quorum}
 use Rattle.bk_cert.specs.Node.{Node}
-use Rattle.bk_rounds.specs.declared.place.CertRef.{CertRef}
-use Rattle.bk_rounds.specs.Admission.{IsAdmittedIn, IsAdmitted, IsPresent, StandsAt, WaitsAt, place_of}
+use Rattle.bk_cert.specs.Place.{place_of}
+use Rattle.bk_cert.specs.declared.place.CertRef.{CertRef}
+use Rattle.bk_rounds.specs.Admission.{IsAdmittedIn, IsAdmitted, IsPresent, StandsAt, WaitsAt}
 use Rattle.bk_rounds.specs.Links.{Links}
-use Rattle.bk_rounds.proofs.Admitted.{IsNamed, IsParent, admitted_held, same_place}
-use Rattle.bk_rounds.proofs.Lists.{in_map}
+use Rattle.bk_cert.proofs.Refs.{same_place}
+use Rattle.bk_rounds.proofs.Admitted.{IsNamed, IsParent, admitted_held}
+use Rattle.bk_cert.proofs.Lists.{in_map}
 use Rattle.bk_evidence.proofs.Colliding.{id_order}
 use Rattle.bk_evidence.proofs.Lesser.{same_or_not}
 use Rattle.bk_laws.proofs.Deciding.{Decided, AnyIn, decided_both, decided_three, decided_if, decided_not, decided_as, decided_among, decided_each, decided_contains, decided_below, same_number}

@@ -3,10 +3,11 @@ use Rattle.std.proofs.Common.{◌≡◌, ℕ, zero, suc, ◌+◌, ◌-◌, ◌%�
 use Rattle.std.specs.List.{Contains}
 use Rattle.bk_committee.specs.Sizes.{Sizes, Weigh, faulty, leader}
 use Rattle.bk_cert.specs.Node.{Node}
-use Rattle.bk_rounds.specs.declared.place.CertRef.{CertRef}
-use Rattle.bk_rounds.specs.Admission.{IsPresent, place_of}
+use Rattle.bk_cert.specs.Place.{place_of}
+use Rattle.bk_cert.specs.declared.place.CertRef.{CertRef}
+use Rattle.bk_rounds.specs.Admission.{IsPresent}
 use Rattle.bk_rounds.specs.Links.{Links}
-use Rattle.bk_rounds.proofs.Lists.{in_map}
+use Rattle.bk_cert.proofs.Lists.{in_map}
 use Rattle.bk_commit.specs.Ordering.{Walk, InHistory, IsAnchor, VotesFor, IsVoted, IsEarlier, IsPrior, IsWayBack, IsCommitted}
 use Rattle.bk_commit.proofs.Back.{earlier_round}
 use Rattle.bk_commit.proofs.Last.{committed_from}

@@ -19,7 +19,7 @@ use Rattle.bk_tx.specs.Transaction.{Transaction}
 use Rattle.bk_tx.specs.declared.body.Body.{Body}
 use Rattle.bk_tx.specs.declared.body.Body.TheVariants.{Pay, PayIf, Sweep, Split}
 use Rattle.bk_tx.specs.declared.payments.Payment.{Payment}
-use Rattle.bk_rounds.proofs.Lists.{contains_first, contains_later}
+use Rattle.bk_cert.proofs.Lists.{contains_first, contains_later}
 use Rattle.bk_rules.specs.declared.receipt.Status.{Status}
 use Rattle.bk_rules.specs.declared.receipt.Status.TheVariants as status
 use Rattle.bk_rules.specs.Fold.{seq_end, state_after}

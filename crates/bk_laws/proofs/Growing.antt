@@ -11,7 +11,7 @@ use Rattle.bk_order.specs.Orders.{AreWaiting, IsOrderOf, Ordered}
 use Rattle.bk_order.specs.Stops.{HasNoStop}
 use Rattle.bk_order.proofs.OneReading.{one_ordered, one_waiting}
 use Rattle.bk_order.proofs.Sets.{frames_grow}
-use Rattle.bk_rounds.specs.declared.place.CertRef.{CertRef}
+use Rattle.bk_cert.specs.declared.place.CertRef.{CertRef}
 use Rattle.bk_cert.specs.Node.{Node}
 use Rattle.bk_evidence.specs.Batches.{Batch}
 use Rattle.bk_rules.specs.declared.receipt.Receipt.{Receipt}

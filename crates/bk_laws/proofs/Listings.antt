@@ -2,10 +2,10 @@
 use Rattle.std.proofs.Common.{◌≡◌, ◌⊎◌, ◌≤◌, List, [], ◌∷◌, sym, subst, inl, inr, ⊎_elim, arith}
 use Rattle.std.specs.List.{Contains}
 use Rattle.std.proofs.lemmas.Bool.{cases_lt}
-use Rattle.bk_rounds.specs.declared.place.CertRef.{CertRef}
-use Rattle.bk_rounds.specs.Listing.{IsBefore, IsListed, Lists}
-use Rattle.bk_rounds.proofs.Admitted.{same_place}
-use Rattle.bk_rounds.proofs.Lists.{none_in_nil, contains_cases, contains_first, contains_later}
+use Rattle.bk_cert.proofs.Lists.{none_in_nil, contains_cases, contains_first, contains_later}
+use Rattle.bk_cert.proofs.Refs.{same_place}
+use Rattle.bk_cert.specs.Place.{IsBefore, IsListed, Lists}
+use Rattle.bk_cert.specs.declared.place.CertRef.{CertRef}
 use Rattle.bk_laws.proofs.Deciding.{Decided}
 
 before_cases : (a b : CertRef) → IsBefore a b ⊎ ((a ≡ b) ⊎ IsBefore b a)

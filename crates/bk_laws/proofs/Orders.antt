@@ -3,10 +3,10 @@ use Rattle.std.proofs.Common.{ℕ, zero, suc, List, [], ◌∷◌, ◌++◌, map
 use Rattle.std.specs.List.{Contains}
 use Rattle.bk_committee.specs.Sizes.{Sizes}
 use Rattle.bk_cert.specs.Node.{Node}
-use Rattle.bk_rounds.specs.declared.place.CertRef.{CertRef}
-use Rattle.bk_rounds.specs.Admission.{WaitsAt, place_of}
-use Rattle.bk_rounds.specs.Listing.{Lists}
-use Rattle.bk_rounds.proofs.Lists.{contains_first, contains_later}
+use Rattle.bk_cert.specs.Place.{place_of, Lists}
+use Rattle.bk_cert.specs.declared.place.CertRef.{CertRef}
+use Rattle.bk_rounds.specs.Admission.{WaitsAt}
+use Rattle.bk_cert.proofs.Lists.{contains_first, contains_later}
 use Rattle.bk_commit.specs.Ordering.{Walk, InHistory}
 use Rattle.bk_commit.proofs.Grown.{walk_present}
 use Rattle.bk_flatten.specs.Order.{IsOrder, IsOrderBack}

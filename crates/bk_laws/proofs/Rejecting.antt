@@ -12,7 +12,7 @@ use Rattle.bk_certcheck.specs.declared.verdict.Verdict.{Verdict}
 use Rattle.bk_certcheck.specs.declared.verdict.Verdict.TheVariants as verdict
 use Rattle.bk_certcheck.specs.Verdicts.{IsBroken, IsVerdict}
 use Rattle.bk_certcheck.proofs.Rules.{one_verdict}
-use Rattle.bk_rounds.proofs.Lists.{none_in_nil, contains_cases, contains_first, contains_later}
+use Rattle.bk_cert.proofs.Lists.{none_in_nil, contains_cases, contains_first, contains_later}
 use Rattle.bk_order.specs.declared.reject.Reject.{Reject}
 use Rattle.bk_order.specs.Frames.{rejects_by, IsRejectOf, AreRejects}
 use Rattle.bk_order.specs.Intake.{first_frame}

@@ -12,7 +12,7 @@ use Rattle.bk_frames.proofs.Accounts.{genesis_accounts}
 use Rattle.bk_frames.proofs.OneReading.{one_feed}
 use Rattle.bk_order.proofs.OneReading.{one_ordered}
 use Rattle.bk_order.specs.Orders.{Ordered}
-use Rattle.bk_rounds.proofs.Lists.{none_in_nil, contains_cases, contains_first, contains_later}
+use Rattle.bk_cert.proofs.Lists.{none_in_nil, contains_cases, contains_first, contains_later}
 use Rattle.bk_rules.specs.declared.account.Account.{Account}
 use Rattle.bk_rules.specs.declared.receipt.Receipt.{Receipt}
 use Rattle.bk_rules.specs.Fold.{receipts_of, state_after}

@@ -4,10 +4,10 @@ use Rattle.std.specs.Prelude.{MatchOption}
 use Rattle.std.specs.List.{Contains}
 use Rattle.std.specs.declared.cmp.Ordering.{Ordering}
 use Rattle.bk_cert.specs.Node.{Node}
-use Rattle.bk_rounds.specs.declared.place.CertRef.{CertRef}
-use Rattle.bk_rounds.specs.Admission.{place_of}
-use Rattle.bk_rounds.proofs.Lists.{none_in_nil, contains_cases, contains_first, contains_later, in_map}
-use Rattle.bk_rounds.proofs.Refs.{before_from_less}
+use Rattle.bk_cert.proofs.Refs.{before_from_less}
+use Rattle.bk_cert.proofs.Lists.{none_in_nil, contains_cases, contains_first, contains_later, in_map}
+use Rattle.bk_cert.specs.Place.{place_of, place_cmp}
+use Rattle.bk_cert.specs.declared.place.CertRef.{CertRef}
 use Rattle.bk_evidence.specs.Batches.{Batch, AreApart, IsBatchCollision}
 use Rattle.bk_evidence.specs.Collisions.{id_cmp, CollidesBy, IsCollisionBy, NoCollisionBy}
 use Rattle.bk_evidence.specs.Held.{IsCollision, NoCollision}
@@ -15,7 +15,7 @@ use Rattle.bk_evidence.specs.Twins.{IsIdAt, IsEvidence, NoTwins}
 use Rattle.bk_evidence.specs.declared.evidence.Evidence.{Evidence}
 use Rattle.bk_evidence.specs.declared.places.LeastIds.{LeastIds}
 use Rattle.bk_evidence.specs.private.Least.{least_of, IsLeastBy}
-use Rattle.bk_evidence.specs.private.Places.{place_cmp, lone_id, two_ids, second_in, AreLeastIds, HasTwins, evidence_with}
+use Rattle.bk_evidence.specs.private.Places.{lone_id, two_ids, second_in, AreLeastIds, HasTwins, evidence_with}
 use Rattle.bk_evidence.proofs.Lesser.{IsExactOrder, less_from, same_or_not, least_same, least_step}
 use Rattle.bk_evidence.proofs.Colliding.{id_order, told}
 use Rattle.bk_evidence.proofs.Payloads.{same_batch}

@@ -14,7 +14,7 @@ use Rattle.bk_tx.specs.Spelling.{IsTransaction, batch_text, text_in_batch}
 use Rattle.bk_tx.specs.Transaction.{Transaction}
 use Rattle.bk_tx.proofs.Batches.{batch_takes}
 use Rattle.bk_tx.proofs.Transactions.{transaction_takes}
-use Rattle.bk_rounds.proofs.Lists.{none_in_nil, contains_cases, contains_first, contains_later, from_map}
+use Rattle.bk_cert.proofs.Lists.{none_in_nil, contains_cases, contains_first, contains_later, from_map}
 use Rattle.bk_evidence.specs.Batches.{Batch, has_digest, payload_of}
 use Rattle.bk_flatten.specs.Batches.{Payloads, before_missing, cons_payload, digests_of}
 use Rattle.bk_order.specs.Orders.{Ordered}

@@ -26,7 +26,7 @@ use Rattle.bk_certcheck.specs.declared.verdict.Verdict.TheVariants as verdict
 use Rattle.bk_certcheck.specs.Rules.{Breaks, BreaksNoneBelow, rule_number, wrong_parents}
 use Rattle.bk_certcheck.specs.Verdicts.{IsGood, IsVerdict}
 use Rattle.bk_certcheck.proofs.Rules.{last_number, none_below_next, broken_later, one_verdict}
-use Rattle.bk_rounds.proofs.Lists.{none_in_nil, contains_cases, contains_first, contains_later}
+use Rattle.bk_cert.proofs.Lists.{none_in_nil, contains_cases, contains_first, contains_later}
 use Rattle.bk_evidence.specs.Batches.{Batch}
 use Rattle.bk_order.specs.declared.reject.Reject.{Reject}
 use Rattle.bk_order.specs.Frames.{AreCerts, batch_of, AreBatches, certs_by, rejects_by, IsRejectOf, AreRejects}

@@ -5,7 +5,7 @@ use Rattle.std.proofs.lemmas.Bool.{eqb-true, false_from_ne_true, cases_lt}
 use Rattle.std.proofs.lemmas.Map.Views.{Contains-from_any}
 use Rattle.bk_committee.specs.Sizes.{Sizes, Weigh, weight_of}
 use Rattle.bk_rounds.proofs.Counting.{apart_from_none}
-use Rattle.bk_rounds.proofs.Lists.{none_in_nil, contains_cases, contains_first, contains_later}
+use Rattle.bk_cert.proofs.Lists.{none_in_nil, contains_cases, contains_first, contains_later}
 use Rattle.bk_rounds.proofs.Weighed.{inside-le}
 use Rattle.bk_laws.proofs.Deciding.{Decided, decided_contains, same_number}
 

@@ -6,7 +6,9 @@ use Rattle.bk_committee.specs.Payload.{CommitteeValue, IsCommittee, sizes_of}
 use Rattle.bk_committee.specs.Sizes.{Sizes}
 use Rattle.bk_cert.specs.Node.{Node}
 use Rattle.bk_certcheck.specs.Verdicts.{IsGood}
-use Rattle.bk_rounds.specs.Admission.{IsClear, IsFit, place_of}
+use Rattle.bk_cert.specs.Place.{place_of}
+use Rattle.bk_cert.specs.Clear.{IsClear}
+use Rattle.bk_rounds.specs.Admission.{IsFit}
 use Rattle.bk_rounds.specs.Rounds.{RoundsValue, rounds_with}
 use Rattle.bk_rounds.proofs.Fit.{good_fits}
 use Rattle.bk_commit.specs.Growth.{IsPartOf}

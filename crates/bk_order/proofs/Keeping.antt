@@ -16,7 +16,7 @@ use Rattle.bk_certcheck.proofs.Rules.{one_verdict}
 use Rattle.bk_evidence.specs.Batches.{Batch, batch_with}
 use Rattle.bk_evidence.specs.Laws.{HaveSame}
 use Rattle.bk_evidence.proofs.Members.{same_itself}
-use Rattle.bk_rounds.proofs.Lists.{none_in_nil, contains_cases, contains_first}
+use Rattle.bk_cert.proofs.Lists.{none_in_nil, contains_cases, contains_first}
 use Rattle.bk_order.specs.declared.reject.Reject.{Reject}
 use Rattle.bk_order.specs.Frames.{IsCertIn, AreCerts, batch_of, IsBatchIn, AreBatches, certs_by, rejects_by, IsRejectOf, AreRejects}
 use Rattle.bk_order.specs.Intake.{Kept, IsKeptOf, first_frame}

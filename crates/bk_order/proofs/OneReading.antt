@@ -10,10 +10,10 @@ use Rattle.bk_committee.specs.Sizes.{Sizes}
 use Rattle.bk_committee.specs.Payload.{CommitteeValue, sizes_of}
 use Rattle.bk_cert.specs.Node.{Node}
 use Rattle.bk_certcheck.proofs.Rules.{one_verdict}
-use Rattle.bk_rounds.specs.declared.place.CertRef.{CertRef}
+use Rattle.bk_cert.specs.declared.place.CertRef.{CertRef}
 use Rattle.bk_rounds.specs.Admission.{WaitsAt}
-use Rattle.bk_rounds.proofs.Lists.{contains_first, contains_later}
-use Rattle.bk_rounds.proofs.Listed.{one_listing}
+use Rattle.bk_cert.proofs.Listed.{one_listing}
+use Rattle.bk_cert.proofs.Lists.{contains_first, contains_later}
 use Rattle.bk_evidence.specs.Batches.{Batch, AreApart, has_digest, payload_of}
 use Rattle.bk_evidence.specs.Collisions.{CollidesBy}
 use Rattle.bk_evidence.specs.declared.evidence.Evidence.{Evidence}

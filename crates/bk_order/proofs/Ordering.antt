@@ -9,8 +9,9 @@ use Rattle.std.proofs.lemmas.List.Concat.{flat_map-append}
 use Rattle.std.proofs.lemmas.List.Quantifiers.{position-Some}
 use Rattle.bk_committee.specs.Sizes.{Sizes}
 use Rattle.bk_cert.specs.Node.{Node}
-use Rattle.bk_rounds.specs.declared.place.CertRef.{CertRef}
-use Rattle.bk_rounds.specs.Admission.{IsClear, IsPresent}
+use Rattle.bk_cert.specs.Clear.{IsClear}
+use Rattle.bk_cert.specs.declared.place.CertRef.{CertRef}
+use Rattle.bk_rounds.specs.Admission.{IsPresent}
 use Rattle.bk_evidence.specs.Batches.{Batch}
 use Rattle.bk_evidence.specs.declared.batches.BatchRef.{BatchRef}
 use Rattle.bk_commit.specs.Growth.{IsPartOf, Begins}
@@ -24,14 +25,14 @@ use Rattle.bk_flatten.proofs.Extended.{order_has_history}
 use Rattle.bk_flatten.proofs.Whole.{anchor_present, anchor_way, reverse_push}
 use Rattle.bk_flatten.proofs.Taken.{found_stays, whole_list}
 use Rattle.bk_rounds.proofs.Admitted.{admitted_held}
-use Rattle.bk_rounds.proofs.Lists.{none_in_nil}
+use Rattle.bk_cert.proofs.Lists.{none_in_nil}
 use Rattle.std.specs.Prelude.{slice_get, map}
 use Rattle.std.specs.List.{position}
 use Rattle.bk_frames.specs.declared.kind.Kind.TheVariants as kind
 use Rattle.bk_frames.specs.Feed.{Frame, frame_of}
 use Rattle.bk_committee.specs.Payload.{CommitteeValue, sizes_of}
 use Rattle.bk_rounds.specs.Admission.{WaitsAt}
-use Rattle.bk_rounds.specs.Listing.{Lists}
+use Rattle.bk_cert.specs.Place.{Lists}
 use Rattle.bk_rounds.specs.Rounds.{RoundsValue, rounds_with}
 use Rattle.bk_evidence.specs.Batches.{has_digest, batch_with}
 use Rattle.bk_order.specs.Frames.{AreCerts, AreBatches}

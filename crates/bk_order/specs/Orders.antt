@@ -3,9 +3,9 @@ use Rattle.std.specs.Prelude.{◌≡◌, List, reverse}
 use Rattle.bk_frames.specs.Feed.{Frame}
 use Rattle.bk_committee.specs.Payload.{CommitteeValue, sizes_of}
 use Rattle.bk_cert.specs.Node.{Node}
-use Rattle.bk_rounds.specs.declared.place.CertRef.{CertRef}
+use Rattle.bk_cert.specs.declared.place.CertRef.{CertRef}
 use Rattle.bk_rounds.specs.Admission.{WaitsAt}
-use Rattle.bk_rounds.specs.Listing.{Lists}
+use Rattle.bk_cert.specs.Place.{Lists}
 use Rattle.bk_evidence.specs.Batches.{Batch}
 use Rattle.bk_commit.specs.Ordering.{IsCommitted}
 use Rattle.bk_flatten.specs.Order.{IsOrder}

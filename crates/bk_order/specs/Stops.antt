@@ -3,7 +3,7 @@ use Rattle.std.specs.Prelude.{◌≡◌, ◌⊎◌, ℕ, List, Contains}
 use Rattle.bk_frames.specs.Feed.{Frame}
 use Rattle.bk_committee.specs.Payload.{CommitteeValue}
 use Rattle.bk_cert.specs.Node.{Node}
-use Rattle.bk_rounds.specs.Admission.{IsClear}
+use Rattle.bk_cert.specs.Clear.{IsClear}
 use Rattle.bk_evidence.specs.Batches.{Batch, AreApart}
 use Rattle.bk_evidence.specs.Collisions.{CollidesBy, IsAtMost}
 use Rattle.bk_evidence.specs.Held.{Collides, NoCollision}

@@ -16,10 +16,11 @@ ghost use Rattle.bk_order.specs.private.Joined.{GoesOn, IsJoined, kept_in};
 
 use crate::judging::{Digested, Judged};
 use crate::reject::Reject;
+use bk_cert::SharedCert;
 use bk_certcheck::{Checked, Verdict};
 use bk_committee::Committee;
 use bk_evidence::{Batches, Held, Offer};
-use bk_rounds::{Rounds, SharedCert};
+use bk_rounds::Rounds;
 use std::alloc::{AllocError, Global};
 
 /// What is held of the frames so far.

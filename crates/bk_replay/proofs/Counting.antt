@@ -21,11 +21,11 @@ use Rattle.bk_cert.specs.Node.{Node, node_of}
 use Rattle.bk_certcheck.specs.declared.verdict.Verdict.{Verdict}
 use Rattle.bk_certcheck.specs.declared.verdict.Verdict.TheVariants as verdict
 use Rattle.bk_certcheck.specs.Verdicts.{IsGood}
-use Rattle.bk_rounds.specs.declared.place.CertRef.{CertRef}
-use Rattle.bk_rounds.specs.Admission.{place_of, IsPresent}
-use Rattle.bk_rounds.specs.Listing.{IsBefore, IsListed}
+use Rattle.bk_cert.specs.Place.{place_of, IsBefore, IsListed}
+use Rattle.bk_cert.specs.declared.place.CertRef.{CertRef}
+use Rattle.bk_rounds.specs.Admission.{IsPresent}
 use Rattle.bk_rounds.proofs.Admitted.{admitted_held}
-use Rattle.bk_rounds.proofs.Lists.{none_in_nil, contains_cases, contains_first, contains_later}
+use Rattle.bk_cert.proofs.Lists.{none_in_nil, contains_cases, contains_first, contains_later}
 use Rattle.bk_evidence.specs.Batches.{Batch, has_digest, payload_of}
 use Rattle.bk_commit.specs.Growth.{IsPartOf}
 use Rattle.bk_commit.specs.Ordering.{Walk, IsWayBack, IsCommittedBack}

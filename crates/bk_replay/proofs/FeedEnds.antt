@@ -8,7 +8,7 @@ use Rattle.bk_frames.specs.Device.{Device, Works, IfKnown}
 use Rattle.bk_frames.specs.Feed.{Frame, FeedValue, feed_of, frame_of}
 use Rattle.bk_cert.specs.Node.{Node}
 use Rattle.bk_committee.specs.Payload.{CommitteeValue}
-use Rattle.bk_rounds.specs.Admission.{IsClear}
+use Rattle.bk_cert.specs.Clear.{IsClear}
 use Rattle.bk_evidence.specs.Batches.{Batch, AreApart}
 use Rattle.bk_commit.specs.Growth.{IsPartOf}
 use Rattle.bk_order.specs.Stops.{HasNoStop, IsStop}

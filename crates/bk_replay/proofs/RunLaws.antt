@@ -9,8 +9,8 @@ use Rattle.bk_frames.specs.Feed.{FeedValue, IsFeed, HasFault, spelling, genesis_
 use Rattle.bk_frames.proofs.Accounts.{genesis_accounts}
 use Rattle.bk_frames.proofs.OneReading.{one_feed, one_fault, not_both}
 use Rattle.bk_committee.specs.Payload.{CommitteeValue}
-use Rattle.bk_rounds.specs.declared.place.CertRef.{CertRef}
-use Rattle.bk_rounds.proofs.Lists.{none_in_nil, contains_cases, from_map}
+use Rattle.bk_cert.proofs.Lists.{none_in_nil, contains_cases, from_map}
+use Rattle.bk_cert.specs.declared.place.CertRef.{CertRef}
 use Rattle.bk_order.specs.declared.reject.Reject.{Reject}
 use Rattle.bk_order.specs.declared.stop.Stop.{Stop}
 use Rattle.bk_order.specs.declared.stop.Stop.TheVariants as stop

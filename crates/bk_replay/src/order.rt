@@ -10,7 +10,7 @@ ghost use Rattle.bk_replay.specs.private.Ordered.{OrdersBook, BookOrderFails};
 use crate::book::Book;
 use crate::fault::Fault;
 use crate::follower::{Follower, keep};
-use bk_rounds::CertRef;
+use bk_cert::CertRef;
 
 /// The order of the whole frames of a feed so far.
 #[derive(Clone, Copy, Debug, PartialEq, Eq)]

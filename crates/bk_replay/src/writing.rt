@@ -18,10 +18,10 @@ use crate::book::Book;
 use crate::fault::Fault;
 use crate::ledger::Ledger;
 use crate::status::Status;
+use bk_cert::CertRef;
 use bk_frames::{Row, Sink, WriteFault};
 use bk_order::Intake;
 use bk_report::{Page, Parts, leaves_of, write_run};
-use bk_rounds::CertRef;
 use std::alloc::{AllocError, Global};
 use std::thread::Threads;
 

@@ -9,9 +9,9 @@ ghost use Rattle.bk_report.specs.Pages.{Written, size_of};
 
 use crate::line::Line;
 use crate::page::Page;
+use bk_cert::CertRef;
 use bk_frames::{Row, Sink, WriteFault};
 use bk_order::Reject;
-use bk_rounds::CertRef;
 use bk_rules::Receipt;
 
 /// Puts a line for each rejected certificate.

@@ -18,11 +18,11 @@ use crate::groups::{
 };
 use crate::line::Line;
 use crate::page::Page;
+use bk_cert::CertRef;
 use bk_committee::Committee;
 use bk_digest::{Digest32, tree_root_with};
 use bk_frames::{Row, Sink, WriteFault};
 use bk_order::Reject;
-use bk_rounds::CertRef;
 use bk_rules::Receipt;
 use std::thread::{Threads, join_mut};
 

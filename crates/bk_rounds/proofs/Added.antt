@@ -7,7 +7,7 @@ use Rattle.std.proofs.lemmas.Bool.{cases_eq, cases_lt, both_ways, false_from_ne_
 use Rattle.std.proofs.lemmas.List.{get_or-map, get_or-set_other, get_or-set_same, get_or_past, length-set, length-map}
 use Rattle.std.proofs.lemmas.List.Elements.{Contains-push, Contains-push_cases, Contains-append_left, Contains-append_right, Contains-append_cases, All-contains, Contains-get_or}
 use Rattle.bk_committee.specs.Sizes.{Sizes, quorum, weight}
-use Rattle.bk_rounds.proofs.Lists.{contains_cases, contains_first, contains_later}
+use Rattle.bk_cert.proofs.Lists.{contains_cases, contains_first, contains_later}
 use Rattle.bk_rounds.specs.declared.slots.Slot.{Slot}
 use Rattle.bk_rounds.specs.declared.waking.Pending.{Pending}
 use Rattle.bk_rounds.specs.private.Numbered.{IsInside, IsInsideRows, IsRegistered, IsSound, IsAdmittedAt, IsTable, Extends, is_ready_in, parents_of, round_of, author_of, is_heavy_in, row_of, is_marked}

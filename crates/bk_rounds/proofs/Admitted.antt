@@ -1,7 +1,6 @@
 -- What admission gives.
 use Rattle.std.proofs.Common.{◌≡◌, ℕ, zero, suc, ◌+◌, ◌<◌, List, sym, ap, ◌∙◌, subst, add-one}
 use Rattle.std.specs.List.{Contains}
-use Rattle.bk_rounds.specs.declared.place.CertRef.{CertRef}
 use Rattle.bk_committee.specs.Sizes.{Sizes, Weigh, quorum}
 use Rattle.bk_cert.specs.Node.{Node}
 use Rattle.bk_rounds.specs.Admission.{IsAdmittedIn, IsAdmitted}
@@ -42,7 +41,3 @@ unfolding IsAdmittedIn
 parents_weigh z held r c low e h =
     let there : IsAdmittedIn z held (suc r) c = subst (λ m. IsAdmittedIn z held m c) (e ∙ add-one r) h in
     there.3 low
-
--- places are equal where their parts are
-pub same_place : (a b : CertRef) → a.round ≡ b.round → a.author ≡ b.author → a ≡ b
-same_place a b e f = ap (λ (p : ℕ × ℕ). let q : CertRef = record { round = p.0; author = p.1 } in q) (let g : (let q : ℕ × ℕ = (a.round, a.author) in q) ≡ (b.round, b.author) = cc in g)

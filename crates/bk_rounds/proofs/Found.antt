@@ -6,17 +6,20 @@ use Rattle.std.proofs.lemmas.Bool.{cases_eq, both_ways, false≢true}
 use Rattle.std.proofs.lemmas.List.{get_or-map}
 use Rattle.bk_committee.specs.Sizes.{Sizes}
 use Rattle.bk_cert.specs.Node.{Node}
-use Rattle.bk_rounds.specs.declared.place.CertRef.{CertRef}
+use Rattle.bk_cert.specs.declared.place.CertRef.{CertRef}
 use Rattle.bk_rounds.specs.declared.slots.Slot.{Slot}
 use Rattle.bk_rounds.specs.declared.names.Names.{Names}
-use Rattle.bk_rounds.specs.Admission.{IsAdmittedIn, IsAdmitted, IsClear, StandsAt, IsPresent, place_of}
+use Rattle.bk_cert.specs.Place.{place_of}
+use Rattle.bk_cert.specs.Clear.{IsClear}
+use Rattle.bk_rounds.specs.Admission.{IsAdmittedIn, IsAdmitted, StandsAt, IsPresent}
 use Rattle.bk_rounds.specs.Links.{Links}
 use Rattle.bk_rounds.specs.Members.{Has}
 use Rattle.bk_rounds.specs.private.Numbered.{id_of, round_of, author_of, cert_of, parents_of, is_marked, IsAdmittedAt}
 use Rattle.bk_rounds.specs.private.Names.{set_of, known_in}
 use Rattle.bk_rounds.specs.private.Tied.{IsSlotOf, IsAt, IsWhole, IsPlaced, place_at, IsNumberAt}
-use Rattle.bk_rounds.proofs.Lists.{none_in_nil, from_map, in_map}
-use Rattle.bk_rounds.proofs.Admitted.{admitted_held, admitted_round, admitted_here, same_place}
+use Rattle.bk_cert.proofs.Refs.{same_place}
+use Rattle.bk_cert.proofs.Lists.{none_in_nil, from_map, in_map}
+use Rattle.bk_rounds.proofs.Admitted.{admitted_held, admitted_round, admitted_here}
 use Rattle.bk_rounds.proofs.Added.{admitted_at}
 use Rattle.bk_rounds.proofs.Tied.{held_at, round_low, slot_is, number_up, number_down, admitted_some}
 

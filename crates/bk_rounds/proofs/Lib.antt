@@ -1,5 +1,3 @@
-pub mod Lists
-pub mod Listed
 pub mod Counting
 pub mod Admitted
 pub mod Ones
@@ -14,7 +12,6 @@ pub mod Tied
 pub mod Found
 pub mod Empty
 pub mod Told
-pub mod Refs
 pub mod Whole
 pub mod Adding
 pub mod Waits

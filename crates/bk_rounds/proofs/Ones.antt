@@ -14,11 +14,13 @@ use Rattle.std.specs.Cmp.{nat_eq_equiv}
 use Rattle.std.proofs.lemmas.Map.Views.{list_any-from_Contains}
 use Rattle.bk_committee.specs.Sizes.{Sizes, Weigh, weight, weight_of, members, total, quorum}
 use Rattle.bk_cert.specs.Node.{Node}
-use Rattle.bk_rounds.specs.Admission.{IsAdmittedIn, IsClear, AreFit}
+use Rattle.bk_cert.specs.Clear.{IsClear}
+use Rattle.bk_rounds.specs.Admission.{IsAdmittedIn, AreFit}
 use Rattle.bk_rounds.specs.Heads.{WeighOne, IsAdmittedByParents, HaveParents}
-use Rattle.bk_rounds.proofs.Admitted.{admitted_held, admitted_round, IsNamed, IsParent, same_place}
+use Rattle.bk_cert.proofs.Refs.{same_place}
+use Rattle.bk_rounds.proofs.Admitted.{admitted_held, admitted_round, IsNamed, IsParent}
 use Rattle.bk_rounds.proofs.Counting.{apart_from_none}
-use Rattle.bk_rounds.proofs.Lists.{contains_first, contains_later}
+use Rattle.bk_cert.proofs.Lists.{contains_first, contains_later}
 
 -- the weight of members is their number
 pub weight_of-ones : (z : Sizes) → WeighOne z → (xs : List ℕ) → ((x : ℕ) → Contains xs x → x < members z) → weight_of z xs ≡ length xs

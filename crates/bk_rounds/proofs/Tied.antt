@@ -9,12 +9,13 @@ use Rattle.std.proofs.lemmas.Map.Views.{list_any-from_Contains}
 use Rattle.std.specs.Cmp.{nat_eq_equiv}
 use Rattle.bk_committee.specs.Sizes.{Sizes, Weigh, weight, weight_of, quorum}
 use Rattle.bk_cert.specs.Node.{Node}
-use Rattle.bk_rounds.specs.Admission.{IsAdmittedIn, IsClear, AreFit}
+use Rattle.bk_cert.specs.Clear.{IsClear}
+use Rattle.bk_rounds.specs.Admission.{IsAdmittedIn, AreFit}
 use Rattle.bk_rounds.specs.declared.slots.Slot.{Slot}
 use Rattle.bk_rounds.specs.private.Numbered.{id_of, round_of, author_of, cert_of, parents_of, is_heavy_in, IsInside, IsAdmittedAt}
 use Rattle.bk_rounds.specs.private.Names.{IsNumbering}
 use Rattle.bk_rounds.specs.private.Tied.{IsSlotOf, IsTied, IsAt}
-use Rattle.bk_rounds.proofs.Lists.{from_map, in_map, contains_first, contains_later}
+use Rattle.bk_cert.proofs.Lists.{from_map, in_map, contains_first, contains_later}
 use Rattle.bk_rounds.proofs.Admitted.{IsNamed, IsParent, admitted_held}
 use Rattle.bk_rounds.proofs.Ones.{authors_of, author_in, authors_apart}
 use Rattle.bk_rounds.proofs.Named.{length_map}

@@ -9,7 +9,7 @@ use Rattle.bk_rounds.specs.Members.{Has}
 use Rattle.bk_rounds.specs.private.Numbered.{round_of, author_of, parents_of}
 use Rattle.bk_rounds.specs.private.Names.{set_of}
 use Rattle.bk_rounds.specs.private.Tied.{IsAuthorIn}
-use Rattle.bk_rounds.proofs.Lists.{none_in_nil}
+use Rattle.bk_cert.proofs.Lists.{none_in_nil}
 
 -- the sets of these are given, the others stay, and the greatest round is known
 pub record IsTold (slots : List Slot) (old new : List ℕ) (done : List ℕ) (top highest : ℕ) : Type 0 where

@@ -5,15 +5,16 @@ use Rattle.std.proofs.lemmas.Bool.{cases_lt, cases_eq, both_ways, false_from_ne_
 use Rattle.std.proofs.lemmas.List.Elements.{Contains-push, Contains-push_cases, Contains-append_left}
 use Rattle.bk_committee.specs.Sizes.{Sizes}
 use Rattle.bk_cert.specs.Node.{Node}
-use Rattle.bk_rounds.specs.declared.place.CertRef.{CertRef}
+use Rattle.bk_cert.specs.declared.place.CertRef.{CertRef}
 use Rattle.bk_rounds.specs.declared.names.Names.{Names}
-use Rattle.bk_rounds.specs.Admission.{IsAdmittedIn, WaitsAt, place_of}
-use Rattle.bk_rounds.specs.Listing.{IsListed, Lists}
+use Rattle.bk_cert.specs.Place.{place_of, IsListed, Lists}
+use Rattle.bk_rounds.specs.Admission.{IsAdmittedIn, WaitsAt}
 use Rattle.bk_rounds.specs.private.Numbered.{round_of, author_of, cert_of, is_marked, IsAdmittedAt}
 use Rattle.bk_rounds.specs.private.Names.{known_in}
 use Rattle.bk_rounds.specs.private.Tied.{IsWhole, WaitsBelow, place_at}
-use Rattle.bk_rounds.proofs.Lists.{none_in_nil}
-use Rattle.bk_rounds.proofs.Admitted.{same_place, admitted_here}
+use Rattle.bk_cert.proofs.Refs.{same_place}
+use Rattle.bk_cert.proofs.Lists.{none_in_nil}
+use Rattle.bk_rounds.proofs.Admitted.{admitted_here}
 use Rattle.bk_rounds.proofs.Tied.{held_at, number_up, number_down}
 
 pub waits_none : (n : Names) (a : CertRef) → Contains [] a ↔ WaitsBelow n 0 a

@@ -8,7 +8,7 @@ use Rattle.std.proofs.lemmas.List.Sums.{sum_by-cons}
 use Rattle.bk_committee.specs.Sizes.{Sizes, Weigh, weight, weight_of, total}
 use Rattle.bk_rounds.specs.Members.{Has, IsWeightOf}
 use Rattle.bk_rounds.proofs.Counting.{apart_from_none, none_from_apart, weigh-le}
-use Rattle.bk_rounds.proofs.Lists.{contains_cases, contains_first, contains_later, none_in_nil}
+use Rattle.bk_cert.proofs.Lists.{contains_cases, contains_first, contains_later, none_in_nil}
 
 -- what the sum over a set has counted: those that are no longer left
 pub record IsCounted (z : Sizes) (set left : ℕ) (sum : ℕ) : Type 0 where

@@ -9,19 +9,19 @@ use Rattle.std.proofs.lemmas.List.{length-set, length-append}
 use Rattle.std.proofs.lemmas.List.Elements.{Contains-push, Contains-push_cases, Contains-append_left}
 use Rattle.bk_committee.specs.Sizes.{Sizes, members}
 use Rattle.bk_cert.specs.Node.{Node}
-use Rattle.bk_rounds.specs.declared.place.CertRef.{CertRef}
+use Rattle.bk_cert.specs.declared.place.CertRef.{CertRef}
 use Rattle.bk_rounds.specs.declared.slots.Slot.{Slot}
 use Rattle.bk_rounds.specs.declared.names.Names.{Names}
-use Rattle.bk_rounds.specs.Admission.{IsClear, IsFit, AreFit, IsPresent, place_of, last_round}
-use Rattle.bk_rounds.specs.Listing.{IsListed, Lists}
+use Rattle.bk_cert.specs.Place.{place_of, IsListed, Lists, place_cmp}
+use Rattle.bk_cert.specs.Clear.{IsClear}
+use Rattle.bk_rounds.specs.Admission.{IsFit, AreFit, IsPresent, last_round}
 use Rattle.bk_rounds.specs.Members.{Has}
 use Rattle.bk_rounds.specs.private.Numbered.{id_of, round_of, author_of, cert_of, parents_of, row_of, is_marked, count_unmarked, is_heavy_in, IsInside, IsInsideRows, IsRegistered, IsAdmittedAt, IsTable}
 use Rattle.bk_rounds.specs.private.Names.{set_of, IsNumbering, known_in, AreNames, Grows}
-use Rattle.bk_rounds.specs.private.Tied.{IsSlotOf, IsTied, IsAt, IsPlaced, IsAuthorIn, AreSets, IsWhole, IsNumberAt, place_at, ref_cmp}
+use Rattle.bk_rounds.specs.private.Tied.{IsSlotOf, IsTied, IsAt, IsPlaced, IsAuthorIn, AreSets, IsWhole, IsNumberAt, place_at}
 use Rattle.bk_rounds.specs.declared.waking.Pending.{Pending}
-use Rattle.bk_rounds.proofs.Refs.{ref_same, equal_from_test, exact_ref}
-use Rattle.bk_rounds.proofs.Lists.{from_map, in_map, none_in_nil}
-use Rattle.bk_rounds.proofs.Admitted.{same_place}
+use Rattle.bk_cert.proofs.Lists.{from_map, in_map, none_in_nil}
+use Rattle.bk_cert.proofs.Refs.{ref_same, equal_from_test, exact_ref, same_place}
 use Rattle.bk_rounds.proofs.Marks.{marked_here}
 use Rattle.bk_rounds.proofs.Settling.{marked_low}
 use Rattle.bk_rounds.proofs.Added.{heavy_same, admitted_at, field_other, field_here}

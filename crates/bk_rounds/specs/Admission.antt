@@ -5,11 +5,8 @@ use Rattle.std.specs.Ordering.{nat_cmp}
 use Rattle.std.specs.Cmp.Lexicographic.{slice_cmp}
 use Rattle.bk_committee.specs.Sizes.{Sizes, members, quorum, Weigh}
 use Rattle.bk_cert.specs.Node.{Node}
-use Rattle.bk_rounds.specs.declared.place.CertRef.{CertRef}
-
--- the place of a certificate: its round and its author
-abbrev pub place_of : Node → CertRef
-place_of c = record { round = c.header.round; author = c.header.author }
+use Rattle.bk_cert.specs.Place.{place_of}
+use Rattle.bk_cert.specs.declared.place.CertRef.{CertRef}
 
 -- Admitted in this round: held, of this round and, past round 1, each parent's id is that of a
 -- certificate admitted in the round before, and the authors of these weigh a quorum.
@@ -43,12 +40,6 @@ pub record StandsAt (z : Sizes) (held : List Node) (a : CertRef) (c : Node) : Ty
 -- an admitted certificate has this place
 abbrev pub IsPresent : Sizes → List Node → CertRef → Type 0
 IsPresent z held a = (c : Node) × StandsAt z held a c
-
--- neither a collision (one id, two headers) nor twins (one place, two ids)
-pub record IsClear (held : List Node) : Type 0 where
-  pub no_collision : (c d : Node) → Contains held c → Contains held d → c.id ≡ d.id → c ≡ d
-  pub no_twins : (c d : Node) → Contains held c → Contains held d
-      → place_of c ≡ place_of d → c.id ≡ d.id
 
 -- the last round that a certificate may be of
 abbrev pub last_round : ℕ

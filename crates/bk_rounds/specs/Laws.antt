@@ -4,7 +4,8 @@ use Rattle.bk_committee.specs.Sizes.{Sizes}
 use Rattle.bk_committee.specs.Payload.{CommitteeValue, IsCommittee, sizes_of}
 use Rattle.bk_cert.specs.Node.{Node}
 use Rattle.bk_certcheck.specs.Verdicts.{IsGood}
-use Rattle.bk_rounds.specs.Admission.{IsAdmittedIn, IsClear, IsFit, AreFit}
+use Rattle.bk_cert.specs.Clear.{IsClear}
+use Rattle.bk_rounds.specs.Admission.{IsAdmittedIn, IsFit, AreFit}
 use Rattle.bk_rounds.specs.Heads.{WeighOne, HaveParents, IsAdmittedByParents}
 
 -- where each member weighs 1, admission asks for the parents alone

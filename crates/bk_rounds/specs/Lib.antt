@@ -1,7 +1,6 @@
 pub mod Admission
 pub mod Heads
 pub mod Links
-pub mod Listing
 pub mod Members
 pub mod Laws
 pub mod Rounds

@@ -2,9 +2,8 @@
 use Rattle.std.specs.Prelude.{ℕ, List}
 use Rattle.bk_committee.specs.Sizes.{Sizes}
 use Rattle.bk_cert.specs.Node.{Node}
-use Rattle.bk_rounds.specs.declared.place.CertRef.{CertRef}
+use Rattle.bk_cert.specs.declared.place.CertRef.{CertRef}
 use Rattle.bk_rounds.specs.Admission.{IsPresent}
-use Rattle.bk_cert.specs.Values.{HeaderValue}
 
 -- the sizes of members of these weights
 abbrev pub sizes_with : List ℕ → Sizes
@@ -18,10 +17,6 @@ pub record RoundsValue : Type 0 where
 -- the table of this committee and these certificates
 abbrev pub rounds_with : Sizes → List Node → RoundsValue
 rounds_with z certs = record { sizes = z; held = certs }
-
--- the certificate of these parts
-abbrev pub node_with : List ℕ → HeaderValue → Node
-node_with id header = record { id = id; header = header }
 
 -- an admitted certificate has this place in the one table, and none in the other
 abbrev pub BecomesPresent : RoundsValue → RoundsValue → CertRef → Type 0

@@ -1,18 +1,18 @@
 //! A further certificate, and all that it makes admitted.
 
 ghost use Rattle.std.specs.Prelude.{◌≡◌, ℕ, ◌+◌, ◌<◌, ◌≤◌, ◌↔◌, ◌++◌, [], true, false, length, map, All, Contains, slice_set, vec_len, vec_capacity};
-ghost use Rattle.bk_rounds.specs.declared.place.CertRef.{CertRef};
-ghost use Rattle.bk_rounds.specs.Listing.{IsListed};
+ghost use Rattle.bk_cert.specs.Place.{IsListed};
+ghost use Rattle.bk_cert.specs.declared.place.CertRef.{CertRef};
 ghost use Rattle.bk_rounds.specs.Members.{Has};
 ghost use Rattle.bk_rounds.specs.private.Numbered.{IsTable, round_of, author_of, parents_of, row_of, is_marked, count_unmarked, IsInside};
 ghost use Rattle.bk_rounds.specs.private.Names.{set_of};
 ghost use Rattle.bk_rounds.specs.private.Tied.{IsAuthorIn, place_at};
 
 use crate::members::Members;
-use crate::place::CertRef;
 use crate::slots::{Slot, is_ready};
 use crate::waking::{Pending, settle};
 use crate::weights::Weights;
+use bk_cert::CertRef;
 use std::alloc::Global;
 
 /// Fills the slot of number k, who waits under each of its parents that is not admitted. In `out`

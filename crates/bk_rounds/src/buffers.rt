@@ -1,12 +1,12 @@
 //! Room for what a certificate makes admitted.
 
 ghost use Rattle.std.specs.Prelude.{◌↔◌, Contains, OnOk};
-ghost use Rattle.bk_rounds.specs.declared.place.CertRef.{CertRef};
-ghost use Rattle.bk_rounds.specs.Listing.{IsListed};
+ghost use Rattle.bk_cert.specs.Place.{IsListed};
+ghost use Rattle.bk_cert.specs.declared.place.CertRef.{CertRef};
 ghost use Rattle.bk_rounds.specs.private.Prepared.{AreClearFor};
 
 use crate::admitting::list;
-use crate::place::CertRef;
+use bk_cert::CertRef;
 use std::alloc::{AllocError, Global};
 use std::mem;
 

@@ -7,16 +7,12 @@ mod buffers;
 mod laws;
 mod members;
 mod names;
-mod place;
 mod preparing;
 mod rounds;
-mod shared;
 mod slots;
 mod waking;
 mod weights;
 
 pub use laws::{admission_by_parents, good_is_fit};
 pub use members::Members;
-pub use place::CertRef;
 pub use rounds::Rounds;
-pub use shared::SharedCert;

@@ -6,8 +6,8 @@ ghost use Rattle.bk_rounds.specs.private.Prepared.{IsPrepared, AreClearFor};
 
 use crate::buffers::Buffers;
 use crate::names::{Names, number_of, numbers_of};
-use crate::shared::SharedCert;
 use crate::waking::register;
+use bk_cert::SharedCert;
 use std::alloc::{AllocError, Global};
 
 /// The numbers of a certificate and of its parents.

@@ -1,20 +1,16 @@
 -- The two least ids of each place, and the least place that has two.
 use Rattle.std.specs.Prelude.{◌≡◌, ◌≢◌, ℕ, List, [], Option, Some, None, true, false, cond, if◌then◌else◌, option_map}
 use Rattle.std.specs.BTreeMap.{get}
-use Rattle.std.specs.Ordering.{nat_cmp, ordering_then, match_ordering, is_eq}
-use Rattle.std.specs.declared.cmp.Ordering.{Ordering}
+use Rattle.std.specs.Ordering.{match_ordering, is_eq}
 use Rattle.bk_cert.specs.Node.{Node}
-use Rattle.bk_rounds.specs.declared.place.CertRef.{CertRef}
+use Rattle.bk_cert.specs.Place.{place_cmp}
+use Rattle.bk_cert.specs.declared.place.CertRef.{CertRef}
 use Rattle.bk_evidence.specs.Collisions.{id_cmp}
 use Rattle.bk_evidence.specs.Twins.{IsIdAt, AreTwins}
 use Rattle.bk_evidence.specs.declared.evidence.Evidence.{Evidence}
 use Rattle.bk_evidence.specs.declared.places.LeastIds.{LeastIds}
 use Rattle.bk_evidence.specs.declared.places.Places.{Places}
 use Rattle.bk_evidence.specs.private.Least.{least_of, IsLeastBy}
-
--- by round, and then by author
-abbrev pub place_cmp : CertRef → CertRef → Ordering
-place_cmp a b = ordering_then (nat_cmp a.round b.round) (nat_cmp a.author b.author)
 
 -- an id without twins
 abbrev pub lone_id : List ℕ → LeastIds

@@ -1,14 +1,14 @@
 -- What is kept by number is what is held.
 use Rattle.std.specs.Prelude.{◌≡◌, ℕ, ◌<◌, ◌≤◌, ◌↔◌, true, false, List, Contains, Option, Some, length, map, slice_index_or}
 use Rattle.std.specs.BTreeMap.{BTreeMap, get}
-use Rattle.std.specs.declared.cmp.Ordering.{Ordering}
-use Rattle.std.specs.Ordering.{nat_cmp, ordering_then}
 use Rattle.bk_committee.specs.Sizes.{Sizes, members}
 use Rattle.bk_cert.specs.Node.{Node}
-use Rattle.bk_rounds.specs.declared.place.CertRef.{CertRef}
+use Rattle.bk_cert.specs.Place.{place_cmp}
+use Rattle.bk_cert.specs.declared.place.CertRef.{CertRef}
 use Rattle.bk_rounds.specs.declared.slots.Slot.{Slot}
 use Rattle.bk_rounds.specs.declared.names.Names.{Names}
-use Rattle.bk_rounds.specs.Admission.{IsClear, AreFit, last_round}
+use Rattle.bk_cert.specs.Clear.{IsClear}
+use Rattle.bk_rounds.specs.Admission.{AreFit, last_round}
 use Rattle.bk_rounds.specs.Members.{Has}
 use Rattle.bk_rounds.specs.private.Numbered.{id_of, round_of, author_of, cert_of, parents_of, is_marked, IsTable}
 use Rattle.bk_rounds.specs.private.Names.{set_of, AreNames}
@@ -63,13 +63,9 @@ pub record IsWhole (z : Sizes) (held : List Node) (n : Names) (numbered : CertRe
   pub highest : (i : ℕ) → is_marked n.marks.items i ≡ true → round_of n.slots.items i ≤ top
   pub to_last : top ≤ last_round
 
--- by round, and then by author
-abbrev pub ref_cmp : CertRef → CertRef → Ordering
-ref_cmp a b = ordering_then (nat_cmp a.round b.round) (nat_cmp a.author b.author)
-
 -- the number at a place, where it has one
 abbrev pub number_at : BTreeMap CertRef ℕ → CertRef → Option ℕ
-number_at places a = get ref_cmp places a
+number_at places a = get place_cmp places a
 
 -- an admitted certificate has this number and this place
 pub record IsNumberAt (n : Names) (place : CertRef) (k : ℕ) : Type 0 where

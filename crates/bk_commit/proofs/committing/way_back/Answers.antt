@@ -2,7 +2,7 @@ use Rattle.std.proofs.Common.{◌≡◌, ◌↔◌, ◌-◌, ◌+◌, ◌<◌, �
 use Rattle.std.proofs.lemmas.Bool.{both_ways}
 use Rattle.bk_rounds.specs.Members.{Has}
 use Rattle.bk_committee.specs.Sizes.{leader}
-use Rattle.bk_rounds.specs.declared.place.CertRef.{CertRef}
+use Rattle.bk_cert.specs.declared.place.CertRef.{CertRef}
 use Rattle.bk_commit.proofs.Levels.{level_first}
 use Rattle.bk_commit.proofs.Back.{way_starts, way_passes, way_meets}
 use Rattle.bk_commit.proofs.Onward.{way_halts}

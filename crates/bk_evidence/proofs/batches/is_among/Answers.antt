@@ -1,5 +1,5 @@
 use Rattle.std.proofs.lemmas.Bool.{false≢true}
-use Rattle.bk_rounds.proofs.Lists.{none_in_nil}
+use Rattle.bk_cert.proofs.Lists.{none_in_nil}
 use Rattle.bk_evidence.proofs.Storing.{none_more, none_in_all}
 use Rattle.bk_evidence.proofs.batches.is_among.Goals as goal
 

@@ -1,7 +1,8 @@
 use Rattle.std.proofs.Common.{◌≡◌, Some, cond, ap, ◌∙◌}
 use Rattle.std.specs.Ordering.{is_eq}
 use Rattle.bk_evidence.specs.declared.places.LeastIds.{LeastIds}
-use Rattle.bk_evidence.specs.private.Places.{ids_at, ids_with, place_cmp}
+use Rattle.bk_cert.specs.Place.{place_cmp}
+use Rattle.bk_evidence.specs.private.Places.{ids_at, ids_with}
 use Rattle.bk_evidence.proofs.Placing.{noted_twins, noted_lone}
 use Rattle.bk_evidence.proofs.places.note.Goals as goal
 use Rattle.bk_evidence.proofs.places.note.Goals.{then-has_twins, else-has_twins}

@@ -1,6 +1,6 @@
 use Rattle.std.proofs.Common.{get_or, refl, sym, ap, ◌∙◌}
 use Rattle.std.proofs.lemmas.List.Elements.{Contains-get_or}
-use Rattle.bk_rounds.specs.declared.place.CertRef.{CertRef}
+use Rattle.bk_cert.specs.declared.place.CertRef.{CertRef}
 use Rattle.bk_cert.specs.Values.{HeaderValue}
 use Rattle.bk_flatten.proofs.Taken.{names_more, named_here}
 use Rattle.bk_flatten.proofs.batches.names_in.Goals.{in-Some+in_ok-extend_from_slice, in_default}

@@ -1,6 +1,6 @@
 use Rattle.std.proofs.Common.{◌≡◌, ◌+◌, ◌++◌, ◌∷◌, ◌∙◌, [], ℕ, List, refl, sym, ap, subst, arith, get_or, take, reverse}
 use Rattle.std.proofs.lemmas.List.{take_more, take_all}
-use Rattle.bk_rounds.specs.declared.place.CertRef.{CertRef}
+use Rattle.bk_cert.specs.declared.place.CertRef.{CertRef}
 use Rattle.bk_commit.specs.Ordering.{IsCommitted}
 use Rattle.bk_flatten.specs.Order.{IsOrder}
 use Rattle.bk_flatten.proofs.Whole.{anchor_present, anchor_way, reverse_push}

@@ -1,7 +1,7 @@
 use Rattle.std.proofs.Common.{◌≡◌, ◌<◌, ◌⊎◌, ◌↔◌, ◌∙◌, ℕ, List, refl, sym, ap, subst, arith, length, get_or, take}
 use Rattle.std.proofs.lemmas.List.{take_more, take_all, length-set}
 use Rattle.std.proofs.lemmas.List.Elements.{Contains-get_or}
-use Rattle.bk_rounds.specs.declared.place.CertRef.{CertRef}
+use Rattle.bk_cert.specs.declared.place.CertRef.{CertRef}
 use Rattle.bk_rounds.specs.Members.{Has}
 use Rattle.bk_rounds.proofs.Found.{read_any}
 use Rattle.bk_flatten.specs.private.Part.{marks_of}

@@ -1,6 +1,6 @@
 use Rattle.std.proofs.Common.{◌≡◌, ◌+◌, ◌-◌, subst, arith, ℕ}
 use Rattle.std.proofs.lemmas.Bool.{both_ways}
-use Rattle.bk_rounds.specs.declared.place.CertRef.{CertRef}
+use Rattle.bk_cert.specs.declared.place.CertRef.{CertRef}
 use Rattle.bk_flatten.specs.private.Part.{Gains, IsNewAt}
 use Rattle.bk_flatten.proofs.Parts.{gains_none, gains_push, gains_skip, listed_push, here_first}
 use Rattle.bk_flatten.proofs.part.push_level.Goals as goal

@@ -1,5 +1,5 @@
 use Rattle.std.proofs.Common.{◌≤◌, reverse}
-use Rattle.bk_rounds.specs.Listing.{IsListed}
+use Rattle.bk_cert.specs.Place.{IsListed}
 use Rattle.bk_flatten.specs.private.Part.{Gains, IsNewAt}
 use Rattle.bk_flatten.proofs.part.push_level.Given as goal
 

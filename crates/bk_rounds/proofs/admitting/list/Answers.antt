@@ -3,8 +3,7 @@ use Rattle.std.proofs.lemmas.Bool.{and_parts, eqb-true}
 use Rattle.std.proofs.lemmas.List.Filters.{dedup_is}
 use Rattle.std.proofs.lemmas.List.Kept.{IsStrictlySortedBy-dedup, Contains-dedup, Contains-from_dedup}
 use Rattle.std.proofs.lemmas.List.Sorted.{Contains-permutation, IsPermutation-sym}
-use Rattle.bk_rounds.proofs.Admitted.{same_place}
-use Rattle.bk_rounds.proofs.Refs.{listed_from_sorted, ref_total, ref_ties, ref_equivalence}
+use Rattle.bk_cert.proofs.Refs.{same_place, listed_from_sorted, ref_total, ref_ties, ref_equivalence}
 use Rattle.bk_rounds.proofs.admitting.list.Goals as goal
 
 pub returns-clause-listed : goal.returns-clause-listed

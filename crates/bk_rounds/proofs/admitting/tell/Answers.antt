@@ -2,12 +2,12 @@ use Rattle.std.proofs.Common.{◌≡◌, ◌+◌, ◌<◌, ◌≤◌, ◌++◌, 
 use Rattle.std.specs.List.{Contains}
 use Rattle.std.proofs.lemmas.List.{take_more, take_all, get_or-map, length-set}
 use Rattle.std.proofs.lemmas.List.Elements.{Contains-get_or}
-use Rattle.bk_rounds.specs.declared.place.CertRef.{CertRef}
+use Rattle.bk_cert.specs.declared.place.CertRef.{CertRef}
 use Rattle.bk_rounds.specs.declared.slots.Slot.{Slot}
 use Rattle.bk_rounds.specs.Members.{Has}
 use Rattle.bk_rounds.specs.private.Numbered.{author_of, parents_of, round_of}
 use Rattle.bk_rounds.specs.private.Tied.{IsAuthorIn, place_at}
-use Rattle.bk_rounds.proofs.Admitted.{same_place}
+use Rattle.bk_cert.proofs.Refs.{same_place}
 use Rattle.bk_rounds.proofs.Named.{map_push}
 use Rattle.bk_rounds.proofs.Told.{IsTold, told_more, told_none}
 use Rattle.bk_rounds.proofs.Marks.{each_inside, parents_at}

@@ -1,6 +1,6 @@
 use Rattle.std.proofs.Common.{◌≡◌, ◌↔◌, ◌++◌, ◌∙◌, List, sym, ap, subst}
 use Rattle.std.specs.List.{Contains}
-use Rattle.bk_rounds.specs.declared.place.CertRef.{CertRef}
+use Rattle.bk_cert.specs.declared.place.CertRef.{CertRef}
 use Rattle.bk_rounds.proofs.buffers.hand_over.Goals as goal
 
 pub returns-in-Ok-clause-same : goal.returns-in-Ok-clause-same

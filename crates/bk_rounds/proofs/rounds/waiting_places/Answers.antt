@@ -2,11 +2,11 @@ use Rattle.std.proofs.Common.{◌≡◌, ◌<◌, ◌↔◌, ◌∙◌, ℕ, tru
 use Rattle.std.specs.List.{Contains}
 use Rattle.std.proofs.lemmas.Bool.{both_ways}
 use Rattle.std.proofs.lemmas.List.{get_or-map}
-use Rattle.bk_rounds.specs.declared.place.CertRef.{CertRef}
+use Rattle.bk_cert.specs.declared.place.CertRef.{CertRef}
 use Rattle.bk_rounds.specs.declared.slots.Slot.{Slot}
 use Rattle.bk_rounds.specs.private.Numbered.{round_of, author_of, is_marked}
 use Rattle.bk_rounds.specs.private.Tied.{WaitsBelow, place_at}
-use Rattle.bk_rounds.proofs.Admitted.{same_place}
+use Rattle.bk_cert.proofs.Refs.{same_place}
 use Rattle.bk_rounds.proofs.Found.{round_read, read_any}
 use Rattle.bk_rounds.proofs.Waits.{waits_none, waits_more, waits_skip}
 use Rattle.bk_rounds.proofs.rounds.waiting_places.Goals as goal

@@ -1,8 +1,8 @@
 use Rattle.std.proofs.Common.{◌≡◌, ◌<◌, ◌∙◌, ◌++◌, ◌∷◌, ◌⊎◌, ◌↔◌, ℕ, List, sym, ap, subst, arith, length}
 use Rattle.std.specs.List.{Contains}
 use Rattle.std.proofs.lemmas.List.{with_items_is}
-use Rattle.bk_rounds.specs.declared.place.CertRef.{CertRef}
-use Rattle.bk_rounds.specs.Listing.{Lists}
+use Rattle.bk_cert.specs.Place.{Lists}
+use Rattle.bk_cert.specs.declared.place.CertRef.{CertRef}
 use Rattle.bk_rounds.specs.Members.{Has}
 use Rattle.bk_commit.specs.Ordering.{InHistory}
 use Rattle.bk_commit.proofs.Grown.{walk_present}

@@ -1,6 +1,6 @@
 use Rattle.std.proofs.Common.{List, sym, subst}
 use Rattle.std.proofs.lemmas.Result.{err_from_is_err_and}
-use Rattle.bk_rounds.specs.declared.place.CertRef.{CertRef}
+use Rattle.bk_cert.specs.declared.place.CertRef.{CertRef}
 use Rattle.bk_replay.specs.Ordering.{IsOrderSoFar}
 use Rattle.bk_replay.proofs.OrderSoFar.{query_has_failed}
 use Rattle.bk_replay.proofs.follower.Follower.order.Goals as goal

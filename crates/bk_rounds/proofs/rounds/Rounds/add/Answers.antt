@@ -9,15 +9,15 @@ use Rattle.std.proofs.lemmas.List.Elements.{Contains-get_or}
 use Rattle.bk_committee.specs.Sizes.{Sizes, members}
 use Rattle.bk_cert.specs.Node.{Node}
 use Rattle.bk_cert.specs.Values.{HeaderValue}
-use Rattle.bk_rounds.specs.declared.place.CertRef.{CertRef}
+use Rattle.bk_cert.specs.declared.place.CertRef.{CertRef}
 use Rattle.bk_rounds.specs.declared.slots.Slot.{Slot}
 use Rattle.bk_rounds.specs.declared.names.Names.{Names}
-use Rattle.bk_rounds.specs.Admission.{IsFit, IsPresent, place_of}
-use Rattle.bk_rounds.specs.Listing.{Lists}
+use Rattle.bk_cert.specs.Place.{place_of, Lists, place_cmp}
+use Rattle.bk_rounds.specs.Admission.{IsFit, IsPresent}
 use Rattle.bk_rounds.specs.Rounds.{RoundsValue, BecomesPresent, rounds_with}
 use Rattle.bk_rounds.specs.private.Numbered.{IsTable, IsInside, round_of, author_of, parents_of, is_marked, count_unmarked}
-use Rattle.bk_rounds.specs.private.Tied.{number_at, ref_cmp, IsWhole, IsTied, place_at}
-use Rattle.bk_rounds.proofs.Admitted.{same_place}
+use Rattle.bk_rounds.specs.private.Tied.{number_at, IsWhole, IsTied, place_at}
+use Rattle.bk_cert.proofs.Refs.{same_place}
 use Rattle.bk_rounds.proofs.Settling.{marked_low}
 use Rattle.bk_rounds.proofs.Whole.{whole_grown}
 use Rattle.bk_rounds.proofs.Adding.{number_free, IsAdding, IsAdmitting, tied_added, good_added, parent_author, whole_added, answer_added, admitting_from, table_from, place_put}
@@ -31,7 +31,7 @@ invariant_of-self c = rw c.in_err-ready.ensures.certs
 pub invariant_of-self-in_err-insert : goal.invariant_of-self-in_err-insert
 invariant_of-self-in_err-insert c = rw c.in_ok-ready.ensures.certs
     (whole_grown c.self.inside.weights c.self.inside.certs.items c.self.inside.names c.prepare.new.names (number_at c.self.inside.places) (number_at c.insert.new.self) c.self.inside.top c.self.invariant
-    c.in_ok-ready.ensures.grows c.in_ok-ready.ensures.names (λ q. ap (lookup (is_at (ref_cmp q))) c.in_err-insert.ensures.err))
+    c.in_ok-ready.ensures.grows c.in_ok-ready.ensures.names (λ q. ap (lookup (is_at (place_cmp q))) c.in_err-insert.ensures.err))
 
 pub admit-requires-clause-table : goal.admit-requires-clause-table
 admit-requires-clause-table c =
@@ -186,7 +186,7 @@ invariant_of-self-2 c =
     let here : CertRef = record { round = c.round.result; author = c.author.result } in
     let place : here ≡ place_of cert = same_place here (place_of cert) (c.round.ensures ∙ ap (λ (h : HeaderValue). h.round) c.header.ensures) (c.author.ensures ∙ ap (λ (h : HeaderValue). h.author) c.header-2.ensures) in
     let up = place_put (number_at c.self.inside.places) (number_at c.insert.new.self) (place_of cert) k
-    (λ q. c.in_ok-insert.ensures.updates.0 q ∙ ap (λ (a : CertRef). cond (is_eq (ref_cmp a q)) (Some k) (number_at c.self.inside.places q)) place) in
+    (λ q. c.in_ok-insert.ensures.updates.0 q ∙ ap (λ (a : CertRef). cond (is_eq (place_cmp a q)) (Some k) (number_at c.self.inside.places q)) place) in
     let whole : IsWhole z (held ++ cert ∷ []) m (number_at c.insert.new.self) c.tell-self-inside.result =
     whole_added z held n m cert k slot (number_at c.self.inside.places) (number_at c.insert.new.self) c.self.inside.top c.tell-self-inside.result out w added good new free up
     (table_from z m c.admit.new.slots c.admit.new.marks c.admit.new.pending e_s e_m e_p table) admitted in
@@ -238,7 +238,7 @@ returns-clause-answer c =
     let here : CertRef = record { round = c.round.result; author = c.author.result } in
     let place : here ≡ place_of cert = same_place here (place_of cert) (c.round.ensures ∙ ap (λ (h : HeaderValue). h.round) c.header.ensures) (c.author.ensures ∙ ap (λ (h : HeaderValue). h.author) c.header-2.ensures) in
     let up = place_put (number_at c.self.inside.places) (number_at c.insert.new.self) (place_of cert) k
-    (λ q. c.in_ok-insert.ensures.updates.0 q ∙ ap (λ (a : CertRef). cond (is_eq (ref_cmp a q)) (Some k) (number_at c.self.inside.places q)) place) in
+    (λ q. c.in_ok-insert.ensures.updates.0 q ∙ ap (λ (a : CertRef). cond (is_eq (place_cmp a q)) (Some k) (number_at c.self.inside.places q)) place) in
     let whole : IsWhole z (held ++ cert ∷ []) m (number_at c.insert.new.self) c.tell-self-inside.result =
     whole_added z held n m cert k slot (number_at c.self.inside.places) (number_at c.insert.new.self) c.self.inside.top c.tell-self-inside.result out w added good new free up
     (table_from z m c.admit.new.slots c.admit.new.marks c.admit.new.pending e_s e_m e_p table) admitted in

@@ -1,9 +1,9 @@
 //! A certificate that several tables hold.
 
 ghost use Rattle.std.specs.Prelude.{◌≡◌, IfOk};
-ghost use Rattle.bk_rounds.specs.Rounds.{node_with};
+ghost use Rattle.bk_cert.specs.Node.{node_with};
 
-use bk_cert::Header;
+use crate::header::Header;
 use bk_digest::Digest32;
 use std::alloc::{AllocError, Global};
 use std::marker::Model;
@@ -18,8 +18,7 @@ pub struct SharedCert {
 
 impl Model for SharedCert {
     ghost use Rattle.std.specs.Arc.{arc_value};
-    ghost use Rattle.bk_cert.specs.Node.{Node};
-    ghost use Rattle.bk_rounds.specs.Rounds.{node_with};
+    ghost use Rattle.bk_cert.specs.Node.{Node, node_with};
 
     ghost Value = { Node };
 

@@ -1,6 +1,17 @@
--- Places by round and author.
+-- The place of a certificate, and places by round and author.
 use Rattle.std.specs.Prelude.{◌≡◌, ◌<◌, ◌⊎◌, List, [], ◌∷◌, Contains}
-use Rattle.bk_rounds.specs.declared.place.CertRef.{CertRef}
+use Rattle.std.specs.Ordering.{nat_cmp, ordering_then}
+use Rattle.std.specs.declared.cmp.Ordering.{Ordering}
+use Rattle.bk_cert.specs.declared.place.CertRef.{CertRef}
+use Rattle.bk_cert.specs.Node.{Node}
+
+-- the place of a certificate: its round and its author
+abbrev pub place_of : Node → CertRef
+place_of c = record { round = c.header.round; author = c.header.author }
+
+-- by round, and then by author
+abbrev pub place_cmp : CertRef → CertRef → Ordering
+place_cmp a b = ordering_then (nat_cmp a.round b.round) (nat_cmp a.author b.author)
 
 -- by ascending round, then by ascending author
 abbrev pub IsBefore : CertRef → CertRef → Type 0

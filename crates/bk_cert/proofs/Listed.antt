@@ -1,9 +1,9 @@
 -- Lists by round and author.
 use Rattle.std.proofs.Common.{◌≡◌, List, [], ◌∷◌, refl, sym, ◌∙◌, subst, ⊎_elim, arith}
 use Rattle.std.specs.List.{Contains}
-use Rattle.bk_rounds.specs.declared.place.CertRef.{CertRef}
-use Rattle.bk_rounds.specs.Listing.{IsBefore, IsListed, Lists}
-use Rattle.bk_rounds.proofs.Lists.{none_in_nil, contains_cases, contains_first, contains_later}
+use Rattle.bk_cert.proofs.Lists.{none_in_nil, contains_cases, contains_first, contains_later}
+use Rattle.bk_cert.specs.Place.{IsBefore, IsListed, Lists}
+use Rattle.bk_cert.specs.declared.place.CertRef.{CertRef}
 
 pub one_way : (a b : CertRef) → IsBefore a b → IsBefore b a → ⊥
 one_way a b h k = ⊎_elim (λ p. ⊎_elim (λ q. omega arith) (λ q. omega arith) k) (λ p. ⊎_elim (λ q. omega arith) (λ q. omega arith) k) h
