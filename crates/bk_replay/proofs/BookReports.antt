@@ -14,7 +14,7 @@ use Rattle.bk_order.specs.Intake.{first_frame, Taken, HasTaken}
 use Rattle.bk_order.specs.Orders.{AreWaiting}
 use Rattle.bk_order.specs.Stops.{HasNoStop}
 use Rattle.bk_rules.proofs.Folding.{length-receipts}
-use Rattle.bk_replay.specs.declared.ledger.Ledger.{Ledger}
+use Rattle.bk_ledger.specs.Ledger.{LedgerValue}
 use Rattle.bk_replay.specs.declared.status.Status.{Status}
 use Rattle.bk_replay.specs.Finishing.{ReportIsOut, ReportStops}
 use Rattle.bk_replay.specs.Follower.{Executed, BookValue, IsExecuted, IsCurrent}
@@ -36,7 +36,7 @@ pub record IsShownOf (b : BookValue) (e : Executed) (waiting : List CertRef) (ro
   pub rows_are : rows ≡ e.rows
   pub waits : (frames : List Frame) → HasTaken frames b.taken → b.taken.failed ≡ false → HasNoStop b.taken.committee frames → AreWaiting b.taken.committee frames waiting
 
-pub shown_of : (taken : Taken) (ledger : Option Ledger) (opening : List Row) (l : Ledger) (waiting : List CertRef) (rows : List Row) → ledger ≡ Some l → rows ≡ l.state.rows
+pub shown_of : (taken : Taken) (ledger : Option LedgerValue) (opening : List Row) (l : LedgerValue) (waiting : List CertRef) (rows : List Row) → ledger ≡ Some l → rows ≡ l.state.rows
     → ((frames : List Frame) → HasTaken frames taken → taken.failed ≡ false → HasNoStop taken.committee frames → AreWaiting taken.committee frames waiting)
     → IsShownOf (book_with taken ledger opening) (executed_of l) waiting rows
 shown_of taken ledger opening l waiting rows is same waits = record { is_done = ap (option_map executed_of) is; rows_are = same; waits = waits }

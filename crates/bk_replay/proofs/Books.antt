@@ -21,12 +21,15 @@ use Rattle.bk_rules.proofs.Folding.{length-receipts, state_append, receipts_appe
 use Rattle.bk_tx.specs.Batches.{transactions_in, transactions_of, count_in}
 use Rattle.bk_replay.specs.declared.fault.Fault.{Fault}
 use Rattle.bk_replay.specs.declared.fault.Fault.TheVariants as fault
-use Rattle.bk_replay.specs.declared.ledger.Ledger.{Ledger}
+use Rattle.bk_ledger.specs.Ledger.{LedgerValue}
 use Rattle.bk_replay.specs.RunReport.{committee_in, later_frames, HasNoStopIn, IsOrderIn, HasPlaceIn}
 use Rattle.bk_replay.specs.Follower.{Executed, BookValue, IsExecuted, OrdersPart, IsBookOf, IsCurrent}
 use Rattle.bk_replay.specs.private.Books.{IsGoodBook, BookSettleFails}
 use Rattle.bk_replay.specs.private.Ledgers.{executed_of, book_with}
-use Rattle.bk_replay.specs.private.Slices.{Leaves}
+use Rattle.bk_pool.specs.declared.outcome.ExecFault.{ExecFault}
+use Rattle.bk_pool.specs.declared.outcome.ExecFault.TheVariants.{OutOfMemory, Unfinished}
+use Rattle.bk_ledger.specs.Executing.{Leaves}
+use Rattle.bk_replay.specs.private.Ledgers.{fault_of_execution}
 use Rattle.bk_replay.proofs.Counting.{few_places}
 
 -- ---- the opening
@@ -228,32 +231,28 @@ found_in feed old now s good =
       ordered = order_in_feed feed old now b s.same order;
     }
 
-done_is : (l : Ledger) (taken : Taken) (ledger : Option Ledger) (opening : List Row) (done : Executed) → ledger ≡ Some l → (book_with taken ledger opening).executed ≡ Some done → done ≡ executed_of l
+done_is : (l : LedgerValue) (taken : Taken) (ledger : Option LedgerValue) (opening : List Row) (done : Executed) → ledger ≡ Some l → (book_with taken ledger opening).executed ≡ Some done → done ≡ executed_of l
 done_is l taken ledger opening done is is_done = let e : Some done ≡ Some (executed_of l) = sym is_done ∙ ap (option_map executed_of) is in cc
 
-pub ledger_next : (feed : FeedValue) (intake now : Taken) (ledger : Option Ledger) (opening : List Row) (l : Ledger) → IsSettling intake now → ledger ≡ Some l → IsGoodBook feed (book_with intake ledger opening) → GoesOn (executed_of l) now.ordered.payloads.list
+pub ledger_next : (feed : FeedValue) (intake now : Taken) (ledger : Option LedgerValue) (opening : List Row) (l : LedgerValue) → IsSettling intake now → ledger ≡ Some l → IsGoodBook feed (book_with intake ledger opening) → GoesOn (executed_of l) now.ordered.payloads.list
 ledger_next feed intake now ledger opening l s is good =
     let f = found_in feed (book_with intake ledger opening) now s good in
     subst (λ (e : Executed). GoesOn e now.ordered.payloads.list) (done_is l intake ledger opening good.book.done is good.book.is_done) (goes_on feed (book_with intake ledger opening) now.ordered good f.clear f.ordered)
 
-pub ledger_done : (feed : FeedValue) (intake now : Taken) (ledger : Option Ledger) (opening : List Row) (l m : Ledger) → IsSettling intake now → ledger ≡ Some l → IsGoodBook feed (book_with intake ledger opening) → Executes (executed_of l) (executed_of m) now.ordered.payloads.list → IsCurrent feed (book_with now (Some m) opening)
+pub ledger_done : (feed : FeedValue) (intake now : Taken) (ledger : Option LedgerValue) (opening : List Row) (l m : LedgerValue) → IsSettling intake now → ledger ≡ Some l → IsGoodBook feed (book_with intake ledger opening) → Executes (executed_of l) (executed_of m) now.ordered.payloads.list → IsCurrent feed (book_with now (Some m) opening)
 ledger_done feed intake now ledger opening l m s is good r =
     let f = found_in feed (book_with intake ledger opening) now s good in
     settled_book feed (book_with intake ledger opening) now (executed_of m) good s.same s.kept s.works f.clear f.ordered
     (subst (λ (e : Executed). Executes e (executed_of m) now.ordered.payloads.list) (sym (done_is l intake ledger opening good.book.done is good.book.is_done)) r)
 
-pub ledger_place : (feed : FeedValue) (intake now : Taken) (ledger : Option Ledger) (opening : List Row) (l : Ledger) (place : ℕ) → IsSettling intake now → ledger ≡ Some l → IsGoodBook feed (book_with intake ledger opening)
-    → place < length l.receipts.items + length (transactions_of (drop (length l.counts.items) now.ordered.payloads.list)) → HasPlaceIn feed place
+pub ledger_place : (feed : FeedValue) (intake now : Taken) (ledger : Option LedgerValue) (opening : List Row) (l : LedgerValue) (place : ℕ) → IsSettling intake now → ledger ≡ Some l → IsGoodBook feed (book_with intake ledger opening)
+    → place < length l.receipts + length (transactions_of (drop (length l.counts) now.ordered.payloads.list)) → HasPlaceIn feed place
 ledger_place feed intake now ledger opening l place s is good lt =
     let f = found_in feed (book_with intake ledger opening) now s good in
     let n = ledger_next feed intake now ledger opening l s is good in
     (now.ordered, f.ordered, omega (arith, lt, n.all))
 
 -- why executing failed is why the settle did
-pub execution_fails : (old new : BookValue) (first end : ℕ) (f : Fault) → ((feed : FeedValue) (place : ℕ) → IsGoodBook feed old → place < end → HasPlaceIn feed place) → Leaves first end f → BookSettleFails old new f
-execution_fails old new first end (fault.Feed found) there h = absurd h
-execution_fails old new first end (fault.Collision id) there h = absurd h
-execution_fails old new first end (fault.Equivocation round author one other) there h = absurd h
-execution_fails old new first end (fault.Unfinished place) there h = λ feed good. there feed place good h.1
-execution_fails old new first end (fault.Write written) there h = absurd h
-execution_fails old new first end fault.Memory there h = tt
+pub execution_fails : (old new : BookValue) (first end : ℕ) (x : ExecFault) → ((feed : FeedValue) (place : ℕ) → IsGoodBook feed old → place < end → HasPlaceIn feed place) → Leaves first end x → BookSettleFails old new (fault_of_execution x)
+execution_fails old new first end OutOfMemory there h = tt
+execution_fails old new first end (Unfinished place) there h = λ feed good. there feed place good h.1

@@ -39,7 +39,7 @@ use Rattle.bk_order.specs.declared.reject.Reject.{Reject}
 use Rattle.bk_order.specs.Frames.{AreCerts, AreBatches, rejects_by, IsRejectOf, AreRejects}
 use Rattle.bk_order.specs.Orders.{Ordered, IsOrderOf, AreWaiting}
 use Rattle.bk_tx.specs.Batches.{transactions_in, transactions_of}
-use Rattle.bk_report.proofs.Runs.{transactions_size, good_size}
+use Rattle.bk_ledger.proofs.Runs.{transactions_size, good_size}
 
 -- ---- different things, each out of one of a list
 

@@ -14,7 +14,7 @@ use Rattle.bk_report.specs.Pages.{Gathered, blank, Puts, Stops}
 use Rattle.bk_tx.specs.Batches.{payloads_of, feed_transactions, count_in}
 use Rattle.bk_report.specs.Report.{lines_of, apply_report_of, IsApplyReport}
 use Rattle.bk_report.proofs.Putting.{all_out, part_out, part_size}
-use Rattle.bk_report.proofs.Runs.{few_batches, few_feed_transactions}
+use Rattle.bk_ledger.proofs.Runs.{few_batches, few_feed_transactions}
 
 -- what executing a feed gave
 pub record IsLedgerOf (feed : FeedValue) (counts : List (Option ℕ)) (receipts : List Receipt) (rows : List Row) : Type 0 where

@@ -1,4 +1,3 @@
-pub mod BatchReading
 pub mod FeedReports
 pub mod Counting
 pub mod Books
@@ -8,8 +7,6 @@ pub mod PulledBytes
 pub mod Pulled
 pub mod RunAnswers
 pub mod BookReports
-pub mod SliceLemmas
-pub mod NextLemmas
 pub mod Following
 pub mod Schedules
 pub mod RunLaws

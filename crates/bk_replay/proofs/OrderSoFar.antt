@@ -10,7 +10,7 @@ use Rattle.bk_order.specs.Intake.{Taken, Kept, IsKeptOf, HasTaken}
 use Rattle.bk_order.specs.Stops.{HasNoStop}
 use Rattle.bk_replay.specs.declared.fault.Fault.{Fault}
 use Rattle.bk_replay.specs.declared.fault.Fault.TheVariants as fault
-use Rattle.bk_replay.specs.declared.ledger.Ledger.{Ledger}
+use Rattle.bk_ledger.specs.Ledger.{LedgerValue}
 use Rattle.bk_replay.specs.Follower.{BookValue, Followed, FollowsBy, Follows, HasCome, executed_in}
 use Rattle.bk_replay.specs.RunReport.{later_frames}
 use Rattle.bk_replay.specs.Ordering.{FindsOrder, OrderFails, anchors_in, certs_in}
@@ -25,7 +25,7 @@ use Rattle.bk_replay.proofs.Following.{follower_of, good_of, come_on, settle_fai
 -- ---- a book
 
 -- the order of what was taken is that of the feed, and what was executed stays
-pub orders_book : (feed : FeedValue) (intake now : Taken) (ledger : Option Ledger) (opening : List Row) → IsSettling intake now → IsGoodBook feed (book_with intake ledger opening) → OrdersBook feed (book_with now ledger opening)
+pub orders_book : (feed : FeedValue) (intake now : Taken) (ledger : Option LedgerValue) (opening : List Row) → IsSettling intake now → IsGoodBook feed (book_with intake ledger opening) → OrdersBook feed (book_with now ledger opening)
 orders_book feed intake now ledger opening s good =
     let b = good.book in
     let clear = s.clear (later_frames feed) b.taken in

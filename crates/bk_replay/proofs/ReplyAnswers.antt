@@ -9,7 +9,7 @@ use Rattle.bk_committee.specs.Payload.{CommitteeValue}
 use Rattle.bk_order.specs.Intake.{Taken}
 use Rattle.bk_replay.specs.declared.fault.Fault.{Fault}
 use Rattle.bk_replay.specs.declared.fault.Fault.TheVariants as fault
-use Rattle.bk_replay.specs.declared.ledger.Ledger.{Ledger}
+use Rattle.bk_ledger.specs.Ledger.{LedgerValue}
 use Rattle.bk_replay.specs.declared.query.Query.{Query}
 use Rattle.bk_replay.specs.declared.query.Reply.{Reply}
 use Rattle.bk_replay.specs.Answers.{devices}
@@ -29,16 +29,16 @@ same_done : (d e : Executed) → Some d ≡ Some e → d ≡ e
 same_done d e same = cc
 
 -- what a settled book holds is where its feed ends
-outcome_is : (feed : FeedValue) (taken : Taken) (ledger : Option Ledger) (opening : List Row) (l : Ledger) → ledger ≡ Some l → IsCurrent feed (book_with taken ledger opening) → IsOutcomeOf feed (outcome_of taken l)
+outcome_is : (feed : FeedValue) (taken : Taken) (ledger : Option LedgerValue) (opening : List Row) (l : LedgerValue) → ledger ≡ Some l → IsCurrent feed (book_with taken ledger opening) → IsOutcomeOf feed (outcome_of taken l)
 outcome_is feed taken ledger opening l is current =
     let x = subst (λ (e : Executed). IsExecuted feed taken.ordered e) (same_done current.done (executed_of l) (sym current.is_done ∙ ap (option_map executed_of) is)) current.executed in
     record { clear = current.clear; ordered = current.ordered; receipts = x.receipts; rows = x.rows }
 
-pub book_replies : (asked : Query) (taken : Taken) (ledger : Option Ledger) (opening : List Row) (l : Ledger) (old new : Device) (answer : Reply) → ledger ≡ Some l → WritesReply asked (outcome_of taken l) old new answer → BookReplies asked (book_with taken ledger opening) old new answer
+pub book_replies : (asked : Query) (taken : Taken) (ledger : Option LedgerValue) (opening : List Row) (l : LedgerValue) (old new : Device) (answer : Reply) → ledger ≡ Some l → WritesReply asked (outcome_of taken l) old new answer → BookReplies asked (book_with taken ledger opening) old new answer
 book_replies asked taken ledger opening l old new answer is w =
     (λ feed good current. record { text = w.0; reply = record { end = outcome_of taken l; outcome = outcome_is feed taken ledger opening l is current; it = w.1 }; gave = w.2.1 }, w.2.0)
 
-pub book_reply_fails : (asked : Query) (taken : Taken) (ledger : Option Ledger) (opening : List Row) (l : Ledger) (old new : Device) (f : Fault) → ledger ≡ Some l → TextFails (Shows asked (outcome_of taken l)) old new f → BookReplyFails asked (book_with taken ledger opening) old new f
+pub book_reply_fails : (asked : Query) (taken : Taken) (ledger : Option LedgerValue) (opening : List Row) (l : LedgerValue) (old new : Device) (f : Fault) → ledger ≡ Some l → TextFails (Shows asked (outcome_of taken l)) old new f → BookReplyFails asked (book_with taken ledger opening) old new f
 book_reply_fails asked taken ledger opening l old new (fault.Feed found) is h = absurd h
 book_reply_fails asked taken ledger opening l old new (fault.Collision id) is h = absurd h
 book_reply_fails asked taken ledger opening l old new (fault.Equivocation round author first second) is h = absurd h

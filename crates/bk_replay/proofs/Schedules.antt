@@ -27,16 +27,9 @@ use Rattle.bk_replay.specs.Answers.{devices}
 use Rattle.bk_tx.specs.Batches.{feed_transactions}
 use Rattle.bk_replay.specs.Scheduling.{opening_of, IsPlanOfFeed, InExecution, InExecutionOf, StopsBy}
 use Rattle.bk_replay.specs.private.Schedules.{stop_of, Unscheduled, IsScheduled}
-use Rattle.bk_report.proofs.Runs.{few_feed_transactions, transactions_next}
+use Rattle.bk_ledger.proofs.Runs.{few_feed_transactions}
 use Rattle.bk_replay.proofs.FeedReports.{are_feed}
 use Rattle.bk_replay.proofs.Following.{untouched}
-
--- ---- its transactions
-
-pub txs_next : (frames : List Frame) (i : ℕ) (f : Frame) (old new : List (Option Transaction)) → slice_get frames i ≡ Some f → old ≡ feed_transactions (take i frames)
-    → new ≡ old ++ feed_transactions (f ∷ []) → new ≡ feed_transactions (take (i + 1) frames)
-txs_next frames i f old new e before grown =
-    grown ∙ ap (λ (t : List (Option Transaction)). t ++ feed_transactions (f ∷ [])) before ∙ sym (transactions_next frames i f e)
 
 -- ---- the plan of a feed
 

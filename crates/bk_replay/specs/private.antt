@@ -2,7 +2,6 @@ pub mod Ledgers
 pub mod Stopping
 pub mod Books
 pub mod Parts
-pub mod Slices
 pub mod Openings
 pub mod Replies
 pub mod Schedules

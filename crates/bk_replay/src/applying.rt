@@ -7,9 +7,8 @@ ghost use Rattle.bk_report.specs.Lines.{text_of};
 ghost use Rattle.bk_report.specs.Pages.{Written, blank};
 
 use crate::fault::Fault;
-use crate::ledger::Ledger;
-use crate::summary::Summary;
 use bk_frames::{Feed, Sink, Source, WriteFault};
+use bk_ledger::{Ledger, Summary};
 use bk_report::{Line, Page, put_accounts, put_batches, put_receipts};
 use std::alloc::Global;
 

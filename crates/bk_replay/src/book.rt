@@ -1,6 +1,6 @@
 //! What is made of the frames of a feed: their order, and what executing its batches gave.
 
-ghost use Rattle.std.specs.Prelude.{◌≡◌, ◌+◌, ◌^◌, ◌<◌, ◌≤◌, ◌++◌, [], ℕ, List, length, Some, OnOk, IfOk, IfErr};
+ghost use Rattle.std.specs.Prelude.{◌≡◌, ◌+◌, ◌^◌, ◌<◌, ◌≤◌, ◌++◌, [], ℕ, List, false, drop, length, map, Some, OnOk, IfOk, IfErr};
 ghost use Rattle.bk_frames.specs.declared.version.Version.{Version};
 ghost use Rattle.bk_frames.specs.Cutting.{frames_in};
 ghost use Rattle.bk_frames.specs.Feed.{Frame, FeedValue, feed_of, genesis_of};
@@ -10,9 +10,9 @@ ghost use Rattle.bk_replay.specs.Follower.{IsBookOf, IsCurrent, receipts_of_exec
 ghost use Rattle.bk_replay.specs.private.Books.{IsGoodBook, BookSettleFails};
 
 use crate::fault::Fault;
-use crate::ledger::Ledger;
 use bk_committee::Committee;
 use bk_frames::{Kind, Row};
+use bk_ledger::Ledger;
 use bk_order::Intake;
 use bk_pool::Gate;
 use std::alloc::{AllocError, Global};
@@ -39,6 +39,24 @@ impl Model for Book {
     ghost Value = { BookValue };
 
     ghost view = { λ b. book_with b.intake b.ledger b.opening.items };
+}
+
+// The payloads of an order's batches, from an index on.
+fn payloads_from(
+    alloc: Global,
+    intake: &Intake,
+    from: usize,
+) -> Result<Vec<&[u8]>, AllocError>
+    requires open { intake.now.failed ≡ false }
+    requires within { from ≤ length intake.now.ordered.payloads.list }
+    ensures { IfOk result (λ found. map (λ p. p.now) found.items
+        ≡ drop from intake.now.ordered.payloads.list) }
+{
+    let mut payloads = Vec::with_capacity(alloc, intake.batches() - from)?;
+    for index in from..intake.batches() {
+        payloads.push(intake.payload(index))?;
+    }
+    Ok(payloads)
 }
 
 impl Book {
@@ -115,9 +133,10 @@ impl Book {
         let Some(ledger) = self.ledger.take() else {
             return Err(Fault::Memory);
         };
-        let before = ledger.receipts.len();
-        let ledger = ledger.execute(rt, self.alloc, &self.intake, workers, gate)?;
-        let count = ledger.receipts.len() - before;
+        let before = ledger.receipts().len();
+        let payloads = payloads_from(self.alloc, &self.intake, ledger.counts().len())?;
+        let ledger = ledger.execute(rt, self.alloc, &payloads, workers, gate)?;
+        let count = ledger.receipts().len() - before;
         self.ledger = Some(ledger);
         Ok(count)
     }

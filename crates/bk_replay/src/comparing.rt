@@ -125,7 +125,7 @@ impl Book {
         ensures { result ≡ length (receipts_of_executed self.now.executed) }
     {
         match &self.ledger {
-            Some(ledger) => ledger.receipts.len(),
+            Some(ledger) => ledger.receipts().len(),
             None => 0,
         }
     }

@@ -1,10 +1,12 @@
 ghost use Rattle.std.specs.Prelude.{◌≡◌};
 ghost use Rattle.bk_replay.specs.declared.fault.Fault.TheVariants as fault;
 ghost use Rattle.bk_replay.specs.RunReport.{fault_of};
+ghost use Rattle.bk_replay.specs.private.Ledgers.{fault_of_execution};
 
 use bk_digest::Digest32;
 use bk_evidence::Evidence;
 use bk_frames::{FeedFault, WriteFault};
+use bk_ledger::ExecFault;
 use bk_order::Stop;
 use std::alloc::{AllocError, AllocFailed};
 use thiserror::Error;
@@ -81,6 +83,17 @@ impl From<WriteFault> for Fault {
     fn from(w: WriteFault) -> Fault {
         let written = w.written;
         Fault::Write { written }
+    }
+}
+
+impl From<ExecFault> for Fault {
+    ghost from_gives = { λ x f. f ≡ fault_of_execution x };
+
+    fn from(x: ExecFault) -> Fault {
+        match x {
+            ExecFault::OutOfMemory => Fault::Memory,
+            ExecFault::Unfinished(place) => Fault::Unfinished { place },
+        }
     }
 }
 

@@ -9,7 +9,7 @@ ghost use Rattle.bk_replay.specs.private.Ledgers.{executed_of};
 
 use crate::fault::Fault;
 use crate::follower::Follower;
-use crate::ledger::Ledger;
+use bk_ledger::Ledger;
 use bk_report::{Proof, proof_of};
 use bk_rules::{Account, Receipt};
 use std::thread::Threads;
@@ -60,7 +60,7 @@ impl Follower {
     {
         self.ready()?;
         match self.ledger() {
-            Some(ledger) => Ok(ledger.state.account(id)),
+            Some(ledger) => Ok(ledger.state().account(id)),
             None => Ok(None),
         }
     }
@@ -98,7 +98,7 @@ impl Follower {
         let Some(ledger) = self.ledger() else {
             return Ok(None);
         };
-        let rows = ledger.state.rows(self.alloc)?;
+        let rows = ledger.state().rows(self.alloc)?;
         let proof = proof_of(rt, self.alloc, &rows, id)?;
         Ok(proof)
     }

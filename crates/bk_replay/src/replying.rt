@@ -16,10 +16,10 @@ ghost use Rattle.bk_replay.specs.private.Replies.{WritesFound, WritesReply, Book
 
 use crate::book::Book;
 use crate::fault::Fault;
-use crate::ledger::Ledger;
 use crate::query::{Query, Reply};
 use bk_cert::CertRef;
 use bk_frames::{Sink, WriteFault, push_all};
+use bk_ledger::Ledger;
 use bk_order::Intake;
 use bk_report::{Line, Page, proof_of, push_line, put_anchors, put_certs};
 use bk_rules::{Account, Receipt};
@@ -71,7 +71,7 @@ fn account_text(alloc: Global, ledger: &Ledger, id: u64) -> Result<Option<Vec<u8
         (account_at ledger.now.state.rows id ≡ None)
         (λ text. ShowsAccount ledger.now.state.rows id text.items)) }
 {
-    let Some(account) = ledger.state.account(id) else {
+    let Some(account) = ledger.state().account(id) else {
         return Ok(None);
     };
     let Account { balance, seq } = account;
@@ -83,8 +83,8 @@ fn account_text(alloc: Global, ledger: &Ledger, id: u64) -> Result<Option<Vec<u8
 // The line of the transaction at this place, where there is one.
 fn receipt_text(alloc: Global, ledger: &Ledger, place: u32) -> Result<Option<Vec<u8>>, AllocError>
     ensures { IfOk result (λ found. MatchOption found
-        (slice_get ledger.now.receipts.items place ≡ None)
-        (λ text. ShowsReceipt ledger.now.receipts.items place text.items)) }
+        (slice_get ledger.now.receipts place ≡ None)
+        (λ text. ShowsReceipt ledger.now.receipts place text.items)) }
 {
     let Some(receipt) = ledger.receipt(place) else {
         return Ok(None);
@@ -112,7 +112,7 @@ fn proof_text<R: Threads + Sync>(
     ensures { IfOk result (λ found. MatchOption found (IsAbsent ledger.now.state.rows id)
         (λ text. ShowsProof ledger.now.state.rows id text.items)) }
 {
-    let rows = ledger.state.rows(alloc)?;
+    let rows = ledger.state().rows(alloc)?;
     let Some(proof) = proof_of(rt, alloc, &rows, id)? else {
         return Ok(None);
     };

@@ -15,10 +15,9 @@ ghost use Rattle.bk_replay.specs.private.Schedules.{stop_of, Unscheduled, IsSche
 
 use crate::applying::write_report;
 use crate::fault::Fault;
-use crate::ledger::Ledger;
-use crate::slice::Batches;
 use bk_conflicts::{Plan, SLOTS_END};
 use bk_frames::{Feed, FeedFault, Sink, Source, WriteFault};
+use bk_ledger::{Batches, Ledger};
 use bk_report::Page;
 use bk_rules::State;
 use bk_steps::{Event, Outcome, ScheduleFault, run_schedule};
@@ -84,20 +83,6 @@ impl<T: Drop> From<AllocFailed<T>> for ScheduleStop {
     }
 }
 
-// The batches of a feed, in feed order.
-fn batches_of(alloc: Global, feed: &Feed) -> Result<Batches, AllocError>
-    ensures counts { IfOk result (λ b. b.counts.items
-        ≡ map count_in (payloads_of feed.now.frames)) }
-    ensures txs { IfOk result (λ b. b.txs.items ≡ feed_transactions feed.now.frames) }
-{
-    let mut batches = Batches::new(alloc);
-    for index in 0..feed.len() {
-        let (kind, payload) = feed.frame(index);
-        batches.push_frame(alloc, kind, payload)?;
-    }
-    Ok(batches)
-}
-
 // Does the events on a feed's transactions.
 fn run_events(
     alloc: Global,
@@ -131,9 +116,9 @@ fn scheduled(
     events: &[Event],
 ) -> Result<Ledger, ScheduleStop>
     requires good { IsFeed feed.now }
-    ensures counts { IfOk result (λ l. l.counts.items
+    ensures counts { IfOk result (λ l. l.counts
         ≡ map count_in (payloads_of feed.now.frames)) }
-    ensures receipts { IfOk result (λ l. l.receipts.items
+    ensures receipts { IfOk result (λ l. l.receipts
         ≡ receipts_of feed.now.version (feed_transactions feed.now.frames) (genesis_of feed.now.frames)) }
     ensures rows { IfOk result (λ l. l.state.rows
         ≡ state_after feed.now.version (feed_transactions feed.now.frames) (genesis_of feed.now.frames)) }
@@ -141,13 +126,9 @@ fn scheduled(
         (λ s. IsWholeAmong s workers events.now)) }
     ensures stop { IfErr result (λ e. Unscheduled feed.now workers events.now e) }
 {
-    let Batches { counts, txs, .. } = batches_of(alloc, feed)?;
-    let Outcome { state, receipts } = run_events(alloc, feed, txs, workers, events)?;
-    Ok(Ledger {
-        counts,
-        receipts,
-        state,
-    })
+    let Batches { counts, txs, .. } = Batches::of(alloc, feed)?;
+    let outcome = run_events(alloc, feed, txs, workers, events)?;
+    Ok(Ledger::with(counts, outcome))
 }
 
 /// Reads a feed, does these events on the transactions of its batches, in feed order, and writes the apply report.

@@ -16,10 +16,10 @@ ghost use Rattle.bk_report.specs.Pages.{Written, blank};
 
 use crate::book::Book;
 use crate::fault::Fault;
-use crate::ledger::Ledger;
 use crate::status::Status;
 use bk_cert::CertRef;
 use bk_frames::{Row, Sink, WriteFault};
+use bk_ledger::Ledger;
 use bk_order::Intake;
 use bk_report::{Page, Parts, leaves_of, write_run};
 use std::alloc::{AllocError, Global};
@@ -47,13 +47,13 @@ fn find_shown(alloc: Global, intake: &Intake, ledger: &Ledger) -> Result<Shown, 
     ensures few { IfOk result (λ s. length s.rows.items < 2 ^ 32) }
 {
     let waiting = intake.waiting()?;
-    let rows = ledger.state.rows(alloc)?;
+    let rows = ledger.state().rows(alloc)?;
     // This never holds: a feed has fewer than 2^32 bytes, and an account that comes to be is named in nine of them.
     if rows.len() >= 1 << 32 {
         return Err(AllocError);
     }
     let leaves = leaves_of(alloc, &rows)?;
-    let total = ledger.state.total();
+    let total = ledger.state().total();
     Ok(Shown {
         waiting,
         rows,
@@ -76,8 +76,8 @@ fn write_shown<R: Threads + Sync, K: Sink>(
     requires waiting { length shown.now.waiting.items < 2 ^ 32 }
     requires anchors { length intake.now.ordered.anchors < 2 ^ 32 }
     requires order { length intake.now.ordered.order < 2 ^ 32 }
-    requires counts { length ledger.now.counts.items < 2 ^ 32 }
-    requires receipts { length ledger.now.receipts.items < 2 ^ 32 }
+    requires counts { length ledger.now.counts < 2 ^ 32 }
+    requires receipts { length ledger.now.receipts < 2 ^ 32 }
     requires rows { length shown.now.rows.items < 2 ^ 32 }
     requires total { shown.now.total ≡ total_of shown.now.rows.items }
     requires leaves { shown.now.leaves.items ≡ leaves_of shown.now.rows.items }
@@ -86,8 +86,8 @@ fn write_shown<R: Threads + Sync, K: Sink>(
         (text_of (head_lines intake.now.committee intake.now.kept.next
         ++ order_lines intake.now.kept.rejected shown.now.waiting.items
         intake.now.ordered.anchors intake.now.ordered.order
-        ++ batches_lines ledger.now.counts.items intake.now.ordered.payloads.missing
-        ++ ledger_lines ledger.now.receipts.items shown.now.rows.items)) }
+        ++ batches_lines ledger.now.counts intake.now.ordered.payloads.missing
+        ++ ledger_lines ledger.now.receipts shown.now.rows.items)) }
     ensures empty { OnOk result (page.new.bytes ≡ []) }
 {
     let parts = Parts {
@@ -97,9 +97,9 @@ fn write_shown<R: Threads + Sync, K: Sink>(
         waiting: &shown.waiting,
         anchors: intake.anchors(),
         order: intake.order(),
-        counts: &ledger.counts,
+        counts: ledger.counts(),
         missing: intake.missing(),
-        receipts: &ledger.receipts,
+        receipts: ledger.receipts(),
         rows: &shown.rows,
         total: shown.total,
         leaves: &shown.leaves,

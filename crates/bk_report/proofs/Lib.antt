@@ -1,4 +1,3 @@
-pub mod Runs
 pub mod Putting
 pub mod ReportLines
 pub mod LineGroups

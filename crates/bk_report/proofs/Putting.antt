@@ -1,5 +1,5 @@
 -- Texts that are put one after another.
-use Rattle.std.proofs.Common.{◌≡◌, ℕ, ◌+◌, ◌<◌, List, [], ◌∷◌, ◌++◌, length, take, drop, Some, sym, ap, subst, ◌∙◌, append_assoc, length-append, arith}
+use Rattle.std.proofs.Common.{◌≡◌, ℕ, zero, suc, ◌+◌, ◌<◌, List, [], ◌∷◌, ◌++◌, length, take, drop, Some, sym, ap, subst, ◌∙◌, append_assoc, length-append, arith}
 use Rattle.bk_frames.specs.Device.{Device, Works, Receives}
 use Rattle.std.proofs.lemmas.List.{append-nil, take-append-drop, length-take, length-drop, take_at}
 use Rattle.bk_frames.proofs.Devices.{appends_then}
@@ -9,7 +9,12 @@ use Rattle.bk_frames.specs.declared.writing.WriteFault.{WriteFault}
 use Rattle.bk_report.specs.declared.line.Line.{Line}
 use Rattle.bk_report.specs.Lines.{line_text, text_of}
 use Rattle.bk_report.specs.Pages.{Gathered, blank, Puts, Stops, Written}
-use Rattle.bk_report.proofs.Runs.{take_next}
+
+-- one item more of a list
+pub take_next : {A : Type 0} (xs : List A) (i : ℕ) (a : A) → slice_get xs i ≡ Some a → take (i + 1) xs ≡ take i xs ++ a ∷ []
+take_next [] i a e = absurd cc
+take_next (x ∷ xs) zero a e = let same : x ≡ a = cc in ap (λ b. b ∷ []) same
+take_next (x ∷ xs) (suc i) a e = let k : suc i + 1 ≡ suc (i + 1) = omega arith in rw k (ap (λ t. x ∷ t) (take_next xs i a e))
 
 -- a page that goes out in part
 pub flush_stops : (old new : Device) (page : Gathered) (w n : ℕ) (bytes : List ℕ) → bytes ≡ page.bytes → w < length bytes → Receives old new (take w bytes) → n ≡ page.out + w → Stops old new page [] n

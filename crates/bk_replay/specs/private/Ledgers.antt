@@ -2,19 +2,28 @@
 use Rattle.std.specs.Prelude.{List, Option, option_map}
 use Rattle.bk_frames.specs.declared.genesis.Row.{Row}
 use Rattle.bk_order.specs.Intake.{Taken}
-use Rattle.bk_replay.specs.declared.ledger.Ledger.{Ledger}
+use Rattle.bk_pool.specs.declared.outcome.ExecFault.{ExecFault}
+use Rattle.bk_pool.specs.declared.outcome.ExecFault.TheVariants.{OutOfMemory, Unfinished}
+use Rattle.bk_ledger.specs.Ledger.{LedgerValue}
+use Rattle.bk_replay.specs.declared.fault.Fault.{Fault}
+use Rattle.bk_replay.specs.declared.fault.Fault.TheVariants as fault
 use Rattle.bk_replay.specs.Follower.{Executed, BookValue}
 
 -- what a ledger has executed
-abbrev pub executed_of : Ledger → Executed
+abbrev pub executed_of : LedgerValue → Executed
 executed_of l = record {
   version = l.state.version;
-  counts = l.counts.items;
-  receipts = l.receipts.items;
+  counts = l.counts;
+  receipts = l.receipts;
   rows = l.state.rows;
 }
 
 -- the book of what was taken, of a ledger and of opening accounts
-abbrev pub book_with : Taken → Option Ledger → List Row → BookValue
+abbrev pub book_with : Taken → Option LedgerValue → List Row → BookValue
 book_with taken ledger opening =
     record { opening = opening; taken = taken; executed = option_map executed_of ledger }
+
+-- the fault of an execution
+abbrev pub fault_of_execution : ExecFault → Fault
+fault_of_execution OutOfMemory = fault.Memory
+fault_of_execution (Unfinished place) = fault.Unfinished place

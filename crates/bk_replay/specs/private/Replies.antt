@@ -8,7 +8,7 @@ use Rattle.bk_frames.specs.Writing.{Writes}
 use Rattle.bk_order.specs.Intake.{Taken}
 use Rattle.bk_replay.specs.declared.fault.Fault.{Fault}
 use Rattle.bk_replay.specs.declared.fault.Fault.TheVariants as fault
-use Rattle.bk_replay.specs.declared.ledger.Ledger.{Ledger}
+use Rattle.bk_ledger.specs.Ledger.{LedgerValue}
 use Rattle.bk_replay.specs.declared.query.Query.{Query}
 use Rattle.bk_replay.specs.declared.query.Reply.{Reply}
 use Rattle.bk_replay.specs.declared.query.Reply.TheVariants as reply
@@ -19,8 +19,8 @@ use Rattle.bk_replay.specs.Follower.{BookValue, Followed, IsCurrent}
 use Rattle.bk_replay.specs.RunReport.{IsStopIn, HasPlaceIn}
 
 -- what was ordered and executed
-abbrev pub outcome_of : Taken → Ledger → Outcome
-outcome_of taken l = record { ordered = taken.ordered; receipts = l.receipts.items; rows = l.state.rows }
+abbrev pub outcome_of : Taken → LedgerValue → Outcome
+outcome_of taken l = record { ordered = taken.ordered; receipts = l.receipts; rows = l.state.rows }
 
 -- a text was not written: some of its first bytes are out, and a call of the sink failed; or memory ran out
 abbrev pub TextFails : (List ℕ → Type 0) → Device → Device → Fault → Type 0

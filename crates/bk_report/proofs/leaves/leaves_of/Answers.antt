@@ -4,7 +4,7 @@ use Rattle.std.proofs.lemmas.Option.{slice_get-get_or}
 use Rattle.bk_frames.specs.declared.genesis.Row.{Row}
 use Rattle.bk_frames.specs.Genesis.{row_text}
 use Rattle.bk_report.specs.Leaves.{leaves_of}
-use Rattle.bk_report.proofs.Runs.{take_next}
+use Rattle.bk_report.proofs.Putting.{take_next}
 use Rattle.bk_report.proofs.leaves.leaves_of.Goals as goal
 
 -- the leaf of one account more

@@ -1,0 +1,4 @@
+pub mod Runs
+pub mod SliceLemmas
+pub mod NextLemmas
+pub mod BatchReading

@@ -1,0 +1,138 @@
+-- Slices that are planned before their turn comes.
+use Rattle.std.proofs.Common.{◌≡◌, ℕ, ◌+◌, ◌≤◌, List, [], ◌++◌, length, Option, refl, sym, ap, subst, ◌∙◌, arith}
+use Rattle.std.specs.Arc.{arc_value}
+use Rattle.bk_frames.specs.declared.genesis.Row.{Row}
+use Rattle.bk_frames.specs.declared.version.Version.{Version}
+use Rattle.bk_tx.specs.Transaction.{Transaction}
+use Rattle.bk_rules.specs.Fold.{state_after, receipts_of, HasRoom}
+use Rattle.bk_rules.specs.Ledger as rules
+use Rattle.bk_rules.specs.Rows.{IsLedger}
+use Rattle.bk_conflicts.specs.Plan.{PlanValue}
+use Rattle.bk_conflicts.specs.SceneOf.{CanRunOn}
+use Rattle.bk_steps.specs.declared.outcome.Outcome.{Outcome}
+use Rattle.bk_steps.specs.Schedule.{IsFoldOf}
+use Rattle.bk_ledger.specs.Ledger.{LedgerValue}
+use Rattle.bk_ledger.specs.declared.ready.Ready.{Ready}
+use Rattle.bk_ledger.specs.declared.ready.Ahead.{Ahead}
+use Rattle.bk_ledger.specs.declared.ready.Next.{Next}
+use Rattle.bk_ledger.specs.declared.ready.Next.TheVariants as next
+use Rattle.bk_ledger.specs.declared.batches.Batches.{Batches}
+use Rattle.bk_ledger.specs.Executing.{HasRun, Leaves}
+use Rattle.bk_ledger.specs.private.Slices.{IsAheadOf, IsNextFrom, IsNextOf, IsNoneAhead, IsPlannedOn, IsReadOf, IsReady, IsSame, ahead_of, counts_of, txs_of}
+use Rattle.bk_pool.specs.declared.outcome.ExecFault.{ExecFault}
+use Rattle.bk_ledger.proofs.SliceLemmas.{slice_none}
+
+-- ---- reading
+
+-- a slice that is read
+pub read_next : (payloads : List (List ℕ)) (from : ℕ) (version : Version) (slots : List ℕ) (b : Batches) → IsReadOf payloads from b.counts.items b.txs.items → IsNextOf payloads from version slots (next.Read b)
+read_next payloads from version slots b read = record { read = read; planned = tt }
+
+-- the first two slices
+pub two_ahead : (payloads : List (List ℕ)) (from later : ℕ) (version : Version) (slots : List ℕ) (b c : Batches) → later ≡ from + length b.counts.items → IsReadOf payloads from b.counts.items b.txs.items → IsReadOf payloads later c.counts.items c.txs.items
+    → IsAheadOf payloads from version slots (ahead_of from (next.Read b) c)
+two_ahead payloads from later version slots b c at read behind = record {
+  at = refl;
+  next = read_next payloads from version slots b read;
+  read = subst (λ (n : ℕ). IsReadOf payloads n c.counts.items c.txs.items) at behind;
+}
+
+-- a slice that was read, and planned
+pub ready_from : (b : Batches) (version : Version) (slots : List ℕ) (r : Ready) → IsReady version slots b.counts.items b.txs.items r → IsNextFrom b version slots (next.Ready r)
+ready_from b version slots r ready = record { counts_are = ready.counts_are; txs_are = ready.txs_are; planned = (ready.version_is, ready.slots_are) }
+
+-- or not
+pub read_from : (b : Batches) (version : Version) (slots : List ℕ) → IsNextFrom b version slots (next.Read b)
+read_from b version slots = record { counts_are = refl; txs_are = refl; planned = tt }
+
+-- and the one after it
+pub from_ahead : (payloads : List (List ℕ)) (from later : ℕ) (version : Version) (slots : List ℕ) (b c : Batches) (n : Next) → IsReadOf payloads from b.counts.items b.txs.items → IsNextFrom b version slots n → later ≡ from + length b.counts.items
+    → IsReadOf payloads later c.counts.items c.txs.items → IsAheadOf payloads from version slots (ahead_of from n c)
+from_ahead payloads from later version slots b c n read planned at behind = record {
+  at = refl;
+  next = record {
+    read = subst (λ (s : List (Option ℕ) × List (Option Transaction)). IsReadOf payloads from s.0 s.1) (λ i. (sym planned.counts_are i, sym planned.txs_are i)) read;
+    planned = planned.planned;
+  };
+  read = subst (λ (k : ℕ). IsReadOf payloads k c.counts.items c.txs.items) (at ∙ ap (λ (s : List (Option ℕ)). from + length s) (sym planned.counts_are)) behind;
+}
+
+-- a slice that was planned is ready as it is
+pub ready_again : (version : Version) (slots : List ℕ) (n : Next) (r : Ready) → n ≡ next.Ready r → IsPlannedOn version slots n → IsReady version slots (counts_of n) (txs_of n) r
+ready_again version slots n r is planned =
+    subst (λ (m : Next). IsPlannedOn version slots m → IsReady version slots (counts_of m) (txs_of m) r) (sym is) (λ p. record { version_is = p.0; slots_are = p.1; counts_are = refl; txs_are = refl }) planned
+
+-- nothing is left
+read_none : (payloads : List (List ℕ)) (from : ℕ) (counts : List (Option ℕ)) (txs : List (Option Transaction)) → length payloads ≤ from → from ≤ length payloads → counts ≡ [] → txs ≡ [] → IsReadOf payloads from counts txs
+read_none payloads from counts txs all within none empty = record {
+  slice = slice_none payloads from counts txs none empty;
+  some = λ low. absurd (omega (arith, all, low));
+  within = omega (arith, within, ap length none);
+  few = omega (arith, ap length empty);
+}
+
+pub none_ahead : (payloads : List (List ℕ)) (from : ℕ) (version : Version) (slots : List ℕ) (a : Ahead) → from ≡ length payloads → IsNoneAhead from a → IsAheadOf payloads from version slots a
+none_ahead payloads from version slots a all none = record {
+  at = none.none_from;
+  next = record {
+    read = read_none payloads from (counts_of a.next) (txs_of a.next) (omega (arith, all)) (omega (arith, all)) none.no_counts none.no_txs;
+    planned = none.not_planned version slots;
+  };
+  read = read_none payloads (from + length (counts_of a.next)) a.read.counts.items a.read.txs.items (omega (arith, all, ap length none.no_counts)) (omega (arith, all, ap length none.no_counts)) none.none_read none.none_there;
+}
+
+-- the same from where the slices say
+pub ahead_again : (payloads : List (List ℕ)) (from : ℕ) (version : Version) (slots : List ℕ) (a : Ahead) → IsAheadOf payloads from version slots a → IsAheadOf payloads a.from version slots a
+ahead_again payloads from version slots a ahead = subst (λ (n : ℕ). IsAheadOf payloads n version slots a) (sym ahead.at) ahead
+
+-- the slices after one that was executed
+pub ahead_after : (payloads : List (List ℕ)) (from at : ℕ) (version : Version) (slots : List ℕ) (l : LedgerValue) (a : Ahead) → from ≡ at → l.state.version ≡ version → l.state.slots ≡ slots
+    → IsAheadOf payloads from version slots a → IsAheadOf payloads at l.state.version l.state.slots a
+ahead_after payloads from at version slots l a same version_is slots_are behind =
+    subst (λ (s : ℕ × Version × List ℕ). IsAheadOf payloads s.0 s.1 s.2 a) (λ i. (same i, sym version_is i, sym slots_are i)) behind
+
+-- ---- executing
+
+-- a plan on the slots of a ledger can run on it
+pub ready_runs : (l : rules.Ledger) (counts : List (Option ℕ)) (txs : List (Option Transaction)) (r : Ready) → IsReady l.version l.slots counts txs r → IsLedger l.rows
+    → rules.rows_shown l.version l.slots (rules.slot_numbers l) ≡ l.rows → HasRoom l.version (length txs) l.rows → CanRunOn (arc_value r.plan) l
+ready_runs l counts txs r ready is_ledger shown room = record {
+  same_version = sym ready.version_is;
+  same_slots = sym ready.slots_are;
+  is_ledger = is_ledger;
+  has_room = subst (λ (y : Version × ℕ). HasRoom y.0 y.1 l.rows) (λ j. (sym ready.version_is j, ap length (sym ready.txs_are) j)) room;
+  slots_show = (λ j. rules.rows_shown (ready.version_is j) (ready.slots_are j) (rules.slot_numbers l)) ∙ shown;
+}
+
+-- there is room on a ledger that is the same
+pub same_room : (n : ℕ) (a b : LedgerValue) → IsSame a b → HasRoom a.state.version n a.state.rows → HasRoom b.state.version n b.state.rows
+same_room n a b same room = subst (λ (y : Version × List Row). HasRoom y.0 n y.1) (λ j. (sym same.version j, sym same.rows j)) room
+
+-- a ledger after what its plan gave
+pub fold_ran : (counts : List (Option ℕ)) (plan : PlanValue) (a b : LedgerValue) (o : Outcome) → IsFoldOf plan a.state o → b.counts ≡ a.counts ++ counts → b.receipts ≡ a.receipts ++ o.receipts.items → b.state ≡ o.state
+    → HasRun counts plan.txs a b
+fold_ran counts plan a b o fold counted received state = record {
+  version = ap (λ (l : rules.Ledger). l.version) (state ∙ fold.state);
+  counts_are = counted;
+  receipts = received ∙ ap (λ rs. a.receipts ++ rs) fold.receipts;
+  rows = ap (λ (l : rules.Ledger). l.rows) (state ∙ fold.state);
+}
+
+-- the same, seen from the ledger before its slots were made
+same_ran : (counts : List (Option ℕ)) (txs : List (Option Transaction)) (a b c : LedgerValue) → IsSame a b → HasRun counts txs b c → HasRun counts txs a c
+same_ran counts txs a b c same ran = record {
+  version = ran.version ∙ same.version;
+  counts_are = ran.counts_are ∙ ap (λ (xs : List (Option ℕ)). xs ++ counts) same.counts_are;
+  receipts = ran.receipts ∙ (λ i. same.receipts i ++ receipts_of (same.version i) txs (same.rows i));
+  rows = ran.rows ∙ (λ i. state_after (same.version i) txs (same.rows i));
+}
+
+pub ready_ran : (version : Version) (slots : List ℕ) (counts : List (Option ℕ)) (txs : List (Option Transaction)) (r : Ready) (a b c : LedgerValue) → IsReady version slots counts txs r → IsSame a b → HasRun r.counts.items (arc_value r.plan).txs b c
+    → HasRun counts txs a c
+ready_ran version slots counts txs r a b c ready same ran =
+    same_ran counts txs a b c same (subst (λ (s : List (Option ℕ) × List (Option Transaction)). HasRun s.0 s.1 b c) (λ i. (ready.counts_are i, ready.txs_are i)) ran)
+
+pub ready_leaves : (version : Version) (slots : List ℕ) (counts : List (Option ℕ)) (txs : List (Option Transaction)) (r : Ready) (a b : LedgerValue) (e : ExecFault) → IsReady version slots counts txs r → IsSame a b
+    → Leaves (length b.receipts) (length b.receipts + length (arc_value r.plan).txs) e → Leaves (length a.receipts) (length a.receipts + length txs) e
+ready_leaves version slots counts txs r a b e ready same left =
+    subst (λ (s : ℕ × ℕ). Leaves s.0 (s.0 + s.1) e) (λ i. (length (same.receipts i), length (ready.txs_are i))) left

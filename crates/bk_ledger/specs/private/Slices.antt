@@ -1,0 +1,107 @@
+-- Batches that were read, and slices of batches.
+use Rattle.std.specs.Prelude.{◌≡◌, ℕ, ◌+◌, ◌^◌, ◌<◌, ◌≤◌, List, [], ◌++◌, length, map, drop, Option}
+use Rattle.std.specs.Arc.{arc_value}
+use Rattle.bk_frames.specs.declared.genesis.Row.{Row}
+use Rattle.bk_frames.specs.declared.version.Version.{Version}
+use Rattle.bk_frames.specs.Feed.{Frame}
+use Rattle.bk_tx.specs.Transaction.{Transaction}
+use Rattle.bk_tx.specs.Batches.{count_in, feed_transactions, payloads_of, transactions_of}
+use Rattle.bk_rules.specs.Fold.{state_after, receipts_of}
+use Rattle.bk_ledger.specs.declared.ready.Ready.{Ready}
+use Rattle.bk_ledger.specs.declared.ready.Ahead.{Ahead}
+use Rattle.bk_ledger.specs.declared.ready.Next.{Next}
+use Rattle.bk_ledger.specs.declared.ready.Next.TheVariants as next
+use Rattle.bk_ledger.specs.declared.batches.Batches.{Batches}
+use Rattle.bk_ledger.specs.Ledger.{LedgerValue}
+use Rattle.bk_ledger.specs.Executing.{HasExecuted}
+
+-- The batches of frames: those that a ledger has executed, on these accounts, and then those that were read and are not
+-- yet executed.
+pub record HasRead (version : Version) (frames : List Frame) (opening : List Row) (l : LedgerValue) (b : Batches) : Type 0 where
+  pub done : List (Option Transaction)
+  pub version_is : l.state.version ≡ version
+  pub counts_are : l.counts ++ b.counts.items ≡ map count_in (payloads_of frames)
+  pub txs_are : done ++ b.txs.items ≡ feed_transactions frames
+  pub receipts : l.receipts ≡ receipts_of version done opening
+  pub rows : l.state.rows ≡ state_after version done opening
+
+-- some of the batches, one after another from an index on: how many transactions each holds, and all of these
+pub record IsSliceOf (payloads : List (List ℕ)) (from : ℕ) (counts : List (Option ℕ)) (txs : List (Option Transaction)) : Type 0 where
+  pub batches : List (List ℕ)
+  pub split : drop from payloads ≡ batches ++ drop (from + length counts) payloads
+  pub counts_are : counts ≡ map count_in batches
+  pub txs_are : txs ≡ transactions_of batches
+
+-- ---- slices that are planned ahead
+
+-- how many transactions each batch of a slice holds
+abbrev pub counts_of : Next → List (Option ℕ)
+counts_of (next.Read b) = b.counts.items
+counts_of (next.Ready r) = r.counts.items
+
+-- the transactions of a slice
+abbrev pub txs_of : Next → List (Option Transaction)
+txs_of (next.Read b) = b.txs.items
+txs_of (next.Ready r) = (arc_value r.plan).txs
+
+-- if the slice is planned, then by these rules and on these slots
+abbrev pub IsPlannedOn : Version → List ℕ → Next → Type 0
+IsPlannedOn version slots (next.Read b) = Unit {0}
+IsPlannedOn version slots (next.Ready r) = ((arc_value r.plan).version ≡ version) × ((arc_value r.plan).ids ≡ slots)
+
+-- the slice of these transactions is planned, by these rules and on these slots
+pub record IsReady (version : Version) (slots : List ℕ) (counts : List (Option ℕ)) (txs : List (Option Transaction)) (r : Ready) : Type 0 where
+  pub version_is : (arc_value r.plan).version ≡ version
+  pub slots_are : (arc_value r.plan).ids ≡ slots
+  pub counts_are : r.counts.items ≡ counts
+  pub txs_are : (arc_value r.plan).txs ≡ txs
+
+-- the slice that begins at an index: batches where there are some, and not too many transactions
+pub record IsReadOf (payloads : List (List ℕ)) (from : ℕ) (counts : List (Option ℕ)) (txs : List (Option Transaction)) : Type 0 where
+  pub slice : IsSliceOf payloads from counts txs
+  pub some : from < length payloads → 0 < length counts
+  pub within : from + length counts ≤ length payloads
+  pub few : length txs < 2 ^ 31
+
+-- the same; if it is planned, then by these rules and on these slots
+pub record IsNextOf (payloads : List (List ℕ)) (from : ℕ) (version : Version) (slots : List ℕ) (n : Next) : Type 0 where
+  pub read : IsReadOf payloads from (counts_of n) (txs_of n)
+  pub planned : IsPlannedOn version slots n
+
+-- a slice that begins at an index, and batches after it
+abbrev pub ahead_of : ℕ → Next → Batches → Ahead
+ahead_of from n b = record { from = from; next = n; read = b }
+
+-- the slice that begins at an index, and the one after it
+pub record IsAheadOf (payloads : List (List ℕ)) (from : ℕ) (version : Version) (slots : List ℕ) (a : Ahead) : Type 0 where
+  pub at : a.from ≡ from
+  pub next : IsNextOf payloads from version slots a.next
+  pub read : IsReadOf payloads (from + length (counts_of a.next)) a.read.counts.items a.read.txs.items
+
+-- batches that were read, planned by these rules and on these slots, or as they are
+pub record IsNextFrom (b : Batches) (version : Version) (slots : List ℕ) (n : Next) : Type 0 where
+  pub counts_are : counts_of n ≡ b.counts.items
+  pub txs_are : txs_of n ≡ b.txs.items
+  pub planned : IsPlannedOn version slots n
+
+-- no batch from an index on
+pub record IsNoneAhead (from : ℕ) (a : Ahead) : Type 0 where
+  pub none_from : a.from ≡ from
+  pub no_counts : counts_of a.next ≡ []
+  pub no_txs : txs_of a.next ≡ []
+  pub not_planned : (version : Version) (slots : List ℕ) → IsPlannedOn version slots a.next
+  pub none_read : a.read.counts.items ≡ []
+  pub none_there : a.read.txs.items ≡ []
+
+-- a ledger that has executed the same, with the same accounts
+pub record IsSame (before after : LedgerValue) : Type 0 where
+  pub version : after.state.version ≡ before.state.version
+  pub rows : after.state.rows ≡ before.state.rows
+  pub counts_are : after.counts ≡ before.counts
+  pub receipts : after.receipts ≡ before.receipts
+
+-- a ledger on the way from the first batches to all of them: those before an index are executed
+pub record IsOnTheWay (payloads : List (List ℕ)) (at : ℕ) (before now : LedgerValue) : Type 0 where
+  pub done : List (List ℕ)
+  pub split : payloads ≡ done ++ drop at payloads
+  pub ran : HasExecuted done before now

@@ -1,0 +1,212 @@
+//! Batches, executed in slices by any number of workers.
+//!
+//! While a slice is executed, the one after it is planned in a thread of its own, and the next one is read and decoded
+//! in another, which also looks up its accounts.
+
+ghost use Rattle.std.specs.Prelude.{◌≡◌, ◌+◌, ◌^◌, ◌<◌, ◌≤◌, map, length, IfOk, IfErr, OnOk};
+ghost use Rattle.std.specs.Arc.{arc_value};
+ghost use Rattle.std.specs.Thread.{IsSync};
+ghost use Rattle.bk_conflicts.specs.SceneOf.{CanRunOn};
+ghost use Rattle.bk_rules.specs.Fold.{HasRoom};
+ghost use Rattle.bk_tx.specs.Batches.{transactions_of};
+ghost use Rattle.bk_ledger.specs.Executing.{HasExecuted, HasRun, Leaves};
+ghost use Rattle.bk_ledger.specs.private.Slices.{IsAheadOf, IsPlannedOn, IsReadOf, IsReady, IsSame, counts_of, txs_of};
+
+use crate::ledger::Ledger;
+use crate::ready::{Ahead, Next, Ready, look_ahead, read_two};
+use crate::slice::{FEWEST, least_of};
+use bk_conflicts::SLOTS_END;
+use bk_pool::{ExecFault, Gate, execute};
+use std::alloc::{AllocError, Global};
+use std::sync::Wait;
+use std::thread::{Threads, join};
+
+impl Ledger {
+    // Makes a slice ready: in version Two it gives each account a slot that the transactions declare.
+    fn make_ready(&mut self, alloc: Global, next: Next) -> Result<Ready, AllocError>
+        requires planned { IsPlannedOn self.old.state.version self.old.state.slots next }
+        requires few { length (txs_of next) < 2 ^ 31 }
+        ensures ready { IfOk result (IsReady self.new.state.version self.new.state.slots
+            (counts_of next) (txs_of next)) }
+        ensures same { OnOk result (IsSame self.old self.new) }
+    {
+        match next {
+            Next::Ready(ready) => Ok(ready),
+            Next::Read(batches) => {
+                self.state.prepare(alloc, &batches.txs)?;
+                if SLOTS_END <= self.state.slots().len() {
+                    return Err(AllocError);
+                }
+                batches.planned(alloc, self.state.version(), self.state.ids())
+            }
+        }
+    }
+
+    // Executes a slice.
+    fn run_ready<R: Threads + Wait + Sync, G: Gate + Sync>(
+        self,
+        rt: &R,
+        alloc: Global,
+        ready: Ready,
+        workers: usize,
+        gate: &G,
+    ) -> Result<Ledger, ExecFault>
+        requires runs { CanRunOn (arc_value ready.plan) self.state }
+        requires places { length self.receipts + length (arc_value ready.plan).txs < 2 ^ 32 }
+        requires workers { (1 ≤ workers) × (workers ≤ 64) }
+        ensures ran { IfOk result (HasRun ready.counts.items (arc_value ready.plan).txs self) }
+        ensures slots { IfOk result (λ l. l.state.slots ≡ self.state.slots) }
+        ensures fault { let first = length self.receipts in
+            IfErr result (Leaves first (first + length (arc_value ready.plan).txs)) }
+    {
+        let Ledger {
+            counts,
+            receipts,
+            state,
+        } = self;
+        let mut counts = counts;
+        let mut receipts = receipts;
+        let first = receipts.len() as u32;
+        match execute(rt, alloc, &ready.plan, state, workers, gate) {
+            Ok(outcome) => {
+                counts.extend_from_slice(&ready.counts)?;
+                receipts.extend_from_slice(&outcome.receipts)?;
+                let state = outcome.state;
+                Ok(Ledger {
+                    counts,
+                    receipts,
+                    state,
+                })
+            }
+            Err(ExecFault::OutOfMemory) => Err(ExecFault::OutOfMemory),
+            Err(ExecFault::Unfinished(place)) => Err(ExecFault::Unfinished(first + place)),
+        }
+    }
+
+    // Executes the slice whose turn it is, and looks at those after it, if there are any.
+    fn run_next<R: Threads + Wait + Sync, G: Gate + Sync>(
+        self,
+        rt: &R,
+        alloc: Global,
+        payloads: &[&[u8]],
+        ahead: Ahead,
+        least: usize,
+        workers: usize,
+        gate: &G,
+    ) -> Result<(Ledger, Ahead), ExecFault>
+        requires ahead { IsAheadOf (map (λ p. p.now) payloads.now) ahead.from
+            self.state.version self.state.slots ahead }
+        requires room { HasRoom self.state.version (length (txs_of ahead.next)) self.state.rows }
+        requires places { length self.receipts + length (txs_of ahead.next) < 2 ^ 32 }
+        requires fits { length payloads.now < 2 ^ 64 }
+        requires least { least < 2 ^ 30 }
+        requires workers { (1 ≤ workers) × (workers ≤ 64) }
+        ensures ran { IfOk result
+            (λ r. HasRun (counts_of ahead.next) (txs_of ahead.next) self r.0) }
+        ensures ahead { IfOk result (λ r. IsAheadOf (map (λ p. p.now) payloads.now)
+            (ahead.from + length (counts_of ahead.next)) r.0.state.version r.0.state.slots r.1) }
+        ensures fault { let first = length self.receipts in
+            IfErr result (Leaves first (first + length (txs_of ahead.next))) }
+    {
+        let Ahead { from, next, read } = ahead;
+        let mut ledger = self;
+        let ready = ledger.make_ready(alloc, next)?;
+        let version = ledger.state().version();
+        let from = from + ready.counts.len();
+        if from == payloads.len() {
+            let ledger = ledger.run_ready(rt, alloc, ready, workers, gate)?;
+            return Ok((ledger, Ahead::none(alloc, from)));
+        }
+        let ids = ledger.state().ids().share()?;
+        let (later, ran) = join(
+            rt,
+            || -> Result<Ahead, AllocError>
+                requires { IsSync R.row × (least < 2 ^ 30) × (length payloads.now < 2 ^ 64)
+                    × IsReadOf (map (λ p. p.now) payloads.now) from
+                    read.counts.items read.txs.items }
+                ensures { IfOk result (IsAheadOf (map (λ p. p.now) payloads.entry.now)
+                    from version ids) }
+            { look_ahead(rt, alloc, payloads, read, from, least, version, &ids) },
+            || -> Result<Ledger, ExecFault>
+                requires { IsSync R.row × IsSync G.row
+                    × CanRunOn (arc_value ready.plan) ledger.state
+                    × (length ledger.receipts + length (arc_value ready.plan).txs < 2 ^ 32)
+                    × (1 ≤ workers) × (workers ≤ 64) }
+                ensures { IfOk result (HasRun ready.counts.items
+                    (arc_value ready.plan).txs ledger)
+                    × IfOk result (λ l. l.state.slots ≡ ledger.state.slots)
+                    × IfErr result (Leaves (length ledger.receipts)
+                    (length ledger.receipts + length (arc_value ready.plan).txs)) }
+            { ledger.run_ready(rt, alloc, ready, workers, gate) },
+        );
+        let ledger = ran?;
+        let later = later?;
+        Ok((ledger, later))
+    }
+
+    // Executes further batches, in slices of at least so many transactions.
+    pub(crate) fn execute_by<R: Threads + Wait + Sync, G: Gate + Sync>(
+        self,
+        rt: &R,
+        alloc: Global,
+        payloads: &[&[u8]],
+        fewest: usize,
+        workers: usize,
+        gate: &G,
+    ) -> Result<Ledger, ExecFault>
+        requires room { HasRoom self.state.version
+            (length (transactions_of (map (λ p. p.now) payloads.now))) self.state.rows }
+        requires few { length self.receipts
+            + length (transactions_of (map (λ p. p.now) payloads.now)) < 2 ^ 32 }
+        requires fewest { fewest < 2 ^ 30 }
+        requires workers { (1 ≤ workers) × (workers ≤ 64) }
+        ensures executed { IfOk result (HasExecuted (map (λ p. p.now) payloads.now) self) }
+        ensures fault { let first = length self.receipts in
+            let added = transactions_of (map (λ p. p.now) payloads.now) in
+            IfErr result (Leaves first (first + length added)) }
+    {
+        let mut ledger = self;
+        let end = payloads.len();
+        let least = least_of(ledger.state().slots().len(), fewest);
+        let mut ahead = read_two(alloc, payloads, ledger.state().ids(), 0, least)?;
+        while ahead.from < end {
+            // New accounts make slices longer.
+            let least = least_of(ledger.state().slots().len(), fewest);
+            let (after, later) = ledger.run_next(rt, alloc, payloads, ahead, least, workers, gate)?;
+            ledger = after;
+            ahead = later;
+        }
+        Ok(ledger)
+    }
+
+    /// Executes further batches, a slice at a time, with this many workers, 1 to 64.
+    ///
+    /// Opening accounts have room for fewer than 2^63 transactions in all (`bk_rules::room_is_left`).
+    ///
+    /// `OutOfMemory` where memory was refused. `Unfinished` names a place that a worker took and did not finish, counted
+    /// from the first batch of the ledger.
+    pub fn execute<R: Threads + Wait + Sync, G: Gate + Sync>(
+        self,
+        rt: &R,
+        alloc: Global,
+        payloads: &[&[u8]],
+        workers: usize,
+        gate: &G,
+    ) -> Result<Ledger, ExecFault>
+        requires room { HasRoom self.state.version
+            (length (transactions_of (map (λ p. p.now) payloads.now))) self.state.rows }
+        requires few { length self.receipts
+            + length (transactions_of (map (λ p. p.now) payloads.now)) < 2 ^ 32 }
+        requires workers { (1 ≤ workers) × (workers ≤ 64) }
+        ensures executed { IfOk result (HasExecuted (map (λ p. p.now) payloads.now) self) }
+        ensures fault { let first = length self.receipts in
+            let added = transactions_of (map (λ p. p.now) payloads.now) in
+            IfErr result (Leaves first (first + length added)) }
+    {
+        if self.are_few(payloads) {
+            let ledger = self.execute_few(alloc, payloads)?;
+            return Ok(ledger);
+        }
+        self.execute_by(rt, alloc, payloads, FEWEST, workers, gate)
+    }
+}

@@ -1,0 +1,166 @@
+//! What executing batches gave so far.
+
+ghost use Rattle.std.specs.Prelude.{◌≡◌, ◌^◌, ◌<◌, [], length, map, IfOk, OnOk, slice_get};
+ghost use Rattle.bk_frames.specs.Feed.{genesis_of};
+ghost use Rattle.bk_frames.specs.Genesis.{AreAccounts, total_of};
+ghost use Rattle.bk_rules.specs.Fold.{receipts_of, state_after, HasRoom};
+ghost use Rattle.bk_tx.specs.Batches.{count_in, payloads_of, feed_transactions};
+ghost use Rattle.bk_ledger.specs.Executing.{HasRun};
+
+use crate::batches::Batches;
+use crate::summary::Summary;
+use bk_frames::{Feed, Row, Version};
+use bk_rules::{Receipt, State, run_in_order};
+use bk_steps::Outcome;
+use std::alloc::{AllocError, Global};
+use std::marker::Model;
+
+/// What the batches executed so far gave. Contracts see how many transactions each batch holds, the receipts of all of
+/// them, and the accounts after them.
+#[derive(Drop)]
+pub struct Ledger {
+    // How many transactions each batch holds, `None` where it is void.
+    pub(crate) counts: Vec<Option<u16>>,
+    // What became of each transaction.
+    pub(crate) receipts: Vec<Receipt>,
+    // The accounts after them.
+    pub(crate) state: State,
+}
+
+impl Model for Ledger {
+    ghost use Rattle.bk_ledger.specs.Ledger.{LedgerValue, ledger_with};
+
+    ghost Value = { LedgerValue };
+
+    ghost view = { λ l. ledger_with l.counts.items l.receipts.items l.state };
+}
+
+impl Ledger {
+    /// The opening accounts, and no batch executed.
+    pub fn new(alloc: Global, version: Version, rows: &[Row]) -> Result<Ledger, AllocError>
+        requires accounts { AreAccounts rows.now }
+        ensures counts { IfOk result (λ l. l.counts ≡ []) }
+        ensures receipts { IfOk result (λ l. l.receipts ≡ []) }
+        ensures version { IfOk result (λ l. l.state.version ≡ version) }
+        ensures rows { IfOk result (λ l. l.state.rows ≡ rows.now) }
+    {
+        Ok(Ledger {
+            counts: Vec::new(alloc),
+            receipts: Vec::new(alloc),
+            state: State::new(alloc, version, rows)?,
+        })
+    }
+
+    /// What another execution of batches gave: how many transactions each holds, and its outcome.
+    pub fn with(counts: Vec<Option<u16>>, outcome: Outcome) -> Ledger
+        ensures counts { result.counts ≡ counts.items }
+        ensures receipts { result.receipts ≡ outcome.receipts.items }
+        ensures state { result.state ≡ outcome.state }
+    {
+        let Outcome { state, receipts } = outcome;
+        Ledger {
+            counts,
+            receipts,
+            state,
+        }
+    }
+
+    /// Executes the batches of a feed, in feed order, on its opening accounts.
+    pub fn of(alloc: Global, feed: &Feed) -> Result<Ledger, AllocError>
+        ensures counts { IfOk result (λ l. l.counts
+            ≡ map count_in (payloads_of feed.now.frames)) }
+        ensures receipts { IfOk result (λ l. l.receipts
+            ≡ receipts_of feed.now.version (feed_transactions feed.now.frames) (genesis_of feed.now.frames)) }
+        ensures rows { IfOk result (λ l. l.state.rows
+            ≡ state_after feed.now.version (feed_transactions feed.now.frames) (genesis_of feed.now.frames)) }
+    {
+        let mut ledger = Ledger::new(alloc, feed.version(), feed.genesis())?;
+        let mut batches = Batches::new(alloc);
+        for index in 0..feed.len() {
+            let (kind, payload) = feed.frame(index);
+            batches.push_frame(alloc, kind, payload)?;
+            if ledger.are_enough(&batches) {
+                ledger.run(alloc, &mut batches)?;
+            }
+        }
+        ledger.run(alloc, &mut batches)?;
+        Ok(ledger)
+    }
+
+    /// How many transactions each batch holds, `None` where it is void.
+    pub fn counts(&self) -> &[Option<u16>]
+        ensures { result.now ≡ self.now.counts }
+    {
+        &self.counts
+    }
+
+    /// What became of each transaction.
+    pub fn receipts(&self) -> &[Receipt]
+        ensures { result.now ≡ self.now.receipts }
+    {
+        &self.receipts
+    }
+
+    /// The accounts after them.
+    pub fn state(&self) -> &State
+        ensures { result.now ≡ self.now.state }
+    {
+        &self.state
+    }
+
+    /// What became of the transaction at a place, `None` for a place that was not executed.
+    pub fn receipt(&self, place: u32) -> Option<Receipt>
+        ensures { result ≡ slice_get self.now.receipts place }
+    {
+        self.receipts.get(place as usize).copied()
+    }
+
+    /// What the report says of it.
+    pub fn summary(self, alloc: Global) -> Result<Summary, AllocError>
+        ensures counts { IfOk result (λ s. s.counts.items ≡ self.counts) }
+        ensures receipts { IfOk result (λ s. s.receipts.items ≡ self.receipts) }
+        ensures rows { IfOk result (λ s. s.rows.items ≡ self.state.rows) }
+        ensures total { IfOk result (λ s. s.total ≡ total_of self.state.rows) }
+        ensures few { IfOk result (λ s. length s.rows.items < 2 ^ 32) }
+    {
+        let rows = self.state.rows(alloc)?;
+        // This never holds: a feed has fewer than 2^32 bytes, and an account that comes to be is named in nine of them.
+        if rows.len() >= 1 << 32 {
+            return Err(AllocError);
+        }
+        let total = self.state.total();
+        Ok(Summary {
+            counts: self.counts,
+            receipts: self.receipts,
+            rows,
+            total,
+        })
+    }
+
+    /// Executes batches that were read, and leaves none of them.
+    pub(crate) fn run(&mut self, alloc: Global, batches: &mut Batches) -> Result<(), AllocError>
+        requires room { HasRoom self.old.state.version
+            (length batches.old.txs.items) self.old.state.rows }
+        ensures ran { OnOk result
+            (HasRun batches.old.counts.items batches.old.txs.items self.old self.new) }
+        ensures counts { OnOk result (batches.new.counts.items ≡ []) }
+        ensures txs { OnOk result (batches.new.txs.items ≡ []) }
+    {
+        self.state.prepare(alloc, &batches.txs)?;
+        let receipts = run_in_order(alloc, &mut self.state, &batches.txs)?;
+        self.receipts.extend_from_slice(&receipts)?;
+        self.counts.extend_from_slice(&batches.counts)?;
+        batches.txs.clear();
+        batches.counts.clear();
+        Ok(())
+    }
+
+    // Whether batches that were read are to be executed. In version Two they may name accounts that lack a slot, and
+    // to make slots costs what all slots cost: so many transactions share that.
+    fn are_enough(&self, batches: &Batches) -> bool {
+        match self.state.version() {
+            Version::One => true,
+            Version::Two => batches.txs.len() > self.state.slots().len() / 8,
+        }
+    }
+}

@@ -1,0 +1,186 @@
+//! Slices that are planned before it is their turn.
+
+ghost use Rattle.std.specs.Prelude.{◌≡◌, ◌^◌, ◌<◌, ◌≤◌, ℕ, List, true, map, length, IfOk};
+ghost use Rattle.std.specs.List.{list_all};
+ghost use Rattle.std.specs.Option.{option_copied};
+ghost use Rattle.bk_rules.specs.Ledger.{are_covered, has_slot, is_covered};
+ghost use Rattle.bk_ledger.specs.private.Slices.{IsAheadOf, IsNextFrom, IsNoneAhead, IsReadOf, IsReady};
+
+use crate::batches::Batches;
+use crate::slice::gather_near;
+use bk_conflicts::{Plan, SLOTS_END};
+use bk_frames::Version;
+use bk_rules::Ids;
+use bk_tx::{Declarations, Tx};
+use std::alloc::{AllocError, Global};
+use std::sync::{Arc, Wait};
+use std::thread::{Threads, join};
+
+/// Batches that follow each other, and the plan of their transactions.
+#[derive(Drop)]
+pub(crate) struct Ready {
+    /// How many transactions each batch holds, `None` where it is void.
+    pub(crate) counts: Vec<Option<u16>>,
+    /// The plan of the transactions of all of them.
+    pub(crate) plan: Arc<Plan>,
+}
+
+/// The slice whose turn is next.
+#[derive(Drop)]
+pub(crate) enum Next {
+    /// One to be planned when its turn comes: its transactions declare accounts that have no slot before.
+    Read(Batches),
+    /// One to be executed as it is.
+    Ready(Ready),
+}
+
+/// The slice whose turn is next, and the one after it, which is read and not planned.
+#[derive(Drop)]
+pub(crate) struct Ahead {
+    /// The index of the first batch of the next slice.
+    pub(crate) from: usize,
+    pub(crate) next: Next,
+    pub(crate) read: Batches,
+}
+
+impl Batches {
+    /// Plans the transactions, all of whose accounts have a slot.
+    pub(crate) fn planned(
+        self,
+        alloc: Global,
+        version: Version,
+        ids: &Ids,
+    ) -> Result<Ready, AllocError>
+        requires covered { are_covered version ids.now self.txs.items ≡ true }
+        requires few { length self.txs.items < 2 ^ 31 }
+        requires few_slots { length ids.now < 2 ^ 31 }
+        ensures { IfOk result (IsReady version ids.now self.counts.items self.txs.items) }
+    {
+        let Batches { counts, txs, near } = self;
+        let plan = Plan::make_near(alloc, version, ids, txs, &near)?;
+        let plan = Arc::new(alloc, plan)?;
+        Ok(Ready { counts, plan })
+    }
+}
+
+impl Ahead {
+    /// No slice from an index on.
+    pub(crate) fn none(alloc: Global, from: usize) -> Ahead
+        ensures { IsNoneAhead from result }
+    {
+        let next = Next::Read(Batches::new(alloc));
+        let read = Batches::new(alloc);
+        Ahead { from, next, read }
+    }
+}
+
+/// Reads the slice from an index on, and the one after it.
+pub(crate) fn read_two(
+    alloc: Global,
+    payloads: &[&[u8]],
+    ids: &Ids,
+    from: usize,
+    least: usize,
+) -> Result<Ahead, AllocError>
+    requires within { from ≤ length payloads.now }
+    requires fits { length payloads.now < 2 ^ 64 }
+    requires least { least < 2 ^ 30 }
+    ensures { IfOk result (λ a. (version : Version) (slots : List ℕ)
+        → IsAheadOf (map (λ p. p.now) payloads.now) from version slots a) }
+{
+    let first = gather_near(alloc, payloads, ids, from, least)?;
+    let read = gather_near(alloc, payloads, ids, from + first.counts.len(), least)?;
+    let next = Next::Read(first);
+    Ok(Ahead { from, next, read })
+}
+
+// Plans a slice, if each account that it declares has a slot among these.
+fn plan_ahead(
+    alloc: Global,
+    batches: Batches,
+    version: Version,
+    ids: &Ids,
+) -> Result<Next, AllocError>
+    requires few { length batches.txs.items < 2 ^ 31 }
+    ensures { IfOk result (IsNextFrom batches version ids.now) }
+{
+    if ids.len() < SLOTS_END {
+        if all_have_slots(version, ids, &batches.txs) {
+            let ready = batches.planned(alloc, version, ids)?;
+            return Ok(Next::Ready(ready));
+        }
+    }
+    Ok(Next::Read(batches))
+}
+
+/// Plans the slice that was read from an index on, while the one after it is read in a thread of its own.
+pub(crate) fn look_ahead<R: Threads + Wait + Sync>(
+    rt: &R,
+    alloc: Global,
+    payloads: &[&[u8]],
+    read: Batches,
+    from: usize,
+    least: usize,
+    version: Version,
+    ids: &Ids,
+) -> Result<Ahead, AllocError>
+    requires read { IsReadOf (map (λ p. p.now) payloads.now) from
+        read.counts.items read.txs.items }
+    requires fits { length payloads.now < 2 ^ 64 }
+    requires least { least < 2 ^ 30 }
+    ensures { IfOk result (IsAheadOf (map (λ p. p.now) payloads.now) from version ids.now) }
+{
+    let later = from + read.counts.len();
+    let (gathered, planned) = join(
+        rt,
+        || -> Result<Batches, AllocError>
+            requires { (least < 2 ^ 30) × (later ≤ length payloads.now) }
+            ensures { IfOk result (λ b. IsReadOf (map (λ p. p.now) payloads.entry.now)
+                later b.counts.items b.txs.items) }
+        { gather_near(alloc, payloads, ids, later, least) },
+        || -> Result<Next, AllocError>
+            requires { length read.txs.items < 2 ^ 31 }
+            ensures { IfOk result (IsNextFrom read version ids.entry.now) }
+        { plan_ahead(alloc, read, version, ids) },
+    );
+    let next = planned?;
+    let read = gathered?;
+    Ok(Ahead { from, next, read })
+}
+
+// Whether each account that these transactions declare has a slot. In version One none is needed.
+fn all_have_slots(version: Version, ids: &Ids, txs: &[Option<Tx>]) -> bool
+    ensures { result ≡ are_covered version ids.now txs.now }
+{
+    for tx in txs {
+        if !has_slots(version, ids, tx.as_ref()) {
+            return false;
+        }
+    }
+    true
+}
+
+// The same for a transaction, if it is one.
+fn has_slots(version: Version, ids: &Ids, tx: Option<&Tx>) -> bool
+    ensures { result ≡ is_covered version ids.now (option_copied tx.entry) }
+{
+    match version {
+        Version::One => true,
+        Version::Two => match tx {
+            None => true,
+            Some(tx) => have_slots(ids, tx.declared()),
+        },
+    }
+}
+
+// Whether each of these accounts has a slot.
+fn have_slots(ids: &Ids, declared: &Declarations) -> bool
+    ensures { result ≡ list_all (λ d. has_slot ids.now d.id) declared.now }
+{
+    for k in 0..declared.len() {
+        if !ids.contains(declared.get(k).id) {
+            return false;
+        }
+    }
+    true
+}

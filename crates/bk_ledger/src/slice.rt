@@ -1,0 +1,60 @@
+//! Slices of batches: whole batches, as many as are worth executing at once.
+
+ghost use Rattle.std.specs.Prelude.{◌^◌, ◌<◌, ◌≤◌, map, length, IfOk};
+ghost use Rattle.bk_ledger.specs.private.Slices.{IsReadOf};
+
+use crate::batches::Batches;
+use bk_rules::Ids;
+use std::alloc::{AllocError, Global};
+
+/// A slice has enough transactions to be worth its threads.
+pub(crate) const FEWEST: usize = 16_384;
+
+/// A slice takes whole batches until it has so many transactions: an eighth of the accounts, since it copies the
+/// numbers of all of them, if these are no fewer than a given number. A batch has fewer than 65,536.
+pub(crate) fn least_of(slots: usize, fewest: usize) -> usize
+    requires { fewest < 2 ^ 30 }
+    ensures { result < 2 ^ 30 }
+{
+    (slots / 8).min(524_288).max(fewest)
+}
+
+/// Reads batches from an index on, until they have so many transactions or there are no more.
+pub(crate) fn gather(
+    alloc: Global,
+    payloads: &[&[u8]],
+    from: usize,
+    least: usize,
+) -> Result<Batches, AllocError>
+    requires within { from ≤ length payloads.now }
+    requires least { least < 2 ^ 30 }
+    ensures { IfOk result (λ b. IsReadOf (map (λ p. p.now) payloads.now) from
+        b.counts.items b.txs.items) }
+{
+    let mut batches = Batches::new(alloc);
+    for index in from..payloads.len() {
+        batches.push(alloc, payloads[index])?;
+        if batches.txs.len() >= least {
+            return Ok(batches);
+        }
+    }
+    Ok(batches)
+}
+
+/// The same, and looks up the accounts that the transactions declare.
+pub(crate) fn gather_near(
+    alloc: Global,
+    payloads: &[&[u8]],
+    ids: &Ids,
+    from: usize,
+    least: usize,
+) -> Result<Batches, AllocError>
+    requires within { from ≤ length payloads.now }
+    requires least { least < 2 ^ 30 }
+    ensures { IfOk result (λ b. IsReadOf (map (λ p. p.now) payloads.now) from
+        b.counts.items b.txs.items) }
+{
+    let mut batches = gather(alloc, payloads, from, least)?;
+    ids.push_likely(&mut batches.near, &batches.txs)?;
+    Ok(batches)
+}

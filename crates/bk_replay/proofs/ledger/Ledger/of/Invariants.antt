@@ -1,7 +1,0 @@
-use Rattle.std.proofs.Common.{take}
-use Rattle.bk_frames.specs.Feed.{genesis_of}
-use Rattle.bk_replay.specs.private.Slices.{HasRead}
-use Rattle.bk_replay.proofs.ledger.Ledger.of.Given as goal
-
-abbrev pub invariant-loop-index : goal.invariant-loop-index
-invariant-loop-index l = HasRead l.feed.version (take l.index l.feed.frames) (genesis_of l.feed.frames) l.ledger l.batches
