@@ -24,7 +24,7 @@ use Rattle.bk_rules.specs.Fold.{receipts_of, state_after}
 use Rattle.bk_rules.proofs.Folding.{length-receipts, receipts_append}
 use Rattle.bk_tx.specs.Transaction.{Transaction}
 use Rattle.bk_tx.specs.Batches.{transactions_in, transactions_of}
-use Rattle.bk_replay.specs.declared.differ.Agreed.{Agreed}
+use Rattle.bk_results.specs.declared.differ.Agreed.{Agreed}
 use Rattle.bk_replay.specs.Agreement.{Agree, BeginsWith, HaveOneSetup, frames_together}
 use Rattle.bk_replay.specs.Asking.{IsOutcomeOf, Outcome}
 use Rattle.bk_replay.specs.FeedAgreement.{FeedsAgree}

@@ -24,11 +24,11 @@ use Rattle.bk_report.specs.Lines.{text_of}
 use Rattle.bk_report.specs.declared.line.Line.TheVariants as line
 use Rattle.bk_report.specs.Proofs.{IsAbsent, IsProofOf, ProofValue, proof_text}
 use Rattle.bk_tx.specs.Batches.{transactions_of}
-use Rattle.bk_replay.specs.declared.query.Query.{Query}
-use Rattle.bk_replay.specs.declared.query.Query.TheVariants as query
-use Rattle.bk_replay.specs.declared.query.Reply.{Reply}
-use Rattle.bk_replay.specs.declared.query.Reply.TheVariants as reply
-use Rattle.bk_replay.specs.declared.status.Status.{Status}
+use Rattle.bk_results.specs.declared.query.Query.{Query}
+use Rattle.bk_results.specs.declared.query.Query.TheVariants as query
+use Rattle.bk_results.specs.declared.query.Reply.{Reply}
+use Rattle.bk_results.specs.declared.query.Reply.TheVariants as reply
+use Rattle.bk_results.specs.declared.status.Status.{Status}
 use Rattle.bk_replay.specs.Asking.{IsOutcomeOf, IsReply, Outcome, Replies, order_text}
 use Rattle.bk_replay.specs.RunReport.{IsReport, committee_in, later_frames}
 

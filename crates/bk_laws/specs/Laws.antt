@@ -16,12 +16,12 @@ use Rattle.bk_report.specs.Report.{IsApplyReport}
 use Rattle.bk_report.specs.RunLines.{Reading}
 use Rattle.bk_steps.specs.declared.event.Event.{Event}
 use Rattle.bk_steps.specs.declared.outcome.ScheduleFault.{ScheduleFault}
-use Rattle.bk_replay.specs.declared.differ.Agreed.{Agreed}
-use Rattle.bk_replay.specs.declared.query.Query.{Query}
-use Rattle.bk_replay.specs.declared.query.Query.TheVariants as query
-use Rattle.bk_replay.specs.declared.query.Reply.{Reply}
-use Rattle.bk_replay.specs.declared.query.Reply.TheVariants as reply
-use Rattle.bk_replay.specs.declared.status.Status.{Status}
+use Rattle.bk_results.specs.declared.differ.Agreed.{Agreed}
+use Rattle.bk_results.specs.declared.query.Query.{Query}
+use Rattle.bk_results.specs.declared.query.Query.TheVariants as query
+use Rattle.bk_results.specs.declared.query.Reply.{Reply}
+use Rattle.bk_results.specs.declared.query.Reply.TheVariants as reply
+use Rattle.bk_results.specs.declared.status.Status.{Status}
 use Rattle.bk_replay.specs.Agreement.{HaveOneSetup, HaveStop}
 use Rattle.bk_replay.specs.Asking.{IsReply}
 use Rattle.bk_replay.specs.FeedAgreement.{FeedsAgree}

@@ -15,7 +15,7 @@ use Rattle.bk_order.specs.Orders.{AreWaiting}
 use Rattle.bk_order.specs.Stops.{HasNoStop}
 use Rattle.bk_rules.proofs.Folding.{length-receipts}
 use Rattle.bk_ledger.specs.Ledger.{LedgerValue}
-use Rattle.bk_replay.specs.declared.status.Status.{Status}
+use Rattle.bk_results.specs.declared.status.Status.{Status}
 use Rattle.bk_replay.specs.Finishing.{ReportIsOut, ReportStops}
 use Rattle.bk_replay.specs.Follower.{Executed, BookValue, IsExecuted, IsCurrent}
 use Rattle.bk_report.specs.Lines.{text_of}

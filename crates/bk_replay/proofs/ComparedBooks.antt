@@ -26,10 +26,10 @@ use Rattle.bk_tx.specs.Batches.{transactions_in, transactions_of}
 use Rattle.bk_replay.specs.RunReport.{committee_in, later_frames}
 use Rattle.bk_replay.specs.Follower.{BookValue, Followed, OrdersPart, FollowsBy, Follows, HasCome, OfFrames, receipts_of_executed, receipts_in}
 use Rattle.bk_replay.specs.Queries.{rows_of_executed, rows_in}
-use Rattle.bk_replay.specs.declared.differ.Agreed.{Agreed}
-use Rattle.bk_replay.specs.declared.differ.Differ.{Differ}
-use Rattle.bk_replay.specs.declared.differ.Differ.TheVariants as differ
-use Rattle.bk_replay.specs.declared.fault.Fault.{Fault}
+use Rattle.bk_results.specs.declared.differ.Agreed.{Agreed}
+use Rattle.bk_results.specs.declared.differ.Differ.{Differ}
+use Rattle.bk_results.specs.declared.differ.Differ.TheVariants as differ
+use Rattle.bk_results.specs.declared.fault.Fault.{Fault}
 use Rattle.bk_replay.specs.declared.opening.Opened.{Opened}
 use Rattle.bk_replay.specs.Agreement.{HaveOneSetup, frames_together, HaveNoStop, HaveStop, settled_in, BeginsWith, Agree, OfBoth, FollowersAgree, FollowersDiffer}
 use Rattle.bk_replay.specs.private.Books.{IsGoodBook}

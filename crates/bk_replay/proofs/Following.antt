@@ -9,9 +9,9 @@ use Rattle.bk_frames.specs.Feed.{Frame, FeedValue, IsFeed, feed_of, spelling}
 use Rattle.bk_frames.specs.Cutting.{Cut, Cuts, IsOpen, fresh}
 use Rattle.bk_frames.proofs.CutJoining.{bytes_so_far, ends_as_feed}
 use Rattle.bk_committee.specs.Payload.{CommitteeValue}
-use Rattle.bk_replay.specs.declared.fault.Fault.{Fault}
-use Rattle.bk_replay.specs.declared.fault.Fault.TheVariants as fault
-use Rattle.bk_replay.specs.declared.status.Status.{Status}
+use Rattle.bk_results.specs.declared.fault.Fault.{Fault}
+use Rattle.bk_results.specs.declared.fault.Fault.TheVariants as fault
+use Rattle.bk_results.specs.declared.status.Status.{Status}
 use Rattle.bk_replay.specs.Answers.{IsUntouched}
 use Rattle.bk_replay.specs.RunReport.{IsStopIn, HasPlaceIn}
 use Rattle.bk_replay.specs.Follower.{BookValue, Followed, IsBookOf, IsCurrent, FollowsBy, Follows, HasCome, Settles, SettleFails, OfFrames, IsSettledBy, receipts_of_executed, receipts_in}

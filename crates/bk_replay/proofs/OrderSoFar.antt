@@ -8,8 +8,8 @@ use Rattle.bk_frames.proofs.CutJoining.{none_before_magic}
 use Rattle.bk_committee.specs.Payload.{CommitteeValue}
 use Rattle.bk_order.specs.Intake.{Taken, Kept, IsKeptOf, HasTaken}
 use Rattle.bk_order.specs.Stops.{HasNoStop}
-use Rattle.bk_replay.specs.declared.fault.Fault.{Fault}
-use Rattle.bk_replay.specs.declared.fault.Fault.TheVariants as fault
+use Rattle.bk_results.specs.declared.fault.Fault.{Fault}
+use Rattle.bk_results.specs.declared.fault.Fault.TheVariants as fault
 use Rattle.bk_ledger.specs.Ledger.{LedgerValue}
 use Rattle.bk_replay.specs.Follower.{BookValue, Followed, FollowsBy, Follows, HasCome, executed_in}
 use Rattle.bk_replay.specs.RunReport.{later_frames}

@@ -15,8 +15,8 @@ use Rattle.bk_frames.proofs.Devices.{consumes_then}
 use Rattle.bk_frames.proofs.FrameFaults.{by_code}
 use Rattle.bk_frames.proofs.CutJoining.{fault_is_the_feeds, memory_is_the_feeds, stops}
 use Rattle.bk_frames.proofs.FrontAndWhole.{fault_stays}
-use Rattle.bk_replay.specs.declared.fault.Fault.{Fault}
-use Rattle.bk_replay.specs.declared.fault.Fault.TheVariants as fault
+use Rattle.bk_results.specs.declared.fault.Fault.{Fault}
+use Rattle.bk_results.specs.declared.fault.Fault.TheVariants as fault
 use Rattle.bk_replay.specs.Follower.{Followed, HasCome, FeedFails}
 use Rattle.bk_replay.specs.private.Gathering.{HasGathered, Gathers}
 use Rattle.bk_replay.specs.private.Parts.{followed}

@@ -7,11 +7,11 @@ use Rattle.bk_frames.specs.Feed.{FeedValue}
 use Rattle.bk_frames.specs.Cutting.{Cut}
 use Rattle.bk_committee.specs.Payload.{CommitteeValue}
 use Rattle.bk_order.specs.Intake.{Taken}
-use Rattle.bk_replay.specs.declared.fault.Fault.{Fault}
-use Rattle.bk_replay.specs.declared.fault.Fault.TheVariants as fault
+use Rattle.bk_results.specs.declared.fault.Fault.{Fault}
+use Rattle.bk_results.specs.declared.fault.Fault.TheVariants as fault
 use Rattle.bk_ledger.specs.Ledger.{LedgerValue}
-use Rattle.bk_replay.specs.declared.query.Query.{Query}
-use Rattle.bk_replay.specs.declared.query.Reply.{Reply}
+use Rattle.bk_results.specs.declared.query.Query.{Query}
+use Rattle.bk_results.specs.declared.query.Reply.{Reply}
 use Rattle.bk_replay.specs.Answers.{devices}
 use Rattle.bk_replay.specs.Asking.{Shows, IsOutcomeOf, IsReplied, PartOfReplyIsOut, AskFailsBy}
 use Rattle.bk_replay.specs.Follower.{Executed, BookValue, Followed, IsExecuted, IsCurrent}

@@ -4,12 +4,12 @@ use Rattle.std.specs.Global.{Vec}
 use Rattle.std.proofs.KnownBytes.{Appends-nil}
 use Rattle.bk_frames.specs.Device.{Device, Works, Fails}
 use Rattle.bk_frames.specs.Writing.{Writes}
-use Rattle.bk_replay.specs.declared.fault.Fault.{Fault}
-use Rattle.bk_replay.specs.declared.fault.Fault.TheVariants as fault
+use Rattle.bk_results.specs.declared.fault.Fault.{Fault}
+use Rattle.bk_results.specs.declared.fault.Fault.TheVariants as fault
 use Rattle.bk_report.specs.declared.line.Line.{Line}
-use Rattle.bk_replay.specs.declared.query.Query.{Query}
-use Rattle.bk_replay.specs.declared.query.Reply.{Reply}
-use Rattle.bk_replay.specs.declared.query.Reply.TheVariants as reply
+use Rattle.bk_results.specs.declared.query.Query.{Query}
+use Rattle.bk_results.specs.declared.query.Reply.{Reply}
+use Rattle.bk_results.specs.declared.query.Reply.TheVariants as reply
 use Rattle.bk_replay.specs.Asking.{Outcome, Shows, Lacks}
 use Rattle.bk_report.specs.Lines.{line_text, text_of}
 use Rattle.bk_report.specs.Pages.{Gathered, blank, Puts, Stops}

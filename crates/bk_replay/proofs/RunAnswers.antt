@@ -9,9 +9,9 @@ use Rattle.bk_frames.specs.Feed.{Frame, FeedValue, IsFeed, feed_of, spelling, Ha
 use Rattle.bk_frames.specs.Pulling.{RefusesInPieces}
 use Rattle.bk_frames.specs.Cutting.{EndsShort}
 use Rattle.bk_frames.proofs.CutJoining.{ends_cut_short}
-use Rattle.bk_replay.specs.declared.fault.Fault.{Fault}
-use Rattle.bk_replay.specs.declared.fault.Fault.TheVariants as fault
-use Rattle.bk_replay.specs.declared.status.Status.{Status}
+use Rattle.bk_results.specs.declared.fault.Fault.{Fault}
+use Rattle.bk_results.specs.declared.fault.Fault.TheVariants as fault
+use Rattle.bk_results.specs.declared.status.Status.{Status}
 use Rattle.bk_replay.specs.Answers.{devices, IsUntouched}
 use Rattle.bk_replay.specs.RunReport.{IsReport, IsStopIn, IsStopped, HasPlaceIn, HasPlace}
 use Rattle.bk_replay.specs.Follower.{Followed, HasCome}

@@ -10,9 +10,9 @@ use Rattle.bk_order.specs.Stops.{HasNoStop, IsStop}
 use Rattle.bk_order.specs.declared.stop.Stop.{Stop}
 use Rattle.bk_order.specs.declared.stop.Stop.TheVariants as stop
 use Rattle.bk_replay.specs.Asking.{Outcome}
-use Rattle.bk_replay.specs.declared.differ.Agreed.{Agreed}
-use Rattle.bk_replay.specs.declared.differ.Differ.{Differ}
-use Rattle.bk_replay.specs.declared.differ.Differ.TheVariants as differ
+use Rattle.bk_results.specs.declared.differ.Agreed.{Agreed}
+use Rattle.bk_results.specs.declared.differ.Differ.{Differ}
+use Rattle.bk_results.specs.declared.differ.Differ.TheVariants as differ
 use Rattle.bk_replay.specs.Follower.{BookValue, Followed, HasCome, OfFrames, receipts_in}
 use Rattle.bk_replay.specs.Queries.{rows_in}
 use Rattle.bk_replay.specs.RunReport.{committee_in, later_frames}

@@ -4,8 +4,8 @@ use Rattle.std.specs.Io.KnownBytes.{Keeps}
 use Rattle.bk_frames.specs.Device.{Device, Works, Fails, Receives, IfKnown}
 use Rattle.bk_frames.specs.Feed.{FeedValue, IsFeed, spelling}
 use Rattle.bk_frames.specs.Pulling.{Refuses}
-use Rattle.bk_replay.specs.declared.fault.Fault.{Fault}
-use Rattle.bk_replay.specs.declared.fault.Fault.TheVariants as fault
+use Rattle.bk_results.specs.declared.fault.Fault.{Fault}
+use Rattle.bk_results.specs.declared.fault.Fault.TheVariants as fault
 use Rattle.bk_report.specs.Report.{IsApplyReport}
 
 -- the source and the sink of a replay

@@ -9,13 +9,13 @@ use Rattle.bk_rules.specs.declared.account.Account.{Account}
 use Rattle.bk_rules.specs.declared.receipt.Receipt.{Receipt}
 use Rattle.bk_rules.specs.Fold.{state_after, receipts_of}
 use Rattle.bk_rules.specs.Rows.{account_at}
-use Rattle.bk_replay.specs.declared.fault.Fault.{Fault}
-use Rattle.bk_replay.specs.declared.fault.Fault.TheVariants as fault
+use Rattle.bk_results.specs.declared.fault.Fault.{Fault}
+use Rattle.bk_results.specs.declared.fault.Fault.TheVariants as fault
 use Rattle.bk_report.specs.declared.line.Line.TheVariants as line
-use Rattle.bk_replay.specs.declared.query.Query.{Query}
-use Rattle.bk_replay.specs.declared.query.Query.TheVariants as query
-use Rattle.bk_replay.specs.declared.query.Reply.{Reply}
-use Rattle.bk_replay.specs.declared.query.Reply.TheVariants as reply
+use Rattle.bk_results.specs.declared.query.Query.{Query}
+use Rattle.bk_results.specs.declared.query.Query.TheVariants as query
+use Rattle.bk_results.specs.declared.query.Reply.{Reply}
+use Rattle.bk_results.specs.declared.query.Reply.TheVariants as reply
 use Rattle.bk_replay.specs.Answers.{Devices, IsUntouched}
 use Rattle.bk_report.specs.Lines.{text_of}
 use Rattle.bk_report.specs.Proofs.{ProofValue, proof_text, IsProofOf, IsAbsent}

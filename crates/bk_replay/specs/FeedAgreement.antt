@@ -4,13 +4,13 @@ use Rattle.bk_frames.specs.Device.{Device, Works, IfKnown}
 use Rattle.bk_frames.specs.Feed.{FeedValue, IsFeed, spelling}
 use Rattle.bk_frames.specs.Pulling.{RefusesInPieces}
 use Rattle.bk_order.specs.declared.stop.Stop.TheVariants as stop
-use Rattle.bk_replay.specs.declared.agreeing.CompareStop.{CompareStop}
-use Rattle.bk_replay.specs.declared.agreeing.CompareStop.TheVariants as why
-use Rattle.bk_replay.specs.declared.differ.Agreed.{Agreed}
-use Rattle.bk_replay.specs.declared.differ.Differ.{Differ}
-use Rattle.bk_replay.specs.declared.differ.Differ.TheVariants as differ
-use Rattle.bk_replay.specs.declared.fault.Fault.{Fault}
-use Rattle.bk_replay.specs.declared.fault.Fault.TheVariants as fault
+use Rattle.bk_results.specs.declared.compare_stop.CompareStop.{CompareStop}
+use Rattle.bk_results.specs.declared.compare_stop.CompareStop.TheVariants as why
+use Rattle.bk_results.specs.declared.differ.Agreed.{Agreed}
+use Rattle.bk_results.specs.declared.differ.Differ.{Differ}
+use Rattle.bk_results.specs.declared.differ.Differ.TheVariants as differ
+use Rattle.bk_results.specs.declared.fault.Fault.{Fault}
+use Rattle.bk_results.specs.declared.fault.Fault.TheVariants as fault
 use Rattle.bk_replay.specs.Agreement.{HaveOneSetup, HaveNoStop, HaveStop, Agree}
 use Rattle.bk_replay.specs.Answers.{AreFeed}
 use Rattle.bk_replay.specs.Asking.{Outcome, IsOutcomeOf}

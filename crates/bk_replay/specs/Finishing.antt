@@ -4,9 +4,9 @@ use Rattle.bk_frames.specs.Device.{Device, Works, Fails, Receives}
 use Rattle.bk_frames.specs.Feed.{Frame, FeedValue, IsFeed, feed_of, spelling}
 use Rattle.bk_frames.specs.declared.version.Version.{Version}
 use Rattle.bk_frames.specs.Cutting.{EndsShort}
-use Rattle.bk_replay.specs.declared.fault.Fault.{Fault}
-use Rattle.bk_replay.specs.declared.fault.Fault.TheVariants as fault
-use Rattle.bk_replay.specs.declared.status.Status.{Status}
+use Rattle.bk_results.specs.declared.fault.Fault.{Fault}
+use Rattle.bk_results.specs.declared.fault.Fault.TheVariants as fault
+use Rattle.bk_results.specs.declared.status.Status.{Status}
 use Rattle.bk_replay.specs.Answers.{IsUntouched}
 use Rattle.bk_replay.specs.RunReport.{IsReportOf, IsStopIn, HasPlaceIn}
 use Rattle.bk_replay.specs.Follower.{Followed, HasCome, IsSettled}

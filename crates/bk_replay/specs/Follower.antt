@@ -10,8 +10,8 @@ use Rattle.bk_order.specs.Intake.{Taken, HasTaken}
 use Rattle.bk_order.specs.Orders.{Ordered, IsOrderOf}
 use Rattle.bk_rules.specs.declared.receipt.Receipt.{Receipt}
 use Rattle.bk_rules.specs.Fold.{state_after, receipts_of}
-use Rattle.bk_replay.specs.declared.fault.Fault.{Fault}
-use Rattle.bk_replay.specs.declared.fault.Fault.TheVariants as fault
+use Rattle.bk_results.specs.declared.fault.Fault.{Fault}
+use Rattle.bk_results.specs.declared.fault.Fault.TheVariants as fault
 use Rattle.bk_tx.specs.Batches.{count_in, transactions_of}
 use Rattle.bk_replay.specs.RunReport.{committee_in, later_frames, HasNoStopIn, IsOrderIn, IsStopIn, HasPlaceIn}
 

@@ -4,8 +4,8 @@ use Rattle.bk_frames.specs.declared.version.Version.{Version}
 use Rattle.bk_frames.specs.Feed.{Frame, FeedValue, feed_of}
 use Rattle.bk_order.specs.Orders.{Ordered}
 use Rattle.bk_cert.specs.declared.place.CertRef.{CertRef}
-use Rattle.bk_replay.specs.declared.fault.Fault.{Fault}
-use Rattle.bk_replay.specs.declared.fault.Fault.TheVariants as fault
+use Rattle.bk_results.specs.declared.fault.Fault.{Fault}
+use Rattle.bk_results.specs.declared.fault.Fault.TheVariants as fault
 use Rattle.bk_replay.specs.RunReport.{HasNoStopIn, IsOrderIn, IsStopIn}
 use Rattle.bk_replay.specs.Follower.{BookValue, Followed, HasCome, OfFrames, executed_in}
 

@@ -3,8 +3,8 @@ use Rattle.std.specs.Prelude.{◌≡◌, ℕ, ◌≤◌, List, [], length, Optio
 use Rattle.bk_frames.specs.declared.version.Version.{Version}
 use Rattle.bk_frames.specs.declared.genesis.Row.{Row}
 use Rattle.bk_frames.specs.Feed.{Frame, feed_of}
-use Rattle.bk_replay.specs.declared.fault.Fault.{Fault}
-use Rattle.bk_replay.specs.declared.fault.Fault.TheVariants as fault
+use Rattle.bk_results.specs.declared.fault.Fault.{Fault}
+use Rattle.bk_results.specs.declared.fault.Fault.TheVariants as fault
 use Rattle.bk_replay.specs.RunReport.{HasNoStopIn, IsStopIn}
 use Rattle.bk_replay.specs.Follower.{Executed, BookValue, Followed, HasCome, OfFrames, executed_in}
 

@@ -3,10 +3,10 @@ use Rattle.std.specs.Prelude.{◌≡◌, ℕ, List, [], ◌∷◌, ◌++◌, Con
 use Rattle.bk_frames.specs.declared.fault.FeedFault.{FeedFault}
 use Rattle.bk_frames.specs.Genesis.{total_of}
 use Rattle.bk_frames.specs.Feed.{FeedValue, IsFeed, HasFault, spelling, genesis_of}
-use Rattle.bk_replay.specs.declared.fault.Fault.{Fault}
+use Rattle.bk_results.specs.declared.fault.Fault.{Fault}
 use Rattle.bk_report.specs.declared.line.Line.{Line}
 use Rattle.bk_report.specs.declared.line.Line.TheVariants as line
-use Rattle.bk_replay.specs.declared.status.Status.{Status}
+use Rattle.bk_results.specs.declared.status.Status.{Status}
 use Rattle.bk_report.specs.Leaves.{state_of}
 use Rattle.bk_report.specs.Lines.{text_of}
 use Rattle.bk_report.specs.RunLines.{Reading}

@@ -9,10 +9,10 @@ use Rattle.bk_order.specs.Stops.{IsStop, HasNoStop}
 use Rattle.bk_order.specs.declared.stop.Stop.{Stop}
 use Rattle.bk_order.specs.declared.stop.Stop.TheVariants as stop
 use Rattle.bk_rules.specs.Fold.{state_after, receipts_of}
-use Rattle.bk_replay.specs.declared.fault.Fault.{Fault}
-use Rattle.bk_replay.specs.declared.fault.Fault.TheVariants as fault
-use Rattle.bk_replay.specs.declared.status.Status.{Status}
-use Rattle.bk_replay.specs.declared.status.Status.TheVariants as status
+use Rattle.bk_results.specs.declared.fault.Fault.{Fault}
+use Rattle.bk_results.specs.declared.fault.Fault.TheVariants as fault
+use Rattle.bk_results.specs.declared.status.Status.{Status}
+use Rattle.bk_results.specs.declared.status.Status.TheVariants as status
 use Rattle.bk_report.specs.Lines.{text_of}
 use Rattle.bk_tx.specs.Batches.{transactions_of}
 use Rattle.bk_report.specs.RunLines.{Reading, run_lines}

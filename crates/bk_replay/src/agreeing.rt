@@ -13,24 +13,10 @@ use crate::nowhere::Nowhere;
 use crate::replaying::{PIECE, follow};
 use bk_frames::Source;
 use bk_pool::Gate;
+use bk_results::CompareStop;
 use std::alloc::Global;
 use std::sync::Wait;
 use std::thread::Threads;
-use thiserror::Error;
-
-/// Why two sources do not agree. The text of each is the line that the program prints.
-#[derive(Clone, Copy, Debug, PartialEq, Eq, Error)]
-pub enum CompareStop {
-    /// The feed of the first source was not followed to its end. The second source is not read.
-    #[error("{0}")]
-    First(Fault),
-    /// The feed of the first source was followed to its end, and that of the second was not.
-    #[error("{0}")]
-    Second(Fault),
-    /// Both were followed to their ends, and they differ.
-    #[error("{0}")]
-    Differ(Differ),
-}
 
 impl Follower {
     // Settles the feed that ends here. A stop is no fault: it may be one of both feeds that are compared.

@@ -10,10 +10,10 @@ ghost use Rattle.bk_replay.specs.private.Replies.{FollowerReplies, FollowerReply
 use crate::fault::Fault;
 use crate::follower::Follower;
 use crate::opening::Opened;
-use crate::query::{Query, Reply};
 use crate::replaying::{PIECE, follow};
 use bk_frames::{Cutter, Sink, Source};
 use bk_pool::Gate;
+use bk_results::{Query, Reply};
 use std::alloc::Global;
 use std::sync::Wait;
 use std::thread::Threads;

@@ -7,9 +7,12 @@ ghost use Rattle.bk_frames.specs.Feed.{Frame, FeedValue, feed_of, genesis_of};
 ghost use Rattle.bk_frames.specs.Genesis.{AreAccounts};
 ghost use Rattle.bk_replay.specs.RunReport.{committee_in, later_frames, HasNoStopIn, IsStopIn};
 ghost use Rattle.bk_replay.specs.Follower.{IsBookOf, IsCurrent, receipts_of_executed};
+ghost use Rattle.bk_rules.specs.Fold.{HasRoom};
+ghost use Rattle.bk_ledger.specs.Executing.{HasExecuted};
 ghost use Rattle.bk_replay.specs.private.Books.{IsGoodBook, BookSettleFails};
+ghost use Rattle.bk_replay.specs.private.Ledgers.{LeavesBy, left_after};
 
-use crate::fault::Fault;
+use crate::fault::{Fault, stopped, unexecuted};
 use bk_committee::Committee;
 use bk_frames::{Kind, Row};
 use bk_ledger::Ledger;
@@ -59,6 +62,32 @@ fn payloads_from(
     Ok(payloads)
 }
 
+// Executes the batches of an order that follow those that the ledger has executed.
+fn execute_rest<R: Threads + Wait + Sync, G: Gate + Sync>(
+    rt: &R,
+    alloc: Global,
+    intake: &Intake,
+    ledger: Ledger,
+    workers: usize,
+    gate: &G,
+) -> Result<Ledger, Fault>
+    requires open { intake.now.failed ≡ false }
+    requires within { length ledger.counts ≤ length intake.now.ordered.payloads.list }
+    requires room { HasRoom ledger.state.version (length (left_after ledger intake.now)) ledger.state.rows }
+    requires few { length ledger.receipts + length (left_after ledger intake.now) < 2 ^ 32 }
+    requires workers { (1 ≤ workers) × (workers ≤ 64) }
+    ensures executed { IfOk result
+        (HasExecuted (drop (length ledger.counts) intake.now.ordered.payloads.list) ledger) }
+    ensures fault { let first = length ledger.receipts in
+        IfErr result (LeavesBy first (first + length (left_after ledger intake.now))) }
+{
+    let payloads = payloads_from(alloc, intake, ledger.counts().len())?;
+    match ledger.execute(rt, alloc, &payloads, workers, gate) {
+        Ok(ledger) => Ok(ledger),
+        Err(why) => Err(unexecuted(why)),
+    }
+}
+
 impl Book {
     /// Of the committee and the genesis alone.
     pub(crate) fn new(
@@ -106,7 +135,7 @@ impl Book {
             → IsStopIn feed f) }
     {
         match self.intake.stop() {
-            Some(stop) => Err(Fault::from(stop)),
+            Some(stop) => Err(stopped(stop)),
             None => Ok(()),
         }
     }
@@ -127,15 +156,14 @@ impl Book {
         ensures fault { IfErr result (λ f. BookSettleFails self.old self.new f) }
     {
         if let Some(stop) = self.intake.stop() {
-            return Err(Fault::from(stop));
+            return Err(stopped(stop));
         }
         self.intake.settle()?;
         let Some(ledger) = self.ledger.take() else {
             return Err(Fault::Memory);
         };
         let before = ledger.receipts().len();
-        let payloads = payloads_from(self.alloc, &self.intake, ledger.counts().len())?;
-        let ledger = ledger.execute(rt, self.alloc, &payloads, workers, gate)?;
+        let ledger = execute_rest(rt, self.alloc, &self.intake, ledger, workers, gate)?;
         let count = ledger.receipts().len() - before;
         self.ledger = Some(ledger);
         Ok(count)

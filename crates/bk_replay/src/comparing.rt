@@ -6,7 +6,7 @@ ghost use Rattle.bk_replay.specs.Follower.{receipts_of_executed};
 ghost use Rattle.bk_replay.specs.private.Comparing.{BooksAgree, BooksDiffer, HaveSameSetup, IsLesser};
 
 use crate::book::Book;
-use crate::differ::{Agreed, Differ};
+use crate::differ::{Agreed, Differ, differing};
 use crate::follower::Follower;
 use bk_committee::Committee;
 use bk_frames::{Row, Version};
@@ -139,7 +139,7 @@ impl Book {
             return Err(Differ::Setup);
         }
         if let Some(stop) = self.intake.stop_with(&other.intake)? {
-            return Err(Differ::from(stop));
+            return Err(differing(stop));
         }
         let certs = lesser(self.intake.order().len(), other.intake.order().len());
         let places = lesser(self.places(), other.places());

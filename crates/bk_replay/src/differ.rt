@@ -1,76 +1,31 @@
-//! What comparing two Followers answers.
+//! The difference that a stop is.
 
 ghost use Rattle.std.specs.Prelude.{◌≡◌};
-ghost use Rattle.bk_replay.specs.declared.differ.Differ.TheVariants as differ;
 ghost use Rattle.bk_replay.specs.private.Comparing.{differ_of};
 
-use bk_digest::Digest32;
 use bk_evidence::Evidence;
 use bk_order::Stop;
-use std::alloc::AllocError;
-use thiserror::Error;
+pub use bk_results::{Agreed, Differ};
 
-/// How far two Followers have one order.
-#[derive(Clone, Copy, Debug, PartialEq, Eq)]
-pub struct Agreed {
-    /// How many certificates the shorter order has.
-    pub certs: usize,
-    /// How many places the shorter list of receipts has.
-    pub places: usize,
-}
-
-/// Why two Followers do not agree. The text of each is the line that the program prints.
-#[derive(Clone, Copy, Debug, PartialEq, Eq, Error)]
-pub enum Differ {
-    /// Not both have a genesis, or their versions, committees or opening accounts differ.
-    #[error("differ setup")]
-    Setup,
-    /// The least id of two certificates or digest of two batches, over both together.
-    #[error("collision {id}")]
-    Collision {
-        id: Digest32,
-    },
-    /// A member made two certificates for one round: the evidence over both together, where no id collides.
-    #[error("equivocation {round} {author} {first} {second}")]
-    Twins {
-        round: u32,
-        author: u8,
-        first: Digest32,
-        second: Digest32,
-    },
-    /// Memory was refused.
-    #[error("memory")]
-    Memory,
-}
-
-impl From<Stop> for Differ {
-    ghost from_gives = { λ s d. d ≡ differ_of s };
-
-    fn from(s: Stop) -> Differ {
-        match s {
-            Stop::Collision(id) => Differ::Collision { id },
-            Stop::Twins(twins) => {
-                let Evidence {
-                    round,
-                    author,
-                    first,
-                    second,
-                } = twins;
-                Differ::Twins {
-                    round,
-                    author,
-                    first,
-                    second,
-                }
+/// The difference of two feeds that are stopped together.
+pub(crate) fn differing(stop: Stop) -> Differ
+    ensures { result ≡ differ_of stop }
+{
+    match stop {
+        Stop::Collision(id) => Differ::Collision { id },
+        Stop::Twins(twins) => {
+            let Evidence {
+                round,
+                author,
+                first,
+                second,
+            } = twins;
+            Differ::Twins {
+                round,
+                author,
+                first,
+                second,
             }
         }
-    }
-}
-
-impl From<AllocError> for Differ {
-    ghost from_gives = { λ _ d. d ≡ differ.Memory };
-
-    fn from(_e: AllocError) -> Differ {
-        Differ::Memory
     }
 }

@@ -8,7 +8,7 @@ ghost use Rattle.bk_replay.specs.private.Books.{IsGoodBook};
 ghost use Rattle.bk_replay.specs.private.Ordered.{OrdersBook, BookOrderFails};
 
 use crate::book::Book;
-use crate::fault::Fault;
+use crate::fault::{Fault, stopped};
 use crate::follower::{Follower, keep};
 use bk_cert::CertRef;
 
@@ -30,7 +30,7 @@ impl Book {
         ensures fault { IfErr result (λ f. BookOrderFails self.old self.new f) }
     {
         if let Some(stop) = self.intake.stop() {
-            return Err(Fault::from(stop));
+            return Err(stopped(stop));
         }
         self.intake.settle()?;
         Ok(())

@@ -16,12 +16,12 @@ ghost use Rattle.bk_replay.specs.private.Replies.{WritesFound, WritesReply, Book
 
 use crate::book::Book;
 use crate::fault::Fault;
-use crate::query::{Query, Reply};
 use bk_cert::CertRef;
 use bk_frames::{Sink, WriteFault, push_all};
 use bk_ledger::Ledger;
 use bk_order::Intake;
 use bk_report::{Line, Page, proof_of, push_line, put_anchors, put_certs};
+use bk_results::{Query, Reply};
 use bk_rules::{Account, Receipt};
 use std::alloc::{AllocError, Global};
 use std::thread::Threads;

@@ -5,7 +5,7 @@ ghost use Rattle.bk_frames.specs.Device.{CanBeUsed, Works, Receives, IfKnown};
 ghost use Rattle.bk_frames.specs.Feed.{IsFeed, genesis_of};
 ghost use Rattle.bk_rules.specs.Fold.{state_after, receipts_of};
 ghost use Rattle.bk_steps.specs.Schedule.{IsWholeAmong};
-ghost use Rattle.bk_replay.specs.declared.fault.Fault.TheVariants as fault;
+ghost use Rattle.bk_results.specs.declared.fault.Fault.TheVariants as fault;
 ghost use Rattle.bk_replay.specs.declared.scheduling.ScheduleStop.TheVariants as stop;
 ghost use Rattle.bk_replay.specs.Answers.{devices};
 ghost use Rattle.bk_tx.specs.Batches.{count_in, payloads_of, feed_transactions};

@@ -16,12 +16,12 @@ ghost use Rattle.bk_report.specs.Pages.{Written, blank};
 
 use crate::book::Book;
 use crate::fault::Fault;
-use crate::status::Status;
 use bk_cert::CertRef;
 use bk_frames::{Row, Sink, WriteFault};
 use bk_ledger::Ledger;
 use bk_order::Intake;
 use bk_report::{Page, Parts, leaves_of, write_run};
+use bk_results::Status;
 use std::alloc::{AllocError, Global};
 use std::thread::Threads;
 

@@ -5,7 +5,8 @@ use Rattle.std.proofs.lemmas.List.{append-nil}
 use Rattle.std.proofs.lemmas.List.Elements.{All-head, All-tail}
 use Rattle.hex.specs.Hex.{encode_lower}
 use Rattle.bk_report.specs.declared.line.Line.TheVariants as line
-use Rattle.bk_report.specs.Lines.{spaced, text_of}
+use Rattle.bk_report.specs.Lines.{text_of}
+use Rattle.bk_results.specs.Lines.{spaced}
 use Rattle.bk_report.specs.Proofs.{ProofValue, IsDigest, path_lines, proof_text}
 
 -- what is left to read of a path: its digests after those that were read

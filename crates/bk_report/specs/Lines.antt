@@ -1,15 +1,12 @@
 -- The lines of a report or of a proof, and their text.
-use Rattle.std.specs.Prelude.{ℕ, List, [], ◌∷◌, ◌++◌, codes, decimal}
+use Rattle.std.specs.Prelude.{ℕ, List, [], ◌∷◌, ◌++◌, codes}
 use Rattle.std.specs.List.{flat_map}
 use Rattle.hex.specs.Hex.{encode_lower}
 use Rattle.bk_certcheck.specs.Rules.{rule_number}
+use Rattle.bk_results.specs.Lines.{spaced}
 use Rattle.bk_rules.specs.Numbers.{number_of}
 use Rattle.bk_report.specs.declared.line.Line.{Line}
 use Rattle.bk_report.specs.declared.line.Line.TheVariants as line
-
--- a number after a space
-abbrev pub spaced : ℕ → List ℕ
-spaced n = 32 ∷ decimal n
 
 -- a word, and the round and the author of a certificate
 abbrev pub placed : List ℕ → ℕ → ℕ → List ℕ

@@ -3,7 +3,8 @@
 ghost use Rattle.std.specs.Prelude.{◌≡◌, ◌+◌, ◌^◌, ◌<◌, ◌≤◌, ◌∷◌, ◌++◌, [], length, vec_len, IfOk, OnOk};
 ghost use Rattle.std.specs.Vec.{vec_capacity};
 ghost use Rattle.bk_frames.specs.Device.{CanBeUsed};
-ghost use Rattle.bk_report.specs.Lines.{line_text, spaced, placed, hashed};
+ghost use Rattle.bk_report.specs.Lines.{line_text, placed, hashed};
+ghost use Rattle.bk_results.specs.Lines.{spaced};
 ghost use Rattle.bk_report.specs.declared.line.Line.TheVariants.{Members};
 ghost use Rattle.bk_report.specs.Pages.{Gathered, Written};
 

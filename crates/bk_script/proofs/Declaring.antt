@@ -15,7 +15,7 @@ use Rattle.bk_tx.specs.Transaction.{transaction}
 use Rattle.bk_tx.specs.Reading.{pays}
 use Rattle.bk_tx.specs.Spelling.{transaction_text}
 use Rattle.bk_tx.specs.Transaction.{Transaction}
-use Rattle.bk_script.specs.declared.fault.ScriptCode.TheVariants as code
+use Rattle.bk_results.specs.declared.script_fault.ScriptCode.TheVariants as code
 use Rattle.bk_script.specs.private.Saying.{IsSayable}
 use Rattle.bk_script.specs.Transactions.{declare, declared_by, is_payable, text_of}
 

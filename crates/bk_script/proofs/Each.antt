@@ -1,7 +1,7 @@
 -- Reading one word after another.
 use Rattle.std.proofs.Common.{◌≡◌, ℕ, ◌+◌, ◌<◌, ◌≤◌, List, [], ◌∷◌, ◌++◌, length, get_or, drop, map, refl, sym, ap, ◌∙◌, Result, Ok, Err, append_assoc, arith, Bor, zero, suc}
 use Rattle.std.proofs.lemmas.List.{at_drop_more, at_drop_all, append-nil}
-use Rattle.bk_script.specs.declared.fault.ScriptCode.{ScriptCode}
+use Rattle.bk_results.specs.declared.script_fault.ScriptCode.{ScriptCode}
 use Rattle.bk_script.specs.Codes.{◌>>=◌}
 use Rattle.bk_script.specs.Words.{each_of}
 

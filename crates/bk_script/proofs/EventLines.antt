@@ -3,8 +3,8 @@ use Rattle.std.proofs.Common.{◌≡◌, ℕ, zero, suc, ◌+◌, ◌-◌, ◌<�
 use Rattle.bk_script.specs.Words.{pieces, pieces_after}
 use Rattle.bk_script.specs.Script.{ended_lines, last_line}
 use Rattle.bk_script.specs.Events.{EventList, with_event_line, then_list, listed}
-use Rattle.bk_script.specs.declared.events.EventsFault.{EventsFault}
-use Rattle.bk_script.specs.declared.events.EventsFault.TheVariants as fault
+use Rattle.bk_results.specs.declared.events_fault.EventsFault.{EventsFault}
+use Rattle.bk_results.specs.declared.events_fault.EventsFault.TheVariants as fault
 use Rattle.bk_script.specs.private.Listing.{Lists}
 use Rattle.bk_script.proofs.Cuts.{goes_on}
 use Rattle.bk_script.proofs.TextLines.{next_line, ended_begin, pieces_end, ended_all, last_of_all}

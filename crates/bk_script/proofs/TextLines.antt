@@ -6,8 +6,8 @@ use Rattle.bk_script.specs.Words.{pieces, pieces_after}
 use Rattle.bk_script.specs.Known.{Known}
 use Rattle.bk_script.specs.Judging.{judged}
 use Rattle.bk_script.specs.Script.{LineFault, ended_lines, last_line, in_line, then_from, after_lines}
-use Rattle.bk_script.specs.declared.fault.ScriptFault.{ScriptFault}
-use Rattle.bk_script.specs.declared.fault.ScriptFault.TheVariants as fault
+use Rattle.bk_results.specs.declared.script_fault.ScriptFault.{ScriptFault}
+use Rattle.bk_results.specs.declared.script_fault.ScriptFault.TheVariants as fault
 use Rattle.bk_script.specs.private.Agreeing.{Agrees}
 use Rattle.bk_script.proofs.Cuts.{piece_step, goes_on}
 

@@ -9,8 +9,8 @@ use Rattle.bk_steps.specs.declared.event.Event.{Event}
 use Rattle.bk_script.specs.Lines.{is_ascii, is_skipped, words_of}
 use Rattle.bk_script.specs.Events.{EventList, no_events, event_list, event_of, with_event, with_event_line, then_list, listed, crossing_events, events_within, AreEvents, HasNoEvents}
 use Rattle.bk_script.specs.declared.events.Events.{Events}
-use Rattle.bk_script.specs.declared.events.EventsFault.{EventsFault}
-use Rattle.bk_script.specs.declared.events.EventsFault.TheVariants as fault
+use Rattle.bk_results.specs.declared.events_fault.EventsFault.{EventsFault}
+use Rattle.bk_results.specs.declared.events_fault.EventsFault.TheVariants as fault
 use Rattle.bk_script.specs.declared.making.TheConstants.{MOST_SCRIPT}
 use Rattle.bk_script.specs.Answers.{IsRead, HasRead}
 use Rattle.bk_script.specs.private.Listing.{Lists, HasNoText}

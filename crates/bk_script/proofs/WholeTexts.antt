@@ -8,9 +8,9 @@ use Rattle.std.specs.Io.KnownBytes.{Consumes, IsAtEnd, Keeps}
 use Rattle.bk_frames.specs.Device.{Device, Receives, IfKnown}
 use Rattle.bk_frames.specs.declared.writing.WriteFault.{WriteFault}
 use Rattle.bk_frames.specs.Writing.{StopsWriting}
-use Rattle.bk_script.specs.declared.fault.ScriptCode.TheVariants as code
-use Rattle.bk_script.specs.declared.fault.ScriptFault.{ScriptFault}
-use Rattle.bk_script.specs.declared.fault.ScriptFault.TheVariants as fault
+use Rattle.bk_results.specs.declared.script_fault.ScriptCode.TheVariants as code
+use Rattle.bk_results.specs.declared.script_fault.ScriptFault.{ScriptFault}
+use Rattle.bk_results.specs.declared.script_fault.ScriptFault.TheVariants as fault
 use Rattle.bk_script.specs.Known.{Known, nothing_known}
 use Rattle.bk_script.specs.Judging.{judged}
 use Rattle.bk_script.specs.Script.{LineFault, ended_lines, last_line, lines_of, in_line, then_from, after_lines, feed_after, feed_of_lines, crossing, feed_within, feed_of}

@@ -1,15 +1,6 @@
--- What can be wrong with a line of a script.
-use Rattle.std.specs.Prelude.{ℕ, Bool, Result, Ok, Err, if◌then◌else◌}
-use Rattle.bk_script.specs.declared.fault.ScriptCode.{ScriptCode}
-use Rattle.bk_script.specs.declared.fault.ScriptCode.TheVariants as code
-
--- the number of what is wrong
-abbrev pub code_number : ScriptCode → ℕ
-code_number code.Word = 1
-code_number code.Place = 2
-code_number code.Number = 3
-code_number code.Name = 4
-code_number code.Range = 5
+-- Steps of judging a line, of which the first that finds a fault decides.
+use Rattle.std.specs.Prelude.{Bool, Result, Ok, Err, if◌then◌else◌}
+use Rattle.bk_results.specs.declared.script_fault.ScriptCode.{ScriptCode}
 
 -- one step of judging after another: the first that finds a fault decides
 infixl 10 ◌>>=◌

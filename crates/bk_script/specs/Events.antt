@@ -5,9 +5,9 @@ use Rattle.bk_frames.specs.Device.{Device, Works, Fails, IfKnown}
 use Rattle.bk_steps.specs.declared.event.Event.{Event}
 use Rattle.bk_steps.specs.declared.event.Event.TheVariants.{Claim, Read, Write, Finish}
 use Rattle.bk_script.specs.declared.events.Events.{Events}
-use Rattle.bk_script.specs.declared.events.EventsFault.{EventsFault}
-use Rattle.bk_script.specs.declared.events.EventsFault.TheVariants as fault
-use Rattle.bk_script.specs.declared.fault.ScriptCode.{ScriptCode}
+use Rattle.bk_results.specs.declared.events_fault.EventsFault.{EventsFault}
+use Rattle.bk_results.specs.declared.events_fault.EventsFault.TheVariants as fault
+use Rattle.bk_results.specs.declared.script_fault.ScriptCode.{ScriptCode}
 use Rattle.bk_script.specs.declared.making.TheConstants.{MOST_SCRIPT}
 use Rattle.bk_script.specs.Words.{numbers_of}
 use Rattle.bk_script.specs.Lines.{is_ascii, is_skipped, words_of}

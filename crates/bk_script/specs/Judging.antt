@@ -13,8 +13,8 @@ use Rattle.bk_frames.specs.Genesis.{total_of}
 use Rattle.bk_committee.specs.Payload.{member_size}
 use Rattle.bk_cert.specs.Values.{HeaderValue, header_with}
 use Rattle.bk_cert.specs.Identity.{id_of}
-use Rattle.bk_script.specs.declared.fault.ScriptCode.{ScriptCode}
-use Rattle.bk_script.specs.declared.fault.ScriptCode.TheVariants as code
+use Rattle.bk_results.specs.declared.script_fault.ScriptCode.{ScriptCode}
+use Rattle.bk_results.specs.declared.script_fault.ScriptCode.TheVariants as code
 use Rattle.bk_script.specs.declared.line.Keyword.{Keyword}
 use Rattle.bk_script.specs.declared.line.Keyword.TheVariants as keyword
 use Rattle.bk_script.specs.Codes.{◌>>=◌}

@@ -12,8 +12,8 @@ use Rattle.bk_frames.specs.declared.genesis.Row.{Row}
 use Rattle.bk_frames.specs.Feed.{frame_of, frame_text}
 use Rattle.bk_tx.specs.Spelling.{batch_text}
 use Rattle.bk_cert.specs.Values.{HeaderValue}
-use Rattle.bk_script.specs.declared.fault.ScriptCode.{ScriptCode}
-use Rattle.bk_script.specs.declared.fault.ScriptCode.TheVariants as code
+use Rattle.bk_results.specs.declared.script_fault.ScriptCode.{ScriptCode}
+use Rattle.bk_results.specs.declared.script_fault.ScriptCode.TheVariants as code
 use Rattle.bk_script.specs.Words.{is_name, digest_of}
 
 -- a name, and the digest of the batch or the id of the certificate that it stands for

@@ -1,7 +1,7 @@
 -- What the text of a script makes: the bytes of a feed, or the first fault with its line.
 use Rattle.std.specs.Prelude.{ℕ, ◌+◌, ◌-◌, List, [], ◌∷◌, ◌++◌, length, take, nat_le, ◌==◌, if◌then◌else◌, Option, Some, None, Result, Ok, Err, slice_index_or}
-use Rattle.bk_script.specs.declared.fault.ScriptCode.{ScriptCode}
-use Rattle.bk_script.specs.declared.fault.ScriptCode.TheVariants as code
+use Rattle.bk_results.specs.declared.script_fault.ScriptCode.{ScriptCode}
+use Rattle.bk_results.specs.declared.script_fault.ScriptCode.TheVariants as code
 use Rattle.bk_script.specs.declared.making.TheConstants.{MOST_SCRIPT}
 use Rattle.bk_script.specs.Words.{pieces}
 use Rattle.bk_script.specs.Known.{Known, nothing_known, closed}

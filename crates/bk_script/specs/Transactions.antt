@@ -10,8 +10,8 @@ use Rattle.bk_tx.specs.declared.body.Body.TheVariants.{Pay, PayIf, Sweep, Split}
 use Rattle.bk_tx.specs.Transaction.{transaction}
 use Rattle.bk_tx.specs.Reading.{pays}
 use Rattle.bk_tx.specs.Spelling.{transaction_text, batch_text, receivers_of}
-use Rattle.bk_script.specs.declared.fault.ScriptCode.{ScriptCode}
-use Rattle.bk_script.specs.declared.fault.ScriptCode.TheVariants as code
+use Rattle.bk_results.specs.declared.script_fault.ScriptCode.{ScriptCode}
+use Rattle.bk_results.specs.declared.script_fault.ScriptCode.TheVariants as code
 use Rattle.bk_script.specs.declared.line.Keyword.{Keyword}
 use Rattle.bk_script.specs.declared.line.Keyword.TheVariants as keyword
 use Rattle.bk_script.specs.Codes.{◌>>=◌}

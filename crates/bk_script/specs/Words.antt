@@ -6,8 +6,8 @@ use Rattle.std.specs.Str.{bytes_eq}
 use Rattle.std.specs.Str.Parse.{digits_value}
 use Rattle.hex.specs.Hex.{decode_of, decode_sized}
 use Rattle.bk_digest.specs.Digest.{is_lower_hex}
-use Rattle.bk_script.specs.declared.fault.ScriptCode.{ScriptCode}
-use Rattle.bk_script.specs.declared.fault.ScriptCode.TheVariants as code
+use Rattle.bk_results.specs.declared.script_fault.ScriptCode.{ScriptCode}
+use Rattle.bk_results.specs.declared.script_fault.ScriptCode.TheVariants as code
 use Rattle.bk_script.specs.Codes.{◌>>=◌}
 
 -- what was read, or else this fault

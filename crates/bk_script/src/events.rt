@@ -6,7 +6,7 @@ ghost use Rattle.bk_script.specs.Script.{ended_lines, last_line};
 ghost use Rattle.bk_script.specs.Events.{AreEvents, HasNoEvents, no_events, event_list, event_named, event_of, with_event, with_event_line, listed, events_within};
 ghost use Rattle.bk_script.specs.private.Listing.{Lists, HasNoText};
 ghost use Rattle.bk_script.specs.Answers.{HasRead};
-ghost use Rattle.bk_script.specs.declared.events.EventsFault.TheVariants as fault;
+ghost use Rattle.bk_results.specs.declared.events_fault.EventsFault.TheVariants as fault;
 
 use crate::fault::{ScriptFault, Stop};
 use crate::line::{is_ascii, is_skipped};
@@ -14,9 +14,9 @@ use crate::making::{Ended, MOST_SCRIPT, PIECE};
 use crate::reading::read_text;
 use crate::words::{numbers, pieces};
 use bk_frames::Source;
+use bk_results::EventsFault;
 use bk_steps::Event;
-use std::alloc::{AllocError, AllocFailed, Global};
-use thiserror::Error;
+use std::alloc::{AllocError, Global};
 
 /// A list of events.
 #[derive(Debug, Drop)]
@@ -25,36 +25,6 @@ pub struct Events {
     pub list: Vec<Event>,
     /// The line of each event, counted from 1.
     pub lines: Vec<u32>,
-}
-
-/// Why there is no list of events. The text of each is the line that the program prints.
-#[derive(Clone, Copy, Debug, PartialEq, Eq, Error)]
-pub enum EventsFault {
-    /// This line, counted from 1, is the first that is no event, or in which the text passes [`MOST_SCRIPT`] bytes.
-    #[error("events fault at line {line}")]
-    Line { line: u32 },
-    /// The source failed.
-    #[error("read failed")]
-    Read,
-    /// Memory was refused.
-    #[error("memory")]
-    Memory,
-}
-
-impl From<AllocError> for EventsFault {
-    ghost from_gives = { λ _ e. e ≡ fault.Memory };
-
-    fn from(_e: AllocError) -> EventsFault {
-        EventsFault::Memory
-    }
-}
-
-impl<T: Drop> From<AllocFailed<T>> for EventsFault {
-    ghost from_gives = { λ _ e. e ≡ fault.Memory };
-
-    fn from(_e: AllocFailed<T>) -> EventsFault {
-        EventsFault::Memory
-    }
 }
 
 // The event of a first word and the numbers after it.

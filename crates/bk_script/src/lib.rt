@@ -21,8 +21,9 @@ mod sealing;
 mod transactions;
 mod words;
 
-pub use events::{Events, EventsFault, read_events};
-pub use fault::{ScriptCode, ScriptFault, Stop};
+pub use bk_results::{EventsFault, ScriptCode, ScriptFault};
+pub use events::{Events, read_events};
+pub use fault::Stop;
 pub use making::{MOST_SCRIPT, make};
 pub use reading::read_text;
 pub use script::Script;

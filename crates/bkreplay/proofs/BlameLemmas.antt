@@ -9,14 +9,14 @@ use Rattle.bk_frames.specs.declared.fault.FeedFault.{FeedFault}
 use Rattle.bk_order.specs.declared.stop.Stop.TheVariants as stop
 use Rattle.bk_replay.specs.Answers.{IsUntouched}
 use Rattle.bk_replay.specs.FeedAgreement.{FeedsDiffer, OfTheirFeeds}
-use Rattle.bk_replay.specs.declared.agreeing.CompareStop.{CompareStop}
-use Rattle.bk_replay.specs.declared.agreeing.CompareStop.TheVariants as compared
-use Rattle.bk_replay.specs.declared.differ.Differ.TheVariants as differ
+use Rattle.bk_results.specs.declared.compare_stop.CompareStop.{CompareStop}
+use Rattle.bk_results.specs.declared.compare_stop.CompareStop.TheVariants as compared
+use Rattle.bk_results.specs.declared.differ.Differ.TheVariants as differ
 use Rattle.bk_replay.specs.RunReport.{IsStopped}
-use Rattle.bk_replay.specs.declared.fault.Fault.{Fault}
-use Rattle.bk_replay.specs.declared.fault.Fault.TheVariants as replay
+use Rattle.bk_results.specs.declared.fault.Fault.{Fault}
+use Rattle.bk_results.specs.declared.fault.Fault.TheVariants as replay
 use Rattle.bk_script.specs.Script.{LineFault, feed_of}
-use Rattle.bk_script.specs.declared.fault.ScriptFault.TheVariants as text
+use Rattle.bk_results.specs.declared.script_fault.ScriptFault.TheVariants as text
 use Rattle.bk_script.specs.Events.{events_of}
 use Rattle.bk_steps.specs.declared.outcome.ScheduleFault.TheVariants as schedule
 use Rattle.bk_steps.specs.declared.refused.Refused as reason
@@ -27,7 +27,7 @@ use Rattle.bkreplay.specs.declared.job.Job.{Job}
 use Rattle.bkreplay.specs.declared.job.Job.TheVariants as job
 use Rattle.bkreplay.specs.declared.job_fault.JobFault.{JobFault}
 use Rattle.bkreplay.specs.declared.job_fault.JobFault.TheVariants as fault
-use Rattle.bk_script.specs.declared.events.EventsFault.TheVariants as unread
+use Rattle.bk_results.specs.declared.events_fault.EventsFault.TheVariants as unread
 use Rattle.bkreplay.specs.declared.list_fault.ListFault.TheVariants as list
 use Rattle.bkreplay.specs.Schedules.{AreNoEvents, AreRefused, Lists}
 use Rattle.bkreplay.specs.Sources.{AreBroken, Inputs, JobDevices, inputs_of}

@@ -1,7 +1,7 @@
 -- Lines in four parts after what is there already.
 use Rattle.std.proofs.Common.{◌≡◌, ◌∙◌, ◌++◌, ◌∷◌, ℕ, List, sym, ap, append_assoc, codes}
 use Rattle.std.specs.Prelude.{decimal}
-use Rattle.bk_report.specs.Lines.{spaced}
+use Rattle.bk_results.specs.Lines.{spaced}
 
 flat : (o a b c d : List ℕ) → (((o ++ a) ++ b) ++ c) ++ d ≡ o ++ (((a ++ b) ++ c) ++ d)
 flat o a b c d =

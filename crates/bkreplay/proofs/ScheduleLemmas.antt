@@ -11,7 +11,7 @@ use Rattle.bk_replay.specs.declared.scheduling.ScheduleStop.{ScheduleStop}
 use Rattle.bk_replay.specs.declared.scheduling.ScheduleStop.TheVariants as stop
 use Rattle.bk_script.specs.Events.{AreEvents, EventList, HasNoEvents, event_list, events_of}
 use Rattle.bk_script.specs.declared.events.Events.{Events}
-use Rattle.bk_script.specs.declared.events.EventsFault.{EventsFault}
+use Rattle.bk_results.specs.declared.events_fault.EventsFault.{EventsFault}
 use Rattle.bkreplay.specs.Faults.{ReportIsOut, ScheduleIsOut}
 use Rattle.bkreplay.specs.Schedules.{IsLeftBy, IsList, IsRefusedAt, IsWholeRun, Lists, ScheduleFailsBy, fault_at}
 use Rattle.bkreplay.specs.Sources.{inputs, job_devices}

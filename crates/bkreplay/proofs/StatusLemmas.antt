@@ -2,12 +2,12 @@
 use Rattle.std.proofs.Common.{◌≡◌, ℕ, true, false, refl}
 use Rattle.bk_frames.specs.declared.fault.FaultCode.{FaultCode}
 use Rattle.bk_frames.specs.declared.fault.FaultCode.TheVariants as code
-use Rattle.bk_replay.specs.declared.agreeing.CompareStop.{CompareStop}
-use Rattle.bk_replay.specs.declared.agreeing.CompareStop.TheVariants as compared
-use Rattle.bk_replay.specs.declared.differ.Differ.TheVariants as differ
-use Rattle.bk_replay.specs.declared.fault.Fault.{Fault}
-use Rattle.bk_replay.specs.declared.fault.Fault.TheVariants as replay
-use Rattle.bk_script.specs.declared.fault.ScriptFault.TheVariants as text
+use Rattle.bk_results.specs.declared.compare_stop.CompareStop.{CompareStop}
+use Rattle.bk_results.specs.declared.compare_stop.CompareStop.TheVariants as compared
+use Rattle.bk_results.specs.declared.differ.Differ.TheVariants as differ
+use Rattle.bk_results.specs.declared.fault.Fault.{Fault}
+use Rattle.bk_results.specs.declared.fault.Fault.TheVariants as replay
+use Rattle.bk_results.specs.declared.script_fault.ScriptFault.TheVariants as text
 use Rattle.std.specs.Prelude.{Err}
 use Rattle.bkreplay.specs.declared.exit.Exit.{Exit}
 use Rattle.bkreplay.specs.declared.exit.Exit.TheVariants as exit
@@ -15,9 +15,9 @@ use Rattle.bkreplay.specs.declared.job.Job.{Job}
 use Rattle.bkreplay.specs.declared.job.Job.TheVariants as job
 use Rattle.bkreplay.specs.declared.job_fault.JobFault.{JobFault}
 use Rattle.bkreplay.specs.declared.job_fault.JobFault.TheVariants as fault
-use Rattle.bk_replay.specs.declared.query.Query.{Query}
-use Rattle.bk_replay.specs.declared.query.Query.TheVariants as query
-use Rattle.bk_script.specs.declared.events.EventsFault.TheVariants as unread
+use Rattle.bk_results.specs.declared.query.Query.{Query}
+use Rattle.bk_results.specs.declared.query.Query.TheVariants as query
+use Rattle.bk_results.specs.declared.events_fault.EventsFault.TheVariants as unread
 use Rattle.bkreplay.specs.declared.list_fault.ListFault.TheVariants as list
 use Rattle.bkreplay.specs.Schedules.{ScheduleFailsBy}
 use Rattle.bkreplay.specs.Sources.{JobDevices, first_devices}

@@ -10,8 +10,8 @@ use Rattle.bk_frames.specs.declared.writing.WriteFault.{WriteFault}
 use Rattle.bk_replay.specs.Answers.{devices}
 use Rattle.bk_report.specs.Proofs.{IsGoodProof}
 use Rattle.bk_script.specs.Answers.{HasRead, IsNotRead, IsRead}
-use Rattle.bk_script.specs.declared.fault.ScriptFault.{ScriptFault}
-use Rattle.bk_script.specs.declared.fault.ScriptFault.TheVariants as fault
+use Rattle.bk_results.specs.declared.script_fault.ScriptFault.{ScriptFault}
+use Rattle.bk_results.specs.declared.script_fault.ScriptFault.TheVariants as fault
 use Rattle.bkreplay.specs.Exits.{exit_by}
 use Rattle.bkreplay.specs.Faults.{CheckFailsBy, IsVerdict, PartOfVerdictIsOut, VerdictIsOut, verdict_text}
 use Rattle.bkreplay.specs.declared.exit.Exit.TheVariants as exit

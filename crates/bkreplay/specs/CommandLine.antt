@@ -4,8 +4,8 @@ use Rattle.std.specs.Str.Parse.{IsNumeral, digits_value, without_leading_plus}
 use Rattle.clap.specs.Words.{App, Rule, Row, Text, first_of, one_of, new_app, new_rule, with_rule, with_subcommand}
 use Rattle.clap.specs.declared.builder.action.ArgAction.TheVariants.{Set}
 use Rattle.clap.specs.declared.builder.value_parser.ValueParser.TheVariants.{Signed, Unsigned}
-use Rattle.bk_replay.specs.declared.query.Query.{Query}
-use Rattle.bk_replay.specs.declared.query.Query.TheVariants as query
+use Rattle.bk_results.specs.declared.query.Query.{Query}
+use Rattle.bk_results.specs.declared.query.Query.TheVariants as query
 use Rattle.bkreplay.specs.declared.job.Job.{Job}
 use Rattle.bkreplay.specs.declared.job.Job.TheVariants as job
 use Rattle.bkreplay.specs.declared.verb.Verb.{Verb}

@@ -6,12 +6,12 @@ use Rattle.bk_order.specs.declared.stop.Stop.{Stop}
 use Rattle.bk_replay.specs.Agreement.{HaveStop}
 use Rattle.bk_replay.specs.Answers.{AreFeed, IsUntouched}
 use Rattle.bk_replay.specs.FeedAgreement.{BothWork, ComparesNot, FeedsAgree, FeedsDiffer, OfTheirFeeds, Sources, sources}
-use Rattle.bk_replay.specs.declared.agreeing.CompareStop.{CompareStop}
-use Rattle.bk_replay.specs.declared.differ.Agreed.{Agreed}
-use Rattle.bk_replay.specs.declared.differ.Differ.TheVariants as differ
-use Rattle.bk_replay.specs.declared.fault.Fault.{Fault}
-use Rattle.bk_replay.specs.declared.fault.Fault.TheVariants as replay
-use Rattle.bk_report.specs.Lines.{spaced}
+use Rattle.bk_results.specs.declared.compare_stop.CompareStop.{CompareStop}
+use Rattle.bk_results.specs.declared.differ.Agreed.{Agreed}
+use Rattle.bk_results.specs.declared.differ.Differ.TheVariants as differ
+use Rattle.bk_results.specs.declared.fault.Fault.{Fault}
+use Rattle.bk_results.specs.declared.fault.Fault.TheVariants as replay
+use Rattle.bk_results.specs.Lines.{spaced}
 use Rattle.bkreplay.specs.Sources.{AreBroken, Inputs, JobDevices, inputs_of}
 use Rattle.bkreplay.specs.declared.exit.Exit.{Exit}
 use Rattle.bkreplay.specs.declared.exit.Exit.TheVariants as exit

@@ -2,19 +2,19 @@
 use Rattle.std.specs.Prelude.{ℕ, Bool, true, false, if◌then◌else◌, Result, Ok, Err}
 use Rattle.bk_frames.specs.declared.fault.FaultCode.{FaultCode}
 use Rattle.bk_frames.specs.declared.fault.FaultCode.TheVariants as code
-use Rattle.bk_replay.specs.declared.agreeing.CompareStop.{CompareStop}
-use Rattle.bk_replay.specs.declared.agreeing.CompareStop.TheVariants as compared
-use Rattle.bk_replay.specs.declared.differ.Differ.{Differ}
-use Rattle.bk_replay.specs.declared.differ.Differ.TheVariants as differ
-use Rattle.bk_replay.specs.declared.fault.Fault.{Fault}
-use Rattle.bk_replay.specs.declared.fault.Fault.TheVariants as replay
-use Rattle.bk_replay.specs.declared.query.Query.{Query}
-use Rattle.bk_replay.specs.declared.query.Query.TheVariants as query
-use Rattle.bk_replay.specs.declared.status.Status.{Status}
-use Rattle.bk_replay.specs.declared.status.Status.TheVariants as status
-use Rattle.bk_script.specs.declared.events.EventsFault.TheVariants as events
-use Rattle.bk_script.specs.declared.fault.ScriptFault.{ScriptFault}
-use Rattle.bk_script.specs.declared.fault.ScriptFault.TheVariants as text
+use Rattle.bk_results.specs.declared.compare_stop.CompareStop.{CompareStop}
+use Rattle.bk_results.specs.declared.compare_stop.CompareStop.TheVariants as compared
+use Rattle.bk_results.specs.declared.differ.Differ.{Differ}
+use Rattle.bk_results.specs.declared.differ.Differ.TheVariants as differ
+use Rattle.bk_results.specs.declared.fault.Fault.{Fault}
+use Rattle.bk_results.specs.declared.fault.Fault.TheVariants as replay
+use Rattle.bk_results.specs.declared.query.Query.{Query}
+use Rattle.bk_results.specs.declared.query.Query.TheVariants as query
+use Rattle.bk_results.specs.declared.status.Status.{Status}
+use Rattle.bk_results.specs.declared.status.Status.TheVariants as status
+use Rattle.bk_results.specs.declared.events_fault.EventsFault.TheVariants as events
+use Rattle.bk_results.specs.declared.script_fault.ScriptFault.{ScriptFault}
+use Rattle.bk_results.specs.declared.script_fault.ScriptFault.TheVariants as text
 use Rattle.bkreplay.specs.declared.exit.Exit.{Exit}
 use Rattle.bkreplay.specs.declared.exit.Exit.TheVariants as exit
 use Rattle.bkreplay.specs.declared.job.Job.{Job}

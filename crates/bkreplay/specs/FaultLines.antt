@@ -3,19 +3,19 @@ use Rattle.std.specs.Prelude.{ℕ, List, ◌∷◌, ◌++◌, ◌⊎◌, codes, 
 use Rattle.hex.specs.Hex.{encode_lower}
 use Rattle.bk_frames.specs.Device.{Device, Works, Fails, Receives}
 use Rattle.bk_frames.specs.Faults.{fault_text}
-use Rattle.bk_replay.specs.declared.agreeing.CompareStop.{CompareStop}
-use Rattle.bk_replay.specs.declared.agreeing.CompareStop.TheVariants as compared
-use Rattle.bk_replay.specs.declared.differ.Differ.{Differ}
-use Rattle.bk_replay.specs.declared.differ.Differ.TheVariants as differ
-use Rattle.bk_replay.specs.declared.fault.Fault.{Fault}
-use Rattle.bk_replay.specs.declared.fault.Fault.TheVariants as replay
-use Rattle.bk_report.specs.Lines.{spaced}
+use Rattle.bk_results.specs.declared.compare_stop.CompareStop.{CompareStop}
+use Rattle.bk_results.specs.declared.compare_stop.CompareStop.TheVariants as compared
+use Rattle.bk_results.specs.declared.differ.Differ.{Differ}
+use Rattle.bk_results.specs.declared.differ.Differ.TheVariants as differ
+use Rattle.bk_results.specs.declared.fault.Fault.{Fault}
+use Rattle.bk_results.specs.declared.fault.Fault.TheVariants as replay
+use Rattle.bk_results.specs.Lines.{spaced}
 use Rattle.bk_steps.specs.Refusals.{code_of}
-use Rattle.bk_script.specs.Codes.{code_number}
-use Rattle.bk_script.specs.declared.events.EventsFault.{EventsFault}
-use Rattle.bk_script.specs.declared.events.EventsFault.TheVariants as events
-use Rattle.bk_script.specs.declared.fault.ScriptFault.{ScriptFault}
-use Rattle.bk_script.specs.declared.fault.ScriptFault.TheVariants as text
+use Rattle.bk_results.specs.Codes.{code_number}
+use Rattle.bk_results.specs.declared.events_fault.EventsFault.{EventsFault}
+use Rattle.bk_results.specs.declared.events_fault.EventsFault.TheVariants as events
+use Rattle.bk_results.specs.declared.script_fault.ScriptFault.{ScriptFault}
+use Rattle.bk_results.specs.declared.script_fault.ScriptFault.TheVariants as text
 use Rattle.bkreplay.specs.declared.job_fault.JobFault.{JobFault}
 use Rattle.bkreplay.specs.declared.job_fault.JobFault.TheVariants as fault
 use Rattle.bkreplay.specs.declared.list_fault.ListFault.{ListFault}

@@ -6,7 +6,7 @@ use Rattle.bk_steps.specs.declared.refused.Refused as reason
 use Rattle.bk_replay.specs.Answers.{FailsBy, IsUntouched}
 use Rattle.bk_replay.specs.Replaying.{NothingFailed}
 use Rattle.bk_replay.specs.Scheduling.{IsNotWholeFor, IsWholeFor}
-use Rattle.bk_replay.specs.declared.fault.Fault.TheVariants as replay
+use Rattle.bk_results.specs.declared.fault.Fault.TheVariants as replay
 use Rattle.bk_replay.specs.declared.scheduling.ScheduleStop.{ScheduleStop}
 use Rattle.bk_replay.specs.declared.scheduling.ScheduleStop.TheVariants as stop
 use Rattle.bk_script.specs.Events.{EventList, HasNoEvents, events_of}

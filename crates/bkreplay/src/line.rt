@@ -2,7 +2,7 @@
 
 ghost use Rattle.std.specs.Prelude.{◌≡◌, ◌+◌, ◌≤◌, ◌++◌, length};
 ghost use Rattle.arrayvec.specs.ArrayVec.{array_vec_len};
-ghost use Rattle.bk_report.specs.Lines.{spaced};
+ghost use Rattle.bk_results.specs.Lines.{spaced};
 
 use arrayvec::ArrayVec;
 use itoa::Buffer;

@@ -4,9 +4,9 @@ use Rattle.bk_frames.specs.declared.version.Version.{Version}
 use Rattle.bk_frames.specs.Device.{Device, Works, Fails}
 use Rattle.bk_frames.specs.Feed.{Frame, FeedValue, IsFeed, AreGoodFrom}
 use Rattle.bk_committee.specs.Payload.{CommitteeValue}
-use Rattle.bk_replay.specs.declared.fault.Fault.{Fault}
-use Rattle.bk_replay.specs.declared.fault.Fault.TheVariants as fault
-use Rattle.bk_replay.specs.declared.status.Status.{Status}
+use Rattle.bk_results.specs.declared.fault.Fault.{Fault}
+use Rattle.bk_results.specs.declared.fault.Fault.TheVariants as fault
+use Rattle.bk_results.specs.declared.status.Status.{Status}
 use Rattle.bk_replay.specs.Answers.{IsUntouched}
 use Rattle.bk_replay.specs.Finishing.{ReportStops, ReportIsOut}
 use Rattle.bk_replay.specs.Follower.{BookValue, FollowsBy, IsBookOf, IsCurrent}

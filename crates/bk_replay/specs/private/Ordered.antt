@@ -1,8 +1,8 @@
 -- What a book's order is, as it was settled last.
 use Rattle.std.specs.Prelude.{◌≡◌}
 use Rattle.bk_frames.specs.Feed.{FeedValue}
-use Rattle.bk_replay.specs.declared.fault.Fault.{Fault}
-use Rattle.bk_replay.specs.declared.fault.Fault.TheVariants as fault
+use Rattle.bk_results.specs.declared.fault.Fault.{Fault}
+use Rattle.bk_results.specs.declared.fault.Fault.TheVariants as fault
 use Rattle.bk_replay.specs.Follower.{BookValue, IsBookOf}
 use Rattle.bk_replay.specs.RunReport.{HasNoStopIn, IsOrderIn, IsStopIn}
 use Rattle.bk_replay.specs.private.Books.{IsGoodBook}

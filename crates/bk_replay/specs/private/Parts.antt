@@ -2,8 +2,8 @@
 use Rattle.std.specs.Prelude.{◌≡◌, None}
 use Rattle.bk_frames.specs.Device.{Device, Fails}
 use Rattle.bk_frames.specs.Cutting.{Cut, EndsShort}
-use Rattle.bk_replay.specs.declared.fault.Fault.{Fault}
-use Rattle.bk_replay.specs.declared.fault.Fault.TheVariants as fault
+use Rattle.bk_results.specs.declared.fault.Fault.{Fault}
+use Rattle.bk_results.specs.declared.fault.Fault.TheVariants as fault
 use Rattle.bk_replay.specs.declared.opening.Opened.{Opened}
 use Rattle.bk_replay.specs.Answers.{IsUntouched}
 use Rattle.bk_replay.specs.Finishing.{OfFeed, ReportStops}

@@ -6,12 +6,12 @@ use Rattle.bk_frames.specs.Device.{Device, Works, Fails, Receives}
 use Rattle.bk_frames.specs.Feed.{FeedValue, IsFeed}
 use Rattle.bk_frames.specs.Writing.{Writes}
 use Rattle.bk_order.specs.Intake.{Taken}
-use Rattle.bk_replay.specs.declared.fault.Fault.{Fault}
-use Rattle.bk_replay.specs.declared.fault.Fault.TheVariants as fault
+use Rattle.bk_results.specs.declared.fault.Fault.{Fault}
+use Rattle.bk_results.specs.declared.fault.Fault.TheVariants as fault
 use Rattle.bk_ledger.specs.Ledger.{LedgerValue}
-use Rattle.bk_replay.specs.declared.query.Query.{Query}
-use Rattle.bk_replay.specs.declared.query.Reply.{Reply}
-use Rattle.bk_replay.specs.declared.query.Reply.TheVariants as reply
+use Rattle.bk_results.specs.declared.query.Query.{Query}
+use Rattle.bk_results.specs.declared.query.Reply.{Reply}
+use Rattle.bk_results.specs.declared.query.Reply.TheVariants as reply
 use Rattle.bk_replay.specs.Answers.{IsUntouched}
 use Rattle.bk_replay.specs.Asking.{Outcome, Replies, IsReplyOf}
 use Rattle.bk_replay.specs.Finishing.{OfFeed}

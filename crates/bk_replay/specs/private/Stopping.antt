@@ -1,7 +1,7 @@
 -- Which faults are kept.
 use Rattle.std.specs.Prelude.{Option, Some, None, Bool, true, false}
-use Rattle.bk_replay.specs.declared.fault.Fault.{Fault}
-use Rattle.bk_replay.specs.declared.fault.Fault.TheVariants as fault
+use Rattle.bk_results.specs.declared.fault.Fault.{Fault}
+use Rattle.bk_results.specs.declared.fault.Fault.TheVariants as fault
 
 -- the fault that is kept after a call that failed: none after a stop
 abbrev pub kept_fault : Fault → Option Fault

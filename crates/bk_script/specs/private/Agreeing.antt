@@ -1,8 +1,8 @@
 -- What the private functions that make a feed say.
 use Rattle.std.specs.Prelude.{◌≡◌, ℕ, List, Result, Ok, Err}
 use Rattle.bk_frames.specs.Device.{Device, Works, Fails, IfKnown}
-use Rattle.bk_script.specs.declared.fault.ScriptFault.{ScriptFault}
-use Rattle.bk_script.specs.declared.fault.ScriptFault.TheVariants as fault
+use Rattle.bk_results.specs.declared.script_fault.ScriptFault.{ScriptFault}
+use Rattle.bk_results.specs.declared.script_fault.ScriptFault.TheVariants as fault
 use Rattle.bk_script.specs.Script.{LineFault, feed_within}
 
 -- a function that uses no device and may be refused memory answers as defined: with this value, or with what is wrong

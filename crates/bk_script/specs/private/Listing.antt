@@ -1,8 +1,8 @@
 -- What the private functions that read a list of events say.
 use Rattle.std.specs.Prelude.{◌≡◌, ℕ, Result, Ok, Err}
 use Rattle.bk_frames.specs.Device.{Device, Works, Fails}
-use Rattle.bk_script.specs.declared.events.EventsFault.{EventsFault}
-use Rattle.bk_script.specs.declared.events.EventsFault.TheVariants as fault
+use Rattle.bk_results.specs.declared.events_fault.EventsFault.{EventsFault}
+use Rattle.bk_results.specs.declared.events_fault.EventsFault.TheVariants as fault
 use Rattle.bk_script.specs.Events.{EventList}
 
 -- a function that uses no device and may be refused memory answers as defined: with this list, or with the line at fault

@@ -1,6 +1,6 @@
 -- The four parts of the line.
 use Rattle.std.proofs.Common.{◌∙◌, ◌++◌, ap, ap₂, sym, codes, List, ℕ}
-use Rattle.bk_report.specs.Lines.{spaced}
+use Rattle.bk_results.specs.Lines.{spaced}
 use Rattle.bkreplay.specs.FaultLines.{list_text}
 use Rattle.bkreplay.proofs.LineLemmas.{event_line}
 use Rattle.bkreplay.proofs.fault_line.put_list.Goals as goal

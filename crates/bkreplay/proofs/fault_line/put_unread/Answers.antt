@@ -1,6 +1,6 @@
 -- The two parts of the line.
 use Rattle.std.proofs.Common.{◌∙◌, ◌++◌, ap, ap₂, sym, append_assoc, codes, List, ℕ}
-use Rattle.bk_report.specs.Lines.{spaced}
+use Rattle.bk_results.specs.Lines.{spaced}
 use Rattle.bkreplay.specs.FaultLines.{unread_text}
 use Rattle.bkreplay.proofs.fault_line.put_unread.Goals as goal
 

@@ -19,8 +19,8 @@ returns-in_err-stop-clause-differ c =
 
 pub returns-in-Some-clause-differ : goal.returns-in-Some-clause-differ
 returns-in-Some-clause-differ c =
-    books_stopped c.args.self.now c.args.other.now c.self.inside.intake c.other.inside.intake c.in_ok-stop.field-0 c.in-Some.stop c.from.result
-    (ap (λ (b : BookValue). b.taken) (sym c.self.view_is)) (ap (λ (b : BookValue). b.taken) (sym c.other.view_is)) (c.if-not-has_setup_of.ensures.0 refl) c.in-Some.is c.in_ok-stop.ensures c.from.ensures
+    books_stopped c.args.self.now c.args.other.now c.self.inside.intake c.other.inside.intake c.in_ok-stop.field-0 c.in-Some.stop c.differing.result
+    (ap (λ (b : BookValue). b.taken) (sym c.self.view_is)) (ap (λ (b : BookValue). b.taken) (sym c.other.view_is)) (c.if-not-has_setup_of.ensures.0 refl) c.in-Some.is c.in_ok-stop.ensures c.differing.ensures
 
 pub returns-clause-agree : goal.returns-clause-agree
 returns-clause-agree c =

@@ -1,6 +1,6 @@
 use Rattle.std.proofs.Common.{subst, sym, ap}
 use Rattle.std.proofs.lemmas.Result.{err_from_is_err_and}
-use Rattle.bk_replay.specs.declared.status.Status.TheVariants as status
+use Rattle.bk_results.specs.declared.status.Status.TheVariants as status
 use Rattle.bk_replay.specs.RunReport.{status_of}
 use Rattle.bk_replay.specs.private.Ledgers.{executed_of, book_with}
 use Rattle.bk_replay.proofs.BookReports.{IsSettledBook, shown_of, few_rejected, few_waits, few_of_anchors, few_of_order, few_counts, few_receipts, report_out, report_front}

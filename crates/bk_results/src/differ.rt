@@ -1,0 +1,49 @@
+//! What comparing two Followers answers.
+
+ghost use Rattle.std.specs.Prelude.{◌≡◌};
+ghost use Rattle.bk_results.specs.declared.differ.Differ.TheVariants as differ;
+
+use bk_digest::Digest32;
+use std::alloc::AllocError;
+use thiserror::Error;
+
+/// How far two Followers have one order.
+#[derive(Clone, Copy, Debug, PartialEq, Eq)]
+pub struct Agreed {
+    /// How many certificates the shorter order has.
+    pub certs: usize,
+    /// How many places the shorter list of receipts has.
+    pub places: usize,
+}
+
+/// Why two Followers do not agree. The text of each is the line that the program prints.
+#[derive(Clone, Copy, Debug, PartialEq, Eq, Error)]
+pub enum Differ {
+    /// Not both have a genesis, or their versions, committees or opening accounts differ.
+    #[error("differ setup")]
+    Setup,
+    /// The least id of two certificates or digest of two batches, over both together.
+    #[error("collision {id}")]
+    Collision {
+        id: Digest32,
+    },
+    /// A member made two certificates for one round: the evidence over both together, where no id collides.
+    #[error("equivocation {round} {author} {first} {second}")]
+    Twins {
+        round: u32,
+        author: u8,
+        first: Digest32,
+        second: Digest32,
+    },
+    /// Memory was refused.
+    #[error("memory")]
+    Memory,
+}
+
+impl From<AllocError> for Differ {
+    ghost from_gives = { λ _ d. d ≡ differ.Memory };
+
+    fn from(_e: AllocError) -> Differ {
+        Differ::Memory
+    }
+}

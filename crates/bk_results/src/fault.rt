@@ -1,0 +1,74 @@
+ghost use Rattle.std.specs.Prelude.{◌≡◌};
+ghost use Rattle.bk_results.specs.declared.fault.Fault.TheVariants as fault;
+
+use bk_digest::Digest32;
+use bk_frames::{FeedFault, WriteFault};
+use std::alloc::{AllocError, AllocFailed};
+use thiserror::Error;
+
+/// Why a replay did not answer. The text of each is the line that the program prints.
+#[derive(Clone, Copy, Debug, PartialEq, Eq, Error)]
+pub enum Fault {
+    /// The feed has this fault, or reading it failed or found no memory. Nothing is written.
+    #[error("{0}")]
+    Feed(FeedFault),
+    /// The feed is stopped: this is the least id of two certificates or digest of two batches. Nothing is written.
+    #[error("collision {id}")]
+    Collision {
+        id: Digest32,
+    },
+    /// The feed is stopped: a member made two certificates for one round. Nothing is written.
+    #[error("equivocation {round} {author} {first} {second}")]
+    Equivocation {
+        round: u32,
+        author: u8,
+        first: Digest32,
+        second: Digest32,
+    },
+    /// A worker took this place and did not finish it. Nothing is written.
+    #[error("unfinished {place}")]
+    Unfinished {
+        place: u32,
+    },
+    /// The sink failed. Exactly the first `written` bytes of the report are out.
+    #[error("write failed")]
+    Write {
+        written: u64,
+    },
+    /// Memory was refused. Nothing is written.
+    #[error("memory")]
+    Memory,
+}
+
+impl From<FeedFault> for Fault {
+    ghost from_gives = { λ f e. e ≡ fault.Feed f };
+
+    fn from(f: FeedFault) -> Fault {
+        Fault::Feed(f)
+    }
+}
+
+impl From<WriteFault> for Fault {
+    ghost from_gives = { λ w e. e ≡ fault.Write w.written };
+
+    fn from(w: WriteFault) -> Fault {
+        let written = w.written;
+        Fault::Write { written }
+    }
+}
+
+impl From<AllocError> for Fault {
+    ghost from_gives = { λ _ e. e ≡ fault.Memory };
+
+    fn from(_e: AllocError) -> Fault {
+        Fault::Memory
+    }
+}
+
+impl<T: Drop> From<AllocFailed<T>> for Fault {
+    ghost from_gives = { λ _ e. e ≡ fault.Memory };
+
+    fn from(_e: AllocFailed<T>) -> Fault {
+        Fault::Memory
+    }
+}

@@ -1,0 +1,20 @@
+//! How the calls of the replayer end: their answers and their faults, as small values that own nothing.
+//!
+//! A caller that only reports how a call ended needs this crate alone, and none of what makes the calls.
+#![tactic(auto)]
+
+mod compare_stop;
+mod differ;
+mod events_fault;
+mod fault;
+mod query;
+mod script_fault;
+mod status;
+
+pub use compare_stop::CompareStop;
+pub use differ::{Agreed, Differ};
+pub use events_fault::EventsFault;
+pub use fault::Fault;
+pub use query::{Query, Reply};
+pub use script_fault::{ScriptCode, ScriptFault};
+pub use status::Status;
