@@ -25,6 +25,3 @@ pub use line::Line;
 pub use page::{Page, push_line};
 pub use proof::{Proof, proof_of};
 pub use report::{Parts, write_run};
-
-#[cfg(test)]
-mod tests;

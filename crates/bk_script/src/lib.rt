@@ -27,6 +27,3 @@ pub use fault::Stop;
 pub use making::{MOST_SCRIPT, make};
 pub use reading::read_text;
 pub use script::Script;
-
-#[cfg(test)]
-mod tests;
