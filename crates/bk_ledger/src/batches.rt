@@ -22,11 +22,7 @@ pub struct Batches {
 }
 
 // Puts the transactions of a batch at the end, from where its texts lie.
-fn decode_all(
-    txs: &mut Vec<Option<Tx>>,
-    payload: &[u8],
-    slices: &[Slice],
-) -> Result<(), AllocError>
+fn decode_all(txs: &mut Vec<Option<Tx>>, payload: &[u8], slices: &[Slice]) -> Result<(), AllocError>
     requires { All (IsWithin payload.now) slices.now }
     ensures { OnOk result (txs.new.items
         ≡ txs.old.items ++ map transaction_of (cuts payload.now slices.now)) }

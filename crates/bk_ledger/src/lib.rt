@@ -17,6 +17,3 @@ pub use batches::Batches;
 pub use bk_pool::{ExecFault, Gate, Open};
 pub use ledger::Ledger;
 pub use summary::Summary;
-
-#[cfg(test)]
-mod tests;
