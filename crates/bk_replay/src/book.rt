@@ -45,11 +45,7 @@ impl Model for Book {
 }
 
 // The payloads of an order's batches, from an index on.
-fn payloads_from(
-    alloc: Global,
-    intake: &Intake,
-    from: usize,
-) -> Result<Vec<&[u8]>, AllocError>
+fn payloads_from(alloc: Global, intake: &Intake, from: usize) -> Result<Vec<&[u8]>, AllocError>
     requires open { intake.now.failed ≡ false }
     requires within { from ≤ length intake.now.ordered.payloads.list }
     ensures { IfOk result (λ found. map (λ p. p.now) found.items

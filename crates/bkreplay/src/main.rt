@@ -1,23 +1,7 @@
-//! The program `bkreplay`: reads the command line, opens the files that it names and runs the job.
+//! The program `bkreplay`: reads the command line and runs the job that it names.
 #![tactic(auto)]
 
-mod commands;
-mod comparing;
-mod exit;
-mod fault_line;
-mod help;
-mod job;
-mod job_fault;
-mod line;
-mod list_fault;
 mod program;
-mod queries;
-mod replaying;
-mod running;
-mod scheduling;
-mod texts;
-mod verb;
-mod workers;
 
 use crate::program::program;
 use bk_frames::Counted;
@@ -28,6 +12,3 @@ fn main(rt: HostRuntime) -> ExitCode {
     let mut err = Counted::new(rt.stderr());
     ExitCode::from(program(&rt, &mut out, &mut err).number())
 }
-
-#[cfg(test)]
-mod tests;

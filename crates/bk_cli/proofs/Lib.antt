@@ -1,0 +1,3 @@
+mod InTurn
+mod LineLemmas
+mod WordLemmas

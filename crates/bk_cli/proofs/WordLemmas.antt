@@ -1,0 +1,111 @@
+-- What the words of a command line name.
+use Rattle.std.proofs.Common.{ℕ, ◌≡◌, ◌⊎◌, ◌∙◌, inl, inr, sym, ap, ap₂, refl, List, [], ◌∷◌, Option, Some, None, Bool, true, false, map, codes, option_map, cond, subst}
+use Rattle.std.specs.Prelude.{Box, unwrap_or, find}
+use Rattle.std.specs.Str.{IsUtf8, bytes_eq}
+use Rattle.std.proofs.lemmas.Slice.Eq.{bytes_eq-Decides}
+use Rattle.std.specs.Box.{box_value}
+use Rattle.clap.specs.Simple.{Shape, built, entered, label_of, rows_at, argument_words, names_of, subcommand_rows}
+use Rattle.clap.specs.Walk.{answers_to, stop_after}
+use Rattle.clap.specs.Matches.{subcommand_name_of}
+use Rattle.clap.specs.Words.{App, HasMatchesOf, Row, Text, subcommand_of, subcommand_rows_of}
+use Rattle.clap.specs.declared.parser.matches.ArgMatches.{ArgMatches}
+use Rattle.clap.specs.declared.parser.matches.SubCommand.{SubCommand}
+use Rattle.clap.specs.declared.parser.matches.ArgMatches.TheViews.{out-ArgMatches, out-SubCommand}
+use Rattle.bk_cli.specs.CommandLine.{command_line, all_words, AreNamedBy, IsOneOf, IsJobOf, IsJobAt}
+use Rattle.bk_cli.specs.declared.job.Job.{Job}
+
+-- ---- a parse and its rows
+
+-- the name that a parse gives is that of its rows
+names_same : {Z : Type 0} (o : Option (Box SubCommand Z))
+    → option_map (λ (p : Text × List Row). p.0) (subcommand_rows o) ≡ option_map (λ b. (out-SubCommand (box_value b)).name.now) o
+names_same None = refl
+names_same (Some b) = refl
+
+name_of_rows : (m : ArgMatches) → option_map (λ (p : Text × List Row). p.0) (subcommand_rows_of m) ≡ subcommand_name_of m
+name_of_rows m = names_same (out-ArgMatches m).subcommand
+
+both_parts : (name : Text) (rows : List Row) (o : Option (Text × List Row)) → Some name ≡ option_map (λ p. p.0) o → Some rows ≡ option_map (λ p. p.1) o
+    → o ≡ Some (name, rows)
+both_parts name rows None e e' = absurd (cc)
+both_parts name rows (Some p) e e' =
+    let n : p.0 ≡ name = ap (λ (t : Option Text). unwrap_or t name) (sym e) in
+    let r : p.1 ≡ rows = ap (λ (t : Option (List Row)). unwrap_or t rows) (sym e') in
+    ap (λ (q : Text × List Row). Some q) (ap₂ (λ (x : Text) (y : List Row). (x, y)) n r)
+
+-- the subcommand that a parse gives is the one that the words name
+pub what_is_found : (m : ArgMatches) (words : List Text) (name : Text) (rows : List Row) → subcommand_rows_of m ≡ subcommand_of command_line words
+    → Some name ≡ subcommand_name_of m → Some rows ≡ option_map (λ p. p.1) (subcommand_rows_of m) → subcommand_of command_line words ≡ Some (name, rows)
+what_is_found m words name rows found named valued =
+    sym found ∙ both_parts name rows (subcommand_rows_of m) (named ∙ sym (name_of_rows m)) valued
+
+-- a job at these rows is the job of the words
+pub job_at_found : (found : Option (Text × List Row)) (name word : Text) (rows : List Row) (j : Job) → found ≡ Some (name, rows) → name ≡ word → IsJobAt word rows j
+    → IsJobOf found j
+job_at_found found name word rows j is same h =
+    let is_word : found ≡ Some (word, rows) = is ∙ ap (λ (t : Text). Some (t, rows)) same in
+    subst (λ (f : Option (Text × List Row)). IsJobOf f j) (sym is_word) h
+
+-- the usual number of workers by another name
+pub named_by_usual : (n usual : ℕ) (t : Option Text) (count : ℕ) → n ≡ usual → AreNamedBy n t count → AreNamedBy usual t count
+named_by_usual n usual t count e h = subst (λ (k : ℕ). AreNamedBy k t count) e h
+
+-- the command line is one of which the matches are defined
+pub named_by_words : (a : App) (words : List Text) (m : ArgMatches) → a ≡ command_line → HasMatchesOf a words m
+    → subcommand_rows_of m ≡ subcommand_of command_line words
+named_by_words a words m is h =
+    let here : HasMatchesOf command_line words m = subst (λ (b : App). HasMatchesOf b words m) is h in
+    (here refl).1
+
+-- ---- the words of the commands
+
+picked : (p : Shape → Bool) (subs : List Shape) (words : List Text) (name : Text) (rows : List Row)
+    → option_map (λ (s : Shape). rows_at s words) (find p subs) ≡ Some (name, rows) → IsOneOf (map (λ (s : Shape). s.name) subs) name
+picked p [] words name rows e = absurd (cc)
+picked p (s ∷ subs) words name rows e = go (p s) e (picked p subs words name rows)
+  where
+    go : (b : Bool) → option_map (λ (s : Shape). rows_at s words) (cond b (Some s) (find p subs)) ≡ Some (name, rows)
+        → (option_map (λ (s : Shape). rows_at s words) (find p subs) ≡ Some (name, rows) → IsOneOf (map (λ (s : Shape). s.name) subs) name)
+        → (name ≡ s.name) ⊎ IsOneOf (map (λ (s : Shape). s.name) subs) name
+    go true e rest = inl (sym (ap (λ (o : Option (Text × List Row)). (unwrap_or o (name, rows)).0) e))
+    go false e rest = inr (rest e)
+
+entered_one : (stop : Option (Text × List Text)) (name : Text) (rows : List Row) → entered (built command_line) stop ≡ Some (name, rows)
+    → IsOneOf all_words name
+entered_one None name rows e = absurd (cc)
+entered_one (Some q) name rows e = picked (λ s. answers_to q.0 (label_of s)) (built command_line).subs q.1 name rows e
+
+-- what the words name is one of the commands
+pub one_of_all : (words : List Text) (name : Text) (rows : List Row) → subcommand_of command_line words ≡ Some (name, rows) → IsOneOf all_words name
+one_of_all words name rows e = entered_one (stop_after (built command_line).top.rules (names_of (built command_line)) (argument_words command_line words)) name rows e
+
+-- a word that is equal to one
+pub is_word : (word x : Text) → bytes_eq word x ≡ true → word ≡ x
+is_word word x same = (bytes_eq-Decides word x).0 same
+
+-- and one of several that is not equal to the first
+pub not_first : (word x : Text) (xs : List Text) → bytes_eq word x ≡ false → IsOneOf (x ∷ xs) word → IsOneOf xs word
+not_first word x xs differs (inr h) = h
+not_first word x xs differs (inl h) =
+    let equal : bytes_eq word x ≡ true = (bytes_eq-Decides word x).1 h in
+    absurd (cc)
+
+pub the_last : (word x : Text) → IsOneOf (x ∷ []) word → word ≡ x
+the_last word x (inl h) = h
+the_last word x (inr h) = absurd h
+
+-- ---- the words are text
+
+pub are_text : (word : Text) → IsOneOf all_words word → IsUtf8 word
+unfolding lib.Utf8.encode
+are_text word (inl e) = subst IsUtf8 (sym e) (codes "run", (refl, refl))
+are_text word (inr (inl e)) = subst IsUtf8 (sym e) (codes "make", (refl, refl))
+are_text word (inr (inr (inl e))) = subst IsUtf8 (sym e) (codes "order", (refl, refl))
+are_text word (inr (inr (inr (inl e)))) = subst IsUtf8 (sym e) (codes "account", (refl, refl))
+are_text word (inr (inr (inr (inr (inl e))))) = subst IsUtf8 (sym e) (codes "receipt", (refl, refl))
+are_text word (inr (inr (inr (inr (inr (inl e)))))) = subst IsUtf8 (sym e) (codes "prove", (refl, refl))
+are_text word (inr (inr (inr (inr (inr (inr (inl e))))))) = subst IsUtf8 (sym e) (codes "check-proof", (refl, refl))
+are_text word (inr (inr (inr (inr (inr (inr (inr (inl e)))))))) = subst IsUtf8 (sym e) (codes "apply", (refl, refl))
+are_text word (inr (inr (inr (inr (inr (inr (inr (inr (inl e))))))))) = subst IsUtf8 (sym e) (codes "schedule", (refl, refl))
+are_text word (inr (inr (inr (inr (inr (inr (inr (inr (inr (inl e)))))))))) = subst IsUtf8 (sym e) (codes "compare", (refl, refl))
+are_text word (inr (inr (inr (inr (inr (inr (inr (inr (inr (inr e)))))))))) = absurd e

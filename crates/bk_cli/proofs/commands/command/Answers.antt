@@ -1,0 +1,10 @@
+-- Each command is added to those before it.
+use Rattle.std.proofs.lemmas.Result.{IfOk-weaker}
+use Rattle.bk_cli.specs.CommandLine.{schedule_line, compare_line}
+use Rattle.bk_cli.proofs.InTurn.{more}
+use Rattle.bk_cli.proofs.commands.command.Goals as goal
+
+pub returns-clause-line : goal.returns-clause-line
+returns-clause-line c =
+    let schedule = more _ _ _ schedule_line c.in_ok-schedule.ensures.line c.in_ok-single.ensures.line in
+    IfOk-weaker c.with_compare.result _ _ (λ r h. more _ _ _ compare_line h schedule) c.with_compare.ensures.line

@@ -1,0 +1,66 @@
+-- The values of the arguments are those of the rows.
+use Rattle.std.proofs.Common.{◌∙◌, ◌^◌, ap, sym, subst, codes, Option, unwrap_or, []}
+use Rattle.clap.proofs.WalkLemmas.{first_value-rows, one_text-rows}
+use Rattle.clap.specs.Words.{Text, found_of}
+use Rattle.bk_cli.specs.CommandLine.{AreNamedBy, IsNumberBy, word_of}
+use Rattle.bk_cli.proofs.WordLemmas.{named_by_usual}
+use Rattle.bk_cli.proofs.job.job_of.Goals as goal
+
+pub returns-in-Run : goal.returns-in-Run
+returns-in-Run c =
+    let found = found_of c.args.found.now in (
+      ap word_of c.in-Run.is,
+      named_by_usual c.one.result 1 _ c.workers_in-workers.result c.one.ensures
+          (subst (λ (t : Option Text). AreNamedBy c.one.result t c.workers_in-workers.result) (one_text-rows found (codes "workers")) c.workers_in-workers.ensures),
+      sym (first_value-rows found (codes "FILE")) ∙ (sym c.get_str.ensures ∙ sym c.in_ok-file.ensures),
+    )
+
+pub returns-in-Make : goal.returns-in-Make
+returns-in-Make c =
+    let found = found_of c.args.found.now in
+    (ap word_of c.in-Make.is, sym (first_value-rows found (codes "FILE")) ∙ (sym c.get_str.ensures ∙ sym c.in_ok-file.ensures))
+
+pub returns-in_ok-root-in-CheckProof : goal.returns-in_ok-root-in-CheckProof
+returns-in_ok-root-in-CheckProof c =
+    let found = found_of c.args.found.now in (
+      ap word_of c.in-CheckProof.is,
+      c.in_ok-root-in-CheckProof.ensures ∙ ap (λ (t : Option Text). unwrap_or t []) (first_value-rows found (codes "ROOT")),
+      sym (first_value-rows found (codes "FILE")) ∙ (sym c.get_str.ensures ∙ sym c.in_ok-file.ensures),
+    )
+
+pub returns-in-Apply : goal.returns-in-Apply
+returns-in-Apply c =
+    let found = found_of c.args.found.now in
+    (ap word_of c.in-Apply.is, sym (first_value-rows found (codes "FILE")) ∙ (sym c.get_str.ensures ∙ sym c.in_ok-file.ensures))
+
+pub returns-in-Order : goal.returns-in-Order
+returns-in-Order c =
+    let found = found_of c.args.found.now in
+    (ap word_of c.in-Order.is, sym (first_value-rows found (codes "FILE")) ∙ (sym c.get_str.ensures ∙ sym c.in_ok-file.ensures))
+
+pub returns-in-Account : goal.returns-in-Account
+returns-in-Account c =
+    let found = found_of c.args.found.now in (
+      (ap word_of c.in-Account.is, subst (λ (t : Option Text). IsNumberBy (2 ^ 64) t c.id_in.result) (one_text-rows found (codes "ID")) c.id_in.ensures),
+      sym (first_value-rows found (codes "FILE")) ∙ (sym c.get_str.ensures ∙ sym c.in_ok-file.ensures),
+    )
+
+pub returns-in-Receipt : goal.returns-in-Receipt
+returns-in-Receipt c =
+    let found = found_of c.args.found.now in (
+      (ap word_of c.in-Receipt.is, subst (λ (t : Option Text). IsNumberBy (2 ^ 32) t c.place_in-place.result) (one_text-rows found (codes "PLACE")) c.place_in-place.ensures),
+      sym (first_value-rows found (codes "FILE")) ∙ (sym c.get_str.ensures ∙ sym c.in_ok-file.ensures),
+    )
+
+pub returns-in-Prove : goal.returns-in-Prove
+returns-in-Prove c =
+    let found = found_of c.args.found.now in (
+      (ap word_of c.in-Prove.is, subst (λ (t : Option Text). IsNumberBy (2 ^ 64) t c.id_in-in-Prove.result) (one_text-rows found (codes "ID")) c.id_in-in-Prove.ensures),
+      sym (first_value-rows found (codes "FILE")) ∙ (sym c.get_str.ensures ∙ sym c.in_ok-file.ensures),
+    )
+
+pub returns-in_ok-job-in-Schedule : goal.returns-in_ok-job-in-Schedule
+returns-in_ok-job-in-Schedule c = rw c.in-Schedule.is c.in_ok-job-in-Schedule.ensures
+
+pub returns-in_ok-job-in-Compare : goal.returns-in_ok-job-in-Compare
+returns-in_ok-job-in-Compare c = rw c.in-Compare.is c.in_ok-job-in-Compare.ensures

@@ -1,0 +1,217 @@
+-- The command line, and the job that its words ask for.
+use Rattle.std.specs.Prelude.{◌≡◌, ◌≤◌, ◌<◌, ◌⊎◌, ◌^◌, ℕ, List, [], ◌∷◌, Option, Some, None, true, codes, option_map, string_bytes, pos, unwrap_or}
+use Rattle.std.specs.Str.Parse.{IsNumeral, digits_value, without_leading_plus}
+use Rattle.clap.specs.Words.{App, Rule, Row, Text, first_of, one_of, new_app, new_rule, with_rule, with_subcommand}
+use Rattle.clap.specs.declared.builder.action.ArgAction.TheVariants.{Set}
+use Rattle.clap.specs.declared.builder.value_parser.ValueParser.TheVariants.{Signed, Unsigned}
+use Rattle.bk_results.specs.declared.query.Query.{Query}
+use Rattle.bk_results.specs.declared.query.Query.TheVariants as query
+use Rattle.bk_cli.specs.declared.job.Job.{Job}
+use Rattle.bk_cli.specs.declared.job.Job.TheVariants as job
+use Rattle.bk_cli.specs.declared.verb.Verb.{Verb}
+use Rattle.bk_cli.specs.declared.verb.Verb.TheVariants as verb
+
+-- ---- the arguments
+
+-- the argument FILE
+abbrev pub file_rule : Rule
+file_rule = record (new_rule (codes "FILE")) { action = Some Set }
+
+-- the option `--workers W`, a number from 1 to 64
+abbrev pub workers_rule : Rule
+workers_rule = record (new_rule (codes "workers")) {
+  long = Some (codes "workers");
+  action = Some Set;
+  value_names = 1;
+  parser = Some (Signed (pos 1) (pos 64));
+}
+
+-- an argument that is required, any text
+abbrev pub required_rule : Text → Rule
+required_rule name = record (new_rule name) { action = Some Set; required = true }
+
+-- the argument ROOT
+abbrev pub root_rule : Rule
+root_rule = required_rule (codes "ROOT")
+
+-- the argument FEED
+abbrev pub feed_rule : Rule
+feed_rule = required_rule (codes "FEED")
+
+-- the argument EVENTS
+abbrev pub events_rule : Rule
+events_rule = required_rule (codes "EVENTS")
+
+-- the argument FEED1
+abbrev pub first_feed_rule : Rule
+first_feed_rule = required_rule (codes "FEED1")
+
+-- the argument FEED2
+abbrev pub second_feed_rule : Rule
+second_feed_rule = required_rule (codes "FEED2")
+
+-- the argument ID, a number below 2^64
+abbrev pub id_rule : Rule
+id_rule = record (new_rule (codes "ID")) {
+  action = Some Set;
+  required = true;
+  parser = Some (Unsigned 0 18446744073709551615);
+}
+
+-- the argument PLACE, a number below 2^32
+abbrev pub place_rule : Rule
+place_rule = record (new_rule (codes "PLACE")) {
+  action = Some Set;
+  required = true;
+  parser = Some (Signed (pos 0) (pos 4294967295));
+}
+
+-- ---- the commands
+
+-- a command `NAME [FILE]`
+abbrev pub file_line : Text → App
+file_line name = with_rule (new_app name) file_rule
+
+-- a command with one argument more in front
+abbrev pub value_line : Text → Rule → App
+value_line name rule = with_rule (with_rule (new_app name) rule) file_rule
+
+-- the command `schedule [--workers W] FEED EVENTS`
+abbrev pub schedule_line : App
+schedule_line =
+    let named = new_app (codes "schedule") in
+    with_rule (with_rule (with_rule named workers_rule) feed_rule) events_rule
+
+-- the command `compare FEED1 FEED2`
+abbrev pub compare_line : App
+compare_line = with_rule (with_rule (new_app (codes "compare")) first_feed_rule) second_feed_rule
+
+-- the word of a command
+abbrev pub word_of : Verb → Text
+word_of verb.Run = codes "run"
+word_of verb.Make = codes "make"
+word_of verb.Order = codes "order"
+word_of verb.Account = codes "account"
+word_of verb.Receipt = codes "receipt"
+word_of verb.Prove = codes "prove"
+word_of verb.CheckProof = codes "check-proof"
+word_of verb.Apply = codes "apply"
+word_of verb.Schedule = codes "schedule"
+word_of verb.Compare = codes "compare"
+
+-- a command with its arguments
+abbrev pub line_of : Verb → App
+line_of verb.Run = value_line (codes "run") workers_rule
+line_of verb.Make = file_line (codes "make")
+line_of verb.Order = file_line (codes "order")
+line_of verb.Account = value_line (codes "account") id_rule
+line_of verb.Receipt = value_line (codes "receipt") place_rule
+line_of verb.Prove = value_line (codes "prove") id_rule
+line_of verb.CheckProof = value_line (codes "check-proof") root_rule
+line_of verb.Apply = file_line (codes "apply")
+line_of verb.Schedule = schedule_line
+line_of verb.Compare = compare_line
+
+-- the program's name, with a version
+abbrev pub program : App
+program = let a = new_app (codes "bkreplay") in record a {
+  top = record a.top {
+    has_version = true;
+    disable_help_subcommand = true;
+    subcommand_required = true;
+  };
+}
+
+-- a command more
+abbrev pub with_command : App → Verb → App
+with_command a v = with_subcommand a (line_of v).top
+
+-- the program with the commands that write a report, a feed or the reply to a query
+abbrev pub asking_line : App
+asking_line =
+    with_command (with_command (with_command (with_command (with_command (with_command program
+    verb.Run) verb.Make) verb.Order) verb.Account) verb.Receipt) verb.Prove
+
+-- the program with all commands that read one file
+abbrev pub single_line : App
+single_line = with_command (with_command asking_line verb.CheckProof) verb.Apply
+
+-- the whole command line: `bkreplay`, and one of the commands
+abbrev pub command_line : App
+command_line = with_command (with_command single_line verb.Schedule) verb.Compare
+
+-- ---- the job
+
+-- the file is the value of FILE
+abbrev pub IsFileIn : List Row → Option Text → Type 0
+IsFileIn rows file = first_of (codes "FILE") rows ≡ file
+
+-- the text is the value of an argument that is required
+abbrev pub IsTextIn : List Row → Text → Text → Type 0
+IsTextIn rows name text = text ≡ unwrap_or (first_of name rows) []
+
+-- so many workers are named by the value of `--workers`: this number where there is none
+abbrev pub AreNamedBy : ℕ → Option Text → ℕ → Type 0
+AreNamedBy usual None count = count ≡ usual
+AreNamedBy usual (Some text) count =
+    IsNumeral 10 (without_leading_plus text) → 1 ≤ digits_value 10 (without_leading_plus text)
+    → digits_value 10 (without_leading_plus text) ≤ 64
+    → count ≡ digits_value 10 (without_leading_plus text)
+
+-- a number below a limit is the value of an argument that is required
+abbrev pub IsNumberBy : ℕ → Option Text → ℕ → Type 0
+IsNumberBy limit None n = n ≡ 0
+IsNumberBy limit (Some text) n =
+    IsNumeral 10 (without_leading_plus text) → digits_value 10 (without_leading_plus text) < limit
+    → n ≡ digits_value 10 (without_leading_plus text)
+
+-- the query is that of a command, with the value of its argument
+abbrev pub IsQueryAt : Text → List Row → Query → Type 0
+IsQueryAt word rows query.Order = word ≡ word_of verb.Order
+IsQueryAt word rows (query.Account id) =
+    (word ≡ word_of verb.Account) × IsNumberBy (2 ^ 64) (one_of (codes "ID") rows) id
+IsQueryAt word rows (query.Receipt place) =
+    (word ≡ word_of verb.Receipt) × IsNumberBy (2 ^ 32) (one_of (codes "PLACE") rows) place
+IsQueryAt word rows (query.Proof id) =
+    (word ≡ word_of verb.Prove) × IsNumberBy (2 ^ 64) (one_of (codes "ID") rows) id
+
+-- the job is that of a command, with the values of its arguments
+abbrev pub IsJobAt : Text → List Row → Job → Type 0
+IsJobAt word rows (job.Run workers file) =
+    (word ≡ word_of verb.Run) × AreNamedBy 1 (one_of (codes "workers") rows) workers
+    × IsFileIn rows (option_map string_bytes file)
+IsJobAt word rows (job.Make file) =
+    (word ≡ word_of verb.Make) × IsFileIn rows (option_map string_bytes file)
+IsJobAt word rows (job.CheckProof root file) =
+    (word ≡ word_of verb.CheckProof) × IsTextIn rows (codes "ROOT") (string_bytes root)
+    × IsFileIn rows (option_map string_bytes file)
+IsJobAt word rows (job.Ask asked file) =
+    IsQueryAt word rows asked × IsFileIn rows (option_map string_bytes file)
+IsJobAt word rows (job.Apply file) =
+    (word ≡ word_of verb.Apply) × IsFileIn rows (option_map string_bytes file)
+IsJobAt word rows (job.Schedule workers feed events) =
+    (word ≡ word_of verb.Schedule) × AreNamedBy 2 (one_of (codes "workers") rows) workers
+    × IsTextIn rows (codes "FEED") (string_bytes feed)
+    × IsTextIn rows (codes "EVENTS") (string_bytes events)
+IsJobAt word rows (job.Compare first second) =
+    (word ≡ word_of verb.Compare) × IsTextIn rows (codes "FEED1") (string_bytes first)
+    × IsTextIn rows (codes "FEED2") (string_bytes second)
+
+-- the job is that of the command that was found in the words
+abbrev pub IsJobOf : Option (Text × List Row) → Job → Type 0
+IsJobOf None j = ⊥
+IsJobOf (Some found) j = IsJobAt found.0 found.1 j
+
+-- ---- the words of the commands
+
+-- the word is one of these
+abbrev pub IsOneOf : List Text → Text → Type 0
+IsOneOf [] word = ⊥
+IsOneOf (x ∷ xs) word = (word ≡ x) ⊎ IsOneOf xs word
+
+-- the words of all commands
+abbrev pub all_words : List Text
+all_words =
+    word_of verb.Run ∷ word_of verb.Make ∷ word_of verb.Order ∷ word_of verb.Account ∷ word_of verb.Receipt
+    ∷ word_of verb.Prove ∷ word_of verb.CheckProof ∷ word_of verb.Apply ∷ word_of verb.Schedule
+    ∷ word_of verb.Compare ∷ []

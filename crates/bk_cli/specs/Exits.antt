@@ -1,0 +1,217 @@
+-- The exit statuses of the program.
+use Rattle.std.specs.Prelude.{ℕ, Bool, true, false, if◌then◌else◌, Result, Ok, Err}
+use Rattle.bk_frames.specs.declared.fault.FaultCode.{FaultCode}
+use Rattle.bk_frames.specs.declared.fault.FaultCode.TheVariants as code
+use Rattle.bk_results.specs.declared.compare_stop.CompareStop.{CompareStop}
+use Rattle.bk_results.specs.declared.compare_stop.CompareStop.TheVariants as compared
+use Rattle.bk_results.specs.declared.differ.Differ.{Differ}
+use Rattle.bk_results.specs.declared.differ.Differ.TheVariants as differ
+use Rattle.bk_results.specs.declared.fault.Fault.{Fault}
+use Rattle.bk_results.specs.declared.fault.Fault.TheVariants as replay
+use Rattle.bk_results.specs.declared.query.Query.{Query}
+use Rattle.bk_results.specs.declared.query.Query.TheVariants as query
+use Rattle.bk_results.specs.declared.status.Status.{Status}
+use Rattle.bk_results.specs.declared.status.Status.TheVariants as status
+use Rattle.bk_results.specs.declared.events_fault.EventsFault.TheVariants as events
+use Rattle.bk_results.specs.declared.script_fault.ScriptFault.{ScriptFault}
+use Rattle.bk_results.specs.declared.script_fault.ScriptFault.TheVariants as text
+use Rattle.bk_cli.specs.declared.exit.Exit.{Exit}
+use Rattle.bk_cli.specs.declared.exit.Exit.TheVariants as exit
+use Rattle.bk_cli.specs.declared.job.Job.{Job}
+use Rattle.bk_cli.specs.declared.job.Job.TheVariants as job
+use Rattle.bk_cli.specs.declared.job_fault.JobFault.{JobFault}
+use Rattle.bk_cli.specs.declared.job_fault.JobFault.TheVariants as fault
+use Rattle.bk_cli.specs.declared.list_fault.ListFault.{ListFault}
+use Rattle.bk_cli.specs.declared.list_fault.ListFault.TheVariants as list
+
+-- the exit status as a number
+abbrev pub exit_number : Exit → ℕ
+exit_number exit.Whole = 0
+exit_number exit.No = 1
+exit_number exit.WrongInput = 2
+exit_number exit.Stopped = 3
+exit_number exit.Failed = 4
+exit_number exit.Missing = 5
+
+-- ---- which job may end how
+
+-- a job whose answer may be no
+abbrev pub gives_verdict : Job → Bool
+gives_verdict (job.Run workers file) = false
+gives_verdict (job.Make file) = false
+gives_verdict (job.CheckProof root file) = true
+gives_verdict (job.Ask asked file) = false
+gives_verdict (job.Apply file) = false
+gives_verdict (job.Schedule workers feed events) = false
+gives_verdict (job.Compare first second) = false
+
+-- what a query asks for may be absent; an order never is
+abbrev pub may_be_absent : Query → Bool
+may_be_absent query.Order = false
+may_be_absent (query.Account id) = true
+may_be_absent (query.Receipt place) = true
+may_be_absent (query.Proof id) = true
+
+-- a job that may end with no: by its answer, or since what it asks for is absent
+abbrev pub may_say_no : Job → Bool
+may_say_no (job.Run workers file) = false
+may_say_no (job.Make file) = false
+may_say_no (job.CheckProof root file) = true
+may_say_no (job.Ask asked file) = may_be_absent asked
+may_say_no (job.Apply file) = false
+may_say_no (job.Schedule workers feed events) = false
+may_say_no (job.Compare first second) = false
+
+-- a job that refuses bytes: those that are no feed, no script, no events of a whole run, or feeds of no one setup
+abbrev pub refuses : Job → Bool
+refuses (job.Run workers file) = true
+refuses (job.Make file) = true
+refuses (job.CheckProof root file) = false
+refuses (job.Ask asked file) = true
+refuses (job.Apply file) = true
+refuses (job.Schedule workers feed events) = true
+refuses (job.Compare first second) = true
+
+-- a job that finds the order of a feed, or compares those of two, which may be stopped
+abbrev pub finds_order : Job → Bool
+finds_order (job.Run workers file) = true
+finds_order (job.Make file) = false
+finds_order (job.CheckProof root file) = false
+finds_order (job.Ask asked file) = true
+finds_order (job.Apply file) = false
+finds_order (job.Schedule workers feed events) = false
+finds_order (job.Compare first second) = true
+
+-- a job that says whether a batch is missing
+abbrev pub reports_missing : Job → Bool
+reports_missing (job.Run workers file) = true
+reports_missing (job.Make file) = false
+reports_missing (job.CheckProof root file) = false
+reports_missing (job.Ask asked file) = false
+reports_missing (job.Apply file) = false
+reports_missing (job.Schedule workers feed events) = false
+reports_missing (job.Compare first second) = false
+
+-- a job that reads its second source
+abbrev pub reads_second : Job → Bool
+reads_second (job.Run workers file) = false
+reads_second (job.Make file) = false
+reads_second (job.CheckProof root file) = false
+reads_second (job.Ask asked file) = false
+reads_second (job.Apply file) = false
+reads_second (job.Schedule workers feed events) = true
+reads_second (job.Compare first second) = true
+
+-- how a job may end
+abbrev pub may_end : Job → Exit → Bool
+may_end j exit.Whole = true
+may_end j exit.No = may_say_no j
+may_end j exit.WrongInput = refuses j
+may_end j exit.Stopped = finds_order j
+may_end j exit.Failed = true
+may_end j exit.Missing = reports_missing j
+
+-- a job that ends so has written its whole answer, and reports no fault
+abbrev pub is_answer : Job → Exit → Bool
+is_answer j exit.Whole = true
+is_answer j exit.No = gives_verdict j
+is_answer j exit.WrongInput = false
+is_answer j exit.Stopped = false
+is_answer j exit.Failed = false
+is_answer j exit.Missing = true
+
+-- the report is written
+abbrev pub is_report : Exit → Bool
+is_report exit.Whole = true
+is_report exit.No = false
+is_report exit.WrongInput = false
+is_report exit.Stopped = false
+is_report exit.Failed = false
+is_report exit.Missing = true
+
+-- the bytes are to blame
+abbrev pub is_refusal : Exit → Bool
+is_refusal exit.Whole = false
+is_refusal exit.No = false
+is_refusal exit.WrongInput = true
+is_refusal exit.Stopped = true
+is_refusal exit.Failed = false
+is_refusal exit.Missing = false
+
+-- ---- the exit after an answer
+
+-- after a report that goes as far as this
+abbrev pub exit_at : Status → Exit
+exit_at status.Whole = exit.Whole
+exit_at status.Missing = exit.Missing
+
+-- after a verdict on a proof
+abbrev pub exit_by : Bool → Exit
+exit_by good = if good then exit.Whole else exit.No
+
+-- ---- the exit after a fault
+
+-- after a fault of a feed: the bytes are wrong, or reading failed or ran out of memory
+abbrev pub exit_by_code : FaultCode → Exit
+exit_by_code code.Magic = exit.WrongInput
+exit_by_code code.Truncated = exit.WrongInput
+exit_by_code code.Kind = exit.WrongInput
+exit_by_code code.Length = exit.WrongInput
+exit_by_code code.Committee = exit.WrongInput
+exit_by_code code.Genesis = exit.WrongInput
+exit_by_code code.Extra = exit.WrongInput
+exit_by_code code.Read = exit.Failed
+exit_by_code code.Memory = exit.Failed
+
+-- after a feed that was not replayed
+abbrev pub exit_after_replay : Fault → Exit
+exit_after_replay (replay.Feed found) = exit_by_code found.code
+exit_after_replay (replay.Collision id) = exit.Stopped
+exit_after_replay (replay.Equivocation round author first second) = exit.Stopped
+exit_after_replay (replay.Unfinished place) = exit.Failed
+exit_after_replay (replay.Write written) = exit.Failed
+exit_after_replay replay.Memory = exit.Failed
+
+-- after a text that has a fault, or was not read or answered
+abbrev pub exit_after_text : ScriptFault → Exit
+exit_after_text (text.Script line found) = exit.WrongInput
+exit_after_text text.Read = exit.Failed
+exit_after_text (text.Write written) = exit.Failed
+exit_after_text text.Memory = exit.Failed
+
+-- after a list of events that was not read, or that is no whole run
+abbrev pub exit_after_list : ListFault → Exit
+exit_after_list (list.Unread (events.Line line)) = exit.WrongInput
+exit_after_list (list.Unread events.Read) = exit.Failed
+exit_after_list (list.Unread events.Memory) = exit.Failed
+exit_after_list (list.Refused line why) = exit.WrongInput
+exit_after_list (list.Unfinished place) = exit.Failed
+
+-- after two feeds that differ
+abbrev pub exit_after_differ : Differ → Exit
+exit_after_differ differ.Setup = exit.WrongInput
+exit_after_differ (differ.Collision id) = exit.Stopped
+exit_after_differ (differ.Twins round author first second) = exit.Stopped
+exit_after_differ differ.Memory = exit.Failed
+
+-- after two feeds that do not agree
+abbrev pub exit_after_compare : CompareStop → Exit
+exit_after_compare (compared.First e) = exit_after_replay e
+exit_after_compare (compared.Second e) = exit_after_replay e
+exit_after_compare (compared.Differ e) = exit_after_differ e
+
+-- after a query whose object is absent
+abbrev pub absence : Query → Result Exit JobFault
+absence query.Order = Ok exit.Whole
+absence (query.Account id) = Err (fault.AbsentAccount id)
+absence (query.Receipt place) = Err (fault.AbsentPlace place)
+absence (query.Proof id) = Err (fault.AbsentAccount id)
+
+-- after a fault
+abbrev pub exit_after : JobFault → Exit
+exit_after (fault.Replay e) = exit_after_replay e
+exit_after (fault.Text e) = exit_after_text e
+exit_after (fault.Events e) = exit_after_list e
+exit_after (fault.Compared e) = exit_after_compare e
+exit_after (fault.AbsentAccount id) = exit.No
+exit_after (fault.AbsentPlace place) = exit.No

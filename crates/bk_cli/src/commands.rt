@@ -1,0 +1,225 @@
+//! The command line, as `--help` shows it.
+
+ghost use Rattle.std.specs.Prelude.{◌≡◌, true, false, IfOk};
+ghost use Rattle.clap.specs.Words.{app_of, new_app, rule_of, with_subcommand};
+ghost use Rattle.clap.specs.declared.builder.command.Command.TheViews.{out-Command};
+ghost use Rattle.bk_cli.specs.CommandLine.{program, asking_line, single_line, command_line, file_line, value_line, schedule_line};
+ghost use Rattle.bk_cli.specs.CommandLine.{file_rule, workers_rule, required_rule, id_rule, place_rule, compare_line};
+
+use crate::help::{self, Help};
+use clap::{Arg, ArgAction, Command, value_parser};
+use std::alloc::{AllocError, Global};
+
+// The argument FILE.
+fn file_arg<'a>(alloc: Global) -> Arg<'a>
+    ensures rule { rule_of result ≡ file_rule }
+    ensures local { result.global ≡ false }
+{
+    Arg::new(alloc, "FILE")
+        .action(ArgAction::Set)
+        .help(help::FILE)
+}
+
+// The option `--workers W`.
+fn workers_arg<'a>(alloc: Global, text: &'a str) -> Arg<'a>
+    ensures rule { rule_of result ≡ workers_rule }
+    ensures local { result.global ≡ false }
+{
+    Arg::new(alloc, "workers")
+        .long("workers")
+        .action(ArgAction::Set)
+        .value_name("W")
+        .value_parser(value_parser!(u8).range(1..=64))
+        .help(text)
+}
+
+// An argument that is required, any text.
+fn required_arg<'a>(alloc: Global, name: &'a str, text: &'a str) -> Arg<'a>
+    ensures rule { rule_of result ≡ required_rule name.now }
+    ensures local { result.global ≡ false }
+{
+    Arg::new(alloc, name)
+        .action(ArgAction::Set)
+        .required(true)
+        .help(text)
+}
+
+// The argument ID.
+fn id_arg<'a>(alloc: Global) -> Arg<'a>
+    ensures rule { rule_of result ≡ id_rule }
+    ensures local { result.global ≡ false }
+{
+    Arg::new(alloc, "ID")
+        .action(ArgAction::Set)
+        .required(true)
+        .value_parser(value_parser!(u64))
+        .help(help::ID)
+}
+
+// The argument PLACE.
+fn place_arg<'a>(alloc: Global) -> Arg<'a>
+    ensures rule { rule_of result ≡ place_rule }
+    ensures local { result.global ≡ false }
+{
+    Arg::new(alloc, "PLACE")
+        .action(ArgAction::Set)
+        .required(true)
+        .value_parser(value_parser!(u32))
+        .help(help::PLACE)
+}
+
+// A command of this name and help, without arguments.
+fn named<'a>(alloc: Global, name: &'a str, text: Help<'a>) -> Command<'a>
+    ensures line { app_of result ≡ new_app name.now }
+    ensures local { (out-Command result).has_globals ≡ false }
+{
+    Command::new(alloc, name)
+        .about(text.about)
+        .after_help(text.after)
+}
+
+// The command `NAME [FILE]`.
+fn file_command<'a>(alloc: Global, name: &'a str, text: Help<'a>) -> Result<Command<'a>, AllocError>
+    ensures line { IfOk result (λ c. app_of c ≡ file_line name.now) }
+    ensures local { IfOk result (λ c. (out-Command c).has_globals ≡ false) }
+{
+    named(alloc, name, text).arg(file_arg(alloc))
+}
+
+// The same with one argument more in front.
+fn value_command<'a>(
+    alloc: Global,
+    name: &'a str,
+    value: Arg<'a>,
+    text: Help<'a>,
+) -> Result<Command<'a>, AllocError>
+    requires { value.global ≡ false }
+    ensures line { IfOk result (λ c. app_of c ≡ value_line name.now (rule_of value.entry)) }
+    ensures local { IfOk result (λ c. (out-Command c).has_globals ≡ false) }
+{
+    named(alloc, name, text).arg(value)?.arg(file_arg(alloc))
+}
+
+// The command `schedule [--workers W] FEED EVENTS`.
+fn schedule_command<'a>(alloc: Global) -> Result<Command<'a>, AllocError>
+    ensures line { IfOk result (λ c. app_of c ≡ schedule_line) }
+    ensures local { IfOk result (λ c. (out-Command c).has_globals ≡ false) }
+{
+    named(alloc, "schedule", help::SCHEDULE)
+        .arg(workers_arg(alloc, help::EVENT_WORKERS))?
+        .arg(required_arg(alloc, "FEED", help::FEED))?
+        .arg(required_arg(alloc, "EVENTS", help::EVENTS))
+}
+
+// The command `compare FEED1 FEED2`.
+fn compare_command<'a>(alloc: Global) -> Result<Command<'a>, AllocError>
+    ensures line { IfOk result (λ c. app_of c ≡ compare_line) }
+    ensures local { IfOk result (λ c. (out-Command c).has_globals ≡ false) }
+{
+    named(alloc, "compare", help::COMPARE)
+        .arg(required_arg(alloc, "FEED1", help::FEED1))?
+        .arg(required_arg(alloc, "FEED2", help::FEED2))
+}
+
+// The program with one command `NAME [FILE]` more. It is handed on from one such call to the next, so that a caller
+// never owns two commands at once.
+fn with_file<'a>(
+    alloc: Global,
+    program: Command<'a>,
+    name: &'a str,
+    text: Help<'a>,
+) -> Result<Command<'a>, AllocError>
+    requires { (out-Command program).has_globals ≡ false }
+    ensures line { IfOk result (λ c. app_of c
+        ≡ with_subcommand (app_of program.entry) (file_line name.now).top) }
+    ensures local { IfOk result (λ c. (out-Command c).has_globals ≡ false) }
+{
+    let command = file_command(alloc, name, text)?;
+    program.subcommand(command)
+}
+
+// The same with a command that has one argument more in front.
+fn with_value<'a>(
+    alloc: Global,
+    program: Command<'a>,
+    name: &'a str,
+    value: Arg<'a>,
+    text: Help<'a>,
+) -> Result<Command<'a>, AllocError>
+    requires program { (out-Command program).has_globals ≡ false }
+    requires value { value.global ≡ false }
+    ensures line { IfOk result (λ c. app_of c
+        ≡ with_subcommand (app_of program.entry) (value_line name.now (rule_of value.entry)).top) }
+    ensures local { IfOk result (λ c. (out-Command c).has_globals ≡ false) }
+{
+    let command = value_command(alloc, name, value, text)?;
+    program.subcommand(command)
+}
+
+// The program with the command `schedule`.
+fn with_schedule<'a>(alloc: Global, program: Command<'a>) -> Result<Command<'a>, AllocError>
+    requires { (out-Command program).has_globals ≡ false }
+    ensures line { IfOk result (λ c. app_of c
+        ≡ with_subcommand (app_of program.entry) schedule_line.top) }
+    ensures local { IfOk result (λ c. (out-Command c).has_globals ≡ false) }
+{
+    let command = schedule_command(alloc)?;
+    program.subcommand(command)
+}
+
+// The program with the command `compare`.
+fn with_compare<'a>(alloc: Global, program: Command<'a>) -> Result<Command<'a>, AllocError>
+    requires { (out-Command program).has_globals ≡ false }
+    ensures line { IfOk result (λ c. app_of c
+        ≡ with_subcommand (app_of program.entry) compare_line.top) }
+    ensures local { IfOk result (λ c. (out-Command c).has_globals ≡ false) }
+{
+    let command = compare_command(alloc)?;
+    program.subcommand(command)
+}
+
+// The program without a command, which it has to be given.
+fn bare<'a>(alloc: Global) -> Command<'a>
+    ensures line { app_of result ≡ program }
+    ensures local { (out-Command result).has_globals ≡ false }
+{
+    named(alloc, "bkreplay", help::PROGRAM)
+        .version("0.1.0")
+        .disable_help_subcommand(true)
+        .subcommand_required(true)
+}
+
+// The program with the commands that write a report, a feed or the reply to a query.
+fn asking_command<'a>(alloc: Global) -> Result<Command<'a>, AllocError>
+    ensures line { IfOk result (λ c. app_of c ≡ asking_line) }
+    ensures local { IfOk result (λ c. (out-Command c).has_globals ≡ false) }
+{
+    let workers = workers_arg(alloc, help::WORKERS);
+    let run = with_value(alloc, bare(alloc), "run", workers, help::RUN)?;
+    let make = with_file(alloc, run, "make", help::MAKE)?;
+    let order = with_file(alloc, make, "order", help::ORDER)?;
+    let account = with_value(alloc, order, "account", id_arg(alloc), help::ACCOUNT)?;
+    let receipt = with_value(alloc, account, "receipt", place_arg(alloc), help::RECEIPT)?;
+    with_value(alloc, receipt, "prove", id_arg(alloc), help::PROVE)
+}
+
+// The program with all commands that read one file.
+fn single_command<'a>(alloc: Global) -> Result<Command<'a>, AllocError>
+    ensures line { IfOk result (λ c. app_of c ≡ single_line) }
+    ensures local { IfOk result (λ c. (out-Command c).has_globals ≡ false) }
+{
+    let root = required_arg(alloc, "ROOT", help::ROOT);
+    let asking = asking_command(alloc)?;
+    let check = with_value(alloc, asking, "check-proof", root, help::CHECK_PROOF)?;
+    with_file(alloc, check, "apply", help::APPLY)
+}
+
+/// All commands, in the order in which a user meets them.
+pub(crate) fn command<'a>(alloc: Global) -> Result<Command<'a>, AllocError>
+    ensures line { IfOk result (λ c. app_of c ≡ command_line) }
+    ensures local { IfOk result (λ c. (out-Command c).has_globals ≡ false) }
+{
+    let single = single_command(alloc)?;
+    let schedule = with_schedule(alloc, single)?;
+    with_compare(alloc, schedule)
+}

@@ -1,0 +1,125 @@
+//! The exit statuses of the program.
+
+ghost use Rattle.std.specs.Prelude.{◌≡◌};
+ghost use Rattle.bk_cli.specs.Exits.{exit_number, exit_at, exit_by, exit_after, exit_after_replay, exit_after_text, exit_after_list};
+ghost use Rattle.bk_cli.specs.Exits.{exit_after_compare, exit_after_differ};
+
+use crate::job_fault::JobFault;
+use crate::list_fault::ListFault;
+use bk_frames::FaultCode;
+use bk_results::{CompareStop, Differ, EventsFault, Fault, ScriptFault, Status};
+
+/// How the program ends.
+#[derive(Clone, Copy, Debug, PartialEq, Eq)]
+pub enum Exit {
+    /// The whole answer is written.
+    Whole = 0,
+    /// The answer is no: the command line names no job, what was asked for is not there, or the proof is bad.
+    No = 1,
+    /// The bytes of the input are wrong, or those of two feeds have no one setup.
+    WrongInput = 2,
+    /// A feed, or two feeds together, are stopped by a collision or an equivocation.
+    Stopped = 3,
+    /// A read, a write or memory failed, or a worker did not finish.
+    Failed = 4,
+    /// The report is written, and stops at a missing batch.
+    Missing = 5,
+}
+
+impl Exit {
+    /// The exit status as a number.
+    pub fn number(self) -> u8
+        ensures { result ≡ exit_number self }
+    {
+        self as u8
+    }
+
+    /// The exit after a report that goes as far as this.
+    pub fn at(status: Status) -> Exit
+        ensures { result ≡ exit_at status }
+    {
+        match status {
+            Status::Whole => Exit::Whole,
+            Status::Missing => Exit::Missing,
+        }
+    }
+
+    /// The exit after a verdict on a proof.
+    pub fn by(good: bool) -> Exit
+        ensures { result ≡ exit_by good }
+    {
+        if good { Exit::Whole } else { Exit::No }
+    }
+
+    /// The exit after a fault.
+    pub fn after(fault: &JobFault) -> Exit
+        ensures { result ≡ exit_after fault.now }
+    {
+        match fault {
+            JobFault::Replay(fault) => Exit::after_replay(fault),
+            JobFault::Text(fault) => Exit::after_text(fault),
+            JobFault::Events(fault) => Exit::after_list(fault),
+            JobFault::Compared(stop) => Exit::after_compare(stop),
+            JobFault::AbsentAccount { .. } | JobFault::AbsentPlace { .. } => Exit::No,
+        }
+    }
+
+    // The exit after a feed that was not replayed.
+    fn after_replay(fault: &Fault) -> Exit
+        ensures { result ≡ exit_after_replay fault.now }
+    {
+        match fault {
+            Fault::Feed(found) => match found.code {
+                FaultCode::Read | FaultCode::Memory => Exit::Failed,
+                _ => Exit::WrongInput,
+            },
+            Fault::Collision { .. } | Fault::Equivocation { .. } => Exit::Stopped,
+            Fault::Unfinished { .. } | Fault::Write { .. } | Fault::Memory => Exit::Failed,
+        }
+    }
+
+    // The exit after a fault of a text.
+    fn after_text(fault: &ScriptFault) -> Exit
+        ensures { result ≡ exit_after_text fault.now }
+    {
+        match fault {
+            ScriptFault::Script { .. } => Exit::WrongInput,
+            ScriptFault::Read | ScriptFault::Write { .. } | ScriptFault::Memory => Exit::Failed,
+        }
+    }
+
+    // The exit after a list of events that gives no report.
+    fn after_list(fault: &ListFault) -> Exit
+        ensures { result ≡ exit_after_list fault.now }
+    {
+        match fault {
+            ListFault::Unread(EventsFault::Line { .. }) | ListFault::Refused { .. } => {
+                Exit::WrongInput
+            }
+            ListFault::Unread(EventsFault::Read)
+            | ListFault::Unread(EventsFault::Memory)
+            | ListFault::Unfinished { .. } => Exit::Failed,
+        }
+    }
+
+    // The exit after two feeds that do not agree.
+    fn after_compare(stop: &CompareStop) -> Exit
+        ensures { result ≡ exit_after_compare stop.now }
+    {
+        match stop {
+            CompareStop::First(fault) | CompareStop::Second(fault) => Exit::after_replay(fault),
+            CompareStop::Differ(differ) => Exit::after_differ(differ),
+        }
+    }
+
+    // The exit after two feeds that differ.
+    fn after_differ(differ: &Differ) -> Exit
+        ensures { result ≡ exit_after_differ differ.now }
+    {
+        match differ {
+            Differ::Setup => Exit::WrongInput,
+            Differ::Collision { .. } | Differ::Twins { .. } => Exit::Stopped,
+            Differ::Memory => Exit::Failed,
+        }
+    }
+}

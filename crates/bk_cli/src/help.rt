@@ -1,0 +1,279 @@
+//! What `--help` shows.
+
+/// The help of a command: what it is for in one line, and what is below its arguments.
+#[derive(Clone, Copy)]
+pub(crate) struct Help<'a> {
+    pub(crate) about: &'a str,
+    pub(crate) after: &'a str,
+}
+
+pub(crate) const FILE: &str = "The path of the file; standard input if it is left out";
+
+pub(crate) const WORKERS: &str =
+    "How many threads execute, 1 to 64; 1 if it is left out. The report is the same for any number";
+
+pub(crate) const EVENT_WORKERS: &str =
+    "How many workers the events are among, 1 to 64; 2 if it is left out. The first is worker 0";
+
+pub(crate) const ID: &str = "The id of the account, a number below 2^64";
+
+pub(crate) const PLACE: &str =
+    "The place of the transaction, a number below 2^32; the first has place 0";
+
+pub(crate) const ROOT: &str =
+    "The digest of a state, 64 hexadecimal digits, as the line `state` of a report has it";
+
+pub(crate) const FEED: &str = "The path of the feed";
+
+pub(crate) const EVENTS: &str = "The path of the list of events";
+
+pub(crate) const FEED1: &str = "The path of the feed that is read first";
+
+pub(crate) const FEED2: &str = "The path of the other feed";
+
+pub(crate) const PROGRAM: Help<'static> = Help {
+    about: "Replays a ledger from the bytes of a feed",
+    after: "\
+An answer is on standard output, one line for each thing that it says. A fault is one line on standard error.
+
+Exit status:
+  0  the whole answer is written
+  1  the command line is wrong, what was asked for is absent, or the proof is bad
+  2  a feed, the script or the list of events is wrong, or two feeds have no one setup
+  3  a feed, or two together, are stopped by a collision or an equivocation
+  4  a read, a write or memory failed, or a worker did not finish
+  5  the report of a run is written, and stops at a missing batch
+
+Example:
+  ./bkreplay run examples/order/one_commit.feed",
+};
+
+pub(crate) const RUN: Help<'static> = Help {
+    about: "Find the order that a feed's certificates commit, execute its batches, and write the report",
+    after: "\
+Reads a feed: the bytes `BKF1` or `BKF2`, then frames: the committee, the opening accounts, and then certificates and
+batches in any order. Writes these lines to standard output, in this order:
+
+  members N faulty F quorum Q     the committee
+  frames K                        how many frames the feed has
+  reject FRAME RULE               a certificate that breaks a rule
+  waiting ROUND AUTHOR            a certificate that waits for a parent
+  anchor ROUND AUTHOR             a committed anchor
+  cert ROUND AUTHOR               a certificate of the order
+  batch INDEX COUNT               a batch of the order; `void` in place of COUNT where it is none
+  missing HEX                     the batch that the feed lacks, where the order stops
+  tx PLACE STATUS MOVED           an executed transaction
+  account ID BALANCE SEQ          an account at the end
+  money TOTAL                     all balances at the end
+  state HEX                       the digest of all accounts at the end
+
+Exit status:
+  0  the whole report is written
+  1  the command line is wrong
+  2  feed fault CODE at OFFSET, with a code of 1 to 7: the bytes are no feed
+  3  collision ID, or equivocation ROUND AUTHOR ID ID: the feed is stopped
+  4  feed fault 8 or 9, memory, read failed, write failed, or unfinished PLACE
+  5  the whole report is written, and stops at a missing batch
+
+Example:
+  ./bkreplay run --workers 4 examples/order/one_commit.feed",
+};
+
+pub(crate) const MAKE: Help<'static> = Help {
+    about: "Write the feed that a script makes",
+    after: "\
+Reads a script: lines of at most 16,777,216 bytes in all, words separated by single spaces. Lines without words and
+lines that begin with `#` are skipped. Writes the bytes of the feed to standard output.
+
+  version V                       1 or 2, before `members`; 1 if it is left out
+  members N [WEIGHTS]             the committee; each member weighs 1, or in version 2 what the list says
+  account ID BALANCE [SEQ]        an opening account
+  batch NAME                      a batch of the transactions on the lines that follow:
+    pay FROM TO AMOUNT SEQ
+    payif FROM TO AMOUNT SEQ GUARD MIN
+    sweep FROM TO KEEP SEQ
+    split FROM SEQ TO AMOUNT ..
+    raw HEX                       a transaction of these bytes; `raw -` of none
+  cert NAME ROUND AUTHOR BATCHES PARENTS SIGNERS
+                                  a certificate; lists are joined by `,`, and `-` is the empty list
+  again NAME SIGNERS              the certificate of that name once more, signed by these
+
+Exit status:
+  0  the whole feed is written
+  1  the command line is wrong
+  2  script fault CODE at line LINE: 1 the words of the line, 2 its place, 3 a number, 4 a name, 5 a range
+  4  memory, read failed, or write failed
+
+Example:
+  ./bkreplay make examples/order/one_commit.script | ./bkreplay run",
+};
+
+pub(crate) const ORDER: Help<'static> = Help {
+    about: "Write the committed anchors and the certificates in order",
+    after: "\
+Reads a feed, as `run` does, and finds its order up to a batch that is missing. Writes to standard output:
+
+  anchor ROUND AUTHOR             a committed anchor, oldest first
+  cert ROUND AUTHOR               a certificate of the order
+
+Exit status:
+  0  all lines are written
+  1  the command line is wrong
+  2  feed fault CODE at OFFSET, with a code of 1 to 7: the bytes are no feed
+  3  collision ID, or equivocation ROUND AUTHOR ID ID: the feed is stopped
+  4  feed fault 8 or 9, memory, read failed, write failed, or unfinished PLACE
+
+Example:
+  ./bkreplay order examples/order/one_commit.feed",
+};
+
+pub(crate) const ACCOUNT: Help<'static> = Help {
+    about: "Write one account as the order of a feed leaves it",
+    after: "\
+Reads a feed, as `run` does, and finds its order up to a batch that is missing. Writes to standard output:
+
+  account ID BALANCE SEQ          the account at the end
+
+Exit status:
+  0  the line is written
+  1  absent account ID: there is none; or the command line is wrong
+  2  feed fault CODE at OFFSET, with a code of 1 to 7: the bytes are no feed
+  3  collision ID, or equivocation ROUND AUTHOR ID ID: the feed is stopped
+  4  feed fault 8 or 9, memory, read failed, write failed, or unfinished PLACE
+
+Example:
+  ./bkreplay account 1 examples/order/one_commit.feed",
+};
+
+pub(crate) const RECEIPT: Help<'static> = Help {
+    about: "Write what became of the transaction at one place of the order",
+    after: "\
+Reads a feed, as `run` does, and finds its order up to a batch that is missing. Writes to standard output:
+
+  tx PLACE STATUS MOVED           the executed transaction
+
+Exit status:
+  0  the line is written
+  1  absent place PLACE: the order is shorter; or the command line is wrong
+  2  feed fault CODE at OFFSET, with a code of 1 to 7: the bytes are no feed
+  3  collision ID, or equivocation ROUND AUTHOR ID ID: the feed is stopped
+  4  feed fault 8 or 9, memory, read failed, write failed, or unfinished PLACE
+
+Example:
+  ./bkreplay receipt 0 examples/order/one_commit.feed",
+};
+
+pub(crate) const PROVE: Help<'static> = Help {
+    about: "Write a proof that one account is in the state at the end",
+    after: "\
+Reads a feed, as `run` does, and finds its order up to a batch that is missing. Writes the text that
+`check-proof` reads to standard output:
+
+  state HEX                       the digest of all accounts at the end
+  size N                          how many accounts there are
+  index I                         the index of the account among them
+  account ID BALANCE SEQ          the account
+  path HEX                        a digest of the path from the account up to the state; one line each
+
+Exit status:
+  0  the proof is written
+  1  absent account ID: there is none; or the command line is wrong
+  2  feed fault CODE at OFFSET, with a code of 1 to 7: the bytes are no feed
+  3  collision ID, or equivocation ROUND AUTHOR ID ID: the feed is stopped
+  4  feed fault 8 or 9, memory, read failed, write failed, or unfinished PLACE
+
+Example:
+  ./bkreplay prove 1 examples/order/one_commit.feed",
+};
+
+pub(crate) const CHECK_PROOF: Help<'static> = Help {
+    about: "Check that a text proves an account of the state of this digest",
+    after: "\
+Reads a proof: these lines, at most 65,536 bytes in all. Writes `proof good` or `proof bad` to standard output.
+
+  state HEX                       the digest of all accounts, which has to be ROOT
+  size N                          how many accounts there are
+  index I                         the index of the account among them
+  account ID BALANCE SEQ          the account
+  path HEX                        a digest of the path from the account up to the state; one line each
+
+Exit status:
+  0  the proof is good
+  1  the proof is bad, or the command line is wrong
+  4  memory, read failed, or write failed
+
+Example:
+  ./bkreplay check-proof a0f73141eeeda4cb3f115f1ee0468dde8a3de31db5fd987f0eec1df811bce063 examples/proofs/one_commit.proof",
+};
+
+pub(crate) const APPLY: Help<'static> = Help {
+    about: "Execute all batches of a feed, in feed order and on one thread, and write the apply report",
+    after: "\
+Reads a feed: the bytes `BKF1` or `BKF2`, then frames. Takes every batch as it stands and reads no certificate. Writes
+these lines to standard output, in this order:
+
+  batch INDEX COUNT               a batch; `void` in place of COUNT where it is none
+  tx PLACE STATUS MOVED           an executed transaction
+  account ID BALANCE SEQ          an account at the end
+  money TOTAL                     all balances at the end
+
+Exit status:
+  0  the whole report is written
+  1  the command line is wrong
+  2  feed fault CODE at OFFSET, with a code of 1 to 7: the bytes are no feed
+  4  feed fault 8 or 9, memory, read failed, or write failed
+
+Example:
+  ./bkreplay apply examples/payments/apply_two_payments.feed",
+};
+
+pub(crate) const SCHEDULE: Help<'static> = Help {
+    about: "Execute all batches of a feed by a given list of events, and write the apply report",
+    after: "\
+Reads a list of events, and then a feed, as `apply` does. The list has at most 16,777,216 bytes. Lines without words and
+lines that begin with `#` are skipped; each other line is an event of a worker:
+
+  claim W P                       worker W takes the transaction at place P
+  read W X                        worker W reads word X of the bank
+  write W X                       worker W writes word X of the bank
+  finish W                        worker W is done with its transaction
+
+Of the accounts in ascending id, account A has its balance in word 2A and its sequence number in word 2A + 1; places and
+accounts count from 0. A worker reads each word of the accounts that its transaction declares, writes each word of those
+that it declares for writing, and finishes. Writes the lines of `apply` to standard output.
+
+Exit status:
+  0  the whole report is written
+  1  the command line is wrong
+  2  events fault at line LINE: the line is no event
+  2  feed fault CODE at OFFSET, with a code of 1 to 7: the bytes are no feed
+  2  event LINE refused CODE: 1 the place cannot be claimed, 2 the worker has a transaction or is none, 3 the worker has
+     no transaction, 4 the word is not one of the transaction's, 5 the event comes out of turn
+  4  feed fault 8 or 9, memory, read failed, write failed, or unfinished PLACE: after all events this transaction is not
+     done
+
+Example:
+  ./bkreplay schedule --workers 1 examples/payments/apply_two_payments.feed examples/events/two_payments.events",
+};
+
+pub(crate) const COMPARE: Help<'static> = Help {
+    about: "Compare the orders of two feeds and what was executed by them",
+    after: "\
+Reads FEED1 and then FEED2, each as `run` does, and finds the order of each up to a batch that is missing. The feeds
+agree where they have one version, one committee and the same opening accounts, and no certificates or batches collide
+and no member has twins among the frames of both together. Then the order of one begins with that of the other, and so
+do the transactions with what became of them. Writes to standard output:
+
+  agree CERTS PLACES              how many certificates the shorter order has, and how many transactions
+
+Exit status:
+  0  the line is written: the feeds agree
+  1  the command line is wrong
+  2  feed fault CODE at OFFSET, with a code of 1 to 7: the bytes of FEED1 are no feed, or else those of FEED2
+  2  differ setup: the versions, the committees or the opening accounts differ, or a feed ends before its accounts
+  3  collision ID, or equivocation ROUND AUTHOR ID ID: in one of the feeds, or between the two
+  4  feed fault 8 or 9, memory, read failed, write failed, or unfinished PLACE
+
+Example:
+  ./bkreplay compare examples/order/ahead.feed examples/order/behind.feed",
+};

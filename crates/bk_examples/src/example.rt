@@ -1,0 +1,46 @@
+//! A line of the table of examples.
+
+use anyhow::{Context, Result, bail};
+use std::alloc::Global;
+
+/// A command line, and what the program has to do with it.
+#[derive(Drop)]
+pub(crate) struct Example<'a> {
+    /// The file that has what is to be printed.
+    pub(crate) wanted: &'a str,
+    /// The exit status.
+    pub(crate) status: u8,
+    /// The first word of the command.
+    pub(crate) command: &'a str,
+    /// The file that is read last, after which the example is named.
+    pub(crate) name: &'a str,
+    /// The words, of which the first is the program's name.
+    pub(crate) words: Vec<&'a str>,
+}
+
+impl<'a> Example<'a> {
+    /// A line has the file with what is to be printed, the status, the file that is read, and the words of the command
+    /// in front of that file.
+    pub(crate) fn of(alloc: Global, line: &'a str) -> Result<Example<'a>> {
+        let fields: Vec<&'a str> = line.split_whitespace().collect(alloc)?;
+        let [wanted, status, name, command, more @ ..] = fields.as_slice() else {
+            bail!("a line of the table has four words or more");
+        };
+        let status = status.parse::<u8>().context("the status")?;
+        let mut words = vec![in alloc; "bkreplay", *command]?;
+        words.extend_from_slice(more)?;
+        words.push(*name)?;
+        Ok(Example {
+            wanted: *wanted,
+            status,
+            command: *command,
+            name: *name,
+            words,
+        })
+    }
+
+    /// Whether it is a run of which no number of workers is given.
+    pub(crate) fn has_free_workers(&self) -> bool {
+        matches!(self.words.as_slice(), [_, "run", _])
+    }
+}

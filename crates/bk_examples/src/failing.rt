@@ -1,0 +1,123 @@
+//! Each read and each write of a run fails in turn, and a feed ends at each of its bytes.
+
+use crate::devices::{Devices, MOST_CALLS, run_with};
+use crate::outcome::Outcome;
+use anyhow::Result;
+use std::alloc::Global;
+use std::sync::Wait;
+use std::thread::Threads;
+
+const GOOD: Devices = Devices {
+    read_size: usize::MAX,
+    reads: MOST_CALLS,
+    write_size: usize::MAX,
+    writes: MOST_CALLS,
+};
+
+/// Whether a failed read gives its fault and writes nothing, whichever read it is.
+pub(crate) fn reads_fail_well<R>(rt: &R, feed: &[u8], whole: &Outcome) -> bool
+where
+    R: AllocGlobal + Threads + Wait + Sync,
+{
+    for reads in 0..MOST_CALLS {
+        let found = run_with(
+            rt,
+            feed,
+            Devices {
+                read_size: 97,
+                reads,
+                ..GOOD
+            },
+        );
+        if found.is_same(whole) {
+            return true;
+        }
+        let is_fault = found.status == 4 && found.err.starts_with(b"feed fault 8 at ");
+        if !is_fault || !found.out.is_empty() {
+            return false;
+        }
+    }
+    false
+}
+
+/// Whether a failed write leaves exactly the first bytes of the report, whichever write it is.
+pub(crate) fn writes_fail_well<R>(rt: &R, feed: &[u8], whole: &Outcome, write_size: usize) -> bool
+where
+    R: AllocGlobal + Threads + Wait + Sync,
+{
+    for writes in 0..MOST_CALLS {
+        let found = run_with(
+            rt,
+            feed,
+            Devices {
+                write_size,
+                writes,
+                ..GOOD
+            },
+        );
+        if found.is_same(whole) {
+            return true;
+        }
+        let is_fault = found.status == 4 && found.err.as_slice() == b"write failed\n".as_slice();
+        let is_first = whole.out.starts_with(&found.out)
+            && (write_size == usize::MAX || found.out.len() == writes as usize * write_size);
+        if !is_fault || !is_first {
+            return false;
+        }
+    }
+    false
+}
+
+// Where the magic and each frame of a feed end, by the lengths in its headers.
+fn ends_of(alloc: Global, feed: &[u8]) -> Result<Vec<usize>> {
+    let mut ends = vec![in alloc; 4usize]?;
+    let mut end = 4usize;
+    for _ in 0..feed.len() {
+        let Some([_, a, b, c, d]) = feed.get(end..).and_then(|rest| rest.first_chunk::<5>()) else {
+            break;
+        };
+        let length = u32::from_be_bytes([*a, *b, *c, *d]) as usize;
+        end = end.saturating_add(5).saturating_add(length);
+        ends.push(end)?;
+    }
+    Ok(ends)
+}
+
+// What a feed leaves that ends inside the frame that begins at an offset.
+fn is_cut_at(found: &Outcome, alloc: Global, offset: usize) -> Result<bool> {
+    let line = format!(in alloc; "feed fault 2 at {offset}\n")?;
+    Ok(found.status == 2 && found.out.is_empty() && found.err.as_slice() == line.as_bytes())
+}
+
+// Up to here a feed is cut at each byte, and after that at the end of each frame and now and then in between.
+const EACH: usize = 300;
+
+/// Whether a feed that is cut is cut short exactly where no frame from the genesis on ends.
+pub(crate) fn cuts_are_right<R>(rt: &R, feed: &[u8]) -> Result<bool>
+where
+    R: AllocGlobal + Threads + Wait + Sync,
+{
+    let alloc: Global = rt.alloc();
+    let ends = ends_of(alloc, feed)?;
+    let mut frame = 0usize;
+    for kept in 0..feed.len() {
+        let end = ends.iter().position(|end| *end == kept);
+        if kept > EACH && kept % 41 != 0 && end.is_none() {
+            continue;
+        }
+        let found = run_with(rt, &feed[..kept], GOOD);
+        if let Some(index) = end {
+            frame = kept;
+            if index >= 2 {
+                if found.status == 2 {
+                    return Ok(false);
+                }
+                continue;
+            }
+        }
+        if !is_cut_at(&found, alloc, frame)? {
+            return Ok(false);
+        }
+    }
+    Ok(true)
+}

@@ -1,0 +1,70 @@
+//! A feed that is followed in pieces.
+
+use crate::outcome::Outcome;
+use bk_cli::{Exit, JobFault, report};
+use bk_frames::Counted;
+use bk_pool::Open;
+use bk_replay::{Fault, Follower, Status};
+use std::alloc::Global;
+use std::sync::Wait;
+use std::thread::Threads;
+
+/// In which pieces a feed comes, and whether each of them is settled.
+#[derive(Clone, Copy)]
+pub(crate) struct Pieces {
+    pub(crate) size: usize,
+    pub(crate) settles: bool,
+}
+
+// Settles what came so far. A stop is no fault yet: a later piece is taken all the same.
+fn settle<R>(rt: &R, follower: &mut Follower) -> Result<(), Fault>
+where
+    R: AllocGlobal + Threads + Wait + Sync,
+{
+    match follower.settle(rt, &Open) {
+        Ok(_) | Err(Fault::Collision { .. }) | Err(Fault::Equivocation { .. }) => Ok(()),
+        Err(fault) => Err(fault),
+    }
+}
+
+fn follow<R>(
+    rt: &R,
+    feed: &[u8],
+    pieces: Pieces,
+    out: &mut Counted<Vec<u8>>,
+) -> Result<Status, Fault>
+where
+    R: AllocGlobal + Threads + Wait + Sync,
+{
+    let mut follower = Follower::new(rt.alloc(), 2);
+    for piece in feed.chunks(pieces.size.max(1)) {
+        follower.feed(rt, piece)?;
+        if pieces.settles {
+            settle(rt, &mut follower)?;
+        }
+    }
+    follower.finish(rt, &Open, out)
+}
+
+/// What `run` leaves of a feed that comes in these pieces.
+pub(crate) fn followed<R>(rt: &R, feed: &[u8], pieces: Pieces) -> Outcome
+where
+    R: AllocGlobal + Threads + Wait + Sync,
+{
+    let alloc: Global = rt.alloc();
+    let mut out = Counted::new(Vec::new(alloc));
+    let mut err = Counted::new(Vec::new(alloc));
+    let exit = match follow(rt, feed, pieces, &mut out) {
+        Ok(status) => Exit::at(status),
+        Err(fault) => {
+            let fault = JobFault::Replay(fault);
+            report(&fault, &mut err);
+            Exit::after(&fault)
+        }
+    };
+    Outcome {
+        status: exit.number(),
+        out: out.into_inner(),
+        err: err.into_inner(),
+    }
+}

@@ -1,0 +1,173 @@
+//! Runs every example through the program's own `parse` and `run_job`, and compares what is written with a file.
+//!
+//! The folder that it is run in has the examples and the table `commands`. A run of a feed that names no number of
+//! workers is done by 1, 2, 8 and 64, by a Follower that gets the feed in pieces, with each read and each write failing
+//! in turn, and with the feed cut. The last line is `N passed, M failed`.
+#![tactic(auto)]
+
+mod devices;
+mod example;
+mod failing;
+mod following;
+mod outcome;
+
+use crate::example::Example;
+use crate::failing::{cuts_are_right, reads_fail_well, writes_fail_well};
+use crate::following::{Pieces, followed};
+use crate::outcome::{Outcome, outcome_of};
+use anyhow::{Result, bail};
+use std::alloc::Global;
+use std::fs;
+use std::rt::Files;
+use std::sync::Wait;
+use std::thread::Threads;
+
+// By how many workers a run is done.
+const WORKERS: [&str; 4] = ["1", "2", "8", "64"];
+
+// In which pieces a Follower gets a feed.
+const PIECES: [Pieces; 4] = [
+    Pieces {
+        size: 1,
+        settles: false,
+    },
+    Pieces {
+        size: 7,
+        settles: false,
+    },
+    Pieces {
+        size: 7,
+        settles: true,
+    },
+    Pieces {
+        size: 4_096,
+        settles: false,
+    },
+];
+
+// How many command lines did what their example says, and how many did not.
+#[derive(Clone, Copy)]
+struct Tally {
+    passed: u32,
+    failed: u32,
+}
+
+impl Tally {
+    fn add(self, is_right: bool) -> Tally {
+        if is_right {
+            let passed = self.passed.saturating_add(1);
+            return Tally { passed, ..self };
+        }
+        let failed = self.failed.saturating_add(1);
+        Tally { failed, ..self }
+    }
+}
+
+// Says on standard error what an example did wrong.
+fn judge<R: Eprint>(rt: &R, example: &Example<'_>, what: &str, is_right: bool) -> Result<bool> {
+    if !is_right {
+        eprintln!(rt; "{} {}: {what}", example.command, example.name)?;
+    }
+    Ok(is_right)
+}
+
+// Runs the command line of an example with these words more.
+fn run_words<R>(rt: &R, example: &Example<'_>, more: &[&str]) -> Result<bool>
+where
+    R: AllocGlobal + Files + Input + Eprint + Threads + Wait + Sync,
+{
+    let mut words = Vec::from_slice(rt.alloc(), &example.words)?;
+    words.extend_from_slice(more)?;
+    let found = outcome_of(rt, &words)?;
+    let wanted = fs::read(rt, example.wanted)?;
+    let is_right = found.status == example.status && found.has_printed(&wanted);
+    judge(rt, example, "another status or another text", is_right)
+}
+
+// Runs a feed in pieces.
+fn run_in_pieces<R>(
+    rt: &R,
+    example: &Example<'_>,
+    feed: &[u8],
+    whole: &Outcome,
+    tally: Tally,
+) -> Result<Tally>
+where
+    R: AllocGlobal + Eprint + Threads + Wait + Sync,
+{
+    let mut tally = tally;
+    for pieces in PIECES {
+        let is_right = followed(rt, feed, pieces).is_same(whole);
+        tally = tally.add(judge(rt, example, "pieces change the answer", is_right)?);
+    }
+    Ok(tally)
+}
+
+// Runs a feed that is good as far as it goes with devices that fail, and cut.
+fn run_failing<R>(
+    rt: &R,
+    example: &Example<'_>,
+    feed: &[u8],
+    whole: &Outcome,
+    tally: Tally,
+) -> Result<Tally>
+where
+    R: AllocGlobal + Eprint + Threads + Wait + Sync,
+{
+    let reads = reads_fail_well(rt, feed, whole);
+    let tally = tally.add(judge(rt, example, "a failed read", reads)?);
+    let writes = writes_fail_well(rt, feed, whole, 7)
+        && writes_fail_well(rt, feed, whole, usize::MAX);
+    let tally = tally.add(judge(rt, example, "a failed write", writes)?);
+    let cuts = cuts_are_right(rt, feed)?;
+    Ok(tally.add(judge(rt, example, "a feed that is cut", cuts)?))
+}
+
+// Runs an example in each way that its command has.
+fn run_example<R>(rt: &R, example: &Example<'_>, tally: Tally) -> Result<Tally>
+where
+    R: AllocGlobal + Files + Input + Eprint + Threads + Wait + Sync,
+{
+    if !example.has_free_workers() {
+        return Ok(tally.add(run_words(rt, example, &[])?));
+    }
+    let mut tally = tally;
+    for count in WORKERS {
+        tally = tally.add(run_words(rt, example, &["--workers", count])?);
+    }
+    let Ok(feed) = fs::read(rt, example.name) else {
+        return Ok(tally);
+    };
+    let whole = outcome_of(rt, &example.words)?;
+    let tally = run_in_pieces(rt, example, &feed, &whole, tally)?;
+    if whole.status == 2 {
+        return Ok(tally);
+    }
+    run_failing(rt, example, &feed, &whole, tally)
+}
+
+// Runs all examples of the table.
+fn run_all<R>(rt: &R) -> Result<Tally>
+where
+    R: AllocGlobal + Files + Input + Eprint + Threads + Wait + Sync,
+{
+    let table = fs::read_to_string(rt, "commands")?;
+    let mut tally = Tally {
+        passed: 0,
+        failed: 0,
+    };
+    for line in table.lines() {
+        let example = Example::of(rt.alloc(), line)?;
+        tally = run_example(rt, &example, tally)?;
+    }
+    Ok(tally)
+}
+
+fn main(rt: HostRuntime) -> Result<()> {
+    let tally = run_all(&rt)?;
+    println!(rt; "{} passed, {} failed", tally.passed, tally.failed)?;
+    if tally.failed > 0 {
+        bail!("examples failed");
+    }
+    Ok(())
+}

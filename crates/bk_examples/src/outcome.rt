@@ -1,0 +1,54 @@
+//! What a command line leaves.
+
+use anyhow::Result;
+use bk_cli::parse;
+use bk_frames::Counted;
+use bk_jobs::open_and_run;
+use std::alloc::Global;
+use std::rt::Files;
+use std::sync::Wait;
+use std::thread::Threads;
+
+/// What a command line leaves.
+#[derive(Drop)]
+pub(crate) struct Outcome {
+    pub(crate) status: u8,
+    /// Standard output.
+    pub(crate) out: Vec<u8>,
+    /// Standard error.
+    pub(crate) err: Vec<u8>,
+}
+
+impl Outcome {
+    /// Whether both ended with the same status and wrote the same.
+    pub(crate) fn is_same(&self, other: &Outcome) -> bool {
+        self.status == other.status
+            && self.out.as_slice() == other.out.as_slice()
+            && self.err.as_slice() == other.err.as_slice()
+    }
+
+    /// Whether just these bytes were printed, all of them on standard output or all on standard error.
+    pub(crate) fn has_printed(&self, wanted: &[u8]) -> bool {
+        if self.err.is_empty() {
+            return self.out.as_slice() == wanted;
+        }
+        self.out.is_empty() && self.err.as_slice() == wanted
+    }
+}
+
+/// Runs a command line whose input is in files.
+pub(crate) fn outcome_of<R>(rt: &R, words: &[&str]) -> Result<Outcome>
+where
+    R: AllocGlobal + Files + Input + Threads + Wait + Sync,
+{
+    let alloc: Global = rt.alloc();
+    let job = parse(alloc, words)?;
+    let mut out = Counted::new(Vec::new(alloc));
+    let mut err = Counted::new(Vec::new(alloc));
+    let exit = open_and_run(rt, &job, &mut out, &mut err);
+    Ok(Outcome {
+        status: exit.number(),
+        out: out.into_inner(),
+        err: err.into_inner(),
+    })
+}

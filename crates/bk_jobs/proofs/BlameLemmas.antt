@@ -1,0 +1,200 @@
+-- Where the bytes are to blame for the exit.
+use Rattle.std.proofs.Common.{◌≡◌, ℕ, List, Option, Some, None, IfSome, true, inl, inr}
+use Rattle.bk_frames.specs.Device.{Device, IfKnown}
+use Rattle.bk_frames.specs.Feed.{FeedValue, HasFault}
+use Rattle.bk_frames.specs.Pulling.{RefusesBy, CallsForMemoryAt, FrontCallsForMemoryAt}
+use Rattle.bk_frames.specs.declared.fault.FaultCode.{FaultCode}
+use Rattle.bk_frames.specs.declared.fault.FaultCode.TheVariants as code
+use Rattle.bk_frames.specs.declared.fault.FeedFault.{FeedFault}
+use Rattle.bk_order.specs.declared.stop.Stop.TheVariants as stop
+use Rattle.bk_replay.specs.Answers.{IsUntouched}
+use Rattle.bk_replay.specs.FeedAgreement.{FeedsDiffer, OfTheirFeeds}
+use Rattle.bk_results.specs.declared.compare_stop.CompareStop.{CompareStop}
+use Rattle.bk_results.specs.declared.compare_stop.CompareStop.TheVariants as compared
+use Rattle.bk_results.specs.declared.differ.Differ.TheVariants as differ
+use Rattle.bk_replay.specs.RunReport.{IsStopped}
+use Rattle.bk_results.specs.declared.fault.Fault.{Fault}
+use Rattle.bk_results.specs.declared.fault.Fault.TheVariants as replay
+use Rattle.bk_script.specs.Script.{LineFault, feed_of}
+use Rattle.bk_results.specs.declared.script_fault.ScriptFault.TheVariants as text
+use Rattle.bk_script.specs.Events.{events_of}
+use Rattle.bk_steps.specs.declared.outcome.ScheduleFault.TheVariants as schedule
+use Rattle.bk_steps.specs.declared.refused.Refused as reason
+use Rattle.bk_replay.specs.Scheduling.{IsNotWholeFor}
+use Rattle.std.specs.Prelude.{Err, slice_index_or}
+use Rattle.bk_cli.specs.declared.exit.Exit.TheVariants as exit
+use Rattle.bk_cli.specs.declared.job.Job.{Job}
+use Rattle.bk_cli.specs.declared.job.Job.TheVariants as job
+use Rattle.bk_cli.specs.declared.job_fault.JobFault.{JobFault}
+use Rattle.bk_cli.specs.declared.job_fault.JobFault.TheVariants as fault
+use Rattle.bk_results.specs.declared.events_fault.EventsFault.TheVariants as unread
+use Rattle.bk_cli.specs.declared.list_fault.ListFault.TheVariants as list
+use Rattle.bk_jobs.specs.Schedules.{AreNoEvents, AreRefused, Lists}
+use Rattle.bk_jobs.specs.Sources.{AreBroken, Inputs, JobDevices, inputs_of}
+use Rattle.bk_cli.specs.Exits.{exit_after, exit_after_compare, exit_by_code, is_refusal}
+use Rattle.bk_jobs.specs.Comparisons.{AgreeNot, HaveSomeStop}
+use Rattle.bk_jobs.specs.Faults.{AreStopped, AreToBlame, MakeNoFeed, JobFailsBy}
+
+-- ---- bytes to blame
+
+broken : (found : FeedFault) (bytes : Option (List ℕ)) → IfSome bytes (λ bs. HasFault bs found) → IfSome bytes AreBroken
+broken found None h = tt
+broken found (Some bs) h = (found, h)
+
+stopped : (found : Fault) (bytes : Option (List ℕ)) → IfSome bytes (λ bs. IsStopped bs found) → IfSome bytes AreStopped
+stopped found None h = tt
+stopped found (Some bs) h = (found, h)
+
+no_feed : (found : LineFault) (bytes : Option (List ℕ)) → IfSome bytes (λ bs. feed_of bs ≡ Err found) → IfSome bytes MakeNoFeed
+no_feed found None h = tt
+no_feed found (Some bs) h = (found, h)
+
+weaker : (bytes : Option (List ℕ)) {P Q : List ℕ → Type 0} → ((bs : List ℕ) → P bs → Q bs) → IfSome bytes P → IfSome bytes Q
+weaker None f h = tt
+weaker (Some bs) f h = f bs h
+
+-- a feed was refused for its bytes
+refused : (calls : List ℕ → ℕ → Type 0) (j : Job) (given : Inputs) (f : FaultCode) (offset : ℕ) (old new : Device)
+    (right : IfKnown old AreBroken → AreToBlame j exit.WrongInput given)
+    → RefusesBy calls (record { offset = offset; code = f }) old new → is_refusal (exit_by_code f) ≡ true
+    → AreToBlame j (exit_by_code f) given
+refused calls j given code.Magic offset old new right h e = right (broken _ old.bytes h.1)
+refused calls j given code.Truncated offset old new right h e = right (broken _ old.bytes h.1)
+refused calls j given code.Kind offset old new right h e = right (broken _ old.bytes h.1)
+refused calls j given code.Length offset old new right h e = right (broken _ old.bytes h.1)
+refused calls j given code.Committee offset old new right h e = right (broken _ old.bytes h.1)
+refused calls j given code.Genesis offset old new right h e = right (broken _ old.bytes h.1)
+refused calls j given code.Extra offset old new right h e = right (broken _ old.bytes h.1)
+refused calls j given code.Read offset old new right h e = absurd (cc)
+refused calls j given code.Memory offset old new right h e = absurd (cc)
+
+-- a list of events has a line that is none
+no_events : (line : ℕ) (text : Option (List ℕ)) → IfSome text (λ t. events_of t ≡ Err line) → IfSome text AreNoEvents
+no_events line None h = tt
+no_events line (Some t) h = (line, h)
+
+-- one of the events is refused
+one_refused : (workers line : ℕ) (why : reason.Refused) (feed text : Option (List ℕ))
+    → IfSome text (Lists (λ events. (index : ℕ) × (line ≡ slice_index_or events.lines index 0)
+    × IfSome feed (IsNotWholeFor workers events.list (schedule.Refused index why))))
+    → IfSome text (λ t. IfSome feed (λ bytes. AreRefused workers bytes t))
+one_refused workers line why feed None h = tt
+one_refused workers line why None (Some t) h = tt
+one_refused workers line why (Some bytes) (Some t) (events, is, (index, at, whole)) = (events, is, (index, why, whole))
+
+-- two feeds are stopped together
+stopped_so : (P : FeedValue → FeedValue → Type 0) (bytes more : List ℕ) → ((f g : FeedValue) → P f g → HaveSomeStop f g) → OfTheirFeeds bytes more P
+    → OfTheirFeeds bytes more HaveSomeStop
+stopped_so P bytes more f o = record {
+  one = o.one;
+  other = o.other;
+  good = o.good;
+  also_good = o.also_good;
+  spelled = o.spelled;
+  also_spelled = o.also_spelled;
+  it = f o.one o.other o.it;
+}
+
+stopped_together : (P : FeedValue → FeedValue → Type 0) (bytes more : Option (List ℕ)) → ((f g : FeedValue) → P f g → HaveSomeStop f g)
+    → IfSome bytes (λ bs. IfSome more (λ ms. OfTheirFeeds bs ms P)) → IfSome bytes (λ bs. IfSome more (λ ms. OfTheirFeeds bs ms HaveSomeStop))
+stopped_together P bytes more f h = weaker bytes (λ bs k. weaker more (λ ms o. stopped_so P bs ms f o) k) h
+
+compare_blames : (first second : _) (e : CompareStop) (old new : JobDevices) → AgreeNot e old new → is_refusal (exit_after_compare e) ≡ true
+    → AreToBlame (job.Compare first second) (exit_after_compare e) (inputs_of old) × IsUntouched old.out new.out
+compare_blames first second (compared.First (replay.Feed found)) old new h r =
+    (refused FrontCallsForMemoryAt (job.Compare first second) (inputs_of old) found.code found.offset old.first new.first (λ b. inl b) h.0.0 r, h.1)
+compare_blames first second (compared.First (replay.Collision id)) old new h r = absurd h.0.0
+compare_blames first second (compared.First (replay.Equivocation round author one other)) old new h r = absurd h.0.0
+compare_blames first second (compared.First (replay.Unfinished place)) old new h r = absurd (cc)
+compare_blames first second (compared.First (replay.Write written)) old new h r = absurd (cc)
+compare_blames first second (compared.First replay.Memory) old new h r = absurd (cc)
+compare_blames first second (compared.Second (replay.Feed found)) old new h r =
+    (refused FrontCallsForMemoryAt (job.Compare first second) (inputs_of old) found.code found.offset old.second new.second (λ b. inr (inl (h.0.1, b))) h.0.2 r, h.1)
+compare_blames first second (compared.Second (replay.Collision id)) old new h r = absurd h.0.2
+compare_blames first second (compared.Second (replay.Equivocation round author one other)) old new h r = absurd h.0.2
+compare_blames first second (compared.Second (replay.Unfinished place)) old new h r = absurd (cc)
+compare_blames first second (compared.Second (replay.Write written)) old new h r = absurd (cc)
+compare_blames first second (compared.Second replay.Memory) old new h r = absurd (cc)
+compare_blames first second (compared.Differ differ.Setup) old new h r = (inr (inr h.0.1), h.1)
+compare_blames first second (compared.Differ (differ.Collision id)) old new h r =
+    (stopped_together (FeedsDiffer (differ.Collision id)) old.first.bytes old.second.bytes (λ f g k. (stop.Collision id, k)) h.0.1, h.1)
+compare_blames first second (compared.Differ (differ.Twins round author one other)) old new h r = (
+  stopped_together (FeedsDiffer (differ.Twins round author one other)) old.first.bytes old.second.bytes
+      (λ f g k. (stop.Twins (record { round = round; author = author; first = one; second = other }), k)) h.0.1,
+  h.1,
+)
+compare_blames first second (compared.Differ differ.Memory) old new h r = absurd (cc)
+
+pub bytes_to_blame : (j : Job) (e : JobFault) (old new : JobDevices) → JobFailsBy j e old new → is_refusal (exit_after e) ≡ true
+    → AreToBlame j (exit_after e) (inputs_of old) × IsUntouched old.out new.out
+bytes_to_blame (job.Run workers file) (fault.Replay (replay.Feed found)) old new h r =
+    (refused FrontCallsForMemoryAt (job.Run workers file) (inputs_of old) found.code found.offset _ _ (λ b. b) h.0 r, h.1)
+bytes_to_blame (job.Run workers file) (fault.Replay (replay.Collision id)) old new h r = (stopped _ old.first.bytes h.1, h.0.1)
+bytes_to_blame (job.Run workers file) (fault.Replay (replay.Equivocation round author first second)) old new h r = (stopped _ old.first.bytes h.1, h.0.1)
+bytes_to_blame (job.Run workers file) (fault.Replay (replay.Unfinished place)) old new h r = absurd (cc)
+bytes_to_blame (job.Run workers file) (fault.Replay (replay.Write written)) old new h r = absurd (cc)
+bytes_to_blame (job.Run workers file) (fault.Replay replay.Memory) old new h r = absurd (cc)
+bytes_to_blame (job.Run workers file) (fault.Text e) old new h r = absurd h
+bytes_to_blame (job.Make file) (fault.Replay e) old new h r = absurd h
+bytes_to_blame (job.Make file) (fault.Text (text.Script line found)) old new h r = (no_feed _ old.first.bytes h.1, h.2)
+bytes_to_blame (job.Make file) (fault.Text text.Read) old new h r = absurd (cc)
+bytes_to_blame (job.Make file) (fault.Text (text.Write written)) old new h r = absurd (cc)
+bytes_to_blame (job.Make file) (fault.Text text.Memory) old new h r = absurd (cc)
+bytes_to_blame (job.CheckProof root file) (fault.Replay e) old new h r = absurd h
+bytes_to_blame (job.CheckProof root file) (fault.Text (text.Script line found)) old new h r = absurd h
+bytes_to_blame (job.CheckProof root file) (fault.Text text.Read) old new h r = absurd (cc)
+bytes_to_blame (job.CheckProof root file) (fault.Text (text.Write written)) old new h r = absurd (cc)
+bytes_to_blame (job.CheckProof root file) (fault.Text text.Memory) old new h r = absurd (cc)
+bytes_to_blame (job.Ask asked file) (fault.Replay (replay.Feed found)) old new h r =
+    (refused FrontCallsForMemoryAt (job.Ask asked file) (inputs_of old) found.code found.offset _ _ (λ b. b) h.0 r, h.1)
+bytes_to_blame (job.Ask asked file) (fault.Replay (replay.Collision id)) old new h r = (stopped _ old.first.bytes h.1, h.0.1)
+bytes_to_blame (job.Ask asked file) (fault.Replay (replay.Equivocation round author first second)) old new h r = (stopped _ old.first.bytes h.1, h.0.1)
+bytes_to_blame (job.Ask asked file) (fault.Replay (replay.Unfinished place)) old new h r = absurd (cc)
+bytes_to_blame (job.Ask asked file) (fault.Replay (replay.Write written)) old new h r = absurd (cc)
+bytes_to_blame (job.Ask asked file) (fault.Replay replay.Memory) old new h r = absurd (cc)
+bytes_to_blame (job.Ask asked file) (fault.Text e) old new h r = absurd h
+bytes_to_blame j (fault.AbsentAccount id) old new h r = absurd (cc)
+bytes_to_blame j (fault.AbsentPlace place) old new h r = absurd (cc)
+bytes_to_blame (job.Apply file) (fault.Replay (replay.Feed found)) old new h r =
+    (refused CallsForMemoryAt (job.Apply file) (inputs_of old) found.code found.offset _ _ (λ b. b) h.0 r, h.1)
+bytes_to_blame (job.Apply file) (fault.Replay (replay.Collision id)) old new h r = absurd h
+bytes_to_blame (job.Apply file) (fault.Replay (replay.Equivocation round author first second)) old new h r = absurd h
+bytes_to_blame (job.Apply file) (fault.Replay (replay.Unfinished place)) old new h r = absurd h
+bytes_to_blame (job.Apply file) (fault.Replay (replay.Write written)) old new h r = absurd (cc)
+bytes_to_blame (job.Apply file) (fault.Replay replay.Memory) old new h r = absurd (cc)
+bytes_to_blame (job.Apply file) (fault.Text e) old new h r = absurd h
+bytes_to_blame (job.Run workers file) (fault.Events e) old new h r = absurd h
+bytes_to_blame (job.Make file) (fault.Events e) old new h r = absurd h
+bytes_to_blame (job.CheckProof root file) (fault.Events e) old new h r = absurd h
+bytes_to_blame (job.Ask asked file) (fault.Events e) old new h r = absurd h
+bytes_to_blame (job.Apply file) (fault.Events e) old new h r = absurd h
+bytes_to_blame (job.Schedule workers feed events) (fault.Replay (replay.Feed found)) old new h r =
+    (refused CallsForMemoryAt (job.Schedule workers feed events) (inputs_of old) found.code found.offset _ _ (λ b. inl b) h.2.0 r, h.2.1)
+bytes_to_blame (job.Schedule workers feed events) (fault.Replay (replay.Collision id)) old new h r = absurd h.2
+bytes_to_blame (job.Schedule workers feed events) (fault.Replay (replay.Equivocation round author first second)) old new h r = absurd h.2
+bytes_to_blame (job.Schedule workers feed events) (fault.Replay (replay.Unfinished place)) old new h r = absurd h.2
+bytes_to_blame (job.Schedule workers feed events) (fault.Replay (replay.Write written)) old new h r = absurd (cc)
+bytes_to_blame (job.Schedule workers feed events) (fault.Replay replay.Memory) old new h r = absurd (cc)
+bytes_to_blame (job.Schedule workers feed events) (fault.Text e) old new h r = absurd h
+bytes_to_blame (job.Schedule workers feed events) (fault.Events (list.Unread (unread.Line line))) old new h r =
+    (inr (inl (no_events line old.second.bytes h.0.1)), h.2)
+bytes_to_blame (job.Schedule workers feed events) (fault.Events (list.Unread unread.Read)) old new h r = absurd (cc)
+bytes_to_blame (job.Schedule workers feed events) (fault.Events (list.Unread unread.Memory)) old new h r = absurd (cc)
+bytes_to_blame (job.Schedule workers feed events) (fault.Events (list.Refused line why)) old new h r =
+    (inr (inr (one_refused workers line why old.first.bytes old.second.bytes h.0.1)), h.1.1)
+bytes_to_blame (job.Schedule workers feed events) (fault.Events (list.Unfinished place)) old new h r = absurd (cc)
+bytes_to_blame (job.Run workers file) (fault.Compared e) old new h r = absurd h
+bytes_to_blame (job.Make file) (fault.Compared e) old new h r = absurd h
+bytes_to_blame (job.CheckProof root file) (fault.Compared e) old new h r = absurd h
+bytes_to_blame (job.Ask asked file) (fault.Compared e) old new h r = absurd h
+bytes_to_blame (job.Apply file) (fault.Compared e) old new h r = absurd h
+bytes_to_blame (job.Schedule workers feed events) (fault.Compared e) old new h r = absurd h
+bytes_to_blame (job.Compare first second) (fault.Compared e) old new h r = compare_blames first second e old new h r
+bytes_to_blame (job.Compare first second) (fault.Replay (replay.Feed found)) old new h r = absurd h
+bytes_to_blame (job.Compare first second) (fault.Replay (replay.Collision id)) old new h r = absurd h
+bytes_to_blame (job.Compare first second) (fault.Replay (replay.Equivocation round author one other)) old new h r = absurd h
+bytes_to_blame (job.Compare first second) (fault.Replay (replay.Unfinished place)) old new h r = absurd h
+bytes_to_blame (job.Compare first second) (fault.Replay (replay.Write written)) old new h r = absurd (cc)
+bytes_to_blame (job.Compare first second) (fault.Replay replay.Memory) old new h r = absurd h
+bytes_to_blame (job.Compare first second) (fault.Text e) old new h r = absurd h
+bytes_to_blame (job.Compare first second) (fault.Events e) old new h r = absurd h

@@ -1,0 +1,4 @@
+mod BlameLemmas
+mod ScheduleLemmas
+mod StatusLemmas
+mod VerdictLemmas

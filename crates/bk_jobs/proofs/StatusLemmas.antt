@@ -1,0 +1,256 @@
+-- How a job may end.
+use Rattle.std.proofs.Common.{◌≡◌, ℕ, true, false, refl}
+use Rattle.bk_frames.specs.declared.fault.FaultCode.{FaultCode}
+use Rattle.bk_frames.specs.declared.fault.FaultCode.TheVariants as code
+use Rattle.bk_results.specs.declared.compare_stop.CompareStop.{CompareStop}
+use Rattle.bk_results.specs.declared.compare_stop.CompareStop.TheVariants as compared
+use Rattle.bk_results.specs.declared.differ.Differ.TheVariants as differ
+use Rattle.bk_results.specs.declared.fault.Fault.{Fault}
+use Rattle.bk_results.specs.declared.fault.Fault.TheVariants as replay
+use Rattle.bk_results.specs.declared.script_fault.ScriptFault.TheVariants as text
+use Rattle.std.specs.Prelude.{Err}
+use Rattle.bk_cli.specs.declared.exit.Exit.{Exit}
+use Rattle.bk_cli.specs.declared.exit.Exit.TheVariants as exit
+use Rattle.bk_cli.specs.declared.job.Job.{Job}
+use Rattle.bk_cli.specs.declared.job.Job.TheVariants as job
+use Rattle.bk_cli.specs.declared.job_fault.JobFault.{JobFault}
+use Rattle.bk_cli.specs.declared.job_fault.JobFault.TheVariants as fault
+use Rattle.bk_results.specs.declared.query.Query.{Query}
+use Rattle.bk_results.specs.declared.query.Query.TheVariants as query
+use Rattle.bk_results.specs.declared.events_fault.EventsFault.TheVariants as unread
+use Rattle.bk_cli.specs.declared.list_fault.ListFault.TheVariants as list
+use Rattle.bk_jobs.specs.Schedules.{ScheduleFailsBy}
+use Rattle.bk_jobs.specs.Sources.{JobDevices, first_devices}
+use Rattle.bk_cli.specs.Exits.{absence, may_be_absent, exit_after, exit_after_compare, exit_after_replay, exit_by_code, is_answer, is_refusal, is_report, may_end}
+use Rattle.bk_jobs.specs.Comparisons.{CompareFailsBy}
+use Rattle.bk_jobs.specs.Faults.{JobFailsBy, QueryFailsBy}
+
+-- ---- how a job ends
+
+feed_may_end : (j : Job) (right : may_end j exit.WrongInput ≡ true) (f : FaultCode) → may_end j (exit_by_code f) ≡ true
+feed_may_end j right code.Magic = right
+feed_may_end j right code.Truncated = right
+feed_may_end j right code.Kind = right
+feed_may_end j right code.Length = right
+feed_may_end j right code.Committee = right
+feed_may_end j right code.Genesis = right
+feed_may_end j right code.Extra = right
+feed_may_end j right code.Read = refl
+feed_may_end j right code.Memory = refl
+
+-- what is absent may be
+absent_may_be : (asked : Query) (e : JobFault) → absence asked ≡ Err e → may_be_absent asked ≡ true
+absent_may_be query.Order e h = absurd (cc)
+absent_may_be (query.Account id) e h = refl
+absent_may_be (query.Receipt place) e h = refl
+absent_may_be (query.Proof id) e h = refl
+
+-- a comparison may end as a run of one of its feeds may
+replay_may_end : (first second : _) (e : Fault) → may_end (job.Compare first second) (exit_after_replay e) ≡ true
+replay_may_end first second (replay.Feed found) = feed_may_end (job.Compare first second) refl found.code
+replay_may_end first second (replay.Collision id) = refl
+replay_may_end first second (replay.Equivocation round author one other) = refl
+replay_may_end first second (replay.Unfinished place) = refl
+replay_may_end first second (replay.Write written) = refl
+replay_may_end first second replay.Memory = refl
+
+-- a comparison may end by its faults
+compare_may_end : (first second : _) (e : CompareStop) → may_end (job.Compare first second) (exit_after_compare e) ≡ true
+compare_may_end first second (compared.First e) = replay_may_end first second e
+compare_may_end first second (compared.Second e) = replay_may_end first second e
+compare_may_end first second (compared.Differ differ.Setup) = refl
+compare_may_end first second (compared.Differ (differ.Collision id)) = refl
+compare_may_end first second (compared.Differ (differ.Twins round author one other)) = refl
+compare_may_end first second (compared.Differ differ.Memory) = refl
+
+-- a job may end by its faults
+pub ends_by_fault : (j : Job) (e : JobFault) (old new : JobDevices) → JobFailsBy j e old new → may_end j (exit_after e) ≡ true
+ends_by_fault (job.Run workers file) (fault.Replay (replay.Feed found)) old new h = feed_may_end (job.Run workers file) refl found.code
+ends_by_fault (job.Run workers file) (fault.Replay (replay.Collision id)) old new h = refl
+ends_by_fault (job.Run workers file) (fault.Replay (replay.Equivocation round author first second)) old new h = refl
+ends_by_fault (job.Run workers file) (fault.Replay (replay.Unfinished place)) old new h = refl
+ends_by_fault (job.Run workers file) (fault.Replay (replay.Write written)) old new h = refl
+ends_by_fault (job.Run workers file) (fault.Replay replay.Memory) old new h = refl
+ends_by_fault (job.Run workers file) (fault.Text e) old new h = absurd h
+ends_by_fault (job.Make file) (fault.Replay e) old new h = absurd h
+ends_by_fault (job.Make file) (fault.Text (text.Script line found)) old new h = refl
+ends_by_fault (job.Make file) (fault.Text text.Read) old new h = refl
+ends_by_fault (job.Make file) (fault.Text (text.Write written)) old new h = refl
+ends_by_fault (job.Make file) (fault.Text text.Memory) old new h = refl
+ends_by_fault (job.CheckProof root file) (fault.Replay e) old new h = absurd h
+ends_by_fault (job.CheckProof root file) (fault.Text (text.Script line found)) old new h = absurd h
+ends_by_fault (job.CheckProof root file) (fault.Text text.Read) old new h = refl
+ends_by_fault (job.CheckProof root file) (fault.Text (text.Write written)) old new h = refl
+ends_by_fault (job.CheckProof root file) (fault.Text text.Memory) old new h = refl
+ends_by_fault (job.Ask asked file) (fault.Replay (replay.Feed found)) old new h = feed_may_end (job.Ask asked file) refl found.code
+ends_by_fault (job.Ask asked file) (fault.Replay (replay.Collision id)) old new h = refl
+ends_by_fault (job.Ask asked file) (fault.Replay (replay.Equivocation round author first second)) old new h = refl
+ends_by_fault (job.Ask asked file) (fault.Replay (replay.Unfinished place)) old new h = refl
+ends_by_fault (job.Ask asked file) (fault.Replay (replay.Write written)) old new h = refl
+ends_by_fault (job.Ask asked file) (fault.Replay replay.Memory) old new h = refl
+ends_by_fault (job.Ask asked file) (fault.Text e) old new h = absurd h
+ends_by_fault (job.Ask asked file) (fault.AbsentAccount id) old new h = absent_may_be asked _ h.0
+ends_by_fault (job.Ask asked file) (fault.AbsentPlace place) old new h = absent_may_be asked _ h.0
+ends_by_fault (job.Run workers file) (fault.AbsentAccount id) old new h = absurd h
+ends_by_fault (job.Run workers file) (fault.AbsentPlace place) old new h = absurd h
+ends_by_fault (job.Make file) (fault.AbsentAccount id) old new h = absurd h
+ends_by_fault (job.Make file) (fault.AbsentPlace place) old new h = absurd h
+ends_by_fault (job.CheckProof root file) (fault.AbsentAccount id) old new h = absurd h
+ends_by_fault (job.CheckProof root file) (fault.AbsentPlace place) old new h = absurd h
+ends_by_fault (job.Apply file) (fault.AbsentAccount id) old new h = absurd h
+ends_by_fault (job.Apply file) (fault.AbsentPlace place) old new h = absurd h
+ends_by_fault (job.Apply file) (fault.Replay (replay.Feed found)) old new h = feed_may_end (job.Apply file) refl found.code
+ends_by_fault (job.Apply file) (fault.Replay (replay.Collision id)) old new h = absurd h
+ends_by_fault (job.Apply file) (fault.Replay (replay.Equivocation round author first second)) old new h = absurd h
+ends_by_fault (job.Apply file) (fault.Replay (replay.Unfinished place)) old new h = absurd h
+ends_by_fault (job.Apply file) (fault.Replay (replay.Write written)) old new h = refl
+ends_by_fault (job.Apply file) (fault.Replay replay.Memory) old new h = refl
+ends_by_fault (job.Apply file) (fault.Text e) old new h = absurd h
+ends_by_fault (job.Run workers file) (fault.Events e) old new h = absurd h
+ends_by_fault (job.Make file) (fault.Events e) old new h = absurd h
+ends_by_fault (job.CheckProof root file) (fault.Events e) old new h = absurd h
+ends_by_fault (job.Ask asked file) (fault.Events e) old new h = absurd h
+ends_by_fault (job.Apply file) (fault.Events e) old new h = absurd h
+ends_by_fault (job.Schedule workers feed events) (fault.Replay (replay.Feed found)) old new h =
+    feed_may_end (job.Schedule workers feed events) refl found.code
+ends_by_fault (job.Schedule workers feed events) (fault.Replay (replay.Collision id)) old new h = absurd h.2
+ends_by_fault (job.Schedule workers feed events) (fault.Replay (replay.Equivocation round author first second)) old new h = absurd h.2
+ends_by_fault (job.Schedule workers feed events) (fault.Replay (replay.Unfinished place)) old new h = absurd h.2
+ends_by_fault (job.Schedule workers feed events) (fault.Replay (replay.Write written)) old new h = refl
+ends_by_fault (job.Schedule workers feed events) (fault.Replay replay.Memory) old new h = refl
+ends_by_fault (job.Schedule workers feed events) (fault.Text e) old new h = absurd h
+ends_by_fault (job.Schedule workers feed events) (fault.Events (list.Unread (unread.Line line))) old new h = refl
+ends_by_fault (job.Schedule workers feed events) (fault.Events (list.Unread unread.Read)) old new h = refl
+ends_by_fault (job.Schedule workers feed events) (fault.Events (list.Unread unread.Memory)) old new h = refl
+ends_by_fault (job.Schedule workers feed events) (fault.Events (list.Refused line why)) old new h = refl
+ends_by_fault (job.Schedule workers feed events) (fault.Events (list.Unfinished place)) old new h = refl
+ends_by_fault (job.Schedule workers feed events) (fault.AbsentAccount id) old new h = absurd h
+ends_by_fault (job.Schedule workers feed events) (fault.AbsentPlace place) old new h = absurd h
+ends_by_fault (job.Run workers file) (fault.Compared e) old new h = absurd h
+ends_by_fault (job.Make file) (fault.Compared e) old new h = absurd h
+ends_by_fault (job.CheckProof root file) (fault.Compared e) old new h = absurd h
+ends_by_fault (job.Ask asked file) (fault.Compared e) old new h = absurd h
+ends_by_fault (job.Apply file) (fault.Compared e) old new h = absurd h
+ends_by_fault (job.Schedule workers feed events) (fault.Compared e) old new h = absurd h
+ends_by_fault (job.Compare first second) (fault.Compared e) old new h = compare_may_end first second e
+ends_by_fault (job.Compare first second) (fault.Replay (replay.Feed found)) old new h = absurd h
+ends_by_fault (job.Compare first second) (fault.Replay (replay.Collision id)) old new h = absurd h
+ends_by_fault (job.Compare first second) (fault.Replay (replay.Equivocation round author one other)) old new h = absurd h
+ends_by_fault (job.Compare first second) (fault.Replay (replay.Unfinished place)) old new h = absurd h
+ends_by_fault (job.Compare first second) (fault.Replay (replay.Write written)) old new h = refl
+ends_by_fault (job.Compare first second) (fault.Replay replay.Memory) old new h = absurd h
+ends_by_fault (job.Compare first second) (fault.Text e) old new h = absurd h
+ends_by_fault (job.Compare first second) (fault.Events e) old new h = absurd h
+ends_by_fault (job.Compare first second) (fault.AbsentAccount id) old new h = absurd h
+ends_by_fault (job.Compare first second) (fault.AbsentPlace place) old new h = absurd h
+
+-- a fault is no answer
+feed_is_none : (j : Job) (f : FaultCode) → is_answer j (exit_by_code f) ≡ false
+feed_is_none j code.Magic = refl
+feed_is_none j code.Truncated = refl
+feed_is_none j code.Kind = refl
+feed_is_none j code.Length = refl
+feed_is_none j code.Committee = refl
+feed_is_none j code.Genesis = refl
+feed_is_none j code.Extra = refl
+feed_is_none j code.Read = refl
+feed_is_none j code.Memory = refl
+
+replay_is_none : (j : Job) (e : Fault) → is_answer j (exit_after_replay e) ≡ false
+replay_is_none j (replay.Feed found) = feed_is_none j found.code
+replay_is_none j (replay.Collision id) = refl
+replay_is_none j (replay.Equivocation round author first second) = refl
+replay_is_none j (replay.Unfinished place) = refl
+replay_is_none j (replay.Write written) = refl
+replay_is_none j replay.Memory = refl
+
+pub fault_is_none : (j : Job) (e : JobFault) (old new : JobDevices) → JobFailsBy j e old new → is_answer j (exit_after e) ≡ false
+fault_is_none j (fault.Replay e) old new h = replay_is_none j e
+fault_is_none j (fault.Text (text.Script line found)) old new h = refl
+fault_is_none j (fault.Text text.Read) old new h = refl
+fault_is_none j (fault.Text (text.Write written)) old new h = refl
+fault_is_none j (fault.Text text.Memory) old new h = refl
+fault_is_none j (fault.Events (list.Unread (unread.Line line))) old new h = refl
+fault_is_none j (fault.Events (list.Unread unread.Read)) old new h = refl
+fault_is_none j (fault.Events (list.Unread unread.Memory)) old new h = refl
+fault_is_none j (fault.Events (list.Refused line why)) old new h = refl
+fault_is_none j (fault.Events (list.Unfinished place)) old new h = refl
+fault_is_none (job.Run workers file) (fault.AbsentAccount id) old new h = absurd h
+fault_is_none (job.Make file) (fault.AbsentAccount id) old new h = absurd h
+fault_is_none (job.CheckProof root file) (fault.AbsentAccount id) old new h = absurd h
+fault_is_none (job.Ask asked file) (fault.AbsentAccount id) old new h = refl
+fault_is_none (job.Apply file) (fault.AbsentAccount id) old new h = absurd h
+fault_is_none (job.Run workers file) (fault.AbsentPlace place) old new h = absurd h
+fault_is_none (job.Make file) (fault.AbsentPlace place) old new h = absurd h
+fault_is_none (job.CheckProof root file) (fault.AbsentPlace place) old new h = absurd h
+fault_is_none (job.Ask asked file) (fault.AbsentPlace place) old new h = refl
+fault_is_none (job.Apply file) (fault.AbsentPlace place) old new h = absurd h
+fault_is_none (job.Schedule workers feed events) (fault.AbsentAccount id) old new h = absurd h
+fault_is_none (job.Schedule workers feed events) (fault.AbsentPlace place) old new h = absurd h
+fault_is_none (job.Compare first second) (fault.AbsentAccount id) old new h = absurd h
+fault_is_none (job.Compare first second) (fault.AbsentPlace place) old new h = absurd h
+fault_is_none j (fault.Compared (compared.First e)) old new h = replay_is_none j e
+fault_is_none j (fault.Compared (compared.Second e)) old new h = replay_is_none j e
+fault_is_none j (fault.Compared (compared.Differ differ.Setup)) old new h = refl
+fault_is_none j (fault.Compared (compared.Differ (differ.Collision id))) old new h = refl
+fault_is_none j (fault.Compared (compared.Differ (differ.Twins round author first second))) old new h = refl
+fault_is_none j (fault.Compared (compared.Differ differ.Memory)) old new h = refl
+
+-- a report is an answer of any job
+pub report_is_answer : (j : Job) (end : Exit) → is_report end ≡ true → is_answer j end ≡ true
+report_is_answer j exit.Whole h = refl
+report_is_answer j exit.No h = absurd (cc)
+report_is_answer j exit.WrongInput h = absurd (cc)
+report_is_answer j exit.Stopped h = absurd (cc)
+report_is_answer j exit.Failed h = absurd (cc)
+report_is_answer j exit.Missing h = refl
+
+-- and an answer is no refusal of the bytes
+pub answer_is_no_refusal : (j : Job) (end : Exit) → is_answer j end ≡ true → is_refusal end ≡ false
+answer_is_no_refusal j exit.Whole h = refl
+answer_is_no_refusal j exit.No h = refl
+answer_is_no_refusal j exit.WrongInput h = absurd (cc)
+answer_is_no_refusal j exit.Stopped h = absurd (cc)
+answer_is_no_refusal j exit.Failed h = absurd (cc)
+answer_is_no_refusal j exit.Missing h = refl
+
+-- ---- the answers of the jobs
+
+pub run_answers : (workers : ℕ) (file : _) (end : Exit) → is_report end ≡ true
+    → (is_answer (job.Run workers file) end ≡ true) × (may_end (job.Run workers file) end ≡ true)
+run_answers workers file exit.Whole h = (refl, refl)
+run_answers workers file exit.No h = absurd (cc)
+run_answers workers file exit.WrongInput h = absurd (cc)
+run_answers workers file exit.Stopped h = absurd (cc)
+run_answers workers file exit.Failed h = absurd (cc)
+run_answers workers file exit.Missing h = (refl, refl)
+
+-- why a query has no reply is why its job has no answer
+pub job_of_query : (asked : Query) (file : _) (e : JobFault) (old new : JobDevices)
+    → QueryFailsBy asked e (first_devices old) (first_devices new) → JobFailsBy (job.Ask asked file) e old new
+job_of_query asked file (fault.Replay e) old new h = h
+job_of_query asked file (fault.Text e) old new h = absurd h
+job_of_query asked file (fault.Events e) old new h = absurd h
+job_of_query asked file (fault.Compared e) old new h = absurd h
+job_of_query asked file (fault.AbsentAccount id) old new h = h
+job_of_query asked file (fault.AbsentPlace place) old new h = h
+
+-- why a schedule has no report is why its job has no answer
+pub job_of_schedule : (workers : ℕ) (feed events : _) (e : JobFault) (old new : JobDevices)
+    → ScheduleFailsBy workers e old new → JobFailsBy (job.Schedule workers feed events) e old new
+job_of_schedule workers feed events (fault.Replay e) old new h = h
+job_of_schedule workers feed events (fault.Text e) old new h = absurd h
+job_of_schedule workers feed events (fault.Events e) old new h = h
+job_of_schedule workers feed events (fault.Compared e) old new h = absurd h
+job_of_schedule workers feed events (fault.AbsentAccount id) old new h = absurd h
+job_of_schedule workers feed events (fault.AbsentPlace place) old new h = absurd h
+
+-- why a comparison has no answer is why its job has none
+pub job_of_compare : (first second : _) (e : JobFault) (old new : JobDevices) → CompareFailsBy e old new
+    → JobFailsBy (job.Compare first second) e old new
+job_of_compare first second (fault.Replay e) old new h = h
+job_of_compare first second (fault.Text e) old new h = absurd h
+job_of_compare first second (fault.Events e) old new h = absurd h
+job_of_compare first second (fault.Compared e) old new h = h
+job_of_compare first second (fault.AbsentAccount id) old new h = absurd h
+job_of_compare first second (fault.AbsentPlace place) old new h = absurd h

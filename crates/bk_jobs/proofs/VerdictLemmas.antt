@@ -1,0 +1,72 @@
+-- The verdict on a text that was read is that on all bytes of the source.
+use Rattle.std.proofs.Common.{◌≡◌, ◌<◌, ◌⊎◌, ◌∙◌, ℕ, List, Option, Some, None, Bool, true, false, length, inl, inr, ap, refl, arith, subst, IfSome}
+use Rattle.std.specs.Prelude.{◌↔◌, IsTrue}
+use Rattle.std.proofs.lemmas.Bool.{cases_lt}
+use Rattle.std.proofs.lemmas.List.{length-take-le, take_all}
+use Rattle.std.specs.Io.KnownBytes.{Keeps}
+use Rattle.bk_frames.specs.Device.{Device, Receives, IfKnown}
+use Rattle.bk_frames.specs.Writing.{StopsWriting}
+use Rattle.bk_frames.specs.declared.writing.WriteFault.{WriteFault}
+use Rattle.bk_replay.specs.Answers.{devices}
+use Rattle.bk_report.specs.Proofs.{IsGoodProof}
+use Rattle.bk_script.specs.Answers.{HasRead, IsNotRead, IsRead}
+use Rattle.bk_results.specs.declared.script_fault.ScriptFault.{ScriptFault}
+use Rattle.bk_results.specs.declared.script_fault.ScriptFault.TheVariants as fault
+use Rattle.bk_cli.specs.Exits.{exit_by}
+use Rattle.bk_jobs.specs.Faults.{CheckFailsBy, IsVerdict, PartOfVerdictIsOut, VerdictIsOut, verdict_text}
+use Rattle.bk_cli.specs.declared.exit.Exit.TheVariants as exit
+
+-- all bytes were read, or too many for a proof
+read_of_proof : (bytes text : List ℕ) → IsRead 65536 bytes text → (text ≡ bytes) ⊎ ((65536 < length text) × (65536 < length bytes))
+unfolding IsRead
+read_of_proof bytes text is = elim (cases_lt 65536 (length bytes)) [
+  | inl long ↦
+      let all : length text ≡ 65537 = ap length is ∙ length-take-le 65537 bytes (omega (arith, long)) in
+      inr (omega (arith, all), long)
+  | inr short ↦ inl (is ∙ take_all 65537 bytes (omega (arith, short)))
+]
+
+too_long : (root text : List ℕ) → 65536 < length text → IsGoodProof root text → ⊥
+too_long root text long p = let short = p.short in absurd (omega (arith, long, short))
+
+pub verdict_of_read : (root bytes text : List ℕ) (good : Bool) → IsRead 65536 bytes text → (IsTrue good ↔ IsGoodProof root text) → IsVerdict root bytes good
+verdict_of_read root bytes text good is h = elim (read_of_proof bytes text is) [
+  | inl same ↦ subst (λ (t : List ℕ). IsTrue good ↔ IsGoodProof root t) same h
+  | inr long ↦ (λ t. absurd (too_long root text long.0 (h.0 t)), λ p. absurd (too_long root bytes long.1 p))
+]
+
+known_then : (b : Option (List ℕ)) (P Q : List ℕ → Type 0) → ((bytes : List ℕ) → P bytes → Q bytes) → IfSome b P → IfSome b Q
+known_then None P Q f h = tt
+known_then (Some bytes) P Q f h = f bytes h
+
+keeps_all : (b : Option (List ℕ)) → Keeps b b
+keeps_all None = tt
+keeps_all (Some bytes) = refl
+
+pub verdict_is_out : (root text : List ℕ) (good : Bool) (old new out out' : Device) → HasRead 65536 old new text → (IsTrue good ↔ IsGoodProof root text)
+    → Receives out out' (verdict_text good) → IfKnown old (VerdictIsOut root (exit_by good) out out')
+verdict_is_out root text good old new out out' read h got =
+    known_then old.bytes (λ bytes. IsRead 65536 bytes text) (VerdictIsOut root (exit_by good) out out')
+    (λ bytes is. (good, verdict_of_read root bytes text good is h, refl, got)) read.2
+
+pub verdict_stops : (root text : List ℕ) (good : Bool) (old new out out' : Device) (e : WriteFault) → HasRead 65536 old new text → (IsTrue good ↔ IsGoodProof root text)
+    → StopsWriting e (verdict_text good) out out' → CheckFailsBy root (fault.Write e.written) (devices old out) (devices new out')
+verdict_stops root text good old new out out' e read h stops = (
+  read.0,
+  stops.fails,
+  known_then old.bytes (λ bytes. IsRead 65536 bytes text) (PartOfVerdictIsOut root e.written out out')
+      (λ bytes is. (good, verdict_of_read root bytes text good is h, stops.short, stops.out)) read.2,
+)
+
+pub not_read : (root : List ℕ) (old new out : Device) (e : ScriptFault) → IsNotRead e old new → CheckFailsBy root e (devices old out) (devices new out)
+not_read root old new out (fault.Script line found) h = absurd h
+not_read root old new out fault.Read h = (h, (refl, keeps_all out.bytes))
+not_read root old new out (fault.Write written) h = absurd h
+not_read root old new out fault.Memory h = (h, (refl, keeps_all out.bytes))
+
+pub no_memory : (root text : List ℕ) (old new out : Device) → HasRead 65536 old new text → CheckFailsBy root fault.Memory (devices old out) (devices new out)
+no_memory root text old new out read = (read.0, (refl, keeps_all out.bytes))
+
+pub yes_or_no : (good : Bool) → (exit_by good ≡ exit.Whole) ⊎ (exit_by good ≡ exit.No)
+yes_or_no true = inl refl
+yes_or_no false = inr refl

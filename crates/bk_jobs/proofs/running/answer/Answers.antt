@@ -1,0 +1,28 @@
+-- How each job may end with an answer.
+use Rattle.std.proofs.Common.{refl, inl, inr}
+use Rattle.bk_jobs.proofs.StatusLemmas.{run_answers}
+use Rattle.bk_jobs.proofs.running.answer.Goals as goal
+
+pub returns-in_ok-end-in-Run-clause-answer : goal.returns-in_ok-end-in-Run-clause-answer
+returns-in_ok-end-in-Run-clause-answer g c = rw c.in-Run.is (run_answers c.in-Run.workers c.in-Run.file _ c.in_ok-end-in-Run.ensures.answer)
+
+pub returns-in_ok-end-in-Make-clause-answer : goal.returns-in_ok-end-in-Make-clause-answer
+returns-in_ok-end-in-Make-clause-answer g c = rw (c.in-Make.is, c.in_ok-end-in-Make.ensures.answer) (refl, refl)
+
+pub returns-in_ok-end-in-CheckProof-clause-answer : goal.returns-in_ok-end-in-CheckProof-clause-answer
+returns-in_ok-end-in-CheckProof-clause-answer g c = elim c.in_ok-end-in-CheckProof.ensures.answer [
+  | inl e ↦ rw (c.in-CheckProof.is, e) (refl, refl)
+  | inr e ↦ rw (c.in-CheckProof.is, e) (refl, refl)
+]
+
+pub returns-in_ok-end-in-Apply-clause-answer : goal.returns-in_ok-end-in-Apply-clause-answer
+returns-in_ok-end-in-Apply-clause-answer g c = rw (c.in-Apply.is, c.in_ok-end-in-Apply.ensures.answer) (refl, refl)
+
+pub returns-in_ok-end-in-Ask-clause-answer : goal.returns-in_ok-end-in-Ask-clause-answer
+returns-in_ok-end-in-Ask-clause-answer g c = rw (c.in-Ask.is, c.in_ok-end-in-Ask.ensures.answer) (refl, refl)
+
+pub returns-in_ok-end-in-Schedule-clause-answer : goal.returns-in_ok-end-in-Schedule-clause-answer
+returns-in_ok-end-in-Schedule-clause-answer g c = rw (c.in-Schedule.is, c.in_ok-end-in-Schedule.ensures.answer) (refl, refl)
+
+pub returns-in_ok-end-in-Compare-clause-answer : goal.returns-in_ok-end-in-Compare-clause-answer
+returns-in_ok-end-in-Compare-clause-answer g c = rw (c.in-Compare.is, c.in_ok-end-in-Compare.ensures.answer) (refl, refl)

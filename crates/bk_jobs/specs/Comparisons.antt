@@ -1,0 +1,94 @@
+-- The job that compares two feeds: its first source, and its second, which is read after it.
+use Rattle.std.specs.Prelude.{◌≡◌, ◌⊎◌, ℕ, ◌<◌, List, ◌++◌, IfSome, codes, length, take}
+use Rattle.bk_frames.specs.Device.{Device, Fails, Receives}
+use Rattle.bk_frames.specs.Feed.{FeedValue}
+use Rattle.bk_order.specs.declared.stop.Stop.{Stop}
+use Rattle.bk_replay.specs.Agreement.{HaveStop}
+use Rattle.bk_replay.specs.Answers.{AreFeed, IsUntouched}
+use Rattle.bk_replay.specs.FeedAgreement.{BothWork, ComparesNot, FeedsAgree, FeedsDiffer, OfTheirFeeds, Sources, sources}
+use Rattle.bk_results.specs.declared.compare_stop.CompareStop.{CompareStop}
+use Rattle.bk_results.specs.declared.differ.Agreed.{Agreed}
+use Rattle.bk_results.specs.declared.differ.Differ.TheVariants as differ
+use Rattle.bk_results.specs.declared.fault.Fault.{Fault}
+use Rattle.bk_results.specs.declared.fault.Fault.TheVariants as replay
+use Rattle.bk_results.specs.Lines.{spaced}
+use Rattle.bk_jobs.specs.Sources.{AreBroken, Inputs, JobDevices, inputs_of}
+use Rattle.bk_cli.specs.declared.exit.Exit.{Exit}
+use Rattle.bk_cli.specs.declared.exit.Exit.TheVariants as exit
+use Rattle.bk_cli.specs.declared.job_fault.JobFault.{JobFault}
+use Rattle.bk_cli.specs.declared.job_fault.JobFault.TheVariants as fault
+
+-- this holds of what both sources give, where it is known
+abbrev pub IfBothGive : Inputs → (List ℕ → List ℕ → Type 0) → Type 0
+IfBothGive given holds = IfSome given.first (λ bytes. IfSome given.second (holds bytes))
+
+-- both sources of a job
+abbrev pub both_sources : JobDevices → Sources
+both_sources d = sources d.first d.second
+
+-- ---- the answer
+
+-- the line of an answer: how many certificates, and how many places, the two orders have in common
+abbrev pub agree_text : Agreed → List ℕ
+agree_text a = codes "agree" ++ spaced a.certs ++ spaced a.places ++ codes "\n"
+
+-- both byte strings encode feeds, and these agree so far
+abbrev pub SpellAgreed : Agreed → List ℕ → List ℕ → Type 0
+SpellAgreed a bytes more = OfTheirFeeds bytes more (λ f g. FeedsAgree f g a)
+
+-- the output got the whole line of how far the feeds of both sources agree, and the exit is Whole
+abbrev pub AgreementIsOut : Exit → Inputs → Device → Device → Type 0
+AgreementIsOut end given old new =
+    (a : Agreed) × (end ≡ exit.Whole) × IfBothGive given (SpellAgreed a)
+    × Receives old new (agree_text a)
+
+-- ---- why there is none
+
+-- the first bytes of the line are out, and not all
+abbrev pub PartOfAgreementIsOut : ℕ → Inputs → Device → Device → Type 0
+PartOfAgreementIsOut written given old new =
+    (a : Agreed) × IfBothGive given (SpellAgreed a) × (written < length (agree_text a))
+    × Receives old new (take written (agree_text a))
+
+-- the feeds do not agree, and nothing is written
+abbrev pub AgreeNot : CompareStop → JobDevices → JobDevices → Type 0
+AgreeNot e old new =
+    ComparesNot e (both_sources old) (both_sources new) × IsUntouched old.out new.out
+
+-- why the line is not out though the feeds agree: a call of the output failed, and exactly its first bytes are out
+abbrev pub AgreementFailsBy : Fault → JobDevices → JobDevices → Type 0
+AgreementFailsBy (replay.Feed found) old new = ⊥
+AgreementFailsBy (replay.Collision id) old new = ⊥
+AgreementFailsBy (replay.Equivocation round author first second) old new = ⊥
+AgreementFailsBy (replay.Unfinished place) old new = ⊥
+AgreementFailsBy (replay.Write written) old new =
+    BothWork (both_sources old) (both_sources new) × Fails old.out new.out
+    × PartOfAgreementIsOut written (inputs_of old) old.out new.out
+AgreementFailsBy replay.Memory old new = ⊥
+
+-- why a comparison has no answer: the feeds do not agree, or the whole line is not out
+abbrev pub CompareFailsBy : JobFault → JobDevices → JobDevices → Type 0
+CompareFailsBy (fault.Replay e) old new = AgreementFailsBy e old new
+CompareFailsBy (fault.Text e) old new = ⊥
+CompareFailsBy (fault.Events e) old new = ⊥
+CompareFailsBy (fault.Compared e) old new = AgreeNot e old new
+CompareFailsBy (fault.AbsentAccount id) old new = ⊥
+CompareFailsBy (fault.AbsentPlace place) old new = ⊥
+
+-- ---- bytes to blame
+
+-- the sources of a comparison are wrong: the first is no feed; the first is one, and the second is none; or both
+-- are, and have no one setup
+abbrev pub AreWrongTogether : Inputs → Type 0
+AreWrongTogether given =
+    IfSome given.first AreBroken ⊎ (IfSome given.first AreFeed × IfSome given.second AreBroken)
+    ⊎ IfBothGive given (λ bytes more. OfTheirFeeds bytes more (FeedsDiffer differ.Setup))
+
+-- two feeds have one setup, and a collision or twins stop the frames of both together
+abbrev pub HaveSomeStop : FeedValue → FeedValue → Type 0
+HaveSomeStop one other = (s : Stop) × HaveStop one other s
+
+-- the sources of a comparison are feeds that are stopped together
+abbrev pub AreStoppedTogether : Inputs → Type 0
+AreStoppedTogether given =
+    IfBothGive given (λ bytes more. OfTheirFeeds bytes more HaveSomeStop)

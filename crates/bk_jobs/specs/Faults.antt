@@ -1,0 +1,241 @@
+-- What a job leaves: its answer, or the fault that kept it from one.
+use Rattle.std.specs.Prelude.{◌≡◌, ◌↔◌, ◌⊎◌, ℕ, ◌<◌, Bool, List, IfSome, codes, if◌then◌else◌, length, take, string_bytes, IsTrue, Err}
+use Rattle.bk_frames.specs.Device.{Device, Works, Fails, Receives, IfKnown}
+use Rattle.bk_results.specs.declared.compare_stop.CompareStop.{CompareStop}
+use Rattle.bk_results.specs.declared.fault.Fault.{Fault}
+use Rattle.bk_results.specs.declared.status.Status.{Status}
+use Rattle.bk_replay.specs.Answers.{Devices, FailsBy, IsUntouched}
+use Rattle.bk_replay.specs.Asking.{AskFailsBy, IsReplied}
+use Rattle.bk_report.specs.Proofs.{IsGoodProof}
+use Rattle.bk_results.specs.declared.query.Query.{Query}
+use Rattle.bk_results.specs.declared.query.Reply.TheVariants as reply
+use Rattle.bk_replay.specs.Replaying.{RunFailsBy}
+use Rattle.bk_report.specs.Report.{IsApplyReport}
+use Rattle.bk_replay.specs.RunReport.{IsReport, IsStopped}
+use Rattle.bk_script.specs.Answers as script
+use Rattle.bk_script.specs.Script.{LineFault, feed_of}
+use Rattle.bk_results.specs.declared.script_fault.ScriptFault.{ScriptFault}
+use Rattle.bk_results.specs.declared.script_fault.ScriptFault.TheVariants as text
+use Rattle.bk_jobs.specs.Comparisons.{AgreeNot, AgreementFailsBy, AgreementIsOut, AreStoppedTogether, AreWrongTogether}
+use Rattle.bk_cli.specs.Exits.{absence, exit_at, exit_by, exit_after}
+use Rattle.bk_cli.specs.FaultLines.{Reports, line_of}
+use Rattle.bk_jobs.specs.Schedules.{AreNoEvents, AreRefused, IsWholeRun, ListFailsBy, ScheduleFailsBy}
+use Rattle.bk_jobs.specs.Sources.{AreBroken, Inputs, JobDevices, first_devices}
+use Rattle.bk_cli.specs.declared.exit.Exit.{Exit}
+use Rattle.bk_cli.specs.declared.exit.Exit.TheVariants as exit
+use Rattle.bk_cli.specs.declared.job.Job.{Job}
+use Rattle.bk_cli.specs.declared.job.Job.TheVariants as job
+use Rattle.bk_cli.specs.declared.job_fault.JobFault.{JobFault}
+use Rattle.bk_cli.specs.declared.job_fault.JobFault.TheVariants as fault
+use Rattle.bk_cli.specs.declared.list_fault.ListFault.{ListFault}
+
+-- ---- the answer of a job
+
+-- the output got the whole report of a run over the bytes, and the exit is the report's
+abbrev pub RunIsOut : Exit → Device → Device → List ℕ → Type 0
+RunIsOut end old new bytes =
+    (text : List ℕ) × (answer : Status) × IsReport bytes text answer × (end ≡ exit_at answer)
+    × Receives old new text
+
+-- the output got the whole apply report of the bytes
+abbrev pub ReportIsOut : Exit → Device → Device → List ℕ → Type 0
+ReportIsOut end old new bytes =
+    (text : List ℕ) × IsApplyReport bytes text × (end ≡ exit.Whole) × Receives old new text
+
+-- the output got the whole feed that the bytes make as a script
+abbrev pub FeedIsOut : Exit → Device → Device → List ℕ → Type 0
+FeedIsOut end old new bytes = (end ≡ exit.Whole) × script.IsMade bytes old new
+
+-- the text of a verdict on a proof
+abbrev pub verdict_text : Bool → List ℕ
+verdict_text good = if good then codes "proof good\n" else codes "proof bad\n"
+
+-- the verdict on whether the bytes are a proof of this root
+abbrev pub IsVerdict : List ℕ → List ℕ → Bool → Type 0
+IsVerdict root bytes good = IsTrue good ↔ IsGoodProof root bytes
+
+-- the output got the verdict on the bytes, and the exit is the verdict's
+abbrev pub VerdictIsOut : List ℕ → Exit → Device → Device → List ℕ → Type 0
+VerdictIsOut root end old new bytes =
+    (good : Bool) × IsVerdict root bytes good × (end ≡ exit_by good)
+    × Receives old new (verdict_text good)
+
+-- the output got the whole reply of the bytes to a query
+abbrev pub ReplyIsOut : Query → Exit → Device → Device → List ℕ → Type 0
+ReplyIsOut asked end old new bytes = (end ≡ exit.Whole) × IsReplied asked reply.Found bytes old new
+
+-- the output got the whole apply report of the first source, and the exit is the report's; and the second source lists
+-- events that are a whole run of its transactions
+abbrev pub ScheduleIsOut : ℕ → Exit → Inputs → Device → Device → Type 0
+ScheduleIsOut workers end given old new =
+    IfSome given.first (ReportIsOut end old new)
+    × IfSome given.second (λ text. IfSome given.first (λ bytes. IsWholeRun workers bytes text))
+
+-- the output got the whole answer of a job over what its sources give, and the exit is the answer's
+abbrev pub AnswerIsOut : Job → Exit → Inputs → Device → Device → Type 0
+AnswerIsOut (job.Run workers file) end given old new = IfSome given.first (RunIsOut end old new)
+AnswerIsOut (job.Make file) end given old new = IfSome given.first (FeedIsOut end old new)
+AnswerIsOut (job.CheckProof root file) end given old new =
+    IfSome given.first (VerdictIsOut (string_bytes root) end old new)
+AnswerIsOut (job.Ask asked file) end given old new =
+    IfSome given.first (ReplyIsOut asked end old new)
+AnswerIsOut (job.Apply file) end given old new = IfSome given.first (ReportIsOut end old new)
+AnswerIsOut (job.Schedule workers feed events) end given old new =
+    ScheduleIsOut workers end given old new
+AnswerIsOut (job.Compare first second) end given old new = AgreementIsOut end given old new
+
+-- ---- why a job has no answer
+
+-- the devices of a script
+abbrev pub script_devices : Devices → script.Devices
+script_devices d = script.devices d.source d.sink
+
+-- the first bytes of the verdict are out, and not all
+abbrev pub PartOfVerdictIsOut : List ℕ → ℕ → Device → Device → List ℕ → Type 0
+PartOfVerdictIsOut root written old new bytes =
+    (good : Bool) × IsVerdict root bytes good × (written < length (verdict_text good))
+    × Receives old new (take written (verdict_text good))
+
+-- why there is no verdict, by the fault: a call of the source failed, and nothing is written; a call of the sink failed,
+-- and exactly the first bytes of the verdict are out; or memory ran out, and nothing is written
+abbrev pub CheckFailsBy : List ℕ → ScriptFault → Devices → Devices → Type 0
+CheckFailsBy root (text.Script line found) old new = ⊥
+CheckFailsBy root text.Read old new = Fails old.source new.source × IsUntouched old.sink new.sink
+CheckFailsBy root (text.Write written) old new =
+    Works old.source new.source × Fails old.sink new.sink
+    × IfKnown old.source (PartOfVerdictIsOut root written old.sink new.sink)
+CheckFailsBy root text.Memory old new =
+    Works old.source new.source × IsUntouched old.sink new.sink
+
+-- why a feed was not replayed for a job
+abbrev pub ReplayFailsBy : Job → Fault → JobDevices → JobDevices → Type 0
+ReplayFailsBy (job.Run workers file) e old new =
+    RunFailsBy e (first_devices old) (first_devices new)
+ReplayFailsBy (job.Make file) e old new = ⊥
+ReplayFailsBy (job.CheckProof root file) e old new = ⊥
+ReplayFailsBy (job.Ask asked file) e old new =
+    AskFailsBy asked e (first_devices old) (first_devices new)
+ReplayFailsBy (job.Apply file) e old new = FailsBy e (first_devices old) (first_devices new)
+ReplayFailsBy (job.Schedule workers feed events) e old new =
+    ScheduleFailsBy workers (fault.Replay e) old new
+ReplayFailsBy (job.Compare first second) e old new = AgreementFailsBy e old new
+
+-- why a text was not answered for a job
+abbrev pub TextFailsBy : Job → ScriptFault → JobDevices → JobDevices → Type 0
+TextFailsBy (job.Run workers file) e old new = ⊥
+TextFailsBy (job.Make file) e old new =
+    script.FailsBy e (script_devices (first_devices old)) (script_devices (first_devices new))
+TextFailsBy (job.CheckProof root file) e old new =
+    CheckFailsBy (string_bytes root) e (first_devices old) (first_devices new)
+TextFailsBy (job.Ask asked file) e old new = ⊥
+TextFailsBy (job.Apply file) e old new = ⊥
+TextFailsBy (job.Schedule workers feed events) e old new = ⊥
+TextFailsBy (job.Compare first second) e old new = ⊥
+
+-- why a list of events gives no report for a job
+abbrev pub EventsFailBy : Job → ListFault → JobDevices → JobDevices → Type 0
+EventsFailBy (job.Run workers file) e old new = ⊥
+EventsFailBy (job.Make file) e old new = ⊥
+EventsFailBy (job.CheckProof root file) e old new = ⊥
+EventsFailBy (job.Ask asked file) e old new = ⊥
+EventsFailBy (job.Apply file) e old new = ⊥
+EventsFailBy (job.Schedule workers feed events) e old new = ListFailsBy workers e old new
+EventsFailBy (job.Compare first second) e old new = ⊥
+
+-- why two feeds that do not agree give no answer for a job
+abbrev pub ComparisonFailsBy : Job → CompareStop → JobDevices → JobDevices → Type 0
+ComparisonFailsBy (job.Run workers file) e old new = ⊥
+ComparisonFailsBy (job.Make file) e old new = ⊥
+ComparisonFailsBy (job.CheckProof root file) e old new = ⊥
+ComparisonFailsBy (job.Ask asked file) e old new = ⊥
+ComparisonFailsBy (job.Apply file) e old new = ⊥
+ComparisonFailsBy (job.Schedule workers feed events) e old new = ⊥
+ComparisonFailsBy (job.Compare first second) e old new = AgreeNot e old new
+
+-- what a query asks for is absent, and no call failed
+abbrev pub IsAbsentBy : Query → JobFault → Devices → Devices → Type 0
+IsAbsentBy asked e old new =
+    (absence asked ≡ Err e) × Works old.source new.source × Works old.sink new.sink
+    × IfKnown old.source (λ bytes. IsReplied asked reply.Absent bytes old.sink new.sink)
+
+-- what a job asks for is absent
+abbrev pub IsAbsentFor : Job → JobFault → JobDevices → JobDevices → Type 0
+IsAbsentFor (job.Run workers file) e old new = ⊥
+IsAbsentFor (job.Make file) e old new = ⊥
+IsAbsentFor (job.CheckProof root file) e old new = ⊥
+IsAbsentFor (job.Ask asked file) e old new =
+    IsAbsentBy asked e (first_devices old) (first_devices new)
+IsAbsentFor (job.Apply file) e old new = ⊥
+IsAbsentFor (job.Schedule workers feed events) e old new = ⊥
+IsAbsentFor (job.Compare first second) e old new = ⊥
+
+-- why a query has no reply
+abbrev pub QueryFailsBy : Query → JobFault → Devices → Devices → Type 0
+QueryFailsBy asked (fault.Replay e) old new = AskFailsBy asked e old new
+QueryFailsBy asked (fault.Text e) old new = ⊥
+QueryFailsBy asked (fault.Events e) old new = ⊥
+QueryFailsBy asked (fault.Compared e) old new = ⊥
+QueryFailsBy asked (fault.AbsentAccount id) old new = IsAbsentBy asked (fault.AbsentAccount id) old new
+QueryFailsBy asked (fault.AbsentPlace place) old new = IsAbsentBy asked (fault.AbsentPlace place) old new
+
+-- why a job has no answer
+abbrev pub JobFailsBy : Job → JobFault → JobDevices → JobDevices → Type 0
+JobFailsBy j (fault.Replay e) old new = ReplayFailsBy j e old new
+JobFailsBy j (fault.Text e) old new = TextFailsBy j e old new
+JobFailsBy j (fault.Events e) old new = EventsFailBy j e old new
+JobFailsBy j (fault.Compared e) old new = ComparisonFailsBy j e old new
+JobFailsBy j (fault.AbsentAccount id) old new = IsAbsentFor j (fault.AbsentAccount id) old new
+JobFailsBy j (fault.AbsentPlace place) old new = IsAbsentFor j (fault.AbsentPlace place) old new
+
+-- a job ended by this fault: its exit and its line are the fault's, and the devices are as it says
+pub record EndsBy (j : Job) (e : JobFault) (end : Exit) (old new : JobDevices) (err err' : Device)
+    : Type 0 where
+  pub exit_is : end ≡ exit_after e
+  pub fault : JobFailsBy j e old new
+  pub line : Reports (line_of e) err err'
+
+-- ---- bytes to blame
+
+-- the bytes have a fault of a script
+abbrev pub MakeNoFeed : List ℕ → Type 0
+MakeNoFeed bytes = (found : LineFault) × (feed_of bytes ≡ Err found)
+
+-- the sources of a schedule are wrong: the first is no feed; the second is no list of events; or it is one, of which an
+-- event is refused
+abbrev pub AreWrongFor : ℕ → Inputs → Type 0
+AreWrongFor workers given =
+    IfSome given.first AreBroken ⊎ IfSome given.second AreNoEvents
+    ⊎ IfSome given.second (λ text. IfSome given.first (λ bytes. AreRefused workers bytes text))
+
+-- what the sources give is wrong for a job
+abbrev pub AreWrong : Job → Inputs → Type 0
+AreWrong (job.Run workers file) given = IfSome given.first AreBroken
+AreWrong (job.Make file) given = IfSome given.first MakeNoFeed
+AreWrong (job.CheckProof root file) given = ⊥
+AreWrong (job.Ask asked file) given = IfSome given.first AreBroken
+AreWrong (job.Apply file) given = IfSome given.first AreBroken
+AreWrong (job.Schedule workers feed events) given = AreWrongFor workers given
+AreWrong (job.Compare first second) given = AreWrongTogether given
+
+-- the bytes are stopped by a collision or by twins
+abbrev pub AreStopped : List ℕ → Type 0
+AreStopped bytes = (found : Fault) × IsStopped bytes found
+
+-- what the sources give is stopped, for a job that finds an order
+abbrev pub AreStoppedFor : Job → Inputs → Type 0
+AreStoppedFor (job.Run workers file) given = IfSome given.first AreStopped
+AreStoppedFor (job.Make file) given = ⊥
+AreStoppedFor (job.CheckProof root file) given = ⊥
+AreStoppedFor (job.Ask asked file) given = IfSome given.first AreStopped
+AreStoppedFor (job.Apply file) given = ⊥
+AreStoppedFor (job.Schedule workers feed events) given = ⊥
+AreStoppedFor (job.Compare first second) given = AreStoppedTogether given
+
+-- what bytes to blame are like, by the exit
+abbrev pub AreToBlame : Job → Exit → Inputs → Type 0
+AreToBlame j exit.Whole given = ⊥
+AreToBlame j exit.No given = ⊥
+AreToBlame j exit.WrongInput given = AreWrong j given
+AreToBlame j exit.Stopped given = AreStoppedFor j given
+AreToBlame j exit.Failed given = ⊥
+AreToBlame j exit.Missing given = ⊥

@@ -1,0 +1,4 @@
+pub mod Comparisons
+pub mod Faults
+pub mod Schedules
+pub mod Sources

@@ -1,0 +1,55 @@
+//! Jobs that compare two feeds.
+
+ghost use Rattle.std.specs.Prelude.{◌≡◌, OnOk, IfOk, IfErr};
+ghost use Rattle.bk_frames.specs.Device.{CanBeUsed};
+ghost use Rattle.bk_jobs.specs.Comparisons.{AgreementIsOut, CompareFailsBy, agree_text};
+ghost use Rattle.bk_jobs.specs.Sources.{AllWork, inputs, job_devices};
+
+use bk_cli::{Exit, JobFault, ShortLine, put_number, put_text};
+use bk_frames::{Sink, Source, push_all};
+use bk_pool::Open;
+use bk_replay::{Agreed, Fault, compare};
+use std::sync::Wait;
+use std::thread::Threads;
+
+// The line of how far two feeds agree.
+fn agree_line(agreed: Agreed) -> ShortLine
+    ensures { result.items ≡ agree_text agreed }
+{
+    let mut line = ShortLine::new();
+    put_text(&mut line, b"agree");
+    put_number(&mut line, agreed.certs as u64);
+    put_number(&mut line, agreed.places as u64);
+    put_text(&mut line, b"\n");
+    line
+}
+
+/// Writes how far the feeds of two sources agree. The second is read once the first was followed to its end.
+pub(crate) fn compare_feeds<R, S1: Source, S2: Source, O: Sink>(
+    rt: &R,
+    first: &mut S1,
+    second: &mut S2,
+    out: &mut O,
+) -> Result<Exit, JobFault>
+where
+    R: Threads + Wait + Sync + AllocGlobal,
+    requires first { CanBeUsed (S1.state first.old) }
+    requires second { CanBeUsed (S2.state second.old) }
+    requires out { CanBeUsed (O.state out.old) }
+    ensures agree { IfOk result (λ end. AgreementIsOut end
+        (inputs (S1.state first.old).bytes (S2.state second.old).bytes)
+        (O.state out.old) (O.state out.new)) }
+    ensures answer { IfOk result (λ end. end ≡ Exit.Whole) }
+    ensures sound { OnOk result (AllWork
+        (job_devices (S1.state first.old) (S2.state second.old) (O.state out.old))
+        (job_devices (S1.state first.new) (S2.state second.new) (O.state out.new))) }
+    ensures fault { IfErr result (λ e. CompareFailsBy e
+        (job_devices (S1.state first.old) (S2.state second.old) (O.state out.old))
+        (job_devices (S1.state first.new) (S2.state second.new) (O.state out.new))) }
+{
+    let agreed = compare(rt, rt.alloc(), first, second, 1, &Open)?;
+    match push_all(out, agree_line(agreed).as_slice()) {
+        Ok(()) => Ok(Exit::Whole),
+        Err(fault) => Err(JobFault::Replay(Fault::from(fault))),
+    }
+}

@@ -1,0 +1,16 @@
+//! Jobs of the command line over sources and sinks.
+//!
+//! [`run_job`] runs a job: it writes the answer to one sink, or the fault in one line to another, and returns how the
+//! program ends. [`open_and_run`] opens the files that the job names first.
+#![tactic(auto)]
+
+mod comparing;
+mod opening;
+mod queries;
+mod replaying;
+mod running;
+mod scheduling;
+mod texts;
+
+pub use opening::open_and_run;
+pub use running::run_job;

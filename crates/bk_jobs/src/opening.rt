@@ -1,0 +1,111 @@
+//! Opens the files that a job names.
+
+ghost use Rattle.std.specs.Prelude.{◌≡◌, true};
+ghost use Rattle.bk_frames.specs.Device.{CanBeUsed};
+ghost use Rattle.bk_replay.specs.Answers.{IsUntouched};
+ghost use Rattle.bk_cli.specs.Exits.{is_answer, is_refusal, is_report, may_end};
+ghost use Rattle.bk_jobs.specs.Faults.{AnswerIsOut};
+ghost use Rattle.bk_jobs.specs.Sources.{inputs};
+
+use crate::running::run_job;
+use bk_cli::{Exit, Job, JobFault, report};
+use bk_frames::{Counted, Sink};
+use bk_replay::Fault;
+use bk_script::ScriptFault;
+use std::fs;
+use std::io::{BufReader, Read};
+use std::rt::Files;
+use std::sync::Wait;
+use std::thread::Threads;
+
+// How many bytes are read ahead, so that small pulls cost little. The number is none of the format's.
+const AHEAD: usize = 65_536;
+
+// Reports a file that cannot be opened.
+fn not_opened<E: Sink>(err: &mut E) -> Exit
+    requires { CanBeUsed (E.state err.old) }
+    ensures { result ≡ Exit.Failed }
+{
+    report(&JobFault::Text(ScriptFault::Read), err);
+    Exit::Failed
+}
+
+/// Opens what the job names, in the order of its words and before anything is read, and runs it.
+///
+/// Standard input is read where no file is named. A file that cannot be opened ends with `Failed` and `read failed`.
+pub fn open_and_run<R, O: Sink, E: Sink>(rt: &R, job: &Job, out: &mut O, err: &mut E) -> Exit
+where
+    R: Files + Input + AllocGlobal + Threads + Wait + Sync,
+    requires out { CanBeUsed (O.state out.old) }
+    requires err { CanBeUsed (E.state err.old) }
+    ensures quiet { is_report result ≡ true → err.new ≡ err.old }
+    ensures blame { is_refusal result ≡ true → IsUntouched (O.state out.old) (O.state out.new) }
+    ensures ends { may_end job.now result ≡ true }
+{
+    match job.file() {
+        Some(path) => match fs::open(rt, path) {
+            Ok(first) => open_second(rt, job, first, out, err),
+            Err(_) => not_opened(err),
+        },
+        None => open_second(rt, job, rt.reader(), out, err),
+    }
+}
+
+// Opens the second file, where the job names one, and runs the job.
+fn open_second<R, I: Read + Drop, O: Sink, E: Sink>(
+    rt: &R,
+    job: &Job,
+    first: I,
+    out: &mut O,
+    err: &mut E,
+) -> Exit
+where
+    R: Files + AllocGlobal + Threads + Wait + Sync,
+    requires out { CanBeUsed (O.state out.old) }
+    requires err { CanBeUsed (E.state err.old) }
+    ensures quiet { is_report result ≡ true → err.new ≡ err.old }
+    ensures blame { is_refusal result ≡ true → IsUntouched (O.state out.old) (O.state out.new) }
+    ensures ends { may_end job.now result ≡ true }
+{
+    let nothing: &[u8] = b"";
+    match job.second_file() {
+        Some(path) => match fs::open(rt, path) {
+            Ok(second) => run_over(rt, job, first, second, out, err),
+            Err(_) => not_opened(err),
+        },
+        None => run_over(rt, job, first, nothing, out, err),
+    }
+}
+
+// Runs a job over its inputs. Small pulls are made of the first alone.
+fn run_over<R, I: Read + Drop, J: Read + Drop, O: Sink, E: Sink>(
+    rt: &R,
+    job: &Job,
+    first: I,
+    second: J,
+    out: &mut O,
+    err: &mut E,
+) -> Exit
+where
+    R: AllocGlobal + Threads + Wait + Sync,
+    requires out { CanBeUsed (O.state out.old) }
+    requires err { CanBeUsed (E.state err.old) }
+    ensures whole { is_answer job.now result ≡ true → AnswerIsOut job.now result
+        (inputs (I.remaining first) (J.remaining second)) (O.state out.old) (O.state out.new) }
+    ensures quiet { is_report result ≡ true → err.new ≡ err.old }
+    ensures blame { is_refusal result ≡ true → IsUntouched (O.state out.old) (O.state out.new) }
+    ensures ends { may_end job.now result ≡ true }
+{
+    let Ok(reader) = BufReader::with_capacity(rt.alloc(), AHEAD, first) else {
+        report(&JobFault::Replay(Fault::Memory), err);
+        return Exit::Failed;
+    };
+    run_job(
+        rt,
+        job,
+        &mut Counted::new(reader),
+        &mut Counted::new(second),
+        out,
+        err,
+    )
+}

@@ -1,0 +1,56 @@
+//! Jobs that replay a feed.
+
+ghost use Rattle.std.specs.Prelude.{◌≡◌, true, OnOk, IfOk, IfErr};
+ghost use Rattle.bk_frames.specs.Device.{CanBeUsed, Works, IfKnown};
+ghost use Rattle.bk_replay.specs.Answers.{devices, FailsBy};
+ghost use Rattle.bk_replay.specs.Replaying.{RunFailsBy};
+ghost use Rattle.bk_cli.specs.Exits.{is_report};
+ghost use Rattle.bk_jobs.specs.Faults.{RunIsOut, ReportIsOut};
+
+use bk_cli::{Exit, Workers};
+use bk_frames::{Sink, Source};
+use bk_pool::Open;
+use bk_replay::{Fault, apply, replay};
+use std::sync::Wait;
+use std::thread::Threads;
+
+/// Writes the report of a run.
+pub(crate) fn run<R: Threads + Wait + Sync + AllocGlobal, S: Source, O: Sink>(
+    rt: &R,
+    workers: Workers,
+    source: &mut S,
+    out: &mut O,
+) -> Result<Exit, Fault>
+    requires source { CanBeUsed (S.state source.old) }
+    requires out { CanBeUsed (O.state out.old) }
+    ensures report { IfOk result (λ end. IfKnown (S.state source.old)
+        (RunIsOut end (O.state out.old) (O.state out.new))) }
+    ensures answer { IfOk result (λ end. is_report end ≡ true) }
+    ensures sound { OnOk result (Works (S.state source.old) (S.state source.new)
+        × Works (O.state out.old) (O.state out.new)) }
+    ensures fault { IfErr result (λ e. RunFailsBy e (devices (S.state source.old) (O.state out.old))
+        (devices (S.state source.new) (O.state out.new))) }
+{
+    let status = replay(rt, rt.alloc(), source, out, workers.count(), &Open)?;
+    Ok(Exit::at(status))
+}
+
+/// Writes the apply report.
+pub(crate) fn apply_all<R: AllocGlobal, S: Source, O: Sink>(
+    rt: &R,
+    source: &mut S,
+    out: &mut O,
+) -> Result<Exit, Fault>
+    requires source { CanBeUsed (S.state source.old) }
+    requires out { CanBeUsed (O.state out.old) }
+    ensures report { IfOk result (λ end. IfKnown (S.state source.old)
+        (ReportIsOut end (O.state out.old) (O.state out.new))) }
+    ensures answer { IfOk result (λ end. end ≡ Exit.Whole) }
+    ensures sound { OnOk result (Works (S.state source.old) (S.state source.new)
+        × Works (O.state out.old) (O.state out.new)) }
+    ensures fault { IfErr result (λ e. FailsBy e (devices (S.state source.old) (O.state out.old))
+        (devices (S.state source.new) (O.state out.new))) }
+{
+    apply(rt.alloc(), source, out)?;
+    Ok(Exit::Whole)
+}

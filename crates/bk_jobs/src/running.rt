@@ -1,0 +1,124 @@
+//! Runs a job over sources and sinks.
+
+ghost use Rattle.std.specs.Prelude.{◌≡◌, true, false, OnOk, IfOk, IfErr};
+ghost use Rattle.bk_frames.specs.Device.{CanBeUsed};
+ghost use Rattle.bk_replay.specs.Answers.{IsUntouched};
+ghost use Rattle.bk_cli.specs.declared.job_fault.JobFault.{JobFault as AnyFault};
+ghost use Rattle.bk_cli.specs.Exits.{is_answer, is_refusal, may_end, reads_second};
+ghost use Rattle.bk_jobs.specs.Faults.{EndsBy, JobFailsBy, AnswerIsOut, AreToBlame};
+ghost use Rattle.bk_jobs.specs.Sources.{AllWork, inputs, job_devices};
+
+use crate::comparing::compare_feeds;
+use crate::queries::reply;
+use crate::replaying::{apply_all, run};
+use crate::scheduling::schedule;
+use crate::texts::{check, make_feed};
+use bk_cli::{Exit, Job, JobFault, report};
+use bk_frames::{Sink, Source};
+use std::sync::Wait;
+use std::thread::Threads;
+
+// Writes the answer of a job.
+fn answer<R: Threads + Wait + Sync + AllocGlobal, S1: Source, S2: Source, O: Sink>(
+    rt: &R,
+    job: &Job,
+    first: &mut S1,
+    second: &mut S2,
+    out: &mut O,
+) -> Result<Exit, JobFault>
+    requires first { CanBeUsed (S1.state first.old) }
+    requires second { reads_second job.now ≡ true → CanBeUsed (S2.state second.old) }
+    requires out { CanBeUsed (O.state out.old) }
+    ensures report { IfOk result (λ end. AnswerIsOut job.now end
+        (inputs (S1.state first.old).bytes (S2.state second.old).bytes)
+        (O.state out.old) (O.state out.new)) }
+    ensures answer { IfOk result (λ end. (is_answer job.now end ≡ true)
+        × (may_end job.now end ≡ true)) }
+    ensures sound { OnOk result (AllWork
+        (job_devices (S1.state first.old) (S2.state second.old) (O.state out.old))
+        (job_devices (S1.state first.new) (S2.state second.new) (O.state out.new))) }
+    ensures fault { IfErr result (λ e. JobFailsBy job.now e
+        (job_devices (S1.state first.old) (S2.state second.old) (O.state out.old))
+        (job_devices (S1.state first.new) (S2.state second.new) (O.state out.new))) }
+    ensures second { reads_second job.now ≡ false → second.new ≡ second.old }
+{
+    match job {
+        Job::Run { workers, .. } => {
+            let end = run(rt, *workers, first, out)?;
+            Ok(end)
+        }
+        Job::Make { .. } => {
+            let end = make_feed(rt, first, out)?;
+            Ok(end)
+        }
+        Job::CheckProof { root, .. } => {
+            let end = check(rt, root.as_bytes(), first, out)?;
+            Ok(end)
+        }
+        Job::Ask { asked, .. } => {
+            let end = reply(rt, *asked, first, out)?;
+            Ok(end)
+        }
+        Job::Apply { .. } => {
+            let end = apply_all(rt, first, out)?;
+            Ok(end)
+        }
+        Job::Schedule { workers, .. } => {
+            let end = schedule(rt, *workers, first, second, out)?;
+            Ok(end)
+        }
+        Job::Compare { .. } => {
+            let end = compare_feeds(rt, first, second, out)?;
+            Ok(end)
+        }
+    }
+}
+
+/// Runs a job, and returns how the program ends.
+///
+/// The sources are the files that the job names, in their order; a job of one file does not read the second. `out` is
+/// standard output and `err` standard error, whose failures are ignored.
+///
+/// - `Whole` and `Missing`: the whole answer is on `out`, and nothing on `err`.
+/// - `No`, of a check of a proof: the proof is bad, which is the answer on `out`. Nothing is on `err`.
+/// - `No`, of a query: what it asks for is absent, which is one line on `err`. Nothing is on `out`.
+/// - `WrongInput` and `Stopped`: the bytes are to blame. The fault is one line on `err`, and nothing is on `out`.
+/// - `Failed`: a read, a write or memory failed, or a transaction is not finished. The fault is one line on `err`;
+///   after a failed write `out` has the first bytes of the answer, and else nothing.
+pub fn run_job<R: Threads + Wait + Sync + AllocGlobal, S1: Source, S2: Source, O: Sink, E: Sink>(
+    rt: &R,
+    job: &Job,
+    first: &mut S1,
+    second: &mut S2,
+    out: &mut O,
+    err: &mut E,
+) -> Exit
+    requires first { CanBeUsed (S1.state first.old) }
+    requires second { reads_second job.now ≡ true → CanBeUsed (S2.state second.old) }
+    requires out { CanBeUsed (O.state out.old) }
+    requires err { CanBeUsed (E.state err.old) }
+    ensures whole { is_answer job.now result ≡ true → AnswerIsOut job.now result
+        (inputs (S1.state first.old).bytes (S2.state second.old).bytes)
+        (O.state out.old) (O.state out.new) }
+    ensures sound { is_answer job.now result ≡ true → AllWork
+        (job_devices (S1.state first.old) (S2.state second.old) (O.state out.old))
+        (job_devices (S1.state first.new) (S2.state second.new) (O.state out.new))
+        × (err.new ≡ err.old) }
+    ensures fault { is_answer job.now result ≡ false → (e : AnyFault) × EndsBy job.now e result
+        (job_devices (S1.state first.old) (S2.state second.old) (O.state out.old))
+        (job_devices (S1.state first.new) (S2.state second.new) (O.state out.new))
+        (E.state err.old) (E.state err.new) }
+    ensures ends { may_end job.now result ≡ true }
+    ensures blame { is_refusal result ≡ true → AreToBlame job.now result
+        (inputs (S1.state first.old).bytes (S2.state second.old).bytes)
+        × IsUntouched (O.state out.old) (O.state out.new) }
+    ensures second { reads_second job.now ≡ false → second.new ≡ second.old }
+{
+    match answer(rt, job, first, second, out) {
+        Ok(exit) => exit,
+        Err(fault) => {
+            report(&fault, err);
+            Exit::after(&fault)
+        }
+    }
+}

@@ -1,0 +1,69 @@
+//! Jobs that execute a feed by a list of events.
+
+ghost use Rattle.std.specs.Prelude.{◌≡◌, OnOk, IfOk, IfErr, slice_index_or};
+ghost use Rattle.bk_frames.specs.Device.{CanBeUsed, IfKnown};
+ghost use Rattle.bk_jobs.specs.Faults.{ScheduleIsOut};
+ghost use Rattle.bk_jobs.specs.Schedules.{ScheduleFailsBy, fault_at};
+ghost use Rattle.bk_jobs.specs.Sources.{AllWork, inputs, job_devices};
+
+use bk_cli::{Exit, JobFault, ListFault, Workers};
+use bk_frames::{Sink, Source};
+use bk_replay::{Fault, ScheduleStop, apply_schedule};
+use bk_script::read_events;
+use bk_steps::ScheduleFault;
+
+// The line of the event at an index, which is that of one; 0 where it is not.
+fn line_at(lines: &[u32], index: usize) -> u32
+    ensures { result ≡ slice_index_or lines.now index 0 }
+{
+    match lines.get(index) {
+        Some(line) => *line,
+        None => 0,
+    }
+}
+
+// The fault of the job: an event is named by its line.
+fn fault_at(stop: ScheduleStop, lines: &[u32]) -> JobFault
+    ensures { result ≡ fault_at stop lines.now }
+{
+    match stop {
+        ScheduleStop::Fault(fault) => JobFault::Replay(fault),
+        ScheduleStop::Schedule(ScheduleFault::Refused { index, code }) => {
+            let line = line_at(lines, index);
+            JobFault::Events(ListFault::Refused { line, code })
+        }
+        ScheduleStop::Schedule(ScheduleFault::Unfinished(place)) => {
+            JobFault::Events(ListFault::Unfinished { place })
+        }
+        ScheduleStop::Schedule(ScheduleFault::OutOfMemory) => JobFault::Replay(Fault::Memory),
+    }
+}
+
+/// Writes the apply report of a feed, executed by a list of events, which is read and judged before the feed is.
+pub(crate) fn schedule<R: AllocGlobal, S1: Source, S2: Source, O: Sink>(
+    rt: &R,
+    workers: Workers,
+    feed: &mut S1,
+    events: &mut S2,
+    out: &mut O,
+) -> Result<Exit, JobFault>
+    requires feed { CanBeUsed (S1.state feed.old) }
+    requires events { CanBeUsed (S2.state events.old) }
+    requires out { CanBeUsed (O.state out.old) }
+    ensures report { IfOk result (λ end. ScheduleIsOut workers end
+        (inputs (S1.state feed.old).bytes (S2.state events.old).bytes)
+        (O.state out.old) (O.state out.new)) }
+    ensures answer { IfOk result (λ end. end ≡ Exit.Whole) }
+    ensures sound { OnOk result (AllWork
+        (job_devices (S1.state feed.old) (S2.state events.old) (O.state out.old))
+        (job_devices (S1.state feed.new) (S2.state events.new) (O.state out.new))) }
+    ensures fault { IfErr result (λ e. ScheduleFailsBy workers e
+        (job_devices (S1.state feed.old) (S2.state events.old) (O.state out.old))
+        (job_devices (S1.state feed.new) (S2.state events.new) (O.state out.new))) }
+{
+    let listed = read_events(rt.alloc(), events)?;
+    match apply_schedule(rt.alloc(), feed, out, workers.number(), &listed.list) {
+        Ok(()) => Ok(Exit::Whole),
+        Err(stop) => Err(fault_at(stop, &listed.lines)),
+    }
+}

@@ -1,0 +1,73 @@
+//! Jobs that read a text: a script, or a proof.
+
+ghost use Rattle.std.specs.Prelude.{◌≡◌, ◌⊎◌, OnOk, IfOk, IfErr};
+ghost use Rattle.bk_frames.specs.Device.{CanBeUsed, Works, IfKnown};
+ghost use Rattle.bk_replay.specs.Answers.{devices};
+ghost use Rattle.bk_script.specs.Answers as script;
+ghost use Rattle.bk_jobs.specs.Faults.{FeedIsOut, VerdictIsOut, CheckFailsBy, verdict_text};
+
+use bk_cli::Exit;
+use bk_frames::{Sink, Source, push_all};
+use bk_replay::{MOST_PROOF, check_proof};
+use bk_script::{ScriptFault, make, read_text};
+
+// How many bytes of a proof are asked for at once, at most.
+const PIECE: usize = 4_096;
+
+/// Writes the feed of a script.
+pub(crate) fn make_feed<R: AllocGlobal, S: Source, O: Sink>(
+    rt: &R,
+    source: &mut S,
+    out: &mut O,
+) -> Result<Exit, ScriptFault>
+    requires source { CanBeUsed (S.state source.old) }
+    requires out { CanBeUsed (O.state out.old) }
+    ensures feed { IfOk result (λ end. IfKnown (S.state source.old)
+        (FeedIsOut end (O.state out.old) (O.state out.new))) }
+    ensures answer { IfOk result (λ end. end ≡ Exit.Whole) }
+    ensures sound { OnOk result (Works (S.state source.old) (S.state source.new)
+        × Works (O.state out.old) (O.state out.new)) }
+    ensures fault { IfErr result (λ e. script.FailsBy e
+        (script.devices (S.state source.old) (O.state out.old))
+        (script.devices (S.state source.new) (O.state out.new))) }
+{
+    make(rt.alloc(), source, out)?;
+    Ok(Exit::Whole)
+}
+
+// The text of a verdict on a proof.
+fn verdict_text(good: bool) -> &'static [u8]
+    ensures { result.now ≡ verdict_text good }
+{
+    if good {
+        b"proof good\n"
+    } else {
+        b"proof bad\n"
+    }
+}
+
+/// Writes the verdict on whether a text is a proof of this root. Of a text that is too long, one byte more than a proof
+/// can have is read.
+pub(crate) fn check<R: AllocGlobal, S: Source, O: Sink>(
+    rt: &R,
+    root: &[u8],
+    source: &mut S,
+    out: &mut O,
+) -> Result<Exit, ScriptFault>
+    requires source { CanBeUsed (S.state source.old) }
+    requires out { CanBeUsed (O.state out.old) }
+    ensures verdict { IfOk result (λ end. IfKnown (S.state source.old)
+        (VerdictIsOut root.now end (O.state out.old) (O.state out.new))) }
+    ensures answer { IfOk result (λ end. (end ≡ Exit.Whole) ⊎ (end ≡ Exit.No)) }
+    ensures sound { OnOk result (Works (S.state source.old) (S.state source.new)
+        × Works (O.state out.old) (O.state out.new)) }
+    ensures fault { IfErr result (λ e. CheckFailsBy root.now e
+        (devices (S.state source.old) (O.state out.old))
+        (devices (S.state source.new) (O.state out.new))) }
+{
+    let mut piece = [0u8; PIECE];
+    let text = read_text(rt.alloc(), source, &mut piece, MOST_PROOF)?;
+    let good = check_proof(rt.alloc(), root, &text)?;
+    push_all(out, verdict_text(good))?;
+    Ok(Exit::by(good))
+}

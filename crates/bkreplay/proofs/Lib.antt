@@ -1,6 +1,0 @@
-mod BlameLemmas
-mod LineLemmas
-mod ScheduleLemmas
-mod StatusLemmas
-mod VerdictLemmas
-mod WordLemmas
