@@ -1,6 +1,7 @@
 use Rattle.std.proofs.Common.{◌≡◌, Option, List, sym, ap, subst, ◌∙◌, arith}
 use Rattle.std.specs.Prelude.{Contains, MatchOption}
 use Rattle.bk_frames.specs.declared.genesis.Row.{Row}
+use Rattle.bk_rules.specs.Ledger as rules
 use Rattle.bk_replay.specs.Follower.{Executed}
 use Rattle.bk_replay.specs.Queries.{rows_of_executed, rows_in}
 use Rattle.bk_report.specs.Proofs.{IsAbsent, IsProofOf}
@@ -13,5 +14,5 @@ returns-in_default-clause-proof g c = λ r h same.
 
 pub returns-clause-proof : goal.returns-clause-proof
 returns-clause-proof g c =
-    let rows : c.deref.result.now ≡ rows_in c.args.self.now.book = c.deref.ensures.value ∙ c.in_ok-rows.ensures ∙ ap rows_of_executed (sym c.in-Some.ensures) in
+    let rows : c.deref.result.now ≡ rows_in c.args.self.now.book = c.deref.ensures.value ∙ c.in_ok-rows.ensures ∙ ap (λ (l : rules.Ledger). l.rows) c.state.ensures ∙ ap rows_of_executed (sym c.in-Some.ensures) in
     subst (λ (rs : List Row). MatchOption c.in_ok-proof.proof (IsAbsent rs c.args.id) (IsProofOf rs c.args.id)) rows c.in_ok-proof.ensures
