@@ -60,7 +60,8 @@ where
         }
         let is_fault = found.status == 4 && found.err.as_slice() == b"write failed\n".as_slice();
         let is_first = whole.out.starts_with(&found.out)
-            && (write_size == usize::MAX || found.out.len() == writes as usize * write_size);
+            && (write_size == usize::MAX
+                || found.out.len() == (writes as usize).saturating_mul(write_size));
         if !is_fault || !is_first {
             return false;
         }
