@@ -1,8 +1,10 @@
 //! A feed that is followed in pieces.
 
+ghost use Rattle.bk_frames.specs.Device.{CanBeUsed};
+
 use crate::outcome::Outcome;
 use bk_cli::{Exit, JobFault, report};
-use bk_frames::Counted;
+use bk_frames::{Counted, Sink};
 use bk_pool::Open;
 use bk_replay::{Fault, Follower, Status};
 use std::alloc::Global;
@@ -27,14 +29,10 @@ where
     }
 }
 
-fn follow<R>(
-    rt: &R,
-    feed: &[u8],
-    pieces: Pieces,
-    out: &mut Counted<Vec<u8>>,
-) -> Result<Status, Fault>
+fn follow<R, K: Sink>(rt: &R, feed: &[u8], pieces: Pieces, out: &mut K) -> Result<Status, Fault>
 where
     R: AllocGlobal + Threads + Wait + Sync,
+    requires sound { CanBeUsed (K.state out.old) }
 {
     let mut follower = Follower::new(rt.alloc(), 2);
     for piece in feed.chunks(pieces.size.max(1)) {
