@@ -1,0 +1,104 @@
+//! The standard's examples, and the scalar hasher beside the lanes: messages of every length up to
+//! past four blocks, in groups of every size up to past two rounds of lanes.
+
+use crate::digest_each;
+use sha2::{Digest, Sha256};
+use std::alloc::{AllocError, Global};
+use std::process::Abort;
+use std::test::Fail;
+
+// Bytes that differ from one offset to the next.
+fn sample(alloc: Global, len: usize) -> Result<Vec<u8>, AllocError> {
+    let mut text = Vec::new(alloc);
+    let mut state = 1u32;
+    for _ in 0..len {
+        state = state.wrapping_mul(1_664_525).wrapping_add(1_013_904_223);
+        text.push((state >> 24) as u8)?;
+    }
+    Ok(text)
+}
+
+// The first `len` bytes of `text`, or all of it where there are fewer.
+fn front(text: &[u8], len: usize) -> &[u8] {
+    text.get(..len).unwrap_or(text)
+}
+
+// Whether the digits spell the digest.
+fn is_hex(digest: &[u8; 32], digits: &str) -> bool {
+    digits.len() == 64
+        && (0..32usize).all(|i| u8::from_str_radix(digits.get(2 * i..2 * i + 2).unwrap_or(""), 16)
+            == Ok(digest[i]))
+}
+
+// Compares each digest with the scalar hasher's.
+fn agree(alloc: Global, rt: &impl Abort, messages: &[&[u8]]) -> Result<(), AllocError> {
+    let digests = digest_each(alloc, messages)?;
+    assert_eq!(rt; digests.len(), messages.len());
+    for (message, digest) in messages.iter().zip(digests.iter()) {
+        assert!(rt; Sha256::digest(*message) == *digest);
+    }
+    Ok(())
+}
+
+// FIPS 180-4's examples for SHA-256, in two groups' worth of lanes.
+#[test]
+fn standard_digests(rt: HostRuntime) -> Result<(), Fail> {
+    let messages: [&[u8]; 3] = [
+        b"",
+        b"abc",
+        b"abcdbcdecdefdefgefghfghighijhijkijkljklmklmnlmnomnopnopq",
+    ];
+    let texts = [
+        "e3b0c44298fc1c149afbf4c8996fb92427ae41e4649b934ca495991b7852b855",
+        "ba7816bf8f01cfea414140de5dae2223b00361a396177a9cb410ff61f20015ad",
+        "248d6a61d20638b8e5c026930c3e6039a33ce45964ff2167f6ecedd419db06c1",
+    ];
+    let mut group = Vec::new(rt.alloc());
+    for k in 0..12usize {
+        group.push(messages[k % 3])?;
+    }
+    let digests = digest_each(rt.alloc(), &group)?;
+    assert_eq!(rt; digests.len(), 12);
+    for (k, digest) in digests.iter().enumerate() {
+        assert!(rt; is_hex(digest, texts[k % 3]), "{k}");
+    }
+    Ok(())
+}
+
+#[test]
+fn every_length_in_one_group(rt: HostRuntime) -> Result<(), Fail> {
+    let text = sample(rt.alloc(), 300)?;
+    let mut messages = Vec::new(rt.alloc());
+    for len in 0..=300 {
+        messages.push(front(&text, len))?;
+    }
+    agree(rt.alloc(), &rt, &messages)?;
+    messages.reverse();
+    agree(rt.alloc(), &rt, &messages)?;
+    Ok(())
+}
+
+#[test]
+fn groups_of_every_size(rt: HostRuntime) -> Result<(), Fail> {
+    let text = sample(rt.alloc(), 4096)?;
+    for count in 0..20usize {
+        let mut messages = Vec::new(rt.alloc());
+        for k in 0..count {
+            messages.push(front(&text, k * 37 % 211 + 64 * (k % 3)))?;
+        }
+        agree(rt.alloc(), &rt, &messages)?;
+    }
+    Ok(())
+}
+
+#[test]
+fn a_long_text_among_short_ones(rt: HostRuntime) -> Result<(), Fail> {
+    let text = sample(rt.alloc(), 4096)?;
+    let mut messages = Vec::new(rt.alloc());
+    for k in 0..40usize {
+        let len = if k % 13 == 0 { 4096 } else { k };
+        messages.push(front(&text, len))?;
+    }
+    agree(rt.alloc(), &rt, &messages)?;
+    Ok(())
+}
