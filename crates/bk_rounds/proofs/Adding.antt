@@ -3,7 +3,6 @@ use Rattle.std.proofs.Common.{◌≡◌, ◌≢◌, ℕ, zero, suc, ◌+◌, ◌
 use Rattle.std.specs.List.{Contains, All}
 use Rattle.std.specs.Map.{lookup}
 use Rattle.std.specs.Ordering.{is_eq}
-use Rattle.std.specs.Str.{bytes_eq}
 use Rattle.std.proofs.lemmas.Bool.{cases_eq, cases_lt, cases_Bool, both_ways, false_from_ne_true}
 use Rattle.std.proofs.lemmas.List.{length-set, length-append}
 use Rattle.std.proofs.lemmas.List.Elements.{Contains-push, Contains-push_cases, Contains-append_left}
@@ -17,7 +16,7 @@ use Rattle.bk_cert.specs.Clear.{IsClear}
 use Rattle.bk_rounds.specs.Admission.{IsFit, AreFit, IsPresent, last_round}
 use Rattle.bk_rounds.specs.Members.{Has}
 use Rattle.bk_rounds.specs.private.Numbered.{id_of, round_of, author_of, cert_of, parents_of, row_of, is_marked, count_unmarked, is_heavy_in, IsInside, IsInsideRows, IsRegistered, IsAdmittedAt, IsTable}
-use Rattle.bk_rounds.specs.private.Names.{set_of, IsNumbering, known_in, AreNames, Grows}
+use Rattle.bk_rounds.specs.private.Names.{set_of, IsNumbering, is_same_id, known_in, AreNames, Grows}
 use Rattle.bk_rounds.specs.private.Tied.{IsSlotOf, IsTied, IsAt, IsPlaced, IsAuthorIn, AreSets, IsWhole, IsNumberAt, place_at}
 use Rattle.bk_rounds.specs.declared.waking.Pending.{Pending}
 use Rattle.bk_cert.proofs.Lists.{from_map, in_map, none_in_nil}
@@ -275,7 +274,7 @@ whole_added z held n m c k slot placed placed' top top' out w h it new free up t
     tied = tied_added held n m c k slot h (λ d t. (w.good d t).from_one) w.tied
 
     known : (q : List ℕ) → known_in m q ≡ known_in n q
-    known q = ap (λ es. lookup (bytes_eq q) es) h.numbers
+    known q = ap (λ es. lookup (is_same_id q) es) h.numbers
 
     not_k : (i : ℕ) → is_marked n.marks.items i ≡ true → i ≢ k
     not_k i was = other_number held n m c k slot h i (marked_round z n w.table i was)

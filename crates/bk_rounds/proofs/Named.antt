@@ -2,7 +2,8 @@
 use Rattle.std.proofs.Common.{◌≡◌, ℕ, zero, suc, ◌+◌, ◌<◌, ◌≤◌, Bool, true, false, cond, not, List, [], ◌∷◌, ◌++◌, length, map, Option, Some, None, refl, sym, ap, ◌∙◌, subst, ⊎_elim, arith, get_or, sum_by}
 use Rattle.std.specs.List.{Contains, All, AllByRecursion}
 use Rattle.std.proofs.lemmas.List.Elements.{recursion_from_All}
-use Rattle.std.specs.Str.{bytes_eq}
+use Rattle.std.specs.Cmp.Lexicographic.{texts_ties}
+use Rattle.std.specs.Bool.{Decides}
 use Rattle.std.specs.Map.{lookup}
 use Rattle.std.proofs.lemmas.Slice.Eq.{bytes_eq-Decides}
 use Rattle.std.proofs.lemmas.Bool.{cases_lt, cases_Bool, both_ways}
@@ -12,7 +13,13 @@ use Rattle.bk_rounds.specs.declared.slots.Slot.{Slot}
 use Rattle.bk_rounds.specs.declared.waking.Pending.{Pending}
 use Rattle.bk_rounds.specs.declared.names.Names.{Names}
 use Rattle.bk_rounds.specs.private.Numbered.{id_of, round_of, author_of, cert_of, parents_of, row_of, is_marked, count_unmarked, IsInsideRows}
-use Rattle.bk_rounds.specs.private.Names.{set_of, IsNumbering, known_in, AreNames, Grows, AreSame}
+use Rattle.bk_rounds.specs.private.Names.{set_of, IsNumbering, is_same_id, known_in, AreNames, Grows, AreSame}
+
+same_id-Decides : (p q : List ℕ) → Decides (is_same_id p q) (p ≡ q)
+same_id-Decides p q = (
+  (λ t. (bytes_eq-Decides p q).0 (texts_ties p q ∙ t)),
+  (λ e. sym (texts_ties p q) ∙ (bytes_eq-Decides p q).1 e),
+)
 
 -- a field that has the default in what is pushed is everywhere as it was
 pub push_field : {X Y : Type 0} (f : X → Y) (xs : List X) (s : X) (e : Y) → f s ≡ e → (i : ℕ) → get_or (map f (xs ++ s ∷ [])) i e ≡ get_or (map f xs) i e
@@ -74,7 +81,7 @@ names_same a b n s = record {
 }
   where
     known : (q : List ℕ) → known_in b q ≡ known_in a q
-    known q = ap (λ es. lookup (bytes_eq q) es) s.numbers
+    known q = ap (λ es. lookup (is_same_id q) es) s.numbers
 
 pub grows_on : (a b c : Names) → Grows a b → Grows b c → Grows a c
 grows_on a b c h k = record {
@@ -102,7 +109,7 @@ pub record Pushes (a b : Names) (id : List ℕ) (slot : Slot) (row : Pending) (s
   pub pending : b.pending.items ≡ a.pending.items ++ row ∷ []
   pub sets : b.sets.items ≡ a.sets.items ++ set ∷ []
   pub unmarked : b.unmarked ≡ a.unmarked + 1
-  pub updates : (q : List ℕ) → known_in b q ≡ cond (bytes_eq id q) (Some (length a.slots.items)) (known_in a q)
+  pub updates : (q : List ℕ) → known_in b q ≡ cond (is_same_id id q) (Some (length a.slots.items)) (known_in a q)
 
 row_same : (a b : Names) (id : List ℕ) (slot : Slot) (row : Pending) (set : ℕ) → Pushes a b id slot row set → (m : ℕ) → row_of b.pending.items m ≡ row_of a.pending.items m
 row_same a b id slot row set p m = ap (λ xs. row_of xs m) p.pending ∙ push_field (λ (x : Pending). x.slots.items) a.pending.items row [] p.empty m
@@ -151,13 +158,13 @@ names_pushed a b id slot row set n new p = record {
         let is : length a.slots.items ≡ k = some_same _ _ (sym (p.updates q ∙ ap (λ v. cond v (Some (length a.slots.items)) (known_in a q)) t) ∙ e) in
         let f = ap length p.slots in (
           omega (arith, is, f, length-append a.slots.items (slot ∷ [])),
-          ap (id_of b.slots.items) (sym is) ∙ (id_at a b id slot row set p ∙ (bytes_eq-Decides id q).0 t),
+          ap (id_of b.slots.items) (sym is) ∙ (id_at a b id slot row set p ∙ (same_id-Decides id q).0 t),
         ))
         (λ g.
         let h = n.numbering.sound q k (sym (p.updates q ∙ ap (λ v. cond v (Some (length a.slots.items)) (known_in a q)) g) ∙ e) in
         let f = ap length p.slots in
         (omega (arith, h.0, f, length-append a.slots.items (slot ∷ [])), id_before a b id slot row set p k h.0 ∙ h.1))
-        (cases_Bool (bytes_eq id q));
+        (cases_Bool (is_same_id id q));
     complete = λ k low. ⊎_elim
         (λ lt. ap (known_in b) (id_before a b id slot row set p k lt)
         ∙ (p.updates (id_of a.slots.items k)
@@ -167,7 +174,7 @@ names_pushed a b id slot row set n new p = record {
         let is : length a.slots.items ≡ k = omega (arith, low, ge, f, length-append a.slots.items (slot ∷ [])) in
         ap (λ j. known_in b (id_of b.slots.items j)) (sym is)
         ∙ (ap (known_in b) (id_at a b id slot row set p)
-        ∙ (p.updates id ∙ (ap (λ v. cond v (Some (length a.slots.items)) (known_in a id)) ((bytes_eq-Decides id id).1 refl) ∙ ap Some is))))
+        ∙ (p.updates id ∙ (ap (λ v. cond v (Some (length a.slots.items)) (known_in a id)) ((same_id-Decides id id).1 refl) ∙ ap Some is))))
         (cases_lt k (length a.slots.items));
   };
 }
@@ -178,11 +185,11 @@ names_pushed a b id slot row set n new p = record {
     never : (k : ℕ) → None ≡ Some k → ⊥
     never k e = cc
 
-    apart : (k : ℕ) → k < length a.slots.items → bytes_eq id (id_of a.slots.items k) ≡ false
+    apart : (k : ℕ) → k < length a.slots.items → is_same_id id (id_of a.slots.items k) ≡ false
     apart k lt = ⊎_elim
-        (λ t. absurd (never k (sym new ∙ (ap (known_in a) ((bytes_eq-Decides id (id_of a.slots.items k)).0 t) ∙ n.numbering.complete k lt))))
+        (λ t. absurd (never k (sym new ∙ (ap (known_in a) ((same_id-Decides id (id_of a.slots.items k)).0 t) ∙ n.numbering.complete k lt))))
         (λ f. f)
-        (cases_Bool (bytes_eq id (id_of a.slots.items k)))
+        (cases_Bool (is_same_id id (id_of a.slots.items k)))
 
 -- numbers keep their ids
 pub ids_kept : (a b : Names) (ps : List ℕ) → Grows a b → All (λ p. p < length a.slots.items) ps → map (id_of b.slots.items) ps ≡ map (id_of a.slots.items) ps
@@ -227,7 +234,7 @@ names_rows a b n numbers slots marks sets unmarked same rows = record {
 }
   where
     known : (q : List ℕ) → known_in b q ≡ known_in a q
-    known q = ap (λ m. lookup (bytes_eq q) m.entries) numbers
+    known q = ap (λ m. lookup (is_same_id q) m.entries) numbers
 
 pub grows_rows : (a b : Names) → b.slots ≡ a.slots → b.marks ≡ a.marks → b.sets ≡ a.sets
     → ((m i : ℕ) → Contains (row_of a.pending.items m) i → Contains (row_of b.pending.items m) i) → Grows a b

@@ -9,14 +9,15 @@ use crate::slots::Slot;
 use crate::waking::Pending;
 use bk_digest::Digest32;
 use std::alloc::{AllocError, Global};
-use std::collections::HashMap;
+use std::collections::BTreeMap;
 
 /// The ids that were met, those of parents that are not held among them, each with its number.
 ///
-/// What is known of a number is at that index in each of the lists.
+/// What is known of a number is at that index in each of the lists. An id is found in O(log n) of
+/// those that were met, whatever its bytes: they come from a feed.
 #[derive(Drop)]
 pub(crate) struct Names {
-    pub numbers: HashMap<Digest32, usize>,
+    pub numbers: BTreeMap<Digest32, usize>,
     pub slots: Vec<Slot>,
     pub marks: Vec<bool>,
     pub pending: Vec<Pending>,
@@ -32,7 +33,7 @@ impl Names {
         ensures names { AreNames result }
     {
         Names {
-            numbers: HashMap::new(alloc),
+            numbers: BTreeMap::new(alloc),
             slots: Vec::new(alloc),
             marks: Vec::new(alloc),
             pending: Vec::new(alloc),

@@ -31,7 +31,7 @@ use bk_committee::Committee;
 use bk_digest::Digest32;
 use std::alloc::{AllocError, Global};
 use std::cmp::Ordering;
-use std::collections::{BTreeMap, HashMap};
+use std::collections::BTreeMap;
 use std::marker::Model;
 
 /// The held certificates of a committee, and which of them are admitted. Contracts see it as the

@@ -1,7 +1,8 @@
 -- The ids that were met, by number, and what is known of each.
-use Rattle.std.specs.Prelude.{◌≡◌, ℕ, ◌<◌, ◌≤◌, ◌↔◌, true, List, Contains, Option, Some, length, map, slice_index_or, vec_len, vec_capacity}
-use Rattle.std.specs.Str.{bytes_eq}
-use Rattle.std.specs.HashMap.{get}
+use Rattle.std.specs.Prelude.{◌≡◌, ℕ, ◌<◌, ◌≤◌, ◌↔◌, Bool, true, List, Contains, Option, Some, length, map, slice_index_or, vec_len, vec_capacity}
+use Rattle.std.specs.BTreeMap.{get}
+use Rattle.std.specs.Cmp.Lexicographic.{slice_cmp}
+use Rattle.std.specs.Ordering.{nat_cmp, is_eq}
 use Rattle.bk_cert.specs.Node.{Node}
 use Rattle.bk_cert.specs.declared.place.CertRef.{CertRef}
 use Rattle.bk_rounds.specs.declared.slots.Slot.{Slot}
@@ -18,9 +19,13 @@ pub record IsNumbering (slots : List Slot) (known : List ℕ → Option ℕ) : T
   pub sound : (q : List ℕ) (k : ℕ) → known q ≡ Some k → (k < length slots) × (id_of slots k ≡ q)
   pub complete : (k : ℕ) → k < length slots → known (id_of slots k) ≡ Some k
 
+-- one id is the other, by the order of their bytes
+abbrev pub is_same_id : List ℕ → List ℕ → Bool
+is_same_id p q = is_eq (slice_cmp nat_cmp p q)
+
 -- the number of an id, where it has one
 abbrev pub known_in : Names → List ℕ → Option ℕ
-known_in n q = get bytes_eq n.numbers q
+known_in n q = get (slice_cmp nat_cmp) n.numbers q
 
 -- the lists are of one length, and each id has its number
 pub record AreNames (n : Names) : Type 0 where

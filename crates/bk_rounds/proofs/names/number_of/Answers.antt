@@ -1,9 +1,8 @@
 use Rattle.std.proofs.Common.{◌≡◌, ◌+◌, ◌++◌, ◌∷◌, [], false, cond, Some, ℕ, List, ◌∙◌, ap, sym, refl, arith, length}
-use Rattle.std.specs.Str.{bytes_eq}
 use Rattle.std.specs.Map.{lookup}
 use Rattle.bk_rounds.specs.private.Numbered.{id_of}
 use Rattle.std.proofs.lemmas.List.{length-append}
-use Rattle.bk_rounds.specs.private.Names.{AreSame, Grows, AreNames}
+use Rattle.bk_rounds.specs.private.Names.{AreSame, Grows, AreNames, is_same_id}
 use Rattle.bk_rounds.specs.declared.names.Names.{Names}
 use Rattle.bk_rounds.specs.declared.slots.Slot.{Slot}
 use Rattle.bk_rounds.specs.declared.waking.Pending.{Pending}
@@ -53,7 +52,7 @@ returns-clause-names c =
       pending = c.push_reserved-3.ensures.items ∙ ap (λ xs. xs ++ row ∷ []) s.pending;
       sets = c.push_reserved-4.ensures.items ∙ ap (λ xs. xs ++ c.none.result ∷ []) s.sets;
       unmarked = ap (λ k. k + 1) s.unmarked;
-      updates = λ q. c.in_ok-insert.ensures.updates.0 q ∙ (λ i. cond (bytes_eq c.args.id.now q) (Some (count i)) (lookup (bytes_eq q) (s.numbers i)));
+      updates = λ q. c.in_ok-insert.ensures.updates.0 q ∙ (λ i. cond (is_same_id c.args.id.now q) (Some (count i)) (lookup (is_same_id q) (s.numbers i)));
     } in
     names_pushed c.args.names.now _ c.args.id.now slot row c.none.result c.requires.names (sym c.get.ensures.value ∙ (sym c.copied.ensures ∙ c.in_default.is)) p
 
@@ -75,7 +74,7 @@ returns-clause-grows c =
       pending = c.push_reserved-3.ensures.items ∙ ap (λ xs. xs ++ row ∷ []) s.pending;
       sets = c.push_reserved-4.ensures.items ∙ ap (λ xs. xs ++ c.none.result ∷ []) s.sets;
       unmarked = ap (λ k. k + 1) s.unmarked;
-      updates = λ q. c.in_ok-insert.ensures.updates.0 q ∙ (λ i. cond (bytes_eq c.args.id.now q) (Some (count i)) (lookup (bytes_eq q) (s.numbers i)));
+      updates = λ q. c.in_ok-insert.ensures.updates.0 q ∙ (λ i. cond (is_same_id c.args.id.now q) (Some (count i)) (lookup (is_same_id q) (s.numbers i)));
     } in
     grows_pushed c.args.names.now _ c.args.id.now slot row c.none.result c.requires.names p
 

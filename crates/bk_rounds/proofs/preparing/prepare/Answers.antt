@@ -14,6 +14,9 @@ register-requires-clause-rows c = λ m i h.
     let r = n.rows m i (subst (λ (xs : List Pending). Contains (row_of xs m) i) c.deref_mut.ensures.value h) in
     omega (arith, r, n.marks, ap length c.deref.ensures.value)
 
+pub returns-in_err-number-clause-grows : goal.returns-in_err-number-clause-grows
+returns-in_err-number-clause-grows c = grows_on c.args.names.now c.numbers_of.new.names c.number_of.new.names c.in_ok-parents.ensures.grows c.in_err-number.ensures.grows
+
 pub returns-in_err-register-clause-names : goal.returns-in_err-register-clause-names
 returns-in_err-register-clause-names c =
     let n = c.in_ok-number.ensures.names in
