@@ -10,9 +10,12 @@ use Rattle.std.proofs.lemmas.Option.{slice_get-get_or, slice_get_past}
 use Rattle.std.specs.Prelude.{nat_lt, not}
 use Rattle.std.proofs.lemmas.List.Quantifiers.{position-Some}
 use Rattle.std.proofs.lemmas.Slice.Eq.{bytes_eq-Decides}
-use Rattle.std.proofs.lemmas.Bool.{true≢false, false_from_ne_true}
+use Rattle.std.proofs.lemmas.Bool.{true≢false, false_from_ne_true, cases_Bool}
 use Rattle.std.specs.Map.{lookup}
-use Rattle.indexmap.specs.IndexMap.{IndexMap, get}
+use Rattle.std.specs.BTreeMap.{BTreeMap, get}
+use Rattle.std.specs.Ordering.{is_eq}
+use Rattle.std.specs.Cmp.Lexicographic.{texts_ties}
+use Rattle.bk_evidence.specs.Collisions.{id_cmp}
 use Rattle.bk_evidence.specs.private.Indexed.{is_named, IsIndexed}
 
 abbrev at_or_none : ℕ → ℕ → Option ℕ
@@ -69,9 +72,9 @@ none_or_some : (o : Option ℕ) → (o ≡ None) ⊎ ((k : ℕ) × (o ≡ Some k
 none_or_some None = inl refl
 none_or_some (Some k) = inr (k, refl)
 
-module _ {E S : Type 0} (name : E → List ℕ) (xs : List E) (m : IndexMap (List ℕ) ℕ S) (indexed : IsIndexed name xs m) where
+module _ {E : Type 0} (name : E → List ℕ) (xs : List E) (m : BTreeMap (List ℕ) ℕ) (indexed : IsIndexed name xs m) where
   -- what has an index is there
-  pub indexed_at : (id : List ℕ) (k : ℕ) → get bytes_eq m id ≡ Some k → (k < length xs) × ((d : E) → name (slice_index_or xs k d) ≡ id)
+  pub indexed_at : (id : List ℕ) (k : ℕ) → get id_cmp m id ≡ Some k → (k < length xs) × ((d : E) → name (slice_index_or xs k d) ≡ id)
   indexed_at id k h =
       let at : (d : E) → (k < length xs) × (is_named name id (slice_index_or xs k d) ≡ true) × ((j : ℕ) → j < k → is_named name id (slice_index_or xs j d) ≡ false) =
       λ d. position-Some (is_named name id) xs k d (sym (indexed.first id) ∙ h) in
@@ -79,39 +82,54 @@ module _ {E S : Type 0} (name : E → List ℕ) (xs : List E) (m : IndexMap (Lis
       (low, λ d. named (name (slice_index_or xs k d)) id (at d).1)
 
   -- what has none is not held
-  pub indexed_none : (id : List ℕ) → get bytes_eq m id ≡ None → (e : E) → Contains xs e → name e ≢ id
+  pub indexed_none : (id : List ℕ) → get id_cmp m id ≡ None → (e : E) → Contains xs e → name e ≢ id
   indexed_none id h e there = λ is. true≢false (sym ((bytes_eq-Decides (name e) id).1 is) ∙ none_passes (is_named name id) xs (sym (indexed.first id) ∙ h) e there)
 
   -- a first entry under a name gets the index after all others
-  pub indexed_first : (n : IndexMap (List ℕ) ℕ S) (x : E) → get bytes_eq m (name x) ≡ None
-      → ((q : List ℕ) → get bytes_eq n q ≡ cond (bytes_eq (name x) q) (Some (length xs)) (get bytes_eq m q)) → IsIndexed name (xs ++ x ∷ []) n
+  pub indexed_first : (n : BTreeMap (List ℕ) ℕ) (x : E) → get id_cmp m (name x) ≡ None
+      → ((q : List ℕ) → get id_cmp n q ≡ cond (is_eq (id_cmp (name x) q)) (Some (length xs)) (get id_cmp m q)) → IsIndexed name (xs ++ x ∷ []) n
   indexed_first n x new updates = record { first = λ q. ⊎_elim (none q) (some q) (none_or_some (position (is_named name q) xs)) }
     where
-      none : (q : List ℕ) → position (is_named name q) xs ≡ None → get bytes_eq n q ≡ position (is_named name q) (xs ++ x ∷ [])
-      none q e = updates q ∙ (ap (λ (o : Option ℕ). cond (bytes_eq (name x) q) (Some (length xs)) o) (indexed.first q ∙ e) ∙ sym (position_push_none (is_named name q) xs x e))
+      by_bytes : (q : List ℕ) → get id_cmp n q ≡ cond (bytes_eq (name x) q) (Some (length xs)) (get id_cmp m q)
+      by_bytes q = updates q ∙ ap (λ (b : Bool). cond b (Some (length xs)) (get id_cmp m q)) (sym (texts_ties (name x) q))
 
-      some : (q : List ℕ) → (k : ℕ) × (position (is_named name q) xs ≡ Some k) → get bytes_eq n q ≡ position (is_named name q) (xs ++ x ∷ [])
+      none : (q : List ℕ) → position (is_named name q) xs ≡ None → get id_cmp n q ≡ position (is_named name q) (xs ++ x ∷ [])
+      none q e = by_bytes q ∙ (ap (λ (o : Option ℕ). cond (bytes_eq (name x) q) (Some (length xs)) o) (indexed.first q ∙ e) ∙ sym (position_push_none (is_named name q) xs x e))
+
+      some : (q : List ℕ) → (k : ℕ) × (position (is_named name q) xs ≡ Some k) → get id_cmp n q ≡ position (is_named name q) (xs ++ x ∷ [])
       some q (k, e) =
-          let found : get bytes_eq m q ≡ Some k = indexed.first q ∙ e in
-          let other : bytes_eq (name x) q ≡ false = false_from_ne_true _ (λ t. let same = named (name x) q t in absurd (none≢some k (sym new ∙ (ap (get bytes_eq m) same ∙ found)))) in
-          updates q ∙ (ap (λ (b : Bool). cond b (Some (length xs)) (get bytes_eq m q)) other ∙ (found ∙ sym (position_push_some (is_named name q) xs x k e)))
+          let found : get id_cmp m q ≡ Some k = indexed.first q ∙ e in
+          let other : bytes_eq (name x) q ≡ false = false_from_ne_true _ (λ t. let same = named (name x) q t in absurd (none≢some k (sym new ∙ (ap (get id_cmp m) same ∙ found)))) in
+          by_bytes q ∙ (ap (λ (b : Bool). cond b (Some (length xs)) (get id_cmp m q)) other ∙ (found ∙ sym (position_push_some (is_named name q) xs x k e)))
+
+  -- an index that is taken out again leaves each name with what it had
+  pub indexed_back : (n r : BTreeMap (List ℕ) ℕ) (id : List ℕ) (k : ℕ) → get id_cmp m id ≡ None
+      → ((q : List ℕ) → get id_cmp n q ≡ cond (is_eq (id_cmp id q)) (Some k) (get id_cmp m q))
+      → ((q : List ℕ) → get id_cmp r q ≡ cond (is_eq (id_cmp id q)) None (get id_cmp n q)) → IsIndexed name xs r
+  indexed_back n r id k new put taken = record { first = λ q. taken q ∙ (⊎_elim (here q) (elsewhere q) (cases_Bool (is_eq (id_cmp id q))) ∙ indexed.first q) }
+    where
+      here : (q : List ℕ) → is_eq (id_cmp id q) ≡ true → cond (is_eq (id_cmp id q)) None (get id_cmp n q) ≡ get id_cmp m q
+      here q t = ap (λ (b : Bool). cond b None (get id_cmp n q)) t ∙ (sym new ∙ ap (get id_cmp m) (named id q (texts_ties id q ∙ t)))
+
+      elsewhere : (q : List ℕ) → is_eq (id_cmp id q) ≡ false → cond (is_eq (id_cmp id q)) None (get id_cmp n q) ≡ get id_cmp m q
+      elsewhere q f = ap (λ (b : Bool). cond b None (get id_cmp n q)) f ∙ (put q ∙ ap (λ (b : Bool). cond b (Some k) (get id_cmp m q)) f)
 
   -- a further entry under a name that is held changes no index
-  pub indexed_more : (x : E) (k : ℕ) → get bytes_eq m (name x) ≡ Some k → IsIndexed name (xs ++ x ∷ []) m
+  pub indexed_more : (x : E) (k : ℕ) → get id_cmp m (name x) ≡ Some k → IsIndexed name (xs ++ x ∷ []) m
   indexed_more x k there = record { first = λ q. ⊎_elim (none q) (some q) (none_or_some (position (is_named name q) xs)) }
     where
-      none : (q : List ℕ) → position (is_named name q) xs ≡ None → get bytes_eq m q ≡ position (is_named name q) (xs ++ x ∷ [])
+      none : (q : List ℕ) → position (is_named name q) xs ≡ None → get id_cmp m q ≡ position (is_named name q) (xs ++ x ∷ [])
       none q e =
-          let absent : get bytes_eq m q ≡ None = indexed.first q ∙ e in
-          let other : bytes_eq (name x) q ≡ false = false_from_ne_true _ (λ t. let same = named (name x) q t in absurd (none≢some k (sym absent ∙ (ap (get bytes_eq m) (sym same) ∙ there)))) in
+          let absent : get id_cmp m q ≡ None = indexed.first q ∙ e in
+          let other : bytes_eq (name x) q ≡ false = false_from_ne_true _ (λ t. let same = named (name x) q t in absurd (none≢some k (sym absent ∙ (ap (get id_cmp m) (sym same) ∙ there)))) in
           absent ∙ (sym (ap (λ (b : Bool). cond b (Some (length xs)) None) other) ∙ sym (position_push_none (is_named name q) xs x e))
 
-      some : (q : List ℕ) → (k : ℕ) × (position (is_named name q) xs ≡ Some k) → get bytes_eq m q ≡ position (is_named name q) (xs ++ x ∷ [])
+      some : (q : List ℕ) → (k : ℕ) × (position (is_named name q) xs ≡ Some k) → get id_cmp m q ≡ position (is_named name q) (xs ++ x ∷ [])
       some q (j, e) = indexed.first q ∙ (e ∙ sym (position_push_some (is_named name q) xs x j e))
 
 -- only what the map finds counts
-pub indexed_as : {E S : Type 0} (name : E → List ℕ) (xs ys : List E) (m n : IndexMap (List ℕ) ℕ S) → ys ≡ xs → n.entries ≡ m.entries → IsIndexed name xs m → IsIndexed name ys n
-indexed_as name xs ys m n e f h = record { first = λ id. ap (λ (es : List (List ℕ × ℕ)). lookup (bytes_eq id) es) f ∙ (h.first id ∙ ap (position (is_named name id)) (sym e)) }
+pub indexed_as : {E : Type 0} (name : E → List ℕ) (xs ys : List E) (m n : BTreeMap (List ℕ) ℕ) → ys ≡ xs → n.entries ≡ m.entries → IsIndexed name xs m → IsIndexed name ys n
+indexed_as name xs ys m n e f h = record { first = λ id. ap (λ (es : List (List ℕ × ℕ)). lookup (λ k. is_eq (id_cmp id k)) es) f ∙ (h.first id ∙ ap (position (is_named name id)) (sym e)) }
 
-pub indexed_empty : {E S : Type 0} (name : E → List ℕ) (m : IndexMap (List ℕ) ℕ S) → m.entries ≡ [] → IsIndexed name [] m
-indexed_empty name m e = record { first = λ id. ap (λ (es : List (List ℕ × ℕ)). lookup (bytes_eq id) es) e }
+pub indexed_empty : {E : Type 0} (name : E → List ℕ) (m : BTreeMap (List ℕ) ℕ) → m.entries ≡ [] → IsIndexed name [] m
+indexed_empty name m e = record { first = λ id. ap (λ (es : List (List ℕ × ℕ)). lookup (λ k. is_eq (id_cmp id k)) es) e }

@@ -1,5 +1,5 @@
 -- There is one answer, one collision and one evidence.
-use Rattle.std.proofs.Common.{◌≡◌, ◌≢◌, ◌⊎◌, ℕ, List, refl, sym, ap, subst, ◌∙◌, inl, inr, ⊎_elim, arith}
+use Rattle.std.proofs.Common.{◌≡◌, ◌≢◌, ◌⊎◌, ℕ, List, refl, sym, ap, subst, ◌∙◌, inl, inr, ⊎_elim}
 use Rattle.bk_cert.specs.Node.{Node}
 use Rattle.bk_cert.proofs.Listed.{one_way}
 use Rattle.bk_cert.specs.Place.{IsBefore}

@@ -2,8 +2,7 @@
 
 ghost use Rattle.std.specs.Prelude.{◌≡◌, ◌≢◌, ◌++◌, ◌∷◌, ◌<◌, ◌↔◌, [], length, Contains, IfOk, OnOk, OnErr, None, false, IsOk, IsTrue, MatchOption, option_map, slice_index_or, IfSome};
 ghost use Rattle.std.specs.List.{position};
-ghost use Rattle.std.specs.Str.{bytes_eq};
-ghost use Rattle.indexmap.specs.IndexMap.{get};
+ghost use Rattle.std.specs.BTreeMap.{get};
 ghost use Rattle.bk_evidence.specs.Batches.{Batch, AreApart, IsBatchCollision, IsBatchOffer, batch_with, batches_after, has_digest, payload_of};
 ghost use Rattle.bk_evidence.specs.Collisions.{id_cmp};
 ghost use Rattle.bk_evidence.specs.private.Indexed.{CollidesWith, HasOther, IsIndexed};
@@ -11,8 +10,8 @@ ghost use Rattle.bk_evidence.specs.private.Least.{IsLeastBy};
 
 use crate::least::{least_id, lesser_id};
 use bk_digest::Digest32;
-use indexmap::IndexMap;
 use std::alloc::{AllocError, Global};
+use std::collections::BTreeMap;
 use std::marker::Model;
 
 /// What an offer of a batch answers.
@@ -57,8 +56,8 @@ impl Model for Stored {
 #[derive(Drop)]
 pub struct Batches {
     stored: Vec<Stored>,
-    // The index of the first batch under each digest.
-    firsts: IndexMap<Digest32, usize>,
+    // The index of the first batch under each digest, by the order of the digests.
+    firsts: BTreeMap<Digest32, usize>,
     collision: Option<Digest32>,
 }
 
@@ -84,12 +83,12 @@ impl Batches {
     {
         Batches {
             stored: Vec::new(alloc),
-            firsts: IndexMap::new(alloc),
+            firsts: BTreeMap::new(alloc),
             collision: None,
         }
     }
 
-    /// Stores a payload under a digest, unless it is stored there.
+    /// Stores a payload under a digest, unless it is stored there. O(log n) in what is held.
     ///
     /// An `Err` comes only where memory runs out, and leaves what is held as it was.
     pub fn offer(&mut self, digest: Digest32, payload: Vec<u8>) -> Result<BatchOffer, AllocError>
@@ -161,7 +160,7 @@ impl Batches {
 // other have different payloads.
 fn least_across(
     stored: &[Stored],
-    firsts: &IndexMap<Digest32, usize>,
+    firsts: &BTreeMap<Digest32, usize>,
     more: &[Stored],
     known: Option<Digest32>,
 ) -> Option<Digest32>
@@ -179,7 +178,7 @@ fn least_across(
 }
 
 // Whether the first batch under the digest of this one has another payload.
-fn has_other(stored: &[Stored], firsts: &IndexMap<Digest32, usize>, batch: &Stored) -> bool
+fn has_other(stored: &[Stored], firsts: &BTreeMap<Digest32, usize>, batch: &Stored) -> bool
     requires { IsIndexed (λ (e : Batch). e.digest) stored.now firsts.now }
     ensures yes { IsTrue result → HasOther stored.now batch.now }
     ensures no { result ≡ false → HasOther stored.now batch.now → Contains stored.now batch.now }
@@ -211,14 +210,14 @@ fn payload_at(stored: &[Stored], index: usize) -> &[u8]
 }
 
 // Whether the batch is stored. A repeat of the first one under its digest is found at once.
-fn is_stored(stored: &[Stored], firsts: &IndexMap<Digest32, usize>, batch: &Stored) -> bool
+fn is_stored(stored: &[Stored], firsts: &BTreeMap<Digest32, usize>, batch: &Stored) -> bool
     ensures { IsTrue result ↔ Contains stored.now batch.now }
 {
     is_first(stored, firsts, batch) || is_among(stored, batch)
 }
 
 // Whether the batch is the first one under its digest.
-fn is_first(stored: &[Stored], firsts: &IndexMap<Digest32, usize>, batch: &Stored) -> bool
+fn is_first(stored: &[Stored], firsts: &BTreeMap<Digest32, usize>, batch: &Stored) -> bool
     ensures { IsTrue result → Contains stored.now batch.now }
 {
     let Some(index) = firsts.get(&batch.digest).copied() else {
@@ -252,11 +251,11 @@ fn is_same(one: &Stored, other: &Stored) -> bool
 // Stores the first batch under a digest, or nothing where memory runs out.
 fn store_first(
     stored: &mut Vec<Stored>,
-    firsts: &mut IndexMap<Digest32, usize>,
+    firsts: &mut BTreeMap<Digest32, usize>,
     batch: Stored,
 ) -> Result<(), AllocError>
     requires indexed { IsIndexed (λ (e : Batch). e.digest) stored.old.items firsts.old }
-    requires new { get bytes_eq firsts.old batch.digest ≡ None }
+    requires new { get id_cmp firsts.old batch.digest ≡ None }
     ensures indexed { IsIndexed (λ (e : Batch). e.digest) stored.new.items firsts.new }
     ensures ok { OnOk result (stored.new.items ≡ stored.old.items ++ batch ∷ []) }
     ensures err { OnErr result (stored.new.items ≡ stored.old.items) }

@@ -1,8 +1,8 @@
 //! The certificates that are held, by id.
 
 ghost use Rattle.std.specs.Prelude.{◌≡◌, ◌<◌, ◌++◌, ◌∷◌, ◌↔◌, [], length, Contains, IfOk, OnOk, OnErr, None, Some, cond, IsTrue, MatchOption, option_map, ℕ, List};
-ghost use Rattle.std.specs.Str.{bytes_eq};
-ghost use Rattle.indexmap.specs.IndexMap.{get, spare, IsUnchanged};
+ghost use Rattle.std.specs.BTreeMap.{get};
+ghost use Rattle.bk_evidence.specs.Collisions.{id_cmp};
 ghost use Rattle.bk_cert.specs.Node.{Node};
 ghost use Rattle.bk_cert.specs.Place.{place_of};
 ghost use Rattle.bk_cert.specs.declared.place.CertRef.{CertRef};
@@ -19,8 +19,8 @@ use crate::offer::Offer;
 use crate::places::{Places, note};
 use bk_cert::{CertRef, SharedCert};
 use bk_digest::Digest32;
-use indexmap::IndexMap;
 use std::alloc::{AllocError, Global};
+use std::collections::BTreeMap;
 use std::marker::Model;
 
 /// The certificates that were offered, each distinct pair of an id and a header once, those of
@@ -32,8 +32,9 @@ use std::marker::Model;
 pub struct Held {
     alloc: Global,
     certs: Vec<SharedCert>,
-    // The index of the first certificate under each id.
-    firsts: IndexMap<Digest32, usize>,
+    // The index of the first certificate under each id, found by the order of the ids: a feed can
+    // choose them so that a table by their hash is slow.
+    firsts: BTreeMap<Digest32, usize>,
     collision: Option<Digest32>,
     places: Places,
 }
@@ -64,7 +65,7 @@ impl Held {
         Held {
             alloc,
             certs: Vec::new(alloc),
-            firsts: IndexMap::new(alloc),
+            firsts: BTreeMap::new(alloc),
             collision: None,
             places: Places::new(alloc),
         }
@@ -169,14 +170,14 @@ fn place_at(cert: &SharedCert) -> CertRef
 }
 
 // Whether the certificate is held. A repeat of the first one under its id is found at once.
-fn is_held(certs: &[SharedCert], firsts: &IndexMap<Digest32, usize>, cert: &SharedCert) -> bool
+fn is_held(certs: &[SharedCert], firsts: &BTreeMap<Digest32, usize>, cert: &SharedCert) -> bool
     ensures { IsTrue result ↔ Contains certs.now cert.now }
 {
     is_first(certs, firsts, cert) || is_among(certs, cert)
 }
 
 // Whether the certificate is the first one under its id.
-fn is_first(certs: &[SharedCert], firsts: &IndexMap<Digest32, usize>, cert: &SharedCert) -> bool
+fn is_first(certs: &[SharedCert], firsts: &BTreeMap<Digest32, usize>, cert: &SharedCert) -> bool
     ensures { IsTrue result → Contains certs.now cert.now }
 {
     let Some(index) = firsts.get(cert.id()).copied() else {
@@ -227,38 +228,31 @@ fn store(
     Ok(earlier)
 }
 
-// Puts an index under an id that has none, where there is room for it.
-fn put_index(firsts: &mut IndexMap<Digest32, usize>, id: Digest32, index: usize)
-    requires room { 0 < spare firsts.old }
-    ensures { (q : List ℕ) → get bytes_eq firsts.new q
-        ≡ cond (bytes_eq id q) (Some index) (get bytes_eq firsts.old q) }
-{
-    // Nothing was there under this id.
-    let _ = firsts.insert(id, index);
-}
-
-// Stores the first certificate under an id, as `store` does.
+// Stores the first certificate under an id, as `store` does. The id gets its index first, and
+// loses it again where there is no memory for the certificate: taking it out needs none.
 fn store_first(
     certs: &mut Vec<SharedCert>,
-    firsts: &mut IndexMap<Digest32, usize>,
+    firsts: &mut BTreeMap<Digest32, usize>,
     places: &mut Places,
     cert: SharedCert,
 ) -> Result<Option<Digest32>, AllocError>
     requires indexed { IsIndexed (λ (c : Node). c.id) certs.old.items firsts.old }
-    requires new { get bytes_eq firsts.old cert.id ≡ None }
-    ensures indexed { OnOk result (IsIndexed (λ (c : Node). c.id) certs.new.items firsts.new) }
+    requires new { get id_cmp firsts.old cert.id ≡ None }
+    ensures indexed { IsIndexed (λ (c : Node). c.id) certs.new.items firsts.new }
     ensures earlier { IfOk result
         (λ least. least ≡ option_map (λ l. l.least) (ids_at places.old (place_of cert))) }
     ensures ok { OnOk result (certs.new.items ≡ certs.old.items ++ cert ∷ []) }
     ensures noted { OnOk result (IsNoted places.old places.new (place_of cert) cert.id) }
     ensures err { OnErr result (certs.new.items ≡ certs.old.items) }
-    ensures unchanged { OnErr result (IsUnchanged firsts.old firsts.new) }
     ensures same { OnErr result (AreSamePlaces places.old places.new) }
 {
-    firsts.reserve(1)?;
     let id = *cert.id();
-    let index = certs.len();
-    let earlier = store(certs, places, cert)?;
-    put_index(firsts, id, index);
-    Ok(earlier)
+    firsts.insert(id, certs.len())?;
+    match store(certs, places, cert) {
+        Ok(earlier) => Ok(earlier),
+        Err(error) => {
+            let _ = firsts.remove(&id);
+            Err(error)
+        }
+    }
 }

@@ -1,6 +1,7 @@
 use Rattle.std.proofs.Common.{◌≡◌, ◌++◌, ◌∷◌, [], Some, cond, length, ap, refl, ◌∙◌, arith}
-use Rattle.std.specs.Str.{bytes_eq}
-use Rattle.indexmap.specs.IndexMap.{get}
+use Rattle.std.specs.BTreeMap.{get}
+use Rattle.std.specs.Ordering.{is_eq}
+use Rattle.bk_evidence.specs.Collisions.{id_cmp}
 use Rattle.bk_evidence.specs.Batches.{Batch}
 use Rattle.bk_evidence.proofs.Indexing.{indexed_first, indexed_as}
 use Rattle.bk_evidence.proofs.batches.store_first.Goals as goal
@@ -12,4 +13,4 @@ returns-clause-indexed c =
     indexed_as (λ (e : Batch). e.digest) (c.args.stored.now.items ++ c.args.batch ∷ []) c.push_reserved.new.self.items c.insert.new.self c.insert.new.self
     (c.push_reserved.ensures.items ∙ ap (λ xs. xs ++ c.args.batch ∷ []) c.in_ok-reserve.ensures.items) refl
     (indexed_first (λ (e : Batch). e.digest) c.args.stored.now.items c.args.firsts.now c.requires.indexed c.insert.new.self c.args.batch c.requires.new
-    (λ q. c.in_ok-insert.ensures.updates.0 q ∙ (λ i. cond (bytes_eq (key i) q) (Some (len i)) (get bytes_eq c.args.firsts.now q))))
+    (λ q. c.in_ok-insert.ensures.updates.0 q ∙ (λ i. cond (is_eq (id_cmp (key i) q)) (Some (len i)) (get id_cmp c.args.firsts.now q))))

@@ -1,7 +1,6 @@
 use Rattle.std.proofs.Common.{List, ℕ, Some, sym, ap, subst, ◌∙◌, is_some}
-use Rattle.std.specs.Str.{bytes_eq}
 use Rattle.std.proofs.lemmas.Bool.{false≢true}
-use Rattle.indexmap.specs.IndexMap.{get}
+use Rattle.std.specs.BTreeMap.{get}
 use Rattle.bk_cert.specs.Node.{Node}
 use Rattle.bk_evidence.specs.Collisions.{id_cmp, CollidesBy}
 use Rattle.bk_evidence.specs.private.Least.{IsLeastBy, least_of}
@@ -14,7 +13,7 @@ use Rattle.bk_evidence.proofs.held.Held.offer.Goals as goal
 pub invariant_of-self-then-not-contains_key : goal.invariant_of-self-then-not-contains_key
 invariant_of-self-then-not-contains_key c = (
   keeps_new (λ (d : Node). d.id) c.self.inside.certs.items c.self.inside.firsts c.self.inside.collision c.store_first.new.certs.items c.store_first.new.firsts c.args.cert c.self.invariant.0
-      (ap (λ q. is_some (get bytes_eq c.self.inside.firsts q)) (sym c.id.ensures) ∙ (sym c.contains_key.ensures ∙ c.if-not-contains_key.true))
+      (ap (λ q. is_some (get id_cmp c.self.inside.firsts q)) (sym c.id.ensures) ∙ (sym c.contains_key.ensures ∙ c.if-not-contains_key.true))
       c.in_ok-earlier.ensures.indexed c.in_ok-earlier.ensures.ok,
   subst (λ (zs : List Node). ArePlaces zs c.store_first.new.places) (sym c.in_ok-earlier.ensures.ok)
       (places_step c.self.inside.certs.items c.args.cert c.self.inside.places c.store_first.new.places c.self.invariant.1 c.in_ok-earlier.ensures.noted),
@@ -24,13 +23,13 @@ pub returns-then-not-contains_key-clause-answer : goal.returns-then-not-contains
 returns-then-not-contains_key-clause-answer c = rw (c.offer_after.ensures, c.in_ok-earlier.ensures.earlier, ← c.self.view_is)
     (answered c.self.inside.certs.items c.args.cert c.self.inside.places
     (absent_new (λ (d : Node). d.id) c.self.inside.certs.items c.self.inside.firsts c.self.inside.collision c.self.invariant.0 c.args.cert
-    (ap (λ q. is_some (get bytes_eq c.self.inside.firsts q)) (sym c.id.ensures) ∙ (sym c.contains_key.ensures ∙ c.if-not-contains_key.true)))
+    (ap (λ q. is_some (get id_cmp c.self.inside.firsts q)) (sym c.id.ensures) ∙ (sym c.contains_key.ensures ∙ c.if-not-contains_key.true)))
     c.self.invariant.1)
 
 pub invariant_of-self-2 : goal.invariant_of-self-2
 invariant_of-self-2 c =
     let kept = keeps_more (λ (d : Node). d.id) c.self.inside.certs.items c.self.inside.firsts c.self.inside.collision c.store.new.certs.items c.args.cert c.self.invariant.0
-    (ap (λ q. is_some (get bytes_eq c.self.inside.firsts q)) (sym c.id.ensures) ∙ (sym c.contains_key.ensures ∙ c.if-not-contains_key.false))
+    (ap (λ q. is_some (get id_cmp c.self.inside.firsts q)) (sym c.id.ensures) ∙ (sym c.contains_key.ensures ∙ c.if-not-contains_key.false))
     (λ h. false≢true (c.if-is_held.ensures.1 (rw c.deref.ensures.value h))) c.in_ok-store.ensures.ok in (
       (
         kept.0,
@@ -45,5 +44,5 @@ pub returns-clause-answer : goal.returns-clause-answer
 returns-clause-answer c = rw (← c.self.view_is) (
   λ h. false≢true (c.if-is_held.ensures.1 (rw c.deref.ensures.value h)),
   found_more (λ (d : Node). d.id) c.self.inside.certs.items c.self.inside.firsts c.self.inside.collision c.self.invariant.0 c.args.cert
-      (ap (λ q. is_some (get bytes_eq c.self.inside.firsts q)) (sym c.id.ensures) ∙ (sym c.contains_key.ensures ∙ c.if-not-contains_key.false)),
+      (ap (λ q. is_some (get id_cmp c.self.inside.firsts q)) (sym c.id.ensures) ∙ (sym c.contains_key.ensures ∙ c.if-not-contains_key.false)),
 )
