@@ -4,3 +4,4 @@ pub mod Growth
 pub mod Parts
 pub mod Whole
 pub mod Taken
+pub mod Listing

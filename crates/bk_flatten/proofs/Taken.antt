@@ -8,9 +8,8 @@ use Rattle.std.proofs.lemmas.Bool.{both_ways}
 use Rattle.std.proofs.lemmas.List.{append-nil, append_assoc, take_more, length-append}
 use Rattle.std.proofs.lemmas.List.Sums.{fold-append}
 use Rattle.std.proofs.lemmas.List.Concat.{flat_map-append, flat_map-cons}
-use Rattle.std.proofs.lemmas.Option.{slice_get_past}
+use Rattle.std.proofs.lemmas.Option.{slice_get_past, slice_get-get_or}
 use Rattle.std.proofs.lemmas.List.Elements.{filter-append}
-use Rattle.indexmap.specs.IndexSet.{insert_key, insert_all}
 use Rattle.bk_committee.specs.Sizes.{Sizes}
 use Rattle.bk_cert.specs.Node.{Node}
 use Rattle.bk_cert.specs.Place.{place_of}
@@ -22,17 +21,11 @@ use Rattle.bk_evidence.specs.declared.batches.BatchRef.{BatchRef}
 use Rattle.bk_evidence.specs.Batches.{Batch, batch_with, has_digest, payload_of}
 use Rattle.bk_evidence.proofs.Indexing.{find_none, find_position, position_push_some}
 use Rattle.bk_flatten.specs.Batches.{named_at, stands, once, Listed, listed_with, AreFound, IsFoundWhole, payload_at, payloads_of, Payloads, cons_payload, before_missing, batches_of, digests_of}
+use Rattle.bk_flatten.specs.private.Listing.{with_digest, with_digests}
+use Rattle.bk_flatten.proofs.Listing.{same_back}
 use Rattle.bk_flatten.proofs.Growth.{finds, stands_there, place_is}
 
 -- ---- digests, each once
-
-same_back : (x y : List ℕ) (b : Bool) → bytes_eq x y ≡ b → bytes_eq y x ≡ b
-same_back x y true e = (bytes_eq-Decides y x).1 (sym ((bytes_eq-Decides x y).0 e))
-same_back x y false e = by_test (bytes_eq y x) refl
-  where
-    by_test : (b : Bool) → bytes_eq y x ≡ b → bytes_eq y x ≡ false
-    by_test false t = t
-    by_test true t = absurd (both_ways (bytes_eq x y) e ((bytes_eq-Decides x y).1 (sym ((bytes_eq-Decides y x).0 t))))
 
 any_filter : (x d : List ℕ) (ys : List (List ℕ)) → bytes_eq d x ≡ false → list_any (bytes_eq d) (filter (λ (e : List ℕ). not (bytes_eq x e)) ys) ≡ list_any (bytes_eq d) ys
 any_filter x d [] e = refl
@@ -63,14 +56,14 @@ cond_cons x true us vs = refl
 cond_cons x false us vs = refl
 
 -- one digest more
-once_push : (xs : List (List ℕ)) (d : List ℕ) → once (xs ++ d ∷ []) ≡ insert_key bytes_eq (once xs) d
+once_push : (xs : List (List ℕ)) (d : List ℕ) → once (xs ++ d ∷ []) ≡ with_digest (once xs) d
 once_push [] d = refl
 once_push (x ∷ xs) d = by_test (bytes_eq d x) refl (once_push xs d)
   where
     left : List (List ℕ)
     left = filter (λ (e : List ℕ). not (bytes_eq x e)) (once xs)
 
-    by_test : (b : Bool) → bytes_eq d x ≡ b → once (xs ++ d ∷ []) ≡ insert_key bytes_eq (once xs) d
+    by_test : (b : Bool) → bytes_eq d x ≡ b → once (xs ++ d ∷ []) ≡ with_digest (once xs) d
         → x ∷ filter (λ (e : List ℕ). not (bytes_eq x e)) (once (xs ++ d ∷ [])) ≡ cond (b || list_any (bytes_eq d) left) (x ∷ left) (x ∷ (left ++ d ∷ []))
     by_test true t h = ap (λ (zs : List (List ℕ)). x ∷ filter (λ (e : List ℕ). not (bytes_eq x e)) zs) h
         ∙ ap (λ (zs : List (List ℕ)). x ∷ zs) (dropped x d (once xs) (list_any (bytes_eq d) (once xs)) (same_back d x true t))
@@ -79,9 +72,9 @@ once_push (x ∷ xs) d = by_test (bytes_eq d x) refl (once_push xs d)
         ∙ (cond_cons x (list_any (bytes_eq d) (once xs)) left (left ++ d ∷ [])
         ∙ ap (λ (b : Bool). cond b (x ∷ left) (x ∷ (left ++ d ∷ []))) (sym (any_filter x d (once xs) t))))
 
-pub once_grows : (ds all : List (List ℕ)) → insert_all bytes_eq (once all) ds ≡ once (all ++ ds)
+pub once_grows : (ds all : List (List ℕ)) → with_digests (once all) ds ≡ once (all ++ ds)
 once_grows [] all = ap once (sym (append-nil all))
-once_grows (d ∷ ds) all = ap (λ (ks : List (List ℕ)). fold (insert_key bytes_eq) ks ds) (sym (once_push all d))
+once_grows (d ∷ ds) all = ap (λ (ks : List (List ℕ)). fold (with_digest) ks ds) (sym (once_push all d))
     ∙ (once_grows ds (all ++ d ∷ []) ∙ ap once (append_assoc all (d ∷ []) ds))
 
 -- ---- names
@@ -134,10 +127,10 @@ found_stays batches more (d ∷ ds) rest (b ∷ found) h = (position_stays (has_
 
 -- ---- one more of each
 
-pub one_more : (ks ds : List (List ℕ)) (k : ℕ) (d : List ℕ) → k < length ds → d ≡ get_or ds k d → insert_key bytes_eq (insert_all bytes_eq ks (take k ds)) d ≡ insert_all bytes_eq ks (take (k + 1) ds)
+pub one_more : (ks ds : List (List ℕ)) (k : ℕ) (d : List ℕ) → k < length ds → d ≡ get_or ds k d → with_digest (with_digests ks (take k ds)) d ≡ with_digests ks (take (k + 1) ds)
 one_more ks ds k d low is =
     let more : take (k + 1) ds ≡ take k ds ++ d ∷ [] = take_more ds k d low ∙ ap (λ (x : List ℕ). take k ds ++ x ∷ []) (sym is) in
-    sym (ap (insert_all bytes_eq ks) more ∙ fold-append (insert_key bytes_eq) ks (take k ds) (d ∷ []))
+    sym (ap (with_digests ks) more ∙ fold-append (with_digest) ks (take k ds) (d ∷ []))
 
 pub names_more : (held : List Node) (part : List CertRef) (k : ℕ) (a none : CertRef) (bs names : List (List ℕ)) → k < length part → get_or part k none ≡ a → named_at held a ≡ bs
     → names ≡ flat_map (named_at held) (take k part) → names ++ bs ≡ flat_map (named_at held) (take (k + 1) part)
@@ -162,6 +155,9 @@ found_ends batches ds found part from k is h more e none = record {
   found = found_joins batches ds found part h (subst (λ (n : ℕ). AreFound batches (drop n ds) part) (sym is) more);
   ends = subst (λ (n : ℕ). IfSome (slice_get ds n) (λ d. payload_of batches d ≡ None)) (let l = length-append found part in let q : k ≡ length (found ++ part) = omega arith in q) none;
 }
+
+pub read_there : (ds : List (List ℕ)) (k : ℕ) (d : List ℕ) → k < length ds → d ≡ get_or ds k d → Some d ≡ slice_get ds k
+read_there ds k d low e = ap Some e ∙ sym (slice_get-get_or ds k d low)
 
 pub missing_there : (batches : List Batch) (ds : List (List ℕ)) (k : ℕ) (d : List ℕ) → Some d ≡ slice_get ds k → None ≡ position (has_digest d) batches → IfSome (slice_get ds k) (λ x. payload_of batches x ≡ None)
 missing_there batches ds k d at is = subst (λ (o : Option (List ℕ)). IfSome o (λ x. payload_of batches x ≡ None)) at

@@ -3,18 +3,16 @@
 ghost use Rattle.std.specs.Prelude.{◌≡◌, ◌≢◌, ◌++◌, ◌<◌, ◌≤◌, ℕ, List, [], None, Contains, IfOk, OnOk, OnErr, length, slice_get};
 ghost use Rattle.std.specs.List.{flat_map};
 ghost use Rattle.std.specs.Option.{option_copied};
-ghost use Rattle.std.specs.Str.{bytes_eq};
-ghost use Rattle.indexmap.specs.IndexSet.{insert_all, spare};
 ghost use Rattle.bk_cert.specs.declared.place.CertRef.{CertRef};
 ghost use Rattle.bk_rounds.specs.Admission.{IsPresent};
 ghost use Rattle.bk_evidence.specs.declared.batches.BatchRef.{BatchRef};
 ghost use Rattle.bk_flatten.specs.Batches.{named_at, once, listed_with, AreFound, IsFoundWhole, payloads_of, batches_of};
 
+use crate::digests::{Digests, add_all};
 use bk_cert::CertRef;
 use bk_digest::Digest32;
 use bk_evidence::{BatchRef, Batches};
 use bk_rounds::Rounds;
-use indexmap::IndexSet;
 use std::alloc::{AllocError, Global};
 use std::marker::Model;
 
@@ -24,7 +22,7 @@ use std::marker::Model;
 #[derive(Drop)]
 pub struct BatchList {
     alloc: Global,
-    digests: IndexSet<Digest32>,
+    digests: Digests,
     found: Vec<BatchRef>,
 }
 
@@ -33,7 +31,7 @@ impl Model for BatchList {
 
     ghost Value = { Listed };
 
-    ghost view = { λ s. listed_with s.digests.keys s.found.items };
+    ghost view = { λ s. listed_with s.digests s.found.items };
 }
 
 impl BatchList {
@@ -43,7 +41,7 @@ impl BatchList {
     {
         BatchList {
             alloc,
-            digests: IndexSet::new(alloc),
+            digests: Digests::new(alloc),
             found: Vec::new(alloc),
         }
     }
@@ -59,7 +57,7 @@ impl BatchList {
     pub fn missing(&self) -> Option<&Digest32>
         ensures { option_copied result ≡ slice_get self.now.digests (length self.now.found) }
     {
-        self.digests.get_index(self.found.len())
+        self.digests.as_slice().get(self.found.len())
     }
 
     /// Goes on to the digests that the next part of the order names, each of which it takes once.
@@ -74,8 +72,7 @@ impl BatchList {
         ensures err { OnErr result (self.new ≡ self.old) }
     {
         let named = names_in(self.alloc, rounds, part)?;
-        self.digests.reserve(named.len())?;
-        insert_all(&mut self.digests, &named);
+        add_all(&mut self.digests, &named)?;
         Ok(())
     }
 
@@ -90,7 +87,12 @@ impl BatchList {
         ensures part { IfOk result (λ part. self.new.found ≡ self.old.found ++ part.items) }
         ensures err { OnErr result (self.new ≡ self.old) }
     {
-        let part = found_from(self.alloc, &self.digests, batches, self.found.len())?;
+        let part = found_from(
+            self.alloc,
+            self.digests.as_slice(),
+            batches,
+            self.found.len(),
+        )?;
         self.found.extend_from_slice(&part)?;
         Ok(part)
     }
@@ -111,36 +113,20 @@ fn names_in(alloc: Global, rounds: &Rounds, part: &[CertRef]) -> Result<Vec<Dige
     Ok(names)
 }
 
-// Takes each of these digests once. There is room for all.
-fn insert_all(digests: &mut IndexSet<Digest32>, named: &[Digest32])
-    requires { length named.now ≤ spare digests.old }
-    ensures { digests.new.keys ≡ insert_all bytes_eq digests.old.keys named.now }
-{
-    for digest in named {
-        match digests.insert_full(*digest) {
-            Ok(_) => {}
-            Err(_) => unreachable!(),
-        }
-    }
-}
-
 // Where the batches of the digests from an index on are held, up to the first that is missing.
 fn found_from(
     alloc: Global,
-    digests: &IndexSet<Digest32>,
+    digests: &[Digest32],
     batches: &Batches,
     from: usize,
 ) -> Result<Vec<BatchRef>, AllocError>
     ensures { IfOk result (λ part. (found : List BatchRef) → length found ≡ from
-        → AreFound batches.now digests.now.keys found
-        → IsFoundWhole batches.now (listed_with digests.now.keys (found ++ part.items))) }
+        → AreFound batches.now digests.now found
+        → IsFoundWhole batches.now (listed_with digests.now (found ++ part.items))) }
 {
     let mut part = Vec::new(alloc);
     for k in from..digests.len() {
-        let Some(digest) = digests.get_index(k) else {
-            unreachable!()
-        };
-        match batches.index_of(digest) {
+        match batches.index_of(&digests[k]) {
             None => return Ok(part),
             Some(batch) => part.push(batch)?,
         }

@@ -4,6 +4,7 @@
 #![tactic(auto)]
 
 mod batches;
+mod digests;
 mod flat;
 mod laws;
 mod part;

@@ -3,4 +3,4 @@ use Rattle.bk_flatten.specs.Batches.{AreFound}
 use Rattle.bk_flatten.proofs.batches.found_from.Given as goal
 
 abbrev pub invariant-loop-k : goal.invariant-loop-k
-invariant-loop-k l = AreFound l.batches (drop l.from l.digests.keys) l.part.items × (l.from + length l.part.items ≡ l.k)
+invariant-loop-k l = AreFound l.batches (drop l.from l.digests) l.part.items × (l.from + length l.part.items ≡ l.k)
