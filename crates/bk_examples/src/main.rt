@@ -72,7 +72,7 @@ fn judge<R: Eprint>(rt: &R, example: &Example<'_>, what: &str, is_right: bool) -
 }
 
 // Runs the command line of an example with these words more.
-fn run_words<R>(rt: &R, example: &Example<'_>, more: &[&str]) -> Result<bool>
+fn run_words<'a, R>(rt: &R, example: &Example<'a>, more: &[&'a str]) -> Result<bool>
 where
     R: AllocGlobal + Files + Input + Eprint + Threads + Wait + Sync,
 {
