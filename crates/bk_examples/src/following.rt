@@ -29,19 +29,35 @@ where
     }
 }
 
+// Feeds the pieces, and finishes.
+fn feed_all<R, K: Sink>(
+    rt: &R,
+    follower: &mut Follower,
+    feed: &[u8],
+    pieces: Pieces,
+    out: &mut K,
+) -> Result<Status, Fault>
+where
+    R: AllocGlobal + Threads + Wait + Sync,
+    requires sound { CanBeUsed (K.state out.old) }
+{
+    for piece in feed.chunks(pieces.size.max(1)) {
+        follower.feed(rt, piece)?;
+        if pieces.settles {
+            settle(rt, follower)?;
+        }
+    }
+    follower.finish(rt, &Open, out)
+}
+
+// The same from the first byte on. The Follower is owned here alone: each way out of the function that owns it lets it go.
 fn follow<R, K: Sink>(rt: &R, feed: &[u8], pieces: Pieces, out: &mut K) -> Result<Status, Fault>
 where
     R: AllocGlobal + Threads + Wait + Sync,
     requires sound { CanBeUsed (K.state out.old) }
 {
     let mut follower = Follower::new(rt.alloc(), 2);
-    for piece in feed.chunks(pieces.size.max(1)) {
-        follower.feed(rt, piece)?;
-        if pieces.settles {
-            settle(rt, &mut follower)?;
-        }
-    }
-    follower.finish(rt, &Open, out)
+    feed_all(rt, &mut follower, feed, pieces, out)
 }
 
 /// What `run` leaves of a feed that comes in these pieces.
