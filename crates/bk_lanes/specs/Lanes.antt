@@ -1,8 +1,10 @@
 -- Eight messages side by side: a vector has one word of each, and lane i belongs to message i.
-use Rattle.std.specs.Prelude.{◌≡◌, ◌≢◌, ℕ, ◌+◌, ◌-◌, ◌*◌, ◌/◌, ◌<◌, ◌≤◌, List, [], ◌∷◌, length, take, drop, slice_index, slice_index_or, map}
-use Rattle.sha2.specs.Sha256.{hash_after, initial_hash_256, padded_message, sha256}
-use Rattle.bk_lanes.specs.declared.many.Work.{Work}
-use denote.Bor.{Bor}
+use Rattle.std.specs.Prelude.{◌≡◌, ◌≢◌, ℕ, ◌+◌, ◌-◌, ◌*◌, ◌/◌, ◌<◌, ◌≤◌, List, [], ◌∷◌, ◌++◌, length, take, drop, slice_index, slice_index_or, map}
+use Rattle.std.specs.Option.{option_to_list}
+use Rattle.sha2.specs.Sha256.{digest_bytes, hash_after, initial_hash_256, padding}
+use Rattle.bk_lanes.specs.declared.message.Message.{Message}
+use Rattle.bk_lanes.specs.declared.message.Messages.{Messages}
+use Rattle.bk_lanes.specs.declared.work.Work.{Work}
 use Rattle.bk_lanes.specs.declared.wide.Words.{Words}
 
 -- the vector v has eight lanes, and lane i is f i
@@ -23,38 +25,66 @@ words_of i s =
 abbrev pub block_of : ℕ → List (List ℕ) → List ℕ
 block_of i blocks = slice_index_or blocks i []
 
--- the blocks of a text of n bytes with its padding
+-- the blocks of a message of n bytes with its padding
 abbrev pub block_count : ℕ → ℕ
 block_count n = (n + 72) / 64
 
--- block k of a text with its padding
-abbrev pub padded_block : List ℕ → ℕ → List ℕ
-padded_block m k = take 64 (drop (k * 64) (padded_message m))
+-- the bytes m and their padding (FIPS 180-4, section 5.1.1), where they come after n whole blocks
+abbrev pub padded_after : ℕ → List ℕ → List ℕ
+padded_after n m = m ++ padding (64 * n + length m)
 
--- text k of a list of texts that are lent
-abbrev pub text_of : ℕ → List (Bor (List ℕ)) → List ℕ
-text_of k ms = slice_index_or (map (λ m. m.now) ms) k []
+-- block k of the bytes m and their padding, where they come after n whole blocks
+abbrev pub padded_block : ℕ → List ℕ → ℕ → List ℕ
+padded_block n m k = take 64 (drop (k * 64) (padded_after n m))
+
+-- the bytes of a message: its first byte, where it has one, and the others
+abbrev pub bytes_of : Message → List ℕ
+bytes_of m = option_to_list m.first ++ m.bytes.now
+
+-- the bytes of message k
+abbrev pub message_of : ℕ → Messages → List ℕ
+message_of k ms = option_to_list ms.first ++ slice_index_or (map (λ m. m.now) ms.bytes.now) k []
+
+-- the blocks of message k with its padding
+abbrev pub blocks_of : ℕ → Messages → ℕ
+blocks_of k ms = block_count (length (message_of k ms))
+
+-- the hash value that message k begins from
+abbrev pub start_of : ℕ → Messages → List ℕ
+start_of k ms = initial_hash_256
+
+-- the whole blocks that were hashed before message k
+abbrev pub blocks_before : ℕ → Messages → ℕ
+blocks_before k ms = 0
+
+-- the hash value after n blocks of message k
+abbrev pub hash_at : ℕ → Messages → ℕ → List ℕ
+hash_at k ms n = hash_after (start_of k ms) (padded_after (blocks_before k ms) (message_of k ms)) n
+
+-- the digest of message k
+abbrev pub digest_at : ℕ → Messages → List ℕ
+digest_at k ms = digest_bytes (hash_at k ms (blocks_of k ms)) 8
 
 -- the hash value h has taken in all blocks of message k but the last n, and `more`, unless n is 0
-abbrev pub IsTaken : List (Bor (List ℕ)) → ℕ → ℕ → List ℕ → ℕ → Type 0
-IsTaken ms n k h more = 0 < n → (k < length ms)
-    × (n ≤ block_count (length (text_of k ms)))
-    × (h ≡ hash_after initial_hash_256 (padded_message (text_of k ms)) (block_count (length (text_of k ms)) - n + more))
+abbrev pub IsTaken : Messages → ℕ → ℕ → List ℕ → ℕ → Type 0
+IsTaken ms n k h more = 0 < n → (k < length ms.bytes.now)
+    × (n ≤ blocks_of k ms)
+    × (h ≡ hash_at k ms (blocks_of k ms - n + more))
 
 -- lane i, if it is not free, has taken in all blocks of its message but those left, and `more`
-abbrev pub HasTaken : List (Bor (List ℕ)) → Work → ℕ → ℕ → Type 0
+abbrev pub HasTaken : Messages → Work → ℕ → ℕ → Type 0
 HasTaken ms w i more = IsTaken ms (slice_index w.left i) (slice_index w.index i) (words_of i w.state) more
 
 -- lane i, if it is not free, has taken in all blocks of its message but those left
-abbrev pub IsWorking : List (Bor (List ℕ)) → Work → ℕ → Type 0
+abbrev pub IsWorking : Messages → Work → ℕ → Type 0
 IsWorking ms w i = HasTaken ms w i 0
 
 -- of the first n messages, each that no lane works on has its digest in its place
-abbrev pub Done : List (Bor (List ℕ)) → Work → List (List ℕ) → ℕ → Type 0
+abbrev pub Done : Messages → Work → List (List ℕ) → ℕ → Type 0
 Done ms w out n = (k : ℕ) → k < n → ((i : ℕ) → i < 8 → 0 < slice_index w.left i → slice_index w.index i ≢ k)
-    → slice_index_or out k [] ≡ sha256 (text_of k ms)
+    → slice_index_or out k [] ≡ digest_at k ms
 
 -- the block that lane i, which is not free, takes in next
-abbrev pub next_block : List (Bor (List ℕ)) → Work → ℕ → List ℕ
+abbrev pub next_block : Messages → Work → ℕ → List ℕ
 next_block ms w i =
-    padded_block (text_of (slice_index w.index i) ms) (block_count (length (text_of (slice_index w.index i) ms)) - slice_index w.left i)
+    let k = slice_index w.index i in padded_block (blocks_before k ms) (message_of k ms) (blocks_of k ms - slice_index w.left i)

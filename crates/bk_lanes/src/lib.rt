@@ -12,11 +12,13 @@
 
 mod constants;
 mod many;
+mod message;
 mod padding;
 mod state;
 mod wide;
+mod work;
 
-pub use many::{digest_each, digest_each_into};
+pub use many::{digest_each, digest_each_into, tagged_each, tagged_each_into};
 
 #[cfg(test)]
 mod tests;

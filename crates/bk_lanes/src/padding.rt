@@ -1,61 +1,53 @@
 // The blocks of a padded message (FIPS 180-4, 5.1.1).
 
-ghost use Rattle.std.specs.Prelude.{◌≡◌, ℕ, ◌+◌, ◌-◌, ◌*◌, ◌/◌, ◌%◌, ◌<◌, ◌≤◌, ◌^◌, ◌++◌, List, ◌∷◌, length, replicate, take};
+ghost use Rattle.std.specs.Prelude.{◌≡◌, ℕ, ◌+◌, ◌*◌, ◌/◌, ◌%◌, ◌<◌, ◌≤◌, ◌^◌, ◌++◌, List, length, take};
 ghost use Rattle.std.specs.Int.{w64, to_be_bytes};
-ghost use Rattle.bk_lanes.specs.Lanes.{block_count, padded_block};
+ghost use Rattle.bk_lanes.specs.Lanes.{block_count, bytes_of, padded_block};
 
-// The number of blocks that a text fills with its padding.
-pub(crate) fn block_count(text: &[u8]) -> usize
-    ensures { result ≡ block_count (length text.now) }
+use crate::message::{Message, ended, message_len, put_front, rest_at};
+
+// The number of blocks that a message fills with its padding.
+pub(crate) fn block_count(message: &Message<'_>) -> usize
+    ensures { result ≡ block_count (length (bytes_of message.now)) }
 {
-    (text.len() + 72) / 64
+    (message_len(message) + 72) / 64
 }
 
-// The end of a text that begins at a block's start: its bytes, the bit 1 and zeros.
-fn ended(rest: &[u8]) -> [u8; 64]
-    requires { length rest.now < 64 }
-    ensures { result ≡ rest.now ++ 0x80 ∷ replicate (63 - length rest.now) 0 }
+// Writes the length in bits of `blocks` blocks and `len` bytes to the end of the last block.
+fn put_length(block: &mut [u8; 64], blocks: usize, len: usize)
+    ensures { block.new ≡ take 56 block.old ++ to_be_bytes w64 ((64 * blocks + len) * 8 % 2 ^ 64) }
 {
-    let mut block = [0u8; 64];
-    block[..rest.len()].copy_from_slice(rest);
-    block[rest.len()] = 0x80;
-    block
+    let total = (blocks as u64).wrapping_mul(64).wrapping_add(len as u64);
+    block[56..].copy_from_slice(&total.wrapping_mul(8).to_be_bytes());
 }
 
-// Writes the length of the text, in bits, to the end of its last block.
-fn put_length(block: &mut [u8; 64], text_len: usize)
-    ensures { block.new ≡ take 56 block.old ++ to_be_bytes w64 (text_len * 8 % 2 ^ 64) }
-{
-    block[56..].copy_from_slice(&(text_len as u64).wrapping_mul(8).to_be_bytes());
-}
-
-// Writes block `at` of the text and its padding.
+// Writes block `at` of the message and its padding, where `blocks` blocks came before the message.
 #[inline(always)]
-pub(crate) fn put_block(text: &[u8], at: usize, block: &mut [u8; 64])
-    requires { at < block_count (length text.now) }
-    ensures { block.new ≡ padded_block text.now at }
+pub(crate) fn put_block(message: &Message<'_>, blocks: usize, at: usize, block: &mut [u8; 64])
+    requires { at < block_count (length (bytes_of message.now)) }
+    ensures { block.new ≡ padded_block blocks (bytes_of message.now) at }
 {
-    if at < text.len() / 64 {
-        block.copy_from_slice(&text[64 * at..64 * at + 64]);
+    if at < message_len(message) / 64 {
+        put_front(&rest_at(message, at), block);
     } else {
-        *block = last_block(text, at);
+        *block = last_block(message, blocks, at);
     }
 }
 
-// Block `at` of the text and its padding, one of those with the padding.
-fn last_block(text: &[u8], at: usize) -> [u8; 64]
-    requires low { length text.now / 64 ≤ at }
-    requires high { at < block_count (length text.now) }
-    ensures { result ≡ padded_block text.now at }
+// Block `at` of the message and its padding, one of those with the padding.
+fn last_block(message: &Message<'_>, blocks: usize, at: usize) -> [u8; 64]
+    requires low { length (bytes_of message.now) / 64 ≤ at }
+    requires high { at < block_count (length (bytes_of message.now)) }
+    ensures { result ≡ padded_block blocks (bytes_of message.now) at }
 {
-    let whole = text.len() / 64;
-    let mut block = if at == whole {
-        ended(&text[64 * whole..])
+    let len = message_len(message);
+    let mut block = if at == len / 64 {
+        ended(&rest_at(message, at))
     } else {
         [0u8; 64]
     };
-    if at + 1 == block_count(text) {
-        put_length(&mut block, text.len());
+    if at + 1 == block_count(message) {
+        put_length(&mut block, blocks, len);
     }
     block
 }

@@ -1,7 +1,7 @@
 //! The standard's examples, and the scalar hasher beside the lanes: messages of every length up to
 //! past four blocks, in groups of every size up to past two rounds of lanes.
 
-use crate::digest_each;
+use crate::{digest_each, tagged_each};
 use sha2::{Digest, Sha256};
 use std::alloc::{AllocError, Global};
 use std::process::Abort;
@@ -30,12 +30,25 @@ fn is_hex(digest: &[u8; 32], digits: &str) -> bool {
             == Ok(digest[i]))
 }
 
-// Compares each digest with the scalar hasher's.
+// The byte that is put before each message.
+const FIRST: u8 = 0x10;
+
+// The scalar digest of that byte and the message.
+fn tagged(message: &[u8]) -> [u8; 32] {
+    let mut hasher = Sha256::new();
+    hasher.update([FIRST]);
+    hasher.update(message);
+    hasher.finalize()
+}
+
+// Compares each digest with the scalar hasher's, without and with a first byte.
 fn agree(alloc: Global, rt: &impl Abort, messages: &[&[u8]]) -> Result<(), AllocError> {
-    let digests = digest_each(alloc, messages)?;
-    assert_eq!(rt; digests.len(), messages.len());
-    for (message, digest) in messages.iter().zip(digests.iter()) {
-        assert!(rt; Sha256::digest(*message) == *digest);
+    let plain = digest_each(alloc, messages)?;
+    let marked = tagged_each(alloc, FIRST, messages)?;
+    assert!(rt; plain.len() == messages.len() && marked.len() == messages.len());
+    for (k, message) in messages.iter().enumerate() {
+        assert!(rt; Sha256::digest(*message) == plain[k]);
+        assert!(rt; tagged(*message) == marked[k]);
     }
     Ok(())
 }

@@ -15,7 +15,7 @@ rest-preserved c =
     let e = c.finish-in-rest.ensures in (
       omega arith,
       e.working,
-      e.done (length c.args.messages.now) c.rest.invariant.2,
+      e.done (length c.args.messages.now.bytes.now) c.rest.invariant.2,
       λ i lt. elim (cases_lt i c.rest.lane) [
         | inl below ↦ e.stays i (omega arith) (c.rest.invariant.3 i below)
         | inr above ↦
@@ -24,6 +24,6 @@ rest-preserved c =
       ],
     )
 
-pub returns : goal.returns
-returns c =
-    all_done c.args.messages.now c.rest.work c.rest.out c.rest.invariant.0 c.rest.invariant.2 (λ i lt. c.rest.invariant.3 i (omega arith))
+pub returns-clause-digests : goal.returns-clause-digests
+returns-clause-digests c =
+    all_done c.args.messages.now c.rest.work c.rest.out c.rest.invariant.2 (λ i lt. c.rest.invariant.3 i (omega arith))

@@ -1,6 +1,6 @@
 use Rattle.std.proofs.Common.{arith}
 use Rattle.bk_lanes.proofs.Progress.{finished}
-use Rattle.bk_lanes.proofs.many.count_block.Goals as goal
+use Rattle.bk_lanes.proofs.work.count_block.Goals as goal
 
 pub returns-then-work-lane-eq0-clause-done : goal.returns-then-work-lane-eq0-clause-done
 returns-then-work-lane-eq0-clause-done c = λ n done k lt free.

@@ -1,5 +1,5 @@
 use Rattle.std.proofs.Common.{◌<◌}
-use Rattle.bk_lanes.proofs.many.least.Given as goal
+use Rattle.bk_lanes.proofs.work.least.Given as goal
 
 abbrev pub invariant-lanes : goal.invariant-lanes
 invariant-lanes l = l.lane < 8

@@ -2,7 +2,7 @@ use Rattle.std.proofs.Common.{◌≡◌, ◌-◌, ℕ, List, slice_index, ap, re
 use Rattle.std.proofs.lemmas.Bool.{cases_lt}
 use Rattle.bk_lanes.specs.Lanes.{words_of}
 use Rattle.bk_lanes.proofs.Progress.{moved, took}
-use Rattle.bk_lanes.proofs.many.advance.Goals as goal
+use Rattle.bk_lanes.proofs.work.advance.Goals as goal
 
 pub count-init : goal.count-init
 count-init c = (
@@ -11,7 +11,7 @@ count-init c = (
   λ i le lt. (
     λ busy.
         let w = c.requires.working i lt busy in
-        (w.0, w.1, took _ _ _ _ _ w.2 (c.next_blocks-blocks.ensures i lt busy) (c.compress.ensures i lt)),
+        (w.0, w.1, took _ _ _ _ _ _ w.2 (c.next_blocks-blocks.ensures i lt busy) (c.compress.ensures i lt)),
     refl,
   ),
   λ n done. done,

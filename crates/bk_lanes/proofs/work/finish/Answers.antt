@@ -1,5 +1,5 @@
 use Rattle.std.proofs.Common.{arith}
-use Rattle.bk_lanes.proofs.many.finish.Goals as goal
+use Rattle.bk_lanes.proofs.work.finish.Goals as goal
 
 pub rounds-preserved : goal.rounds-preserved
 rounds-preserved c = (

@@ -1,6 +1,6 @@
 use Rattle.std.proofs.Common.{◌≡◌, ℕ, ◌<◌, length, slice_index}
 use Rattle.bk_lanes.specs.Lanes.{block_of, next_block}
-use Rattle.bk_lanes.proofs.many.next_blocks.Given as goal
+use Rattle.bk_lanes.proofs.work.next_blocks.Given as goal
 
 abbrev pub invariant-fill : goal.invariant-fill
 invariant-fill l =
