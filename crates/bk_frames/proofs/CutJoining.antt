@@ -6,6 +6,7 @@ use Rattle.std.proofs.lemmas.List.Concat.{flat_map-append, flat_map-cons}
 use Rattle.bk_frames.specs.declared.version.Version.{Version}
 use Rattle.bk_frames.specs.declared.fault.FaultCode.TheVariants as code
 use Rattle.bk_frames.specs.declared.fault.FeedFault.{FeedFault}
+use Rattle.bk_frames.specs.declared.pulling.TheConstants.{PIECE}
 use Rattle.bk_frames.specs.Feed.{Frame, feed_of, frame_text, spelling, magic, start_fault, frame_fault, AreGoodFrom, IsFeed, Begins, HasFault, at_start, in_frame}
 use Rattle.bk_frames.specs.Pulling.{StopsAt, cut_short, feed_ends, IsPartAt, in_part, FrontCallsForMemoryAt}
 use Rattle.bk_frames.specs.Cutting.{Cut, fresh, Cuts, in_magic, past_magic, in_frames, IsOpen, ShowsFault, Reaches, EndsShort, fault_at}
@@ -132,8 +133,8 @@ stops bytes frames c cuts is_open = by_kept c.kept refl
     by_kept (b ∷ bs) e = cut_short (has_fault bytes frames c (record { offset = c.offset; code = code.Truncated }) cuts (is_open (omega (arith, ap length e))) refl)
 
 -- where memory ran out in a frame, a front of all bytes calls for memory there
-pub memory_is_the_feeds : (bytes came : List ℕ) (frames : List Frame) (c : Cut) (offset : ℕ) → Cuts fresh bytes frames c → Reaches c came offset → FrontCallsForMemoryAt (bytes ++ came) offset
-memory_is_the_feeds bytes came frames c offset cuts r =
+pub memory_is_the_feeds : (bytes came : List ℕ) (frames : List Frame) (c : Cut) (offset : ℕ) → Cuts fresh bytes frames c → Reaches c came offset → length came ≤ PIECE → FrontCallsForMemoryAt (bytes ++ came) offset
+memory_is_the_feeds bytes came frames c offset cuts r few =
     let all = bytes_so_far (bytes ++ r.used) (frames ++ r.out) r.at r.begun.version (cuts_then fresh c r.at bytes r.used frames r.out cuts r.cuts) r.begun.known in
     let part : IsPartAt (length (frames ++ r.out)) offset r.at.kept = subst (λ (p : ℕ × ℕ). IsPartAt p.0 p.1 r.at.kept) (λ i. (all.1 i, sym r.place i)) r.begun.part in
     record {
@@ -141,4 +142,6 @@ memory_is_the_feeds bytes came frames c offset cuts r =
       ahead = r.ahead;
       parts = ap (λ (t : List ℕ). bytes ++ t) r.parts ∙ sym (append_assoc bytes r.used r.ahead);
       calls = in_part (feed_of r.begun.version (frames ++ r.out)) r.at.kept all.0 part (r.place ∙ all.2);
+      near = omega (arith, few, ap length r.parts, length-append r.used r.ahead);
+      first = λ zero. absurd (omega (arith, zero, r.place, all.2, length-spelling r.begun.version (frames ++ r.out)));
     }

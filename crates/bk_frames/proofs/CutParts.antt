@@ -18,7 +18,7 @@ use Rattle.bk_frames.specs.declared.version.Version.TheVariants.{One}
 use Rattle.bk_frames.specs.declared.part.Part.{Part}
 use Rattle.bk_frames.specs.Feed.{Frame, IsFramedAt, feed_of, frame_text, kind_number, spelling, stands_at, magic, start_fault, kind_fault, length_fault, payload_fault, frame_fault}
 use Rattle.bk_frames.specs.Pulling.{ByCode, IsPartAt}
-use Rattle.bk_frames.specs.Cutting.{Cut, Cuts, in_magic, past_magic, in_frames, IsOpen, IsBegun, ShowsFault, Reaches, RefusesPiece, fault_at, frames_in}
+use Rattle.bk_frames.specs.Cutting.{Cut, CutsInto, Cuts, in_magic, past_magic, in_frames, IsOpen, IsBegun, ShowsFault, Reaches, RefusesPiece, fault_at, frames_in}
 use Rattle.bk_frames.specs.private.Parts.{IsPart, IsShort, IsInFrame, FailsSoon, kept_of, cut_of, len_of}
 use Rattle.bk_frames.proofs.Devices.{take_parts}
 use Rattle.bk_frames.proofs.FrameFaults.{length_limits, judged, good, by_code, part_of_frame}
@@ -311,6 +311,11 @@ pub pushed : (c a b : Cut) (at n : ℕ) (piece : List ℕ) (out new : List (Kind
     → Cuts c (take (at + n) piece) (frames_in new) b
 pushed c a b at n piece out new f before after items =
     subst (λ (fs : List Frame). Cuts c (take (at + n) piece) fs b) (sym (ap frames_in items ∙ frames_more out f)) (handed c a b (take (at + n) piece) (frames_in out) (record { kind = f.0; payload = f.1.items }) before after)
+
+pub pushed_more : (c a b : Cut) (at n : ℕ) (piece : List ℕ) (start out new more : List (Kind × Vec ℕ)) (f : Kind × Vec ℕ) → out ≡ start ++ more → Cuts c (take (at + n) piece) (frames_in more) a → Cuts a [] (record { kind = f.0; payload = f.1.items } ∷ []) b → new ≡ out ++ f ∷ []
+    → CutsInto c (take (at + n) piece) start new b
+pushed_more c a b at n piece start out new more f is before after items =
+    (more ++ f ∷ [], items ∙ ap (λ (t : List (Kind × Vec ℕ)). t ++ f ∷ []) is ∙ append_assoc start more (f ∷ []), pushed c a b at n piece more (more ++ f ∷ []) f before after refl)
 
 pub memory_is_no_cut : code.Memory ≢ code.Truncated
 memory_is_no_cut e = absurd cc

@@ -11,3 +11,6 @@ pub mod FrontAndWhole
 pub mod CutJoining
 pub mod CutParts
 pub mod CutPieces
+pub mod PulledBytes
+pub mod Pulls
+mod EarlyGenesis

@@ -53,7 +53,7 @@ fronts p q x y same e =
     (sym (take_at p x (length p) refl) ∙ ap (take (length p)) e ∙ take_at q y (length p) (sym same), sym (drop_at p x (length p) refl) ∙ ap (drop (length p)) e ∙ drop_at q y (length p) (sym same))
 
 -- frames at the front of one text are one frame
-frame_injective : (f g : Frame) (x y : List ℕ) → length f.payload < 2 ^ 32 → length g.payload < 2 ^ 32 → frame_text f ++ x ≡ frame_text g ++ y → (f ≡ g) × (x ≡ y)
+pub frame_injective : (f g : Frame) (x y : List ℕ) → length f.payload < 2 ^ 32 → length g.payload < 2 ^ 32 → frame_text f ++ x ≡ frame_text g ++ y → (f ≡ g) × (x ≡ y)
 frame_injective f g x y lf lg e =
     let k : kind_number f.kind ≡ kind_number g.kind = ap (λ (t : List ℕ). get_or t 0 0) e in
     let n : length f.payload ≡ length g.payload = sym (from_be_bytes-to_be_bytes_4 (length f.payload) lf) ∙ ap (λ (t : List ℕ). from_be_bytes w32 (take 4 (drop 1 t))) e ∙ from_be_bytes-to_be_bytes_4 (length g.payload) lg in
@@ -62,7 +62,7 @@ frame_injective f g x y lf lg e =
     (λ i. record { kind = kinds i; payload = p.0 i }, p.1)
 
 -- a good frame at the front shows no fault
-no_fault : (version : Version) (index offset : ℕ) (f : Frame) (rest : List ℕ) → IsGoodAt version index offset f → frame_fault version index offset (frame_text f ++ rest) ≡ None
+pub no_fault : (version : Version) (index offset : ℕ) (f : Frame) (rest : List ℕ) → IsGoodAt version index offset f → frame_fault version index offset (frame_text f ++ rest) ≡ None
 no_fault version index offset f rest h = judged version index offset f rest h.framed ∙ payload_none index f.payload h.committee h.genesis
   where
     payload_none : (index : ℕ) (payload : List ℕ) → (index ≡ 0 → IsTrue (is_committee version payload)) → (index ≡ 1 → IsTrue (is_genesis payload)) → payload_fault version index payload ≡ None
@@ -113,14 +113,14 @@ differ : (m n : ℕ) → m < n → ¬ (m ≡ n)
 differ m n lt e = absurd (omega arith)
 
 -- magics at the front of one text are one magic
-magic_injective : (v w : Version) (x y : List ℕ) → magic v ++ x ≡ magic w ++ y → (v ≡ w) × (x ≡ y)
+pub magic_injective : (v w : Version) (x y : List ℕ) → magic v ++ x ≡ magic w ++ y → (v ≡ w) × (x ≡ y)
 magic_injective One One x y e = (refl, ap (drop 4) e)
 magic_injective One Two x y e = absurd (differ 49 50 (omega arith) (ap (λ (t : List ℕ). get_or t 3 0) e))
 magic_injective Two One x y e = absurd (differ 49 50 (omega arith) (sym (ap (λ (t : List ℕ). get_or t 3 0) e)))
 magic_injective Two Two x y e = (refl, ap (drop 4) e)
 
 -- the magic first, and then frames and what follows them
-magic_and : (front : FeedValue) (rest : List ℕ) → spelling front ++ rest ≡ magic front.version ++ (flat_map frame_text front.frames ++ rest)
+pub magic_and : (front : FeedValue) (rest : List ℕ) → spelling front ++ rest ≡ magic front.version ++ (flat_map frame_text front.frames ++ rest)
 magic_and front rest = append_assoc (magic front.version) (flat_map frame_text front.frames) rest
 
 -- two readings are one, or one of them goes on with a good frame where the other ends
@@ -175,7 +175,7 @@ start_good : (version : Version) (rest : List ℕ) → start_fault (magic versio
 start_good One rest = let four : ltb (suc (suc (suc (suc (length rest))))) 4 ≡ false = le-ltb _ _ (omega arith) in rw four refl
 start_good Two rest = let four : ltb (suc (suc (suc (suc (length rest))))) 4 ≡ false = le-ltb _ _ (omega arith) in rw four refl
 
-start_of : (bytes : List ℕ) (front : FeedValue) (rest : List ℕ) → Begins bytes front rest → start_fault bytes ≡ None
+pub start_of : (bytes : List ℕ) (front : FeedValue) (rest : List ℕ) → Begins bytes front rest → start_fault bytes ≡ None
 start_of bytes front rest begins = ap start_fault (begins.spelled ∙ magic_and front rest) ∙ start_good front.version (flat_map frame_text front.frames ++ rest)
 
 pub not_both : (feed : FeedValue) (fault : FeedFault) → IsFeed feed → ¬ HasFault (spelling feed) fault

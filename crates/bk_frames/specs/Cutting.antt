@@ -44,6 +44,11 @@ pub data Cuts (old : Cut) (came : List ℕ) (out : List Frame) (new : Cut) : Typ
       → new.index ≡ old.index + length out → new.offset ≡ old.offset + length (flat_map frame_text out)
       → Cuts old came out new
 
+-- the same where the frames are put behind others
+abbrev pub CutsInto : Cut → List ℕ → List (Kind × Vec ℕ) → List (Kind × Vec ℕ) → Cut → Type 0
+CutsInto old came before after new =
+    (more : List (Kind × Vec ℕ)) × (after ≡ before ++ more) × Cuts old came (frames_in more) new
+
 -- the first fault that these bytes show where nothing follows them: at the start, or where a frame begins
 abbrev pub fault_at : Option Version → ℕ → ℕ → List ℕ → Option FaultCode
 fault_at None index offset bytes = start_fault bytes

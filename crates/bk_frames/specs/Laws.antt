@@ -4,6 +4,7 @@ use Rattle.bk_frames.specs.declared.version.Version.{Version}
 use Rattle.bk_frames.specs.declared.fault.FaultCode.TheVariants as code
 use Rattle.bk_frames.specs.declared.fault.FeedFault.{FeedFault}
 use Rattle.bk_frames.specs.declared.genesis.Row.{Row}
+use Rattle.bk_frames.specs.declared.pulling.TheConstants.{PIECE}
 use Rattle.bk_frames.specs.Genesis.{IsGenesis, genesis_text, rows_of}
 use Rattle.bk_frames.specs.Feed.{Frame, FeedValue, frame_text, feed_of, IsFeed, spelling, Begins, HasFault}
 use Rattle.bk_frames.specs.Numbers.{IsBytes}
@@ -74,7 +75,7 @@ FaultIsTheFeeds = (bytes came : List ℕ) (frames : List Frame) (c : Cut) (fault
 -- where memory ran out in a frame, a front of all bytes calls for memory there
 abbrev pub MemoryIsTheFeeds : Type 0
 MemoryIsTheFeeds = (bytes came : List ℕ) (frames : List Frame) (c : Cut) (offset : ℕ)
-    → Cuts fresh bytes frames c → Reaches c came offset → FrontCallsForMemoryAt (bytes ++ came) offset
+    → Cuts fresh bytes frames c → Reaches c came offset → length came ≤ PIECE → FrontCallsForMemoryAt (bytes ++ came) offset
 
 -- bytes that end where a frame ends are a feed, once the genesis is whole
 abbrev pub EndsAsFeed : Type 0

@@ -8,5 +8,6 @@ pub mod Faults
 pub mod Pulling
 pub mod Writing
 pub mod Cutting
+pub mod Reading
 pub mod Laws
 pub mod private

@@ -3,6 +3,7 @@ use Rattle.std.specs.Prelude.{◌≡◌, ℕ, ◌≤◌, List, [], ◌++◌, len
 use Rattle.bk_frames.specs.declared.fault.FaultCode.{FaultCode}
 use Rattle.bk_frames.specs.declared.fault.FaultCode.TheVariants as code
 use Rattle.bk_frames.specs.declared.fault.FeedFault.{FeedFault}
+use Rattle.bk_frames.specs.declared.pulling.TheConstants.{PIECE}
 use Rattle.bk_frames.specs.Device.{Device, Works, Fails, Gives, IfKnown}
 use Rattle.bk_frames.specs.Feed.{HasFault, Begins, Frame, FeedValue, frame_text, spelling, IsFramedAt, IsFeed}
 
@@ -21,13 +22,6 @@ ByCode code.Extra failed refused found = found
 -- from one moment to a later one a source gave bytes of which this holds
 abbrev pub Gave : Device → Device → (List ℕ → Type 0) → Type 0
 Gave start now holds = (given : List ℕ) × Gives start now given × holds given
-
--- why a reader gave up: a call of the source failed, or memory ran out, each after such bytes were given; or all bytes
--- of the source show this
-abbrev pub GivesUp : FaultCode → Device → Device → (List ℕ → Type 0) → (List ℕ → Type 0) → (List ℕ → Type 0) → Type 0
-GivesUp found start now failed refused shown =
-    ByCode found (Fails start now × Gave start now failed) (Works start now × Gave start now refused)
-    (Works start now × IfKnown start shown)
 
 -- bytes that stop at this offset or in the frame that begins there: they are cut short there, or are a feed that ends there
 pub data StopsAt (bytes : List ℕ) (offset : ℕ) : Type 0 where
@@ -49,24 +43,20 @@ pub data CallsForMemoryAt (bytes : List ℕ) (offset : ℕ) : Type 0 where
   in_part : (front : FeedValue) (part : List ℕ) → Begins bytes front part → IsPartAt (length front.frames) offset part
       → offset ≡ length (spelling front) → CallsForMemoryAt bytes offset
 
--- the same of a front of the bytes, since pieces are read ahead of the frame that calls for memory
+-- the same of a front of the bytes: behind it less than a piece was pulled ahead, and nothing at 0
 pub record FrontCallsForMemoryAt (bytes : List ℕ) (offset : ℕ) : Type 0 where
   pub front : List ℕ
   pub ahead : List ℕ
   pub parts : bytes ≡ front ++ ahead
   pub calls : CallsForMemoryAt front offset
+  pub near : length ahead ≤ PIECE
+  pub first : offset ≡ 0 → ahead ≡ []
 
 -- why a feed was refused: a call of the source failed, after bytes that stop at this offset; or memory ran out, after
--- bytes that call for it at this offset as `calls` says; or all bytes of the source have this fault
-abbrev pub RefusesBy : (List ℕ → ℕ → Type 0) → FeedFault → Device → Device → Type 0
-RefusesBy calls fault start now =
-    GivesUp fault.code start now (λ given. StopsAt given fault.offset) (λ given. calls given fault.offset)
-    (λ bytes. HasFault bytes fault)
-
--- the same of a feed that is read no further than the frame that is being read
+-- bytes that call for it at this offset; or all bytes of the source have this fault
 abbrev pub Refuses : FeedFault → Device → Device → Type 0
-Refuses fault start now = RefusesBy CallsForMemoryAt fault start now
-
--- and of a feed that is read in pieces
-abbrev pub RefusesInPieces : FeedFault → Device → Device → Type 0
-RefusesInPieces fault start now = RefusesBy FrontCallsForMemoryAt fault start now
+Refuses fault start now =
+    ByCode fault.code
+    (Fails start now × Gave start now (λ given. StopsAt given fault.offset))
+    (Works start now × Gave start now (λ given. FrontCallsForMemoryAt given fault.offset))
+    (Works start now × IfKnown start (λ bytes. HasFault bytes fault))

@@ -2,7 +2,7 @@ ghost use Rattle.std.specs.Prelude.{◌≡◌, ◌≢◌, ℕ, ◌+◌, ◌<◌,
 ghost use Rattle.bk_frames.specs.declared.version.Version.{Version};
 ghost use Rattle.bk_frames.specs.Feed.{feed_of, spelling, IsFeed, HasFault};
 ghost use Rattle.bk_frames.specs.Pulling.{ByCode};
-ghost use Rattle.bk_frames.specs.Cutting.{Cut, fresh, Cuts, IsOpen, RefusesPiece, EndsShort, bytes_in, frames_in};
+ghost use Rattle.bk_frames.specs.Cutting.{Cut, fresh, Cuts, CutsInto, IsOpen, RefusesPiece, EndsShort, bytes_in, frames_in};
 ghost use Rattle.bk_frames.specs.private.Parts.{IsPart, IsShort, FailsSoon, cut_of};
 
 use crate::fault::{FaultCode, FeedFault};
@@ -35,17 +35,21 @@ fn advance(part: &mut Part, piece: &[u8]) -> Result<usize, FaultCode>
     Ok(take_payload(part, piece)?)
 }
 
-// Cuts a piece into the frames that end inside it.
-fn cut(alloc: Global, part: &mut Part, piece: &[u8]) -> Result<Vec<(Kind, Vec<u8>)>, FaultCode>
+// Cuts a piece, and puts the frames that end inside it behind those of `out`.
+fn cut(
+    alloc: Global,
+    part: &mut Part,
+    piece: &[u8],
+    out: &mut Vec<(Kind, Vec<u8>)>,
+) -> Result<(), FaultCode>
     requires part { IsPart part.old }
     requires short { IsShort part.old }
     ensures part { OnOk result (IsPart part.new × IsShort part.new) }
-    ensures cuts { IfOk result (λ out. Cuts (cut_of part.old) piece.now (frames_in out.items)
-        (cut_of part.new)) }
+    ensures cuts { OnOk result (CutsInto (cut_of part.old) piece.now
+        out.old.items out.new.items (cut_of part.new)) }
     ensures refused { IfErr result (λ e. RefusesPiece (cut_of part.old) piece.now
         (record { offset = part.new.offset; code = e })) }
 {
-    let mut out = Vec::new(alloc);
     let mut at = 0;
     while at < piece.len() {
         at += advance(part, &piece[at..])?;
@@ -54,7 +58,7 @@ fn cut(alloc: Global, part: &mut Part, piece: &[u8]) -> Result<Vec<(Kind, Vec<u8
             out.push(take_frame(alloc, part, version)?)?;
         }
     }
-    Ok(out)
+    Ok(())
 }
 
 /// Cuts a feed into its frames, in whatever pieces it comes. Memory follows the bytes that came.
@@ -100,12 +104,18 @@ impl Cutter {
         }
     }
 
-    /// Takes the next piece, and hands out the frames that end inside it. O(n) over all pieces together.
+    /// Takes the next piece, and puts the frames that end inside it behind those of `frames`. O(n) over all pieces
+    /// together.
     ///
-    /// A fault comes with the first byte that shows it, and no frame is handed out with it; each later call returns it
-    /// again. Bytes that are only cut short are no fault here.
-    pub fn feed(&mut self, piece: &[u8]) -> Result<Vec<(Kind, Vec<u8>)>, FeedFault>
-        ensures cuts { IfOk result (λ out. Cuts self.old piece.now (frames_in out.items) self.new) }
+    /// A fault comes with the first byte that shows it; each later call returns it again. Bytes that are only cut short
+    /// are no fault here. With a fault nothing is promised of `frames`.
+    pub fn feed_into(
+        &mut self,
+        piece: &[u8],
+        frames: &mut Vec<(Kind, Vec<u8>)>,
+    ) -> Result<(), FeedFault>
+        ensures cuts { OnOk result (CutsInto self.old piece.now
+            frames.old.items frames.new.items self.new) }
         ensures open { OnOk result ((self.old.fault ≡ None) × (self.new.fault ≡ None)
             × IsOpen self.new) }
         ensures again { IfSome self.old.fault (λ f. (result ≡ Err f) × (self.new ≡ self.old)) }
@@ -116,8 +126,8 @@ impl Cutter {
         if let Some(fault) = self.fault {
             return Err(fault);
         }
-        match cut(self.alloc, &mut self.part, piece) {
-            Ok(frames) => Ok(frames),
+        match cut(self.alloc, &mut self.part, piece, frames) {
+            Ok(()) => Ok(()),
             Err(code) => {
                 let fault = FeedFault {
                     offset: self.part.offset,
@@ -127,6 +137,23 @@ impl Cutter {
                 Err(fault)
             }
         }
+    }
+
+    /// Takes the next piece, and hands out the frames that end inside it, as [`Cutter::feed_into`] does.
+    ///
+    /// No frame is handed out with a fault.
+    pub fn feed(&mut self, piece: &[u8]) -> Result<Vec<(Kind, Vec<u8>)>, FeedFault>
+        ensures cuts { IfOk result (λ out. Cuts self.old piece.now (frames_in out.items) self.new) }
+        ensures open { OnOk result ((self.old.fault ≡ None) × (self.new.fault ≡ None)
+            × IsOpen self.new) }
+        ensures again { IfSome self.old.fault (λ f. (result ≡ Err f) × (self.new ≡ self.old)) }
+        ensures stays { IfErr result (λ f. self.new.fault ≡ Some f) }
+        ensures refused { IfErr result (λ f. self.old.fault ≡ None
+            → RefusesPiece self.old piece.now f) }
+    {
+        let mut frames = Vec::new(self.alloc);
+        self.feed_into(piece, &mut frames)?;
+        Ok(frames)
     }
 
     /// Whether the feed may end here: `Truncated` where it is cut short, and a fault that `feed` returned again.
@@ -183,12 +210,7 @@ pub fn frames_of_pieces(
     let mut cutter = Cutter::new(alloc);
     let mut out = Vec::new(alloc);
     for piece in pieces {
-        let offset = cutter.offset();
-        let mut frames = cutter.feed(piece)?;
-        if out.append(&mut frames).is_err() {
-            let code = FaultCode::Memory;
-            return Err(FeedFault { offset, code });
-        }
+        cutter.feed_into(piece, &mut out)?;
     }
     cutter.end()?;
     Ok(out)

@@ -33,6 +33,7 @@ pub use laws::{
     fused_source, genesis_grammar, one_frame_was_read, pieces_join, whole_frames_so_far,
 };
 pub use limits::{MOST_ACCOUNTS, MOST_FEED, MOST_MEMBERS, MOST_PAYLOAD};
+pub use pulling::{PIECE, pull_frames};
 pub use version::Version;
 pub use writing::{WriteFault, push_all, write_frame};
 

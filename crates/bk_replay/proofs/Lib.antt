@@ -3,7 +3,6 @@ pub mod Counting
 pub mod Books
 pub mod Openings
 pub mod Waiting
-pub mod PulledBytes
 pub mod Pulled
 pub mod RunAnswers
 pub mod BookReports

@@ -1,4 +1,4 @@
-use super::{EMPTY_LEDGER, Reader, read};
+use super::{EMPTY_LEDGER, Reader, offset_of_cut, read};
 use crate::{
     Counted, FaultCode, Feed, FeedFault, Fuse, Kind, Sink, Source, WriteFault, push_all,
     write_frame,
@@ -9,18 +9,17 @@ use std::io::{Read, Write};
 use std::process::Abort;
 use std::test::Fail;
 
-// How many calls it takes to read the empty ledger, when each gives all that is asked for: four for the magic, for each of
-// two frames one for the kind, four for the length and one for the payload, and one for the end.
-const NEEDED: u64 = 4 + 6 + 6 + 1;
+// How many calls it takes to read the empty ledger, when each gives one byte: one for each of its bytes, and one for the
+// end.
+const NEEDED: u64 = 51 + 1;
 
 // The fault of a reading that has only this many calls.
 fn fault_after(calls: u64) -> FeedFault {
-    let mut offset = 51;
-    for (end, begin) in [(NEEDED - 1, 42), (10, 4), (4, 0)] {
-        if calls < end {
-            offset = begin;
-        }
-    }
+    let offset = if calls < 51 {
+        offset_of_cut(calls as usize)
+    } else {
+        51
+    };
     FeedFault {
         offset,
         code: FaultCode::Read,
@@ -46,7 +45,7 @@ fn expect_read(rt: &impl Abort, read: &Result<Feed, FeedFault>, calls: u64) {
 fn reader(calls: u32) -> Reader<'static> {
     Reader {
         rest: EMPTY_LEDGER.as_slice(),
-        most: 1000,
+        most: 1,
         calls,
     }
 }
@@ -191,12 +190,10 @@ fn with_a_long_batch(alloc: Global) -> Result<Vec<u8>, AllocError> {
 fn asks_a_source_no_more_than_it_needs(rt: HostRuntime) -> Result<(), Fail> {
     let bytes = with_a_long_batch(rt.alloc())?;
     assert!(rt; read(rt.alloc(), &bytes)?.len() == 3);
-    // Each byte of the magic, a kind and a length is asked for alone, and the end once. A payload is asked for in
-    // pieces: one for each of the first two frames.
-    let heads = 4 + 5 + 1 + 5 + 1 + 5 + 1;
+    // 200,056 bytes in pieces, and then the end.
     for (most, pieces) in [(1_000_000, 4), (65_536, 4), (512, 391)] {
         let asked = ask(rt.alloc(), &bytes, most);
-        assert_eq!(rt; asked.calls, heads + pieces);
+        assert_eq!(rt; asked.calls, pieces + 1);
         assert!(rt; asked.room == 65_536 && asked.at_end == 1);
     }
     Ok(())

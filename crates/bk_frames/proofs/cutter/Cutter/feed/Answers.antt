@@ -1,12 +1,10 @@
-use Rattle.std.proofs.Common.{◌≡◌, None, rules}
-use Rattle.bk_frames.specs.Cutting.{frames_in}
-use Rattle.bk_frames.proofs.CutParts.{open_part, cuts_seen}
+use Rattle.std.proofs.Common.{◌++◌, List, ℕ, sym, ap, subst, ◌∙◌}
+use Rattle.std.specs.Global.{Vec}
+use Rattle.bk_frames.specs.declared.kind.Kind.{Kind}
+use Rattle.bk_frames.specs.Cutting.{Cuts, frames_in}
 use Rattle.bk_frames.proofs.cutter.Cutter.feed.Goals as goal
 
-pub returns-in-Ok-clause-cuts : goal.returns-in-Ok-clause-cuts
-returns-in-Ok-clause-cuts c =
-    let none : c.self.inside.fault ≡ None = search rules in
-    cuts_seen c.self.inside.part c.cut.new.part c.self.inside.fault c.args.self.now c.args.piece.now (frames_in c.in-Ok.frames.items) none c.self.view_is c.in-Ok.ensures.cuts
-
-pub returns-in-Ok-clause-open : goal.returns-in-Ok-clause-open
-returns-in-Ok-clause-open c = (search rules, search rules, open_part c.cut.new.part c.in-Ok.ensures.part.0 c.in-Ok.ensures.part.1)
+pub returns-clause-cuts : goal.returns-clause-cuts
+returns-clause-cuts c =
+    let cuts = c.in_ok-feed_into.ensures.cuts in
+    subst (λ (t : List (Kind × Vec ℕ)). Cuts c.args.self.now c.args.piece.now (frames_in t) c.feed_into.new.self) (sym (cuts.1 ∙ ap (λ (t : List (Kind × Vec ℕ)). t ++ cuts.0) c.new-frames.ensures.items)) cuts.2

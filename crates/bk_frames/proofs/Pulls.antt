@@ -1,0 +1,107 @@
+-- Pulling a feed in pieces: what has come, and what a refusal says of all bytes.
+use Rattle.std.proofs.Common.{◌≡◌, ℕ, ◌+◌, ◌<◌, ◌≤◌, List, [], ◌∷◌, ◌++◌, length, Option, Some, None, refl, sym, ap, subst, ◌∙◌, arith, append_assoc, length-append}
+use Rattle.std.specs.Prelude.{IfSome}
+use Rattle.std.specs.Global.{Vec}
+use Rattle.std.specs.Io.KnownBytes.{Consumes, Keeps, IsAtEnd}
+use Rattle.std.proofs.KnownBytes.{Consumes-nil, Consumes-kept}
+use Rattle.std.proofs.lemmas.List.{append-nil, map-append}
+use Rattle.bk_frames.specs.declared.kind.Kind.{Kind}
+use Rattle.bk_frames.specs.declared.pulling.TheConstants.{PIECE}
+use Rattle.bk_frames.specs.declared.fault.FaultCode.TheVariants as code
+use Rattle.bk_frames.specs.declared.fault.FeedFault.{FeedFault}
+use Rattle.bk_frames.specs.Device.{Device, Works, Fails, Gives, IfKnown}
+use Rattle.bk_frames.specs.Feed.{Frame, HasFault, spelling, FeedValue}
+use Rattle.bk_frames.specs.Pulling.{Gave, StopsAt, FrontCallsForMemoryAt, Refuses}
+use Rattle.bk_frames.specs.Cutting.{Cut, Cuts, CutsInto, IsOpen, ShowsFault, Reaches, RefusesPiece, EndsShort, fresh, in_magic, frames_in}
+use Rattle.bk_frames.specs.Reading.{IsPulled, room_of}
+use Rattle.bk_frames.proofs.Devices.{consumes_then}
+use Rattle.bk_frames.proofs.FrameFaults.{by_code}
+use Rattle.bk_frames.proofs.CutJoining.{cuts_then, fault_is_the_feeds, memory_is_the_feeds, stops, ends_cut_short}
+use Rattle.bk_frames.proofs.FrontAndWhole.{fault_stays}
+use Rattle.bk_frames.proofs.PulledBytes.{so_long, open_short}
+
+-- before the first byte
+pub none_pulled : (start : Device) (c : Cut) → c ≡ fresh → IsPulled start start [] [] c
+none_pulled start c is = subst (λ (d : Cut). IsPulled start start [] [] d) (sym is) (record {
+  works = refl;
+  gave = Consumes-nil start.bytes;
+  cuts = in_magic refl refl refl refl refl refl;
+  is_open = λ some. absurd (omega (arith, some));
+  reads = refl;
+})
+
+frames_joined : (taken : List Frame) (before more after : List (Kind × Vec ℕ)) → after ≡ before ++ more → (taken ++ frames_in before) ++ frames_in more ≡ taken ++ frames_in after
+frames_joined taken before more after is =
+    append_assoc taken (frames_in before) (frames_in more) ∙ ap (λ (t : List Frame). taken ++ t) (sym (map-append _ before more) ∙ ap frames_in (sym is))
+
+-- one piece more
+pub piece_pulled : (start now later : Device) (bytes piece : List ℕ) (taken : List Frame) (before after : List (Kind × Vec ℕ)) (c d : Cut) → IsPulled start now bytes (taken ++ frames_in before) c → Gives now later piece → Works now later
+    → CutsInto c piece before after d → d.fault ≡ None → IsOpen d → IsPulled start later (bytes ++ piece) (taken ++ frames_in after) d
+piece_pulled start now later bytes piece taken before after c d p gave works cuts reads is_open = record {
+  works = works ∙ p.works;
+  gave = consumes_then start.bytes now.bytes later.bytes bytes piece p.gave gave;
+  cuts = subst (λ (fs : List Frame). Cuts fresh (bytes ++ piece) fs d) (frames_joined taken before cuts.0 after cuts.1)
+      (cuts_then fresh c d bytes piece (taken ++ frames_in before) (frames_in cuts.0) p.cuts cuts.2);
+  is_open = is_open;
+  reads = reads;
+}
+
+-- there is less room after it
+pub room_falls : (bytes piece : List ℕ) (before more : List Frame) (c d : Cut) → Cuts fresh bytes before c → Cuts c piece more d → IsOpen d → 0 < length piece → room_of d < room_of c
+room_falls bytes piece before more c d cuts next is_open some =
+    let all = cuts_then fresh c d bytes piece before more cuts next in
+    omega (arith, so_long bytes before c cuts, so_long (bytes ++ piece) (before ++ more) d all, open_short (bytes ++ piece) (before ++ more) d all is_open, length-append bytes piece, some)
+
+-- the source is at its end: it gave nothing, and there was room for more
+pub all_pulled : (start now later : Device) (bytes : List ℕ) (frames : List Frame) (c : Cut) → IsPulled start now bytes frames c → Gives now later [] → IsAtEnd later.bytes → IfKnown start (λ whole. whole ≡ bytes)
+all_pulled start now later bytes frames c p nothing end = by_known start.bytes later.bytes (consumes_then start.bytes now.bytes later.bytes bytes [] p.gave nothing) end
+  where
+    by_known : (a b : Option (List ℕ)) → Consumes a b (bytes ++ []) → IsAtEnd b → IfSome a (λ whole. whole ≡ bytes)
+    by_known None b gave end = tt
+    by_known (Some all) None gave end = absurd gave
+    by_known (Some all) (Some left) gave end = gave ∙ ap (λ (t : List ℕ). (bytes ++ []) ++ t) end ∙ append-nil (bytes ++ []) ∙ append-nil bytes
+
+-- a piece was refused: what all bytes show, or where memory ran out
+pub refused_piece : (start now later : Device) (bytes piece : List ℕ) (frames : List Frame) (c : Cut) (found : FeedFault) → IsPulled start now bytes frames c → Gives now later piece → Works now later → length piece ≤ PIECE → RefusesPiece c piece found → Refuses found start later
+refused_piece start now later bytes piece frames c found p gave works few r =
+    by_code found.code ⊥ (Reaches c piece found.offset) (ShowsFault c piece found) (Fails start later × Gave start later (λ given. StopsAt given found.offset)) (Works start later × Gave start later (λ given. FrontCallsForMemoryAt given found.offset))
+    (Works start later × IfKnown start (λ all. HasFault all found))
+    (λ h. absurd h)
+    (λ h. (same, (bytes ++ piece, came, memory_is_the_feeds bytes piece frames c found.offset p.cuts h few)))
+    (λ h. (same, by_known start.bytes later.bytes came (fault_is_the_feeds bytes piece frames c found p.cuts h)))
+    r.cause
+  where
+    same : Works start later
+    same = works ∙ p.works
+
+    came : Gives start later (bytes ++ piece)
+    came = consumes_then start.bytes now.bytes later.bytes bytes piece p.gave gave
+
+    by_known : (a b : Option (List ℕ)) → Consumes a b (bytes ++ piece) → HasFault (bytes ++ piece) found → IfSome a (λ all. HasFault all found)
+    by_known None b gave h = tt
+    by_known (Some all) None gave h = absurd gave
+    by_known (Some all) (Some left) gave h = subst (λ (t : List ℕ). HasFault t found) (sym gave) (fault_stays (bytes ++ piece) left found h r.shown_already)
+
+-- the source failed
+pub pull_failed : (start now later : Device) (bytes : List ℕ) (frames : List Frame) (c : Cut) (offset : ℕ) → IsPulled start now bytes frames c → Keeps now.bytes later.bytes → Fails now later → offset ≡ c.offset → Refuses (record { offset = offset; code = code.Read }) start later
+pull_failed start now later bytes frames c offset p kept fails is =
+    subst (λ (o : ℕ). Refuses (record { offset = o; code = code.Read }) start later) (sym is)
+    (fails ∙ ap (λ (n : ℕ). n + 1) p.works, (bytes, Consumes-kept start.bytes now.bytes later.bytes bytes p.gave kept, stops bytes frames c p.cuts p.is_open))
+
+-- the last piece was empty
+pub at_end : (start : Device) (bytes came : List ℕ) → length came ≡ 0 → IfKnown start (λ whole. whole ≡ bytes) → IfKnown start (λ whole. whole ≡ bytes ++ came)
+at_end start bytes [] none all = subst (λ (t : List ℕ). IfKnown start (λ whole. whole ≡ t)) (sym (append-nil bytes)) all
+at_end start bytes (b ∷ bs) none all = absurd (omega (arith, none))
+
+pub whole_read : (start : Device) (bytes : List ℕ) (feed : FeedValue) → bytes ≡ spelling feed → IfKnown start (λ whole. whole ≡ bytes) → IfKnown start (λ whole. whole ≡ spelling feed)
+whole_read start bytes feed is all = subst (λ (t : List ℕ). IfKnown start (λ whole. whole ≡ t)) is all
+
+-- the bytes end, and are cut short
+pub ended_short : (start now : Device) (bytes : List ℕ) (frames : List Frame) (c : Cut) (f : FeedFault) → IsPulled start now bytes frames c → IfKnown start (λ whole. whole ≡ bytes) → EndsShort c f → Refuses f start now
+ended_short start now bytes frames c f p all short =
+    subst (λ (g : FeedFault). Refuses g start now) (sym short.is) (p.works, by_known start.bytes all)
+  where
+    by_known : (a : Option (List ℕ)) → IfSome a (λ whole. whole ≡ bytes) → IfSome a (λ whole. HasFault whole (record { offset = c.offset; code = code.Truncated }))
+    by_known None h = tt
+    by_known (Some whole) h = subst (λ (t : List ℕ). HasFault t (record { offset = c.offset; code = code.Truncated })) (sym h)
+        (subst (HasFault bytes) short.is (ends_cut_short bytes frames c f p.cuts short))
