@@ -2,8 +2,8 @@
 use Rattle.std.proofs.Common.{◌≡◌, ◌≢◌, ℕ, ◌+◌, ◌-◌, ◌*◌, ◌/◌, ◌%◌, ◌^◌, ◌<◌, ◌≤◌, List, [], ◌∷◌, ◌++◌, length, take, drop, replicate, slice_set, refl, sym, ap, ◌∙◌, arith, add-one, length-append, length-drop}
 use Rattle.std.proofs.lemmas.List.{append-nil, append_assoc, drop-append-le, drop-replicate, drop_all, drop_at, length-replicate, length-take-le, replicate-append-replicate, take-append-drop, take-append-le, take_at}
 use Rattle.std.specs.Int.{w64, to_be_bytes}
-use Rattle.sha2.specs.Sha256.{padding}
-use Rattle.bk_lanes.specs.Lanes.{block_count, padded_after, padded_block}
+use Rattle.sha2.specs.Sha256.{padded_message, padding}
+use Rattle.bk_lanes.specs.private.Lanes.{block_count, padded_block}
 use borrow.Rule.Slice.PartMut.{put_mid}
 
 -- the bit 1 and n zeros
@@ -47,9 +47,9 @@ put_length_is b ys t e long =
 cut : (p a b c : List ℕ) (k : ℕ) → p ≡ a ++ (b ++ c) → length a ≡ k * 64 → length b ≡ 64 → b ≡ take 64 (drop (k * 64) p)
 cut p a b c k e la lb = rw e (rw (drop_at a (b ++ c) (k * 64) la) (sym (take_at b c 64 lb)))
 
-padded_with : (n : ℕ) (m : List ℕ) (z : ℕ) → z ≡ (119 - length m % 64) % 64 → padded_after n m ≡ m ++ (ended_by z ++ length_field (64 * n + length m))
-padded_with n m z e =
-    let same : (119 - (64 * n + length m) % 64) % 64 ≡ z = omega arith in
+padded_with : (m : List ℕ) (z : ℕ) → z ≡ (119 - length m % 64) % 64 → padded_message m ≡ m ++ (ended_by z ++ length_field (length m))
+padded_with m z e =
+    let same : (119 - length m % 64) % 64 ≡ z = omega arith in
     rw same refl
 
 regroup_last : (a r e l : List ℕ) → (a ++ r) ++ (e ++ l) ≡ a ++ (((r ++ e) ++ l) ++ [])
@@ -62,17 +62,17 @@ regroup_over : (m e z l : List ℕ) → m ++ ((e ++ z) ++ l) ≡ (m ++ e) ++ ((z
 regroup_over m e z l = simp (append_assoc, append-nil)
 
 -- a block within the text
-pub whole_block : (n : ℕ) (m ys : List ℕ) (k : ℕ) → k < length m / 64 → ys ≡ take 64 (drop (64 * k) m) → ys ≡ padded_block n m k
-whole_block n m ys k lt e =
+pub whole_block : (m ys : List ℕ) (k : ℕ) → k < length m / 64 → ys ≡ take 64 (drop (64 * k) m) → ys ≡ padded_block m k
+whole_block m ys k lt e =
     let same : 64 * k ≡ k * 64 = omega arith in
     let room : 64 ≤ length (drop (k * 64) m) = omega (arith, length-drop (k * 64) m) in
     rw same at e
-    ∙ sym (rw (drop-append-le (k * 64) m (padding (64 * n + length m)) (omega arith)) (take-append-le 64 (drop (k * 64) m) (padding (64 * n + length m)) room))
+    ∙ sym (rw (drop-append-le (k * 64) m (padding (length m)) (omega arith)) (take-append-le 64 (drop (k * 64) m) (padding (length m)) room))
 
 -- the block with the text's end, where the length fits into it too
-pub last_short : (n : ℕ) (m b : List ℕ) (k : ℕ) → k ≡ length m / 64 → k + 1 ≡ block_count (length m)
-    → b ≡ drop (64 * k) m ++ ended_by (63 - length (drop (64 * k) m)) → take 56 b ++ length_field (64 * n + length m) ≡ padded_block n m k
-last_short n m b k ek last eb =
+pub last_short : (m b : List ℕ) (k : ℕ) → k ≡ length m / 64 → k + 1 ≡ block_count (length m)
+    → b ≡ drop (64 * k) m ++ ended_by (63 - length (drop (64 * k) m)) → take 56 b ++ length_field (length m) ≡ padded_block m k
+last_short m b k ek last eb =
     let rest = drop (64 * k) m in
     let front = take (64 * k) m in
     let lr : length rest ≡ length m - 64 * k = length-drop (64 * k) m in
@@ -81,16 +81,16 @@ last_short n m b k ek last eb =
     let split : ended_by (63 - length rest) ≡ ended_by z ++ replicate 8 0 = ended_by-split (63 - length rest) z 8 (omega arith) in
     let le : length (rest ++ ended_by z) ≡ 56 = omega (arith, length-append rest (ended_by z), length-ended_by z) in
     let head : take 56 b ≡ rest ++ ended_by z = rw (eb, split, ← append_assoc) (take_at (rest ++ ended_by z) (replicate 8 0) 56 le) in
-    let whole : length ((rest ++ ended_by z) ++ length_field (64 * n + length m)) ≡ 64 = omega (arith, length-append (rest ++ ended_by z) (length_field (64 * n + length m)), le) in
-    let parts : padded_after n m ≡ front ++ (((rest ++ ended_by z) ++ length_field (64 * n + length m)) ++ []) =
-    padded_with n m z (omega arith) ∙ ap (λ (x : List ℕ). x ++ (ended_by z ++ length_field (64 * n + length m))) (sym (take-append-drop (64 * k) m))
-    ∙ regroup_last front rest (ended_by z) (length_field (64 * n + length m)) in
-    rw head (cut (padded_after n m) front ((rest ++ ended_by z) ++ length_field (64 * n + length m)) [] k parts (omega arith) whole)
+    let whole : length ((rest ++ ended_by z) ++ length_field (length m)) ≡ 64 = omega (arith, length-append (rest ++ ended_by z) (length_field (length m)), le) in
+    let parts : padded_message m ≡ front ++ (((rest ++ ended_by z) ++ length_field (length m)) ++ []) =
+    padded_with m z (omega arith) ∙ ap (λ (x : List ℕ). x ++ (ended_by z ++ length_field (length m))) (sym (take-append-drop (64 * k) m))
+    ∙ regroup_last front rest (ended_by z) (length_field (length m)) in
+    rw head (cut (padded_message m) front ((rest ++ ended_by z) ++ length_field (length m)) [] k parts (omega arith) whole)
 
 -- the block with the text's end, where the length goes into the next
-pub last_long : (n : ℕ) (m b : List ℕ) (k : ℕ) → k ≡ length m / 64 → k + 1 ≢ block_count (length m)
-    → b ≡ drop (64 * k) m ++ ended_by (63 - length (drop (64 * k) m)) → b ≡ padded_block n m k
-last_long n m b k ek more eb =
+pub last_long : (m b : List ℕ) (k : ℕ) → k ≡ length m / 64 → k + 1 ≢ block_count (length m)
+    → b ≡ drop (64 * k) m ++ ended_by (63 - length (drop (64 * k) m)) → b ≡ padded_block m k
+last_long m b k ek more eb =
     let rest = drop (64 * k) m in
     let front = take (64 * k) m in
     let lr : length rest ≡ length m - 64 * k = length-drop (64 * k) m in
@@ -98,23 +98,23 @@ last_long n m b k ek more eb =
     let z = 63 - length rest in
     let split : ended_by (z + 56) ≡ ended_by z ++ replicate 56 0 = ended_by-split (z + 56) z 56 refl in
     let whole : length (rest ++ ended_by z) ≡ 64 = omega (arith, length-append rest (ended_by z), length-ended_by z) in
-    let parts : padded_after n m ≡ front ++ ((rest ++ ended_by z) ++ (replicate 56 0 ++ length_field (64 * n + length m))) =
-    padded_with n m (z + 56) (omega arith)
-    ∙ (λ i. sym (take-append-drop (64 * k) m) i ++ (split i ++ length_field (64 * n + length m)))
-    ∙ regroup_two front rest (ended_by z) (replicate 56 0) (length_field (64 * n + length m)) in
-    eb ∙ cut (padded_after n m) front (rest ++ ended_by z) (replicate 56 0 ++ length_field (64 * n + length m)) k parts (omega arith) whole
+    let parts : padded_message m ≡ front ++ ((rest ++ ended_by z) ++ (replicate 56 0 ++ length_field (length m))) =
+    padded_with m (z + 56) (omega arith)
+    ∙ (λ i. sym (take-append-drop (64 * k) m) i ++ (split i ++ length_field (length m)))
+    ∙ regroup_two front rest (ended_by z) (replicate 56 0) (length_field (length m)) in
+    eb ∙ cut (padded_message m) front (rest ++ ended_by z) (replicate 56 0 ++ length_field (length m)) k parts (omega arith) whole
 
 -- the block with the length alone
-pub length_block : (n : ℕ) (m b : List ℕ) (k : ℕ) → k ≢ length m / 64 → length m / 64 ≤ k → k < block_count (length m) → b ≡ replicate 64 0
-    → take 56 b ++ length_field (64 * n + length m) ≡ padded_block n m k
-length_block n m b k ne le lt eb =
+pub length_block : (m b : List ℕ) (k : ℕ) → k ≢ length m / 64 → length m / 64 ≤ k → k < block_count (length m) → b ≡ replicate 64 0
+    → take 56 b ++ length_field (length m) ≡ padded_block m k
+length_block m b k ne le lt eb =
     let z = 63 - length m % 64 in
     let split : ended_by (z + 56) ≡ ended_by z ++ replicate 56 0 = ended_by-split (z + 56) z 56 refl in
     let front : length (m ++ ended_by z) ≡ k * 64 = omega (arith, length-append m (ended_by z), length-ended_by z) in
-    let parts : padded_after n m ≡ (m ++ ended_by z) ++ ((replicate 56 0 ++ length_field (64 * n + length m)) ++ []) =
-    padded_with n m (z + 56) (omega arith) ∙ ap (λ (x : List ℕ). m ++ (x ++ length_field (64 * n + length m))) split
-    ∙ regroup_over m (ended_by z) (replicate 56 0) (length_field (64 * n + length m)) in
-    rw eb (cut (padded_after n m) (m ++ ended_by z) (replicate 56 0 ++ length_field (64 * n + length m)) [] k parts front refl)
+    let parts : padded_message m ≡ (m ++ ended_by z) ++ ((replicate 56 0 ++ length_field (length m)) ++ []) =
+    padded_with m (z + 56) (omega arith) ∙ ap (λ (x : List ℕ). m ++ (x ++ length_field (length m))) split
+    ∙ regroup_over m (ended_by z) (replicate 56 0) (length_field (length m)) in
+    rw eb (cut (padded_message m) (m ++ ended_by z) (replicate 56 0 ++ length_field (length m)) [] k parts front refl)
 
 -- a block past the text's end is the last
 pub beyond : (n k count : ℕ) → k ≢ n / 64 → n / 64 ≤ k → k < block_count n → count ≡ block_count n → k + 1 ≢ count → ⊥
@@ -136,7 +136,3 @@ front_first first [] ys t e long = absurd (omega arith)
 front_first first (x ∷ b) ys t e long =
     let none : drop 63 b ≡ [] = drop_all 63 b (omega arith) in
     rw (none, append-nil, e) refl
-
--- the length in bits, as it is computed in 64 bits
-pub length_wraps : (n len : ℕ) → ((n * 64 % 2 ^ 64 + len) % 2 ^ 64) * 8 % 2 ^ 64 ≡ (64 * n + len) * 8 % 2 ^ 64
-length_wraps n len = omega arith

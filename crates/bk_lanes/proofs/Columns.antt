@@ -3,7 +3,7 @@ use Rattle.std.proofs.Common.{◌≡◌, ℕ, ◌+◌, ◌%◌, ◌<◌, List, [
 use Rattle.std.proofs.Math.ListN.{get_or-map}
 use Rattle.std.proofs.lemmas.List.{length-map, map-set}
 use Rattle.sha2.specs.Sha256.{add32, small_sigma0, small_sigma1, window_word}
-use Rattle.bk_lanes.specs.Lanes.{column}
+use Rattle.bk_lanes.specs.private.Lanes.{column}
 
 pub column_at : (i j : ℕ) (vs : List (List ℕ)) → slice_index (column i vs) j ≡ slice_index (slice_index_or vs j []) i
 column_at i j vs = get_or-map (λ (v : List ℕ). slice_index v i) vs j []

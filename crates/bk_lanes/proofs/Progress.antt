@@ -6,11 +6,11 @@ use Rattle.std.proofs.lemmas.Simd.{map-map}
 use Rattle.std.specs.Prelude.{map}
 use Rattle.std.specs.Int.{to_be_bytes, w64}
 use Rattle.sha2.proofs.Absorbing256.{hash_after_next}
-use Rattle.sha2.specs.Sha256.{compress, digest_bytes, hash_after, padding, sha256}
+use Rattle.sha2.specs.Sha256.{compress, digest_bytes, hash_after, initial_hash_256, padded_message, padding, sha256}
 use Rattle.bk_lanes.specs.declared.work.Work.{Work}
 use Rattle.bk_lanes.specs.declared.wide.Words.{Words}
 use Rattle.bk_lanes.specs.declared.message.Messages.{Messages}
-use Rattle.bk_lanes.specs.Lanes.{Done, HasTaken, IsTaken, IsWorking, block_count, blocks_before, blocks_of, digest_at, message_of, padded_after, start_of, words_of}
+use Rattle.bk_lanes.specs.private.Lanes.{Done, HasTaken, IsTaken, IsWorking, block_count, blocks_of, digest_at, hash_at, message_of, padded_block, words_of}
 use denote.Bor.{Bor}
 
 length-padded : (m : List ℕ) → length (m ++ padding (length m)) / 64 ≡ block_count (length m)
@@ -21,12 +21,10 @@ length-padded m =
     let all = length-append m (padding (length m)) in
     omega (arith, l, two, all)
 
--- the digest of a message is SHA-256 of its bytes
-pub digest_is : (ms : Messages) (k : ℕ) → digest_at k ms ≡ sha256 (message_of k ms)
+-- the digest after the last block is SHA-256
+pub digest_is : (m : List ℕ) → digest_at m ≡ sha256 m
 unfolding sha256
-digest_is ms k =
-    let none : 64 * 0 + length (message_of k ms) ≡ length (message_of k ms) = omega arith in
-    rw (none, length-padded (message_of k ms)) refl
+digest_is m = rw length-padded refl
 
 -- the message that lane `lane` has come to the end of has its digest in its place
 pub finished : (ms : Messages) (w : Work) (out : List (List ℕ)) (lane : ℕ) (d : List ℕ) (n k : ℕ) → length out ≡ length ms.bytes.now
@@ -35,7 +33,7 @@ pub finished : (ms : Messages) (w : Work) (out : List (List ℕ)) (lane : ℕ) (
     → d ≡ digest_bytes (words_of lane w.state) 8
     → Done ms w out n → k < n
     → ((i : ℕ) → i < 8 → 0 < slice_index (slice_set w.left lane (slice_index w.left lane - 1)) i → slice_index w.index i ≢ k)
-    → slice_index_or (slice_set out (slice_index w.index lane) d) k [] ≡ digest_at k ms
+    → slice_index_or (slice_set out (slice_index w.index lane) d) k [] ≡ digest_at (message_of k ms)
 finished ms w out lane d n k room taken busy last within ed done lt free =
     let t = taken busy in
     let idx = slice_index w.index lane in
@@ -69,14 +67,14 @@ first_hash from p = refl
 
 -- the lanes where one begins a message
 pub begun : (ms : Messages) (w : Work) (s : Words) (lane k count : ℕ) → lane < length w.left → lane < length w.index → k < length ms.bytes.now
-    → count ≡ blocks_of k ms → words_of lane s ≡ start_of k ms
+    → count ≡ blocks_of k ms → words_of lane s ≡ initial_hash_256
     → ((i : ℕ) → i < 8 → i ≢ lane → words_of i s ≡ words_of i w.state) → ((i : ℕ) → i < 8 → IsWorking ms w i)
     → (i : ℕ) → i < 8 → IsTaken ms (slice_index (slice_set w.left lane count) i) (slice_index (slice_set w.index lane k) i) (words_of i s) 0
 begun ms w s lane k count inl_left inl_index lt ec first others working i le = elim (cases_eq i lane) [
   | inl e ↦
-      let p = padded_after (blocks_before k ms) (message_of k ms) in
+      let p = padded_message (message_of k ms) in
       let all : blocks_of k ms - count + 0 ≡ 0 = omega arith in
-      let start : IsTaken ms count k (words_of lane s) 0 = λ busy. (lt, omega arith, first ∙ rw all (sym (first_hash (start_of k ms) p))) in
+      let start : IsTaken ms count k (words_of lane s) 0 = λ busy. (lt, omega arith, first ∙ rw all (sym (first_hash (initial_hash_256) p))) in
       rw e (moved ms count _ k _ (words_of lane s) _ 0 (get_or-set_same w.left lane count 0 inl_left) (get_or-set_same w.index lane k 0 inl_index) refl start)
   | inr ne ↦ moved ms _ _ _ _ _ _ 0 (get_or-set_other w.left lane i count 0 ne) (get_or-set_other w.index lane i k 0 ne) (others i le ne) (working i le)
 ]
@@ -90,7 +88,7 @@ pub begun_done : (ms : Messages) (w : Work) (out : List (List ℕ)) (lane k coun
     → slice_index w.left lane ≡ 0 → count ≡ blocks_of k ms → Done ms w out k
     → (j : ℕ) → j < k + 1
     → ((i : ℕ) → i < 8 → 0 < slice_index (slice_set w.left lane count) i → slice_index (slice_set w.index lane k) i ≢ j)
-    → slice_index_or out j [] ≡ digest_at j ms
+    → slice_index_or out j [] ≡ digest_at (message_of j ms)
 begun_done ms w out lane k count low inl_left inl_index idle ec done j lt free = elim (cases_eq j k) [
   | inl e ↦
       let some : 0 < slice_index (slice_set w.left lane count) lane = rw (get_or-set_same w.left lane count 0 inl_left) (omega arith) in
@@ -118,7 +116,7 @@ not_busy left i idle busy = omega arith
 
 -- every message has its digest once no lane works
 pub all_done : (ms : Messages) (w : Work) (out : List (List ℕ)) → Done ms w out (length ms.bytes.now)
-    → ((i : ℕ) → i < 8 → slice_index w.left i ≡ 0) → (k : ℕ) → k < length ms.bytes.now → slice_index_or out k [] ≡ digest_at k ms
+    → ((i : ℕ) → i < 8 → slice_index w.left i ≡ 0) → (k : ℕ) → k < length ms.bytes.now → slice_index_or out k [] ≡ digest_at (message_of k ms)
 all_done ms w out done idle k lt = done k lt (λ i le busy found. absurd (not_busy w.left i (idle i le) busy))
 
 -- a list in which the first k texts have what f gives of them, and one more
@@ -130,3 +128,24 @@ one_more f ms out d k room ed before j lt = elim (cases_eq j k) [
   | inl e ↦ rw e (get_or-set_same out k d [] room ∙ ed)
   | inr ne ↦ get_or-set_other out k j d [] ne ∙ before j (omega arith)
 ]
+
+-- a list with what f gives of each row
+pub all_rows : (f : List ℕ → List ℕ) (rows out : List (List ℕ)) → length out ≡ length rows
+    → ((k : ℕ) → k < length rows → slice_index_or out k [] ≡ f (slice_index_or rows k [])) → out ≡ map f rows
+all_rows f rows out room each =
+    let long : length (map f rows) ≡ length rows = length-map rows f in
+    ext_get_or [] out (map f rows) (room ∙ sym long) (λ k lt.
+    let le : k < length rows = omega arith in
+    each k le ∙ sym (get_or-map f rows k [] [] le))
+
+-- after all blocks of a message the hash value is its digest
+pub digest_at_end : (m h : List ℕ) (n : ℕ) → h ≡ hash_at m n → n ≡ block_count (length m) → digest_bytes h 8 ≡ sha256 m
+digest_at_end m h n eh en = rw (eh, en) (digest_is m)
+
+-- no block yet
+pub hash_none : (m : List ℕ) → hash_at m 0 ≡ initial_hash_256
+hash_none m = first_hash initial_hash_256 (padded_message m)
+
+-- one block more
+pub hash_more : (m h b r : List ℕ) (n : ℕ) → h ≡ hash_at m n → b ≡ padded_block m n → r ≡ compress h b → r ≡ hash_at m (n + 1)
+hash_more m h b r n eh eb er = rw (er, eh, eb) (sym (hash_after_next initial_hash_256 (padded_message m) n))

@@ -1,11 +1,13 @@
 -- The lanes of a vector that was computed from others.
-use Rattle.std.proofs.Common.{◌≡◌, ◌≢◌, ℕ, ◌-◌, ◌^◌, ◌<◌, Bool, cond, eqb, false, List, length, get_or, map, replicate, slice_index, Fits, w32, refl, sym, ap, ◌∙◌, arith, inl, inr, zero-add}
+use Rattle.std.proofs.Common.{◌≡◌, ◌≢◌, ℕ, ◌-◌, ◌^◌, ◌<◌, Bool, cond, eqb, false, List, zero, suc, length, get_or, map, replicate, slice_index, Fits, w32, refl, sym, ap, ◌∙◌, arith, inl, inr, zero-add}
 use Rattle.std.specs.List.{range_with_len}
 use Rattle.std.proofs.lemmas.Bool.Decides.{eqb_tells}
 use Rattle.std.proofs.lemmas.List.FromFn.{get_or-range_with_len}
 use lib.Lanes.{zip2, Each1, sel_l, top}
 use Rattle.std.proofs.lemmas.Simd.{Each1-get_or, get_or-zip2, get_or-replicate, get_or-sel_l, length-zip2, tops_compared}
-use Rattle.bk_lanes.specs.Lanes.{IsVector}
+use Rattle.bk_lanes.specs.private.Lanes.{IsVector, eight_of, words_of}
+use Rattle.bk_lanes.specs.declared.wide.Words.{Words}
+use Rattle.sha2.specs.Sha256.{add_state, compress, round, round_constants, rounds, schedule}
 
 -- a vector by its own lanes
 pub itself : (v : List ℕ) → length v ≡ 8 → IsVector v (λ i. slice_index v i)
@@ -69,3 +71,21 @@ chosen_other v lane word i long lt ne = chosen v lane word i long lt ∙ elim (e
   | inl h ↦ absurd (ne h.1)
   | inr h ↦ ap (λ (t : Bool). cond t word (slice_index v i)) h.0
 ]
+
+-- the same lanes in a record of vectors
+pub same_words : (i : ℕ) (s : Words) (l : List ℕ)
+    → slice_index s.a i ≡ slice_index l 0 → slice_index s.b i ≡ slice_index l 1 → slice_index s.c i ≡ slice_index l 2
+    → slice_index s.d i ≡ slice_index l 3 → slice_index s.e i ≡ slice_index l 4 → slice_index s.f i ≡ slice_index l 5
+    → slice_index s.g i ≡ slice_index l 6 → slice_index s.h i ≡ slice_index l 7 → words_of i s ≡ eight_of l
+same_words i s l a b c d e f g h = rw (a, b, c, d, e, f, g, h) refl
+
+-- rounds read no more than eight words
+rounds_eight : (h ws : List ℕ) (t : ℕ) → rounds (eight_of h) ws (suc t) ≡ rounds h ws (suc t)
+unfolding rounds
+rounds_eight h ws zero = refl
+rounds_eight h ws (suc t) = ap (λ (v : List ℕ). round v (slice_index round_constants (suc t)) (slice_index ws (suc t))) (rounds_eight h ws t)
+
+-- nor does a block
+pub compress_eight : (h b : List ℕ) → compress (eight_of h) b ≡ compress h b
+unfolding compress
+compress_eight h b = ap (λ (v : List ℕ). add_state h v) (rounds_eight h (schedule b 48) 63)

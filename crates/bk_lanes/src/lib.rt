@@ -11,14 +11,19 @@
 #![tactic(auto)]
 
 mod constants;
+mod each;
 mod many;
 mod message;
 mod padding;
+mod rows;
 mod state;
 mod wide;
 mod work;
 
+pub use each::compress_each;
 pub use many::{digest_each, digest_each_into, tagged_each, tagged_each_into};
+pub use rows::tagged_rows_into;
+pub use state::{digest_bytes, initial};
 
 #[cfg(test)]
 mod tests;

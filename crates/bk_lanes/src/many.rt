@@ -3,7 +3,7 @@
 ghost use Rattle.std.specs.Prelude.{◌≡◌, ℕ, ◌+◌, ◌<◌, ◌++◌, List, [], ◌∷◌, length, map, slice_index, slice_index_or, slice_set, Some, None, IfOk};
 ghost use Rattle.std.specs.Option.{option_to_list};
 ghost use Rattle.sha2.specs.Sha256.{sha256};
-ghost use Rattle.bk_lanes.specs.Lanes.{bytes_of, digest_at};
+ghost use Rattle.bk_lanes.specs.private.Lanes.{bytes_of, digest_at, message_of};
 
 use crate::message::{Message, Messages, message_at};
 use crate::work::{begin, finish, idle, least};
@@ -12,7 +12,7 @@ use std::alloc::{AllocError, Allocator};
 
 // Below this many messages the scalar hasher takes them one by one, since most lanes would be free.
 // Lanes are faster from 2 messages on with AVX2, and from 5 or 6 on without it.
-const FEW: usize = 4;
+pub(crate) const FEW: usize = 4;
 
 // The scalar digest of a message.
 fn digest_of(message: &Message<'_>) -> [u8; 32]
@@ -25,7 +25,7 @@ fn digest_of(message: &Message<'_>) -> [u8; 32]
 }
 
 // The scalar digest of `first` and then the bytes.
-fn digest_after(first: u8, bytes: &[u8]) -> [u8; 32]
+pub(crate) fn digest_after(first: u8, bytes: &[u8]) -> [u8; 32]
     ensures { result ≡ sha256 (first ∷ bytes.now) }
 {
     let mut hasher = Sha256::new();
@@ -37,7 +37,8 @@ fn digest_after(first: u8, bytes: &[u8]) -> [u8; 32]
 // The digests, one message after the other.
 fn one_by_one(messages: &Messages<'_>, out: &mut [[u8; 32]])
     requires { length out.old ≡ length messages.now.bytes.now }
-    ensures { out.new ≡ map (λ m. sha256 (option_to_list messages.now.first ++ m.now)) messages.now.bytes.now }
+    ensures { out.new ≡ map
+        (λ m. sha256 (option_to_list messages.now.first ++ m.now)) messages.now.bytes.now }
 {
     'each: for k in 0..messages.bytes.len() {
         out[k] = digest_of(&message_at(messages, k));
@@ -49,7 +50,8 @@ fn one_by_one(messages: &Messages<'_>, out: &mut [[u8; 32]])
 fn side_by_side(messages: &Messages<'_>, out: &mut [[u8; 32]])
     requires { length out.old ≡ length messages.now.bytes.now }
     ensures room { length out.new ≡ length messages.now.bytes.now }
-    ensures digests { (k : ℕ) → k < length messages.now.bytes.now → slice_index_or out.new k [] ≡ digest_at k messages.now }
+    ensures digests { (k : ℕ) → k < length messages.now.bytes.now → slice_index_or out.new k []
+        ≡ digest_at (message_of k messages.now) }
 {
     let mut work = idle();
     'messages: for k in 0..messages.bytes.len() {
@@ -65,7 +67,8 @@ fn side_by_side(messages: &Messages<'_>, out: &mut [[u8; 32]])
 // The digests, in lanes where they are worth it.
 fn each_into(messages: &Messages<'_>, out: &mut [[u8; 32]])
     requires { length out.old ≡ length messages.now.bytes.now }
-    ensures { out.new ≡ map (λ m. sha256 (option_to_list messages.now.first ++ m.now)) messages.now.bytes.now }
+    ensures { out.new ≡ map
+        (λ m. sha256 (option_to_list messages.now.first ++ m.now)) messages.now.bytes.now }
 {
     if messages.bytes.len() < FEW {
         one_by_one(messages, out);
@@ -118,7 +121,8 @@ pub fn tagged_each<A: Allocator>(
     first: u8,
     messages: &[&[u8]],
 ) -> Result<Vec<[u8; 32], A>, AllocError>
-    ensures { IfOk result (λ digests. digests.items ≡ map (λ m. sha256 (first ∷ m.now)) messages.now) }
+    ensures { IfOk result
+        (λ digests. digests.items ≡ map (λ m. sha256 (first ∷ m.now)) messages.now) }
 {
     let mut digests = vec![in alloc; [0u8; 32]; messages.len()]?;
     tagged_each_into(first, messages, &mut digests);

@@ -1,7 +1,7 @@
 // The messages as the lanes read them: each may have a byte before its own bytes.
 
 ghost use Rattle.std.specs.Prelude.{◌≡◌, ℕ, ◌+◌, ◌-◌, ◌*◌, ◌<◌, ◌≤◌, ◌^◌, ◌++◌, List, ◌∷◌, length, replicate, take, drop};
-ghost use Rattle.bk_lanes.specs.Lanes.{bytes_of, message_of};
+ghost use Rattle.bk_lanes.specs.private.Lanes.{bytes_of, message_of};
 
 // One message: `first`, where there is such a byte, and then `bytes`.
 #[derive(Clone, Copy)]
@@ -95,7 +95,8 @@ fn put_front_after(first: u8, bytes: &[u8], block: &mut [u8; 64])
 // A message shorter than a block, the bit 1 and zeros.
 pub(crate) fn ended(message: &Message<'_>) -> [u8; 64]
     requires { length (bytes_of message.now) < 64 }
-    ensures { result ≡ bytes_of message.now ++ 0x80 ∷ replicate (63 - length (bytes_of message.now)) 0 }
+    ensures { result ≡ bytes_of message.now ++ 0x80 ∷ replicate
+        (63 - length (bytes_of message.now)) 0 }
 {
     match message.first {
         None => ended_alone(message.bytes),

@@ -1,7 +1,7 @@
 // Which message is in which lane, and how far each has come.
 
 ghost use Rattle.std.specs.Prelude.{◌≡◌, ℕ, ◌+◌, ◌-◌, ◌<◌, ◌≤◌, ◌≢◌, List, [], length, slice_index, slice_index_or};
-ghost use Rattle.bk_lanes.specs.Lanes.{Done, HasTaken, IsWorking, block_of, next_block};
+ghost use Rattle.bk_lanes.specs.private.Lanes.{Done, HasTaken, IsWorking, block_of, next_block};
 
 use crate::message::{Messages, message_at};
 use crate::padding::{block_count, put_block};
@@ -43,14 +43,15 @@ pub(crate) fn idle() -> Work
 #[inline(always)]
 fn next_blocks(messages: &Messages<'_>, work: &Work) -> [[u8; 64]; 8]
     requires { (i : ℕ) → i < 8 → IsWorking messages.now work.now i }
-    ensures { (i : ℕ) → i < 8 → 0 < slice_index work.now.left i → block_of i result ≡ next_block messages.now work.now i }
+    ensures { (i : ℕ) → i < 8 → 0 < slice_index work.now.left i → block_of i result
+        ≡ next_block messages.now work.now i }
 {
     let mut blocks = [[0u8; 64]; 8];
     'fill: for i in 0..8 {
         if work.left[i] > 0 {
             let message = message_at(messages, work.index[i]);
             let at = block_count(&message) - work.left[i];
-            put_block(&message, 0, at, &mut blocks[i]);
+            put_block(&message, at, &mut blocks[i]);
         }
     }
     blocks
@@ -64,10 +65,12 @@ fn count_block(messages: &Messages<'_>, work: &mut Work, lane: usize, out: &mut 
     requires taken { HasTaken messages.now work.old lane 1 }
     ensures working { IsWorking messages.now work.new lane }
     ensures left { slice_index work.new.left lane ≡ slice_index work.old.left lane - 1 }
-    ensures others { (i : ℕ) → i ≢ lane → slice_index work.new.left i ≡ slice_index work.old.left i }
+    ensures others { (i : ℕ) → i ≢ lane
+        → slice_index work.new.left i ≡ slice_index work.old.left i }
     ensures index { work.new.index ≡ work.old.index }
     ensures state { work.new.state ≡ work.old.state }
-    ensures done { (n : ℕ) → Done messages.now work.old out.old n → Done messages.now work.new out.new n }
+    ensures done { (n : ℕ) → Done messages.now work.old out.old n
+        → Done messages.now work.new out.new n }
 {
     if work.left[lane] > 0 {
         work.left[lane] -= 1;
@@ -83,7 +86,8 @@ fn advance(messages: &Messages<'_>, work: &mut Work, out: &mut [[u8; 32]])
     requires working { (i : ℕ) → i < 8 → IsWorking messages.now work.old i }
     ensures working { (i : ℕ) → i < 8 → IsWorking messages.now work.new i }
     ensures left { (i : ℕ) → i < 8 → slice_index work.new.left i ≡ slice_index work.old.left i - 1 }
-    ensures done { (n : ℕ) → Done messages.now work.old out.old n → Done messages.now work.new out.new n }
+    ensures done { (n : ℕ) → Done messages.now work.old out.old n
+        → Done messages.now work.new out.new n }
 {
     let blocks = next_blocks(messages, work);
     compress(&mut work.state, &blocks);
@@ -99,8 +103,10 @@ pub(crate) fn finish(messages: &Messages<'_>, work: &mut Work, lane: usize, out:
     requires working { (i : ℕ) → i < 8 → IsWorking messages.now work.old i }
     ensures working { (i : ℕ) → i < 8 → IsWorking messages.now work.new i }
     ensures free { slice_index work.new.left lane ≡ 0 }
-    ensures stays { (i : ℕ) → i < 8 → slice_index work.old.left i ≡ 0 → slice_index work.new.left i ≡ 0 }
-    ensures done { (n : ℕ) → Done messages.now work.old out.old n → Done messages.now work.new out.new n }
+    ensures stays { (i : ℕ) → i < 8 → slice_index work.old.left i ≡ 0
+        → slice_index work.new.left i ≡ 0 }
+    ensures done { (n : ℕ) → Done messages.now work.old out.old n
+        → Done messages.now work.new out.new n }
 {
     'rounds: for round in 0..work.left[lane] {
         advance(messages, work, out);
@@ -114,7 +120,8 @@ pub(crate) fn begin(messages: &Messages<'_>, work: &mut Work, lane: usize, k: us
     requires free { slice_index work.old.left lane ≡ 0 }
     requires working { (i : ℕ) → i < 8 → IsWorking messages.now work.old i }
     ensures working { (i : ℕ) → i < 8 → IsWorking messages.now work.new i }
-    ensures done { (out : List (List ℕ)) → Done messages.now work.old out k → Done messages.now work.new out (k + 1) }
+    ensures done { (out : List (List ℕ)) → Done messages.now work.old out k
+        → Done messages.now work.new out (k + 1) }
 {
     work.index[lane] = k;
     work.left[lane] = block_count(&message_at(messages, k));

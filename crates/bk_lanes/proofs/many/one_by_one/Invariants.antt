@@ -1,6 +1,6 @@
 use Rattle.std.proofs.Common.{◌≡◌, ℕ, [], ◌<◌, length, slice_index_or}
 use Rattle.sha2.specs.Sha256.{sha256}
-use Rattle.bk_lanes.specs.Lanes.{message_of}
+use Rattle.bk_lanes.specs.private.Lanes.{message_of}
 use Rattle.bk_lanes.proofs.many.one_by_one.Given as goal
 
 abbrev pub invariant-each : goal.invariant-each

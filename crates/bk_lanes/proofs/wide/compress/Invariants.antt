@@ -1,6 +1,6 @@
 use Rattle.std.proofs.Common.{ℕ, ◌<◌, ◌*◌}
 use Rattle.sha2.specs.Sha256.{IsRoundsAt}
-use Rattle.bk_lanes.specs.Lanes.{block_of, column, words_of}
+use Rattle.bk_lanes.specs.private.Lanes.{block_of, column, words_of}
 use Rattle.bk_lanes.proofs.wide.compress.Given as goal
 
 abbrev pub invariant-schedule : goal.invariant-schedule

@@ -1,6 +1,6 @@
 use Rattle.std.proofs.Common.{refl, sym}
 use Rattle.sha2.proofs.Schedule256.{rounds_first}
-use Rattle.bk_lanes.specs.Lanes.{column, words_of}
+use Rattle.bk_lanes.specs.private.Lanes.{column, words_of}
 use Rattle.bk_lanes.proofs.Columns.{column_at}
 use Rattle.bk_lanes.proofs.wide.first_step.Goals as goal
 

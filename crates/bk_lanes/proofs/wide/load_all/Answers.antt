@@ -2,7 +2,7 @@ use Rattle.std.proofs.Common.{◌≡◌, ◌<◌, ◌∙◌, length, slice_index
 use Rattle.std.proofs.lemmas.List.{get_or-set_other, get_or-set_same, length-set}
 use Rattle.std.proofs.lemmas.Bool.{cases_lt}
 use Rattle.sha2.proofs.Schedule256.{IsWindow_first}
-use Rattle.bk_lanes.specs.Lanes.{block_of, column}
+use Rattle.bk_lanes.specs.private.Lanes.{block_of, column}
 use Rattle.bk_lanes.proofs.Columns.{column_length, column_set}
 use Rattle.bk_lanes.proofs.wide.load_all.Goals as goal
 

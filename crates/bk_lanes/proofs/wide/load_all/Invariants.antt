@@ -1,6 +1,6 @@
 use Rattle.std.proofs.Common.{◌≡◌, ℕ, ◌<◌, ◌*◌, length, slice_index}
 use Rattle.sha2.specs.Sha256.{word_at}
-use Rattle.bk_lanes.specs.Lanes.{block_of, column}
+use Rattle.bk_lanes.specs.private.Lanes.{block_of, column}
 use Rattle.bk_lanes.proofs.wide.load_all.Given as goal
 
 abbrev pub invariant-load : goal.invariant-load

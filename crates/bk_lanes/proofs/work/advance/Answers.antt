@@ -1,6 +1,6 @@
 use Rattle.std.proofs.Common.{◌≡◌, ◌-◌, ℕ, List, slice_index, ap, refl, ◌∙◌, arith, inl, inr}
 use Rattle.std.proofs.lemmas.Bool.{cases_lt}
-use Rattle.bk_lanes.specs.Lanes.{words_of}
+use Rattle.bk_lanes.specs.private.Lanes.{words_of}
 use Rattle.bk_lanes.proofs.Progress.{moved, took}
 use Rattle.bk_lanes.proofs.work.advance.Goals as goal
 

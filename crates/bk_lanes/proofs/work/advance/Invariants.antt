@@ -1,5 +1,5 @@
 use Rattle.std.proofs.Common.{◌≡◌, ℕ, ◌-◌, ◌<◌, ◌≤◌, length, slice_index}
-use Rattle.bk_lanes.specs.Lanes.{Done, HasTaken, IsWorking}
+use Rattle.bk_lanes.specs.private.Lanes.{Done, HasTaken, IsWorking}
 use Rattle.bk_lanes.proofs.work.advance.Given as goal
 
 abbrev pub invariant-count : goal.invariant-count

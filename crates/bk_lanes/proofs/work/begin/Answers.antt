@@ -1,5 +1,5 @@
 use Rattle.std.proofs.Common.{List, ℕ, length, ap, ◌∙◌, arith}
-use Rattle.bk_lanes.specs.Lanes.{block_count}
+use Rattle.bk_lanes.specs.private.Lanes.{block_count}
 use Rattle.bk_lanes.proofs.Progress.{begun, begun_done}
 use Rattle.bk_lanes.proofs.work.begin.Goals as goal
 

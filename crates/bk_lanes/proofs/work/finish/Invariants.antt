@@ -1,5 +1,5 @@
 use Rattle.std.proofs.Common.{◌≡◌, ℕ, ◌-◌, ◌<◌, length, slice_index}
-use Rattle.bk_lanes.specs.Lanes.{Done, IsWorking}
+use Rattle.bk_lanes.specs.private.Lanes.{Done, IsWorking}
 use Rattle.bk_lanes.proofs.work.finish.Given as goal
 
 abbrev pub invariant-rounds : goal.invariant-rounds

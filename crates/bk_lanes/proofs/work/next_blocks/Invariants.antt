@@ -1,5 +1,5 @@
 use Rattle.std.proofs.Common.{◌≡◌, ℕ, ◌<◌, length, slice_index}
-use Rattle.bk_lanes.specs.Lanes.{block_of, next_block}
+use Rattle.bk_lanes.specs.private.Lanes.{block_of, next_block}
 use Rattle.bk_lanes.proofs.work.next_blocks.Given as goal
 
 abbrev pub invariant-fill : goal.invariant-fill

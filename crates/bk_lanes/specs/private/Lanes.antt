@@ -1,7 +1,7 @@
 -- Eight messages side by side: a vector has one word of each, and lane i belongs to message i.
 use Rattle.std.specs.Prelude.{◌≡◌, ◌≢◌, ℕ, ◌+◌, ◌-◌, ◌*◌, ◌/◌, ◌<◌, ◌≤◌, List, [], ◌∷◌, ◌++◌, length, take, drop, slice_index, slice_index_or, map}
 use Rattle.std.specs.Option.{option_to_list}
-use Rattle.sha2.specs.Sha256.{digest_bytes, hash_after, initial_hash_256, padding}
+use Rattle.sha2.specs.Sha256.{digest_bytes, hash_after, initial_hash_256, padded_message}
 use Rattle.bk_lanes.specs.declared.message.Message.{Message}
 use Rattle.bk_lanes.specs.declared.message.Messages.{Messages}
 use Rattle.bk_lanes.specs.declared.work.Work.{Work}
@@ -21,6 +21,12 @@ words_of i s =
     slice_index s.a i ∷ slice_index s.b i ∷ slice_index s.c i ∷ slice_index s.d i
     ∷ slice_index s.e i ∷ slice_index s.f i ∷ slice_index s.g i ∷ slice_index s.h i ∷ []
 
+-- the first eight words of a list, which is a hash value
+abbrev pub eight_of : List ℕ → List ℕ
+eight_of l =
+    slice_index l 0 ∷ slice_index l 1 ∷ slice_index l 2 ∷ slice_index l 3
+    ∷ slice_index l 4 ∷ slice_index l 5 ∷ slice_index l 6 ∷ slice_index l 7 ∷ []
+
 -- the block of message i
 abbrev pub block_of : ℕ → List (List ℕ) → List ℕ
 block_of i blocks = slice_index_or blocks i []
@@ -29,13 +35,17 @@ block_of i blocks = slice_index_or blocks i []
 abbrev pub block_count : ℕ → ℕ
 block_count n = (n + 72) / 64
 
--- the bytes m and their padding (FIPS 180-4, section 5.1.1), where they come after n whole blocks
-abbrev pub padded_after : ℕ → List ℕ → List ℕ
-padded_after n m = m ++ padding (64 * n + length m)
+-- block k of the bytes m with their padding
+abbrev pub padded_block : List ℕ → ℕ → List ℕ
+padded_block m k = take 64 (drop (k * 64) (padded_message m))
 
--- block k of the bytes m and their padding, where they come after n whole blocks
-abbrev pub padded_block : ℕ → List ℕ → ℕ → List ℕ
-padded_block n m k = take 64 (drop (k * 64) (padded_after n m))
+-- the hash value after n blocks of the bytes m with their padding
+abbrev pub hash_at : List ℕ → ℕ → List ℕ
+hash_at m n = hash_after initial_hash_256 (padded_message m) n
+
+-- the digest that the hash value after the last block gives
+abbrev pub digest_at : List ℕ → List ℕ
+digest_at m = digest_bytes (hash_at m (block_count (length m))) 8
 
 -- the bytes of a message: its first byte, where it has one, and the others
 abbrev pub bytes_of : Message → List ℕ
@@ -49,31 +59,16 @@ message_of k ms = option_to_list ms.first ++ slice_index_or (map (λ m. m.now) m
 abbrev pub blocks_of : ℕ → Messages → ℕ
 blocks_of k ms = block_count (length (message_of k ms))
 
--- the hash value that message k begins from
-abbrev pub start_of : ℕ → Messages → List ℕ
-start_of k ms = initial_hash_256
-
--- the whole blocks that were hashed before message k
-abbrev pub blocks_before : ℕ → Messages → ℕ
-blocks_before k ms = 0
-
--- the hash value after n blocks of message k
-abbrev pub hash_at : ℕ → Messages → ℕ → List ℕ
-hash_at k ms n = hash_after (start_of k ms) (padded_after (blocks_before k ms) (message_of k ms)) n
-
--- the digest of message k
-abbrev pub digest_at : ℕ → Messages → List ℕ
-digest_at k ms = digest_bytes (hash_at k ms (blocks_of k ms)) 8
-
 -- the hash value h has taken in all blocks of message k but the last n, and `more`, unless n is 0
 abbrev pub IsTaken : Messages → ℕ → ℕ → List ℕ → ℕ → Type 0
 IsTaken ms n k h more = 0 < n → (k < length ms.bytes.now)
     × (n ≤ blocks_of k ms)
-    × (h ≡ hash_at k ms (blocks_of k ms - n + more))
+    × (h ≡ hash_at (message_of k ms) (blocks_of k ms - n + more))
 
 -- lane i, if it is not free, has taken in all blocks of its message but those left, and `more`
 abbrev pub HasTaken : Messages → Work → ℕ → ℕ → Type 0
-HasTaken ms w i more = IsTaken ms (slice_index w.left i) (slice_index w.index i) (words_of i w.state) more
+HasTaken ms w i more = IsTaken ms (slice_index w.left i) (slice_index w.index i)
+    (words_of i w.state) more
 
 -- lane i, if it is not free, has taken in all blocks of its message but those left
 abbrev pub IsWorking : Messages → Work → ℕ → Type 0
@@ -81,10 +76,12 @@ IsWorking ms w i = HasTaken ms w i 0
 
 -- of the first n messages, each that no lane works on has its digest in its place
 abbrev pub Done : Messages → Work → List (List ℕ) → ℕ → Type 0
-Done ms w out n = (k : ℕ) → k < n → ((i : ℕ) → i < 8 → 0 < slice_index w.left i → slice_index w.index i ≢ k)
-    → slice_index_or out k [] ≡ digest_at k ms
+Done ms w out n = (k : ℕ) → k < n
+    → ((i : ℕ) → i < 8 → 0 < slice_index w.left i → slice_index w.index i ≢ k)
+    → slice_index_or out k [] ≡ digest_at (message_of k ms)
 
 -- the block that lane i, which is not free, takes in next
 abbrev pub next_block : Messages → Work → ℕ → List ℕ
 next_block ms w i =
-    let k = slice_index w.index i in padded_block (blocks_before k ms) (message_of k ms) (blocks_of k ms - slice_index w.left i)
+    let k = slice_index w.index i in padded_block (message_of k ms)
+    (blocks_of k ms - slice_index w.left i)

@@ -1,0 +1,8 @@
+use Rattle.std.proofs.Common.{◌≡◌, ℕ, [], ◌∷◌, ◌*◌, ◌<◌, length, slice_index_or}
+use Rattle.sha2.specs.Sha256.{sha256}
+use Rattle.bk_lanes.proofs.rows.rows_side_by_side.Given as goal
+
+abbrev pub invariant-groups : goal.invariant-groups
+invariant-groups g l =
+    (length l.out ≡ length l.rows)
+    × ((j : ℕ) → j < 8 * l.group → j < length l.rows → slice_index_or l.out j [] ≡ sha256 (l.first ∷ slice_index_or l.rows j []))
