@@ -3,3 +3,4 @@ pub mod Splits
 pub mod Roots
 pub mod Paths
 pub mod Climbs
+pub mod TagBlocks

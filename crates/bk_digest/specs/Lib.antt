@@ -3,3 +3,4 @@ pub mod Mac
 pub mod Prepared
 pub mod Tree
 pub mod Laws
+pub mod private

@@ -6,9 +6,11 @@
 //! promised. Only a text and an audit path take memory.
 #![tactic(auto)]
 
+mod block;
 mod digest;
 mod laws;
 mod mac;
+mod tags;
 mod tree;
 
 pub use digest::{Digest32, tagged};
@@ -16,6 +18,7 @@ pub use laws::{
     climb_goes_up, own_path_leads_to_root, path_is_merkle_audit_path, root_is_merkle_tree_hash,
 };
 pub use mac::{MacKey, hmac};
+pub use tags::{ToTag, tags_each};
 pub use tree::{audit_path, check_path, tree_root, tree_root_with};
 
 #[cfg(test)]

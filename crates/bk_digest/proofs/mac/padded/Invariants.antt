@@ -1,6 +1,6 @@
 use Rattle.std.proofs.Common.{◌≡◌, ℕ, ◌<◌, ◌≤◌, length, get_or}
 use Rattle.std.specs.Prelude.{bit_xor}
-use Rattle.bk_digest.proofs.mac.hasher_of.Given as goal
+use Rattle.bk_digest.proofs.mac.padded.Given as goal
 
 abbrev pub invariant-loop-byte : goal.invariant-loop-byte
 invariant-loop-byte l =
