@@ -4,3 +4,4 @@ pub mod Roots
 pub mod Paths
 pub mod Climbs
 pub mod TagBlocks
+pub mod Levels

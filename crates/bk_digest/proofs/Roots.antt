@@ -27,7 +27,7 @@ root_split_step : (leaves : List (List ℕ)) (e : ℕ) → 2 ^ e < length leaves
 unfolding root_within
 root_split_step leaves e h = if_not_le (length leaves) (2 ^ e) _ _ h
 
-root_halves : (leaves : List (List ℕ)) (e : ℕ) → 2 ^ e < length leaves → length leaves ≤ 2 ^ suc e
+pub root_halves : (leaves : List (List ℕ)) (e : ℕ) → 2 ^ e < length leaves → length leaves ≤ 2 ^ suc e
     → root_of leaves ≡ node_of (root_of (take (2 ^ e) leaves)) (root_of (drop (2 ^ e) leaves))
 root_halves leaves e low high =
     let twice = double e in

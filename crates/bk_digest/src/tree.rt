@@ -1,21 +1,23 @@
 //! The Merkle tree hash of RFC 6962 (section 2.1) and its audit paths (section 2.1.1).
 //!
-//! A tree is walked by halves of the slice of its leaves, so a call goes as deep as the tree is high and
-//! copies no leaf.
+//! A tree is walked by halves of the slice of its leaves, so a call goes as deep as the tree is high
+//! and copies no leaf. Small perfect trees are hashed level by level, in lanes.
 
 ghost use Rattle.std.specs.Thread.{IsSync};
 ghost use Rattle.std.specs.Prelude.{◌≡◌, ◌+◌, ◌<◌, ◌≤◌, ◌++◌, ◌∷◌, ◌↔◌, length, Some, None, IfOk, OnOk, IsTrue};
+ghost use Rattle.std.specs.Int.{IsPowerOfTwo};
 ghost use Rattle.bk_digest.specs.Digest.{tagged_of};
 ghost use Rattle.bk_digest.specs.Tree.{IsSplit, climb, node_of, path_of, root_of};
 
+use crate::perfect::{MAX_LEAVES, MIN_LEAVES, perfect_root};
 use crate::{Digest32, tagged};
 use sha2::{Digest, Sha256};
 use std::alloc::{AllocError, Allocator};
 use std::thread::{Threads, join};
 
-const LEAF_TAG: u8 = 0x00;
+pub(crate) const LEAF_TAG: u8 = 0x00;
 
-const NODE_TAG: u8 = 0x01;
+pub(crate) const NODE_TAG: u8 = 0x01;
 
 // A thread costs some tens of microseconds, and so many leaves a hundred times that.
 const MIN_PIECE: usize = 16_384;
@@ -73,7 +75,8 @@ pub fn check_path(root: &Digest32, size: usize, i: usize, leaf: &[u8], path: &[D
     i < size && climbed(leaf_hash(leaf), i, size, path) == Some(*root)
 }
 
-// The root over at least one leaf.
+// The root over at least one leaf. The left half of each split is a perfect tree, so all but a few
+// leaves at the end are hashed in lanes.
 #[tactic(auto, using(crate::proofs::Roots::root_alone, crate::proofs::Roots::root_split))]
 fn subtree_root<const N: usize>(leaves: &[[u8; N]]) -> Digest32
     requires { 0 < length leaves.now }
@@ -81,6 +84,9 @@ fn subtree_root<const N: usize>(leaves: &[[u8; N]]) -> Digest32
 {
     if leaves.len() == 1 {
         return leaf_hash(&leaves[0]);
+    }
+    if is_in_lanes(leaves.len()) {
+        return perfect_root(leaves);
     }
     let (left, right) = leaves.split_at(split_size(leaves.len()));
     node_hash(&subtree_root(left), &subtree_root(right))
@@ -175,6 +181,13 @@ fn node_hash(left: &Digest32, right: &Digest32) -> Digest32
     hasher.update(left.as_bytes());
     hasher.update(right.as_bytes());
     Digest32::new(hasher.finalize())
+}
+
+// Whether a tree with `size` leaves is hashed level by level: it is perfect, and large enough.
+fn is_in_lanes(size: usize) -> bool
+    ensures { IsTrue result → (size ≤ 64) × IsPowerOfTwo size }
+{
+    size >= MIN_LEAVES && size <= MAX_LEAVES && size == 2 * split_size(size)
 }
 
 // How many leaves are on the left of a tree with `size` of them.
