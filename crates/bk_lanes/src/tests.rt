@@ -1,7 +1,7 @@
 //! The standard's examples, and the scalar hasher beside the lanes: messages of every length up to
 //! past four blocks, in groups of every size up to past two rounds of lanes.
 
-use crate::{digest_each, tagged_each};
+use crate::{compress_each, digest_bytes, digest_each, initial, tagged_each, tagged_rows_into};
 use sha2::{Digest, Sha256};
 use std::alloc::{AllocError, Global};
 use std::process::Abort;
@@ -114,4 +114,43 @@ fn a_long_text_among_short_ones(rt: HostRuntime) -> Result<(), Fail> {
     }
     agree(rt.alloc(), &rt, &messages)?;
     Ok(())
+}
+
+// Messages of 3 bytes, each with its padding as one block.
+fn short_blocks() -> [[u8; 64]; 19] {
+    let mut blocks = [[0u8; 64]; 19];
+    for k in 0..19usize {
+        blocks[k][0] = k as u8;
+        blocks[k][3] = 0x80;
+        blocks[k][63] = 24;
+    }
+    blocks
+}
+
+#[test]
+fn blocks_in_groups_of_every_size(rt: HostRuntime) {
+    let blocks = short_blocks();
+    for count in 0..20usize {
+        let mut states = [initial(); 19];
+        compress_each(&mut states[..count], &blocks[..count]);
+        for k in 0..count {
+            let alone = Sha256::digest(&blocks[k][..3]);
+            assert!(rt; digest_bytes(&states[k]) == alone, "{count} {k}");
+        }
+    }
+}
+
+#[test]
+fn rows_in_groups_of_every_size(rt: HostRuntime) {
+    let mut rows = [[7u8; 100]; 19];
+    for k in 0..19usize {
+        rows[k][99] = k as u8;
+    }
+    let mut out = [[0u8; 32]; 19];
+    for count in 0..20usize {
+        tagged_rows_into(FIRST, &rows[..count], &mut out[..count]);
+        for k in 0..count {
+            assert!(rt; out[k] == tagged(&rows[k]), "{count} {k}");
+        }
+    }
 }
