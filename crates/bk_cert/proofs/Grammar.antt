@@ -153,6 +153,10 @@ header_then_seal c =
     let seal : List ℕ = seal_text c.mask c.tags in
     (take_at text seal (length text) refl, drop_at text seal (length text) refl)
 
+pub header_cut : (bytes : List ℕ) (c : CertValue) (h : HeaderValue) (n : ℕ) → bytes ≡ certificate_text c → n ≡ length (header_text h) → h ≡ c.header → take n bytes ≡ header_text c.header
+header_cut bytes c h n whole long same =
+    ap (λ (b : List ℕ). take n b) whole ∙ take_at (header_text c.header) (seal_text c.mask c.tags) n (sym (long ∙ ap (λ (o : HeaderValue). length (header_text o)) same))
+
 pub one_header : (h other : HeaderValue) → IsHeader h → IsHeader other → header_text h ≡ header_text other → h ≡ other
 one_header h other good fine e =
     let read : Some (h, []) ≡ Some (other, []) = sym (header_again h [] good) ∙ ap (λ (t : List ℕ). header_at (t ++ [])) e ∙ header_again other [] fine in

@@ -77,5 +77,5 @@ tags_sized key id (m ∷ ms) = (length-sha256 _, tags_sized key id ms)
 
 -- ---- put together
 
-pub same_cert : (h header : HeaderValue) (mask : List ℕ) (ts tags : List (List ℕ)) (c : CertValue) → h ≡ header → ts ≡ tags → cert_with header mask tags ≡ c → cert_with h mask ts ≡ c
-same_cert h header mask ts tags c e0 e1 e = rw (e0, e1) e
+pub same_cert : (c : CertValue) (h : HeaderValue) (mask : List ℕ) (tags : List (List ℕ)) → h ≡ c.header → mask ≡ c.mask → tags ≡ c.tags → cert_with h mask tags ≡ c
+same_cert c h mask tags e0 e1 e2 = rw (e0, e1, e2) refl

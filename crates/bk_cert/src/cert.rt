@@ -9,7 +9,7 @@ ghost use Rattle.bk_cert.specs.Identity.{tag_of, IsSealOf};
 
 use crate::header::{Header, digests_of};
 use crate::mask::Mask;
-use crate::reading::certificate;
+use crate::view::CertView;
 use crate::writing::{put_digests, put_header};
 use bk_committee::Committee;
 use bk_digest::Digest32;
@@ -50,14 +50,14 @@ impl Cert {
             → bytes.now ≢ certificate_text c)) }
         ensures refused { OnErr result (IsSome (certificate_of bytes.now)) }
     {
-        let Some(parts) = certificate(bytes) else {
+        let Some(view) = CertView::of(bytes) else {
             return Ok(None);
         };
-        let header = Header::of_parts(alloc, &parts.header)?;
-        let tags = digests_of(alloc, parts.tags)?;
+        let header = view.header(alloc)?;
+        let tags = digests_of(alloc, view.tags())?;
         Ok(Some(Cert {
             header,
-            mask: parts.mask,
+            mask: *view.mask(),
             tags,
         }))
     }

@@ -1,6 +1,6 @@
 //! The header of a certificate: who made it, in which round, over which batches and parents.
 
-ghost use Rattle.std.specs.Prelude.{◌≡◌, ◌≤◌, ◌∷◌, ◌++◌, ◌↔◌, List, ℕ, length, IfSome, IsSome, IfOk};
+ghost use Rattle.std.specs.Prelude.{◌≡◌, ◌≤◌, ◌∷◌, ◌++◌, ◌↔◌, List, ℕ, length, map, IfSome, IsSome, IfOk};
 ghost use Rattle.std.specs.List.{concat};
 ghost use Rattle.std.specs.Int.{w16, w32, to_be_bytes};
 ghost use Rattle.sha2.specs.Hashers.{Holds256};
@@ -13,6 +13,7 @@ ghost use Rattle.bk_cert.specs.Equality.{header_eq};
 use crate::reading::HeaderParts;
 use crate::writing::put_header;
 use bk_digest::{Digest32, tagged};
+use bk_lanes::tagged_each;
 use sha2::{Digest, Sha256};
 use std::alloc::{AllocError, Global};
 use std::marker::Model;
@@ -209,6 +210,15 @@ pub fn id_of_bytes(header_bytes: &[u8]) -> Digest32
     ensures { result ≡ tagged_of 0x10 header_bytes.now }
 {
     tagged(ID_PREFIX, header_bytes)
+}
+
+/// The ids of the headers that have these bytes, in their order, as `id_of_bytes` gives each. They are hashed side by
+/// side. It fails only where memory runs out.
+#[tactic(auto, unfolding(bk_digest::specs::Digest::tagged_of))]
+pub fn ids_of_bytes(alloc: Global, headers: &[&[u8]]) -> Result<Vec<[u8; 32]>, AllocError>
+    ensures { IfOk result (λ ids. ids.items ≡ map (λ bytes. tagged_of 0x10 bytes.now) headers.now) }
+{
+    tagged_each(alloc, ID_PREFIX, headers)
 }
 
 /// The digests whose bytes these are.

@@ -3,6 +3,7 @@
 //! `Cert::decode` answers exactly what the bytes encode, and nothing where they encode no certificate;
 //! `Cert::encode` writes the one encoding. `Cert::seal` makes the certificate that given members sign.
 //! That a tag is its member's is judged elsewhere: here a certificate is only well formed.
+//! A `CertView` is a certificate whose fields stay in the bytes that it was read from.
 //!
 //! `CertRef` is the place of a certificate, its round and its author; a `SharedCert` is a header
 //! under its id that several tables hold, kept once.
@@ -15,14 +16,16 @@ mod mask;
 mod place;
 mod reading;
 mod shared;
+mod view;
 mod writing;
 
 pub use cert::Cert;
-pub use header::{Header, id_of_bytes};
+pub use header::{Header, id_of_bytes, ids_of_bytes};
 pub use laws::{certificate_grammar, equal_headers};
 pub use mask::Mask;
 pub use place::CertRef;
 pub use shared::SharedCert;
+pub use view::CertView;
 
 #[cfg(test)]
 mod tests;

@@ -1,8 +1,9 @@
 //! The fields of a certificate, cut from its bytes. Nothing here takes memory.
 
-ghost use Rattle.std.specs.Prelude.{◌≡◌, ◌≤◌, ℕ, option_map};
+ghost use Rattle.std.specs.Prelude.{◌≡◌, ◌≤◌, ℕ, length, option_map};
 ghost use Rattle.bk_frames.specs.Numbers.{bytes_at};
 ghost use Rattle.bk_cert.specs.Values.{HeaderValue, CertValue, header_with, cert_with};
+ghost use Rattle.bk_cert.specs.Spelling.{IsHeader, header_text};
 ghost use Rattle.bk_cert.specs.Reading.{digests_at, header_at, certificate_of};
 
 use crate::header::{MOST_BATCHES, MOST_PARENTS};
@@ -25,6 +26,16 @@ impl<'a> Model for HeaderParts<'a> {
     ghost Value = { HeaderValue };
 
     ghost view = { λ h. header_with h.author h.round h.batches.now h.parents.now };
+}
+
+impl<'a> HeaderParts<'a> {
+    /// How many bytes the header takes.
+    pub fn header_len(&self) -> usize
+        requires { IsHeader self.now }
+        ensures { result ≡ length (header_text self.now) }
+    {
+        8 + 32 * (self.batches.len() + self.parents.len())
+    }
 }
 
 /// The fields of a certificate, as they are in the bytes. Contracts see them as the certificate.
