@@ -1,2 +1,3 @@
 pub mod Signers
 pub mod Rules
+pub mod Stages

@@ -1,3 +1,4 @@
 pub mod Rules
 pub mod Verdicts
 pub mod Laws
+pub mod private

@@ -209,7 +209,6 @@ fn a_checked_certificate(rt: HostRuntime) -> Result<(), Fail> {
     );
     assert!(rt; Some(checked.id()) == id);
     assert!(rt; checked.header().author() == 0 && checked.header().round() == 1);
-    assert!(rt; checked.cert().tags().len() == 3);
     assert!(rt; checked.into_header().parents().is_empty());
     Ok(())
 }

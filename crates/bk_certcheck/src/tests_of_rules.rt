@@ -11,9 +11,8 @@ ghost use Rattle.bk_certcheck.specs.Rules.{Breaks, BreaksNoneBelow, rule_number,
 ghost use Rattle.bk_certcheck.specs.declared.rule.Rule.TheVariants as rule;
 
 use crate::rule::{MOST_ROUND, Rule};
-use bk_cert::{Cert, Header, Mask};
+use bk_cert::{CertView, Mask};
 use bk_committee::Committee;
-use bk_digest::Digest32;
 use bk_frames::Version;
 use std::cmp::Ordering;
 
@@ -27,18 +26,18 @@ fn fewest_parents(committee: &Committee) -> u64
     }
 }
 
-fn has_wrong_parents(committee: &Committee, header: &Header) -> bool
-    ensures { result ≡ wrong_parents committee.now header.now }
+fn has_wrong_parents(committee: &Committee, cert: &CertView<'_>) -> bool
+    ensures { result ≡ wrong_parents committee.now cert.now.header }
 {
-    let count = header.parents().len();
-    if header.round() == 1 {
+    let count = cert.parents().len();
+    if cert.round() == 1 {
         0 < count
     } else {
         (count as u64) < fewest_parents(committee) || committee.n() < count
     }
 }
 
-fn do_ascend(ids: &[Digest32]) -> bool
+fn do_ascend(ids: &[[u8; 32]]) -> bool
     ensures { IsTrue result ↔ IsStrictlySortedBy (slice_cmp nat_cmp) ids.now }
 {
     for i in 1..ids.len() {
@@ -79,23 +78,22 @@ fn weight_of_signers(committee: &Committee, mask: &Mask) -> u64
 }
 
 // The first rule that the certificate breaks, but for the last.
-pub(crate) fn first_broken(committee: &Committee, cert: &Cert) -> Option<Rule>
+pub(crate) fn first_broken(committee: &Committee, cert: &CertView<'_>) -> Option<Rule>
     ensures some { IfSome result (λ r. Breaks committee.now cert.now r
         × BreaksNoneBelow committee.now cert.now (rule_number r)
         × (r ≢ rule.Shape)) }
     ensures none { IfNone result (BreaksNoneBelow committee.now cert.now 7) }
 {
-    let header = cert.header();
-    if usize::from(header.author()) >= committee.n() {
+    if usize::from(cert.author()) >= committee.n() {
         return Some(Rule::Author);
     }
-    if header.round() == 0 || header.round() > MOST_ROUND {
+    if cert.round() == 0 || cert.round() > MOST_ROUND {
         return Some(Rule::Round);
     }
-    if has_wrong_parents(committee, header) {
+    if has_wrong_parents(committee, cert) {
         return Some(Rule::Parents);
     }
-    if !do_ascend(header.parents()) {
+    if !do_ascend(cert.parents()) {
         return Some(Rule::ParentOrder);
     }
     if marks_strangers(committee, cert.mask()) {

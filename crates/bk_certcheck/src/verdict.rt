@@ -5,7 +5,7 @@ ghost use Rattle.bk_cert.specs.Node.{node_of};
 ghost use Rattle.bk_cert.specs.Identity.{id_of};
 
 use crate::rule::Rule;
-use bk_cert::{Cert, Header};
+use bk_cert::Header;
 use bk_digest::Digest32;
 use std::marker::Model;
 
@@ -13,7 +13,7 @@ use std::marker::Model;
 #[derive(Debug, Drop)]
 pub struct Checked {
     id: Digest32,
-    cert: Cert,
+    header: Header,
 }
 
 impl Model for Checked {
@@ -23,18 +23,18 @@ impl Model for Checked {
 
     ghost Value = { Node };
 
-    ghost view = { λ c. node_of c.cert.header };
+    ghost view = { λ c. node_of c.header };
 
-    ghost invariant = { λ c. c.id ≡ id_of c.cert.header };
+    ghost invariant = { λ c. c.id ≡ id_of c.header };
 }
 
 impl Checked {
-    // The certificate under its id.
-    pub(crate) fn new(id: Digest32, cert: Cert) -> Checked
-        requires { id ≡ id_of cert.header }
-        ensures { result ≡ node_of cert.header }
+    // The header under its id.
+    pub(crate) fn new(id: Digest32, header: Header) -> Checked
+        requires { id ≡ id_of header }
+        ensures { result ≡ node_of header }
     {
-        Checked { id, cert }
+        Checked { id, header }
     }
 
     /// Its id: SHA-256 of the byte 0x10 and its header.
@@ -48,21 +48,14 @@ impl Checked {
     pub fn header(&self) -> &Header
         ensures { result.now ≡ self.now.header }
     {
-        self.cert.header()
+        &self.header
     }
 
-    /// The certificate, with its seal.
-    pub fn cert(&self) -> &Cert
-        ensures { result.now.header ≡ self.now.header }
-    {
-        &self.cert
-    }
-
-    /// The header, taken out of it. The seal is dropped.
+    /// The header, taken out of it.
     pub fn into_header(self) -> Header
         ensures { result ≡ self.header }
     {
-        self.cert.into_header()
+        self.header
     }
 }
 

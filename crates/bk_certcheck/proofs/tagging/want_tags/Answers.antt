@@ -1,0 +1,18 @@
+use Rattle.std.proofs.Common.{◌≡◌, List, ℕ, [], get_or, refl, sym, ◌∙◌, arith}
+use Rattle.bk_certcheck.proofs.Stages.{pushed, want_with, want_without, want_all}
+use Rattle.bk_certcheck.proofs.tagging.want_tags.Goals as goal
+use Rattle.bk_certcheck.proofs.tagging.want_tags.Goals.{then-has+else-is_err, else-has}
+
+pub loop-member-preserved : goal.loop-member-preserved
+loop-member-preserved c = λ tags h.
+    elim c.if-has.branch [
+      | then-has+else-is_err w ↦
+          rw w.wanted-is
+          (want_with c.args.committee.now.keys c.args.mask.now c.args.id c.loop-member.member c.loop-member.wanted.items w.push.new.self.items (record { key = w.mac-key.result; id = c.args.id }) tags (sym w.if-has.ensures) w.mac-key.ensures refl
+          (pushed w.push.result w.is_err.result w.push.new.self.items _ c.loop-member.wanted.items w.push.ensures.items w.is_err.ensures.value w.if-is_err.false) (c.loop-member.invariant tags h))
+      | else-has w ↦ want_without c.args.committee.now.keys c.args.mask.now c.args.id c.loop-member.member c.loop-member.wanted.items c.if-has.wanted.items tags (sym w.if-has.ensures) (rw w.wanted-is refl) (c.loop-member.invariant tags h)
+    ]
+
+pub returns : goal.returns
+returns c = λ tags h.
+    want_all c.args.committee.now.keys c.args.mask.now c.args.id c.loop-member.member c.loop-member.wanted.items tags (omega (arith, c.loop-member-test.false, c.loop-member.auto.member-end)) (c.loop-member.invariant tags h)
