@@ -1,13 +1,33 @@
-ghost use Rattle.std.specs.Prelude.{IfOk};
-ghost use Rattle.std.specs.List.{AllZip};
+//! Certificates, judged on many threads.
+
+ghost use Rattle.std.specs.Prelude.{◌≡◌, IfOk};
+ghost use Rattle.std.specs.List.{AllZip, flat_map};
 ghost use Rattle.bk_certcheck.specs.Verdicts.{IsVerdict};
 
-use crate::checking::check;
+use crate::each::check_each;
 use crate::verdict::Verdict;
 use bk_committee::Committee;
 use rayon::prelude::*;
 use std::alloc::{AllocError, Global};
 use std::thread::Threads;
+
+// The payloads are divided into so many groups, where each is then of a size between these two.
+const GROUPS: usize = 32;
+
+const FEWEST: usize = 8;
+
+const MOST: usize = 64;
+
+// The verdicts of each group, after one another.
+fn joined(alloc: Global, groups: Vec<Vec<Verdict>>) -> Result<Vec<Verdict>, AllocError>
+    ensures { IfOk result (λ all. all.items ≡ flat_map (λ group. group.items) groups.items) }
+{
+    let mut all = Vec::new(alloc);
+    for mut group in groups {
+        all.append(&mut group)?;
+    }
+    Ok(all)
+}
 
 /// The verdict on each payload, in their order, found on as many threads as there are processors. It fails only where
 /// memory runs out. O(n) in all bytes together.
@@ -21,13 +41,16 @@ pub fn check_all(
         (λ verdicts. AllZip
         (λ bytes verdict. IsVerdict committee.now bytes.now verdict) payloads.now verdicts.items) }
 {
-    let verdicts = payloads
-        .par_iter()
+    let size = (payloads.len() / GROUPS).clamp(FEWEST, MOST);
+    let groups = payloads
+        .par_chunks(size)
         .map(
-            |bytes: &&[u8]| -> Result<Verdict, AllocError>
-                ensures { IfOk result (IsVerdict committee.entry.now bytes.now.now) }
-            { check(alloc, committee, *bytes) },
+            |group: &[&[u8]]| -> Result<Vec<Verdict>, AllocError>
+                ensures { IfOk result
+                    (λ verdicts. AllZip
+                    (λ bytes verdict. IsVerdict committee.entry.now bytes.now verdict) group.now verdicts.items) }
+            { check_each(alloc, committee, group) },
         )
-        .collect::<Result<Vec<Verdict>, AllocError>>(rt, alloc)?;
-    verdicts
+        .collect::<Result<Vec<Vec<Verdict>>, AllocError>>(rt, alloc)?;
+    joined(alloc, groups?)
 }

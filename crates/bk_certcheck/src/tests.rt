@@ -213,6 +213,85 @@ fn a_checked_certificate(rt: HostRuntime) -> Result<(), Fail> {
     Ok(())
 }
 
+// Payloads of which each breaks the rule of its index, by a committee of four.
+fn one_for_each_rule(rt: &impl Abort, alloc: Global) -> Result<Vec<Vec<u8>>, Fail> {
+    let rows = [
+        made(1, 4, &[], &[0, 1, 2]),
+        made(0, 0, &[], &[0, 1, 2]),
+        made(1, 0, &[1], &[0, 1, 2]),
+        made(2, 0, &[1, 3, 2], &[0, 1, 2]),
+        made(1, 0, &[], &[0, 1, 2, 4]),
+        made(1, 0, &[], &[0, 1]),
+    ];
+    let all = heads(alloc, 128)?;
+    let mut payloads = Vec::new(alloc);
+    payloads.push(Vec::new(alloc))?;
+    for row in &rows {
+        payloads.push(sealed(rt, alloc, &all, row)?)?;
+    }
+    payloads.push(turned(rt, alloc)?)?;
+    Ok(payloads)
+}
+
+// A certificate with one bit of its last tag turned.
+fn turned(rt: &impl Abort, alloc: Global) -> Result<Vec<u8>, Fail> {
+    let mut bytes = of_round_one(rt, alloc, &[0, 1, 2])?;
+    if let Some(last) = bytes.last_mut() {
+        *last ^= 1;
+    }
+    Ok(bytes)
+}
+
+// Each of these payloads, and this one after each.
+fn between<'a>(
+    alloc: Global,
+    payloads: &'a [Vec<u8>],
+    good: &'a [u8],
+) -> Result<Vec<&'a [u8]>, AllocError> {
+    let mut all = Vec::new(alloc);
+    for payload in payloads {
+        all.push(payload.as_slice())?;
+        all.push(good)?;
+    }
+    Ok(all)
+}
+
+#[test]
+fn each_rule_between_good_ones(rt: HostRuntime) -> Result<(), Fail> {
+    let good = of_round_one(&rt, rt.alloc(), &[0, 1, 2])?;
+    let broken = one_for_each_rule(&rt, rt.alloc())?;
+    let payloads = between(rt.alloc(), &broken, &good)?;
+    let verdicts = check_each(rt.alloc(), &heads(rt.alloc(), 4)?, &payloads)?;
+    assert!(rt; verdicts.len() == 16);
+    for (j, verdict) in verdicts.iter().enumerate() {
+        assert!(rt; number(verdict) as usize == if j % 2 == 0 { j / 2 } else { 8 });
+    }
+    Ok(())
+}
+
+// What is found in all together is what is found in each alone.
+fn expect_as_alone(rt: &impl Abort, alloc: Global, payloads: &[&[u8]]) -> Result<(), Fail> {
+    let four = heads(alloc, 4)?;
+    let verdicts = check_each(alloc, &four, payloads)?;
+    assert!(rt; verdicts.len() == payloads.len());
+    for (verdict, bytes) in verdicts.iter().zip(payloads) {
+        assert!(rt; number(verdict) == number(&check(alloc, &four, *bytes)?));
+    }
+    Ok(())
+}
+
+#[test]
+fn groups_of_none_one_and_twenty(rt: HostRuntime) -> Result<(), Fail> {
+    let few = of_round_one(&rt, rt.alloc(), &[0, 1])?;
+    let good = of_round_one(&rt, rt.alloc(), &[0, 1, 2])?;
+    let payloads = in_turn(rt.alloc(), &few, &good)?;
+    for count in [0, 1, 20] {
+        assert!(rt; count <= payloads.len());
+        expect_as_alone(&rt, rt.alloc(), &payloads[..count])?;
+    }
+    Ok(())
+}
+
 // 3,000 payloads, these two in turn.
 fn in_turn<'a>(
     alloc: Global,
@@ -231,10 +310,7 @@ fn in_turn<'a>(
 #[test]
 fn many_in_their_order(rt: HostRuntime) -> Result<(), Fail> {
     let few = of_round_one(&rt, rt.alloc(), &[0, 1])?;
-    let mut turned = of_round_one(&rt, rt.alloc(), &[0, 1, 2])?;
-    if let Some(last) = turned.last_mut() {
-        *last ^= 1;
-    }
+    let turned = turned(&rt, rt.alloc())?;
     let payloads = in_turn(rt.alloc(), &few, &turned)?;
     let verdicts = check_all(&rt, rt.alloc(), &heads(rt.alloc(), 4)?, &payloads)?;
     assert!(rt; verdicts.len() == 3_000);
