@@ -93,22 +93,6 @@ impl Cert {
         &self.tags
     }
 
-    /// The tags that the members whom its mask marks have under this id, in ascending member number, each under
-    /// its own key (RFC 2104). It reserves once.
-    pub fn tags_under(
-        &self,
-        alloc: Global,
-        committee: &Committee,
-        id: Digest32,
-    ) -> Result<Vec<Digest32>, AllocError>
-        requires { (member : ℕ) → IsTrue (is_signer self.now.mask member)
-            → member < length committee.now.keys }
-        ensures { IfOk result (λ tags. tags.items
-            ≡ map (λ member. tag_of (slice_index_or committee.now.keys member []) id) (signers_of self.now.mask)) }
-    {
-        tags_of(alloc, committee, &self.mask, id)
-    }
-
     /// Its one encoding, O(n). It reserves once.
     pub fn encode(&self, alloc: Global) -> Result<Vec<u8>, AllocError>
         ensures { IfOk result (λ text. text.items ≡ certificate_text self.now) }
