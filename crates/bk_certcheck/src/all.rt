@@ -48,7 +48,8 @@ pub fn check_all(
             |group: &[&[u8]]| -> Result<Vec<Verdict>, AllocError>
                 ensures { IfOk result
                     (λ verdicts. AllZip
-                    (λ bytes verdict. IsVerdict committee.entry.now bytes.now verdict) group.now verdicts.items) }
+                    (λ bytes verdict. IsVerdict committee.entry.now bytes.now verdict)
+                    group.now verdicts.items) }
             { check_each(alloc, committee, group) },
         )
         .collect::<Result<Vec<Vec<Verdict>>, AllocError>>(rt, alloc)?;

@@ -1,10 +1,10 @@
 //! The second stage: the ids of certificates, and then the tags of their signers.
 
-ghost use Rattle.std.specs.Prelude.{◌≡◌, ◌<◌, ◌++◌, ℕ, List, [], map, length, IsTrue, IfOk, OnOk, slice_index_or};
+ghost use Rattle.std.specs.Prelude.{◌≡◌, ◌<◌, ◌++◌, ℕ, List, map, length, IsTrue, IfOk, OnOk};
 ghost use Rattle.std.specs.List.{flat_map};
-ghost use Rattle.bk_cert.specs.Mask.{is_signer, signers_of};
-ghost use Rattle.bk_cert.specs.Identity.{id_of, tag_of};
-ghost use Rattle.bk_certcheck.specs.private.Stages.{AreLeft, AreTagsOf, own_tags};
+ghost use Rattle.bk_cert.specs.Mask.{is_signer};
+ghost use Rattle.bk_cert.specs.Identity.{id_of};
+ghost use Rattle.bk_certcheck.specs.private.Stages.{AreLeft, AreTagsOf, own_tags, tags_under};
 
 use bk_cert::{CertView, Mask, ids_of_bytes};
 use bk_committee::Committee;
@@ -32,8 +32,7 @@ fn want_tags<'a>(
     requires { (member : ℕ) → IsTrue (is_signer mask.now member)
         → member < length committee.now.keys }
     ensures { OnOk result ((tags : List (List ℕ)) → AreTagsOf wanted.old.items tags
-        → AreTagsOf wanted.new.items (tags ++ map
-        (λ member. tag_of (slice_index_or committee.now.keys member []) id) (signers_of mask.now))) }
+        → AreTagsOf wanted.new.items (tags ++ tags_under committee.now.keys id mask.now)) }
 {
     for member in 0..128u8 {
         if mask.has(member) {

@@ -1,5 +1,5 @@
 -- Payloads between two stages of a check.
-use Rattle.std.specs.Prelude.{◌≡◌, ◌≢◌, ℕ, List, [], ◌∷◌, map, length, take, Option, Some, None}
+use Rattle.std.specs.Prelude.{◌≡◌, ◌≢◌, ℕ, List, [], ◌∷◌, map, slice_index_or, Option, Some, None}
 use Rattle.std.specs.List.{AllZip}
 use Rattle.bk_digest.specs.Mac.{hmac_of}
 use Rattle.bk_digest.specs.Prepared.{IsPrepared}
@@ -8,7 +8,7 @@ use Rattle.bk_committee.specs.Payload.{CommitteeValue}
 use Rattle.bk_cert.specs.Values.{CertValue}
 use Rattle.bk_cert.specs.Mask.{signers_of}
 use Rattle.bk_cert.specs.Reading.{certificate_of}
-use Rattle.bk_cert.specs.Identity.{id_of, tags_by}
+use Rattle.bk_cert.specs.Identity.{id_of, tag_of}
 use Rattle.bk_cert.specs.Node.{node_of}
 use Rattle.bk_certcheck.specs.Rules.{BreaksNoneBelow}
 use Rattle.bk_certcheck.specs.Verdicts.{IsBroken}
@@ -22,27 +22,35 @@ abbrev pub IsLeft : CommitteeValue → List ℕ → CertValue → Type 0
 IsLeft k bytes c = (certificate_of bytes ≡ Some c) × BreaksNoneBelow k c 7
 
 -- each payload breaks the rule in its place, or is the next certificate that is left where there is none
-abbrev pub AreScreened : CommitteeValue → List (List ℕ) → List (Option Rule) → List CertValue → Type 0
+abbrev pub AreScreened : CommitteeValue → List (List ℕ) → List (Option Rule) → List CertValue
+    → Type 0
 AreScreened k [] [] [] = Unit {0}
 AreScreened k [] [] (c ∷ left) = ⊥
 AreScreened k [] (b ∷ broken) left = ⊥
 AreScreened k (p ∷ payloads) [] left = ⊥
-AreScreened k (p ∷ payloads) (Some r ∷ broken) left = IsBroken k p r × AreScreened k payloads broken left
+AreScreened k (p ∷ payloads) (Some r ∷ broken) left =
+    IsBroken k p r × AreScreened k payloads broken left
 AreScreened k (p ∷ payloads) (None ∷ broken) [] = ⊥
-AreScreened k (p ∷ payloads) (None ∷ broken) (c ∷ left) = IsLeft k p c × AreScreened k payloads broken left
+AreScreened k (p ∷ payloads) (None ∷ broken) (c ∷ left) =
+    IsLeft k p c × AreScreened k payloads broken left
 
 -- each of the certificates breaks no rule before the last
 abbrev pub AreLeft : CommitteeValue → List CertValue → Type 0
 AreLeft k [] = Unit {0}
 AreLeft k (c ∷ left) = BreaksNoneBelow k c 7 × AreLeft k left
 
+-- the tags of an id by the members that the mask marks, by ascending member
+abbrev pub tags_under : List (List ℕ) → List ℕ → List ℕ → List (List ℕ)
+tags_under keys id mask = map (λ member. tag_of (slice_index_or keys member []) id) (signers_of mask)
+
 -- the tags that a certificate's signers have under its id
 abbrev pub own_tags : CommitteeValue → CertValue → List (List ℕ)
-own_tags k c = tags_by k.keys c.header (signers_of c.mask)
+own_tags k c = tags_under k.keys (id_of c.header) c.mask
 
 -- these tags are what is to be tagged: each is the tag of its id under its key
 abbrev pub AreTagsOf : List ToTag → List (List ℕ) → Type 0
-AreTagsOf wanted tags = AllZip (λ t tag. (key : List ℕ) × IsPrepared key t.key.now × (tag ≡ hmac_of key t.id)) wanted tags
+AreTagsOf wanted tags =
+    AllZip (λ t tag. (key : List ℕ) × IsPrepared key t.key.now × (tag ≡ hmac_of key t.id)) wanted tags
 
 -- the verdict on a certificate that has these tags where it should have those
 abbrev pub IsByTags : CertValue → List (List ℕ) → Verdict → Type 0
