@@ -16,7 +16,7 @@ not_sorted : (ids : List (List ℕ)) (i : ℕ) (r : Ordering) → 1 ≤ i → i 
 not_sorted ids i r from lt e not sorted = other r (e ∙ Less-from_sorted (slice_cmp nat_cmp) ids (i - 1) i [] sorted (omega arith) lt) not
 
 pub returns-in-Equal : goal.returns-in-Equal
-returns-in-Equal c = (λ t. absurd cc, λ sorted. absurd (not_sorted c.args.ids.now c.loop-i.i c.cmp.result c.loop-i.auto.i c.loop-i-test.true c.cmp.ensures c.in-Equal.is sorted))
+returns-in-Equal c = (λ t. absurd cc, λ sorted. absurd (not_sorted c.args.ids.now c.loop-i.i c.cmp.result (omega arith) c.loop-i-test.true c.cmp.ensures c.in-Equal.is sorted))
 
 pub returns : goal.returns
 returns c = (λ t. sorted_from_all_adjacent nat_list_cmp_total c.args.ids.now [] (λ k lt. c.loop-i.invariant k (omega (arith, c.loop-i-test.false))), λ sorted. refl)
