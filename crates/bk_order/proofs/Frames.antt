@@ -1,14 +1,11 @@
 -- Frames that are judged one after another.
-use Rattle.std.proofs.Common.{◌≡◌, ℕ, zero, suc, List, [], ◌∷◌, ◌++◌, length, map, refl, sym, ap, subst, ◌∙◌, arith, append_assoc}
+use Rattle.std.proofs.Common.{◌≡◌, ℕ, suc, List, [], ◌∷◌, ◌++◌, length, map, refl, sym, ap, subst, ◌∙◌, arith, append_assoc}
 use Rattle.std.specs.Prelude.{IfOk, Ok, Err, MatchResult, Contains}
 use Rattle.std.specs.List.{AllZip}
 use Rattle.std.specs.declared.result.Result.{Result}
-use Rattle.std.specs.Global.{Vec}
-use Rattle.bk_frames.specs.declared.kind.Kind.{Kind}
-use Rattle.bk_frames.specs.Feed.{Frame, frame_of}
-use Rattle.bk_frames.specs.Cutting.{frames_in}
+use Rattle.bk_frames.specs.Feed.{Frame}
 use Rattle.bk_committee.specs.Payload.{CommitteeValue}
-use Rattle.bk_order.specs.declared.judging.Found.{Found}
+use Rattle.bk_order.specs.declared.finding.Found.{Found}
 use Rattle.bk_order.specs.declared.judging.Judged.{Judged}
 use Rattle.bk_order.specs.private.Judging.{IsFound, IsJudged, IsJudging}
 
@@ -19,7 +16,7 @@ module _ {X Y : Type 0} (R : X → Y → Type 0) where
   zip_length (x ∷ xs) [] h = absurd h
   zip_length (x ∷ xs) (y ∷ ys) h = ap suc (zip_length xs ys h.1)
 
-  zip_push : (xs : List X) (ys : List Y) (x : X) (y : Y) → AllZip R xs ys → R x y → AllZip R (xs ++ x ∷ []) (ys ++ y ∷ [])
+  pub zip_push : (xs : List X) (ys : List Y) (x : X) (y : Y) → AllZip R xs ys → R x y → AllZip R (xs ++ x ∷ []) (ys ++ y ∷ [])
   zip_push [] [] x y h r = (r, tt)
   zip_push [] (z ∷ ys) x y h r = absurd h
   zip_push (z ∷ xs) [] x y h r = absurd h
@@ -41,17 +38,6 @@ pub gathered : {X Y E V : Type 0} (items : V → List Y) (R : X → Result Y E �
     → MatchResult r (λ v. (ys : List Y) × (us ≡ map Ok ys) × (items v ≡ ys)) (λ e. Contains us (Err e)) → IfOk r (λ v. AllZip S xs (items v))
 gathered items R S keeps xs us (Ok v) zipped (ys, is, of) = rw of (values R S keeps xs ys (subst (AllZip R xs) is zipped))
 gathered items R S keeps xs us (Err e) zipped h = tt
-
--- what is found of frames is found of the list of them
-pub found_in : (k : CommitteeValue) (xs : List (Kind × Vec ℕ)) (found : List Found) → AllZip (λ (x : Kind × Vec ℕ) one. IsFound k (frame_of x.0 x.1.items) one) xs found → AllZip (IsFound k) (frames_in xs) found
-found_in k [] [] h = h
-found_in k [] (f ∷ found) h = absurd h
-found_in k (x ∷ xs) [] h = absurd h
-found_in k (x ∷ xs) (f ∷ found) h = (h.0, found_in k xs found h.1)
-
-pub found_all : {E : Type 0} (k : CommitteeValue) (xs : List (Kind × Vec ℕ)) (r : Result (Vec Found) E) → IfOk r (λ out. AllZip (λ (x : Kind × Vec ℕ) one. IsFound k (frame_of x.0 x.1.items) one) xs out.items) → IfOk r (λ out. AllZip (IsFound k) (frames_in xs) out.items)
-found_all k xs (Ok out) h = found_in k xs out.items h
-found_all k xs (Err e) h = tt
 
 -- one frame more is judged
 pub judging_on : (k : CommitteeValue) (all frames rest : List Frame) (f : Frame) (before after : List Found) (one : Found) (out new : List Judged) (is : Judged) → frames ≡ f ∷ rest → before ≡ one ∷ after

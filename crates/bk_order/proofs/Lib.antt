@@ -8,3 +8,5 @@ pub mod Sets
 pub mod OneReading
 pub mod Agreeing
 pub mod Together
+pub mod FoundOf
+pub mod PartsOf

@@ -25,9 +25,12 @@ use std::thread::Threads;
 /// The frames of a feed after the genesis, taken in pieces. Contracts see it as the committee, what
 /// is kept of the frames, and their order as it was settled last.
 ///
-/// A call costs what the frames since the last one cost. Where memory runs out in `take` or in
-/// `settle` the value has failed: every later call of these two returns the same error, and what
-/// the others return of the order means nothing.
+/// `take` costs what its frames cost, and `settle` what the new anchors and their histories cost.
+/// `stop_with` and `waiting` go over all certificates that are held. The others take O(log n) at
+/// most.
+///
+/// Where memory runs out in `take` or in `settle` the value has failed: every later call of these
+/// two returns the same error, and what the others return of the order means nothing.
 #[derive(Drop)]
 pub struct Intake {
     alloc: Global,
@@ -136,7 +139,8 @@ impl Intake {
 
     /// The stop of the frames of both together, if they have one. Neither changes.
     ///
-    /// It takes time and memory for a table of the certificates of both, and an `Err` comes only where memory runs out.
+    /// It takes time and memory for a table of the certificates of both, and an `Err` comes only
+    /// where memory runs out.
     pub fn stop_with(&self, other: &Intake) -> Result<Option<Stop>, AllocError>
         requires { self.now.committee ≡ other.now.committee }
         ensures { IfOk result (λ found. (frames more : List Frame) → HasTaken frames self.now
@@ -213,6 +217,9 @@ impl Intake {
     }
 
     /// The places of the certificates that wait, of all frames so far, by round and author.
+    /// O(n log n) in the certificates that are held.
+    ///
+    /// An `Err` comes only where memory runs out.
     pub fn waiting(&self) -> Result<Vec<CertRef>, AllocError>
         ensures { IfOk result (λ places. (frames : List Frame) → HasTaken frames self.now
             → self.now.failed ≡ false → HasNoStop self.now.committee frames

@@ -1,23 +1,26 @@
 //! The frames of a piece, judged before anything of them is kept.
 
 ghost use Rattle.std.specs.Prelude.{◌≡◌, IfOk};
-ghost use Rattle.std.specs.List.{AllZip};
+ghost use Rattle.std.specs.List.{AllZip, flat_map};
 ghost use Rattle.bk_committee.specs.Payload.{CommitteeValue};
 ghost use Rattle.bk_frames.specs.declared.kind.Kind.{Kind};
 ghost use Rattle.bk_frames.specs.Feed.{frame_of};
 ghost use Rattle.bk_frames.specs.Cutting.{frames_in};
 ghost use Rattle.bk_order.specs.private.Judging.{IsFound, IsJudged};
 
-use bk_certcheck::{Verdict, check};
+use crate::finding::{Found, find_part};
+use crate::parts::{bytes_in, parts_of};
+use bk_certcheck::Verdict;
 use bk_committee::Committee;
 use bk_digest::Digest32;
 use bk_frames::Kind;
+use rayon::current_num_threads;
 use rayon::prelude::*;
 use std::alloc::{AllocError, Global};
 use std::thread::Threads;
 
-// So many frames at least are worth a thread.
-const FEWEST: usize = 8;
+// About how many parts there are for each processor, so that none waits long for another's last.
+const PARTS_EACH: usize = 4;
 
 /// A payload under its SHA-256.
 #[derive(Drop)]
@@ -37,37 +40,48 @@ pub(crate) enum Judged {
     Other,
 }
 
-/// What is found of a frame whose payload stays where it is.
-#[derive(Drop)]
-pub(crate) enum Found {
-    /// The verdict on a certificate.
-    Certificate(Verdict),
-    /// The SHA-256 of a batch.
-    Batch(Digest32),
-    /// A committee or a genesis.
-    Other,
+// About how many bytes a part has.
+fn part_len(rt: &impl Threads, frames: &[(Kind, Vec<u8>)]) -> usize {
+    bytes_in(frames) / PARTS_EACH / current_num_threads(rt)
 }
 
-// What is found of one frame.
-fn find(
+// What was found of each part, in one list.
+fn joined(alloc: Global, parts: Vec<Vec<Found>>) -> Result<Vec<Found>, AllocError>
+    ensures { IfOk result (λ out. out.items ≡ flat_map (λ p. p.items) parts.items) }
+{
+    let mut out = Vec::new(alloc);
+    for part in parts {
+        let mut part = part;
+        out.append(&mut part)?;
+    }
+    Ok(out)
+}
+
+// What is found of each part, on as many threads as there are processors.
+fn find_parts(
+    rt: &(impl Threads + Sync),
     alloc: Global,
     committee: &Committee,
-    kind: Kind,
-    payload: &[u8],
-) -> Result<Found, AllocError>
-    ensures { IfOk result (IsFound committee.now (frame_of kind payload.now)) }
+    parts: &[&[(Kind, Vec<u8>)]],
+) -> Result<Vec<Vec<Found>>, AllocError>
+    ensures { IfOk result (λ founds. AllZip
+        (λ part found. AllZip (IsFound committee.now) (frames_in part.now) found.items)
+        parts.now founds.items) }
 {
-    match kind {
-        Kind::Committee | Kind::Genesis => Ok(Found::Other),
-        Kind::Certificate => {
-            let verdict = check(alloc, committee, payload)?;
-            Ok(Found::Certificate(verdict))
-        }
-        Kind::Batch => Ok(Found::Batch(Digest32::of(payload))),
-    }
+    let found = parts
+        .par_iter()
+        .with_min_len(1)
+        .map(
+            |part: &&[(Kind, Vec<u8>)]| -> Result<Vec<Found>, AllocError>
+                ensures { IfOk result (λ out. AllZip (IsFound committee.entry.now)
+                    (frames_in part.now.now) out.items) }
+            { find_part(alloc, committee, *part) },
+        )
+        .collect::<Result<Vec<Vec<Found>>, AllocError>>(rt, alloc)?;
+    found
 }
 
-// What is found of each frame, on as many threads as there are processors.
+// What is found of each frame.
 fn find_all(
     rt: &(impl Threads + Sync),
     alloc: Global,
@@ -77,17 +91,10 @@ fn find_all(
     ensures { IfOk result
         (λ out. AllZip (IsFound committee.now) (frames_in frames.now) out.items) }
 {
-    let found = frames
-        .par_iter()
-        .with_min_len(FEWEST)
-        .map(
-            |frame: &(Kind, Vec<u8>)| -> Result<Found, AllocError>
-                ensures { IfOk result
-                    (IsFound committee.entry.now (frame_of frame.now.0 frame.now.1.items)) }
-            { find(alloc, committee, frame.0, &frame.1) },
-        )
-        .collect::<Result<Vec<Found>, AllocError>>(rt, alloc)?;
-    found
+    let parts = parts_of(alloc, frames, part_len(rt, frames))?;
+    let found = find_parts(rt, alloc, committee, &parts)?;
+    let out = joined(alloc, found)?;
+    Ok(out)
 }
 
 // A frame of which this was found, with its payload.

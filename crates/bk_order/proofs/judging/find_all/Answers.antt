@@ -1,19 +1,6 @@
-use Rattle.std.proofs.Common.{ap, subst, ◌∙◌}
-use Rattle.std.specs.Prelude.{IfOk}
-use Rattle.std.specs.List.{AllZip}
-use Rattle.rayon.specs.Lists.{iter_slice, min_len_base}
-use Rattle.rayon.proofs.ToStd.{slice-AllZip}
-use Rattle.bk_frames.specs.Feed.{frame_of}
-use Rattle.bk_frames.specs.Cutting.{frames_in}
-use Rattle.bk_order.specs.private.Judging.{IsFound}
-use Rattle.bk_order.proofs.Frames.{gathered, found_all}
+use Rattle.bk_order.proofs.PartsOf.{all_found, parts_same}
 use Rattle.bk_order.proofs.judging.find_all.Goals as goal
 
 pub returns : goal.returns
 returns g c =
-    let slice = ap (λ it. iter_slice (min_len_base it)) c.map.ensures.base ∙ ap (λ it. iter_slice it) c.with_min_len.ensures.base ∙ c.par_iter.ensures in
-    let h = c.in_ok-found.ensures in
-    let chain = h.1 in
-    let zipped = slice-AllZip chain.0 c.args.frames.now (chain.1 ∙ slice) (λ x r. IfOk r (IsFound c.map.result.f.1.now (frame_of x.0 x.1.items))) h.0 chain.2 in
-    let all = gathered (λ v. v.items) (λ x r. IfOk r (IsFound c.map.result.f.1.now (frame_of x.0 x.1.items))) (λ x one. IsFound c.map.result.f.1.now (frame_of x.0 x.1.items) one) (λ x one p. p) c.args.frames.now h.0 c.in_ok-found.found zipped h.2 in
-    subst (λ k. IfOk c.in_ok-found.found (λ out. AllZip (IsFound k.now) (frames_in c.args.frames.now) out.items)) (ap (λ f. f.1) c.map.ensures.f) (found_all c.map.result.f.1.now c.args.frames.now c.in_ok-found.found all)
+    all_found c.args.committee.now c.args.frames.now c.deref.result.now c.in_ok-found.found.items c.in_ok-out.out.items (parts_same c.deref.result.now c.in_ok-parts.parts.items c.args.frames.now c.deref.ensures.value c.in_ok-parts.ensures) c.in_ok-found.ensures c.in_ok-out.ensures
