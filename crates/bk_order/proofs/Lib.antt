@@ -10,3 +10,4 @@ pub mod Agreeing
 pub mod Together
 pub mod FoundOf
 pub mod PartsOf
+pub mod Groups

@@ -34,7 +34,7 @@ zip_append R [] xs' (y ∷ ys) ys' h g = absurd h
 zip_append R (x ∷ xs) xs' [] ys' h g = absurd h
 zip_append R (x ∷ xs) xs' (y ∷ ys) ys' h g = (h.0, zip_append R xs xs' ys ys' h.1 g)
 
-frames_append : (xs ys : List (Kind × Vec ℕ)) → frames_in (xs ++ ys) ≡ frames_in xs ++ frames_in ys
+pub frames_append : (xs ys : List (Kind × Vec ℕ)) → frames_in (xs ++ ys) ≡ frames_in xs ++ frames_in ys
 frames_append [] ys = refl
 frames_append (x ∷ xs) ys = ap (λ (fs : List Frame). frame_of x.0 x.1.items ∷ fs) (frames_append xs ys)
 

@@ -1,15 +1,12 @@
 -- The table with one more frame.
 use Rattle.std.proofs.Common.{◌≡◌, ℕ, ◌+◌, ◌<◌, ◌^◌, List, [], ◌∷◌, ◌++◌, length, refl, sym, ap, subst, ◌∙◌, arith, append_assoc}
-use Rattle.std.specs.List.{Contains, AllZip}
+use Rattle.std.specs.List.{AllZip}
 use Rattle.std.proofs.lemmas.List.{append-nil}
-use Rattle.std.proofs.lemmas.List.Elements.{Contains-append_left}
 use Rattle.bk_frames.specs.declared.kind.Kind.{Kind}
 use Rattle.bk_frames.specs.declared.kind.Kind.TheVariants as kind
 use Rattle.bk_frames.specs.Feed.{Frame}
 use Rattle.bk_committee.specs.Payload.{CommitteeValue}
-use Rattle.bk_cert.specs.Node.{Node}
 use Rattle.bk_certcheck.specs.declared.verdict.Verdict.{Verdict}
-use Rattle.bk_certcheck.specs.declared.verdict.Verdict.TheVariants as verdict
 use Rattle.bk_commit.specs.Growth.{IsPartOf, Begins}
 use Rattle.bk_evidence.specs.Batches.{Batch, batch_with, IsBatchOffer, batches_after}
 use Rattle.bk_evidence.specs.declared.batches.BatchOffer.{BatchOffer}
@@ -110,6 +107,7 @@ keeping_starts k start all left e joined judged room = subst (IsKeeping k start 
   joined = joined;
   goes_on = goes_nowhere start;
   room = room;
+  next = refl;
   judged = judged;
   kept = λ frames before zipped h. ([], frames, refl, zipped, subst (λ (fs : List Frame). IsKeptOf k fs (kept_in start)) (sym (append-nil before)) h);
 })
@@ -143,6 +141,7 @@ keeping_on k start table new all before left one e h joined goes next kept =
       joined = joined;
       goes_on = goes_on_on start table new at.goes_on goes;
       room = let r = at.room in omega (arith, r, next);
+      next = let n = at.next in omega (arith, n, next);
       judged = (first.1, first.4);
       kept = λ frames fs zipped was.
           let g = at.kept frames fs zipped was in
@@ -162,3 +161,6 @@ keeping_ends k start table all left e h frames before zipped was =
     let none = none_judged k g.1 (subst (AllZip (IsJudged k) g.1) e g.3) in
     let is : g.0 ≡ frames = sym (g.2 ∙ (ap (λ (t : List Frame). g.0 ++ t) none ∙ append-nil g.0)) in
     subst (λ (t : List Frame). IsKeptOf k (before ++ t) (kept_in table)) is g.4
+
+pub keeping_next : (k : CommitteeValue) (start table : Table) (all left : List Judged) → left ≡ [] → IsKeeping k start table all left → table.next ≡ start.next + length all
+keeping_next k start table all left e h = let n = h.next in let l = ap length e in omega (arith, n, l)

@@ -9,11 +9,11 @@ ghost use Rattle.bk_order.specs.Orders.{AreWaiting, IsOrderOf};
 ghost use Rattle.bk_order.specs.Intake.{HasTaken, IsKeptOf, nothing_ordered};
 ghost use Rattle.bk_order.specs.private.Joined.{GoesOn, IsJoined, kept_in};
 
-use crate::judging::judge_all;
 use crate::reject::Reject;
 use crate::settling::{Settled, settle, unsettled};
 use crate::stop::{Stop, stop_of, stop_of_both};
-use crate::table::{Table, empty_table, keep_all};
+use crate::table::{Table, empty_table};
+use crate::taking::take_all;
 use bk_cert::CertRef;
 use bk_committee::Committee;
 use bk_digest::Digest32;
@@ -228,24 +228,4 @@ impl Intake {
         let places = self.table.rounds.waiting()?;
         Ok(places)
     }
-}
-
-// Judges the frames, and keeps what they are found to be.
-fn take_all(
-    rt: &(impl Threads + Sync),
-    alloc: Global,
-    committee: &Committee,
-    table: &mut Table,
-    frames: Vec<(Kind, Vec<u8>)>,
-) -> Result<(), AllocError>
-    requires joined { IsJoined committee.now table.old.held table.old.rounds }
-    requires room { table.old.next + length frames.items < 2 ^ 64 }
-    ensures joined { OnOk result (IsJoined committee.now table.new.held table.new.rounds) }
-    ensures goes_on { OnOk result (GoesOn table.old table.new) }
-    ensures kept { OnOk result ((before : List Frame)
-        → IsKeptOf committee.now before (kept_in table.old)
-        → IsKeptOf committee.now (before ++ frames_in frames.items) (kept_in table.new)) }
-{
-    let judged = judge_all(rt, alloc, committee, frames)?;
-    keep_all(alloc, committee, table, judged)
 }

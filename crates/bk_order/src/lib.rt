@@ -15,6 +15,7 @@ mod reject;
 mod settling;
 mod stop;
 mod table;
+mod taking;
 
 pub use intake::Intake;
 pub use laws::{

@@ -12,7 +12,7 @@ ghost use Rattle.bk_evidence.specs.Batches.{batch_with};
 ghost use Rattle.bk_order.specs.Frames.{certs_by, rejects_by};
 ghost use Rattle.bk_order.specs.Intake.{IsKeptOf, first_frame};
 ghost use Rattle.bk_order.specs.private.Judging.{IsJudged};
-ghost use Rattle.bk_order.specs.private.Joined.{GoesOn, IsJoined, kept_in};
+ghost use Rattle.bk_order.specs.private.Joined.{CanKeep, GoesOn, HasKept, IsJoined, kept_in};
 
 use crate::judging::{Digested, Judged};
 use crate::reject::Reject;
@@ -150,15 +150,8 @@ pub(crate) fn keep_all(
     table: &mut Table,
     judged: Vec<Judged>,
 ) -> Result<(), AllocError>
-    requires joined { IsJoined committee.now table.old.held table.old.rounds }
-    requires judged { (frames : List Frame) × AllZip (IsJudged committee.now) frames judged.items }
-    requires room { table.old.next + length judged.items < 2 ^ 64 }
-    ensures joined { OnOk result (IsJoined committee.now table.new.held table.new.rounds) }
-    ensures goes_on { OnOk result (GoesOn table.old table.new) }
-    ensures kept { OnOk result ((frames before : List Frame)
-        → AllZip (IsJudged committee.now) frames judged.items
-        → IsKeptOf committee.now before (kept_in table.old)
-        → IsKeptOf committee.now (before ++ frames) (kept_in table.new)) }
+    requires { CanKeep committee.now table.old judged.items }
+    ensures { OnOk result (HasKept committee.now table.old table.new judged.items) }
 {
     for one in judged {
         keep(alloc, committee, table, one)?;

@@ -10,7 +10,7 @@ use Rattle.bk_evidence.specs.Batches.{Batch}
 use Rattle.bk_commit.specs.Growth.{IsPartOf, Begins}
 use Rattle.bk_commit.specs.Ordering.{IsCommitted}
 use Rattle.bk_flatten.specs.Order.{IsOrder}
-use Rattle.bk_flatten.specs.Batches.{Listed, AreFound, IsFoundWhole, digests_of, payloads_of}
+use Rattle.bk_flatten.specs.Batches.{AreFound, IsFoundWhole, digests_of, payloads_of}
 use Rattle.bk_order.specs.declared.table.Table.{Table}
 use Rattle.bk_order.specs.declared.settling.Settled.{Settled}
 use Rattle.std.specs.List.{AllZip}
@@ -75,8 +75,33 @@ pub record IsKeeping (k : CommitteeValue) (start table : Table) (all left : List
   pub joined : IsJoined k table.held table.rounds
   pub goes_on : GoesOn start table
   pub room : table.next + length left < 2 ^ 64
+  pub next : table.next + length left ≡ start.next + length all
   pub judged : (frames : List Frame) × AllZip (IsJudged k) frames left
   pub kept : (frames before : List Frame) → AllZip (IsJudged k) frames all
       → IsKeptOf k before (kept_in start)
       → (done : List Frame) × (rest : List Frame) × (frames ≡ done ++ rest)
       × AllZip (IsJudged k) rest left × IsKeptOf k (before ++ done) (kept_in table)
+
+-- what is judged can be kept
+pub record CanKeep (k : CommitteeValue) (table : Table) (judged : List Judged) : Type 0 where
+  pub joined : IsJoined k table.held table.rounds
+  pub are_judged : (frames : List Frame) × AllZip (IsJudged k) frames judged
+  pub room : table.next + length judged < 2 ^ 64
+
+-- what was judged is kept
+pub record HasKept (k : CommitteeValue) (old new : Table) (judged : List Judged) : Type 0 where
+  pub joined : IsJoined k new.held new.rounds
+  pub goes_on : GoesOn old new
+  pub next : new.next ≡ old.next + length judged
+  pub kept : (frames before : List Frame) → AllZip (IsJudged k) frames judged
+      → IsKeptOf k before (kept_in old) → IsKeptOf k (before ++ frames) (kept_in new)
+
+-- of all frames these are left; those before them were judged last, and all earlier ones are kept
+pub record IsTaking (k : CommitteeValue) (start table : Table) (all left : List Frame)
+    (judged : List Judged) : Type 0 where
+  pub joined : IsJoined k table.held table.rounds
+  pub goes_on : GoesOn start table
+  pub room : table.next + length judged + length left < 2 ^ 64
+  pub is_split : (done : List Frame) × (now : List Frame) × (all ≡ done ++ (now ++ left))
+      × AllZip (IsJudged k) now judged
+      × ((before : List Frame) → IsKeptOf k before (kept_in start) → IsKeptOf k (before ++ done) (kept_in table))
