@@ -2,7 +2,7 @@
 use Rattle.std.proofs.Common.{◌≡◌, ℕ, List, Option, Some, None, IfSome, true, inl, inr}
 use Rattle.bk_frames.specs.Device.{Device, IfKnown}
 use Rattle.bk_frames.specs.Feed.{FeedValue, HasFault}
-use Rattle.bk_frames.specs.Pulling.{RefusesBy, CallsForMemoryAt, FrontCallsForMemoryAt}
+use Rattle.bk_frames.specs.Pulling.{Refuses}
 use Rattle.bk_frames.specs.declared.fault.FaultCode.{FaultCode}
 use Rattle.bk_frames.specs.declared.fault.FaultCode.TheVariants as code
 use Rattle.bk_frames.specs.declared.fault.FeedFault.{FeedFault}
@@ -54,19 +54,19 @@ weaker None f h = tt
 weaker (Some bs) f h = f bs h
 
 -- a feed was refused for its bytes
-refused : (calls : List ℕ → ℕ → Type 0) (j : Job) (given : Inputs) (f : FaultCode) (offset : ℕ) (old new : Device)
+refused : (j : Job) (given : Inputs) (f : FaultCode) (offset : ℕ) (old new : Device)
     (right : IfKnown old AreBroken → AreToBlame j exit.WrongInput given)
-    → RefusesBy calls (record { offset = offset; code = f }) old new → is_refusal (exit_by_code f) ≡ true
+    → Refuses (record { offset = offset; code = f }) old new → is_refusal (exit_by_code f) ≡ true
     → AreToBlame j (exit_by_code f) given
-refused calls j given code.Magic offset old new right h e = right (broken _ old.bytes h.1)
-refused calls j given code.Truncated offset old new right h e = right (broken _ old.bytes h.1)
-refused calls j given code.Kind offset old new right h e = right (broken _ old.bytes h.1)
-refused calls j given code.Length offset old new right h e = right (broken _ old.bytes h.1)
-refused calls j given code.Committee offset old new right h e = right (broken _ old.bytes h.1)
-refused calls j given code.Genesis offset old new right h e = right (broken _ old.bytes h.1)
-refused calls j given code.Extra offset old new right h e = right (broken _ old.bytes h.1)
-refused calls j given code.Read offset old new right h e = absurd (cc)
-refused calls j given code.Memory offset old new right h e = absurd (cc)
+refused j given code.Magic offset old new right h e = right (broken _ old.bytes h.1)
+refused j given code.Truncated offset old new right h e = right (broken _ old.bytes h.1)
+refused j given code.Kind offset old new right h e = right (broken _ old.bytes h.1)
+refused j given code.Length offset old new right h e = right (broken _ old.bytes h.1)
+refused j given code.Committee offset old new right h e = right (broken _ old.bytes h.1)
+refused j given code.Genesis offset old new right h e = right (broken _ old.bytes h.1)
+refused j given code.Extra offset old new right h e = right (broken _ old.bytes h.1)
+refused j given code.Read offset old new right h e = absurd (cc)
+refused j given code.Memory offset old new right h e = absurd (cc)
 
 -- a list of events has a line that is none
 no_events : (line : ℕ) (text : Option (List ℕ)) → IfSome text (λ t. events_of t ≡ Err line) → IfSome text AreNoEvents
@@ -102,14 +102,14 @@ stopped_together P bytes more f h = weaker bytes (λ bs k. weaker more (λ ms o.
 compare_blames : (first second : _) (e : CompareStop) (old new : JobDevices) → AgreeNot e old new → is_refusal (exit_after_compare e) ≡ true
     → AreToBlame (job.Compare first second) (exit_after_compare e) (inputs_of old) × IsUntouched old.out new.out
 compare_blames first second (compared.First (replay.Feed found)) old new h r =
-    (refused FrontCallsForMemoryAt (job.Compare first second) (inputs_of old) found.code found.offset old.first new.first (λ b. inl b) h.0.0 r, h.1)
+    (refused (job.Compare first second) (inputs_of old) found.code found.offset old.first new.first (λ b. inl b) h.0.0 r, h.1)
 compare_blames first second (compared.First (replay.Collision id)) old new h r = absurd h.0.0
 compare_blames first second (compared.First (replay.Equivocation round author one other)) old new h r = absurd h.0.0
 compare_blames first second (compared.First (replay.Unfinished place)) old new h r = absurd (cc)
 compare_blames first second (compared.First (replay.Write written)) old new h r = absurd (cc)
 compare_blames first second (compared.First replay.Memory) old new h r = absurd (cc)
 compare_blames first second (compared.Second (replay.Feed found)) old new h r =
-    (refused FrontCallsForMemoryAt (job.Compare first second) (inputs_of old) found.code found.offset old.second new.second (λ b. inr (inl (h.0.1, b))) h.0.2 r, h.1)
+    (refused (job.Compare first second) (inputs_of old) found.code found.offset old.second new.second (λ b. inr (inl (h.0.1, b))) h.0.2 r, h.1)
 compare_blames first second (compared.Second (replay.Collision id)) old new h r = absurd h.0.2
 compare_blames first second (compared.Second (replay.Equivocation round author one other)) old new h r = absurd h.0.2
 compare_blames first second (compared.Second (replay.Unfinished place)) old new h r = absurd (cc)
@@ -128,7 +128,7 @@ compare_blames first second (compared.Differ differ.Memory) old new h r = absurd
 pub bytes_to_blame : (j : Job) (e : JobFault) (old new : JobDevices) → JobFailsBy j e old new → is_refusal (exit_after e) ≡ true
     → AreToBlame j (exit_after e) (inputs_of old) × IsUntouched old.out new.out
 bytes_to_blame (job.Run workers file) (fault.Replay (replay.Feed found)) old new h r =
-    (refused FrontCallsForMemoryAt (job.Run workers file) (inputs_of old) found.code found.offset _ _ (λ b. b) h.0 r, h.1)
+    (refused (job.Run workers file) (inputs_of old) found.code found.offset _ _ (λ b. b) h.0 r, h.1)
 bytes_to_blame (job.Run workers file) (fault.Replay (replay.Collision id)) old new h r = (stopped _ old.first.bytes h.1, h.0.1)
 bytes_to_blame (job.Run workers file) (fault.Replay (replay.Equivocation round author first second)) old new h r = (stopped _ old.first.bytes h.1, h.0.1)
 bytes_to_blame (job.Run workers file) (fault.Replay (replay.Unfinished place)) old new h r = absurd (cc)
@@ -146,7 +146,7 @@ bytes_to_blame (job.CheckProof root file) (fault.Text text.Read) old new h r = a
 bytes_to_blame (job.CheckProof root file) (fault.Text (text.Write written)) old new h r = absurd (cc)
 bytes_to_blame (job.CheckProof root file) (fault.Text text.Memory) old new h r = absurd (cc)
 bytes_to_blame (job.Ask asked file) (fault.Replay (replay.Feed found)) old new h r =
-    (refused FrontCallsForMemoryAt (job.Ask asked file) (inputs_of old) found.code found.offset _ _ (λ b. b) h.0 r, h.1)
+    (refused (job.Ask asked file) (inputs_of old) found.code found.offset _ _ (λ b. b) h.0 r, h.1)
 bytes_to_blame (job.Ask asked file) (fault.Replay (replay.Collision id)) old new h r = (stopped _ old.first.bytes h.1, h.0.1)
 bytes_to_blame (job.Ask asked file) (fault.Replay (replay.Equivocation round author first second)) old new h r = (stopped _ old.first.bytes h.1, h.0.1)
 bytes_to_blame (job.Ask asked file) (fault.Replay (replay.Unfinished place)) old new h r = absurd (cc)
@@ -156,7 +156,7 @@ bytes_to_blame (job.Ask asked file) (fault.Text e) old new h r = absurd h
 bytes_to_blame j (fault.AbsentAccount id) old new h r = absurd (cc)
 bytes_to_blame j (fault.AbsentPlace place) old new h r = absurd (cc)
 bytes_to_blame (job.Apply file) (fault.Replay (replay.Feed found)) old new h r =
-    (refused CallsForMemoryAt (job.Apply file) (inputs_of old) found.code found.offset _ _ (λ b. b) h.0 r, h.1)
+    (refused (job.Apply file) (inputs_of old) found.code found.offset _ _ (λ b. b) h.0 r, h.1)
 bytes_to_blame (job.Apply file) (fault.Replay (replay.Collision id)) old new h r = absurd h
 bytes_to_blame (job.Apply file) (fault.Replay (replay.Equivocation round author first second)) old new h r = absurd h
 bytes_to_blame (job.Apply file) (fault.Replay (replay.Unfinished place)) old new h r = absurd h
@@ -169,7 +169,7 @@ bytes_to_blame (job.CheckProof root file) (fault.Events e) old new h r = absurd 
 bytes_to_blame (job.Ask asked file) (fault.Events e) old new h r = absurd h
 bytes_to_blame (job.Apply file) (fault.Events e) old new h r = absurd h
 bytes_to_blame (job.Schedule workers feed events) (fault.Replay (replay.Feed found)) old new h r =
-    (refused CallsForMemoryAt (job.Schedule workers feed events) (inputs_of old) found.code found.offset _ _ (λ b. inl b) h.2.0 r, h.2.1)
+    (refused (job.Schedule workers feed events) (inputs_of old) found.code found.offset _ _ (λ b. inl b) h.2.0 r, h.2.1)
 bytes_to_blame (job.Schedule workers feed events) (fault.Replay (replay.Collision id)) old new h r = absurd h.2
 bytes_to_blame (job.Schedule workers feed events) (fault.Replay (replay.Equivocation round author first second)) old new h r = absurd h.2
 bytes_to_blame (job.Schedule workers feed events) (fault.Replay (replay.Unfinished place)) old new h r = absurd h.2

@@ -6,7 +6,7 @@ use Rattle.bk_frames.specs.declared.fault.FaultCode.TheVariants as code
 use Rattle.bk_frames.specs.declared.fault.FeedFault.{FeedFault}
 use Rattle.bk_frames.specs.Device.{Device, Works, Receives, IfKnown}
 use Rattle.bk_frames.specs.Feed.{Frame, FeedValue, IsFeed, feed_of, spelling, HasFault}
-use Rattle.bk_frames.specs.Pulling.{RefusesInPieces}
+use Rattle.bk_frames.specs.Pulling.{Refuses}
 use Rattle.bk_frames.specs.Cutting.{EndsShort}
 use Rattle.bk_frames.proofs.CutJoining.{ends_cut_short}
 use Rattle.bk_results.specs.declared.fault.Fault.{Fault}
@@ -49,11 +49,11 @@ part_is_out known old new v written come ends =
     (λ bytes feed good spelled part. (part.text, part.answer, record { feed = feed; good = good; spelled = spelled; report = part.report }, part.some, part.gave))
 
 -- a feed that ends too early is refused
-pub cut_short : (known now : Device) (v : Followed) (found : FeedFault) → Works known now → IfKnown known (λ bytes. AllHasCome bytes v) → EndsShort v.cut found → RefusesInPieces found known now
+pub cut_short : (known now : Device) (v : Followed) (found : FeedFault) → Works known now → IfKnown known (λ bytes. AllHasCome bytes v) → EndsShort v.cut found → Refuses found known now
 cut_short known now v found works come short =
     let at : FeedFault = record { offset = v.cut.offset; code = code.Truncated } in
     let shown : IfKnown known (λ bytes. HasFault bytes at) = of_known known v (λ bytes. HasFault bytes at) come (λ bytes frames c. ends_cut_short bytes frames v.cut at c.cuts (record { is = refl; shown = short.shown })) in
-    subst (λ (f : FeedFault). RefusesInPieces f known now) (sym short.is) (works, shown)
+    subst (λ (f : FeedFault). Refuses f known now) (sym short.is) (works, shown)
 
 -- why there was no end is why there is no report
 pub finish_fails : (f : Fault) (known now old new : Device) (v w : Followed) → Works known now → IfKnown known (λ bytes. AllHasCome bytes v) → FinishFails v w old new f → RunFailsBy f (devices known old) (devices now new)

@@ -10,7 +10,7 @@ use Rattle.bk_frames.proofs.CutJoining.{cuts_then, bytes_so_far, none_before_mag
 use Rattle.bk_committee.specs.Payload.{CommitteeValue}
 use Rattle.bk_replay.specs.Follower.{BookValue, FollowsBy, Follows, Followed, HasCome}
 use Rattle.bk_replay.specs.private.Books.{HasFollowed}
-use Rattle.bk_replay.specs.private.Gathering.{HasGathered, Gathers}
+use Rattle.bk_replay.specs.private.Gathering.{HasGathered}
 use Rattle.bk_replay.specs.private.Parts.{followed}
 use Rattle.bk_replay.specs.declared.gathering.Gathered.{Gathered}
 use Rattle.bk_replay.proofs.Openings.{version_stays, no_version_before}
@@ -45,24 +45,12 @@ module _ (bytes : List ℕ) (taken : List Frame) (g : Gathered) (h : HasGathered
       subst (λ (w : Option Version). Follows w taken g.opened.committee g.opened.book) (sym e) (subst (λ (fs : List Frame). FollowsBy version fs g.opened.committee g.opened.book) (sym (none_taken none)) nothing)
   follows_then o k b version (inr known) e = subst (λ (w : Option Version). Follows w taken g.opened.committee g.opened.book) (known ∙ sym e) h.follows
 
-  follows_on : (new : Cut) (piece : List ℕ) (more : List Frame) → Cuts g.cutter piece more new → Follows new.version taken g.opened.committee g.opened.book
+  pub follows_on : (new : Cut) (piece : List ℕ) (more : List Frame) → Cuts g.cutter piece more new → Follows new.version taken g.opened.committee g.opened.book
   follows_on new piece more cuts = by_version new.version refl
     where
       by_version : (o : Option Version) → new.version ≡ o → Follows o taken g.opened.committee g.opened.book
       by_version None e = follows_none g.cutter.version taken g.opened.committee g.opened.book (no_version_before g.cutter new piece more cuts e) h.follows
       by_version (Some version) e = follows_then (Some version) g.opened.committee g.opened.book version (version_stays g.cutter new piece more version cuts e) refl
-
-  -- a piece was cut
-  pub cut_more : (new : Gathered) (piece : List ℕ) (more : List (Kind × Vec ℕ)) → Cuts g.cutter piece (frames_in more) new.cutter → new.cutter.fault ≡ None → IsOpen new.cutter → new.opened ≡ g.opened → new.frames.items ≡ g.frames.items ++ more
-      → HasGathered (bytes ++ piece) taken new
-  cut_more new piece more cuts reads ready same all = record {
-    cuts = subst (λ (fs : List Frame). Cuts fresh (bytes ++ piece) fs new.cutter)
-        (append_assoc taken (frames_in g.frames.items) (frames_in more) ∙ ap (λ (t : List Frame). taken ++ t) (sym (frames_more g.frames.items more) ∙ ap frames_in (sym all)))
-        (cuts_then fresh g.cutter new.cutter bytes piece (taken ++ frames_in g.frames.items) (frames_in more) h.cuts cuts);
-    is_open = ready;
-    reads = reads;
-    follows = rw same (follows_on new.cutter piece (frames_in more) cuts);
-  }
 
   -- the frames that wait can be taken
   pub can_take : (version : Version) → g.cutter.version ≡ Some version → HasFollowed version taken (frames_in g.frames.items) g.opened.committee g.opened.book
@@ -112,11 +100,3 @@ none_gathered g cut committee book none = record {
   reads = ap (λ (c : Cut). c.fault) cut;
   follows = subst (λ (c : Cut). Follows c.version [] g.opened.committee g.opened.book) (sym cut) (committee, book);
 }
-
--- a piece was cut, and nothing taken; or what waited was
-pub gathers_none : (old new : Gathered) (piece : List ℕ) → ((bytes : List ℕ) (taken : List Frame) → HasGathered bytes taken old → HasGathered (bytes ++ piece) taken new) → Gathers old piece new
-gathers_none old new piece h = λ bytes taken g. ([], subst (λ (t : List Frame). HasGathered (bytes ++ piece) t new) (sym (append-nil taken)) (h bytes taken g))
-
-pub gathers_all : (old cut new : Gathered) (piece : List ℕ) → ((bytes : List ℕ) (taken : List Frame) → HasGathered bytes taken old → HasGathered (bytes ++ piece) taken cut)
-    → ((bytes : List ℕ) (taken : List Frame) → HasGathered bytes taken cut → HasGathered bytes (taken ++ frames_in cut.frames.items) new) → Gathers old piece new
-gathers_all old cut new piece h k = λ bytes taken g. (frames_in cut.frames.items, k (bytes ++ piece) taken (h bytes taken g))

@@ -3,7 +3,7 @@ use Rattle.std.specs.Prelude.{◌≡◌, ℕ, ◌<◌, List, [], ◌∷◌, ◌+
 use Rattle.bk_frames.specs.declared.genesis.Row.{Row}
 use Rattle.bk_frames.specs.Device.{Device, Works, Fails, Receives, IfKnown}
 use Rattle.bk_frames.specs.Feed.{FeedValue, IsFeed, spelling, genesis_of}
-use Rattle.bk_frames.specs.Pulling.{RefusesInPieces}
+use Rattle.bk_frames.specs.Pulling.{Refuses}
 use Rattle.bk_order.specs.Orders.{Ordered}
 use Rattle.bk_rules.specs.declared.account.Account.{Account}
 use Rattle.bk_rules.specs.declared.receipt.Receipt.{Receipt}
@@ -111,7 +111,7 @@ PartOfReplyIsOut asked written old new bytes =
 -- failure nothing is written
 abbrev pub AskFailsBy : Query → Fault → Devices → Devices → Type 0
 AskFailsBy asked (fault.Feed found) old new =
-    RefusesInPieces found old.source new.source × IsUntouched old.sink new.sink
+    Refuses found old.source new.source × IsUntouched old.sink new.sink
 AskFailsBy asked (fault.Collision id) old new =
     NothingFailed old new × IfKnown old.source (λ bytes. IsStopped bytes (fault.Collision id))
 AskFailsBy asked (fault.Equivocation round author first second) old new =

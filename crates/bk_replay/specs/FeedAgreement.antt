@@ -2,7 +2,7 @@
 use Rattle.std.specs.Prelude.{◌≡◌, List, ℕ}
 use Rattle.bk_frames.specs.Device.{Device, Works, IfKnown}
 use Rattle.bk_frames.specs.Feed.{FeedValue, IsFeed, spelling}
-use Rattle.bk_frames.specs.Pulling.{RefusesInPieces}
+use Rattle.bk_frames.specs.Pulling.{Refuses}
 use Rattle.bk_order.specs.declared.stop.Stop.TheVariants as stop
 use Rattle.bk_results.specs.declared.compare_stop.CompareStop.{CompareStop}
 use Rattle.bk_results.specs.declared.compare_stop.CompareStop.TheVariants as why
@@ -70,7 +70,7 @@ IfBothKnown s holds =
 -- why the feed of a source was not followed to its end: it was refused; a worker took a place and did not finish it; or
 -- memory ran out. That something stops the feed is no such reason
 abbrev pub FollowFails : Fault → Device → Device → Type 0
-FollowFails (fault.Feed found) old new = RefusesInPieces found old new
+FollowFails (fault.Feed found) old new = Refuses found old new
 FollowFails (fault.Collision id) old new = ⊥
 FollowFails (fault.Equivocation round author first second) old new = ⊥
 FollowFails (fault.Unfinished place) old new = Works old new × IfKnown old (λ bytes. HasPlace bytes place)

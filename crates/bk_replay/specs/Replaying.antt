@@ -2,7 +2,7 @@
 use Rattle.std.specs.Prelude.{ℕ, ◌<◌, List, length, take}
 use Rattle.bk_frames.specs.Device.{Device, Works, Fails, Receives, IfKnown}
 use Rattle.bk_frames.specs.Feed.{Frame}
-use Rattle.bk_frames.specs.Pulling.{RefusesInPieces}
+use Rattle.bk_frames.specs.Pulling.{Refuses}
 use Rattle.bk_results.specs.declared.fault.Fault.{Fault}
 use Rattle.bk_results.specs.declared.fault.Fault.TheVariants as fault
 use Rattle.bk_results.specs.declared.status.Status.{Status}
@@ -16,7 +16,7 @@ AllHasCome bytes v = (frames : List Frame) × HasCome bytes frames v
 
 -- why a feed was not read: it was refused, or memory ran out elsewhere
 abbrev pub ReadFails : Fault → Device → Device → Type 0
-ReadFails (fault.Feed found) old new = RefusesInPieces found old new
+ReadFails (fault.Feed found) old new = Refuses found old new
 ReadFails (fault.Collision id) old new = ⊥
 ReadFails (fault.Equivocation round author first second) old new = ⊥
 ReadFails (fault.Unfinished place) old new = ⊥
@@ -38,7 +38,7 @@ NothingFailed old new = Works old.source new.source × IsUntouched old.sink new.
 -- the sink's failure nothing is written
 abbrev pub RunFailsBy : Fault → Devices → Devices → Type 0
 RunFailsBy (fault.Feed found) old new =
-    RefusesInPieces found old.source new.source × IsUntouched old.sink new.sink
+    Refuses found old.source new.source × IsUntouched old.sink new.sink
 RunFailsBy (fault.Collision id) old new =
     NothingFailed old new × IfKnown old.source (λ bytes. IsStopped bytes (fault.Collision id))
 RunFailsBy (fault.Equivocation round author first second) old new =

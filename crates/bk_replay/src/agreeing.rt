@@ -1,5 +1,6 @@
 //! Whether the feeds of two sources agree.
 
+ghost use Rattle.bk_frames.specs.declared.pulling.TheConstants.{PIECE};
 ghost use Rattle.std.specs.Prelude.{◌≡◌, ◌<◌, ◌≤◌, None, length, OnOk, IfOk, IfErr};
 ghost use Rattle.bk_frames.specs.Device.{CanBeUsed, Works, IfKnown};
 ghost use Rattle.bk_replay.specs.Agreement.{FollowersAgree};
@@ -10,8 +11,8 @@ use crate::differ::{Agreed, Differ};
 use crate::fault::Fault;
 use crate::follower::{Follower, is_stop};
 use crate::nowhere::Nowhere;
-use crate::replaying::{PIECE, follow};
-use bk_frames::Source;
+use crate::replaying::follow;
+use bk_frames::{PIECE, Source};
 use bk_pool::Gate;
 use bk_results::CompareStop;
 use std::alloc::Global;
@@ -48,6 +49,7 @@ fn follow_in_pieces<R: Threads + Wait + Sync, S: Source, G: Gate + Sync>(
     gate: &G,
 ) -> Result<Follower, Fault>
     requires some { 0 < length piece.old }
+    requires few { length piece.old ≤ PIECE }
     requires workers { (1 ≤ workers) × (workers ≤ 64) }
     requires sound { CanBeUsed (S.state source.old) }
     ensures works { IfOk result (λ v. Works (S.state source.old) (S.state source.new)

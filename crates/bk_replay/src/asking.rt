@@ -1,3 +1,4 @@
+ghost use Rattle.bk_frames.specs.declared.pulling.TheConstants.{PIECE};
 ghost use Rattle.std.specs.Prelude.{◌≡◌, ◌<◌, ◌≤◌, ℕ, List, length, None, OnOk, IfOk, IfErr};
 ghost use Rattle.bk_frames.specs.Device.{CanBeUsed, Works, IfKnown};
 ghost use Rattle.bk_frames.specs.Feed.{Frame};
@@ -10,8 +11,8 @@ ghost use Rattle.bk_replay.specs.private.Replies.{FollowerReplies, FollowerReply
 use crate::fault::Fault;
 use crate::follower::Follower;
 use crate::opening::Opened;
-use crate::replaying::{PIECE, follow};
-use bk_frames::{Cutter, Sink, Source};
+use crate::replaying::follow;
+use bk_frames::{Cutter, PIECE, Sink, Source};
 use bk_pool::Gate;
 use bk_results::{Query, Reply};
 use std::alloc::Global;
@@ -85,6 +86,7 @@ fn follow_and_reply<R: Threads + Wait + Sync, S: Source, K: Sink, G: Gate + Sync
     query: Query,
 ) -> Result<Reply, Fault>
     requires some { 0 < length piece.old }
+    requires few { length piece.old ≤ PIECE }
     requires workers { (1 ≤ workers) × (workers ≤ 64) }
     requires source { CanBeUsed (S.state source.old) }
     requires sink { CanBeUsed (K.state sink.old) }

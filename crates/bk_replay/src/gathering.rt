@@ -1,16 +1,19 @@
 //! A feed whose frames are gathered, so that many of them are judged at once.
 
-ghost use Rattle.std.specs.Prelude.{◌≡◌, ◌++◌, ◌≤◌, [], ℕ, List, None, OnOk, IfOk, IfErr};
+ghost use Rattle.std.specs.Prelude.{◌≡◌, ◌++◌, ◌<◌, ◌≤◌, [], ℕ, List, length, None, OnOk, IfOk, IfErr, IsTrue, false};
 ghost use Rattle.bk_frames.specs.Cutting.{frames_in};
+ghost use Rattle.bk_frames.specs.Device.{Device, CanBeUsed, IfKnown};
+ghost use Rattle.bk_frames.specs.Reading.{room_of};
+ghost use Rattle.bk_frames.specs.declared.pulling.TheConstants.{PIECE};
 ghost use Rattle.bk_frames.specs.Feed.{Frame};
-ghost use Rattle.bk_replay.specs.Follower.{HasCome, FeedFails};
-ghost use Rattle.bk_replay.specs.private.Gathering.{HasGathered, Gathers};
-ghost use Rattle.bk_replay.specs.private.Parts.{followed};
+ghost use Rattle.bk_replay.specs.Follower.{HasCome};
+ghost use Rattle.bk_replay.specs.private.Gathering.{HasGathered, HasPulled, IsAllOf};
+ghost use Rattle.bk_replay.specs.Replaying.{ReadFails};
 
 use crate::fault::Fault;
 use crate::follower::Follower;
 use crate::opening::{Opened, take_frames};
-use bk_frames::{Cutter, Kind};
+use bk_frames::{Cutter, Kind, Source, pull_frames};
 use std::alloc::{AllocError, Global};
 use std::mem::replace;
 use std::thread::Threads;
@@ -47,29 +50,6 @@ impl Gathered {
         }
     }
 
-    /// The offset of the frame that is being read, 0 while that is the magic.
-    pub(crate) fn offset(&self) -> u64
-        ensures { result ≡ self.now.cutter.offset }
-    {
-        self.cutter.offset()
-    }
-
-    // Cuts a piece, whose whole frames wait.
-    fn cut(&mut self, piece: &[u8]) -> Result<(), Fault>
-        requires come { (bytes : List ℕ) × (taken : List Frame)
-            × HasGathered bytes taken self.old }
-        ensures cuts { OnOk result ((bytes : List ℕ) (taken : List Frame)
-            → HasGathered bytes taken self.old → HasGathered (bytes ++ piece.now) taken self.new) }
-        ensures fault { IfErr result
-            (λ f. FeedFails (followed self.old.cutter self.old.opened) piece.now f) }
-    {
-        let mut frames = self.cutter.feed(piece)?;
-        self.frames.append(&mut frames)?;
-        // The count says when to judge, and no more: it need not be right where it is huge.
-        self.count = self.count.saturating_add(piece.len());
-        Ok(())
-    }
-
     /// Takes the frames that wait.
     pub(crate) fn take(
         &mut self,
@@ -92,25 +72,62 @@ impl Gathered {
         Ok(())
     }
 
-    /// Takes the next piece of the feed. Its frames are judged with those that waited, once there are enough.
-    pub(crate) fn feed(
+    // Pulls the next piece of the feed, whose whole frames wait. Returns how many bytes came: 0 at the end.
+    fn pull_piece<S: Source>(&mut self, source: &mut S, piece: &mut [u8]) -> Result<usize, Fault>
+        requires sound { CanBeUsed (S.state source.old) }
+        requires some { 0 < length piece.old }
+        requires few { length piece.old ≤ PIECE }
+        requires come { (start : Device) × HasPulled start (S.state source.old) self.old }
+        ensures come { OnOk result ((start : Device) → HasPulled start (S.state source.old) self.old
+            → HasPulled start (S.state source.new) self.new) }
+        ensures all { IfOk result (λ n. n ≡ 0 → (start : Device)
+            → HasPulled start (S.state source.old) self.old
+            → IfKnown start (λ bytes. (taken : List Frame) × HasGathered bytes taken self.new)) }
+        ensures nearer { IfOk result
+            (λ n. 0 < n → room_of self.new.cutter < room_of self.old.cutter) }
+        ensures fault { IfErr result (λ f. (start : Device)
+            → HasPulled start (S.state source.old) self.old
+            → ReadFails f start (S.state source.new)) }
+    {
+        let count = pull_frames(source, piece, &mut self.cutter, &mut self.frames)?;
+        // The count says when to judge, and no more: it need not be right where it is huge.
+        self.count = self.count.saturating_add(count);
+        Ok(count)
+    }
+
+    /// Pulls the next piece of the feed. Its frames are judged with those that waited, once there are enough, or at the
+    /// end of the source. Returns whether that was reached.
+    pub(crate) fn pull<S: Source>(
         &mut self,
         rt: &(impl Threads + Sync),
         alloc: Global,
-        piece: &[u8],
-    ) -> Result<(), Fault>
-        requires come { (bytes : List ℕ) × (taken : List Frame)
-            × HasGathered bytes taken self.old }
-        ensures gathers { OnOk result (Gathers self.old piece.now self.new) }
-        ensures fault { IfErr result
-            (λ f. FeedFails (followed self.old.cutter self.old.opened) piece.now f) }
+        source: &mut S,
+        piece: &mut [u8],
+    ) -> Result<bool, Fault>
+        requires sound { CanBeUsed (S.state source.old) }
+        requires some { 0 < length piece.old }
+        requires few { length piece.old ≤ PIECE }
+        requires come { (start : Device) × HasPulled start (S.state source.old) self.old }
+        ensures come { OnOk result ((start : Device) → HasPulled start (S.state source.old) self.old
+            → HasPulled start (S.state source.new) self.new) }
+        ensures all { IfOk result (λ end. IsTrue end → (start : Device)
+            → HasPulled start (S.state source.old) self.old → IsAllOf start self.new) }
+        ensures nearer { IfOk result (λ end. end ≡ false
+            → room_of self.new.cutter < room_of self.old.cutter) }
+        ensures fault { IfErr result (λ f. (start : Device)
+            → HasPulled start (S.state source.old) self.old
+            → ReadFails f start (S.state source.new)) }
     {
-        self.cut(piece)?;
+        let count = self.pull_piece(source, piece)?;
+        if count == 0 {
+            self.take(rt, alloc)?;
+            return Ok(true);
+        }
         if self.count < ENOUGH {
-            return Ok(());
+            return Ok(false);
         }
         self.take(rt, alloc)?;
-        Ok(())
+        Ok(false)
     }
 
     /// A Follower of all that came and is taken, with 1 to 64 workers.

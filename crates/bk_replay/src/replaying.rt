@@ -4,22 +4,20 @@ ghost use Rattle.bk_frames.specs.Feed.{Frame};
 ghost use Rattle.bk_replay.specs.RunReport.{IsReport};
 ghost use Rattle.bk_replay.specs.Answers.{devices};
 ghost use Rattle.bk_replay.specs.Replaying.{RunFailsBy, ReadFails, AllHasCome};
-ghost use Rattle.bk_replay.specs.private.Gathering.{HasGathered};
+ghost use Rattle.bk_replay.specs.private.Gathering.{HasGathered, IsAllOf};
+ghost use Rattle.bk_frames.specs.declared.pulling.TheConstants.{PIECE};
 
 use crate::fault::Fault;
 use crate::follower::Follower;
 use crate::gathering::Gathered;
-use bk_frames::{FaultCode, FeedFault, Sink, Source};
+use bk_frames::{PIECE, Sink, Source};
 use bk_pool::Gate;
 use bk_results::Status;
 use std::alloc::Global;
 use std::sync::Wait;
 use std::thread::Threads;
 
-/// A source is asked for at most this many bytes at once. The number is none of the format's.
-pub(crate) const PIECE: usize = 65_536;
-
-// Gathers all that a source has, and takes it. Each piece is cut before the next is pulled.
+// Gathers all that a source has, and takes it.
 fn pull_all<R: Threads + Sync, S: Source>(
     rt: &R,
     alloc: Global,
@@ -29,28 +27,18 @@ fn pull_all<R: Threads + Sync, S: Source>(
 ) -> Result<(), Fault>
     requires sound { CanBeUsed (S.state source.old) }
     requires some { 0 < length piece.old }
+    requires few { length piece.old ≤ PIECE }
     requires first { HasGathered [] [] gathered.old }
     ensures works { OnOk result (Works (S.state source.old) (S.state source.new)) }
     ensures come { OnOk result ((bytes : List ℕ) × (taken : List Frame)
         × HasGathered bytes taken gathered.new) }
-    ensures taken { OnOk result (gathered.new.frames.items ≡ []) }
-    ensures all { OnOk result (IfKnown (S.state source.old) (λ bytes.
-        (taken : List Frame) × HasGathered bytes taken gathered.new)) }
+    ensures all { OnOk result (IsAllOf (S.state source.old) gathered.new) }
     ensures fault { IfErr result (λ f. ReadFails f (S.state source.old) (S.state source.new)) }
 {
     // The label names the loop for its proof.
     'pieces: loop {
-        let offset = gathered.offset();
-        match source.pull(piece) {
-            Ok(0) => {
-                gathered.take(rt, alloc)?;
-                return Ok(());
-            }
-            Ok(count) => gathered.feed(rt, alloc, &piece[..count])?,
-            Err(_) => {
-                let code = FaultCode::Read;
-                return Err(Fault::Feed(FeedFault { offset, code }));
-            }
+        if gathered.pull(rt, alloc, source, piece)? {
+            return Ok(());
         }
     }
 }
@@ -65,6 +53,7 @@ pub(crate) fn follow<R: Threads + Sync, S: Source>(
 ) -> Result<Follower, Fault>
     requires sound { CanBeUsed (S.state source.old) }
     requires some { 0 < length piece.old }
+    requires few { length piece.old ≤ PIECE }
     requires workers { (1 ≤ workers) × (workers ≤ 64) }
     ensures works { IfOk result (λ v. Works (S.state source.old) (S.state source.new)
         × (v.fault ≡ None)) }
@@ -88,6 +77,7 @@ fn follow_to_end<R: Threads + Wait + Sync, S: Source, K: Sink, G: Gate + Sync>(
     gate: &G,
 ) -> Result<Status, Fault>
     requires some { 0 < length piece.old }
+    requires few { length piece.old ≤ PIECE }
     requires workers { (1 ≤ workers) × (workers ≤ 64) }
     requires source { CanBeUsed (S.state source.old) }
     requires sink { CanBeUsed (K.state sink.old) }
