@@ -16,7 +16,7 @@ pub enum Exit {
     Whole = 0,
     /// The answer is no: the command line names no job, what was asked for is not there, or the proof is bad.
     No = 1,
-    /// The bytes of the input are wrong, or those of two feeds have no one setup.
+    /// The bytes of the input are wrong, or two feeds differ in version, committee or opening accounts.
     WrongInput = 2,
     /// A feed, or two feeds together, are stopped by a collision or an equivocation.
     Stopped = 3,

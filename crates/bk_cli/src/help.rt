@@ -34,12 +34,12 @@ pub(crate) const FEED2: &str = "The path of the other feed";
 pub(crate) const PROGRAM: Help<'static> = Help {
     about: "Replays a ledger from the bytes of a feed",
     after: "\
-An answer is on standard output, one line for each thing that it says. A fault is one line on standard error.
+Output is written to standard output. A fault is one line on standard error.
 
 Exit status:
   0  the whole answer is written
   1  the command line is wrong, what was asked for is absent, or the proof is bad
-  2  a feed, the script or the list of events is wrong, or two feeds have no one setup
+  2  a feed, the script or the list of events is wrong, or two feeds differ in version, committee or opening accounts
   3  a feed, or two together, are stopped by a collision or an equivocation
   4  a read, a write or memory failed, or a worker did not finish
   5  the report of a run is written, and stops at a missing batch
@@ -60,7 +60,7 @@ batches in any order. Writes these lines to standard output, in this order:
   waiting ROUND AUTHOR            a certificate that waits for a parent
   anchor ROUND AUTHOR             a committed anchor
   cert ROUND AUTHOR               a certificate of the order
-  batch INDEX COUNT               a batch of the order; `void` in place of COUNT where it is none
+  batch INDEX COUNT               a batch of the order; `void` in place of COUNT if its payload is malformed
   missing HEX                     the batch that the feed lacks, where the order stops
   tx PLACE STATUS MOVED           an executed transaction
   account ID BALANCE SEQ          an account at the end
@@ -209,10 +209,10 @@ Example:
 pub(crate) const APPLY: Help<'static> = Help {
     about: "Execute all batches of a feed, in feed order and on one thread, and write the apply report",
     after: "\
-Reads a feed: the bytes `BKF1` or `BKF2`, then frames. Takes every batch as it stands and reads no certificate. Writes
+Reads a feed: the bytes `BKF1` or `BKF2`, then frames. Takes every batch, and reads no certificate. Writes
 these lines to standard output, in this order:
 
-  batch INDEX COUNT               a batch; `void` in place of COUNT where it is none
+  batch INDEX COUNT               a batch; `void` in place of COUNT if its payload is malformed
   tx PLACE STATUS MOVED           an executed transaction
   account ID BALANCE SEQ          an account at the end
   money TOTAL                     all balances at the end
@@ -260,9 +260,9 @@ pub(crate) const COMPARE: Help<'static> = Help {
     about: "Compare the orders of two feeds and what was executed by them",
     after: "\
 Reads FEED1 and then FEED2, each as `run` does, and finds the order of each up to a batch that is missing. The feeds
-agree where they have one version, one committee and the same opening accounts, and no certificates or batches collide
-and no member has twins among the frames of both together. Then the order of one begins with that of the other, and so
-do the transactions with what became of them. Writes to standard output:
+agree if they have the same version, committee and opening accounts, and their frames together have no collision and no
+two certificates of one member in one round. Then one order is a beginning of the other, and so are the transactions
+with their receipts. Writes to standard output:
 
   agree CERTS PLACES              how many certificates the shorter order has, and how many transactions
 
@@ -270,7 +270,7 @@ Exit status:
   0  the line is written: the feeds agree
   1  the command line is wrong
   2  feed fault CODE at OFFSET, with a code of 1 to 7: the bytes of FEED1 are no feed, or else those of FEED2
-  2  differ setup: the versions, the committees or the opening accounts differ, or a feed ends before its accounts
+  2  differ setup: the versions, the committees or the opening accounts differ
   3  collision ID, or equivocation ROUND AUTHOR ID ID: in one of the feeds, or between the two
   4  feed fault 8 or 9, memory, read failed, write failed, or unfinished PLACE
 

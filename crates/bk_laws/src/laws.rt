@@ -20,7 +20,8 @@ pub fn exactly_one_reply()
 {}
 
 /// Two feeds come to exactly one thing: they agree, so far as the shorter order and the shorter list of receipts go, or
-/// they have no one setup, or both together are stopped. Two orders that differ are none of these.
+/// they differ in version, committee or opening accounts, or both together are stopped. Two orders that differ are none
+/// of these.
 pub fn exactly_one_comparison()
     ensures { ExactlyOneComparison }
 {}
