@@ -33,10 +33,15 @@ def build_program():
     subprocess.run([LAUNCHER, "--version"], check=True, stdout=subprocess.DEVNULL)
 
 
-def build_bench():
-    """Builds `bk_bench` where it is not there."""
-    if not os.path.exists(BENCH):
-        subprocess.run(["rt", "run", "--", "root", "3"], cwd=BENCH_CRATE, check=True, stdout=sys.stderr)
+def build_bench(cpu=None):
+    """Builds `bk_bench` where it is not there, for the default processor or for the one that is named: its path."""
+    path = f"{BENCH}-{cpu}" if cpu else BENCH
+    if not os.path.exists(path):
+        words = ["rt", "run"] + (["--cpu", cpu] if cpu else []) + ["--", "root", "3"]
+        subprocess.run(words, cwd=BENCH_CRATE, check=True, stdout=sys.stderr)
+        if cpu:
+            os.replace(BENCH, path)
+    return path
 
 
 def commands_of(program):

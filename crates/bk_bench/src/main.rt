@@ -8,7 +8,7 @@ mod certs;
 
 use crate::certs::Maker;
 use anyhow::{Context, Result, bail};
-use bk_digest::{Digest32, MacKey, hmac, tree_root, tree_root_with};
+use bk_digest::{Digest32, MacKey, ToTag, hmac, tagged, tags_each, tree_root, tree_root_with};
 use std::alloc::{AllocError, Global};
 use std::env;
 use std::thread::Threads;
@@ -47,6 +47,47 @@ fn prepared_tags(count: u32) -> Digest32 {
     last
 }
 
+// The last of `count` tags of ids that differ, made side by side.
+fn tags_in_lanes(alloc: Global, count: u32) -> Result<Digest32, AllocError> {
+    let key = MacKey::new(&[7; 32]);
+    let mut ids = Vec::new(alloc);
+    for id in 0..count {
+        let mut bytes = [0u8; 32];
+        bytes[..4].copy_from_slice(&id.to_be_bytes());
+        let id = Digest32::new(bytes);
+        // The toolchain has no rule for `?` on what a push of a `ToTag` returns.
+        if ids.push(ToTag { key: &key, id }).is_err() {
+            return Err(AllocError);
+        }
+    }
+    let tags = tags_each(alloc, &ids)?;
+    Ok(tags.last().copied().unwrap_or(Digest32::new([0; 32])))
+}
+
+fn joined(left: &[u8; 32], right: &[u8; 32]) -> [u8; 64] {
+    let mut node = [0u8; 64];
+    node[..32].copy_from_slice(left);
+    node[32..].copy_from_slice(right);
+    node
+}
+
+// A node over the hash of a leaf with this number and the last node.
+fn node_over(number: u32, last: &Digest32) -> Digest32 {
+    let mut data = [0u8; 24];
+    data[..4].copy_from_slice(&number.to_be_bytes());
+    let leaf = tagged(0, &data);
+    tagged(1, &joined(leaf.as_bytes(), last.as_bytes()))
+}
+
+// As many leaves and nodes as the tree over `count` leaves has, hashed one by one.
+fn hashes_alone(count: u32) -> Digest32 {
+    let mut last = Digest32::of(b"");
+    for number in 0..count {
+        last = node_over(number, &last);
+    }
+    last
+}
+
 // Hashes as the word says, `count` times or `count` bytes.
 fn hashing<R: Threads + Sync>(rt: &R, alloc: Global, work: &str, count: u32) -> Result<Digest32> {
     Ok(match work {
@@ -54,6 +95,8 @@ fn hashing<R: Threads + Sync>(rt: &R, alloc: Global, work: &str, count: u32) -> 
         "bytes" => Digest32::of(vec![in alloc; 0u8; count as usize]?.as_slice()),
         "tags" => tags(count),
         "prepared" => prepared_tags(count),
+        "tags_each" => tags_in_lanes(alloc, count)?,
+        "alone" => hashes_alone(count),
         // The leaves alone, to take off what making them costs.
         "leaves" => Digest32::of(&leaves(alloc, count)?.len().to_be_bytes()),
         "root" => tree_root(leaves(alloc, count)?.as_slice()),
