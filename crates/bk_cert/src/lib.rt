@@ -3,7 +3,7 @@
 //! `Cert::decode` answers exactly what the bytes encode, and nothing where they encode no certificate;
 //! `Cert::encode` writes the one encoding. `Cert::seal` makes the certificate that given members sign.
 //! That a tag is its member's is judged elsewhere: here a certificate is only well formed.
-//! A `CertView` is a certificate whose fields stay in the bytes that it was read from.
+//! A `CertView` is a certificate that is read in place from its bytes.
 //!
 //! `CertRef` is the place of a certificate, its round and its author; a `SharedCert` is a header
 //! under its id that several tables hold, kept once.

@@ -11,7 +11,7 @@ use crate::reading::{Parts, certificate};
 use std::alloc::{AllocError, Global};
 use std::marker::Model;
 
-/// A certificate whose fields are read from its bytes, where they stay. Contracts see it as the certificate.
+/// A certificate that is read in place from its bytes. Contracts see it as the certificate.
 ///
 /// As in a `Cert`, the tags are as they came: that each is its member's is not known here.
 #[derive(Drop)]

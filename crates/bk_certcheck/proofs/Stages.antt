@@ -1,5 +1,5 @@
 -- Payloads from one stage of a check to the next.
-use Rattle.std.proofs.Common.{◌≡◌, ◌≢◌, ℕ, zero, suc, ◌+◌, ◌<◌, ◌≤◌, List, [], ◌∷◌, ◌++◌, map, length, take, drop, get_or, Option, Some, None, Bool, true, false, cond, IsTrue, refl, sym, ap, subst, ◌∙◌, append_assoc, arith, inl, inr}
+use Rattle.std.proofs.Common.{◌≡◌, ℕ, zero, suc, ◌+◌, ◌<◌, List, [], ◌∷◌, ◌++◌, map, length, take, drop, get_or, Option, Some, None, Bool, true, false, cond, refl, sym, ap, subst, ◌∙◌, append_assoc, arith}
 use Rattle.std.specs.Prelude.{Result, Ok, Err, is_ok, is_err}
 use Rattle.std.specs.List.{AllZip, flat_map}
 use Rattle.std.proofs.lemmas.List.{append-nil, length-map, take_at, drop_at, take_more, drop_more, map-append}
@@ -14,14 +14,12 @@ use Rattle.bk_cert.specs.Values.{CertValue}
 use Rattle.bk_cert.specs.Mask.{is_signer, signers_of}
 use Rattle.bk_cert.specs.Spelling.{IsCertificate, header_text}
 use Rattle.bk_cert.specs.Identity.{id_of, tag_of}
-use Rattle.bk_cert.specs.Reading.{certificate_of}
-use Rattle.bk_cert.specs.Node.{Node, node_of}
 use Rattle.bk_certcheck.specs.declared.rule.Rule.{Rule}
 use Rattle.bk_certcheck.specs.declared.rule.Rule.TheVariants as rule
 use Rattle.bk_certcheck.specs.declared.verdict.Verdict.{Verdict}
 use Rattle.bk_certcheck.specs.declared.verdict.Verdict.TheVariants as verdict
-use Rattle.bk_certcheck.specs.Rules.{Breaks, BreaksNoneBelow, rule_number}
-use Rattle.bk_certcheck.specs.Verdicts.{IsGood, BreaksFirst, IsBroken, IsVerdict}
+use Rattle.bk_certcheck.specs.Rules.{Breaks, BreaksNoneBelow}
+use Rattle.bk_certcheck.specs.Verdicts.{BreaksFirst, IsBroken, IsVerdict}
 use Rattle.bk_certcheck.specs.private.Stages.{IsLeft, AreScreened, AreLeft, own_tags, AreTagsOf, IsByTags, IsLastVerdict, filled}
 use Rattle.bk_cert.proofs.Marks.{marked, all_marked}
 use Rattle.bk_certcheck.proofs.Signers.{marked_with, marked_without}

@@ -1,12 +1,12 @@
 -- The local rules of certificates.
-use Rattle.std.specs.Prelude.{◌≡◌, ◌≢◌, ℕ, ◌<◌, ◌≤◌, ◌⊎◌, Bool, List, length, Contains, IsTrue, nat_lt, ◌==◌, ◌||◌, if◌then◌else◌}
+use Rattle.std.specs.Prelude.{◌≡◌, ◌≢◌, ℕ, ◌<◌, ◌≤◌, ◌⊎◌, Bool, length, Contains, IsTrue, nat_lt, ◌==◌, ◌||◌, if◌then◌else◌}
 use Rattle.std.specs.List.Sorted.{IsStrictlySortedBy}
 use Rattle.std.specs.Ordering.{nat_cmp}
 use Rattle.std.specs.Cmp.Lexicographic.{slice_cmp}
 use Rattle.bk_frames.specs.declared.version.Version.{Version}
 use Rattle.bk_frames.specs.declared.version.Version.TheVariants as version
 use Rattle.bk_committee.specs.Payload.{CommitteeValue, sizes_of}
-use Rattle.bk_committee.specs.Sizes.{Sizes, quorum, weight_of}
+use Rattle.bk_committee.specs.Sizes.{quorum, weight_of}
 use Rattle.bk_cert.specs.Values.{HeaderValue, CertValue}
 use Rattle.bk_cert.specs.Mask.{signers_of}
 use Rattle.bk_cert.specs.Identity.{tags_by}

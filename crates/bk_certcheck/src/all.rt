@@ -11,7 +11,7 @@ use rayon::prelude::*;
 use std::alloc::{AllocError, Global};
 use std::thread::Threads;
 
-// The payloads are divided into so many groups, where each is then of a size between these two.
+// There are about 32 groups, each of at least 8 and at most 64 payloads.
 const GROUPS: usize = 32;
 
 const FEWEST: usize = 8;

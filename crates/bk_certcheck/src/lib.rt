@@ -1,7 +1,7 @@
 //! Verdicts on certificates: which local rule the bytes of a certificate break first, if they break any.
 //!
-//! Certificates are judged where they are in their bytes, many together: the rules that need no hash first, then all
-//! ids side by side, then all tags. Nothing is copied but the header of a good certificate.
+//! Certificates are judged in place, many together: first by the rules that need no hash, then all ids are hashed side
+//! by side, then all tags. Only the header of a good certificate is copied.
 #![tactic(auto)]
 
 mod all;

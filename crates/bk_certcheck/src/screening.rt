@@ -10,7 +10,8 @@ use bk_cert::CertView;
 use bk_committee::Committee;
 use std::alloc::{AllocError, Global};
 
-// Payloads of which each breaks the rule in its place, or is the next certificate that is left where there is none.
+// For each payload the rule that it breaks first, if it is not the last; and the certificates that break none before
+// the last, in their order.
 #[derive(Drop)]
 pub(crate) struct Screened<'a> {
     pub broken: Vec<Option<Rule>>,
@@ -31,6 +32,7 @@ fn screen_one<'a>(committee: &Committee, bytes: &'a [u8]) -> Result<CertView<'a>
     }
 }
 
+// Each payload, tested by the rules before the last.
 pub(crate) fn screen<'a>(
     alloc: Global,
     committee: &Committee,

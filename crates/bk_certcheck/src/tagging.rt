@@ -46,8 +46,8 @@ fn want_tags<'a>(
     Ok(())
 }
 
-/// The tags that the signers of each certificate have under its id, those of one certificate after those of another.
-/// All are hashed side by side.
+/// The tags that the signers of each certificate have under its id, in the order of the certificates. All are hashed
+/// side by side.
 pub fn tags_of(
     alloc: Global,
     committee: &Committee,

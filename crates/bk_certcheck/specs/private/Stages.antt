@@ -21,7 +21,7 @@ use Rattle.bk_certcheck.specs.declared.verdict.Verdict.TheVariants as verdict
 abbrev pub IsLeft : CommitteeValue → List ℕ → CertValue → Type 0
 IsLeft k bytes c = (certificate_of bytes ≡ Some c) × BreaksNoneBelow k c 7
 
--- each payload breaks the rule in its place, or is the next certificate that is left where there is none
+-- each payload breaks the rule at its index first, or, where there is none, is the next certificate that is left
 abbrev pub AreScreened : CommitteeValue → List (List ℕ) → List (Option Rule) → List CertValue
     → Type 0
 AreScreened k [] [] [] = Unit {0}
@@ -47,12 +47,12 @@ tags_under keys id mask = map (λ member. tag_of (slice_index_or keys member [])
 abbrev pub own_tags : CommitteeValue → CertValue → List (List ℕ)
 own_tags k c = tags_under k.keys (id_of c.header) c.mask
 
--- these tags are what is to be tagged: each is the tag of its id under its key
+-- each of the tags is that of the id under the key
 abbrev pub AreTagsOf : List ToTag → List (List ℕ) → Type 0
 AreTagsOf wanted tags =
     AllZip (λ t tag. (key : List ℕ) × IsPrepared key t.key.now × (tag ≡ hmac_of key t.id)) wanted tags
 
--- the verdict on a certificate that has these tags where it should have those
+-- the verdict on a certificate whose signers have these tags under its id
 abbrev pub IsByTags : CertValue → List (List ℕ) → Verdict → Type 0
 IsByTags c own (verdict.Good node) = (node ≡ node_of c.header) × (c.tags ≡ own)
 IsByTags c own (verdict.Broken r) = (r ≡ rule.Tag) × (c.tags ≢ own)
@@ -61,7 +61,7 @@ IsByTags c own (verdict.Broken r) = (r ≡ rule.Tag) × (c.tags ≢ own)
 abbrev pub IsLastVerdict : CommitteeValue → CertValue → Verdict → Type 0
 IsLastVerdict k c v = IsByTags c (own_tags k c) v
 
--- these rules as verdicts, and the next of these verdicts where there is none
+-- each rule as a verdict, and the next of the verdicts where there is none
 abbrev pub filled : List (Option Rule) → List Verdict → List Verdict
 filled [] verdicts = []
 filled (Some r ∷ broken) verdicts = verdict.Broken r ∷ filled broken verdicts

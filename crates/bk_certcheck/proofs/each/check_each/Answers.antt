@@ -1,8 +1,8 @@
-use Rattle.std.proofs.Common.{◌≡◌, map, subst, ap, ◌∙◌}
+use Rattle.std.proofs.Common.{map, subst}
 use Rattle.std.specs.List.{AllZip}
 use Rattle.rayon.proofs.ListFacts.{IfOk-then}
 use Rattle.bk_certcheck.specs.Verdicts.{IsVerdict}
-use Rattle.bk_certcheck.specs.private.Stages.{IsLastVerdict, filled}
+use Rattle.bk_certcheck.specs.private.Stages.{IsLastVerdict}
 use Rattle.bk_certcheck.proofs.Stages.{are_left, filled_all, AllZip-from_map}
 use Rattle.bk_certcheck.proofs.each.check_each.Goals as goal
 

@@ -1,4 +1,4 @@
-use Rattle.std.proofs.Common.{◌≡◌, length, ap, ◌∙◌, arith}
+use Rattle.std.proofs.Common.{length, ap, ◌∙◌}
 use Rattle.bk_certcheck.proofs.Stages.{cut_own, cut_rest, judged_next}
 use Rattle.bk_certcheck.proofs.each.judge_left.Goals as goal
 

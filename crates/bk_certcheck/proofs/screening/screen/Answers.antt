@@ -1,4 +1,3 @@
-use Rattle.std.proofs.Common.{◌≡◌, map, take, ap, ◌∙◌, arith}
 use Rattle.bk_certcheck.proofs.Stages.{screen_broken, screen_left}
 use Rattle.bk_certcheck.proofs.screening.screen.Goals as goal
 use Rattle.bk_certcheck.proofs.screening.screen.Goals.{in-Ok+in_ok-push-in-Ok+in_ok-push-in-Ok-2, in-Err+in_ok-push-in-Err}

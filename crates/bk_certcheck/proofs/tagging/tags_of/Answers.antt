@@ -1,4 +1,4 @@
-use Rattle.std.proofs.Common.{◌≡◌, ◌<◌, ℕ, List, [], ◌∷◌, length, take, get_or, IsTrue, sym, ap, subst, ◌∙◌, arith}
+use Rattle.std.proofs.Common.{◌≡◌, ◌<◌, ℕ, List, [], length, IsTrue, sym, subst, ◌∙◌, arith}
 use Rattle.std.specs.List.{AllZip, flat_map}
 use Rattle.rayon.proofs.ListFacts.{IfOk-then}
 use Rattle.std.proofs.lemmas.List.{take_all}

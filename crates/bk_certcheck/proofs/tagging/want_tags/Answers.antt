@@ -1,4 +1,4 @@
-use Rattle.std.proofs.Common.{◌≡◌, List, ℕ, [], get_or, refl, sym, ◌∙◌, arith}
+use Rattle.std.proofs.Common.{refl, sym, arith}
 use Rattle.bk_certcheck.proofs.Stages.{pushed, want_with, want_without, want_all}
 use Rattle.bk_certcheck.proofs.tagging.want_tags.Goals as goal
 use Rattle.bk_certcheck.proofs.tagging.want_tags.Goals.{then-has+else-is_err, else-has}

@@ -1,6 +1,5 @@
-use Rattle.std.proofs.Common.{◌≡◌, ℕ, ◌<◌, ◌≤◌, Bool, true, false, IsTrue, Contains, List, length, sym, subst, ◌∙◌, arith}
-use Rattle.bk_cert.specs.Mask.{is_signer, signers_of}
-use Rattle.bk_cert.specs.Spelling.{IsCertificate}
+use Rattle.std.proofs.Common.{◌≡◌, ℕ, ◌≤◌, Bool, true, false, Contains, List, length, sym, subst, ◌∙◌}
+use Rattle.bk_cert.specs.Mask.{signers_of}
 use Rattle.bk_certcheck.proofs.Signers.{signers_are_members}
 use Rattle.bk_certcheck.proofs.tests_of_rules.first_broken.Goals as goal
 

@@ -1,4 +1,4 @@
-use Rattle.std.proofs.Common.{◌≡◌, ℕ, ◌<◌, ◌≤◌, Bool, false, length}
+use Rattle.std.proofs.Common.{◌≡◌, ℕ, ◌<◌, ◌≤◌, false, length}
 use Rattle.bk_cert.specs.Mask.{is_signer}
 use Rattle.bk_certcheck.proofs.tests_of_rules.marks_strangers.Given as goal
 

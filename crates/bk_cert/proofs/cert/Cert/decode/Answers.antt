@@ -1,5 +1,4 @@
 use Rattle.std.proofs.Common.{sym, subst, ◌∙◌}
-use Rattle.bk_cert.specs.Values.{CertValue}
 use Rattle.bk_cert.specs.Spelling.{IsCertificate}
 use Rattle.bk_cert.proofs.Texts.{same_cert}
 use Rattle.bk_cert.proofs.cert.Cert.decode.Goals as goal

@@ -2,7 +2,6 @@ use Rattle.std.proofs.Common.{ℕ, List, [], length, get_or, ap, subst, ◌∙�
 use Rattle.std.proofs.lemmas.List.{length-map}
 use Rattle.bk_cert.specs.Mask.{signers_of}
 use Rattle.bk_cert.specs.Spelling.{IsHeader}
-use Rattle.bk_cert.specs.Identity.{tag_of}
 use Rattle.bk_cert.proofs.Texts.{tags_sized}
 use Rattle.bk_cert.proofs.cert.Cert.seal.Goals as goal
 

@@ -1,5 +1,5 @@
-use Rattle.std.proofs.Common.{◌≡◌, ◌+◌, ◌*◌, length, sym, subst, ◌∙◌}
-use Rattle.bk_cert.specs.Values.{HeaderValue, header_with}
+use Rattle.std.proofs.Common.{◌≡◌, ◌+◌, ◌*◌, length, sym, subst}
+use Rattle.bk_cert.specs.Values.{HeaderValue}
 use Rattle.bk_cert.specs.Spelling.{header_text}
 use Rattle.bk_cert.proofs.Texts.{header_long}
 use Rattle.bk_cert.proofs.reading.HeaderParts.header_len.Goals as goal

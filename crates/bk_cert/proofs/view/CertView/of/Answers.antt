@@ -1,4 +1,4 @@
-use Rattle.std.proofs.Common.{◌≡◌, None, length, take, sym, ap, subst, ◌∙◌, arith}
+use Rattle.std.proofs.Common.{None, length, sym, ap, subst, ◌∙◌, arith}
 use Rattle.bk_cert.specs.Values.{CertValue}
 use Rattle.bk_cert.specs.Spelling.{IsHeader, header_text}
 use Rattle.bk_cert.proofs.Grammar.{certificate_takes, is_none, header_cut}
