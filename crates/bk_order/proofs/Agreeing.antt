@@ -1,6 +1,6 @@
 -- The orders of two parts of what is held.
-use Rattle.std.proofs.Common.{◌≡◌, ℕ, ◌+◌, ◌<◌, ◌≤◌, List, [], ◌∷◌, ◌++◌, reverse, refl, sym, ap, subst, ◌∙◌, ◌⊎◌, inl, inr, ⊎_elim, arith}
-use Rattle.std.specs.List.{Contains, flat_map}
+use Rattle.std.proofs.Common.{◌≡◌, ℕ, List, [], ◌∷◌, ◌++◌, reverse, refl, sym, ap, subst, ◌∙◌, ◌⊎◌, inl, inr, ⊎_elim, arith}
+use Rattle.std.specs.List.{flat_map}
 use Rattle.std.proofs.lemmas.Bool.{cases_lt}
 use Rattle.std.proofs.lemmas.List.{append-nil, reverse-append, reverse-reverse}
 use Rattle.std.proofs.lemmas.List.Concat.{flat_map-append}
@@ -19,7 +19,6 @@ use Rattle.bk_flatten.specs.Order.{IsOrder}
 use Rattle.bk_flatten.specs.Batches.{Payloads, once, named_at, digests_of, before_missing}
 use Rattle.bk_flatten.proofs.Orders.{order_goes_on}
 use Rattle.bk_flatten.proofs.Growth.{under_begins}
-use Rattle.bk_order.specs.Frames.{AreCerts, AreBatches}
 use Rattle.bk_order.specs.Stops.{HasNoStop}
 use Rattle.bk_order.specs.Orders.{Ordered, IsOrderOf}
 use Rattle.bk_order.specs.Agreement.{OneBegins, OrderBegins}

@@ -1,12 +1,10 @@
 -- Frames as a set, and more of them.
 use Rattle.std.proofs.Common.{List, sym, subst}
-use Rattle.std.specs.List.{Contains}
 use Rattle.bk_frames.specs.declared.kind.Kind.TheVariants as kind
 use Rattle.bk_frames.specs.Feed.{Frame, frame_of}
 use Rattle.bk_committee.specs.Payload.{CommitteeValue, sizes_of}
 use Rattle.bk_cert.specs.Node.{Node}
 use Rattle.bk_cert.specs.Clear.{IsClear}
-use Rattle.bk_cert.specs.declared.place.CertRef.{CertRef}
 use Rattle.bk_evidence.specs.Batches.{Batch, AreApart}
 use Rattle.bk_commit.specs.Growth.{IsPartOf, Begins}
 use Rattle.bk_commit.proofs.Settled.{anchors_begin}
@@ -15,7 +13,7 @@ use Rattle.bk_flatten.specs.Order.{IsWholeOrder}
 use Rattle.bk_flatten.proofs.Orders.{whole_begins}
 use Rattle.bk_flatten.proofs.Growth.{batches_begin}
 use Rattle.bk_order.specs.declared.stop.Stop.{Stop}
-use Rattle.bk_order.specs.Frames.{IsCertIn, AreCerts, IsBatchIn, AreBatches}
+use Rattle.bk_order.specs.Frames.{AreCerts, AreBatches}
 use Rattle.bk_order.specs.Stops.{IsStop, HasNoStop}
 use Rattle.bk_order.specs.Orders.{Ordered, IsOrderOf}
 

@@ -1,11 +1,11 @@
 -- The stop of what is held.
-use Rattle.std.proofs.Common.{◌≡◌, ℕ, List, Option, Some, None, refl, sym, ap, subst, ◌∙◌, ◌≢◌, ◌⊎◌, inl, inr, ⊎_elim}
+use Rattle.std.proofs.Common.{◌≡◌, ℕ, List, Option, Some, None, refl, sym, subst, ◌∙◌, ◌≢◌, ◌⊎◌, inl, inr, ⊎_elim}
 use Rattle.std.specs.Prelude.{MatchOption}
 use Rattle.bk_cert.specs.Node.{Node}
 use Rattle.bk_evidence.specs.Batches.{Batch, AreApart, IsBatchCollision}
-use Rattle.bk_evidence.specs.Collisions.{id_cmp, IsAtMost, CollidesBy, IsCollisionBy, NoCollisionBy}
+use Rattle.bk_evidence.specs.Collisions.{id_cmp, CollidesBy, IsCollisionBy, NoCollisionBy}
 use Rattle.bk_evidence.specs.Held.{Collides, IsCollision, NoCollision}
-use Rattle.bk_evidence.specs.private.Least.{least_of, IsLeastBy}
+use Rattle.bk_evidence.specs.private.Least.{IsLeastBy}
 use Rattle.std.specs.Ordering.{match_ordering}
 use Rattle.std.specs.declared.cmp.Ordering.{Ordering}
 use Rattle.std.specs.declared.cmp.Ordering.TheVariants.{Less, Equal, Greater}

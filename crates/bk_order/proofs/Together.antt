@@ -1,5 +1,5 @@
 -- What the frames of two lists hold together.
-use Rattle.std.proofs.Common.{◌≡◌, List, ◌++◌, Option, Some, None, sym, subst, ◌⊎◌, ⊎_elim}
+use Rattle.std.proofs.Common.{◌≡◌, List, ◌++◌, Option, Some, None, sym, subst, ⊎_elim}
 use Rattle.std.specs.Prelude.{MatchOption}
 use Rattle.std.specs.List.{Contains}
 use Rattle.std.proofs.lemmas.List.Elements.{Contains-append_left, Contains-append_right, Contains-append_cases}
@@ -9,7 +9,7 @@ use Rattle.bk_committee.specs.Payload.{CommitteeValue}
 use Rattle.bk_cert.specs.Node.{Node}
 use Rattle.bk_evidence.specs.Batches.{Batch}
 use Rattle.bk_order.specs.declared.stop.Stop.{Stop}
-use Rattle.bk_order.specs.Frames.{IsCertIn, AreCerts, IsBatchIn, AreBatches}
+use Rattle.bk_order.specs.Frames.{AreCerts, AreBatches}
 use Rattle.bk_order.specs.Stops.{AreClear, StopsAt, IsStop, HasNoStop}
 use Rattle.bk_order.specs.Intake.{Taken, HasTaken}
 

@@ -1,4 +1,4 @@
-use Rattle.std.proofs.Common.{◌≡◌, ap, arith}
+use Rattle.std.proofs.Common.{ap, arith}
 use Rattle.std.specs.Vec.Iter.{into_iter_items}
 use Rattle.bk_frames.specs.Feed.{frame_of}
 use Rattle.bk_frames.specs.Cutting.{frames_in}

@@ -1,4 +1,3 @@
-use Rattle.std.proofs.Common.{◌≡◌}
 use Rattle.std.specs.Vec.Iter.{into_iter_items}
 use Rattle.bk_frames.specs.Cutting.{frames_in}
 use Rattle.bk_order.specs.private.Judging.{IsJudging}

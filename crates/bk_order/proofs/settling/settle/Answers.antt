@@ -1,7 +1,6 @@
-use Rattle.std.proofs.Common.{◌≡◌, ◌∙◌, ◌++◌, ◌∷◌, List, refl, sym, ap, subst, arith, get_or}
+use Rattle.std.proofs.Common.{◌∙◌, ◌++◌, ◌∷◌, List, refl, sym, ap, subst, arith, get_or}
 use Rattle.std.specs.List.{Contains}
 use Rattle.bk_cert.specs.declared.place.CertRef.{CertRef}
-use Rattle.bk_commit.specs.Ordering.{IsWayBack}
 use Rattle.bk_flatten.specs.Order.{IsOrder}
 use Rattle.bk_order.proofs.Ordering.{next_present, next_way, added_present, settling_starts, settling_on, settling_ends}
 use Rattle.std.specs.Prelude.{reverse, take}

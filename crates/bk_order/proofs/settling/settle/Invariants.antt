@@ -1,4 +1,3 @@
-use Rattle.std.proofs.Common.{◌≡◌}
 use Rattle.bk_order.specs.private.Joined.{IsSettling}
 use Rattle.bk_order.proofs.settling.settle.Given as goal
 

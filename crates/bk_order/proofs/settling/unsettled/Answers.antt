@@ -1,5 +1,4 @@
-use Rattle.std.proofs.Common.{◌≡◌, ap}
-use Rattle.bk_commit.proofs.Onward.{none_were}
+use Rattle.std.proofs.Common.{ap}
 use Rattle.bk_flatten.specs.Batches.{payloads_of}
 use Rattle.bk_order.specs.Orders.{ordered_with}
 use Rattle.bk_order.proofs.Ordering.{followed_none, none_voted}

@@ -1,4 +1,4 @@
-use Rattle.std.proofs.Common.{◌≡◌, ◌++◌, sym, ◌∙◌}
+use Rattle.std.proofs.Common.{◌++◌, sym, ◌∙◌}
 use Rattle.bk_order.proofs.Stopping.{least_told}
 use Rattle.bk_order.proofs.stop.stop_of_both.Goals as goal
 

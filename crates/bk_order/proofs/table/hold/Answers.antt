@@ -1,6 +1,5 @@
-use Rattle.std.proofs.Common.{◌≡◌, ◌++◌, ◌∷◌, [], List, sym, ap, ◌∙◌, ⊎_elim}
-use Rattle.bk_cert.specs.Node.{Node, node_with}
-use Rattle.bk_evidence.specs.declared.offer.Offer.TheVariants as offer
+use Rattle.std.proofs.Common.{◌≡◌, ◌∙◌, ⊎_elim}
+use Rattle.bk_cert.specs.Node.{node_with}
 use Rattle.bk_evidence.proofs.Members.{same_offered}
 use Rattle.bk_order.proofs.Holding.{fit_here, new_id, free_place, joined_new, grown_new, joined_other, new_not_repeat, new_not_twin, new_not_collision}
 use Rattle.bk_order.proofs.table.hold.Goals as goal

@@ -1,4 +1,4 @@
-use Rattle.std.proofs.Common.{◌≡◌, subst, sym}
+use Rattle.std.proofs.Common.{subst, sym}
 use Rattle.bk_order.specs.declared.table.Table.{Table}
 use Rattle.bk_order.specs.private.Judging.{IsJudged}
 use Rattle.bk_order.proofs.Tables.{Keeps, cert_keeps, batch_keeps, other_keeps}

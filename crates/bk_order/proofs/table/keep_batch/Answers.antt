@@ -1,4 +1,3 @@
-use Rattle.std.proofs.Common.{◌≡◌}
 use Rattle.bk_evidence.specs.Batches.{batch_with}
 use Rattle.bk_order.proofs.Tables.{batch_same, batch_begins}
 use Rattle.bk_order.proofs.table.keep_batch.Goals as goal

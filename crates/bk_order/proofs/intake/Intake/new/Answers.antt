@@ -1,4 +1,3 @@
-use Rattle.std.proofs.Common.{◌≡◌}
 use Rattle.bk_order.proofs.Ordering.{joined_none}
 use Rattle.bk_order.proofs.intake.Intake.new.Goals as goal
 

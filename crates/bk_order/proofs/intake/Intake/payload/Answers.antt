@@ -1,4 +1,4 @@
-use Rattle.std.proofs.Common.{◌≡◌, ◌<◌, ◌∙◌, ℕ, List, [], Some, length, get_or, map, sym, ap, subst}
+use Rattle.std.proofs.Common.{◌≡◌, ◌<◌, ◌∙◌, List, [], Some, length, get_or, sym, ap, subst}
 use Rattle.std.specs.Prelude.{slice_get}
 use Rattle.bk_evidence.specs.declared.batches.BatchRef.{BatchRef}
 use Rattle.bk_evidence.specs.Batches.{batch_with}

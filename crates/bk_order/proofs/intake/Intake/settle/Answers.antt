@@ -1,4 +1,3 @@
-use Rattle.std.proofs.Common.{◌≡◌}
 use Rattle.bk_order.proofs.Ordering.{order_told}
 use Rattle.bk_order.proofs.intake.Intake.settle.Goals as goal
 

@@ -1,4 +1,4 @@
-use Rattle.std.proofs.Common.{◌≡◌, ◌∙◌, ap}
+use Rattle.std.proofs.Common.{◌∙◌, ap}
 use Rattle.bk_order.proofs.Ordering.{order_kept, followed_on}
 use Rattle.bk_order.proofs.intake.Intake.take.Goals as goal
 

@@ -1,4 +1,3 @@
-use Rattle.std.proofs.Common.{◌≡◌}
 use Rattle.bk_order.proofs.Ordering.{waiting_told}
 use Rattle.bk_order.proofs.intake.Intake.waiting.Goals as goal
 
