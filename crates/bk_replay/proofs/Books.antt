@@ -19,8 +19,6 @@ use Rattle.bk_rules.specs.Fold.{state_after, receipts_of, HasRoom}
 use Rattle.bk_rules.proofs.Room.{room_left}
 use Rattle.bk_rules.proofs.Folding.{length-receipts, state_append, receipts_append}
 use Rattle.bk_tx.specs.Batches.{transactions_in, transactions_of, count_in}
-use Rattle.bk_results.specs.declared.fault.Fault.{Fault}
-use Rattle.bk_results.specs.declared.fault.Fault.TheVariants as fault
 use Rattle.bk_ledger.specs.Ledger.{LedgerValue}
 use Rattle.bk_replay.specs.RunReport.{committee_in, later_frames, HasNoStopIn, IsOrderIn, HasPlaceIn}
 use Rattle.bk_replay.specs.Follower.{Executed, BookValue, IsExecuted, OrdersPart, IsBookOf, IsCurrent}

@@ -1,12 +1,12 @@
 -- A feed whose frames are gathered before they are taken.
-use Rattle.std.proofs.Common.{◌≡◌, ℕ, ◌⊎◌, inl, inr, List, [], ◌∷◌, ◌++◌, Option, Some, None, refl, sym, ap, subst, ◌∙◌, arith, append_assoc}
+use Rattle.std.proofs.Common.{◌≡◌, ℕ, ◌⊎◌, inl, inr, List, [], ◌∷◌, ◌++◌, Option, Some, None, refl, sym, ap, subst, ◌∙◌, arith}
 use Rattle.std.proofs.lemmas.List.{append-nil}
 use Rattle.std.specs.Global.{Vec}
 use Rattle.bk_frames.specs.declared.version.Version.{Version}
 use Rattle.bk_frames.specs.declared.kind.Kind.{Kind}
 use Rattle.bk_frames.specs.Feed.{Frame, frame_of}
 use Rattle.bk_frames.specs.Cutting.{Cut, Cuts, in_magic, fresh, IsOpen, frames_in}
-use Rattle.bk_frames.proofs.CutJoining.{cuts_then, bytes_so_far, none_before_magic}
+use Rattle.bk_frames.proofs.CutJoining.{bytes_so_far, none_before_magic}
 use Rattle.bk_committee.specs.Payload.{CommitteeValue}
 use Rattle.bk_replay.specs.Follower.{BookValue, FollowsBy, Follows, Followed, HasCome}
 use Rattle.bk_replay.specs.private.Books.{HasFollowed}

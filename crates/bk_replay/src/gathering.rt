@@ -62,6 +62,7 @@ impl Gathered {
             → HasGathered bytes taken self.old
             → HasGathered bytes (taken ++ frames_in self.old.frames.items) self.new) }
         ensures all { OnOk result (self.new.frames.items ≡ []) }
+        ensures cut { self.new.cutter ≡ self.old.cutter }
     {
         self.count = 0;
         let frames = replace(&mut self.frames, Vec::new(alloc));
