@@ -1,0 +1,215 @@
+"""Reads the command line of `bkreplay` from its definition in crates/bk_cli/src: commands.rt, help.rt and verb.rt.
+
+The functions of commands.rt are evaluated as they are written: `let` statements, calls, and the methods in METHODS.
+Whatever else occurs there ends the script with a message.
+"""
+import os
+import re
+import sys
+
+ROOT = os.path.dirname(os.path.dirname(os.path.realpath(__file__)))
+SOURCE = "crates/bk_cli/src"
+# The methods of a value that is built, and of those the ones that can be called more than once.
+METHODS = {
+    "Arg": {"action", "help", "long", "required", "value_name", "value_parser"},
+    "Command": {"about", "after_help", "arg", "disable_help_subcommand", "subcommand", "subcommand_required", "version"},
+    "Parser": {"range"},
+}
+REPEATED = ("arg", "subcommand")
+TOKEN = re.compile(r'"(?:[^"\\]|\\.)*"|[A-Za-z_]\w*!?(?:::\w+)*|\d+|\.\.=|\S')
+
+
+def fail(why):
+    print(f"launcher/manual: {why}", file=sys.stderr)
+    sys.exit(2)
+
+
+def read(path):
+    with open(os.path.join(ROOT, path), encoding="utf-8") as file:
+        return file.read()
+
+
+def unquoted(text):
+    """The string of a literal in a source, without its quotes."""
+    escapes = {"n": "\n", '"': '"', "\\": "\\"}
+    return re.sub(r"\\(?:(\n)\s*|(.))", lambda it: "" if it[1] else escapes[it[2]], text)
+
+
+def read_texts():
+    """The constants of help.rt: a text, or the two texts of a command."""
+    source = read(f"{SOURCE}/help.rt")
+    literal = r'"((?:[^"\\]|\\.)*)"'
+    texts = {name: unquoted(text)
+             for name, text in re.findall(rf"const (\w+): &str =\s*{literal};", source, re.DOTALL)}
+    helps = re.findall(rf"const (\w+): Help<'static> = Help \{{\s*about: {literal},\s*after: {literal},\s*\}};",
+                       source, re.DOTALL)
+    texts |= {name: {"about": unquoted(about), "after": unquoted(after)} for name, about, after in helps}
+    for name in re.findall(r"\bconst (\w+)", source):
+        if name not in texts:
+            fail(f"{SOURCE}/help.rt: the constant {name} is neither a text nor a Help with about and after")
+    return texts
+
+
+class Built(dict):
+    """An argument, a command or a parser of numbers: what its methods were given, by the name of the method."""
+
+    def __init__(self, kind, name):
+        super().__init__(arg=[], subcommand=[])
+        self.kind, self.name = kind, name
+
+    def set(self, method, value):
+        if method not in METHODS[self.kind] or (method in self and method not in REPEATED):
+            fail(f"{SOURCE}/commands.rt: .{method} of {self.kind} {self.name} is not understood")
+        if method in REPEATED:
+            self[method].append(value)
+        else:
+            self[method] = value
+        return self
+
+
+class Body:
+    """The body of a function, which is evaluated with the given variables."""
+
+    def __init__(self, source, name, values):
+        self.source, self.name = source, name
+        if name not in source.functions:
+            fail(f"{SOURCE}/commands.rt: {name} is not understood")
+        parameters, body = source.functions[name]
+        self.variables = dict(zip(parameters, values))
+        self.tokens = TOKEN.findall(body)
+
+    def next(self, wanted=None):
+        token = self.tokens.pop(0) if self.tokens else "its end"
+        if wanted not in (None, token):
+            fail(f"{SOURCE}/commands.rt: in {self.name}: {token} where {wanted} has to be")
+        return token
+
+    def peek(self):
+        return self.tokens[0] if self.tokens else None
+
+    def result(self):
+        while self.peek() == "let":
+            self.next()
+            name = self.next()
+            self.next("=")
+            self.variables[name] = self.value()
+            self.next(";")
+        found = self.value()
+        if self.tokens:
+            self.refuse(self.tokens[0])
+        return found
+
+    def values(self):
+        """Arguments in parentheses."""
+        found = []
+        self.next("(")
+        while self.peek() != ")":
+            found.append(self.value())
+            if self.peek() == ",":
+                self.next()
+        self.next(")")
+        return found
+
+    def value(self):
+        found = self.first()
+        while self.peek() in (".", "?", "..="):
+            mark = self.next()
+            if mark == "..=":
+                found = (found, self.value())
+            elif mark == ".":
+                found = self.member(found, self.next())
+        return found
+
+    def member(self, found, name):
+        """A value after one of its methods, or a field of it."""
+        if self.peek() == "(" and isinstance(found, Built):
+            values = self.values()
+            if len(values) == 1:
+                return found.set(name, values[0])
+        elif isinstance(found, dict) and name in found:
+            return found[name]
+        self.refuse(f".{name}")
+
+    def refuse(self, token):
+        fail(f"{SOURCE}/commands.rt: in {self.name}: {token} is not understood")
+
+    def first(self):
+        """A value up to its first method."""
+        token = self.next()
+        if token.startswith('"'):
+            return unquoted(token[1:-1])
+        if token.isdigit():
+            return int(token)
+        if token in self.variables:
+            return self.variables[token]
+        if token in ("true", "ArgAction::Set"):
+            return token
+        if token.startswith("help::"):
+            if token[6:] not in self.source.texts:
+                fail(f"{SOURCE}/help.rt: the constant {token[6:]} is not there")
+            return self.source.texts[token[6:]]
+        if token == "value_parser!":
+            self.next("(")
+            found = Built("Parser", self.next())
+            self.next(")")
+            return found
+        if token in ("Arg::new", "Command::new"):
+            return Built(token[:-5], self.values()[1])
+        if token not in self.source.functions:
+            self.refuse(token)
+        return Body(self.source, token, self.values()).result()
+
+
+class Source:
+    """The functions of commands.rt, each with its parameters and its body, and the constants of help.rt."""
+
+    def __init__(self):
+        text = re.sub(r"^ *//.*\n", "", read(f"{SOURCE}/commands.rt"), flags=re.MULTILINE)
+        found = re.findall(r"^(?:pub\(crate\) )?fn (\w+)<'a>\(([^)]*)\)[^;]*?\n\{\n(.*?)^\}", text, re.DOTALL | re.MULTILINE)
+        self.functions = {name: (re.findall(r"(\w+): ", parameters), body) for name, parameters, body in found}
+        self.texts = read_texts()
+
+
+def kind_of(arg):
+    """What a completion offers for an argument: `file` or, for a number or a digest, nothing."""
+    text = arg.get("help", "")
+    if text.startswith("The path of "):
+        return "file"
+    if "value_parser" in arg or text.startswith("The digest of "):
+        return "none"
+    fail(f"the help of the argument {arg.name} begins neither with `The path of` nor with `The digest of`, "
+         "and it is no number")
+
+
+def limits_of(option):
+    """The least and the greatest number that an option takes."""
+    numbers = option.get("value_parser", {}).get("range")
+    if not numbers or "value_name" not in option or "help" not in option:
+        fail(f"the option {option.name} has no range of numbers, no name of its value, or no help")
+    return numbers
+
+
+def checked(command):
+    """Fails if the man page or a completion lacks something of a command."""
+    for part in ("about", "after_help"):
+        if not command.get(part):
+            fail(f"the command {command.name} has no help ({part})")
+    for heading in ("Exit status:", "Example:"):
+        if f"\n{heading}\n" not in command["after_help"]:
+            fail(f"the help of {command.name} has no `{heading}`")
+    for arg in command["arg"]:
+        limits_of(arg) if "long" in arg else kind_of(arg)
+
+
+def read_program():
+    """The program as a command: its commands are in `subcommand`."""
+    program = Body(Source(), "command", [None]).result()
+    names = [it.name for it in program["subcommand"]]
+    verbs = re.findall(r'word == "(.*?)"', read(f"{SOURCE}/verb.rt"))
+    last = re.findall(r"^        Verb::(\w+)$", read(f"{SOURCE}/verb.rt"), re.MULTILINE)
+    verbs += [re.sub(r"\B(?=[A-Z])", "-", it).lower() for it in last]
+    for name in sorted({*names} ^ {*verbs}):
+        fail(f"the command {name} is in only one of commands.rt and verb.rt")
+    for command in (program, *program["subcommand"]):
+        checked(command)
+    return program
