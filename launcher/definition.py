@@ -12,7 +12,8 @@ SOURCE = "crates/bk_cli/src"
 # The methods of a value that is built, and of those the ones that can be called more than once.
 METHODS = {
     "Arg": {"action", "help", "long", "required", "value_name", "value_parser"},
-    "Command": {"about", "after_help", "arg", "disable_help_subcommand", "subcommand", "subcommand_required", "version"},
+    "Command": {"about", "after_help", "arg", "disable_help_subcommand", "subcommand", "subcommand_required",
+                "version"},
     "Parser": {"range"},
 }
 REPEATED = ("arg", "subcommand")
@@ -165,7 +166,8 @@ class Source:
 
     def __init__(self):
         text = re.sub(r"^ *//.*\n", "", read(f"{SOURCE}/commands.rt"), flags=re.MULTILINE)
-        found = re.findall(r"^(?:pub\(crate\) )?fn (\w+)<'a>\(([^)]*)\)[^;]*?\n\{\n(.*?)^\}", text, re.DOTALL | re.MULTILINE)
+        found = re.findall(r"^(?:pub\(crate\) )?fn (\w+)<'a>\(([^)]*)\)[^;]*?\n\{\n(.*?)^\}",
+                           text, re.DOTALL | re.MULTILINE)
         self.functions = {name: (re.findall(r"(\w+): ", parameters), body) for name, parameters, body in found}
         self.texts = read_texts()
 

@@ -1,4 +1,4 @@
-"""The man page in man(7) macros, from the command line as definition.py reads it and three texts of the README."""
+"""The man page in man(7) macros, from the command line as definition.py reads it, and three parts of the README."""
 import os
 import re
 import textwrap
@@ -17,6 +17,8 @@ FILES = [
     ("docs/schedules.md", "The lists of events that `schedule` reads, and the codes of refused events"),
     ("docs/report.md", "Each line of a report and of a proof"),
 ]
+PIPES = ("The status of a pipe is that of its last command: write a report to a file to see its status, or use "
+         "`set -o pipefail`.")
 PAGES = ["docs/how-it-works.md", "docs/assurance.md", "docs/performance.md"]
 
 
@@ -180,26 +182,35 @@ def see_also():
                 + f" and *{PAGES[-1]}*")
 
 
+def synopses(program):
+    """The command lines, one in a line."""
+    name = code(program.name)
+    return [".nf", *(f"{name} {synopsis(usage(it))}" for it in program["subcommand"]),
+            f"{name} {synopsis('[COMMAND] --help')}", f"{name} {code('--version')}", ".fi"]
+
+
+def paragraphs(words):
+    return [line for it in words.split("\n\n") for line in (".PP", *text(it))]
+
+
 def page(program):
-    commands = program["subcommand"]
     lines, statuses, sample = body(program["after_help"])
     about = program["about"]
-    source = readme("Where a feed has to come from")
-    opening = readme("bkreplay").split("\n\n")
-    return "\n".join([
+    source = "Where a feed has to come from"
+    pages = tagged([(f"*{path}*", f"{words}.") for path, words in FILES], marked)
+    parts = [
         NOTE,
-        f'.TH BKREPLAY 1 "" "bkreplay {program["version"]}" "User Commands"', ".ad l",
-        ".SH NAME", f"bkreplay \\- {escaped(about[0].lower() + about[1:])}",
-        ".SH SYNOPSIS", ".nf", *(f"{code('bkreplay')} {synopsis(usage(it))}" for it in commands),
-        f"{code('bkreplay')} [{code('COMMAND')[:-3].replace('fB', 'fI')}\\fR] {code('--help')}",
-        f"{code('bkreplay --version')}", ".fi",
-        ".SH DESCRIPTION", *[line for it in opening[:1] for line in text(it)], *lines,
-        '.SS "Where a feed has to come from"', *[line for it in source.split("\n\n") for line in (*text(it), ".PP")][:-1],
-        ".SH COMMANDS", *[line for it in commands for line in section(it)],
+        f'.TH {program.name.upper()} 1 "" "{program.name} {program["version"]}" "User Commands"', ".ad l",
+        ".SH NAME", f"{program.name} \\- {escaped(about[0].lower() + about[1:])}",
+        ".SH SYNOPSIS", *synopses(program),
+        ".SH DESCRIPTION", *paragraphs(readme(program.name).split("\n\n")[0])[1:], *lines,
+        f'.SS "{source}"', *paragraphs(readme(source))[1:],
+        ".SH COMMANDS", *(line for it in program["subcommand"] for line in section(it)),
         ".SH OPTIONS", *option_list(program),
-        ".SH EXIT STATUS", *statuses,
+        ".SH EXIT STATUS", *statuses, ".PP", *text(PIPES),
         ".SH ENVIRONMENT", *tagged(ENVIRONMENT, marked),
-        ".SH FILES", "These pages of the repository define the files:", *tagged(
-            [(f"*{path}*", f"{words}.") for path, words in FILES], marked),
-        ".SH EXAMPLES", "The paths on this page are those of files in the repository.", ".PP", "Replay a feed:", *sample, *tasks(),
-        ".SH SEE ALSO", *see_also(), ""])
+        ".SH FILES", "These pages of the repository define the files:", *pages,
+        ".SH EXAMPLES", "The paths on this page are those of files in the repository.",
+        ".PP", "Replay a feed:", *sample, *tasks(),
+        ".SH SEE ALSO", *see_also(), ""]
+    return "\n".join(parts)

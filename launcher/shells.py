@@ -168,7 +168,8 @@ def zsh_case(command):
     words = [zsh_option(it) for it in options(command)]
     words.append(quoted(f"(- : *)--help[{HELP}]"))
     words += [zsh_place(index + 1, it) for index, it in enumerate(places(command))]
-    return f"    {command.name})\n        _arguments \\\n            " + " \\\n            ".join(words) + "\n        ;;"
+    words = " \\\n            ".join(words)
+    return f"    {command.name})\n        _arguments \\\n            {words}\n        ;;"
 
 
 def zsh(program):
@@ -184,7 +185,7 @@ def zsh(program):
 FISH = """\
 {note}
 
-# Whether the cursor is behind this command, or behind none if it is '', and then at the argument of this index, if any.
+# Whether this is the command so far, '' for none, and the next word is its argument of this index, if one is given.
 function __bkreplay_at --argument-names command index
     set -l value
     set -l found
@@ -228,7 +229,8 @@ def fish_lines(command):
 
 def fish(program):
     commands = program["subcommand"]
-    lines = [f"complete -c bkreplay -n \"__bkreplay_at ''\" -a {it.name} -d {fish_quoted(it['about'])}" for it in commands]
+    lines = [f"complete -c bkreplay -n \"__bkreplay_at ''\" -a {it.name} -d {fish_quoted(it['about'])}"
+             for it in commands]
     lines += [line for it in commands for line in fish_lines(it)]
     valued = " ".join(options_with_values(program))
     return FISH.format(note=NOTE, help=HELP, version=VERSION, valued=valued, lines="\n".join(lines))
