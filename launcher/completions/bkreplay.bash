@@ -108,7 +108,7 @@ receipt Write what became of the transaction at one place of the order
 prove Write a proof that one account is in the state at the end
 check-proof Check that a text proves an account of the state of this digest
 apply Execute all batches of a feed, in feed order and on one thread, and write the apply report
-schedule Execute all batches of a feed by a given list of events, and write the apply report
+schedule Execute all batches of a feed in the order of a list of worker events, and write the apply report
 compare Compare the orders of two feeds and what was executed by them'
 
 complete -F _bkreplay bkreplay

@@ -7,13 +7,13 @@ pub(crate) struct Help<'a> {
     pub(crate) after: &'a str,
 }
 
-pub(crate) const FILE: &str = "The path of the file; standard input if it is left out";
+pub(crate) const FILE: &str = "The path of the file; standard input by default";
 
 pub(crate) const WORKERS: &str =
-    "How many threads execute, 1 to 64; 1 if it is left out. The report is the same for any number";
+    "How many threads execute, 1 to 64; 1 by default. The report is the same for any number";
 
 pub(crate) const EVENT_WORKERS: &str =
-    "How many workers the events are among, 1 to 64; 2 if it is left out. The first is worker 0";
+    "The number of workers in the list of events, 1 to 64; 2 by default. The first is worker 0";
 
 pub(crate) const ID: &str = "The id of the account, a number below 2^64";
 
@@ -34,10 +34,10 @@ pub(crate) const FEED2: &str = "The path of the other feed";
 pub(crate) const PROGRAM: Help<'static> = Help {
     about: "Replays a ledger from the bytes of a feed",
     after: "\
-Output is written to standard output. A fault is one line on standard error.
+Output goes to standard output. A fault is one line on standard error.
 
 Exit status:
-  0  the whole answer is written
+  0  the whole output is written
   1  the command line is wrong, what was asked for is absent, or the proof is bad
   2  a feed, the script or the list of events is wrong, or two feeds differ in version, committee or opening accounts
   3  a feed, or two together, are stopped by a collision or an equivocation
@@ -70,7 +70,7 @@ batches in any order. Writes these lines to standard output, in this order:
 Exit status:
   0  the whole report is written
   1  the command line is wrong
-  2  feed fault CODE at OFFSET, with a code of 1 to 7: the bytes are no feed
+  2  feed fault CODE at OFFSET, with a code of 1 to 7: the bytes are not a feed
   3  collision ID, or equivocation ROUND AUTHOR ID ID: the feed is stopped
   4  feed fault 8 or 9, memory, read failed, write failed, or unfinished PLACE
   5  the whole report is written, and stops at a missing batch
@@ -85,7 +85,7 @@ pub(crate) const MAKE: Help<'static> = Help {
 Reads a script: lines of at most 16,777,216 bytes in all, words separated by single spaces. Lines without words and
 lines that begin with `#` are skipped. Writes the bytes of the feed to standard output.
 
-  version V                       1 or 2, before `members`; 1 if it is left out
+  version V                       1 or 2, before `members`; 1 by default
   members N [WEIGHTS]             the committee; each member weighs 1, or in version 2 what the list says
   account ID BALANCE [SEQ]        an opening account
   batch NAME                      a batch of the transactions on the lines that follow:
@@ -93,15 +93,16 @@ lines that begin with `#` are skipped. Writes the bytes of the feed to standard 
     payif FROM TO AMOUNT SEQ GUARD MIN
     sweep FROM TO KEEP SEQ
     split FROM SEQ TO AMOUNT ..
-    raw HEX                       a transaction of these bytes; `raw -` of none
+    raw HEX                       a transaction of these bytes; `raw -` is one of no bytes
   cert NAME ROUND AUTHOR BATCHES PARENTS SIGNERS
-                                  a certificate; lists are joined by `,`, and `-` is the empty list
-  again NAME SIGNERS              the certificate of that name once more, signed by these
+                                  a certificate; the items of a list are separated by `,`, and `-` is the empty list
+  again NAME SIGNERS              the certificate of that name once more, signed by these members
 
 Exit status:
   0  the whole feed is written
   1  the command line is wrong
-  2  script fault CODE at line LINE: 1 the words of the line, 2 its place, 3 a number, 4 a name, 5 a range
+  2  script fault CODE at line LINE. CODE is 1 for the words of the line, 2 for its place, 3 for a number, 4 for a name,
+     5 for a range
   4  memory, read failed, or write failed
 
 Example:
@@ -111,7 +112,7 @@ Example:
 pub(crate) const ORDER: Help<'static> = Help {
     about: "Write the committed anchors and the certificates in order",
     after: "\
-Reads a feed, as `run` does, and finds its order up to a batch that is missing. Writes to standard output:
+Reads a feed, as `run` does, and finds its order, up to the first missing batch. Writes to standard output:
 
   anchor ROUND AUTHOR             a committed anchor, oldest first
   cert ROUND AUTHOR               a certificate of the order
@@ -119,7 +120,7 @@ Reads a feed, as `run` does, and finds its order up to a batch that is missing. 
 Exit status:
   0  all lines are written
   1  the command line is wrong
-  2  feed fault CODE at OFFSET, with a code of 1 to 7: the bytes are no feed
+  2  feed fault CODE at OFFSET, with a code of 1 to 7: the bytes are not a feed
   3  collision ID, or equivocation ROUND AUTHOR ID ID: the feed is stopped
   4  feed fault 8 or 9, memory, read failed, write failed, or unfinished PLACE
 
@@ -130,14 +131,14 @@ Example:
 pub(crate) const ACCOUNT: Help<'static> = Help {
     about: "Write one account as the order of a feed leaves it",
     after: "\
-Reads a feed, as `run` does, and finds its order up to a batch that is missing. Writes to standard output:
+Reads a feed, as `run` does, and finds its order, up to the first missing batch. Writes to standard output:
 
   account ID BALANCE SEQ          the account at the end
 
 Exit status:
   0  the line is written
   1  absent account ID: there is none; or the command line is wrong
-  2  feed fault CODE at OFFSET, with a code of 1 to 7: the bytes are no feed
+  2  feed fault CODE at OFFSET, with a code of 1 to 7: the bytes are not a feed
   3  collision ID, or equivocation ROUND AUTHOR ID ID: the feed is stopped
   4  feed fault 8 or 9, memory, read failed, write failed, or unfinished PLACE
 
@@ -148,14 +149,14 @@ Example:
 pub(crate) const RECEIPT: Help<'static> = Help {
     about: "Write what became of the transaction at one place of the order",
     after: "\
-Reads a feed, as `run` does, and finds its order up to a batch that is missing. Writes to standard output:
+Reads a feed, as `run` does, and finds its order, up to the first missing batch. Writes to standard output:
 
   tx PLACE STATUS MOVED           the executed transaction
 
 Exit status:
   0  the line is written
   1  absent place PLACE: the order is shorter; or the command line is wrong
-  2  feed fault CODE at OFFSET, with a code of 1 to 7: the bytes are no feed
+  2  feed fault CODE at OFFSET, with a code of 1 to 7: the bytes are not a feed
   3  collision ID, or equivocation ROUND AUTHOR ID ID: the feed is stopped
   4  feed fault 8 or 9, memory, read failed, write failed, or unfinished PLACE
 
@@ -166,19 +167,19 @@ Example:
 pub(crate) const PROVE: Help<'static> = Help {
     about: "Write a proof that one account is in the state at the end",
     after: "\
-Reads a feed, as `run` does, and finds its order up to a batch that is missing. Writes the text that
+Reads a feed, as `run` does, and finds its order, up to the first missing batch. Writes the text that
 `check-proof` reads to standard output:
 
   state HEX                       the digest of all accounts at the end
   size N                          how many accounts there are
   index I                         the index of the account among them
   account ID BALANCE SEQ          the account
-  path HEX                        a digest of the path from the account up to the state; one line each
+  path HEX                        one line for each digest on the path from the account to the state
 
 Exit status:
   0  the proof is written
   1  absent account ID: there is none; or the command line is wrong
-  2  feed fault CODE at OFFSET, with a code of 1 to 7: the bytes are no feed
+  2  feed fault CODE at OFFSET, with a code of 1 to 7: the bytes are not a feed
   3  collision ID, or equivocation ROUND AUTHOR ID ID: the feed is stopped
   4  feed fault 8 or 9, memory, read failed, write failed, or unfinished PLACE
 
@@ -195,7 +196,7 @@ Reads a proof: these lines, at most 65,536 bytes in all. Writes `proof good` or 
   size N                          how many accounts there are
   index I                         the index of the account among them
   account ID BALANCE SEQ          the account
-  path HEX                        a digest of the path from the account up to the state; one line each
+  path HEX                        one line for each digest on the path from the account to the state
 
 Exit status:
   0  the proof is good
@@ -220,7 +221,7 @@ these lines to standard output, in this order:
 Exit status:
   0  the whole report is written
   1  the command line is wrong
-  2  feed fault CODE at OFFSET, with a code of 1 to 7: the bytes are no feed
+  2  feed fault CODE at OFFSET, with a code of 1 to 7: the bytes are not a feed
   4  feed fault 8 or 9, memory, read failed, or write failed
 
 Example:
@@ -228,7 +229,7 @@ Example:
 };
 
 pub(crate) const SCHEDULE: Help<'static> = Help {
-    about: "Execute all batches of a feed by a given list of events, and write the apply report",
+    about: "Execute all batches of a feed in the order of a list of worker events, and write the apply report",
     after: "\
 Reads a list of events, and then a feed, as `apply` does. The list has at most 16,777,216 bytes. Lines without words and
 lines that begin with `#` are skipped; each other line is an event of a worker:
@@ -245,10 +246,10 @@ that it declares for writing, and finishes. Writes the lines of `apply` to stand
 Exit status:
   0  the whole report is written
   1  the command line is wrong
-  2  events fault at line LINE: the line is no event
-  2  feed fault CODE at OFFSET, with a code of 1 to 7: the bytes are no feed
-  2  event LINE refused CODE: 1 the place cannot be claimed, 2 the worker has a transaction or is none, 3 the worker has
-     no transaction, 4 the word is not one of the transaction's, 5 the event comes out of turn
+  2  events fault at line LINE: the line is not an event
+  2  feed fault CODE at OFFSET, with a code of 1 to 7: the bytes are not a feed
+  2  event LINE refused CODE: 1 the place cannot be claimed, 2 the worker has a transaction, or there is no such worker,
+     3 the worker has no transaction, 4 the word is not one of the transaction's, 5 the event comes out of turn
   4  feed fault 8 or 9, memory, read failed, write failed, or unfinished PLACE: after all events this transaction is not
      done
 
@@ -259,17 +260,17 @@ Example:
 pub(crate) const COMPARE: Help<'static> = Help {
     about: "Compare the orders of two feeds and what was executed by them",
     after: "\
-Reads FEED1 and then FEED2, each as `run` does, and finds the order of each up to a batch that is missing. The feeds
+Reads FEED1 and then FEED2, each as `run` does, and finds the order of each, up to the first missing batch. The feeds
 agree if they have the same version, committee and opening accounts, and their frames together have no collision and no
-two certificates of one member in one round. Then one order is a beginning of the other, and so are the transactions
-with their receipts. Writes to standard output:
+two certificates of one member in one round. Then one order is a prefix of the other, and one list of receipts is a
+prefix of the other. Writes to standard output:
 
   agree CERTS PLACES              how many certificates the shorter order has, and how many transactions
 
 Exit status:
   0  the line is written: the feeds agree
   1  the command line is wrong
-  2  feed fault CODE at OFFSET, with a code of 1 to 7: the bytes of FEED1 are no feed, or else those of FEED2
+  2  feed fault CODE at OFFSET, with a code of 1 to 7: the bytes of FEED1, or of FEED2, are not a feed
   2  differ setup: the versions, the committees or the opening accounts differ
   3  collision ID, or equivocation ROUND AUTHOR ID ID: in one of the feeds, or between the two
   4  feed fault 8 or 9, memory, read failed, write failed, or unfinished PLACE

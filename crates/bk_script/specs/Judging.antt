@@ -185,20 +185,6 @@ again_line k words = do
 
 -- ---- every line
 
--- a transaction is in a batch; every other line ends it
-abbrev pub is_transaction : Keyword → Bool
-is_transaction keyword.Pay = true
-is_transaction keyword.PayIf = true
-is_transaction keyword.Sweep = true
-is_transaction keyword.Split = true
-is_transaction keyword.Raw = true
-is_transaction keyword.Version = false
-is_transaction keyword.Members = false
-is_transaction keyword.Account = false
-is_transaction keyword.Batch = false
-is_transaction keyword.Cert = false
-is_transaction keyword.Again = false
-
 -- the line is in its place: `version` first of all, then `members`, accounts before the first `batch` or `cert`, and
 -- a transaction in a batch
 abbrev pub is_in_place : Known → Keyword → Bool
