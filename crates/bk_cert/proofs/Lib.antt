@@ -6,3 +6,4 @@ pub mod Listed
 pub mod Marks
 pub mod Refs
 pub mod Texts
+pub mod Wanted

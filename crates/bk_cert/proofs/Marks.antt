@@ -1,10 +1,10 @@
 -- One member more is marked in a mask, and what is known of the marked members below a number.
-use Rattle.std.proofs.Common.{◌≡◌, ℕ, zero, suc, ◌+◌, ◌*◌, ◌/◌, ◌%◌, ◌^◌, ◌<◌, ◌≤◌, Bool, true, false, cond, eqb, not, ◌||◌, ◌↔◌, IsTrue, Contains, List, [], ◌∷◌, ◌++◌, length, get_or, set, map, take, refl, sym, ap, subst, ◌∙◌, arith, inl, inr}
+use Rattle.std.proofs.Common.{◌≡◌, ℕ, zero, suc, ◌+◌, ◌*◌, ◌/◌, ◌%◌, ◌^◌, ◌<◌, ◌≤◌, Bool, true, false, cond, eqb, not, ◌||◌, ◌↔◌, IsTrue, Contains, List, [], ◌∷◌, ◌++◌, length, get_or, set, take, refl, sym, ap, subst, ◌∙◌, arith, inl, inr}
 use Rattle.std.specs.Prelude.{filter, bit_or}
 use Rattle.std.specs.List.{range_with_len}
 use Rattle.std.specs.Int.{w8, bit_at}
 use Rattle.std.proofs.lemmas.Bool.{ne_eqb, eq-eqb, eqb-true, cases_eq, cases_Bool}
-use Rattle.std.proofs.lemmas.List.{append-nil, get_or-set_same, get_or-set_other, map-append, take_more, take_all}
+use Rattle.std.proofs.lemmas.List.{append-nil, get_or-set_same, get_or-set_other, take_more, take_all}
 use Rattle.std.proofs.lemmas.List.Elements.{filter-append, Contains-append_left, Contains-push, Contains-push_cases}
 use Rattle.std.proofs.lemmas.List.Filters.{length-filter_both}
 use Rattle.std.proofs.lemmas.List.FromFn.{length-range_with_len}
@@ -25,6 +25,12 @@ marked_more mask n =
     let next : suc n ≡ n + 1 = omega arith in
     let ends : range_with_len 0 (suc n) ≡ range_with_len 0 n ++ n ∷ [] = range_more 0 n ∙ ap (λ (k : ℕ). range_with_len 0 n ++ k ∷ []) (omega arith) in
     subst (λ (k : ℕ). marked mask k ≡ marked mask n ++ cond (is_signer mask n) (n ∷ []) []) next (ap (filter (is_signer mask)) ends ∙ filter-append (is_signer mask) (range_with_len 0 n) (n ∷ []))
+
+pub marked_with : (mask : List ℕ) (n : ℕ) → is_signer mask n ≡ true → marked mask (n + 1) ≡ marked mask n ++ n ∷ []
+marked_with mask n m = marked_more mask n ∙ ap (λ (b : Bool). marked mask n ++ cond b (n ∷ []) []) m
+
+pub marked_without : (mask : List ℕ) (n : ℕ) → is_signer mask n ≡ false → marked mask (n + 1) ≡ marked mask n
+marked_without mask n m = marked_more mask n ∙ ap (λ (b : Bool). marked mask n ++ cond b (n ∷ []) []) m ∙ append-nil (marked mask n)
 
 pub count_short : (mask : List ℕ) (n : ℕ) → length (marked mask n) ≤ n
 count_short mask n =
@@ -101,18 +107,3 @@ counted_all mask n signers all so_far = so_far ∙ ap (λ (k : ℕ). length (mar
 
 pub few_signers : (mask : List ℕ) → length (signers_of mask) ≤ 128
 few_signers mask = rw (all_marked mask) (count_short mask 128)
-
--- ---- tags of the marked members
-
-pub tag_pushed : (f : ℕ → List ℕ) (mask : List ℕ) (n : ℕ) (tags : List (List ℕ)) (tag : List ℕ) → is_signer mask n ≡ true → tags ≡ map f (marked mask n) → tag ≡ f n → tags ++ tag ∷ [] ≡ map f (marked mask (n + 1))
-tag_pushed f mask n tags tag marks so_far made =
-    let longer : marked mask (n + 1) ≡ marked mask n ++ n ∷ [] = marked_more mask n ∙ ap (λ (b : Bool). marked mask n ++ cond b (n ∷ []) []) marks in
-    rw (so_far, made) (sym (ap (map f) longer ∙ map-append f (marked mask n) (n ∷ [])))
-
-pub tag_kept : (f : ℕ → List ℕ) (mask : List ℕ) (n : ℕ) (tags : List (List ℕ)) → is_signer mask n ≡ false → tags ≡ map f (marked mask n) → tags ≡ map f (marked mask (n + 1))
-tag_kept f mask n tags marks so_far =
-    let same : marked mask (n + 1) ≡ marked mask n = marked_more mask n ∙ ap (λ (b : Bool). marked mask n ++ cond b (n ∷ []) []) marks ∙ append-nil (marked mask n) in
-    so_far ∙ ap (map f) (sym same)
-
-pub tagged_all : (f : ℕ → List ℕ) (mask : List ℕ) (n : ℕ) (tags : List (List ℕ)) → n ≡ 128 → tags ≡ map f (marked mask n) → tags ≡ map f (signers_of mask)
-tagged_all f mask n tags all so_far = so_far ∙ ap (λ (k : ℕ). map f (marked mask k)) all ∙ ap (map f) (sym (all_marked mask))

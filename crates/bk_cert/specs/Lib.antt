@@ -8,3 +8,4 @@ pub mod Place
 pub mod Clear
 pub mod Equality
 pub mod Laws
+pub mod Tagging

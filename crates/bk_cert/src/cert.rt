@@ -1,18 +1,20 @@
 //! Certificates: read, written and sealed.
 
-ghost use Rattle.std.specs.Prelude.{◌≡◌, ◌≢◌, ◌<◌, ◌≤◌, ℕ, [], map, length, All, IsTrue, IsSome, IfOk, OnErr, IfSome, IfNone, slice_index_or};
+ghost use Rattle.std.specs.Prelude.{◌≡◌, ◌≢◌, ◌<◌, ◌≤◌, ℕ, length, All, IsTrue, IsSome, IfOk, OnErr, IfSome, IfNone};
 ghost use Rattle.bk_cert.specs.Values.{CertValue, cert_with};
-ghost use Rattle.bk_cert.specs.Mask.{is_signer, signers_of};
+ghost use Rattle.bk_cert.specs.Mask.{is_signer};
 ghost use Rattle.bk_cert.specs.Spelling.{IsCertificate, certificate_text};
 ghost use Rattle.bk_cert.specs.Reading.{certificate_of};
-ghost use Rattle.bk_cert.specs.Identity.{tag_of, IsSealOf};
+ghost use Rattle.bk_cert.specs.Identity.{IsSealOf};
+ghost use Rattle.bk_cert.specs.Tagging.{tags_under};
 
 use crate::header::{Header, digests_of};
 use crate::mask::Mask;
+use crate::tagging::want_tags;
 use crate::view::CertView;
 use crate::writing::{put_digests, put_header};
 use bk_committee::Committee;
-use bk_digest::Digest32;
+use bk_digest::{Digest32, tags_each};
 use std::alloc::{AllocError, Global};
 use std::marker::Model;
 
@@ -105,10 +107,11 @@ impl Cert {
         Ok(text)
     }
 
-    /// The header, sealed by these members of the committee, each under its own key (RFC 2104).
+    /// The header, sealed by these members of the committee, each under its own key (RFC 2104). The tags are made
+    /// side by side.
     ///
     /// The signers come in any order. One who is named twice signs once, and none may be named. It reserves
-    /// once.
+    /// twice.
     pub fn seal(
         alloc: Global,
         header: Header,
@@ -127,7 +130,7 @@ impl Cert {
     }
 }
 
-// The tags of an id by the members that the mask marks, in ascending member number.
+// The tags of an id by the members that the mask marks, in ascending member number. All are made side by side.
 fn tags_of(
     alloc: Global,
     committee: &Committee,
@@ -136,14 +139,9 @@ fn tags_of(
 ) -> Result<Vec<Digest32>, AllocError>
     requires { (member : ℕ) → IsTrue (is_signer mask.now member)
         → member < length committee.now.keys }
-    ensures { IfOk result (λ tags. tags.items ≡ map
-        (λ member. tag_of (slice_index_or committee.now.keys member []) id) (signers_of mask.now)) }
+    ensures { IfOk result (λ tags. tags.items ≡ tags_under committee.now.keys id mask.now) }
 {
-    let mut tags = Vec::with_capacity(alloc, mask.len())?;
-    for member in 0..128u8 {
-        if mask.has(member) {
-            tags.push(committee.mac(member as usize).tag(id.as_bytes()))?;
-        }
-    }
-    Ok(tags)
+    let mut wanted = Vec::with_capacity(alloc, mask.len())?;
+    want_tags(committee, mask, id, &mut wanted)?;
+    tags_each(alloc, &wanted)
 }

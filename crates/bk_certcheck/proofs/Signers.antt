@@ -1,22 +1,14 @@
 -- Members that a mask marks: who they are, and how much they weigh.
-use Rattle.std.proofs.Common.{◌≡◌, ℕ, zero, suc, ◌+◌, ◌/◌, ◌%◌, ◌<◌, ◌≤◌, Bool, true, false, cond, eqb, IsTrue, Contains, List, [], ◌∷◌, ◌++◌, length, get_or, refl, sym, ap, subst, ◌∙◌, arith, inl, inr}
+use Rattle.std.proofs.Common.{◌≡◌, ℕ, zero, suc, ◌+◌, ◌/◌, ◌%◌, ◌<◌, ◌≤◌, Bool, true, false, eqb, IsTrue, Contains, List, [], ◌∷◌, ◌++◌, length, get_or, refl, sym, ap, subst, ◌∙◌, arith, inl, inr}
 use Rattle.std.specs.Int.{bit_at}
 use Rattle.std.proofs.lemmas.Bool.{cases_Bool, cases_lt}
-use Rattle.std.proofs.lemmas.List.{get_or_past, append-nil}
+use Rattle.std.proofs.lemmas.List.{get_or_past}
 use Rattle.std.proofs.lemmas.List.Elements.{Contains-append_left, Contains-push, Contains-push_cases}
 use Rattle.std.proofs.lemmas.List.Sums.{sum_by-append, sum_by-cons}
 use Rattle.std.proofs.lemmas.Nat.Bits.{bit_at-zero}
 use Rattle.bk_committee.specs.Sizes.{Sizes, weight, weight_of}
 use Rattle.bk_cert.specs.Mask.{is_signer, signers_of}
-use Rattle.bk_cert.proofs.Marks.{marked, marked_more, all_marked}
-
--- ---- one number more
-
-pub marked_with : (mask : List ℕ) (n : ℕ) → is_signer mask n ≡ true → marked mask (n + 1) ≡ marked mask n ++ n ∷ []
-marked_with mask n m = marked_more mask n ∙ ap (λ (b : Bool). marked mask n ++ cond b (n ∷ []) []) m
-
-pub marked_without : (mask : List ℕ) (n : ℕ) → is_signer mask n ≡ false → marked mask (n + 1) ≡ marked mask n
-marked_without mask n m = marked_more mask n ∙ ap (λ (b : Bool). marked mask n ++ cond b (n ∷ []) []) m ∙ append-nil (marked mask n)
+use Rattle.bk_cert.proofs.Marks.{marked, marked_with, marked_without, all_marked}
 
 -- ---- who is marked
 

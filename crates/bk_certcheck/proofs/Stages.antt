@@ -1,28 +1,25 @@
 -- Payloads from one stage of a check to the next.
-use Rattle.std.proofs.Common.{◌≡◌, ℕ, zero, suc, ◌+◌, ◌<◌, List, [], ◌∷◌, ◌++◌, map, length, take, drop, get_or, Option, Some, None, Bool, true, false, cond, refl, sym, ap, subst, ◌∙◌, append_assoc, arith}
-use Rattle.std.specs.Prelude.{Result, Ok, Err, is_ok, is_err}
+use Rattle.std.proofs.Common.{◌≡◌, ℕ, zero, suc, ◌+◌, ◌<◌, List, [], ◌∷◌, ◌++◌, map, length, take, drop, get_or, Option, Some, None, refl, sym, ap, subst, ◌∙◌, arith}
 use Rattle.std.specs.List.{AllZip, flat_map}
 use Rattle.std.proofs.lemmas.List.{append-nil, length-map, take_at, drop_at, take_more, drop_more, map-append}
 use Rattle.std.proofs.lemmas.List.Concat.{flat_map-append}
 use Rattle.std.proofs.lemmas.Slice.Zip.{all_zipped_more}
 use Rattle.bk_digest.specs.Digest.{tagged_of}
-use Rattle.bk_digest.specs.Mac.{hmac_of}
-use Rattle.bk_digest.specs.Prepared.{IsPrepared}
 use Rattle.bk_digest.specs.declared.tags.ToTag.{ToTag}
 use Rattle.bk_committee.specs.Payload.{CommitteeValue}
 use Rattle.bk_cert.specs.Values.{CertValue}
-use Rattle.bk_cert.specs.Mask.{is_signer, signers_of}
+use Rattle.bk_cert.specs.Mask.{signers_of}
 use Rattle.bk_cert.specs.Spelling.{IsCertificate, header_text}
-use Rattle.bk_cert.specs.Identity.{id_of, tag_of}
+use Rattle.bk_cert.specs.Identity.{id_of}
+use Rattle.bk_cert.specs.Tagging.{AreTagsOf}
 use Rattle.bk_certcheck.specs.declared.rule.Rule.{Rule}
 use Rattle.bk_certcheck.specs.declared.rule.Rule.TheVariants as rule
 use Rattle.bk_certcheck.specs.declared.verdict.Verdict.{Verdict}
 use Rattle.bk_certcheck.specs.declared.verdict.Verdict.TheVariants as verdict
 use Rattle.bk_certcheck.specs.Rules.{Breaks, BreaksNoneBelow}
 use Rattle.bk_certcheck.specs.Verdicts.{BreaksFirst, IsBroken, IsVerdict}
-use Rattle.bk_certcheck.specs.private.Stages.{IsLeft, AreScreened, AreLeft, own_tags, AreTagsOf, IsByTags, IsLastVerdict, filled}
-use Rattle.bk_cert.proofs.Marks.{marked, all_marked}
-use Rattle.bk_certcheck.proofs.Signers.{marked_with, marked_without}
+use Rattle.bk_certcheck.specs.private.Stages.{IsLeft, AreScreened, AreLeft, own_tags, IsByTags, IsLastVerdict, filled}
+use Rattle.bk_cert.proofs.Wanted.{tag_by}
 
 -- ---- the first stage
 
@@ -122,54 +119,9 @@ ids_found f headers left ids e same =
 
 -- ---- tags
 
-pub tags_joined : (wanted more : List ToTag) (tags later : List (List ℕ)) → AreTagsOf wanted tags → AreTagsOf more later → AreTagsOf (wanted ++ more) (tags ++ later)
-tags_joined [] more [] later h k = k
-tags_joined [] more (t ∷ tags) later h k = absurd h
-tags_joined (w ∷ wanted) more [] later h k = absurd h
-tags_joined (w ∷ wanted) more (t ∷ tags) later h k = (h.0, tags_joined wanted more tags later h.1 k)
-
--- what is found for each is what is to be found
-pub tags_found : (wanted : List ToTag) (tags given : List (List ℕ)) → AreTagsOf wanted tags → AllZip (λ t tag. (key : List ℕ) → IsPrepared key t.key.now → tag ≡ hmac_of key t.id) wanted given → given ≡ tags
-tags_found [] [] [] h k = refl
-tags_found [] [] (g ∷ given) h k = absurd k
-tags_found [] (t ∷ tags) given h k = absurd h
-tags_found (w ∷ wanted) [] given h k = absurd h
-tags_found (w ∷ wanted) (t ∷ tags) [] h k = absurd k
-tags_found (w ∷ wanted) (t ∷ tags) (g ∷ given) h k =
-    let first : g ≡ t = k.0 h.0.0 h.0.1 ∙ sym h.0.2 in
-    let rest : given ≡ tags = tags_found wanted tags given h.1 k.1 in
-    cc
-
 pub flat_more : {X Y : Type 0} (f : X → List Y) (xs : List X) (i : ℕ) (x : X) → i < length xs → x ≡ get_or xs i x → flat_map f (take (i + 1) xs) ≡ flat_map f (take i xs) ++ f x
 flat_more f xs i x lt e =
     ap (flat_map f) (take_more xs i x lt) ∙ flat_map-append f (take i xs) (get_or xs i x ∷ []) ∙ ap (λ t. flat_map f (take i xs) ++ t) (append-nil (f (get_or xs i x)) ∙ sym (ap f e))
-
--- the tag of an id by each member
-abbrev pub tag_by : List (List ℕ) → List ℕ → ℕ → List ℕ
-tag_by keys id member = tag_of (get_or keys member []) id
-
-pub pushed : {X Y Z : Type 0} (r : Result X Y) (t : Bool) (out more old : List Z) → out ≡ cond (is_ok r) more old → t ≡ is_err r → t ≡ false → out ≡ more
-pushed (Ok x) t out more old e is off = e
-pushed (Err y) t out more old e is off = absurd cc
-
-pub want_with : (keys : List (List ℕ)) (mask id : List ℕ) (n : ℕ) (old new : List ToTag) (t : ToTag) (tags : List (List ℕ)) → is_signer mask n ≡ true → IsPrepared (get_or keys n []) t.key.now → t.id ≡ id → new ≡ old ++ t ∷ []
-    → AreTagsOf old (tags ++ map (tag_by keys id) (marked mask n)) → AreTagsOf new (tags ++ map (tag_by keys id) (marked mask (n + 1)))
-want_with keys mask id n old new t tags marks prepared same is h =
-    let f : ℕ → List ℕ = tag_by keys id in
-    let made : f n ≡ hmac_of (get_or keys n []) t.id = ap (hmac_of (get_or keys n [])) (sym same) in
-    let joined : AreTagsOf (old ++ t ∷ []) ((tags ++ map f (marked mask n)) ++ f n ∷ []) = tags_joined old (t ∷ []) (tags ++ map f (marked mask n)) (f n ∷ []) h ((get_or keys n [], prepared, made), tt) in
-    let all : (tags ++ map f (marked mask n)) ++ f n ∷ [] ≡ tags ++ map f (marked mask (n + 1)) =
-    append_assoc tags (map f (marked mask n)) (f n ∷ []) ∙ ap (λ ts. tags ++ ts) (sym (ap (map f) (marked_with mask n marks) ∙ map-append f (marked mask n) (n ∷ []))) in
-    rw is (subst (AreTagsOf (old ++ t ∷ [])) all joined)
-
-pub want_without : (keys : List (List ℕ)) (mask id : List ℕ) (n : ℕ) (old new : List ToTag) (tags : List (List ℕ)) → is_signer mask n ≡ false → new ≡ old
-    → AreTagsOf old (tags ++ map (tag_by keys id) (marked mask n)) → AreTagsOf new (tags ++ map (tag_by keys id) (marked mask (n + 1)))
-want_without keys mask id n old new tags marks is h = rw is (subst (λ ms. AreTagsOf old (tags ++ map (tag_by keys id) ms)) (sym (marked_without mask n marks)) h)
-
-pub want_all : (keys : List (List ℕ)) (mask id : List ℕ) (n : ℕ) (wanted : List ToTag) (tags : List (List ℕ)) → n ≡ 128
-    → AreTagsOf wanted (tags ++ map (tag_by keys id) (marked mask n)) → AreTagsOf wanted (tags ++ map (tag_by keys id) (signers_of mask))
-want_all keys mask id n wanted tags all h =
-    subst (λ ms. AreTagsOf wanted (tags ++ map (tag_by keys id) ms)) (ap (marked mask) all ∙ sym (all_marked mask)) h
 
 pub want_next : (k : CommitteeValue) (left : List CertValue) (i : ℕ) (c : CertValue) (old new : List ToTag) (mask id : List ℕ) → i < length left → c ≡ get_or left i c → mask ≡ c.mask → id ≡ id_of c.header
     → ((tags : List (List ℕ)) → AreTagsOf old tags → AreTagsOf new (tags ++ map (tag_by k.keys id) (signers_of mask)))

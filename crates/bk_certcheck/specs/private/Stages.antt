@@ -1,14 +1,10 @@
 -- Payloads between two stages of a check.
-use Rattle.std.specs.Prelude.{◌≡◌, ◌≢◌, ℕ, List, [], ◌∷◌, map, slice_index_or, Option, Some, None}
-use Rattle.std.specs.List.{AllZip}
-use Rattle.bk_digest.specs.Mac.{hmac_of}
-use Rattle.bk_digest.specs.Prepared.{IsPrepared}
-use Rattle.bk_digest.specs.declared.tags.ToTag.{ToTag}
+use Rattle.std.specs.Prelude.{◌≡◌, ◌≢◌, ℕ, List, [], ◌∷◌, Option, Some, None}
 use Rattle.bk_committee.specs.Payload.{CommitteeValue}
 use Rattle.bk_cert.specs.Values.{CertValue}
-use Rattle.bk_cert.specs.Mask.{signers_of}
 use Rattle.bk_cert.specs.Reading.{certificate_of}
-use Rattle.bk_cert.specs.Identity.{id_of, tag_of}
+use Rattle.bk_cert.specs.Identity.{id_of}
+use Rattle.bk_cert.specs.Tagging.{tags_under}
 use Rattle.bk_cert.specs.Node.{node_of}
 use Rattle.bk_certcheck.specs.Rules.{BreaksNoneBelow}
 use Rattle.bk_certcheck.specs.Verdicts.{IsBroken}
@@ -39,18 +35,9 @@ abbrev pub AreLeft : CommitteeValue → List CertValue → Type 0
 AreLeft k [] = Unit {0}
 AreLeft k (c ∷ left) = BreaksNoneBelow k c 7 × AreLeft k left
 
--- the tags of an id by the members that the mask marks, by ascending member
-abbrev pub tags_under : List (List ℕ) → List ℕ → List ℕ → List (List ℕ)
-tags_under keys id mask = map (λ member. tag_of (slice_index_or keys member []) id) (signers_of mask)
-
 -- the tags that a certificate's signers have under its id
 abbrev pub own_tags : CommitteeValue → CertValue → List (List ℕ)
 own_tags k c = tags_under k.keys (id_of c.header) c.mask
-
--- each of the tags is that of the id under the key
-abbrev pub AreTagsOf : List ToTag → List (List ℕ) → Type 0
-AreTagsOf wanted tags =
-    AllZip (λ t tag. (key : List ℕ) × IsPrepared key t.key.now × (tag ≡ hmac_of key t.id)) wanted tags
 
 -- the verdict on a certificate whose signers have these tags under its id
 abbrev pub IsByTags : CertValue → List (List ℕ) → Verdict → Type 0

@@ -5,10 +5,12 @@ use Rattle.std.proofs.lemmas.List.{take_all}
 use Rattle.bk_digest.specs.Mac.{hmac_of}
 use Rattle.bk_digest.specs.Prepared.{IsPrepared}
 use Rattle.bk_cert.specs.Mask.{is_signer}
-use Rattle.bk_certcheck.specs.private.Stages.{AreTagsOf, own_tags}
+use Rattle.bk_cert.specs.Tagging.{AreTagsOf}
+use Rattle.bk_certcheck.specs.private.Stages.{own_tags}
 use Rattle.bk_certcheck.specs.declared.rule.Rule.TheVariants as rule
 use Rattle.bk_certcheck.proofs.Signers.{signers_are_members}
-use Rattle.bk_certcheck.proofs.Stages.{left_at, id_at, want_next, tags_found}
+use Rattle.bk_cert.proofs.Wanted.{tags_found}
+use Rattle.bk_certcheck.proofs.Stages.{left_at, id_at, want_next}
 use Rattle.bk_certcheck.proofs.tagging.tags_of.Goals as goal
 
 pub want_tags-requires : goal.want_tags-requires

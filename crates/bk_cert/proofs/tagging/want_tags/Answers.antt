@@ -1,7 +1,7 @@
 use Rattle.std.proofs.Common.{refl, sym, arith}
-use Rattle.bk_certcheck.proofs.Stages.{pushed, want_with, want_without, want_all}
-use Rattle.bk_certcheck.proofs.tagging.want_tags.Goals as goal
-use Rattle.bk_certcheck.proofs.tagging.want_tags.Goals.{then-has+else-is_err, else-has}
+use Rattle.bk_cert.proofs.Wanted.{pushed, want_with, want_without, want_all}
+use Rattle.bk_cert.proofs.tagging.want_tags.Goals as goal
+use Rattle.bk_cert.proofs.tagging.want_tags.Goals.{then-has+else-is_err, else-has}
 
 pub loop-member-preserved : goal.loop-member-preserved
 loop-member-preserved c = λ tags h.

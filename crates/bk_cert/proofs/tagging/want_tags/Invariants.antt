@@ -1,8 +1,8 @@
 use Rattle.std.proofs.Common.{◌++◌, ℕ, List, [], map, get_or}
 use Rattle.bk_cert.specs.Identity.{tag_of}
 use Rattle.bk_cert.proofs.Marks.{marked}
-use Rattle.bk_certcheck.specs.private.Stages.{AreTagsOf}
-use Rattle.bk_certcheck.proofs.tagging.want_tags.Given as goal
+use Rattle.bk_cert.specs.Tagging.{AreTagsOf}
+use Rattle.bk_cert.proofs.tagging.want_tags.Given as goal
 
 abbrev pub invariant-loop-member : goal.invariant-loop-member
 invariant-loop-member l =
