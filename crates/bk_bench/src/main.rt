@@ -4,8 +4,10 @@
 //! one digest, which depends on the work.
 #![tactic(auto)]
 
+mod batches;
 mod certs;
 
+use crate::batches::{batches_alone, batches_in_lanes};
 use crate::certs::Maker;
 use anyhow::{Context, Result, bail};
 use bk_digest::{Digest32, MacKey, ToTag, hmac, tagged, tags_each, tree_root, tree_root_with};
@@ -96,6 +98,9 @@ fn hashing<R: Threads + Sync>(rt: &R, alloc: Global, work: &str, count: u32) -> 
         "tags" => tags(count),
         "prepared" => prepared_tags(count),
         "tags_each" => tags_in_lanes(alloc, count)?,
+        // Batches of 32 KiB, one by one and side by side.
+        "batches" => batches_alone(alloc, count)?,
+        "batches_each" => batches_in_lanes(alloc, count)?,
         "alone" => hashes_alone(count),
         // The leaves alone, to take off what making them costs.
         "leaves" => Digest32::of(&leaves(alloc, count)?.len().to_be_bytes()),
