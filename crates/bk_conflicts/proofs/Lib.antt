@@ -1,5 +1,6 @@
 pub mod Accessed
 pub mod Bridge
+pub mod Clashing
 pub mod Counting
 pub mod Cover
 pub mod Direct

@@ -1,5 +1,5 @@
 -- The laws of conflicts and edges.
-use Rattle.std.specs.Prelude.{◌≡◌, ℕ, ◌*◌, ◌<◌, List, length, slice_index_or, true, Option}
+use Rattle.std.specs.Prelude.{◌≡◌, ◌≢◌, ◌↔◌, ℕ, ◌*◌, ◌<◌, List, length, slice_index_or, true, Option}
 use Rattle.bk_frames.specs.declared.version.Version.TheVariants.{Two}
 use Rattle.bk_tx.specs.Transaction.{Transaction}
 use Rattle.bk_rules.specs.Fold.{rows_before}
@@ -7,7 +7,7 @@ use Rattle.bk_rules.specs.Ledger.{Ledger, are_covered, rows_shown, in_pairs}
 use Rattle.bk_conflicts.specs.Conflicts.{share, clash, Conflict, Edge, Waits}
 use Rattle.bk_conflicts.specs.Plan.{PlanValue, IsPlan}
 use Rattle.bk_conflicts.specs.Scene.{IsSound}
-use Rattle.bk_conflicts.specs.SceneOf.{scene_of, CanRunOn}
+use Rattle.bk_conflicts.specs.SceneOf.{in_conflict, scene_of, CanRunOn}
 
 -- who waits directly for another comes later, and is in conflict with it
 abbrev pub EdgesConflict : Type 0
@@ -16,6 +16,10 @@ EdgesConflict = (slots : List ℕ) (txs : List (Option Transaction)) (p q : ℕ)
 -- of two in conflict the later waits for the earlier
 abbrev pub ConflictsWait : Type 0
 ConflictsWait = (slots : List ℕ) (txs : List (Option Transaction)) (p q : ℕ) → p < q → Conflict slots txs p q → Waits (clash slots txs) p q
+
+-- two places are in conflict exactly where the scene of a plan has them clash
+abbrev pub ConflictsClash : Type 0
+ConflictsClash = (slots : List ℕ) (txs : List (Option Transaction)) (p q : ℕ) → p ≢ q → Conflict slots txs p q ↔ (in_conflict slots txs p q ≡ true)
 
 -- where each declared account has a slot, as in version Two, each account that is shared counts
 abbrev pub SharedAccountsCount : Type 0

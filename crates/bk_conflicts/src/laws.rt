@@ -1,12 +1,19 @@
 //! The laws of conflicts and waits, as functions that do nothing: their clauses are the laws.
 
-ghost use Rattle.bk_conflicts.specs.Laws.{EdgesConflict, ConflictsWait, SharedAccountsCount, ScenesAreSound, WordsShowRows};
+ghost use Rattle.bk_conflicts.specs.Laws.{EdgesConflict, ConflictsWait, ConflictsClash};
+ghost use Rattle.bk_conflicts.specs.Laws.{SharedAccountsCount, ScenesAreSound, WordsShowRows};
 
 /// A place waits directly only for an earlier place in conflict with it, and for every earlier
 /// place in conflict it waits, directly or through places between.
 pub fn waits_are_conflicts()
     ensures edges { EdgesConflict }
     ensures conflicts { ConflictsWait }
+{}
+
+/// Two places are in conflict exactly where the execution of a plan, seen word by word, has them
+/// clash.
+pub fn conflicts_are_clashes()
+    ensures { ConflictsClash }
 {}
 
 /// In version Two each account that two transactions declare counts, whether or not it is there:

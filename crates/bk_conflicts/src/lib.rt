@@ -14,7 +14,10 @@ mod rows;
 mod trail;
 mod words;
 
-pub use laws::{scene_is_sound, shared_accounts_count, waits_are_conflicts, words_show_rows};
+pub use laws::{
+    conflicts_are_clashes, scene_is_sound, shared_accounts_count, waits_are_conflicts,
+    words_show_rows,
+};
 pub use plan::{Plan, SLOTS_END};
 pub use words::WordRef;
 

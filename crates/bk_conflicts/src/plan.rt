@@ -61,6 +61,7 @@ impl Plan {
         ensures version { IfOk result (λ p. p.version ≡ version) }
         ensures ids { IfOk result (λ p. p.ids ≡ ids.now) }
         ensures txs { IfOk result (λ p. p.txs ≡ txs.items) }
+        ensures plan { IfOk result IsPlan }
     {
         Plan::make_near(alloc, version, ids, txs, &[])
     }
@@ -80,6 +81,7 @@ impl Plan {
         ensures version { IfOk result (λ p. p.version ≡ version) }
         ensures ids { IfOk result (λ p. p.ids ≡ ids.now) }
         ensures txs { IfOk result (λ p. p.txs ≡ txs.items) }
+        ensures plan { IfOk result IsPlan }
     {
         let lists = lists_of(alloc, version, ids, &txs, near)?;
         let ids = ids.share()?;
