@@ -10,30 +10,31 @@ use Rattle.bk_steps.proofs.Running.{values_at_end}
 use Rattle.bk_bank.specs.declared.setting.Setting.{Setting}
 use Rattle.bk_bank.specs.declared.view.View.{View}
 use Rattle.bk_bank.specs.Setting.{scene_of}
-use Rattle.bk_bank.specs.Rule.{state_word, starting, ViewOk, IsOrdered}
+use Rattle.bk_bank.specs.Rule.{state_word, starting, Shows, ViewOk, IsOrdered}
 use Rattle.bk_bank.specs.Steps.{IsLaid, Ends}
 use Rattle.bk_bank.proofs.Lists.{sole}
 use Rattle.bk_bank.proofs.Places.{big_done, list_done_at}
 use Rattle.bk_bank.proofs.Stepping.{Table, words_of_done, owes_little}
 
+pub shows_opening : (s : Scene) (g : Setting) (words : List ℕ) → scene_of g ≡ s → IsSound s → IsLaid s words
+    → Shows s (opened s) (opening words [] (starting g))
+shows_opening s g words same sound laid = record {
+  paid = λ _. 0;
+  leaver = λ _. 0;
+  sound = sound;
+  kept = keeps_opening s sound;
+  wide = laid.wide;
+  values = laid.values;
+  each_place = λ q l. laid.counts q l ∙ sound.are_edges.counts q l;
+  unpaid = λ p h. refl;
+  each_view = λ j v e. subst (ViewOk s (opened s) (λ _. 0) (λ _. 0) words j) (sole (starting g) v j e)
+      record { stage = refl; scene = λ _. same; seen = tt };
+  beyond = λ j l. refl;
+}
+
 pub starts : (s : Scene) (g : Setting) (words : List ℕ) → scene_of g ≡ s → IsSound s → IsLaid s words
     → IsOrdered s (opening words [] (starting g))
-starts s g words same sound laid = (
-  opened s,
-  record {
-    paid = λ _. 0;
-    leaver = λ _. 0;
-    sound = sound;
-    kept = keeps_opening s sound;
-    wide = laid.wide;
-    values = laid.values;
-    each_place = λ q l. laid.counts q l ∙ sound.are_edges.counts q l;
-    unpaid = λ p h. refl;
-    each_view = λ j v e. subst (ViewOk s (opened s) (λ _. 0) (λ _. 0) words j) (sole (starting g) v j e)
-        record { stage = refl; scene = λ _. same; seen = tt };
-    beyond = λ j l. refl;
-  },
-)
+starts s g words same sound laid = (opened s, shows_opening s g words same sound laid)
 
 pub ends : (s : Scene) (ws : List ℕ) (t : Table) → IsOrdered s t → t.words ≡ ws → Ends s ws
 ends s ws t k e =

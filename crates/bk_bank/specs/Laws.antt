@@ -1,21 +1,29 @@
--- Each step on the words is the event of the course that its row names, or none.
+-- The words that are laid show the beginning, and each step on them is the event of the course that its row names, or
+-- none.
 use Rattle.std.specs.Prelude.{◌≡◌, ℕ, suc, ◌+◌, ◌-◌, ◌%◌, ◌^◌, ◌<◌, List, [], ◌∷◌, ◌++◌, length, Bool, true, false, Some, None, slice_index, slice_set}
 use mathlib.Core.Option.{some}
 use lib.ListN.{get_elem?}
-use Rattle.atomic_table.specs.Table.{State}
-use Rattle.bk_conflicts.specs.Scene.{Scene, status_at, moved_at}
-use Rattle.bk_steps.specs.Course.{Course, Has}
+use Rattle.atomic_table.specs.Table.{State, opening}
+use Rattle.bk_conflicts.specs.Scene.{Scene, IsSound, status_at, moved_at}
+use Rattle.bk_steps.specs.Course.{Course, Has, opened}
 use Rattle.bk_steps.specs.Moves.{HasReadAll, HasWrittenAll}
 use Rattle.bk_steps.specs.declared.event.Event.TheVariants.{Claim, Read, Write, Finish}
 use Rattle.bk_bank.specs.declared.view.Stage.TheVariants.{Holding, Leaving}
 use Rattle.bk_bank.specs.declared.view.View.{View}
-use Rattle.bk_bank.specs.Rule.{Shows, state_word, moved_word}
+use Rattle.bk_bank.specs.declared.setting.Setting.{Setting}
+use Rattle.bk_bank.specs.Setting.{scene_of}
+use Rattle.bk_bank.specs.Rule.{Shows, starting, state_word, moved_word}
 use Rattle.bk_bank.specs.Plays.{IsAtRest, Learns, SawEarlier, stay, rested, pooled, spent}
-use Rattle.bk_bank.specs.Steps.{Turns}
+use Rattle.bk_bank.specs.Steps.{IsLaid, Turns}
 
 -- the table shows the course, and the seat id has the view
 abbrev pub IsSeat : Scene → Course → State (Unit {0}) View → ℕ → View → Type 0
 IsSeat s d t id v = Shows s d t × (get_elem? t.views id ≡ some v)
+
+-- words that are laid for a sound scene show the course in which nothing has happened
+abbrev pub LaidWordsShowOpening : Type 0
+LaidWordsShowOpening = (s : Scene) (g : Setting) (words : List ℕ) → scene_of g ≡ s → IsSound s → IsLaid s words
+    → Shows s (opened s) (opening words [] (starting g))
 
 -- where the word of p is 0, its exchange for 2^62 is the claim of p
 abbrev pub ClaimIsEvent : Type 0

@@ -9,7 +9,7 @@ mod view;
 mod words;
 
 pub use bank::{Bank, Hold, Leaving, Pass, Step};
-pub use laws::{holds_are_events, passes_are_events, releases_are_none};
+pub use laws::{holds_are_events, laid_words_show_opening, passes_are_events, releases_are_none};
 pub use setting::Setting;
 pub use view::{About, Ordered, Stage, View};
 pub use words::Words;
