@@ -7,6 +7,12 @@ use std::alloc::{AllocError, Global};
 /// How many bytes a batch has.
 const BATCH: usize = 32_768;
 
+/// The number of bytes of `count` batches, which are made and not hashed: what making them costs is to be taken off.
+pub fn batches_made(alloc: Global, count: u32) -> Result<Digest32, AllocError> {
+    let bytes = vec![in alloc; 0u8; count as usize * BATCH]?;
+    Ok(Digest32::of(&bytes.len().to_be_bytes()))
+}
+
 /// The digest of the last of `count` batches of zeros, each hashed by itself.
 pub fn batches_alone(alloc: Global, count: u32) -> Result<Digest32, AllocError> {
     let bytes = vec![in alloc; 0u8; count as usize * BATCH]?;

@@ -7,7 +7,7 @@
 mod batches;
 mod certs;
 
-use crate::batches::{batches_alone, batches_in_lanes};
+use crate::batches::{batches_alone, batches_in_lanes, batches_made};
 use crate::certs::Maker;
 use anyhow::{Context, Result, bail};
 use bk_digest::{Digest32, MacKey, ToTag, hmac, tagged, tags_each, tree_root, tree_root_with};
@@ -98,7 +98,8 @@ fn hashing<R: Threads + Sync>(rt: &R, alloc: Global, work: &str, count: u32) -> 
         "tags" => tags(count),
         "prepared" => prepared_tags(count),
         "tags_each" => tags_in_lanes(alloc, count)?,
-        // Batches of 32 KiB, one by one and side by side.
+        // Batches of 32 KiB, which are made, hashed one by one and hashed side by side.
+        "batches_made" => batches_made(alloc, count)?,
         "batches" => batches_alone(alloc, count)?,
         "batches_each" => batches_in_lanes(alloc, count)?,
         "alone" => hashes_alone(count),
