@@ -1,7 +1,8 @@
 -- What the words of all places show is what the transactions give one at a time.
 use Rattle.std.proofs.Common.{◌≡◌, ℕ, ◌*◌, ◌^◌, ◌<◌, List, length, get_or, Option, None, Some, refl, sym, ap, ◌∙◌, subst, arith, take_all}
 use Rattle.std.proofs.lemmas.List.{ext_get_or}
-use Rattle.std.proofs.lemmas.Option.{get_or_from_slice_get}
+use Rattle.std.specs.Prelude.{slice_get}
+use Rattle.std.proofs.lemmas.Option.{get_or_from_slice_get, slice_get_within}
 use Rattle.bk_frames.specs.declared.genesis.Row.{Row}
 use Rattle.bk_frames.specs.declared.version.Version.{Version}
 use Rattle.bk_frames.specs.Genesis.{total_of}
@@ -16,6 +17,7 @@ use Rattle.bk_rules.proofs.Folding.{ledger_kept_by_fold, length-receipts, receip
 use Rattle.bk_conflicts.specs.Plan.{PlanValue, IsPlan}
 use Rattle.bk_conflicts.specs.Scene.{status_at, moved_at}
 use Rattle.bk_conflicts.specs.SceneOf.{CanRunOn, word_by, accounts_by, tx_at, status_on, moved_on}
+use Rattle.bk_conflicts.specs.SceneOf as executions
 use Rattle.bk_conflicts.proofs.Opening.{all_there}
 use Rattle.bk_conflicts.proofs.Ran.{said_agrees}
 use Rattle.bk_conflicts.proofs.Said.{DoesSame, does_same}
@@ -74,6 +76,19 @@ scene_receipt plan ledger is runs p = let same = said_alike plan ledger is runs 
       ap number_of (sym same.status ∙ ap (λ (z : Receipt). z.status) (sym r)),
       sym same.moved ∙ ap (λ (z : Receipt). z.moved) (sym r),
     )
+
+-- the receipt of a place is what the scene has there
+pub receipts_shown : (plan : PlanValue) (ledger : Ledger) → IsPlan plan → CanRunOn plan ledger → (p : ℕ) (r : Receipt) → slice_get (receipts_of plan.version plan.txs ledger.rows) p ≡ Some r
+    → (status_at (executions.scene_of plan ledger) p ≡ number_of r.status) × (moved_at (executions.scene_of plan ledger) p ≡ r.moved)
+unfolding scene_of
+receipts_shown plan ledger is runs p r here =
+    let rs : List Receipt = receipts_of plan.version plan.txs ledger.rows in
+    let made : Receipt = (outcome_at plan.version plan.txs p ledger.rows).receipt in
+    let l : p < length plan.txs = subst (λ (n : ℕ). p < n) (length-receipts plan.version plan.txs ledger.rows) (slice_get_within rs p r here) in
+    let both : Some made ≡ Some r = sym (receipt_of_place plan.version plan.txs p ledger.rows l) ∙ here in
+    let same : made ≡ r = cc in
+    let s = scene_receipt plan ledger is runs p in
+    (s.0 ∙ ap (λ (z : Receipt). number_of z.status) same, s.1 ∙ ap (λ (z : Receipt). z.moved) same)
 
 -- receipts that are the fold's at each place are those of the transactions
 pub last_receipts : (plan : PlanValue) (ledger : Ledger) → IsPlan plan → CanRunOn plan ledger → (rs : List Receipt) → length rs ≡ length plan.txs

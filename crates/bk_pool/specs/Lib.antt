@@ -1,3 +1,4 @@
 pub mod Outcomes
 pub mod Reads
 pub mod private
+pub mod Laws

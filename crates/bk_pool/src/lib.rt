@@ -5,6 +5,7 @@
 
 mod deques;
 mod hints;
+mod laws;
 mod levels;
 mod outcome;
 mod place;
@@ -13,6 +14,7 @@ mod work;
 
 pub use bk_steps::Outcome;
 pub use hints::{Hints, Nobody};
+pub use laws::scenes_show_receipts;
 pub use outcome::{ExecFault, outcome_of};
 pub use place::{Gate, Open, run_place};
 pub use run::{execute, execute_all, execute_with};
