@@ -15,6 +15,10 @@ use bk_steps::Outcome;
 use std::alloc::{AllocError, Global};
 use std::marker::Model;
 
+// In version One batches are executed once they have so many transactions together: the look-ups of so many overlap,
+// and a batch may have far fewer. A batch has fewer than 65,536, so that memory stays bounded.
+const WORTH_A_RUN: usize = 512;
+
 /// What the batches executed so far gave. Contracts see how many transactions each batch holds, the receipts of all of
 /// them, and the accounts after them.
 #[derive(Drop)]
@@ -159,7 +163,7 @@ impl Ledger {
     // to make slots costs what all slots cost: so many transactions share that.
     fn are_enough(&self, batches: &Batches) -> bool {
         match self.state.version() {
-            Version::One => true,
+            Version::One => batches.txs.len() >= WORTH_A_RUN,
             Version::Two => batches.txs.len() > self.state.slots().len() / 8,
         }
     }
