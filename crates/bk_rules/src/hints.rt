@@ -20,6 +20,9 @@ const MEETING: usize = 32;
 
 // A table with a likely index of each id, so that most look-ups read one slot and one id.
 //
+// A slot holds an index in its low bits, and above it bits of the hash of the id there: a slot of another id is
+// passed over, in most cases, and that id is not read.
+//
 // An index is believed only where the id is there, and else the ids are searched. So no result depends on the
 // slots, and no contract speaks of them.
 //
@@ -29,8 +32,18 @@ const MEETING: usize = 32;
 #[derive(Debug, Drop)]
 pub(crate) struct Hints {
     slots: Vec<u32>,
+    // The top bits of a hash, all but so many, are the number of its home slot.
     shift: u32,
+    // The bits of a slot that are its index.
+    mask: u32,
     key: u64,
+}
+
+// Where an id's hint is likely to be, and what it holds above its index.
+#[derive(Clone, Copy)]
+struct Home {
+    slot: usize,
+    tag: u32,
 }
 
 impl Hints {
@@ -43,6 +56,7 @@ impl Hints {
         let mut hints = Hints {
             slots: vec![in alloc; EMPTY; most.saturating_add(MOST_TRIES)]?,
             shift,
+            mask: mask_of(ids.len()),
             key,
         };
         if !hints.keep_all(ids, ids.len() / MEETING) {
@@ -59,14 +73,18 @@ impl Hints {
     }
 
     // The slot where an id's hint is, if that was free when it was put there.
-    fn home(&self, id: u64) -> usize {
+    fn home(&self, id: u64) -> Home {
         let spread = id.wrapping_mul(SPREAD);
         let spread = if self.key == 0 {
             spread
         } else {
             mixed(spread ^ self.key)
         };
-        spread.wrapping_shr(self.shift) as usize
+        let below = spread.wrapping_shl(64u32.wrapping_sub(self.shift)) >> 32;
+        Home {
+            slot: spread.wrapping_shr(self.shift) as usize,
+            tag: u32::try_from(below).unwrap_or(0) & !self.mask,
+        }
     }
 
     // Puts the hints of the ids into free slots, and gives up where more than so many find none.
@@ -91,9 +109,9 @@ impl Hints {
     fn keep(&mut self, id: u64, index: u32) -> bool {
         let home = self.home(id);
         for step in 0..MOST_TRIES {
-            let slot = home.saturating_add(step);
+            let slot = home.slot.saturating_add(step);
             if self.slots.get(slot) == Some(&EMPTY) {
-                self.slots[slot] = index;
+                self.slots[slot] = index | home.tag;
                 return true;
             }
         }
@@ -104,29 +122,54 @@ impl Hints {
     pub(crate) fn guess(&self, ids: &[u64], id: u64) -> Option<usize>
         ensures { IfSome result (λ k. (k < length ids.now) × (slice_index ids.now k ≡ id)) }
     {
-        for slot in self.slots.get(self.home(id)..)?.iter().take(MOST_TRIES) {
-            let index = *slot as usize;
-            if *ids.get(index)? == id {
-                return Some(index);
+        let home = self.home(id);
+        for slot in self.slots.get(home.slot..)?.iter().take(MOST_TRIES) {
+            if *slot == EMPTY {
+                return None;
+            }
+            let likely = *slot ^ home.tag;
+            if likely <= self.mask {
+                let index = likely as usize;
+                if ids.get(index) == Some(&id) {
+                    return Some(index);
+                }
             }
         }
         None
     }
 
-    // A likely index of an id: what its slot alone says, whatever is at that index.
+    // A likely index of an id: what its own slot or the next one says, whatever is at that index.
+    //
+    // Both are read, so that there is no branch to be guessed wrong. What belongs to another id is past all ids.
     pub(crate) fn slot(&self, id: u64) -> u32 {
-        match self.slots.get(self.home(id)) {
-            Some(index) => *index,
+        let home = self.home(id);
+        let first = self.at(home.slot) ^ home.tag;
+        let second = self.at(home.slot.wrapping_add(1)) ^ home.tag;
+        if first <= self.mask { first } else { second }
+    }
+
+    // What a slot holds.
+    fn at(&self, slot: usize) -> u32 {
+        match self.slots.get(slot) {
+            Some(held) => *held,
             None => EMPTY,
         }
     }
 
-    // The same, where all slots are looked at that may have it.
+    // A likely index of an id, where all slots are looked at that may have it.
     pub(crate) fn search(&self, ids: &[u64], id: u64) -> u32 {
         match self.guess(ids, id) {
             Some(index) => u32::try_from(index).unwrap_or(EMPTY),
             None => EMPTY,
         }
+    }
+}
+
+// The bits that any index of so many ids has. No index has all of them, so that no hint is `EMPTY`.
+fn mask_of(count: usize) -> u32 {
+    match u32::try_from(count) {
+        Ok(count) => u32::MAX.wrapping_shr(count.max(1).leading_zeros()),
+        Err(_) => u32::MAX,
     }
 }
 
