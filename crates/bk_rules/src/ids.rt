@@ -6,13 +6,13 @@ ghost use Rattle.bk_frames.specs.Numbers.{is_ascending};
 ghost use Rattle.bk_rules.specs.private.Slots.{index_or_len};
 
 use crate::hints::Hints;
-use bk_tx::{Declarations, Tx};
+use bk_tx::{Declarations, MOST_DECLARED, Tx};
 use std::alloc::{AllocError, Global};
 use std::marker::Model;
 use std::sync::Arc;
 
 // How many transactions are looked up together: reads that depend on none before them overlap.
-const BLOCK: usize = 256;
+const BLOCK: usize = 512;
 
 // What holders of the same ids share.
 #[derive(Debug, Drop)]
@@ -129,41 +129,24 @@ impl Ids {
     ///
     /// No contract says that they are right: where one is not, the look-up takes longer.
     pub fn push_likely(&self, near: &mut Vec<u32>, txs: &[Option<Tx>]) -> Result<(), AllocError> {
+        let mut declared = [0; MOST_DECLARED * BLOCK];
         for block in txs.chunks(BLOCK) {
+            let count = list_declared(&mut declared, block);
             let from = near.len();
-            for tx in block {
-                if let Some(tx) = tx {
-                    self.push_slots(near, tx.declared())?;
-                }
+            for id in declared.iter().take(count) {
+                near.push(self.table.hints.slot(*id))?;
             }
-            let mut at = from;
-            for tx in block {
-                if let Some(tx) = tx {
-                    self.mend(near, at, tx.declared());
-                    at = at.saturating_add(tx.declared().len());
-                }
-            }
+            self.mend(near, from, &declared);
         }
         Ok(())
     }
 
-    // What the slot of each declared account says.
-    fn push_slots(&self, near: &mut Vec<u32>, declared: &Declarations) -> Result<(), AllocError> {
-        for k in 0..declared.len() {
-            near.push(self.table.hints.slot(declared.get(k).id))?;
-        }
-        Ok(())
-    }
-
-    // Looks further for the declared accounts that are not where their slot says.
-    fn mend(&self, near: &mut [u32], from: usize, declared: &Declarations) {
+    // Looks further for the ids that are not where their slots say, from a likely index on.
+    fn mend(&self, near: &mut [u32], from: usize, declared: &[u64]) {
         let Table { ids, hints } = &*self.table;
-        for k in 0..declared.len() {
-            let id = declared.get(k).id;
-            if let Some(index) = near.get_mut(from.saturating_add(k)) {
-                if ids.get(*index as usize) != Some(&id) {
-                    *index = hints.search(ids, id);
-                }
+        for (index, id) in near.iter_mut().skip(from).zip(declared) {
+            if ids.get(*index as usize) != Some(id) {
+                *index = hints.search(ids, *id);
             }
         }
     }
@@ -201,9 +184,32 @@ impl Ids {
     }
 
     // A likely index of an id: what is asked of its slot alone, whatever is at that index.
-    pub(crate) fn likely(&self, id: u64) -> usize {
-        self.table.hints.slot(id) as usize
+    pub(crate) fn likely(&self, id: u64) -> u32 {
+        self.table.hints.slot(id)
     }
+}
+
+// Lists the ids that all of the transactions declare, and returns how many they are.
+fn list_declared(list: &mut [u64], txs: &[Option<Tx>]) -> usize {
+    let mut count = 0usize;
+    for tx in txs {
+        if let Some(tx) = tx {
+            count = put_declared(list, count, tx.declared());
+        }
+    }
+    count
+}
+
+// Puts the declared ids into a list from an index on, and returns the index after them.
+fn put_declared(list: &mut [u64], from: usize, declared: &Declarations) -> usize {
+    let mut at = from;
+    for id in declared.ids() {
+        if let Some(place) = list.get_mut(at) {
+            *place = *id;
+        }
+        at = at.saturating_add(1);
+    }
+    at
 }
 
 // Whether an id falls between the id at an index and the one before it, so that it is none of them.

@@ -4,8 +4,8 @@ ghost use Rattle.bk_rules.specs.Ledger.{ledger_of, are_covered};
 
 use crate::account::Account;
 use crate::receipt::Receipt;
-use crate::state::{State, likely_places, places_near};
-use bk_tx::{Declarations, Tx};
+use crate::state::State;
+use bk_tx::{MOST_DECLARED, Tx};
 use std::alloc::{AllocError, Global};
 
 // How many transactions are looked up together: reads that depend on none before them overlap.
@@ -28,54 +28,56 @@ pub fn run_in_order(
     ensures unchanged { OnErr result (state.new ≡ state.old) }
 {
     let mut receipts = Vec::with_capacity(alloc, txs.len())?;
-    let mut near = [[0; 8]; BLOCK];
+    let most = txs.len().min(BLOCK).saturating_mul(MOST_DECLARED);
+    let mut near = Vec::with_capacity(alloc, most.saturating_add(1))?;
+    let mut at = 0usize;
     for (i, tx) in txs.iter().enumerate() {
         if i % BLOCK == 0 {
             look_up(&mut near, state, &txs[i..]);
+            at = 0;
         }
-        let places = near[i % BLOCK];
-        receipts.push(state.apply_near(tx.as_ref(), &places))?;
+        receipts.push(state.apply_near(tx.as_ref(), near_from(&near, at)))?;
+        at = at.saturating_add(count_of(tx.as_ref()));
     }
     Ok(receipts)
 }
 
-// Finds the likely indexes of all accounts that the first transactions declare: first the hints of all, then the ids
-// that they lead to, then the rows beside these.
-fn look_up(near: &mut [[usize; 8]], state: &State, txs: &[Option<Tx>]) {
-    let ids = state.ids();
-    let count = near.len().min(txs.len());
-    for k in 0..count {
-        if let Some(tx) = &txs[k] {
-            near[k] = likely_places(ids, tx.declared());
-        }
-    }
-    for k in 0..count {
-        if let Some(tx) = &txs[k] {
-            let likely = near[k];
-            near[k] = places_near(ids, tx.declared(), &likely);
-        }
-    }
-    for k in 0..count {
-        if let Some(tx) = &txs[k] {
-            let mut likely = near[k];
-            likely[7] = load_rows(state.numbers(), tx.declared(), &likely);
-            near[k] = likely;
-        }
+// Finds the likely indexes of all accounts that the first transactions declare, and loads the rows there. The sum of
+// them is put behind the indexes, where it is not read: a load whose value nobody keeps would not be made.
+//
+// There is memory for all of them. If there were none, look-ups would take longer.
+fn look_up(near: &mut Vec<u32>, state: &State, txs: &[Option<Tx>]) {
+    near.clear();
+    let count = txs.len().min(BLOCK);
+    if state.ids().push_likely(near, &txs[..count]).is_ok() {
+        let sum = sum_of_seqs(state.numbers(), near);
+        let _ = near.push(sum);
     }
 }
 
-// Loads the rows at the first indexes, and returns the last index as it is, or what is of no use where fewer than eight
-// accounts are declared: a load whose value nobody keeps would not be made.
-fn load_rows(numbers: &[Account], declared: &Declarations, near: &[usize; 8]) -> usize {
-    let count = declared.len();
-    if count >= near.len() {
-        return near[7];
-    }
-    let mut sum = 0usize;
-    for k in 0..count {
-        if let Some(account) = numbers.get(near[k]) {
-            sum = sum.wrapping_add(account.seq as usize);
+// The sum of some sequence numbers.
+fn sum_of_seqs(numbers: &[Account], near: &[u32]) -> u32 {
+    let mut sum = 0u32;
+    for index in near {
+        if let Some(account) = numbers.get(*index as usize) {
+            sum = sum.wrapping_add(u32::try_from(account.seq & 0xffff).unwrap_or(0));
         }
     }
     sum
+}
+
+// The likely indexes from one on.
+fn near_from(near: &[u32], at: usize) -> &[u32] {
+    match near.get(at..) {
+        Some(rest) => rest,
+        None => near,
+    }
+}
+
+// How many accounts it declares.
+fn count_of(tx: Option<&Tx>) -> usize {
+    match tx {
+        Some(tx) => tx.declared().len(),
+        None => 0,
+    }
 }

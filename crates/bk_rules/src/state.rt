@@ -176,8 +176,8 @@ impl State {
         self.apply_near(tx, &near)
     }
 
-    // The same, where the declared accounts have these indexes, most likely.
-    pub(crate) fn apply_near(&mut self, tx: Option<&Tx>, near: &[usize; 8]) -> Receipt
+    // The same, where the declared accounts have the first of these indexes, most likely.
+    pub(crate) fn apply_near(&mut self, tx: Option<&Tx>, near: &[u32]) -> Receipt
         requires covers { is_covered self.old.version self.old.slots (option_copied tx) ≡ true }
         requires room { HasRoom self.old.version 1 self.old.rows }
         ensures receipt { result ≡ (outcome_of self.old.version
@@ -327,7 +327,7 @@ fn have_slots(ids: &Ids, declared: &Declarations) -> bool
 }
 
 // A likely index of each declared account.
-pub(crate) fn likely_places(ids: &Ids, declared: &Declarations) -> [usize; 8] {
+fn likely_places(ids: &Ids, declared: &Declarations) -> [u32; 8] {
     let mut places = [0; 8];
     for k in 0..declared.len() {
         places[k] = ids.likely(declared.get(k).id);
@@ -336,14 +336,22 @@ pub(crate) fn likely_places(ids: &Ids, declared: &Declarations) -> [usize; 8] {
 }
 
 // The index of each declared account, or the number of ids where it has no slot, by likely ones.
-pub(crate) fn places_near(ids: &Ids, declared: &Declarations, near: &[usize; 8]) -> [usize; 8]
+fn places_near(ids: &Ids, declared: &Declarations, near: &[u32]) -> [usize; 8]
     ensures { ArePlaces ids.now declared.now result }
 {
     let mut places = [0; 8];
     for k in 0..declared.len() {
-        places[k] = ids.index_near(declared.get(k).id, near[k]);
+        places[k] = ids.index_near(declared.get(k).id, likely_at(near, k));
     }
     places
+}
+
+// The likely index of a declared account, or a number that is none.
+fn likely_at(near: &[u32], k: usize) -> usize {
+    match near.get(k) {
+        Some(index) => *index as usize,
+        None => usize::MAX,
+    }
 }
 
 // The declared accounts.
