@@ -1,0 +1,109 @@
+//! Executions of the transactions of a feed, and what they have to give.
+
+ghost use Rattle.std.specs.Prelude.{◌≤◌, IfOk};
+ghost use Rattle.std.specs.Arc.{arc_value};
+ghost use Rattle.bk_conflicts.specs.SceneOf.{CanRunOn};
+
+use anyhow::{Result, bail};
+use bk_conflicts::Plan;
+use bk_frames::{Feed, Row};
+use bk_ledger::{Batches, Ledger};
+use bk_pool::{ExecFault, Gate, Hints, Open, Outcome, execute, execute_all, execute_with};
+use bk_rules::{Receipt, State};
+use std::alloc::Global;
+use std::sync::{Arc, Wait};
+use std::thread::Threads;
+
+const MOST: usize = 1 << 31;
+
+/// The plan of the transactions of a feed, made with these likely slots, and the opening accounts.
+pub(crate) fn prepared(alloc: Global, feed: &Feed, near: &[u32]) -> Result<(Arc<Plan>, State)>
+    ensures { IfOk result (λ r. CanRunOn (arc_value r.0) r.1) }
+{
+    let Batches { txs, .. } = Batches::of(alloc, feed)?;
+    let mut state = State::new(alloc, feed.version(), feed.genesis())?;
+    state.prepare(alloc, &txs)?;
+    if txs.len() >= MOST || state.ids().len() >= MOST {
+        bail!("too many");
+    }
+    let plan = Plan::make_near(alloc, state.version(), state.ids(), txs, near)?;
+    Ok((Arc::new(alloc, plan)?, state))
+}
+
+// The outcome, which has to be one.
+fn whole(ran: Result<Outcome, ExecFault>) -> Result<Outcome> {
+    match ran {
+        Ok(outcome) => Ok(outcome),
+        Err(ExecFault::OutOfMemory) => bail!("out of memory"),
+        Err(ExecFault::Unfinished(place)) => bail!("place {place} is not done"),
+    }
+}
+
+/// What this many workers make of the transactions of a feed.
+pub(crate) fn executed<R: Threads + Wait + Sync, G: Gate + Sync>(
+    rt: &R,
+    alloc: Global,
+    feed: &Feed,
+    workers: usize,
+    gate: &G,
+) -> Result<Outcome>
+    requires workers { (1 ≤ workers) × (workers ≤ 64) }
+{
+    let Batches { txs, .. } = Batches::of(alloc, feed)?;
+    if txs.len() >= MOST {
+        bail!("too many");
+    }
+    let state = State::new(alloc, feed.version(), feed.genesis())?;
+    whole(execute_all(rt, alloc, state, txs, workers, gate))
+}
+
+/// The same by the plan, which was made with these likely slots.
+pub(crate) fn executed_near<R: Threads + Wait + Sync>(
+    rt: &R,
+    alloc: Global,
+    feed: &Feed,
+    near: &[u32],
+    workers: usize,
+) -> Result<Outcome>
+    requires workers { (1 ≤ workers) × (workers ≤ 64) }
+{
+    let (plan, state) = prepared(alloc, feed, near)?;
+    whole(execute(rt, alloc, &plan, state, workers, &Open))
+}
+
+/// What one worker for each end makes of them.
+pub(crate) fn executed_by<R, G, H>(
+    rt: &R,
+    alloc: Global,
+    feed: &Feed,
+    gate: &G,
+    ends: Vec<H>,
+) -> Result<Outcome>
+where
+    R: Threads + Wait + Sync,
+    G: Gate + Sync,
+    H: Hints + Send + Drop,
+{
+    if ends.is_empty() || ends.len() > 64 {
+        bail!("1 to 64 workers");
+    }
+    let (plan, state) = prepared(alloc, feed, &[])?;
+    whole(execute_with(rt, alloc, &plan, state, gate, ends))
+}
+
+/// Whether these are all receipts and all accounts.
+pub(crate) fn gives(
+    alloc: Global,
+    outcome: &Outcome,
+    receipts: &[Receipt],
+    accounts: &[Row],
+) -> Result<bool> {
+    let rows = outcome.state.rows(alloc)?;
+    Ok(outcome.receipts.as_slice() == receipts && rows.as_slice() == accounts)
+}
+
+/// Whether the outcome is what the transactions give one at a time.
+pub(crate) fn is_same(alloc: Global, outcome: &Outcome, wanted: &Ledger) -> Result<bool> {
+    let accounts = wanted.state().rows(alloc)?;
+    gives(alloc, outcome, wanted.receipts(), &accounts)
+}

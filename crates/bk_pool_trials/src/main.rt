@@ -1,0 +1,47 @@
+//! Executes drawn and chosen lists of transactions by threads, and compares each outcome with that of the same
+//! transactions one at a time, or with one that was computed by hand.
+//!
+//! It draws lists, gives wrong hints, loses holds, has workers wait for each other, and cuts batches into slices. It
+//! names on standard error what failed. The last line is `N passed, M failed`.
+#![tactic(auto)]
+
+mod cases;
+mod chance;
+mod drawn;
+mod executing;
+mod hostile;
+mod lists;
+mod making;
+mod meeting;
+mod plans;
+mod tally;
+
+use crate::hostile::try_hints;
+use crate::lists::try_all_lists;
+use crate::meeting::try_meetings;
+use crate::plans::try_plans;
+use crate::tally::Tally;
+use anyhow::{Result, bail};
+use std::sync::Wait;
+use std::thread::Threads;
+
+fn run_all<R>(rt: &R) -> Result<Tally>
+where
+    R: AllocGlobal + Eprint + Threads + Wait + Sync,
+{
+    let mut tally = Tally::new();
+    try_all_lists(rt, &mut tally)?;
+    try_plans(rt, &mut tally)?;
+    try_hints(rt, &mut tally)?;
+    try_meetings(rt, &mut tally)?;
+    Ok(tally)
+}
+
+fn main(rt: HostRuntime) -> Result<()> {
+    let tally = run_all(&rt)?;
+    println!(rt; "{} passed, {} failed", tally.passed, tally.failed)?;
+    if tally.failed > 0 {
+        bail!("trials failed");
+    }
+    Ok(())
+}

@@ -1,0 +1,176 @@
+//! Transactions, batches of them, and feeds of batches, made in memory.
+
+use anyhow::{Result, bail};
+use bk_frames::{Counted, Feed, Row, Version};
+use bk_tx::{Body, Declarations, Declared, Payment, Payments, Tx};
+use std::alloc::Global;
+
+/// An account that is declared for writing.
+pub(crate) fn writing(id: u64) -> Declared {
+    Declared { id, writable: true }
+}
+
+/// An account that is declared for reading alone.
+pub(crate) fn reading(id: u64) -> Declared {
+    Declared {
+        id,
+        writable: false,
+    }
+}
+
+/// An opening account.
+pub(crate) fn row(id: u64, balance: u64, seq: u64) -> Row {
+    Row { id, balance, seq }
+}
+
+/// A transaction.
+pub(crate) fn tx(declared: &[Declared], from: u64, seq: u64, body: Body) -> Result<Option<Tx>> {
+    let Some(declared) = Declarations::new(declared) else {
+        bail!("more than eight accounts");
+    };
+    let Some(tx) = Tx::new(declared, seq, from, body) else {
+        bail!("it is no transaction");
+    };
+    Ok(Some(tx))
+}
+
+/// A payment, whose two accounts are declared for writing.
+pub(crate) fn pay(from: u64, to: u64, amount: u64, seq: u64) -> Result<Option<Tx>> {
+    let declared = [writing(from.min(to)), writing(from.max(to))];
+    tx(&declared, from, seq, Body::Pay { to, amount })
+}
+
+/// A payment to two receivers.
+pub(crate) fn split(from: u64, seq: u64, payments: &[Payment]) -> Result<Option<Tx>> {
+    let Some(payments) = Payments::new(payments) else {
+        bail!("more than six payments");
+    };
+    let all = [writing(1), writing(2), writing(3)];
+    tx(&all, from, seq, Body::Split { payments })
+}
+
+/// A batch that grows.
+#[derive(Drop)]
+pub(crate) struct Batch {
+    count: u16,
+    texts: Vec<u8>,
+}
+
+impl Batch {
+    /// No text.
+    pub(crate) fn new(alloc: Global) -> Batch {
+        Batch {
+            count: 0,
+            texts: Vec::new(alloc),
+        }
+    }
+
+    /// One more text.
+    pub(crate) fn push_text(&mut self, text: &[u8]) -> Result<()> {
+        let Some(count) = self.count.checked_add(1) else {
+            bail!("a batch has at most 65,535 texts");
+        };
+        let Ok(len) = u16::try_from(text.len()) else {
+            bail!("a text has at most 65,535 bytes");
+        };
+        self.texts.extend_from_slice(&len.to_be_bytes())?;
+        self.texts.extend_from_slice(text)?;
+        self.count = count;
+        Ok(())
+    }
+
+    /// One more transaction. One that is absent is a text that encodes none.
+    pub(crate) fn push(&mut self, alloc: Global, tx: &Option<Tx>) -> Result<()> {
+        match tx {
+            Some(tx) => self.push_text(&tx.encode(alloc)?),
+            None => self.push_text(&[0]),
+        }
+    }
+
+    /// The bytes of the batch.
+    pub(crate) fn payload(&self, alloc: Global) -> Result<Vec<u8>> {
+        let mut payload = Vec::from_slice(alloc, &self.count.to_be_bytes())?;
+        payload.extend_from_slice(&self.texts)?;
+        Ok(payload)
+    }
+}
+
+/// The batch of these transactions.
+pub(crate) fn batch_of(alloc: Global, txs: &[Option<Tx>]) -> Result<Vec<u8>> {
+    let mut batch = Batch::new(alloc);
+    for tx in txs {
+        batch.push(alloc, tx)?;
+    }
+    batch.payload(alloc)
+}
+
+// Puts a frame of this kind.
+fn put_frame(feed: &mut Vec<u8>, kind: u8, payload: &[u8]) -> Result<()> {
+    let Ok(len) = u32::try_from(payload.len()) else {
+        bail!("a long payload");
+    };
+    feed.push(kind)?;
+    feed.extend_from_slice(&len.to_be_bytes())?;
+    feed.extend_from_slice(payload)?;
+    Ok(())
+}
+
+// The magic, and a committee of one member of weight 1.
+fn head(alloc: Global, version: Version) -> Result<Vec<u8>> {
+    let mut committee = Vec::from_slice(alloc, &[1])?;
+    committee.extend_from_slice(&[1; 32])?;
+    let magic: &[u8; 4] = match version {
+        Version::One => b"BKF1",
+        Version::Two => {
+            committee.extend_from_slice(&[0, 0, 0, 1])?;
+            b"BKF2"
+        }
+    };
+    let mut feed = Vec::from_slice(alloc, magic)?;
+    put_frame(&mut feed, 1, &committee)?;
+    Ok(feed)
+}
+
+// The payload of a genesis.
+fn genesis(alloc: Global, rows: &[Row]) -> Result<Vec<u8>> {
+    let Ok(count) = u32::try_from(rows.len()) else {
+        bail!("many accounts");
+    };
+    let mut payload = Vec::from_slice(alloc, &count.to_be_bytes())?;
+    for row in rows {
+        payload.extend_from_slice(&row.id.to_be_bytes())?;
+        payload.extend_from_slice(&row.balance.to_be_bytes())?;
+        payload.extend_from_slice(&row.seq.to_be_bytes())?;
+    }
+    Ok(payload)
+}
+
+/// The feed of these opening accounts and these batches.
+pub(crate) fn feed_of(
+    alloc: Global,
+    version: Version,
+    rows: &[Row],
+    payloads: &[Vec<u8>],
+) -> Result<Feed> {
+    let mut bytes = head(alloc, version)?;
+    put_frame(&mut bytes, 2, &genesis(alloc, rows)?)?;
+    for payload in payloads {
+        put_frame(&mut bytes, 4, payload)?;
+    }
+    let Ok(feed) = Feed::read(alloc, &mut Counted::new(bytes.as_slice())) else {
+        bail!("a bad feed");
+    };
+    Ok(feed)
+}
+
+/// The feed of one batch.
+pub(crate) fn feed_with(
+    alloc: Global,
+    version: Version,
+    rows: &[Row],
+    txs: &[Option<Tx>],
+) -> Result<Feed> {
+    let mut payloads = Vec::new(alloc);
+    payloads.push(batch_of(alloc, txs)?)?;
+    feed_of(alloc, version, rows, &payloads)
+}
