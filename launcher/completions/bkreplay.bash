@@ -53,6 +53,10 @@ _bkreplay() {
         names='--help'
         kinds=(none file)
         ;;
+    check-state)
+        names='--workers --help'
+        kinds=(none file)
+        ;;
     apply)
         names='--help'
         kinds=(file)
@@ -69,6 +73,7 @@ _bkreplay() {
     esac
     case "$command $value" in
     'run --workers') COMPREPLY=($(compgen -W '{1..64}' -- "$current")) ;;
+    'check-state --workers') COMPREPLY=($(compgen -W '{1..64}' -- "$current")) ;;
     'schedule --workers') COMPREPLY=($(compgen -W '{1..64}' -- "$current")) ;;
     *redirection) compopt -o default 2>/dev/null ;;
     *)
@@ -107,6 +112,7 @@ account Write one account as the order of a feed leaves it
 receipt Write what became of the transaction at one place of the order
 prove Write a proof that one account is in the state at the end
 check-proof Check that a text proves an account of the state of this digest
+check-state Check that a digest is that of the state at the end of a feed
 apply Execute all batches of a feed, in feed order and on one thread, and write the apply report
 schedule Execute all batches of a feed in the order of a list of worker events, and write the apply report
 compare Compare the orders of two feeds and what was executed by them'

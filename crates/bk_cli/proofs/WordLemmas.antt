@@ -11,7 +11,7 @@ use Rattle.clap.specs.Words.{App, HasMatchesOf, Row, Text, subcommand_of, subcom
 use Rattle.clap.specs.declared.parser.matches.ArgMatches.{ArgMatches}
 use Rattle.clap.specs.declared.parser.matches.SubCommand.{SubCommand}
 use Rattle.clap.specs.declared.parser.matches.ArgMatches.TheViews.{out-ArgMatches, out-SubCommand}
-use Rattle.bk_cli.specs.CommandLine.{command_line, all_words, AreNamedBy, IsOneOf, IsJobOf, IsJobAt}
+use Rattle.bk_cli.specs.CommandLine.{command_line, all_words, AreNamedBy, IsOneOf, IsJobOf, IsJobAt, NamesNoDigest}
 use Rattle.bk_cli.specs.declared.job.Job.{Job}
 
 -- ---- a parse and its rows
@@ -45,6 +45,13 @@ pub job_at_found : (found : Option (Text × List Row)) (name word : Text) (rows 
 job_at_found found name word rows j is same h =
     let is_word : found ≡ Some (word, rows) = is ∙ ap (λ (t : Text). Some (t, rows)) same in
     subst (λ (f : Option (Text × List Row)). IsJobOf f j) (sym is_word) h
+
+-- and where there is none for want of a digest, the words name none
+pub no_digest_at : (found : Option (Text × List Row)) (name word : Text) (rows : List Row) → found ≡ Some (name, rows) → name ≡ word → NamesNoDigest (Some (word, rows))
+    → NamesNoDigest found
+no_digest_at found name word rows is same h =
+    let is_word : found ≡ Some (word, rows) = is ∙ ap (λ (t : Text). Some (t, rows)) same in
+    subst NamesNoDigest (sym is_word) h
 
 -- the usual number of workers by another name
 pub named_by_usual : (n usual : ℕ) (t : Option Text) (count : ℕ) → n ≡ usual → AreNamedBy n t count → AreNamedBy usual t count
@@ -105,7 +112,8 @@ are_text word (inr (inr (inr (inl e)))) = subst IsUtf8 (sym e) (codes "account",
 are_text word (inr (inr (inr (inr (inl e))))) = subst IsUtf8 (sym e) (codes "receipt", (refl, refl))
 are_text word (inr (inr (inr (inr (inr (inl e)))))) = subst IsUtf8 (sym e) (codes "prove", (refl, refl))
 are_text word (inr (inr (inr (inr (inr (inr (inl e))))))) = subst IsUtf8 (sym e) (codes "check-proof", (refl, refl))
-are_text word (inr (inr (inr (inr (inr (inr (inr (inl e)))))))) = subst IsUtf8 (sym e) (codes "apply", (refl, refl))
-are_text word (inr (inr (inr (inr (inr (inr (inr (inr (inl e))))))))) = subst IsUtf8 (sym e) (codes "schedule", (refl, refl))
-are_text word (inr (inr (inr (inr (inr (inr (inr (inr (inr (inl e)))))))))) = subst IsUtf8 (sym e) (codes "compare", (refl, refl))
-are_text word (inr (inr (inr (inr (inr (inr (inr (inr (inr (inr e)))))))))) = absurd e
+are_text word (inr (inr (inr (inr (inr (inr (inr (inl e)))))))) = subst IsUtf8 (sym e) (codes "check-state", (refl, refl))
+are_text word (inr (inr (inr (inr (inr (inr (inr (inr (inl e))))))))) = subst IsUtf8 (sym e) (codes "apply", (refl, refl))
+are_text word (inr (inr (inr (inr (inr (inr (inr (inr (inr (inl e)))))))))) = subst IsUtf8 (sym e) (codes "schedule", (refl, refl))
+are_text word (inr (inr (inr (inr (inr (inr (inr (inr (inr (inr (inl e))))))))))) = subst IsUtf8 (sym e) (codes "compare", (refl, refl))
+are_text word (inr (inr (inr (inr (inr (inr (inr (inr (inr (inr (inr e))))))))))) = absurd e

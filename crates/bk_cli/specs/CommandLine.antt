@@ -1,9 +1,14 @@
 -- The command line, and the job that its words ask for.
 use Rattle.std.specs.Prelude.{◌≡◌, ◌≤◌, ◌<◌, ◌⊎◌, ◌^◌, ℕ, List, [], ◌∷◌, Option, Some, None, true, codes, option_map, string_bytes, pos, unwrap_or}
 use Rattle.std.specs.Str.Parse.{IsNumeral, digits_value, without_leading_plus}
+use Rattle.hex.specs.Hex.{encode_lower}
+use Rattle.clap.specs.Values.{kind_of}
+use Rattle.clap.specs.declared.error.Error.{Error}
+use Rattle.clap.specs.declared.error.kind.ErrorKind.TheVariants as kind
 use Rattle.clap.specs.Words.{App, Rule, Row, Text, first_of, one_of, new_app, new_rule, with_rule, with_subcommand}
 use Rattle.clap.specs.declared.builder.action.ArgAction.TheVariants.{Set}
 use Rattle.clap.specs.declared.builder.value_parser.ValueParser.TheVariants.{Signed, Unsigned}
+use Rattle.bk_digest.specs.Digest.{IsHexDigest}
 use Rattle.bk_results.specs.declared.query.Query.{Query}
 use Rattle.bk_results.specs.declared.query.Query.TheVariants as query
 use Rattle.bk_cli.specs.declared.job.Job.{Job}
@@ -76,6 +81,12 @@ file_line name = with_rule (new_app name) file_rule
 abbrev pub value_line : Text → Rule → App
 value_line name rule = with_rule (with_rule (new_app name) rule) file_rule
 
+-- the command `check-state [--workers W] ROOT [FILE]`
+abbrev pub state_line : App
+state_line =
+    let named = new_app (codes "check-state") in
+    with_rule (with_rule (with_rule named workers_rule) root_rule) file_rule
+
 -- the command `schedule [--workers W] FEED EVENTS`
 abbrev pub schedule_line : App
 schedule_line =
@@ -95,6 +106,7 @@ word_of verb.Account = codes "account"
 word_of verb.Receipt = codes "receipt"
 word_of verb.Prove = codes "prove"
 word_of verb.CheckProof = codes "check-proof"
+word_of verb.CheckState = codes "check-state"
 word_of verb.Apply = codes "apply"
 word_of verb.Schedule = codes "schedule"
 word_of verb.Compare = codes "compare"
@@ -108,6 +120,7 @@ line_of verb.Account = value_line (codes "account") id_rule
 line_of verb.Receipt = value_line (codes "receipt") place_rule
 line_of verb.Prove = value_line (codes "prove") id_rule
 line_of verb.CheckProof = value_line (codes "check-proof") root_rule
+line_of verb.CheckState = state_line
 line_of verb.Apply = file_line (codes "apply")
 line_of verb.Schedule = schedule_line
 line_of verb.Compare = compare_line
@@ -134,7 +147,8 @@ asking_line =
 
 -- the program with all commands that read one file
 abbrev pub single_line : App
-single_line = with_command (with_command asking_line verb.CheckProof) verb.Apply
+single_line =
+    with_command (with_command (with_command asking_line verb.CheckProof) verb.CheckState) verb.Apply
 
 -- the whole command line: `bkreplay`, and one of the commands
 abbrev pub command_line : App
@@ -174,6 +188,16 @@ IsQueryAt word rows (query.Receipt place) =
     (word ≡ word_of verb.Receipt) × IsNumberBy (2 ^ 32) (one_of (codes "PLACE") rows) place
 IsQueryAt word rows (query.Proof id) =
     (word ≡ word_of verb.Prove) × IsNumberBy (2 ^ 64) (one_of (codes "ID") rows) id
+IsQueryAt word rows (query.State root) =
+    (word ≡ word_of verb.CheckState) × IsTextIn rows (codes "ROOT") (encode_lower root)
+
+-- for a query executes one worker; for that of a digest as many as `--workers` names
+abbrev pub AreWorkersFor : List Row → Query → ℕ → Type 0
+AreWorkersFor rows query.Order count = count ≡ 1
+AreWorkersFor rows (query.Account id) count = count ≡ 1
+AreWorkersFor rows (query.Receipt place) count = count ≡ 1
+AreWorkersFor rows (query.Proof id) count = count ≡ 1
+AreWorkersFor rows (query.State root) count = AreNamedBy 1 (one_of (codes "workers") rows) count
 
 -- the job is that of a command, with the values of its arguments
 abbrev pub IsJobAt : Text → List Row → Job → Type 0
@@ -185,8 +209,9 @@ IsJobAt word rows (job.Make file) =
 IsJobAt word rows (job.CheckProof root file) =
     (word ≡ word_of verb.CheckProof) × IsTextIn rows (codes "ROOT") (string_bytes root)
     × IsFileIn rows (option_map string_bytes file)
-IsJobAt word rows (job.Ask asked file) =
-    IsQueryAt word rows asked × IsFileIn rows (option_map string_bytes file)
+IsJobAt word rows (job.Ask workers asked file) =
+    IsQueryAt word rows asked × AreWorkersFor rows asked workers
+    × IsFileIn rows (option_map string_bytes file)
 IsJobAt word rows (job.Apply file) =
     (word ≡ word_of verb.Apply) × IsFileIn rows (option_map string_bytes file)
 IsJobAt word rows (job.Schedule workers feed events) =
@@ -202,6 +227,21 @@ abbrev pub IsJobOf : Option (Text × List Row) → Job → Type 0
 IsJobOf None j = ⊥
 IsJobOf (Some found) j = IsJobAt found.0 found.1 j
 
+-- ---- a digest that is none
+
+-- the value of ROOT is not a digest
+abbrev pub LacksDigest : List Row → Type 0
+LacksDigest rows = IsHexDigest (unwrap_or (first_of (codes "ROOT") rows) []) → ⊥
+
+-- the command that was found in the words is `check-state`, and its ROOT is not a digest
+abbrev pub NamesNoDigest : Option (Text × List Row) → Type 0
+NamesNoDigest None = ⊥
+NamesNoDigest (Some found) = (found.0 ≡ word_of verb.CheckState) × LacksDigest found.1
+
+-- the error is that of a ROOT that is not a digest, and the words have one
+abbrev pub IsOfRoot : Error → Option (Text × List Row) → Type 0
+IsOfRoot e found = (kind_of e ≡ kind.ValueValidation) × NamesNoDigest found
+
 -- ---- the words of the commands
 
 -- the word is one of these
@@ -213,5 +253,5 @@ IsOneOf (x ∷ xs) word = (word ≡ x) ⊎ IsOneOf xs word
 abbrev pub all_words : List Text
 all_words =
     word_of verb.Run ∷ word_of verb.Make ∷ word_of verb.Order ∷ word_of verb.Account ∷ word_of verb.Receipt
-    ∷ word_of verb.Prove ∷ word_of verb.CheckProof ∷ word_of verb.Apply ∷ word_of verb.Schedule
-    ∷ word_of verb.Compare ∷ []
+    ∷ word_of verb.Prove ∷ word_of verb.CheckProof ∷ word_of verb.CheckState ∷ word_of verb.Apply
+    ∷ word_of verb.Schedule ∷ word_of verb.Compare ∷ []

@@ -1,5 +1,5 @@
 -- The exit statuses of the program.
-use Rattle.std.specs.Prelude.{ℕ, Bool, true, false, if◌then◌else◌, Result, Ok, Err}
+use Rattle.std.specs.Prelude.{ℕ, Bool, true, false, ◌||◌, if◌then◌else◌, Result, Ok, Err}
 use Rattle.bk_frames.specs.declared.fault.FaultCode.{FaultCode}
 use Rattle.bk_frames.specs.declared.fault.FaultCode.TheVariants as code
 use Rattle.bk_results.specs.declared.compare_stop.CompareStop.{CompareStop}
@@ -10,6 +10,8 @@ use Rattle.bk_results.specs.declared.fault.Fault.{Fault}
 use Rattle.bk_results.specs.declared.fault.Fault.TheVariants as replay
 use Rattle.bk_results.specs.declared.query.Query.{Query}
 use Rattle.bk_results.specs.declared.query.Query.TheVariants as query
+use Rattle.bk_results.specs.declared.query.Reply.{Reply}
+use Rattle.bk_results.specs.declared.query.Reply.TheVariants as reply
 use Rattle.bk_results.specs.declared.status.Status.{Status}
 use Rattle.bk_results.specs.declared.status.Status.TheVariants as status
 use Rattle.bk_results.specs.declared.events_fault.EventsFault.TheVariants as events
@@ -35,29 +37,38 @@ exit_number exit.Missing = 5
 
 -- ---- which job may end how
 
+-- a query whose reply is a verdict: no, or yes so far
+abbrev pub gives_state : Query → Bool
+gives_state query.Order = false
+gives_state (query.Account id) = false
+gives_state (query.Receipt place) = false
+gives_state (query.Proof id) = false
+gives_state (query.State root) = true
+
 -- a job whose answer may be no
 abbrev pub gives_verdict : Job → Bool
 gives_verdict (job.Run workers file) = false
 gives_verdict (job.Make file) = false
 gives_verdict (job.CheckProof root file) = true
-gives_verdict (job.Ask asked file) = false
+gives_verdict (job.Ask workers asked file) = gives_state asked
 gives_verdict (job.Apply file) = false
 gives_verdict (job.Schedule workers feed events) = false
 gives_verdict (job.Compare first second) = false
 
--- what a query asks for may be absent; an order never is
+-- what a query asks for may be absent; an order never is, and a digest is right or wrong
 abbrev pub may_be_absent : Query → Bool
 may_be_absent query.Order = false
 may_be_absent (query.Account id) = true
 may_be_absent (query.Receipt place) = true
 may_be_absent (query.Proof id) = true
+may_be_absent (query.State root) = false
 
 -- a job that may end with no: by its answer, or since what it asks for is absent
 abbrev pub may_say_no : Job → Bool
 may_say_no (job.Run workers file) = false
 may_say_no (job.Make file) = false
 may_say_no (job.CheckProof root file) = true
-may_say_no (job.Ask asked file) = may_be_absent asked
+may_say_no (job.Ask workers asked file) = gives_state asked || may_be_absent asked
 may_say_no (job.Apply file) = false
 may_say_no (job.Schedule workers feed events) = false
 may_say_no (job.Compare first second) = false
@@ -67,7 +78,7 @@ abbrev pub refuses : Job → Bool
 refuses (job.Run workers file) = true
 refuses (job.Make file) = true
 refuses (job.CheckProof root file) = false
-refuses (job.Ask asked file) = true
+refuses (job.Ask workers asked file) = true
 refuses (job.Apply file) = true
 refuses (job.Schedule workers feed events) = true
 refuses (job.Compare first second) = true
@@ -77,7 +88,7 @@ abbrev pub finds_order : Job → Bool
 finds_order (job.Run workers file) = true
 finds_order (job.Make file) = false
 finds_order (job.CheckProof root file) = false
-finds_order (job.Ask asked file) = true
+finds_order (job.Ask workers asked file) = true
 finds_order (job.Apply file) = false
 finds_order (job.Schedule workers feed events) = false
 finds_order (job.Compare first second) = true
@@ -87,7 +98,7 @@ abbrev pub reports_missing : Job → Bool
 reports_missing (job.Run workers file) = true
 reports_missing (job.Make file) = false
 reports_missing (job.CheckProof root file) = false
-reports_missing (job.Ask asked file) = false
+reports_missing (job.Ask workers asked file) = gives_state asked
 reports_missing (job.Apply file) = false
 reports_missing (job.Schedule workers feed events) = false
 reports_missing (job.Compare first second) = false
@@ -97,7 +108,7 @@ abbrev pub reads_second : Job → Bool
 reads_second (job.Run workers file) = false
 reads_second (job.Make file) = false
 reads_second (job.CheckProof root file) = false
-reads_second (job.Ask asked file) = false
+reads_second (job.Ask workers asked file) = false
 reads_second (job.Apply file) = false
 reads_second (job.Schedule workers feed events) = true
 reads_second (job.Compare first second) = true
@@ -206,6 +217,14 @@ absence query.Order = Ok exit.Whole
 absence (query.Account id) = Err (fault.AbsentAccount id)
 absence (query.Receipt place) = Err (fault.AbsentPlace place)
 absence (query.Proof id) = Err (fault.AbsentAccount id)
+absence (query.State root) = Ok exit.Whole
+
+-- after a reply to a query
+abbrev pub ending : Query → Reply → Result Exit JobFault
+ending asked reply.Found = Ok exit.Whole
+ending asked reply.Short = Ok exit.Missing
+ending asked reply.Wrong = Ok exit.No
+ending asked reply.Absent = absence asked
 
 -- after a fault
 abbrev pub exit_after : JobFault → Exit

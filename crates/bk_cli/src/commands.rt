@@ -3,7 +3,7 @@
 ghost use Rattle.std.specs.Prelude.{◌≡◌, true, false, IfOk};
 ghost use Rattle.clap.specs.Words.{app_of, new_app, rule_of, with_subcommand};
 ghost use Rattle.clap.specs.declared.builder.command.Command.TheViews.{out-Command};
-ghost use Rattle.bk_cli.specs.CommandLine.{program, asking_line, single_line, command_line, file_line, value_line, schedule_line};
+ghost use Rattle.bk_cli.specs.CommandLine.{program, asking_line, single_line, command_line, file_line, value_line, schedule_line, state_line};
 ghost use Rattle.bk_cli.specs.CommandLine.{file_rule, workers_rule, required_rule, id_rule, place_rule, compare_line};
 
 use crate::help::{self, Help};
@@ -100,6 +100,17 @@ fn value_command<'a>(
     named(alloc, name, text).arg(value)?.arg(file_arg(alloc))
 }
 
+// The command `check-state [--workers W] ROOT [FILE]`.
+fn state_command<'a>(alloc: Global) -> Result<Command<'a>, AllocError>
+    ensures line { IfOk result (λ c. app_of c ≡ state_line) }
+    ensures local { IfOk result (λ c. (out-Command c).has_globals ≡ false) }
+{
+    named(alloc, "check-state", help::CHECK_STATE)
+        .arg(workers_arg(alloc, help::WORKERS))?
+        .arg(required_arg(alloc, "ROOT", help::ROOT))?
+        .arg(file_arg(alloc))
+}
+
 // The command `schedule [--workers W] FEED EVENTS`.
 fn schedule_command<'a>(alloc: Global) -> Result<Command<'a>, AllocError>
     ensures line { IfOk result (λ c. app_of c ≡ schedule_line) }
@@ -153,6 +164,17 @@ fn with_value<'a>(
     ensures local { IfOk result (λ c. (out-Command c).has_globals ≡ false) }
 {
     let command = value_command(alloc, name, value, text)?;
+    program.subcommand(command)
+}
+
+// The program with the command `check-state`.
+fn with_state<'a>(alloc: Global, program: Command<'a>) -> Result<Command<'a>, AllocError>
+    requires { (out-Command program).has_globals ≡ false }
+    ensures line { IfOk result (λ c. app_of c
+        ≡ with_subcommand (app_of program.entry) state_line.top) }
+    ensures local { IfOk result (λ c. (out-Command c).has_globals ≡ false) }
+{
+    let command = state_command(alloc)?;
     program.subcommand(command)
 }
 
@@ -211,7 +233,8 @@ fn single_command<'a>(alloc: Global) -> Result<Command<'a>, AllocError>
     let root = required_arg(alloc, "ROOT", help::ROOT);
     let asking = asking_command(alloc)?;
     let check = with_value(alloc, asking, "check-proof", root, help::CHECK_PROOF)?;
-    with_file(alloc, check, "apply", help::APPLY)
+    let state = with_state(alloc, check)?;
+    with_file(alloc, state, "apply", help::APPLY)
 }
 
 /// All commands, in the order in which a user meets them.

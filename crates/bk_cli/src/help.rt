@@ -38,11 +38,11 @@ Output goes to standard output. A fault is one line on standard error.
 
 Exit status:
   0  the whole output is written
-  1  the command line is wrong, what was asked for is absent, or the proof is bad
+  1  the command line is wrong, what was asked for is absent, or the proof or the digest is bad
   2  a feed, the script or the list of events is wrong, or two feeds differ in version, committee or opening accounts
   3  a feed, or two together, are stopped by a collision or an equivocation
   4  a read, a write or memory failed, or a worker did not finish
-  5  the report of a run is written, and stops at a missing batch
+  5  the whole output of `run` or `check-state` is written, and the order stops at a missing batch
 
 Example:
   ./bkreplay run examples/order/one_commit.feed",
@@ -205,6 +205,28 @@ Exit status:
 
 Example:
   ./bkreplay check-proof a0f73141eeeda4cb3f115f1ee0468dde8a3de31db5fd987f0eec1df811bce063 examples/proofs/one_commit.proof",
+};
+
+pub(crate) const CHECK_STATE: Help<'static> = Help {
+    about: "Check that a digest is that of the state at the end of a feed",
+    after: "\
+Reads a feed, as `run` does, finds its order and executes its batches, up to the first missing one. Writes to standard
+output:
+
+  state good                      the digest of all accounts at the end is ROOT
+  state bad                       it is not; one line follows:
+  state HEX                       the digest of all accounts at the end
+
+Exit status:
+  0  state good, and no batch of the order is missing
+  1  state bad; or the command line is wrong, as where ROOT is not a digest
+  2  feed fault CODE at OFFSET, with a code of 1 to 7: the bytes are not a feed
+  3  collision ID, or equivocation ROUND AUTHOR ID ID: the feed is stopped
+  4  feed fault 8 or 9, memory, read failed, write failed, or unfinished PLACE
+  5  state good, and the order stops at a missing batch
+
+Example:
+  ./bkreplay check-state a0f73141eeeda4cb3f115f1ee0468dde8a3de31db5fd987f0eec1df811bce063 examples/order/one_commit.feed",
 };
 
 pub(crate) const APPLY: Help<'static> = Help {

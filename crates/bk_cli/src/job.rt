@@ -1,14 +1,17 @@
 //! What the command line asks for.
 
-ghost use Rattle.std.specs.Prelude.{◌≡◌, ◌^◌, true, [], map, option_map, string_bytes, codes, unwrap_or, Some, IfOk, IfErr};
-ghost use Rattle.clap.specs.Kinds.{FailsBy};
+ghost use Rattle.std.specs.Prelude.{◌≡◌, ◌⊎◌, ◌^◌, true, [], map, option_map, string_bytes, codes, unwrap_or, Some, IfOk, IfErr, MatchOption};
+ghost use Rattle.clap.specs.Kinds.{FailsBy, HasKind};
 ghost use Rattle.clap.specs.Words.{fault_of, has_subcommand, kind_of, one_text, first_value, found_of, rows_of};
 ghost use Rattle.clap.specs.Words.{subcommand_of, subcommand_rows_of, takes};
+ghost use Rattle.bk_cli.specs.declared.job.Job.TheVariants as job;
+ghost use Rattle.bk_cli.specs.CommandLine.{IsFileIn, IsOfRoot, NamesNoDigest};
 ghost use Rattle.bk_cli.specs.CommandLine.{IsJobOf, IsJobAt, AreNamedBy, IsNumberBy, command_line, word_of};
 
 use crate::commands::command;
 use crate::verb::Verb;
 use crate::workers::Workers;
+use bk_digest::Digest32;
 use bk_results::Query;
 use clap::error::ErrorKind;
 use clap::{ArgMatches, Error};
@@ -36,6 +39,8 @@ pub enum Job {
     },
     /// Writes the reply of a feed to a query.
     Ask {
+        /// How many threads execute.
+        workers: Workers,
         /// What is asked.
         asked: Query,
         file: Option<String>,
@@ -170,64 +175,112 @@ fn compare_of(alloc: Global, found: &ArgMatches<'_>) -> Result<Job, AllocError>
     Ok(Job::Compare { first, second })
 }
 
-// The job of a command, with the values of its arguments.
-fn job_of(alloc: Global, verb: Verb, found: &ArgMatches<'_>) -> Result<Job, AllocError>
-    ensures { IfOk result (IsJobAt (word_of verb) (rows_of (found_of found.now))) }
+// The job of `check-state` of this file, with the values of its other arguments. There is none where ROOT is not a digest.
+fn state_of(
+    alloc: Global,
+    found: &ArgMatches<'_>,
+    file: Option<String>,
+) -> Result<Option<Job>, AllocError>
+    requires { IsFileIn (rows_of (found_of found.now)) (option_map string_bytes file) }
+    ensures { IfOk result (λ made. MatchOption made
+        (NamesNoDigest (Some (codes "check-state", rows_of (found_of found.now))))
+        (IsJobAt (codes "check-state") (rows_of (found_of found.now)))) }
+{
+    let text = text_in(alloc, found, "ROOT")?;
+    let Some(root) = Digest32::parse_hex(text.as_bytes()) else {
+        return Ok(None);
+    };
+    let asked = Query::State { root };
+    let workers = workers_in(found, Workers::one());
+    Ok(Some(Job::Ask {
+        workers,
+        asked,
+        file,
+    }))
+}
+
+// The job of a query for which one thread executes.
+fn ask_one(asked: Query, file: Option<String>) -> Job
+    ensures { result ≡ job.Ask 1 asked file }
+{
+    let workers = Workers::one();
+    Job::Ask {
+        workers,
+        asked,
+        file,
+    }
+}
+
+// The job of a command, with the values of its arguments. There is none where a ROOT has to be a digest and is not.
+fn job_of(alloc: Global, verb: Verb, found: &ArgMatches<'_>) -> Result<Option<Job>, AllocError>
+    ensures { IfOk result (λ made. MatchOption made
+        (NamesNoDigest (Some (word_of verb, rows_of (found_of found.now))))
+        (IsJobAt (word_of verb) (rows_of (found_of found.now)))) }
 {
     let file = owned(alloc, found.get_str("FILE"))?;
     match verb {
         Verb::Run => {
             let workers = workers_in(found, Workers::one());
-            Ok(Job::Run { workers, file })
+            Ok(Some(Job::Run { workers, file }))
         }
-        Verb::Make => Ok(Job::Make { file }),
-        Verb::Order => {
-            let asked = Query::Order;
-            Ok(Job::Ask { asked, file })
-        }
-        Verb::Account => {
-            let asked = Query::Account { id: id_in(found) };
-            Ok(Job::Ask { asked, file })
-        }
+        Verb::Make => Ok(Some(Job::Make { file })),
+        Verb::Order => Ok(Some(ask_one(Query::Order, file))),
+        Verb::Account => Ok(Some(ask_one(Query::Account { id: id_in(found) }, file))),
         Verb::Receipt => {
             let place = place_in(found);
-            let asked = Query::Receipt { place };
-            Ok(Job::Ask { asked, file })
+            Ok(Some(ask_one(Query::Receipt { place }, file)))
         }
-        Verb::Prove => {
-            let asked = Query::Proof { id: id_in(found) };
-            Ok(Job::Ask { asked, file })
-        }
+        Verb::Prove => Ok(Some(ask_one(Query::Proof { id: id_in(found) }, file))),
         Verb::CheckProof => {
             let root = text_in(alloc, found, "ROOT")?;
-            Ok(Job::CheckProof { root, file })
+            Ok(Some(Job::CheckProof { root, file }))
         }
-        Verb::Apply => Ok(Job::Apply { file }),
+        Verb::CheckState => {
+            let job = state_of(alloc, found, file)?;
+            Ok(job)
+        }
+        Verb::Apply => Ok(Some(Job::Apply { file })),
         Verb::Schedule => {
             let job = schedule_of(alloc, found)?;
-            Ok(job)
+            Ok(Some(job))
         }
         Verb::Compare => {
             let job = compare_of(alloc, found)?;
-            Ok(job)
+            Ok(Some(job))
         }
     }
+}
+
+// The error of a ROOT that is not a digest.
+fn no_digest(alloc: Global) -> Result<Error, AllocError>
+    ensures { IfOk result (λ e. kind_of e ≡ ErrorKind.ValueValidation) }
+{
+    command(alloc)?.error(
+        ErrorKind::ValueValidation,
+        "ROOT is not a digest: 64 hexadecimal digits in lower case",
+    )
 }
 
 /// Reads the words of a command line, of which the first is the program's name.
 ///
 /// An error is a fault of the words, a request for help or for the version, or that memory ran out; its kind says which.
-/// Words without a fault give a job, and those with one an error of the fault's kind, unless memory ran out.
+/// Words without a fault give a job, and those with one an error of the fault's kind, unless memory ran out. A ROOT of
+/// `check-state` that is not a digest is a fault of the kind `ValueValidation`.
 pub fn parse<'a, S: AsStr>(alloc: Global, words: &'a [S]) -> Result<Job, Error>
     ensures job { IfOk result (IsJobOf (subcommand_of command_line (map S.text words.now))) }
-    ensures kinds { FailsBy (fault_of command_line (map S.text words.now)) result }
+    ensures whole { IfOk result (λ _. fault_of command_line (map S.text words.now) ≡ []) }
+    ensures kinds { IfErr result (λ e. HasKind (fault_of command_line (map S.text words.now)) e
+        ⊎ IsOfRoot e (subcommand_of command_line (map S.text words.now))) }
     ensures error { IfErr result (λ e. takes command_line (map S.text words.now) ≡ true
-        → kind_of e ≡ ErrorKind.OutOfMemory) }
+        → (kind_of e ≡ ErrorKind.OutOfMemory)
+        ⊎ IsOfRoot e (subcommand_of command_line (map S.text words.now))) }
 {
     let matches = matches_of(alloc, words)?;
     let Some((name, found)) = matches.subcommand() else {
         unreachable!()
     };
-    let job = job_of(alloc, Verb::of(name), found)?;
+    let Some(job) = job_of(alloc, Verb::of(name), found)? else {
+        return Err(no_digest(alloc)?);
+    };
     Ok(job)
 }

@@ -13,6 +13,7 @@ pub(crate) enum Verb {
     Receipt,
     Prove,
     CheckProof,
+    CheckState,
     Apply,
     Schedule,
     Compare,
@@ -44,6 +45,9 @@ impl Verb {
         }
         if word == "check-proof" {
             return Verb::CheckProof;
+        }
+        if word == "check-state" {
+            return Verb::CheckState;
         }
         if word == "apply" {
             return Verb::Apply;

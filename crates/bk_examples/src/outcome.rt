@@ -1,9 +1,11 @@
 //! What a command line leaves.
 
-use anyhow::Result;
-use bk_cli::parse;
+use anyhow::{Result, bail};
+use bk_cli::{Exit, parse};
 use bk_frames::Counted;
 use bk_jobs::open_and_run;
+use clap::Error;
+use clap::error::ErrorKind;
 use std::alloc::Global;
 use std::rt::Files;
 use std::sync::Wait;
@@ -36,13 +38,32 @@ impl Outcome {
     }
 }
 
+// What a fault of the words leaves. The program prints its text, and ends with `No`; only the first line is kept, the
+// others are the usage.
+fn refused(alloc: Global, error: &Error) -> Result<Outcome> {
+    if error.kind() == ErrorKind::OutOfMemory {
+        bail!("memory ran out");
+    }
+    let text = error.to_string(alloc)?;
+    let mut err = Vec::from_slice(alloc, text.lines().next().unwrap_or("").as_bytes())?;
+    err.push(b'\n')?;
+    Ok(Outcome {
+        status: Exit::No.number(),
+        out: Vec::new(alloc),
+        err,
+    })
+}
+
 /// Runs a command line whose input is in files.
 pub(crate) fn outcome_of<R>(rt: &R, words: &[&str]) -> Result<Outcome>
 where
     R: AllocGlobal + Files + Input + Threads + Wait + Sync,
 {
     let alloc: Global = rt.alloc();
-    let job = parse(alloc, words)?;
+    let job = match parse(alloc, words) {
+        Ok(job) => job,
+        Err(error) => return refused(alloc, &error),
+    };
     let mut out = Counted::new(Vec::new(alloc));
     let mut err = Counted::new(Vec::new(alloc));
     let exit = open_and_run(rt, &job, &mut out, &mut err);

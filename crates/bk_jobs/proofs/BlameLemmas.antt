@@ -145,14 +145,14 @@ bytes_to_blame (job.CheckProof root file) (fault.Text (text.Script line found)) 
 bytes_to_blame (job.CheckProof root file) (fault.Text text.Read) old new h r = absurd (cc)
 bytes_to_blame (job.CheckProof root file) (fault.Text (text.Write written)) old new h r = absurd (cc)
 bytes_to_blame (job.CheckProof root file) (fault.Text text.Memory) old new h r = absurd (cc)
-bytes_to_blame (job.Ask asked file) (fault.Replay (replay.Feed found)) old new h r =
-    (refused (job.Ask asked file) (inputs_of old) found.code found.offset _ _ (λ b. b) h.0 r, h.1)
-bytes_to_blame (job.Ask asked file) (fault.Replay (replay.Collision id)) old new h r = (stopped _ old.first.bytes h.1, h.0.1)
-bytes_to_blame (job.Ask asked file) (fault.Replay (replay.Equivocation round author first second)) old new h r = (stopped _ old.first.bytes h.1, h.0.1)
-bytes_to_blame (job.Ask asked file) (fault.Replay (replay.Unfinished place)) old new h r = absurd (cc)
-bytes_to_blame (job.Ask asked file) (fault.Replay (replay.Write written)) old new h r = absurd (cc)
-bytes_to_blame (job.Ask asked file) (fault.Replay replay.Memory) old new h r = absurd (cc)
-bytes_to_blame (job.Ask asked file) (fault.Text e) old new h r = absurd h
+bytes_to_blame (job.Ask workers asked file) (fault.Replay (replay.Feed found)) old new h r =
+    (refused (job.Ask workers asked file) (inputs_of old) found.code found.offset _ _ (λ b. b) h.0 r, h.1)
+bytes_to_blame (job.Ask workers asked file) (fault.Replay (replay.Collision id)) old new h r = (stopped _ old.first.bytes h.1, h.0.1)
+bytes_to_blame (job.Ask workers asked file) (fault.Replay (replay.Equivocation round author first second)) old new h r = (stopped _ old.first.bytes h.1, h.0.1)
+bytes_to_blame (job.Ask workers asked file) (fault.Replay (replay.Unfinished place)) old new h r = absurd (cc)
+bytes_to_blame (job.Ask workers asked file) (fault.Replay (replay.Write written)) old new h r = absurd (cc)
+bytes_to_blame (job.Ask workers asked file) (fault.Replay replay.Memory) old new h r = absurd (cc)
+bytes_to_blame (job.Ask workers asked file) (fault.Text e) old new h r = absurd h
 bytes_to_blame j (fault.AbsentAccount id) old new h r = absurd (cc)
 bytes_to_blame j (fault.AbsentPlace place) old new h r = absurd (cc)
 bytes_to_blame (job.Apply file) (fault.Replay (replay.Feed found)) old new h r =
@@ -166,7 +166,7 @@ bytes_to_blame (job.Apply file) (fault.Text e) old new h r = absurd h
 bytes_to_blame (job.Run workers file) (fault.Events e) old new h r = absurd h
 bytes_to_blame (job.Make file) (fault.Events e) old new h r = absurd h
 bytes_to_blame (job.CheckProof root file) (fault.Events e) old new h r = absurd h
-bytes_to_blame (job.Ask asked file) (fault.Events e) old new h r = absurd h
+bytes_to_blame (job.Ask workers asked file) (fault.Events e) old new h r = absurd h
 bytes_to_blame (job.Apply file) (fault.Events e) old new h r = absurd h
 bytes_to_blame (job.Schedule workers feed events) (fault.Replay (replay.Feed found)) old new h r =
     (refused (job.Schedule workers feed events) (inputs_of old) found.code found.offset _ _ (λ b. inl b) h.2.0 r, h.2.1)
@@ -186,7 +186,7 @@ bytes_to_blame (job.Schedule workers feed events) (fault.Events (list.Unfinished
 bytes_to_blame (job.Run workers file) (fault.Compared e) old new h r = absurd h
 bytes_to_blame (job.Make file) (fault.Compared e) old new h r = absurd h
 bytes_to_blame (job.CheckProof root file) (fault.Compared e) old new h r = absurd h
-bytes_to_blame (job.Ask asked file) (fault.Compared e) old new h r = absurd h
+bytes_to_blame (job.Ask workers asked file) (fault.Compared e) old new h r = absurd h
 bytes_to_blame (job.Apply file) (fault.Compared e) old new h r = absurd h
 bytes_to_blame (job.Schedule workers feed events) (fault.Compared e) old new h r = absurd h
 bytes_to_blame (job.Compare first second) (fault.Compared e) old new h r = compare_blames first second e old new h r

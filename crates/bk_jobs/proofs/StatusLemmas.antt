@@ -1,5 +1,5 @@
 -- How a job may end.
-use Rattle.std.proofs.Common.{◌≡◌, ℕ, true, false, refl}
+use Rattle.std.proofs.Common.{◌≡◌, ℕ, true, false, ◌||◌, refl, subst}
 use Rattle.bk_frames.specs.declared.fault.FaultCode.{FaultCode}
 use Rattle.bk_frames.specs.declared.fault.FaultCode.TheVariants as code
 use Rattle.bk_results.specs.declared.compare_stop.CompareStop.{CompareStop}
@@ -8,7 +8,7 @@ use Rattle.bk_results.specs.declared.differ.Differ.TheVariants as differ
 use Rattle.bk_results.specs.declared.fault.Fault.{Fault}
 use Rattle.bk_results.specs.declared.fault.Fault.TheVariants as replay
 use Rattle.bk_results.specs.declared.script_fault.ScriptFault.TheVariants as text
-use Rattle.std.specs.Prelude.{Err}
+use Rattle.std.specs.Prelude.{Result, Ok, Err}
 use Rattle.bk_cli.specs.declared.exit.Exit.{Exit}
 use Rattle.bk_cli.specs.declared.exit.Exit.TheVariants as exit
 use Rattle.bk_cli.specs.declared.job.Job.{Job}
@@ -17,11 +17,14 @@ use Rattle.bk_cli.specs.declared.job_fault.JobFault.{JobFault}
 use Rattle.bk_cli.specs.declared.job_fault.JobFault.TheVariants as fault
 use Rattle.bk_results.specs.declared.query.Query.{Query}
 use Rattle.bk_results.specs.declared.query.Query.TheVariants as query
+use Rattle.bk_results.specs.declared.query.Reply.{Reply}
+use Rattle.bk_results.specs.declared.query.Reply.TheVariants as reply
+use Rattle.bk_replay.specs.Asking.{can_reply}
 use Rattle.bk_results.specs.declared.events_fault.EventsFault.TheVariants as unread
 use Rattle.bk_cli.specs.declared.list_fault.ListFault.TheVariants as list
 use Rattle.bk_jobs.specs.Schedules.{ScheduleFailsBy}
 use Rattle.bk_jobs.specs.Sources.{JobDevices, first_devices}
-use Rattle.bk_cli.specs.Exits.{absence, may_be_absent, exit_after, exit_after_compare, exit_after_replay, exit_by_code, is_answer, is_refusal, is_report, may_end}
+use Rattle.bk_cli.specs.Exits.{absence, ending, gives_state, may_be_absent, exit_after, exit_after_compare, exit_after_replay, exit_by_code, is_answer, is_refusal, is_report, may_end}
 use Rattle.bk_jobs.specs.Comparisons.{CompareFailsBy}
 use Rattle.bk_jobs.specs.Faults.{JobFailsBy, QueryFailsBy}
 
@@ -38,12 +41,21 @@ feed_may_end j right code.Extra = right
 feed_may_end j right code.Read = refl
 feed_may_end j right code.Memory = refl
 
--- what is absent may be
-absent_may_be : (asked : Query) (e : JobFault) → absence asked ≡ Err e → may_be_absent asked ≡ true
-absent_may_be query.Order e h = absurd (cc)
-absent_may_be (query.Account id) e h = refl
-absent_may_be (query.Receipt place) e h = refl
-absent_may_be (query.Proof id) e h = refl
+-- a query of what is absent may say no
+absent_may_say_no : (asked : Query) (e : JobFault) → absence asked ≡ Err e → (gives_state asked || may_be_absent asked) ≡ true
+absent_may_say_no query.Order e h = absurd (cc)
+absent_may_say_no (query.Account id) e h = refl
+absent_may_say_no (query.Receipt place) e h = refl
+absent_may_say_no (query.Proof id) e h = refl
+absent_may_say_no (query.State root) e h = refl
+
+-- and none is an answer
+absent_is_none : (asked : Query) (e : JobFault) → absence asked ≡ Err e → gives_state asked ≡ false
+absent_is_none query.Order e h = refl
+absent_is_none (query.Account id) e h = refl
+absent_is_none (query.Receipt place) e h = refl
+absent_is_none (query.Proof id) e h = refl
+absent_is_none (query.State root) e h = absurd (cc)
 
 -- a comparison may end as a run of one of its feeds may
 replay_may_end : (first second : _) (e : Fault) → may_end (job.Compare first second) (exit_after_replay e) ≡ true
@@ -82,15 +94,15 @@ ends_by_fault (job.CheckProof root file) (fault.Text (text.Script line found)) o
 ends_by_fault (job.CheckProof root file) (fault.Text text.Read) old new h = refl
 ends_by_fault (job.CheckProof root file) (fault.Text (text.Write written)) old new h = refl
 ends_by_fault (job.CheckProof root file) (fault.Text text.Memory) old new h = refl
-ends_by_fault (job.Ask asked file) (fault.Replay (replay.Feed found)) old new h = feed_may_end (job.Ask asked file) refl found.code
-ends_by_fault (job.Ask asked file) (fault.Replay (replay.Collision id)) old new h = refl
-ends_by_fault (job.Ask asked file) (fault.Replay (replay.Equivocation round author first second)) old new h = refl
-ends_by_fault (job.Ask asked file) (fault.Replay (replay.Unfinished place)) old new h = refl
-ends_by_fault (job.Ask asked file) (fault.Replay (replay.Write written)) old new h = refl
-ends_by_fault (job.Ask asked file) (fault.Replay replay.Memory) old new h = refl
-ends_by_fault (job.Ask asked file) (fault.Text e) old new h = absurd h
-ends_by_fault (job.Ask asked file) (fault.AbsentAccount id) old new h = absent_may_be asked _ h.0
-ends_by_fault (job.Ask asked file) (fault.AbsentPlace place) old new h = absent_may_be asked _ h.0
+ends_by_fault (job.Ask workers asked file) (fault.Replay (replay.Feed found)) old new h = feed_may_end (job.Ask workers asked file) refl found.code
+ends_by_fault (job.Ask workers asked file) (fault.Replay (replay.Collision id)) old new h = refl
+ends_by_fault (job.Ask workers asked file) (fault.Replay (replay.Equivocation round author first second)) old new h = refl
+ends_by_fault (job.Ask workers asked file) (fault.Replay (replay.Unfinished place)) old new h = refl
+ends_by_fault (job.Ask workers asked file) (fault.Replay (replay.Write written)) old new h = refl
+ends_by_fault (job.Ask workers asked file) (fault.Replay replay.Memory) old new h = refl
+ends_by_fault (job.Ask workers asked file) (fault.Text e) old new h = absurd h
+ends_by_fault (job.Ask workers asked file) (fault.AbsentAccount id) old new h = absent_may_say_no asked _ h.0
+ends_by_fault (job.Ask workers asked file) (fault.AbsentPlace place) old new h = absent_may_say_no asked _ h.0
 ends_by_fault (job.Run workers file) (fault.AbsentAccount id) old new h = absurd h
 ends_by_fault (job.Run workers file) (fault.AbsentPlace place) old new h = absurd h
 ends_by_fault (job.Make file) (fault.AbsentAccount id) old new h = absurd h
@@ -109,7 +121,7 @@ ends_by_fault (job.Apply file) (fault.Text e) old new h = absurd h
 ends_by_fault (job.Run workers file) (fault.Events e) old new h = absurd h
 ends_by_fault (job.Make file) (fault.Events e) old new h = absurd h
 ends_by_fault (job.CheckProof root file) (fault.Events e) old new h = absurd h
-ends_by_fault (job.Ask asked file) (fault.Events e) old new h = absurd h
+ends_by_fault (job.Ask workers asked file) (fault.Events e) old new h = absurd h
 ends_by_fault (job.Apply file) (fault.Events e) old new h = absurd h
 ends_by_fault (job.Schedule workers feed events) (fault.Replay (replay.Feed found)) old new h =
     feed_may_end (job.Schedule workers feed events) refl found.code
@@ -129,7 +141,7 @@ ends_by_fault (job.Schedule workers feed events) (fault.AbsentPlace place) old n
 ends_by_fault (job.Run workers file) (fault.Compared e) old new h = absurd h
 ends_by_fault (job.Make file) (fault.Compared e) old new h = absurd h
 ends_by_fault (job.CheckProof root file) (fault.Compared e) old new h = absurd h
-ends_by_fault (job.Ask asked file) (fault.Compared e) old new h = absurd h
+ends_by_fault (job.Ask workers asked file) (fault.Compared e) old new h = absurd h
 ends_by_fault (job.Apply file) (fault.Compared e) old new h = absurd h
 ends_by_fault (job.Schedule workers feed events) (fault.Compared e) old new h = absurd h
 ends_by_fault (job.Compare first second) (fault.Compared e) old new h = compare_may_end first second e
@@ -178,12 +190,12 @@ fault_is_none j (fault.Events (list.Unfinished place)) old new h = refl
 fault_is_none (job.Run workers file) (fault.AbsentAccount id) old new h = absurd h
 fault_is_none (job.Make file) (fault.AbsentAccount id) old new h = absurd h
 fault_is_none (job.CheckProof root file) (fault.AbsentAccount id) old new h = absurd h
-fault_is_none (job.Ask asked file) (fault.AbsentAccount id) old new h = refl
+fault_is_none (job.Ask workers asked file) (fault.AbsentAccount id) old new h = absent_is_none asked _ h.0
 fault_is_none (job.Apply file) (fault.AbsentAccount id) old new h = absurd h
 fault_is_none (job.Run workers file) (fault.AbsentPlace place) old new h = absurd h
 fault_is_none (job.Make file) (fault.AbsentPlace place) old new h = absurd h
 fault_is_none (job.CheckProof root file) (fault.AbsentPlace place) old new h = absurd h
-fault_is_none (job.Ask asked file) (fault.AbsentPlace place) old new h = refl
+fault_is_none (job.Ask workers asked file) (fault.AbsentPlace place) old new h = absent_is_none asked _ h.0
 fault_is_none (job.Apply file) (fault.AbsentPlace place) old new h = absurd h
 fault_is_none (job.Schedule workers feed events) (fault.AbsentAccount id) old new h = absurd h
 fault_is_none (job.Schedule workers feed events) (fault.AbsentPlace place) old new h = absurd h
@@ -225,15 +237,46 @@ run_answers workers file exit.Stopped h = absurd (cc)
 run_answers workers file exit.Failed h = absurd (cc)
 run_answers workers file exit.Missing h = (refl, refl)
 
+-- a query ends well with a reply that it can have
+EndsWell : Query → Exit → Type 0
+EndsWell asked end = (workers : ℕ) (file : _) → (is_answer (job.Ask workers asked file) end ≡ true) × (may_end (job.Ask workers asked file) end ≡ true)
+
+ends_as : (asked : Query) (end as_is : Exit) → ◌≡◌ {A = Result Exit JobFault} (Ok end) (Ok as_is) → EndsWell asked as_is → EndsWell asked end
+ends_as asked end as_is same h = let e : as_is ≡ end = let s = same in cc in subst (EndsWell asked) e h
+
+by_reply : (asked : Query) (answer : Reply) (end : Exit) → can_reply asked answer ≡ true → Ok end ≡ ending asked answer → EndsWell asked end
+unfolding EndsWell
+by_reply asked reply.Found end can is = ends_as asked end exit.Whole is (λ w f. (refl, refl))
+by_reply (query.State root) reply.Short end can is = ends_as (query.State root) end exit.Missing is (λ w f. (refl, refl))
+by_reply query.Order reply.Short end can is = absurd (cc)
+by_reply (query.Account id) reply.Short end can is = absurd (cc)
+by_reply (query.Receipt place) reply.Short end can is = absurd (cc)
+by_reply (query.Proof id) reply.Short end can is = absurd (cc)
+by_reply (query.State root) reply.Wrong end can is = ends_as (query.State root) end exit.No is (λ w f. (refl, refl))
+by_reply query.Order reply.Wrong end can is = absurd (cc)
+by_reply (query.Account id) reply.Wrong end can is = absurd (cc)
+by_reply (query.Receipt place) reply.Wrong end can is = absurd (cc)
+by_reply (query.Proof id) reply.Wrong end can is = absurd (cc)
+by_reply query.Order reply.Absent end can is = absurd (cc)
+by_reply (query.Account id) reply.Absent end can is = absurd (cc)
+by_reply (query.Receipt place) reply.Absent end can is = absurd (cc)
+by_reply (query.Proof id) reply.Absent end can is = absurd (cc)
+by_reply (query.State root) reply.Absent end can is = absurd (cc)
+
+pub query_ends : (workers : ℕ) (asked : Query) (file : _) (end : Exit) → (answer : Reply) × (can_reply asked answer ≡ true) × (Ok end ≡ ending asked answer)
+    → (is_answer (job.Ask workers asked file) end ≡ true) × (may_end (job.Ask workers asked file) end ≡ true)
+unfolding EndsWell
+query_ends workers asked file end (answer, can, is) = by_reply asked answer end can is workers file
+
 -- why a query has no reply is why its job has no answer
-pub job_of_query : (asked : Query) (file : _) (e : JobFault) (old new : JobDevices)
-    → QueryFailsBy asked e (first_devices old) (first_devices new) → JobFailsBy (job.Ask asked file) e old new
-job_of_query asked file (fault.Replay e) old new h = h
-job_of_query asked file (fault.Text e) old new h = absurd h
-job_of_query asked file (fault.Events e) old new h = absurd h
-job_of_query asked file (fault.Compared e) old new h = absurd h
-job_of_query asked file (fault.AbsentAccount id) old new h = h
-job_of_query asked file (fault.AbsentPlace place) old new h = h
+pub job_of_query : (workers : ℕ) (asked : Query) (file : _) (e : JobFault) (old new : JobDevices)
+    → QueryFailsBy asked e (first_devices old) (first_devices new) → JobFailsBy (job.Ask workers asked file) e old new
+job_of_query workers asked file (fault.Replay e) old new h = h
+job_of_query workers asked file (fault.Text e) old new h = absurd h
+job_of_query workers asked file (fault.Events e) old new h = absurd h
+job_of_query workers asked file (fault.Compared e) old new h = absurd h
+job_of_query workers asked file (fault.AbsentAccount id) old new h = h
+job_of_query workers asked file (fault.AbsentPlace place) old new h = h
 
 -- why a schedule has no report is why its job has no answer
 pub job_of_schedule : (workers : ℕ) (feed events : _) (e : JobFault) (old new : JobDevices)

@@ -1,5 +1,5 @@
 -- What a job leaves: its answer, or the fault that kept it from one.
-use Rattle.std.specs.Prelude.{◌≡◌, ◌↔◌, ◌⊎◌, ℕ, ◌<◌, Bool, List, IfSome, codes, if◌then◌else◌, length, take, string_bytes, IsTrue, Err}
+use Rattle.std.specs.Prelude.{◌≡◌, ◌↔◌, ◌⊎◌, ℕ, ◌<◌, Bool, List, IfSome, codes, if◌then◌else◌, length, take, string_bytes, IsTrue, Ok, Err}
 use Rattle.bk_frames.specs.Device.{Device, Works, Fails, Receives, IfKnown}
 use Rattle.bk_results.specs.declared.compare_stop.CompareStop.{CompareStop}
 use Rattle.bk_results.specs.declared.fault.Fault.{Fault}
@@ -8,6 +8,7 @@ use Rattle.bk_replay.specs.Answers.{Devices, FailsBy, IsUntouched}
 use Rattle.bk_replay.specs.Asking.{AskFailsBy, IsReplied}
 use Rattle.bk_report.specs.Proofs.{IsGoodProof}
 use Rattle.bk_results.specs.declared.query.Query.{Query}
+use Rattle.bk_results.specs.declared.query.Reply.{Reply}
 use Rattle.bk_results.specs.declared.query.Reply.TheVariants as reply
 use Rattle.bk_replay.specs.Replaying.{RunFailsBy}
 use Rattle.bk_report.specs.Report.{IsApplyReport}
@@ -17,7 +18,7 @@ use Rattle.bk_script.specs.Script.{LineFault, feed_of}
 use Rattle.bk_results.specs.declared.script_fault.ScriptFault.{ScriptFault}
 use Rattle.bk_results.specs.declared.script_fault.ScriptFault.TheVariants as text
 use Rattle.bk_jobs.specs.Comparisons.{AgreeNot, AgreementFailsBy, AgreementIsOut, AreStoppedTogether, AreWrongTogether}
-use Rattle.bk_cli.specs.Exits.{absence, exit_at, exit_by, exit_after}
+use Rattle.bk_cli.specs.Exits.{absence, ending, exit_at, exit_by, exit_after}
 use Rattle.bk_cli.specs.FaultLines.{Reports, line_of}
 use Rattle.bk_jobs.specs.Schedules.{AreNoEvents, AreRefused, IsWholeRun, ListFailsBy, ScheduleFailsBy}
 use Rattle.bk_jobs.specs.Sources.{AreBroken, Inputs, JobDevices, first_devices}
@@ -60,9 +61,10 @@ VerdictIsOut root end old new bytes =
     (good : Bool) × IsVerdict root bytes good × (end ≡ exit_by good)
     × Receives old new (verdict_text good)
 
--- the output got the whole reply of the bytes to a query
+-- the output got the whole reply of the bytes to a query, and the exit is the reply's
 abbrev pub ReplyIsOut : Query → Exit → Device → Device → List ℕ → Type 0
-ReplyIsOut asked end old new bytes = (end ≡ exit.Whole) × IsReplied asked reply.Found bytes old new
+ReplyIsOut asked end old new bytes =
+    (answer : Reply) × (Ok end ≡ ending asked answer) × IsReplied asked answer bytes old new
 
 -- the output got the whole apply report of the first source, and the exit is the report's; and the second source lists
 -- events that are a whole run of its transactions
@@ -77,7 +79,7 @@ AnswerIsOut (job.Run workers file) end given old new = IfSome given.first (RunIs
 AnswerIsOut (job.Make file) end given old new = IfSome given.first (FeedIsOut end old new)
 AnswerIsOut (job.CheckProof root file) end given old new =
     IfSome given.first (VerdictIsOut (string_bytes root) end old new)
-AnswerIsOut (job.Ask asked file) end given old new =
+AnswerIsOut (job.Ask workers asked file) end given old new =
     IfSome given.first (ReplyIsOut asked end old new)
 AnswerIsOut (job.Apply file) end given old new = IfSome given.first (ReportIsOut end old new)
 AnswerIsOut (job.Schedule workers feed events) end given old new =
@@ -113,7 +115,7 @@ ReplayFailsBy (job.Run workers file) e old new =
     RunFailsBy e (first_devices old) (first_devices new)
 ReplayFailsBy (job.Make file) e old new = ⊥
 ReplayFailsBy (job.CheckProof root file) e old new = ⊥
-ReplayFailsBy (job.Ask asked file) e old new =
+ReplayFailsBy (job.Ask workers asked file) e old new =
     AskFailsBy asked e (first_devices old) (first_devices new)
 ReplayFailsBy (job.Apply file) e old new = FailsBy e (first_devices old) (first_devices new)
 ReplayFailsBy (job.Schedule workers feed events) e old new =
@@ -127,7 +129,7 @@ TextFailsBy (job.Make file) e old new =
     script.FailsBy e (script_devices (first_devices old)) (script_devices (first_devices new))
 TextFailsBy (job.CheckProof root file) e old new =
     CheckFailsBy (string_bytes root) e (first_devices old) (first_devices new)
-TextFailsBy (job.Ask asked file) e old new = ⊥
+TextFailsBy (job.Ask workers asked file) e old new = ⊥
 TextFailsBy (job.Apply file) e old new = ⊥
 TextFailsBy (job.Schedule workers feed events) e old new = ⊥
 TextFailsBy (job.Compare first second) e old new = ⊥
@@ -137,7 +139,7 @@ abbrev pub EventsFailBy : Job → ListFault → JobDevices → JobDevices → Ty
 EventsFailBy (job.Run workers file) e old new = ⊥
 EventsFailBy (job.Make file) e old new = ⊥
 EventsFailBy (job.CheckProof root file) e old new = ⊥
-EventsFailBy (job.Ask asked file) e old new = ⊥
+EventsFailBy (job.Ask workers asked file) e old new = ⊥
 EventsFailBy (job.Apply file) e old new = ⊥
 EventsFailBy (job.Schedule workers feed events) e old new = ListFailsBy workers e old new
 EventsFailBy (job.Compare first second) e old new = ⊥
@@ -147,7 +149,7 @@ abbrev pub ComparisonFailsBy : Job → CompareStop → JobDevices → JobDevices
 ComparisonFailsBy (job.Run workers file) e old new = ⊥
 ComparisonFailsBy (job.Make file) e old new = ⊥
 ComparisonFailsBy (job.CheckProof root file) e old new = ⊥
-ComparisonFailsBy (job.Ask asked file) e old new = ⊥
+ComparisonFailsBy (job.Ask workers asked file) e old new = ⊥
 ComparisonFailsBy (job.Apply file) e old new = ⊥
 ComparisonFailsBy (job.Schedule workers feed events) e old new = ⊥
 ComparisonFailsBy (job.Compare first second) e old new = AgreeNot e old new
@@ -163,7 +165,7 @@ abbrev pub IsAbsentFor : Job → JobFault → JobDevices → JobDevices → Type
 IsAbsentFor (job.Run workers file) e old new = ⊥
 IsAbsentFor (job.Make file) e old new = ⊥
 IsAbsentFor (job.CheckProof root file) e old new = ⊥
-IsAbsentFor (job.Ask asked file) e old new =
+IsAbsentFor (job.Ask workers asked file) e old new =
     IsAbsentBy asked e (first_devices old) (first_devices new)
 IsAbsentFor (job.Apply file) e old new = ⊥
 IsAbsentFor (job.Schedule workers feed events) e old new = ⊥
@@ -212,7 +214,7 @@ abbrev pub AreWrong : Job → Inputs → Type 0
 AreWrong (job.Run workers file) given = IfSome given.first AreBroken
 AreWrong (job.Make file) given = IfSome given.first MakeNoFeed
 AreWrong (job.CheckProof root file) given = ⊥
-AreWrong (job.Ask asked file) given = IfSome given.first AreBroken
+AreWrong (job.Ask workers asked file) given = IfSome given.first AreBroken
 AreWrong (job.Apply file) given = IfSome given.first AreBroken
 AreWrong (job.Schedule workers feed events) given = AreWrongFor workers given
 AreWrong (job.Compare first second) given = AreWrongTogether given
@@ -226,7 +228,7 @@ abbrev pub AreStoppedFor : Job → Inputs → Type 0
 AreStoppedFor (job.Run workers file) given = IfSome given.first AreStopped
 AreStoppedFor (job.Make file) given = ⊥
 AreStoppedFor (job.CheckProof root file) given = ⊥
-AreStoppedFor (job.Ask asked file) given = IfSome given.first AreStopped
+AreStoppedFor (job.Ask workers asked file) given = IfSome given.first AreStopped
 AreStoppedFor (job.Apply file) given = ⊥
 AreStoppedFor (job.Schedule workers feed events) given = ⊥
 AreStoppedFor (job.Compare first second) given = AreStoppedTogether given

@@ -1,51 +1,64 @@
 //! Queries of a feed.
 
-ghost use Rattle.std.specs.Prelude.{◌≡◌, OnOk, IfOk, IfErr};
+ghost use Rattle.std.specs.Prelude.{◌≡◌, true, Ok, OnOk, IfOk, IfErr};
 ghost use Rattle.bk_frames.specs.Device.{CanBeUsed, Works, IfKnown};
 ghost use Rattle.bk_replay.specs.Answers.{devices};
-ghost use Rattle.bk_cli.specs.Exits.{absence};
+ghost use Rattle.bk_results.specs.declared.query.Reply.{Reply as AnyReply};
+ghost use Rattle.bk_replay.specs.Asking.{can_reply};
+ghost use Rattle.bk_cli.specs.Exits.{absence, ending};
 ghost use Rattle.bk_jobs.specs.Faults.{QueryFailsBy, ReplyIsOut};
 
-use bk_cli::{Exit, JobFault};
+use bk_cli::{Exit, JobFault, Workers};
 use bk_frames::{Sink, Source};
 use bk_pool::Open;
 use bk_replay::{Query, Reply, ask};
 use std::sync::Wait;
 use std::thread::Threads;
 
-// The end of a query of something that is absent. An order never is.
-fn absent(asked: Query) -> Result<Exit, JobFault>
-    ensures { result ≡ absence asked }
+// The end of a query of something that is absent. An order never is, and a digest is right or wrong.
+fn absent(asked: &Query) -> Result<Exit, JobFault>
+    ensures { result ≡ absence asked.now }
 {
-    match asked {
-        Query::Order => Ok(Exit::Whole),
+    match *asked {
+        Query::Order | Query::State { .. } => Ok(Exit::Whole),
         Query::Account { id } => Err(JobFault::AbsentAccount { id }),
         Query::Receipt { place } => Err(JobFault::AbsentPlace { place }),
         Query::Proof { id } => Err(JobFault::AbsentAccount { id }),
     }
 }
 
+// The end of a query after its reply.
+fn end_of(asked: &Query, found: Reply) -> Result<Exit, JobFault>
+    ensures { result ≡ ending asked.now found }
+{
+    match found {
+        Reply::Found => Ok(Exit::Whole),
+        Reply::Short => Ok(Exit::Missing),
+        Reply::Wrong => Ok(Exit::No),
+        Reply::Absent => absent(asked),
+    }
+}
+
 /// Writes the reply to a query.
 pub(crate) fn reply<R: Threads + Wait + Sync + AllocGlobal, S: Source, O: Sink>(
     rt: &R,
-    asked: Query,
+    asked: &Query,
+    workers: Workers,
     source: &mut S,
     out: &mut O,
 ) -> Result<Exit, JobFault>
     requires source { CanBeUsed (S.state source.old) }
     requires out { CanBeUsed (O.state out.old) }
     ensures reply { IfOk result (λ end. IfKnown (S.state source.old)
-        (ReplyIsOut asked end (O.state out.old) (O.state out.new))) }
-    ensures answer { IfOk result (λ end. end ≡ Exit.Whole) }
+        (ReplyIsOut asked.now end (O.state out.old) (O.state out.new))) }
+    ensures answer { IfOk result (λ end. (answer : AnyReply) × (can_reply asked.now answer ≡ true)
+        × (Ok end ≡ ending asked.now answer)) }
     ensures sound { OnOk result (Works (S.state source.old) (S.state source.new)
         × Works (O.state out.old) (O.state out.new)) }
-    ensures fault { IfErr result (λ e. QueryFailsBy asked e
+    ensures fault { IfErr result (λ e. QueryFailsBy asked.now e
         (devices (S.state source.old) (O.state out.old))
         (devices (S.state source.new) (O.state out.new))) }
 {
-    let found = ask(rt, rt.alloc(), source, out, asked, 1, &Open)?;
-    match found {
-        Reply::Found => Ok(Exit::Whole),
-        Reply::Absent => absent(asked),
-    }
+    let found = ask(rt, rt.alloc(), source, out, *asked, workers.count(), &Open)?;
+    end_of(asked, found)
 }

@@ -55,8 +55,8 @@ fn answer<R: Threads + Wait + Sync + AllocGlobal, S1: Source, S2: Source, O: Sin
             let end = check(rt, root.as_bytes(), first, out)?;
             Ok(end)
         }
-        Job::Ask { asked, .. } => {
-            let end = reply(rt, *asked, first, out)?;
+        Job::Ask { workers, asked, .. } => {
+            let end = reply(rt, asked, *workers, first, out)?;
             Ok(end)
         }
         Job::Apply { .. } => {
@@ -80,8 +80,8 @@ fn answer<R: Threads + Wait + Sync + AllocGlobal, S1: Source, S2: Source, O: Sin
 /// standard output and `err` standard error, whose failures are ignored.
 ///
 /// - `Whole` and `Missing`: the whole answer is on `out`, and nothing on `err`.
-/// - `No`, of a check of a proof: the proof is bad, which is the answer on `out`. Nothing is on `err`.
-/// - `No`, of a query: what it asks for is absent, which is one line on `err`. Nothing is on `out`.
+/// - `No`, of a check of a proof or of a digest: it is bad, which is the answer on `out`. Nothing is on `err`.
+/// - `No`, of another query: what it asks for is absent, which is one line on `err`. Nothing is on `out`.
 /// - `WrongInput` and `Stopped`: the bytes are to blame. The fault is one line on `err`, and nothing is on `out`.
 /// - `Failed`: a read, a write or memory failed, or a transaction is not finished. The fault is one line on `err`;
 ///   after a failed write `out` has the first bytes of the answer, and else nothing.

@@ -1,6 +1,8 @@
 -- A feed that has a report replies to each query in one way.
-use Rattle.std.proofs.Common.{◌≡◌, ◌⊎◌, ℕ, zero, suc, List, [], ◌∷◌, length, get_or, Option, Some, None, refl, sym, ap, subst, ◌∙◌, inl, inr, ⊎_elim, arith}
+use Rattle.std.proofs.Common.{◌≡◌, ◌⊎◌, ℕ, zero, suc, List, [], ◌∷◌, length, get_or, Option, Some, None, Bool, true, false, true≢false, refl, sym, ap, subst, ◌∙◌, inl, inr, ⊎_elim, arith}
 use Rattle.std.specs.Prelude.{slice_get}
+use Rattle.std.specs.Str.{bytes_eq}
+use Rattle.std.proofs.lemmas.Slice.Eq.{bytes_eq-Decides}
 use Rattle.std.specs.List.{Contains}
 use Rattle.std.proofs.lemmas.Bool.{cases_eq, cases_lt}
 use Rattle.std.proofs.lemmas.Option.{slice_get_within}
@@ -83,6 +85,10 @@ one_reply : (asked : Query) (end : Outcome) (a b : Reply) (t u : List ℕ) → I
 unfolding IsSame
 one_reply query.Order end reply.Found reply.Found t u ledger h g = (refl, h ∙ sym g)
 one_reply query.Order end reply.Found reply.Absent t u ledger h g = absurd g.0
+one_reply query.Order end reply.Found reply.Short t u ledger h g = absurd g
+one_reply query.Order end reply.Found reply.Wrong t u ledger h g = absurd g
+one_reply query.Order end reply.Short b t u ledger h g = absurd h
+one_reply query.Order end reply.Wrong b t u ledger h g = absurd h
 one_reply query.Order end reply.Absent b t u ledger h g = absurd h.0
 one_reply (query.Account id) end reply.Found reply.Found t u ledger h g =
     let found : Some h.0 ≡ Some g.0 = sym h.1 ∙ g.1 in
@@ -91,6 +97,12 @@ one_reply (query.Account id) end reply.Found reply.Found t u ledger h g =
 one_reply (query.Account id) end reply.Found reply.Absent t u ledger h g = absurd (some_not_none (account_at end.rows id) h.0 h.1 g.0)
 one_reply (query.Account id) end reply.Absent reply.Found t u ledger h g = absurd (some_not_none (account_at end.rows id) g.0 g.1 h.0)
 one_reply (query.Account id) end reply.Absent reply.Absent t u ledger h g = (refl, h.1 ∙ sym g.1)
+one_reply (query.Account id) end reply.Found reply.Short t u ledger h g = absurd g
+one_reply (query.Account id) end reply.Found reply.Wrong t u ledger h g = absurd g
+one_reply (query.Account id) end reply.Absent reply.Short t u ledger h g = absurd g
+one_reply (query.Account id) end reply.Absent reply.Wrong t u ledger h g = absurd g
+one_reply (query.Account id) end reply.Short b t u ledger h g = absurd h
+one_reply (query.Account id) end reply.Wrong b t u ledger h g = absurd h
 one_reply (query.Receipt place) end reply.Found reply.Found t u ledger h g =
     let found : Some h.0 ≡ Some g.0 = sym h.1 ∙ g.1 in
     let same : h.0 ≡ g.0 = cc in
@@ -98,10 +110,35 @@ one_reply (query.Receipt place) end reply.Found reply.Found t u ledger h g =
 one_reply (query.Receipt place) end reply.Found reply.Absent t u ledger h g = absurd (some_not_none (slice_get end.receipts place) h.0 h.1 g.0)
 one_reply (query.Receipt place) end reply.Absent reply.Found t u ledger h g = absurd (some_not_none (slice_get end.receipts place) g.0 g.1 h.0)
 one_reply (query.Receipt place) end reply.Absent reply.Absent t u ledger h g = (refl, h.1 ∙ sym g.1)
+one_reply (query.Receipt place) end reply.Found reply.Short t u ledger h g = absurd g
+one_reply (query.Receipt place) end reply.Found reply.Wrong t u ledger h g = absurd g
+one_reply (query.Receipt place) end reply.Absent reply.Short t u ledger h g = absurd g
+one_reply (query.Receipt place) end reply.Absent reply.Wrong t u ledger h g = absurd g
+one_reply (query.Receipt place) end reply.Short b t u ledger h g = absurd h
+one_reply (query.Receipt place) end reply.Wrong b t u ledger h g = absurd h
 one_reply (query.Proof id) end reply.Found reply.Found t u ledger h g = (refl, h.2 ∙ (ap proof_text (one_proof end.rows id h.0 g.0 ledger h.1 g.1) ∙ sym g.2))
 one_reply (query.Proof id) end reply.Found reply.Absent t u ledger h g = absurd (g.0 h.0.account (found_in end.rows h.0.index h.0.account h.1.found) h.1.same_id)
 one_reply (query.Proof id) end reply.Absent reply.Found t u ledger h g = absurd (h.0 g.0.account (found_in end.rows g.0.index g.0.account g.1.found) g.1.same_id)
 one_reply (query.Proof id) end reply.Absent reply.Absent t u ledger h g = (refl, h.1 ∙ sym g.1)
+one_reply (query.Proof id) end reply.Found reply.Short t u ledger h g = absurd g
+one_reply (query.Proof id) end reply.Found reply.Wrong t u ledger h g = absurd g
+one_reply (query.Proof id) end reply.Absent reply.Short t u ledger h g = absurd g
+one_reply (query.Proof id) end reply.Absent reply.Wrong t u ledger h g = absurd g
+one_reply (query.Proof id) end reply.Short b t u ledger h g = absurd h
+one_reply (query.Proof id) end reply.Wrong b t u ledger h g = absurd h
+one_reply (query.State root) end reply.Found reply.Found t u ledger h g = (refl, h.0.1 ∙ sym g.0.1)
+one_reply (query.State root) end reply.Found reply.Short t u ledger h g = absurd (some_not_none end.ordered.payloads.missing g.1.0 g.1.1 h.1)
+one_reply (query.State root) end reply.Found reply.Wrong t u ledger h g = absurd (g.0 h.0.0)
+one_reply (query.State root) end reply.Short reply.Found t u ledger h g = absurd (some_not_none end.ordered.payloads.missing h.1.0 h.1.1 g.1)
+one_reply (query.State root) end reply.Short reply.Short t u ledger h g = (refl, h.0.1 ∙ sym g.0.1)
+one_reply (query.State root) end reply.Short reply.Wrong t u ledger h g = absurd (g.0 h.0.0)
+one_reply (query.State root) end reply.Wrong reply.Found t u ledger h g = absurd (h.0 g.0.0)
+one_reply (query.State root) end reply.Wrong reply.Short t u ledger h g = absurd (h.0 g.0.0)
+one_reply (query.State root) end reply.Wrong reply.Wrong t u ledger h g = (refl, h.1 ∙ sym g.1)
+one_reply (query.State root) end reply.Found reply.Absent t u ledger h g = absurd g.0
+one_reply (query.State root) end reply.Short reply.Absent t u ledger h g = absurd g.0
+one_reply (query.State root) end reply.Wrong reply.Absent t u ledger h g = absurd g.0
+one_reply (query.State root) end reply.Absent b t u ledger h g = absurd h.0
 
 -- ---- and there is one
 
@@ -145,12 +182,21 @@ proof_reply id end = ⊎_elim
     (λ (h : IsAbsent end.rows id). (reply.Absent, [], (h, refl)))
     (there_or_absent end.rows id)
 
+-- a digest is that of the state or is not, and a batch is missing or is not
+state_reply : (root : List ℕ) (end : Outcome) (same : Bool) (missing : Option (List ℕ)) → bytes_eq root (state_of end.rows) ≡ same → end.ordered.payloads.missing ≡ missing → SomeReply (query.State root) end
+unfolding SomeReply
+state_reply root end true None e m = (reply.Found, text_of (line.StateGood ∷ []), (((bytes_eq-Decides root (state_of end.rows)).0 e, refl), m))
+state_reply root end true (Some digest) e m = (reply.Short, text_of (line.StateGood ∷ []), (((bytes_eq-Decides root (state_of end.rows)).0 e, refl), (digest, m)))
+state_reply root end false missing e m =
+    (reply.Wrong, text_of (line.StateBad ∷ line.State (state_of end.rows) ∷ []), ((λ is. true≢false (sym ((bytes_eq-Decides root (state_of end.rows)).1 is) ∙ e)), refl))
+
 some_reply : (asked : Query) (end : Outcome) → SomeReply asked end
 unfolding SomeReply
 some_reply query.Order end = (reply.Found, order_text end.ordered, refl)
 some_reply (query.Account id) end = account_reply id end (account_at end.rows id) refl
 some_reply (query.Receipt place) end = receipt_reply place end (slice_get end.receipts place) refl
 some_reply (query.Proof id) end = proof_reply id end
+some_reply (query.State root) end = state_reply root end (bytes_eq root (state_of end.rows)) end.ordered.payloads.missing refl refl
 
 -- ---- of a feed
 

@@ -1,5 +1,5 @@
 -- What a book, a Follower and a call reply, from what they found and wrote.
-use Rattle.std.proofs.Common.{◌≡◌, List, [], Option, Some, None, sym, ap, subst, ◌∙◌}
+use Rattle.std.proofs.Common.{◌≡◌, ℕ, List, [], Option, Some, None, true, refl, sym, ap, subst, ◌∙◌}
 use Rattle.std.specs.Prelude.{option_map}
 use Rattle.bk_frames.specs.Device.{Device, Works, IfKnown}
 use Rattle.bk_frames.specs.declared.genesis.Row.{Row}
@@ -11,9 +11,11 @@ use Rattle.bk_results.specs.declared.fault.Fault.{Fault}
 use Rattle.bk_results.specs.declared.fault.Fault.TheVariants as fault
 use Rattle.bk_ledger.specs.Ledger.{LedgerValue}
 use Rattle.bk_results.specs.declared.query.Query.{Query}
+use Rattle.bk_results.specs.declared.query.Query.TheVariants as query
 use Rattle.bk_results.specs.declared.query.Reply.{Reply}
+use Rattle.bk_results.specs.declared.query.Reply.TheVariants as reply
 use Rattle.bk_replay.specs.Answers.{devices}
-use Rattle.bk_replay.specs.Asking.{Shows, IsOutcomeOf, IsReplied, PartOfReplyIsOut, AskFailsBy}
+use Rattle.bk_replay.specs.Asking.{Outcome, Replies, HasText, can_reply, IsOutcomeOf, IsReplied, PartOfReplyIsOut, AskFailsBy}
 use Rattle.bk_replay.specs.Follower.{Executed, BookValue, Followed, IsExecuted, IsCurrent}
 use Rattle.bk_replay.specs.Replaying.{AllHasCome, ReadFails}
 use Rattle.bk_replay.specs.RunReport.{HasPlaceIn, HasPlace}
@@ -34,17 +36,36 @@ outcome_is feed taken ledger opening l is current =
     let x = subst (λ (e : Executed). IsExecuted feed taken.ordered e) (same_done current.done (executed_of l) (sym current.is_done ∙ ap (option_map executed_of) is)) current.executed in
     record { clear = current.clear; ordered = current.ordered; receipts = x.receipts; rows = x.rows }
 
+-- a reply is one that its query can have
+can : (asked : Query) (end : Outcome) (answer : Reply) (text : List ℕ) → Replies asked end answer text → can_reply asked answer ≡ true
+can asked end reply.Found text h = refl
+can query.Order end reply.Short text h = absurd h
+can (query.Account id) end reply.Short text h = absurd h
+can (query.Receipt place) end reply.Short text h = absurd h
+can (query.Proof id) end reply.Short text h = absurd h
+can (query.State root) end reply.Short text h = refl
+can query.Order end reply.Wrong text h = absurd h
+can (query.Account id) end reply.Wrong text h = absurd h
+can (query.Receipt place) end reply.Wrong text h = absurd h
+can (query.Proof id) end reply.Wrong text h = absurd h
+can (query.State root) end reply.Wrong text h = refl
+can query.Order end reply.Absent text h = absurd h.0
+can (query.Account id) end reply.Absent text h = refl
+can (query.Receipt place) end reply.Absent text h = refl
+can (query.Proof id) end reply.Absent text h = refl
+can (query.State root) end reply.Absent text h = absurd h.0
+
 pub book_replies : (asked : Query) (taken : Taken) (ledger : Option LedgerValue) (opening : List Row) (l : LedgerValue) (old new : Device) (answer : Reply) → ledger ≡ Some l → WritesReply asked (outcome_of taken l) old new answer → BookReplies asked (book_with taken ledger opening) old new answer
 book_replies asked taken ledger opening l old new answer is w =
-    (λ feed good current. record { text = w.0; reply = record { end = outcome_of taken l; outcome = outcome_is feed taken ledger opening l is current; it = w.1 }; gave = w.2.1 }, w.2.0)
+    (λ feed good current. record { text = w.0; reply = record { end = outcome_of taken l; outcome = outcome_is feed taken ledger opening l is current; it = w.1 }; gave = w.2.1 }, w.2.0, can asked (outcome_of taken l) answer w.0 w.1)
 
-pub book_reply_fails : (asked : Query) (taken : Taken) (ledger : Option LedgerValue) (opening : List Row) (l : LedgerValue) (old new : Device) (f : Fault) → ledger ≡ Some l → TextFails (Shows asked (outcome_of taken l)) old new f → BookReplyFails asked (book_with taken ledger opening) old new f
+pub book_reply_fails : (asked : Query) (taken : Taken) (ledger : Option LedgerValue) (opening : List Row) (l : LedgerValue) (old new : Device) (f : Fault) → ledger ≡ Some l → TextFails (HasText asked (outcome_of taken l)) old new f → BookReplyFails asked (book_with taken ledger opening) old new f
 book_reply_fails asked taken ledger opening l old new (fault.Feed found) is h = absurd h
 book_reply_fails asked taken ledger opening l old new (fault.Collision id) is h = absurd h
 book_reply_fails asked taken ledger opening l old new (fault.Equivocation round author first second) is h = absurd h
 book_reply_fails asked taken ledger opening l old new (fault.Unfinished place) is h = absurd h
 book_reply_fails asked taken ledger opening l old new (fault.Write written) is h =
-    (λ feed good current. record { text = h.0; reply = record { end = outcome_of taken l; outcome = outcome_is feed taken ledger opening l is current; it = h.1 }; some = h.2; gave = h.3 }, h.4)
+    (λ feed good current. record { answer = h.1.0; text = h.0; reply = record { end = outcome_of taken l; outcome = outcome_is feed taken ledger opening l is current; it = h.1.1 }; some = h.2; gave = h.3 }, h.4)
 book_reply_fails asked taken ledger opening l old new fault.Memory is h = h
 
 -- ---- a Follower
@@ -75,7 +96,7 @@ reply_write_fails asked fault.Memory cut committee book b new before after is no
 pub follower_replies : (asked : Query) (cut : Cut) (committee : Option CommitteeValue) (book : Option BookValue) (b new : BookValue) (before after : Device) (answer : Reply) → book ≡ Some b → cut.kept ≡ []
     → ((feed : FeedValue) → IsGoodBook feed b → IsCurrent feed new) → BookReplies asked new before after answer → FollowerReplies asked (follower_of cut committee book None) before after answer
 follower_replies asked cut committee book b new before after answer is none current h =
-    (of_feed (follower_of cut committee book None) b (λ feed. ReplyIsOut feed asked answer before after) is none (λ feed good book_good. h.0 feed good (current feed book_good)), h.1)
+    (of_feed (follower_of cut committee book None) b (λ feed. ReplyIsOut feed asked answer before after) is none (λ feed good book_good. h.0 feed good (current feed book_good)), h.1, h.2)
 
 -- ---- a call
 
@@ -96,7 +117,7 @@ call_fails asked (fault.Write written) known now old new v works come h = (
   works,
   h.1,
   of_known_feed known v (λ feed. ReplyStops feed asked written old new) (PartOfReplyIsOut asked written old new) come h.0
-      (λ bytes feed good spelled part. (part.text, record { feed = feed; good = good; spelled = spelled; reply = part.reply }, part.some, part.gave)),
+      (λ bytes feed good spelled part. (part.answer, part.text, record { feed = feed; good = good; spelled = spelled; reply = part.reply }, part.some, part.gave)),
 )
 call_fails asked fault.Memory known now old new v works come h = (works, h)
 

@@ -1,9 +1,9 @@
 ghost use Rattle.bk_frames.specs.declared.pulling.TheConstants.{PIECE};
-ghost use Rattle.std.specs.Prelude.{◌≡◌, ◌<◌, ◌≤◌, ℕ, List, length, None, OnOk, IfOk, IfErr};
+ghost use Rattle.std.specs.Prelude.{◌≡◌, ◌<◌, ◌≤◌, ℕ, List, length, true, None, OnOk, IfOk, IfErr};
 ghost use Rattle.bk_frames.specs.Device.{CanBeUsed, Works, IfKnown};
 ghost use Rattle.bk_frames.specs.Feed.{Frame};
 ghost use Rattle.bk_replay.specs.Answers.{devices};
-ghost use Rattle.bk_replay.specs.Asking.{IsReplied, AskFailsBy};
+ghost use Rattle.bk_replay.specs.Asking.{IsReplied, AskFailsBy, can_reply};
 ghost use Rattle.bk_replay.specs.Follower.{HasCome};
 ghost use Rattle.bk_replay.specs.private.Parts.{followed};
 ghost use Rattle.bk_replay.specs.private.Replies.{FollowerReplies, FollowerReplyFails};
@@ -92,6 +92,7 @@ fn follow_and_reply<R: Threads + Wait + Sync, S: Source, K: Sink, G: Gate + Sync
     requires sink { CanBeUsed (K.state sink.old) }
     ensures reply { IfOk result (λ r. IfKnown (S.state source.old) (λ bytes.
         IsReplied query r bytes (K.state sink.old) (K.state sink.new))) }
+    ensures kind { IfOk result (λ r. can_reply query r ≡ true) }
     ensures sound { OnOk result (Works (S.state source.old) (S.state source.new)
         × Works (K.state sink.old) (K.state sink.new)) }
     ensures fault { IfErr result (λ f. AskFailsBy query f
@@ -104,8 +105,8 @@ fn follow_and_reply<R: Threads + Wait + Sync, S: Source, K: Sink, G: Gate + Sync
 }
 
 /// Reads a feed, executes the batches of its order on this many workers, 1 to 64, and writes the text of the reply to
-/// a query: the `anchor` and `cert` lines of the order; the line of an account or of a transaction; or the text of a
-/// proof.
+/// a query: the `anchor` and `cert` lines of the order; the line of an account or of a transaction; the text of a
+/// proof; or the verdict on a digest of the state, `state good`, or `state bad` and the `state` line of the right one.
 ///
 /// Where the order stops at a batch that the feed does not hold, the reply is of what comes before it. The whole feed
 /// is read before anything is written. With `Absent`, and with every fault but `Write`, nothing is written.
@@ -123,6 +124,7 @@ pub fn ask<R: Threads + Wait + Sync, S: Source, K: Sink, G: Gate + Sync>(
     requires workers { (1 ≤ workers) × (workers ≤ 64) }
     ensures reply { IfOk result (λ r. IfKnown (S.state source.old) (λ bytes.
         IsReplied query r bytes (K.state sink.old) (K.state sink.new))) }
+    ensures kind { IfOk result (λ r. can_reply query r ≡ true) }
     ensures sound { OnOk result (Works (S.state source.old) (S.state source.new)
         × Works (K.state sink.old) (K.state sink.new)) }
     ensures fault { IfErr result (λ f. AskFailsBy query f

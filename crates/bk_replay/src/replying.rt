@@ -1,13 +1,16 @@
 //! What a book replies to a query.
 
-ghost use Rattle.std.specs.Prelude.{◌≡◌, ◌^◌, ◌<◌, ◌++◌, [], length, None, OnOk, IfOk, IfErr, MatchOption, slice_get};
+ghost use Rattle.std.specs.Prelude.{◌≡◌, ◌^◌, ◌<◌, ◌++◌, ◌∷◌, [], length, None, OnOk, IfOk, IfErr, MatchOption, slice_get};
 ghost use Rattle.bk_frames.specs.Device.{CanBeUsed};
 ghost use Rattle.bk_frames.specs.Feed.{FeedValue, IsFeed};
 ghost use Rattle.bk_frames.specs.Writing.{Writes};
 ghost use Rattle.bk_rules.specs.Rows.{account_at};
-ghost use Rattle.bk_replay.specs.Asking.{Shows, ShowsAccount, ShowsReceipt, ShowsProof, order_text};
+ghost use Rattle.bk_replay.specs.Asking.{Replies, HasText, ShowsAccount, ShowsReceipt, ShowsProof, order_text};
 ghost use Rattle.bk_replay.specs.Follower.{IsCurrent};
+ghost use Rattle.bk_report.specs.Leaves.{state_of};
 ghost use Rattle.bk_report.specs.Lines.{text_of};
+ghost use Rattle.bk_report.specs.declared.line.Line.TheVariants as line;
+ghost use Rattle.bk_results.specs.declared.query.Query.TheVariants as asked;
 ghost use Rattle.bk_report.specs.Proofs.{IsAbsent};
 ghost use Rattle.bk_report.specs.RunLines.{anchor_lines, cert_lines};
 ghost use Rattle.bk_report.specs.Pages.{Written, blank};
@@ -17,10 +20,11 @@ ghost use Rattle.bk_replay.specs.private.Replies.{WritesFound, WritesReply, Book
 use crate::book::Book;
 use crate::fault::Fault;
 use bk_cert::CertRef;
+use bk_digest::{Digest32, tree_root_with};
 use bk_frames::{Sink, WriteFault, push_all};
 use bk_ledger::Ledger;
 use bk_order::Intake;
-use bk_report::{Line, Page, proof_of, push_line, put_anchors, put_certs};
+use bk_report::{Line, Page, leaves_of, proof_of, push_line, put_anchors, put_certs};
 use bk_results::{Query, Reply};
 use bk_rules::{Account, Receipt};
 use std::alloc::{AllocError, Global};
@@ -63,7 +67,7 @@ fn write_order<K: Sink>(alloc: Global, sink: &mut K, intake: &Intake) -> Result<
     Ok(())
 }
 
-// ---- an account, a receipt or a proof
+// ---- an account, a receipt, a proof or a digest
 
 // The line of the account with this id, where there is one.
 fn account_text(alloc: Global, ledger: &Ledger, id: u64) -> Result<Option<Vec<u8>>, AllocError>
@@ -120,6 +124,82 @@ fn proof_text<R: Threads + Sync>(
     Ok(Some(text))
 }
 
+// The digest of the state.
+fn state_digest<R: Threads + Sync>(
+    rt: &R,
+    alloc: Global,
+    ledger: &Ledger,
+) -> Result<Digest32, AllocError>
+    ensures { IfOk result (λ digest. digest ≡ state_of ledger.now.state.rows) }
+{
+    let rows = ledger.state().rows(alloc)?;
+    let leaves = leaves_of(alloc, &rows)?;
+    Ok(tree_root_with(rt, &leaves))
+}
+
+// The line of a digest that is right.
+fn good_text(alloc: Global) -> Result<Vec<u8>, AllocError>
+    ensures { IfOk result (λ text. text.items ≡ text_of (line.StateGood ∷ [])) }
+{
+    let mut text = Vec::new(alloc);
+    push_line(&mut text, Line::StateGood)?;
+    Ok(text)
+}
+
+// The lines of one that is wrong, where this one is right.
+fn bad_text(alloc: Global, digest: Digest32) -> Result<Vec<u8>, AllocError>
+    ensures { IfOk result (λ text. text.items
+        ≡ text_of (line.StateBad ∷ line.State digest ∷ [])) }
+{
+    let mut text = Vec::new(alloc);
+    push_line(&mut text, Line::StateBad)?;
+    push_line(&mut text, Line::State { digest })?;
+    Ok(text)
+}
+
+// The verdict on a digest of the state, and its text.
+fn verdict<R: Threads + Sync>(
+    rt: &R,
+    alloc: Global,
+    intake: &Intake,
+    ledger: &Ledger,
+    root: Digest32,
+) -> Result<(Reply, Vec<u8>), AllocError>
+    ensures { IfOk result (λ v. Replies (asked.State root) (outcome_of intake.now ledger.now)
+        v.0 v.1.items) }
+{
+    let digest = state_digest(rt, alloc, ledger)?;
+    if root != digest {
+        return Ok((Reply::Wrong, bad_text(alloc, digest)?));
+    }
+    let text = good_text(alloc)?;
+    match intake.missing() {
+        Some(_) => Ok((Reply::Short, text)),
+        None => Ok((Reply::Found, text)),
+    }
+}
+
+// Writes them.
+fn write_verdict<R: Threads + Sync, K: Sink>(
+    rt: &R,
+    alloc: Global,
+    sink: &mut K,
+    intake: &Intake,
+    ledger: &Ledger,
+    root: Digest32,
+) -> Result<Reply, Fault>
+    requires sound { CanBeUsed (K.state sink.old) }
+    ensures reply { IfOk result (WritesReply (asked.State root) (outcome_of intake.now ledger.now)
+        (K.state sink.old) (K.state sink.new)) }
+    ensures fault { IfErr result
+        (TextFails (HasText (asked.State root) (outcome_of intake.now ledger.now))
+        (K.state sink.old) (K.state sink.new)) }
+{
+    let (reply, text) = verdict(rt, alloc, intake, ledger, root)?;
+    push_all(sink, &text)?;
+    Ok(reply)
+}
+
 // Writes what was found.
 fn write_found<K: Sink>(sink: &mut K, found: Option<Vec<u8>>) -> Result<Reply, Fault>
     requires sound { CanBeUsed (K.state sink.old) }
@@ -148,7 +228,7 @@ fn write_reply<R: Threads + Sync, K: Sink>(
     requires order { length intake.now.ordered.order < 2 ^ 32 }
     ensures reply { IfOk result (WritesReply query (outcome_of intake.now ledger.now)
         (K.state sink.old) (K.state sink.new)) }
-    ensures fault { IfErr result (TextFails (Shows query (outcome_of intake.now ledger.now))
+    ensures fault { IfErr result (TextFails (HasText query (outcome_of intake.now ledger.now))
         (K.state sink.old) (K.state sink.new)) }
 {
     match query {
@@ -169,6 +249,10 @@ fn write_reply<R: Threads + Sync, K: Sink>(
         Query::Proof { id } => {
             let found = proof_text(rt, alloc, ledger, id)?;
             let reply = write_found(sink, found)?;
+            Ok(reply)
+        }
+        Query::State { root } => {
+            let reply = write_verdict(rt, alloc, sink, intake, ledger, root)?;
             Ok(reply)
         }
     }

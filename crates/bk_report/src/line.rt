@@ -72,6 +72,10 @@ pub enum Line {
     State {
         digest: Digest32,
     },
+    /// `state good`: a claimed digest is that of the state.
+    StateGood,
+    /// `state bad`: it is not.
+    StateBad,
     /// `size N`: how many accounts the tree of a proof has.
     Size {
         size: u64,
@@ -118,6 +122,8 @@ impl fmt::Display for Line {
             Line::Account { id, balance, seq } => write!(f, "account {id} {balance} {seq}"),
             Line::Money { total } => write!(f, "money {total}"),
             Line::State { digest } => write!(f, "state {digest}"),
+            Line::StateGood => write!(f, "state good"),
+            Line::StateBad => write!(f, "state bad"),
             Line::Size { size } => write!(f, "size {size}"),
             Line::Index { index } => write!(f, "index {index}"),
             Line::Path { digest } => write!(f, "path {digest}"),

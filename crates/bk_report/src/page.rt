@@ -144,6 +144,8 @@ fn put_line(page: &mut Vec<u8>, line: Line)
             put_number(page, total);
         }
         Line::State { digest } => put_digest(page, b"state", &digest),
+        Line::StateGood => put_text(page, b"state good"),
+        Line::StateBad => put_text(page, b"state bad"),
         Line::Size { size } => {
             put_text(page, b"size");
             put_number(page, size);

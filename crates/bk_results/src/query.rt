@@ -1,3 +1,5 @@
+use bk_digest::Digest32;
+
 /// What can be asked of a feed.
 #[derive(Clone, Copy, Debug, PartialEq, Eq)]
 pub enum Query {
@@ -9,13 +11,19 @@ pub enum Query {
     Receipt { place: u32 },
     /// A proof that the account of this id is in the state after the transactions of the order.
     Proof { id: u64 },
+    /// Whether this is the digest of the state after the transactions of the order.
+    State { root: Digest32 },
 }
 
 /// Whether a feed has what was asked for.
 #[derive(Clone, Copy, Debug, PartialEq, Eq)]
 pub enum Reply {
-    /// It has, and the text is written.
+    /// It has, and the text is written. The digest of a state is right, and no batch of the order is missing.
     Found,
+    /// The digest of a state is right, and the order stops at a missing batch. The text is written.
+    Short,
+    /// The digest of a state is wrong. The text is written.
+    Wrong,
     /// It has no such account or place, and nothing is written.
     Absent,
 }

@@ -1,5 +1,5 @@
 -- What a book replies to a query, and what its reply leaves.
-use Rattle.std.specs.Prelude.{◌≡◌, ℕ, ◌<◌, List, [], length, take, Option, Some, None}
+use Rattle.std.specs.Prelude.{◌≡◌, ℕ, ◌<◌, List, [], length, take, true, Option, Some, None}
 use Rattle.std.specs.Global.{Vec}
 use Rattle.bk_frames.specs.Cutting.{EndsShort}
 use Rattle.bk_frames.specs.Device.{Device, Works, Fails, Receives}
@@ -13,7 +13,7 @@ use Rattle.bk_results.specs.declared.query.Query.{Query}
 use Rattle.bk_results.specs.declared.query.Reply.{Reply}
 use Rattle.bk_results.specs.declared.query.Reply.TheVariants as reply
 use Rattle.bk_replay.specs.Answers.{IsUntouched}
-use Rattle.bk_replay.specs.Asking.{Outcome, Replies, IsReplyOf}
+use Rattle.bk_replay.specs.Asking.{Outcome, Replies, IsReplyOf, can_reply}
 use Rattle.bk_replay.specs.Finishing.{OfFeed}
 use Rattle.bk_replay.specs.Follower.{BookValue, Followed, IsCurrent}
 use Rattle.bk_replay.specs.RunReport.{IsStopIn, HasPlaceIn}
@@ -54,8 +54,9 @@ pub record ReplyIsOut (feed : FeedValue) (asked : Query) (answer : Reply) (old n
 
 -- the sink received the first bytes of it, and not all
 pub record ReplyStops (feed : FeedValue) (asked : Query) (written : ℕ) (old new : Device) : Type 0 where
+  pub answer : Reply
   pub text : List ℕ
-  pub reply : IsReplyOf feed asked reply.Found text
+  pub reply : IsReplyOf feed asked answer text
   pub some : written < length text
   pub gave : Receives old new (take written text)
 
@@ -63,6 +64,7 @@ pub record ReplyStops (feed : FeedValue) (asked : Query) (written : ℕ) (old ne
 abbrev pub BookReplies : Query → BookValue → Device → Device → Reply → Type 0
 BookReplies asked b old new answer =
     ((feed : FeedValue) → IsFeed feed → IsCurrent feed b → ReplyIsOut feed asked answer old new) × Works old new
+    × (can_reply asked answer ≡ true)
 
 -- why it was not, and how much of it is out
 abbrev pub BookReplyFails : Query → BookValue → Device → Device → Fault → Type 0
@@ -76,7 +78,8 @@ BookReplyFails asked b old new fault.Memory = IsUntouched old new
 
 -- a Follower replied at the end of its feed
 abbrev pub FollowerReplies : Query → Followed → Device → Device → Reply → Type 0
-FollowerReplies asked v old new answer = OfFeed v (λ feed. ReplyIsOut feed asked answer old new) × Works old new
+FollowerReplies asked v old new answer =
+    OfFeed v (λ feed. ReplyIsOut feed asked answer old new) × Works old new × (can_reply asked answer ≡ true)
 
 -- why it did not
 abbrev pub FollowerReplyFails : Query → Followed → Device → Device → Fault → Type 0

@@ -1,5 +1,5 @@
 -- The values of the arguments are those of the rows.
-use Rattle.std.proofs.Common.{◌∙◌, ◌^◌, ap, sym, subst, codes, Option, unwrap_or, []}
+use Rattle.std.proofs.Common.{◌∙◌, ◌^◌, ap, sym, subst, codes, Option, unwrap_or, [], refl}
 use Rattle.clap.proofs.WalkLemmas.{first_value-rows, one_text-rows}
 use Rattle.clap.specs.Words.{Text, found_of}
 use Rattle.bk_cli.specs.CommandLine.{AreNamedBy, IsNumberBy, word_of}
@@ -36,28 +36,40 @@ returns-in-Apply c =
 pub returns-in-Order : goal.returns-in-Order
 returns-in-Order c =
     let found = found_of c.args.found.now in
-    (ap word_of c.in-Order.is, sym (first_value-rows found (codes "FILE")) ∙ (sym c.get_str.ensures ∙ sym c.in_ok-file.ensures))
+    rw c.ask_one.ensures (ap word_of c.in-Order.is, refl, sym (first_value-rows found (codes "FILE")) ∙ (sym c.get_str.ensures ∙ sym c.in_ok-file.ensures))
 
 pub returns-in-Account : goal.returns-in-Account
 returns-in-Account c =
-    let found = found_of c.args.found.now in (
+    let found = found_of c.args.found.now in
+    rw c.ask_one-in-Account.ensures (
       (ap word_of c.in-Account.is, subst (λ (t : Option Text). IsNumberBy (2 ^ 64) t c.id_in.result) (one_text-rows found (codes "ID")) c.id_in.ensures),
+      refl,
       sym (first_value-rows found (codes "FILE")) ∙ (sym c.get_str.ensures ∙ sym c.in_ok-file.ensures),
     )
 
 pub returns-in-Receipt : goal.returns-in-Receipt
 returns-in-Receipt c =
-    let found = found_of c.args.found.now in (
+    let found = found_of c.args.found.now in
+    rw c.ask_one-in-Receipt.ensures (
       (ap word_of c.in-Receipt.is, subst (λ (t : Option Text). IsNumberBy (2 ^ 32) t c.place_in-place.result) (one_text-rows found (codes "PLACE")) c.place_in-place.ensures),
+      refl,
       sym (first_value-rows found (codes "FILE")) ∙ (sym c.get_str.ensures ∙ sym c.in_ok-file.ensures),
     )
 
 pub returns-in-Prove : goal.returns-in-Prove
 returns-in-Prove c =
-    let found = found_of c.args.found.now in (
+    let found = found_of c.args.found.now in
+    rw c.ask_one-in-Prove.ensures (
       (ap word_of c.in-Prove.is, subst (λ (t : Option Text). IsNumberBy (2 ^ 64) t c.id_in-in-Prove.result) (one_text-rows found (codes "ID")) c.id_in-in-Prove.ensures),
+      refl,
       sym (first_value-rows found (codes "FILE")) ∙ (sym c.get_str.ensures ∙ sym c.in_ok-file.ensures),
     )
+
+pub state_of-requires : goal.state_of-requires
+state_of-requires c = let found = found_of c.args.found.now in sym (first_value-rows found (codes "FILE")) ∙ (sym c.get_str.ensures ∙ sym c.in_ok-file.ensures)
+
+pub returns-in_ok-job-in-CheckState : goal.returns-in_ok-job-in-CheckState
+returns-in_ok-job-in-CheckState c = rw c.in-CheckState.is c.in_ok-job-in-CheckState.ensures
 
 pub returns-in_ok-job-in-Schedule : goal.returns-in_ok-job-in-Schedule
 returns-in_ok-job-in-Schedule c = rw c.in-Schedule.is c.in_ok-job-in-Schedule.ensures

@@ -1,8 +1,11 @@
 -- The command that was found is the one that the words name.
-use Rattle.std.proofs.Common.{map}
+use Rattle.std.proofs.Common.{map, inl, inr, subst, Option, Some}
+use Rattle.std.specs.Prelude.{MatchOption}
+use Rattle.std.proofs.lemmas.Result.{err_from_is_err_and}
 use Rattle.clap.specs.Words.{rows_of, found_of, subcommand_of}
-use Rattle.bk_cli.specs.CommandLine.{command_line, word_of}
-use Rattle.bk_cli.proofs.WordLemmas.{what_is_found, job_at_found, one_of_all, are_text}
+use Rattle.bk_cli.specs.CommandLine.{command_line, word_of, IsJobAt, NamesNoDigest}
+use Rattle.bk_cli.specs.declared.job.Job.{Job}
+use Rattle.bk_cli.proofs.WordLemmas.{what_is_found, job_at_found, no_digest_at, one_of_all, are_text}
 use Rattle.bk_cli.proofs.job.parse.Goals as goal
 
 pub of-requires-text-word : goal.of-requires-text-word
@@ -10,7 +13,42 @@ of-requires-text-word g c κs =
     are_text c.in-Some.name.now (one_of_all (map g.S.AsStr.text c.args.words.now) c.in-Some.name.now (rows_of (found_of c.in-Some.found.now))
     (what_is_found c.in_ok-matches.matches (map g.S.AsStr.text c.args.words.now) _ _ c.in_ok-matches.ensures.found c.in-Some.ensures.name c.in-Some.ensures.rows))
 
+pub returns-in_err-matches-clause-error : goal.returns-in_err-matches-clause-error
+returns-in_err-matches-clause-error g c =
+    let p = err_from_is_err_and c.from_residual.result c.from_residual.ensures.1 in
+    rw (p.1, p.2) (λ t. inl (c.in_err-matches.ensures.error t))
+
+pub returns-in_err-matches-clause-kinds : goal.returns-in_err-matches-clause-kinds
+returns-in_err-matches-clause-kinds g c =
+    let p = err_from_is_err_and c.from_residual.result c.from_residual.ensures.1 in
+    rw (p.1, p.2) (inl c.in_err-matches.ensures.kinds)
+
 pub returns-clause-job : goal.returns-clause-job
 returns-clause-job g c =
-    job_at_found (subcommand_of command_line (map g.S.AsStr.text c.args.words.now)) c.in-Some.name.now (word_of c.of.result) (rows_of (found_of c.in-Some.found.now)) c.in_ok-job.job
-    (what_is_found c.in_ok-matches.matches (map g.S.AsStr.text c.args.words.now) _ _ c.in_ok-matches.ensures.found c.in-Some.ensures.name c.in-Some.ensures.rows) c.of.ensures c.in_ok-job.ensures
+    let rows = rows_of (found_of c.in-Some.found.now) in
+    let it : IsJobAt (word_of c.of.result) rows c.in-Some-2.job = subst (λ (o : Option Job). MatchOption o (NamesNoDigest (Some (word_of c.of.result, rows))) (IsJobAt (word_of c.of.result) rows)) c.in-Some-2.is c.in_ok-job.ensures in
+    job_at_found (subcommand_of command_line (map g.S.AsStr.text c.args.words.now)) c.in-Some.name.now (word_of c.of.result) rows c.in-Some-2.job
+    (what_is_found c.in_ok-matches.matches (map g.S.AsStr.text c.args.words.now) _ _ c.in_ok-matches.ensures.found c.in-Some.ensures.name c.in-Some.ensures.rows) c.of.ensures it
+
+pub returns-clause-whole : goal.returns-clause-whole
+returns-clause-whole g c = c.in_ok-matches.ensures.kinds
+
+pub returns-in_default-2-clause-kinds : goal.returns-in_default-2-clause-kinds
+returns-in_default-2-clause-kinds g c =
+    let rows = rows_of (found_of c.in-Some.found.now) in
+    let none : NamesNoDigest (Some (word_of c.of.result, rows)) = subst (λ (o : Option Job). MatchOption o (NamesNoDigest (Some (word_of c.of.result, rows))) (IsJobAt (word_of c.of.result) rows)) c.in_default-2.is c.in_ok-job.ensures in
+    inr (
+      c.in_ok-no_digest.ensures,
+      no_digest_at (subcommand_of command_line (map g.S.AsStr.text c.args.words.now)) c.in-Some.name.now (word_of c.of.result) rows
+          (what_is_found c.in_ok-matches.matches (map g.S.AsStr.text c.args.words.now) _ _ c.in_ok-matches.ensures.found c.in-Some.ensures.name c.in-Some.ensures.rows) c.of.ensures none,
+    )
+
+pub returns-in_default-2-clause-error : goal.returns-in_default-2-clause-error
+returns-in_default-2-clause-error g c = λ t.
+    let rows = rows_of (found_of c.in-Some.found.now) in
+    let none : NamesNoDigest (Some (word_of c.of.result, rows)) = subst (λ (o : Option Job). MatchOption o (NamesNoDigest (Some (word_of c.of.result, rows))) (IsJobAt (word_of c.of.result) rows)) c.in_default-2.is c.in_ok-job.ensures in
+    inr (
+      c.in_ok-no_digest.ensures,
+      no_digest_at (subcommand_of command_line (map g.S.AsStr.text c.args.words.now)) c.in-Some.name.now (word_of c.of.result) rows
+          (what_is_found c.in_ok-matches.matches (map g.S.AsStr.text c.args.words.now) _ _ c.in_ok-matches.ensures.found c.in-Some.ensures.name c.in-Some.ensures.rows) c.of.ensures none,
+    )

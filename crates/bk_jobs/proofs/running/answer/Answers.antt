@@ -1,6 +1,6 @@
 -- How each job may end with an answer.
 use Rattle.std.proofs.Common.{refl, inl, inr}
-use Rattle.bk_jobs.proofs.StatusLemmas.{run_answers}
+use Rattle.bk_jobs.proofs.StatusLemmas.{run_answers, query_ends}
 use Rattle.bk_jobs.proofs.running.answer.Goals as goal
 
 pub returns-in_ok-end-in-Run-clause-answer : goal.returns-in_ok-end-in-Run-clause-answer
@@ -19,7 +19,7 @@ pub returns-in_ok-end-in-Apply-clause-answer : goal.returns-in_ok-end-in-Apply-c
 returns-in_ok-end-in-Apply-clause-answer g c = rw (c.in-Apply.is, c.in_ok-end-in-Apply.ensures.answer) (refl, refl)
 
 pub returns-in_ok-end-in-Ask-clause-answer : goal.returns-in_ok-end-in-Ask-clause-answer
-returns-in_ok-end-in-Ask-clause-answer g c = rw (c.in-Ask.is, c.in_ok-end-in-Ask.ensures.answer) (refl, refl)
+returns-in_ok-end-in-Ask-clause-answer g c = rw c.in-Ask.is (query_ends c.in-Ask.workers c.in-Ask.asked c.in-Ask.file _ c.in_ok-end-in-Ask.ensures.answer)
 
 pub returns-in_ok-end-in-Schedule-clause-answer : goal.returns-in_ok-end-in-Schedule-clause-answer
 returns-in_ok-end-in-Schedule-clause-answer g c = rw (c.in-Schedule.is, c.in_ok-end-in-Schedule.ensures.answer) (refl, refl)
