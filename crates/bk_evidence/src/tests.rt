@@ -168,21 +168,23 @@ fn expect_twins(rt: &impl Abort, held: &Held, round: u32, author: u8, first: u8,
     assert!(rt; held.collision() == None);
 }
 
-// Expects what the slow bodies say of these offers, in one table or in two.
-fn expect_slow(
-    rt: &impl Abort,
-    held: &Held,
-    even: &Held,
-    odd: &Held,
-    all: &[Plain],
-) -> Result<(), AllocError> {
-    let evidence = slow_evidence(all);
-    let collision = slow_collision(all);
-    assert!(rt; held.evidence() == evidence);
-    assert!(rt; held.collision() == collision);
-    let together = even.evidence_with(odd)?;
+// What was offered, in one table and in turn in two.
+#[derive(Drop)]
+struct Tables {
+    all: Vec<Plain>,
+    held: Held,
+    even: Held,
+    odd: Held,
+}
+
+// Expects what the slow bodies say of these offers.
+fn expect_slow(rt: &impl Abort, tables: &Tables) -> Result<(), AllocError> {
+    let evidence = slow_evidence(&tables.all);
+    let collision = slow_collision(&tables.all);
+    assert!(rt; tables.held.evidence() == evidence && tables.held.collision() == collision);
+    let together = tables.even.evidence_with(&tables.odd)?;
     assert!(rt; together == evidence);
-    let collides = odd.collision_with(even)?;
+    let collides = tables.odd.collision_with(&tables.even)?;
     assert!(rt; collides == collision);
     Ok(())
 }
@@ -244,20 +246,35 @@ fn batches_by_digest(rt: HostRuntime) -> Result<(), Fail> {
     Ok(())
 }
 
-// Offers twelve certificates, each to one table and in turn to two, as the slow bodies say.
+// Offers a certificate to the one table, and to one of the two, as the slow bodies say.
+fn offer_next(
+    rt: &impl Abort,
+    alloc: Global,
+    tables: &mut Tables,
+    parts: Plain,
+) -> Result<(), AllocError> {
+    let expected = slow_offer(&tables.all, parts);
+    assert!(rt; put(rt, alloc, &mut tables.held, parts)? == expected);
+    let part = if tables.all.len() % 2 == 0 {
+        &mut tables.even
+    } else {
+        &mut tables.odd
+    };
+    put(rt, alloc, part, parts)?;
+    tables.all.push(parts)?;
+    expect_slow(rt, tables)
+}
+
+// Offers twelve certificates.
 fn offer_twelve(rt: &impl Abort, alloc: Global, seed: &mut u32) -> Result<(), AllocError> {
-    let mut all = Vec::new(alloc);
-    let mut held = Held::new(alloc);
-    let mut even = Held::new(alloc);
-    let mut odd = Held::new(alloc);
-    for step in 0..12u32 {
-        let parts = next(seed);
-        let expected = slow_offer(&all, parts);
-        assert!(rt; put(rt, alloc, &mut held, parts)? == expected);
-        all.push(parts)?;
-        let part = if step % 2 == 0 { &mut even } else { &mut odd };
-        put(rt, alloc, part, parts)?;
-        expect_slow(rt, &held, &even, &odd, &all)?;
+    let mut tables = Tables {
+        all: Vec::new(alloc),
+        held: Held::new(alloc),
+        even: Held::new(alloc),
+        odd: Held::new(alloc),
+    };
+    for _ in 0..12u32 {
+        offer_next(rt, alloc, &mut tables, next(seed))?;
     }
     Ok(())
 }
