@@ -4,6 +4,7 @@ pub mod Fold
 pub mod Laws
 pub mod Numbers
 pub mod Ledger
+pub mod Part
 pub mod View
 pub mod Storing
 pub mod private

@@ -1,6 +1,7 @@
 //! The laws of the rule and of the fold, as functions that do nothing: their clauses are the laws.
 
 ghost use Rattle.bk_rules.specs.Laws.{KeepsTotal, KeepsLedger, KeepsIds, SeesDeclaredAlone, ChangesWritableAlone, IsRuleOfRows, FoldKeepsTotal, FoldKeepsLedger, FoldKeepsIds, RoomIsKept, RoomIsLeft, SeqsStayBelow, BalancesStayBelow, StateAppends, ReceiptsAppend, OneReceiptEach, ReceiptOfPlace, RowsOfPlace, RowsAreKnown};
+ghost use Rattle.bk_rules.specs.Part.{PartGivesReceipts, PartGivesState};
 ghost use Rattle.bk_rules.specs.Storing.{EffectIsOutcome};
 
 /// A transaction makes and loses no money, whatever becomes of it, and neither do many.
@@ -63,4 +64,11 @@ pub fn fold_by_place()
     ensures count { OneReceiptEach }
     ensures receipt { ReceiptOfPlace }
     ensures rows { RowsOfPlace }
+{}
+
+/// Transactions give on a part that holds their accounts what they give on the whole: the same receipts, and, once the
+/// part is put back, the same rows.
+pub fn part_is_enough()
+    ensures receipts { PartGivesReceipts }
+    ensures state { PartGivesState }
 {}

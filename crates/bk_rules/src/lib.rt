@@ -17,7 +17,7 @@ pub use account::{Account, account_leaf};
 pub use ids::Ids;
 pub use laws::{
     effect_is_outcome, fold_appends, fold_by_place, fold_keeps_ledger, ledger_is_kept,
-    room_is_left, rows_are_known, rule_is_local, rule_of_rows, total_is_kept,
+    part_is_enough, room_is_left, rows_are_known, rule_is_local, rule_of_rows, total_is_kept,
 };
 pub use local::Local;
 pub use receipt::{Receipt, Status};
