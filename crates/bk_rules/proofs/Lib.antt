@@ -4,6 +4,7 @@ pub mod Kept
 pub mod Locality
 pub mod Parts
 pub mod Places
+pub mod Putting
 pub mod Room
 pub mod RowLemmas
 pub mod Settling

@@ -152,10 +152,10 @@ wide_has slots fresh all sorted wide i b is moved kept grown =
 -- ---- the rows stay
 
 -- an id has an index exactly where it has a slot
-inside_if : (ids : List ℕ) (id : ℕ) → has_slot ids id ≡ true → index_or_len ids id < length ids
+pub inside_if : (ids : List ℕ) (id : ℕ) → has_slot ids id ≡ true → index_or_len ids id < length ids
 inside_if ids id has = let inside : ltb (index_or_len ids id) (length ids) ≡ true = found_by_len (λ (i : ℕ). eqb i id) ids ∙ has in grind (arith, nat_tests)
 
-outside_if : (ids : List ℕ) (id : ℕ) → has_slot ids id ≡ false → length ids ≤ index_or_len ids id
+pub outside_if : (ids : List ℕ) (id : ℕ) → has_slot ids id ≡ false → length ids ≤ index_or_len ids id
 outside_if ids id has = let outside : ltb (index_or_len ids id) (length ids) ≡ false = found_by_len (λ (i : ℕ). eqb i id) ids ∙ has in grind (arith, nat_tests)
 
 module _ (ids wide : List ℕ) (numbers : List Account) (are : AreSlots Two ids numbers) (up : Rises wide) (more : (i : ℕ) → has_slot ids i ≡ true → has_slot wide i ≡ true) where

@@ -67,6 +67,16 @@ impl Hints {
         Ok(hints)
     }
 
+    // No hints: each look-up searches the ids.
+    pub(crate) fn none(alloc: Global) -> Hints {
+        Hints {
+            slots: Vec::new(alloc),
+            shift: 0,
+            mask: u32::MAX,
+            key: 0,
+        }
+    }
+
     // The key with which ids are mixed, or 0.
     pub(crate) fn key(&self) -> u64 {
         self.key
@@ -152,14 +162,6 @@ impl Hints {
     fn at(&self, slot: usize) -> u32 {
         match self.slots.get(slot) {
             Some(held) => *held,
-            None => EMPTY,
-        }
-    }
-
-    // A likely index of an id, where all slots are looked at that may have it.
-    pub(crate) fn search(&self, ids: &[u64], id: u64) -> u32 {
-        match self.guess(ids, id) {
-            Some(index) => u32::try_from(index).unwrap_or(EMPTY),
             None => EMPTY,
         }
     }

@@ -68,6 +68,16 @@ impl Ids {
         Ok(Ids { table })
     }
 
+    // These ids, and no hints of them.
+    pub(crate) fn without_hints(alloc: Global, ids: Vec<u64>) -> Result<Ids, AllocError>
+        requires { IsTrue (is_ascending ids.items) }
+        ensures { IfOk result (λ i. i ≡ ids.items) }
+    {
+        let hints = Hints::none(alloc);
+        let table = Arc::new(alloc, Table { ids, hints })?;
+        Ok(Ids { table })
+    }
+
     /// The same ids, shared.
     pub fn share(&self) -> Result<Ids, AllocError>
         ensures { IfOk result (λ i. i ≡ self.now) }
@@ -141,12 +151,13 @@ impl Ids {
         Ok(())
     }
 
-    // Looks further for the ids that are not where their slots say, from a likely index on.
+    // Searches for the ids that are not where their slots say, from a likely index on. An id that is not there gets a
+    // number that is no index.
     fn mend(&self, near: &mut [u32], from: usize, declared: &[u64]) {
-        let Table { ids, hints } = &*self.table;
+        let ids = self.as_slice();
         for (index, id) in near.iter_mut().skip(from).zip(declared) {
             if ids.get(*index as usize) != Some(id) {
-                *index = hints.search(ids, *id);
+                *index = u32::try_from(self.index_or_len(*id)).unwrap_or(u32::MAX);
             }
         }
     }

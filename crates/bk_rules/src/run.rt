@@ -67,7 +67,7 @@ fn sum_of_seqs(numbers: &[Account], near: &[u32]) -> u32 {
 }
 
 // The likely indexes from one on.
-fn near_from(near: &[u32], at: usize) -> &[u32] {
+pub(crate) fn near_from(near: &[u32], at: usize) -> &[u32] {
     match near.get(at..) {
         Some(rest) => rest,
         None => near,
@@ -75,7 +75,7 @@ fn near_from(near: &[u32], at: usize) -> &[u32] {
 }
 
 // How many accounts it declares.
-fn count_of(tx: Option<&Tx>) -> usize {
+pub(crate) fn count_of(tx: Option<&Tx>) -> usize {
     match tx {
         Some(tx) => tx.declared().len(),
         None => 0,

@@ -8,6 +8,7 @@ ghost use Rattle.bk_rules.specs.Rows.{IsLedger, account_at, outcome_of};
 ghost use Rattle.bk_rules.specs.Fold.{HasRoom};
 ghost use Rattle.bk_rules.specs.View.{nth, nth_id};
 ghost use Rattle.bk_rules.specs.Ledger.{ledger_of, after_of, has_slot, is_covered, are_covered, IsPrepared, numbers_of, shown_by, row_before, rows_shown, in_pairs, slot_numbers};
+ghost use Rattle.bk_rules.specs.Part.{HaveSlots};
 ghost use Rattle.bk_rules.specs.private.Slots.{index_or_len, shown_at, ArePlaces, AreApart, StoredBelow, numbers_in, tidied};
 
 use crate::account::Account;
@@ -24,9 +25,9 @@ use std::marker::Model;
 /// The accounts of a ledger at one moment. Contracts see them as a `Ledger`: version, ids that have a slot, and rows.
 #[derive(Debug, Drop)]
 pub struct State {
-    version: Version,
-    ids: Ids,
-    numbers: Vec<Account>,
+    pub(crate) version: Version,
+    pub(crate) ids: Ids,
+    pub(crate) numbers: Vec<Account>,
 }
 
 impl Model for State {
@@ -63,6 +64,7 @@ impl State {
         ensures ledger { IsLedger self.now.rows }
         ensures shown { rows_shown self.now.version self.now.slots (slot_numbers self.now)
             ≡ self.now.rows }
+        ensures have_slots { HaveSlots self.now.slots self.now.rows }
     {
         let _ = &self.numbers;
         self.version
@@ -347,7 +349,7 @@ fn places_near(ids: &Ids, declared: &Declarations, near: &[u32]) -> [usize; 8]
 }
 
 // The likely index of a declared account, or a number that is none.
-fn likely_at(near: &[u32], k: usize) -> usize {
+pub(crate) fn likely_at(near: &[u32], k: usize) -> usize {
     match near.get(k) {
         Some(index) => *index as usize,
         None => usize::MAX,
@@ -387,7 +389,7 @@ fn store(numbers: &mut [Account], declared: &Declarations, places: &[usize; 8], 
 }
 
 // Puts numbers at an index, if it is one.
-fn put(numbers: &mut [Account], index: usize, account: Account)
+pub(crate) fn put(numbers: &mut [Account], index: usize, account: Account)
     ensures { numbers.new ≡ slice_set numbers.old index account }
 {
     if index < numbers.len() {

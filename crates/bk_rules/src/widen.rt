@@ -74,7 +74,7 @@ pub(crate) fn wider(ids: &Ids, more: Vec<u64>) -> Result<Vec<u64>, AllocError>
 }
 
 // The numbers at an index, or those of an absent account.
-fn numbers_at(numbers: &[Account], index: usize) -> Account
+pub(crate) fn numbers_at(numbers: &[Account], index: usize) -> Account
     ensures { result ≡ numbers_or_absent numbers.now index }
 {
     if index < numbers.len() {

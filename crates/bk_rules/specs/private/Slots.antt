@@ -67,3 +67,10 @@ numbers_or_absent numbers k = slice_index_or numbers k (numbers_of None)
 -- there is a slot of the id, or it is among these
 abbrev pub is_grown : List ℕ → List ℕ → ℕ → Bool
 is_grown slots fresh id = has_slot slots id || has_slot fresh id
+
+-- the numbers after the first n of these were put at the indexes of a list
+pub record PutBelow (list : List ℕ) (part old new : List Account) (n : ℕ) : Type 0 where
+  pub same : length new ≡ length old
+  pub written : (j : ℕ) → j < n → slice_get new (slice_index list j) ≡ slice_get part j
+  pub kept : (k : ℕ) → ((j : ℕ) → j < n → slice_index list j ≢ k) → slice_get new k ≡ slice_get old k
+  pub each : (k : ℕ) (a : Account) → slice_get new k ≡ Some a → (slice_get old k ≡ Some a) ⊎ ((j : ℕ) × (slice_get part j ≡ Some a))

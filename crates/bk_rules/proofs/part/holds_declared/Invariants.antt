@@ -1,0 +1,8 @@
+use Rattle.std.proofs.Common.{◌≡◌, true, take}
+use Rattle.std.specs.List.{list_all}
+use Rattle.bk_tx.specs.declared.declared.Declared.{Declared}
+use Rattle.bk_rules.specs.Part.{is_held_id}
+use Rattle.bk_rules.proofs.part.holds_declared.Given as goal
+
+abbrev pub invariant-loop-k : goal.invariant-loop-k
+invariant-loop-k l = list_all (λ (d : Declared). is_held_id l.version l.slots l.ids d.id) (take l.k l.declared) ≡ true
