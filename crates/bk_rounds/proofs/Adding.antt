@@ -190,6 +190,7 @@ pub record IsAdmitting (n m : Names) (out : List ℕ) (top top' : ℕ) : Type 0 
   pub highest : (i : ℕ) → Contains out i → round_of m.slots.items i ≤ top'
   pub more : top ≤ top'
   pub least : (b : ℕ) → top ≤ b → ((i : ℕ) → Contains out i → round_of m.slots.items i ≤ b) → top' ≤ b
+  pub reached : (top' ≡ top) ⊎ ((i : ℕ) × Contains out i × (round_of m.slots.items i ≡ top'))
 
 -- an admitted number has a round
 marked_round : (z : Sizes) (n : Names) → IsTable z n.slots.items n.marks.items n.pending.items → (i : ℕ) → is_marked n.marks.items i ≡ true → 0 < round_of n.slots.items i
@@ -265,6 +266,12 @@ whole_added z held n m c k slot placed placed' top top' out w h it new free up t
       let (d, at, s) = tied.cert i (marked_round z m t i ((a.out_is i).0 o).0) in
       let l = (good d (held_at (held ++ c ∷ []) (cert_of m.slots.items i) d at)).to_last in
       omega (arith, l, s.round));
+  reached = λ some. ⊎_elim
+      (λ e.
+      let (i, was, is) = w.reached (subst (λ (r : ℕ). 0 < r) e some) in
+      (i, a.stay i was, round_other held n m c k slot h i (not_k i was) ∙ (is ∙ sym e)))
+      (λ (i, o, is). (i, ((a.out_is i).0 o).0, is))
+      a.reached;
 }
   where
     good : AreFit z (held ++ c ∷ [])
@@ -356,8 +363,9 @@ pub admitting_from : (n m : Names) (out out' : List ℕ) (top top' : ℕ) (marks
     → ((i : ℕ) → (Contains out' i → ⊥) → set_of sets' i ≡ set_of sets i)
     → ((i : ℕ) → Contains out' i → round_of slots' i ≤ top') → top ≤ top'
     → ((b : ℕ) → top ≤ b → ((i : ℕ) → Contains out' i → round_of slots' i ≤ b) → top' ≤ b)
+    → (top' ≡ top) ⊎ ((i : ℕ) × Contains out' i × (round_of slots' i ≡ top'))
     → IsAdmitting n m out top top'
-admitting_from n m out out' top top' marks marks' slots' sets sets' e_m e_m' e_s e_t e_t' e_o len waiting stay out_is here other highest more least = record {
+admitting_from n m out out' top top' marks marks' slots' sets sets' e_m e_m' e_s e_t e_t' e_o len waiting stay out_is here other highest more least reached = record {
   stay = λ i t. ap (λ ms. is_marked ms i) e_m' ∙ stay i (ap (λ ms. is_marked ms i) e_m ∙ t);
   out_is = λ i. (
     (λ o. let h = (out_is i).0 o in (ap (λ ms. is_marked ms i) e_m' ∙ h.0, sym (ap (λ ms. is_marked ms i) e_m) ∙ h.1)),
@@ -371,6 +379,9 @@ admitting_from n m out out' top top' marks marks' slots' sets sets' e_m e_m' e_s
   highest = λ i o. subst (λ (ss : List Slot). round_of ss i ≤ top') (sym e_s) (highest i (into i o));
   more = more;
   least = λ b low each. least b low (λ i o. subst (λ (ss : List Slot). round_of ss i ≤ b) e_s (each i (subst (λ (xs : List ℕ). Contains xs i) e_o o)));
+  reached = ⊎_elim (λ e. inl e)
+      (λ (i, o, is). inr (i, subst (λ (xs : List ℕ). Contains xs i) e_o o, ap (λ ss. round_of ss i) e_s ∙ is))
+      reached;
 }
   where
     into : (i : ℕ) → Contains out i → Contains out' i

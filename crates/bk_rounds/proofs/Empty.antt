@@ -49,6 +49,7 @@ whole_empty z n placed none names free few = record {
   sets = λ i m. absurd (unmarked i m);
   highest = λ i m. absurd (unmarked i m);
   to_last = omega arith;
+  reached = λ some. absurd (omega (arith, some));
 }
   where
     marks_none : n.marks.items ≡ []

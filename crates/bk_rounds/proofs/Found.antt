@@ -212,6 +212,12 @@ top_highest z held n placed top w a here =
     let e : round_of n.slots.items k ≡ a.round = ap (λ (q : CertRef). q.round) at.place_is in
     omega (arith, w.highest k at.marked, e)
 
+pub top_reached : (z : Sizes) (held : List Node) (n : Names) (placed : CertRef → Option ℕ) (top : ℕ) → IsWhole z held n placed top → 0 < top → (a : CertRef) × IsPresent z held a × (a.round ≡ top)
+top_reached z held n placed top w some =
+    let (k, marked, is) = w.reached some in
+    let v = stands_here z held n placed top w k marked in
+    (place_at n.slots.items k, (v.cert, v.stands), is)
+
 pub cert_read : (slots : List Slot) (k : ℕ) (s : Slot) → k < length slots → s ≡ get_or slots k s → s.cert ≡ cert_of slots k
 cert_read slots k s low e = ap (λ (x : Slot). x.cert) e ∙ sym (get_or-map (λ (x : Slot). x.cert) slots k s 0 low)
 

@@ -1,7 +1,7 @@
 -- What is kept of those that became admitted.
-use Rattle.std.proofs.Common.{◌≡◌, ◌≢◌, ℕ, zero, suc, ◌+◌, ◌<◌, ◌≤◌, ◌↔◌, ◌⊎◌, inl, inr, List, [], ◌∷◌, ◌++◌, length, map, take, refl, sym, ap, ◌∙◌, subst, ⊎_elim, arith, get_or, set}
+use Rattle.std.proofs.Common.{◌≡◌, ◌≢◌, ℕ, zero, suc, ◌+◌, ◌-◌, ◌<◌, ◌≤◌, ◌↔◌, ◌⊎◌, inl, inr, List, [], ◌∷◌, ◌++◌, length, map, take, refl, sym, ap, ◌∙◌, subst, ⊎_elim, arith, get_or, set}
 use Rattle.std.specs.List.{Contains}
-use Rattle.std.proofs.lemmas.Bool.{cases_eq}
+use Rattle.std.proofs.lemmas.Bool.{cases_eq, cases_lt}
 use Rattle.std.proofs.lemmas.List.{get_or-set_same, get_or-set_other}
 use Rattle.std.proofs.lemmas.List.Elements.{Contains-push, Contains-push_cases, Contains-append_left}
 use Rattle.bk_rounds.specs.declared.slots.Slot.{Slot}
@@ -18,6 +18,7 @@ pub record IsTold (slots : List Slot) (old new : List ℕ) (done : List ℕ) (to
   pub highest_of : (k : ℕ) → Contains done k → round_of slots k ≤ highest
   pub more : top ≤ highest
   pub least : (m : ℕ) → top ≤ m → ((k : ℕ) → Contains done k → round_of slots k ≤ m) → highest ≤ m
+  pub reached : (highest ≡ top) ⊎ ((k : ℕ) × Contains done k × (round_of slots k ≡ highest))
 
 pub told_none : (slots : List Slot) (sets : List ℕ) (top : ℕ) → IsTold slots sets sets [] top top
 told_none slots sets top = record {
@@ -26,6 +27,7 @@ told_none slots sets top = record {
   highest_of = λ k t. absurd (none_in_nil k t);
   more = omega arith;
   least = λ m low each. low;
+  reached = inl refl;
 }
 
 pub told_more : (slots : List Slot) (old new done : List ℕ) (top highest k s high : ℕ) → IsTold slots old new done top highest → k < length new
@@ -46,8 +48,20 @@ told_more slots old new done top highest k s high h low is up up' least = record
       (Contains-push_cases done k j t);
   more = let a = h.more in omega (arith, a, up);
   least = λ m lo each. least m (h.least m lo (λ j t. each j (Contains-append_left done (k ∷ []) j t))) (each k (Contains-push done k));
+  reached = ⊎_elim
+      (λ lt. inr (k, Contains-push done k, is_high lt))
+      (λ ge.
+      let e : high ≡ highest = omega (arith, ge, up) in
+      ⊎_elim (λ t. inl (e ∙ t)) (λ (j, there, r). inr (j, Contains-append_left done (k ∷ []) j there, r ∙ sym e)) h.reached)
+      (cases_lt highest high);
 }
   where
+    is_high : highest < high → round_of slots k ≡ high
+    is_high lt = ⊎_elim
+        (λ below. absurd (let a = least (high - 1) (omega (arith, lt)) (omega (arith, below)) in omega (arith, a, lt)))
+        (λ above. omega (arith, above, up'))
+        (cases_lt (round_of slots k) high)
+
     same : (x : ℕ) → Has (set_of (set new k s) k) x ↔ IsAuthorIn slots (parents_of slots k) x
     same x = subst (λ (v : ℕ). Has v x ↔ IsAuthorIn slots (parents_of slots k) x) (sym (get_or-set_same new k s 0 low)) (is x)
 

@@ -100,6 +100,7 @@ whole_grown z held a b placed placed' top w g n same = record {
       );
   highest = λ i m. subst (λ (r : ℕ). r ≤ top) (sym (g.round i)) (w.highest i (sym (g.marked i) ∙ m));
   to_last = w.to_last;
+  reached = λ some. let (i, m, e) = w.reached some in (i, g.marked i ∙ m, g.round i ∙ e);
 }
   where
     place : (k : ℕ) → place_at b.slots.items k ≡ place_at a.slots.items k

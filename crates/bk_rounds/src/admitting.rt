@@ -1,6 +1,6 @@
 //! A further certificate, and all that it makes admitted.
 
-ghost use Rattle.std.specs.Prelude.{◌≡◌, ℕ, ◌+◌, ◌<◌, ◌≤◌, ◌↔◌, ◌++◌, [], true, false, length, map, All, Contains, slice_set, vec_len, vec_capacity};
+ghost use Rattle.std.specs.Prelude.{◌≡◌, ℕ, ◌+◌, ◌<◌, ◌≤◌, ◌↔◌, ◌⊎◌, ◌++◌, [], true, false, length, map, All, Contains, slice_set, vec_len, vec_capacity};
 ghost use Rattle.bk_cert.specs.Place.{IsListed};
 ghost use Rattle.bk_cert.specs.declared.place.CertRef.{CertRef};
 ghost use Rattle.bk_rounds.specs.Members.{Has};
@@ -72,6 +72,8 @@ pub(crate) fn tell(
     ensures more { top ≤ result }
     ensures least { (m : ℕ) → top ≤ m → ((k : ℕ) → Contains out.now k → round_of slots.now k ≤ m)
         → result ≤ m }
+    ensures reached { (result ≡ top) ⊎ ((k : ℕ) × Contains out.now k
+        × (round_of slots.now k ≡ result)) }
 {
     let mut highest = top;
     for k in out {

@@ -89,20 +89,27 @@ impl Rounds {
         })
     }
 
-    /// Whether a certificate may be added: it is good, and neither its id nor its place is held. A
-    /// certificate that breaks no local rule is good.
+    /// Whether a certificate may be added: it is fit, and neither its id nor its place is held. A
+    /// certificate that breaks no local rule is fit.
     pub fn can_add(&self, cert: &SharedCert) -> bool
         ensures good { IsTrue result → IsFit self.now.sizes cert.now }
         ensures new { IsTrue result → (c : Node) → Contains self.now.held c → c.id ≢ cert.now.id }
         ensures free { IsTrue result → (c : Node) → Contains self.now.held c
             → place_of c ≢ place_of cert.now }
+        ensures can { IsFit self.now.sizes cert.now
+            → ((c : Node) → Contains self.now.held c → c.id ≢ cert.now.id)
+            → ((c : Node) → Contains self.now.held c → place_of c ≢ place_of cert.now)
+            → IsTrue result }
     {
         let header = cert.header();
         let place = CertRef {
             round: header.round(),
             author: header.author(),
         };
-        if self.has(place) || self.has_id(cert.id()) {
+        if self.has(place) {
+            return false;
+        }
+        if self.has_id(cert.id()) {
             return false;
         }
         is_fit(self.members(), header)
@@ -222,11 +229,13 @@ impl Rounds {
         let _open = self.top;
     }
 
-    /// No admitted certificate is of a later round than this.
+    /// The greatest round of an admitted certificate; 0 where none is admitted.
     pub fn top(&self) -> u32
         ensures highest { (a : CertRef) → IsPresent self.now.sizes self.now.held a
             → a.round ≤ result }
         ensures to_last { result ≤ last_round }
+        ensures reached { 0 < result → (a : CertRef) × IsPresent self.now.sizes self.now.held a
+            × (a.round ≡ result) }
     {
         self.top
     }
@@ -294,6 +303,10 @@ fn is_fit(members: u8, header: &Header) -> bool
     ensures round { IsTrue result → (1 ≤ header.now.round) × (header.now.round ≤ last_round) }
     ensures ascending { IsTrue result → IsStrictlySortedBy (slice_cmp nat_cmp) header.now.parents }
     ensures first { IsTrue result → header.now.round ≡ 1 → header.now.parents ≡ [] }
+    ensures fit { header.now.author < members → 1 ≤ header.now.round
+        → header.now.round ≤ last_round
+        → IsStrictlySortedBy (slice_cmp nat_cmp) header.now.parents
+        → (header.now.round ≡ 1 → header.now.parents ≡ []) → IsTrue result }
 {
     let round = header.round();
     if header.author() >= members || round == 0 || round > MOST_ROUND {

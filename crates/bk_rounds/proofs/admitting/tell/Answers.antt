@@ -1,4 +1,4 @@
-use Rattle.std.proofs.Common.{◌≡◌, ◌+◌, ◌<◌, ◌≤◌, ◌++◌, ◌∷◌, [], ◌∙◌, ◌↔◌, ℕ, List, sym, ap, subst, arith, length, map, get_or, take}
+use Rattle.std.proofs.Common.{◌≡◌, ◌+◌, ◌<◌, ◌≤◌, ◌++◌, ◌∷◌, [], ◌∙◌, ◌↔◌, ℕ, inl, inr, ⊎_elim, List, sym, ap, subst, arith, length, map, get_or, take}
 use Rattle.std.specs.List.{Contains}
 use Rattle.std.proofs.lemmas.List.{take_more, take_all, get_or-map, length-set}
 use Rattle.std.proofs.lemmas.List.Elements.{Contains-get_or}
@@ -75,3 +75,8 @@ returns-clause-highest c = λ k t. c.loop-k.invariant.told.highest_of k (subst (
 pub returns-clause-least : goal.returns-clause-least
 returns-clause-least c = λ m low each. c.loop-k.invariant.told.least m low
     (λ k t. each k (subst (λ (xs : List ℕ). Contains xs k) (take_all c.loop-k.k-index c.args.out.now (omega arith)) t))
+
+pub returns-clause-reached : goal.returns-clause-reached
+returns-clause-reached c = ⊎_elim (λ e. inl e)
+    (λ (k, there, is). inr (k, subst (λ (xs : List ℕ). Contains xs k) (take_all c.loop-k.k-index c.args.out.now (omega arith)) there, is))
+    c.loop-k.invariant.told.reached

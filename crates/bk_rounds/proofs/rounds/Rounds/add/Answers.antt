@@ -181,7 +181,8 @@ invariant_of-self-2 c =
     let admitted : IsAdmitting n m out c.self.inside.top c.tell-self-inside.result =
     admitting_from n m out c.deref-2.result.now c.self.inside.top c.tell-self-inside.result c.deref_mut-2.result.now c.admit.new.marks c.deref.result.now c.deref_mut-4.result.now c.tell-self-inside.new.sets
     c.deref_mut-2.ensures.value e_m (sym c.deref.ensures.value) c.deref_mut-4.ensures.value e_t c.deref-2.ensures.value c.tell-self-inside.auto.sets
-    waits c.admit.ensures.stay c.admit.ensures.out c.tell-self-inside.ensures.here c.tell-self-inside.ensures.other c.tell-self-inside.ensures.highest c.tell-self-inside.ensures.more c.tell-self-inside.ensures.least in
+    waits c.admit.ensures.stay c.admit.ensures.out c.tell-self-inside.ensures.here c.tell-self-inside.ensures.other c.tell-self-inside.ensures.highest c.tell-self-inside.ensures.more c.tell-self-inside.ensures.least
+    c.tell-self-inside.ensures.reached in
     let free : (d : Node) → Contains held d → place_of d ≢ place_of cert = λ d t. c.requires.free d (subst (λ (v : RoundsValue). Contains v.held d) c.self.view_is t) in
     let here : CertRef = record { round = c.round.result; author = c.author.result } in
     let place : here ≡ place_of cert = same_place here (place_of cert) (c.round.ensures ∙ ap (λ (h : HeaderValue). h.round) c.header.ensures) (c.author.ensures ∙ ap (λ (h : HeaderValue). h.author) c.header-2.ensures) in
@@ -233,7 +234,8 @@ returns-clause-answer c =
     let admitted : IsAdmitting n m out c.self.inside.top c.tell-self-inside.result =
     admitting_from n m out c.deref-2.result.now c.self.inside.top c.tell-self-inside.result c.deref_mut-2.result.now c.admit.new.marks c.deref.result.now c.deref_mut-4.result.now c.tell-self-inside.new.sets
     c.deref_mut-2.ensures.value e_m (sym c.deref.ensures.value) c.deref_mut-4.ensures.value e_t c.deref-2.ensures.value c.tell-self-inside.auto.sets
-    waits c.admit.ensures.stay c.admit.ensures.out c.tell-self-inside.ensures.here c.tell-self-inside.ensures.other c.tell-self-inside.ensures.highest c.tell-self-inside.ensures.more c.tell-self-inside.ensures.least in
+    waits c.admit.ensures.stay c.admit.ensures.out c.tell-self-inside.ensures.here c.tell-self-inside.ensures.other c.tell-self-inside.ensures.highest c.tell-self-inside.ensures.more c.tell-self-inside.ensures.least
+    c.tell-self-inside.ensures.reached in
     let free : (d : Node) → Contains held d → place_of d ≢ place_of cert = λ d t. c.requires.free d (subst (λ (v : RoundsValue). Contains v.held d) c.self.view_is t) in
     let here : CertRef = record { round = c.round.result; author = c.author.result } in
     let place : here ≡ place_of cert = same_place here (place_of cert) (c.round.ensures ∙ ap (λ (h : HeaderValue). h.round) c.header.ensures) (c.author.ensures ∙ ap (λ (h : HeaderValue). h.author) c.header-2.ensures) in
