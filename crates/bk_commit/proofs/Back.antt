@@ -10,7 +10,8 @@ use Rattle.bk_cert.proofs.Refs.{same_place}
 use Rattle.bk_commit.specs.Ordering.{Walk, InHistory, IsEarlier, IsPrior, IsWayBack}
 use Rattle.bk_commit.specs.Level.{IsLevel, IsNextLevel}
 use Rattle.bk_commit.specs.private.Way.{IsPath, IsOnTheWay}
-use Rattle.bk_commit.proofs.Grown.{walk_present, admitted_low}
+use Rattle.bk_rounds.proofs.Grown.{admitted_low}
+use Rattle.bk_commit.proofs.Grown.{walk_present}
 use Rattle.bk_commit.proofs.Levels.{walk_round, level_next}
 
 -- what is present is of round 1 or later

@@ -9,7 +9,8 @@ use Rattle.bk_rounds.specs.Admission.{IsPresent, AreFit, last_round}
 use Rattle.bk_cert.proofs.Refs.{same_place}
 use Rattle.bk_rounds.proofs.Admitted.{admitted_held}
 use Rattle.bk_commit.proofs.Grown.{walk_present}
-use Rattle.bk_commit.specs.Ordering.{IsAnchor, InHistory, IsVoted, IsLast, IsWayBack, IsCommitted, IsCommittedBack, VotesFor}
+use Rattle.bk_rounds.specs.Votes.{IsAnchor, IsVoted, IsLast, VotesFor}
+use Rattle.bk_commit.specs.Ordering.{InHistory, IsWayBack, IsCommitted, IsCommittedBack}
 
 -- whoever is present is a member's certificate, of no round above the last
 pub present_member : (z : Sizes) (held : List Node) (a : CertRef) → AreFit z held → IsPresent z held a → a.author < members z

@@ -9,7 +9,8 @@ use Rattle.bk_rounds.specs.Links.{Links}
 use Rattle.bk_rounds.specs.Members.{Has}
 use Rattle.bk_cert.proofs.Refs.{same_place}
 use Rattle.bk_rounds.proofs.Admitted.{admitted_held}
-use Rattle.bk_commit.specs.Ordering.{Walk, InHistory, VotesFor}
+use Rattle.bk_rounds.specs.Votes.{VotesFor}
+use Rattle.bk_commit.specs.Ordering.{Walk, InHistory}
 use Rattle.bk_commit.specs.Level.{IsLinkedFrom, IsNextLevel, IsLevel}
 
 -- each link goes down one round

@@ -7,7 +7,8 @@ use Rattle.bk_cert.specs.Node.{Node}
 use Rattle.bk_cert.specs.Clear.{IsClear}
 use Rattle.bk_cert.specs.declared.place.CertRef.{CertRef}
 use Rattle.bk_rounds.specs.Admission.{IsPresent}
-use Rattle.bk_commit.specs.Ordering.{InHistory, IsAnchor, IsVoted, IsLast, IsEarlier, IsPrior, IsWayBack, IsCommitted, IsCommittedBack}
+use Rattle.bk_rounds.specs.Votes.{IsAnchor, IsVoted, IsLast}
+use Rattle.bk_commit.specs.Ordering.{InHistory, IsEarlier, IsPrior, IsWayBack, IsCommitted, IsCommittedBack}
 use Rattle.bk_commit.specs.Growth.{IsPartOf, WereCommitted}
 use Rattle.bk_commit.specs.private.Way.{IsPath, IsOnTheWay, IsWayTo, newest_in}
 use Rattle.bk_commit.proofs.Grown.{voted_more, way_back_more, voted_earlier}

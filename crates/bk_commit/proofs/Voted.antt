@@ -7,21 +7,12 @@ use Rattle.bk_cert.specs.Node.{Node}
 use Rattle.bk_cert.specs.Place.{place_of}
 use Rattle.bk_rounds.specs.Admission.{IsAdmittedIn, IsAdmitted, StandsAt, IsPresent}
 use Rattle.bk_rounds.specs.Links.{Links}
-use Rattle.bk_commit.specs.Ordering.{InHistory, VotesFor}
+use Rattle.bk_rounds.specs.Votes.{VotesFor}
+use Rattle.bk_commit.specs.Ordering.{InHistory}
 use Rattle.bk_cert.proofs.Refs.{same_place}
 use Rattle.bk_rounds.proofs.Admitted.{admitted_round, admitted_here, IsParent, parents_weigh}
 use Rattle.bk_rounds.proofs.Counting.{shared}
-
-pub link_to : (z : Sizes) (held : List Node) (c : CertRef) (child : Node) → StandsAt z held c child → (r : ℕ) (d : Node) → IsAdmittedIn z held r d
-    → Contains child.header.parents d.id → c.round ≡ r + 1 → Links z held c (place_of d)
-link_to z held c child at r d h names e = record {
-  child = child;
-  parent = d;
-  child_at = at;
-  parent_at = record { admitted = admitted_here z held r d h; place = refl };
-  names = names;
-  before = omega (arith, admitted_round z held r d h);
-}
+use Rattle.bk_rounds.proofs.Grown.{link_to}
 
 heavier : (n : ℕ) → n < (n - 1) / 3 + 1 + (n - (n - 1) / 3)
 heavier n = omega arith

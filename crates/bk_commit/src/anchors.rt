@@ -5,7 +5,7 @@ ghost use Rattle.bk_committee.specs.Sizes.{faulty, leader, members, Weigh};
 ghost use Rattle.bk_cert.specs.declared.place.CertRef.{CertRef};
 ghost use Rattle.bk_rounds.specs.Admission.{IsPresent, last_round};
 ghost use Rattle.bk_rounds.specs.Members.{Has};
-ghost use Rattle.bk_commit.specs.Ordering.{IsAnchor, IsVoted, VotesFor, IsAnchorOf};
+ghost use Rattle.bk_rounds.specs.Votes.{IsAnchor, IsVoted, VotesFor, IsAnchorOf};
 
 use bk_cert::CertRef;
 use bk_rounds::{Members, Rounds};

@@ -4,7 +4,8 @@ ghost use Rattle.std.specs.Prelude.{◌≡◌, ◌++◌, ℕ, ◌<◌, ◌≤◌
 ghost use Rattle.bk_committee.specs.Sizes.{leader, members};
 ghost use Rattle.bk_cert.specs.declared.place.CertRef.{CertRef};
 ghost use Rattle.bk_rounds.specs.Members.{Has};
-ghost use Rattle.bk_commit.specs.Ordering.{IsAnchor, IsVoted, IsLast, IsCommitted};
+ghost use Rattle.bk_rounds.specs.Votes.{IsAnchor, IsVoted, IsLast};
+ghost use Rattle.bk_commit.specs.Ordering.{IsCommitted};
 ghost use Rattle.bk_commit.specs.Growth.{WereCommitted};
 ghost use Rattle.bk_commit.specs.private.Way.{newest_in, IsWayTo};
 

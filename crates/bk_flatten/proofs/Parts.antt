@@ -17,7 +17,8 @@ use Rattle.bk_rounds.proofs.Named.{push_at}
 use Rattle.bk_rounds.proofs.Bits.{has_none as has_nobody}
 use Rattle.bk_commit.specs.Ordering.{Walk, InHistory}
 use Rattle.bk_commit.specs.Level.{IsNextLevel}
-use Rattle.bk_commit.proofs.Grown.{walk_present, admitted_low}
+use Rattle.bk_rounds.proofs.Grown.{admitted_low}
+use Rattle.bk_commit.proofs.Grown.{walk_present}
 use Rattle.bk_commit.proofs.Levels.{reached_round, walk_round, walk_snoc, walk_unsnoc}
 use Rattle.bk_flatten.specs.private.Part.{Gains, IsNewAt, IsNew, HasAbove, IsFresh, AreMarks, IsClosed, marks_of}
 

@@ -8,7 +8,8 @@ use Rattle.bk_cert.specs.declared.place.CertRef.{CertRef}
 use Rattle.bk_rounds.specs.Admission.{IsPresent}
 use Rattle.bk_rounds.specs.Links.{Links}
 use Rattle.bk_cert.proofs.Lists.{in_map}
-use Rattle.bk_commit.specs.Ordering.{Walk, InHistory, IsAnchor, VotesFor, IsVoted, IsEarlier, IsPrior, IsWayBack, IsCommitted}
+use Rattle.bk_rounds.specs.Votes.{IsAnchor, VotesFor, IsVoted}
+use Rattle.bk_commit.specs.Ordering.{Walk, InHistory, IsEarlier, IsPrior, IsWayBack, IsCommitted}
 use Rattle.bk_commit.proofs.Back.{earlier_round}
 use Rattle.bk_commit.proofs.Last.{committed_from}
 use Rattle.bk_commit.proofs.Levels.{walk_round}

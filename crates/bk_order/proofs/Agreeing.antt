@@ -13,7 +13,8 @@ use Rattle.bk_cert.specs.Clear.{IsClear}
 use Rattle.bk_cert.specs.declared.place.CertRef.{CertRef}
 use Rattle.bk_evidence.specs.Batches.{Batch, AreApart}
 use Rattle.bk_commit.specs.Growth.{IsPartOf, Begins}
-use Rattle.bk_commit.specs.Ordering.{IsCommittedBack, IsVoted, IsWayBack}
+use Rattle.bk_rounds.specs.Votes.{IsVoted}
+use Rattle.bk_commit.specs.Ordering.{IsCommittedBack, IsWayBack}
 use Rattle.bk_commit.proofs.Grown.{voted_more, way_back_more, meets_voted}
 use Rattle.bk_flatten.specs.Order.{IsOrder}
 use Rattle.bk_flatten.specs.Batches.{Payloads, once, named_at, digests_of, before_missing}

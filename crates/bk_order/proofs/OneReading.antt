@@ -24,7 +24,7 @@ use Rattle.bk_evidence.proofs.Colliding.{id_order, collides_more}
 use Rattle.bk_evidence.proofs.Lawful.{evidence_is_one}
 use Rattle.bk_evidence.proofs.Lesser.{both_at_most}
 use Rattle.bk_evidence.proofs.Members.{evidence_same}
-use Rattle.bk_commit.proofs.Grown.{admitted_more}
+use Rattle.bk_rounds.proofs.Grown.{admitted_more}
 use Rattle.bk_commit.proofs.Settled.{begin_each_other}
 use Rattle.bk_flatten.specs.Batches.{once, digests_of, before_missing, cons_payload}
 use Rattle.bk_flatten.proofs.Growth.{finds, names_same}

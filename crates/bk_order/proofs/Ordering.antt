@@ -15,7 +15,8 @@ use Rattle.bk_rounds.specs.Admission.{IsPresent}
 use Rattle.bk_evidence.specs.Batches.{Batch}
 use Rattle.bk_evidence.specs.declared.batches.BatchRef.{BatchRef}
 use Rattle.bk_commit.specs.Growth.{IsPartOf, Begins}
-use Rattle.bk_commit.specs.Ordering.{IsCommitted, IsCommittedBack, IsVoted, IsWayBack}
+use Rattle.bk_rounds.specs.Votes.{IsVoted}
+use Rattle.bk_commit.specs.Ordering.{IsCommitted, IsCommittedBack, IsWayBack}
 use Rattle.bk_commit.proofs.Grown.{walk_present}
 use Rattle.bk_flatten.specs.Order.{IsOrder}
 use Rattle.bk_flatten.specs.Batches.{once, named_at, digests_of, AreFound, IsFoundWhole, before_missing, payload_at}

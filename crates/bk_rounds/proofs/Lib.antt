@@ -8,6 +8,7 @@ pub mod Settling
 pub mod Added
 pub mod Named
 pub mod Weighed
+pub mod Grown
 pub mod Tied
 pub mod Found
 pub mod Empty

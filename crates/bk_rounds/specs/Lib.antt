@@ -4,4 +4,5 @@ pub mod Links
 pub mod Members
 pub mod Laws
 pub mod Rounds
+pub mod Votes
 pub mod private

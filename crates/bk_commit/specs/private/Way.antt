@@ -5,7 +5,8 @@ use Rattle.bk_cert.specs.Node.{Node}
 use Rattle.bk_cert.specs.declared.place.CertRef.{CertRef}
 use Rattle.bk_rounds.specs.Admission.{IsPresent}
 use Rattle.bk_commit.specs.Level.{IsLevel}
-use Rattle.bk_commit.specs.Ordering.{IsAnchor, IsPrior, IsEarlier}
+use Rattle.bk_rounds.specs.Votes.{IsAnchor}
+use Rattle.bk_commit.specs.Ordering.{IsPrior, IsEarlier}
 
 -- these anchors lead from a back to x, each the prior of the one before it
 abbrev pub IsPath : Sizes → List Node → CertRef → List CertRef → CertRef → Type 0

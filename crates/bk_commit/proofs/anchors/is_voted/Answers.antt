@@ -2,7 +2,7 @@ use Rattle.std.proofs.Common.{◌+◌, arith}
 use Rattle.std.proofs.lemmas.Bool.{lt-ltb, ltb-true}
 use Rattle.bk_committee.specs.Sizes.{faulty}
 use Rattle.bk_rounds.proofs.Weighed.{weigh_iff}
-use Rattle.bk_commit.specs.Ordering.{VotesFor}
+use Rattle.bk_rounds.specs.Votes.{VotesFor}
 use Rattle.bk_commit.proofs.Levels.{voter_below}
 use Rattle.bk_commit.proofs.anchors.is_voted.Goals as goal
 

@@ -1,5 +1,5 @@
 use Rattle.std.proofs.Common.{◌<◌, ◌↔◌, ℕ}
-use Rattle.bk_commit.specs.Ordering.{VotesFor}
+use Rattle.bk_rounds.specs.Votes.{VotesFor}
 use Rattle.bk_rounds.specs.Members.{Has}
 use Rattle.bk_commit.proofs.anchors.votes_for.Given as goal
 

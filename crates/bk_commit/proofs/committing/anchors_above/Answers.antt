@@ -1,6 +1,6 @@
 use Rattle.std.proofs.Common.{◌≤◌, ℕ, sym, subst}
 use Rattle.bk_cert.specs.declared.place.CertRef.{CertRef}
-use Rattle.bk_commit.specs.Ordering.{IsVoted}
+use Rattle.bk_rounds.specs.Votes.{IsVoted}
 use Rattle.bk_commit.specs.private.Way.{IsWayTo}
 use Rattle.bk_commit.proofs.Onward.{goes_on, stays}
 use Rattle.bk_commit.proofs.committing.anchors_above.Goals as goal

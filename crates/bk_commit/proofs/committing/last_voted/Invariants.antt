@@ -1,6 +1,6 @@
 use Rattle.std.proofs.Common.{ℕ, ◌≤◌}
 use Rattle.bk_cert.specs.declared.place.CertRef.{CertRef}
-use Rattle.bk_commit.specs.Ordering.{IsVoted}
+use Rattle.bk_rounds.specs.Votes.{IsVoted}
 use Rattle.bk_commit.proofs.committing.last_voted.Given as goal
 
 abbrev pub invariant-loop-round : goal.invariant-loop-round

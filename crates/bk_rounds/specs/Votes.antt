@@ -1,0 +1,31 @@
+-- Anchors and their votes.
+use Rattle.std.specs.Prelude.{◌≡◌, ℕ, ◌+◌, ◌%◌, ◌≤◌, List}
+use Rattle.bk_committee.specs.Sizes.{Sizes, faulty, leader, Weigh}
+use Rattle.bk_cert.specs.Node.{Node}
+use Rattle.bk_cert.specs.declared.place.CertRef.{CertRef}
+use Rattle.bk_rounds.specs.Admission.{IsPresent}
+use Rattle.bk_rounds.specs.Links.{Links}
+
+-- the admitted certificate of an odd round by the round's leader
+pub record IsAnchor (z : Sizes) (held : List Node) (a : CertRef) : Type 0 where
+  pub odd : a.round % 2 ≡ 1
+  pub led : a.author ≡ leader z a.round
+  pub present : IsPresent z held a
+
+-- the anchor of this round
+abbrev pub IsAnchorOf : Sizes → List Node → ℕ → CertRef → Type 0
+IsAnchorOf z held round a = IsAnchor z held a × (a.round ≡ round)
+
+-- the member x votes for a: its certificate of the next round names a as a parent
+abbrev pub VotesFor : Sizes → List Node → CertRef → ℕ → Type 0
+VotesFor z held a x = Links z held (record { round = a.round + 1; author = x }) a
+
+-- an anchor whose voters weigh at least f + 1
+pub record IsVoted (z : Sizes) (held : List Node) (a : CertRef) : Type 0 where
+  pub anchor : IsAnchor z held a
+  pub votes : Weigh z (VotesFor z held a) (faulty z + 1)
+
+-- the voted anchor of the greatest round
+pub record IsLast (z : Sizes) (held : List Node) (a : CertRef) : Type 0 where
+  pub voted : IsVoted z held a
+  pub greatest : (b : CertRef) → IsVoted z held b → b.round ≤ a.round
