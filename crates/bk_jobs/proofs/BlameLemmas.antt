@@ -7,12 +7,12 @@ use Rattle.bk_frames.specs.declared.fault.FaultCode.{FaultCode}
 use Rattle.bk_frames.specs.declared.fault.FaultCode.TheVariants as code
 use Rattle.bk_frames.specs.declared.fault.FeedFault.{FeedFault}
 use Rattle.bk_order.specs.declared.stop.Stop.TheVariants as stop
-use Rattle.bk_replay.specs.Answers.{IsUntouched}
-use Rattle.bk_replay.specs.FeedAgreement.{FeedsDiffer, OfTheirFeeds}
+use Rattle.bk_results.specs.Devices.{IsUntouched}
+use Rattle.bk_compare.specs.FeedAgreement.{FeedsDiffer, OfTheirFeeds}
 use Rattle.bk_results.specs.declared.compare_stop.CompareStop.{CompareStop}
 use Rattle.bk_results.specs.declared.compare_stop.CompareStop.TheVariants as compared
 use Rattle.bk_results.specs.declared.differ.Differ.TheVariants as differ
-use Rattle.bk_replay.specs.RunReport.{IsStopped}
+use Rattle.bk_follow.specs.RunReport.{IsStopped}
 use Rattle.bk_results.specs.declared.fault.Fault.{Fault}
 use Rattle.bk_results.specs.declared.fault.Fault.TheVariants as replay
 use Rattle.bk_script.specs.Script.{LineFault, feed_of}
@@ -20,7 +20,7 @@ use Rattle.bk_results.specs.declared.script_fault.ScriptFault.TheVariants as tex
 use Rattle.bk_script.specs.Events.{events_of}
 use Rattle.bk_steps.specs.declared.outcome.ScheduleFault.TheVariants as schedule
 use Rattle.bk_steps.specs.declared.refused.Refused as reason
-use Rattle.bk_replay.specs.Scheduling.{IsNotWholeFor}
+use Rattle.bk_apply.specs.Scheduling.{IsNotWholeFor}
 use Rattle.std.specs.Prelude.{Err, slice_index_or}
 use Rattle.bk_cli.specs.declared.exit.Exit.TheVariants as exit
 use Rattle.bk_cli.specs.declared.job.Job.{Job}

@@ -4,11 +4,11 @@ use Rattle.std.specs.Prelude.{Ok, slice_index_or}
 use Rattle.std.specs.Io.KnownBytes.{Keeps}
 use Rattle.bk_frames.specs.Device.{Device, Receives, IfKnown}
 use Rattle.bk_steps.specs.declared.outcome.ScheduleFault.TheVariants as schedule
-use Rattle.bk_replay.specs.Answers.{devices}
+use Rattle.bk_results.specs.Devices.{devices}
 use Rattle.bk_report.specs.Report.{IsApplyReport}
-use Rattle.bk_replay.specs.Scheduling.{IsWholeFor, StopsBy}
-use Rattle.bk_replay.specs.declared.scheduling.ScheduleStop.{ScheduleStop}
-use Rattle.bk_replay.specs.declared.scheduling.ScheduleStop.TheVariants as stop
+use Rattle.bk_apply.specs.Scheduling.{IsWholeFor, StopsBy}
+use Rattle.bk_apply.specs.declared.scheduling.ScheduleStop.{ScheduleStop}
+use Rattle.bk_apply.specs.declared.scheduling.ScheduleStop.TheVariants as stop
 use Rattle.bk_script.specs.Events.{AreEvents, EventList, HasNoEvents, event_list, events_of}
 use Rattle.bk_script.specs.declared.events.Events.{Events}
 use Rattle.bk_results.specs.declared.events_fault.EventsFault.{EventsFault}

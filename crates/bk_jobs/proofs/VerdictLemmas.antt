@@ -7,7 +7,7 @@ use Rattle.std.specs.Io.KnownBytes.{Keeps}
 use Rattle.bk_frames.specs.Device.{Device, Receives, IfKnown}
 use Rattle.bk_frames.specs.Writing.{StopsWriting}
 use Rattle.bk_frames.specs.declared.writing.WriteFault.{WriteFault}
-use Rattle.bk_replay.specs.Answers.{devices}
+use Rattle.bk_results.specs.Devices.{devices}
 use Rattle.bk_report.specs.Proofs.{IsGoodProof}
 use Rattle.bk_script.specs.Answers.{HasRead, IsNotRead, IsRead}
 use Rattle.bk_results.specs.declared.script_fault.ScriptFault.{ScriptFault}

@@ -3,9 +3,9 @@ use Rattle.std.specs.Prelude.{◌≡◌, ◌⊎◌, ℕ, ◌<◌, List, ◌++◌
 use Rattle.bk_frames.specs.Device.{Device, Fails, Receives}
 use Rattle.bk_frames.specs.Feed.{FeedValue}
 use Rattle.bk_order.specs.declared.stop.Stop.{Stop}
-use Rattle.bk_replay.specs.Agreement.{HaveStop}
-use Rattle.bk_replay.specs.Answers.{AreFeed, IsUntouched}
-use Rattle.bk_replay.specs.FeedAgreement.{BothWork, ComparesNot, FeedsAgree, FeedsDiffer, OfTheirFeeds, Sources, sources}
+use Rattle.bk_follow.specs.Agreement.{HaveStop}
+use Rattle.bk_results.specs.Devices.{AreFeed, IsUntouched}
+use Rattle.bk_compare.specs.FeedAgreement.{BothWork, ComparesNot, FeedsAgree, FeedsDiffer, OfTheirFeeds, Sources, sources}
 use Rattle.bk_results.specs.declared.compare_stop.CompareStop.{CompareStop}
 use Rattle.bk_results.specs.declared.differ.Agreed.{Agreed}
 use Rattle.bk_results.specs.declared.differ.Differ.TheVariants as differ

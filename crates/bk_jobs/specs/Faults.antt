@@ -4,15 +4,16 @@ use Rattle.bk_frames.specs.Device.{Device, Works, Fails, Receives, IfKnown}
 use Rattle.bk_results.specs.declared.compare_stop.CompareStop.{CompareStop}
 use Rattle.bk_results.specs.declared.fault.Fault.{Fault}
 use Rattle.bk_results.specs.declared.status.Status.{Status}
-use Rattle.bk_replay.specs.Answers.{Devices, FailsBy, IsUntouched}
-use Rattle.bk_replay.specs.Asking.{AskFailsBy, IsReplied}
+use Rattle.bk_results.specs.Devices.{Devices, IsUntouched}
+use Rattle.bk_apply.specs.Answers.{FailsBy}
+use Rattle.bk_ask.specs.Asking.{AskFailsBy, IsReplied}
 use Rattle.bk_report.specs.Proofs.{IsGoodProof}
 use Rattle.bk_results.specs.declared.query.Query.{Query}
 use Rattle.bk_results.specs.declared.query.Reply.{Reply}
 use Rattle.bk_results.specs.declared.query.Reply.TheVariants as reply
-use Rattle.bk_replay.specs.Replaying.{RunFailsBy}
+use Rattle.bk_follow.specs.Replaying.{RunFailsBy}
 use Rattle.bk_report.specs.Report.{IsApplyReport}
-use Rattle.bk_replay.specs.RunReport.{IsReport, IsStopped}
+use Rattle.bk_follow.specs.RunReport.{IsReport, IsStopped}
 use Rattle.bk_script.specs.Answers as script
 use Rattle.bk_script.specs.Script.{LineFault, feed_of}
 use Rattle.bk_results.specs.declared.script_fault.ScriptFault.{ScriptFault}

@@ -3,12 +3,13 @@ use Rattle.std.specs.Prelude.{◌≡◌, ℕ, List, slice_index_or, Ok, Err}
 use Rattle.bk_frames.specs.Device.{Device, Works, IfKnown}
 use Rattle.bk_steps.specs.declared.outcome.ScheduleFault.TheVariants as schedule
 use Rattle.bk_steps.specs.declared.refused.Refused as reason
-use Rattle.bk_replay.specs.Answers.{FailsBy, IsUntouched}
-use Rattle.bk_replay.specs.Replaying.{NothingFailed}
-use Rattle.bk_replay.specs.Scheduling.{IsNotWholeFor, IsWholeFor}
+use Rattle.bk_apply.specs.Answers.{FailsBy}
+use Rattle.bk_results.specs.Devices.{IsUntouched}
+use Rattle.bk_results.specs.Devices.{NothingFailed}
+use Rattle.bk_apply.specs.Scheduling.{IsNotWholeFor, IsWholeFor}
 use Rattle.bk_results.specs.declared.fault.Fault.TheVariants as replay
-use Rattle.bk_replay.specs.declared.scheduling.ScheduleStop.{ScheduleStop}
-use Rattle.bk_replay.specs.declared.scheduling.ScheduleStop.TheVariants as stop
+use Rattle.bk_apply.specs.declared.scheduling.ScheduleStop.{ScheduleStop}
+use Rattle.bk_apply.specs.declared.scheduling.ScheduleStop.TheVariants as stop
 use Rattle.bk_script.specs.Events.{EventList, HasNoEvents, events_of}
 use Rattle.bk_jobs.specs.Sources.{JobDevices, first_devices}
 use Rattle.bk_cli.specs.declared.job_fault.JobFault.{JobFault}

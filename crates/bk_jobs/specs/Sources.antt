@@ -3,7 +3,7 @@ use Rattle.std.specs.Prelude.{ℕ, List, Option}
 use Rattle.bk_frames.specs.Device.{Device, Works}
 use Rattle.bk_frames.specs.Feed.{HasFault}
 use Rattle.bk_frames.specs.declared.fault.FeedFault.{FeedFault}
-use Rattle.bk_replay.specs.Answers.{Devices, devices}
+use Rattle.bk_results.specs.Devices.{Devices, devices}
 
 -- the devices of a job: its sources, in the order of the files that it names, and standard output
 pub record JobDevices : Type 0 where

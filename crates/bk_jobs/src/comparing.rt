@@ -6,9 +6,10 @@ ghost use Rattle.bk_jobs.specs.Comparisons.{AgreementIsOut, CompareFailsBy, agre
 ghost use Rattle.bk_jobs.specs.Sources.{AllWork, inputs, job_devices};
 
 use bk_cli::{Exit, JobFault, ShortLine, put_number, put_text};
+use bk_compare::compare;
 use bk_frames::{Sink, Source, push_all};
 use bk_pool::Open;
-use bk_replay::{Agreed, Fault, compare};
+use bk_results::{Agreed, Fault};
 use std::sync::Wait;
 use std::thread::Threads;
 

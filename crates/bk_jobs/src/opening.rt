@@ -2,7 +2,7 @@
 
 ghost use Rattle.std.specs.Prelude.{◌≡◌, true};
 ghost use Rattle.bk_frames.specs.Device.{CanBeUsed};
-ghost use Rattle.bk_replay.specs.Answers.{IsUntouched};
+ghost use Rattle.bk_results.specs.Devices.{IsUntouched};
 ghost use Rattle.bk_cli.specs.Exits.{is_answer, is_refusal, is_report, may_end};
 ghost use Rattle.bk_jobs.specs.Faults.{AnswerIsOut};
 ghost use Rattle.bk_jobs.specs.Sources.{inputs};
@@ -10,7 +10,7 @@ ghost use Rattle.bk_jobs.specs.Sources.{inputs};
 use crate::running::run_job;
 use bk_cli::{Exit, Job, JobFault, report};
 use bk_frames::{Counted, Sink};
-use bk_replay::Fault;
+use bk_results::Fault;
 use bk_script::ScriptFault;
 use std::fs;
 use std::io::{BufReader, Read};

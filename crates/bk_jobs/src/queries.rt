@@ -2,16 +2,17 @@
 
 ghost use Rattle.std.specs.Prelude.{◌≡◌, true, Ok, OnOk, IfOk, IfErr};
 ghost use Rattle.bk_frames.specs.Device.{CanBeUsed, Works, IfKnown};
-ghost use Rattle.bk_replay.specs.Answers.{devices};
+ghost use Rattle.bk_results.specs.Devices.{devices};
 ghost use Rattle.bk_results.specs.declared.query.Reply.{Reply as AnyReply};
-ghost use Rattle.bk_replay.specs.Asking.{can_reply};
+ghost use Rattle.bk_ask.specs.Asking.{can_reply};
 ghost use Rattle.bk_cli.specs.Exits.{absence, ending};
 ghost use Rattle.bk_jobs.specs.Faults.{QueryFailsBy, ReplyIsOut};
 
+use bk_ask::ask;
 use bk_cli::{Exit, JobFault, Workers};
 use bk_frames::{Sink, Source};
 use bk_pool::Open;
-use bk_replay::{Query, Reply, ask};
+use bk_results::{Query, Reply};
 use std::sync::Wait;
 use std::thread::Threads;
 

@@ -2,15 +2,18 @@
 
 ghost use Rattle.std.specs.Prelude.{◌≡◌, true, OnOk, IfOk, IfErr};
 ghost use Rattle.bk_frames.specs.Device.{CanBeUsed, Works, IfKnown};
-ghost use Rattle.bk_replay.specs.Answers.{devices, FailsBy};
-ghost use Rattle.bk_replay.specs.Replaying.{RunFailsBy};
+ghost use Rattle.bk_results.specs.Devices.{devices};
+ghost use Rattle.bk_apply.specs.Answers.{FailsBy};
+ghost use Rattle.bk_follow.specs.Replaying.{RunFailsBy};
 ghost use Rattle.bk_cli.specs.Exits.{is_report};
 ghost use Rattle.bk_jobs.specs.Faults.{RunIsOut, ReportIsOut};
 
+use bk_apply::apply;
 use bk_cli::{Exit, Workers};
+use bk_follow::replay;
 use bk_frames::{Sink, Source};
 use bk_pool::Open;
-use bk_replay::{Fault, apply, replay};
+use bk_results::Fault;
 use std::sync::Wait;
 use std::thread::Threads;
 

@@ -6,9 +6,10 @@ ghost use Rattle.bk_jobs.specs.Faults.{ScheduleIsOut};
 ghost use Rattle.bk_jobs.specs.Schedules.{ScheduleFailsBy, fault_at};
 ghost use Rattle.bk_jobs.specs.Sources.{AllWork, inputs, job_devices};
 
+use bk_apply::{ScheduleStop, apply_schedule};
 use bk_cli::{Exit, JobFault, ListFault, Workers};
 use bk_frames::{Sink, Source};
-use bk_replay::{Fault, ScheduleStop, apply_schedule};
+use bk_results::Fault;
 use bk_script::read_events;
 use bk_steps::ScheduleFault;
 

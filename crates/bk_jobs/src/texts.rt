@@ -2,13 +2,13 @@
 
 ghost use Rattle.std.specs.Prelude.{◌≡◌, ◌⊎◌, OnOk, IfOk, IfErr};
 ghost use Rattle.bk_frames.specs.Device.{CanBeUsed, Works, IfKnown};
-ghost use Rattle.bk_replay.specs.Answers.{devices};
+ghost use Rattle.bk_results.specs.Devices.{devices};
 ghost use Rattle.bk_script.specs.Answers as script;
 ghost use Rattle.bk_jobs.specs.Faults.{FeedIsOut, VerdictIsOut, CheckFailsBy, verdict_text};
 
 use bk_cli::Exit;
 use bk_frames::{Sink, Source, push_all};
-use bk_replay::{MOST_PROOF, check_proof};
+use bk_report::{MOST_PROOF, check_proof};
 use bk_script::{ScriptFault, make, read_text};
 
 // How many bytes of a proof are asked for at once, at most.

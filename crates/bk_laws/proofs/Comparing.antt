@@ -25,11 +25,11 @@ use Rattle.bk_rules.proofs.Folding.{length-receipts, receipts_append}
 use Rattle.bk_tx.specs.Transaction.{Transaction}
 use Rattle.bk_tx.specs.Batches.{transactions_in, transactions_of}
 use Rattle.bk_results.specs.declared.differ.Agreed.{Agreed}
-use Rattle.bk_replay.specs.Agreement.{Agree, BeginsWith, HaveOneSetup, frames_together}
-use Rattle.bk_replay.specs.Asking.{IsOutcomeOf, Outcome}
-use Rattle.bk_replay.specs.FeedAgreement.{FeedsAgree}
-use Rattle.bk_replay.specs.RunReport.{HasNoStopIn, committee_in, later_frames}
-use Rattle.bk_replay.proofs.ComparedBooks.{committee_same, row_of_fields}
+use Rattle.bk_follow.specs.Agreement.{Agree, BeginsWith, HaveOneSetup, frames_together}
+use Rattle.bk_follow.specs.Outcomes.{IsOutcomeOf, Outcome}
+use Rattle.bk_compare.specs.FeedAgreement.{FeedsAgree}
+use Rattle.bk_follow.specs.RunReport.{HasNoStopIn, committee_in, later_frames}
+use Rattle.bk_follow.proofs.ComparedBooks.{committee_same, row_of_fields}
 use Rattle.bk_laws.specs.Laws.{Comparison, ComparesTo, IsPartOfFeed, agreed, differing, stopped}
 use Rattle.bk_laws.proofs.Answers.{reading_exists}
 use Rattle.bk_laws.proofs.Deciding.{Decided, decided_as, decided_three, same_number}

@@ -31,8 +31,9 @@ use Rattle.bk_results.specs.declared.query.Query.TheVariants as query
 use Rattle.bk_results.specs.declared.query.Reply.{Reply}
 use Rattle.bk_results.specs.declared.query.Reply.TheVariants as reply
 use Rattle.bk_results.specs.declared.status.Status.{Status}
-use Rattle.bk_replay.specs.Asking.{IsOutcomeOf, IsReply, Outcome, Replies, order_text}
-use Rattle.bk_replay.specs.RunReport.{IsReport, committee_in, later_frames}
+use Rattle.bk_follow.specs.Outcomes.{IsOutcomeOf, Outcome}
+use Rattle.bk_ask.specs.Asking.{IsReply, Replies, order_text}
+use Rattle.bk_follow.specs.RunReport.{IsReport, committee_in, later_frames}
 
 -- ---- the one account of an id
 

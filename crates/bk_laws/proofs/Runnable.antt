@@ -32,8 +32,8 @@ use Rattle.bk_steps.specs.declared.refused.Refused as reason
 use Rattle.bk_steps.specs.declared.outcome.ScheduleFault.TheVariants.{Refused, Unfinished}
 use Rattle.bk_steps.proofs.Judging.{events_judged}
 use Rattle.bk_tx.specs.Batches.{feed_transactions}
-use Rattle.bk_replay.specs.Scheduling.{opening_of, IsPlanOfFeed}
-use Rattle.bk_replay.proofs.Schedules.{feed_room, runs_on}
+use Rattle.bk_apply.specs.Scheduling.{opening_of, IsPlanOfFeed}
+use Rattle.bk_apply.proofs.Schedules.{feed_room, runs_on}
 use Rattle.bk_laws.specs.Laws.{HasPlan, ScheduleAnswer, SchedulesTo, whole, not_whole}
 use Rattle.bk_laws.proofs.Scheduling.{one_schedule_fault, same_ids, whole_schedules_have_no_fault}
 

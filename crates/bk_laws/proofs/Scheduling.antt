@@ -19,7 +19,7 @@ use Rattle.bk_steps.specs.declared.refused.Refused as reason
 use Rattle.bk_steps.specs.declared.outcome.ScheduleFault.{ScheduleFault}
 use Rattle.bk_steps.specs.declared.outcome.ScheduleFault.TheVariants.{Refused, Unfinished, OutOfMemory}
 use Rattle.bk_tx.specs.Batches.{feed_transactions}
-use Rattle.bk_replay.specs.Scheduling.{opening_of, IsNotWholeFor, IsOfEvents, IsPlanOfFeed, IsWholeFor}
+use Rattle.bk_apply.specs.Scheduling.{opening_of, IsNotWholeFor, IsOfEvents, IsPlanOfFeed, IsWholeFor}
 
 -- ---- ids in ascending order are one list where they are the same
 

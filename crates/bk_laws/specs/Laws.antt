@@ -22,12 +22,12 @@ use Rattle.bk_results.specs.declared.query.Query.TheVariants as query
 use Rattle.bk_results.specs.declared.query.Reply.{Reply}
 use Rattle.bk_results.specs.declared.query.Reply.TheVariants as reply
 use Rattle.bk_results.specs.declared.status.Status.{Status}
-use Rattle.bk_replay.specs.Agreement.{HaveOneSetup, HaveStop}
-use Rattle.bk_replay.specs.Asking.{IsReply}
-use Rattle.bk_replay.specs.FeedAgreement.{FeedsAgree}
+use Rattle.bk_follow.specs.Agreement.{HaveOneSetup, HaveStop}
+use Rattle.bk_ask.specs.Asking.{IsReply}
+use Rattle.bk_compare.specs.FeedAgreement.{FeedsAgree}
 use Rattle.bk_replay.specs.RunLaws.{Answer, ComesTo, EndsWithMoney}
-use Rattle.bk_replay.specs.RunReport.{HasNoStopIn, Reads, IsReport, committee_in, later_frames}
-use Rattle.bk_replay.specs.Scheduling.{InExecutionOf, IsNotWholeFor, IsOfEvents, IsWholeFor}
+use Rattle.bk_follow.specs.RunReport.{HasNoStopIn, Reads, IsReport, committee_in, later_frames}
+use Rattle.bk_apply.specs.Scheduling.{InExecutionOf, IsNotWholeFor, IsOfEvents, IsWholeFor}
 
 -- ---- answers
 

@@ -1,17 +1,1 @@
-pub mod FeedReports
-pub mod Counting
-pub mod Books
-pub mod Openings
-pub mod Waiting
-pub mod Pulled
-pub mod RunAnswers
-pub mod BookReports
-pub mod Following
-pub mod Schedules
 pub mod RunLaws
-pub mod QueryStops
-pub mod OrderSoFar
-pub mod ReplyTexts
-pub mod ReplyAnswers
-pub mod ComparedBooks
-pub mod FeedEnds

@@ -1,15 +1,1 @@
-pub mod RunReport
-pub mod Answers
-pub mod Follower
-pub mod Finishing
-pub mod Queries
-pub mod Ordering
-pub mod Replaying
-pub mod Asking
-pub mod Nowhere
-pub mod Scheduling
-pub mod private
-pub mod Laws
 pub mod RunLaws
-pub mod Agreement
-pub mod FeedAgreement

@@ -2,14 +2,14 @@
 
 ghost use Rattle.std.specs.Prelude.{◌≡◌, ◌≢◌, ◌⊎◌, true};
 ghost use Rattle.bk_frames.specs.Device.{CanBeUsed};
-ghost use Rattle.bk_replay.specs.Answers.{IsUntouched};
+ghost use Rattle.bk_results.specs.Devices.{IsUntouched};
 ghost use Rattle.bk_cli.specs.Exits.{is_refusal, is_report};
 ghost use Rattle.clap.specs.Words.{kind_of};
 
 use bk_cli::{Exit, JobFault, parse, report};
 use bk_frames::{Sink, push_all};
 use bk_jobs::open_and_run;
-use bk_replay::Fault;
+use bk_results::Fault;
 use clap::Error;
 use clap::error::ErrorKind;
 use std::rt::{Env, Files};

@@ -1,0 +1,2 @@
+pub mod FeedReports
+pub mod Schedules

@@ -1,0 +1,35 @@
+use Rattle.std.proofs.Common.{◌∙◌}
+use Rattle.std.proofs.lemmas.Result.{err_from_is_err_and}
+use Rattle.bk_apply.proofs.FeedReports.{few_counts, few_receipts, part_is_out, all_is_out}
+use Rattle.bk_apply.proofs.applying.apply.Goals as goal
+
+pub write_report-requires-clause-few : goal.write_report-requires-clause-few
+write_report-requires-clause-few g c =
+    let l = c.in_ok-summary.summary in
+    let good = c.in_ok-feed.ensures.feed.0 in
+    let counts = c.in_ok-summary.ensures.counts ∙ c.in_ok-ledger.ensures.counts in
+    let receipts = c.in_ok-summary.ensures.receipts ∙ c.in_ok-ledger.ensures.receipts in
+    (few_counts c.in_ok-feed.feed l.counts.items _ good counts l.counts.ok.0, few_receipts c.in_ok-feed.feed l.receipts.items _ good receipts l.receipts.ok.0, c.in_ok-summary.ensures.few)
+
+pub returns-in_err-write_report-clause-fault : goal.returns-in_err-write_report-clause-fault
+returns-in_err-write_report-clause-fault g c =
+    let l = c.in_ok-summary.summary in
+    let counts = c.in_ok-summary.ensures.counts ∙ c.in_ok-ledger.ensures.counts in
+    let receipts = c.in_ok-summary.ensures.receipts ∙ c.in_ok-ledger.ensures.receipts in
+    let rows = c.in_ok-summary.ensures.rows ∙ c.in_ok-ledger.ensures.rows in
+    let p = err_from_is_err_and c.from_residual-in_err-write_report.result c.from_residual-in_err-write_report.ensures.1 in
+    rw (p.1, p.2) (
+      c.in_ok-feed.ensures.sound,
+      c.in_err-write_report.ensures.written.0,
+      part_is_out (g.S.Source.state c.args.source.now) _ _ _ c.in_ok-feed.feed l.counts.items l.receipts.items l.rows.items _ c.in_ok-page.ensures c.in_ok-feed.ensures.feed.0 c.in_ok-feed.ensures.feed.1
+          (record { counts_are = counts; receipts_are = receipts; rows_are = rows }) c.in_err-write_report.ensures.written.1,
+    )
+
+pub returns-clause-report : goal.returns-clause-report
+returns-clause-report g c =
+    let l = c.in_ok-summary.summary in
+    let counts = c.in_ok-summary.ensures.counts ∙ c.in_ok-ledger.ensures.counts in
+    let receipts = c.in_ok-summary.ensures.receipts ∙ c.in_ok-ledger.ensures.receipts in
+    let rows = c.in_ok-summary.ensures.rows ∙ c.in_ok-ledger.ensures.rows in
+    all_is_out (g.S.Source.state c.args.source.now) _ _ _ _ c.in_ok-feed.feed l.counts.items l.receipts.items l.rows.items c.in_ok-page.ensures c.in_ok-write_report.ensures.empty c.in_ok-feed.ensures.feed.0 c.in_ok-feed.ensures.feed.1
+    (record { counts_are = counts; receipts_are = receipts; rows_are = rows }) c.in_ok-write_report.ensures.written.1

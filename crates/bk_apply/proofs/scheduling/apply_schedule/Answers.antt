@@ -1,0 +1,61 @@
+use Rattle.std.proofs.Common.{◌∙◌}
+use Rattle.std.proofs.lemmas.Result.{err_from_is_err_and}
+use Rattle.bk_steps.specs.Schedule.{IsWholeAmong}
+use Rattle.bk_apply.proofs.FeedReports.{untouched, few_counts, few_receipts, part_is_out, all_is_out}
+use Rattle.bk_apply.proofs.Schedules.{known_execution, stops_memory, stops_unscheduled}
+use Rattle.bk_apply.proofs.scheduling.apply_schedule.Goals as goal
+
+pub returns-in_err-feed-clause-stop : goal.returns-in_err-feed-clause-stop
+returns-in_err-feed-clause-stop g c =
+    let p = err_from_is_err_and c.from_residual.result c.from_residual.ensures.1 in
+    rw (p.1, p.2) (c.in_err-feed.ensures.fault, untouched (g.K.Sink.state c.args.sink.now))
+
+pub returns-in_err-ledger-clause-stop : goal.returns-in_err-ledger-clause-stop
+returns-in_err-ledger-clause-stop g c =
+    let p = err_from_is_err_and c.from_residual-in_err-ledger.result c.from_residual-in_err-ledger.ensures.1 in
+    rw (p.1, p.2) (stops_unscheduled _ c.args.workers c.args.events.now (g.S.Source.state c.args.source.now) (g.S.Source.state c.read.new.source) (g.K.Sink.state c.args.sink.now) c.in_ok-feed.feed c.in_ok-feed.ensures.sound c.in_ok-feed.ensures.feed.0 c.in_ok-feed.ensures.feed.1 c.in_err-ledger.ensures.stop)
+
+pub returns-in_err-summary-clause-stop : goal.returns-in_err-summary-clause-stop
+returns-in_err-summary-clause-stop g c =
+    let p = err_from_is_err_and c.from_residual-in_err-summary.result c.from_residual-in_err-summary.ensures.1 in
+    rw (p.1, p.2) (stops_memory c.args.workers c.args.events.now (g.S.Source.state c.args.source.now) (g.S.Source.state c.read.new.source) (g.K.Sink.state c.args.sink.now) c.in_ok-feed.feed c.in_ok-feed.ensures.sound c.in_ok-feed.ensures.feed.0 c.in_ok-feed.ensures.feed.1)
+
+pub returns-in_err-page-clause-stop : goal.returns-in_err-page-clause-stop
+returns-in_err-page-clause-stop g c =
+    let p = err_from_is_err_and c.from_residual-in_err-page.result c.from_residual-in_err-page.ensures.1 in
+    rw (p.1, p.2) (stops_memory c.args.workers c.args.events.now (g.S.Source.state c.args.source.now) (g.S.Source.state c.read.new.source) (g.K.Sink.state c.args.sink.now) c.in_ok-feed.feed c.in_ok-feed.ensures.sound c.in_ok-feed.ensures.feed.0 c.in_ok-feed.ensures.feed.1)
+
+pub write_report-requires-clause-few : goal.write_report-requires-clause-few
+write_report-requires-clause-few g c =
+    let l = c.in_ok-summary.summary in
+    let good = c.in_ok-feed.ensures.feed.0 in
+    let counts = c.in_ok-summary.ensures.counts ∙ c.in_ok-ledger.ensures.counts in
+    let receipts = c.in_ok-summary.ensures.receipts ∙ c.in_ok-ledger.ensures.receipts in
+    (few_counts c.in_ok-feed.feed l.counts.items _ good counts l.counts.ok.0, few_receipts c.in_ok-feed.feed l.receipts.items _ good receipts l.receipts.ok.0, c.in_ok-summary.ensures.few)
+
+pub returns-in_err-write_report-clause-stop : goal.returns-in_err-write_report-clause-stop
+returns-in_err-write_report-clause-stop g c =
+    let l = c.in_ok-summary.summary in
+    let counts = c.in_ok-summary.ensures.counts ∙ c.in_ok-ledger.ensures.counts in
+    let receipts = c.in_ok-summary.ensures.receipts ∙ c.in_ok-ledger.ensures.receipts in
+    let rows = c.in_ok-summary.ensures.rows ∙ c.in_ok-ledger.ensures.rows in
+    let p = err_from_is_err_and c.from_residual-in_err-write_report.result c.from_residual-in_err-write_report.ensures.1 in
+    rw (p.1, p.2) (
+      c.in_ok-feed.ensures.sound,
+      c.in_err-write_report.ensures.written.0,
+      part_is_out (g.S.Source.state c.args.source.now) _ _ _ c.in_ok-feed.feed l.counts.items l.receipts.items l.rows.items _ c.in_ok-page.ensures c.in_ok-feed.ensures.feed.0 c.in_ok-feed.ensures.feed.1
+          (record { counts_are = counts; receipts_are = receipts; rows_are = rows }) c.in_err-write_report.ensures.written.1,
+    )
+
+pub returns-clause-report : goal.returns-clause-report
+returns-clause-report g c =
+    let l = c.in_ok-summary.summary in
+    let counts = c.in_ok-summary.ensures.counts ∙ c.in_ok-ledger.ensures.counts in
+    let receipts = c.in_ok-summary.ensures.receipts ∙ c.in_ok-ledger.ensures.receipts in
+    let rows = c.in_ok-summary.ensures.rows ∙ c.in_ok-ledger.ensures.rows in
+    all_is_out (g.S.Source.state c.args.source.now) _ _ _ _ c.in_ok-feed.feed l.counts.items l.receipts.items l.rows.items c.in_ok-page.ensures c.in_ok-write_report.ensures.empty c.in_ok-feed.ensures.feed.0 c.in_ok-feed.ensures.feed.1
+    (record { counts_are = counts; receipts_are = receipts; rows_are = rows }) c.in_ok-write_report.ensures.written.1
+
+pub returns-clause-whole : goal.returns-clause-whole
+returns-clause-whole g c =
+    known_execution (g.S.Source.state c.args.source.now) c.in_ok-feed.feed (λ s. IsWholeAmong s c.args.workers c.args.events.now) c.in_ok-feed.ensures.feed.0 c.in_ok-feed.ensures.feed.1 c.in_ok-ledger.ensures.whole

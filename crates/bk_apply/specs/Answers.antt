@@ -1,0 +1,24 @@
+-- What `apply` leaves where there is no report.
+use Rattle.std.specs.Prelude.{ℕ, ◌<◌, List, length, take}
+use Rattle.bk_frames.specs.Device.{Device, Works, Fails, Receives, IfKnown}
+use Rattle.bk_frames.specs.Pulling.{Refuses}
+use Rattle.bk_results.specs.declared.fault.Fault.{Fault}
+use Rattle.bk_results.specs.declared.fault.Fault.TheVariants as fault
+use Rattle.bk_results.specs.Devices.{Devices, IsUntouched, AreFeed}
+use Rattle.bk_report.specs.Report.{IsApplyReport}
+
+-- the first bytes of the report are out, and not all
+abbrev pub PartIsOut : ℕ → Device → Device → List ℕ → Type 0
+PartIsOut written old new bytes =
+    (text : List ℕ) × IsApplyReport bytes text × (written < length text) × Receives old new (take written text)
+
+-- why there is no report, by the fault: the source is refused and nothing is written; or a call of the sink failed and
+-- exactly the first bytes of the report are out; or memory ran out after a whole feed was read, and nothing is written
+abbrev pub FailsBy : Fault → Devices → Devices → Type 0
+FailsBy (fault.Feed found) old new = Refuses found old.source new.source × IsUntouched old.sink new.sink
+FailsBy (fault.Collision id) old new = ⊥
+FailsBy (fault.Equivocation round author first second) old new = ⊥
+FailsBy (fault.Unfinished place) old new = ⊥
+FailsBy (fault.Write written) old new =
+    Works old.source new.source × Fails old.sink new.sink × IfKnown old.source (PartIsOut written old.sink new.sink)
+FailsBy fault.Memory old new = Works old.source new.source × IfKnown old.source AreFeed × IsUntouched old.sink new.sink

@@ -1,0 +1,4 @@
+pub mod Answers
+pub mod Scheduling
+pub mod private
+pub mod Laws

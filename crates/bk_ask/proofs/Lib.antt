@@ -1,0 +1,2 @@
+pub mod ReplyTexts
+pub mod ReplyAnswers

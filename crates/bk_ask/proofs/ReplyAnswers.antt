@@ -1,0 +1,165 @@
+-- What a book, a Follower and a call reply, from what they found and wrote.
+use Rattle.std.proofs.Common.{◌≡◌, ℕ, ◌<◌, ◌^◌, List, length, Option, Some, None, true, refl, sym, ap, subst, ◌∙◌}
+use Rattle.std.specs.Prelude.{IfSome}
+use Rattle.bk_frames.specs.Device.{Device, Works, IfKnown}
+use Rattle.bk_frames.specs.Feed.{FeedValue}
+use Rattle.bk_order.specs.Intake.{Taken}
+use Rattle.bk_results.specs.declared.fault.Fault.{Fault}
+use Rattle.bk_results.specs.declared.fault.Fault.TheVariants as fault
+use Rattle.bk_ledger.specs.Ledger.{LedgerValue}
+use Rattle.bk_results.specs.declared.query.Query.{Query}
+use Rattle.bk_results.specs.declared.query.Query.TheVariants as query
+use Rattle.bk_results.specs.declared.query.Reply.{Reply}
+use Rattle.bk_results.specs.declared.query.Reply.TheVariants as reply
+use Rattle.bk_results.specs.Devices.{devices}
+use Rattle.bk_follow.specs.Outcomes.{Outcome, IsOutcomeOf}
+use Rattle.bk_ask.specs.Asking.{Replies, HasText, can_reply, IsReplied, PartOfReplyIsOut, AskFailsBy}
+use Rattle.bk_follow.specs.Finishing.{Closes, CloseFails}
+use Rattle.bk_follow.specs.Follower.{Executed, BookValue, Followed, IsExecuted, IsCurrent, executed_in}
+use Rattle.bk_follow.specs.Replaying.{AllHasCome, ReadFails}
+use Rattle.bk_follow.specs.RunReport.{HasPlaceIn, HasPlace}
+use Rattle.bk_follow.specs.Queries.{executed_of}
+use Rattle.bk_ask.specs.private.Replies.{outcome_of, IsOfClosed, TextFails, WritesReply, ReplyIsOut, ReplyStops, BookReplies, BookReplyFails, FollowerReplies, FollowerReplyFails}
+use Rattle.bk_follow.proofs.BookReports.{IsSettledBook, few_of_anchors, few_of_order}
+use Rattle.bk_follow.proofs.Following.{on_closed, settled_now}
+use Rattle.bk_follow.proofs.RunAnswers.{of_feed as of_known_feed, stopped, cut_short, untouched}
+
+-- ---- a book
+
+same_done : (d e : Executed) → Some d ≡ Some e → d ≡ e
+same_done d e same = cc
+
+-- what a settled book holds is where its feed ends
+outcome_is : (feed : FeedValue) (b : BookValue) (taken : Taken) (l : LedgerValue) → taken ≡ b.taken → b.executed ≡ Some (executed_of l) → IsCurrent feed b → IsOutcomeOf feed (outcome_of taken l)
+outcome_is feed b taken l same is current =
+    let x = subst (λ (e : Executed). IsExecuted feed b.taken.ordered e) (same_done current.done (executed_of l) (sym current.is_done ∙ is)) current.executed in
+    subst (λ (t : Taken). IsOutcomeOf feed (outcome_of t l)) (sym same) (record { clear = current.clear; ordered = current.ordered; receipts = x.receipts; rows = x.rows })
+
+-- a reply is one that its query can have
+can : (asked : Query) (end : Outcome) (answer : Reply) (text : List ℕ) → Replies asked end answer text → can_reply asked answer ≡ true
+can asked end reply.Found text h = refl
+can query.Order end reply.Short text h = absurd h
+can (query.Account id) end reply.Short text h = absurd h
+can (query.Receipt place) end reply.Short text h = absurd h
+can (query.Proof id) end reply.Short text h = absurd h
+can (query.State root) end reply.Short text h = refl
+can query.Order end reply.Wrong text h = absurd h
+can (query.Account id) end reply.Wrong text h = absurd h
+can (query.Receipt place) end reply.Wrong text h = absurd h
+can (query.Proof id) end reply.Wrong text h = absurd h
+can (query.State root) end reply.Wrong text h = refl
+can query.Order end reply.Absent text h = absurd h.0
+can (query.Account id) end reply.Absent text h = refl
+can (query.Receipt place) end reply.Absent text h = refl
+can (query.Proof id) end reply.Absent text h = refl
+can (query.State root) end reply.Absent text h = absurd h.0
+
+book_replies : (asked : Query) (b : BookValue) (taken : Taken) (l : LedgerValue) (old new : Device) (answer : Reply) → taken ≡ b.taken → b.executed ≡ Some (executed_of l) → WritesReply asked (outcome_of taken l) old new answer → BookReplies asked b old new answer
+book_replies asked b taken l old new answer same is w =
+    (λ feed good current. record { text = w.0; reply = record { end = outcome_of taken l; outcome = outcome_is feed b taken l same is current; it = w.1 }; gave = w.2.1 }, w.2.0, can asked (outcome_of taken l) answer w.0 w.1)
+
+book_reply_fails : (asked : Query) (b : BookValue) (taken : Taken) (l : LedgerValue) (old new : Device) (f : Fault) → taken ≡ b.taken → b.executed ≡ Some (executed_of l) → TextFails (HasText asked (outcome_of taken l)) old new f → BookReplyFails asked b old new f
+book_reply_fails asked b taken l old new (fault.Feed found) same is h = absurd h
+book_reply_fails asked b taken l old new (fault.Collision id) same is h = absurd h
+book_reply_fails asked b taken l old new (fault.Equivocation round author first second) same is h = absurd h
+book_reply_fails asked b taken l old new (fault.Unfinished place) same is h = absurd h
+book_reply_fails asked b taken l old new (fault.Write written) same is h =
+    (λ feed good current. record { answer = h.1.0; text = h.0; reply = record { end = outcome_of taken l; outcome = outcome_is feed b taken l same is current; it = h.1.1 }; some = h.2; gave = h.3 }, h.4)
+book_reply_fails asked b taken l old new fault.Memory same is h = h
+
+-- of the book that there is
+pub some_replies : (asked : Query) (book : Option BookValue) (b : BookValue) (taken : Taken) (l : LedgerValue) (old new : Device) (answer : Reply) → book ≡ Some b → taken ≡ b.taken → executed_in book ≡ Some (executed_of l) → WritesReply asked (outcome_of taken l) old new answer
+    → IfSome book (λ b. BookReplies asked b old new answer)
+some_replies asked book b taken l old new answer is same done w =
+    subst (λ (o : Option BookValue). IfSome o (λ b. BookReplies asked b old new answer)) (sym is) (book_replies asked b taken l old new answer same (sym (ap executed_in is) ∙ done) w)
+
+pub some_reply_fails : (asked : Query) (book : Option BookValue) (b : BookValue) (taken : Taken) (l : LedgerValue) (old new : Device) (f : Fault) → book ≡ Some b → taken ≡ b.taken → executed_in book ≡ Some (executed_of l) → TextFails (HasText asked (outcome_of taken l)) old new f
+    → IfSome book (λ b. BookReplyFails asked b old new f)
+some_reply_fails asked book b taken l old new f is same done h =
+    subst (λ (o : Option BookValue). IfSome o (λ b. BookReplyFails asked b old new f)) (sym is) (book_reply_fails asked b taken l old new f same (sym (ap executed_in is) ∙ done) h)
+
+-- there is one, and it was executed
+pub some_book : (book : Option BookValue) → IsOfClosed book → book ≡ None → ⊥
+some_book book (feed, good, b, is, current) none = absurd (let e : None ≡ Some b = sym none ∙ is in cc)
+
+pub some_executed : (book : Option BookValue) → IsOfClosed book → executed_in book ≡ None → ⊥
+some_executed book (feed, good, b, is, current) none = absurd (let e : None ≡ Some current.done = sym none ∙ ap executed_in is ∙ current.is_done in cc)
+
+same_book : (b c : BookValue) → Some b ≡ Some c → b ≡ c
+same_book b c same = cc
+
+of_settled : (book : Option BookValue) (b : BookValue) (taken : Taken) → IsOfClosed book → book ≡ Some b → IsSettledBook b
+of_settled book b taken (feed, good, c, is, current) same = (feed, good, subst (IsCurrent feed) (same_book c b (sym is ∙ same)) current)
+
+pub few_of_closed : (book : Option BookValue) (b : BookValue) (taken : Taken) → IsOfClosed book → book ≡ Some b → taken ≡ b.taken → (length taken.ordered.anchors < 2 ^ 32) × (length taken.ordered.order < 2 ^ 32)
+few_of_closed book b taken closed is same =
+    let settled = of_settled book b taken closed is in
+    rw same (few_of_anchors b settled, few_of_order b settled)
+
+-- ---- a Follower
+
+-- why the feed was not closed is why there is no reply
+pub reply_close_fails : (asked : Query) (f : Fault) (old new : Followed) (sink : Device) → CloseFails old new f → FollowerReplyFails asked old sink sink f
+reply_close_fails asked (fault.Feed found) old new sink h = (h.0, untouched sink)
+reply_close_fails asked (fault.Collision id) old new sink h = (h.0, untouched sink)
+reply_close_fails asked (fault.Equivocation round author first second) old new sink h = (h.0, untouched sink)
+reply_close_fails asked (fault.Unfinished place) old new sink h = (h.0, untouched sink)
+reply_close_fails asked (fault.Write written) old new sink h = absurd h
+reply_close_fails asked fault.Memory old new sink h = untouched sink
+
+-- what is said of the book that there is
+of_book : (book : Option BookValue) (b : BookValue) (P : BookValue → Type 0) → book ≡ Some b → IfSome book P → P b
+of_book book b P is h = subst (λ (o : Option BookValue). IfSome o P) is h
+
+-- why the reply of the book was not written is why there is none
+pub reply_write_fails : (asked : Query) (f : Fault) (old new : Followed) (before after : Device) → Closes old new → IfSome new.book (λ b. BookReplyFails asked b before after f) → FollowerReplyFails asked old before after f
+reply_write_fails asked f old new before after closed h =
+    let s = settled_now old new closed in
+    by_fault f s.2 s.3 (of_book new.book s.2 (λ b. BookReplyFails asked b before after f) s.3 h)
+  where
+    by_fault : (f : Fault) (b : BookValue) → new.book ≡ Some b → BookReplyFails asked b before after f → FollowerReplyFails asked old before after f
+    by_fault (fault.Feed found) b is h = absurd h
+    by_fault (fault.Collision id) b is h = absurd h
+    by_fault (fault.Equivocation round author first second) b is h = absurd h
+    by_fault (fault.Unfinished place) b is h = absurd h
+    by_fault (fault.Write written) b is h = (on_closed old new b (λ feed. ReplyStops feed asked written before after) closed is h.0, h.1)
+    by_fault fault.Memory b is h = h
+
+-- the reply of the book is that of the feed
+pub follower_replies : (asked : Query) (old new : Followed) (before after : Device) (answer : Reply) → Closes old new → IfSome new.book (λ b. BookReplies asked b before after answer) → FollowerReplies asked old before after answer
+follower_replies asked old new before after answer closed h =
+    let s = settled_now old new closed in
+    let r = of_book new.book s.2 (λ b. BookReplies asked b before after answer) s.3 h in
+    (on_closed old new s.2 (λ feed. ReplyIsOut feed asked answer before after) closed s.3 r.0, r.1, r.2)
+
+-- ---- a call
+
+-- the reply of the feed is that of the bytes
+pub call_replies : (asked : Query) (known old new : Device) (v : Followed) (answer : Reply) → IfKnown known (λ bytes. AllHasCome bytes v) → FollowerReplies asked v old new answer → IfKnown known (λ bytes. IsReplied asked answer bytes old new)
+call_replies asked known old new v answer come h =
+    of_known_feed known v (λ feed. ReplyIsOut feed asked answer old new) (λ bytes. IsReplied asked answer bytes old new) come h.0
+    (λ bytes feed good spelled out. (out.text, record { feed = feed; good = good; spelled = spelled; reply = out.reply }, out.gave))
+
+-- why the Follower did not reply is why the call did not
+pub call_fails : (asked : Query) (f : Fault) (known now old new : Device) (v : Followed) → Works known now → IfKnown known (λ bytes. AllHasCome bytes v) → FollowerReplyFails asked v old new f → AskFailsBy asked f (devices known old) (devices now new)
+call_fails asked (fault.Feed found) known now old new v works come h = (cut_short known now v found works come h.0, h.1)
+call_fails asked (fault.Collision id) known now old new v works come h = ((works, h.1), stopped known v (fault.Collision id) come h.0)
+call_fails asked (fault.Equivocation round author first second) known now old new v works come h = ((works, h.1), stopped known v (fault.Equivocation round author first second) come h.0)
+call_fails asked (fault.Unfinished place) known now old new v works come h =
+    ((works, h.1), of_known_feed known v (λ feed. HasPlaceIn feed place) (λ bytes. HasPlace bytes place) come h.0 (λ bytes feed good spelled there. record { feed = feed; good = good; spelled = spelled; there = there }))
+call_fails asked (fault.Write written) known now old new v works come h = (
+  works,
+  h.1,
+  of_known_feed known v (λ feed. ReplyStops feed asked written old new) (PartOfReplyIsOut asked written old new) come h.0
+      (λ bytes feed good spelled part. (part.answer, part.text, record { feed = feed; good = good; spelled = spelled; reply = part.reply }, part.some, part.gave)),
+)
+call_fails asked fault.Memory known now old new v works come h = (works, h)
+
+-- why a feed was not read is why there is no reply
+pub call_read_fails : (asked : Query) (f : Fault) (known now sink : Device) → ReadFails f known now → AskFailsBy asked f (devices known sink) (devices now sink)
+call_read_fails asked (fault.Feed found) known now sink h = (h, untouched sink)
+call_read_fails asked (fault.Collision id) known now sink h = absurd h
+call_read_fails asked (fault.Equivocation round author first second) known now sink h = absurd h
+call_read_fails asked (fault.Unfinished place) known now sink h = absurd h
+call_read_fails asked (fault.Write written) known now sink h = absurd h
+call_read_fails asked fault.Memory known now sink h = (h, untouched sink)

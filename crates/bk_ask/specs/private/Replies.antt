@@ -1,0 +1,101 @@
+-- What a book replies to a query, and what its reply leaves.
+use Rattle.std.specs.Prelude.{◌≡◌, ℕ, ◌<◌, List, [], length, take, true, Option, Some, None}
+use Rattle.std.specs.Global.{Vec}
+use Rattle.bk_frames.specs.Cutting.{EndsShort}
+use Rattle.bk_frames.specs.Device.{Device, Works, Fails, Receives}
+use Rattle.bk_frames.specs.Feed.{FeedValue, IsFeed}
+use Rattle.bk_frames.specs.Writing.{Writes}
+use Rattle.bk_order.specs.Intake.{Taken}
+use Rattle.bk_results.specs.declared.fault.Fault.{Fault}
+use Rattle.bk_results.specs.declared.fault.Fault.TheVariants as fault
+use Rattle.bk_ledger.specs.Ledger.{LedgerValue}
+use Rattle.bk_results.specs.declared.query.Query.{Query}
+use Rattle.bk_results.specs.declared.query.Reply.{Reply}
+use Rattle.bk_results.specs.declared.query.Reply.TheVariants as reply
+use Rattle.bk_results.specs.Devices.{IsUntouched}
+use Rattle.bk_follow.specs.Outcomes.{Outcome}
+use Rattle.bk_ask.specs.Asking.{Replies, IsReplyOf, can_reply}
+use Rattle.bk_follow.specs.Finishing.{OfFeed}
+use Rattle.bk_follow.specs.Follower.{BookValue, Followed, IsCurrent}
+use Rattle.bk_follow.specs.RunReport.{IsStopIn, HasPlaceIn}
+
+-- what was ordered and executed
+abbrev pub outcome_of : Taken → LedgerValue → Outcome
+outcome_of taken l = record { ordered = taken.ordered; receipts = l.receipts; rows = l.state.rows }
+
+-- a feed was closed, and this is made of its frames
+abbrev pub IsOfClosed : Option BookValue → Type 0
+IsOfClosed book =
+    (feed : FeedValue) × IsFeed feed × (b : BookValue) × (book ≡ Some b) × IsCurrent feed b
+
+-- a text was not written: some of its first bytes are out, and a call of the sink failed; or memory ran out
+abbrev pub TextFails : (List ℕ → Type 0) → Device → Device → Fault → Type 0
+TextFails is_text old new (fault.Feed found) = ⊥
+TextFails is_text old new (fault.Collision id) = ⊥
+TextFails is_text old new (fault.Equivocation round author first second) = ⊥
+TextFails is_text old new (fault.Unfinished place) = ⊥
+TextFails is_text old new (fault.Write written) =
+    (text : List ℕ) × is_text text × (written < length text) × Receives old new (take written text) × Fails old new
+TextFails is_text old new fault.Memory = IsUntouched old new
+
+-- the text that was found
+abbrev pub IsTextOf : Option (Vec ℕ) → List ℕ → Type 0
+IsTextOf (Some found) text = text ≡ found.items
+IsTextOf None text = ⊥
+
+-- what was found was written, and nothing where nothing was
+abbrev pub WritesFound : Option (Vec ℕ) → Device → Device → Reply → Type 0
+WritesFound (Some text) old new answer = (answer ≡ reply.Found) × Writes text.items old new
+WritesFound None old new answer = (answer ≡ reply.Absent) × Writes [] old new
+
+-- a reply was written
+abbrev pub WritesReply : Query → Outcome → Device → Device → Reply → Type 0
+WritesReply asked end old new answer = (text : List ℕ) × Replies asked end answer text × Writes text old new
+
+-- the sink received the reply of a feed
+pub record ReplyIsOut (feed : FeedValue) (asked : Query) (answer : Reply) (old new : Device) : Type 0 where
+  pub text : List ℕ
+  pub reply : IsReplyOf feed asked answer text
+  pub gave : Receives old new text
+
+-- the sink received the first bytes of it, and not all
+pub record ReplyStops (feed : FeedValue) (asked : Query) (written : ℕ) (old new : Device) : Type 0 where
+  pub answer : Reply
+  pub text : List ℕ
+  pub reply : IsReplyOf feed asked answer text
+  pub some : written < length text
+  pub gave : Receives old new (take written text)
+
+-- a reply was written of a book that is settled
+abbrev pub BookReplies : Query → BookValue → Device → Device → Reply → Type 0
+BookReplies asked b old new answer =
+    ((feed : FeedValue) → IsFeed feed → IsCurrent feed b → ReplyIsOut feed asked answer old new) × Works old new
+    × (can_reply asked answer ≡ true)
+
+-- why it was not, and how much of it is out
+abbrev pub BookReplyFails : Query → BookValue → Device → Device → Fault → Type 0
+BookReplyFails asked b old new (fault.Feed found) = ⊥
+BookReplyFails asked b old new (fault.Collision id) = ⊥
+BookReplyFails asked b old new (fault.Equivocation round author first second) = ⊥
+BookReplyFails asked b old new (fault.Unfinished place) = ⊥
+BookReplyFails asked b old new (fault.Write written) =
+    ((feed : FeedValue) → IsFeed feed → IsCurrent feed b → ReplyStops feed asked written old new) × Fails old new
+BookReplyFails asked b old new fault.Memory = IsUntouched old new
+
+-- a Follower replied at the end of its feed
+abbrev pub FollowerReplies : Query → Followed → Device → Device → Reply → Type 0
+FollowerReplies asked v old new answer =
+    OfFeed v (λ feed. ReplyIsOut feed asked answer old new) × Works old new × (can_reply asked answer ≡ true)
+
+-- why it did not
+abbrev pub FollowerReplyFails : Query → Followed → Device → Device → Fault → Type 0
+FollowerReplyFails asked v old new (fault.Feed found) = EndsShort v.cut found × IsUntouched old new
+FollowerReplyFails asked v old new (fault.Collision id) =
+    OfFeed v (λ feed. IsStopIn feed (fault.Collision id)) × IsUntouched old new
+FollowerReplyFails asked v old new (fault.Equivocation round author first second) =
+    OfFeed v (λ feed. IsStopIn feed (fault.Equivocation round author first second)) × IsUntouched old new
+FollowerReplyFails asked v old new (fault.Unfinished place) =
+    OfFeed v (λ feed. HasPlaceIn feed place) × IsUntouched old new
+FollowerReplyFails asked v old new (fault.Write written) =
+    OfFeed v (λ feed. ReplyStops feed asked written old new) × Fails old new
+FollowerReplyFails asked v old new fault.Memory = IsUntouched old new

@@ -1,0 +1,7 @@
+//! What a feed replies to a query.
+#![tactic(auto)]
+
+mod asking;
+mod replying;
+
+pub use asking::ask;

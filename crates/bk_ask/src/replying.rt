@@ -1,0 +1,281 @@
+//! What a feed that was closed replies to a query.
+
+ghost use Rattle.std.specs.Prelude.{◌≡◌, ◌^◌, ◌<◌, ◌++◌, ◌∷◌, [], length, None, OnOk, IfOk, IfErr, IfSome, MatchOption, slice_get};
+ghost use Rattle.bk_frames.specs.Device.{CanBeUsed};
+ghost use Rattle.bk_frames.specs.Writing.{Writes};
+ghost use Rattle.bk_rules.specs.Rows.{account_at};
+ghost use Rattle.bk_ask.specs.Asking.{Replies, HasText, ShowsAccount, ShowsReceipt, ShowsProof, order_text};
+ghost use Rattle.bk_report.specs.Leaves.{state_of};
+ghost use Rattle.bk_report.specs.Lines.{text_of};
+ghost use Rattle.bk_report.specs.declared.line.Line.TheVariants as line;
+ghost use Rattle.bk_results.specs.declared.query.Query.TheVariants as asked;
+ghost use Rattle.bk_report.specs.Proofs.{IsAbsent};
+ghost use Rattle.bk_report.specs.RunLines.{anchor_lines, cert_lines};
+ghost use Rattle.bk_report.specs.Pages.{Written, blank};
+ghost use Rattle.bk_ask.specs.private.Replies.{outcome_of, TextFails, IsTextOf};
+ghost use Rattle.bk_ask.specs.private.Replies.{IsOfClosed, WritesFound, WritesReply, BookReplies, BookReplyFails};
+
+use bk_cert::CertRef;
+use bk_digest::{Digest32, tree_root_with};
+use bk_follow::Follower;
+use bk_frames::{Sink, WriteFault, push_all};
+use bk_ledger::Ledger;
+use bk_order::Intake;
+use bk_report::{Line, Page, leaves_of, proof_of, push_line, put_anchors, put_certs};
+use bk_results::{Fault, Query, Reply};
+use bk_rules::{Account, Receipt};
+use std::alloc::{AllocError, Global};
+use std::thread::Threads;
+
+// ---- an order
+
+// Puts the anchors and the certificates in order, a page at a time.
+fn put_order<K: Sink>(
+    sink: &mut K,
+    page: &mut Page,
+    anchors: &[CertRef],
+    order: &[CertRef],
+) -> Result<(), WriteFault>
+    requires sound { CanBeUsed (K.state sink.old) }
+    requires anchors { length anchors.now < 2 ^ 32 }
+    requires order { length order.now < 2 ^ 32 }
+    requires blank { page.old ≡ blank }
+    ensures written { Written result (K.state sink.old) (K.state sink.new) page.old page.new
+        (text_of (anchor_lines anchors.now ++ cert_lines order.now)) }
+    ensures empty { OnOk result (page.new.bytes ≡ []) }
+{
+    put_anchors(sink, page, anchors)?;
+    put_certs(sink, page, order)?;
+    page.flush(sink)
+}
+
+// Writes them.
+fn write_order<K: Sink>(alloc: Global, sink: &mut K, intake: &Intake) -> Result<(), Fault>
+    requires sound { CanBeUsed (K.state sink.old) }
+    requires anchors { length intake.now.ordered.anchors < 2 ^ 32 }
+    requires order { length intake.now.ordered.order < 2 ^ 32 }
+    ensures out { OnOk result (Writes (order_text intake.now.ordered)
+        (K.state sink.old) (K.state sink.new)) }
+    ensures fault { IfErr result (TextFails (λ text. text ≡ order_text intake.now.ordered)
+        (K.state sink.old) (K.state sink.new)) }
+{
+    let mut page = Page::new(alloc)?;
+    put_order(sink, &mut page, intake.anchors(), intake.order())?;
+    Ok(())
+}
+
+// ---- an account, a receipt, a proof or a digest
+
+// The line of the account with this id, where there is one.
+fn account_text(alloc: Global, ledger: &Ledger, id: u64) -> Result<Option<Vec<u8>>, AllocError>
+    ensures { IfOk result (λ found. MatchOption found
+        (account_at ledger.now.state.rows id ≡ None)
+        (λ text. ShowsAccount ledger.now.state.rows id text.items)) }
+{
+    let Some(account) = ledger.state().account(id) else {
+        return Ok(None);
+    };
+    let Account { balance, seq } = account;
+    let mut text = Vec::new(alloc);
+    push_line(&mut text, Line::Account { id, balance, seq })?;
+    Ok(Some(text))
+}
+
+// The line of the transaction at this place, where there is one.
+fn receipt_text(alloc: Global, ledger: &Ledger, place: u32) -> Result<Option<Vec<u8>>, AllocError>
+    ensures { IfOk result (λ found. MatchOption found
+        (slice_get ledger.now.receipts place ≡ None)
+        (λ text. ShowsReceipt ledger.now.receipts place text.items)) }
+{
+    let Some(receipt) = ledger.receipt(place) else {
+        return Ok(None);
+    };
+    let Receipt { status, moved } = receipt;
+    let mut text = Vec::new(alloc);
+    push_line(
+        &mut text,
+        Line::Tx {
+            place,
+            status,
+            moved,
+        },
+    )?;
+    Ok(Some(text))
+}
+
+// The text of the proof of the account with this id, where there is one.
+fn proof_text<R: Threads + Sync>(
+    rt: &R,
+    alloc: Global,
+    ledger: &Ledger,
+    id: u64,
+) -> Result<Option<Vec<u8>>, AllocError>
+    ensures { IfOk result (λ found. MatchOption found (IsAbsent ledger.now.state.rows id)
+        (λ text. ShowsProof ledger.now.state.rows id text.items)) }
+{
+    let rows = ledger.state().rows(alloc)?;
+    let Some(proof) = proof_of(rt, alloc, &rows, id)? else {
+        return Ok(None);
+    };
+    let text = proof.text(alloc)?;
+    Ok(Some(text))
+}
+
+// The digest of the state.
+fn state_digest<R: Threads + Sync>(
+    rt: &R,
+    alloc: Global,
+    ledger: &Ledger,
+) -> Result<Digest32, AllocError>
+    ensures { IfOk result (λ digest. digest ≡ state_of ledger.now.state.rows) }
+{
+    let rows = ledger.state().rows(alloc)?;
+    let leaves = leaves_of(alloc, &rows)?;
+    Ok(tree_root_with(rt, &leaves))
+}
+
+// The line of a digest that is right.
+fn good_text(alloc: Global) -> Result<Vec<u8>, AllocError>
+    ensures { IfOk result (λ text. text.items ≡ text_of (line.StateGood ∷ [])) }
+{
+    let mut text = Vec::new(alloc);
+    push_line(&mut text, Line::StateGood)?;
+    Ok(text)
+}
+
+// The lines of one that is wrong, where this one is right.
+fn bad_text(alloc: Global, digest: Digest32) -> Result<Vec<u8>, AllocError>
+    ensures { IfOk result (λ text. text.items
+        ≡ text_of (line.StateBad ∷ line.State digest ∷ [])) }
+{
+    let mut text = Vec::new(alloc);
+    push_line(&mut text, Line::StateBad)?;
+    push_line(&mut text, Line::State { digest })?;
+    Ok(text)
+}
+
+// The verdict on a digest of the state, and its text.
+fn verdict<R: Threads + Sync>(
+    rt: &R,
+    alloc: Global,
+    intake: &Intake,
+    ledger: &Ledger,
+    root: Digest32,
+) -> Result<(Reply, Vec<u8>), AllocError>
+    ensures { IfOk result (λ v. Replies (asked.State root) (outcome_of intake.now ledger.now)
+        v.0 v.1.items) }
+{
+    let digest = state_digest(rt, alloc, ledger)?;
+    if root != digest {
+        return Ok((Reply::Wrong, bad_text(alloc, digest)?));
+    }
+    let text = good_text(alloc)?;
+    match intake.missing() {
+        Some(_) => Ok((Reply::Short, text)),
+        None => Ok((Reply::Found, text)),
+    }
+}
+
+// Writes them.
+fn write_verdict<R: Threads + Sync, K: Sink>(
+    rt: &R,
+    alloc: Global,
+    sink: &mut K,
+    intake: &Intake,
+    ledger: &Ledger,
+    root: Digest32,
+) -> Result<Reply, Fault>
+    requires sound { CanBeUsed (K.state sink.old) }
+    ensures reply { IfOk result (WritesReply (asked.State root) (outcome_of intake.now ledger.now)
+        (K.state sink.old) (K.state sink.new)) }
+    ensures fault { IfErr result
+        (TextFails (HasText (asked.State root) (outcome_of intake.now ledger.now))
+        (K.state sink.old) (K.state sink.new)) }
+{
+    let (reply, text) = verdict(rt, alloc, intake, ledger, root)?;
+    push_all(sink, &text)?;
+    Ok(reply)
+}
+
+// Writes what was found.
+fn write_found<K: Sink>(sink: &mut K, found: Option<Vec<u8>>) -> Result<Reply, Fault>
+    requires sound { CanBeUsed (K.state sink.old) }
+    ensures out { IfOk result (WritesFound found (K.state sink.old) (K.state sink.new)) }
+    ensures fault { IfErr result (TextFails (IsTextOf found)
+        (K.state sink.old) (K.state sink.new)) }
+{
+    let Some(text) = found else {
+        return Ok(Reply::Absent);
+    };
+    push_all(sink, &text)?;
+    Ok(Reply::Found)
+}
+
+// Writes the reply of what was ordered and executed.
+fn write_reply<R: Threads + Sync, K: Sink>(
+    rt: &R,
+    alloc: Global,
+    sink: &mut K,
+    intake: &Intake,
+    ledger: &Ledger,
+    query: Query,
+) -> Result<Reply, Fault>
+    requires sound { CanBeUsed (K.state sink.old) }
+    requires anchors { length intake.now.ordered.anchors < 2 ^ 32 }
+    requires order { length intake.now.ordered.order < 2 ^ 32 }
+    ensures reply { IfOk result (WritesReply query (outcome_of intake.now ledger.now)
+        (K.state sink.old) (K.state sink.new)) }
+    ensures fault { IfErr result (TextFails (HasText query (outcome_of intake.now ledger.now))
+        (K.state sink.old) (K.state sink.new)) }
+{
+    match query {
+        Query::Order => {
+            write_order(alloc, sink, intake)?;
+            Ok(Reply::Found)
+        }
+        Query::Account { id } => {
+            let found = account_text(alloc, ledger, id)?;
+            let reply = write_found(sink, found)?;
+            Ok(reply)
+        }
+        Query::Receipt { place } => {
+            let found = receipt_text(alloc, ledger, place)?;
+            let reply = write_found(sink, found)?;
+            Ok(reply)
+        }
+        Query::Proof { id } => {
+            let found = proof_text(rt, alloc, ledger, id)?;
+            let reply = write_found(sink, found)?;
+            Ok(reply)
+        }
+        Query::State { root } => {
+            let reply = write_verdict(rt, alloc, sink, intake, ledger, root)?;
+            Ok(reply)
+        }
+    }
+}
+
+/// Writes the reply of a feed that was followed to its end, and closed.
+pub(crate) fn reply_closed<R: Threads + Sync, K: Sink>(
+    rt: &R,
+    alloc: Global,
+    sink: &mut K,
+    follower: &Follower,
+    query: Query,
+) -> Result<Reply, Fault>
+    requires sound { CanBeUsed (K.state sink.old) }
+    requires current { IsOfClosed follower.now.book }
+    ensures reply { IfOk result (λ r. IfSome follower.now.book (λ b.
+        BookReplies query b (K.state sink.old) (K.state sink.new) r)) }
+    ensures fault { IfErr result (λ f. IfSome follower.now.book (λ b.
+        BookReplyFails query b (K.state sink.old) (K.state sink.new) f)) }
+{
+    let Some(intake) = follower.intake() else {
+        unreachable!()
+    };
+    let Some(ledger) = follower.ledger() else {
+        unreachable!()
+    };
+    let reply = write_reply(rt, alloc, sink, intake, ledger, query)?;
+    Ok(reply)
+}

@@ -1,0 +1,271 @@
+-- Where feeds end that are followed, and whether two of them agree.
+use Rattle.std.proofs.Common.{◌≡◌, ℕ, ◌+◌, ◌≤◌, true, false, List, length, Option, Some, None, refl, sym, ap, subst, ◌∙◌, ◌⊎◌, inl, inr, ⊎_elim, arith}
+use Rattle.std.specs.Prelude.{IfSome, IfOk, IfErr, OnOk, Result, Ok, Err}
+use Rattle.std.proofs.lemmas.List.Elements.{Contains-append_left, Contains-append_right}
+use Rattle.bk_frames.specs.declared.kind.Kind.TheVariants as kind
+use Rattle.bk_frames.specs.declared.version.Version.{Version}
+use Rattle.bk_frames.specs.Device.{Device, Works, IfKnown}
+use Rattle.bk_frames.specs.Feed.{Frame, FeedValue, feed_of, frame_of}
+use Rattle.bk_cert.specs.Node.{Node}
+use Rattle.bk_committee.specs.Payload.{CommitteeValue}
+use Rattle.bk_cert.specs.Clear.{IsClear}
+use Rattle.bk_evidence.specs.Batches.{Batch, AreApart}
+use Rattle.bk_commit.specs.Growth.{IsPartOf}
+use Rattle.bk_order.specs.Stops.{HasNoStop, IsStop}
+use Rattle.bk_order.specs.declared.stop.Stop.{Stop}
+use Rattle.bk_order.specs.declared.stop.Stop.TheVariants as stop
+use Rattle.bk_order.proofs.OneReading.{no_stop}
+use Rattle.bk_results.specs.declared.compare_stop.CompareStop.{CompareStop}
+use Rattle.bk_results.specs.declared.compare_stop.CompareStop.TheVariants as why
+use Rattle.bk_results.specs.declared.differ.Agreed.{Agreed}
+use Rattle.bk_results.specs.declared.differ.Differ.{Differ}
+use Rattle.bk_results.specs.declared.differ.Differ.TheVariants as differ
+use Rattle.bk_results.specs.declared.fault.Fault.{Fault}
+use Rattle.bk_results.specs.declared.fault.Fault.TheVariants as fault
+use Rattle.bk_results.specs.declared.status.Status.{Status}
+use Rattle.bk_follow.specs.Agreement.{HaveOneSetup, frames_together, HaveNoStop, HaveStop, settled_in, OfBoth, FollowersAgree, FollowersDiffer}
+use Rattle.bk_results.specs.Devices.{AreFeed}
+use Rattle.bk_follow.specs.Outcomes.{IsOutcomeOf}
+use Rattle.bk_compare.specs.FeedAgreement.{FeedsAgree, FeedsDiffer, OfTheirFeeds, IfBothKnown, BothWork, FollowFails, ComparesNot, sources}
+use Rattle.bk_follow.specs.Finishing.{OfFeed, Closes, CloseFails}
+use Rattle.bk_follow.specs.Follower.{BookValue, Followed, IsCurrent, IsSettledBy, HasCome, receipts_of_executed}
+use Rattle.bk_follow.specs.Queries.{rows_of_executed}
+use Rattle.bk_follow.specs.Replaying.{AllHasCome, ReadFails}
+use Rattle.bk_follow.specs.RunReport.{committee_in, later_frames, IsStopIn, HasPlaceIn, HasPlace}
+use Rattle.bk_compare.specs.private.Ends.{HasStopIn, HasEnded, Ends, EndsNot, AgreesWith, ComparesNotWith, IsDifferOf}
+use Rattle.bk_follow.specs.Stopping.{stops}
+use Rattle.bk_follow.proofs.ComparedBooks.{unopened, version_is}
+use Rattle.bk_follow.proofs.RunAnswers.{of_known, of_feed, cut_short}
+
+-- ---- one feed
+
+-- a settled book of a feed has its outcome
+outcome_in : (feed : FeedValue) (b : BookValue) → IsCurrent feed b → IsOutcomeOf feed (settled_in (Some b))
+outcome_in feed b h = record {
+  clear = h.clear;
+  ordered = h.ordered;
+  receipts = ap receipts_of_executed h.is_done ∙ h.executed.receipts;
+  rows = ap rows_of_executed h.is_done ∙ h.executed.rows;
+}
+
+-- the book that there is
+outcome_of_book : (feed : FeedValue) (book : Option BookValue) → ((b : BookValue) × (book ≡ Some b) × IsCurrent feed b) → IsOutcomeOf feed (settled_in book)
+outcome_of_book feed book (b, is, current) = subst (λ (o : Option BookValue). IsOutcomeOf feed (settled_in o)) (sym is) (outcome_in feed b current)
+
+-- a feed that was closed has ended
+pub ends_closed : (old new : Followed) → Closes old new → Ends old new
+ends_closed old new h = λ bytes frames come.
+    let end = h.current bytes frames come in
+    record {
+      frames = frames;
+      come = (h.settled bytes frames come).0;
+      version = end.version;
+      known = ap (λ c. c.version) h.cut ∙ end.known;
+      good = end.good;
+      spelled = end.spelled;
+      end = inr (outcome_of_book (feed_of end.version frames) new.book end.it);
+    }
+
+-- and so has one that something stops
+ends_stopped : (old new : Followed) (f : Fault) → new ≡ old → OfFeed old (λ feed. IsStopIn feed f) → ((feed : FeedValue) → IsStopIn feed f → HasStopIn feed) → Ends old new
+ends_stopped old new f same stopped shown = subst (Ends old) (sym same) (λ bytes frames come.
+    let end = stopped bytes frames come in
+    record {
+      frames = frames;
+      come = come;
+      version = end.version;
+      known = end.known;
+      good = end.good;
+      spelled = end.spelled;
+      end = inl (shown (feed_of end.version frames) end.it);
+    })
+
+pub ends_by_stop : (f : Fault) (old new : Followed) → stops f ≡ true → CloseFails old new f → Ends old new
+ends_by_stop (fault.Feed found) old new e h = absurd cc
+ends_by_stop (fault.Collision id) old new e h = ends_stopped old new (fault.Collision id) h.1 h.0 (λ feed s. (stop.Collision id, s))
+ends_by_stop (fault.Equivocation round author first second) old new e h =
+    ends_stopped old new (fault.Equivocation round author first second) h.1 h.0 (λ feed s. (stop.Twins (record { round = round; author = author; first = first; second = second }), s))
+ends_by_stop (fault.Unfinished place) old new e h = absurd cc
+ends_by_stop (fault.Write written) old new e h = absurd cc
+ends_by_stop fault.Memory old new e h = absurd cc
+
+-- after a stop no fault is kept
+pub works_by_stop : (f : Fault) (old new : Followed) → stops f ≡ true → old.fault ≡ None → CloseFails old new f → new.fault ≡ None
+works_by_stop (fault.Feed found) old new e none h = absurd cc
+works_by_stop (fault.Collision id) old new e none h = ap (λ (v : Followed). v.fault) h.1 ∙ none
+works_by_stop (fault.Equivocation round author first second) old new e none h = ap (λ (v : Followed). v.fault) h.1 ∙ none
+works_by_stop (fault.Unfinished place) old new e none h = absurd cc
+works_by_stop (fault.Write written) old new e none h = absurd cc
+works_by_stop fault.Memory old new e none h = absurd cc
+
+-- these are the other reasons
+pub ends_not : (f : Fault) (old new : Followed) → stops f ≡ false → CloseFails old new f → EndsNot old f
+ends_not (fault.Feed found) old new e h = h.0
+ends_not (fault.Collision id) old new e h = absurd cc
+ends_not (fault.Equivocation round author first second) old new e h = absurd cc
+ends_not (fault.Unfinished place) old new e h = h.0
+ends_not (fault.Write written) old new e h = absurd h
+ends_not fault.Memory old new e h = tt
+
+-- ---- one source
+
+-- what a source has has ended
+pub source_ended : (known : Device) (v w : Followed) → IfKnown known (λ bytes. AllHasCome bytes v) → Ends v w → IfKnown known (λ bytes. HasEnded bytes w)
+source_ended known v w come ends = of_known known v (λ bytes. HasEnded bytes w) come (λ bytes frames c. ends bytes frames c)
+
+-- why it has not
+pub source_not : (f : Fault) (known now : Device) (v : Followed) → Works known now → IfKnown known (λ bytes. AllHasCome bytes v) → EndsNot v f → FollowFails f known now
+source_not (fault.Feed found) known now v works come h = cut_short known now v found works come h
+source_not (fault.Collision id) known now v works come h = absurd h
+source_not (fault.Equivocation round author first second) known now v works come h = absurd h
+source_not (fault.Unfinished place) known now v works come h =
+    (works, of_feed known v (λ feed. HasPlaceIn feed place) (λ bytes. HasPlace bytes place) come h (λ bytes feed good spelled there. record { feed = feed; good = good; spelled = spelled; there = there }))
+source_not (fault.Write written) known now v works come h = absurd h
+source_not fault.Memory known now v works come h = works
+
+-- a source that was not read
+pub source_unread : (f : Fault) (known now : Device) → ReadFails f known now → FollowFails f known now
+source_unread (fault.Feed found) known now h = h
+source_unread (fault.Collision id) known now h = absurd h
+source_unread (fault.Equivocation round author first second) known now h = absurd h
+source_unread (fault.Unfinished place) known now h = absurd h
+source_unread (fault.Write written) known now h = absurd h
+source_unread fault.Memory known now h = h
+
+-- ---- two feeds
+
+clear_part : (xs ys : List Node) → IsPartOf xs ys → IsClear ys → IsClear xs
+clear_part xs ys into h = record {
+  no_collision = λ c d x y. h.no_collision c d (into c x) (into d y);
+  no_twins = λ c d x y. h.no_twins c d (into c x) (into d y);
+}
+
+apart_part : (xs ys : List Batch) → IsPartOf xs ys → AreApart ys → AreApart xs
+apart_part xs ys into h = λ b d x y. h b d (into b x) (into d y)
+
+-- nothing stops a part of frames that nothing stops
+module _ (k : CommitteeValue) (part whole : List Frame) (s : Stop) (into : IsPartOf part whole) (none : HasNoStop k whole) (h : IsStop k part s) where
+  certs_in : IsPartOf h.certs none.certs
+  certs_in c t = let x = h.are_certs.sound c t in none.are_certs.complete c (x.0, into (frame_of kind.Certificate x.0) x.1, x.2)
+
+  batches_in : IsPartOf h.batches none.batches
+  batches_in b t = let x = h.are_batches.sound b t in none.are_batches.complete b (x.0, into (frame_of kind.Batch x.0) x.1, x.2)
+
+  pub part_unstopped : ⊥
+  part_unstopped = no_stop k part s
+      (record {
+        certs = h.certs;
+        batches = h.batches;
+        are_certs = h.are_certs;
+        are_batches = h.are_batches;
+        none = record { clear = clear_part h.certs none.certs certs_in none.none.clear; apart = apart_part h.batches none.batches batches_in none.none.apart };
+      })
+      h
+
+-- an end of a feed that nothing stops is its outcome
+outcome_of_end : (feed : FeedValue) (v : Followed) → HasStopIn feed ⊎ IsOutcomeOf feed (settled_in v.book) → (HasStopIn feed → ⊥) → IsOutcomeOf feed (settled_in v.book)
+outcome_of_end feed v end none = ⊎_elim (λ (s : HasStopIn feed). absurd (none s)) (λ (o : IsOutcomeOf feed (settled_in v.book)). o) end
+
+-- what holds of both Followers holds of the feeds that have come to them
+both_feeds : (one other : Followed) (holds : FeedValue → FeedValue → Type 0) (bytes more : List ℕ) → OfBoth one other holds → (x : HasEnded bytes one) (y : HasEnded more other) → holds (feed_of x.version x.frames) (feed_of y.version y.frames)
+both_feeds one other holds bytes more h x y =
+    let p = h bytes x.frames x.come in
+    let q = p.2 more y.frames y.come in
+    subst (λ (t : Version × Version). holds (feed_of t.0 x.frames) (feed_of t.1 y.frames)) (λ i. (version_is p.0 x.version one.cut.version p.1 x.known i, version_is q.0 y.version other.cut.version q.1 y.known i)) q.2
+
+module _ (one other : Followed) (bytes more : List ℕ) (x : HasEnded bytes one) (y : HasEnded more other) where
+  abbrev left : FeedValue
+  left = feed_of x.version x.frames
+
+  abbrev right : FeedValue
+  right = feed_of y.version y.frames
+
+  spelled_so : (holds : FeedValue → FeedValue → Type 0) → holds left right → OfTheirFeeds bytes more holds
+  spelled_so holds it = record { one = left; other = right; good = x.good; also_good = y.good; spelled = x.spelled; also_spelled = y.spelled; it = it }
+
+  left_clear : HaveNoStop left right → HasStopIn left → ⊥
+  left_clear none (s, h) = part_unstopped (committee_in left) (later_frames left) (frames_together left right) s
+      (λ f t. Contains-append_left (later_frames left) (later_frames right) f t) none.1 h
+
+  right_clear : HaveNoStop left right → HasStopIn right → ⊥
+  right_clear none (s, h) = part_unstopped (committee_in left) (later_frames right) (frames_together left right) s
+      (λ f t. Contains-append_right (later_frames left) (later_frames right) f t) none.1
+      (subst (λ (k : CommitteeValue). IsStop k (later_frames right) s) (sym none.0.committee) h)
+
+  pub ended_agree : (a : Agreed) → FollowersAgree one other a → OfTheirFeeds bytes more (λ f g. FeedsAgree f g a)
+  ended_agree a h =
+      let clear : HaveNoStop left right = both_feeds one other HaveNoStop bytes more h.clear x y in
+      spelled_so (λ f g. FeedsAgree f g a) (record {
+        clear = clear;
+        end = settled_in one.book;
+        also = settled_in other.book;
+        outcome = outcome_of_end left one x.end (left_clear clear);
+        also_outcome = outcome_of_end right other y.end (right_clear clear);
+        agree = h.agree;
+      })
+
+  pub ended_differ : (d : Differ) → FollowersDiffer one other d → OfTheirFeeds bytes more (FeedsDiffer d)
+  ended_differ differ.Setup h = spelled_so (FeedsDiffer differ.Setup) (h bytes more x.frames y.frames x.version y.version x.come y.come x.known y.known)
+  ended_differ (differ.Collision id) h = spelled_so (FeedsDiffer (differ.Collision id)) (both_feeds one other (λ f g. HaveStop f g (stop.Collision id)) bytes more h x y)
+  ended_differ (differ.Twins round author first second) h =
+      spelled_so (FeedsDiffer (differ.Twins round author first second))
+      (both_feeds one other (λ f g. HaveStop f g (stop.Twins (record { round = round; author = author; first = first; second = second }))) bytes more h x y)
+  ended_differ differ.Memory h = spelled_so (FeedsDiffer differ.Memory) (both_feeds one other HaveOneSetup bytes more h x y)
+
+-- ---- two sources
+
+-- of the other source, where its bytes are known
+of_other : (source : Device) (other : Followed) (P : List ℕ → Type 0) → IfKnown source (λ more. HasEnded more other) → ((more : List ℕ) → HasEnded more other → P more) → IfKnown source P
+of_other source other P ended f = by_known source.bytes ended
+  where
+    by_known : (o : Option (List ℕ)) → IfSome o (λ more. HasEnded more other) → IfSome o P
+    by_known None h = tt
+    by_known (Some more) h = f more h
+
+pub agrees_with : (one other : Followed) (source : Device) (a : Agreed) → IfKnown source (λ more. HasEnded more other) → FollowersAgree one other a → AgreesWith one source a
+agrees_with one other source a ended h = λ bytes x. of_other source other (λ more. OfTheirFeeds bytes more (λ f g. FeedsAgree f g a)) ended (λ more y. ended_agree one other bytes more x y a h)
+
+pub differs_with : (one other : Followed) (old new : Device) (d : Differ) → Works old new → IfKnown old (λ more. HasEnded more other) → FollowersDiffer one other d → ComparesNotWith (why.Differ d) one old new
+differs_with one other old new d works ended h = (works, λ bytes x. of_other old other (λ more. OfTheirFeeds bytes more (FeedsDiffer d)) ended (λ more y. ended_differ one other bytes more x y d h))
+
+-- what comparing both says of the source of the other
+pub agrees_by : (result : Result Agreed CompareStop) (one other : Followed) (source : Device) → IfKnown source (λ more. HasEnded more other) → IfOk result (FollowersAgree one other) → IfOk result (AgreesWith one source)
+agrees_by (Ok a) one other source ended h = agrees_with one other source a ended h
+agrees_by (Err e) one other source ended h = tt
+
+pub works_by : (result : Result Agreed CompareStop) (old new : Device) → Works old new → OnOk result (Works old new)
+works_by (Ok a) old new works = works
+works_by (Err e) old new works = tt
+
+differs_by : (e : CompareStop) (one other : Followed) (old new : Device) → Works old new → IfKnown old (λ more. HasEnded more other) → IsDifferOf one other e → ComparesNotWith e one old new
+differs_by (why.First found) one other old new works ended h = absurd h
+differs_by (why.Second found) one other old new works ended h = absurd h
+differs_by (why.Differ found) one other old new works ended h = differs_with one other old new found works ended h
+
+pub stops_by : (result : Result Agreed CompareStop) (one other : Followed) (old new : Device) → Works old new → IfKnown old (λ more. HasEnded more other) → IfErr result (IsDifferOf one other) → IfErr result (λ e. ComparesNotWith e one old new)
+stops_by (Ok a) one other old new works ended h = tt
+stops_by (Err e) one other old new works ended h = differs_by e one other old new works ended h
+
+-- and of both sources
+pub both_agree : (result : Result Agreed CompareStop) (one : Followed) (first second : Device) → IfKnown first (λ bytes. HasEnded bytes one) → IfOk result (AgreesWith one second) → IfOk result (λ a. IfBothKnown (sources first second) (λ f g. FeedsAgree f g a))
+both_agree (Ok a) one first second ended h = of_other first one (λ bytes. IfKnown second (λ more. OfTheirFeeds bytes more (λ f g. FeedsAgree f g a))) ended (λ bytes x. h bytes x)
+both_agree (Err e) one first second ended h = tt
+
+pub both_work : (result : Result Agreed CompareStop) (first first' second second' : Device) → Works first first' → OnOk result (Works second second') → OnOk result (BothWork (sources first second) (sources first' second'))
+both_work (Ok a) first first' second second' works h = (works, h)
+both_work (Err e) first first' second second' works h = tt
+
+-- a feed that has ended is a feed
+is_feed : (first : Device) (one : Followed) → IfKnown first (λ bytes. HasEnded bytes one) → IfKnown first AreFeed
+is_feed first one ended = of_other first one AreFeed ended (λ bytes x. (feed_of x.version x.frames, x.good, x.spelled))
+
+compares_not : (e : CompareStop) (one : Followed) (first first' second second' : Device) → Works first first' → IfKnown first (λ bytes. HasEnded bytes one) → ComparesNotWith e one second second' → ComparesNot e (sources first second) (sources first' second')
+compares_not (why.First found) one first first' second second' works ended h = absurd h
+compares_not (why.Second found) one first first' second second' works ended h = (works, is_feed first one ended, h)
+compares_not (why.Differ found) one first first' second second' works ended h =
+    ((works, h.0), of_other first one (λ bytes. IfKnown second (λ more. OfTheirFeeds bytes more (FeedsDiffer found))) ended (λ bytes x. h.1 bytes x))
+
+pub both_stop : (result : Result Agreed CompareStop) (one : Followed) (first first' second second' : Device) → Works first first' → IfKnown first (λ bytes. HasEnded bytes one) → IfErr result (λ e. ComparesNotWith e one second second')
+    → IfErr result (λ e. ComparesNot e (sources first second) (sources first' second'))
+both_stop (Ok a) one first first' second second' works ended h = tt
+both_stop (Err e) one first first' second second' works ended h = compares_not e one first first' second second' works ended h

@@ -1,0 +1,87 @@
+-- When the feeds of two sources agree, and why they do not.
+use Rattle.std.specs.Prelude.{◌≡◌, List, ℕ}
+use Rattle.bk_frames.specs.Device.{Device, Works, IfKnown}
+use Rattle.bk_frames.specs.Feed.{FeedValue, IsFeed, spelling}
+use Rattle.bk_frames.specs.Pulling.{Refuses}
+use Rattle.bk_order.specs.declared.stop.Stop.TheVariants as stop
+use Rattle.bk_results.specs.declared.compare_stop.CompareStop.{CompareStop}
+use Rattle.bk_results.specs.declared.compare_stop.CompareStop.TheVariants as why
+use Rattle.bk_results.specs.declared.differ.Agreed.{Agreed}
+use Rattle.bk_results.specs.declared.differ.Differ.{Differ}
+use Rattle.bk_results.specs.declared.differ.Differ.TheVariants as differ
+use Rattle.bk_results.specs.declared.fault.Fault.{Fault}
+use Rattle.bk_results.specs.declared.fault.Fault.TheVariants as fault
+use Rattle.bk_follow.specs.Agreement.{HaveOneSetup, HaveNoStop, HaveStop, Agree}
+use Rattle.bk_results.specs.Devices.{AreFeed}
+use Rattle.bk_follow.specs.Outcomes.{Outcome, IsOutcomeOf}
+use Rattle.bk_follow.specs.RunReport.{HasPlace}
+
+-- ---- two feeds
+
+-- two feeds agree: they have one setup, nothing stops the frames of both together, and where the one ends agrees with
+-- where the other ends
+pub record FeedsAgree (one other : FeedValue) (a : Agreed) : Type 0 where
+  pub clear : HaveNoStop one other
+  pub end : Outcome
+  pub also : Outcome
+  pub outcome : IsOutcomeOf one end
+  pub also_outcome : IsOutcomeOf other also
+  pub agree : Agree end also a
+
+-- why they do not: they have no one setup; or the frames of both together are stopped so; or memory ran out
+abbrev pub FeedsDiffer : Differ → FeedValue → FeedValue → Type 0
+FeedsDiffer differ.Setup one other = HaveOneSetup one other → ⊥
+FeedsDiffer (differ.Collision id) one other = HaveStop one other (stop.Collision id)
+FeedsDiffer (differ.Twins round author first second) one other =
+    HaveStop one other
+    (stop.Twins (record { round = round; author = author; first = first; second = second }))
+FeedsDiffer differ.Memory one other = HaveOneSetup one other
+
+-- ---- two sources
+
+-- two sources
+pub record Sources : Type 0 where
+  pub first : Device
+  pub second : Device
+
+-- these two
+abbrev pub sources : Device → Device → Sources
+sources first second = record { first = first; second = second }
+
+-- no call of either failed
+abbrev pub BothWork : Sources → Sources → Type 0
+BothWork old new = Works old.first new.first × Works old.second new.second
+
+-- two byte strings encode feeds of which this holds
+pub record OfTheirFeeds (bytes more : List ℕ) (holds : FeedValue → FeedValue → Type 0) : Type 0 where
+  pub one : FeedValue
+  pub other : FeedValue
+  pub good : IsFeed one
+  pub also_good : IsFeed other
+  pub spelled : bytes ≡ spelling one
+  pub also_spelled : more ≡ spelling other
+  pub it : holds one other
+
+-- the bytes of both sources, where they are known, encode feeds of which this holds
+abbrev pub IfBothKnown : Sources → (FeedValue → FeedValue → Type 0) → Type 0
+IfBothKnown s holds =
+    IfKnown s.first (λ bytes. IfKnown s.second (λ more. OfTheirFeeds bytes more holds))
+
+-- why the feed of a source was not followed to its end: it was refused; a worker took a place and did not finish it; or
+-- memory ran out. That something stops the feed is no such reason
+abbrev pub FollowFails : Fault → Device → Device → Type 0
+FollowFails (fault.Feed found) old new = Refuses found old new
+FollowFails (fault.Collision id) old new = ⊥
+FollowFails (fault.Equivocation round author first second) old new = ⊥
+FollowFails (fault.Unfinished place) old new = Works old new × IfKnown old (λ bytes. HasPlace bytes place)
+FollowFails (fault.Write written) old new = ⊥
+FollowFails fault.Memory old new = Works old new
+
+-- why the feeds of two sources do not agree: the first was not followed to its end, and nothing is read of the second;
+-- the first was, and the second was not; or both were, and they differ
+abbrev pub ComparesNot : CompareStop → Sources → Sources → Type 0
+ComparesNot (why.First found) old new =
+    FollowFails found old.first new.first × (new.second ≡ old.second)
+ComparesNot (why.Second found) old new =
+    Works old.first new.first × IfKnown old.first AreFeed × FollowFails found old.second new.second
+ComparesNot (why.Differ found) old new = BothWork old new × IfBothKnown old (FeedsDiffer found)

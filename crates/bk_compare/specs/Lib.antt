@@ -1,0 +1,3 @@
+pub mod FeedAgreement
+pub mod Nowhere
+pub mod private

@@ -1,0 +1,65 @@
+-- Where a feed ends that is followed.
+use Rattle.std.specs.Prelude.{◌≡◌, ◌⊎◌, List, ℕ, Some}
+use Rattle.bk_frames.specs.declared.version.Version.{Version}
+use Rattle.bk_frames.specs.Cutting.{EndsShort}
+use Rattle.bk_frames.specs.Device.{Device, Works, IfKnown}
+use Rattle.bk_frames.specs.Feed.{Frame, FeedValue, IsFeed, feed_of, spelling}
+use Rattle.bk_order.specs.Stops.{IsStop}
+use Rattle.bk_order.specs.declared.stop.Stop.{Stop}
+use Rattle.bk_results.specs.declared.compare_stop.CompareStop.{CompareStop}
+use Rattle.bk_results.specs.declared.compare_stop.CompareStop.TheVariants as why
+use Rattle.bk_results.specs.declared.differ.Agreed.{Agreed}
+use Rattle.bk_results.specs.declared.fault.Fault.{Fault}
+use Rattle.bk_results.specs.declared.fault.Fault.TheVariants as fault
+use Rattle.bk_follow.specs.Agreement.{settled_in, FollowersDiffer}
+use Rattle.bk_follow.specs.Outcomes.{IsOutcomeOf}
+use Rattle.bk_compare.specs.FeedAgreement.{FeedsAgree, FeedsDiffer, OfTheirFeeds, FollowFails}
+use Rattle.bk_follow.specs.Finishing.{OfFeed}
+use Rattle.bk_follow.specs.Follower.{Followed, HasCome}
+use Rattle.bk_follow.specs.RunReport.{committee_in, later_frames, HasPlaceIn}
+
+-- something stops a feed
+abbrev pub HasStopIn : FeedValue → Type 0
+HasStopIn feed = (s : Stop) × IsStop (committee_in feed) (later_frames feed) s
+
+-- these bytes have come, they are a feed, and something stops it or it is settled to its end
+pub record HasEnded (bytes : List ℕ) (v : Followed) : Type 0 where
+  pub frames : List Frame
+  pub come : HasCome bytes frames v
+  pub version : Version
+  pub known : v.cut.version ≡ Some version
+  pub good : IsFeed (feed_of version frames)
+  pub spelled : bytes ≡ spelling (feed_of version frames)
+  pub end : HasStopIn (feed_of version frames) ⊎ IsOutcomeOf (feed_of version frames) (settled_in v.book)
+
+-- whatever had come has ended
+abbrev pub Ends : Followed → Followed → Type 0
+Ends old new = (bytes : List ℕ) (frames : List Frame) → HasCome bytes frames old → HasEnded bytes new
+
+-- why it has not
+abbrev pub EndsNot : Followed → Fault → Type 0
+EndsNot v (fault.Feed found) = EndsShort v.cut found
+EndsNot v (fault.Collision id) = ⊥
+EndsNot v (fault.Equivocation round author first second) = ⊥
+EndsNot v (fault.Unfinished place) = OfFeed v (λ feed. HasPlaceIn feed place)
+EndsNot v (fault.Write written) = ⊥
+EndsNot v fault.Memory = Unit {0}
+
+-- it agrees with the feed that another source has, where that is known
+abbrev pub AgreesWith : Followed → Device → Agreed → Type 0
+AgreesWith v source a =
+    (bytes : List ℕ) → HasEnded bytes v → IfKnown source (λ more. OfTheirFeeds bytes more (λ f g. FeedsAgree f g a))
+
+-- why it does not: the other feed was not followed to its end; or they differ
+abbrev pub ComparesNotWith : CompareStop → Followed → Device → Device → Type 0
+ComparesNotWith (why.First found) v old new = ⊥
+ComparesNotWith (why.Second found) v old new = FollowFails found old new
+ComparesNotWith (why.Differ found) v old new =
+    Works old new
+    × ((bytes : List ℕ) → HasEnded bytes v → IfKnown old (λ more. OfTheirFeeds bytes more (FeedsDiffer found)))
+
+-- two Followers differ so
+abbrev pub IsDifferOf : Followed → Followed → CompareStop → Type 0
+IsDifferOf one other (why.First found) = ⊥
+IsDifferOf one other (why.Second found) = ⊥
+IsDifferOf one other (why.Differ found) = FollowersDiffer one other found

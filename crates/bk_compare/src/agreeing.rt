@@ -1,0 +1,144 @@
+//! Whether the feeds of two sources agree.
+
+ghost use Rattle.bk_frames.specs.declared.pulling.TheConstants.{PIECE};
+ghost use Rattle.std.specs.Prelude.{◌≡◌, ◌<◌, ◌≤◌, None, length, OnOk, IfOk, IfErr};
+ghost use Rattle.bk_frames.specs.Device.{CanBeUsed, Works, IfKnown};
+ghost use Rattle.bk_follow.specs.Agreement.{FollowersAgree};
+ghost use Rattle.bk_compare.specs.FeedAgreement.{BothWork, ComparesNot, FeedsAgree, FollowFails, IfBothKnown, sources};
+ghost use Rattle.bk_compare.specs.private.Ends.{AgreesWith, ComparesNotWith, Ends, EndsNot, HasEnded, IsDifferOf};
+
+use bk_follow::{Follower, follow, is_stop};
+use bk_frames::{PIECE, Source};
+use bk_pool::Gate;
+use bk_results::{Agreed, CompareStop, Fault};
+use std::alloc::Global;
+use std::sync::Wait;
+use std::thread::Threads;
+
+// Settles the feed that ends here. A stop is no fault: it may be one of both feeds that are compared.
+fn close<R: Threads + Wait + Sync, G: Gate + Sync>(
+    rt: &R,
+    follower: &mut Follower,
+    gate: &G,
+) -> Result<(), Fault>
+    requires works { follower.old.fault ≡ None }
+    ensures works { OnOk result (follower.new.fault ≡ None) }
+    ensures ends { OnOk result (Ends follower.old follower.new) }
+    ensures fault { IfErr result (EndsNot follower.old) }
+{
+    match follower.close(rt, gate) {
+        Ok(()) => Ok(()),
+        Err(fault) if is_stop(&fault) => Ok(()),
+        Err(fault) => Err(fault),
+    }
+}
+
+// Follows the feed of a source to its end.
+fn follow_in_pieces<R: Threads + Wait + Sync, S: Source, G: Gate + Sync>(
+    rt: &R,
+    alloc: Global,
+    source: &mut S,
+    piece: &mut [u8],
+    workers: usize,
+    gate: &G,
+) -> Result<Follower, Fault>
+    requires some { 0 < length piece.old }
+    requires few { length piece.old ≤ PIECE }
+    requires workers { (1 ≤ workers) × (workers ≤ 64) }
+    requires sound { CanBeUsed (S.state source.old) }
+    ensures works { IfOk result (λ v. Works (S.state source.old) (S.state source.new)
+        × (v.fault ≡ None)) }
+    ensures ended { IfOk result (λ v. IfKnown (S.state source.old) (λ bytes. HasEnded bytes v)) }
+    ensures fault { IfErr result (λ f. FollowFails f (S.state source.old) (S.state source.new)) }
+{
+    let mut follower = follow(rt, alloc, source, piece, workers)?;
+    close(rt, &mut follower, gate)?;
+    Ok(follower)
+}
+
+// The same, with room for a piece.
+fn follow_to_end<R: Threads + Wait + Sync, S: Source, G: Gate + Sync>(
+    rt: &R,
+    alloc: Global,
+    source: &mut S,
+    workers: usize,
+    gate: &G,
+) -> Result<Follower, Fault>
+    requires workers { (1 ≤ workers) × (workers ≤ 64) }
+    requires sound { CanBeUsed (S.state source.old) }
+    ensures works { IfOk result (λ v. Works (S.state source.old) (S.state source.new)
+        × (v.fault ≡ None)) }
+    ensures ended { IfOk result (λ v. IfKnown (S.state source.old) (λ bytes. HasEnded bytes v)) }
+    ensures fault { IfErr result (λ f. FollowFails f (S.state source.old) (S.state source.new)) }
+{
+    let mut piece = vec![in alloc; 0u8; PIECE]?;
+    follow_in_pieces(rt, alloc, source, piece.as_mut_slice(), workers, gate)
+}
+
+// Compares two Followers, of which each has followed a feed to its end.
+fn compare_ended(one: &Follower, other: &Follower) -> Result<Agreed, CompareStop>
+    requires one { one.now.fault ≡ None }
+    requires other { other.now.fault ≡ None }
+    ensures agree { IfOk result (FollowersAgree one.now other.now) }
+    ensures stop { IfErr result (IsDifferOf one.now other.now) }
+{
+    match one.compare(other) {
+        Ok(agreed) => Ok(agreed),
+        Err(differ) => Err(CompareStop::Differ(differ)),
+    }
+}
+
+// Compares what was followed to its end with the feed of another source.
+fn compare_with<R: Threads + Wait + Sync, S: Source, G: Gate + Sync>(
+    rt: &R,
+    alloc: Global,
+    one: &Follower,
+    source: &mut S,
+    workers: usize,
+    gate: &G,
+) -> Result<Agreed, CompareStop>
+    requires works { one.now.fault ≡ None }
+    requires workers { (1 ≤ workers) × (workers ≤ 64) }
+    requires sound { CanBeUsed (S.state source.old) }
+    ensures agree { IfOk result (AgreesWith one.now (S.state source.old)) }
+    ensures sound { OnOk result (Works (S.state source.old) (S.state source.new)) }
+    ensures stop { IfErr result (λ e. ComparesNotWith e one.now
+        (S.state source.old) (S.state source.new)) }
+{
+    match follow_to_end(rt, alloc, source, workers, gate) {
+        Ok(other) => compare_ended(one, &other),
+        Err(fault) => Err(CompareStop::Second(fault)),
+    }
+}
+
+/// Reads two feeds, the first one first, executes the order of each on this many workers, 1 to 64, and compares what
+/// they come to.
+///
+/// Where both have one version, committee and genesis and their frames together have neither a collision nor twins, the
+/// order of one begins that of the other and so do the receipts: the answer says how far. A collision or twins are those
+/// of both feeds together, be they in one of them alone.
+pub fn compare<R: Threads + Wait + Sync, S: Source, T: Source, G: Gate + Sync>(
+    rt: &R,
+    alloc: Global,
+    first: &mut S,
+    second: &mut T,
+    workers: usize,
+    gate: &G,
+) -> Result<Agreed, CompareStop>
+    requires first { CanBeUsed (S.state first.old) }
+    requires second { CanBeUsed (T.state second.old) }
+    requires workers { (1 ≤ workers) × (workers ≤ 64) }
+    ensures agree { IfOk result (λ a. IfBothKnown
+        (sources (S.state first.old) (T.state second.old)) (λ f g. FeedsAgree f g a)) }
+    ensures sound { OnOk result (BothWork
+        (sources (S.state first.old) (T.state second.old))
+        (sources (S.state first.new) (T.state second.new))) }
+    ensures stop { IfErr result (λ e. ComparesNot e
+        (sources (S.state first.old) (T.state second.old))
+        (sources (S.state first.new) (T.state second.new))) }
+{
+    match follow_to_end(rt, alloc, first, workers, gate) {
+        Ok(one) => compare_with(rt, alloc, &one, second, workers, gate),
+        Err(fault) => Err(CompareStop::First(fault)),
+    }
+}

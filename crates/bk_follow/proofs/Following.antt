@@ -1,0 +1,254 @@
+-- What a settle and an end do to a Follower.
+use Rattle.std.proofs.Common.{◌≡◌, ℕ, ◌+◌, ◌≤◌, List, [], ◌∷◌, ◌++◌, length, Option, Some, None, refl, sym, ap, subst, ◌∙◌, arith}
+use Rattle.std.specs.Prelude.{IfSome}
+use Rattle.std.proofs.KnownBytes.{Keeps-refl}
+use Rattle.std.proofs.lemmas.List.{append-nil}
+use Rattle.bk_frames.specs.declared.version.Version.{Version}
+use Rattle.bk_frames.specs.Device.{Device}
+use Rattle.bk_frames.specs.Feed.{Frame, FeedValue, IsFeed, feed_of, spelling}
+use Rattle.bk_frames.specs.Cutting.{Cut, Cuts, IsOpen, fresh}
+use Rattle.bk_frames.proofs.CutJoining.{bytes_so_far, ends_as_feed}
+use Rattle.bk_committee.specs.Payload.{CommitteeValue}
+use Rattle.bk_results.specs.declared.fault.Fault.{Fault}
+use Rattle.bk_results.specs.declared.fault.Fault.TheVariants as fault
+use Rattle.bk_results.specs.declared.status.Status.{Status}
+use Rattle.bk_results.specs.Devices.{IsUntouched}
+use Rattle.bk_follow.specs.RunReport.{IsStopIn, HasPlaceIn}
+use Rattle.bk_follow.specs.Follower.{BookValue, Followed, IsBookOf, IsCurrent, FollowsBy, Follows, HasCome, Settles, SettleFails, OfFrames, IsSettledBy, receipts_of_executed, receipts_in}
+use Rattle.bk_follow.specs.Finishing.{OfFeed, Closes, CloseFails, ReportIsOut, ReportStops, Finishes, FinishFails}
+use Rattle.bk_follow.specs.private.Books.{IsGoodBook, BookSettleFails, WritesBook, WriteFails}
+use Rattle.bk_follow.specs.private.Parts.{ClosesNot, EndFails}
+use Rattle.bk_follow.specs.Stopping.{kept_fault}
+use Rattle.bk_follow.proofs.Openings.{with_book, follows_book}
+
+-- a Follower of these parts
+abbrev pub follower_of : Cut → Option CommitteeValue → Option BookValue → Option Fault → Followed
+follower_of cut committee book stands = record { cut = cut; committee = committee; book = book; fault = stands }
+
+-- what has come makes a good book of a version
+pub record IsOfGoodBook (frames : List Frame) (v : Followed) (b : BookValue) : Type 0 where
+  pub version : Version
+  pub known : v.cut.version ≡ Some version
+  pub good : IsGoodBook (feed_of version frames) b
+
+pub good_of : (bytes : List ℕ) (frames : List Frame) (v : Followed) (b : BookValue) → HasCome bytes frames v → v.book ≡ Some b → IsOfGoodBook frames v b
+good_of bytes frames v b come is = by_version v.cut.version refl
+  where
+    by_version : (o : Option Version) → v.cut.version ≡ o → IsOfGoodBook frames v b
+    by_version None e =
+        let none = (subst (λ (w : Option Version). Follows w frames v.committee v.book) e come.follows).1 in
+        absurd (let e : None ≡ Some b = sym none ∙ is in cc)
+    by_version (Some version) e =
+        let follows = subst (λ (w : Option Version). Follows w frames v.committee v.book) e come.follows in
+        let opened = with_book version frames v.committee b (subst (FollowsBy version frames v.committee) is follows) in
+        record {
+          version = version;
+          known = e;
+          good = record { good = (bytes_so_far bytes frames v.cut version come.cuts e).0.good; opened = opened.two; book = opened.book };
+        }
+
+-- the same has come where the book is another of these frames
+pub come_on : (bytes : List ℕ) (frames : List Frame) (cut : Cut) (committee : Option CommitteeValue) (b : BookValue) (stands : Option Fault) (old : Followed) (o : BookValue) → old.cut ≡ cut → HasCome bytes frames old → (g : IsOfGoodBook frames old o) → stands ≡ None
+    → IsBookOf (feed_of g.version frames) b → HasCome bytes frames (follower_of cut committee (Some b) stands)
+come_on bytes frames cut committee b stands old o same come g works book = record {
+  cuts = subst (Cuts fresh bytes frames) same come.cuts;
+  is_open = subst IsOpen same come.is_open;
+  reads = sym (ap (λ (c : Cut). c.fault) same) ∙ come.reads;
+  follows = subst (λ (w : Option Version). Follows w frames committee (Some b)) (sym g.known ∙ ap (λ (c : Cut). c.version) same) (follows_book g.version frames committee b g.good.opened book);
+  works = works;
+}
+
+settled_by : (version : Version) (o : Option Version) (frames : List Frame) (b : BookValue) → o ≡ Some version → IsCurrent (feed_of version frames) b → IsSettledBy o frames (Some b)
+settled_by version o frames b e current = subst (λ (w : Option Version). IsSettledBy w frames (Some b)) (sym e) current
+
+-- a settle of the book is one of the Follower
+pub settles_now : (cut : Cut) (committee : Option CommitteeValue) (book : Option BookValue) (stands : Option Fault) (b new : BookValue) (n : ℕ) → book ≡ Some b → ((feed : FeedValue) → IsGoodBook feed b → IsCurrent feed new)
+    → length (receipts_of_executed new.executed) ≡ length (receipts_of_executed b.executed) + n → Settles (follower_of cut committee book stands) (follower_of cut committee (Some new) stands) n
+settles_now cut committee book stands b new n is current count = record {
+  settled = λ bytes frames come.
+      let g = good_of bytes frames (follower_of cut committee book stands) b come is in
+      let now = current (feed_of g.version frames) g.good in
+      (come_on bytes frames cut committee new stands (follower_of cut committee book stands) b refl come g come.works now.book, settled_by g.version cut.version frames new g.known now);
+  new_places = subst (λ (o : Option BookValue). length (receipts_of_executed new.executed) ≡ length (receipts_in o) + n) (sym is) count;
+  cut = refl;
+}
+
+-- nothing is settled where there is no book
+pub settles_none : (v : Followed) → v.book ≡ None → Settles v v 0
+settles_none v none = record {
+  settled = λ bytes frames come. (come, none_settled v.cut.version frames v.book none);
+  new_places = omega arith;
+  cut = refl;
+}
+  where
+    none_settled : (o : Option Version) (frames : List Frame) (book : Option BookValue) → book ≡ None → IsSettledBy o frames book
+    none_settled None frames book e = tt
+    none_settled (Some version) frames book e = subst (λ (x : Option BookValue). IfSome x (λ b. IsCurrent (feed_of version frames) b)) (sym e) tt
+
+-- after a fault that is not kept the book is as it was
+pub stop_same : (f : Fault) (old new : BookValue) → kept_fault f ≡ None → BookSettleFails old new f → new ≡ old
+stop_same (fault.Feed found) old new none h = absurd h
+stop_same (fault.Collision id) old new none h = h.0
+stop_same (fault.Equivocation round author first second) old new none h = h.0
+stop_same (fault.Unfinished place) old new none h = absurd cc
+stop_same (fault.Write written) old new none h = absurd h
+stop_same fault.Memory old new none h = absurd cc
+
+-- the facts of the feed that the frames are, from those of its book
+pub of_frames : (v : Followed) (b : BookValue) (holds : FeedValue → Type 0) → v.book ≡ Some b → ((feed : FeedValue) → IsGoodBook feed b → holds feed) → OfFrames v holds
+of_frames v b holds is h = λ bytes frames come. let g = good_of bytes frames v b come is in (g.version, g.known, h (feed_of g.version frames) g.good)
+
+-- why the book was not settled is why the Follower was not
+pub settle_fails : (f : Fault) (cut : Cut) (committee : Option CommitteeValue) (book : Option BookValue) (stands kept : Option Fault) (b new : BookValue) → book ≡ Some b → stands ≡ None → kept ≡ kept_fault f → BookSettleFails b new f
+    → SettleFails (follower_of cut committee book stands) (follower_of cut committee (Some new) kept) f
+settle_fails (fault.Feed found) cut committee book stands kept b new is none e h = absurd h
+settle_fails (fault.Collision id) cut committee book stands kept b new is none e h =
+    (λ i. follower_of cut committee ((ap Some h.0 ∙ sym is) i) ((e ∙ sym none) i), of_frames (follower_of cut committee book stands) b (λ feed. IsStopIn feed (fault.Collision id)) is h.1)
+settle_fails (fault.Equivocation round author first second) cut committee book stands kept b new is none e h =
+    (λ i. follower_of cut committee ((ap Some h.0 ∙ sym is) i) ((e ∙ sym none) i), of_frames (follower_of cut committee book stands) b (λ feed. IsStopIn feed (fault.Equivocation round author first second)) is h.1)
+settle_fails (fault.Unfinished place) cut committee book stands kept b new is none e h = (e, of_frames (follower_of cut committee book stands) b (λ feed. HasPlaceIn feed place) is h)
+settle_fails (fault.Write written) cut committee book stands kept b new is none e h = absurd h
+settle_fails fault.Memory cut committee book stands kept b new is none e h = e
+
+-- ---- the end of a feed
+
+-- what has come is a feed, where it ends with a frame after the genesis
+pub feed_of_book : (bytes : List ℕ) (frames : List Frame) (v : Followed) (b : BookValue) → HasCome bytes frames v → (g : IsOfGoodBook frames v b) → v.cut.kept ≡ [] → IsFeed (feed_of g.version frames) × (bytes ≡ spelling (feed_of g.version frames))
+feed_of_book bytes frames v b come g none =
+    let so_far = (bytes_so_far bytes frames v.cut g.version come.cuts g.known).0 in
+    (record { good = g.good.good; opened = g.good.opened }, so_far.spelled ∙ ap (λ (k : List ℕ). spelling (feed_of g.version frames) ++ k) none ∙ append-nil (spelling (feed_of g.version frames)))
+
+-- there is a book then
+pub book_at_end : (bytes : List ℕ) (frames : List Frame) (v : Followed) → HasCome bytes frames v → v.cut.kept ≡ [] → 2 ≤ v.cut.index → v.book ≡ None → ⊥
+book_at_end bytes frames v come kept two none =
+    let end = ends_as_feed bytes frames v.cut come.cuts kept two in
+    let follows = subst (λ (w : Option Version). Follows w frames v.committee v.book) end.1 come.follows in
+    no_book end.0 frames end.2.opened (subst (FollowsBy end.0 frames v.committee) none follows)
+  where
+    no_book : (version : Version) (fs : List Frame) → 2 ≤ length fs → FollowsBy version fs v.committee None → ⊥
+    no_book version [] le h = absurd (omega (arith, le))
+    no_book version (f ∷ []) le h = absurd (omega (arith, le))
+    no_book version (f ∷ g ∷ more) le h = absurd (let e = h.1 in cc)
+
+pub of_feed : (v : Followed) (b : BookValue) (holds : FeedValue → Type 0) → v.book ≡ Some b → v.cut.kept ≡ [] → ((feed : FeedValue) → IsFeed feed → IsGoodBook feed b → holds feed) → OfFeed v holds
+of_feed v b holds is none h = λ bytes frames come.
+    let g = good_of bytes frames v b come is in
+    let feed = feed_of_book bytes frames v b come g none in
+    record { version = g.version; known = g.known; good = feed.0; spelled = feed.1; it = h (feed_of g.version frames) feed.0 g.good }
+
+pub untouched : (d : Device) → IsUntouched d d
+untouched d = (refl, Keeps-refl d.bytes)
+
+-- why the book was not settled is why the feed was not closed
+pub closes_not : (f : Fault) (cut : Cut) (committee : Option CommitteeValue) (book : Option BookValue) (b new : BookValue) → book ≡ Some b → cut.kept ≡ [] → BookSettleFails b new f
+    → ClosesNot (follower_of cut committee book None) (follower_of cut committee (Some new) None) f
+closes_not (fault.Feed found) cut committee book b new is none h = absurd h
+closes_not (fault.Collision id) cut committee book b new is none h =
+    (of_feed (follower_of cut committee book None) b (λ feed. IsStopIn feed (fault.Collision id)) is none (λ feed _ good. h.1 feed good), (λ i. follower_of cut committee ((ap Some h.0 ∙ sym is) i) None))
+closes_not (fault.Equivocation round author first second) cut committee book b new is none h =
+    (of_feed (follower_of cut committee book None) b (λ feed. IsStopIn feed (fault.Equivocation round author first second)) is none (λ feed _ good. h.1 feed good), (λ i. follower_of cut committee ((ap Some h.0 ∙ sym is) i) None))
+closes_not (fault.Unfinished place) cut committee book b new is none h =
+    of_feed (follower_of cut committee book None) b (λ feed. HasPlaceIn feed place) is none (λ feed _ good. h feed good)
+closes_not (fault.Write written) cut committee book b new is none h = absurd h
+closes_not fault.Memory cut committee book b new is none h = tt
+
+-- a book that was settled is that of the feed
+pub closes : (bytes : List ℕ) (frames : List Frame) (cut : Cut) (committee : Option CommitteeValue) (book : Option BookValue) (b new : BookValue) → HasCome bytes frames (follower_of cut committee book None) → book ≡ Some b → cut.kept ≡ []
+    → ((feed : FeedValue) → IsGoodBook feed b → IsCurrent feed new) → Closes (follower_of cut committee book None) (follower_of cut committee (Some new) None)
+closes bytes frames cut committee book b new came is none current = record {
+  come = (bytes, frames, came);
+  settled = λ bs fs come.
+      let g = good_of bs fs (follower_of cut committee book None) b come is in
+      let now = current (feed_of g.version fs) g.good in
+      (come_on bs fs cut committee new None (follower_of cut committee book None) b refl come g refl now.book, settled_by g.version cut.version fs new g.known now);
+  cut = refl;
+  current = of_feed (follower_of cut committee book None) b (λ feed. (c : BookValue) × (Some new ≡ Some c) × IsCurrent feed c) is none (λ feed good book_good. (new, refl, current feed book_good));
+}
+
+some_book : (b c : BookValue) → Some b ≡ Some c → b ≡ c
+some_book b c same = cc
+
+-- the book of a feed that was closed is settled
+current_of : (feed : FeedValue) (book : Option BookValue) (b : BookValue) → book ≡ Some b → ((c : BookValue) × (book ≡ Some c) × IsCurrent feed c) → IsCurrent feed b
+current_of feed book b is (c, same, current) = subst (IsCurrent feed) (some_book c b (sym same ∙ is)) current
+
+-- what holds of each feed whose settled book this is
+pub on_closed : (old new : Followed) (b : BookValue) (holds : FeedValue → Type 0) → Closes old new → new.book ≡ Some b → ((feed : FeedValue) → IsFeed feed → IsCurrent feed b → holds feed) → OfFeed old holds
+on_closed old new b holds closed is h = λ bytes frames come.
+    let e = closed.current bytes frames come in
+    record { version = e.version; known = e.known; good = e.good; spelled = e.spelled; it = h (feed_of e.version frames) e.good (current_of (feed_of e.version frames) new.book b is e.it) }
+
+-- it is one of a feed
+pub settled_now : (old new : Followed) → Closes old new → (feed : FeedValue) × IsFeed feed × (b : BookValue) × (new.book ≡ Some b) × IsCurrent feed b
+settled_now old new closed =
+    let e = closed.current closed.come.0 closed.come.1 closed.come.2 in
+    (feed_of e.version closed.come.1, e.good, e.it.0, e.it.1, e.it.2)
+
+pub book_of_closed : (old new : Followed) → Closes old new → new.book ≡ None → ⊥
+book_of_closed old new closed none = let s = settled_now old new closed in absurd (let e : None ≡ Some s.2 = sym none ∙ s.3 in cc)
+
+pub settled_book : (old new : Followed) (b : BookValue) → Closes old new → new.book ≡ Some b → (feed : FeedValue) × IsFeed feed × IsCurrent feed b
+settled_book old new b closed is = let s = settled_now old new closed in (s.0, s.1, current_of s.0 new.book b is (s.2, s.3, s.4))
+
+-- why the feed was not closed is why there is no report
+pub end_close_fails : (f : Fault) (old new : Followed) (sink : Device) → ClosesNot old new f → EndFails old new sink sink f
+end_close_fails (fault.Feed found) old new sink h = (h, untouched sink)
+end_close_fails (fault.Collision id) old new sink h = (h.0, h.1, untouched sink)
+end_close_fails (fault.Equivocation round author first second) old new sink h = (h.0, h.1, untouched sink)
+end_close_fails (fault.Unfinished place) old new sink h = (h, untouched sink)
+end_close_fails (fault.Write written) old new sink h = absurd h
+end_close_fails fault.Memory old new sink h = untouched sink
+
+-- why the report was not written is why there is none
+pub end_write_fails : (f : Fault) (old new : Followed) (b : BookValue) (before after : Device) → Closes old new → new.book ≡ Some b → WriteFails b before after f → EndFails old new before after f
+end_write_fails (fault.Feed found) old new b before after closed is h = absurd h
+end_write_fails (fault.Collision id) old new b before after closed is h = absurd h
+end_write_fails (fault.Equivocation round author first second) old new b before after closed is h = absurd h
+end_write_fails (fault.Unfinished place) old new b before after closed is h = absurd h
+end_write_fails (fault.Write written) old new b before after closed is h = (on_closed old new b (λ feed. ReportStops feed written before after) closed is h.0, h.1)
+end_write_fails fault.Memory old new b before after closed is h = h
+
+-- a report of the book is that of the feed
+pub finishes : (old new : Followed) (b : BookValue) (before after : Device) (answer : Status) → Closes old new → new.book ≡ Some b → WritesBook b before after answer → Finishes old new before after answer
+finishes old new b before after answer closed is h = record {
+  settled = closed.settled;
+  cut = closed.cut;
+  report = on_closed old new b (λ feed. ReportIsOut feed answer before after) closed is h.0;
+  works = h.1;
+}
+
+-- after a fault that is not kept everything is as it was
+pub close_stop_same : (f : Fault) (old new : Followed) → kept_fault f ≡ None → ClosesNot old new f → new ≡ old
+close_stop_same (fault.Feed found) old new none h = absurd cc
+close_stop_same (fault.Collision id) old new none h = h.1
+close_stop_same (fault.Equivocation round author first second) old new none h = h.1
+close_stop_same (fault.Unfinished place) old new none h = absurd cc
+close_stop_same (fault.Write written) old new none h = absurd cc
+close_stop_same fault.Memory old new none h = absurd cc
+
+-- with the fault that is kept after it
+pub close_fails : (f : Fault) (old new : Followed) (kept : Option Fault) → old.fault ≡ None → kept ≡ kept_fault f → ClosesNot old new f → CloseFails old (follower_of new.cut new.committee new.book kept) f
+close_fails (fault.Feed found) old new kept none e h = (h, e)
+close_fails (fault.Collision id) old new kept none e h = (h.0, (λ i. follower_of (h.1 i).cut (h.1 i).committee (h.1 i).book ((e ∙ sym none) i)))
+close_fails (fault.Equivocation round author first second) old new kept none e h = (h.0, (λ i. follower_of (h.1 i).cut (h.1 i).committee (h.1 i).book ((e ∙ sym none) i)))
+close_fails (fault.Unfinished place) old new kept none e h = (h, e)
+close_fails (fault.Write written) old new kept none e h = absurd h
+close_fails fault.Memory old new kept none e h = e
+
+-- after a fault that is not kept everything is as it was
+pub end_stop_same : (f : Fault) (old new : Followed) (before after : Device) → kept_fault f ≡ None → EndFails old new before after f → new ≡ old
+end_stop_same (fault.Feed found) old new before after none h = absurd cc
+end_stop_same (fault.Collision id) old new before after none h = h.1
+end_stop_same (fault.Equivocation round author first second) old new before after none h = h.1
+end_stop_same (fault.Unfinished place) old new before after none h = absurd cc
+end_stop_same (fault.Write written) old new before after none h = absurd cc
+end_stop_same fault.Memory old new before after none h = absurd cc
+
+-- with the fault that is kept after it
+pub finish_fails : (f : Fault) (old new : Followed) (kept : Option Fault) (before after : Device) → old.fault ≡ None → kept ≡ kept_fault f → EndFails old new before after f → FinishFails old (follower_of new.cut new.committee new.book kept) before after f
+finish_fails (fault.Feed found) old new kept before after none e h = (h.0, e, h.1)
+finish_fails (fault.Collision id) old new kept before after none e h = (h.0, (λ i. follower_of (h.1 i).cut (h.1 i).committee (h.1 i).book ((e ∙ sym none) i)), h.2)
+finish_fails (fault.Equivocation round author first second) old new kept before after none e h = (h.0, (λ i. follower_of (h.1 i).cut (h.1 i).committee (h.1 i).book ((e ∙ sym none) i)), h.2)
+finish_fails (fault.Unfinished place) old new kept before after none e h = (h.0, e, h.1)
+finish_fails (fault.Write written) old new kept before after none e h = (h.0, e, h.1)
+finish_fails fault.Memory old new kept before after none e h = (e, h)

@@ -1,0 +1,289 @@
+-- The first two frames, and the frames that a piece makes whole.
+use Rattle.std.proofs.Common.{◌≡◌, true, false, ℕ, zero, suc, ◌+◌, ◌*◌, ◌^◌, ◌<◌, ◌≤◌, ◌⊎◌, inl, inr, List, [], ◌∷◌, ◌++◌, length, take, drop, Option, Some, None, refl, sym, ap, subst, ◌∙◌, arith, length-append}
+use Rattle.std.specs.Prelude.{◌==◌, IfSome, is_some, slice_index_or, unwrap_or}
+use Rattle.std.proofs.lemmas.List.{length-map, append-nil, length-drop}
+use Rattle.std.proofs.lemmas.Bool.{eqb-true}
+use Rattle.std.specs.Global.{Vec}
+use Rattle.bk_frames.specs.declared.version.Version.{Version}
+use Rattle.bk_frames.specs.declared.kind.Kind.{Kind}
+use Rattle.bk_frames.specs.declared.limits.TheConstants.{MOST_FEED}
+use Rattle.bk_frames.specs.Feed.{Frame, FeedValue, frame_of, frame_text, AreGoodFrom, feed_of, genesis_of}
+use Rattle.bk_frames.specs.declared.genesis.Row.{Row}
+use Rattle.bk_frames.specs.Genesis.{rows_of}
+use Rattle.bk_frames.specs.Cutting.{Cut, Cuts, in_magic, past_magic, in_frames, fresh, IsOpen, frames_in}
+use Rattle.bk_frames.proofs.CutJoining.{cuts_then, bytes_so_far, none_before_magic}
+use Rattle.bk_committee.specs.Payload.{CommitteeValue, committee_of}
+use Rattle.bk_follow.specs.RunReport.{committee_in, later_frames}
+use Rattle.bk_follow.specs.Follower.{BookValue, IsBookOf, FollowsBy, Follows, HasCome, Followed, receipts_of_executed, receipts_in, executed_in}
+use Rattle.bk_follow.specs.private.Books.{HasFollowed}
+use Rattle.bk_follow.specs.private.Openings.{IsFirstOf, OpensFirst, OpensSecond, IsOpened}
+use Rattle.bk_follow.specs.private.Parts.{followed}
+use Rattle.bk_follow.specs.declared.opening.Opened.{Opened}
+
+-- nothing is whole where there is neither a committee nor a book
+pub before_first : (version : Version) (before : List Frame) → FollowsBy version before None None → before ≡ []
+before_first version [] h = refl
+before_first version (f ∷ []) h = absurd cc
+before_first version (f ∷ g ∷ more) h = absurd (let e = h.1 in cc)
+
+-- the committee is that of the one frame that is whole
+pub record IsFirst (version : Version) (before : List Frame) (k : CommitteeValue) : Type 0 where
+  pub first : Frame
+  pub all : before ≡ first ∷ []
+  pub committee : k ≡ committee_of version first.payload
+
+pub after_first : (version : Version) (before : List Frame) (k : CommitteeValue) → FollowsBy version before (Some k) None → IsFirst version before k
+after_first version [] k h = absurd (let e = h.0 in cc)
+after_first version (f ∷ []) k h = record { first = f; all = refl; committee = let e = h.0 in cc }
+after_first version (f ∷ g ∷ more) k h = absurd (let e = h.1 in cc)
+
+-- where there is a book the first two frames are whole, and it is theirs
+pub record IsOpenedBy (version : Version) (before : List Frame) (b : BookValue) : Type 0 where
+  pub two : 2 ≤ length before
+  pub book : IsBookOf (feed_of version before) b
+
+pub with_book : (version : Version) (before : List Frame) (committee : Option CommitteeValue) (b : BookValue) → FollowsBy version before committee (Some b) → IsOpenedBy version before b
+with_book version [] committee b h = absurd (let e = h.1 in cc)
+with_book version (f ∷ []) committee b h = absurd (let e = h.1 in cc)
+with_book version (f ∷ g ∷ more) committee b h =
+    let same : h.0 ≡ b = let e = h.1 in cc in
+    record { two = omega arith; book = subst (IsBookOf (feed_of version (f ∷ g ∷ more))) same h.2 }
+
+pub follows_book : (version : Version) (frames : List Frame) (committee : Option CommitteeValue) (b : BookValue) → 2 ≤ length frames → IsBookOf (feed_of version frames) b → FollowsBy version frames committee (Some b)
+follows_book version [] committee b two book = absurd (omega (arith, two))
+follows_book version (f ∷ []) committee b two book = absurd (omega (arith, two))
+follows_book version (f ∷ g ∷ more) committee b two book = (b, refl, book)
+
+-- ---- how many frames there can be
+
+pub frames_long : (out : List (Kind × Vec ℕ)) → length (frames_in out) ≡ length out
+frames_long out = length-map out (λ (f : Kind × Vec ℕ). record { kind = f.0; payload = f.1.items })
+
+pub frames_few : (v : Version) (index offset : ℕ) (frames : List Frame) → offset ≤ MOST_FEED → AreGoodFrom v index offset frames → 5 * length frames + offset ≤ MOST_FEED
+frames_few v index offset [] le good = omega (arith, le)
+frames_few v index offset (f ∷ frames) le good =
+    omega (arith, frames_few v (index + 1) (offset + length (frame_text f)) frames good.0.framed.inside good.1)
+
+-- there is room for the numbers of the next frames
+pub room_for_more : (version : Version) (before more : List Frame) (b : BookValue) → IsOpenedBy version before b → AreGoodFrom version 0 4 (before ++ more) → b.taken.kept.next + length more < 2 ^ 64
+room_for_more version before more b opened good =
+    let long : b.taken.kept.next ≡ 2 + length (drop 2 before) = opened.book.taken.next in
+    omega (arith, long, length-drop 2 before, opened.two, frames_few version 0 4 (before ++ more) (omega arith) good, length-append before more)
+
+-- ---- the first two frames
+
+-- a list of no length is empty
+pub empty_items : {X : Type 0} (n : ℕ) (xs : List X) → n ≡ length xs → true ≡ (n == 0) → xs ≡ []
+empty_items n [] same e = refl
+empty_items n (x ∷ xs) same e = absurd (let none = eqb-true n 0 (sym e) in omega (arith, none, same))
+
+-- and another has a first one
+pub some_items : (n : ℕ) → false ≡ (n == 0) → 0 < n
+some_items zero e = absurd cc
+some_items (suc n) e = omega arith
+
+pub none_there : {X : Type 0} (o : Option X) → is_some o ≡ false → o ≡ None
+none_there None e = refl
+none_there (Some x) e = absurd cc
+
+-- the first of these frames is taken out
+pub first_taken : (old new : List (Kind × Vec ℕ)) (f : Kind × Vec ℕ) → 0 < length old → f ≡ slice_index_or old 0 f → new ≡ take 0 old ++ drop 1 old → IsFirstOf f.1.items (frames_in old) (frames_in new)
+first_taken [] new f lt is rest = absurd (omega (arith, lt))
+first_taken (g ∷ more) new f lt is rest = (
+  frame_of g.0 g.1.items,
+  ap (λ (fs : List (Kind × Vec ℕ)). frame_of g.0 g.1.items ∷ frames_in fs) (sym rest),
+  ap (λ (x : Kind × Vec ℕ). x.1.items) (sym is),
+)
+
+pub none_is_none : {X : Type 0} (o : Option X) → is_some o ≡ true → o ≡ None → ⊥
+none_is_none None e n = absurd cc
+none_is_none (Some x) e n = absurd cc
+
+-- a committee is there already
+pub first_stands : (version : Version) (committee : Option CommitteeValue) (frames : List Frame) → is_some committee ≡ true → OpensFirst version committee frames committee frames
+first_stands version None frames e = absurd cc
+first_stands version (Some k) frames e = (refl, refl)
+
+-- no frame came
+pub first_waits : (version : Version) (committee : Option CommitteeValue) (old new : List (Kind × Vec ℕ)) → is_some committee ≡ false → (old ≡ []) × (new ≡ []) → OpensFirst version committee (frames_in old) committee (frames_in new)
+first_waits version (Some k) old new e h = absurd cc
+first_waits version None [] new e h = (refl, ap frames_in h.1)
+first_waits version None (f ∷ more) new e h = absurd (let p = h.0 in cc)
+
+-- its first frame came
+pub first_opens : (version : Version) (committee : Option CommitteeValue) (payload : List ℕ) (old new : List Frame) (k : CommitteeValue) → is_some committee ≡ false → IsFirstOf payload old new → k ≡ committee_of version payload → OpensFirst version committee old (Some k) new
+first_opens version (Some j) payload old new k e h same = absurd cc
+first_opens version None payload [] new k e h same = absurd (let p = h.1 in cc)
+first_opens version None payload (f ∷ more) new k e h same =
+    let first : h.0 ≡ f = let p = h.1 in cc in
+    let rest : new ≡ more = let p = h.1 in cc in
+    (ap Some (same ∙ ap (committee_of version) (sym h.2 ∙ ap (λ (x : Frame). x.payload) first)), rest)
+
+-- there is no committee
+pub second_early : (committee : Option CommitteeValue) (frames : List Frame) → is_some committee ≡ false → OpensSecond committee frames committee None frames
+second_early (Some k) frames e = absurd cc
+second_early None frames e = (refl, refl, refl)
+
+-- no second frame came
+pub second_waits : (committee : Option CommitteeValue) (old new : List (Kind × Vec ℕ)) → is_some committee ≡ true → (old ≡ []) × (new ≡ []) → OpensSecond committee (frames_in old) committee None (frames_in new)
+second_waits None old new e h = absurd cc
+second_waits (Some k) [] new e h = (refl, refl, ap frames_in h.1)
+second_waits (Some k) (f ∷ more) new e h = absurd (let p = h.0 in cc)
+
+-- the second frame came
+pub second_opens : (k : CommitteeValue) (after : Option CommitteeValue) (payload : List ℕ) (old new : List Frame) (rows : List Row) (b : BookValue) → IsFirstOf payload old new → rows_of payload ≡ Some rows
+    → ((feed : FeedValue) → later_frames feed ≡ [] → k ≡ committee_in feed → rows ≡ genesis_of feed.frames → IsBookOf feed b) → receipts_of_executed b.executed ≡ [] → OpensSecond (Some k) old after (Some b) new
+second_opens k after payload [] new rows b h read book nothing = absurd (let p = h.1 in cc)
+second_opens k after payload (g ∷ more) new rows b h read book nothing =
+    let second : g ≡ h.0 = let p = h.1 in cc in
+    let rest : new ≡ more = let p = h.1 in cc in
+    let spelled : rows_of g.payload ≡ Some rows = ap (λ (x : Frame). rows_of x.payload) second ∙ ap rows_of h.2 ∙ read in (
+      b,
+      refl,
+      (λ version first same. book (feed_of version (first ∷ g ∷ [])) refl same (sym (ap (λ (o : Option (List Row)). unwrap_or o []) spelled)), nothing),
+      rest,
+    )
+
+-- there is a book already
+pub opened_stands : (version : Version) (before frames : List Frame) (committee : Option CommitteeValue) (book : Option BookValue) → is_some book ≡ true → FollowsBy version before committee book → IsOpened version (before ++ frames) committee book frames
+opened_stands version before frames committee None e h = absurd cc
+opened_stands version before frames committee (Some b) e h = record { front = before; parts = refl; follows = h; whole = λ p. absurd cc }
+
+-- what the second frame opens after the first
+second_opened : (version : Version) (first : Frame) (k : CommitteeValue) (old : List Frame) (committee : Option CommitteeValue) (book : Option BookValue) (left : List Frame) → k ≡ committee_of version first.payload → OpensSecond (Some k) old committee book left
+    → IsOpened version (first ∷ old) committee book left
+second_opened version first k [] committee book left same h = record {
+  front = first ∷ [];
+  parts = ap (λ (fs : List Frame). first ∷ fs) (sym h.2);
+  follows = (h.0 ∙ ap Some same, h.1);
+  whole = λ p. h.2;
+}
+second_opened version first k (g ∷ more) committee book left same h = record {
+  front = first ∷ g ∷ [];
+  parts = ap (λ (fs : List Frame). first ∷ g ∷ fs) (sym h.3);
+  follows = (h.0, h.1, h.2.0 version first same);
+  whole = λ p. absurd (let e = sym p ∙ h.1 in cc);
+}
+
+-- what the first two frames open where there is no book
+pub opened_now : (version : Version) (before : List Frame) (c0 c1 c2 : Option CommitteeValue) (f0 f1 f2 : List Frame) (book : Option BookValue) → OpensFirst version c0 f0 c1 f1 → OpensSecond c1 f1 c2 book f2 → FollowsBy version before c0 None
+    → IsOpened version (before ++ f0) c2 book f2
+opened_now version before None c1 c2 [] f1 f2 book one two h =
+    let e = before_first version before h in
+    let two : OpensSecond None [] c2 book f2 = subst (λ (y : Option CommitteeValue × List Frame). OpensSecond y.0 y.1 c2 book f2) (λ i. (one.0 i, one.1 i)) two in
+    subst (λ (fs : List Frame). IsOpened version (fs ++ []) c2 book f2) (sym e) (record { front = []; parts = sym two.2; follows = (two.0, two.1); whole = λ p. two.2 })
+opened_now version before None c1 c2 (f ∷ more) f1 f2 book one two h =
+    let e = before_first version before h in
+    let two : OpensSecond (Some (committee_of version f.payload)) more c2 book f2 = subst (λ (y : Option CommitteeValue × List Frame). OpensSecond y.0 y.1 c2 book f2) (λ i. (one.0 i, one.1 i)) two in
+    subst (λ (fs : List Frame). IsOpened version (fs ++ (f ∷ more)) c2 book f2) (sym e) (second_opened version f (committee_of version f.payload) more c2 book f2 refl two)
+opened_now version before (Some k) c1 c2 f0 f1 f2 book one two h =
+    let e = after_first version before k h in
+    let two : OpensSecond (Some k) f0 c2 book f2 = subst (λ (y : Option CommitteeValue × List Frame). OpensSecond y.0 y.1 c2 book f2) (λ i. (one.0 i, one.1 i)) two in
+    subst (λ (fs : List Frame). IsOpened version (fs ++ f0) c2 book f2) (sym e.all) (second_opened version e.first k f0 c2 book f2 e.committee two)
+
+-- the book that is opened has executed nothing
+pub nothing_executed : (c1 c2 : Option CommitteeValue) (f1 f2 : List Frame) (book : Option BookValue) → OpensSecond c1 f1 c2 book f2 → receipts_in book ≡ []
+nothing_executed None c2 f1 f2 book h = ap receipts_in h.1
+nothing_executed (Some k) c2 [] f2 book h = ap receipts_in h.1
+nothing_executed (Some k) c2 (g ∷ more) f2 book h = ap receipts_in h.1 ∙ h.2.1
+
+-- ---- the frames after them
+
+-- where there is no book all frames are followed
+pub opened_whole : (version : Version) (all left : List Frame) (committee : Option CommitteeValue) (book : Option BookValue) → book ≡ None → IsOpened version all committee book left → FollowsBy version all committee book
+opened_whole version all left committee book e o =
+    subst (λ (fs : List Frame). FollowsBy version fs committee book) (sym (o.parts ∙ ap (λ (fs : List Frame). o.front ++ fs) (o.whole e) ∙ append-nil o.front)) o.follows
+
+-- and where there is one it takes the others
+pub took_left : (version : Version) (all left : List Frame) (committee : Option CommitteeValue) (b new : BookValue) → IsOpened version all committee (Some b) left
+    → ((v : Version) (before : List Frame) → 2 ≤ length before → IsBookOf (feed_of v before) b → IsBookOf (feed_of v (before ++ left)) new) → FollowsBy version all committee (Some new)
+took_left version all left committee b new o took =
+    let w = with_book version o.front committee b o.follows in
+    subst (λ (fs : List Frame). FollowsBy version fs committee (Some new)) (sym o.parts) (follows_book version (o.front ++ left) committee new (omega (arith, w.two, length-append o.front left)) (took version o.front w.two w.book))
+
+-- there is room for their numbers
+pub room_for_left : (version : Version) (before more : List Frame) (left : List (Kind × Vec ℕ)) (c0 c1 : Option CommitteeValue) (book : Option BookValue) (b : BookValue) → HasFollowed version before more c0 book → IsOpened version (before ++ more) c1 (Some b) (frames_in left)
+    → b.taken.kept.next + length left < 2 ^ 64
+room_for_left version before more left c0 c1 book b h o =
+    let w = with_book version o.front c1 b o.follows in
+    let room = room_for_more version o.front (frames_in left) b w (subst (AreGoodFrom version 0 4) o.parts h.good) in
+    omega (arith, room, frames_long left)
+
+-- taking them executes nothing
+pub executed_still : (old : Option BookValue) (b new : BookValue) → new.executed ≡ b.executed → IfSome old (λ o. b.executed ≡ o.executed) → IfSome old (λ o. new.executed ≡ o.executed)
+executed_still None b new e h = tt
+executed_still (Some o) b new e h = e ∙ h
+
+pub executed_same : (old : Option BookValue) → IfSome old (λ o. executed_in old ≡ o.executed)
+executed_same None = tt
+executed_same (Some o) = refl
+
+pub executed_none : (old : Option BookValue) (P : BookValue → Type 0) → is_some old ≡ false → IfSome old P
+executed_none None P e = tt
+executed_none (Some o) P e = absurd cc
+
+-- ---- a piece
+
+-- what came before the magic was whole
+pub come_none : (bytes : List ℕ) (frames : List Frame) (v : Followed) → v.cut.version ≡ None → HasCome bytes frames v → (frames ≡ []) × (v.committee ≡ None) × (v.book ≡ None)
+come_none bytes frames v none come =
+    let nothing = none_before_magic bytes frames v.cut come.cuts none in
+    let follows = subst (λ o. Follows o frames v.committee v.book) none come.follows in
+    (nothing.0, follows.0, follows.1)
+
+-- the frames that were followed before a piece, in the version that is known after it
+pub come_by : (bytes : List ℕ) (frames : List Frame) (v : Followed) (version : Version) → (v.cut.version ≡ None) ⊎ (v.cut.version ≡ Some version) → HasCome bytes frames v → FollowsBy version frames v.committee v.book
+come_by bytes frames v version (inl none) come =
+    let h = come_none bytes frames v none come in
+    subst (λ (fs : List Frame). FollowsBy version fs v.committee v.book) (sym h.0) (h.1, h.2)
+come_by bytes frames v version (inr known) come = subst (λ o. Follows o frames v.committee v.book) known come.follows
+
+-- a cutter that knows a version knew it before, or knew none
+pub version_stays : (a b : Cut) (piece : List ℕ) (more : List Frame) (version : Version) → Cuts a piece more b → b.version ≡ Some version → (a.version ≡ None) ⊎ (a.version ≡ Some version)
+version_stays a b piece more version (in_magic old new i o none text) e = inl old
+version_stays a b piece more version (past_magic v old new text good i o) e = inl old
+version_stays a b piece more version (in_frames v old new text good i o) e = let same : v ≡ version = cc in inr (old ∙ ap Some same)
+
+-- a cutter that knows no version knew none before
+pub no_version_before : (a b : Cut) (piece : List ℕ) (more : List Frame) → Cuts a piece more b → b.version ≡ None → a.version ≡ None
+no_version_before a b piece more (in_magic old new i o none text) e = old
+no_version_before a b piece more (past_magic v old new text good i o) e = absurd cc
+no_version_before a b piece more (in_frames v old new text good i o) e = absurd cc
+
+-- the frames after a piece are good, and those before it are followed
+pub come_with : (bytes : List ℕ) (frames : List Frame) (cut new : Cut) (opened : Opened) (piece : List ℕ) (more : List Frame) (version : Version) → HasCome bytes frames (followed cut opened) → Cuts cut piece more new → new.version ≡ Some version
+    → HasFollowed version frames more opened.committee opened.book
+come_with bytes frames cut new opened piece more version come cuts known = record {
+  follows = come_by bytes frames (followed cut opened) version (version_stays cut new piece more version cuts known) come;
+  good = (bytes_so_far (bytes ++ piece) (frames ++ more) new version (cuts_then fresh cut new bytes piece frames more come.cuts cuts) known).0.good;
+}
+
+-- a piece was taken where the version is known
+pub took_piece : (bytes : List ℕ) (frames : List Frame) (cut new : Cut) (opened after : Opened) (piece : List ℕ) (more : List Frame) (version : Version) → HasCome bytes frames (followed cut opened) → Cuts cut piece more new → (new.fault ≡ None) × IsOpen new → new.version ≡ Some version
+    → ((before : List Frame) → FollowsBy version before opened.committee opened.book → FollowsBy version (before ++ more) after.committee after.book) → (out : List Frame) × HasCome (bytes ++ piece) (frames ++ out) (followed new after)
+took_piece bytes frames cut new opened after piece more version come cuts ready known follows = (
+  more,
+  record {
+    cuts = cuts_then fresh cut new bytes piece frames more come.cuts cuts;
+    is_open = ready.1;
+    reads = ready.0;
+    follows = subst (λ o. Follows o (frames ++ more) after.committee after.book) (sym known) (follows frames (come_with bytes frames cut new opened piece more version come cuts known).follows);
+    works = refl;
+  },
+)
+
+-- and where it is not
+pub took_magic : (bytes : List ℕ) (frames : List Frame) (cut new : Cut) (opened : Opened) (piece : List ℕ) (more : List Frame) → HasCome bytes frames (followed cut opened) → Cuts cut piece more new → (new.fault ≡ None) × IsOpen new → new.version ≡ None
+    → (out : List Frame) × HasCome (bytes ++ piece) (frames ++ out) (followed new opened)
+took_magic bytes frames cut new opened piece more come cuts ready none =
+    let old : cut.version ≡ None = no_version_before cut new piece more cuts none in
+    let h = come_none bytes frames (followed cut opened) old come in (
+      more,
+      record {
+        cuts = cuts_then fresh cut new bytes piece frames more come.cuts cuts;
+        is_open = ready.1;
+        reads = ready.0;
+        follows = subst (λ o. Follows o (frames ++ more) opened.committee opened.book) (sym none) (h.1, h.2);
+        works = refl;
+      },
+    )

@@ -1,0 +1,26 @@
+use Rattle.std.proofs.Common.{sym, ap, ◌∙◌}
+use Rattle.bk_frames.specs.Cutting.{frames_in}
+use Rattle.bk_frames.specs.Genesis.{rows_of}
+use Rattle.bk_follow.proofs.Openings.{none_is_none, second_early, second_waits, second_opens}
+use Rattle.bk_follow.proofs.opening.open_second.Goals as goal
+
+pub returns-then-is_none : goal.returns-then-is_none
+returns-then-is_none c = rw c.requires (second_early c.args.opened.now.committee (frames_in c.args.frames.now.items) c.if-is_none.ensures)
+
+pub returns-in_default : goal.returns-in_default
+returns-in_default c = rw c.requires (second_waits c.args.opened.now.committee c.args.frames.now.items c.take_first.new.frames.items c.if-is_none.ensures c.in_default.ensures)
+
+pub unreachable-unreachable : goal.unreachable-unreachable
+unreachable-unreachable c = none_is_none c.args.opened.now.committee c.if-is_none.ensures (sym c.take.ensures.value ∙ c.in_default-take.is)
+
+pub unreachable-requires : goal.unreachable-requires
+unreachable-requires c = none_is_none c.args.opened.now.committee c.if-is_none.ensures (sym c.take.ensures.value ∙ c.in_default-take.is)
+
+pub new-requires : goal.new-requires
+new-requires c = record { accounts = c.in_ok-rows.ensures.accounts }
+
+pub returns : goal.returns
+returns c =
+    let read = ap rows_of (sym c.deref.ensures.value) ∙ c.in_ok-rows.ensures.rows in
+    rw (sym c.take.ensures.value ∙ c.in-Some-take.is) (second_opens c.in-Some-take.committee c.take.new.self c.in-Some.payload.items (frames_in c.args.frames.now.items) (frames_in c.take_first.new.frames.items) c.in_ok-rows.rows.items c.in_ok-new.field-0 c.in-Some.ensures read
+    c.in_ok-new.ensures.book c.in_ok-new.ensures.none)

@@ -1,0 +1,93 @@
+-- When two Followers agree, and when they differ.
+use Rattle.std.specs.Prelude.{◌≡◌, ◌≤◌, ◌⊎◌, ℕ, List, ◌++◌, length, Option, Some, None}
+use Rattle.bk_frames.specs.declared.version.Version.{Version}
+use Rattle.bk_frames.specs.Feed.{Frame, FeedValue, feed_of, genesis_of}
+use Rattle.bk_commit.specs.Growth.{Begins}
+use Rattle.bk_order.specs.Agreement.{OneBegins}
+use Rattle.bk_order.specs.Intake.{nothing_ordered}
+use Rattle.bk_order.specs.Orders.{Ordered}
+use Rattle.bk_order.specs.Stops.{HasNoStop, IsStop}
+use Rattle.bk_order.specs.declared.stop.Stop.{Stop}
+use Rattle.bk_order.specs.declared.stop.Stop.TheVariants as stop
+use Rattle.bk_follow.specs.Outcomes.{Outcome}
+use Rattle.bk_results.specs.declared.differ.Agreed.{Agreed}
+use Rattle.bk_results.specs.declared.differ.Differ.{Differ}
+use Rattle.bk_results.specs.declared.differ.Differ.TheVariants as differ
+use Rattle.bk_follow.specs.Follower.{BookValue, Followed, HasCome, OfFrames, receipts_in}
+use Rattle.bk_follow.specs.Queries.{rows_in}
+use Rattle.bk_follow.specs.RunReport.{committee_in, later_frames}
+
+-- ---- two feeds
+
+-- two feeds have one setup: each has its genesis, and the version, the committee and the opening accounts are the same
+pub record HaveOneSetup (one other : FeedValue) : Type 0 where
+  pub opened : 2 ≤ length one.frames
+  pub also_opened : 2 ≤ length other.frames
+  pub version : one.version ≡ other.version
+  pub committee : committee_in one ≡ committee_in other
+  pub genesis : genesis_of one.frames ≡ genesis_of other.frames
+
+-- the frames of both after the genesis
+abbrev pub frames_together : FeedValue → FeedValue → List Frame
+frames_together one other = later_frames one ++ later_frames other
+
+-- they have one setup, and nothing stops what the frames of both hold together
+abbrev pub HaveNoStop : FeedValue → FeedValue → Type 0
+HaveNoStop one other =
+    HaveOneSetup one other × HasNoStop (committee_in one) (frames_together one other)
+
+-- they have one setup, and this is the stop of what the frames of both hold together
+abbrev pub HaveStop : FeedValue → FeedValue → Stop → Type 0
+HaveStop one other s =
+    HaveOneSetup one other × IsStop (committee_in one) (frames_together one other) s
+
+-- ---- what they were settled to
+
+-- the order as it was settled last; nothing where there is no book
+abbrev pub ordered_in : Option BookValue → Ordered
+ordered_in None = nothing_ordered
+ordered_in (Some b) = b.taken.ordered
+
+-- what a book was settled to
+abbrev pub settled_in : Option BookValue → Outcome
+settled_in book =
+    record { ordered = ordered_in book; receipts = receipts_in book; rows = rows_in book }
+
+-- one of two lists begins the other, and this is its length
+abbrev pub BeginsWith : {X : Type 0} → ℕ → List X → List X → Type 0
+BeginsWith {X} count xs ys =
+    (Begins xs ys × (count ≡ length xs)) ⊎ (Begins ys xs × (count ≡ length ys))
+
+-- The orders agree as far as the shorter one goes, and so do the receipts; and where these are equally many, so do the
+-- accounts.
+pub record Agree (one other : Outcome) (a : Agreed) : Type 0 where
+  pub anchors : OneBegins one.ordered.anchors other.ordered.anchors
+  pub certs : BeginsWith a.certs one.ordered.order other.ordered.order
+  pub places : BeginsWith a.places one.receipts other.receipts
+  pub rows : length one.receipts ≡ length other.receipts → one.rows ≡ other.rows
+
+-- ---- two Followers
+
+-- of whatever has come to both: each has a version, and this holds of the feeds that the whole frames are
+abbrev pub OfBoth : Followed → Followed → (FeedValue → FeedValue → Type 0) → Type 0
+OfBoth one other holds = OfFrames one (λ f. OfFrames other (holds f))
+
+-- the same, where each has a version
+abbrev pub OfBothKnown : Followed → Followed → (FeedValue → FeedValue → Type 0) → Type 0
+OfBothKnown one other holds =
+    (bytes more : List ℕ) (fs gs : List Frame) (v w : Version) → HasCome bytes fs one → HasCome more gs other
+    → one.cut.version ≡ Some v → other.cut.version ≡ Some w → holds (feed_of v fs) (feed_of w gs)
+
+-- two Followers agree: nothing stops the frames of both together, and what they were settled to agrees
+pub record FollowersAgree (one other : Followed) (a : Agreed) : Type 0 where
+  pub clear : OfBoth one other HaveNoStop
+  pub agree : Agree (settled_in one.book) (settled_in other.book) a
+
+-- why they do not: they have no one setup; or the frames of both together are stopped so; or memory ran out
+abbrev pub FollowersDiffer : Followed → Followed → Differ → Type 0
+FollowersDiffer one other differ.Setup = OfBothKnown one other (λ f g. HaveOneSetup f g → ⊥)
+FollowersDiffer one other (differ.Collision id) = OfBoth one other (λ f g. HaveStop f g (stop.Collision id))
+FollowersDiffer one other (differ.Twins round author first second) =
+    OfBoth one other (λ f g. HaveStop f g
+    (stop.Twins (record { round = round; author = author; first = first; second = second })))
+FollowersDiffer one other differ.Memory = OfBoth one other HaveOneSetup

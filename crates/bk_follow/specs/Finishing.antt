@@ -1,0 +1,85 @@
+-- What the end of a feed that is followed gives.
+use Rattle.std.specs.Prelude.{◌≡◌, ℕ, ◌<◌, List, length, take, Some}
+use Rattle.bk_frames.specs.Device.{Device, Works, Fails, Receives}
+use Rattle.bk_frames.specs.Feed.{Frame, FeedValue, IsFeed, feed_of, spelling}
+use Rattle.bk_frames.specs.declared.version.Version.{Version}
+use Rattle.bk_frames.specs.Cutting.{EndsShort}
+use Rattle.bk_results.specs.declared.fault.Fault.{Fault}
+use Rattle.bk_results.specs.declared.fault.Fault.TheVariants as fault
+use Rattle.bk_results.specs.declared.status.Status.{Status}
+use Rattle.bk_results.specs.Devices.{IsUntouched}
+use Rattle.bk_follow.specs.RunReport.{IsReportOf, IsStopIn, HasPlaceIn}
+use Rattle.bk_follow.specs.Follower.{BookValue, Followed, HasCome, IsCurrent, IsSettled}
+
+-- the sink received the whole report of a feed
+pub record ReportIsOut (feed : FeedValue) (answer : Status) (old new : Device) : Type 0 where
+  pub text : List ℕ
+  pub report : IsReportOf feed text answer
+  pub gave : Receives old new text
+
+-- the sink received the first bytes of it, and not all
+pub record ReportStops (feed : FeedValue) (written : ℕ) (old new : Device) : Type 0 where
+  pub text : List ℕ
+  pub answer : Status
+  pub report : IsReportOf feed text answer
+  pub some : written < length text
+  pub gave : Receives old new (take written text)
+
+-- what has come is a feed, and this holds of it
+pub record EndsAs (bytes : List ℕ) (frames : List Frame) (v : Followed) (holds : FeedValue → Type 0) : Type 0 where
+  pub version : Version
+  pub known : v.cut.version ≡ Some version
+  pub good : IsFeed (feed_of version frames)
+  pub spelled : bytes ≡ spelling (feed_of version frames)
+  pub it : holds (feed_of version frames)
+
+-- of whatever has come: it is a feed, and this holds of it
+abbrev pub OfFeed : Followed → (FeedValue → Type 0) → Type 0
+OfFeed v holds = (bytes : List ℕ) (frames : List Frame) → HasCome bytes frames v → EndsAs bytes frames v holds
+
+-- a feed was closed: what had come is a feed, which its whole order is executed of
+pub record Closes (old new : Followed) : Type 0 where
+  pub come : (bytes : List ℕ) × (frames : List Frame) × HasCome bytes frames old
+  pub settled : (bytes : List ℕ) (frames : List Frame) → HasCome bytes frames old
+      → HasCome bytes frames new × IsSettled frames new
+  pub cut : new.cut ≡ old.cut
+  pub current : OfFeed old (λ feed. (b : BookValue) × (new.book ≡ Some b) × IsCurrent feed b)
+
+-- why it was not, and what that leaves: the bytes end too early; the stop of the feed, and then all is as it was; a place
+-- that a worker took and did not finish; or memory ran out. Only a stop is not returned by every later call
+abbrev pub CloseFails : Followed → Followed → Fault → Type 0
+CloseFails old new (fault.Feed found) = EndsShort old.cut found × (new.fault ≡ Some (fault.Feed found))
+CloseFails old new (fault.Collision id) = OfFeed old (λ feed. IsStopIn feed (fault.Collision id)) × (new ≡ old)
+CloseFails old new (fault.Equivocation round author first second) =
+    OfFeed old (λ feed. IsStopIn feed (fault.Equivocation round author first second)) × (new ≡ old)
+CloseFails old new (fault.Unfinished place) =
+    OfFeed old (λ feed. HasPlaceIn feed place) × (new.fault ≡ Some (fault.Unfinished place))
+CloseFails old new (fault.Write written) = ⊥
+CloseFails old new fault.Memory = new.fault ≡ Some fault.Memory
+
+-- a report was written: what had come is a feed, all of it is settled, and the sink received its report
+pub record Finishes (old new : Followed) (before after : Device) (answer : Status) : Type 0 where
+  pub settled : (bytes : List ℕ) (frames : List Frame) → HasCome bytes frames old
+      → HasCome bytes frames new × IsSettled frames new
+  pub cut : new.cut ≡ old.cut
+  pub report : OfFeed old (λ feed. ReportIsOut feed answer before after)
+  pub works : Works before after
+
+-- why there is no report, and what it leaves: the bytes end too early; the stop of the feed, and then all is as it was; a
+-- place that a worker took and did not finish; the sink failed, and exactly the first bytes of the report are out; or
+-- memory ran out. Only a stop is not returned by every later call
+abbrev pub FinishFails : Followed → Followed → Device → Device → Fault → Type 0
+FinishFails old new before after (fault.Feed found) =
+    EndsShort old.cut found × (new.fault ≡ Some (fault.Feed found)) × IsUntouched before after
+FinishFails old new before after (fault.Collision id) =
+    OfFeed old (λ feed. IsStopIn feed (fault.Collision id)) × (new ≡ old) × IsUntouched before after
+FinishFails old new before after (fault.Equivocation round author first second) =
+    OfFeed old (λ feed. IsStopIn feed (fault.Equivocation round author first second))
+    × (new ≡ old) × IsUntouched before after
+FinishFails old new before after (fault.Unfinished place) =
+    OfFeed old (λ feed. HasPlaceIn feed place) × (new.fault ≡ Some (fault.Unfinished place))
+    × IsUntouched before after
+FinishFails old new before after (fault.Write written) =
+    OfFeed old (λ feed. ReportStops feed written before after) × (new.fault ≡ Some (fault.Write written))
+    × Fails before after
+FinishFails old new before after fault.Memory = (new.fault ≡ Some fault.Memory) × IsUntouched before after

@@ -1,0 +1,55 @@
+-- What a Follower's order is between its pieces.
+use Rattle.std.specs.Prelude.{◌≡◌, ℕ, ◌<◌, ◌≤◌, List, [], length, Option, Some, None}
+use Rattle.bk_frames.specs.declared.version.Version.{Version}
+use Rattle.bk_frames.specs.Feed.{Frame, FeedValue, feed_of}
+use Rattle.bk_order.specs.Orders.{Ordered}
+use Rattle.bk_cert.specs.declared.place.CertRef.{CertRef}
+use Rattle.bk_results.specs.declared.fault.Fault.{Fault}
+use Rattle.bk_results.specs.declared.fault.Fault.TheVariants as fault
+use Rattle.bk_follow.specs.RunReport.{HasNoStopIn, IsOrderIn, IsStopIn}
+use Rattle.bk_follow.specs.Follower.{BookValue, Followed, HasCome, OfFrames, executed_in}
+
+-- nothing stops a feed, and these are the anchors and the certificates of its order
+pub record AreOrderedIn (feed : FeedValue) (anchors certs : List CertRef) : Type 0 where
+  pub clear : HasNoStopIn feed
+  pub order : Ordered
+  pub is_order : IsOrderIn feed order
+  pub anchors_are : anchors ≡ order.anchors
+  pub certs_are : certs ≡ order.order
+
+-- these are the anchors and the certificates in order of the whole frames so far, none before the genesis is one
+-- of them
+pub record IsOrderSoFar (v : Followed) (anchors certs : List CertRef) : Type 0 where
+  pub none : (bytes : List ℕ) (frames : List Frame) → HasCome bytes frames v → length frames < 2
+      → (anchors ≡ []) × (certs ≡ [])
+  pub ordered : (bytes : List ℕ) (frames : List Frame) → HasCome bytes frames v → 2 ≤ length frames
+      → (version : Version) × (v.cut.version ≡ Some version) × AreOrderedIn (feed_of version frames) anchors certs
+
+-- the order was settled: what had come has come, nothing was executed, and this is the order of the whole frames so far
+pub record FindsOrder (old new : Followed) (anchors certs : List CertRef) : Type 0 where
+  pub come : (bytes : List ℕ) (frames : List Frame) → HasCome bytes frames old → HasCome bytes frames new
+  pub order : IsOrderSoFar old anchors certs
+  pub executed : executed_in new.book ≡ executed_in old.book
+  pub cut : new.cut ≡ old.cut
+
+-- why there was none, and what it leaves: the stop of the whole frames so far, and then all is as it was; or memory ran
+-- out, which every later call returns
+abbrev pub OrderFails : Followed → Followed → Fault → Type 0
+OrderFails old new (fault.Feed found) = ⊥
+OrderFails old new (fault.Collision id) =
+    (new ≡ old) × OfFrames old (λ feed. IsStopIn feed (fault.Collision id))
+OrderFails old new (fault.Equivocation round author first second) =
+    (new ≡ old) × OfFrames old (λ feed. IsStopIn feed (fault.Equivocation round author first second))
+OrderFails old new (fault.Unfinished place) = ⊥
+OrderFails old new (fault.Write written) = ⊥
+OrderFails old new fault.Memory = new.fault ≡ Some fault.Memory
+
+-- the anchors of the order as it was settled last, none before the genesis is whole
+abbrev pub anchors_in : Option BookValue → List CertRef
+anchors_in None = []
+anchors_in (Some b) = b.taken.ordered.anchors
+
+-- its certificates in order
+abbrev pub certs_in : Option BookValue → List CertRef
+certs_in None = []
+certs_in (Some b) = b.taken.ordered.order

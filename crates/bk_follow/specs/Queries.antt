@@ -1,0 +1,44 @@
+-- What a Follower's queries answer.
+use Rattle.std.specs.Prelude.{◌≡◌, ℕ, ◌≤◌, List, [], length, Option, Some, None}
+use Rattle.bk_frames.specs.declared.version.Version.{Version}
+use Rattle.bk_frames.specs.declared.genesis.Row.{Row}
+use Rattle.bk_frames.specs.Feed.{Frame, feed_of}
+use Rattle.bk_results.specs.declared.fault.Fault.{Fault}
+use Rattle.bk_results.specs.declared.fault.Fault.TheVariants as fault
+use Rattle.bk_ledger.specs.Ledger.{LedgerValue}
+use Rattle.bk_follow.specs.RunReport.{HasNoStopIn, IsStopIn}
+use Rattle.bk_follow.specs.Follower.{Executed, BookValue, Followed, HasCome, OfFrames, executed_in}
+
+-- what a ledger has executed
+abbrev pub executed_of : LedgerValue → Executed
+executed_of l = record {
+  version = l.state.version;
+  counts = l.counts;
+  receipts = l.receipts;
+  rows = l.state.rows;
+}
+
+-- the accounts after what was executed
+abbrev pub rows_of_executed : Option Executed → List Row
+rows_of_executed None = []
+rows_of_executed (Some e) = e.rows
+
+-- the accounts after what a book has executed
+abbrev pub rows_in : Option BookValue → List Row
+rows_in book = rows_of_executed (executed_in book)
+
+-- nothing stops the whole frames so far, once the genesis is one of them
+abbrev pub NothingStops : Followed → Type 0
+NothingStops v =
+    (bytes : List ℕ) (frames : List Frame) (version : Version) → HasCome bytes frames v → v.cut.version ≡ Some version
+    → 2 ≤ length frames → HasNoStopIn (feed_of version frames)
+
+-- why a query was not answered: the stop of the whole frames so far, or memory ran out
+abbrev pub QueryFails : Followed → Fault → Type 0
+QueryFails v (fault.Feed found) = ⊥
+QueryFails v (fault.Collision id) = OfFrames v (λ feed. IsStopIn feed (fault.Collision id))
+QueryFails v (fault.Equivocation round author first second) =
+    OfFrames v (λ feed. IsStopIn feed (fault.Equivocation round author first second))
+QueryFails v (fault.Unfinished place) = ⊥
+QueryFails v (fault.Write written) = ⊥
+QueryFails v fault.Memory = Unit {0}

@@ -1,0 +1,7 @@
+pub mod Ledgers
+pub mod Books
+pub mod Parts
+pub mod Openings
+pub mod Ordered
+pub mod Comparing
+pub mod Gathering

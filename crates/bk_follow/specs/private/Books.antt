@@ -1,0 +1,51 @@
+-- What is known of a book.
+use Rattle.std.specs.Prelude.{◌≡◌, ◌≤◌, ◌++◌, length, List, Option}
+use Rattle.bk_frames.specs.declared.version.Version.{Version}
+use Rattle.bk_frames.specs.Device.{Device, Works, Fails}
+use Rattle.bk_frames.specs.Feed.{Frame, FeedValue, IsFeed, AreGoodFrom}
+use Rattle.bk_committee.specs.Payload.{CommitteeValue}
+use Rattle.bk_results.specs.declared.fault.Fault.{Fault}
+use Rattle.bk_results.specs.declared.fault.Fault.TheVariants as fault
+use Rattle.bk_results.specs.declared.status.Status.{Status}
+use Rattle.bk_results.specs.Devices.{IsUntouched}
+use Rattle.bk_follow.specs.Finishing.{ReportStops, ReportIsOut}
+use Rattle.bk_follow.specs.Follower.{BookValue, FollowsBy, IsBookOf, IsCurrent}
+use Rattle.bk_follow.specs.RunReport.{IsStopIn, HasPlaceIn}
+
+-- this is made of the good frames of a feed
+pub record IsGoodBook (feed : FeedValue) (b : BookValue) : Type 0 where
+  pub good : AreGoodFrom feed.version 0 4 feed.frames
+  pub opened : 2 ≤ length feed.frames
+  pub book : IsBookOf feed b
+
+-- why a book was not settled, and what it leaves
+abbrev pub BookSettleFails : BookValue → BookValue → Fault → Type 0
+BookSettleFails old new (fault.Feed found) = ⊥
+BookSettleFails old new (fault.Collision id) =
+    (new ≡ old) × ((feed : FeedValue) → IsGoodBook feed old → IsStopIn feed (fault.Collision id))
+BookSettleFails old new (fault.Equivocation round author first second) =
+    (new ≡ old) × ((feed : FeedValue) → IsGoodBook feed old → IsStopIn feed (fault.Equivocation round author first second))
+BookSettleFails old new (fault.Unfinished place) =
+    (feed : FeedValue) → IsGoodBook feed old → HasPlaceIn feed place
+BookSettleFails old new (fault.Write written) = ⊥
+BookSettleFails old new fault.Memory = Unit {0}
+
+-- these frames are followed, and these others make good ones of them all
+pub record HasFollowed (version : Version) (before more : List Frame) (committee : Option CommitteeValue) (book : Option BookValue) : Type 0 where
+  pub follows : FollowsBy version before committee book
+  pub good : AreGoodFrom version 0 4 (before ++ more)
+
+-- a report was written of a book that is settled
+abbrev pub WritesBook : BookValue → Device → Device → Status → Type 0
+WritesBook b before after answer =
+    ((feed : FeedValue) → IsFeed feed → IsCurrent feed b → ReportIsOut feed answer before after) × Works before after
+
+-- why it was not, and how much of it is out
+abbrev pub WriteFails : BookValue → Device → Device → Fault → Type 0
+WriteFails b before after (fault.Feed found) = ⊥
+WriteFails b before after (fault.Collision id) = ⊥
+WriteFails b before after (fault.Equivocation round author first second) = ⊥
+WriteFails b before after (fault.Unfinished place) = ⊥
+WriteFails b before after (fault.Write written) =
+    ((feed : FeedValue) → IsFeed feed → IsCurrent feed b → ReportStops feed written before after) × Fails before after
+WriteFails b before after fault.Memory = IsUntouched before after

@@ -1,0 +1,47 @@
+-- What comparing two books finds.
+use Rattle.std.specs.Prelude.{◌≡◌, ◌≤◌, ◌⊎◌, ℕ, List, ◌++◌, length}
+use Rattle.bk_frames.specs.Feed.{Frame}
+use Rattle.bk_order.specs.Intake.{HasTaken}
+use Rattle.bk_order.specs.Stops.{HasNoStop, IsStop}
+use Rattle.bk_order.specs.declared.stop.Stop.{Stop}
+use Rattle.bk_order.specs.declared.stop.Stop.TheVariants as stop
+use Rattle.bk_results.specs.declared.differ.Agreed.{Agreed}
+use Rattle.bk_results.specs.declared.differ.Differ.{Differ}
+use Rattle.bk_results.specs.declared.differ.Differ.TheVariants as differ
+use Rattle.bk_follow.specs.Follower.{BookValue, receipts_of_executed}
+
+-- the difference that a stop is
+abbrev pub differ_of : Stop → Differ
+differ_of (stop.Collision id) = differ.Collision id
+differ_of (stop.Twins e) = differ.Twins e.round e.author e.first e.second
+
+-- the lesser of two numbers
+abbrev pub IsLesser : ℕ → ℕ → ℕ → Type 0
+IsLesser n a b = ((n ≡ a) × (a ≤ b)) ⊎ ((n ≡ b) × (b ≤ a))
+
+-- two books are of one committee, with its version, and of the same opening accounts
+pub record HaveSameSetup (b c : BookValue) : Type 0 where
+  pub committee : b.taken.committee ≡ c.taken.committee
+  pub opening : b.opening ≡ c.opening
+
+-- this holds of the frames of both together
+abbrev pub OfTaken : BookValue → BookValue → (List Frame → Type 0) → Type 0
+OfTaken b c holds =
+    (fs gs : List Frame) → HasTaken fs b.taken → HasTaken gs c.taken → holds (fs ++ gs)
+
+-- they are of one setup, nothing stops them, and these are the shorter lengths
+pub record BooksAgree (b c : BookValue) (a : Agreed) : Type 0 where
+  pub setup : HaveSameSetup b c
+  pub clear : OfTaken b c (HasNoStop b.taken.committee)
+  pub certs : IsLesser a.certs (length b.taken.ordered.order) (length c.taken.ordered.order)
+  pub places : IsLesser a.places (length (receipts_of_executed b.executed)) (length (receipts_of_executed c.executed))
+
+-- why they differ
+abbrev pub BooksDiffer : BookValue → BookValue → Differ → Type 0
+BooksDiffer b c differ.Setup = HaveSameSetup b c → ⊥
+BooksDiffer b c (differ.Collision id) =
+    HaveSameSetup b c × OfTaken b c (λ fs. IsStop b.taken.committee fs (stop.Collision id))
+BooksDiffer b c (differ.Twins round author first second) =
+    HaveSameSetup b c × OfTaken b c (λ fs. IsStop b.taken.committee fs
+    (stop.Twins (record { round = round; author = author; first = first; second = second })))
+BooksDiffer b c differ.Memory = HaveSameSetup b c

@@ -1,0 +1,41 @@
+-- What the first two frames of a feed open.
+use Rattle.std.specs.Prelude.{◌≡◌, ℕ, List, [], ◌∷◌, ◌++◌, Option, Some, None}
+use Rattle.bk_frames.specs.declared.version.Version.{Version}
+use Rattle.bk_frames.specs.Feed.{Frame, feed_of}
+use Rattle.bk_committee.specs.Payload.{CommitteeValue, committee_of}
+use Rattle.bk_follow.specs.Follower.{BookValue, IsBookOf, FollowsBy, receipts_of_executed}
+
+-- the payload is that of the first frame, and the others are left
+abbrev pub IsFirstOf : List ℕ → List Frame → List Frame → Type 0
+IsFirstOf payload old new = (f : Frame) × (old ≡ f ∷ new) × (f.payload ≡ payload)
+
+-- the committee is read of the first frame, where there is none yet
+abbrev pub OpensFirst : Version → Option CommitteeValue → List Frame → Option CommitteeValue → List Frame
+    → Type 0
+OpensFirst version (Some k) old committee new = (committee ≡ Some k) × (new ≡ old)
+OpensFirst version None [] committee new = (committee ≡ None) × (new ≡ [])
+OpensFirst version None (f ∷ more) committee new =
+    (committee ≡ Some (committee_of version f.payload)) × (new ≡ more)
+
+-- the book is that of a first frame with this committee and of this second one
+abbrev pub IsOpening : CommitteeValue → Frame → BookValue → Type 0
+IsOpening k second b =
+    ((version : Version) (first : Frame) → k ≡ committee_of version first.payload
+    → IsBookOf (feed_of version (first ∷ second ∷ [])) b)
+    × (receipts_of_executed b.executed ≡ [])
+
+-- the book is opened with the second frame, where the committee of the first is there
+abbrev pub OpensSecond : Option CommitteeValue → List Frame → Option CommitteeValue → Option BookValue
+    → List Frame → Type 0
+OpensSecond None old committee book new = (committee ≡ None) × (book ≡ None) × (new ≡ old)
+OpensSecond (Some k) [] committee book new = (committee ≡ Some k) × (book ≡ None) × (new ≡ [])
+OpensSecond (Some k) (g ∷ more) committee book new =
+    (b : BookValue) × (book ≡ Some b) × IsOpening k g b × (new ≡ more)
+
+-- of all frames these are left, the others are followed, and where there is no book yet none is left
+pub record IsOpened (version : Version) (all : List Frame) (committee : Option CommitteeValue)
+    (book : Option BookValue) (left : List Frame) : Type 0 where
+  pub front : List Frame
+  pub parts : all ≡ front ++ left
+  pub follows : FollowsBy version front committee book
+  pub whole : book ≡ None → left ≡ []

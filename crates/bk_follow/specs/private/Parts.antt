@@ -1,0 +1,38 @@
+-- What is known of a Follower's parts.
+use Rattle.std.specs.Prelude.{◌≡◌, None}
+use Rattle.bk_frames.specs.Device.{Device, Fails}
+use Rattle.bk_frames.specs.Cutting.{Cut, EndsShort}
+use Rattle.bk_results.specs.declared.fault.Fault.{Fault}
+use Rattle.bk_results.specs.declared.fault.Fault.TheVariants as fault
+use Rattle.bk_follow.specs.declared.opening.Opened.{Opened}
+use Rattle.bk_results.specs.Devices.{IsUntouched}
+use Rattle.bk_follow.specs.Finishing.{OfFeed, ReportStops}
+use Rattle.bk_follow.specs.Follower.{Followed}
+use Rattle.bk_follow.specs.RunReport.{IsStopIn, HasPlaceIn}
+
+-- a Follower of these parts, in which no fault is kept
+abbrev pub followed : Cut → Opened → Followed
+followed cut opened = record { cut = cut; committee = opened.committee; book = opened.book; fault = None }
+
+-- why a feed that is followed was not closed, but for the fault that is kept after it
+abbrev pub ClosesNot : Followed → Followed → Fault → Type 0
+ClosesNot old new (fault.Feed found) = EndsShort old.cut found
+ClosesNot old new (fault.Collision id) = OfFeed old (λ feed. IsStopIn feed (fault.Collision id)) × (new ≡ old)
+ClosesNot old new (fault.Equivocation round author first second) =
+    OfFeed old (λ feed. IsStopIn feed (fault.Equivocation round author first second)) × (new ≡ old)
+ClosesNot old new (fault.Unfinished place) = OfFeed old (λ feed. HasPlaceIn feed place)
+ClosesNot old new (fault.Write written) = ⊥
+ClosesNot old new fault.Memory = Unit {0}
+
+-- why a feed that is followed did not end in a report, but for the fault that is kept after it
+abbrev pub EndFails : Followed → Followed → Device → Device → Fault → Type 0
+EndFails old new before after (fault.Feed found) = EndsShort old.cut found × IsUntouched before after
+EndFails old new before after (fault.Collision id) =
+    OfFeed old (λ feed. IsStopIn feed (fault.Collision id)) × (new ≡ old) × IsUntouched before after
+EndFails old new before after (fault.Equivocation round author first second) =
+    OfFeed old (λ feed. IsStopIn feed (fault.Equivocation round author first second)) × (new ≡ old) × IsUntouched before after
+EndFails old new before after (fault.Unfinished place) =
+    OfFeed old (λ feed. HasPlaceIn feed place) × IsUntouched before after
+EndFails old new before after (fault.Write written) =
+    OfFeed old (λ feed. ReportStops feed written before after) × Fails before after
+EndFails old new before after fault.Memory = IsUntouched before after

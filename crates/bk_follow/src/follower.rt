@@ -1,0 +1,284 @@
+//! A feed that is followed as it comes.
+
+ghost use Rattle.std.specs.Prelude.{◌≡◌, ◌≤◌, ℕ, List, None, Some, Err, OnOk, IfOk, IfErr, IfSome};
+ghost use Rattle.bk_frames.specs.Device.{CanBeUsed};
+ghost use Rattle.bk_frames.specs.Feed.{Frame};
+ghost use Rattle.bk_follow.specs.Follower.{unfed, HasCome, Takes, FeedFails, Settles, SettleFails, receipts_in, executed_in};
+ghost use Rattle.bk_follow.specs.Finishing.{Closes, CloseFails, Finishes, FinishFails};
+ghost use Rattle.bk_results.specs.Devices.{IsUntouched};
+ghost use Rattle.bk_follow.specs.private.Parts.{followed, ClosesNot, EndFails};
+ghost use Rattle.bk_follow.specs.Stopping.{kept_fault, stops};
+
+use crate::book::Book;
+use crate::fault::Fault;
+use crate::opening::{Opened, advance};
+use bk_frames::{Cutter, Sink};
+use bk_pool::Gate;
+use bk_results::Status;
+use std::alloc::Global;
+use std::marker::Model;
+use std::sync::Wait;
+use std::thread::Threads;
+
+/// Follows a feed that comes in pieces: its frames, their order and the accounts after its batches.
+///
+/// A fault of kind `Feed`, `Memory`, `Unfinished` or `Write` is returned again by every later call. A `Collision` or an
+/// `Equivocation` leaves everything as it was, and more pieces may be fed; so does the `Memory` of a query, such as
+/// `prove`.
+#[derive(Drop)]
+pub struct Follower {
+    pub(crate) alloc: Global,
+    pub(crate) workers: usize,
+    pub(crate) cutter: Cutter,
+    pub(crate) opened: Opened,
+    pub(crate) fault: Option<Fault>,
+}
+
+impl Model for Follower {
+    ghost use Rattle.std.specs.Prelude.{◌≡◌, ◌≤◌, ℕ, List, None};
+    ghost use Rattle.bk_frames.specs.Feed.{Frame};
+    ghost use Rattle.bk_follow.specs.Follower.{Followed, HasCome};
+    ghost use Rattle.bk_follow.specs.private.Parts.{followed};
+
+    ghost Value = { Followed };
+
+    ghost view = { λ f. record {
+      cut = f.cutter;
+      committee = f.opened.committee;
+      book = f.opened.book;
+      fault = f.fault;
+    } };
+
+    ghost invariant = { λ f. (1 ≤ f.workers) × (f.workers ≤ 64) × (f.fault ≡ None
+        → (bytes : List ℕ) × (frames : List Frame)
+        × HasCome bytes frames (followed f.cutter f.opened)) };
+}
+
+/// Whether a fault is a stop of the feed, which may go on.
+pub fn is_stop(fault: &Fault) -> bool
+    ensures { result ≡ stops fault.now }
+{
+    match fault {
+        Fault::Collision { .. } | Fault::Equivocation { .. } => true,
+        Fault::Feed(_) | Fault::Unfinished { .. } | Fault::Write { .. } | Fault::Memory => false,
+    }
+}
+
+// Keeps a fault: every later call returns it.
+fn stand(standing: &mut Option<Fault>, fault: Fault) -> Fault
+    ensures standing { standing.new ≡ Some fault }
+    ensures same { result ≡ fault }
+{
+    let again = fault;
+    *standing = Some(again);
+    fault
+}
+
+/// The same of a fault that is no stop.
+pub(crate) fn keep(standing: &mut Option<Fault>, fault: Fault) -> Fault
+    requires none { standing.old ≡ None }
+    ensures standing { standing.new ≡ kept_fault fault }
+    ensures same { result ≡ fault }
+{
+    if is_stop(&fault) {
+        return fault;
+    }
+    stand(standing, fault)
+}
+
+// Settles, where the feed may end here.
+fn settle_at_end<R: Threads + Wait + Sync, G: Gate + Sync>(
+    rt: &R,
+    cutter: &Cutter,
+    opened: &mut Opened,
+    workers: usize,
+    gate: &G,
+) -> Result<(), Fault>
+    requires come { (bytes : List ℕ) × (frames : List Frame)
+        × HasCome bytes frames (followed cutter.now opened.old) }
+    requires workers { (1 ≤ workers) × (workers ≤ 64) }
+    ensures closed { OnOk result (Closes (followed cutter.now opened.old)
+        (followed cutter.now opened.new)) }
+    ensures fault { IfErr result (ClosesNot (followed cutter.now opened.old)
+        (followed cutter.now opened.new)) }
+{
+    cutter.end()?;
+    let Some(book) = &mut opened.book else {
+        unreachable!()
+    };
+    book.settle(rt, workers, gate)?;
+    Ok(())
+}
+
+// Settles, and writes the report, where the feed may end here.
+fn end<R: Threads + Wait + Sync, G: Gate + Sync, K: Sink>(
+    rt: &R,
+    cutter: &Cutter,
+    opened: &mut Opened,
+    workers: usize,
+    gate: &G,
+    sink: &mut K,
+) -> Result<Status, Fault>
+    requires sound { CanBeUsed (K.state sink.old) }
+    requires come { (bytes : List ℕ) × (frames : List Frame)
+        × HasCome bytes frames (followed cutter.now opened.old) }
+    requires workers { (1 ≤ workers) × (workers ≤ 64) }
+    ensures report { IfOk result (Finishes (followed cutter.now opened.old)
+        (followed cutter.now opened.new) (K.state sink.old) (K.state sink.new)) }
+    ensures fault { IfErr result (EndFails (followed cutter.now opened.old)
+        (followed cutter.now opened.new) (K.state sink.old) (K.state sink.new)) }
+{
+    settle_at_end(rt, cutter, opened, workers, gate)?;
+    let Some(book) = &opened.book else {
+        unreachable!()
+    };
+    let status = book.write(rt, sink)?;
+    Ok(status)
+}
+
+impl Follower {
+    /// Before the first byte, with 1 to 64 workers. Takes no memory.
+    pub fn new(alloc: Global, workers: usize) -> Follower
+        requires { (1 ≤ workers) × (workers ≤ 64) }
+        ensures { result ≡ unfed }
+    {
+        Follower {
+            alloc,
+            workers,
+            cutter: Cutter::new(alloc),
+            opened: Opened {
+                committee: None,
+                book: None,
+            },
+            fault: None,
+        }
+    }
+
+    /// A Follower of what has come, in which no fault is kept.
+    pub(crate) fn of(alloc: Global, workers: usize, cutter: Cutter, opened: Opened) -> Follower
+        requires workers { (1 ≤ workers) × (workers ≤ 64) }
+        requires come { (bytes : List ℕ) × (frames : List Frame)
+            × HasCome bytes frames (followed cutter opened) }
+        ensures { result ≡ followed cutter opened }
+    {
+        Follower {
+            alloc,
+            workers,
+            cutter,
+            opened,
+            fault: None,
+        }
+    }
+
+    /// The fault that every later call returns, if there is one.
+    pub fn fault(&self) -> Option<Fault>
+        ensures { result ≡ self.now.fault }
+    {
+        self.fault
+    }
+
+    /// The offset of the frame that is being read, 0 while that is the magic.
+    pub fn offset(&self) -> u64
+        ensures { result ≡ self.now.cut.offset }
+    {
+        self.cutter.offset()
+    }
+
+    /// Takes the next piece of the feed. Certificates are judged on as many threads as there are processors.
+    ///
+    /// A fault of the feed comes with the first byte that shows it; bytes that are only cut short are none here, and
+    /// neither are collisions and twins.
+    pub fn feed<R: Threads + Sync>(&mut self, rt: &R, piece: &[u8]) -> Result<(), Fault>
+        ensures takes { OnOk result (Takes self.old piece.now self.new) }
+        ensures rests { OnOk result (receipts_in self.new.book ≡ receipts_in self.old.book) }
+        ensures executed { OnOk result (IfSome self.old.book
+            (λ b. executed_in self.new.book ≡ b.executed)) }
+        ensures works { OnOk result ((self.old.fault ≡ None) × (self.new.fault ≡ None)) }
+        ensures again { IfSome self.old.fault (λ f. (result ≡ Err f) × (self.new ≡ self.old)) }
+        ensures stays { IfErr result (λ f. self.new.fault ≡ Some f) }
+        ensures fault { IfErr result (λ f. self.old.fault ≡ None → FeedFails self.old piece.now f) }
+    {
+        if let Some(fault) = self.fault {
+            return Err(fault);
+        }
+        match advance(rt, self.alloc, &mut self.cutter, &mut self.opened, piece) {
+            Ok(()) => Ok(()),
+            Err(fault) => Err(stand(&mut self.fault, fault)),
+        }
+    }
+
+    /// Settles the order of the whole frames so far, and executes the transactions that it adds. Returns how many they
+    /// are: 0 before the genesis is whole.
+    ///
+    /// `Collision` or `Equivocation` where the frames so far are stopped: then nothing is executed, and everything is as
+    /// it was.
+    pub fn settle<R: Threads + Wait + Sync, G: Gate + Sync>(
+        &mut self,
+        rt: &R,
+        gate: &G,
+    ) -> Result<usize, Fault>
+        ensures settled { IfOk result (λ n. Settles self.old self.new n) }
+        ensures works { OnOk result ((self.old.fault ≡ None) × (self.new.fault ≡ None)) }
+        ensures again { IfSome self.old.fault (λ f. (result ≡ Err f) × (self.new ≡ self.old)) }
+        ensures fault { IfErr result (λ f. self.old.fault ≡ None
+            → SettleFails self.old self.new f) }
+    {
+        if let Some(fault) = self.fault {
+            return Err(fault);
+        }
+        let Some(book) = &mut self.opened.book else {
+            return Ok(0);
+        };
+        match book.settle(rt, self.workers, gate) {
+            Ok(count) => Ok(count),
+            Err(fault) => Err(keep(&mut self.fault, fault)),
+        }
+    }
+
+    /// Settles the feed that ends here. After `Ok`, `Collision` or `Equivocation` it may go on.
+    pub fn close<R: Threads + Wait + Sync, G: Gate + Sync>(
+        &mut self,
+        rt: &R,
+        gate: &G,
+    ) -> Result<(), Fault>
+        ensures closed { OnOk result (Closes self.old self.new) }
+        ensures works { OnOk result ((self.old.fault ≡ None) × (self.new.fault ≡ None)) }
+        ensures again { IfSome self.old.fault (λ f. (result ≡ Err f) × (self.new ≡ self.old)) }
+        ensures fault { IfErr result (λ f. self.old.fault ≡ None → CloseFails self.old self.new f) }
+    {
+        if let Some(fault) = self.fault {
+            return Err(fault);
+        }
+        match settle_at_end(rt, &self.cutter, &mut self.opened, self.workers, gate) {
+            Ok(()) => Ok(()),
+            Err(fault) => Err(keep(&mut self.fault, fault)),
+        }
+    }
+
+    /// Settles, and writes the report of the feed that ends here.
+    ///
+    /// With every fault but `Write` nothing is written. After `Ok`, `Collision` or `Equivocation` the feed may go on.
+    pub fn finish<R: Threads + Wait + Sync, G: Gate + Sync, K: Sink>(
+        &mut self,
+        rt: &R,
+        gate: &G,
+        sink: &mut K,
+    ) -> Result<Status, Fault>
+        requires sound { CanBeUsed (K.state sink.old) }
+        ensures report { IfOk result (Finishes self.old self.new
+            (K.state sink.old) (K.state sink.new)) }
+        ensures works { OnOk result ((self.old.fault ≡ None) × (self.new.fault ≡ None)) }
+        ensures again { IfSome self.old.fault (λ f. (result ≡ Err f) × (self.new ≡ self.old)
+            × IsUntouched (K.state sink.old) (K.state sink.new)) }
+        ensures fault { IfErr result (λ f. self.old.fault ≡ None
+            → FinishFails self.old self.new (K.state sink.old) (K.state sink.new) f) }
+    {
+        if let Some(fault) = self.fault {
+            return Err(fault);
+        }
+        match end(rt, &self.cutter, &mut self.opened, self.workers, gate, sink) {
+            Ok(status) => Ok(status),
+            Err(fault) => Err(keep(&mut self.fault, fault)),
+        }
+    }
+}

@@ -1,0 +1,21 @@
+//! A feed that is followed as it comes: its frames, their order, and the accounts after its batches.
+//!
+//! A [`Follower`] takes a feed in pieces, settles what came, and writes the report of a feed that ends. [`replay`] follows
+//! a source to its end and writes the report: exactly the text that the definitions read off the feed.
+#![tactic(auto)]
+
+mod book;
+mod comparing;
+mod differ;
+mod fault;
+mod follower;
+mod gathering;
+mod opening;
+mod order;
+mod queries;
+mod replaying;
+mod writing;
+
+pub use follower::{Follower, is_stop};
+pub use order::Order;
+pub use replaying::{follow, replay};

@@ -1,0 +1,178 @@
+//! The first two frames of a feed, and what follows them.
+
+ghost use Rattle.std.specs.Prelude.{◌≡◌, ◌++◌, [], ℕ, List, None, Some, Option, OnOk, IfOk, IfErr, IfSome, MatchOption};
+ghost use Rattle.bk_frames.specs.declared.version.Version.{Version};
+ghost use Rattle.bk_frames.specs.Cutting.{frames_in};
+ghost use Rattle.bk_frames.specs.Feed.{Frame};
+ghost use Rattle.bk_frames.specs.Genesis.{AreAccounts, rows_of};
+ghost use Rattle.bk_committee.specs.Payload.{committee_of};
+ghost use Rattle.bk_follow.specs.Follower.{HasCome, Takes, FollowsBy, FeedFails, receipts_in, executed_in};
+ghost use Rattle.bk_follow.specs.private.Books.{HasFollowed};
+ghost use Rattle.bk_follow.specs.private.Openings.{IsFirstOf, OpensFirst, OpensSecond, IsOpened};
+ghost use Rattle.bk_follow.specs.private.Parts.{followed};
+
+use crate::book::Book;
+use crate::fault::Fault;
+use bk_committee::Committee;
+use bk_frames::{Cutter, Kind, Row, Version, read_genesis};
+use std::alloc::{AllocError, Global};
+use std::thread::Threads;
+
+/// What is made of the frames so far: the committee after frame 0, and the book from frame 1 on.
+#[derive(Drop)]
+pub(crate) struct Opened {
+    pub(crate) committee: Option<Committee>,
+    pub(crate) book: Option<Book>,
+}
+
+// The committee of frame 0, which the cutter has judged.
+fn committee_of(alloc: Global, version: Version, payload: &[u8]) -> Result<Committee, AllocError>
+    ensures { IfOk result (λ committee. committee ≡ committee_of version payload.now) }
+{
+    match Committee::parse(alloc, version, payload) {
+        Ok(committee) => Ok(committee),
+        Err(_) => Err(AllocError),
+    }
+}
+
+// The opening accounts of frame 1, which the cutter has judged.
+fn genesis_of(alloc: Global, payload: &[u8]) -> Result<Vec<Row>, AllocError>
+    ensures rows { IfOk result (λ rows. rows_of payload.now ≡ Some rows.items) }
+    ensures accounts { IfOk result (λ rows. AreAccounts rows.items) }
+{
+    match read_genesis(alloc, payload)? {
+        Some(rows) => Ok(rows),
+        None => Err(AllocError),
+    }
+}
+
+// The payload of the first of these frames, which is taken out of them.
+fn take_first(frames: &mut Vec<(Kind, Vec<u8>)>) -> Option<Vec<u8>>
+    ensures { MatchOption result ((frames.old.items ≡ []) × (frames.new.items ≡ [])) (λ payload.
+        IsFirstOf payload.items (frames_in frames.old.items) (frames_in frames.new.items)) }
+{
+    if frames.is_empty() {
+        return None;
+    }
+    let frame = frames.remove(0);
+    Some(frame.1)
+}
+
+// Reads the committee of frame 0, where that is the next one.
+fn open_first(
+    alloc: Global,
+    version: Version,
+    committee: &mut Option<Committee>,
+    frames: &mut Vec<(Kind, Vec<u8>)>,
+) -> Result<(), AllocError>
+    ensures { OnOk result (OpensFirst version committee.old (frames_in frames.old.items)
+        committee.new (frames_in frames.new.items)) }
+{
+    if committee.is_some() {
+        return Ok(());
+    }
+    let Some(payload) = take_first(frames) else {
+        return Ok(());
+    };
+    *committee = Some(committee_of(alloc, version, &payload)?);
+    Ok(())
+}
+
+// Opens the book, where frame 1 is the next one.
+fn open_second(
+    alloc: Global,
+    opened: &mut Opened,
+    frames: &mut Vec<(Kind, Vec<u8>)>,
+) -> Result<(), AllocError>
+    requires { opened.old.book ≡ None }
+    ensures { OnOk result (OpensSecond opened.old.committee (frames_in frames.old.items)
+        opened.new.committee opened.new.book (frames_in frames.new.items)) }
+{
+    if opened.committee.is_none() {
+        return Ok(());
+    }
+    let Some(payload) = take_first(frames) else {
+        return Ok(());
+    };
+    let rows = genesis_of(alloc, &payload)?;
+    let Some(committee) = opened.committee.take() else {
+        unreachable!()
+    };
+    opened.book = Some(Book::new(alloc, committee, rows)?);
+    Ok(())
+}
+
+// Opens what the first two frames open, where there is no book yet.
+fn open(
+    alloc: Global,
+    version: Version,
+    opened: &mut Opened,
+    frames: &mut Vec<(Kind, Vec<u8>)>,
+) -> Result<(), AllocError>
+    ensures opened { OnOk result ((before : List Frame)
+        → FollowsBy version before opened.old.committee opened.old.book
+        → IsOpened version (before ++ frames_in frames.old.items)
+        opened.new.committee opened.new.book (frames_in frames.new.items)) }
+    ensures receipts { OnOk result (receipts_in opened.new.book ≡ receipts_in opened.old.book) }
+    ensures executed { OnOk result (IfSome opened.old.book
+        (λ b. executed_in opened.new.book ≡ b.executed)) }
+{
+    if opened.book.is_some() {
+        return Ok(());
+    }
+    open_first(alloc, version, &mut opened.committee, frames)?;
+    open_second(alloc, opened, frames)?;
+    Ok(())
+}
+
+/// Takes the frames that a piece made whole.
+pub(crate) fn take_frames(
+    rt: &(impl Threads + Sync),
+    alloc: Global,
+    version: Version,
+    opened: &mut Opened,
+    frames: Vec<(Kind, Vec<u8>)>,
+) -> Result<(), AllocError>
+    requires come { (before : List Frame) × HasFollowed version before
+        (frames_in frames.items) opened.old.committee opened.old.book }
+    ensures follows { OnOk result ((before : List Frame)
+        → FollowsBy version before opened.old.committee opened.old.book
+        → FollowsBy version (before ++ frames_in frames.items)
+        opened.new.committee opened.new.book) }
+    ensures receipts { OnOk result (receipts_in opened.new.book ≡ receipts_in opened.old.book) }
+    ensures executed { OnOk result (IfSome opened.old.book
+        (λ b. executed_in opened.new.book ≡ b.executed)) }
+{
+    let mut frames = frames;
+    open(alloc, version, opened, &mut frames)?;
+    let Some(book) = &mut opened.book else {
+        return Ok(());
+    };
+    book.take(rt, frames)?;
+    Ok(())
+}
+
+/// Takes the next piece of a feed.
+pub(crate) fn advance(
+    rt: &(impl Threads + Sync),
+    alloc: Global,
+    cutter: &mut Cutter,
+    opened: &mut Opened,
+    piece: &[u8],
+) -> Result<(), Fault>
+    requires come { (bytes : List ℕ) × (frames : List Frame)
+        × HasCome bytes frames (followed cutter.old opened.old) }
+    ensures takes { OnOk result (Takes (followed cutter.old opened.old) piece.now
+        (followed cutter.new opened.new)) }
+    ensures receipts { OnOk result (receipts_in opened.new.book ≡ receipts_in opened.old.book) }
+    ensures executed { OnOk result (IfSome opened.old.book
+        (λ b. executed_in opened.new.book ≡ b.executed)) }
+    ensures fault { IfErr result (λ f. FeedFails (followed cutter.old opened.old) piece.now f) }
+{
+    let frames = cutter.feed(piece)?;
+    match cutter.version() {
+        Some(version) => take_frames(rt, alloc, version, opened, frames)?,
+        None => {}
+    }
+    Ok(())
+}

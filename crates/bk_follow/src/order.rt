@@ -1,0 +1,95 @@
+//! The order of what a Follower has so far.
+
+ghost use Rattle.std.specs.Prelude.{◌≡◌, None, Err, OnOk, IfOk, IfErr, IfSome};
+ghost use Rattle.bk_frames.specs.Feed.{FeedValue};
+ghost use Rattle.bk_follow.specs.Ordering.{IsOrderSoFar, FindsOrder, OrderFails, anchors_in, certs_in};
+ghost use Rattle.bk_follow.specs.Queries.{QueryFails};
+ghost use Rattle.bk_follow.specs.private.Books.{IsGoodBook};
+ghost use Rattle.bk_follow.specs.private.Ordered.{OrdersBook, BookOrderFails};
+
+use crate::book::Book;
+use crate::fault::{Fault, stopped};
+use crate::follower::{Follower, keep};
+use bk_cert::CertRef;
+
+/// The order of the whole frames of a feed so far.
+#[derive(Clone, Copy, Debug, PartialEq, Eq)]
+pub struct Order<'a> {
+    /// The committed anchors, oldest first.
+    pub anchors: &'a [CertRef],
+    /// The certificates in order.
+    pub certs: &'a [CertRef],
+}
+
+impl Book {
+    /// Settles the order of the frames so far, and executes nothing.
+    pub(crate) fn settle_order(&mut self) -> Result<(), Fault>
+        ensures order { OnOk result ((feed : FeedValue) → IsGoodBook feed self.old
+            → OrdersBook feed self.new) }
+        ensures executed { self.new.executed ≡ self.old.executed }
+        ensures fault { IfErr result (λ f. BookOrderFails self.old self.new f) }
+    {
+        if let Some(stop) = self.intake.stop() {
+            return Err(stopped(stop));
+        }
+        self.intake.settle()?;
+        Ok(())
+    }
+}
+
+impl Follower {
+    /// Settles the order of the whole frames so far, and executes nothing.
+    ///
+    /// `Collision` or `Equivocation` where the frames so far are stopped: then everything is as it was.
+    pub fn settle_order(&mut self) -> Result<(), Fault>
+        ensures settled { OnOk result (FindsOrder self.old self.new
+            (anchors_in self.new.book) (certs_in self.new.book)) }
+        ensures works { OnOk result ((self.old.fault ≡ None) × (self.new.fault ≡ None)) }
+        ensures again { IfSome self.old.fault (λ f. (result ≡ Err f) × (self.new ≡ self.old)) }
+        ensures fault { IfErr result (λ f. self.old.fault ≡ None
+            → OrderFails self.old self.new f) }
+    {
+        if let Some(fault) = self.fault {
+            return Err(fault);
+        }
+        let Some(book) = &mut self.opened.book else {
+            return Ok(());
+        };
+        match book.settle_order() {
+            Ok(()) => Ok(()),
+            Err(fault) => Err(keep(&mut self.fault, fault)),
+        }
+    }
+
+    /// The order as it was settled last, by `settle`, `settle_order` or `order`.
+    pub fn last_order(&self) -> Order<'_>
+        ensures anchors { result.anchors.now ≡ anchors_in self.now.book }
+        ensures certs { result.certs.now ≡ certs_in self.now.book }
+    {
+        match &self.opened.book {
+            Some(book) => Order {
+                anchors: book.intake.anchors(),
+                certs: book.intake.order(),
+            },
+            None => Order {
+                anchors: &[],
+                certs: &[],
+            },
+        }
+    }
+
+    /// The committed anchors and the certificates in order of the whole frames so far, also of those after the last
+    /// settle. Nothing is executed. Both are empty before the genesis is whole. It is `settle_order` and then
+    /// `last_order`, whose contracts also say what it leaves.
+    ///
+    /// `Collision` or `Equivocation` where the frames so far are stopped.
+    pub fn order(&mut self) -> Result<Order<'_>, Fault>
+        ensures order { IfOk result (λ o. IsOrderSoFar self.old o.anchors.now o.certs.now) }
+        ensures works { OnOk result (self.old.fault ≡ None) }
+        ensures again { IfSome self.old.fault (λ f. result ≡ Err f) }
+        ensures fault { IfErr result (λ f. self.old.fault ≡ None → QueryFails self.old f) }
+    {
+        self.settle_order()?;
+        Ok(self.last_order())
+    }
+}

@@ -1,0 +1,117 @@
+//! What a Follower is asked between its pieces.
+
+ghost use Rattle.std.specs.Prelude.{◌≡◌, Some, None, Err, OnOk, IfOk, IfErr, IfSome, MatchOption, slice_get};
+ghost use Rattle.bk_rules.specs.Rows.{account_at};
+ghost use Rattle.bk_follow.specs.Follower.{BookValue, receipts_in, executed_in};
+ghost use Rattle.bk_report.specs.Proofs.{IsProofOf, IsAbsent};
+ghost use Rattle.bk_follow.specs.Queries.{rows_in, NothingStops, QueryFails};
+ghost use Rattle.bk_follow.specs.Queries.{executed_of};
+
+use crate::fault::Fault;
+use crate::follower::Follower;
+use bk_ledger::Ledger;
+use bk_order::Intake;
+use bk_report::{Proof, proof_of};
+use bk_rules::{Account, Receipt};
+use std::thread::Threads;
+
+impl Follower {
+    // The fault that is kept, or the stop of the whole frames so far.
+    fn ready(&self) -> Result<(), Fault>
+        ensures clear { OnOk result (NothingStops self.now) }
+        ensures works { OnOk result (self.now.fault ≡ None) }
+        ensures again { IfSome self.now.fault (λ f. result ≡ Err f) }
+        ensures fault { IfErr result (λ f. self.now.fault ≡ None → QueryFails self.now f) }
+    {
+        if let Some(fault) = self.fault {
+            return Err(fault);
+        }
+        match &self.opened.book {
+            Some(book) => {
+                book.ready()?;
+                Ok(())
+            }
+            None => Ok(()),
+        }
+    }
+
+    /// What was taken of the frames after the genesis, with their order as it was settled last.
+    pub fn intake(&self) -> Option<&Intake>
+        ensures { MatchOption result (self.now.book ≡ None)
+            (λ i. (b : BookValue) × (self.now.book ≡ Some b) × (i.now ≡ b.taken)) }
+    {
+        match &self.opened.book {
+            Some(book) => Some(&book.intake),
+            None => None,
+        }
+    }
+
+    /// What was executed up to the last settle.
+    pub fn ledger(&self) -> Option<&Ledger>
+        ensures { MatchOption result (executed_in self.now.book ≡ None)
+            (λ l. executed_in self.now.book ≡ Some (executed_of l.now)) }
+    {
+        match &self.opened.book {
+            Some(book) => match &book.ledger {
+                Some(ledger) => Some(ledger),
+                None => None,
+            },
+            None => None,
+        }
+    }
+
+    /// The account of this id as of the last settle, `None` for one that is absent. O(log n) at most.
+    ///
+    /// `Collision` or `Equivocation` where the whole frames so far are stopped.
+    pub fn account(&self, id: u64) -> Result<Option<Account>, Fault>
+        ensures account { IfOk result (λ a. a ≡ account_at (rows_in self.now.book) id) }
+        ensures clear { OnOk result (NothingStops self.now) }
+        ensures works { OnOk result (self.now.fault ≡ None) }
+        ensures again { IfSome self.now.fault (λ f. result ≡ Err f) }
+        ensures fault { IfErr result (λ f. self.now.fault ≡ None → QueryFails self.now f) }
+    {
+        self.ready()?;
+        match self.ledger() {
+            Some(ledger) => Ok(ledger.state().account(id)),
+            None => Ok(None),
+        }
+    }
+
+    /// What became of the transaction at a place as of the last settle, `None` for a place that was not executed.
+    ///
+    /// `Collision` or `Equivocation` where the whole frames so far are stopped.
+    pub fn receipt(&self, place: u32) -> Result<Option<Receipt>, Fault>
+        ensures receipt { IfOk result (λ r. r ≡ slice_get (receipts_in self.now.book) place) }
+        ensures clear { OnOk result (NothingStops self.now) }
+        ensures works { OnOk result (self.now.fault ≡ None) }
+        ensures again { IfSome self.now.fault (λ f. result ≡ Err f) }
+        ensures fault { IfErr result (λ f. self.now.fault ≡ None → QueryFails self.now f) }
+    {
+        self.ready()?;
+        match self.ledger() {
+            Some(ledger) => Ok(ledger.receipt(place)),
+            None => Ok(None),
+        }
+    }
+
+    /// A proof of the account of this id as of the last settle, `None` for one that is absent. O(n).
+    ///
+    /// `Collision` or `Equivocation` where the whole frames so far are stopped, `Memory` where memory was refused. The
+    /// Follower stays as it was.
+    pub fn prove<R: Threads + Sync>(&self, rt: &R, id: u64) -> Result<Option<Proof>, Fault>
+        ensures proof { IfOk result (λ found. MatchOption found
+            (IsAbsent (rows_in self.now.book) id) (IsProofOf (rows_in self.now.book) id)) }
+        ensures clear { OnOk result (NothingStops self.now) }
+        ensures works { OnOk result (self.now.fault ≡ None) }
+        ensures again { IfSome self.now.fault (λ f. result ≡ Err f) }
+        ensures fault { IfErr result (λ f. self.now.fault ≡ None → QueryFails self.now f) }
+    {
+        self.ready()?;
+        let Some(ledger) = self.ledger() else {
+            return Ok(None);
+        };
+        let rows = ledger.state().rows(self.alloc)?;
+        let proof = proof_of(rt, self.alloc, &rows, id)?;
+        Ok(proof)
+    }
+}

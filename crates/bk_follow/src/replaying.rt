@@ -1,0 +1,124 @@
+ghost use Rattle.std.specs.Prelude.{◌≡◌, ℕ, ◌<◌, ◌≤◌, [], List, length, None, OnOk, IfOk, IfErr};
+ghost use Rattle.bk_frames.specs.Device.{CanBeUsed, Works, Receives, IfKnown};
+ghost use Rattle.bk_frames.specs.Feed.{Frame};
+ghost use Rattle.bk_follow.specs.RunReport.{IsReport};
+ghost use Rattle.bk_results.specs.Devices.{devices};
+ghost use Rattle.bk_follow.specs.Replaying.{RunFailsBy, ReadFails, AllHasCome};
+ghost use Rattle.bk_follow.specs.private.Gathering.{HasGathered, IsAllOf};
+ghost use Rattle.bk_frames.specs.declared.pulling.TheConstants.{PIECE};
+
+use crate::fault::Fault;
+use crate::follower::Follower;
+use crate::gathering::Gathered;
+use bk_frames::{PIECE, Sink, Source};
+use bk_pool::Gate;
+use bk_results::Status;
+use std::alloc::Global;
+use std::sync::Wait;
+use std::thread::Threads;
+
+// Gathers all that a source has, and takes it.
+fn pull_all<R: Threads + Sync, S: Source>(
+    rt: &R,
+    alloc: Global,
+    source: &mut S,
+    piece: &mut [u8],
+    gathered: &mut Gathered,
+) -> Result<(), Fault>
+    requires sound { CanBeUsed (S.state source.old) }
+    requires some { 0 < length piece.old }
+    requires few { length piece.old ≤ PIECE }
+    requires first { HasGathered [] [] gathered.old }
+    ensures works { OnOk result (Works (S.state source.old) (S.state source.new)) }
+    ensures come { OnOk result ((bytes : List ℕ) × (taken : List Frame)
+        × HasGathered bytes taken gathered.new) }
+    ensures all { OnOk result (IsAllOf (S.state source.old) gathered.new) }
+    ensures fault { IfErr result (λ f. ReadFails f (S.state source.old) (S.state source.new)) }
+{
+    // The label names the loop for its proof.
+    'pieces: loop {
+        if gathered.pull(rt, alloc, source, piece)? {
+            return Ok(());
+        }
+    }
+}
+
+/// Follows all that a source has, with 1 to 64 workers.
+pub fn follow<R: Threads + Sync, S: Source>(
+    rt: &R,
+    alloc: Global,
+    source: &mut S,
+    piece: &mut [u8],
+    workers: usize,
+) -> Result<Follower, Fault>
+    requires sound { CanBeUsed (S.state source.old) }
+    requires some { 0 < length piece.old }
+    requires few { length piece.old ≤ PIECE }
+    requires workers { (1 ≤ workers) × (workers ≤ 64) }
+    ensures works { IfOk result (λ v. Works (S.state source.old) (S.state source.new)
+        × (v.fault ≡ None)) }
+    ensures come { IfOk result (λ v. IfKnown (S.state source.old)
+        (λ bytes. AllHasCome bytes v)) }
+    ensures fault { IfErr result (λ f. ReadFails f (S.state source.old) (S.state source.new)) }
+{
+    let mut gathered = Gathered::new(alloc);
+    pull_all(rt, alloc, source, piece, &mut gathered)?;
+    Ok(gathered.into_follower(alloc, workers))
+}
+
+// Follows all that a source has, and finishes.
+fn follow_to_end<R: Threads + Wait + Sync, S: Source, K: Sink, G: Gate + Sync>(
+    rt: &R,
+    alloc: Global,
+    source: &mut S,
+    sink: &mut K,
+    piece: &mut [u8],
+    workers: usize,
+    gate: &G,
+) -> Result<Status, Fault>
+    requires some { 0 < length piece.old }
+    requires few { length piece.old ≤ PIECE }
+    requires workers { (1 ≤ workers) × (workers ≤ 64) }
+    requires source { CanBeUsed (S.state source.old) }
+    requires sink { CanBeUsed (K.state sink.old) }
+    ensures report { IfOk result (λ s. IfKnown (S.state source.old) (λ bytes. (text : List ℕ)
+        × IsReport bytes text s × Receives (K.state sink.old) (K.state sink.new) text)) }
+    ensures sound { OnOk result (Works (S.state source.old) (S.state source.new)
+        × Works (K.state sink.old) (K.state sink.new)) }
+    ensures fault { IfErr result (λ f. RunFailsBy f
+        (devices (S.state source.old) (K.state sink.old))
+        (devices (S.state source.new) (K.state sink.new))) }
+{
+    let mut follower = follow(rt, alloc, source, piece, workers)?;
+    let status = follower.finish(rt, gate, sink)?;
+    Ok(status)
+}
+
+/// Reads a feed, finds its committed order, executes the order's batches on this many workers, 1 to 64, and writes the
+/// report of the run.
+///
+/// However many workers there are, and however they run, the report is the one that the definitions read off the feed's
+/// frames as a set and the transactions one at a time. The whole feed is read before anything is written, and with
+/// every fault but `Write` nothing is written.
+pub fn replay<R: Threads + Wait + Sync, S: Source, K: Sink, G: Gate + Sync>(
+    rt: &R,
+    alloc: Global,
+    source: &mut S,
+    sink: &mut K,
+    workers: usize,
+    gate: &G,
+) -> Result<Status, Fault>
+    requires source { CanBeUsed (S.state source.old) }
+    requires sink { CanBeUsed (K.state sink.old) }
+    requires workers { (1 ≤ workers) × (workers ≤ 64) }
+    ensures report { IfOk result (λ s. IfKnown (S.state source.old) (λ bytes. (text : List ℕ)
+        × IsReport bytes text s × Receives (K.state sink.old) (K.state sink.new) text)) }
+    ensures sound { OnOk result (Works (S.state source.old) (S.state source.new)
+        × Works (K.state sink.old) (K.state sink.new)) }
+    ensures fault { IfErr result (λ f. RunFailsBy f
+        (devices (S.state source.old) (K.state sink.old))
+        (devices (S.state source.new) (K.state sink.new))) }
+{
+    let mut piece = vec![in alloc; 0u8; PIECE]?;
+    follow_to_end(rt, alloc, source, sink, piece.as_mut_slice(), workers, gate)
+}

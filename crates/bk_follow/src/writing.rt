@@ -1,0 +1,135 @@
+//! The report of a book.
+
+ghost use Rattle.std.specs.Prelude.{◌≡◌, ◌^◌, ◌<◌, ◌≤◌, ◌++◌, [], ℕ, List, false, length, OnOk, IfOk, IfErr};
+ghost use Rattle.bk_frames.specs.Device.{CanBeUsed};
+ghost use Rattle.bk_frames.specs.Feed.{Frame, FeedValue, IsFeed};
+ghost use Rattle.bk_frames.specs.Genesis.{total_of};
+ghost use Rattle.bk_order.specs.Intake.{HasTaken};
+ghost use Rattle.bk_order.specs.Orders.{AreWaiting};
+ghost use Rattle.bk_order.specs.Stops.{HasNoStop};
+ghost use Rattle.bk_follow.specs.Follower.{IsCurrent};
+ghost use Rattle.bk_report.specs.Leaves.{leaves_of};
+ghost use Rattle.bk_report.specs.Lines.{text_of};
+ghost use Rattle.bk_report.specs.RunLines.{head_lines, order_lines, batches_lines, ledger_lines};
+ghost use Rattle.bk_follow.specs.private.Books.{WritesBook, WriteFails};
+ghost use Rattle.bk_report.specs.Pages.{Written, blank};
+
+use crate::book::Book;
+use crate::fault::Fault;
+use bk_cert::CertRef;
+use bk_frames::{Row, Sink, WriteFault};
+use bk_ledger::Ledger;
+use bk_order::Intake;
+use bk_report::{Page, Parts, leaves_of, write_run};
+use bk_results::Status;
+use std::alloc::{AllocError, Global};
+use std::thread::Threads;
+
+// What a report shows and its book does not hold.
+#[derive(Drop)]
+struct Shown {
+    waiting: Vec<CertRef>,
+    rows: Vec<Row>,
+    // The balances of the rows, added up.
+    total: u64,
+    // The leaves of their tree.
+    leaves: Vec<[u8; 24]>,
+}
+
+// Finds what waits and the accounts.
+fn find_shown(alloc: Global, intake: &Intake, ledger: &Ledger) -> Result<Shown, AllocError>
+    ensures waiting { IfOk result (λ s. (frames : List Frame) → HasTaken frames intake.now
+        → intake.now.failed ≡ false → HasNoStop intake.now.committee frames
+        → AreWaiting intake.now.committee frames s.waiting.items) }
+    ensures rows { IfOk result (λ s. s.rows.items ≡ ledger.now.state.rows) }
+    ensures total { IfOk result (λ s. s.total ≡ total_of s.rows.items) }
+    ensures leaves { IfOk result (λ s. s.leaves.items ≡ leaves_of s.rows.items) }
+    ensures few { IfOk result (λ s. length s.rows.items < 2 ^ 32) }
+{
+    let waiting = intake.waiting()?;
+    let rows = ledger.state().rows(alloc)?;
+    // This never holds: a feed has fewer than 2^32 bytes, and an account that comes to be is named in nine of them.
+    if rows.len() >= 1 << 32 {
+        return Err(AllocError);
+    }
+    let leaves = leaves_of(alloc, &rows)?;
+    let total = ledger.state().total();
+    Ok(Shown {
+        waiting,
+        rows,
+        total,
+        leaves,
+    })
+}
+
+// Writes the report of what was taken and executed.
+fn write_shown<R: Threads + Sync, K: Sink>(
+    rt: &R,
+    sink: &mut K,
+    page: &mut Page,
+    intake: &Intake,
+    ledger: &Ledger,
+    shown: &Shown,
+) -> Result<(), WriteFault>
+    requires sound { CanBeUsed (K.state sink.old) }
+    requires rejected { length intake.now.kept.rejected < 2 ^ 32 }
+    requires waiting { length shown.now.waiting.items < 2 ^ 32 }
+    requires anchors { length intake.now.ordered.anchors < 2 ^ 32 }
+    requires order { length intake.now.ordered.order < 2 ^ 32 }
+    requires counts { length ledger.now.counts < 2 ^ 32 }
+    requires receipts { length ledger.now.receipts < 2 ^ 32 }
+    requires rows { length shown.now.rows.items < 2 ^ 32 }
+    requires total { shown.now.total ≡ total_of shown.now.rows.items }
+    requires leaves { shown.now.leaves.items ≡ leaves_of shown.now.rows.items }
+    requires blank { page.old ≡ blank }
+    ensures written { Written result (K.state sink.old) (K.state sink.new) page.old page.new
+        (text_of (head_lines intake.now.committee intake.now.kept.next
+        ++ order_lines intake.now.kept.rejected shown.now.waiting.items
+        intake.now.ordered.anchors intake.now.ordered.order
+        ++ batches_lines ledger.now.counts intake.now.ordered.payloads.missing
+        ++ ledger_lines ledger.now.receipts shown.now.rows.items)) }
+    ensures empty { OnOk result (page.new.bytes ≡ []) }
+{
+    let parts = Parts {
+        committee: intake.committee(),
+        frames: intake.next(),
+        rejected: intake.rejected(),
+        waiting: &shown.waiting,
+        anchors: intake.anchors(),
+        order: intake.order(),
+        counts: ledger.counts(),
+        missing: intake.missing(),
+        receipts: ledger.receipts(),
+        rows: &shown.rows,
+        total: shown.total,
+        leaves: &shown.leaves,
+    };
+    write_run(rt, sink, page, &parts)
+}
+
+impl Book {
+    /// Writes the report of the feed whose frames these are, all of them settled.
+    pub(crate) fn write<R: Threads + Sync, K: Sink>(
+        &self,
+        rt: &R,
+        sink: &mut K,
+    ) -> Result<Status, Fault>
+        requires sound { CanBeUsed (K.state sink.old) }
+        requires current { (feed : FeedValue) × IsFeed feed × IsCurrent feed self.now }
+        ensures report { IfOk result (WritesBook self.now
+            (K.state sink.old) (K.state sink.new)) }
+        ensures fault { IfErr result (WriteFails self.now
+            (K.state sink.old) (K.state sink.new)) }
+    {
+        let Some(ledger) = &self.ledger else {
+            unreachable!()
+        };
+        let shown = find_shown(self.alloc, &self.intake, ledger)?;
+        let mut page = Page::new(self.alloc)?;
+        write_shown(rt, sink, &mut page, &self.intake, ledger, &shown)?;
+        match self.intake.missing() {
+            Some(_) => Ok(Status::Missing),
+            None => Ok(Status::Whole),
+        }
+    }
+}

@@ -1,0 +1,26 @@
+-- What a call with a source and a sink leaves of both.
+use Rattle.std.specs.Prelude.{◌≡◌, ℕ, List}
+use Rattle.std.specs.Io.KnownBytes.{Keeps}
+use Rattle.bk_frames.specs.Device.{Device, Works}
+use Rattle.bk_frames.specs.Feed.{FeedValue, IsFeed, spelling}
+
+-- the source and the sink of a replay
+pub record Devices : Type 0 where
+  pub source : Device
+  pub sink : Device
+
+-- these two
+abbrev pub devices : Device → Device → Devices
+devices source sink = record { source = source; sink = sink }
+
+-- nothing went out, and no call failed
+abbrev pub IsUntouched : Device → Device → Type 0
+IsUntouched old new = Works old new × Keeps old.bytes new.bytes
+
+-- no call of either device failed, and nothing was written
+abbrev pub NothingFailed : Devices → Devices → Type 0
+NothingFailed old new = Works old.source new.source × IsUntouched old.sink new.sink
+
+-- the bytes are those of a feed
+abbrev pub AreFeed : List ℕ → Type 0
+AreFeed bytes = (feed : FeedValue) × IsFeed feed × (bytes ≡ spelling feed)
