@@ -1,5 +1,5 @@
 -- What admission gives.
-use Rattle.std.proofs.Common.{◌≡◌, ℕ, zero, suc, ◌+◌, ◌<◌, List, sym, ap, ◌∙◌, subst, add-one}
+use Rattle.std.proofs.Common.{◌≡◌, ℕ, zero, suc, ◌+◌, ◌<◌, List, sym, ◌∙◌, subst, add-one}
 use Rattle.std.specs.List.{Contains}
 use Rattle.bk_committee.specs.Sizes.{Sizes, Weigh, quorum}
 use Rattle.bk_cert.specs.Node.{Node}

@@ -1,5 +1,5 @@
 -- A certificate that breaks no local rule.
-use Rattle.std.proofs.Common.{◌≡◌, ℕ, zero, suc, ◌<◌, ◌≤◌, ◌⊎◌, inl, inr, List, [], ◌∷◌, length, sum, Bool, IsTrue, true, false, eqb, cond, refl, sym, ap, ◌∙◌, subst, ⊎_elim, arith}
+use Rattle.std.proofs.Common.{◌≡◌, ℕ, ◌<◌, ◌≤◌, ◌⊎◌, inl, inr, List, [], ◌∷◌, length, IsTrue, eqb, refl, sym, ◌∙◌, subst, ⊎_elim, arith}
 use Rattle.std.specs.List.{AllByRecursion}
 use Rattle.std.specs.List.Sorted.{IsStrictlySortedBy}
 use Rattle.std.specs.Ordering.{nat_cmp}
@@ -8,10 +8,8 @@ use Rattle.std.specs.declared.cmp.Ordering.{Ordering}
 use Rattle.std.specs.declared.cmp.Ordering.TheVariants.{Less, Equal, Greater}
 use Rattle.std.proofs.lemmas.Bool.{cases_lt, eq-eqb, cond-true, lt-ltb}
 use Rattle.bk_cert.specs.Values.{HeaderValue}
-use Rattle.bk_frames.specs.declared.version.Version.{Version}
-use Rattle.bk_frames.specs.declared.version.Version.TheVariants as version
-use Rattle.bk_committee.specs.Payload.{CommitteeValue, IsCommittee, IsWeight, sizes_of}
-use Rattle.bk_cert.specs.Node.{Node, node_of}
+use Rattle.bk_committee.specs.Payload.{CommitteeValue, IsCommittee, sizes_of}
+use Rattle.bk_cert.specs.Node.{Node}
 use Rattle.bk_certcheck.specs.Rules.{wrong_parents}
 use Rattle.bk_certcheck.specs.declared.rule.Rule.TheVariants as rule
 use Rattle.bk_certcheck.specs.Verdicts.{IsGood}

@@ -1,8 +1,8 @@
 -- What is at a place.
-use Rattle.std.proofs.Common.{◌≡◌, ℕ, zero, suc, ◌+◌, ◌-◌, ◌<◌, ◌≤◌, ◌↔◌, IsTrue, Bool, true, false, List, [], ◌∷◌, map, length, Option, Some, None, get_or, refl, sym, ap, subst, ◌∙◌, ⊎_elim, arith}
+use Rattle.std.proofs.Common.{◌≡◌, ℕ, zero, suc, ◌+◌, ◌-◌, ◌<◌, ◌≤◌, ◌↔◌, ◌⊎◌, inl, inr, IsTrue, Bool, true, false, List, [], ◌∷◌, length, Option, Some, None, get_or, refl, sym, ap, subst, ◌∙◌, ⊎_elim, arith}
 use Rattle.std.specs.List.{Contains}
 use Rattle.std.specs.Option.{is_some}
-use Rattle.std.proofs.lemmas.Bool.{cases_eq, both_ways, false≢true}
+use Rattle.std.proofs.lemmas.Bool.{cases_eq, cases_Bool, both_ways, false≢true}
 use Rattle.std.proofs.lemmas.List.{get_or-map}
 use Rattle.bk_committee.specs.Sizes.{Sizes}
 use Rattle.bk_cert.specs.Node.{Node}
@@ -11,7 +11,7 @@ use Rattle.bk_rounds.specs.declared.slots.Slot.{Slot}
 use Rattle.bk_rounds.specs.declared.names.Names.{Names}
 use Rattle.bk_cert.specs.Place.{place_of}
 use Rattle.bk_cert.specs.Clear.{IsClear}
-use Rattle.bk_rounds.specs.Admission.{IsAdmittedIn, IsAdmitted, StandsAt, IsPresent}
+use Rattle.bk_rounds.specs.Admission.{StandsAt, IsPresent}
 use Rattle.bk_rounds.specs.Links.{Links}
 use Rattle.bk_rounds.specs.Members.{Has}
 use Rattle.bk_rounds.specs.private.Numbered.{id_of, round_of, author_of, cert_of, parents_of, is_marked, IsAdmittedAt}
@@ -19,9 +19,9 @@ use Rattle.bk_rounds.specs.private.Names.{set_of, known_in}
 use Rattle.bk_rounds.specs.private.Tied.{IsSlotOf, IsAt, IsWhole, IsPlaced, place_at, IsNumberAt}
 use Rattle.bk_cert.proofs.Refs.{same_place}
 use Rattle.bk_cert.proofs.Lists.{none_in_nil, from_map, in_map}
-use Rattle.bk_rounds.proofs.Admitted.{admitted_held, admitted_round, admitted_here}
+use Rattle.bk_rounds.proofs.Admitted.{admitted_held, admitted_here}
 use Rattle.bk_rounds.proofs.Added.{admitted_at}
-use Rattle.bk_rounds.proofs.Tied.{held_at, round_low, slot_is, number_up, number_down, admitted_some}
+use Rattle.bk_rounds.proofs.Tied.{held_at, round_low, slot_is, number_up, number_down}
 
 pub admitted_some_round : (z : Sizes) (slots : List Slot) (r i : ℕ) → IsAdmittedAt z slots r i → 0 < r
 unfolding IsAdmittedAt
@@ -211,6 +211,18 @@ top_highest z held n placed top w a here =
     let (k, at) = has_number z held n placed top w a here in
     let e : round_of n.slots.items k ≡ a.round = ap (λ (q : CertRef). q.round) at.place_is in
     omega (arith, w.highest k at.marked, e)
+
+-- whether something is present at a place is settled
+pub present_decided : (z : Sizes) (held : List Node) (n : Names) (placed : CertRef → Option ℕ) (top : ℕ) → IsWhole z held n placed top → (a : CertRef)
+    → IsPresent z held a ⊎ (IsPresent z held a → ⊥)
+present_decided z held n placed top w a = by_number (placed a) refl
+  where
+    by_number : (o : Option ℕ) → placed a ≡ o → IsPresent z held a ⊎ (IsPresent z held a → ⊥)
+    by_number None e = inr (none_present z held n placed top w a (number_none n placed a w.placed e))
+    by_number (Some k) e = ⊎_elim
+        (λ m. inl (is_present z held n placed top w a k (number_found n placed a k w.placed e m)))
+        (λ f. inr (none_present z held n placed top w a (number_unmarked n placed a k w.placed e f)))
+        (cases_Bool (is_marked n.marks.items k))
 
 pub top_reached : (z : Sizes) (held : List Node) (n : Names) (placed : CertRef → Option ℕ) (top : ℕ) → IsWhole z held n placed top → 0 < top → (a : CertRef) × IsPresent z held a × (a.round ≡ top)
 top_reached z held n placed top w some =

@@ -17,3 +17,4 @@ pub mod Whole
 pub mod Adding
 pub mod Waits
 pub mod Fit
+pub mod Tallied

@@ -1,15 +1,15 @@
 -- What is held and not admitted.
-use Rattle.std.proofs.Common.{◌≡◌, ◌≢◌, ℕ, ◌+◌, ◌<◌, ◌≤◌, ◌↔◌, true, false, List, [], ◌∷◌, ◌++◌, length, Option, refl, sym, ap, subst, ◌∙◌, ⊎_elim, arith}
+use Rattle.std.proofs.Common.{◌≡◌, ℕ, ◌+◌, ◌<◌, ◌↔◌, false, List, [], ◌∷◌, ◌++◌, length, Option, refl, sym, ap, subst, ◌∙◌, ⊎_elim, arith}
 use Rattle.std.specs.List.{Contains}
-use Rattle.std.proofs.lemmas.Bool.{cases_lt, cases_eq, both_ways, false_from_ne_true}
+use Rattle.std.proofs.lemmas.Bool.{cases_lt, both_ways, false_from_ne_true}
 use Rattle.std.proofs.lemmas.List.Elements.{Contains-push, Contains-push_cases, Contains-append_left}
 use Rattle.bk_committee.specs.Sizes.{Sizes}
 use Rattle.bk_cert.specs.Node.{Node}
 use Rattle.bk_cert.specs.declared.place.CertRef.{CertRef}
 use Rattle.bk_rounds.specs.declared.names.Names.{Names}
 use Rattle.bk_cert.specs.Place.{place_of, IsListed, Lists}
-use Rattle.bk_rounds.specs.Admission.{IsAdmittedIn, WaitsAt}
-use Rattle.bk_rounds.specs.private.Numbered.{round_of, author_of, cert_of, is_marked, IsAdmittedAt}
+use Rattle.bk_rounds.specs.Admission.{WaitsAt}
+use Rattle.bk_rounds.specs.private.Numbered.{round_of, cert_of, is_marked, IsAdmittedAt}
 use Rattle.bk_rounds.specs.private.Names.{known_in}
 use Rattle.bk_rounds.specs.private.Tied.{IsWhole, WaitsBelow, place_at}
 use Rattle.bk_cert.proofs.Refs.{same_place}

@@ -1,32 +1,20 @@
 -- The table after ids were numbered.
-use Rattle.std.proofs.Common.{◌≡◌, ◌≢◌, ℕ, zero, suc, ◌+◌, ◌-◌, ◌<◌, ◌≤◌, ◌↔◌, ◌⊎◌, inl, inr, Bool, true, false, cond, List, [], ◌∷◌, ◌++◌, map, length, Option, Some, None, refl, sym, ap, subst, ◌∙◌, ⊎_elim, arith, get_or, set}
+use Rattle.std.proofs.Common.{◌≡◌, ℕ, zero, suc, ◌<◌, ◌≤◌, ◌↔◌, true, List, [], ◌∷◌, map, length, Option, refl, sym, ap, subst, ◌∙◌, arith, get_or}
 use Rattle.std.specs.List.{Contains, All}
-use Rattle.std.specs.Map.{lookup}
-use Rattle.std.specs.Ordering.{is_eq}
-use Rattle.std.proofs.lemmas.Bool.{cases_eq, cases_lt, cases_Bool, both_ways, false_from_ne_true}
-use Rattle.std.proofs.lemmas.List.{length-set, length-append}
-use Rattle.std.proofs.lemmas.List.Elements.{Contains-push, Contains-push_cases, Contains-append_left}
-use Rattle.bk_committee.specs.Sizes.{Sizes, members}
+use Rattle.bk_committee.specs.Sizes.{Sizes}
 use Rattle.bk_cert.specs.Node.{Node}
 use Rattle.bk_cert.specs.declared.place.CertRef.{CertRef}
 use Rattle.bk_rounds.specs.declared.slots.Slot.{Slot}
 use Rattle.bk_rounds.specs.declared.names.Names.{Names}
-use Rattle.bk_cert.specs.Place.{place_of, IsListed, Lists, place_cmp}
-use Rattle.bk_cert.specs.Clear.{IsClear}
-use Rattle.bk_rounds.specs.Admission.{IsFit, AreFit, IsPresent, last_round}
 use Rattle.bk_rounds.specs.Members.{Has}
-use Rattle.bk_rounds.specs.private.Numbered.{id_of, round_of, author_of, cert_of, parents_of, row_of, is_marked, count_unmarked, is_heavy_in, IsInside, IsInsideRows, IsRegistered, IsAdmittedAt, IsTable}
-use Rattle.bk_rounds.specs.private.Names.{set_of, IsNumbering, known_in, AreNames, Grows}
-use Rattle.bk_rounds.specs.private.Tied.{IsSlotOf, IsTied, IsAt, IsPlaced, IsAuthorIn, AreSets, IsWhole, IsNumberAt, place_at}
-use Rattle.bk_rounds.specs.declared.waking.Pending.{Pending}
-use Rattle.bk_cert.proofs.Lists.{from_map, in_map, none_in_nil}
-use Rattle.bk_cert.proofs.Refs.{ref_same, equal_from_test, exact_ref, same_place}
-use Rattle.bk_rounds.proofs.Marks.{marked_here}
+use Rattle.bk_rounds.specs.private.Numbered.{id_of, round_of, author_of, parents_of, is_marked, is_heavy_in, IsInside, IsAdmittedAt, IsTable}
+use Rattle.bk_rounds.specs.private.Names.{AreNames, Grows}
+use Rattle.bk_rounds.specs.private.Tied.{IsSlotOf, IsAt, IsAuthorIn, IsWhole, place_at}
+use Rattle.bk_cert.proofs.Refs.{same_place}
 use Rattle.bk_rounds.proofs.Settling.{marked_low}
-use Rattle.bk_rounds.proofs.Added.{heavy_same, admitted_at, field_other, field_here}
-use Rattle.bk_rounds.proofs.Named.{ids_kept, push_before, push_at}
-use Rattle.bk_rounds.proofs.Tied.{held_at, round_low}
-use Rattle.bk_rounds.proofs.Found.{has_number, is_present, admitted_some_round, number_round}
+use Rattle.bk_rounds.proofs.Added.{heavy_same}
+use Rattle.bk_rounds.proofs.Named.{ids_kept}
+use Rattle.bk_rounds.proofs.Tied.{round_low}
 
 admitted_grown : (z : Sizes) (slots after : List Slot) → ((i : ℕ) → round_of after i ≡ round_of slots i) → ((i : ℕ) → author_of after i ≡ author_of slots i)
     → ((i : ℕ) → parents_of after i ≡ parents_of slots i) → (r i : ℕ) → IsAdmittedAt z slots r i → IsAdmittedAt z after r i

@@ -1,5 +1,5 @@
 -- The links among admitted certificates.
-use Rattle.std.specs.Prelude.{◌≡◌, ℕ, ◌+◌, List, Contains}
+use Rattle.std.specs.Prelude.{◌≡◌, ◌+◌, List, Contains}
 use Rattle.bk_committee.specs.Sizes.{Sizes}
 use Rattle.bk_cert.specs.Node.{Node}
 use Rattle.bk_cert.specs.declared.place.CertRef.{CertRef}

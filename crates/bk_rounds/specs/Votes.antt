@@ -1,6 +1,7 @@
 -- Anchors and their votes.
-use Rattle.std.specs.Prelude.{◌≡◌, ℕ, ◌+◌, ◌%◌, ◌≤◌, List}
-use Rattle.bk_committee.specs.Sizes.{Sizes, faulty, leader, Weigh}
+use Rattle.std.specs.Prelude.{◌≡◌, ◌==◌, ℕ, ◌+◌, ◌%◌, ◌≤◌, ◌↔◌, List, Contains}
+use Rattle.std.specs.List.{IsDistinct}
+use Rattle.bk_committee.specs.Sizes.{Sizes, faulty, leader, weight_of, Weigh}
 use Rattle.bk_cert.specs.Node.{Node}
 use Rattle.bk_cert.specs.declared.place.CertRef.{CertRef}
 use Rattle.bk_rounds.specs.Admission.{IsPresent}
@@ -29,3 +30,14 @@ pub record IsVoted (z : Sizes) (held : List Node) (a : CertRef) : Type 0 where
 pub record IsLast (z : Sizes) (held : List Node) (a : CertRef) : Type 0 where
   pub voted : IsVoted z held a
   pub greatest : (b : CertRef) → IsVoted z held b → b.round ≤ a.round
+
+-- the member x votes for the anchor of this round
+abbrev pub VotesIn : Sizes → List Node → ℕ → ℕ → Type 0
+VotesIn z held round x = (a : CertRef) × IsAnchorOf z held round a × VotesFor z held a x
+
+-- those who have P weigh this much together
+pub record WeighExactly (z : Sizes) (P : ℕ → Type 0) (weight : ℕ) : Type 0 where
+  pub who : List ℕ
+  pub apart : IsDistinct (λ x y. x == y) who
+  pub lists : (x : ℕ) → Contains who x ↔ P x
+  pub is : weight ≡ weight_of z who

@@ -2,3 +2,4 @@ pub mod Numbered
 pub mod Names
 pub mod Tied
 pub mod Prepared
+pub mod Tally

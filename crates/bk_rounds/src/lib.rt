@@ -10,6 +10,8 @@ mod names;
 mod preparing;
 mod rounds;
 mod slots;
+mod table;
+mod votes;
 mod waking;
 mod weights;
 

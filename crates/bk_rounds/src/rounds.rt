@@ -1,10 +1,7 @@
-//! The table of certificates.
+//! The table of certificates, and the votes that they give.
 
-ghost use Rattle.std.specs.Prelude.{◌≡◌, ◌≢◌, ◌++◌, ◌∷◌, OnOk, OnErr, ℕ, ◌-◌, ◌<◌, ◌≤◌, ◌↔◌, [], true, Contains, length, sum, IfSome, IfNone, IfOk, IsTrue};
-ghost use Rattle.std.specs.List.Sorted.{IsStrictlySortedBy};
-ghost use Rattle.std.specs.Ordering.{nat_cmp};
-ghost use Rattle.std.specs.Cmp.Lexicographic.{slice_cmp};
-ghost use Rattle.bk_committee.specs.Sizes.{members, faulty, quorum, leader};
+ghost use Rattle.std.specs.Prelude.{◌≡◌, ◌≢◌, ◌++◌, ◌∷◌, OnOk, OnErr, ℕ, ◌-◌, ◌<◌, ◌≤◌, ◌↔◌, [], Contains, length, sum, IfSome, IfNone, IfOk, IsTrue, MatchOption};
+ghost use Rattle.bk_committee.specs.Sizes.{members, faulty, leader};
 ghost use Rattle.bk_committee.specs.Payload.{sizes_of};
 ghost use Rattle.bk_cert.specs.Node.{Node};
 ghost use Rattle.bk_cert.specs.Place.{place_of, Lists};
@@ -14,49 +11,35 @@ ghost use Rattle.bk_rounds.specs.Admission.{StandsAt, IsPresent, IsFit, AreFit, 
 ghost use Rattle.bk_rounds.specs.Links.{Links};
 ghost use Rattle.bk_rounds.specs.Members.{Has, IsWeightOf};
 ghost use Rattle.bk_rounds.specs.Rounds.{rounds_with, sizes_with, BecomesPresent};
-ghost use Rattle.bk_rounds.specs.private.Numbered.{is_marked};
-ghost use Rattle.bk_rounds.specs.private.Names.{AreNames};
-ghost use Rattle.bk_rounds.specs.private.Tied.{IsPlaced, IsNumberAt, WaitsBelow, number_at};
+ghost use Rattle.bk_rounds.specs.Votes.{IsVoted, IsLast, VotesIn, WeighExactly};
 
-use crate::admitting::{admit, list, tell};
-use crate::buffers::{Buffers, hand_over};
 use crate::members::Members;
-use crate::names::Names;
-use crate::preparing::prepare;
-use crate::slots::Slot;
-use crate::weights::Weights;
-use bk_cert::{CertRef, Header, SharedCert};
-use bk_certcheck::MOST_ROUND;
+use crate::table::Table;
+use crate::votes::{Votes, count};
+use bk_cert::{CertRef, SharedCert};
 use bk_committee::Committee;
 use bk_digest::Digest32;
 use std::alloc::{AllocError, Global};
-use std::cmp::Ordering;
-use std::collections::BTreeMap;
 use std::marker::Model;
 
-/// The held certificates of a committee, and which of them are admitted. Contracts see it as the
-/// committee's sizes and the certificates in the order in which they were added.
+/// The held certificates of a committee, which of them are admitted, and the votes for anchors.
+/// Contracts see it as the committee's sizes and the certificates in the order in which they were
+/// added.
 #[derive(Drop)]
 pub struct Rounds {
-    alloc: Global,
-    weights: Weights,
-    certs: Vec<SharedCert>,
-    names: Names,
-    places: BTreeMap<CertRef, usize>,
-    buffers: Buffers,
-    // The greatest round of an admitted one.
-    top: u32,
+    table: Table,
+    votes: Votes,
 }
 
 impl Model for Rounds {
-    ghost use Rattle.bk_rounds.specs.Rounds.{RoundsValue, rounds_with};
-    ghost use Rattle.bk_rounds.specs.private.Tied.{IsWhole, number_at};
+    ghost use Rattle.bk_rounds.specs.Rounds.{RoundsValue};
+    ghost use Rattle.bk_rounds.specs.private.Tally.{AreCounted};
 
     ghost Value = { RoundsValue };
 
-    ghost view = { λ s. rounds_with s.weights s.certs.items };
+    ghost view = { λ s. s.table };
 
-    ghost invariant = { λ s. IsWhole s.weights s.certs.items s.names (number_at s.places) s.top };
+    ghost invariant = { λ s. AreCounted s.table.sizes s.table.held s.votes };
 }
 
 impl Rounds {
@@ -77,15 +60,10 @@ impl Rounds {
         requires heavy { 1 ≤ sum weights.now }
         ensures { IfOk result (λ rounds. rounds ≡ rounds_with (sizes_with weights.now) []) }
     {
-        let weights = Weights::new(alloc, weights)?;
+        let table = Table::with_weights(alloc, weights)?;
         Ok(Rounds {
-            alloc,
-            weights,
-            certs: Vec::new(alloc),
-            names: Names::new(alloc),
-            places: BTreeMap::new(alloc),
-            buffers: Buffers::new(alloc),
-            top: 0,
+            table,
+            votes: Votes::new(alloc),
         })
     }
 
@@ -101,18 +79,7 @@ impl Rounds {
             → ((c : Node) → Contains self.now.held c → place_of c ≢ place_of cert.now)
             → IsTrue result }
     {
-        let header = cert.header();
-        let place = CertRef {
-            round: header.round(),
-            author: header.author(),
-        };
-        if self.has(place) {
-            return false;
-        }
-        if self.has_id(cert.id()) {
-            return false;
-        }
-        is_fit(self.members(), header)
+        self.table.can_add(cert)
     }
 
     /// Adds a certificate, and answers the places of all that this makes admitted, by round and
@@ -128,46 +95,12 @@ impl Rounds {
         ensures err { OnErr result (self.new ≡ self.old) }
         ensures answer { IfOk result (λ out. Lists out.items (BecomesPresent self.old self.new)) }
     {
-        let alloc = self.alloc;
-        let ready = prepare(
-            alloc,
-            &mut self.names,
-            &mut self.certs,
-            &mut self.buffers,
-            &cert,
-        )?;
-        let place = CertRef {
-            round: cert.header().round(),
-            author: cert.header().author(),
-        };
-        self.places.insert(place, ready.number)?;
-        let slot = Slot {
-            id: *cert.id(),
-            round: place.round,
-            author: place.author,
-            cert: self.certs.len(),
-            parents: ready.parents,
-        };
-        self.certs.push_reserved(cert);
-        admit(
-            alloc,
-            &self.weights,
-            &mut self.names.slots,
-            &mut self.names.marks,
-            &mut self.names.pending,
-            ready.number,
-            slot,
-            &mut self.buffers.out,
-        );
-        self.names.unmarked -= self.buffers.out.len();
-        self.top = tell(
-            &self.names.slots,
-            &mut self.names.sets,
-            &self.buffers.out,
-            &mut self.buffers.places,
-            self.top,
-        );
-        Ok(hand_over(alloc, &mut self.buffers.places))
+        self.table.sound();
+        self.votes.make_room(cert.header().round())?;
+        let places = self.table.add(cert)?;
+        self.table.sound();
+        count(&self.table, &mut self.votes, &places);
+        Ok(places)
     }
 
     /// The admitted certificate of this place.
@@ -175,10 +108,7 @@ impl Rounds {
         ensures found { IfSome result (λ c. StandsAt self.now.sizes self.now.held place c.now) }
         ensures none { IfNone result (IsPresent self.now.sizes self.now.held place → ⊥) }
     {
-        match admitted_number(&self.names, &self.places, place) {
-            Some(number) => Some(&self.certs[self.names.slots[number].cert]),
-            None => None,
-        }
+        self.table.at(place)
     }
 
     /// The parents of the admitted certificate of this place, as members of the round before;
@@ -188,27 +118,21 @@ impl Rounds {
             ↔ Links self.now.sizes self.now.held place
             (record { round = place.round - 1; author = x }) }
     {
-        match admitted_number(&self.names, &self.places, place) {
-            Some(number) => self.names.sets[number],
-            None => Members::none(),
-        }
+        self.table.parents_of(place)
     }
 
     /// Whether a certificate of this place is held.
     pub fn has(&self, place: CertRef) -> bool
         ensures { IsTrue result ↔ ((c : Node) × Contains self.now.held c × (place_of c ≡ place)) }
     {
-        self.places.contains_key(&place)
+        self.table.has(place)
     }
 
     /// Whether a certificate with this id is held.
     pub fn has_id(&self, id: &Digest32) -> bool
         ensures { IsTrue result ↔ ((c : Node) × Contains self.now.held c × (c.id ≡ id.now)) }
     {
-        match self.names.numbers.get(id).copied() {
-            Some(number) => self.names.slots[number].round != 0,
-            None => false,
-        }
+        self.table.has_id(id)
     }
 
     /// The places of the certificates that are held and not admitted, by round and author.
@@ -216,9 +140,7 @@ impl Rounds {
         ensures { IfOk result
             (λ places. Lists places.items (WaitsAt self.now.sizes self.now.held)) }
     {
-        let mut places = waiting_places(self.alloc, &self.names)?;
-        list(&mut places);
-        Ok(places)
+        self.table.waiting()
     }
 
     /// What is held is good, and no two of it share an id or a place.
@@ -226,7 +148,7 @@ impl Rounds {
         ensures good { AreFit self.now.sizes self.now.held }
         ensures clear { IsClear self.now.held }
     {
-        let _open = self.top;
+        self.table.sound()
     }
 
     /// The greatest round of an admitted certificate; 0 where none is admitted.
@@ -237,7 +159,7 @@ impl Rounds {
         ensures reached { 0 < result → (a : CertRef) × IsPresent self.now.sizes self.now.held a
             × (a.round ≡ result) }
     {
-        self.top
+        self.table.top()
     }
 
     /// How many members there are.
@@ -246,14 +168,14 @@ impl Rounds {
         ensures some { 1 ≤ result }
         ensures few { result ≤ 128 }
     {
-        self.weights.members()
+        self.table.members()
     }
 
     /// The weight that may be faulty.
     pub fn faulty(&self) -> u64
         ensures { result ≡ faulty self.now.sizes }
     {
-        self.weights.faulty()
+        self.table.faulty()
     }
 
     /// The leader of an odd round.
@@ -262,7 +184,7 @@ impl Rounds {
         ensures is { result ≡ leader self.now.sizes round }
         ensures member { result < members self.now.sizes }
     {
-        self.weights.leader(round)
+        self.table.leader(round)
     }
 
     /// What these members weigh together.
@@ -270,82 +192,28 @@ impl Rounds {
         requires { (x : ℕ) → Has set x → x < members self.now.sizes }
         ensures { IsWeightOf self.now.sizes set result }
     {
-        self.weights.weight_of(set)
+        self.table.weight_of(set)
     }
-}
 
-// The number of the admitted certificate of this place.
-fn admitted_number(
-    names: &Names,
-    places: &BTreeMap<CertRef, usize>,
-    place: CertRef,
-) -> Option<usize>
-    requires names { AreNames names.now }
-    requires placed { IsPlaced names.now.slots.items (number_at places.now) }
-    ensures found { IfSome result (IsNumberAt names.now place) }
-    ensures none { IfNone result ((k : ℕ) → IsNumberAt names.now place k → 1 ≤ place.round → ⊥) }
-{
-    match places.get(&place).copied() {
-        Some(number) => {
-            if names.marks[number] {
-                Some(number)
-            } else {
-                None
-            }
+    /// What the voters for the anchor of a round weigh together; 0 where the round has no anchor.
+    pub fn votes_weight(&self, round: u32) -> u64
+        ensures { WeighExactly self.now.sizes (VotesIn self.now.sizes self.now.held round) result }
+    {
+        self.votes.at(round)
+    }
+
+    /// The voted anchor of the greatest round. It is known, and costs no search.
+    pub fn newest_voted(&self) -> Option<CertRef>
+        ensures { MatchOption result ((a : CertRef) → IsVoted self.now.sizes self.now.held a → ⊥)
+            (IsLast self.now.sizes self.now.held) }
+    {
+        let round = self.votes.newest;
+        if round == 0 {
+            return None;
         }
-        None => None,
+        Some(CertRef {
+            round,
+            author: self.table.leader(round),
+        })
     }
-}
-
-// Whether a header is good for so many members.
-fn is_fit(members: u8, header: &Header) -> bool
-    ensures member { IsTrue result → header.now.author < members }
-    ensures round { IsTrue result → (1 ≤ header.now.round) × (header.now.round ≤ last_round) }
-    ensures ascending { IsTrue result → IsStrictlySortedBy (slice_cmp nat_cmp) header.now.parents }
-    ensures first { IsTrue result → header.now.round ≡ 1 → header.now.parents ≡ [] }
-    ensures fit { header.now.author < members → 1 ≤ header.now.round
-        → header.now.round ≤ last_round
-        → IsStrictlySortedBy (slice_cmp nat_cmp) header.now.parents
-        → (header.now.round ≡ 1 → header.now.parents ≡ []) → IsTrue result }
-{
-    let round = header.round();
-    if header.author() >= members || round == 0 || round > MOST_ROUND {
-        return false;
-    }
-    if round == 1 && !header.parents().is_empty() {
-        return false;
-    }
-    do_ascend(header.parents())
-}
-
-// Whether each of the ids is before the next one.
-fn do_ascend(ids: &[Digest32]) -> bool
-    ensures { IsTrue result ↔ IsStrictlySortedBy (slice_cmp nat_cmp) ids.now }
-{
-    for i in 1..ids.len() {
-        match ids[i - 1].cmp(&ids[i]) {
-            Ordering::Less => {}
-            Ordering::Equal | Ordering::Greater => return false,
-        }
-    }
-    true
-}
-
-// The places of what is held and not admitted, in the order of their numbers.
-fn waiting_places(alloc: Global, names: &Names) -> Result<Vec<CertRef>, AllocError>
-    requires { AreNames names.now }
-    ensures { IfOk result (λ places. (a : CertRef) → Contains places.items a
-        ↔ WaitsBelow names.now (length names.now.slots.items) a) }
-{
-    let mut places = Vec::new(alloc);
-    for number in 0..names.slots.len() {
-        let slot = &names.slots[number];
-        if slot.round > 0 && !names.marks[number] {
-            places.push(CertRef {
-                round: slot.round,
-                author: slot.author,
-            })?;
-        }
-    }
-    Ok(places)
 }

@@ -1,13 +1,10 @@
 -- The ids that were met, by number, and what is known of each.
-use Rattle.std.specs.Prelude.{◌≡◌, ℕ, ◌<◌, ◌≤◌, ◌↔◌, Bool, true, List, Contains, Option, Some, length, map, slice_index_or, vec_len, vec_capacity}
+use Rattle.std.specs.Prelude.{◌≡◌, ℕ, ◌<◌, ◌≤◌, Bool, List, Contains, Option, Some, length, slice_index_or, vec_len, vec_capacity}
 use Rattle.std.specs.BTreeMap.{get}
 use Rattle.std.specs.Cmp.Lexicographic.{slice_cmp}
 use Rattle.std.specs.Ordering.{nat_cmp, is_eq}
-use Rattle.bk_cert.specs.Node.{Node}
-use Rattle.bk_cert.specs.declared.place.CertRef.{CertRef}
 use Rattle.bk_rounds.specs.declared.slots.Slot.{Slot}
 use Rattle.bk_rounds.specs.declared.names.Names.{Names}
-use Rattle.bk_rounds.specs.Members.{Has}
 use Rattle.bk_rounds.specs.private.Numbered.{id_of, round_of, author_of, cert_of, parents_of, row_of, is_marked, count_unmarked, IsInsideRows}
 
 -- the parents of an admitted one, as members

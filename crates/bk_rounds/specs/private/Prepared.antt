@@ -1,5 +1,5 @@
 -- What is ready before a certificate is added.
-use Rattle.std.specs.Prelude.{◌≡◌, ℕ, ◌<◌, ◌≤◌, false, [], List, Contains, All, length, map, vec_capacity}
+use Rattle.std.specs.Prelude.{◌≡◌, ℕ, ◌<◌, ◌≤◌, false, [], Contains, All, length, map, vec_capacity}
 use Rattle.bk_cert.specs.Node.{Node}
 use Rattle.bk_rounds.specs.declared.buffers.Buffers.{Buffers}
 use Rattle.bk_rounds.specs.declared.names.Names.{Names}

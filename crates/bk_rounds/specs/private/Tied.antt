@@ -62,7 +62,8 @@ pub record IsWhole (z : Sizes) (held : List Node) (n : Names) (numbered : CertRe
   pub sets : AreSets n
   pub highest : (i : ℕ) → is_marked n.marks.items i ≡ true → round_of n.slots.items i ≤ top
   pub to_last : top ≤ last_round
-  pub reached : 0 < top → (i : ℕ) × (is_marked n.marks.items i ≡ true) × (round_of n.slots.items i ≡ top)
+  pub reached : 0 < top → (i : ℕ) × (is_marked n.marks.items i ≡ true)
+      × (round_of n.slots.items i ≡ top)
 
 -- the number at a place, where it has one
 abbrev pub number_at : BTreeMap CertRef ℕ → CertRef → Option ℕ

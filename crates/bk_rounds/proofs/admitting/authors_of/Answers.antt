@@ -1,9 +1,8 @@
-use Rattle.std.proofs.Common.{◌≡◌, ◌<◌, ◌++◌, ◌∷◌, [], ◌∙◌, ◌↔◌, ℕ, List, sym, ap, subst, arith, length, get_or, take}
+use Rattle.std.proofs.Common.{◌≡◌, ◌<◌, ◌↔◌, ℕ, List, subst, arith, length, get_or, take}
 use Rattle.std.proofs.lemmas.List.{take_more, take_all, get_or-map}
 use Rattle.std.proofs.lemmas.List.Elements.{Contains-get_or}
 use Rattle.bk_rounds.specs.declared.slots.Slot.{Slot}
 use Rattle.bk_rounds.specs.Members.{Has}
-use Rattle.bk_rounds.specs.private.Numbered.{author_of}
 use Rattle.bk_rounds.specs.private.Tied.{IsAuthorIn}
 use Rattle.bk_rounds.proofs.Told.{authors_more}
 use Rattle.bk_rounds.proofs.admitting.authors_of.Goals as goal

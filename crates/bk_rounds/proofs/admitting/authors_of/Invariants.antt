@@ -1,4 +1,4 @@
-use Rattle.std.proofs.Common.{◌≡◌, ◌↔◌, ℕ, take}
+use Rattle.std.proofs.Common.{◌↔◌, ℕ, take}
 use Rattle.bk_rounds.specs.Members.{Has}
 use Rattle.bk_rounds.specs.private.Tied.{IsAuthorIn}
 use Rattle.bk_rounds.proofs.admitting.authors_of.Given as goal

@@ -1,4 +1,4 @@
-use Rattle.std.proofs.Common.{◌≡◌, ◌+◌, ◌<◌, ◌≤◌, ◌++◌, ◌∷◌, [], ◌∙◌, ◌↔◌, ℕ, inl, inr, ⊎_elim, List, sym, ap, subst, arith, length, map, get_or, take}
+use Rattle.std.proofs.Common.{◌≡◌, ◌+◌, ◌<◌, ◌++◌, ◌∷◌, [], ◌∙◌, ◌↔◌, ℕ, inl, inr, ⊎_elim, List, sym, ap, subst, arith, length, map, get_or, take}
 use Rattle.std.specs.List.{Contains}
 use Rattle.std.proofs.lemmas.List.{take_more, take_all, get_or-map, length-set}
 use Rattle.std.proofs.lemmas.List.Elements.{Contains-get_or}
@@ -9,7 +9,7 @@ use Rattle.bk_rounds.specs.private.Numbered.{author_of, parents_of, round_of}
 use Rattle.bk_rounds.specs.private.Tied.{IsAuthorIn, place_at}
 use Rattle.bk_cert.proofs.Refs.{same_place}
 use Rattle.bk_rounds.proofs.Named.{map_push}
-use Rattle.bk_rounds.proofs.Told.{IsTold, told_more, told_none}
+use Rattle.bk_rounds.proofs.Told.{told_more, told_none}
 use Rattle.bk_rounds.proofs.Marks.{each_inside, parents_at}
 use Rattle.bk_rounds.proofs.admitting.tell.Goals as goal
 

@@ -1,8 +1,5 @@
-use Rattle.std.proofs.Common.{◌≡◌, ◌≤◌, ◌+◌, ◌↔◌, ℕ, length, map, take, vec_len, vec_capacity}
-use Rattle.std.specs.List.{Contains}
-use Rattle.bk_rounds.specs.private.Names.{set_of}
-use Rattle.bk_rounds.specs.private.Numbered.{round_of, parents_of}
-use Rattle.bk_rounds.specs.private.Tied.{IsAuthorIn, place_at}
+use Rattle.std.proofs.Common.{◌≡◌, ◌≤◌, length, map, take, vec_len, vec_capacity}
+use Rattle.bk_rounds.specs.private.Tied.{place_at}
 use Rattle.bk_rounds.proofs.Told.{IsTold}
 use Rattle.bk_rounds.proofs.admitting.tell.Given as goal
 

@@ -1,12 +1,10 @@
-use Rattle.std.proofs.Common.{◌≡◌, ◌+◌, ◌++◌, ◌∷◌, [], false, cond, Some, ℕ, List, ◌∙◌, ap, sym, refl, arith, length}
+use Rattle.std.proofs.Common.{◌≡◌, ◌+◌, ◌++◌, ◌∷◌, [], false, cond, Some, ◌∙◌, ap, sym, refl, arith, length}
 use Rattle.std.specs.Map.{lookup}
-use Rattle.bk_rounds.specs.private.Numbered.{id_of}
 use Rattle.std.proofs.lemmas.List.{length-append}
-use Rattle.bk_rounds.specs.private.Names.{AreSame, Grows, AreNames, is_same_id}
-use Rattle.bk_rounds.specs.declared.names.Names.{Names}
+use Rattle.bk_rounds.specs.private.Names.{is_same_id}
 use Rattle.bk_rounds.specs.declared.slots.Slot.{Slot}
 use Rattle.bk_rounds.specs.declared.waking.Pending.{Pending}
-use Rattle.bk_rounds.proofs.Named.{names_same, grows_same, grows_on, grows_pushed, names_pushed, Pushes, id_pushed}
+use Rattle.bk_rounds.proofs.Named.{names_same, grows_same, grows_pushed, names_pushed, Pushes, id_pushed}
 use Rattle.bk_rounds.proofs.names.number_of.Goals as goal
 
 pub returns-in-Some-clause-inside : goal.returns-in-Some-clause-inside

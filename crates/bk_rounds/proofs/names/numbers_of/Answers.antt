@@ -1,4 +1,4 @@
-use Rattle.std.proofs.Common.{◌≡◌, ◌+◌, ◌++◌, ◌∷◌, [], ◌<◌, ℕ, List, ◌∙◌, ap, sym, refl, arith, length, map, take, get_or}
+use Rattle.std.proofs.Common.{◌≡◌, ◌+◌, ◌++◌, ◌∷◌, [], ℕ, List, ◌∙◌, ap, sym, refl, arith, length, map, take, get_or}
 use Rattle.std.proofs.lemmas.List.{take_more}
 use Rattle.bk_rounds.specs.private.Numbered.{id_of}
 use Rattle.bk_rounds.proofs.Named.{grows_same, grows_on, map_push, ids_kept, inside_more, inside_push}

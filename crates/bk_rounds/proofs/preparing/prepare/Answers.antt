@@ -1,10 +1,9 @@
-use Rattle.std.proofs.Common.{◌≡◌, ◌<◌, ◌∙◌, ℕ, false, List, refl, sym, ap, subst, arith, length, map}
+use Rattle.std.proofs.Common.{◌≡◌, ◌∙◌, ℕ, false, List, refl, sym, ap, subst, arith, length}
 use Rattle.std.specs.List.{Contains}
 use Rattle.std.proofs.lemmas.List.{with_items_is}
 use Rattle.bk_cert.specs.Values.{HeaderValue}
 use Rattle.bk_rounds.specs.declared.waking.Pending.{Pending}
 use Rattle.bk_rounds.specs.private.Numbered.{row_of, is_marked, IsInsideRows}
-use Rattle.bk_rounds.specs.private.Names.{Grows, AreNames}
 use Rattle.bk_rounds.proofs.Named.{grows_on, ids_kept, inside_more, names_rows, grows_rows}
 use Rattle.bk_rounds.proofs.preparing.prepare.Goals as goal
 

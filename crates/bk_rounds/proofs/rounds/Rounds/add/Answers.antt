@@ -1,254 +1,29 @@
-use Rattle.std.proofs.Common.{◌≡◌, ◌≢◌, ◌+◌, ◌-◌, ◌<◌, ◌≤◌, ◌++◌, ◌∷◌, [], ◌∙◌, ◌↔◌, ℕ, cond, true, List, Some, refl, sym, ap, subst, arith, length, get_or, set, map}
+use Rattle.std.proofs.Common.{◌≡◌, ◌%◌, ◌-◌, ◌∙◌, ℕ, List, sym, ap, subst}
 use Rattle.std.specs.List.{Contains}
-use Rattle.std.specs.Map.{lookup}
-use Rattle.std.specs.BTreeMap.{is_at}
-use Rattle.std.specs.Ordering.{is_eq}
-use Rattle.std.specs.Vec.{with_items}
-use Rattle.std.proofs.lemmas.List.{with_items_is}
-use Rattle.std.proofs.lemmas.List.Elements.{Contains-get_or}
-use Rattle.bk_committee.specs.Sizes.{Sizes, members}
-use Rattle.bk_cert.specs.Node.{Node}
 use Rattle.bk_cert.specs.Values.{HeaderValue}
 use Rattle.bk_cert.specs.declared.place.CertRef.{CertRef}
-use Rattle.bk_rounds.specs.declared.slots.Slot.{Slot}
-use Rattle.bk_rounds.specs.declared.names.Names.{Names}
-use Rattle.bk_cert.specs.Place.{place_of, Lists, place_cmp}
-use Rattle.bk_rounds.specs.Admission.{IsFit, IsPresent}
-use Rattle.bk_rounds.specs.Rounds.{RoundsValue, BecomesPresent, rounds_with}
-use Rattle.bk_rounds.specs.private.Numbered.{IsTable, IsInside, round_of, author_of, parents_of, is_marked, count_unmarked}
-use Rattle.bk_rounds.specs.private.Tied.{number_at, IsWhole, IsTied, place_at}
-use Rattle.bk_cert.proofs.Refs.{same_place}
-use Rattle.bk_rounds.proofs.Settling.{marked_low}
-use Rattle.bk_rounds.proofs.Whole.{whole_grown}
-use Rattle.bk_rounds.proofs.Adding.{number_free, IsAdding, IsAdmitting, tied_added, good_added, parent_author, whole_added, answer_added, admitting_from, table_from, place_put}
+use Rattle.bk_rounds.specs.Rounds.{RoundsValue}
+use Rattle.bk_rounds.specs.private.Tally.{HasEntry, HaveEntries}
+use Rattle.bk_rounds.proofs.Tallied.{tally_added, entries_added}
 use Rattle.bk_rounds.proofs.rounds.Rounds.add.Goals as goal
 
-pub invariant_of-self : goal.invariant_of-self
-invariant_of-self c = rw c.in_err-ready.ensures.certs
-    (whole_grown c.self.inside.weights c.self.inside.certs.items c.self.inside.names c.prepare.new.names (number_at c.self.inside.places) (number_at c.self.inside.places) c.self.inside.top c.self.invariant
-    c.in_err-ready.ensures.grows c.in_err-ready.ensures.names (λ q. refl))
+pub add-requires-clause-new : goal.add-requires-clause-new
+add-requires-clause-new c = λ d t. c.requires.new d (subst (λ (v : RoundsValue). Contains v.held d) c.self.view_is t)
 
-pub invariant_of-self-in_err-insert : goal.invariant_of-self-in_err-insert
-invariant_of-self-in_err-insert c = rw c.in_ok-ready.ensures.certs
-    (whole_grown c.self.inside.weights c.self.inside.certs.items c.self.inside.names c.prepare.new.names (number_at c.self.inside.places) (number_at c.insert.new.self) c.self.inside.top c.self.invariant
-    c.in_ok-ready.ensures.grows c.in_ok-ready.ensures.names (λ q. ap (lookup (is_at (place_cmp q))) c.in_err-insert.ensures.err))
+pub add-requires-clause-free : goal.add-requires-clause-free
+add-requires-clause-free c = λ d t. c.requires.free d (subst (λ (v : RoundsValue). Contains v.held d) c.self.view_is t)
 
-pub admit-requires-clause-table : goal.admit-requires-clause-table
-admit-requires-clause-table c =
-    let z : Sizes = c.self.inside.weights in
-    let held : List Node = c.self.inside.certs.items in
-    let n : Names = c.prepare.new.names in
-    let cert : Node = c.args.cert in
-    let k : ℕ = c.in_ok-ready.ready.number in
-    let p = c.in_ok-ready.ensures.prepared in
-    let w : IsWhole z held n (number_at c.self.inside.places) c.self.inside.top =
-    whole_grown z held c.self.inside.names n (number_at c.self.inside.places) (number_at c.self.inside.places) c.self.inside.top c.self.invariant c.in_ok-ready.ensures.grows c.in_ok-ready.ensures.names (λ q. refl) in
-    let new : (d : Node) → Contains held d → d.id ≢ cert.id = λ d t. c.requires.new d (subst (λ (v : RoundsValue). Contains v.held d) c.self.view_is t) in
-    let none : round_of n.slots.items k ≡ 0 = number_free z held n (number_at c.self.inside.places) c.self.inside.top w k cert p.id new in
-    rw (c.deref_mut.ensures.value, c.deref_mut-2.ensures.value, c.deref_mut-3.ensures.value) w.table
+pub count-requires-clause-present : goal.count-requires-clause-present
+count-requires-clause-present c = λ b t. (c.in_ok-places.ensures.answer.sound b (subst (λ (xs : List CertRef). Contains xs b) c.deref.ensures.value t)).0
 
-pub admit-requires-clause-number : goal.admit-requires-clause-number
-admit-requires-clause-number c =
-    let z : Sizes = c.self.inside.weights in
-    let held : List Node = c.self.inside.certs.items in
-    let n : Names = c.prepare.new.names in
-    let cert : Node = c.args.cert in
-    let k : ℕ = c.in_ok-ready.ready.number in
-    let p = c.in_ok-ready.ensures.prepared in
-    let w : IsWhole z held n (number_at c.self.inside.places) c.self.inside.top =
-    whole_grown z held c.self.inside.names n (number_at c.self.inside.places) (number_at c.self.inside.places) c.self.inside.top c.self.invariant c.in_ok-ready.ensures.grows c.in_ok-ready.ensures.names (λ q. refl) in
-    let new : (d : Node) → Contains held d → d.id ≢ cert.id = λ d t. c.requires.new d (subst (λ (v : RoundsValue). Contains v.held d) c.self.view_is t) in
-    let none : round_of n.slots.items k ≡ 0 = number_free z held n (number_at c.self.inside.places) c.self.inside.top w k cert p.id new in
-    rw c.deref_mut.ensures.value (p.inside, none)
+pub count-requires-clause-tally : goal.count-requires-clause-tally
+count-requires-clause-tally c = rw c.deref.ensures.value
+    (tally_added c.self.inside.table c.add.new.self c.args.cert c.in_ok-places.places.items c.self.inside.votes c.make_room.new.self c.in_ok-places.ensures.ok c.sound-2.ensures.clear
+    c.sound.ensures.decided c.in_ok-places.ensures.answer c.self.invariant.tally c.make_room.ensures.same)
 
-pub tell-self-inside-requires-clause-inside : goal.tell-self-inside-requires-clause-inside
-tell-self-inside-requires-clause-inside c =
-    let z : Sizes = c.self.inside.weights in
-    let held : List Node = c.self.inside.certs.items in
-    let n : Names = c.prepare.new.names in
-    let cert : Node = c.args.cert in
-    let k : ℕ = c.in_ok-ready.ready.number in
-    let p = c.in_ok-ready.ensures.prepared in
-    let w : IsWhole z held n (number_at c.self.inside.places) c.self.inside.top =
-    whole_grown z held c.self.inside.names n (number_at c.self.inside.places) (number_at c.self.inside.places) c.self.inside.top c.self.invariant c.in_ok-ready.ensures.grows c.in_ok-ready.ensures.names (λ q. refl) in
-    let new : (d : Node) → Contains held d → d.id ≢ cert.id = λ d t. c.requires.new d (subst (λ (v : RoundsValue). Contains v.held d) c.self.view_is t) in
-    let none : round_of n.slots.items k ≡ 0 = number_free z held n (number_at c.self.inside.places) c.self.inside.top w k cert p.id new in
-    let e_s : (with_items n.slots c.admit.new.slots).items ≡ c.admit.new.slots = with_items_is n.slots c.admit.new.slots (omega (arith, c.admit.auto.slots, ap length c.deref_mut.ensures.value, n.slots.ok.0)) in
-    let e_m : (with_items n.marks c.admit.new.marks).items ≡ c.admit.new.marks = with_items_is n.marks c.admit.new.marks (omega (arith, c.admit.auto.marks, ap length c.deref_mut-2.ensures.value, n.marks.ok.0)) in
-    let e_p : (with_items n.pending c.admit.new.pending).items ≡ c.admit.new.pending = with_items_is n.pending c.admit.new.pending (omega (arith, c.admit.auto.pending, ap length c.deref_mut-3.ensures.value, n.pending.ok.0)) in
-    let table : IsTable z c.admit.new.slots c.admit.new.marks c.admit.new.pending = c.admit.ensures.table in
-    λ j d low.
-    let i : ℕ = get_or c.deref-2.result.now j d in
-    let there = subst (λ (xs : List ℕ). Contains xs i) c.deref-2.ensures.value (Contains-get_or c.deref-2.result.now j d low) in
-    let inside = marked_low c.admit.new.marks i ((c.admit.ensures.out i).0 there).0 in
-    omega (arith, inside, table.same, ap length c.deref.ensures.value, ap length e_s)
-
-pub tell-self-inside-requires-clause-parents : goal.tell-self-inside-requires-clause-parents
-tell-self-inside-requires-clause-parents c =
-    let z : Sizes = c.self.inside.weights in
-    let held : List Node = c.self.inside.certs.items in
-    let n : Names = c.prepare.new.names in
-    let cert : Node = c.args.cert in
-    let k : ℕ = c.in_ok-ready.ready.number in
-    let p = c.in_ok-ready.ensures.prepared in
-    let w : IsWhole z held n (number_at c.self.inside.places) c.self.inside.top =
-    whole_grown z held c.self.inside.names n (number_at c.self.inside.places) (number_at c.self.inside.places) c.self.inside.top c.self.invariant c.in_ok-ready.ensures.grows c.in_ok-ready.ensures.names (λ q. refl) in
-    let new : (d : Node) → Contains held d → d.id ≢ cert.id = λ d t. c.requires.new d (subst (λ (v : RoundsValue). Contains v.held d) c.self.view_is t) in
-    let none : round_of n.slots.items k ≡ 0 = number_free z held n (number_at c.self.inside.places) c.self.inside.top w k cert p.id new in
-    let e_s : (with_items n.slots c.admit.new.slots).items ≡ c.admit.new.slots = with_items_is n.slots c.admit.new.slots (omega (arith, c.admit.auto.slots, ap length c.deref_mut.ensures.value, n.slots.ok.0)) in
-    let e_m : (with_items n.marks c.admit.new.marks).items ≡ c.admit.new.marks = with_items_is n.marks c.admit.new.marks (omega (arith, c.admit.auto.marks, ap length c.deref_mut-2.ensures.value, n.marks.ok.0)) in
-    let e_p : (with_items n.pending c.admit.new.pending).items ≡ c.admit.new.pending = with_items_is n.pending c.admit.new.pending (omega (arith, c.admit.auto.pending, ap length c.deref_mut-3.ensures.value, n.pending.ok.0)) in
-    let table : IsTable z c.admit.new.slots c.admit.new.marks c.admit.new.pending = c.admit.ensures.table in
-    subst IsInside (sym (c.deref.ensures.value ∙ e_s)) table.inside
-
-pub tell-self-inside-requires-clause-authors : goal.tell-self-inside-requires-clause-authors
-tell-self-inside-requires-clause-authors c =
-    let z : Sizes = c.self.inside.weights in
-    let held : List Node = c.self.inside.certs.items in
-    let n : Names = c.prepare.new.names in
-    let cert : Node = c.args.cert in
-    let k : ℕ = c.in_ok-ready.ready.number in
-    let p = c.in_ok-ready.ensures.prepared in
-    let w : IsWhole z held n (number_at c.self.inside.places) c.self.inside.top =
-    whole_grown z held c.self.inside.names n (number_at c.self.inside.places) (number_at c.self.inside.places) c.self.inside.top c.self.invariant c.in_ok-ready.ensures.grows c.in_ok-ready.ensures.names (λ q. refl) in
-    let new : (d : Node) → Contains held d → d.id ≢ cert.id = λ d t. c.requires.new d (subst (λ (v : RoundsValue). Contains v.held d) c.self.view_is t) in
-    let none : round_of n.slots.items k ≡ 0 = number_free z held n (number_at c.self.inside.places) c.self.inside.top w k cert p.id new in
-    let e_s : (with_items n.slots c.admit.new.slots).items ≡ c.admit.new.slots = with_items_is n.slots c.admit.new.slots (omega (arith, c.admit.auto.slots, ap length c.deref_mut.ensures.value, n.slots.ok.0)) in
-    let e_m : (with_items n.marks c.admit.new.marks).items ≡ c.admit.new.marks = with_items_is n.marks c.admit.new.marks (omega (arith, c.admit.auto.marks, ap length c.deref_mut-2.ensures.value, n.marks.ok.0)) in
-    let e_p : (with_items n.pending c.admit.new.pending).items ≡ c.admit.new.pending = with_items_is n.pending c.admit.new.pending (omega (arith, c.admit.auto.pending, ap length c.deref_mut-3.ensures.value, n.pending.ok.0)) in
-    let table : IsTable z c.admit.new.slots c.admit.new.marks c.admit.new.pending = c.admit.ensures.table in
-    let slot : Slot = record { id = c.id.result.now; round = c.round.result; author = c.author.result; cert = c.len.result; parents = c.in_ok-ready.ready.parents } in
-    let m : Names = record n { slots = with_items n.slots c.admit.new.slots; marks = with_items n.marks c.admit.new.marks; pending = with_items n.pending c.admit.new.pending } in
-    let added : IsAdding held n m cert k slot = record {
-      low = p.inside;
-      none = none;
-      id_here = p.id;
-      id = c.id.ensures;
-      round = c.round.ensures ∙ ap (λ (h : HeaderValue). h.round) c.header.ensures;
-      author = c.author.ensures ∙ ap (λ (h : HeaderValue). h.author) c.header-2.ensures;
-      cert = omega (arith, c.len.ensures, ap length c.in_ok-ready.ensures.certs);
-      parents = p.parents;
-      slots = e_s ∙ (c.admit.ensures.slots ∙ ap (λ (ss : List Slot). set ss k slot) c.deref_mut.ensures.value);
-      numbers = refl;
-    } in
-    let good : IsFit z cert = subst (λ (v : RoundsValue). IsFit v.sizes cert) (sym c.self.view_is) c.requires.good in
-    let from : (d : Node) → Contains held d → 1 ≤ d.header.round = λ d t. (w.good d t).from_one in
-    let tied : IsTied (held ++ cert ∷ []) m.slots.items = tied_added held n m cert k slot added from w.tied in
-    λ i q there among.
-    let mark = ((c.admit.ensures.out i).0 (subst (λ (xs : List ℕ). Contains xs i) c.deref-2.ensures.value there)).0 in
-    let low = parent_author z (held ++ cert ∷ []) m (good_added z held cert w.good good) tied (table_from z m c.admit.new.slots c.admit.new.marks c.admit.new.pending e_s e_m e_p table) i q
-    (ap (λ ms. is_marked ms i) e_m ∙ mark) (subst (λ (ss : List Slot). Contains (parents_of ss i) q) c.deref.ensures.value among) in
-    let is : author_of c.deref.result.now q ≡ author_of m.slots.items q = ap (λ (ss : List Slot). author_of ss q) c.deref.ensures.value in
-    omega (arith, low, is, w.few)
-
-pub invariant_of-self-2 : goal.invariant_of-self-2
-invariant_of-self-2 c =
-    let z : Sizes = c.self.inside.weights in
-    let held : List Node = c.self.inside.certs.items in
-    let n : Names = c.prepare.new.names in
-    let cert : Node = c.args.cert in
-    let k : ℕ = c.in_ok-ready.ready.number in
-    let p = c.in_ok-ready.ensures.prepared in
-    let w : IsWhole z held n (number_at c.self.inside.places) c.self.inside.top =
-    whole_grown z held c.self.inside.names n (number_at c.self.inside.places) (number_at c.self.inside.places) c.self.inside.top c.self.invariant c.in_ok-ready.ensures.grows c.in_ok-ready.ensures.names (λ q. refl) in
-    let new : (d : Node) → Contains held d → d.id ≢ cert.id = λ d t. c.requires.new d (subst (λ (v : RoundsValue). Contains v.held d) c.self.view_is t) in
-    let none : round_of n.slots.items k ≡ 0 = number_free z held n (number_at c.self.inside.places) c.self.inside.top w k cert p.id new in
-    let e_s : (with_items n.slots c.admit.new.slots).items ≡ c.admit.new.slots = with_items_is n.slots c.admit.new.slots (omega (arith, c.admit.auto.slots, ap length c.deref_mut.ensures.value, n.slots.ok.0)) in
-    let e_m : (with_items n.marks c.admit.new.marks).items ≡ c.admit.new.marks = with_items_is n.marks c.admit.new.marks (omega (arith, c.admit.auto.marks, ap length c.deref_mut-2.ensures.value, n.marks.ok.0)) in
-    let e_p : (with_items n.pending c.admit.new.pending).items ≡ c.admit.new.pending = with_items_is n.pending c.admit.new.pending (omega (arith, c.admit.auto.pending, ap length c.deref_mut-3.ensures.value, n.pending.ok.0)) in
-    let table : IsTable z c.admit.new.slots c.admit.new.marks c.admit.new.pending = c.admit.ensures.table in
-    let slot : Slot = record { id = c.id.result.now; round = c.round.result; author = c.author.result; cert = c.len.result; parents = c.in_ok-ready.ready.parents } in
-    let m : Names = record { numbers = n.numbers; slots = with_items n.slots c.admit.new.slots; marks = with_items n.marks c.admit.new.marks; pending = with_items n.pending c.admit.new.pending; sets = with_items n.sets c.tell-self-inside.new.sets; unmarked = n.unmarked - c.len-2.result } in
-    let added : IsAdding held n m cert k slot = record {
-      low = p.inside;
-      none = none;
-      id_here = p.id;
-      id = c.id.ensures;
-      round = c.round.ensures ∙ ap (λ (h : HeaderValue). h.round) c.header.ensures;
-      author = c.author.ensures ∙ ap (λ (h : HeaderValue). h.author) c.header-2.ensures;
-      cert = omega (arith, c.len.ensures, ap length c.in_ok-ready.ensures.certs);
-      parents = p.parents;
-      slots = e_s ∙ (c.admit.ensures.slots ∙ ap (λ (ss : List Slot). set ss k slot) c.deref_mut.ensures.value);
-      numbers = refl;
-    } in
-    let good : IsFit z cert = subst (λ (v : RoundsValue). IsFit v.sizes cert) (sym c.self.view_is) c.requires.good in
-    let from : (d : Node) → Contains held d → 1 ≤ d.header.round = λ d t. (w.good d t).from_one in
-    let tied : IsTied (held ++ cert ∷ []) m.slots.items = tied_added held n m cert k slot added from w.tied in
-    let e_t : (with_items n.sets c.tell-self-inside.new.sets).items ≡ c.tell-self-inside.new.sets = with_items_is n.sets c.tell-self-inside.new.sets (omega (arith, c.tell-self-inside.auto.sets, ap length c.deref_mut-4.ensures.value, n.sets.ok.0)) in
-    let out : List ℕ = c.admit.new.out.items in
-    let waits : n.unmarked - c.len-2.result ≡ count_unmarked (with_items n.marks c.admit.new.marks).items =
-    omega (arith, c.admit.ensures.steps, c.len-2.ensures, w.names.waiting, ap count_unmarked e_m, ap count_unmarked c.deref_mut-2.ensures.value) in
-    let admitted : IsAdmitting n m out c.self.inside.top c.tell-self-inside.result =
-    admitting_from n m out c.deref-2.result.now c.self.inside.top c.tell-self-inside.result c.deref_mut-2.result.now c.admit.new.marks c.deref.result.now c.deref_mut-4.result.now c.tell-self-inside.new.sets
-    c.deref_mut-2.ensures.value e_m (sym c.deref.ensures.value) c.deref_mut-4.ensures.value e_t c.deref-2.ensures.value c.tell-self-inside.auto.sets
-    waits c.admit.ensures.stay c.admit.ensures.out c.tell-self-inside.ensures.here c.tell-self-inside.ensures.other c.tell-self-inside.ensures.highest c.tell-self-inside.ensures.more c.tell-self-inside.ensures.least
-    c.tell-self-inside.ensures.reached in
-    let free : (d : Node) → Contains held d → place_of d ≢ place_of cert = λ d t. c.requires.free d (subst (λ (v : RoundsValue). Contains v.held d) c.self.view_is t) in
-    let here : CertRef = record { round = c.round.result; author = c.author.result } in
-    let place : here ≡ place_of cert = same_place here (place_of cert) (c.round.ensures ∙ ap (λ (h : HeaderValue). h.round) c.header.ensures) (c.author.ensures ∙ ap (λ (h : HeaderValue). h.author) c.header-2.ensures) in
-    let up = place_put (number_at c.self.inside.places) (number_at c.insert.new.self) (place_of cert) k
-    (λ q. c.in_ok-insert.ensures.updates.0 q ∙ ap (λ (a : CertRef). cond (is_eq (place_cmp a q)) (Some k) (number_at c.self.inside.places q)) place) in
-    let whole : IsWhole z (held ++ cert ∷ []) m (number_at c.insert.new.self) c.tell-self-inside.result =
-    whole_added z held n m cert k slot (number_at c.self.inside.places) (number_at c.insert.new.self) c.self.inside.top c.tell-self-inside.result out w added good new free up
-    (table_from z m c.admit.new.slots c.admit.new.marks c.admit.new.pending e_s e_m e_p table) admitted in
-    let certs : c.push_reserved.new.self.items ≡ held ++ cert ∷ [] = c.push_reserved.ensures.items ∙ ap (λ (xs : List Node). xs ++ cert ∷ []) c.in_ok-ready.ensures.certs in
-    rw certs whole
-
-pub returns-clause-answer : goal.returns-clause-answer
-returns-clause-answer c =
-    let z : Sizes = c.self.inside.weights in
-    let held : List Node = c.self.inside.certs.items in
-    let n : Names = c.prepare.new.names in
-    let cert : Node = c.args.cert in
-    let k : ℕ = c.in_ok-ready.ready.number in
-    let p = c.in_ok-ready.ensures.prepared in
-    let w : IsWhole z held n (number_at c.self.inside.places) c.self.inside.top =
-    whole_grown z held c.self.inside.names n (number_at c.self.inside.places) (number_at c.self.inside.places) c.self.inside.top c.self.invariant c.in_ok-ready.ensures.grows c.in_ok-ready.ensures.names (λ q. refl) in
-    let new : (d : Node) → Contains held d → d.id ≢ cert.id = λ d t. c.requires.new d (subst (λ (v : RoundsValue). Contains v.held d) c.self.view_is t) in
-    let none : round_of n.slots.items k ≡ 0 = number_free z held n (number_at c.self.inside.places) c.self.inside.top w k cert p.id new in
-    let e_s : (with_items n.slots c.admit.new.slots).items ≡ c.admit.new.slots = with_items_is n.slots c.admit.new.slots (omega (arith, c.admit.auto.slots, ap length c.deref_mut.ensures.value, n.slots.ok.0)) in
-    let e_m : (with_items n.marks c.admit.new.marks).items ≡ c.admit.new.marks = with_items_is n.marks c.admit.new.marks (omega (arith, c.admit.auto.marks, ap length c.deref_mut-2.ensures.value, n.marks.ok.0)) in
-    let e_p : (with_items n.pending c.admit.new.pending).items ≡ c.admit.new.pending = with_items_is n.pending c.admit.new.pending (omega (arith, c.admit.auto.pending, ap length c.deref_mut-3.ensures.value, n.pending.ok.0)) in
-    let table : IsTable z c.admit.new.slots c.admit.new.marks c.admit.new.pending = c.admit.ensures.table in
-    let slot : Slot = record { id = c.id.result.now; round = c.round.result; author = c.author.result; cert = c.len.result; parents = c.in_ok-ready.ready.parents } in
-    let m : Names = record { numbers = n.numbers; slots = with_items n.slots c.admit.new.slots; marks = with_items n.marks c.admit.new.marks; pending = with_items n.pending c.admit.new.pending; sets = with_items n.sets c.tell-self-inside.new.sets; unmarked = n.unmarked - c.len-2.result } in
-    let added : IsAdding held n m cert k slot = record {
-      low = p.inside;
-      none = none;
-      id_here = p.id;
-      id = c.id.ensures;
-      round = c.round.ensures ∙ ap (λ (h : HeaderValue). h.round) c.header.ensures;
-      author = c.author.ensures ∙ ap (λ (h : HeaderValue). h.author) c.header-2.ensures;
-      cert = omega (arith, c.len.ensures, ap length c.in_ok-ready.ensures.certs);
-      parents = p.parents;
-      slots = e_s ∙ (c.admit.ensures.slots ∙ ap (λ (ss : List Slot). set ss k slot) c.deref_mut.ensures.value);
-      numbers = refl;
-    } in
-    let good : IsFit z cert = subst (λ (v : RoundsValue). IsFit v.sizes cert) (sym c.self.view_is) c.requires.good in
-    let from : (d : Node) → Contains held d → 1 ≤ d.header.round = λ d t. (w.good d t).from_one in
-    let tied : IsTied (held ++ cert ∷ []) m.slots.items = tied_added held n m cert k slot added from w.tied in
-    let e_t : (with_items n.sets c.tell-self-inside.new.sets).items ≡ c.tell-self-inside.new.sets = with_items_is n.sets c.tell-self-inside.new.sets (omega (arith, c.tell-self-inside.auto.sets, ap length c.deref_mut-4.ensures.value, n.sets.ok.0)) in
-    let out : List ℕ = c.admit.new.out.items in
-    let waits : n.unmarked - c.len-2.result ≡ count_unmarked (with_items n.marks c.admit.new.marks).items =
-    omega (arith, c.admit.ensures.steps, c.len-2.ensures, w.names.waiting, ap count_unmarked e_m, ap count_unmarked c.deref_mut-2.ensures.value) in
-    let admitted : IsAdmitting n m out c.self.inside.top c.tell-self-inside.result =
-    admitting_from n m out c.deref-2.result.now c.self.inside.top c.tell-self-inside.result c.deref_mut-2.result.now c.admit.new.marks c.deref.result.now c.deref_mut-4.result.now c.tell-self-inside.new.sets
-    c.deref_mut-2.ensures.value e_m (sym c.deref.ensures.value) c.deref_mut-4.ensures.value e_t c.deref-2.ensures.value c.tell-self-inside.auto.sets
-    waits c.admit.ensures.stay c.admit.ensures.out c.tell-self-inside.ensures.here c.tell-self-inside.ensures.other c.tell-self-inside.ensures.highest c.tell-self-inside.ensures.more c.tell-self-inside.ensures.least
-    c.tell-self-inside.ensures.reached in
-    let free : (d : Node) → Contains held d → place_of d ≢ place_of cert = λ d t. c.requires.free d (subst (λ (v : RoundsValue). Contains v.held d) c.self.view_is t) in
-    let here : CertRef = record { round = c.round.result; author = c.author.result } in
-    let place : here ≡ place_of cert = same_place here (place_of cert) (c.round.ensures ∙ ap (λ (h : HeaderValue). h.round) c.header.ensures) (c.author.ensures ∙ ap (λ (h : HeaderValue). h.author) c.header-2.ensures) in
-    let up = place_put (number_at c.self.inside.places) (number_at c.insert.new.self) (place_of cert) k
-    (λ q. c.in_ok-insert.ensures.updates.0 q ∙ ap (λ (a : CertRef). cond (is_eq (place_cmp a q)) (Some k) (number_at c.self.inside.places q)) place) in
-    let whole : IsWhole z (held ++ cert ∷ []) m (number_at c.insert.new.self) c.tell-self-inside.result =
-    whole_added z held n m cert k slot (number_at c.self.inside.places) (number_at c.insert.new.self) c.self.inside.top c.tell-self-inside.result out w added good new free up
-    (table_from z m c.admit.new.slots c.admit.new.marks c.admit.new.pending e_s e_m e_p table) admitted in
-    let certs : c.push_reserved.new.self.items ≡ held ++ cert ∷ [] = c.push_reserved.ensures.items ∙ ap (λ (xs : List Node). xs ++ cert ∷ []) c.in_ok-ready.ensures.certs in
-    let told : List CertRef = c.hand_over.result.items in
-    let answer : c.tell-self-inside.new.answer.items ≡ map (place_at m.slots.items) out = c.tell-self-inside.ensures.answer ∙ (λ i. map (place_at (c.deref.ensures.value i)) (c.deref-2.ensures.value i)) in
-    let lists : Lists told (λ a. IsPresent z (held ++ cert ∷ []) a × (IsPresent z held a → ⊥)) =
-    answer_added z held n m cert k slot (number_at c.self.inside.places) (number_at c.insert.new.self) c.self.inside.top c.tell-self-inside.result out told w whole added admitted
-    c.hand_over.ensures.listed (λ a. subst (λ (xs : List CertRef). Contains told a ↔ Contains xs a) answer (c.hand_over.ensures.same a)) in
-    subst (λ (xs : List Node). Lists told (λ a. IsPresent z xs a × (IsPresent c.args.self.now.sizes c.args.self.now.held a → ⊥))) (sym certs)
-    (subst (λ (v : RoundsValue). Lists told (λ a. IsPresent z (held ++ cert ∷ []) a × (IsPresent v.sizes v.held a → ⊥))) c.self.view_is lists)
+pub count-requires-clause-entries : goal.count-requires-clause-entries
+count-requires-clause-entries c =
+    let round : c.round.result ≡ c.args.cert.header.round = c.round.ensures ∙ ap (λ (h : HeaderValue). h.round) c.header.ensures in
+    subst (λ (v : RoundsValue). HaveEntries v.held c.make_room.new.self) (sym c.in_ok-places.ensures.ok)
+    (entries_added c.self.inside.table.held c.args.cert c.self.inside.votes c.make_room.new.self c.self.invariant.entries c.make_room.ensures.stay
+    (subst (λ (r : ℕ). r % 2 ≡ 0 → HasEntry c.make_room.new.self (r - 1)) round c.in_ok-make_room.ensures.room))

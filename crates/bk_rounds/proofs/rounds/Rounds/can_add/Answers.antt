@@ -1,19 +1,10 @@
-use Rattle.std.proofs.Common.{◌≡◌, ◌∙◌, sym, ap}
-use Rattle.bk_cert.specs.Values.{HeaderValue}
-use Rattle.bk_cert.specs.Place.{place_of}
-use Rattle.bk_cert.specs.declared.place.CertRef.{CertRef}
-use Rattle.bk_cert.proofs.Refs.{same_place}
 use Rattle.bk_rounds.proofs.rounds.Rounds.can_add.Goals as goal
 
-pub returns-then-has-clause-can : goal.returns-then-has-clause-can
-returns-then-has-clause-can c = λ fit new free.
-    let (d, there, at) = c.has.ensures.0 c.if-has.true in
-    let here : CertRef = record { round = c.round.result; author = c.author.result } in
-    let place : here ≡ place_of c.args.cert.now = same_place here (place_of c.args.cert.now)
-    (c.round.ensures ∙ ap (λ (h : HeaderValue). h.round) c.header-header.ensures) (c.author.ensures ∙ ap (λ (h : HeaderValue). h.author) c.header-header.ensures) in
-    absurd (free d there (at ∙ place))
+pub returns-clause-new : goal.returns-clause-new
+returns-clause-new c = rw (← c.self.view_is) c.can_add.ensures.new
 
-pub returns-then-has_id-clause-can : goal.returns-then-has_id-clause-can
-returns-then-has_id-clause-can c = λ fit new free.
-    let (d, there, id) = c.has_id.ensures.0 c.if-has_id.true in
-    absurd (new d there (id ∙ c.id.ensures))
+pub returns-clause-free : goal.returns-clause-free
+returns-clause-free c = rw (← c.self.view_is) c.can_add.ensures.free
+
+pub returns-clause-can : goal.returns-clause-can
+returns-clause-can c = rw (← c.self.view_is) c.can_add.ensures.can

@@ -1,12 +1,9 @@
-use Rattle.std.proofs.Common.{◌≡◌, ◌<◌, ◌≤◌, ◌∙◌, ℕ, List, [], refl, sym, ap, subst, arith, length}
-use Rattle.std.specs.Map.{lookup}
-use Rattle.std.specs.BTreeMap.{is_at}
-use Rattle.bk_cert.specs.Place.{place_cmp}
-use Rattle.bk_rounds.specs.private.Tied.{number_at, IsWhole}
-use Rattle.bk_committee.specs.Sizes.{Sizes, members}
-use Rattle.bk_rounds.proofs.Empty.{whole_empty}
+use Rattle.std.proofs.Common.{sym, subst}
+use Rattle.bk_rounds.specs.Rounds.{RoundsValue, sizes_with}
+use Rattle.bk_rounds.specs.private.Tally.{AreCounted}
+use Rattle.bk_rounds.proofs.Tallied.{counted_empty}
 use Rattle.bk_rounds.proofs.rounds.Rounds.with_weights.Goals as goal
 
 pub invariant_of-result : goal.invariant_of-result
-invariant_of-result c = rw c.new-2.ensures.items (whole_empty c.in_ok-weights.weights c.new-3.result (number_at c.new-4.result) c.new-3.ensures.slots c.new-3.ensures.names (λ a. ap (lookup (is_at (place_cmp a))) c.new-4.ensures.empty)
-    (subst (λ (z : Sizes). members z ≤ 128) (sym c.in_ok-weights.ensures) c.requires.few))
+invariant_of-result c = subst (λ (t : RoundsValue). AreCounted t.sizes t.held c.new.result) (sym c.in_ok-table.ensures)
+    (counted_empty (sizes_with c.args.weights.now) c.new.result c.new.ensures.none c.new.ensures.newest)

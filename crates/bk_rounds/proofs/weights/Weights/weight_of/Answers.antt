@@ -1,4 +1,4 @@
-use Rattle.std.proofs.Common.{◌≡◌, ◌<◌, ◌^◌, sym, ap, arith}
+use Rattle.std.proofs.Common.{◌<◌, ◌^◌, arith}
 use Rattle.bk_rounds.proofs.Weighed.{counted_none, counted_fits, counted_more, counted_all}
 use Rattle.bk_committee.specs.Sizes.{total}
 use Rattle.bk_rounds.proofs.weights.Weights.weight_of.Goals as goal

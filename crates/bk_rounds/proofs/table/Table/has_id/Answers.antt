@@ -1,0 +1,26 @@
+use Rattle.std.proofs.Common.{◌≡◌, ◌∙◌, Some, None, sym, arith}
+use Rattle.std.proofs.lemmas.Bool.{false≢true}
+use Rattle.bk_rounds.specs.private.Names.{known_in}
+use Rattle.bk_rounds.specs.private.Tied.{number_at}
+use Rattle.bk_rounds.proofs.Marks.{not_zero, not_zero_from}
+use Rattle.bk_rounds.proofs.Found.{id_held, id_unknown, round_read}
+use Rattle.bk_rounds.proofs.table.Table.has_id.Goals as goal
+
+pub index-requires : goal.index-requires
+index-requires c =
+    let known : known_in c.self.inside.names c.args.id.now ≡ Some c.in-Some.number = sym c.get.ensures.value ∙ (sym c.copied.ensures ∙ c.in-Some.is) in
+    let low = (c.self.invariant.names.numbering.sound c.args.id.now c.in-Some.number known).0 in
+    omega (arith, low)
+
+pub returns-in-Some : goal.returns-in-Some
+returns-in-Some c =
+    let known : known_in c.self.inside.names c.args.id.now ≡ Some c.in-Some.number = sym c.get.ensures.value ∙ (sym c.copied.ensures ∙ c.in-Some.is) in
+    let low = (c.self.invariant.names.numbering.sound c.args.id.now c.in-Some.number known).0 in
+    rw (← c.self.view_is) (id_held c.self.inside.weights c.self.inside.certs.items c.self.inside.names (number_at c.self.inside.places) c.self.inside.top c.self.invariant c.args.id.now c.in-Some.number known _ c.index.result.now.round
+    (round_read c.self.inside.names.slots.items c.in-Some.number c.index.result.now low c.index.ensures)
+    ((λ t. not_zero c.index.result.now.round t), (λ l. not_zero_from c.index.result.now.round l)))
+
+pub returns-in-None : goal.returns-in-None
+returns-in-None c =
+    let unknown : known_in c.self.inside.names c.args.id.now ≡ None = sym c.get.ensures.value ∙ (sym c.copied.ensures ∙ c.in-None.is) in
+    rw (← c.self.view_is) ((λ f. absurd (false≢true f)), (λ (d, there, id). absurd (id_unknown c.self.inside.weights c.self.inside.certs.items c.self.inside.names (number_at c.self.inside.places) c.self.inside.top c.self.invariant c.args.id.now unknown d there id)))
