@@ -1,22 +1,18 @@
 -- What a larger held set keeps.
 use Rattle.std.proofs.Common.{◌≡◌, ℕ, zero, suc, ◌+◌, ◌%◌, ◌<◌, ◌≤◌, List, [], ◌∷◌, ◌++◌, refl, sym, ap, ◌∙◌, subst, ⊎_elim, arith}
-use Rattle.std.specs.List.{Contains}
 use Rattle.std.proofs.lemmas.Bool.{cases_lt}
 use Rattle.std.proofs.lemmas.List.{append-nil}
 use Rattle.bk_cert.specs.declared.place.CertRef.{CertRef}
-use Rattle.bk_committee.specs.Sizes.{leader, quorum, faulty}
+use Rattle.bk_committee.specs.Sizes.{leader, faulty}
 use Rattle.bk_cert.specs.Node.{Node}
-use Rattle.bk_cert.specs.Place.{place_of}
 use Rattle.bk_cert.specs.Clear.{IsClear}
-use Rattle.bk_rounds.specs.Admission.{IsAdmittedIn, StandsAt, IsPresent}
-use Rattle.bk_rounds.specs.Links.{Links}
+use Rattle.bk_rounds.specs.Admission.{IsPresent}
 use Rattle.bk_rounds.specs.Votes.{VotesFor, IsAnchor, IsVoted}
 use Rattle.bk_commit.specs.Ordering.{Walk, InHistory, IsEarlier, IsPrior, IsWayBack, IsCommittedBack}
 use Rattle.bk_commit.specs.Growth.{IsPartOf}
 use Rattle.bk_cert.proofs.Refs.{same_place}
-use Rattle.bk_rounds.proofs.Admitted.{admitted_held, parent_named, IsParent}
 use Rattle.bk_rounds.proofs.Counting.{weigh_more}
-use Rattle.bk_rounds.proofs.Grown.{present_more, links_more, links_back, link_to}
+use Rattle.bk_rounds.proofs.Grown.{present_more, links_more, links_back}
 use Rattle.bk_commit.proofs.Voted.{voted_in_history}
 use Rattle.bk_committee.specs.Sizes.{Sizes}
 

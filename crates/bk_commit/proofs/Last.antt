@@ -1,15 +1,14 @@
 -- The last anchor.
-use Rattle.std.proofs.Common.{◌≡◌, ◌&&◌, eqb, ℕ, zero, suc, ◌+◌, ◌-◌, ◌%◌, ◌<◌, ◌≤◌, ◌↔◌, Bool, IsTrue, true, false, List, [], ◌∷◌, ◌++◌, reverse, refl, sym, ap, ◌∙◌, subst, ⊎_elim, arith}
-use Rattle.std.proofs.lemmas.Bool.{cases_eq, both_ways, and_from, eq-eqb}
+use Rattle.std.proofs.Common.{◌≡◌, ◌&&◌, eqb, ℕ, zero, suc, ◌<◌, ◌≤◌, false, List, [], ◌∷◌, ◌++◌, reverse, sym, ap, ◌∙◌, subst}
+use Rattle.std.proofs.lemmas.Bool.{both_ways, and_from, eq-eqb}
 use Rattle.std.proofs.lemmas.List.{reverse-append, reverse-reverse}
-use Rattle.bk_committee.specs.Sizes.{Sizes, leader, faulty, members, Weigh}
+use Rattle.bk_committee.specs.Sizes.{Sizes, members}
 use Rattle.bk_cert.specs.Node.{Node}
 use Rattle.bk_cert.specs.declared.place.CertRef.{CertRef}
 use Rattle.bk_rounds.specs.Admission.{IsPresent, AreFit, last_round}
-use Rattle.bk_cert.proofs.Refs.{same_place}
 use Rattle.bk_rounds.proofs.Admitted.{admitted_held}
 use Rattle.bk_commit.proofs.Grown.{walk_present}
-use Rattle.bk_rounds.specs.Votes.{IsAnchor, IsVoted, IsLast, VotesFor}
+use Rattle.bk_rounds.specs.Votes.{IsLast}
 use Rattle.bk_commit.specs.Ordering.{InHistory, IsWayBack, IsCommitted, IsCommittedBack}
 
 -- whoever is present is a member's certificate, of no round above the last
@@ -18,16 +17,6 @@ present_member z held a good (c, at) = subst (λ (x : ℕ). x < members z) (ap (
 
 pub present_round : (z : Sizes) (held : List Node) (a : CertRef) → AreFit z held → IsPresent z held a → a.round ≤ last_round
 present_round z held a good (c, at) = subst (λ (x : ℕ). x ≤ last_round) (ap (λ (p : CertRef). p.round) at.place) (good c (admitted_held z held c.header.round c at.admitted)).to_last
-
-pub anchor_is : (z : Sizes) (held : List Node) (a b : CertRef) → IsAnchor z held b → a.round ≡ b.round → a.author ≡ leader z a.round → a ≡ b
-anchor_is z held a b h e led = same_place a b e (led ∙ (ap (leader z) e ∙ sym h.led))
-
--- one round down, where nothing is voted
-pub last_step : (z : Sizes) (held : List Node) (round : ℕ) → ((b : CertRef) → IsVoted z held b → b.round ≤ round) → ((b : CertRef) → IsVoted z held b → b.round ≡ round → ⊥)
-    → (b : CertRef) → IsVoted z held b → b.round ≤ round - 1
-last_step z held round below none b v =
-    let low = below b v in
-    ⊎_elim (λ e. absurd (none b v e)) (λ n. omega (arith, low, n)) (cases_eq b.round round)
 
 pub committed_from : (z : Sizes) (held : List Node) (last : CertRef) (back : List CertRef) → IsLast z held last → IsWayBack z held last back → IsCommitted z held (reverse back ++ last ∷ [])
 committed_from z held last back is way =

@@ -1,5 +1,5 @@
 -- The anchors that follow those committed before.
-use Rattle.std.proofs.Common.{◌≡◌, ℕ, zero, suc, ◌+◌, ◌-◌, ◌%◌, ◌<◌, ◌≤◌, get_or, length, ◌==◌, false, List, [], ◌∷◌, ◌++◌, reverse, refl, sym, ap, ◌∙◌, subst, arith}
+use Rattle.std.proofs.Common.{◌≡◌, ℕ, zero, suc, ◌+◌, ◌-◌, ◌<◌, ◌≤◌, get_or, length, ◌==◌, false, List, [], ◌∷◌, ◌++◌, reverse, refl, sym, ap, ◌∙◌, subst, arith}
 use Rattle.std.proofs.lemmas.Bool.{false≢true}
 use Rattle.std.proofs.lemmas.List.{reverse-append, reverse-reverse, append-nil}
 use Rattle.bk_committee.specs.Sizes.{Sizes}
@@ -8,7 +8,7 @@ use Rattle.bk_cert.specs.Clear.{IsClear}
 use Rattle.bk_cert.specs.declared.place.CertRef.{CertRef}
 use Rattle.bk_rounds.specs.Admission.{IsPresent}
 use Rattle.bk_rounds.specs.Votes.{IsAnchor, IsVoted, IsLast}
-use Rattle.bk_commit.specs.Ordering.{InHistory, IsEarlier, IsPrior, IsWayBack, IsCommitted, IsCommittedBack}
+use Rattle.bk_commit.specs.Ordering.{IsPrior, IsWayBack, IsCommitted, IsCommittedBack}
 use Rattle.bk_commit.specs.Growth.{IsPartOf, WereCommitted}
 use Rattle.bk_commit.specs.private.Way.{IsPath, IsOnTheWay, IsWayTo, newest_in}
 use Rattle.bk_commit.proofs.Grown.{voted_more, way_back_more, voted_earlier}

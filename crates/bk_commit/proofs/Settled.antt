@@ -1,5 +1,5 @@
 -- Committed anchors of growing and of equal sets.
-use Rattle.std.proofs.Common.{◌≡◌, ℕ, List, [], ◌∷◌, ◌++◌, length, refl, sym, ap, ◌∙◌, subst, ⊎_elim, arith, reverse, length-append}
+use Rattle.std.proofs.Common.{◌≡◌, List, [], ◌∷◌, ◌++◌, length, sym, ap, ◌∙◌, subst, ⊎_elim, arith, reverse, length-append}
 use Rattle.std.specs.List.{Contains}
 use Rattle.std.proofs.lemmas.List.{append-nil, reverse-append, reverse-reverse}
 use Rattle.std.proofs.lemmas.List.Elements.{Contains-append_left, Contains-append_right}
@@ -9,7 +9,7 @@ use Rattle.bk_cert.specs.Clear.{IsClear}
 use Rattle.bk_cert.specs.declared.place.CertRef.{CertRef}
 use Rattle.bk_rounds.specs.Admission.{IsPresent}
 use Rattle.bk_cert.proofs.Lists.{none_in_nil, contains_cases, contains_first}
-use Rattle.bk_commit.specs.Ordering.{IsWayBack, IsCommittedBack, IsCommitted}
+use Rattle.bk_commit.specs.Ordering.{IsWayBack, IsCommittedBack}
 use Rattle.bk_commit.specs.Growth.{IsPartOf, Begins}
 use Rattle.bk_commit.proofs.Grown.{committed_more}
 

@@ -1,11 +1,10 @@
 -- An anchor whose voters weigh f + 1 is in the history of whatever is admitted two rounds later or more.
 use Rattle.std.proofs.Common.{◌≡◌, ℕ, zero, suc, ◌+◌, ◌-◌, ◌/◌, ◌<◌, ◌≤◌, List, refl, sym, ap, ◌∙◌, subst, arith}
-use Rattle.std.specs.List.{Contains}
 use Rattle.bk_cert.specs.declared.place.CertRef.{CertRef}
 use Rattle.bk_committee.specs.Sizes.{Sizes, Weigh, faulty, quorum}
 use Rattle.bk_cert.specs.Node.{Node}
 use Rattle.bk_cert.specs.Place.{place_of}
-use Rattle.bk_rounds.specs.Admission.{IsAdmittedIn, IsAdmitted, StandsAt, IsPresent}
+use Rattle.bk_rounds.specs.Admission.{IsAdmitted, IsPresent}
 use Rattle.bk_rounds.specs.Links.{Links}
 use Rattle.bk_rounds.specs.Votes.{VotesFor}
 use Rattle.bk_commit.specs.Ordering.{InHistory}

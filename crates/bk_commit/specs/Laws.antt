@@ -6,7 +6,7 @@ use Rattle.bk_cert.specs.Clear.{IsClear}
 use Rattle.bk_cert.specs.declared.place.CertRef.{CertRef}
 use Rattle.bk_rounds.specs.Admission.{IsPresent}
 use Rattle.bk_rounds.specs.Votes.{IsVoted}
-use Rattle.bk_commit.specs.Ordering.{InHistory, IsPrior, IsWayBack, IsCommitted}
+use Rattle.bk_commit.specs.Ordering.{InHistory, IsWayBack, IsCommitted}
 use Rattle.bk_commit.specs.Growth.{IsPartOf, Begins}
 
 -- an anchor whose voters weigh more than the faulty is in the history of whatever is admitted

@@ -1,11 +1,10 @@
 //! Anchors and their votes.
 
-ghost use Rattle.std.specs.Prelude.{◌≡◌, ℕ, ◌+◌, ◌<◌, ◌≤◌, ◌↔◌, ◌%◌, IsTrue, IfSome, IfNone};
-ghost use Rattle.bk_committee.specs.Sizes.{faulty, leader, members, Weigh};
+ghost use Rattle.std.specs.Prelude.{ℕ, ◌↔◌, IfSome, IfNone};
 ghost use Rattle.bk_cert.specs.declared.place.CertRef.{CertRef};
-ghost use Rattle.bk_rounds.specs.Admission.{IsPresent, last_round};
+ghost use Rattle.bk_rounds.specs.Admission.{IsPresent};
 ghost use Rattle.bk_rounds.specs.Members.{Has};
-ghost use Rattle.bk_rounds.specs.Votes.{IsAnchor, IsVoted, VotesFor, IsAnchorOf};
+ghost use Rattle.bk_rounds.specs.Votes.{VotesFor, IsAnchorOf};
 
 use bk_cert::CertRef;
 use bk_rounds::{Members, Rounds};
@@ -59,15 +58,4 @@ fn votes_for(rounds: &Rounds, a: CertRef) -> Members
         }
     }
     voters
-}
-
-/// Whether the voters for an anchor weigh more than may be faulty.
-pub(crate) fn is_voted(rounds: &Rounds, a: CertRef) -> bool
-    requires { IsPresent rounds.now.sizes rounds.now.held a }
-    ensures { IsTrue result
-        ↔ Weigh rounds.now.sizes (VotesFor rounds.now.sizes rounds.now.held a) (faulty rounds.now.sizes + 1) }
-{
-    rounds.sound();
-    let voters = votes_for(rounds, a);
-    rounds.weight_of(voters) > rounds.faulty()
 }

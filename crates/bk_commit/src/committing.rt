@@ -9,7 +9,6 @@ ghost use Rattle.bk_commit.specs.Ordering.{IsCommitted};
 ghost use Rattle.bk_commit.specs.Growth.{WereCommitted};
 ghost use Rattle.bk_commit.specs.private.Way.{newest_in, IsWayTo};
 
-use crate::anchors::{anchor, is_voted};
 use crate::history::{first_level, next_level};
 use bk_cert::CertRef;
 use bk_rounds::{Members, Rounds};
@@ -61,16 +60,10 @@ fn last_voted(rounds: &Rounds, floor: u32) -> Option<CertRef>
     ensures { MatchOption result ((a : CertRef) → IsVoted rounds.now.sizes rounds.now.held a
         → a.round ≤ floor) (λ a. IsLast rounds.now.sizes rounds.now.held a × (floor < a.round)) }
 {
-    let mut round = rounds.top();
-    while round > floor {
-        if let Some(a) = anchor(rounds, round) {
-            if is_voted(rounds, a) {
-                return Some(a);
-            }
-        }
-        round -= 1;
+    match rounds.newest_voted() {
+        Some(last) => { if last.round > floor { Some(last) } else { None } }
+        None => None,
     }
-    None
 }
 
 // The way back from an anchor, each the prior of the one before it, as far as it is above the floor.

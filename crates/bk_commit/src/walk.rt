@@ -46,8 +46,9 @@ impl Walk {
 
     /// Goes on to the anchors that are committed now, and answers the new ones, oldest first.
     ///
-    /// It looks at the rounds above the newest anchor alone, so that what was committed before
-    /// costs nothing. An `Err` comes only where memory runs out, and leaves the walk as it was.
+    /// Where no later anchor is voted, it looks at no round; else only at those from the last voted
+    /// anchor down to the newest one that it has. An `Err` comes only where memory runs out, and
+    /// leaves the walk as it was.
     pub fn advance(&mut self, rounds: &Rounds) -> Result<Vec<CertRef>, AllocError>
         requires before { WereCommitted rounds.now.sizes rounds.now.held self.old }
         ensures committed { OnOk result (IsCommitted rounds.now.sizes rounds.now.held self.new) }

@@ -1,4 +1,4 @@
-use Rattle.std.proofs.Common.{◌≡◌, ◌↔◌, ◌-◌, ◌+◌, ◌<◌, ◌∙◌, ℕ, sym, ap, subst, arith}
+use Rattle.std.proofs.Common.{◌≡◌, ◌↔◌, ◌-◌, ◌+◌, ◌<◌, ℕ, subst, arith}
 use Rattle.std.proofs.lemmas.Bool.{both_ways}
 use Rattle.bk_rounds.specs.Members.{Has}
 use Rattle.bk_committee.specs.Sizes.{leader}

@@ -1,4 +1,4 @@
-use Rattle.std.proofs.Common.{◌≡◌, arith, inr, ⊎_elim}
+use Rattle.std.proofs.Common.{◌≡◌, arith}
 use Rattle.std.proofs.lemmas.Bool.{false≢true}
 use Rattle.bk_commit.proofs.Levels.{level_first, level_next, reached_round, level_at}
 use Rattle.bk_commit.proofs.Last.{present_member}

@@ -1,4 +1,4 @@
-use Rattle.std.proofs.Common.{◌≡◌, ◌∙◌, sym, arith}
+use Rattle.std.proofs.Common.{◌∙◌, sym}
 use Rattle.std.proofs.lemmas.Bool.{false≢true, both_ways}
 use Rattle.bk_commit.proofs.Last.{history_ends, not_same}
 use Rattle.bk_commit.proofs.history.reaches.Goals as goal
