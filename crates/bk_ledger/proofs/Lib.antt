@@ -2,3 +2,5 @@ pub mod Runs
 pub mod SliceLemmas
 pub mod NextLemmas
 pub mod BatchReading
+pub mod Touching
+pub mod PartRuns

@@ -7,10 +7,7 @@ use Rattle.bk_tx.specs.Transaction.{Transaction}
 use Rattle.bk_rules.specs.Fold.{state_after, receipts_of, HasRoom}
 use Rattle.bk_rules.specs.Ledger as rules
 use Rattle.bk_rules.specs.Rows.{IsLedger}
-use Rattle.bk_conflicts.specs.Plan.{PlanValue}
-use Rattle.bk_conflicts.specs.SceneOf.{CanRunOn}
-use Rattle.bk_steps.specs.declared.outcome.Outcome.{Outcome}
-use Rattle.bk_steps.specs.Schedule.{IsFoldOf}
+use Rattle.bk_rules.specs.Part.{HaveSlots}
 use Rattle.bk_ledger.specs.Ledger.{LedgerValue}
 use Rattle.bk_ledger.specs.declared.ready.Ready.{Ready}
 use Rattle.bk_ledger.specs.declared.ready.Ahead.{Ahead}
@@ -18,7 +15,7 @@ use Rattle.bk_ledger.specs.declared.ready.Next.{Next}
 use Rattle.bk_ledger.specs.declared.ready.Next.TheVariants as next
 use Rattle.bk_ledger.specs.declared.batches.Batches.{Batches}
 use Rattle.bk_ledger.specs.Executing.{HasRun, Leaves}
-use Rattle.bk_ledger.specs.private.Slices.{IsAheadOf, IsNextFrom, IsNextOf, IsNoneAhead, IsPlannedOn, IsReadOf, IsReady, IsSame, ahead_of, counts_of, txs_of}
+use Rattle.bk_ledger.specs.private.Slices.{CanRunPart, IsAheadOf, IsNextFrom, IsNextOf, IsNoneAhead, IsPlannedOn, IsReadOf, IsReady, IsSame, ahead_of, counts_of, txs_of}
 use Rattle.bk_pool.specs.declared.outcome.ExecFault.{ExecFault}
 use Rattle.bk_ledger.proofs.SliceLemmas.{slice_none}
 
@@ -39,11 +36,11 @@ two_ahead payloads from later version slots b c at read behind = record {
 
 -- a slice that was read, and planned
 pub ready_from : (b : Batches) (version : Version) (slots : List ℕ) (r : Ready) → IsReady version slots b.counts.items b.txs.items r → IsNextFrom b version slots (next.Ready r)
-ready_from b version slots r ready = record { counts_are = ready.counts_are; txs_are = ready.txs_are; planned = (ready.version_is, ready.slots_are) }
+ready_from b version slots r ready = record { counts_are = ready.counts_are; txs_are = ready.txs_are; planned = ready.planned }
 
 -- or not
-pub read_from : (b : Batches) (version : Version) (slots : List ℕ) → IsNextFrom b version slots (next.Read b)
-read_from b version slots = record { counts_are = refl; txs_are = refl; planned = tt }
+pub read_from : (b c : Batches) (version : Version) (slots : List ℕ) → c.counts.items ≡ b.counts.items → c.txs.items ≡ b.txs.items → IsNextFrom b version slots (next.Read c)
+read_from b c version slots counts txs = record { counts_are = counts; txs_are = txs; planned = tt }
 
 -- and the one after it
 pub from_ahead : (payloads : List (List ℕ)) (from later : ℕ) (version : Version) (slots : List ℕ) (b c : Batches) (n : Next) → IsReadOf payloads from b.counts.items b.txs.items → IsNextFrom b version slots n → later ≡ from + length b.counts.items
@@ -60,7 +57,7 @@ from_ahead payloads from later version slots b c n read planned at behind = reco
 -- a slice that was planned is ready as it is
 pub ready_again : (version : Version) (slots : List ℕ) (n : Next) (r : Ready) → n ≡ next.Ready r → IsPlannedOn version slots n → IsReady version slots (counts_of n) (txs_of n) r
 ready_again version slots n r is planned =
-    subst (λ (m : Next). IsPlannedOn version slots m → IsReady version slots (counts_of m) (txs_of m) r) (sym is) (λ p. record { version_is = p.0; slots_are = p.1; counts_are = refl; txs_are = refl }) planned
+    subst (λ (m : Next). IsPlannedOn version slots m → IsReady version slots (counts_of m) (txs_of m) r) (sym is) (λ p. record { planned = p; counts_are = refl; txs_are = refl }) planned
 
 -- nothing is left
 read_none : (payloads : List (List ℕ)) (from : ℕ) (counts : List (Option ℕ)) (txs : List (Option Transaction)) → length payloads ≤ from → from ≤ length payloads → counts ≡ [] → txs ≡ [] → IsReadOf payloads from counts txs
@@ -93,30 +90,19 @@ ahead_after payloads from at version slots l a same version_is slots_are behind 
 
 -- ---- executing
 
--- a plan on the slots of a ledger can run on it
+-- a slice that is planned over slots of a ledger can run on it
 pub ready_runs : (l : rules.Ledger) (counts : List (Option ℕ)) (txs : List (Option Transaction)) (r : Ready) → IsReady l.version l.slots counts txs r → IsLedger l.rows
-    → rules.rows_shown l.version l.slots (rules.slot_numbers l) ≡ l.rows → HasRoom l.version (length txs) l.rows → CanRunOn (arc_value r.plan) l
-ready_runs l counts txs r ready is_ledger shown room = record {
-  same_version = sym ready.version_is;
-  same_slots = sym ready.slots_are;
+    → HaveSlots l.slots l.rows → HasRoom l.version (length txs) l.rows → CanRunPart r l
+ready_runs l counts txs r ready is_ledger have room = record {
+  planned = ready.planned;
   is_ledger = is_ledger;
-  has_room = subst (λ (y : Version × ℕ). HasRoom y.0 y.1 l.rows) (λ j. (sym ready.version_is j, ap length (sym ready.txs_are) j)) room;
-  slots_show = (λ j. rules.rows_shown (ready.version_is j) (ready.slots_are j) (rules.slot_numbers l)) ∙ shown;
+  have_slots = have;
+  has_room = subst (λ (n : ℕ). HasRoom l.version n l.rows) (ap length (sym ready.txs_are)) room;
 }
 
 -- there is room on a ledger that is the same
 pub same_room : (n : ℕ) (a b : LedgerValue) → IsSame a b → HasRoom a.state.version n a.state.rows → HasRoom b.state.version n b.state.rows
 same_room n a b same room = subst (λ (y : Version × List Row). HasRoom y.0 n y.1) (λ j. (sym same.version j, sym same.rows j)) room
-
--- a ledger after what its plan gave
-pub fold_ran : (counts : List (Option ℕ)) (plan : PlanValue) (a b : LedgerValue) (o : Outcome) → IsFoldOf plan a.state o → b.counts ≡ a.counts ++ counts → b.receipts ≡ a.receipts ++ o.receipts.items → b.state ≡ o.state
-    → HasRun counts plan.txs a b
-fold_ran counts plan a b o fold counted received state = record {
-  version = ap (λ (l : rules.Ledger). l.version) (state ∙ fold.state);
-  counts_are = counted;
-  receipts = received ∙ ap (λ rs. a.receipts ++ rs) fold.receipts;
-  rows = ap (λ (l : rules.Ledger). l.rows) (state ∙ fold.state);
-}
 
 -- the same, seen from the ledger before its slots were made
 same_ran : (counts : List (Option ℕ)) (txs : List (Option Transaction)) (a b c : LedgerValue) → IsSame a b → HasRun counts txs b c → HasRun counts txs a c

@@ -6,15 +6,14 @@
 ghost use Rattle.std.specs.Prelude.{◌≡◌, ◌+◌, ◌^◌, ◌<◌, ◌≤◌, map, length, IfOk, IfErr, OnOk};
 ghost use Rattle.std.specs.Arc.{arc_value};
 ghost use Rattle.std.specs.Thread.{IsSync};
-ghost use Rattle.bk_conflicts.specs.SceneOf.{CanRunOn};
 ghost use Rattle.bk_rules.specs.Fold.{HasRoom};
 ghost use Rattle.bk_tx.specs.Batches.{transactions_of};
 ghost use Rattle.bk_ledger.specs.Executing.{HasExecuted, HasRun, Leaves};
-ghost use Rattle.bk_ledger.specs.private.Slices.{IsAheadOf, IsPlannedOn, IsReadOf, IsReady, IsSame, counts_of, txs_of};
+ghost use Rattle.bk_ledger.specs.private.Slices.{CanRunPart, IsAheadOf, IsPlannedOn, IsReadOf, IsReady, IsSame, counts_of, txs_of};
 
 use crate::ledger::Ledger;
 use crate::ready::{Ahead, Next, Ready, look_ahead, read_two};
-use crate::slice::{FEWEST, least_of};
+use crate::slice::FEWEST;
 use bk_conflicts::SLOTS_END;
 use bk_pool::{ExecFault, Gate, execute};
 use std::alloc::{AllocError, Global};
@@ -42,7 +41,7 @@ impl Ledger {
         }
     }
 
-    // Executes a slice.
+    // Executes a slice on the accounts that it touches.
     fn run_ready<R: Threads + Wait + Sync, G: Gate + Sync>(
         self,
         rt: &R,
@@ -51,7 +50,7 @@ impl Ledger {
         workers: usize,
         gate: &G,
     ) -> Result<Ledger, ExecFault>
-        requires runs { CanRunOn (arc_value ready.plan) self.state }
+        requires runs { CanRunPart ready self.state }
         requires places { length self.receipts + length (arc_value ready.plan).txs < 2 ^ 32 }
         requires workers { (1 ≤ workers) × (workers ≤ 64) }
         ensures ran { IfOk result (HasRun ready.counts.items (arc_value ready.plan).txs self) }
@@ -66,12 +65,14 @@ impl Ledger {
         } = self;
         let mut counts = counts;
         let mut receipts = receipts;
+        let mut state = state;
         let first = receipts.len() as u32;
-        match execute(rt, alloc, &ready.plan, state, workers, gate) {
+        let part = state.part(alloc, &ready.list, ready.plan.ids())?;
+        match execute(rt, alloc, &ready.plan, part, workers, gate) {
             Ok(outcome) => {
                 counts.extend_from_slice(&ready.counts)?;
                 receipts.extend_from_slice(&outcome.receipts)?;
-                let state = outcome.state;
+                state.put_back(&ready.list, &outcome.state);
                 Ok(Ledger {
                     counts,
                     receipts,
@@ -129,7 +130,7 @@ impl Ledger {
             { look_ahead(rt, alloc, payloads, read, from, least, version, &ids) },
             || -> Result<Ledger, ExecFault>
                 requires { IsSync R.row × IsSync G.row
-                    × CanRunOn (arc_value ready.plan) ledger.state
+                    × CanRunPart ready ledger.state
                     × (length ledger.receipts + length (arc_value ready.plan).txs < 2 ^ 32)
                     × (1 ≤ workers) × (workers ≤ 64) }
                 ensures { IfOk result (HasRun ready.counts.items
@@ -150,7 +151,7 @@ impl Ledger {
         rt: &R,
         alloc: Global,
         payloads: &[&[u8]],
-        fewest: usize,
+        least: usize,
         workers: usize,
         gate: &G,
     ) -> Result<Ledger, ExecFault>
@@ -158,7 +159,7 @@ impl Ledger {
             (length (transactions_of (map (λ p. p.now) payloads.now))) self.state.rows }
         requires few { length self.receipts
             + length (transactions_of (map (λ p. p.now) payloads.now)) < 2 ^ 32 }
-        requires fewest { fewest < 2 ^ 30 }
+        requires least { least < 2 ^ 30 }
         requires workers { (1 ≤ workers) × (workers ≤ 64) }
         ensures executed { IfOk result (HasExecuted (map (λ p. p.now) payloads.now) self) }
         ensures fault { let first = length self.receipts in
@@ -167,11 +168,8 @@ impl Ledger {
     {
         let mut ledger = self;
         let end = payloads.len();
-        let least = least_of(ledger.state().slots().len(), fewest);
         let mut ahead = read_two(alloc, payloads, ledger.state().ids(), 0, least)?;
         while ahead.from < end {
-            // New accounts make slices longer.
-            let least = least_of(ledger.state().slots().len(), fewest);
             let (after, later) = ledger.run_next(rt, alloc, payloads, ahead, least, workers, gate)?;
             ledger = after;
             ahead = later;
@@ -203,10 +201,6 @@ impl Ledger {
             let added = transactions_of (map (λ p. p.now) payloads.now) in
             IfErr result (Leaves first (first + length added)) }
     {
-        if self.are_few(payloads) {
-            let ledger = self.execute_few(alloc, payloads)?;
-            return Ok(ledger);
-        }
         self.execute_by(rt, alloc, payloads, FEWEST, workers, gate)
     }
 }

@@ -7,11 +7,11 @@
 
 mod batches;
 mod executing;
-mod few;
 mod ledger;
 mod ready;
 mod slice;
 mod summary;
+mod touched;
 
 pub use batches::Batches;
 pub use bk_pool::{ExecFault, Gate, Open};

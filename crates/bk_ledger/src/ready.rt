@@ -1,26 +1,28 @@
 //! Slices that are planned before it is their turn.
 
 ghost use Rattle.std.specs.Prelude.{◌≡◌, ◌^◌, ◌<◌, ◌≤◌, ℕ, List, true, map, length, IfOk};
-ghost use Rattle.std.specs.List.{list_all};
-ghost use Rattle.std.specs.Option.{option_copied};
-ghost use Rattle.bk_rules.specs.Ledger.{are_covered, has_slot, is_covered};
+ghost use Rattle.bk_rules.specs.Ledger.{are_covered};
+ghost use Rattle.bk_rules.specs.Part.{are_held};
 ghost use Rattle.bk_ledger.specs.private.Slices.{IsAheadOf, IsNextFrom, IsNoneAhead, IsReadOf, IsReady};
+ghost use Rattle.bk_ledger.specs.private.Touched.{AreTouched};
 
 use crate::batches::Batches;
 use crate::slice::gather_near;
-use bk_conflicts::{Plan, SLOTS_END};
+use crate::touched::Touched;
+use bk_conflicts::Plan;
 use bk_frames::Version;
 use bk_rules::Ids;
-use bk_tx::{Declarations, Tx};
 use std::alloc::{AllocError, Global};
 use std::sync::{Arc, Wait};
 use std::thread::{Threads, join};
 
-/// Batches that follow each other, and the plan of their transactions.
+/// Batches that follow each other, and the plan of their transactions over the slots that they touch.
 #[derive(Drop)]
 pub(crate) struct Ready {
     /// How many transactions each batch holds, `None` where it is void.
     pub(crate) counts: Vec<Option<u16>>,
+    /// The indexes of the plan's slots among all.
+    pub(crate) list: Vec<u32>,
     /// The plan of the transactions of all of them.
     pub(crate) plan: Arc<Plan>,
 }
@@ -56,10 +58,37 @@ impl Batches {
         requires few_slots { length ids.now < 2 ^ 31 }
         ensures { IfOk result (IsReady version ids.now self.counts.items self.txs.items) }
     {
+        let mut batches = self;
+        // Slots may have been made since the last look-up.
+        batches.near.clear();
+        ids.push_likely(&mut batches.near, &batches.txs)?;
+        let touched = Touched::near(alloc, ids, &mut batches.near)?;
+        if touched.ids.hold(version, ids, &batches.txs, &batches.near) {
+            return batches.planned_over(alloc, version, ids, touched);
+        }
+        // It never comes to this: the look-up finds each account that has a slot.
+        let all = Touched::all(alloc, ids)?;
+        batches.planned_over(alloc, version, ids, all)
+    }
+
+    // Plans them over slots that are enough.
+    fn planned_over(
+        self,
+        alloc: Global,
+        version: Version,
+        ids: &Ids,
+        touched: Touched,
+    ) -> Result<Ready, AllocError>
+        requires touched { AreTouched ids.now touched }
+        requires held { are_held version ids.now touched.ids self.txs.items ≡ true }
+        requires few { length self.txs.items < 2 ^ 31 }
+        ensures { IfOk result (IsReady version ids.now self.counts.items self.txs.items) }
+    {
         let Batches { counts, txs, near } = self;
-        let plan = Plan::make_near(alloc, version, ids, txs, &near)?;
+        let Touched { list, ids } = touched;
+        let plan = Plan::make_near(alloc, version, &ids, txs, &near)?;
         let plan = Arc::new(alloc, plan)?;
-        Ok(Ready { counts, plan })
+        Ok(Ready { counts, list, plan })
     }
 }
 
@@ -104,11 +133,11 @@ fn plan_ahead(
     requires few { length batches.txs.items < 2 ^ 31 }
     ensures { IfOk result (IsNextFrom batches version ids.now) }
 {
-    if ids.len() < SLOTS_END {
-        if all_have_slots(version, ids, &batches.txs) {
-            let ready = batches.planned(alloc, version, ids)?;
-            return Ok(Next::Ready(ready));
-        }
+    let mut batches = batches;
+    let touched = Touched::near(alloc, ids, &mut batches.near)?;
+    if touched.ids.hold(version, ids, &batches.txs, &batches.near) {
+        let ready = batches.planned_over(alloc, version, ids, touched)?;
+        return Ok(Next::Ready(ready));
     }
     Ok(Next::Read(batches))
 }
@@ -146,41 +175,4 @@ pub(crate) fn look_ahead<R: Threads + Wait + Sync>(
     let next = planned?;
     let read = gathered?;
     Ok(Ahead { from, next, read })
-}
-
-// Whether each account that these transactions declare has a slot. In version One none is needed.
-fn all_have_slots(version: Version, ids: &Ids, txs: &[Option<Tx>]) -> bool
-    ensures { result ≡ are_covered version ids.now txs.now }
-{
-    for tx in txs {
-        if !has_slots(version, ids, tx.as_ref()) {
-            return false;
-        }
-    }
-    true
-}
-
-// The same for a transaction, if it is one.
-fn has_slots(version: Version, ids: &Ids, tx: Option<&Tx>) -> bool
-    ensures { result ≡ is_covered version ids.now (option_copied tx.entry) }
-{
-    match version {
-        Version::One => true,
-        Version::Two => match tx {
-            None => true,
-            Some(tx) => have_slots(ids, tx.declared()),
-        },
-    }
-}
-
-// Whether each of these accounts has a slot.
-fn have_slots(ids: &Ids, declared: &Declarations) -> bool
-    ensures { result ≡ list_all (λ d. has_slot ids.now d.id) declared.now }
-{
-    for k in 0..declared.len() {
-        if !ids.contains(declared.get(k).id) {
-            return false;
-        }
-    }
-    true
 }

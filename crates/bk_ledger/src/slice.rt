@@ -7,17 +7,9 @@ use crate::batches::Batches;
 use bk_rules::Ids;
 use std::alloc::{AllocError, Global};
 
-/// A slice has enough transactions to be worth its threads.
-pub(crate) const FEWEST: usize = 16_384;
-
-/// A slice takes whole batches until it has so many transactions: an eighth of the accounts, since it copies the
-/// numbers of all of them, if these are no fewer than a given number. A batch has fewer than 65,536.
-pub(crate) fn least_of(slots: usize, fewest: usize) -> usize
-    requires { fewest < 2 ^ 30 }
-    ensures { result < 2 ^ 30 }
-{
-    (slots / 8).min(524_288).max(fewest)
-}
+/// A slice takes whole batches until it has so many transactions, which are worth its threads. A batch has fewer than
+/// 65,536.
+pub(crate) const FEWEST: usize = 8_192;
 
 /// Reads batches from an index on, until they have so many transactions or there are no more.
 pub(crate) fn gather(

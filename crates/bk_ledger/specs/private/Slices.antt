@@ -1,12 +1,15 @@
 -- Batches that were read, and slices of batches.
-use Rattle.std.specs.Prelude.{◌≡◌, ℕ, ◌+◌, ◌^◌, ◌<◌, ◌≤◌, List, [], ◌++◌, length, map, drop, Option}
+use Rattle.std.specs.Prelude.{◌≡◌, true, ℕ, ◌+◌, ◌^◌, ◌<◌, ◌≤◌, List, [], ◌++◌, length, map, drop, Option}
 use Rattle.std.specs.Arc.{arc_value}
 use Rattle.bk_frames.specs.declared.genesis.Row.{Row}
 use Rattle.bk_frames.specs.declared.version.Version.{Version}
 use Rattle.bk_frames.specs.Feed.{Frame}
 use Rattle.bk_tx.specs.Transaction.{Transaction}
 use Rattle.bk_tx.specs.Batches.{count_in, feed_transactions, payloads_of, transactions_of}
-use Rattle.bk_rules.specs.Fold.{state_after, receipts_of}
+use Rattle.bk_rules.specs.Fold.{state_after, receipts_of, HasRoom}
+use Rattle.bk_rules.specs.Rows.{IsLedger}
+use Rattle.bk_rules.specs.Ledger as rules
+use Rattle.bk_rules.specs.Part.{AreIndexes, HaveSlots, are_held, ids_at}
 use Rattle.bk_ledger.specs.declared.ready.Ready.{Ready}
 use Rattle.bk_ledger.specs.declared.ready.Ahead.{Ahead}
 use Rattle.bk_ledger.specs.declared.ready.Next.{Next}
@@ -44,17 +47,30 @@ abbrev pub txs_of : Next → List (Option Transaction)
 txs_of (next.Read b) = b.txs.items
 txs_of (next.Ready r) = (arc_value r.plan).txs
 
--- if the slice is planned, then by these rules and on these slots
+-- the slice is planned by these rules, over some of these slots, which hold each account that it declares
+pub record IsPlanned (version : Version) (slots : List ℕ) (r : Ready) : Type 0 where
+  pub version_is : (arc_value r.plan).version ≡ version
+  pub indexes : AreIndexes (length slots) r.list.items
+  pub slots_are : (arc_value r.plan).ids ≡ ids_at slots r.list.items
+  pub held : are_held version slots (arc_value r.plan).ids (arc_value r.plan).txs ≡ true
+
+-- if the slice is planned, then by these rules and over some of these slots
 abbrev pub IsPlannedOn : Version → List ℕ → Next → Type 0
 IsPlannedOn version slots (next.Read b) = Unit {0}
-IsPlannedOn version slots (next.Ready r) = ((arc_value r.plan).version ≡ version) × ((arc_value r.plan).ids ≡ slots)
+IsPlannedOn version slots (next.Ready r) = IsPlanned version slots r
 
--- the slice of these transactions is planned, by these rules and on these slots
+-- the slice of these transactions is planned, by these rules and over some of these slots
 pub record IsReady (version : Version) (slots : List ℕ) (counts : List (Option ℕ)) (txs : List (Option Transaction)) (r : Ready) : Type 0 where
-  pub version_is : (arc_value r.plan).version ≡ version
-  pub slots_are : (arc_value r.plan).ids ≡ slots
+  pub planned : IsPlanned version slots r
   pub counts_are : r.counts.items ≡ counts
   pub txs_are : (arc_value r.plan).txs ≡ txs
+
+-- the slice can be executed on these accounts
+pub record CanRunPart (r : Ready) (l : rules.Ledger) : Type 0 where
+  pub planned : IsPlanned l.version l.slots r
+  pub is_ledger : IsLedger l.rows
+  pub have_slots : HaveSlots l.slots l.rows
+  pub has_room : HasRoom l.version (length (arc_value r.plan).txs) l.rows
 
 -- the slice that begins at an index: batches where there are some, and not too many transactions
 pub record IsReadOf (payloads : List (List ℕ)) (from : ℕ) (counts : List (Option ℕ)) (txs : List (Option Transaction)) : Type 0 where
@@ -63,7 +79,7 @@ pub record IsReadOf (payloads : List (List ℕ)) (from : ℕ) (counts : List (Op
   pub within : from + length counts ≤ length payloads
   pub few : length txs < 2 ^ 31
 
--- the same; if it is planned, then by these rules and on these slots
+-- the same; if it is planned, then by these rules and over some of these slots
 pub record IsNextOf (payloads : List (List ℕ)) (from : ℕ) (version : Version) (slots : List ℕ) (n : Next) : Type 0 where
   pub read : IsReadOf payloads from (counts_of n) (txs_of n)
   pub planned : IsPlannedOn version slots n

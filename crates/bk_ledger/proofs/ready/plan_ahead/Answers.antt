@@ -1,8 +1,9 @@
+use Rattle.std.proofs.Common.{refl}
 use Rattle.bk_ledger.proofs.NextLemmas.{ready_from, read_from}
 use Rattle.bk_ledger.proofs.ready.plan_ahead.Goals as goal
 
-pub returns-then-all_have_slots : goal.returns-then-all_have_slots
-returns-then-all_have_slots c = ready_from c.args.batches c.args.version c.args.ids.now c.in_ok-ready.ready c.in_ok-ready.ensures
+pub returns-then-hold : goal.returns-then-hold
+returns-then-hold c = ready_from c.args.batches c.args.version c.args.ids.now c.in_ok-ready.ready c.in_ok-ready.ensures
 
 pub returns : goal.returns
-returns c = read_from c.args.batches c.args.version c.args.ids.now
+returns c = read_from c.args.batches _ c.args.version c.args.ids.now refl refl

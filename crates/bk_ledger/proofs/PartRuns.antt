@@ -1,0 +1,115 @@
+-- A slice that is executed on the accounts that it touches.
+use Rattle.std.proofs.Common.{◌≡◌, ℕ, ◌+◌, ◌^◌, ◌<◌, Bool, true, false, ◌||◌, not, List, [], ◌∷◌, ◌++◌, length, Option, Some, None, refl, sym, ap, ap₂, subst, ◌∙◌, arith}
+use Rattle.std.specs.Arc.{arc_value}
+use Rattle.std.specs.List.{list_all}
+use Rattle.bk_frames.specs.declared.genesis.Row.{Row}
+use Rattle.bk_frames.specs.declared.version.Version.{Version}
+use Rattle.bk_frames.specs.declared.version.Version.TheVariants.{One, Two}
+use Rattle.bk_frames.specs.Genesis.{total_of}
+use Rattle.bk_tx.specs.Transaction.{Transaction}
+use Rattle.bk_tx.specs.declared.declared.Declared.{Declared}
+use Rattle.bk_rules.specs.Rows.{IsLedger}
+use Rattle.bk_rules.specs.Fold.{state_after, receipts_of, HasRoom}
+use Rattle.bk_rules.specs.Ledger as rules
+use Rattle.bk_rules.specs.Part.{ArePutBack, are_held, is_held_id, part_of, rows_among}
+use Rattle.bk_rules.proofs.Folding.{total_kept_by_fold}
+use Rattle.bk_rules.proofs.Parts.{part_receipts, part_state, room-among}
+use Rattle.bk_rules.proofs.RowLemmas.{and_left, and_right, and_both}
+use Rattle.bk_conflicts.specs.Plan.{PlanValue}
+use Rattle.bk_conflicts.specs.SceneOf.{CanRunOn}
+use Rattle.bk_steps.specs.declared.outcome.Outcome.{Outcome}
+use Rattle.bk_steps.specs.Schedule.{IsFoldOf}
+use Rattle.bk_ledger.specs.Ledger.{LedgerValue}
+use Rattle.bk_ledger.specs.Executing.{HasRun}
+use Rattle.bk_ledger.specs.declared.ready.Ready.{Ready}
+use Rattle.bk_ledger.specs.private.Slices.{CanRunPart, IsPlanned}
+
+-- ---- what is held and what is covered
+
+-- slots that hold what transactions declare cover them
+pub covered_by_held : (v : Version) (slots ids : List ℕ) (txs : List (Option Transaction)) → are_held v slots ids txs ≡ true → rules.are_covered v ids txs ≡ true
+covered_by_held One slots ids [] held = refl
+covered_by_held One slots ids (t ∷ txs) held = covered_by_held One slots ids txs (and_right _ _ held)
+covered_by_held Two slots ids [] held = refl
+covered_by_held Two slots ids (None ∷ txs) held = covered_by_held Two slots ids txs held
+covered_by_held Two slots ids (Some t ∷ txs) held = and_both _ _ (and_left (list_all (λ (d : Declared). rules.has_slot ids d.id) t.declared) _ held) (covered_by_held Two slots ids txs (and_right (list_all (λ (d : Declared). rules.has_slot ids d.id) t.declared) _ held))
+
+-- all slots hold what they cover
+held_each : (slots : List ℕ) (ds : List Declared) → list_all (λ (d : Declared). is_held_id One slots slots d.id) ds ≡ true
+held_each slots [] = refl
+held_each slots (d ∷ ds) = and_both _ _ (either (rules.has_slot slots d.id)) (held_each slots ds)
+  where
+    either : (b : Bool) → (b || not b) ≡ true
+    either true = refl
+    either false = refl
+
+pub held_by_all : (v : Version) (slots : List ℕ) (txs : List (Option Transaction)) → rules.are_covered v slots txs ≡ true → are_held v slots slots txs ≡ true
+held_by_all One slots [] covered = refl
+held_by_all One slots (None ∷ txs) covered = held_by_all One slots txs covered
+held_by_all One slots (Some t ∷ txs) covered = and_both _ _ (held_each slots t.declared) (held_by_all One slots txs covered)
+held_by_all Two slots [] covered = refl
+held_by_all Two slots (None ∷ txs) covered = held_by_all Two slots txs covered
+held_by_all Two slots (Some t ∷ txs) covered = and_both _ _ (and_left (list_all (λ (d : Declared). rules.has_slot slots d.id) t.declared) _ covered) (held_by_all Two slots txs (and_right (list_all (λ (d : Declared). rules.has_slot slots d.id) t.declared) _ covered))
+
+-- ---- executing
+
+module _ (r : Ready) (l : rules.Ledger) (runs : CanRunPart r l) (p : rules.Ledger) (is : p ≡ part_of (arc_value r.plan).ids l) where
+  txs : List (Option Transaction)
+  txs = (arc_value r.plan).txs
+
+  ids : List ℕ
+  ids = (arc_value r.plan).ids
+
+  pub part_can_run : IsLedger p.rows → rules.rows_shown p.version p.slots (rules.slot_numbers p) ≡ p.rows → CanRunOn (arc_value r.plan) p
+  part_can_run is_ledger shown =
+      let planned = runs.planned in
+      let version : p.version ≡ (arc_value r.plan).version = ap (λ (x : rules.Ledger). x.version) is ∙ sym planned.version_is in
+      let slots : p.slots ≡ (arc_value r.plan).ids = ap (λ (x : rules.Ledger). x.slots) is in
+      record {
+        same_version = version;
+        same_slots = slots;
+        is_ledger = is_ledger;
+        has_room = subst (λ (y : Version × List Row). HasRoom y.0 (length (arc_value r.plan).txs) y.1) (λ i. (sym planned.version_is i, ap (λ (x : rules.Ledger). x.rows) (sym is) i)) (room-among l.version (length (arc_value r.plan).txs) (arc_value r.plan).ids l.rows runs.has_room);
+        slots_show = (λ i. rules.rows_shown (sym version i) (sym slots i) (rules.slot_numbers p)) ∙ shown;
+      }
+
+  module _ (o : Outcome) (fold : IsFoldOf (arc_value r.plan) p o) where
+    out_is : o.state ≡ rules.ledger_of l.version (arc_value r.plan).ids (state_after l.version (arc_value r.plan).txs (rows_among (arc_value r.plan).ids l.rows))
+    out_is = fold.state ∙ ap (λ (x : rules.Ledger). rules.ledger_of x.version x.slots (state_after x.version (arc_value r.plan).txs x.rows)) is
+
+    pub out_slots : o.state.slots ≡ (arc_value r.plan).ids
+    out_slots = ap (λ (x : rules.Ledger). x.slots) out_is
+
+    pub out_version : o.state.version ≡ l.version
+    out_version = ap (λ (x : rules.Ledger). x.version) out_is
+
+    out_receipts : o.receipts.items ≡ receipts_of l.version (arc_value r.plan).txs l.rows
+    out_receipts =
+        let planned = runs.planned in
+        fold.receipts
+        ∙ ap (λ (x : rules.Ledger). receipts_of x.version (arc_value r.plan).txs x.rows) is
+        ∙ part_receipts l.version l.slots (arc_value r.plan).ids (arc_value r.plan).txs l.rows runs.is_ledger runs.have_slots planned.held
+
+    -- what is put back is what the transactions leave of the whole
+    back_is : (rows : List Row) → ArePutBack o.state.slots o.state.rows l.rows rows → rows ≡ state_after l.version (arc_value r.plan).txs l.rows
+    back_is rows put =
+        let planned = runs.planned in
+        part_state l.version l.slots (arc_value r.plan).ids (arc_value r.plan).txs l.rows runs.is_ledger runs.have_slots planned.held rows
+        (subst (λ (x : rules.Ledger). ArePutBack x.slots x.rows l.rows rows) out_is put)
+
+    pub back_within : (rows : List Row) → ArePutBack o.state.slots o.state.rows l.rows rows → total_of rows < 2 ^ 63
+    back_within rows put =
+        let ledger = runs.is_ledger in
+        let same : total_of rows ≡ total_of l.rows = ap total_of (back_is rows put) ∙ total_kept_by_fold l.version (arc_value r.plan).txs l.rows ledger in
+        let within = ledger.within in
+        omega (arith, same, within)
+
+    -- the ledger after it
+    pub part_ran : (counts : List (Option ℕ)) (a b : LedgerValue) → a.state ≡ l → b.counts ≡ a.counts ++ counts → b.receipts ≡ a.receipts ++ o.receipts.items → b.state.version ≡ l.version → ArePutBack o.state.slots o.state.rows l.rows b.state.rows
+        → HasRun counts (arc_value r.plan).txs a b
+    part_ran counts a b state counted received version put = record {
+      version = version ∙ ap (λ (x : rules.Ledger). x.version) (sym state);
+      counts_are = counted;
+      receipts = received ∙ ap (λ rs. a.receipts ++ rs) (out_receipts ∙ ap (λ (x : rules.Ledger). receipts_of x.version (arc_value r.plan).txs x.rows) (sym state));
+      rows = back_is b.state.rows put ∙ ap (λ (x : rules.Ledger). state_after x.version (arc_value r.plan).txs x.rows) (sym state);
+    }
