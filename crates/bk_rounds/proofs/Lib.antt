@@ -17,4 +17,5 @@ pub mod Whole
 pub mod Adding
 pub mod Waits
 pub mod Fit
+pub mod Filled
 pub mod Tallied

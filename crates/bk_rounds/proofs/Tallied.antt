@@ -1,12 +1,10 @@
 -- Votes, one after another.
-use Rattle.std.proofs.Common.{◌≡◌, ◌≢◌, ℕ, ◌+◌, ◌-◌, ◌%◌, ◌<◌, ◌≤◌, ◌↔◌, ◌⊎◌, inl, inr, List, [], ◌∷◌, ◌++◌, None, refl, sym, ap, ◌∙◌, subst, ⊎_elim, arith}
-use Rattle.std.specs.Prelude.{unwrap_or}
+use Rattle.std.proofs.Common.{◌≡◌, ◌≢◌, ℕ, ◌+◌, ◌-◌, ◌*◌, ◌/◌, ◌%◌, ◌<◌, ◌≤◌, ◌↔◌, ◌⊎◌, inl, inr, List, [], ◌∷◌, ◌++◌, length, refl, sym, ap, ◌∙◌, subst, eqb, get_or, set, ⊎_elim, arith}
 use Rattle.std.specs.List.{Contains, IsDistinct}
-use Rattle.std.specs.Ordering.{nat_cmp}
-use Rattle.std.specs.BTreeMap.{get}
-use Rattle.std.proofs.lemmas.Bool.{cases_eq, eqb-true, false_from_ne_true}
+use Rattle.std.proofs.lemmas.Bool.{cases_eq, eqb-true, eq-eqb, false_from_ne_true, cond-true, cond-false}
+use Rattle.std.proofs.lemmas.List.{length-append, get_or-set_same, get_or-set_other}
 use Rattle.std.proofs.lemmas.Map.Views.{Contains-from_any}
-use Rattle.std.proofs.lemmas.List.Elements.{Contains-push_cases, Contains-append_left}
+use Rattle.std.proofs.lemmas.List.Elements.{Contains-append_left}
 use Rattle.std.proofs.lemmas.List.Sums.{sum_by-cons}
 use Rattle.bk_committee.specs.Sizes.{Sizes, weight, weight_of, total, faulty, leader}
 use Rattle.bk_cert.specs.Node.{Node}
@@ -25,6 +23,8 @@ use Rattle.bk_rounds.proofs.Admitted.{admitted_held}
 use Rattle.bk_rounds.proofs.Counting.{apart_from_none, weigh-le}
 use Rattle.bk_rounds.proofs.Grown.{IsWithin, links_more, links_back, admitted_low}
 use Rattle.bk_rounds.proofs.Weighed.{inside-le}
+use Rattle.bk_rounds.proofs.Named.{push_default}
+use Rattle.bk_rounds.proofs.Filled.{present_within}
 
 -- the place of a member's certificate in the round after
 abbrev pub next_of : ℕ → ℕ → CertRef
@@ -77,15 +77,44 @@ even_from n h = ⊎_elim (λ e. absurd (h e)) (λ o. omega (arith, o)) (cases_eq
 pub odd_before : (n : ℕ) → 1 ≤ n → n % 2 ≡ 0 → (n - 1) % 2 ≡ 1
 odd_before n low even = omega (arith, low, even)
 
+pub kept_odd : (v : Votes) (round : ℕ) → round % 2 ≡ 1 → kept_at v round ≡ get_or v.weights.items (round / 2) 0
+kept_odd v round odd = cond-true (eqb (round % 2) 1) (get_or v.weights.items (round / 2) 0) 0 (eq-eqb (round % 2) 1 odd)
+
+pub kept_even : (v : Votes) (round : ℕ) → (round % 2 ≡ 1 → ⊥) → kept_at v round ≡ 0
+kept_even v round n = cond-false (eqb (round % 2) 1) (get_or v.weights.items (round / 2) 0) 0 (false_from_ne_true _ (λ t. n (eqb-true (round % 2) 1 t)))
+
+-- one weight was changed
+pub kept_here : (v w : Votes) (round sum : ℕ) → round % 2 ≡ 1 → round / 2 < length v.weights.items → w.weights.items ≡ set v.weights.items (round / 2) sum → kept_at w round ≡ sum
+kept_here v w round sum odd low e = kept_odd w round odd ∙ (ap (λ (ws : List ℕ). get_or ws (round / 2) 0) e ∙ get_or-set_same v.weights.items (round / 2) sum 0 low)
+
+pub kept_other : (v w : Votes) (round sum : ℕ) → round % 2 ≡ 1 → w.weights.items ≡ set v.weights.items (round / 2) sum → (r : ℕ) → r ≢ round → kept_at w r ≡ kept_at v r
+kept_other v w round sum odd e r n = ⊎_elim
+    (λ odd'. kept_odd w r odd' ∙ (ap (λ (ws : List ℕ). get_or ws (r / 2) 0) e
+    ∙ (get_or-set_other v.weights.items (round / 2) (r / 2) sum 0 (λ same. n (halves r round odd' odd same)) ∙ sym (kept_odd v r odd'))))
+    (λ even. kept_even w r even ∙ sym (kept_even v r even))
+    (cases_eq (r % 2) 1)
+  where
+    halves : (a b : ℕ) → a % 2 ≡ 1 → b % 2 ≡ 1 → a / 2 ≡ b / 2 → a ≡ b
+    halves a b o p q = omega (arith, o, p, q)
+
+-- a further entry is 0
+pub kept_pushed : (v w : Votes) → w.weights.items ≡ v.weights.items ++ 0 ∷ [] → (r : ℕ) → kept_at w r ≡ kept_at v r
+kept_pushed v w e r = ⊎_elim
+    (λ odd. kept_odd w r odd ∙ (ap (λ (ws : List ℕ). get_or ws (r / 2) 0) e ∙ (push_default v.weights.items 0 (r / 2) ∙ sym (kept_odd v r odd))))
+    (λ even. kept_even w r even ∙ sym (kept_even v r even))
+    (cases_eq (r % 2) 1)
+
 -- what is present is of round 1 or later
 pub present_from : (z : Sizes) (held : List Node) (a : CertRef) → IsPresent z held a → 1 ≤ a.round
 present_from z held a (c, at) = let low = admitted_low z held c.header.round c at.admitted in let e : c.header.round ≡ a.round = ap (λ (p : CertRef). p.round) at.place in omega (arith, low, e)
 
 -- the entry that an admitted certificate votes in
-pub present_entry : (z : Sizes) (held : List Node) (v : Votes) (a : CertRef) → HaveEntries held v → IsPresent z held a → a.round % 2 ≡ 0 → HasEntry v (a.round - 1)
-present_entry z held v a entries (c, at) even =
-    let e : c.header.round ≡ a.round = ap (λ (p : CertRef). p.round) at.place in
-    subst (λ (r : ℕ). HasEntry v (r - 1)) e (entries c (admitted_held z held c.header.round c at.admitted) (ap (λ (r : ℕ). r % 2) e ∙ even))
+pub present_entry : (z : Sizes) (held : List Node) (v : Votes) (a : CertRef) → 1 ≤ total z → HaveEntries held v → IsPresent z held a → a.round % 2 ≡ 0 → HasEntry v (a.round - 1)
+present_entry z held v a some entries here even =
+    let low : a.round ≤ length held = present_within z held a some here in
+    let from : 1 ≤ a.round = present_from z held a here in
+    let room : length held ≤ 2 * length v.weights.items + 1 = entries in
+    omega (arith, low, from, room, even)
 
 -- an anchor is at the place of its round's leader
 pub anchor_place : (z : Sizes) (held : List Node) (round : ℕ) (a : CertRef) → IsAnchorOf z held round a → a ≡ led_in z round
@@ -133,12 +162,10 @@ tally_added old new c places v w e clear decided lists t same =
     (tally_first old.sizes old.held (old.held ++ c ∷ []) places v (λ d there. Contains-append_left old.held (c ∷ []) d there) clear' decided lists' t round))
     clear lists
 
-pub entries_added : (held : List Node) (c : Node) (v w : Votes) → HaveEntries held v → ((r : ℕ) → HasEntry v r → HasEntry w r) → (c.header.round % 2 ≡ 0 → HasEntry w (c.header.round - 1))
-    → HaveEntries (held ++ c ∷ []) w
-entries_added held c v w entries stay room = λ d t even. ⊎_elim
-    (λ old. stay (d.header.round - 1) (entries d old even))
-    (λ is. subst (λ (e : Node). HasEntry w (e.header.round - 1)) is (room (ap (λ (e : Node). e.header.round % 2) is ∙ even)))
-    (Contains-push_cases held c d t)
+pub entries_added : (old : List Node) (new : RoundsValue) (z : Sizes) (c : Node) (w : Votes) → new ≡ rounds_with z (old ++ c ∷ []) → length old + 1 ≤ 2 * length w.weights.items + 1 → HaveEntries new.held w
+entries_added old new z c w e room =
+    let long : length new.held ≡ length (old ++ c ∷ []) = ap (λ (v : RoundsValue). length v.held) e in
+    omega (arith, long, length-append old (c ∷ []), room)
 
 -- a place is not before itself
 not_before : (p : CertRef) → IsBefore p p → ⊥
@@ -197,18 +224,21 @@ tally_all z held v t newest entries = record {
 }
 
 -- nothing is held, and nobody votes
-pub counted_empty : (z : Sizes) (v : Votes) → ((round : ℕ) → get nat_cmp v.weights round ≡ None) → v.newest ≡ 0 → AreCounted z [] v
+pub counted_empty : (z : Sizes) (v : Votes) → v.weights.items ≡ [] → v.newest ≡ 0 → AreCounted z [] v
 counted_empty z v none first = record {
   tally = λ round. subst (WeighExactly z (VotesIn z [] round)) (sym (zero_at round)) (exactly_none z (VotesIn z [] round) (λ x vote. nobody (voter_present z [] round x vote)));
   newest = record {
     above = λ round heavy. absurd (let e = zero_at round in omega (arith, heavy, e));
     is = λ some. absurd (omega (arith, some, first));
   };
-  entries = λ c t. absurd (none_in_nil c t);
+  entries = omega arith;
 }
   where
     zero_at : (round : ℕ) → kept_at v round ≡ 0
-    zero_at round = ap (λ o. unwrap_or o 0) (none round)
+    zero_at round = ⊎_elim
+        (λ odd. kept_odd v round odd ∙ ap (λ (ws : List ℕ). get_or ws (round / 2) 0) none)
+        (λ n. kept_even v round n)
+        (cases_eq (round % 2) 1)
 
     nobody : {a : CertRef} → IsPresent z [] a → ⊥
     nobody (c, at) = none_in_nil c (admitted_held z [] c.header.round c at.admitted)
@@ -220,12 +250,12 @@ newest_same bound v w same e n = record {
   is = λ some. let a = n.is (omega (arith, some, e)) in subst (λ (k : ℕ). bound < k) (sym (same v.newest) ∙ ap (kept_at w) (sym e)) a;
 }
 
-pub counted_room : (z : Sizes) (held : List Node) (v w : Votes) → ((r : ℕ) → kept_at w r ≡ kept_at v r) → w.newest ≡ v.newest → ((r : ℕ) → HasEntry v r → HasEntry w r)
+pub counted_room : (z : Sizes) (held : List Node) (v w : Votes) → ((r : ℕ) → kept_at w r ≡ kept_at v r) → w.newest ≡ v.newest → length v.weights.items ≤ length w.weights.items
     → AreCounted z held v → AreCounted z held w
 counted_room z held v w same e stay h = record {
   tally = λ round. subst (WeighExactly z (VotesIn z held round)) (sym (same round)) (h.tally round);
   newest = newest_same (faulty z) v w same e h.newest;
-  entries = λ c t even. stay (c.header.round - 1) (h.entries c t even);
+  entries = let e : length held ≤ 2 * length v.weights.items + 1 = h.entries in omega (arith, e, stay);
 }
 
 -- the voters of a voted anchor weigh enough

@@ -96,7 +96,7 @@ impl Rounds {
         ensures answer { IfOk result (λ out. Lists out.items (BecomesPresent self.old self.new)) }
     {
         self.table.sound();
-        self.votes.make_room(cert.header().round())?;
+        self.votes.make_room(self.table.held())?;
         let places = self.table.add(cert)?;
         self.table.sound();
         count(&self.table, &mut self.votes, &places);

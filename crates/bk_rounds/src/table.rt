@@ -231,6 +231,13 @@ impl Table {
         self.top
     }
 
+    /// How many certificates are held.
+    pub fn held(&self) -> usize
+        ensures { result ≡ length self.now.held }
+    {
+        self.certs.len()
+    }
+
     /// How many members there are.
     pub fn members(&self) -> u8
         ensures is { result ≡ members self.now.sizes }
@@ -244,6 +251,7 @@ impl Table {
     pub fn weight(&self, member: u8) -> u64
         ensures is { result ≡ weight self.now.sizes member }
         ensures small { result < 2 ^ 32 }
+        ensures some { 1 ≤ total self.now.sizes }
         ensures light { total self.now.sizes < 2 ^ 39 }
     {
         self.weights.weight(member)

@@ -1,8 +1,6 @@
 //! The votes for anchors, added up as certificates become admitted.
 
-ghost use Rattle.std.specs.Prelude.{◌≡◌, ◌≢◌, ℕ, ◌+◌, ◌-◌, ◌<◌, ◌≤◌, ◌%◌, ◌^◌, Contains, OnOk, None};
-ghost use Rattle.std.specs.BTreeMap.{get};
-ghost use Rattle.std.specs.Ordering.{nat_cmp};
+ghost use Rattle.std.specs.Prelude.{◌≡◌, ◌≢◌, ℕ, ◌+◌, ◌-◌, ◌*◌, ◌<◌, ◌≤◌, ◌%◌, ◌^◌, [], Contains, OnOk, length};
 ghost use Rattle.bk_committee.specs.Sizes.{faulty, total};
 ghost use Rattle.bk_cert.specs.Place.{IsListed};
 ghost use Rattle.bk_cert.specs.declared.place.CertRef.{CertRef};
@@ -12,15 +10,15 @@ ghost use Rattle.bk_rounds.specs.private.Tally.{kept_at, HasEntry, HaveEntries, 
 use crate::table::Table;
 use bk_cert::CertRef;
 use std::alloc::{AllocError, Global};
-use std::collections::BTreeMap;
 
-/// What the voters for the anchor of a round weigh together, by odd rounds.
+/// What the voters for the anchor of each odd round weigh together, the first round first.
 ///
-/// A certificate of an even round makes the entry that it may vote in when it is held, also where
-/// it has to wait. So there are no more entries than certificates, and counting takes no memory.
+/// An entry is made for each two certificates that are added, whatever their rounds. With an
+/// admitted certificate one is admitted in each round before, so its round is no greater than the
+/// number of certificates: counting takes no memory.
 #[derive(Drop)]
 pub(crate) struct Votes {
-    pub weights: BTreeMap<u32, u64>,
+    pub weights: Vec<u64>,
     // The greatest round whose votes weigh more than may be faulty; 0 where there is none.
     pub newest: u32,
 }
@@ -28,11 +26,11 @@ pub(crate) struct Votes {
 impl Votes {
     /// No votes.
     pub fn new(alloc: Global) -> Votes
-        ensures none { (round : ℕ) → get nat_cmp result.weights round ≡ None }
+        ensures none { result.weights.items ≡ [] }
         ensures newest { result.newest ≡ 0 }
     {
         Votes {
-            weights: BTreeMap::new(alloc),
+            weights: Vec::new(alloc),
             newest: 0,
         }
     }
@@ -41,54 +39,56 @@ impl Votes {
     pub fn at(&self, round: u32) -> u64
         ensures { result ≡ kept_at self.now round }
     {
-        match self.weights.get(&round).copied() {
-            Some(weight) => weight,
-            None => 0,
+        if round % 2 == 1 {
+            match self.weights.get((round / 2) as usize).copied() {
+                Some(weight) => weight,
+                None => 0,
+            }
+        } else {
+            0
         }
     }
 
-    /// Makes the entry that a certificate of this round may vote in.
-    pub fn make_room(&mut self, round: u32) -> Result<(), AllocError>
-        requires { 1 ≤ round }
+    /// Makes the entry for one certificate more than so many.
+    pub fn make_room(&mut self, held: usize) -> Result<(), AllocError>
+        requires { held ≤ 2 * length self.old.weights.items + 1 }
         ensures same { (r : ℕ) → kept_at self.new r ≡ kept_at self.old r }
         ensures newest { self.new.newest ≡ self.old.newest }
-        ensures stay { (r : ℕ) → HasEntry self.old r → HasEntry self.new r }
-        ensures room { OnOk result (round % 2 ≡ 0 → HasEntry self.new (round - 1)) }
+        ensures stay { length self.old.weights.items ≤ length self.new.weights.items }
+        ensures room { OnOk result (held + 1 ≤ 2 * length self.new.weights.items + 1) }
     {
-        if round % 2 == 1 {
-            return Ok(());
+        if self.weights.len() <= held / 2 {
+            self.weights.push(0)?;
         }
-        if self.weights.contains_key(&(round - 1)) {
-            return Ok(());
-        }
-        self.weights.insert(round - 1, 0)?;
         Ok(())
     }
 
     // Adds this weight to the votes of a round, which has an entry, and answers their weight.
     fn raise(&mut self, round: u32, weight: u64) -> u64
+        requires odd { round % 2 ≡ 1 }
         requires entry { HasEntry self.old round }
         requires small { kept_at self.old round + weight < 2 ^ 64 }
         ensures here { kept_at self.new round ≡ kept_at self.old round + weight }
         ensures is { result ≡ kept_at self.new round }
         ensures other { (r : ℕ) → r ≢ round → kept_at self.new r ≡ kept_at self.old r }
-        ensures stay { (r : ℕ) → HasEntry self.old r → HasEntry self.new r }
+        ensures stay { length self.new.weights.items ≡ length self.old.weights.items }
         ensures newest { self.new.newest ≡ self.old.newest }
     {
-        let sum = self.at(round) + weight;
-        // The entry is there, so this takes no memory.
-        let _ = self.weights.insert(round, sum);
+        let index = (round / 2) as usize;
+        let sum = self.weights[index] + weight;
+        self.weights[index] = sum;
         sum
     }
 
     // Adds this weight to the votes of a round, which may make it the newest round that is voted.
     fn cast(&mut self, round: u32, weight: u64, faulty: u64)
+        requires odd { round % 2 ≡ 1 }
         requires entry { HasEntry self.old round }
         requires small { kept_at self.old round + weight < 2 ^ 64 }
         requires newest { IsNewest faulty self.old }
         ensures here { kept_at self.new round ≡ kept_at self.old round + weight }
         ensures other { (r : ℕ) → r ≢ round → kept_at self.new r ≡ kept_at self.old r }
-        ensures stay { (r : ℕ) → HasEntry self.old r → HasEntry self.new r }
+        ensures stay { length self.new.weights.items ≡ length self.old.weights.items }
         ensures newest { IsNewest faulty self.new }
     {
         if self.raise(round, weight) > faulty {

@@ -57,9 +57,10 @@ impl Weights {
     pub fn weight(&self, member: u8) -> u64
         ensures is { result ≡ weight self.now member }
         ensures small { result < 2 ^ 32 }
+        ensures some { 1 ≤ total self.now }
         ensures light { total self.now < 2 ^ 39 }
     {
-        // What all members weigh is below that.
+        // What all members weigh is in these bounds.
         let _all = self.total;
         match self.each.get(usize::from(member)) {
             Some(weight) => u64::from(*weight),

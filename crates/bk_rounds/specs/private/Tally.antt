@@ -1,25 +1,23 @@
 -- The votes that are added up.
-use Rattle.std.specs.Prelude.{◌≡◌, ℕ, ◌+◌, ◌-◌, ◌%◌, ◌<◌, ◌≤◌, ◌⊎◌, List, Contains, IsSome, unwrap_or}
-use Rattle.std.specs.BTreeMap.{get}
-use Rattle.std.specs.Ordering.{nat_cmp}
+use Rattle.std.specs.Prelude.{◌≡◌, ◌==◌, ℕ, ◌+◌, ◌-◌, ◌*◌, ◌/◌, ◌%◌, ◌<◌, ◌≤◌, ◌⊎◌, List, Contains, length, slice_index_or, if◌then◌else◌}
 use Rattle.bk_committee.specs.Sizes.{Sizes, faulty, weight}
 use Rattle.bk_cert.specs.Node.{Node}
 use Rattle.bk_cert.specs.declared.place.CertRef.{CertRef}
 use Rattle.bk_rounds.specs.Votes.{VotesIn, WeighExactly}
 use Rattle.bk_rounds.specs.declared.votes.Votes.{Votes}
 
--- what is kept as the weight of a round's votes
+-- what is kept as the weight of a round's votes; an even round has none
 abbrev pub kept_at : Votes → ℕ → ℕ
-kept_at v round = unwrap_or (get nat_cmp v.weights round) 0
+kept_at v round = if round % 2 == 1 then slice_index_or v.weights.items (round / 2) 0 else 0
 
 -- the votes of a round have an entry
 abbrev pub HasEntry : Votes → ℕ → Type 0
-HasEntry v round = IsSome (get nat_cmp v.weights round)
+HasEntry v round = round / 2 < length v.weights.items
 
--- so have those that a held certificate of an even round may give
+-- There is an entry for each two held certificates. With an admitted one there is one in each round
+-- before, so its round is no greater than their number, and it has an entry to vote in.
 abbrev pub HaveEntries : List Node → Votes → Type 0
-HaveEntries held v =
-    (c : Node) → Contains held c → c.header.round % 2 ≡ 0 → HasEntry v (c.header.round - 1)
+HaveEntries held v = length held ≤ 2 * length v.weights.items + 1
 
 -- the weight of each round's votes is kept, without those of the certificates that are left
 abbrev pub IsTally : Sizes → List Node → List CertRef → Votes → Type 0

@@ -18,7 +18,7 @@ leader-requires c =
     omega (arith, low, even)
 
 pub cast-requires-clause-entry : goal.cast-requires-clause-entry
-cast-requires-clause-entry c = present_entry c.args.table.now.sizes c.args.table.now.held c.args.votes.now c.args.place c.requires.entries c.requires.present
+cast-requires-clause-entry c = present_entry c.args.table.now.sizes c.args.table.now.held c.args.votes.now c.args.place c.weight.ensures.some c.requires.entries c.requires.present
     (even_from c.args.place.round c.if-place-eq1.false)
 
 pub returns-clause-cast : goal.returns-clause-cast
@@ -35,3 +35,8 @@ returns-clause-cast c =
       link_vote z held (p.round - 1) p.author (odd_before p.round low even) (subst (λ (q : CertRef). Links z held q (led_in z (p.round - 1))) here led),
       c.cast.ensures.here ∙ ap (λ (w : ℕ). kept_at c.args.votes.now (p.round - 1) + w) c.weight.ensures.is,
     )
+
+pub cast-requires-clause-odd : goal.cast-requires-clause-odd
+cast-requires-clause-odd c =
+    let low : 1 ≤ c.args.place.round = present_from c.args.table.now.sizes c.args.table.now.held c.args.place c.requires.present in
+    odd_before c.args.place.round low (even_from c.args.place.round c.if-place-eq1.false)

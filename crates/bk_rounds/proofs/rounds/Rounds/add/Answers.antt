@@ -1,10 +1,10 @@
-use Rattle.std.proofs.Common.{◌≡◌, ◌%◌, ◌-◌, ◌∙◌, ℕ, List, sym, ap, subst}
+use Rattle.std.proofs.Common.{◌≤◌, ◌+◌, ◌*◌, length, List, sym, subst, arith}
 use Rattle.std.specs.List.{Contains}
-use Rattle.bk_cert.specs.Values.{HeaderValue}
 use Rattle.bk_cert.specs.declared.place.CertRef.{CertRef}
+use Rattle.bk_committee.specs.Sizes.{faulty}
 use Rattle.bk_rounds.specs.Rounds.{RoundsValue}
-use Rattle.bk_rounds.specs.private.Tally.{HasEntry, HaveEntries}
-use Rattle.bk_rounds.proofs.Tallied.{tally_added, entries_added}
+use Rattle.bk_rounds.specs.private.Tally.{IsNewest, AreCounted}
+use Rattle.bk_rounds.proofs.Tallied.{tally_added, entries_added, counted_room, newest_same}
 use Rattle.bk_rounds.proofs.rounds.Rounds.add.Goals as goal
 
 pub add-requires-clause-new : goal.add-requires-clause-new
@@ -22,8 +22,24 @@ count-requires-clause-tally c = rw c.deref.ensures.value
     c.sound.ensures.decided c.in_ok-places.ensures.answer c.self.invariant.tally c.make_room.ensures.same)
 
 pub count-requires-clause-entries : goal.count-requires-clause-entries
-count-requires-clause-entries c =
-    let round : c.round.result ≡ c.args.cert.header.round = c.round.ensures ∙ ap (λ (h : HeaderValue). h.round) c.header.ensures in
-    subst (λ (v : RoundsValue). HaveEntries v.held c.make_room.new.self) (sym c.in_ok-places.ensures.ok)
-    (entries_added c.self.inside.table.held c.args.cert c.self.inside.votes c.make_room.new.self c.self.invariant.entries c.make_room.ensures.stay
-    (subst (λ (r : ℕ). r % 2 ≡ 0 → HasEntry c.make_room.new.self (r - 1)) round c.in_ok-make_room.ensures.room))
+count-requires-clause-entries c = entries_added c.self.inside.table.held c.add.new.self c.self.inside.table.sizes c.args.cert c.make_room.new.self c.in_ok-places.ensures.ok
+    (let room = c.in_ok-make_room.ensures.room in omega (arith, room, c.held.ensures))
+
+pub make_room-requires : goal.make_room-requires
+make_room-requires c = let room : length c.self.inside.table.held ≤ 2 * length c.self.inside.votes.weights.items + 1 = c.self.invariant.entries in omega (arith, room, c.held.ensures)
+
+pub invariant_of-self : goal.invariant_of-self
+invariant_of-self c = counted_room c.self.inside.table.sizes c.self.inside.table.held c.self.inside.votes c.make_room.new.self
+    c.make_room.ensures.same c.make_room.ensures.newest c.make_room.ensures.stay c.self.invariant
+
+pub invariant_of-self-in_err-places : goal.invariant_of-self-in_err-places
+invariant_of-self-in_err-places c = subst (λ (v : RoundsValue). AreCounted v.sizes v.held c.make_room.new.self) (sym c.in_err-places.ensures.err)
+    (counted_room c.self.inside.table.sizes c.self.inside.table.held c.self.inside.votes c.make_room.new.self
+    c.make_room.ensures.same c.make_room.ensures.newest c.make_room.ensures.stay c.self.invariant)
+
+pub invariant_of-self-2 : goal.invariant_of-self-2
+invariant_of-self-2 c = c.count.ensures
+
+pub count-requires-clause-newest : goal.count-requires-clause-newest
+count-requires-clause-newest c = subst (λ (v : RoundsValue). IsNewest (faulty v.sizes) c.make_room.new.self) (sym c.in_ok-places.ensures.ok)
+    (newest_same (faulty c.self.inside.table.sizes) c.self.inside.votes c.make_room.new.self c.make_room.ensures.same c.make_room.ensures.newest c.self.invariant.newest)
