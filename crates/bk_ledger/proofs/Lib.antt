@@ -4,3 +4,4 @@ pub mod NextLemmas
 pub mod BatchReading
 pub mod Touching
 pub mod PartRuns
+pub mod FeedSlices

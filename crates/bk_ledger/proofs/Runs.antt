@@ -142,3 +142,8 @@ counts_next frames i f old new e before grown =
 
 pub transactions_next : (frames : List Frame) (i : ℕ) (f : Frame) → slice_get frames i ≡ Some f → feed_transactions (take (i + 1) frames) ≡ feed_transactions (take i frames) ++ feed_transactions (f ∷ [])
 transactions_next frames i f e = ap feed_transactions (take_next frames i f e) ∙ feed_transactions-append (take i frames) (f ∷ [])
+
+-- the payloads of batches, with one frame more
+pub payloads_next : (frames : List Frame) (i : ℕ) (f : Frame) (old new : List (List ℕ)) → slice_get frames i ≡ Some f → old ≡ payloads_of (take i frames) → new ≡ old ++ payloads_of (f ∷ []) → new ≡ payloads_of (take (i + 1) frames)
+payloads_next frames i f old new e before grown =
+    grown ∙ ap (λ (ps : List (List ℕ)). ps ++ payloads_of (f ∷ [])) before ∙ sym (ap payloads_of (take_next frames i f e) ∙ payloads_of-append (take i frames) (f ∷ []))

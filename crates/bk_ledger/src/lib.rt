@@ -7,6 +7,7 @@
 
 mod batches;
 mod executing;
+mod feeds;
 mod ledger;
 mod ready;
 mod slice;
@@ -17,3 +18,6 @@ pub use batches::Batches;
 pub use bk_pool::{ExecFault, Gate, Open};
 pub use ledger::Ledger;
 pub use summary::Summary;
+
+#[cfg(test)]
+mod tests;

@@ -141,7 +141,7 @@ fn are_below(list: &[u32], end: usize) -> bool
 }
 
 // The first numbers, from 0.
-fn counted(alloc: Global, count: usize) -> Result<Vec<u32>, AllocError>
+pub(crate) fn counted(alloc: Global, count: usize) -> Result<Vec<u32>, AllocError>
     requires { count < 2 ^ 31 }
     ensures indexes { IfOk result (λ list. AreIndexes count list.items) }
     ensures all { IfOk result (λ list. (slots : List ℕ) → length slots ≡ count →

@@ -91,7 +91,7 @@ where
     Ok(())
 }
 
-fn opening(alloc: Global, accounts: u64) -> Result<Vec<Row>> {
+pub(crate) fn opening(alloc: Global, accounts: u64) -> Result<Vec<Row>> {
     let mut rows = Vec::new(alloc);
     for id in 1..=accounts {
         rows.push(row(id, 50, 0))?;
@@ -105,7 +105,7 @@ fn next_of(accounts: u64, id: u64, step: u64) -> u64 {
 }
 
 // Payments between drawn accounts, by account 1 or by any.
-fn payments(
+pub(crate) fn payments(
     alloc: Global,
     accounts: u64,
     count: u64,

@@ -14,12 +14,14 @@ mod lists;
 mod making;
 mod meeting;
 mod plans;
+mod slices;
 mod tally;
 
 use crate::hostile::try_hints;
 use crate::lists::try_all_lists;
 use crate::meeting::try_meetings;
 use crate::plans::try_plans;
+use crate::slices::try_all_slices;
 use crate::tally::Tally;
 use anyhow::{Result, bail};
 use std::sync::Wait;
@@ -34,6 +36,7 @@ where
     try_plans(rt, &mut tally)?;
     try_hints(rt, &mut tally)?;
     try_meetings(rt, &mut tally)?;
+    try_all_slices(rt, &mut tally)?;
     Ok(tally)
 }
 
