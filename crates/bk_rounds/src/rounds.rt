@@ -1,6 +1,6 @@
 //! The table of certificates, and the votes that they give.
 
-ghost use Rattle.std.specs.Prelude.{◌≡◌, ◌≢◌, ◌++◌, ◌∷◌, OnOk, OnErr, ℕ, ◌-◌, ◌<◌, ◌≤◌, ◌↔◌, [], Contains, length, sum, IfSome, IfNone, IfOk, IsTrue, MatchOption};
+ghost use Rattle.std.specs.Prelude.{◌^◌, ◌≡◌, ◌≢◌, ◌++◌, ◌∷◌, OnOk, OnErr, ℕ, ◌-◌, ◌<◌, ◌≤◌, ◌↔◌, [], Contains, length, sum, IfSome, IfNone, IfOk, IsTrue, MatchOption};
 ghost use Rattle.bk_committee.specs.Sizes.{members, faulty, leader};
 ghost use Rattle.bk_committee.specs.Payload.{sizes_of};
 ghost use Rattle.bk_cert.specs.Node.{Node};
@@ -173,7 +173,8 @@ impl Rounds {
 
     /// The weight that may be faulty.
     pub fn faulty(&self) -> u64
-        ensures { result ≡ faulty self.now.sizes }
+        ensures is { result ≡ faulty self.now.sizes }
+        ensures small { result < 2 ^ 38 }
     {
         self.table.faulty()
     }

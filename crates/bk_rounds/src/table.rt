@@ -259,7 +259,8 @@ impl Table {
 
     /// The weight that may be faulty.
     pub fn faulty(&self) -> u64
-        ensures { result ≡ faulty self.now.sizes }
+        ensures is { result ≡ faulty self.now.sizes }
+        ensures small { result < 2 ^ 38 }
     {
         self.weights.faulty()
     }

@@ -70,7 +70,8 @@ impl Weights {
 
     /// The weight that may be faulty.
     pub fn faulty(&self) -> u64
-        ensures { result ≡ faulty self.now }
+        ensures is { result ≡ faulty self.now }
+        ensures small { result < 2 ^ 38 }
     {
         (self.total - 1) / 3
     }

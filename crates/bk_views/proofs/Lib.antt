@@ -1,0 +1,3 @@
+pub mod Committed
+pub mod Marking
+pub mod Listing

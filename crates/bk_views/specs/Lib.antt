@@ -1,0 +1,3 @@
+pub mod Anchors
+pub mod Laws
+pub mod private
