@@ -13,7 +13,7 @@ ghost use Rattle.bk_ledger.specs.private.Slices.{CanRunPart, IsAheadOf, IsPlanne
 
 use crate::ledger::Ledger;
 use crate::ready::{Ahead, Next, Ready, look_ahead, read_two};
-use crate::slice::FEWEST;
+use crate::slice::{FEWEST, least_of};
 use bk_conflicts::SLOTS_END;
 use bk_pool::{ExecFault, Gate, execute};
 use std::alloc::{AllocError, Global};
@@ -145,13 +145,25 @@ impl Ledger {
         Ok((ledger, later))
     }
 
-    // Executes further batches, in slices of at least so many transactions.
+    // How many transactions the slices after the next two take at least.
+    fn later_least(&self, ahead: &Ahead, fewest: usize) -> usize
+        requires { fewest < 2 ^ 30 }
+        ensures { result < 2 ^ 30 }
+    {
+        if ahead.lacks_slots(self.state().version()) {
+            least_of(self.state().slots().len(), fewest)
+        } else {
+            fewest
+        }
+    }
+
+    /// Executes further batches, in slices of at least so many transactions.
     pub(crate) fn execute_by<R: Threads + Wait + Sync, G: Gate + Sync>(
         self,
         rt: &R,
         alloc: Global,
         payloads: &[&[u8]],
-        least: usize,
+        fewest: usize,
         workers: usize,
         gate: &G,
     ) -> Result<Ledger, ExecFault>
@@ -159,7 +171,7 @@ impl Ledger {
             (length (transactions_of (map (λ p. p.now) payloads.now))) self.state.rows }
         requires few { length self.receipts
             + length (transactions_of (map (λ p. p.now) payloads.now)) < 2 ^ 32 }
-        requires least { least < 2 ^ 30 }
+        requires fewest { fewest < 2 ^ 30 }
         requires workers { (1 ≤ workers) × (workers ≤ 64) }
         ensures executed { IfOk result (HasExecuted (map (λ p. p.now) payloads.now) self) }
         ensures fault { let first = length self.receipts in
@@ -168,8 +180,9 @@ impl Ledger {
     {
         let mut ledger = self;
         let end = payloads.len();
-        let mut ahead = read_two(alloc, payloads, ledger.state().ids(), 0, least)?;
+        let mut ahead = read_two(alloc, payloads, ledger.state().ids(), 0, fewest)?;
         while ahead.from < end {
+            let least = ledger.later_least(&ahead, fewest);
             let (after, later) = ledger.run_next(rt, alloc, payloads, ahead, least, workers, gate)?;
             ledger = after;
             ahead = later;

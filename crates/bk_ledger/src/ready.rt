@@ -101,6 +101,15 @@ impl Ahead {
         let read = Batches::new(alloc);
         Ahead { from, next, read }
     }
+
+    /// Whether slots are to be made for the slice whose turn is next. It is so of the first slice, which is planned when
+    /// its turn comes.
+    pub(crate) fn lacks_slots(&self, version: Version) -> bool {
+        match (version, &self.next) {
+            (Version::Two, Next::Read(_)) => true,
+            _ => false,
+        }
+    }
 }
 
 /// Reads the slice from an index on, and the one after it.

@@ -11,6 +11,15 @@ use std::alloc::{AllocError, Global};
 /// 65,536.
 pub(crate) const FEWEST: usize = 8_192;
 
+/// How many transactions a slice takes where slots are made: an eighth of the accounts, since to make slots costs what
+/// all of them cost, if these are no fewer than a given number.
+pub(crate) fn least_of(slots: usize, fewest: usize) -> usize
+    requires { fewest < 2 ^ 30 }
+    ensures { result < 2 ^ 30 }
+{
+    (slots / 8).min(524_288).max(fewest)
+}
+
 /// Reads batches from an index on, until they have so many transactions or there are no more.
 pub(crate) fn gather(
     alloc: Global,
