@@ -99,7 +99,8 @@ pub fn anchor_rows(
     anchors: &[CertRef],
 ) -> Result<Vec<AnchorRow>, AllocError>
     requires { IsCommitted rounds.now.sizes rounds.now.held anchors.now }
-    ensures { IfOk result (λ rows. AreRows rounds.now.sizes rounds.now.held anchors.now rows.items) }
+    ensures { IfOk result (λ rows.
+        AreRows rounds.now.sizes rounds.now.held anchors.now rows.items) }
 {
     let end = rounds.top() as usize + 1;
     let marks = marks_of(alloc, anchors, end)?;
