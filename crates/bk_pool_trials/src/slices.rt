@@ -60,9 +60,11 @@ where
 fn is_same(alloc: Global, ledger: &Ledger, wanted: &Ledger) -> Result<bool> {
     let rows = ledger.state().rows(alloc)?;
     let wanted_rows = wanted.state().rows(alloc)?;
-    Ok(ledger.counts() == wanted.counts()
-        && ledger.receipts() == wanted.receipts()
-        && rows.as_slice() == wanted_rows.as_slice())
+    Ok(
+        ledger.counts() == wanted.counts()
+            && ledger.receipts() == wanted.receipts()
+            && rows.as_slice() == wanted_rows.as_slice(),
+    )
 }
 
 // Slices of one length, by each number of workers.
