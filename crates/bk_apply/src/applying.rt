@@ -7,10 +7,10 @@ ghost use Rattle.bk_report.specs.Report.{IsApplyReport, lines_of};
 ghost use Rattle.bk_report.specs.Lines.{text_of};
 ghost use Rattle.bk_report.specs.Pages.{Written, blank};
 
-use bk_results::Fault;
 use bk_frames::{Feed, Sink, Source, WriteFault};
 use bk_ledger::{Ledger, Summary};
 use bk_report::{Line, Page, put_accounts, put_batches, put_receipts};
+use bk_results::Fault;
 use std::alloc::Global;
 
 /// Writes the report of a feed, a page at a time.

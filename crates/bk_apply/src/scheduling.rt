@@ -14,11 +14,11 @@ ghost use Rattle.bk_apply.specs.Scheduling.{InExecution, IsWholeFor, StopsBy};
 ghost use Rattle.bk_apply.specs.private.Schedules.{stop_of, Unscheduled, IsScheduled};
 
 use crate::applying::write_report;
-use bk_results::Fault;
 use bk_conflicts::{Plan, SLOTS_END};
 use bk_frames::{Feed, FeedFault, Sink, Source, WriteFault};
 use bk_ledger::{Batches, Ledger};
 use bk_report::Page;
+use bk_results::Fault;
 use bk_rules::State;
 use bk_steps::{Event, Outcome, ScheduleFault, run_schedule};
 use bk_tx::Tx;

@@ -5,9 +5,7 @@
 
 mod laws;
 
-pub use bk_apply::{
-    ScheduleStop, apply, apply_schedule, money_is_that_of_genesis, one_report,
-};
+pub use bk_apply::{ScheduleStop, apply, apply_schedule, money_is_that_of_genesis, one_report};
 pub use bk_ask::ask;
 pub use bk_compare::{Nowhere, compare};
 pub use bk_follow::{Follower, Order, replay};
