@@ -2,11 +2,12 @@ ghost use Rattle.bk_frames.specs.declared.pulling.TheConstants.{PIECE};
 ghost use Rattle.std.specs.Prelude.{◌≡◌, ◌<◌, ◌≤◌, length, true, None, OnOk, IfOk, IfErr};
 ghost use Rattle.bk_frames.specs.Device.{CanBeUsed, Works, IfKnown};
 ghost use Rattle.bk_results.specs.Devices.{devices};
+ghost use Rattle.bk_follow.specs.Follower.{unfed};
 ghost use Rattle.bk_ask.specs.Asking.{IsReplied, AskFailsBy, can_reply};
 ghost use Rattle.bk_ask.specs.private.Replies.{FollowerReplies, FollowerReplyFails};
 
 use crate::replying::reply_closed;
-use bk_follow::{Follower, follow};
+use bk_follow::Follower;
 use bk_frames::{PIECE, Sink, Source};
 use bk_pool::Gate;
 use bk_results::{Fault, Query, Reply};
@@ -42,13 +43,13 @@ fn follow_and_reply<R: Threads + Wait + Sync, S: Source, K: Sink, G: Gate + Sync
     source: &mut S,
     sink: &mut K,
     piece: &mut [u8],
-    workers: usize,
+    follower: &mut Follower,
     gate: &G,
     query: Query,
 ) -> Result<Reply, Fault>
     requires some { 0 < length piece.old }
     requires few { length piece.old ≤ PIECE }
-    requires workers { (1 ≤ workers) × (workers ≤ 64) }
+    requires first { follower.old ≡ unfed }
     requires source { CanBeUsed (S.state source.old) }
     requires sink { CanBeUsed (K.state sink.old) }
     ensures reply { IfOk result (λ r. IfKnown (S.state source.old) (λ bytes.
@@ -60,8 +61,8 @@ fn follow_and_reply<R: Threads + Wait + Sync, S: Source, K: Sink, G: Gate + Sync
         (devices (S.state source.old) (K.state sink.old))
         (devices (S.state source.new) (K.state sink.new))) }
 {
-    let mut follower = follow(rt, alloc, source, piece, workers)?;
-    let reply = close_and_reply(rt, alloc, &mut follower, gate, sink, query)?;
+    follower.follow(rt, source, piece)?;
+    let reply = close_and_reply(rt, alloc, follower, gate, sink, query)?;
     Ok(reply)
 }
 
@@ -93,13 +94,14 @@ pub fn ask<R: Threads + Wait + Sync, S: Source, K: Sink, G: Gate + Sync>(
         (devices (S.state source.new) (K.state sink.new))) }
 {
     let mut piece = vec![in alloc; 0u8; PIECE]?;
+    let mut follower = Follower::new(alloc, workers);
     follow_and_reply(
         rt,
         alloc,
         source,
         sink,
         piece.as_mut_slice(),
-        workers,
+        &mut follower,
         gate,
         query,
     )

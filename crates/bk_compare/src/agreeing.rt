@@ -4,10 +4,11 @@ ghost use Rattle.bk_frames.specs.declared.pulling.TheConstants.{PIECE};
 ghost use Rattle.std.specs.Prelude.{◌≡◌, ◌<◌, ◌≤◌, None, length, OnOk, IfOk, IfErr};
 ghost use Rattle.bk_frames.specs.Device.{CanBeUsed, Works, IfKnown};
 ghost use Rattle.bk_follow.specs.Agreement.{FollowersAgree};
+ghost use Rattle.bk_follow.specs.Follower.{unfed};
 ghost use Rattle.bk_compare.specs.FeedAgreement.{BothWork, ComparesNot, FeedsAgree, FollowFails, IfBothKnown, sources};
 ghost use Rattle.bk_compare.specs.private.Ends.{AgreesWith, ComparesNotWith, Ends, EndsNot, HasEnded, IsDifferOf};
 
-use bk_follow::{Follower, follow, is_stop};
+use bk_follow::{Follower, is_stop};
 use bk_frames::{PIECE, Source};
 use bk_pool::Gate;
 use bk_results::{Agreed, CompareStop, Fault};
@@ -36,24 +37,24 @@ fn close<R: Threads + Wait + Sync, G: Gate + Sync>(
 // Follows the feed of a source to its end.
 fn follow_in_pieces<R: Threads + Wait + Sync, S: Source, G: Gate + Sync>(
     rt: &R,
-    alloc: Global,
     source: &mut S,
     piece: &mut [u8],
-    workers: usize,
+    follower: &mut Follower,
     gate: &G,
-) -> Result<Follower, Fault>
+) -> Result<(), Fault>
     requires some { 0 < length piece.old }
     requires few { length piece.old ≤ PIECE }
-    requires workers { (1 ≤ workers) × (workers ≤ 64) }
+    requires first { follower.old ≡ unfed }
     requires sound { CanBeUsed (S.state source.old) }
-    ensures works { IfOk result (λ v. Works (S.state source.old) (S.state source.new)
-        × (v.fault ≡ None)) }
-    ensures ended { IfOk result (λ v. IfKnown (S.state source.old) (λ bytes. HasEnded bytes v)) }
+    ensures works { OnOk result (Works (S.state source.old) (S.state source.new)
+        × (follower.new.fault ≡ None)) }
+    ensures ended { OnOk result (IfKnown (S.state source.old)
+        (λ bytes. HasEnded bytes follower.new)) }
     ensures fault { IfErr result (λ f. FollowFails f (S.state source.old) (S.state source.new)) }
 {
-    let mut follower = follow(rt, alloc, source, piece, workers)?;
-    close(rt, &mut follower, gate)?;
-    Ok(follower)
+    follower.follow(rt, source, piece)?;
+    close(rt, follower, gate)?;
+    Ok(())
 }
 
 // The same, with room for a piece.
@@ -61,18 +62,19 @@ fn follow_to_end<R: Threads + Wait + Sync, S: Source, G: Gate + Sync>(
     rt: &R,
     alloc: Global,
     source: &mut S,
-    workers: usize,
+    follower: &mut Follower,
     gate: &G,
-) -> Result<Follower, Fault>
-    requires workers { (1 ≤ workers) × (workers ≤ 64) }
+) -> Result<(), Fault>
+    requires first { follower.old ≡ unfed }
     requires sound { CanBeUsed (S.state source.old) }
-    ensures works { IfOk result (λ v. Works (S.state source.old) (S.state source.new)
-        × (v.fault ≡ None)) }
-    ensures ended { IfOk result (λ v. IfKnown (S.state source.old) (λ bytes. HasEnded bytes v)) }
+    ensures works { OnOk result (Works (S.state source.old) (S.state source.new)
+        × (follower.new.fault ≡ None)) }
+    ensures ended { OnOk result (IfKnown (S.state source.old)
+        (λ bytes. HasEnded bytes follower.new)) }
     ensures fault { IfErr result (λ f. FollowFails f (S.state source.old) (S.state source.new)) }
 {
     let mut piece = vec![in alloc; 0u8; PIECE]?;
-    follow_in_pieces(rt, alloc, source, piece.as_mut_slice(), workers, gate)
+    follow_in_pieces(rt, source, piece.as_mut_slice(), follower, gate)
 }
 
 // Compares two Followers, of which each has followed a feed to its end.
@@ -88,26 +90,55 @@ fn compare_ended(one: &Follower, other: &Follower) -> Result<Agreed, CompareStop
     }
 }
 
-// Compares what was followed to its end with the feed of another source.
+// Compares what was followed to its end with the feed of another source, which another Follower follows.
 fn compare_with<R: Threads + Wait + Sync, S: Source, G: Gate + Sync>(
     rt: &R,
     alloc: Global,
     one: &Follower,
     source: &mut S,
-    workers: usize,
+    other: &mut Follower,
     gate: &G,
 ) -> Result<Agreed, CompareStop>
     requires works { one.now.fault ≡ None }
-    requires workers { (1 ≤ workers) × (workers ≤ 64) }
+    requires other { other.old ≡ unfed }
     requires sound { CanBeUsed (S.state source.old) }
     ensures agree { IfOk result (AgreesWith one.now (S.state source.old)) }
     ensures sound { OnOk result (Works (S.state source.old) (S.state source.new)) }
     ensures stop { IfErr result (λ e. ComparesNotWith e one.now
         (S.state source.old) (S.state source.new)) }
 {
-    match follow_to_end(rt, alloc, source, workers, gate) {
-        Ok(other) => compare_ended(one, &other),
+    match follow_to_end(rt, alloc, source, other, gate) {
+        Ok(()) => compare_ended(one, other),
         Err(fault) => Err(CompareStop::Second(fault)),
+    }
+}
+
+// Compares the feeds of two sources, of which each has a Follower.
+fn compare_both<R: Threads + Wait + Sync, S: Source, T: Source, G: Gate + Sync>(
+    rt: &R,
+    alloc: Global,
+    first: &mut S,
+    second: &mut T,
+    one: &mut Follower,
+    other: &mut Follower,
+    gate: &G,
+) -> Result<Agreed, CompareStop>
+    requires first { CanBeUsed (S.state first.old) }
+    requires second { CanBeUsed (T.state second.old) }
+    requires one { one.old ≡ unfed }
+    requires other { other.old ≡ unfed }
+    ensures agree { IfOk result (λ a. IfBothKnown
+        (sources (S.state first.old) (T.state second.old)) (λ f g. FeedsAgree f g a)) }
+    ensures sound { OnOk result (BothWork
+        (sources (S.state first.old) (T.state second.old))
+        (sources (S.state first.new) (T.state second.new))) }
+    ensures stop { IfErr result (λ e. ComparesNot e
+        (sources (S.state first.old) (T.state second.old))
+        (sources (S.state first.new) (T.state second.new))) }
+{
+    match follow_to_end(rt, alloc, first, one, gate) {
+        Ok(()) => compare_with(rt, alloc, one, second, other, gate),
+        Err(fault) => Err(CompareStop::First(fault)),
     }
 }
 
@@ -137,8 +168,8 @@ pub fn compare<R: Threads + Wait + Sync, S: Source, T: Source, G: Gate + Sync>(
         (sources (S.state first.old) (T.state second.old))
         (sources (S.state first.new) (T.state second.new))) }
 {
-    match follow_to_end(rt, alloc, first, workers, gate) {
-        Ok(one) => compare_with(rt, alloc, &one, second, workers, gate),
-        Err(fault) => Err(CompareStop::First(fault)),
-    }
+    // The one function that owns Followers: where a value of this size is dropped costs proof.
+    let mut one = Follower::new(alloc, workers);
+    let mut other = Follower::new(alloc, workers);
+    compare_both(rt, alloc, first, second, &mut one, &mut other, gate)
 }

@@ -16,7 +16,7 @@ use Rattle.bk_committee.specs.Payload.{CommitteeValue, committee_of}
 use Rattle.bk_follow.specs.RunReport.{committee_in, later_frames}
 use Rattle.bk_follow.specs.Follower.{BookValue, IsBookOf, FollowsBy, Follows, HasCome, Followed, receipts_of_executed, receipts_in, executed_in}
 use Rattle.bk_follow.specs.private.Books.{HasFollowed}
-use Rattle.bk_follow.specs.private.Openings.{IsFirstOf, OpensFirst, OpensSecond, IsOpened}
+use Rattle.bk_follow.specs.private.Openings.{IsFirstOf, IsOpening, OpensFirst, OpensSecond, IsOpened}
 use Rattle.bk_follow.specs.private.Parts.{followed}
 use Rattle.bk_follow.specs.declared.opening.Opened.{Opened}
 
@@ -130,19 +130,21 @@ second_waits None old new e h = absurd cc
 second_waits (Some k) [] new e h = (refl, refl, ap frames_in h.1)
 second_waits (Some k) (f ∷ more) new e h = absurd (let p = h.0 in cc)
 
+-- the book of the second frame
+pub opening_is : (k : CommitteeValue) (payload : List ℕ) (rows : List Row) (b : BookValue) (second : Frame) → second.payload ≡ payload → rows_of payload ≡ Some rows
+    → ((feed : FeedValue) → later_frames feed ≡ [] → k ≡ committee_in feed → rows ≡ genesis_of feed.frames → IsBookOf feed b) → receipts_of_executed b.executed ≡ [] → IsOpening k second b
+opening_is k payload rows b second same read book nothing =
+    let spelled : rows_of second.payload ≡ Some rows = ap rows_of same ∙ read in
+    (λ version first e. book (feed_of version (first ∷ second ∷ [])) refl e (sym (ap (λ (o : Option (List Row)). unwrap_or o []) spelled)), nothing)
+
 -- the second frame came
-pub second_opens : (k : CommitteeValue) (after : Option CommitteeValue) (payload : List ℕ) (old new : List Frame) (rows : List Row) (b : BookValue) → IsFirstOf payload old new → rows_of payload ≡ Some rows
-    → ((feed : FeedValue) → later_frames feed ≡ [] → k ≡ committee_in feed → rows ≡ genesis_of feed.frames → IsBookOf feed b) → receipts_of_executed b.executed ≡ [] → OpensSecond (Some k) old after (Some b) new
-second_opens k after payload [] new rows b h read book nothing = absurd (let p = h.1 in cc)
-second_opens k after payload (g ∷ more) new rows b h read book nothing =
+pub second_opens : (k : CommitteeValue) (after : Option CommitteeValue) (payload : List ℕ) (old new : List Frame) (b : BookValue) → IsFirstOf payload old new → ((second : Frame) → second.payload ≡ payload → IsOpening k second b)
+    → OpensSecond (Some k) old after (Some b) new
+second_opens k after payload [] new b h opens = absurd (let p = h.1 in cc)
+second_opens k after payload (g ∷ more) new b h opens =
     let second : g ≡ h.0 = let p = h.1 in cc in
     let rest : new ≡ more = let p = h.1 in cc in
-    let spelled : rows_of g.payload ≡ Some rows = ap (λ (x : Frame). rows_of x.payload) second ∙ ap rows_of h.2 ∙ read in (
-      b,
-      refl,
-      (λ version first same. book (feed_of version (first ∷ g ∷ [])) refl same (sym (ap (λ (o : Option (List Row)). unwrap_or o []) spelled)), nothing),
-      rest,
-    )
+    (b, refl, opens g (ap (λ (x : Frame). x.payload) second ∙ h.2), rest)
 
 -- there is a book already
 pub opened_stands : (version : Version) (before frames : List Frame) (committee : Option CommitteeValue) (book : Option BookValue) → is_some book ≡ true → FollowsBy version before committee book → IsOpened version (before ++ frames) committee book frames

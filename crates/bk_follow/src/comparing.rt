@@ -159,10 +159,10 @@ impl Follower {
         ensures agree { IfOk result (FollowersAgree self.now other.now) }
         ensures differ { IfErr result (FollowersDiffer self.now other.now) }
     {
-        let Some(one) = &self.opened.book else {
+        let Some(one) = &self.gathered.opened.book else {
             return Err(Differ::Setup);
         };
-        let Some(two) = &other.opened.book else {
+        let Some(two) = &other.gathered.opened.book else {
             return Err(Differ::Setup);
         };
         let agreed = one.compare(two)?;

@@ -11,6 +11,7 @@ ghost use Rattle.bk_follow.specs.Stopping.{kept_fault, stops};
 
 use crate::book::Book;
 use crate::fault::Fault;
+use crate::gathering::Gathered;
 use crate::opening::{Opened, advance};
 use bk_frames::{Cutter, Sink};
 use bk_pool::Gate;
@@ -29,13 +30,12 @@ use std::thread::Threads;
 pub struct Follower {
     pub(crate) alloc: Global,
     pub(crate) workers: usize,
-    pub(crate) cutter: Cutter,
-    pub(crate) opened: Opened,
+    pub(crate) gathered: Gathered,
     pub(crate) fault: Option<Fault>,
 }
 
 impl Model for Follower {
-    ghost use Rattle.std.specs.Prelude.{◌≡◌, ◌≤◌, ℕ, List, None};
+    ghost use Rattle.std.specs.Prelude.{◌≡◌, ◌≤◌, ℕ, List, [], None};
     ghost use Rattle.bk_frames.specs.Feed.{Frame};
     ghost use Rattle.bk_follow.specs.Follower.{Followed, HasCome};
     ghost use Rattle.bk_follow.specs.private.Parts.{followed};
@@ -43,15 +43,16 @@ impl Model for Follower {
     ghost Value = { Followed };
 
     ghost view = { λ f. record {
-      cut = f.cutter;
-      committee = f.opened.committee;
-      book = f.opened.book;
+      cut = f.gathered.cutter;
+      committee = f.gathered.opened.committee;
+      book = f.gathered.opened.book;
       fault = f.fault;
     } };
 
     ghost invariant = { λ f. (1 ≤ f.workers) × (f.workers ≤ 64) × (f.fault ≡ None
         → (bytes : List ℕ) × (frames : List Frame)
-        × HasCome bytes frames (followed f.cutter f.opened)) };
+        × HasCome bytes frames (followed f.gathered.cutter f.gathered.opened))
+        × (f.fault ≡ None → f.gathered.frames.items ≡ []) };
 }
 
 /// Whether a fault is a stop of the feed, which may go on.
@@ -64,8 +65,8 @@ pub fn is_stop(fault: &Fault) -> bool
     }
 }
 
-// Keeps a fault: every later call returns it.
-fn stand(standing: &mut Option<Fault>, fault: Fault) -> Fault
+/// Keeps a fault: every later call returns it.
+pub(crate) fn stand(standing: &mut Option<Fault>, fault: Fault) -> Fault
     ensures standing { standing.new ≡ Some fault }
     ensures same { result ≡ fault }
 {
@@ -145,27 +146,7 @@ impl Follower {
         Follower {
             alloc,
             workers,
-            cutter: Cutter::new(alloc),
-            opened: Opened {
-                committee: None,
-                book: None,
-            },
-            fault: None,
-        }
-    }
-
-    /// A Follower of what has come, in which no fault is kept.
-    pub(crate) fn of(alloc: Global, workers: usize, cutter: Cutter, opened: Opened) -> Follower
-        requires workers { (1 ≤ workers) × (workers ≤ 64) }
-        requires come { (bytes : List ℕ) × (frames : List Frame)
-            × HasCome bytes frames (followed cutter opened) }
-        ensures { result ≡ followed cutter opened }
-    {
-        Follower {
-            alloc,
-            workers,
-            cutter,
-            opened,
+            gathered: Gathered::new(alloc),
             fault: None,
         }
     }
@@ -181,7 +162,7 @@ impl Follower {
     pub fn offset(&self) -> u64
         ensures { result ≡ self.now.cut.offset }
     {
-        self.cutter.offset()
+        self.gathered.cutter.offset()
     }
 
     /// Takes the next piece of the feed. Certificates are judged on as many threads as there are processors.
@@ -201,7 +182,8 @@ impl Follower {
         if let Some(fault) = self.fault {
             return Err(fault);
         }
-        match advance(rt, self.alloc, &mut self.cutter, &mut self.opened, piece) {
+        let Gathered { cutter, opened, .. } = &mut self.gathered;
+        match advance(rt, self.alloc, cutter, opened, piece) {
             Ok(()) => Ok(()),
             Err(fault) => Err(stand(&mut self.fault, fault)),
         }
@@ -226,7 +208,7 @@ impl Follower {
         if let Some(fault) = self.fault {
             return Err(fault);
         }
-        let Some(book) = &mut self.opened.book else {
+        let Some(book) = &mut self.gathered.opened.book else {
             return Ok(0);
         };
         match book.settle(rt, self.workers, gate) {
@@ -249,7 +231,8 @@ impl Follower {
         if let Some(fault) = self.fault {
             return Err(fault);
         }
-        match settle_at_end(rt, &self.cutter, &mut self.opened, self.workers, gate) {
+        let Gathered { cutter, opened, .. } = &mut self.gathered;
+        match settle_at_end(rt, cutter, opened, self.workers, gate) {
             Ok(()) => Ok(()),
             Err(fault) => Err(keep(&mut self.fault, fault)),
         }
@@ -276,7 +259,8 @@ impl Follower {
         if let Some(fault) = self.fault {
             return Err(fault);
         }
-        match end(rt, &self.cutter, &mut self.opened, self.workers, gate, sink) {
+        let Gathered { cutter, opened, .. } = &mut self.gathered;
+        match end(rt, cutter, opened, self.workers, gate, sink) {
             Ok(status) => Ok(status),
             Err(fault) => Err(keep(&mut self.fault, fault)),
         }

@@ -1,17 +1,15 @@
 //! A feed whose frames are gathered, so that many of them are judged at once.
 
 ghost use Rattle.std.specs.Prelude.{◌≡◌, ◌++◌, ◌<◌, ◌≤◌, [], ℕ, List, length, None, OnOk, IfOk, IfErr, IsTrue, false};
-ghost use Rattle.bk_frames.specs.Cutting.{frames_in};
+ghost use Rattle.bk_frames.specs.Cutting.{fresh, frames_in};
 ghost use Rattle.bk_frames.specs.Device.{Device, CanBeUsed, IfKnown};
 ghost use Rattle.bk_frames.specs.Reading.{room_of};
 ghost use Rattle.bk_frames.specs.declared.pulling.TheConstants.{PIECE};
 ghost use Rattle.bk_frames.specs.Feed.{Frame};
-ghost use Rattle.bk_follow.specs.Follower.{HasCome};
 ghost use Rattle.bk_follow.specs.private.Gathering.{HasGathered, HasPulled, IsAllOf};
 ghost use Rattle.bk_follow.specs.Replaying.{ReadFails};
 
 use crate::fault::Fault;
-use crate::follower::Follower;
 use crate::opening::{Opened, take_frames};
 use bk_frames::{Cutter, Kind, Source, pull_frames};
 use std::alloc::{AllocError, Global};
@@ -24,9 +22,10 @@ const ENOUGH: usize = 1 << 22;
 /// What a feed has come to. Its bytes are cut at once; of its whole frames the first are taken, and the others wait.
 #[derive(Drop)]
 pub(crate) struct Gathered {
-    cutter: Cutter,
-    opened: Opened,
-    frames: Vec<(Kind, Vec<u8>)>,
+    pub(crate) cutter: Cutter,
+    pub(crate) opened: Opened,
+    /// The frames that wait.
+    pub(crate) frames: Vec<(Kind, Vec<u8>)>,
     /// How many bytes came since frames were last taken.
     count: usize,
 }
@@ -34,7 +33,10 @@ pub(crate) struct Gathered {
 impl Gathered {
     /// Before the first byte. Takes no memory.
     pub(crate) fn new(alloc: Global) -> Gathered
-        ensures { HasGathered [] [] result }
+        ensures cut { result.cutter ≡ fresh }
+        ensures committee { result.opened.committee ≡ None }
+        ensures book { result.opened.book ≡ None }
+        ensures none_waits { result.frames.items ≡ [] }
     {
         let cutter = Cutter::new(alloc);
         let frames = Vec::new(alloc);
@@ -129,18 +131,5 @@ impl Gathered {
         }
         self.take(rt, alloc)?;
         Ok(false)
-    }
-
-    /// A Follower of all that came and is taken, with 1 to 64 workers.
-    pub(crate) fn into_follower(self, alloc: Global, workers: usize) -> Follower
-        requires come { (bytes : List ℕ) × (taken : List Frame) × HasGathered bytes taken self }
-        requires all { self.frames.items ≡ [] }
-        requires workers { (1 ≤ workers) × (workers ≤ 64) }
-        ensures come { (bytes : List ℕ) (taken : List Frame)
-            → HasGathered bytes taken self → HasCome bytes taken result }
-        ensures works { result.fault ≡ None }
-    {
-        let Gathered { cutter, opened, .. } = self;
-        Follower::of(alloc, workers, cutter, opened)
     }
 }

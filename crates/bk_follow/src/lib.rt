@@ -18,4 +18,4 @@ mod writing;
 
 pub use follower::{Follower, is_stop};
 pub use order::Order;
-pub use replaying::{follow, replay};
+pub use replaying::replay;

@@ -8,7 +8,7 @@ ghost use Rattle.bk_frames.specs.Genesis.{AreAccounts, rows_of};
 ghost use Rattle.bk_committee.specs.Payload.{committee_of};
 ghost use Rattle.bk_follow.specs.Follower.{HasCome, Takes, FollowsBy, FeedFails, receipts_in, executed_in};
 ghost use Rattle.bk_follow.specs.private.Books.{HasFollowed};
-ghost use Rattle.bk_follow.specs.private.Openings.{IsFirstOf, OpensFirst, OpensSecond, IsOpened};
+ghost use Rattle.bk_follow.specs.private.Openings.{IsFirstOf, IsOpening, OpensFirst, OpensSecond, IsOpened};
 ghost use Rattle.bk_follow.specs.private.Parts.{followed};
 
 use crate::book::Book;
@@ -78,6 +78,16 @@ fn open_first(
     Ok(())
 }
 
+// The book of a committee and of frame 1, which the cutter has judged.
+fn book_of(alloc: Global, committee: Committee, payload: &[u8]) -> Result<Book, AllocError>
+    ensures { IfOk result (λ b. (second : Frame) → second.payload ≡ payload.now
+        → IsOpening committee second b) }
+{
+    let rows = genesis_of(alloc, payload)?;
+    let book = Book::new(alloc, committee, rows)?;
+    Ok(book)
+}
+
 // Opens the book, where frame 1 is the next one.
 fn open_second(
     alloc: Global,
@@ -94,11 +104,10 @@ fn open_second(
     let Some(payload) = take_first(frames) else {
         return Ok(());
     };
-    let rows = genesis_of(alloc, &payload)?;
     let Some(committee) = opened.committee.take() else {
         unreachable!()
     };
-    opened.book = Some(Book::new(alloc, committee, rows)?);
+    opened.book = Some(book_of(alloc, committee, &payload)?);
     Ok(())
 }
 

@@ -52,7 +52,7 @@ impl Follower {
         if let Some(fault) = self.fault {
             return Err(fault);
         }
-        let Some(book) = &mut self.opened.book else {
+        let Some(book) = &mut self.gathered.opened.book else {
             return Ok(());
         };
         match book.settle_order() {
@@ -66,7 +66,7 @@ impl Follower {
         ensures anchors { result.anchors.now ≡ anchors_in self.now.book }
         ensures certs { result.certs.now ≡ certs_in self.now.book }
     {
-        match &self.opened.book {
+        match &self.gathered.opened.book {
             Some(book) => Order {
                 anchors: book.intake.anchors(),
                 certs: book.intake.order(),

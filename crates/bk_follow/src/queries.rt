@@ -26,7 +26,7 @@ impl Follower {
         if let Some(fault) = self.fault {
             return Err(fault);
         }
-        match &self.opened.book {
+        match &self.gathered.opened.book {
             Some(book) => {
                 book.ready()?;
                 Ok(())
@@ -40,7 +40,7 @@ impl Follower {
         ensures { MatchOption result (self.now.book ≡ None)
             (λ i. (b : BookValue) × (self.now.book ≡ Some b) × (i.now ≡ b.taken)) }
     {
-        match &self.opened.book {
+        match &self.gathered.opened.book {
             Some(book) => Some(&book.intake),
             None => None,
         }
@@ -51,7 +51,7 @@ impl Follower {
         ensures { MatchOption result (executed_in self.now.book ≡ None)
             (λ l. executed_in self.now.book ≡ Some (executed_of l.now)) }
     {
-        match &self.opened.book {
+        match &self.gathered.opened.book {
             Some(book) => match &book.ledger {
                 Some(ledger) => Some(ledger),
                 None => None,

@@ -1,6 +1,7 @@
-ghost use Rattle.std.specs.Prelude.{◌≡◌, ℕ, ◌<◌, ◌≤◌, [], List, length, None, OnOk, IfOk, IfErr};
+ghost use Rattle.std.specs.Prelude.{◌≡◌, ℕ, ◌<◌, ◌≤◌, [], List, length, None, Some, OnOk, IfOk, IfErr};
 ghost use Rattle.bk_frames.specs.Device.{CanBeUsed, Works, Receives, IfKnown};
 ghost use Rattle.bk_frames.specs.Feed.{Frame};
+ghost use Rattle.bk_follow.specs.Follower.{unfed};
 ghost use Rattle.bk_follow.specs.RunReport.{IsReport};
 ghost use Rattle.bk_results.specs.Devices.{devices};
 ghost use Rattle.bk_follow.specs.Replaying.{RunFailsBy, ReadFails, AllHasCome};
@@ -8,7 +9,7 @@ ghost use Rattle.bk_follow.specs.private.Gathering.{HasGathered, IsAllOf};
 ghost use Rattle.bk_frames.specs.declared.pulling.TheConstants.{PIECE};
 
 use crate::fault::Fault;
-use crate::follower::Follower;
+use crate::follower::{Follower, stand};
 use crate::gathering::Gathered;
 use bk_frames::{PIECE, Sink, Source};
 use bk_pool::Gate;
@@ -43,42 +44,46 @@ fn pull_all<R: Threads + Sync, S: Source>(
     }
 }
 
-/// Follows all that a source has, with 1 to 64 workers.
-pub fn follow<R: Threads + Sync, S: Source>(
-    rt: &R,
-    alloc: Global,
-    source: &mut S,
-    piece: &mut [u8],
-    workers: usize,
-) -> Result<Follower, Fault>
-    requires sound { CanBeUsed (S.state source.old) }
-    requires some { 0 < length piece.old }
-    requires few { length piece.old ≤ PIECE }
-    requires workers { (1 ≤ workers) × (workers ≤ 64) }
-    ensures works { IfOk result (λ v. Works (S.state source.old) (S.state source.new)
-        × (v.fault ≡ None)) }
-    ensures come { IfOk result (λ v. IfKnown (S.state source.old)
-        (λ bytes. AllHasCome bytes v)) }
-    ensures fault { IfErr result (λ f. ReadFails f (S.state source.old) (S.state source.new)) }
-{
-    let mut gathered = Gathered::new(alloc);
-    pull_all(rt, alloc, source, piece, &mut gathered)?;
-    Ok(gathered.into_follower(alloc, workers))
+impl Follower {
+    /// Follows all that a source has, where nothing has come before. The piece is room for its bytes.
+    ///
+    /// A fault is returned again by every later call.
+    pub fn follow<R: Threads + Sync, S: Source>(
+        &mut self,
+        rt: &R,
+        source: &mut S,
+        piece: &mut [u8],
+    ) -> Result<(), Fault>
+        requires sound { CanBeUsed (S.state source.old) }
+        requires some { 0 < length piece.old }
+        requires few { length piece.old ≤ PIECE }
+        requires first { self.old ≡ unfed }
+        ensures works { OnOk result (Works (S.state source.old) (S.state source.new)
+            × (self.new.fault ≡ None)) }
+        ensures come { OnOk result (IfKnown (S.state source.old)
+            (λ bytes. AllHasCome bytes self.new)) }
+        ensures stays { IfErr result (λ f. self.new.fault ≡ Some f) }
+        ensures fault { IfErr result (λ f. ReadFails f (S.state source.old) (S.state source.new)) }
+    {
+        match pull_all(rt, self.alloc, source, piece, &mut self.gathered) {
+            Ok(()) => Ok(()),
+            Err(fault) => Err(stand(&mut self.fault, fault)),
+        }
+    }
 }
 
 // Follows all that a source has, and finishes.
 fn follow_to_end<R: Threads + Wait + Sync, S: Source, K: Sink, G: Gate + Sync>(
     rt: &R,
-    alloc: Global,
     source: &mut S,
     sink: &mut K,
     piece: &mut [u8],
-    workers: usize,
+    follower: &mut Follower,
     gate: &G,
 ) -> Result<Status, Fault>
     requires some { 0 < length piece.old }
     requires few { length piece.old ≤ PIECE }
-    requires workers { (1 ≤ workers) × (workers ≤ 64) }
+    requires first { follower.old ≡ unfed }
     requires source { CanBeUsed (S.state source.old) }
     requires sink { CanBeUsed (K.state sink.old) }
     ensures report { IfOk result (λ s. IfKnown (S.state source.old) (λ bytes. (text : List ℕ)
@@ -89,7 +94,7 @@ fn follow_to_end<R: Threads + Wait + Sync, S: Source, K: Sink, G: Gate + Sync>(
         (devices (S.state source.old) (K.state sink.old))
         (devices (S.state source.new) (K.state sink.new))) }
 {
-    let mut follower = follow(rt, alloc, source, piece, workers)?;
+    follower.follow(rt, source, piece)?;
     let status = follower.finish(rt, gate, sink)?;
     Ok(status)
 }
@@ -120,5 +125,6 @@ pub fn replay<R: Threads + Wait + Sync, S: Source, K: Sink, G: Gate + Sync>(
         (devices (S.state source.new) (K.state sink.new))) }
 {
     let mut piece = vec![in alloc; 0u8; PIECE]?;
-    follow_to_end(rt, alloc, source, sink, piece.as_mut_slice(), workers, gate)
+    let mut follower = Follower::new(alloc, workers);
+    follow_to_end(rt, source, sink, piece.as_mut_slice(), &mut follower, gate)
 }

@@ -1,6 +1,5 @@
-use Rattle.std.proofs.Common.{sym, ap, ◌∙◌}
+use Rattle.std.proofs.Common.{sym, ◌∙◌}
 use Rattle.bk_frames.specs.Cutting.{frames_in}
-use Rattle.bk_frames.specs.Genesis.{rows_of}
 use Rattle.bk_follow.proofs.Openings.{none_is_none, second_early, second_waits, second_opens}
 use Rattle.bk_follow.proofs.opening.open_second.Goals as goal
 
@@ -16,11 +15,7 @@ unreachable-unreachable c = none_is_none c.args.opened.now.committee c.if-is_non
 pub unreachable-requires : goal.unreachable-requires
 unreachable-requires c = none_is_none c.args.opened.now.committee c.if-is_none.ensures (sym c.take.ensures.value ∙ c.in_default-take.is)
 
-pub new-requires : goal.new-requires
-new-requires c = record { accounts = c.in_ok-rows.ensures.accounts }
-
 pub returns : goal.returns
 returns c =
-    let read = ap rows_of (sym c.deref.ensures.value) ∙ c.in_ok-rows.ensures.rows in
-    rw (sym c.take.ensures.value ∙ c.in-Some-take.is) (second_opens c.in-Some-take.committee c.take.new.self c.in-Some.payload.items (frames_in c.args.frames.now.items) (frames_in c.take_first.new.frames.items) c.in_ok-rows.rows.items c.in_ok-new.field-0 c.in-Some.ensures read
-    c.in_ok-new.ensures.book c.in_ok-new.ensures.none)
+    rw (sym c.take.ensures.value ∙ c.in-Some-take.is) (second_opens c.in-Some-take.committee c.take.new.self c.in-Some.payload.items (frames_in c.args.frames.now.items) (frames_in c.take_first.new.frames.items) c.in_ok-book_of.field-0 c.in-Some.ensures
+    (λ second same. c.in_ok-book_of.ensures second (same ∙ sym c.deref.ensures.value)))

@@ -2,21 +2,21 @@ use Rattle.std.proofs.lemmas.Result.{err_from_is_err_and}
 use Rattle.bk_follow.proofs.RunAnswers.{run_report, finish_fails, read_fails}
 use Rattle.bk_follow.proofs.replaying.follow_to_end.Goals as goal
 
-pub returns-in_err-follower-clause-fault : goal.returns-in_err-follower-clause-fault
-returns-in_err-follower-clause-fault g c =
+pub returns-in_err-follow-clause-fault : goal.returns-in_err-follow-clause-fault
+returns-in_err-follow-clause-fault g c =
     let p = err_from_is_err_and c.from_residual.result c.from_residual.ensures.1 in
-    rw (p.1, p.2) (read_fails c.in_err-follower.field-0.0 (g.S.Source.state c.args.source.now) (g.S.Source.state c.follow.new.source) (g.K.Sink.state c.args.sink.now) c.in_err-follower.ensures.fault)
+    rw (p.1, p.2) (read_fails c.in_err-follow.field-0.0 (g.S.Source.state c.args.source.now) (g.S.Source.state c.follow.new.source) (g.K.Sink.state c.args.sink.now) c.in_err-follow.ensures.fault)
 
 pub returns-in_err-status-clause-fault : goal.returns-in_err-status-clause-fault
 returns-in_err-status-clause-fault g c =
     let p = err_from_is_err_and c.from_residual-in_err-status.result c.from_residual-in_err-status.ensures.1 in
-    let read = c.in_ok-follower.ensures in
-    rw (p.1, p.2) (finish_fails c.in_err-status.field-0.0 (g.S.Source.state c.args.source.now) (g.S.Source.state c.follow.new.source) (g.K.Sink.state c.args.sink.now) (g.K.Sink.state c.finish.new.sink) c.in_ok-follower.follower c.finish.new.self read.works.0 read.come
+    let read = c.in_ok-follow.ensures in
+    rw (p.1, p.2) (finish_fails c.in_err-status.field-0.0 (g.S.Source.state c.args.source.now) (g.S.Source.state c.follow.new.source) (g.K.Sink.state c.args.sink.now) (g.K.Sink.state c.finish.new.sink) c.follow.new.self c.finish.new.self read.works.0 read.come
     (c.in_err-status.ensures.fault read.works.1))
 
 pub returns-clause-report : goal.returns-clause-report
 returns-clause-report g c =
-    run_report (g.S.Source.state c.args.source.now) (g.K.Sink.state c.args.sink.now) (g.K.Sink.state c.finish.new.sink) c.in_ok-follower.follower c.finish.new.self c.in_ok-status.status c.in_ok-follower.ensures.come c.in_ok-status.ensures.report
+    run_report (g.S.Source.state c.args.source.now) (g.K.Sink.state c.args.sink.now) (g.K.Sink.state c.finish.new.sink) c.follow.new.self c.finish.new.self c.in_ok-status.status c.in_ok-follow.ensures.come c.in_ok-status.ensures.report
 
 pub returns-clause-sound : goal.returns-clause-sound
-returns-clause-sound g c = (c.in_ok-follower.ensures.works.0, c.in_ok-status.ensures.report.works)
+returns-clause-sound g c = (c.in_ok-follow.ensures.works.0, c.in_ok-status.ensures.report.works)

@@ -18,7 +18,7 @@ returns-in_err-agreed-clause-differ c =
 
 pub returns-clause-agree : goal.returns-clause-agree
 returns-clause-agree c =
-    let x = something c.self.inside.cutter c.self.inside.opened c.self.inside.fault c.args.self.now c.self.view_is c.requires.one c.self.invariant.2 in
-    let y = something c.other.inside.cutter c.other.inside.opened c.other.inside.fault c.args.other.now c.other.view_is c.requires.other c.other.invariant.2 in
+    let x = something c.self.inside.gathered.cutter c.self.inside.gathered.opened c.self.inside.fault c.args.self.now c.self.view_is c.requires.one c.self.invariant.2 in
+    let y = something c.other.inside.gathered.cutter c.other.inside.gathered.opened c.other.inside.fault c.args.other.now c.other.view_is c.requires.other c.other.invariant.2 in
     followers_agree c.args.self.now c.args.other.now c.in-Some.one c.in-Some-book.two x.bytes y.bytes x.frames y.frames c.in_ok-agreed.agreed x.come y.come
     (ap (λ (v : Followed). v.book) (sym c.self.view_is) ∙ c.in-Some.is) (ap (λ (v : Followed). v.book) (sym c.other.view_is) ∙ c.in-Some-book.is) c.in_ok-agreed.ensures.agree

@@ -12,6 +12,7 @@ invariant_of-self g c = (
   λ none.
       let inv = c.self.invariant.2 c.in_default.is in
       (inv.0, inv.1, (c.in-Ok.ensures.report.settled inv.0 inv.1 inv.2).0),
+  λ none. c.self.invariant.3 c.in_default.is,
 )
 
 pub invariant_of-self-in-Err : goal.invariant_of-self-in-Err
@@ -20,21 +21,22 @@ invariant_of-self-in-Err g c = (
   c.self.invariant.1,
   λ none.
       let inv = c.self.invariant.2 c.in_default.is in
-      let same = end_stop_same c.in-Err.fault (followed c.self.inside.cutter c.self.inside.opened) (followed c.self.inside.cutter c.end.new.opened) _ _ (sym c.keep.ensures.standing ∙ none) c.in-Err.ensures.fault in
+      let same = end_stop_same c.in-Err.fault (followed c.self.inside.gathered.cutter c.self.inside.gathered.opened) (followed c.self.inside.gathered.cutter c.end.new.opened) _ _ (sym c.keep.ensures.standing ∙ none) c.in-Err.ensures.fault in
       (inv.0, inv.1, subst (HasCome inv.0 inv.1) (sym same) inv.2),
+  λ none. c.self.invariant.3 c.in_default.is,
 )
 
 pub returns-in-Ok-clause-report : goal.returns-in-Ok-clause-report
 returns-in-Ok-clause-report g c =
     let none = c.in_default.is in
-    let old : followed c.self.inside.cutter c.self.inside.opened ≡ c.args.self.now = (λ i. follower_of c.self.inside.cutter c.self.inside.opened.committee c.self.inside.opened.book (sym none i)) ∙ c.self.view_is in
-    let new : followed c.self.inside.cutter c.end.new.opened ≡ follower_of c.self.inside.cutter c.end.new.opened.committee c.end.new.opened.book c.self.inside.fault = λ i. follower_of c.self.inside.cutter c.end.new.opened.committee c.end.new.opened.book (sym none i) in
+    let old : followed c.self.inside.gathered.cutter c.self.inside.gathered.opened ≡ c.args.self.now = (λ i. follower_of c.self.inside.gathered.cutter c.self.inside.gathered.opened.committee c.self.inside.gathered.opened.book (sym none i)) ∙ c.self.view_is in
+    let new : followed c.self.inside.gathered.cutter c.end.new.opened ≡ follower_of c.self.inside.gathered.cutter c.end.new.opened.committee c.end.new.opened.book c.self.inside.fault = λ i. follower_of c.self.inside.gathered.cutter c.end.new.opened.committee c.end.new.opened.book (sym none i) in
     subst (λ (p : Followed × Followed). Finishes p.0 p.1 (g.K.Sink.state c.args.sink.now) (g.K.Sink.state c.end.new.sink) c.in-Ok.status) (λ i. (old i, new i)) c.in-Ok.ensures.report
 
 pub returns-in-Err-clause-fault : goal.returns-in-Err-clause-fault
 returns-in-Err-clause-fault g c = λ _.
     let none = c.in_default.is in
-    let old : followed c.self.inside.cutter c.self.inside.opened ≡ c.args.self.now = (λ i. follower_of c.self.inside.cutter c.self.inside.opened.committee c.self.inside.opened.book (sym none i)) ∙ c.self.view_is in
+    let old : followed c.self.inside.gathered.cutter c.self.inside.gathered.opened ≡ c.args.self.now = (λ i. follower_of c.self.inside.gathered.cutter c.self.inside.gathered.opened.committee c.self.inside.gathered.opened.book (sym none i)) ∙ c.self.view_is in
     rw c.keep.ensures.same
-    (subst (λ (p : Followed). FinishFails p (follower_of c.self.inside.cutter c.end.new.opened.committee c.end.new.opened.book c.keep.new.standing) (g.K.Sink.state c.args.sink.now) (g.K.Sink.state c.end.new.sink) c.in-Err.fault) old
-    (finish_fails c.in-Err.fault (followed c.self.inside.cutter c.self.inside.opened) (followed c.self.inside.cutter c.end.new.opened) c.keep.new.standing _ _ refl c.keep.ensures.standing c.in-Err.ensures.fault))
+    (subst (λ (p : Followed). FinishFails p (follower_of c.self.inside.gathered.cutter c.end.new.opened.committee c.end.new.opened.book c.keep.new.standing) (g.K.Sink.state c.args.sink.now) (g.K.Sink.state c.end.new.sink) c.in-Err.fault) old
+    (finish_fails c.in-Err.fault (followed c.self.inside.gathered.cutter c.self.inside.gathered.opened) (followed c.self.inside.gathered.cutter c.end.new.opened) c.keep.new.standing _ _ refl c.keep.ensures.standing c.in-Err.ensures.fault))

@@ -8,8 +8,8 @@ use Rattle.bk_follow.proofs.follower.Follower.settle_order.Goals as goal
 
 pub returns-in_default-book-clause-settled : goal.returns-in_default-book-clause-settled
 returns-in_default-book-clause-settled c =
-    subst (λ (old : Followed). FindsOrder old (follower_of c.self.inside.cutter c.self.inside.opened.committee c.self.inside.opened.book c.self.inside.fault) (anchors_in c.self.inside.opened.book) (certs_in c.self.inside.opened.book)) c.self.view_is
-    (none_ordered_yet (follower_of c.self.inside.cutter c.self.inside.opened.committee c.self.inside.opened.book c.self.inside.fault) c.in_default-book.is)
+    subst (λ (old : Followed). FindsOrder old (follower_of c.self.inside.gathered.cutter c.self.inside.gathered.opened.committee c.self.inside.gathered.opened.book c.self.inside.fault) (anchors_in c.self.inside.gathered.opened.book) (certs_in c.self.inside.gathered.opened.book)) c.self.view_is
+    (none_ordered_yet (follower_of c.self.inside.gathered.cutter c.self.inside.gathered.opened.committee c.self.inside.gathered.opened.book c.self.inside.fault) c.in_default-book.is)
 
 pub invariant_of-self-in-Ok : goal.invariant_of-self-in-Ok
 invariant_of-self-in-Ok c = (
@@ -17,8 +17,9 @@ invariant_of-self-in-Ok c = (
   c.self.invariant.1,
   λ none.
       let inv = c.self.invariant.2 none in
-      let good = good_of inv.0 inv.1 (followed c.self.inside.cutter c.self.inside.opened) c.in-Some-book.book inv.2 c.in-Some-book.is in
-      (inv.0, inv.1, come_on inv.0 inv.1 c.self.inside.cutter c.self.inside.opened.committee c.settle_order.new.self None (followed c.self.inside.cutter c.self.inside.opened) c.in-Some-book.book refl inv.2 good refl (c.in-Ok.ensures.order _ good.good).book),
+      let good = good_of inv.0 inv.1 (followed c.self.inside.gathered.cutter c.self.inside.gathered.opened) c.in-Some-book.book inv.2 c.in-Some-book.is in
+      (inv.0, inv.1, come_on inv.0 inv.1 c.self.inside.gathered.cutter c.self.inside.gathered.opened.committee c.settle_order.new.self None (followed c.self.inside.gathered.cutter c.self.inside.gathered.opened) c.in-Some-book.book refl inv.2 good refl (c.in-Ok.ensures.order _ good.good).book),
+  λ none. c.self.invariant.3 none,
 )
 
 pub invariant_of-self-in-Err : goal.invariant_of-self-in-Err
@@ -27,22 +28,23 @@ invariant_of-self-in-Err c = (
   c.self.invariant.1,
   λ none.
       let inv = c.self.invariant.2 c.in_default.is in
-      let good = good_of inv.0 inv.1 (followed c.self.inside.cutter c.self.inside.opened) c.in-Some-book.book inv.2 c.in-Some-book.is in
+      let good = good_of inv.0 inv.1 (followed c.self.inside.gathered.cutter c.self.inside.gathered.opened) c.in-Some-book.book inv.2 c.in-Some-book.is in
       let same = stop_same c.in-Err.fault c.in-Some-book.book c.settle_order.new.self (sym c.keep.ensures.standing ∙ none) (as_settle c.in-Err.fault c.in-Some-book.book c.settle_order.new.self c.in-Err.ensures.fault) in (
         inv.0,
         inv.1,
-        come_on inv.0 inv.1 c.self.inside.cutter c.self.inside.opened.committee c.settle_order.new.self None (followed c.self.inside.cutter c.self.inside.opened) c.in-Some-book.book refl inv.2 good refl
+        come_on inv.0 inv.1 c.self.inside.gathered.cutter c.self.inside.gathered.opened.committee c.settle_order.new.self None (followed c.self.inside.gathered.cutter c.self.inside.gathered.opened) c.in-Some-book.book refl inv.2 good refl
             (subst (IsBookOf _) (sym same) good.good.book),
       ),
+  λ none. c.self.invariant.3 c.in_default.is,
 )
 
 pub returns-in-Ok-clause-settled : goal.returns-in-Ok-clause-settled
 returns-in-Ok-clause-settled c =
-    subst (λ (old : Followed). FindsOrder old (follower_of c.self.inside.cutter c.self.inside.opened.committee (Some c.settle_order.new.self) c.self.inside.fault) c.settle_order.new.self.taken.ordered.anchors c.settle_order.new.self.taken.ordered.order) c.self.view_is
-    (finds_order c.self.inside.cutter c.self.inside.opened.committee c.self.inside.opened.book c.self.inside.fault c.in-Some-book.book c.settle_order.new.self c.in-Some-book.is c.in-Ok.ensures.order c.in-Ok.ensures.executed)
+    subst (λ (old : Followed). FindsOrder old (follower_of c.self.inside.gathered.cutter c.self.inside.gathered.opened.committee (Some c.settle_order.new.self) c.self.inside.fault) c.settle_order.new.self.taken.ordered.anchors c.settle_order.new.self.taken.ordered.order) c.self.view_is
+    (finds_order c.self.inside.gathered.cutter c.self.inside.gathered.opened.committee c.self.inside.gathered.opened.book c.self.inside.fault c.in-Some-book.book c.settle_order.new.self c.in-Some-book.is c.in-Ok.ensures.order c.in-Ok.ensures.executed)
 
 pub returns-in-Err-clause-fault : goal.returns-in-Err-clause-fault
 returns-in-Err-clause-fault c = λ none.
     rw c.keep.ensures.same
-    (subst (λ (old : Followed). OrderFails old (follower_of c.self.inside.cutter c.self.inside.opened.committee (Some c.settle_order.new.self) c.keep.new.standing) c.in-Err.fault) c.self.view_is
-    (order_fails c.in-Err.fault c.self.inside.cutter c.self.inside.opened.committee c.self.inside.opened.book c.self.inside.fault c.keep.new.standing c.in-Some-book.book c.settle_order.new.self c.in-Some-book.is c.in_default.is c.keep.ensures.standing c.in-Err.ensures.fault))
+    (subst (λ (old : Followed). OrderFails old (follower_of c.self.inside.gathered.cutter c.self.inside.gathered.opened.committee (Some c.settle_order.new.self) c.keep.new.standing) c.in-Err.fault) c.self.view_is
+    (order_fails c.in-Err.fault c.self.inside.gathered.cutter c.self.inside.gathered.opened.committee c.self.inside.gathered.opened.book c.self.inside.fault c.keep.new.standing c.in-Some-book.book c.settle_order.new.self c.in-Some-book.is c.in_default.is c.keep.ensures.standing c.in-Err.ensures.fault))

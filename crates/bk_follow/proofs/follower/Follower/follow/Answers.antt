@@ -1,0 +1,38 @@
+use Rattle.std.proofs.Common.{◌≡◌, None, Some, refl, sym, ap, ◌∙◌}
+use Rattle.bk_follow.specs.Follower.{Followed}
+use Rattle.bk_follow.specs.private.Parts.{followed}
+use Rattle.bk_follow.proofs.Following.{follower_of}
+use Rattle.bk_follow.proofs.Pulled.{all_come as source_come}
+use Rattle.bk_follow.proofs.Waiting.{all_come, none_gathered}
+use Rattle.bk_follow.proofs.follower.Follower.follow.Goals as goal
+
+pub pull_all-requires-clause-first : goal.pull_all-requires-clause-first
+pull_all-requires-clause-first g c κs within =
+    let same = c.self.view_is ∙ c.requires.first in
+    none_gathered c.self.inside.gathered (ap (λ (v : Followed). v.cut) same) (ap (λ (v : Followed). v.committee) same) (ap (λ (v : Followed). v.book) same) (c.self.invariant.3 (ap (λ (v : Followed). v.fault) same))
+
+pub invariant_of-self : goal.invariant_of-self
+invariant_of-self g c = (
+  c.self.invariant.0,
+  c.self.invariant.1,
+  λ none.
+      let all = c.in-Ok.ensures.come in
+      (all.0, all.1, all_come all.0 all.1 c.pull_all.new.gathered all.2 (followed c.pull_all.new.gathered.cutter c.pull_all.new.gathered.opened) refl c.in-Ok.ensures.all.none_waits),
+  λ none. c.in-Ok.ensures.all.none_waits,
+)
+
+pub invariant_of-self-in-Err : goal.invariant_of-self-in-Err
+invariant_of-self-in-Err g c = (
+  c.self.invariant.0,
+  c.self.invariant.1,
+  λ none. absurd (let e : None ≡ Some c.in-Err.fault = sym none ∙ c.stand.ensures.standing in cc),
+  λ none. absurd (let e : None ≡ Some c.in-Err.fault = sym none ∙ c.stand.ensures.standing in cc),
+)
+
+pub returns-in-Ok-clause-come : goal.returns-in-Ok-clause-come
+returns-in-Ok-clause-come g c =
+    let none : c.self.inside.fault ≡ None = ap (λ (v : Followed). v.fault) (c.self.view_is ∙ c.requires.first) in
+    let new = c.pull_all.new.gathered in
+    let done = follower_of new.cutter new.opened.committee new.opened.book c.self.inside.fault in
+    source_come (g.S.Source.state c.args.source.now) new done c.in-Ok.ensures.all.all
+    (λ bytes taken h. all_come bytes taken new h done (λ i. follower_of new.cutter new.opened.committee new.opened.book (none i)) c.in-Ok.ensures.all.none_waits)
