@@ -6,7 +6,8 @@ use Rattle.bk_results.specs.declared.fault.Fault.{Fault}
 use Rattle.bk_results.specs.declared.fault.Fault.TheVariants as fault
 use Rattle.bk_follow.specs.RunReport.{HasNoStopIn, IsStopIn}
 use Rattle.bk_follow.specs.Follower.{BookValue, Followed, FollowsBy, Follows}
-use Rattle.bk_follow.specs.Queries.{NothingStops, QueryFails}
+use Rattle.bk_follow.specs.Queries.{NothingStops, IsStopSoFar}
+use Rattle.bk_follow.specs.Ordering.{OrderFails}
 use Rattle.bk_follow.specs.private.Books.{IsGoodBook}
 use Rattle.bk_follow.proofs.Following.{good_of, of_frames}
 
@@ -28,10 +29,19 @@ none_stops v none = λ bytes frames version come known two.
     no_book version (f ∷ g ∷ more) le h = absurd (let e = h.1 in cc)
 
 -- the stop of a book is that of the frames
-pub query_fails : (f : Fault) (v : Followed) (b : BookValue) (feed : FeedValue) → v.book ≡ Some b → IsGoodBook feed b → ((other : FeedValue) → IsGoodBook other b → IsStopIn other f) → QueryFails v f
+pub query_fails : (f : Fault) (v : Followed) (b : BookValue) (feed : FeedValue) → v.book ≡ Some b → IsGoodBook feed b → ((other : FeedValue) → IsGoodBook other b → IsStopIn other f) → IsStopSoFar v f
 query_fails (fault.Feed found) v b feed is good h = absurd (h feed good)
 query_fails (fault.Collision id) v b feed is good h = of_frames v b (λ other. IsStopIn other (fault.Collision id)) is h
 query_fails (fault.Equivocation round author first second) v b feed is good h = of_frames v b (λ other. IsStopIn other (fault.Equivocation round author first second)) is h
 query_fails (fault.Unfinished place) v b feed is good h = absurd (h feed good)
 query_fails (fault.Write written) v b feed is good h = absurd (h feed good)
 query_fails fault.Memory v b feed is good h = absurd (h feed good)
+
+-- where all is as it was
+pub query_stops : (f : Fault) (old new : Followed) → new ≡ old → IsStopSoFar old f → OrderFails old new f
+query_stops (fault.Feed found) old new same h = absurd h
+query_stops (fault.Collision id) old new same h = (same, h)
+query_stops (fault.Equivocation round author first second) old new same h = (same, h)
+query_stops (fault.Unfinished place) old new same h = absurd h
+query_stops (fault.Write written) old new same h = absurd h
+query_stops fault.Memory old new same h = absurd h

@@ -32,7 +32,7 @@ pub record FindsOrder (old new : Followed) (anchors certs : List CertRef) : Type
   pub executed : executed_in new.book ≡ executed_in old.book
   pub cut : new.cut ≡ old.cut
 
--- why there was none, and what it leaves: the stop of the whole frames so far, and then all is as it was; or memory ran
+-- why an order or a proof was not found, and what that leaves: the stop of the whole frames so far, and then all is as it was; or memory ran
 -- out, which every later call returns
 abbrev pub OrderFails : Followed → Followed → Fault → Type 0
 OrderFails old new (fault.Feed found) = ⊥

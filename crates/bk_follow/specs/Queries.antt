@@ -33,7 +33,17 @@ NothingStops v =
     (bytes : List ℕ) (frames : List Frame) (version : Version) → HasCome bytes frames v → v.cut.version ≡ Some version
     → 2 ≤ length frames → HasNoStopIn (feed_of version frames)
 
--- why a query was not answered: the stop of the whole frames so far, or memory ran out
+-- why a query that takes no memory was not answered: the stop of the whole frames so far
+abbrev pub IsStopSoFar : Followed → Fault → Type 0
+IsStopSoFar v (fault.Feed found) = ⊥
+IsStopSoFar v (fault.Collision id) = OfFrames v (λ feed. IsStopIn feed (fault.Collision id))
+IsStopSoFar v (fault.Equivocation round author first second) =
+    OfFrames v (λ feed. IsStopIn feed (fault.Equivocation round author first second))
+IsStopSoFar v (fault.Unfinished place) = ⊥
+IsStopSoFar v (fault.Write written) = ⊥
+IsStopSoFar v fault.Memory = ⊥
+
+-- why another was not: that, or memory ran out
 abbrev pub QueryFails : Followed → Fault → Type 0
 QueryFails v (fault.Feed found) = ⊥
 QueryFails v (fault.Collision id) = OfFrames v (λ feed. IsStopIn feed (fault.Collision id))

@@ -24,8 +24,7 @@ use std::thread::Threads;
 /// Follows a feed that comes in pieces: its frames, their order and the accounts after its batches.
 ///
 /// A fault of kind `Feed`, `Memory`, `Unfinished` or `Write` is returned again by every later call. A `Collision` or an
-/// `Equivocation` leaves everything as it was, and more pieces may be fed; so does the `Memory` of a query, such as
-/// `prove`.
+/// `Equivocation` leaves everything as it was, and more pieces may be fed.
 #[derive(Drop)]
 pub struct Follower {
     pub(crate) alloc: Global,

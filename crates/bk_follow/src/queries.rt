@@ -4,15 +4,16 @@ ghost use Rattle.std.specs.Prelude.{◌≡◌, Some, None, Err, OnOk, IfOk, IfEr
 ghost use Rattle.bk_rules.specs.Rows.{account_at};
 ghost use Rattle.bk_follow.specs.Follower.{BookValue, receipts_in, executed_in};
 ghost use Rattle.bk_report.specs.Proofs.{IsProofOf, IsAbsent};
-ghost use Rattle.bk_follow.specs.Queries.{rows_in, NothingStops, QueryFails};
-ghost use Rattle.bk_follow.specs.Queries.{executed_of};
+ghost use Rattle.bk_follow.specs.Queries.{executed_of, rows_in, NothingStops, IsStopSoFar};
+ghost use Rattle.bk_follow.specs.Ordering.{OrderFails};
 
 use crate::fault::Fault;
-use crate::follower::Follower;
+use crate::follower::{Follower, stand};
 use bk_ledger::Ledger;
 use bk_order::Intake;
 use bk_report::{Proof, proof_of};
 use bk_rules::{Account, Receipt};
+use std::alloc::AllocError;
 use std::thread::Threads;
 
 impl Follower {
@@ -21,7 +22,7 @@ impl Follower {
         ensures clear { OnOk result (NothingStops self.now) }
         ensures works { OnOk result (self.now.fault ≡ None) }
         ensures again { IfSome self.now.fault (λ f. result ≡ Err f) }
-        ensures fault { IfErr result (λ f. self.now.fault ≡ None → QueryFails self.now f) }
+        ensures fault { IfErr result (λ f. self.now.fault ≡ None → IsStopSoFar self.now f) }
     {
         if let Some(fault) = self.fault {
             return Err(fault);
@@ -68,7 +69,7 @@ impl Follower {
         ensures clear { OnOk result (NothingStops self.now) }
         ensures works { OnOk result (self.now.fault ≡ None) }
         ensures again { IfSome self.now.fault (λ f. result ≡ Err f) }
-        ensures fault { IfErr result (λ f. self.now.fault ≡ None → QueryFails self.now f) }
+        ensures fault { IfErr result (λ f. self.now.fault ≡ None → IsStopSoFar self.now f) }
     {
         self.ready()?;
         match self.ledger() {
@@ -85,7 +86,7 @@ impl Follower {
         ensures clear { OnOk result (NothingStops self.now) }
         ensures works { OnOk result (self.now.fault ≡ None) }
         ensures again { IfSome self.now.fault (λ f. result ≡ Err f) }
-        ensures fault { IfErr result (λ f. self.now.fault ≡ None → QueryFails self.now f) }
+        ensures fault { IfErr result (λ f. self.now.fault ≡ None → IsStopSoFar self.now f) }
     {
         self.ready()?;
         match self.ledger() {
@@ -94,24 +95,36 @@ impl Follower {
         }
     }
 
-    /// A proof of the account of this id as of the last settle, `None` for one that is absent. O(n).
-    ///
-    /// `Collision` or `Equivocation` where the whole frames so far are stopped, `Memory` where memory was refused. The
-    /// Follower stays as it was.
-    pub fn prove<R: Threads + Sync>(&self, rt: &R, id: u64) -> Result<Option<Proof>, Fault>
-        ensures proof { IfOk result (λ found. MatchOption found
+    // A proof of the account of this id as of the last settle.
+    fn find_proof<R: Threads + Sync>(&self, rt: &R, id: u64) -> Result<Option<Proof>, AllocError>
+        ensures { IfOk result (λ found. MatchOption found
             (IsAbsent (rows_in self.now.book) id) (IsProofOf (rows_in self.now.book) id)) }
-        ensures clear { OnOk result (NothingStops self.now) }
-        ensures works { OnOk result (self.now.fault ≡ None) }
-        ensures again { IfSome self.now.fault (λ f. result ≡ Err f) }
-        ensures fault { IfErr result (λ f. self.now.fault ≡ None → QueryFails self.now f) }
     {
-        self.ready()?;
         let Some(ledger) = self.ledger() else {
             return Ok(None);
         };
         let rows = ledger.state().rows(self.alloc)?;
         let proof = proof_of(rt, self.alloc, &rows, id)?;
         Ok(proof)
+    }
+
+    /// A proof of the account of this id as of the last settle, `None` for one that is absent. O(n).
+    ///
+    /// `Collision` or `Equivocation` where the whole frames so far are stopped: then everything is as it was.
+    pub fn prove<R: Threads + Sync>(&mut self, rt: &R, id: u64) -> Result<Option<Proof>, Fault>
+        ensures proof { IfOk result (λ found. MatchOption found
+            (IsAbsent (rows_in self.old.book) id) (IsProofOf (rows_in self.old.book) id)) }
+        ensures same { OnOk result (self.new ≡ self.old) }
+        ensures clear { OnOk result (NothingStops self.old) }
+        ensures works { OnOk result (self.old.fault ≡ None) }
+        ensures again { IfSome self.old.fault (λ f. (result ≡ Err f) × (self.new ≡ self.old)) }
+        ensures fault { IfErr result (λ f. self.old.fault ≡ None
+            → OrderFails self.old self.new f) }
+    {
+        self.ready()?;
+        match self.find_proof(rt, id) {
+            Ok(found) => Ok(found),
+            Err(_) => Err(stand(&mut self.fault, Fault::Memory)),
+        }
     }
 }

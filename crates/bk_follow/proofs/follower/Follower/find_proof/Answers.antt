@@ -5,14 +5,14 @@ use Rattle.bk_rules.specs.Ledger as rules
 use Rattle.bk_follow.specs.Follower.{Executed}
 use Rattle.bk_follow.specs.Queries.{rows_of_executed, rows_in}
 use Rattle.bk_report.specs.Proofs.{IsAbsent, IsProofOf}
-use Rattle.bk_follow.proofs.follower.Follower.prove.Goals as goal
+use Rattle.bk_follow.proofs.follower.Follower.find_proof.Goals as goal
 
-pub returns-in_default-clause-proof : goal.returns-in_default-clause-proof
-returns-in_default-clause-proof g c = λ r h same.
+pub returns-in_default : goal.returns-in_default
+returns-in_default g c = λ r h same.
     let k = subst (λ (o : Option Executed). Contains (rows_of_executed o) r) c.in_default.ensures h in
     absurd (let lt = k.1 in omega (arith, lt))
 
-pub returns-clause-proof : goal.returns-clause-proof
-returns-clause-proof g c =
+pub returns : goal.returns
+returns g c =
     let rows : c.deref.result.now ≡ rows_in c.args.self.now.book = c.deref.ensures.value ∙ c.in_ok-rows.ensures ∙ ap (λ (l : rules.Ledger). l.rows) c.state.ensures ∙ ap rows_of_executed (sym c.in-Some.ensures) in
     subst (λ (rs : List Row). MatchOption c.in_ok-proof.proof (IsAbsent rs c.args.id) (IsProofOf rs c.args.id)) rows c.in_ok-proof.ensures
