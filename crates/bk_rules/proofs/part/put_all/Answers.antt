@@ -1,4 +1,4 @@
-use Rattle.std.proofs.Common.{◌≡◌, get_or, arith}
+use Rattle.std.proofs.Common.{arith}
 use Rattle.std.proofs.lemmas.Option.{slice_get-get_or}
 use Rattle.bk_rules.proofs.Putting.{put_none, put_more}
 use Rattle.bk_rules.proofs.part.put_all.Goals as goal
