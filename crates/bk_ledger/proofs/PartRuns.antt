@@ -1,5 +1,5 @@
 -- A slice that is executed on the accounts that it touches.
-use Rattle.std.proofs.Common.{◌≡◌, ℕ, ◌+◌, ◌^◌, ◌<◌, Bool, true, false, ◌||◌, not, List, [], ◌∷◌, ◌++◌, length, Option, Some, None, refl, sym, ap, ap₂, subst, ◌∙◌, arith}
+use Rattle.std.proofs.Common.{◌≡◌, ℕ, ◌^◌, ◌<◌, Bool, true, false, ◌||◌, not, List, [], ◌∷◌, ◌++◌, length, Option, Some, None, refl, sym, ap, subst, ◌∙◌, arith}
 use Rattle.std.specs.Arc.{arc_value}
 use Rattle.std.specs.List.{list_all}
 use Rattle.bk_frames.specs.declared.genesis.Row.{Row}
@@ -15,14 +15,13 @@ use Rattle.bk_rules.specs.Part.{ArePutBack, are_held, is_held_id, part_of, rows_
 use Rattle.bk_rules.proofs.Folding.{total_kept_by_fold}
 use Rattle.bk_rules.proofs.Parts.{part_receipts, part_state, room-among}
 use Rattle.bk_rules.proofs.RowLemmas.{and_left, and_right, and_both}
-use Rattle.bk_conflicts.specs.Plan.{PlanValue}
 use Rattle.bk_conflicts.specs.SceneOf.{CanRunOn}
 use Rattle.bk_steps.specs.declared.outcome.Outcome.{Outcome}
 use Rattle.bk_steps.specs.Schedule.{IsFoldOf}
 use Rattle.bk_ledger.specs.Ledger.{LedgerValue}
 use Rattle.bk_ledger.specs.Executing.{HasRun}
 use Rattle.bk_ledger.specs.declared.ready.Ready.{Ready}
-use Rattle.bk_ledger.specs.private.Slices.{CanRunPart, IsPlanned}
+use Rattle.bk_ledger.specs.private.Slices.{CanRunPart}
 
 -- ---- what is held and what is covered
 

@@ -1,4 +1,4 @@
-use Rattle.std.proofs.Common.{ap, length, map, arith}
+use Rattle.std.proofs.Common.{ap, length, arith}
 use Rattle.bk_ledger.proofs.SliceLemmas.{lent_at, lent_count, one_more, slice_none, slice_more}
 use Rattle.bk_ledger.proofs.slice.gather.Goals as goal
 

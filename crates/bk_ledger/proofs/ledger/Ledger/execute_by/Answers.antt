@@ -1,4 +1,4 @@
-use Rattle.std.proofs.Common.{◌≡◌, ℕ, map, subst, sym, arith}
+use Rattle.std.proofs.Common.{ℕ, map, subst, sym, arith}
 use Rattle.bk_ledger.specs.private.Slices.{IsOnTheWay}
 use Rattle.std.proofs.lemmas.Result.{err_from_is_err_and}
 use Rattle.bk_ledger.proofs.SliceLemmas.{lent_count, way_begins, way_goes_on, way_ends, places_within, room_for_slice, leaves_weaker}

@@ -1,7 +1,7 @@
 use Rattle.std.proofs.Common.{◌≡◌, ◌+◌, ℕ, length, ap, subst, arith, ◌∙◌}
 use Rattle.bk_ledger.specs.private.Slices.{IsNoneAhead, counts_of, txs_of}
 use Rattle.bk_ledger.proofs.SliceLemmas.{lent_count}
-use Rattle.bk_ledger.proofs.NextLemmas.{none_ahead, ready_runs, ready_ran, same_room}
+use Rattle.bk_ledger.proofs.NextLemmas.{none_ahead, ready_ran}
 use Rattle.bk_ledger.proofs.ledger.Ledger.run_next.Goals as goal
 
 pub make_ready-requires-clause-planned : goal.make_ready-requires-clause-planned

@@ -1,4 +1,4 @@
-use Rattle.std.proofs.Common.{ap, refl, sym, subst, ◌∙◌}
+use Rattle.std.proofs.Common.{refl, sym, subst}
 use Rattle.bk_ledger.specs.Ledger.{LedgerValue}
 use Rattle.bk_ledger.specs.private.Slices.{CanRunPart}
 use Rattle.bk_ledger.proofs.PartRuns.{part_can_run, back_within, part_ran}
