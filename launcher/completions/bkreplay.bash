@@ -49,6 +49,18 @@ _bkreplay() {
         names='--help'
         kinds=(none file)
         ;;
+    frames)
+        names='--help'
+        kinds=(file)
+        ;;
+    anchors)
+        names='--help'
+        kinds=(file)
+        ;;
+    statement)
+        names='--workers --help'
+        kinds=(none file)
+        ;;
     check-proof)
         names='--help'
         kinds=(none file)
@@ -73,6 +85,7 @@ _bkreplay() {
     esac
     case "$command $value" in
     'run --workers') COMPREPLY=($(compgen -W '{1..64}' -- "$current")) ;;
+    'statement --workers') COMPREPLY=($(compgen -W '{1..64}' -- "$current")) ;;
     'check-state --workers') COMPREPLY=($(compgen -W '{1..64}' -- "$current")) ;;
     'schedule --workers') COMPREPLY=($(compgen -W '{1..64}' -- "$current")) ;;
     *redirection) compopt -o default 2>/dev/null ;;
@@ -111,6 +124,9 @@ order Write the committed anchors and the certificates in order
 account Write one account as the order of a feed leaves it
 receipt Write what became of the transaction at one place of the order
 prove Write a proof that one account is in the state at the end
+frames Write a line for each frame of a feed: what it holds, and which rule a certificate breaks
+anchors Write what became of the anchor of each odd round, with its votes
+statement Write what the transactions of the order do to one account
 check-proof Check that a text proves an account of the state of this digest
 check-state Check that a digest is that of the state at the end of a feed
 apply Execute all batches of a feed, in feed order and on one thread, and write the apply report

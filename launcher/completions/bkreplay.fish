@@ -32,6 +32,9 @@ complete -c bkreplay -n "__bkreplay_at ''" -a order -d 'Write the committed anch
 complete -c bkreplay -n "__bkreplay_at ''" -a account -d 'Write one account as the order of a feed leaves it'
 complete -c bkreplay -n "__bkreplay_at ''" -a receipt -d 'Write what became of the transaction at one place of the order'
 complete -c bkreplay -n "__bkreplay_at ''" -a prove -d 'Write a proof that one account is in the state at the end'
+complete -c bkreplay -n "__bkreplay_at ''" -a frames -d 'Write a line for each frame of a feed: what it holds, and which rule a certificate breaks'
+complete -c bkreplay -n "__bkreplay_at ''" -a anchors -d 'Write what became of the anchor of each odd round, with its votes'
+complete -c bkreplay -n "__bkreplay_at ''" -a statement -d 'Write what the transactions of the order do to one account'
 complete -c bkreplay -n "__bkreplay_at ''" -a check-proof -d 'Check that a text proves an account of the state of this digest'
 complete -c bkreplay -n "__bkreplay_at ''" -a check-state -d 'Check that a digest is that of the state at the end of a feed'
 complete -c bkreplay -n "__bkreplay_at ''" -a apply -d 'Execute all batches of a feed, in feed order and on one thread, and write the apply report'
@@ -44,6 +47,10 @@ complete -c bkreplay -n '__bkreplay_at order 0' -F
 complete -c bkreplay -n '__bkreplay_at account 1' -F
 complete -c bkreplay -n '__bkreplay_at receipt 1' -F
 complete -c bkreplay -n '__bkreplay_at prove 1' -F
+complete -c bkreplay -n '__bkreplay_at frames 0' -F
+complete -c bkreplay -n '__bkreplay_at anchors 0' -F
+complete -c bkreplay -n '__bkreplay_at statement' -l workers -x -a '(seq 1 64)' -d 'How many threads execute, 1 to 64; 1 by default. The report is the same for any number'
+complete -c bkreplay -n '__bkreplay_at statement 1' -F
 complete -c bkreplay -n '__bkreplay_at check-proof 1' -F
 complete -c bkreplay -n '__bkreplay_at check-state' -l workers -x -a '(seq 1 64)' -d 'How many threads execute, 1 to 64; 1 by default. The report is the same for any number'
 complete -c bkreplay -n '__bkreplay_at check-state 1' -F

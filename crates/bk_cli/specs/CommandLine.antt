@@ -81,11 +81,9 @@ file_line name = with_rule (new_app name) file_rule
 abbrev pub value_line : Text → Rule → App
 value_line name rule = with_rule (with_rule (new_app name) rule) file_rule
 
--- the command `check-state [--workers W] ROOT [FILE]`
-abbrev pub state_line : App
-state_line =
-    let named = new_app (codes "check-state") in
-    with_rule (with_rule (with_rule named workers_rule) root_rule) file_rule
+-- a command `NAME [--workers W] VALUE [FILE]`, of which the value is this argument
+abbrev pub working_line : Text → Rule → App
+working_line name rule = with_rule (with_rule (with_rule (new_app name) workers_rule) rule) file_rule
 
 -- the command `schedule [--workers W] FEED EVENTS`
 abbrev pub schedule_line : App
@@ -105,6 +103,9 @@ word_of verb.Order = codes "order"
 word_of verb.Account = codes "account"
 word_of verb.Receipt = codes "receipt"
 word_of verb.Prove = codes "prove"
+word_of verb.Frames = codes "frames"
+word_of verb.Anchors = codes "anchors"
+word_of verb.Statement = codes "statement"
 word_of verb.CheckProof = codes "check-proof"
 word_of verb.CheckState = codes "check-state"
 word_of verb.Apply = codes "apply"
@@ -119,8 +120,11 @@ line_of verb.Order = file_line (codes "order")
 line_of verb.Account = value_line (codes "account") id_rule
 line_of verb.Receipt = value_line (codes "receipt") place_rule
 line_of verb.Prove = value_line (codes "prove") id_rule
+line_of verb.Frames = file_line (codes "frames")
+line_of verb.Anchors = file_line (codes "anchors")
+line_of verb.Statement = working_line (codes "statement") id_rule
 line_of verb.CheckProof = value_line (codes "check-proof") root_rule
-line_of verb.CheckState = state_line
+line_of verb.CheckState = working_line (codes "check-state") root_rule
 line_of verb.Apply = file_line (codes "apply")
 line_of verb.Schedule = schedule_line
 line_of verb.Compare = compare_line
@@ -145,10 +149,15 @@ asking_line =
     with_command (with_command (with_command (with_command (with_command (with_command program
     verb.Run) verb.Make) verb.Order) verb.Account) verb.Receipt) verb.Prove
 
+-- and with those that show what is in a feed
+abbrev pub viewing_line : App
+viewing_line =
+    with_command (with_command (with_command asking_line verb.Frames) verb.Anchors) verb.Statement
+
 -- the program with all commands that read one file
 abbrev pub single_line : App
 single_line =
-    with_command (with_command (with_command asking_line verb.CheckProof) verb.CheckState) verb.Apply
+    with_command (with_command (with_command viewing_line verb.CheckProof) verb.CheckState) verb.Apply
 
 -- the whole command line: `bkreplay`, and one of the commands
 abbrev pub command_line : App
@@ -190,14 +199,19 @@ IsQueryAt word rows (query.Proof id) =
     (word ≡ word_of verb.Prove) × IsNumberBy (2 ^ 64) (one_of (codes "ID") rows) id
 IsQueryAt word rows (query.State root) =
     (word ≡ word_of verb.CheckState) × IsTextIn rows (codes "ROOT") (encode_lower root)
+IsQueryAt word rows query.Anchors = word ≡ word_of verb.Anchors
+IsQueryAt word rows (query.Statement id) =
+    (word ≡ word_of verb.Statement) × IsNumberBy (2 ^ 64) (one_of (codes "ID") rows) id
 
--- for a query executes one worker; for that of a digest as many as `--workers` names
+-- for a query executes one worker; for that of a digest, and for a statement, as many as `--workers` names
 abbrev pub AreWorkersFor : List Row → Query → ℕ → Type 0
 AreWorkersFor rows query.Order count = count ≡ 1
 AreWorkersFor rows (query.Account id) count = count ≡ 1
 AreWorkersFor rows (query.Receipt place) count = count ≡ 1
 AreWorkersFor rows (query.Proof id) count = count ≡ 1
 AreWorkersFor rows (query.State root) count = AreNamedBy 1 (one_of (codes "workers") rows) count
+AreWorkersFor rows query.Anchors count = count ≡ 1
+AreWorkersFor rows (query.Statement id) count = AreNamedBy 1 (one_of (codes "workers") rows) count
 
 -- the job is that of a command, with the values of its arguments
 abbrev pub IsJobAt : Text → List Row → Job → Type 0
@@ -212,6 +226,8 @@ IsJobAt word rows (job.CheckProof root file) =
 IsJobAt word rows (job.Ask workers asked file) =
     IsQueryAt word rows asked × AreWorkersFor rows asked workers
     × IsFileIn rows (option_map string_bytes file)
+IsJobAt word rows (job.Frames file) =
+    (word ≡ word_of verb.Frames) × IsFileIn rows (option_map string_bytes file)
 IsJobAt word rows (job.Apply file) =
     (word ≡ word_of verb.Apply) × IsFileIn rows (option_map string_bytes file)
 IsJobAt word rows (job.Schedule workers feed events) =
@@ -242,6 +258,13 @@ NamesNoDigest (Some found) = (found.0 ≡ word_of verb.CheckState) × LacksDiges
 abbrev pub IsOfRoot : Error → Option (Text × List Row) → Type 0
 IsOfRoot e found = (kind_of e ≡ kind.ValueValidation) × NamesNoDigest found
 
+-- ---- a job that writes while it reads
+
+-- the command that was found in the words is `frames`
+abbrev pub NamesFrames : Option (Text × List Row) → Type 0
+NamesFrames None = ⊥
+NamesFrames (Some found) = found.0 ≡ word_of verb.Frames
+
 -- ---- the words of the commands
 
 -- the word is one of these
@@ -253,5 +276,6 @@ IsOneOf (x ∷ xs) word = (word ≡ x) ⊎ IsOneOf xs word
 abbrev pub all_words : List Text
 all_words =
     word_of verb.Run ∷ word_of verb.Make ∷ word_of verb.Order ∷ word_of verb.Account ∷ word_of verb.Receipt
-    ∷ word_of verb.Prove ∷ word_of verb.CheckProof ∷ word_of verb.CheckState ∷ word_of verb.Apply
-    ∷ word_of verb.Schedule ∷ word_of verb.Compare ∷ []
+    ∷ word_of verb.Prove ∷ word_of verb.Frames ∷ word_of verb.Anchors ∷ word_of verb.Statement
+    ∷ word_of verb.CheckProof ∷ word_of verb.CheckState ∷ word_of verb.Apply ∷ word_of verb.Schedule
+    ∷ word_of verb.Compare ∷ []

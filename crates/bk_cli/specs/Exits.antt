@@ -37,13 +37,25 @@ exit_number exit.Missing = 5
 
 -- ---- which job may end how
 
--- a query whose reply is a verdict: no, or yes so far
+-- a query whose reply is a verdict, which may be no
 abbrev pub gives_state : Query → Bool
 gives_state query.Order = false
 gives_state (query.Account id) = false
 gives_state (query.Receipt place) = false
 gives_state (query.Proof id) = false
 gives_state (query.State root) = true
+gives_state query.Anchors = false
+gives_state (query.Statement id) = false
+
+-- a query whose reply says whether a batch of the order is missing
+abbrev pub tells_missing : Query → Bool
+tells_missing query.Order = false
+tells_missing (query.Account id) = false
+tells_missing (query.Receipt place) = false
+tells_missing (query.Proof id) = false
+tells_missing (query.State root) = true
+tells_missing query.Anchors = false
+tells_missing (query.Statement id) = true
 
 -- a job whose answer may be no
 abbrev pub gives_verdict : Job → Bool
@@ -51,17 +63,20 @@ gives_verdict (job.Run workers file) = false
 gives_verdict (job.Make file) = false
 gives_verdict (job.CheckProof root file) = true
 gives_verdict (job.Ask workers asked file) = gives_state asked
+gives_verdict (job.Frames file) = false
 gives_verdict (job.Apply file) = false
 gives_verdict (job.Schedule workers feed events) = false
 gives_verdict (job.Compare first second) = false
 
--- what a query asks for may be absent; an order never is, and a digest is right or wrong
+-- what a query asks for may be absent; an order and its anchors never are, and a digest is right or wrong
 abbrev pub may_be_absent : Query → Bool
 may_be_absent query.Order = false
 may_be_absent (query.Account id) = true
 may_be_absent (query.Receipt place) = true
 may_be_absent (query.Proof id) = true
 may_be_absent (query.State root) = false
+may_be_absent query.Anchors = false
+may_be_absent (query.Statement id) = true
 
 -- a job that may end with no: by its answer, or since what it asks for is absent
 abbrev pub may_say_no : Job → Bool
@@ -69,6 +84,7 @@ may_say_no (job.Run workers file) = false
 may_say_no (job.Make file) = false
 may_say_no (job.CheckProof root file) = true
 may_say_no (job.Ask workers asked file) = gives_state asked || may_be_absent asked
+may_say_no (job.Frames file) = false
 may_say_no (job.Apply file) = false
 may_say_no (job.Schedule workers feed events) = false
 may_say_no (job.Compare first second) = false
@@ -79,6 +95,7 @@ refuses (job.Run workers file) = true
 refuses (job.Make file) = true
 refuses (job.CheckProof root file) = false
 refuses (job.Ask workers asked file) = true
+refuses (job.Frames file) = true
 refuses (job.Apply file) = true
 refuses (job.Schedule workers feed events) = true
 refuses (job.Compare first second) = true
@@ -89,6 +106,7 @@ finds_order (job.Run workers file) = true
 finds_order (job.Make file) = false
 finds_order (job.CheckProof root file) = false
 finds_order (job.Ask workers asked file) = true
+finds_order (job.Frames file) = false
 finds_order (job.Apply file) = false
 finds_order (job.Schedule workers feed events) = false
 finds_order (job.Compare first second) = true
@@ -98,7 +116,8 @@ abbrev pub reports_missing : Job → Bool
 reports_missing (job.Run workers file) = true
 reports_missing (job.Make file) = false
 reports_missing (job.CheckProof root file) = false
-reports_missing (job.Ask workers asked file) = gives_state asked
+reports_missing (job.Ask workers asked file) = tells_missing asked
+reports_missing (job.Frames file) = false
 reports_missing (job.Apply file) = false
 reports_missing (job.Schedule workers feed events) = false
 reports_missing (job.Compare first second) = false
@@ -109,9 +128,21 @@ reads_second (job.Run workers file) = false
 reads_second (job.Make file) = false
 reads_second (job.CheckProof root file) = false
 reads_second (job.Ask workers asked file) = false
+reads_second (job.Frames file) = false
 reads_second (job.Apply file) = false
 reads_second (job.Schedule workers feed events) = true
 reads_second (job.Compare first second) = true
+
+-- a job that writes while it reads: where it refuses the bytes, its first lines are out
+abbrev pub writes_ahead : Job → Bool
+writes_ahead (job.Run workers file) = false
+writes_ahead (job.Make file) = false
+writes_ahead (job.CheckProof root file) = false
+writes_ahead (job.Ask workers asked file) = false
+writes_ahead (job.Frames file) = true
+writes_ahead (job.Apply file) = false
+writes_ahead (job.Schedule workers feed events) = false
+writes_ahead (job.Compare first second) = false
 
 -- how a job may end
 abbrev pub may_end : Job → Exit → Bool
@@ -148,6 +179,15 @@ is_refusal exit.WrongInput = true
 is_refusal exit.Stopped = true
 is_refusal exit.Failed = false
 is_refusal exit.Missing = false
+
+-- a fault is reported
+abbrev pub has_fault : Exit → Bool
+has_fault exit.Whole = false
+has_fault exit.No = false
+has_fault exit.WrongInput = true
+has_fault exit.Stopped = true
+has_fault exit.Failed = true
+has_fault exit.Missing = false
 
 -- ---- the exit after an answer
 
@@ -218,6 +258,8 @@ absence (query.Account id) = Err (fault.AbsentAccount id)
 absence (query.Receipt place) = Err (fault.AbsentPlace place)
 absence (query.Proof id) = Err (fault.AbsentAccount id)
 absence (query.State root) = Ok exit.Whole
+absence query.Anchors = Ok exit.Whole
+absence (query.Statement id) = Err (fault.AbsentAccount id)
 
 -- after a reply to a query
 abbrev pub ending : Query → Reply → Result Exit JobFault

@@ -3,7 +3,7 @@
 ghost use Rattle.std.specs.Prelude.{◌≡◌, true, false, IfOk};
 ghost use Rattle.clap.specs.Words.{app_of, new_app, rule_of, with_subcommand};
 ghost use Rattle.clap.specs.declared.builder.command.Command.TheViews.{out-Command};
-ghost use Rattle.bk_cli.specs.CommandLine.{program, asking_line, single_line, command_line, file_line, value_line, schedule_line, state_line};
+ghost use Rattle.bk_cli.specs.CommandLine.{program, asking_line, single_line, viewing_line, command_line, file_line, value_line, schedule_line, working_line};
 ghost use Rattle.bk_cli.specs.CommandLine.{file_rule, workers_rule, required_rule, id_rule, place_rule, compare_line};
 
 use crate::help::{self, Help};
@@ -100,14 +100,20 @@ fn value_command<'a>(
     named(alloc, name, text).arg(value)?.arg(file_arg(alloc))
 }
 
-// The command `check-state [--workers W] ROOT [FILE]`.
-fn state_command<'a>(alloc: Global) -> Result<Command<'a>, AllocError>
-    ensures line { IfOk result (λ c. app_of c ≡ state_line) }
+// A command `NAME [--workers W] VALUE [FILE]`.
+fn working_command<'a>(
+    alloc: Global,
+    name: &'a str,
+    value: Arg<'a>,
+    text: Help<'a>,
+) -> Result<Command<'a>, AllocError>
+    requires { value.global ≡ false }
+    ensures line { IfOk result (λ c. app_of c ≡ working_line name.now (rule_of value.entry)) }
     ensures local { IfOk result (λ c. (out-Command c).has_globals ≡ false) }
 {
-    named(alloc, "check-state", help::CHECK_STATE)
+    named(alloc, name, text)
         .arg(workers_arg(alloc, help::WORKERS))?
-        .arg(required_arg(alloc, "ROOT", help::ROOT))?
+        .arg(value)?
         .arg(file_arg(alloc))
 }
 
@@ -167,14 +173,21 @@ fn with_value<'a>(
     program.subcommand(command)
 }
 
-// The program with the command `check-state`.
-fn with_state<'a>(alloc: Global, program: Command<'a>) -> Result<Command<'a>, AllocError>
-    requires { (out-Command program).has_globals ≡ false }
+// The same with `--workers` too.
+fn with_working<'a>(
+    alloc: Global,
+    program: Command<'a>,
+    name: &'a str,
+    value: Arg<'a>,
+    text: Help<'a>,
+) -> Result<Command<'a>, AllocError>
+    requires program { (out-Command program).has_globals ≡ false }
+    requires value { value.global ≡ false }
     ensures line { IfOk result (λ c. app_of c
-        ≡ with_subcommand (app_of program.entry) state_line.top) }
+        ≡ with_subcommand (app_of program.entry) (working_line name.now (rule_of value.entry)).top) }
     ensures local { IfOk result (λ c. (out-Command c).has_globals ≡ false) }
 {
-    let command = state_command(alloc)?;
+    let command = working_command(alloc, name, value, text)?;
     program.subcommand(command)
 }
 
@@ -225,15 +238,27 @@ fn asking_command<'a>(alloc: Global) -> Result<Command<'a>, AllocError>
     with_value(alloc, receipt, "prove", id_arg(alloc), help::PROVE)
 }
 
+// And with those that show what is in a feed.
+fn viewing_command<'a>(alloc: Global) -> Result<Command<'a>, AllocError>
+    ensures line { IfOk result (λ c. app_of c ≡ viewing_line) }
+    ensures local { IfOk result (λ c. (out-Command c).has_globals ≡ false) }
+{
+    let asking = asking_command(alloc)?;
+    let frames = with_file(alloc, asking, "frames", help::FRAMES)?;
+    let anchors = with_file(alloc, frames, "anchors", help::ANCHORS)?;
+    with_working(alloc, anchors, "statement", id_arg(alloc), help::STATEMENT)
+}
+
 // The program with all commands that read one file.
 fn single_command<'a>(alloc: Global) -> Result<Command<'a>, AllocError>
     ensures line { IfOk result (λ c. app_of c ≡ single_line) }
     ensures local { IfOk result (λ c. (out-Command c).has_globals ≡ false) }
 {
     let root = required_arg(alloc, "ROOT", help::ROOT);
-    let asking = asking_command(alloc)?;
-    let check = with_value(alloc, asking, "check-proof", root, help::CHECK_PROOF)?;
-    let state = with_state(alloc, check)?;
+    let digest = required_arg(alloc, "ROOT", help::ROOT);
+    let viewing = viewing_command(alloc)?;
+    let check = with_value(alloc, viewing, "check-proof", root, help::CHECK_PROOF)?;
+    let state = with_working(alloc, check, "check-state", digest, help::CHECK_STATE)?;
     with_file(alloc, state, "apply", help::APPLY)
 }
 

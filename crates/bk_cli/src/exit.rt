@@ -23,7 +23,7 @@ pub enum Exit {
     Stopped = 3,
     /// A read, a write or memory failed, or a worker did not finish.
     Failed = 4,
-    /// The report, or that a digest is good, is written, and the order stops at a missing batch.
+    /// The report, a statement, or that a digest is good, is written, and the order stops at a missing batch.
     Missing = 5,
 }
 

@@ -42,7 +42,7 @@ Exit status:
   2  a feed, the script or the list of events is wrong, or two feeds differ in version, committee or opening accounts
   3  a feed, or two together, are stopped by a collision or an equivocation
   4  a read, a write or memory failed, or a worker did not finish
-  5  the whole output of `run` or `check-state` is written, and the order stops at a missing batch
+  5  the whole output of `run`, `statement` or `check-state` is written, and the order stops at a missing batch
 
 Example:
   ./bkreplay run examples/order/one_commit.feed",
@@ -185,6 +185,85 @@ Exit status:
 
 Example:
   ./bkreplay prove 1 examples/order/one_commit.feed",
+};
+
+pub(crate) const FRAMES: Help<'static> = Help {
+    about: "Write a line for each frame of a feed: what it holds, and which rule a certificate breaks",
+    after: "\
+Reads a feed and writes its frames in their order. I is the number of a frame, OFFSET the byte at which it begins:
+
+  frame 0 at OFFSET committee HEX version V members N
+  frame 1 at OFFSET genesis HEX accounts A money T
+  frame I at OFFSET cert ID round R author M batches B parents P signers S good
+  frame I at OFFSET cert ID round R author M batches B parents P signers S broken RULE
+  frame I at OFFSET cert broken 0
+  frame I at OFFSET batch HEX transactions N
+  frame I at OFFSET batch HEX void
+
+HEX is SHA-256 of the payload, and T the sum of the balances. B, P, S and N count what the bytes hold. RULE is the first
+rule that the certificate breaks: 0 it is malformed, 1 author, 2 round, 3 number of parents, 4 order of parents, 5 signer,
+6 quorum, 7 tag. If the feed has a fault, the lines of the whole frames before it are written.
+
+Exit status:
+  0  all lines are written
+  1  the command line is wrong
+  2  feed fault CODE at OFFSET, with a code of 1 to 7: the bytes are not a feed from there on
+  4  feed fault 8 or 9, memory, or write failed
+
+Example:
+  ./bkreplay frames examples/order/one_commit.feed",
+};
+
+pub(crate) const ANCHORS: Help<'static> = Help {
+    about: "Write what became of the anchor of each odd round, with its votes",
+    after: "\
+Reads a feed, as `run` does, and finds its order. Writes a line for each odd round, up to the greatest round of an
+admitted certificate:
+
+  round R leader M votes V need N RESULT
+
+M is the leader of the round, N the weight of votes that commits its certificate, and V the weight of the votes that it
+has, `-` where the leader has no admitted certificate of this round. RESULT is one of
+
+  voted                           committed by its votes
+  linked                          committed, since it is in the history of a later committed anchor
+  skipped                         not committed, while a later anchor is
+  open                            not committed, and no later anchor is
+
+Exit status:
+  0  all lines are written
+  1  the command line is wrong
+  2  feed fault CODE at OFFSET, with a code of 1 to 7: the bytes are not a feed
+  3  collision ID, or equivocation ROUND AUTHOR ID ID: the feed is stopped
+  4  feed fault 8 or 9, memory, read failed, write failed, or unfinished PLACE
+
+Example:
+  ./bkreplay anchors examples/order/one_commit.feed",
+};
+
+pub(crate) const STATEMENT: Help<'static> = Help {
+    about: "Write what the transactions of the order do to one account",
+    after: "\
+Reads a feed, as `run` does, finds its order and executes its batches, up to the first missing one. Writes to standard
+output:
+
+  opening ID BALANCE SEQ          the account at the start; `absent` in place of BALANCE and SEQ if there is none
+  tx PLACE STATUS ROLE AMOUNT BALANCE SEQ
+                                  a transaction of the account: ROLE is `out` if it is the sender, `in` if it receives,
+                                  `guard` if its balance decides. AMOUNT is what it paid or got. BALANCE and SEQ are
+                                  those after the transaction; `absent` in place of both if there is no account
+  closing ID BALANCE SEQ          the account at the end; `absent` in place of BALANCE and SEQ if there is none
+
+Exit status:
+  0  all lines are written
+  1  absent account ID: there is none at any time, and no transaction has it; or the command line is wrong
+  2  feed fault CODE at OFFSET, with a code of 1 to 7: the bytes are not a feed
+  3  collision ID, or equivocation ROUND AUTHOR ID ID: the feed is stopped
+  4  feed fault 8 or 9, memory, read failed, write failed, or unfinished PLACE
+  5  all lines are written, and the order stops at a missing batch
+
+Example:
+  ./bkreplay statement 1 examples/order/one_commit.feed",
 };
 
 pub(crate) const CHECK_PROOF: Help<'static> = Help {

@@ -45,6 +45,10 @@ pub enum Job {
         asked: Query,
         file: Option<String>,
     },
+    /// Writes a line for each frame of a feed.
+    Frames {
+        file: Option<String>,
+    },
     /// Executes the batches of a feed in feed order and writes the apply report.
     Apply {
         file: Option<String>,
@@ -75,6 +79,7 @@ impl Job {
             | Job::Make { file }
             | Job::CheckProof { file, .. }
             | Job::Ask { file, .. }
+            | Job::Frames { file }
             | Job::Apply { file } => file.as_deref(),
             Job::Schedule { feed, .. } => Some(feed.as_str()),
             Job::Compare { first, .. } => Some(first.as_str()),
@@ -88,6 +93,7 @@ impl Job {
             | Job::Make { .. }
             | Job::CheckProof { .. }
             | Job::Ask { .. }
+            | Job::Frames { .. }
             | Job::Apply { .. } => None,
             Job::Schedule { events, .. } => Some(events.as_str()),
             Job::Compare { second, .. } => Some(second.as_str()),
@@ -199,6 +205,21 @@ fn state_of(
     }))
 }
 
+// The job of `statement` of this file, with the values of its other arguments.
+fn statement_of(found: &ArgMatches<'_>, file: Option<String>) -> Job
+    requires { IsFileIn (rows_of (found_of found.now)) (option_map string_bytes file) }
+    ensures { IsJobAt (codes "statement") (rows_of (found_of found.now)) result }
+{
+    let id = id_in(found);
+    let asked = Query::Statement { id };
+    let workers = workers_in(found, Workers::one());
+    Job::Ask {
+        workers,
+        asked,
+        file,
+    }
+}
+
 // The job of a query for which one thread executes.
 fn ask_one(asked: Query, file: Option<String>) -> Job
     ensures { result ≡ job.Ask 1 asked file }
@@ -231,6 +252,9 @@ fn job_of(alloc: Global, verb: Verb, found: &ArgMatches<'_>) -> Result<Option<Jo
             Ok(Some(ask_one(Query::Receipt { place }, file)))
         }
         Verb::Prove => Ok(Some(ask_one(Query::Proof { id: id_in(found) }, file))),
+        Verb::Frames => Ok(Some(Job::Frames { file })),
+        Verb::Anchors => Ok(Some(ask_one(Query::Anchors, file))),
+        Verb::Statement => Ok(Some(statement_of(found, file))),
         Verb::CheckProof => {
             let root = text_in(alloc, found, "ROOT")?;
             Ok(Some(Job::CheckProof { root, file }))

@@ -12,6 +12,9 @@ pub(crate) enum Verb {
     Account,
     Receipt,
     Prove,
+    Frames,
+    Anchors,
+    Statement,
     CheckProof,
     CheckState,
     Apply,
@@ -42,6 +45,15 @@ impl Verb {
         }
         if word == "prove" {
             return Verb::Prove;
+        }
+        if word == "frames" {
+            return Verb::Frames;
+        }
+        if word == "anchors" {
+            return Verb::Anchors;
+        }
+        if word == "statement" {
+            return Verb::Statement;
         }
         if word == "check-proof" {
             return Verb::CheckProof;

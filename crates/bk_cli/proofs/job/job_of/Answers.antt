@@ -65,6 +65,22 @@ returns-in-Prove c =
       sym (first_value-rows found (codes "FILE")) ∙ (sym c.get_str.ensures ∙ sym c.in_ok-file.ensures),
     )
 
+pub returns-in-Frames : goal.returns-in-Frames
+returns-in-Frames c =
+    let found = found_of c.args.found.now in
+    (ap word_of c.in-Frames.is, sym (first_value-rows found (codes "FILE")) ∙ (sym c.get_str.ensures ∙ sym c.in_ok-file.ensures))
+
+pub returns-in-Anchors : goal.returns-in-Anchors
+returns-in-Anchors c =
+    let found = found_of c.args.found.now in
+    rw c.ask_one-in-Anchors.ensures (ap word_of c.in-Anchors.is, refl, sym (first_value-rows found (codes "FILE")) ∙ (sym c.get_str.ensures ∙ sym c.in_ok-file.ensures))
+
+pub statement_of-requires : goal.statement_of-requires
+statement_of-requires c = let found = found_of c.args.found.now in sym (first_value-rows found (codes "FILE")) ∙ (sym c.get_str.ensures ∙ sym c.in_ok-file.ensures)
+
+pub returns-in-Statement : goal.returns-in-Statement
+returns-in-Statement c = rw c.in-Statement.is c.statement_of.ensures
+
 pub state_of-requires : goal.state_of-requires
 state_of-requires c = let found = found_of c.args.found.now in sym (first_value-rows found (codes "FILE")) ∙ (sym c.get_str.ensures ∙ sym c.in_ok-file.ensures)
 

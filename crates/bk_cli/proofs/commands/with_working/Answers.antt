@@ -3,7 +3,7 @@ use Rattle.std.proofs.Common.{ap, ◌∙◌}
 use Rattle.std.proofs.lemmas.Result.{IfOk-weaker}
 use Rattle.clap.specs.Words.{App, app_of, with_subcommand}
 use Rattle.bk_cli.proofs.InTurn.{still_local}
-use Rattle.bk_cli.proofs.commands.with_state.Goals as goal
+use Rattle.bk_cli.proofs.commands.with_working.Goals as goal
 
 pub returns-clause-line : goal.returns-clause-line
 returns-clause-line c =
@@ -11,4 +11,4 @@ returns-clause-line c =
 
 pub returns-clause-local : goal.returns-clause-local
 returns-clause-local c =
-    IfOk-weaker c.subcommand.result _ _ (λ r h. still_local _ _ _ h.globals c.requires c.in_ok-command.ensures.local) c.subcommand.ensures
+    IfOk-weaker c.subcommand.result _ _ (λ r h. still_local _ _ _ h.globals c.requires.program c.in_ok-command.ensures.local) c.subcommand.ensures
