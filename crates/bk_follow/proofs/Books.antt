@@ -1,5 +1,5 @@
 -- What is made of the frames of a feed, from the opening to a settle.
-use Rattle.std.proofs.Common.{◌≡◌, ℕ, ◌+◌, ◌^◌, ◌<◌, ◌≤◌, List, [], ◌∷◌, ◌++◌, length, map, take, drop, Option, Some, false, refl, sym, ap, subst, ◌∙◌, arith, length-append}
+use Rattle.std.proofs.Common.{◌≡◌, ℕ, ◌+◌, ◌^◌, ◌<◌, ◌≤◌, List, [], ◌∷◌, ◌++◌, length, map, take, drop, Option, Some, None, false, refl, sym, ap, subst, ◌∙◌, arith, length-append}
 use Rattle.std.specs.Prelude.{Contains, option_map}
 use Rattle.std.proofs.lemmas.List.{length-map, map-append, take-append-drop, drop_at}
 use Rattle.std.proofs.lemmas.List.Elements.{Contains-append_left, Contains-append_right}
@@ -233,6 +233,11 @@ found_in feed old now s good =
 done_is : (l : LedgerValue) (taken : Taken) (ledger : Option LedgerValue) (opening : List Row) (done : Executed) → ledger ≡ Some l → (book_with taken ledger opening).executed ≡ Some done → done ≡ executed_of l
 done_is l taken ledger opening done is is_done = let e : Some done ≡ Some (executed_of l) = sym is_done ∙ ap (option_map executed_of) is in cc
 
+-- and a good book has executed something
+pub no_ledger : (feed : FeedValue) (taken : Taken) (ledger : Option LedgerValue) (opening : List Row) → IsGoodBook feed (book_with taken ledger opening) → ledger ≡ None → ⊥
+no_ledger feed taken ledger opening good none =
+    absurd (let e : None ≡ Some good.book.done = sym (ap (option_map executed_of) none) ∙ good.book.is_done in cc)
+
 pub ledger_next : (feed : FeedValue) (intake now : Taken) (ledger : Option LedgerValue) (opening : List Row) (l : LedgerValue) → IsSettling intake now → ledger ≡ Some l → IsGoodBook feed (book_with intake ledger opening) → GoesOn (executed_of l) now.ordered.payloads.list
 ledger_next feed intake now ledger opening l s is good =
     let f = found_in feed (book_with intake ledger opening) now s good in
@@ -249,7 +254,7 @@ pub ledger_place : (feed : FeedValue) (intake now : Taken) (ledger : Option Ledg
 ledger_place feed intake now ledger opening l place s is good lt =
     let f = found_in feed (book_with intake ledger opening) now s good in
     let n = ledger_next feed intake now ledger opening l s is good in
-    (now.ordered, f.ordered, omega (arith, lt, n.all))
+    (f.clear, (now.ordered, f.ordered, omega (arith, lt, n.all)))
 
 -- why executing failed is why the settle did
 pub execution_fails : (old new : BookValue) (first end : ℕ) (x : ExecFault) → ((feed : FeedValue) (place : ℕ) → IsGoodBook feed old → place < end → HasPlaceIn feed place) → Leaves first end x → BookSettleFails old new (fault_of_execution x)

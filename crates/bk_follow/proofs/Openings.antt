@@ -1,6 +1,6 @@
 -- The first two frames, and the frames that a piece makes whole.
 use Rattle.std.proofs.Common.{◌≡◌, true, false, ℕ, zero, suc, ◌+◌, ◌*◌, ◌^◌, ◌<◌, ◌≤◌, ◌⊎◌, inl, inr, List, [], ◌∷◌, ◌++◌, length, take, drop, Option, Some, None, refl, sym, ap, subst, ◌∙◌, arith, length-append}
-use Rattle.std.specs.Prelude.{◌==◌, IfSome, is_some, slice_index_or, unwrap_or}
+use Rattle.std.specs.Prelude.{◌==◌, IfSome, IsSome, IsTrue, is_some, slice_index_or, unwrap_or}
 use Rattle.std.proofs.lemmas.List.{length-map, append-nil, length-drop}
 use Rattle.std.proofs.lemmas.Bool.{eqb-true}
 use Rattle.std.specs.Global.{Vec}
@@ -9,14 +9,15 @@ use Rattle.bk_frames.specs.declared.kind.Kind.{Kind}
 use Rattle.bk_frames.specs.declared.limits.TheConstants.{MOST_FEED}
 use Rattle.bk_frames.specs.Feed.{Frame, FeedValue, frame_of, frame_text, AreGoodFrom, feed_of, genesis_of}
 use Rattle.bk_frames.specs.declared.genesis.Row.{Row}
-use Rattle.bk_frames.specs.Genesis.{rows_of}
+use Rattle.bk_frames.specs.Committee.{is_committee}
+use Rattle.bk_frames.specs.Genesis.{is_genesis, rows_of}
 use Rattle.bk_frames.specs.Cutting.{Cut, Cuts, in_magic, past_magic, in_frames, fresh, IsOpen, frames_in}
 use Rattle.bk_frames.proofs.CutJoining.{cuts_then, bytes_so_far, none_before_magic}
 use Rattle.bk_committee.specs.Payload.{CommitteeValue, committee_of}
 use Rattle.bk_follow.specs.RunReport.{committee_in, later_frames}
 use Rattle.bk_follow.specs.Follower.{BookValue, IsBookOf, FollowsBy, Follows, HasCome, Followed, receipts_of_executed, receipts_in, executed_in}
 use Rattle.bk_follow.specs.private.Books.{HasFollowed}
-use Rattle.bk_follow.specs.private.Openings.{IsFirstOf, IsOpening, OpensFirst, OpensSecond, IsOpened}
+use Rattle.bk_follow.specs.private.Openings.{HeadIsCommittee, HeadIsGenesis, IsFirstOf, IsOpening, OpensFirst, OpensSecond, IsOpened}
 use Rattle.bk_follow.specs.private.Parts.{followed}
 use Rattle.bk_follow.specs.declared.opening.Opened.{Opened}
 
@@ -98,6 +99,54 @@ first_taken (g ∷ more) new f lt is rest = (
 pub none_is_none : {X : Type 0} (o : Option X) → is_some o ≡ true → o ≡ None → ⊥
 none_is_none None e n = absurd cc
 none_is_none (Some x) e n = absurd cc
+
+-- ---- what the first two frames hold
+
+good_committee : (version : Version) (frames : List Frame) → AreGoodFrom version 0 4 frames → HeadIsCommittee version frames
+good_committee version [] good = tt
+good_committee version (f ∷ more) good = good.0.committee refl
+
+good_genesis : (version : Version) (offset : ℕ) (frames : List Frame) → AreGoodFrom version 1 offset frames → HeadIsGenesis frames
+good_genesis version offset [] good = tt
+good_genesis version offset (f ∷ more) good = good.0.genesis refl
+
+pub head_first : (version : Version) (before more : List Frame) (committee : Option CommitteeValue) (book : Option BookValue) → HasFollowed version before more committee book
+    → committee ≡ None → book ≡ None → HeadIsCommittee version more
+head_first version before more committee book h c b =
+    let follows : FollowsBy version before None None = subst (λ (y : Option CommitteeValue × Option BookValue). FollowsBy version before y.0 y.1) (λ i. (c i, b i)) h.follows in
+    good_committee version more (subst (λ (fs : List Frame). AreGoodFrom version 0 4 (fs ++ more)) (before_first version before follows) h.good)
+
+second_head : (version : Version) (first : Frame) (more : List Frame) → AreGoodFrom version 0 4 (first ∷ more) → HeadIsGenesis more
+second_head version first more good = good_genesis version _ more good.1
+
+no_some : {X : Type 0} (o : Option X) → o ≡ None → IsSome o → ⊥
+no_some o e h = absurd (let n = subst IsSome e h in cc)
+
+pub head_second : (version : Version) (before f0 f1 : List Frame) (c0 c1 : Option CommitteeValue) → OpensFirst version c0 f0 c1 f1 → HasFollowed version before f0 c0 None
+    → IsSome c1 → HeadIsGenesis f1
+head_second version before f0 f1 (Some k) c1 one h some =
+    let e = after_first version before k h.follows in
+    subst HeadIsGenesis (sym one.1) (second_head version e.first f0 (subst (λ (fs : List Frame). AreGoodFrom version 0 4 (fs ++ f0)) e.all h.good))
+head_second version before [] f1 None c1 one h some = absurd (no_some c1 one.0 some)
+head_second version before (f ∷ more) f1 None c1 one h some =
+    subst HeadIsGenesis (sym one.1) (second_head version f more (subst (λ (fs : List Frame). AreGoodFrom version 0 4 (fs ++ (f ∷ more))) (before_first version before h.follows) h.good))
+
+-- the payload that is taken out is that of the first frame
+pub taken_committee : (version : Version) (payload : List ℕ) (old new : List Frame) → IsFirstOf payload old new → HeadIsCommittee version old → IsTrue (is_committee version payload)
+taken_committee version payload [] new h head = absurd (let p = h.1 in cc)
+taken_committee version payload (f ∷ more) new h head =
+    let first : h.0 ≡ f = let p = h.1 in cc in
+    subst (λ (p : List ℕ). IsTrue (is_committee version p)) (sym (ap (λ (x : Frame). x.payload) first) ∙ h.2) head
+
+pub taken_genesis : (payload : List ℕ) (old new : List Frame) → IsFirstOf payload old new → HeadIsGenesis old → IsTrue (is_genesis payload)
+taken_genesis payload [] new h head = absurd (let p = h.1 in cc)
+taken_genesis payload (f ∷ more) new h head =
+    let first : h.0 ≡ f = let p = h.1 in cc in
+    subst (λ (p : List ℕ). IsTrue (is_genesis p)) (sym (ap (λ (x : Frame). x.payload) first) ∙ h.2) head
+
+pub is_there : {X : Type 0} (o : Option X) → is_some o ≡ true → IsSome o
+is_there None e = absurd cc
+is_there (Some x) e = e
 
 -- a committee is there already
 pub first_stands : (version : Version) (committee : Option CommitteeValue) (frames : List Frame) → is_some committee ≡ true → OpensFirst version committee frames committee frames

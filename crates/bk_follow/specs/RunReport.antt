@@ -92,10 +92,11 @@ pub record IsStopped (bytes : List ℕ) (found : Fault) : Type 0 where
   pub spelled : bytes ≡ spelling feed
   pub stop : IsStopIn feed found
 
--- the order of a feed has a transaction at this place
+-- nothing stops a feed, and its order has a transaction at this place
 abbrev pub HasPlaceIn : FeedValue → ℕ → Type 0
 HasPlaceIn feed place =
-    (o : Ordered) × IsOrderIn feed o × (place < length (transactions_of o.payloads.list))
+    HasNoStopIn feed
+    × ((o : Ordered) × IsOrderIn feed o × (place < length (transactions_of o.payloads.list)))
 
 -- and that of bytes, where they are the encoding of that feed
 pub record HasPlace (bytes : List ℕ) (place : ℕ) : Type 0 where

@@ -156,7 +156,7 @@ impl Book {
         }
         self.intake.settle()?;
         let Some(ledger) = self.ledger.take() else {
-            return Err(Fault::Memory);
+            unreachable!()
         };
         let before = ledger.receipts().len();
         let ledger = execute_rest(rt, self.alloc, &self.intake, ledger, workers, gate)?;

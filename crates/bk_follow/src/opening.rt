@@ -1,19 +1,20 @@
 //! The first two frames of a feed, and what follows them.
 
-ghost use Rattle.std.specs.Prelude.{◌≡◌, ◌++◌, [], ℕ, List, None, Some, Option, OnOk, IfOk, IfErr, IfSome, MatchOption};
+ghost use Rattle.std.specs.Prelude.{◌≡◌, ◌++◌, [], ℕ, List, None, Some, Option, OnOk, IfOk, IfErr, IfSome, IsSome, IsTrue, MatchOption};
 ghost use Rattle.bk_frames.specs.declared.version.Version.{Version};
 ghost use Rattle.bk_frames.specs.Cutting.{frames_in};
 ghost use Rattle.bk_frames.specs.Feed.{Frame};
-ghost use Rattle.bk_frames.specs.Genesis.{AreAccounts, rows_of};
-ghost use Rattle.bk_committee.specs.Payload.{committee_of};
+ghost use Rattle.bk_frames.specs.Committee.{is_committee};
+ghost use Rattle.bk_frames.specs.Genesis.{AreAccounts, is_genesis, rows_of};
+ghost use Rattle.bk_committee.specs.Payload.{blamed, committee_of};
 ghost use Rattle.bk_follow.specs.Follower.{HasCome, Takes, FollowsBy, FeedFails, receipts_in, executed_in};
 ghost use Rattle.bk_follow.specs.private.Books.{HasFollowed};
-ghost use Rattle.bk_follow.specs.private.Openings.{IsFirstOf, IsOpening, OpensFirst, OpensSecond, IsOpened};
+ghost use Rattle.bk_follow.specs.private.Openings.{HeadIsCommittee, HeadIsGenesis, IsFirstOf, IsOpening, OpensFirst, OpensSecond, IsOpened};
 ghost use Rattle.bk_follow.specs.private.Parts.{followed};
 
 use crate::book::Book;
 use crate::fault::Fault;
-use bk_committee::Committee;
+use bk_committee::{Bad, Committee};
 use bk_frames::{Cutter, Kind, Row, Version, read_genesis};
 use std::alloc::{AllocError, Global};
 use std::thread::Threads;
@@ -25,25 +26,34 @@ pub(crate) struct Opened {
     pub(crate) book: Option<Book>,
 }
 
+// The error of a committee that was not read, though its payload is one: memory was refused.
+fn memory_refused(_bad: Bad) -> AllocError
+    requires { blamed _bad ≡ None }
+{
+    AllocError
+}
+
 // The committee of frame 0, which the cutter has judged.
 fn committee_of(alloc: Global, version: Version, payload: &[u8]) -> Result<Committee, AllocError>
+    requires { IsTrue (is_committee version payload.now) }
     ensures { IfOk result (λ committee. committee ≡ committee_of version payload.now) }
 {
     match Committee::parse(alloc, version, payload) {
         Ok(committee) => Ok(committee),
-        Err(_) => Err(AllocError),
+        Err(bad) => Err(memory_refused(bad)),
     }
 }
 
 // The opening accounts of frame 1, which the cutter has judged.
 fn genesis_of(alloc: Global, payload: &[u8]) -> Result<Vec<Row>, AllocError>
+    requires { IsTrue (is_genesis payload.now) }
     ensures rows { IfOk result (λ rows. rows_of payload.now ≡ Some rows.items) }
     ensures accounts { IfOk result (λ rows. AreAccounts rows.items) }
 {
-    match read_genesis(alloc, payload)? {
-        Some(rows) => Ok(rows),
-        None => Err(AllocError),
-    }
+    let Some(rows) = read_genesis(alloc, payload)? else {
+        unreachable!()
+    };
+    Ok(rows)
 }
 
 // The payload of the first of these frames, which is taken out of them.
@@ -65,6 +75,7 @@ fn open_first(
     committee: &mut Option<Committee>,
     frames: &mut Vec<(Kind, Vec<u8>)>,
 ) -> Result<(), AllocError>
+    requires { committee.old ≡ None → HeadIsCommittee version (frames_in frames.old.items) }
     ensures { OnOk result (OpensFirst version committee.old (frames_in frames.old.items)
         committee.new (frames_in frames.new.items)) }
 {
@@ -80,6 +91,7 @@ fn open_first(
 
 // The book of a committee and of frame 1, which the cutter has judged.
 fn book_of(alloc: Global, committee: Committee, payload: &[u8]) -> Result<Book, AllocError>
+    requires { IsTrue (is_genesis payload.now) }
     ensures { IfOk result (λ b. (second : Frame) → second.payload ≡ payload.now
         → IsOpening committee second b) }
 {
@@ -94,7 +106,8 @@ fn open_second(
     opened: &mut Opened,
     frames: &mut Vec<(Kind, Vec<u8>)>,
 ) -> Result<(), AllocError>
-    requires { opened.old.book ≡ None }
+    requires none { opened.old.book ≡ None }
+    requires head { IsSome opened.old.committee → HeadIsGenesis (frames_in frames.old.items) }
     ensures { OnOk result (OpensSecond opened.old.committee (frames_in frames.old.items)
         opened.new.committee opened.new.book (frames_in frames.new.items)) }
 {
@@ -118,6 +131,8 @@ fn open(
     opened: &mut Opened,
     frames: &mut Vec<(Kind, Vec<u8>)>,
 ) -> Result<(), AllocError>
+    requires come { (before : List Frame) × HasFollowed version before
+        (frames_in frames.old.items) opened.old.committee opened.old.book }
     ensures opened { OnOk result ((before : List Frame)
         → FollowsBy version before opened.old.committee opened.old.book
         → IsOpened version (before ++ frames_in frames.old.items)

@@ -1,13 +1,25 @@
 -- What the first two frames of a feed open.
-use Rattle.std.specs.Prelude.{◌≡◌, ℕ, List, [], ◌∷◌, ◌++◌, Option, Some, None}
+use Rattle.std.specs.Prelude.{◌≡◌, ℕ, List, [], ◌∷◌, ◌++◌, Option, Some, None, IsTrue, Unit}
 use Rattle.bk_frames.specs.declared.version.Version.{Version}
+use Rattle.bk_frames.specs.Committee.{is_committee}
 use Rattle.bk_frames.specs.Feed.{Frame, feed_of}
+use Rattle.bk_frames.specs.Genesis.{is_genesis}
 use Rattle.bk_committee.specs.Payload.{CommitteeValue, committee_of}
 use Rattle.bk_follow.specs.Follower.{BookValue, IsBookOf, FollowsBy, receipts_of_executed}
 
 -- the payload is that of the first frame, and the others are left
 abbrev pub IsFirstOf : List ℕ → List Frame → List Frame → Type 0
 IsFirstOf payload old new = (f : Frame) × (old ≡ f ∷ new) × (f.payload ≡ payload)
+
+-- the first of these frames, if there is one, holds a committee
+abbrev pub HeadIsCommittee : Version → List Frame → Type 0
+HeadIsCommittee version [] = Unit {0}
+HeadIsCommittee version (f ∷ more) = IsTrue (is_committee version f.payload)
+
+-- the first of these frames, if there is one, holds opening accounts
+abbrev pub HeadIsGenesis : List Frame → Type 0
+HeadIsGenesis [] = Unit {0}
+HeadIsGenesis (f ∷ more) = IsTrue (is_genesis f.payload)
 
 -- the committee is read of the first frame, where there is none yet
 abbrev pub OpensFirst : Version → Option CommitteeValue → List Frame → Option CommitteeValue → List Frame

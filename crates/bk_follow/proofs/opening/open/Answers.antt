@@ -1,7 +1,8 @@
 use Rattle.std.proofs.Common.{refl, sym, ap, subst, ◌∙◌}
 use Rattle.bk_frames.specs.Cutting.{frames_in}
 use Rattle.bk_follow.specs.Follower.{FollowsBy, receipts_in}
-use Rattle.bk_follow.proofs.Openings.{none_there, opened_stands, opened_now, nothing_executed, executed_same, executed_none}
+use Rattle.bk_follow.specs.private.Books.{HasFollowed}
+use Rattle.bk_follow.proofs.Openings.{head_first, head_second, none_there, opened_stands, opened_now, nothing_executed, executed_same, executed_none}
 use Rattle.bk_follow.proofs.opening.open.Goals as goal
 
 pub returns-then-is_some-clause-opened : goal.returns-then-is_some-clause-opened
@@ -13,8 +14,17 @@ returns-then-is_some-clause-receipts c = refl
 pub returns-then-is_some-clause-executed : goal.returns-then-is_some-clause-executed
 returns-then-is_some-clause-executed c = executed_same c.args.opened.now.book
 
-pub open_second-requires : goal.open_second-requires
-open_second-requires c = none_there c.args.opened.now.book (sym c.if-is_some.ensures)
+pub open_first-requires : goal.open_first-requires
+open_first-requires c = λ none.
+    head_first c.args.version c.requires.0 (frames_in c.args.frames.now.items) c.args.opened.now.committee c.args.opened.now.book c.requires.1 none (none_there c.args.opened.now.book (sym c.if-is_some.ensures))
+
+pub open_second-requires-clause-head : goal.open_second-requires-clause-head
+open_second-requires-clause-head c = λ some.
+    head_second c.args.version c.requires.0 (frames_in c.args.frames.now.items) (frames_in c.open_first.new.frames.items) c.args.opened.now.committee c.open_first.new.committee c.in_ok-open_first.ensures
+    (subst (λ (b : _). HasFollowed c.args.version c.requires.0 (frames_in c.args.frames.now.items) c.args.opened.now.committee b) (none_there c.args.opened.now.book (sym c.if-is_some.ensures)) c.requires.1) some
+
+pub open_second-requires-clause-none : goal.open_second-requires-clause-none
+open_second-requires-clause-none c = none_there c.args.opened.now.book (sym c.if-is_some.ensures)
 
 pub returns-clause-opened : goal.returns-clause-opened
 returns-clause-opened c = λ before h. opened_now c.args.version before c.args.opened.now.committee c.open_first.new.committee c.open_second.new.opened.committee

@@ -1,7 +1,7 @@
-use Rattle.std.proofs.Common.{sym, subst, arith}
+use Rattle.std.proofs.Common.{sym, subst, arith, ◌∙◌}
 use Rattle.std.proofs.lemmas.Result.{err_from_is_err_and}
 use Rattle.bk_follow.specs.private.Books.{IsGoodBook, BookSettleFails}
-use Rattle.bk_follow.proofs.Books.{IsSettling, ledger_next, ledger_done, ledger_place, execution_fails}
+use Rattle.bk_follow.proofs.Books.{IsSettling, ledger_next, ledger_done, ledger_place, no_ledger, execution_fails}
 use Rattle.bk_follow.proofs.book.Book.settle.Goals as goal
 
 pub execute_rest-requires-clause-within : goal.execute_rest-requires-clause-within
@@ -38,3 +38,11 @@ returns-clause-settled g c = λ feed good.
     let e = c.in_ok-ledger.ensures.executed in
     ledger_done feed c.self.inside.intake c.settle.new.self c.self.inside.ledger c.self.inside.opening.items c.in-Some-take.ledger c.in_ok-ledger.ledger s (sym c.in-Some-take.ensures.value) (subst (IsGoodBook feed) (sym c.self.view_is) good)
     (record { version = e.version; counts = e.counts_are; receipts = e.receipts; rows = e.rows })
+
+pub unreachable-unreachable : goal.unreachable-unreachable
+unreachable-unreachable g c = no_ledger c.requires.good.0 c.self.inside.intake c.self.inside.ledger c.self.inside.opening.items
+    (subst (IsGoodBook c.requires.good.0) (sym c.self.view_is) c.requires.good.1) (sym c.take.ensures.value ∙ c.in_default-take.is)
+
+pub unreachable-requires : goal.unreachable-requires
+unreachable-requires g c = no_ledger c.requires.good.0 c.self.inside.intake c.self.inside.ledger c.self.inside.opening.items
+    (subst (IsGoodBook c.requires.good.0) (sym c.self.view_is) c.requires.good.1) (sym c.take.ensures.value ∙ c.in_default-take.is)
