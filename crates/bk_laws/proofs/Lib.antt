@@ -12,6 +12,7 @@ pub mod Fitting
 pub mod Proving
 pub mod Replying
 pub mod Growing
+pub mod Following
 pub mod Comparing
 pub mod Rejecting
 pub mod Scheduling

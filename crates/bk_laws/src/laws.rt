@@ -1,5 +1,6 @@
 //! The laws, each the contract of a function that does nothing.
 
+ghost use Rattle.bk_laws.specs.Following.{ExecutedIsFold, NamesFirstFault, OrderSoFarStays, ReceiptsStay};
 ghost use Rattle.bk_laws.specs.Laws.{AccountsFit, ExactlyOneAnswer, ExactlyOneComparison, ExactlyOneReply, ExactlyOneScheduleAnswer, FaultOrApplyReport, FewPlaces, OrderedIsFinal, OrderOfFramesIsNothing, ProofsOfFeedsAreGood, RejectedAreBroken, RejectedStay, StopsStay};
 
 use bk_steps::one_answer;
@@ -78,4 +79,26 @@ pub fn few_places()
 /// that feed's report: what `prove` writes, `check-proof` accepts.
 pub fn proofs_of_feeds_are_good()
     ensures { ProofsOfFeedsAreGood }
+{}
+
+/// However a feed is cut into pieces, a fault of it that `Follower::feed` returns is the first fault of all bytes so far,
+/// and stays it whatever follows.
+pub fn names_first_fault()
+    ensures { NamesFirstFault }
+{}
+
+/// What `Follower::order` returns begins what it returns at every later moment, while nothing stops the feed.
+pub fn order_so_far_stays()
+    ensures { OrderSoFarStays }
+{}
+
+/// The receipts of a settled Follower begin those of every later moment at which it is settled.
+pub fn receipts_stay()
+    ensures { ReceiptsStay }
+{}
+
+/// What a Follower has executed, and so what `account`, `receipt` and `prove` speak of, is the fold over all places of the
+/// order of a part of its whole frames: of those that there were at the last settle.
+pub fn executed_is_fold()
+    ensures { ExecutedIsFold }
 {}

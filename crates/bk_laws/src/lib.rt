@@ -2,14 +2,15 @@
 //!
 //! Every byte string comes to exactly one thing, every query of a feed that has a report to one reply, and every two feeds
 //! to one comparison. What a feed has ordered, executed and rejected stays so as it grows, in whatever order its frames
-//! come. Every list of events comes to one thing. The proof of an account is good for the state in the report. Nothing
-//! else stands on this crate.
+//! come, and so it is of a Follower between its pieces. Every list of events comes to one thing. The proof of an account
+//! is good for the state in the report. Nothing else stands on this crate.
 #![tactic(auto)]
 
 mod laws;
 
 pub use laws::{
     accounts_fit, exactly_one_answer, exactly_one_comparison, exactly_one_reply,
-    exactly_one_schedule_answer, fault_or_apply_report, few_places, order_of_frames_is_nothing,
-    ordered_is_final, proofs_of_feeds_are_good, rejected_are_broken, rejected_stay, stops_stay,
+    exactly_one_schedule_answer, executed_is_fold, fault_or_apply_report, few_places,
+    names_first_fault, order_of_frames_is_nothing, order_so_far_stays, ordered_is_final,
+    proofs_of_feeds_are_good, receipts_stay, rejected_are_broken, rejected_stay, stops_stay,
 };
