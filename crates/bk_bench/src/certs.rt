@@ -60,29 +60,58 @@ impl Maker {
         Ok(Cert::seal(alloc, self.header(alloc)?, &self.committee, &self.signers)?)
     }
 
-    /// Does the work `count` times, and gives a digest that depends on it.
-    pub(crate) fn repeat(&self, alloc: Global, work: &str, count: u32) -> Result<Digest32> {
+    // Does the work once, on a certificate, its encoding and that of its header. Each work that makes something is a
+    // function of its own, so that no value is alive in all of them.
+    fn work_once(
+        &self,
+        alloc: Global,
+        work: &str,
+        cert: &Cert,
+        bytes: &[u8],
+        header_bytes: &[u8],
+    ) -> Result<Digest32> {
+        match work {
+            "hash" => Ok(Digest32::of(bytes)),
+            "hash-header" => Ok(Digest32::of(header_bytes)),
+            "decode" => decoded(alloc, bytes),
+            "id" => Ok(cert.header().id()),
+            "header" => self.new_header(alloc),
+            "seal" => self.sealed(alloc),
+            _ => bail!("no such work"),
+        }
+    }
+
+    fn new_header(&self, alloc: Global) -> Result<Digest32> {
+        let header = self.header(alloc)?;
+        Ok(first(header.parents()))
+    }
+
+    fn sealed(&self, alloc: Global) -> Result<Digest32> {
         let cert = self.cert(alloc)?;
+        Ok(first(cert.tags()))
+    }
+
+    // Does the work `count` times on this certificate.
+    fn repeat_on(&self, alloc: Global, work: &str, count: u32, cert: &Cert) -> Result<Digest32> {
         let bytes = cert.encode(alloc)?;
         let header_bytes = cert.header().header_bytes(alloc)?;
         let mut last = Digest32::of(&bytes);
         for _ in 0..count {
-            last = match work {
-                "hash" => Digest32::of(&bytes),
-                "hash-header" => Digest32::of(&header_bytes),
-                "decode" => first(
-                    Cert::decode(alloc, &bytes)?
-                        .context("no certificate")?
-                        .tags(),
-                ),
-                "id" => cert.header().id(),
-                "header" => first(self.header(alloc)?.parents()),
-                "seal" => first(self.cert(alloc)?.tags()),
-                _ => bail!("no such work"),
-            };
+            last = self.work_once(alloc, work, cert, &bytes, &header_bytes)?;
         }
         Ok(last)
     }
+
+    /// Does the work `count` times, and gives a digest that depends on it.
+    pub(crate) fn repeat(&self, alloc: Global, work: &str, count: u32) -> Result<Digest32> {
+        let cert = self.cert(alloc)?;
+        self.repeat_on(alloc, work, count, &cert)
+    }
+}
+
+fn decoded(alloc: Global, bytes: &[u8]) -> Result<Digest32> {
+    let cert = Cert::decode(alloc, bytes)?.context("no certificate")?;
+    Ok(first(cert.tags()))
 }
 
 // The digests of the first texts of one byte: `count` of them.

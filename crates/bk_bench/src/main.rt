@@ -111,19 +111,29 @@ fn hashing<R: Threads + Sync>(rt: &R, alloc: Global, work: &str, count: u32) -> 
     })
 }
 
+fn count_of(word: &str) -> Result<u32> {
+    Ok(word.parse::<u32>().context("the count")?)
+}
+
+// Works on certificates of a size.
+fn certificates(alloc: Global, work: &str, count: u32, size: &str) -> Result<Digest32> {
+    let maker = Maker::of(alloc, size)?;
+    maker.repeat(alloc, work, count)
+}
+
+// Does what the words ask for.
+fn work_of<R: Threads + Sync>(rt: &R, alloc: Global, words: &[String]) -> Result<Digest32> {
+    match words {
+        [_, work, count] => hashing(rt, alloc, work, count_of(count)?),
+        [_, work, count, size] => certificates(alloc, work, count_of(count)?, size),
+        _ => bail!("usage: bk_bench WORK COUNT [SIZE]"),
+    }
+}
+
 fn main(rt: HostRuntime) -> Result<()> {
     let alloc = rt.alloc();
     let words: Vec<String> = env::args(&rt)?.collect(alloc)?;
-    let (work, count, size) = match words.as_slice() {
-        [_, work, count] => (work, count, None),
-        [_, work, count, size] => (work, count, Some(size)),
-        _ => bail!("usage: bk_bench WORK COUNT [SIZE]"),
-    };
-    let count = count.parse::<u32>().context("the count")?;
-    let digest = match size {
-        None => hashing(&rt, alloc, work, count)?,
-        Some(size) => Maker::of(alloc, size)?.repeat(alloc, work, count)?,
-    };
+    let digest = work_of(&rt, alloc, &words)?;
     println!(rt; "{digest}")?;
     Ok(())
 }
