@@ -4,7 +4,7 @@ ghost use Rattle.std.specs.Prelude.{◌≡◌, true, false, IfOk};
 ghost use Rattle.clap.specs.Words.{app_of, new_app, rule_of, with_subcommand};
 ghost use Rattle.clap.specs.declared.builder.command.Command.TheViews.{out-Command};
 ghost use Rattle.bk_cli.specs.CommandLine.{program, asking_line, single_line, viewing_line, command_line, file_line, value_line, schedule_line, working_line};
-ghost use Rattle.bk_cli.specs.CommandLine.{file_rule, workers_rule, required_rule, id_rule, place_rule, compare_line};
+ghost use Rattle.bk_cli.specs.CommandLine.{file_rule, workers_rule, required_rule, root_rule, id_rule, place_rule, compare_line};
 
 use crate::help::{self, Help};
 use clap::{Arg, ArgAction, Command, value_parser};
@@ -42,6 +42,14 @@ fn required_arg<'a>(alloc: Global, name: &'a str, text: &'a str) -> Arg<'a>
         .action(ArgAction::Set)
         .required(true)
         .help(text)
+}
+
+// The argument ROOT.
+fn root_arg<'a>(alloc: Global) -> Arg<'a>
+    ensures rule { rule_of result ≡ root_rule }
+    ensures local { result.global ≡ false }
+{
+    required_arg(alloc, "ROOT", help::ROOT)
 }
 
 // The argument ID.
@@ -254,11 +262,21 @@ fn single_command<'a>(alloc: Global) -> Result<Command<'a>, AllocError>
     ensures line { IfOk result (λ c. app_of c ≡ single_line) }
     ensures local { IfOk result (λ c. (out-Command c).has_globals ≡ false) }
 {
-    let root = required_arg(alloc, "ROOT", help::ROOT);
-    let digest = required_arg(alloc, "ROOT", help::ROOT);
     let viewing = viewing_command(alloc)?;
-    let check = with_value(alloc, viewing, "check-proof", root, help::CHECK_PROOF)?;
-    let state = with_working(alloc, check, "check-state", digest, help::CHECK_STATE)?;
+    let check = with_value(
+        alloc,
+        viewing,
+        "check-proof",
+        root_arg(alloc),
+        help::CHECK_PROOF,
+    )?;
+    let state = with_working(
+        alloc,
+        check,
+        "check-state",
+        root_arg(alloc),
+        help::CHECK_STATE,
+    )?;
     with_file(alloc, state, "apply", help::APPLY)
 }
 
