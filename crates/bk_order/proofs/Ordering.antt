@@ -17,7 +17,7 @@ use Rattle.bk_evidence.specs.declared.batches.BatchRef.{BatchRef}
 use Rattle.bk_commit.specs.Growth.{IsPartOf, Begins}
 use Rattle.bk_rounds.specs.Votes.{IsVoted}
 use Rattle.bk_commit.specs.Ordering.{IsCommitted, IsCommittedBack, IsWayBack}
-use Rattle.bk_commit.proofs.Grown.{walk_present}
+use Rattle.bk_commit.proofs.Grown.{voted_more, walk_present, way_back_more}
 use Rattle.bk_flatten.specs.Order.{IsOrder}
 use Rattle.bk_flatten.specs.Batches.{once, named_at, digests_of, AreFound, IsFoundWhole, before_missing, payload_at}
 use Rattle.bk_flatten.proofs.Growth.{names_same}
@@ -38,7 +38,7 @@ use Rattle.bk_rounds.specs.Rounds.{RoundsValue, rounds_with}
 use Rattle.bk_evidence.specs.Batches.{has_digest, batch_with}
 use Rattle.bk_order.specs.Frames.{AreCerts, AreBatches}
 use Rattle.bk_order.specs.Stops.{HasNoStop}
-use Rattle.bk_order.specs.Orders.{IsOrderOf, AreWaiting, ordered_with}
+use Rattle.bk_order.specs.Orders.{AreRoundsOf, AreWaiting, IsOrderOf, Ordered, ordered_with}
 use Rattle.bk_order.specs.Intake.{nothing_ordered}
 use Rattle.bk_order.specs.declared.settling.Settled.{Settled}
 use Rattle.bk_order.specs.private.Joined.{IsJoined, order_in, IsFollowed, IsSettled, IsSettling}
@@ -170,6 +170,14 @@ clear_same held others part h = record {
   no_twins = λ c d a b e. h.no_twins c d (part c a) (part d b) e;
 }
 
+-- anchors that are committed are so over the same certificates in another list
+committed_same : (z : Sizes) (one other : List Node) → IsClear other → IsPartOf one other → IsPartOf other one → (back : List CertRef) → IsCommittedBack z one back → IsCommittedBack z other back
+committed_same z one other clear into from [] h = λ a voted. h a (voted_more z other one from a voted)
+committed_same z one other clear into from (a ∷ rest) h = (
+  record { voted = voted_more z one other into a h.0.voted; greatest = λ b voted. h.0.greatest b (voted_more z other one from b voted) },
+  way_back_more z one other into clear a rest h.0.voted.anchor.present h.1,
+)
+
 module _ (k : CommitteeValue) (frames : List Frame) (held : List Node) (rounds : RoundsValue) (joined : IsJoined k held rounds) (are : AreCerts k frames held) (none : HasNoStop k frames) where
   certs_in_rounds : AreCerts k frames rounds.held
   certs_in_rounds = record {
@@ -194,6 +202,16 @@ module _ (k : CommitteeValue) (frames : List Frame) (held : List Node) (rounds :
     are_certs = certs_in_rounds;
     listed = subst (λ (z : Sizes). Lists places (WaitsAt z rounds.held)) joined.sizes h;
   }
+
+  pub rounds_told : AreRoundsOf k frames rounds
+  rounds_told = record { sizes = joined.sizes; certs = certs_in_rounds }
+
+  pub committed_told : (o : Ordered) → IsOrderOf k frames o → IsCommitted rounds.sizes rounds.held o.anchors
+  committed_told o h =
+      let into : IsPartOf h.certs rounds.held = λ c t. certs_in_rounds.complete c (h.are_certs.sound c t) in
+      let from : IsPartOf rounds.held h.certs = λ c t. h.are_certs.complete c (certs_in_rounds.sound c t) in
+      let clear : IsClear rounds.held = clear_same rounds.held none.certs (λ c t. none.are_certs.complete c (certs_in_rounds.sound c t)) none.none.clear in
+      subst (λ (z : Sizes). IsCommitted z rounds.held o.anchors) (sym joined.sizes) (committed_same (sizes_of k) h.certs rounds.held clear into from (reverse o.anchors) h.committed)
 
 -- an empty table
 pub joined_none : (k : CommitteeValue) (held : List Node) (rounds : RoundsValue) → AreCerts k [] held → rounds ≡ rounds_with (sizes_of k) [] → IsJoined k held rounds

@@ -5,6 +5,7 @@ use Rattle.bk_committee.specs.Payload.{CommitteeValue, sizes_of}
 use Rattle.bk_cert.specs.Node.{Node}
 use Rattle.bk_cert.specs.declared.place.CertRef.{CertRef}
 use Rattle.bk_rounds.specs.Admission.{WaitsAt}
+use Rattle.bk_rounds.specs.Rounds.{RoundsValue}
 use Rattle.bk_cert.specs.Place.{Lists}
 use Rattle.bk_evidence.specs.Batches.{Batch}
 use Rattle.bk_commit.specs.Ordering.{IsCommitted}
@@ -39,3 +40,8 @@ pub record AreWaiting (k : CommitteeValue) (frames : List Frame) (places : List 
   pub certs : List Node
   pub are_certs : AreCerts k frames certs
   pub listed : Lists places (WaitsAt (sizes_of k) certs)
+
+-- the table of rounds of what the frames hold
+pub record AreRoundsOf (k : CommitteeValue) (frames : List Frame) (rounds : RoundsValue) : Type 0 where
+  pub sizes : rounds.sizes ≡ sizes_of k
+  pub certs : AreCerts k frames rounds.held

@@ -3,9 +3,10 @@
 ghost use Rattle.std.specs.Prelude.{◌≡◌, ◌++◌, ℕ, ◌+◌, ◌<◌, ◌^◌, [], List, Bool, true, false, OnOk, OnErr, IfOk, MatchOption, Some, length, slice_get};
 ghost use Rattle.std.specs.Option.{option_copied};
 ghost use Rattle.bk_frames.specs.Feed.{Frame};
+ghost use Rattle.bk_commit.specs.Ordering.{IsCommitted};
 ghost use Rattle.bk_frames.specs.Cutting.{frames_in};
 ghost use Rattle.bk_order.specs.Stops.{HasNoStop, IsStop};
-ghost use Rattle.bk_order.specs.Orders.{AreWaiting, IsOrderOf};
+ghost use Rattle.bk_order.specs.Orders.{AreRoundsOf, AreWaiting, IsOrderOf};
 ghost use Rattle.bk_order.specs.Intake.{HasTaken, IsKeptOf, nothing_ordered};
 ghost use Rattle.bk_order.specs.private.Joined.{GoesOn, IsJoined, kept_in};
 
@@ -18,6 +19,7 @@ use bk_cert::CertRef;
 use bk_committee::Committee;
 use bk_digest::Digest32;
 use bk_frames::Kind;
+use bk_rounds::Rounds;
 use std::alloc::{AllocError, Global};
 use std::marker::Model;
 use std::thread::Threads;
@@ -227,5 +229,18 @@ impl Intake {
     {
         let places = self.table.rounds.waiting()?;
         Ok(places)
+    }
+
+    /// The table of the certificates of all frames so far, by round and author.
+    pub fn rounds(&self) -> &Rounds
+        ensures table { (frames : List Frame) → HasTaken frames self.now
+            → self.now.failed ≡ false → HasNoStop self.now.committee frames
+            → AreRoundsOf self.now.committee frames result.now }
+        ensures committed { (frames : List Frame) → HasTaken frames self.now
+            → self.now.failed ≡ false → HasNoStop self.now.committee frames
+            → IsOrderOf self.now.committee frames self.now.ordered
+            → IsCommitted result.now.sizes result.now.held self.now.ordered.anchors }
+    {
+        &self.table.rounds
     }
 }
