@@ -1,3 +1,5 @@
 pub mod Committed
+pub mod Texts
+pub mod OneRows
 pub mod Marking
 pub mod Listing

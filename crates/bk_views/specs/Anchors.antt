@@ -1,5 +1,6 @@
 -- What became of the anchor of each odd round, and how a line says it.
-use Rattle.std.specs.Prelude.{◌≡◌, ℕ, ◌+◌, ◌*◌, ◌<◌, ◌≤◌, List, ◌++◌, Contains, length, slice_index_or, codes, decimal, Option, Some, None}
+use Rattle.std.specs.Prelude.{◌≡◌, ℕ, ◌+◌, ◌*◌, ◌<◌, ◌≤◌, List, [], ◌∷◌, ◌++◌, Contains, length, slice_index_or, codes, decimal, Option, Some, None}
+use Rattle.std.specs.List.{flat_map}
 use Rattle.bk_committee.specs.Sizes.{Sizes, faulty, leader}
 use Rattle.bk_cert.specs.Node.{Node}
 use Rattle.bk_cert.specs.declared.place.CertRef.{CertRef}
@@ -78,3 +79,7 @@ abbrev pub row_text : AnchorRow → List ℕ
 row_text row =
     codes "round" ++ spaced row.round ++ codes " leader" ++ spaced row.leader ++ codes " "
     ++ tally_text row.votes row.need row.state
+
+-- the text of rows: the line of each, with a line feed at its end
+abbrev pub rows_text : List AnchorRow → List ℕ
+rows_text rows = flat_map (λ (row : AnchorRow). row_text row ++ 10 ∷ []) rows

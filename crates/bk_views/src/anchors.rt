@@ -1,10 +1,10 @@
 //! What became of the anchor of each odd round.
 
-ghost use Rattle.std.specs.Prelude.{◌≡◌, ◌<◌, ◌≤◌, ◌↔◌, ℕ, List, Some, IfOk, IsTrue};
+ghost use Rattle.std.specs.Prelude.{◌≡◌, ◌<◌, ◌≤◌, ◌↔◌, ◌++◌, ℕ, List, Some, IfOk, OnOk, IsTrue, string_bytes};
 ghost use Rattle.bk_cert.specs.declared.place.CertRef.{CertRef};
 ghost use Rattle.bk_commit.specs.Ordering.{IsCommitted};
 ghost use Rattle.bk_rounds.specs.Votes.{IsAnchorOf};
-ghost use Rattle.bk_views.specs.Anchors.{AreRows, AreVotesIn, IsCommittedIn, IsPassed, IsRowOf, row_text, state_word, tally_text, votes_word};
+ghost use Rattle.bk_views.specs.Anchors.{AreRows, AreVotesIn, IsCommittedIn, IsPassed, IsRowOf, row_text, rows_text, state_word, tally_text, votes_word};
 ghost use Rattle.bk_views.specs.private.States.{state_by};
 
 use crate::marks::{marks_of, newest_of};
@@ -13,6 +13,7 @@ use bk_commit::anchor;
 use bk_rounds::Rounds;
 use std::alloc::{AllocError, Global};
 use std::fmt;
+use std::fmt::Write;
 
 /// What became of the anchor of a round.
 #[derive(Clone, Copy, Debug, PartialEq, Eq)]
@@ -112,6 +113,17 @@ pub fn anchor_rows(
         rows.push(row)?;
     }
     Ok(rows)
+}
+
+/// Adds the line of each of these rows to a text, with a line feed at its end.
+pub fn push_rows(text: &mut String, rows: &[AnchorRow]) -> Result<(), AllocError>
+    ensures { OnOk result (string_bytes text.new ≡ string_bytes text.old ++ rows_text rows.now) }
+{
+    for row in rows {
+        let row = *row;
+        writeln!(text, "{row}")?;
+    }
+    Ok(())
 }
 
 // Votes in a line: a dash where there is no anchor.
