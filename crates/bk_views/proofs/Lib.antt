@@ -1,5 +1,9 @@
 pub mod Committed
 pub mod Texts
+mod PartsPlayed
+mod Telling
+mod Reading
+mod Adding
 pub mod OneRows
 pub mod Marking
 pub mod Listing

@@ -1,3 +1,5 @@
 pub mod Anchors
+pub mod Statement
+pub mod Told
 pub mod Laws
 pub mod private
