@@ -1,4 +1,4 @@
-//! Workers that are started and joined one inside the other.
+//! Workers that are started and joined one inside the other, and the last in the thread that starts them.
 ghost use Rattle.std.specs.Prelude.{◌≡◌};
 ghost use Rattle.std.specs.Thread.{IsSync, IsSend};
 ghost use Rattle.bk_bank.specs.Bank.{bank_scene, IsPassOf};
@@ -24,8 +24,8 @@ impl Promise<Pass> for OfBank {
     ghost kept_by = { λ b pass. IsPassOf b.0.value pass };
 }
 
-/// Starts one worker for each end, and joins them all. One for which no thread can be made is done
-/// without, and its pass is lost.
+/// Runs one worker for each end, the last of them in the calling thread, and joins them all. One for
+/// which no thread can be made is done without, and its pass is lost.
 pub(crate) fn levels<R: Threads + Wait + Sync, G: Gate + Sync, H: Hints + Send + Drop>(
     rt: &R,
     bank: &Bank,
@@ -42,6 +42,9 @@ pub(crate) fn levels<R: Threads + Wait + Sync, G: Gate + Sync, H: Hints + Send +
     let Some(mut end) = ends.pop() else {
         return pass;
     };
+    if ends.is_empty() {
+        return work(bank, plan, gate, pass, &mut end);
+    }
     let (mine, rest) = bank.split(pass);
     thread::scope(
         thread::scope_env(),

@@ -115,8 +115,27 @@ fn run_ends<R: Threads + Wait + Sync, G: Gate + Sync, H: Hints + Send + Drop>(
     outcome_of(alloc, plan, state, &words)
 }
 
-/// Executes a plan from a state that it can run on, with so many workers. They take the places in
-/// order, a range at a time, and steal from each other what becomes ready later.
+/// Executes a plan from a state that it can run on, in the calling thread. No thread is started.
+///
+/// `Unfinished` names a place that was taken and not finished.
+pub fn execute_here<G: Gate>(
+    alloc: Global,
+    plan: &Arc<Plan>,
+    state: State,
+    gate: &G,
+) -> Result<Outcome, ExecFault>
+    requires runs { CanRunOn (arc_value plan.now) state }
+    ensures fold { IfOk result (λ o. IsFoldOf (arc_value plan.now) state o) }
+    ensures unfinished { IfErr result (λ e. IsBelow (length (arc_value plan.now).txs) e) }
+{
+    let (bank, pass) = Bank::new(alloc, plan, &state)?;
+    let done = claim_left(&bank, plan, gate, pass);
+    let words = bank.close(done);
+    outcome_of(alloc, plan, state, &words)
+}
+
+/// Executes a plan from a state that it can run on, with so many workers, the last of them in the
+/// calling thread. They take the places in order, a range at a time, and steal from each other what becomes ready later.
 pub fn execute<R: Threads + Wait + Sync, G: Gate + Sync>(
     rt: &R,
     alloc: Global,
