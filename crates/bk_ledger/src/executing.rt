@@ -7,6 +7,9 @@ ghost use Rattle.std.specs.Prelude.{◌≡◌, ◌+◌, ◌^◌, ◌<◌, ◌≤
 ghost use Rattle.std.specs.Arc.{arc_value};
 ghost use Rattle.std.specs.Thread.{IsSync};
 ghost use Rattle.bk_rules.specs.Fold.{HasRoom};
+ghost use Rattle.bk_conflicts.specs.SceneOf.{CanRunOn};
+ghost use Rattle.bk_pool.specs.Outcomes.{IsBelow};
+ghost use Rattle.bk_steps.specs.Schedule.{IsFoldOf};
 ghost use Rattle.bk_tx.specs.Batches.{transactions_of};
 ghost use Rattle.bk_ledger.specs.Executing.{HasExecuted, HasRun, Leaves};
 ghost use Rattle.bk_ledger.specs.private.Slices.{CanRunPart, IsAheadOf, IsPlannedOn, IsReadOf, IsReady, IsSame, counts_of, txs_of};
@@ -14,11 +17,35 @@ ghost use Rattle.bk_ledger.specs.private.Slices.{CanRunPart, IsAheadOf, IsPlanne
 use crate::ledger::Ledger;
 use crate::ready::{Ahead, Next, Ready, look_ahead, read_two};
 use crate::slice::{FEWEST, least_of};
-use bk_conflicts::SLOTS_END;
-use bk_pool::{ExecFault, Gate, execute};
+use crate::workers::{WORTH_THREADS, workers_at_once};
+use bk_conflicts::{Plan, SLOTS_END};
+use bk_pool::{ExecFault, Gate, execute, execute_here};
+use bk_rules::State;
+use bk_steps::Outcome;
 use std::alloc::{AllocError, Global};
-use std::sync::Wait;
+use std::sync::{Arc, Wait};
 use std::thread::{Threads, join};
+
+// Executes a plan from a state that it can run on, with so many workers. For one of them, and for few transactions, no
+// thread is started.
+fn run_plan<R: Threads + Wait + Sync, G: Gate + Sync>(
+    rt: &R,
+    alloc: Global,
+    plan: &Arc<Plan>,
+    state: State,
+    workers: usize,
+    gate: &G,
+) -> Result<Outcome, ExecFault>
+    requires runs { CanRunOn (arc_value plan.now) state }
+    requires workers { (1 ≤ workers) × (workers ≤ 64) }
+    ensures fold { IfOk result (λ o. IsFoldOf (arc_value plan.now) state o) }
+    ensures unfinished { IfErr result (λ e. IsBelow (length (arc_value plan.now).txs) e) }
+{
+    if workers == 1 || plan.len() < WORTH_THREADS {
+        return execute_here(alloc, plan, state, gate);
+    }
+    execute(rt, alloc, plan, state, workers, gate)
+}
 
 impl Ledger {
     // Makes a slice ready: in version Two it gives each account a slot that the transactions declare.
@@ -68,7 +95,7 @@ impl Ledger {
         let mut state = state;
         let first = receipts.len() as u32;
         let part = state.part(alloc, &ready.list, ready.plan.ids())?;
-        match execute(rt, alloc, &ready.plan, part, workers, gate) {
+        match run_plan(rt, alloc, &ready.plan, part, workers, gate) {
             Ok(outcome) => {
                 counts.extend_from_slice(&ready.counts)?;
                 receipts.extend_from_slice(&outcome.receipts)?;
@@ -179,6 +206,7 @@ impl Ledger {
             IfErr result (Leaves first (first + length added)) }
     {
         let mut ledger = self;
+        let workers = workers_at_once(rt, workers);
         let end = payloads.len();
         let mut ahead = read_two(alloc, payloads, ledger.state().ids(), 0, fewest)?;
         while ahead.from < end {
@@ -191,6 +219,10 @@ impl Ledger {
     }
 
     /// Executes further batches, a slice at a time, with this many workers, 1 to 64.
+    ///
+    /// No more threads execute a slice at once than there are processors but two, on which later slices are prepared; with
+    /// two workers or more they are two at least. The calling thread is one of them, and the only one for a slice of few
+    /// transactions.
     ///
     /// Opening accounts have room for fewer than 2^63 transactions in all (`bk_rules::room_is_left`).
     ///

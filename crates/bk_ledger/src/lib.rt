@@ -13,6 +13,7 @@ mod ready;
 mod slice;
 mod summary;
 mod touched;
+mod workers;
 
 pub use batches::Batches;
 pub use bk_pool::{ExecFault, Gate, Open};
