@@ -7,3 +7,4 @@ pub mod ProofReading
 pub mod ProofPaths
 pub mod ProofChecks
 pub mod MadeProofs
+pub mod Pieces

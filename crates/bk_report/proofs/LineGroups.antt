@@ -61,7 +61,7 @@ line_of_tx receipts i d lt =
 
 -- ---- groups of lines
 
-text_two : (xs ys : List Line) → text_of xs ++ text_of ys ≡ text_of (xs ++ ys)
+pub text_two : (xs ys : List Line) → text_of xs ++ text_of ys ≡ text_of (xs ++ ys)
 text_two xs ys = sym (flat_map-append (λ (l : Line). line_text l ++ 10 ∷ []) xs ys)
 
 -- two groups that are put in turn

@@ -5,3 +5,4 @@ pub mod RunLines
 pub mod Proofs
 pub mod ProofLaws
 pub mod Pages
+pub mod Sheets

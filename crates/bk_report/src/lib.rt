@@ -14,6 +14,8 @@ mod page;
 mod proof;
 mod reading;
 mod report;
+mod rows;
+mod sheets;
 
 pub use checking::{MOST_PROOF, check_proof};
 pub use groups::{
@@ -25,3 +27,4 @@ pub use line::Line;
 pub use page::{Page, push_line};
 pub use proof::{Proof, proof_of};
 pub use report::{Parts, write_run};
+pub use sheets::{Sheets, sheets_for};

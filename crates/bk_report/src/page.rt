@@ -6,7 +6,7 @@ ghost use Rattle.bk_frames.specs.Device.{CanBeUsed};
 ghost use Rattle.bk_report.specs.Lines.{line_text, placed, hashed};
 ghost use Rattle.bk_results.specs.Lines.{spaced};
 ghost use Rattle.bk_report.specs.declared.line.Line.TheVariants.{Members};
-ghost use Rattle.bk_report.specs.Pages.{Gathered, Written};
+ghost use Rattle.bk_report.specs.Pages.{Gathered, Written, size_of};
 
 use crate::line::Line;
 use bk_digest::Digest32;
@@ -18,8 +18,8 @@ use std::marker::Model;
 // A page goes out before it has more bytes. The number is none of the format's.
 const PAGE: usize = 65_536;
 
-// No line has more bytes, its line feed among them.
-const LINE: usize = 96;
+/// No line has more bytes, its line feed among them.
+pub(crate) const LINE: usize = 96;
 
 // Puts a text where there is room for it.
 fn put_text(page: &mut Vec<u8>, text: &[u8])
@@ -87,8 +87,8 @@ fn put_members(page: &mut Vec<u8>, members: u8, faulty: u64, quorum: u64)
     put_number(page, quorum);
 }
 
-// Puts a line and its line feed where there is room for it.
-fn put_line(page: &mut Vec<u8>, line: Line)
+/// Puts a line and its line feed where there is room for it.
+pub(crate) fn put_line(page: &mut Vec<u8>, line: Line)
     requires { vec_len page.old + 96 ≤ vec_capacity page.old }
     ensures items { page.new.items ≡ page.old.items ++ (line_text line ++ 10 ∷ []) }
     ensures len { vec_len page.new ≤ vec_len page.old + 96 }
@@ -205,6 +205,7 @@ impl Page {
         ensures written { Written result (K.state sink.old)
             (K.state sink.new) self.old self.new [] }
         ensures empty { OnOk result (self.new.bytes ≡ []) }
+        ensures size { OnOk result (size_of self.new ≡ size_of self.old) }
     {
         match push_all(sink, &self.bytes) {
             Ok(()) => {
@@ -217,6 +218,39 @@ impl Page {
                 Err(WriteFault { written })
             }
         }
+    }
+
+    // Lets a text go out, where the page is empty.
+    fn push<K: Sink>(&mut self, sink: &mut K, text: &[u8]) -> Result<(), WriteFault>
+        requires sound { CanBeUsed (K.state sink.old) }
+        requires empty { self.old.bytes ≡ [] }
+        requires size { size_of self.old + length text.now < 2 ^ 62 }
+        ensures written { Written result (K.state sink.old) (K.state sink.new) self.old self.new
+            text.now }
+        ensures size { OnOk result (size_of self.new ≡ size_of self.old + length text.now) }
+    {
+        match push_all(sink, text) {
+            Ok(()) => {
+                self.out += text.len() as u64;
+                Ok(())
+            }
+            Err(fault) => {
+                let out = self.out + fault.written;
+                Err(WriteFault { written: out })
+            }
+        }
+    }
+
+    /// Lets the page go out, and a text after it.
+    pub(crate) fn put_whole<K: Sink>(&mut self, sink: &mut K, text: &[u8]) -> Result<(), WriteFault>
+        requires sound { CanBeUsed (K.state sink.old) }
+        requires size { size_of self.old + length text.now < 2 ^ 62 }
+        ensures written { Written result (K.state sink.old) (K.state sink.new) self.old self.new
+            text.now }
+        ensures size { OnOk result (size_of self.new ≡ size_of self.old + length text.now) }
+    {
+        self.flush(sink)?;
+        self.push(sink, text)
     }
 
     /// Puts a line, and lets the page go out first where it could get too long.

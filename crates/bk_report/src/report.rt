@@ -18,6 +18,7 @@ use crate::groups::{
 };
 use crate::line::Line;
 use crate::page::Page;
+use crate::sheets::{Sheets, put_sheets};
 use bk_cert::CertRef;
 use bk_committee::Committee;
 use bk_digest::{Digest32, tree_root_with};
@@ -117,7 +118,7 @@ fn put_payloads<K: Sink>(
     }
 }
 
-// Puts the transactions and the accounts.
+// Puts the transactions and the accounts, on one thread.
 fn put_rows<K: Sink>(sink: &mut K, page: &mut Page, parts: &Parts) -> Result<(), WriteFault>
     requires sound { CanBeUsed (K.state sink.old) }
     requires receipts { length parts.now.receipts.now < 2 ^ 32 }
@@ -129,6 +130,28 @@ fn put_rows<K: Sink>(sink: &mut K, page: &mut Page, parts: &Parts) -> Result<(),
 {
     put_receipts(sink, page, parts.receipts)?;
     put_accounts(sink, page, parts.rows)
+}
+
+// The same, on several threads where there are sheets.
+fn put_all<R: Threads + Sync, K: Sink>(
+    rt: &R,
+    sink: &mut K,
+    page: &mut Page,
+    sheets: &mut Option<Sheets>,
+    parts: &Parts,
+) -> Result<(), WriteFault>
+    requires sound { CanBeUsed (K.state sink.old) }
+    requires receipts { length parts.now.receipts.now < 2 ^ 32 }
+    requires rows { length parts.now.rows.now < 2 ^ 32 }
+    requires size { size_of page.old < 2 ^ 43 }
+    ensures written { Written result (K.state sink.old) (K.state sink.new) page.old page.new
+        (text_of (rows_lines parts.now.receipts.now parts.now.rows.now)) }
+    ensures size { OnOk result (size_of page.new < 2 ^ 44) }
+{
+    match sheets {
+        Some(sheets) => put_sheets(rt, sink, page, sheets, parts.receipts, parts.rows),
+        None => put_rows(sink, page, parts),
+    }
 }
 
 // Puts the money and the digest of the state.
@@ -153,6 +176,7 @@ fn put_beside<R: Threads + Sync, K: Sink>(
     rt: &R,
     sink: &mut K,
     page: &mut Page,
+    sheets: &mut Option<Sheets>,
     parts: &Parts,
 ) -> (Digest32, Result<(), WriteFault>)
     requires sound { CanBeUsed (K.state sink.old) }
@@ -172,13 +196,14 @@ fn put_beside<R: Threads + Sync, K: Sink>(
             ensures { result ≡ root_of leaves.entry.now }
         { tree_root_with(rt, leaves) },
         &mut || -> Result<(), WriteFault>
-            requires { CanBeUsed (K.state sink.now) × (length parts.now.receipts.now < 2 ^ 32)
+            requires { IsSync R.row × CanBeUsed (K.state sink.now)
+                × (length parts.now.receipts.now < 2 ^ 32)
                 × (length parts.now.rows.now < 2 ^ 32) × (size_of page.now < 2 ^ 43) }
             ensures { Written result (K.state sink.entry.now) (K.state sink.exit.now)
                 page.entry.now page.exit.now
                 (text_of (rows_lines parts.entry.now.receipts.now parts.entry.now.rows.now))
                 × OnOk result (size_of page.exit.now < 2 ^ 44) }
-        { put_rows(sink, page, parts) },
+        { put_all(rt, sink, page, sheets, parts) },
     )
 }
 
@@ -187,6 +212,7 @@ fn put_ledger<R: Threads + Sync, K: Sink>(
     rt: &R,
     sink: &mut K,
     page: &mut Page,
+    sheets: &mut Option<Sheets>,
     parts: &Parts,
 ) -> Result<(), WriteFault>
     requires sound { CanBeUsed (K.state sink.old) }
@@ -199,16 +225,20 @@ fn put_ledger<R: Threads + Sync, K: Sink>(
         (text_of (ledger_lines parts.now.receipts.now parts.now.rows.now)) }
     ensures size { OnOk result (size_of page.new < 2 ^ 45) }
 {
-    let (state, put) = put_beside(rt, sink, page, parts);
+    let (state, put) = put_beside(rt, sink, page, sheets, parts);
     put?;
     put_ending(sink, page, parts.total, state)
 }
 
 /// Writes the report of a run, a page at a time. O(n).
+///
+/// With sheets, up to four threads at once make the lines of the transactions and of the accounts. A thread that cannot
+/// be started is done without.
 pub fn write_run<R: Threads + Sync, K: Sink>(
     rt: &R,
     sink: &mut K,
     page: &mut Page,
+    sheets: &mut Option<Sheets>,
     parts: &Parts,
 ) -> Result<(), WriteFault>
     requires sound { CanBeUsed (K.state sink.old) }
@@ -233,6 +263,6 @@ pub fn write_run<R: Threads + Sync, K: Sink>(
     put_head(sink, page, parts.committee, parts.frames)?;
     put_order(sink, page, parts)?;
     put_payloads(sink, page, parts.counts, parts.missing)?;
-    put_ledger(rt, sink, page, parts)?;
+    put_ledger(rt, sink, page, sheets, parts)?;
     page.flush(sink)
 }
