@@ -1,0 +1,10 @@
+pub mod Frames
+pub mod FoundOf
+pub mod PartsOf
+pub mod Puts
+pub mod Words
+pub mod Openness
+pub mod Edges
+pub mod Refusals
+pub mod LineTexts
+pub mod ShownSoFar

@@ -1,0 +1,99 @@
+-- What the line of a frame says, and what is listed so far.
+use Rattle.std.specs.Prelude.{◌≡◌, ℕ, ◌+◌, ◌<◌, List, [], ◌∷◌, ◌++◌, length, take, codes, Option, Some, None}
+use Rattle.std.specs.List.{AllZip, flat_map}
+use Rattle.bk_frames.specs.declared.version.Version.{Version}
+use Rattle.bk_frames.specs.Device.{Device, Works, Fails, Receives}
+use Rattle.bk_frames.specs.Writing.{Writes}
+use Rattle.bk_results.specs.declared.fault.Fault.{Fault}
+use Rattle.bk_results.specs.declared.fault.Fault.TheVariants as fault
+use Rattle.bk_results.specs.Devices.{IsUntouched}
+use Rattle.bk_frames.specs.Feed.{Frame, frame_text}
+use Rattle.bk_committee.specs.Payload.{CommitteeValue, committee_of}
+use Rattle.bk_certcheck.specs.declared.rule.Rule.TheVariants as rule
+use Rattle.bk_listing.specs.Listing.{AreWords, AreLinesFrom, IsListing, committee_words, genesis_words, cert_words, rule_words, batch_words}
+use Rattle.bk_listing.specs.declared.rows.Shown.{Shown}
+use Rattle.bk_listing.specs.declared.rows.Shown.TheVariants as shown
+use Rattle.bk_listing.specs.declared.lines.Place.{Place}
+use Rattle.bk_listing.specs.declared.lister.Lister.{Lister}
+
+-- the words of a row
+abbrev pub row_words : CommitteeValue → Shown → List ℕ
+row_words k (shown.Committee digest) = committee_words k digest
+row_words k (shown.Genesis digest accounts money) = genesis_words digest accounts money
+row_words k shown.Malformed = codes "cert" ++ rule_words (Some rule.Shape)
+row_words k (shown.Good row) = codes "cert" ++ cert_words row ++ rule_words None
+row_words k (shown.Broken row r) = codes "cert" ++ cert_words row ++ rule_words (Some r)
+row_words k (shown.Batch digest count) = batch_words digest (Some count)
+row_words k (shown.Void digest) = batch_words digest None
+
+-- the words of a row are those of the frame
+abbrev pub IsRow : CommitteeValue → Frame → Shown → Type 0
+IsRow k f row = AreWords k f.kind f.payload (row_words k row)
+
+-- the place of the frame that follows these
+pub record IsPlaceAfter (start : Place) (frames : List Frame) (place : Place) : Type 0 where
+  pub index : place.index ≡ start.index + length frames
+  pub offset : place.offset ≡ start.offset + length (flat_map frame_text frames)
+
+-- the lines of these frames were put after a text
+pub record PutsLines (k : CommitteeValue) (start place : Place) (frames : List Frame) (old new : List ℕ) : Type 0 where
+  pub text : List ℕ
+  pub put : new ≡ old ++ text
+  pub lines : AreLinesFrom k start.index start.offset frames text
+  pub after : IsPlaceAfter start frames place
+
+-- the committee of these frames, once there is one of them
+abbrev pub IsCommitteeOf : Version → List Frame → Option CommitteeValue → Type 0
+IsCommitteeOf version [] committee = committee ≡ None
+IsCommitteeOf version (first ∷ more) committee = committee ≡ Some (committee_of version first.payload)
+
+-- this is the listing of frames, after which a lister stands
+pub record HasListed (version : Version) (frames : List Frame) (text : List ℕ) (l : Lister) : Type 0 where
+  pub listing : IsListing version frames text
+  pub committee : IsCommitteeOf version frames l.committee
+  pub index : l.place.index ≡ length frames
+  pub offset : l.place.offset ≡ 4 + length (flat_map frame_text frames)
+
+-- a committee is that of the first of these frames where none was known, and else stays
+abbrev pub OpensBy : Version → List Frame → Option CommitteeValue → Option CommitteeValue → Type 0
+OpensBy version frames (Some k) new = new ≡ Some k
+OpensBy version frames None new = IsCommitteeOf version frames new
+
+-- why lines did not go out whole after so many bytes: the sink failed, and exactly the first of their bytes are out; or
+-- the count of bytes would not fit, and none are
+abbrev pub PushFails : Fault → ℕ → List ℕ → Device → Device → Type 0
+PushFails (fault.Feed found) before lines old new = ⊥
+PushFails (fault.Collision id) before lines old new = ⊥
+PushFails (fault.Equivocation round author first second) before lines old new = ⊥
+PushFails (fault.Unfinished place) before lines old new = ⊥
+PushFails (fault.Write written) before lines old new =
+    Fails old new × (part : ℕ) × (written ≡ before + part) × (part < length lines) × Receives old new (take part lines)
+PushFails fault.Memory before lines old new = IsUntouched old new
+
+-- these lines are those of the frames that follow those that were listed
+abbrev pub GoesOn : Version → List Frame → Lister → Lister → List ℕ → Type 0
+GoesOn version frames old new lines =
+    (before : List Frame) (text : List ℕ) → HasListed version before text old
+    → HasListed version (before ++ frames) (text ++ lines) new
+
+-- frames were listed after those before them
+abbrev pub ListsMore : Version → List Frame → Lister → Lister → Device → Device → Type 0
+ListsMore version frames old new before after =
+    (lines : List ℕ) × GoesOn version frames old new lines × Writes lines before after
+    × (new.written ≡ old.written + length lines)
+
+-- the listing goes on with these lines
+abbrev pub AreNext : Version → List Frame → Lister → List ℕ → Type 0
+AreNext version frames l lines =
+    (before : List Frame) (text : List ℕ) → HasListed version before text l
+    → IsListing version (before ++ frames) (text ++ lines)
+
+-- why they were not: the sink failed in the lines that come next, or memory ran out and nothing more is out
+abbrev pub MoreFails : Fault → Version → List Frame → Lister → Device → Device → Type 0
+MoreFails (fault.Feed found) version frames l before after = ⊥
+MoreFails (fault.Collision id) version frames l before after = ⊥
+MoreFails (fault.Equivocation round author first second) version frames l before after = ⊥
+MoreFails (fault.Unfinished place) version frames l before after = ⊥
+MoreFails (fault.Write written) version frames l before after =
+    (lines : List ℕ) × AreNext version frames l lines × PushFails (fault.Write written) l.written lines before after
+MoreFails fault.Memory version frames l before after = IsUntouched before after
