@@ -1,5 +1,5 @@
 -- Where the bytes are to blame for the exit.
-use Rattle.std.proofs.Common.{◌≡◌, ℕ, List, Option, Some, None, IfSome, true, inl, inr}
+use Rattle.std.proofs.Common.{◌≡◌, ℕ, List, Option, Some, None, IfSome, true, false, inl, inr, refl}
 use Rattle.bk_frames.specs.Device.{Device, IfKnown}
 use Rattle.bk_frames.specs.Feed.{FeedValue, HasFault}
 use Rattle.bk_frames.specs.Pulling.{Refuses}
@@ -31,7 +31,7 @@ use Rattle.bk_results.specs.declared.events_fault.EventsFault.TheVariants as unr
 use Rattle.bk_cli.specs.declared.list_fault.ListFault.TheVariants as list
 use Rattle.bk_jobs.specs.Schedules.{AreNoEvents, AreRefused, Lists}
 use Rattle.bk_jobs.specs.Sources.{AreBroken, Inputs, JobDevices, inputs_of}
-use Rattle.bk_cli.specs.Exits.{exit_after, exit_after_compare, exit_by_code, is_refusal}
+use Rattle.bk_cli.specs.Exits.{exit_after, exit_after_compare, exit_by_code, is_refusal, writes_ahead}
 use Rattle.bk_jobs.specs.Comparisons.{AgreeNot, HaveSomeStop}
 use Rattle.bk_jobs.specs.Faults.{AreStopped, AreToBlame, MakeNoFeed, JobFailsBy}
 
@@ -125,76 +125,115 @@ compare_blames first second (compared.Differ (differ.Twins round author one othe
 )
 compare_blames first second (compared.Differ differ.Memory) old new h r = absurd (cc)
 
-pub bytes_to_blame : (j : Job) (e : JobFault) (old new : JobDevices) → JobFailsBy j e old new → is_refusal (exit_after e) ≡ true
+blames : (j : Job) (e : JobFault) (old new : JobDevices) → writes_ahead j ≡ false → JobFailsBy j e old new → is_refusal (exit_after e) ≡ true
     → AreToBlame j (exit_after e) (inputs_of old) × IsUntouched old.out new.out
-bytes_to_blame (job.Run workers file) (fault.Replay (replay.Feed found)) old new h r =
+blames (job.Run workers file) (fault.Replay (replay.Feed found)) old new w h r =
     (refused (job.Run workers file) (inputs_of old) found.code found.offset _ _ (λ b. b) h.0 r, h.1)
-bytes_to_blame (job.Run workers file) (fault.Replay (replay.Collision id)) old new h r = (stopped _ old.first.bytes h.1, h.0.1)
-bytes_to_blame (job.Run workers file) (fault.Replay (replay.Equivocation round author first second)) old new h r = (stopped _ old.first.bytes h.1, h.0.1)
-bytes_to_blame (job.Run workers file) (fault.Replay (replay.Unfinished place)) old new h r = absurd (cc)
-bytes_to_blame (job.Run workers file) (fault.Replay (replay.Write written)) old new h r = absurd (cc)
-bytes_to_blame (job.Run workers file) (fault.Replay replay.Memory) old new h r = absurd (cc)
-bytes_to_blame (job.Run workers file) (fault.Text e) old new h r = absurd h
-bytes_to_blame (job.Make file) (fault.Replay e) old new h r = absurd h
-bytes_to_blame (job.Make file) (fault.Text (text.Script line found)) old new h r = (no_feed _ old.first.bytes h.1, h.2)
-bytes_to_blame (job.Make file) (fault.Text text.Read) old new h r = absurd (cc)
-bytes_to_blame (job.Make file) (fault.Text (text.Write written)) old new h r = absurd (cc)
-bytes_to_blame (job.Make file) (fault.Text text.Memory) old new h r = absurd (cc)
-bytes_to_blame (job.CheckProof root file) (fault.Replay e) old new h r = absurd h
-bytes_to_blame (job.CheckProof root file) (fault.Text (text.Script line found)) old new h r = absurd h
-bytes_to_blame (job.CheckProof root file) (fault.Text text.Read) old new h r = absurd (cc)
-bytes_to_blame (job.CheckProof root file) (fault.Text (text.Write written)) old new h r = absurd (cc)
-bytes_to_blame (job.CheckProof root file) (fault.Text text.Memory) old new h r = absurd (cc)
-bytes_to_blame (job.Ask workers asked file) (fault.Replay (replay.Feed found)) old new h r =
+blames (job.Run workers file) (fault.Replay (replay.Collision id)) old new w h r = (stopped _ old.first.bytes h.1, h.0.1)
+blames (job.Run workers file) (fault.Replay (replay.Equivocation round author first second)) old new w h r = (stopped _ old.first.bytes h.1, h.0.1)
+blames (job.Run workers file) (fault.Replay (replay.Unfinished place)) old new w h r = absurd (cc)
+blames (job.Run workers file) (fault.Replay (replay.Write written)) old new w h r = absurd (cc)
+blames (job.Run workers file) (fault.Replay replay.Memory) old new w h r = absurd (cc)
+blames (job.Run workers file) (fault.Text e) old new w h r = absurd h
+blames (job.Make file) (fault.Replay e) old new w h r = absurd h
+blames (job.Make file) (fault.Text (text.Script line found)) old new w h r = (no_feed _ old.first.bytes h.1, h.2)
+blames (job.Make file) (fault.Text text.Read) old new w h r = absurd (cc)
+blames (job.Make file) (fault.Text (text.Write written)) old new w h r = absurd (cc)
+blames (job.Make file) (fault.Text text.Memory) old new w h r = absurd (cc)
+blames (job.CheckProof root file) (fault.Replay e) old new w h r = absurd h
+blames (job.CheckProof root file) (fault.Text (text.Script line found)) old new w h r = absurd h
+blames (job.CheckProof root file) (fault.Text text.Read) old new w h r = absurd (cc)
+blames (job.CheckProof root file) (fault.Text (text.Write written)) old new w h r = absurd (cc)
+blames (job.CheckProof root file) (fault.Text text.Memory) old new w h r = absurd (cc)
+blames (job.Ask workers asked file) (fault.Replay (replay.Feed found)) old new w h r =
     (refused (job.Ask workers asked file) (inputs_of old) found.code found.offset _ _ (λ b. b) h.0 r, h.1)
-bytes_to_blame (job.Ask workers asked file) (fault.Replay (replay.Collision id)) old new h r = (stopped _ old.first.bytes h.1, h.0.1)
-bytes_to_blame (job.Ask workers asked file) (fault.Replay (replay.Equivocation round author first second)) old new h r = (stopped _ old.first.bytes h.1, h.0.1)
-bytes_to_blame (job.Ask workers asked file) (fault.Replay (replay.Unfinished place)) old new h r = absurd (cc)
-bytes_to_blame (job.Ask workers asked file) (fault.Replay (replay.Write written)) old new h r = absurd (cc)
-bytes_to_blame (job.Ask workers asked file) (fault.Replay replay.Memory) old new h r = absurd (cc)
-bytes_to_blame (job.Ask workers asked file) (fault.Text e) old new h r = absurd h
-bytes_to_blame j (fault.AbsentAccount id) old new h r = absurd (cc)
-bytes_to_blame j (fault.AbsentPlace place) old new h r = absurd (cc)
-bytes_to_blame (job.Apply file) (fault.Replay (replay.Feed found)) old new h r =
+blames (job.Ask workers asked file) (fault.Replay (replay.Collision id)) old new w h r = (stopped _ old.first.bytes h.1, h.0.1)
+blames (job.Ask workers asked file) (fault.Replay (replay.Equivocation round author first second)) old new w h r = (stopped _ old.first.bytes h.1, h.0.1)
+blames (job.Ask workers asked file) (fault.Replay (replay.Unfinished place)) old new w h r = absurd (cc)
+blames (job.Ask workers asked file) (fault.Replay (replay.Write written)) old new w h r = absurd (cc)
+blames (job.Ask workers asked file) (fault.Replay replay.Memory) old new w h r = absurd (cc)
+blames (job.Ask workers asked file) (fault.Text e) old new w h r = absurd h
+blames j (fault.AbsentAccount id) old new w h r = absurd (cc)
+blames j (fault.AbsentPlace place) old new w h r = absurd (cc)
+blames (job.Apply file) (fault.Replay (replay.Feed found)) old new w h r =
     (refused (job.Apply file) (inputs_of old) found.code found.offset _ _ (λ b. b) h.0 r, h.1)
-bytes_to_blame (job.Apply file) (fault.Replay (replay.Collision id)) old new h r = absurd h
-bytes_to_blame (job.Apply file) (fault.Replay (replay.Equivocation round author first second)) old new h r = absurd h
-bytes_to_blame (job.Apply file) (fault.Replay (replay.Unfinished place)) old new h r = absurd h
-bytes_to_blame (job.Apply file) (fault.Replay (replay.Write written)) old new h r = absurd (cc)
-bytes_to_blame (job.Apply file) (fault.Replay replay.Memory) old new h r = absurd (cc)
-bytes_to_blame (job.Apply file) (fault.Text e) old new h r = absurd h
-bytes_to_blame (job.Run workers file) (fault.Events e) old new h r = absurd h
-bytes_to_blame (job.Make file) (fault.Events e) old new h r = absurd h
-bytes_to_blame (job.CheckProof root file) (fault.Events e) old new h r = absurd h
-bytes_to_blame (job.Ask workers asked file) (fault.Events e) old new h r = absurd h
-bytes_to_blame (job.Apply file) (fault.Events e) old new h r = absurd h
-bytes_to_blame (job.Schedule workers feed events) (fault.Replay (replay.Feed found)) old new h r =
+blames (job.Apply file) (fault.Replay (replay.Collision id)) old new w h r = absurd h
+blames (job.Apply file) (fault.Replay (replay.Equivocation round author first second)) old new w h r = absurd h
+blames (job.Apply file) (fault.Replay (replay.Unfinished place)) old new w h r = absurd h
+blames (job.Apply file) (fault.Replay (replay.Write written)) old new w h r = absurd (cc)
+blames (job.Apply file) (fault.Replay replay.Memory) old new w h r = absurd (cc)
+blames (job.Apply file) (fault.Text e) old new w h r = absurd h
+blames (job.Run workers file) (fault.Events e) old new w h r = absurd h
+blames (job.Make file) (fault.Events e) old new w h r = absurd h
+blames (job.CheckProof root file) (fault.Events e) old new w h r = absurd h
+blames (job.Ask workers asked file) (fault.Events e) old new w h r = absurd h
+blames (job.Apply file) (fault.Events e) old new w h r = absurd h
+blames (job.Schedule workers feed events) (fault.Replay (replay.Feed found)) old new w h r =
     (refused (job.Schedule workers feed events) (inputs_of old) found.code found.offset _ _ (λ b. inl b) h.2.0 r, h.2.1)
-bytes_to_blame (job.Schedule workers feed events) (fault.Replay (replay.Collision id)) old new h r = absurd h.2
-bytes_to_blame (job.Schedule workers feed events) (fault.Replay (replay.Equivocation round author first second)) old new h r = absurd h.2
-bytes_to_blame (job.Schedule workers feed events) (fault.Replay (replay.Unfinished place)) old new h r = absurd h.2
-bytes_to_blame (job.Schedule workers feed events) (fault.Replay (replay.Write written)) old new h r = absurd (cc)
-bytes_to_blame (job.Schedule workers feed events) (fault.Replay replay.Memory) old new h r = absurd (cc)
-bytes_to_blame (job.Schedule workers feed events) (fault.Text e) old new h r = absurd h
-bytes_to_blame (job.Schedule workers feed events) (fault.Events (list.Unread (unread.Line line))) old new h r =
+blames (job.Schedule workers feed events) (fault.Replay (replay.Collision id)) old new w h r = absurd h.2
+blames (job.Schedule workers feed events) (fault.Replay (replay.Equivocation round author first second)) old new w h r = absurd h.2
+blames (job.Schedule workers feed events) (fault.Replay (replay.Unfinished place)) old new w h r = absurd h.2
+blames (job.Schedule workers feed events) (fault.Replay (replay.Write written)) old new w h r = absurd (cc)
+blames (job.Schedule workers feed events) (fault.Replay replay.Memory) old new w h r = absurd (cc)
+blames (job.Schedule workers feed events) (fault.Text e) old new w h r = absurd h
+blames (job.Schedule workers feed events) (fault.Events (list.Unread (unread.Line line))) old new w h r =
     (inr (inl (no_events line old.second.bytes h.0.1)), h.2)
-bytes_to_blame (job.Schedule workers feed events) (fault.Events (list.Unread unread.Read)) old new h r = absurd (cc)
-bytes_to_blame (job.Schedule workers feed events) (fault.Events (list.Unread unread.Memory)) old new h r = absurd (cc)
-bytes_to_blame (job.Schedule workers feed events) (fault.Events (list.Refused line why)) old new h r =
+blames (job.Schedule workers feed events) (fault.Events (list.Unread unread.Read)) old new w h r = absurd (cc)
+blames (job.Schedule workers feed events) (fault.Events (list.Unread unread.Memory)) old new w h r = absurd (cc)
+blames (job.Schedule workers feed events) (fault.Events (list.Refused line why)) old new w h r =
     (inr (inr (one_refused workers line why old.first.bytes old.second.bytes h.0.1)), h.1.1)
-bytes_to_blame (job.Schedule workers feed events) (fault.Events (list.Unfinished place)) old new h r = absurd (cc)
-bytes_to_blame (job.Run workers file) (fault.Compared e) old new h r = absurd h
-bytes_to_blame (job.Make file) (fault.Compared e) old new h r = absurd h
-bytes_to_blame (job.CheckProof root file) (fault.Compared e) old new h r = absurd h
-bytes_to_blame (job.Ask workers asked file) (fault.Compared e) old new h r = absurd h
-bytes_to_blame (job.Apply file) (fault.Compared e) old new h r = absurd h
-bytes_to_blame (job.Schedule workers feed events) (fault.Compared e) old new h r = absurd h
-bytes_to_blame (job.Compare first second) (fault.Compared e) old new h r = compare_blames first second e old new h r
-bytes_to_blame (job.Compare first second) (fault.Replay (replay.Feed found)) old new h r = absurd h
-bytes_to_blame (job.Compare first second) (fault.Replay (replay.Collision id)) old new h r = absurd h
-bytes_to_blame (job.Compare first second) (fault.Replay (replay.Equivocation round author one other)) old new h r = absurd h
-bytes_to_blame (job.Compare first second) (fault.Replay (replay.Unfinished place)) old new h r = absurd h
-bytes_to_blame (job.Compare first second) (fault.Replay (replay.Write written)) old new h r = absurd (cc)
-bytes_to_blame (job.Compare first second) (fault.Replay replay.Memory) old new h r = absurd h
-bytes_to_blame (job.Compare first second) (fault.Text e) old new h r = absurd h
-bytes_to_blame (job.Compare first second) (fault.Events e) old new h r = absurd h
+blames (job.Schedule workers feed events) (fault.Events (list.Unfinished place)) old new w h r = absurd (cc)
+blames (job.Run workers file) (fault.Compared e) old new w h r = absurd h
+blames (job.Make file) (fault.Compared e) old new w h r = absurd h
+blames (job.CheckProof root file) (fault.Compared e) old new w h r = absurd h
+blames (job.Ask workers asked file) (fault.Compared e) old new w h r = absurd h
+blames (job.Apply file) (fault.Compared e) old new w h r = absurd h
+blames (job.Schedule workers feed events) (fault.Compared e) old new w h r = absurd h
+blames (job.Compare first second) (fault.Compared e) old new w h r = compare_blames first second e old new h r
+blames (job.Compare first second) (fault.Replay (replay.Feed found)) old new w h r = absurd h
+blames (job.Compare first second) (fault.Replay (replay.Collision id)) old new w h r = absurd h
+blames (job.Compare first second) (fault.Replay (replay.Equivocation round author one other)) old new w h r = absurd h
+blames (job.Compare first second) (fault.Replay (replay.Unfinished place)) old new w h r = absurd h
+blames (job.Compare first second) (fault.Replay (replay.Write written)) old new w h r = absurd (cc)
+blames (job.Compare first second) (fault.Replay replay.Memory) old new w h r = absurd h
+blames (job.Compare first second) (fault.Text e) old new w h r = absurd h
+blames (job.Compare first second) (fault.Events e) old new w h r = absurd h
+blames (job.Frames file) e old new w h r = absurd (cc)
+
+-- the frames of bytes that are no feed
+frames_blame : (file : _) (e : JobFault) (old new : JobDevices) → JobFailsBy (job.Frames file) e old new → is_refusal (exit_after e) ≡ true
+    → AreToBlame (job.Frames file) (exit_after e) (inputs_of old)
+frames_blame file (fault.Replay (replay.Feed found)) old new h r =
+    refused (job.Frames file) (inputs_of old) found.code found.offset _ _ (λ b. b) h.0 r
+frames_blame file (fault.Replay (replay.Collision id)) old new h r = absurd h
+frames_blame file (fault.Replay (replay.Equivocation round author first second)) old new h r = absurd h
+frames_blame file (fault.Replay (replay.Unfinished place)) old new h r = absurd h
+frames_blame file (fault.Replay (replay.Write written)) old new h r = absurd (cc)
+frames_blame file (fault.Replay replay.Memory) old new h r = absurd (cc)
+frames_blame file (fault.Text e) old new h r = absurd h
+frames_blame file (fault.Events e) old new h r = absurd h
+frames_blame file (fault.Compared e) old new h r = absurd h
+frames_blame file (fault.AbsentAccount id) old new h r = absurd (cc)
+frames_blame file (fault.AbsentPlace place) old new h r = absurd (cc)
+
+-- the bytes are to blame, and nothing is written but by a job that writes while it reads
+pub BlamesThem : Job → JobFault → JobDevices → JobDevices → Type 0
+BlamesThem j e old new =
+    AreToBlame j (exit_after e) (inputs_of old) × (writes_ahead j ≡ false → IsUntouched old.out new.out)
+
+unwritten : (j : Job) (e : JobFault) (old new : JobDevices) → AreToBlame j (exit_after e) (inputs_of old) × IsUntouched old.out new.out
+    → BlamesThem j e old new
+unfolding BlamesThem
+unwritten j e old new both = (both.0, λ w. both.1)
+
+pub bytes_to_blame : (j : Job) (e : JobFault) (old new : JobDevices) → JobFailsBy j e old new → is_refusal (exit_after e) ≡ true
+    → AreToBlame j (exit_after e) (inputs_of old) × (writes_ahead j ≡ false → IsUntouched old.out new.out)
+unfolding BlamesThem
+bytes_to_blame (job.Frames file) e old new h r = (frames_blame file e old new h r, λ w. absurd (cc))
+bytes_to_blame (job.Run workers file) e old new h r = unwritten (job.Run workers file) e old new (blames (job.Run workers file) e old new refl h r)
+bytes_to_blame (job.Make file) e old new h r = unwritten (job.Make file) e old new (blames (job.Make file) e old new refl h r)
+bytes_to_blame (job.CheckProof root file) e old new h r = unwritten (job.CheckProof root file) e old new (blames (job.CheckProof root file) e old new refl h r)
+bytes_to_blame (job.Ask workers asked file) e old new h r = unwritten (job.Ask workers asked file) e old new (blames (job.Ask workers asked file) e old new refl h r)
+bytes_to_blame (job.Apply file) e old new h r = unwritten (job.Apply file) e old new (blames (job.Apply file) e old new refl h r)
+bytes_to_blame (job.Schedule workers feed events) e old new h r = unwritten (job.Schedule workers feed events) e old new (blames (job.Schedule workers feed events) e old new refl h r)
+bytes_to_blame (job.Compare first second) e old new h r = unwritten (job.Compare first second) e old new (blames (job.Compare first second) e old new refl h r)

@@ -48,6 +48,8 @@ absent_may_say_no (query.Account id) e h = refl
 absent_may_say_no (query.Receipt place) e h = refl
 absent_may_say_no (query.Proof id) e h = refl
 absent_may_say_no (query.State root) e h = refl
+absent_may_say_no query.Anchors e h = absurd (cc)
+absent_may_say_no (query.Statement id) e h = refl
 
 -- and none is an answer
 absent_is_none : (asked : Query) (e : JobFault) → absence asked ≡ Err e → gives_state asked ≡ false
@@ -56,6 +58,8 @@ absent_is_none (query.Account id) e h = refl
 absent_is_none (query.Receipt place) e h = refl
 absent_is_none (query.Proof id) e h = refl
 absent_is_none (query.State root) e h = absurd (cc)
+absent_is_none query.Anchors e h = refl
+absent_is_none (query.Statement id) e h = refl
 
 -- a comparison may end as a run of one of its feeds may
 replay_may_end : (first second : _) (e : Fault) → may_end (job.Compare first second) (exit_after_replay e) ≡ true
@@ -109,6 +113,17 @@ ends_by_fault (job.Make file) (fault.AbsentAccount id) old new h = absurd h
 ends_by_fault (job.Make file) (fault.AbsentPlace place) old new h = absurd h
 ends_by_fault (job.CheckProof root file) (fault.AbsentAccount id) old new h = absurd h
 ends_by_fault (job.CheckProof root file) (fault.AbsentPlace place) old new h = absurd h
+ends_by_fault (job.Frames file) (fault.AbsentAccount id) old new h = absurd h
+ends_by_fault (job.Frames file) (fault.AbsentPlace place) old new h = absurd h
+ends_by_fault (job.Frames file) (fault.Replay (replay.Feed found)) old new h = feed_may_end (job.Frames file) refl found.code
+ends_by_fault (job.Frames file) (fault.Replay (replay.Collision id)) old new h = absurd h
+ends_by_fault (job.Frames file) (fault.Replay (replay.Equivocation round author first second)) old new h = absurd h
+ends_by_fault (job.Frames file) (fault.Replay (replay.Unfinished place)) old new h = absurd h
+ends_by_fault (job.Frames file) (fault.Replay (replay.Write written)) old new h = refl
+ends_by_fault (job.Frames file) (fault.Replay replay.Memory) old new h = refl
+ends_by_fault (job.Frames file) (fault.Text e) old new h = absurd h
+ends_by_fault (job.Frames file) (fault.Events e) old new h = absurd h
+ends_by_fault (job.Frames file) (fault.Compared e) old new h = absurd h
 ends_by_fault (job.Apply file) (fault.AbsentAccount id) old new h = absurd h
 ends_by_fault (job.Apply file) (fault.AbsentPlace place) old new h = absurd h
 ends_by_fault (job.Apply file) (fault.Replay (replay.Feed found)) old new h = feed_may_end (job.Apply file) refl found.code
@@ -191,6 +206,8 @@ fault_is_none (job.Run workers file) (fault.AbsentAccount id) old new h = absurd
 fault_is_none (job.Make file) (fault.AbsentAccount id) old new h = absurd h
 fault_is_none (job.CheckProof root file) (fault.AbsentAccount id) old new h = absurd h
 fault_is_none (job.Ask workers asked file) (fault.AbsentAccount id) old new h = absent_is_none asked _ h.0
+fault_is_none (job.Frames file) (fault.AbsentAccount id) old new h = absurd h
+fault_is_none (job.Frames file) (fault.AbsentPlace place) old new h = absurd h
 fault_is_none (job.Apply file) (fault.AbsentAccount id) old new h = absurd h
 fault_is_none (job.Run workers file) (fault.AbsentPlace place) old new h = absurd h
 fault_is_none (job.Make file) (fault.AbsentPlace place) old new h = absurd h
@@ -247,11 +264,15 @@ ends_as asked end as_is same h = let e : as_is ≡ end = let s = same in cc in s
 by_reply : (asked : Query) (answer : Reply) (end : Exit) → can_reply asked answer ≡ true → Ok end ≡ ending asked answer → EndsWell asked end
 unfolding EndsWell
 by_reply asked reply.Found end can is = ends_as asked end exit.Whole is (λ w f. (refl, refl))
+by_reply (query.Statement id) reply.Short end can is = ends_as (query.Statement id) end exit.Missing is (λ w f. (refl, refl))
+by_reply query.Anchors reply.Short end can is = absurd (cc)
 by_reply (query.State root) reply.Short end can is = ends_as (query.State root) end exit.Missing is (λ w f. (refl, refl))
 by_reply query.Order reply.Short end can is = absurd (cc)
 by_reply (query.Account id) reply.Short end can is = absurd (cc)
 by_reply (query.Receipt place) reply.Short end can is = absurd (cc)
 by_reply (query.Proof id) reply.Short end can is = absurd (cc)
+by_reply (query.Statement id) reply.Wrong end can is = absurd (cc)
+by_reply query.Anchors reply.Wrong end can is = absurd (cc)
 by_reply (query.State root) reply.Wrong end can is = ends_as (query.State root) end exit.No is (λ w f. (refl, refl))
 by_reply query.Order reply.Wrong end can is = absurd (cc)
 by_reply (query.Account id) reply.Wrong end can is = absurd (cc)
@@ -262,6 +283,8 @@ by_reply (query.Account id) reply.Absent end can is = absurd (cc)
 by_reply (query.Receipt place) reply.Absent end can is = absurd (cc)
 by_reply (query.Proof id) reply.Absent end can is = absurd (cc)
 by_reply (query.State root) reply.Absent end can is = absurd (cc)
+by_reply query.Anchors reply.Absent end can is = absurd (cc)
+by_reply (query.Statement id) reply.Absent end can is = absurd (cc)
 
 pub query_ends : (workers : ℕ) (asked : Query) (file : _) (end : Exit) → (answer : Reply) × (can_reply asked answer ≡ true) × (Ok end ≡ ending asked answer)
     → (is_answer (job.Ask workers asked file) end ≡ true) × (may_end (job.Ask workers asked file) end ≡ true)

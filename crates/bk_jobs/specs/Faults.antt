@@ -7,6 +7,7 @@ use Rattle.bk_results.specs.declared.status.Status.{Status}
 use Rattle.bk_results.specs.Devices.{Devices, IsUntouched}
 use Rattle.bk_apply.specs.Answers.{FailsBy}
 use Rattle.bk_ask.specs.Asking.{AskFailsBy, IsReplied}
+use Rattle.bk_listing.specs.Answers.{AllIsListed, ListFails}
 use Rattle.bk_report.specs.Proofs.{IsGoodProof}
 use Rattle.bk_results.specs.declared.query.Query.{Query}
 use Rattle.bk_results.specs.declared.query.Reply.{Reply}
@@ -67,6 +68,10 @@ abbrev pub ReplyIsOut : Query → Exit → Device → Device → List ℕ → Ty
 ReplyIsOut asked end old new bytes =
     (answer : Reply) × (Ok end ≡ ending asked answer) × IsReplied asked answer bytes old new
 
+-- the output got the lines of all frames of the bytes
+abbrev pub FramesAreOut : Exit → Device → Device → List ℕ → Type 0
+FramesAreOut end old new bytes = (end ≡ exit.Whole) × AllIsListed old new bytes
+
 -- the output got the whole apply report of the first source, and the exit is the report's; and the second source lists
 -- events that are a whole run of its transactions
 abbrev pub ScheduleIsOut : ℕ → Exit → Inputs → Device → Device → Type 0
@@ -82,6 +87,7 @@ AnswerIsOut (job.CheckProof root file) end given old new =
     IfSome given.first (VerdictIsOut (string_bytes root) end old new)
 AnswerIsOut (job.Ask workers asked file) end given old new =
     IfSome given.first (ReplyIsOut asked end old new)
+AnswerIsOut (job.Frames file) end given old new = IfSome given.first (FramesAreOut end old new)
 AnswerIsOut (job.Apply file) end given old new = IfSome given.first (ReportIsOut end old new)
 AnswerIsOut (job.Schedule workers feed events) end given old new =
     ScheduleIsOut workers end given old new
@@ -118,6 +124,7 @@ ReplayFailsBy (job.Make file) e old new = ⊥
 ReplayFailsBy (job.CheckProof root file) e old new = ⊥
 ReplayFailsBy (job.Ask workers asked file) e old new =
     AskFailsBy asked e (first_devices old) (first_devices new)
+ReplayFailsBy (job.Frames file) e old new = ListFails e (first_devices old) (first_devices new)
 ReplayFailsBy (job.Apply file) e old new = FailsBy e (first_devices old) (first_devices new)
 ReplayFailsBy (job.Schedule workers feed events) e old new =
     ScheduleFailsBy workers (fault.Replay e) old new
@@ -131,6 +138,7 @@ TextFailsBy (job.Make file) e old new =
 TextFailsBy (job.CheckProof root file) e old new =
     CheckFailsBy (string_bytes root) e (first_devices old) (first_devices new)
 TextFailsBy (job.Ask workers asked file) e old new = ⊥
+TextFailsBy (job.Frames file) e old new = ⊥
 TextFailsBy (job.Apply file) e old new = ⊥
 TextFailsBy (job.Schedule workers feed events) e old new = ⊥
 TextFailsBy (job.Compare first second) e old new = ⊥
@@ -141,6 +149,7 @@ EventsFailBy (job.Run workers file) e old new = ⊥
 EventsFailBy (job.Make file) e old new = ⊥
 EventsFailBy (job.CheckProof root file) e old new = ⊥
 EventsFailBy (job.Ask workers asked file) e old new = ⊥
+EventsFailBy (job.Frames file) e old new = ⊥
 EventsFailBy (job.Apply file) e old new = ⊥
 EventsFailBy (job.Schedule workers feed events) e old new = ListFailsBy workers e old new
 EventsFailBy (job.Compare first second) e old new = ⊥
@@ -151,6 +160,7 @@ ComparisonFailsBy (job.Run workers file) e old new = ⊥
 ComparisonFailsBy (job.Make file) e old new = ⊥
 ComparisonFailsBy (job.CheckProof root file) e old new = ⊥
 ComparisonFailsBy (job.Ask workers asked file) e old new = ⊥
+ComparisonFailsBy (job.Frames file) e old new = ⊥
 ComparisonFailsBy (job.Apply file) e old new = ⊥
 ComparisonFailsBy (job.Schedule workers feed events) e old new = ⊥
 ComparisonFailsBy (job.Compare first second) e old new = AgreeNot e old new
@@ -168,6 +178,7 @@ IsAbsentFor (job.Make file) e old new = ⊥
 IsAbsentFor (job.CheckProof root file) e old new = ⊥
 IsAbsentFor (job.Ask workers asked file) e old new =
     IsAbsentBy asked e (first_devices old) (first_devices new)
+IsAbsentFor (job.Frames file) e old new = ⊥
 IsAbsentFor (job.Apply file) e old new = ⊥
 IsAbsentFor (job.Schedule workers feed events) e old new = ⊥
 IsAbsentFor (job.Compare first second) e old new = ⊥
@@ -197,6 +208,10 @@ pub record EndsBy (j : Job) (e : JobFault) (end : Exit) (old new : JobDevices) (
   pub fault : JobFailsBy j e old new
   pub line : Reports (line_of e) err err'
 
+-- the end is that of a fault, whose line is on standard error
+abbrev pub EndsWithLine : Exit → Device → Device → Type 0
+EndsWithLine end err err' = (e : JobFault) × (end ≡ exit_after e) × Reports (line_of e) err err'
+
 -- ---- bytes to blame
 
 -- the bytes have a fault of a script
@@ -216,6 +231,7 @@ AreWrong (job.Run workers file) given = IfSome given.first AreBroken
 AreWrong (job.Make file) given = IfSome given.first MakeNoFeed
 AreWrong (job.CheckProof root file) given = ⊥
 AreWrong (job.Ask workers asked file) given = IfSome given.first AreBroken
+AreWrong (job.Frames file) given = IfSome given.first AreBroken
 AreWrong (job.Apply file) given = IfSome given.first AreBroken
 AreWrong (job.Schedule workers feed events) given = AreWrongFor workers given
 AreWrong (job.Compare first second) given = AreWrongTogether given
@@ -230,6 +246,7 @@ AreStoppedFor (job.Run workers file) given = IfSome given.first AreStopped
 AreStoppedFor (job.Make file) given = ⊥
 AreStoppedFor (job.CheckProof root file) given = ⊥
 AreStoppedFor (job.Ask workers asked file) given = IfSome given.first AreStopped
+AreStoppedFor (job.Frames file) given = ⊥
 AreStoppedFor (job.Apply file) given = ⊥
 AreStoppedFor (job.Schedule workers feed events) given = ⊥
 AreStoppedFor (job.Compare first second) given = AreStoppedTogether given

@@ -5,6 +5,7 @@
 #![tactic(auto)]
 
 mod comparing;
+mod listing;
 mod opening;
 mod queries;
 mod replaying;

@@ -1,10 +1,10 @@
 //! Opens the files that a job names.
 
-ghost use Rattle.std.specs.Prelude.{◌≡◌, true};
+ghost use Rattle.std.specs.Prelude.{◌≡◌, true, false};
 ghost use Rattle.bk_frames.specs.Device.{CanBeUsed};
 ghost use Rattle.bk_results.specs.Devices.{IsUntouched};
-ghost use Rattle.bk_cli.specs.Exits.{is_answer, is_refusal, is_report, may_end};
-ghost use Rattle.bk_jobs.specs.Faults.{AnswerIsOut};
+ghost use Rattle.bk_cli.specs.Exits.{is_answer, is_refusal, may_end, writes_ahead};
+ghost use Rattle.bk_jobs.specs.Faults.{AnswerIsOut, EndsWithLine};
 ghost use Rattle.bk_jobs.specs.Sources.{inputs};
 
 use crate::running::run_job;
@@ -24,7 +24,8 @@ const AHEAD: usize = 65_536;
 // Reports a file that cannot be opened.
 fn not_opened<E: Sink>(err: &mut E) -> Exit
     requires { CanBeUsed (E.state err.old) }
-    ensures { result ≡ Exit.Failed }
+    ensures failed { result ≡ Exit.Failed }
+    ensures line { EndsWithLine result (E.state err.old) (E.state err.new) }
 {
     report(&JobFault::Text(ScriptFault::Read), err);
     Exit::Failed
@@ -32,14 +33,18 @@ fn not_opened<E: Sink>(err: &mut E) -> Exit
 
 /// Opens what the job names, in the order of its words and before anything is read, and runs it.
 ///
-/// Standard input is read where no file is named. A file that cannot be opened ends with `Failed` and `read failed`.
+/// Standard input is read where no file is named. A file that cannot be opened ends with `Failed` and `read failed`. An
+/// end that is no answer has the line of its fault on `err`.
 pub fn open_and_run<R, O: Sink, E: Sink>(rt: &R, job: &Job, out: &mut O, err: &mut E) -> Exit
 where
     R: Files + Input + AllocGlobal + Threads + Wait + Sync,
     requires out { CanBeUsed (O.state out.old) }
     requires err { CanBeUsed (E.state err.old) }
-    ensures quiet { is_report result ≡ true → err.new ≡ err.old }
-    ensures blame { is_refusal result ≡ true → IsUntouched (O.state out.old) (O.state out.new) }
+    ensures quiet { is_answer job.now result ≡ true → err.new ≡ err.old }
+    ensures line { is_answer job.now result ≡ false
+        → EndsWithLine result (E.state err.old) (E.state err.new) }
+    ensures unwritten { is_refusal result ≡ true → writes_ahead job.now ≡ false
+        → IsUntouched (O.state out.old) (O.state out.new) }
     ensures ends { may_end job.now result ≡ true }
 {
     match job.file() {
@@ -63,8 +68,11 @@ where
     R: Files + AllocGlobal + Threads + Wait + Sync,
     requires out { CanBeUsed (O.state out.old) }
     requires err { CanBeUsed (E.state err.old) }
-    ensures quiet { is_report result ≡ true → err.new ≡ err.old }
-    ensures blame { is_refusal result ≡ true → IsUntouched (O.state out.old) (O.state out.new) }
+    ensures quiet { is_answer job.now result ≡ true → err.new ≡ err.old }
+    ensures line { is_answer job.now result ≡ false
+        → EndsWithLine result (E.state err.old) (E.state err.new) }
+    ensures unwritten { is_refusal result ≡ true → writes_ahead job.now ≡ false
+        → IsUntouched (O.state out.old) (O.state out.new) }
     ensures ends { may_end job.now result ≡ true }
 {
     let nothing: &[u8] = b"";
@@ -92,8 +100,11 @@ where
     requires err { CanBeUsed (E.state err.old) }
     ensures whole { is_answer job.now result ≡ true → AnswerIsOut job.now result
         (inputs (I.remaining first) (J.remaining second)) (O.state out.old) (O.state out.new) }
-    ensures quiet { is_report result ≡ true → err.new ≡ err.old }
-    ensures blame { is_refusal result ≡ true → IsUntouched (O.state out.old) (O.state out.new) }
+    ensures quiet { is_answer job.now result ≡ true → err.new ≡ err.old }
+    ensures line { is_answer job.now result ≡ false
+        → EndsWithLine result (E.state err.old) (E.state err.new) }
+    ensures unwritten { is_refusal result ≡ true → writes_ahead job.now ≡ false
+        → IsUntouched (O.state out.old) (O.state out.new) }
     ensures ends { may_end job.now result ≡ true }
 {
     let Ok(reader) = BufReader::with_capacity(rt.alloc(), AHEAD, first) else {

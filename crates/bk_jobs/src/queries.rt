@@ -16,15 +16,16 @@ use bk_results::{Query, Reply};
 use std::sync::Wait;
 use std::thread::Threads;
 
-// The end of a query of something that is absent. An order never is, and a digest is right or wrong.
+// The end of a query of something that is absent. An order and its anchors never are, and a digest is right or wrong.
 fn absent(asked: &Query) -> Result<Exit, JobFault>
     ensures { result ≡ absence asked.now }
 {
     match *asked {
-        Query::Order | Query::State { .. } => Ok(Exit::Whole),
+        Query::Order | Query::State { .. } | Query::Anchors => Ok(Exit::Whole),
         Query::Account { id } => Err(JobFault::AbsentAccount { id }),
         Query::Receipt { place } => Err(JobFault::AbsentPlace { place }),
         Query::Proof { id } => Err(JobFault::AbsentAccount { id }),
+        Query::Statement { id } => Err(JobFault::AbsentAccount { id }),
     }
 }
 

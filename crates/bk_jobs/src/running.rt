@@ -4,11 +4,12 @@ ghost use Rattle.std.specs.Prelude.{◌≡◌, true, false, OnOk, IfOk, IfErr};
 ghost use Rattle.bk_frames.specs.Device.{CanBeUsed};
 ghost use Rattle.bk_results.specs.Devices.{IsUntouched};
 ghost use Rattle.bk_cli.specs.declared.job_fault.JobFault.{JobFault as AnyFault};
-ghost use Rattle.bk_cli.specs.Exits.{is_answer, is_refusal, may_end, reads_second};
+ghost use Rattle.bk_cli.specs.Exits.{is_answer, is_refusal, may_end, reads_second, writes_ahead};
 ghost use Rattle.bk_jobs.specs.Faults.{EndsBy, JobFailsBy, AnswerIsOut, AreToBlame};
 ghost use Rattle.bk_jobs.specs.Sources.{AllWork, inputs, job_devices};
 
 use crate::comparing::compare_feeds;
+use crate::listing::list;
 use crate::queries::reply;
 use crate::replaying::{apply_all, run};
 use crate::scheduling::schedule;
@@ -59,6 +60,10 @@ fn answer<R: Threads + Wait + Sync + AllocGlobal, S1: Source, S2: Source, O: Sin
             let end = reply(rt, asked, *workers, first, out)?;
             Ok(end)
         }
+        Job::Frames { .. } => {
+            let end = list(rt, first, out)?;
+            Ok(end)
+        }
         Job::Apply { .. } => {
             let end = apply_all(rt, first, out)?;
             Ok(end)
@@ -85,6 +90,8 @@ fn answer<R: Threads + Wait + Sync + AllocGlobal, S1: Source, S2: Source, O: Sin
 /// - `WrongInput` and `Stopped`: the bytes are to blame. The fault is one line on `err`, and nothing is on `out`.
 /// - `Failed`: a read, a write or memory failed, or a transaction is not finished. The fault is one line on `err`;
 ///   after a failed write `out` has the first bytes of the answer, and else nothing.
+///
+/// The job of frames alone writes while it reads: the lines of the frames before a fault are on `out`.
 pub fn run_job<R: Threads + Wait + Sync + AllocGlobal, S1: Source, S2: Source, O: Sink, E: Sink>(
     rt: &R,
     job: &Job,
@@ -110,8 +117,9 @@ pub fn run_job<R: Threads + Wait + Sync + AllocGlobal, S1: Source, S2: Source, O
         (E.state err.old) (E.state err.new) }
     ensures ends { may_end job.now result ≡ true }
     ensures blame { is_refusal result ≡ true → AreToBlame job.now result
-        (inputs (S1.state first.old).bytes (S2.state second.old).bytes)
-        × IsUntouched (O.state out.old) (O.state out.new) }
+        (inputs (S1.state first.old).bytes (S2.state second.old).bytes) }
+    ensures unwritten { is_refusal result ≡ true → writes_ahead job.now ≡ false
+        → IsUntouched (O.state out.old) (O.state out.new) }
     ensures second { reads_second job.now ≡ false → second.new ≡ second.old }
 {
     match answer(rt, job, first, second, out) {

@@ -1,10 +1,12 @@
 //! From the words of the command line to the exit status.
 
-ghost use Rattle.std.specs.Prelude.{◌≡◌, ◌≢◌, ◌⊎◌, true};
+ghost use Rattle.std.specs.Prelude.{◌≡◌, ◌≢◌, ◌⊎◌, map, true};
 ghost use Rattle.bk_frames.specs.Device.{CanBeUsed};
 ghost use Rattle.bk_results.specs.Devices.{IsUntouched};
-ghost use Rattle.bk_cli.specs.Exits.{is_refusal, is_report};
-ghost use Rattle.clap.specs.Words.{kind_of};
+ghost use Rattle.bk_cli.specs.Exits.{has_fault, is_refusal, is_report};
+ghost use Rattle.bk_jobs.specs.Faults.{EndsWithLine};
+ghost use Rattle.bk_cli.specs.CommandLine.{NamesFrames, command_line};
+ghost use Rattle.clap.specs.Words.{kind_of, subcommand_of};
 
 use bk_cli::{Exit, JobFault, parse, report};
 use bk_frames::{Sink, push_all};
@@ -12,6 +14,7 @@ use bk_jobs::open_and_run;
 use bk_results::Fault;
 use clap::Error;
 use clap::error::ErrorKind;
+use std::convert::AsStr;
 use std::rt::{Env, Files};
 use std::sync::Wait;
 use std::thread::Threads;
@@ -24,13 +27,29 @@ where
     requires out { CanBeUsed (O.state out.old) }
     requires err { CanBeUsed (E.state err.old) }
     ensures quiet { is_report result ≡ true → err.new ≡ err.old }
-    ensures blame { is_refusal result ≡ true → IsUntouched (O.state out.old) (O.state out.new) }
+    ensures line { has_fault result ≡ true
+        → EndsWithLine result (E.state err.old) (E.state err.new) }
 {
-    let words = match words(rt) {
-        Ok(words) => words,
-        Err(error) => return refuse_words(&error, err),
-    };
-    match parse(rt.alloc(), words.as_slice()) {
+    match words(rt) {
+        Ok(words) => run_words(rt, words.as_slice(), out, err),
+        Err(error) => refuse_words(&error, err),
+    }
+}
+
+// Runs the job of the words. Where the bytes of a feed are to blame nothing is on standard output, but for the lines of
+// `frames`, which writes while it reads.
+fn run_words<R, S: AsStr, O: Sink, E: Sink>(rt: &R, words: &[S], out: &mut O, err: &mut E) -> Exit
+where
+    R: Files + Input + Print + Eprint + AllocGlobal + Threads + Wait + Sync,
+    requires out { CanBeUsed (O.state out.old) }
+    requires err { CanBeUsed (E.state err.old) }
+    ensures quiet { is_report result ≡ true → err.new ≡ err.old }
+    ensures line { has_fault result ≡ true
+        → EndsWithLine result (E.state err.old) (E.state err.new) }
+    ensures blame { is_refusal result ≡ true → IsUntouched (O.state out.old) (O.state out.new)
+        ⊎ NamesFrames (subcommand_of command_line (map S.text words.now)) }
+{
+    match parse(rt.alloc(), words) {
         Ok(job) => open_and_run(rt, &job, out, err),
         Err(error) => answer_error(rt, &error, err),
     }
@@ -44,7 +63,9 @@ fn words<R: Env + AllocGlobal>(rt: &R) -> io::Result<Vec<String>> {
 // Words that could not be read: memory was refused, or a word is not text.
 fn refuse_words<E: Sink>(error: &io::Error, err: &mut E) -> Exit
     requires { CanBeUsed (E.state err.old) }
-    ensures { (result ≡ Exit.No) ⊎ (result ≡ Exit.Failed) }
+    ensures ends { (result ≡ Exit.No) ⊎ (result ≡ Exit.Failed) }
+    ensures line { has_fault result ≡ true
+        → EndsWithLine result (E.state err.old) (E.state err.new) }
 {
     if error.kind() == io::ErrorKind::OutOfMemory {
         report(&JobFault::Replay(Fault::Memory), err);
@@ -63,6 +84,8 @@ fn answer_error<R: Print + Eprint, E: Sink>(rt: &R, error: &Error, err: &mut E) 
         → kind_of error.now ≢ ErrorKind.DisplayHelp
         → kind_of error.now ≢ ErrorKind.DisplayVersion → result ≡ Exit.No }
     ensures quiet { is_report result ≡ true → err.new ≡ err.old }
+    ensures line { has_fault result ≡ true
+        → EndsWithLine result (E.state err.old) (E.state err.new) }
     ensures ends { (result ≡ Exit.Whole) ⊎ (result ≡ Exit.No) ⊎ (result ≡ Exit.Failed) }
 {
     if error.kind() == ErrorKind::OutOfMemory {

@@ -26,3 +26,6 @@ returns-in_ok-end-in-Schedule-clause-answer g c = rw (c.in-Schedule.is, c.in_ok-
 
 pub returns-in_ok-end-in-Compare-clause-answer : goal.returns-in_ok-end-in-Compare-clause-answer
 returns-in_ok-end-in-Compare-clause-answer g c = rw (c.in-Compare.is, c.in_ok-end-in-Compare.ensures.answer) (refl, refl)
+
+pub returns-in_ok-end-in-Frames-clause-answer : goal.returns-in_ok-end-in-Frames-clause-answer
+returns-in_ok-end-in-Frames-clause-answer g c = rw (c.in-Frames.is, c.in_ok-end-in-Frames.ensures.answer) (refl, refl)

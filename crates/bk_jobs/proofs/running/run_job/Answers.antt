@@ -9,6 +9,9 @@ use Rattle.bk_jobs.proofs.running.run_job.Goals as goal
 pub returns-in-Ok-clause-blame : goal.returns-in-Ok-clause-blame
 returns-in-Ok-clause-blame g c = λ r. absurd (true≢false (sym r ∙ answer_is_no_refusal c.args.job.now c.in-Ok.exit c.in-Ok.ensures.answer.0))
 
+pub returns-in-Ok-clause-unwritten : goal.returns-in-Ok-clause-unwritten
+returns-in-Ok-clause-unwritten g c = λ r w. absurd (true≢false (sym r ∙ answer_is_no_refusal c.args.job.now c.in-Ok.exit c.in-Ok.ensures.answer.0))
+
 pub returns-in-Err-clause-whole : goal.returns-in-Err-clause-whole
 returns-in-Err-clause-whole g c = λ r.
     let old = job_devices (g.S1.Source.state c.args.first.now) (g.S2.Source.state c.args.second.now) (g.O.Sink.state c.args.out.now) in
@@ -33,4 +36,10 @@ pub returns-in-Err-clause-blame : goal.returns-in-Err-clause-blame
 returns-in-Err-clause-blame g c = λ r.
     let old = job_devices (g.S1.Source.state c.args.first.now) (g.S2.Source.state c.args.second.now) (g.O.Sink.state c.args.out.now) in
     let new = job_devices (g.S1.Source.state c.answer.new.first) (g.S2.Source.state c.answer.new.second) (g.O.Sink.state c.answer.new.out) in
-    rw c.after.ensures (bytes_to_blame c.args.job.now c.in-Err.fault old new c.in-Err.ensures.fault (rw c.after.ensures at r))
+    rw c.after.ensures (bytes_to_blame c.args.job.now c.in-Err.fault old new c.in-Err.ensures.fault (rw c.after.ensures at r)).0
+
+pub returns-in-Err-clause-unwritten : goal.returns-in-Err-clause-unwritten
+returns-in-Err-clause-unwritten g c = λ r w.
+    let old = job_devices (g.S1.Source.state c.args.first.now) (g.S2.Source.state c.args.second.now) (g.O.Sink.state c.args.out.now) in
+    let new = job_devices (g.S1.Source.state c.answer.new.first) (g.S2.Source.state c.answer.new.second) (g.O.Sink.state c.answer.new.out) in
+    (bytes_to_blame c.args.job.now c.in-Err.fault old new c.in-Err.ensures.fault (rw c.after.ensures at r)).1 w

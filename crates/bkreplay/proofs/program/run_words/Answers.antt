@@ -1,0 +1,17 @@
+-- Where the bytes are to blame, nothing is written but by `frames`.
+use Rattle.std.proofs.Common.{inl, inr}
+use Rattle.bk_jobs.proofs.StatusLemmas.{report_is_answer}
+use Rattle.bkreplay.proofs.Naming.{fault_is_no_answer, frames_or_not}
+use Rattle.bkreplay.proofs.program.run_words.Goals as goal
+
+pub returns-in-Ok-clause-blame : goal.returns-in-Ok-clause-blame
+returns-in-Ok-clause-blame g c = λ r. elim (frames_or_not _ c.in-Ok.job c.in-Ok.ensures.job) [
+  | inl w ↦ inl (c.open_and_run.ensures.unwritten r w)
+  | inr n ↦ inr n
+]
+
+pub returns-in-Ok-clause-quiet : goal.returns-in-Ok-clause-quiet
+returns-in-Ok-clause-quiet g c = λ r. c.open_and_run.ensures.quiet (report_is_answer c.in-Ok.job c.open_and_run.result r)
+
+pub returns-in-Ok-clause-line : goal.returns-in-Ok-clause-line
+returns-in-Ok-clause-line g c = λ r. c.open_and_run.ensures.line (fault_is_no_answer c.in-Ok.job c.open_and_run.result r)
