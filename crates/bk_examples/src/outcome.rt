@@ -29,12 +29,18 @@ impl Outcome {
             && self.err.as_slice() == other.err.as_slice()
     }
 
-    /// Whether just these bytes were printed, all of them on standard output or all on standard error.
-    pub(crate) fn has_printed(&self, wanted: &[u8]) -> bool {
+    /// Whether just these bytes were printed, all of them on standard output or all on standard error; of a command that
+    /// writes while it reads, first those on standard output.
+    pub(crate) fn has_printed(&self, wanted: &[u8], writes_ahead: bool) -> bool {
         if self.err.is_empty() {
             return self.out.as_slice() == wanted;
         }
-        self.out.is_empty() && self.err.as_slice() == wanted
+        if self.out.is_empty() {
+            return self.err.as_slice() == wanted;
+        }
+        writes_ahead
+            && wanted.starts_with(self.out.as_slice())
+            && wanted[self.out.len()..] == *self.err.as_slice()
     }
 }
 
