@@ -1,6 +1,6 @@
 -- What a Follower finds at one moment and at a later one.
 use Rattle.std.proofs.Common.{◌≡◌, ◌∙◌, ℕ, List, [], ◌∷◌, ◌++◌, sym, ap, subst, refl, Option, Some, None, ◌<◌, ◌≤◌, length, arith, append_assoc}
-use Rattle.std.specs.Prelude.{Unit, Contains, ◌≢◌}
+use Rattle.std.specs.Prelude.{Contains}
 use Rattle.std.proofs.lemmas.List.Elements.{Contains-append_left}
 use Rattle.bk_frames.specs.declared.fault.FeedFault.{FeedFault}
 use Rattle.bk_frames.specs.declared.version.Version.{Version}
