@@ -5,5 +5,5 @@ use Rattle.bk_frames.specs.declared.genesis.Row.{Row}
 use Rattle.bk_frames.proofs.Accounts.{rows_are_accounts}
 use Rattle.bk_follow.proofs.opening.genesis_of.Goals as goal
 
-pub returns-in-Some-clause-accounts : goal.returns-in-Some-clause-accounts
-returns-in-Some-clause-accounts c = rows_are_accounts c.args.payload.now c.in-Some.rows.items (sym c.in_ok-rows.ensures ∙ ap (option_map (λ (v : Vec Row). v.items)) c.in-Some.is)
+pub returns-clause-accounts : goal.returns-clause-accounts
+returns-clause-accounts c = rows_are_accounts c.args.payload.now c.in-Some.rows.items (sym c.in_ok-rows.ensures ∙ ap (option_map (λ (v : Vec Row). v.items)) c.in-Some.is)

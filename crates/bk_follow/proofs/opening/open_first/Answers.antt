@@ -1,4 +1,5 @@
-use Rattle.std.proofs.Common.{sym, ap, ◌∙◌}
+use Rattle.std.proofs.Common.{sym, ap, ◌∙◌, subst, List, ℕ, IsTrue}
+use Rattle.bk_frames.specs.Committee.{is_committee}
 use Rattle.bk_frames.specs.Cutting.{frames_in}
 use Rattle.bk_committee.specs.Payload.{committee_of}
 use Rattle.bk_follow.proofs.Openings.{first_stands, first_waits, first_opens, none_there, taken_committee}
@@ -15,4 +16,5 @@ returns c = first_opens c.args.version c.args.committee.now c.in-Some.payload.it
 
 pub committee_of-requires : goal.committee_of-requires
 committee_of-requires c =
-    taken_committee c.args.version _ (frames_in c.args.frames.now.items) (frames_in c.take_first.new.frames.items) c.in-Some.ensures (c.requires (none_there c.args.committee.now (sym c.if-is_some.ensures)))
+    subst (λ (p : List ℕ). IsTrue (is_committee c.args.version p)) (sym c.deref.ensures.value)
+    (taken_committee c.args.version _ (frames_in c.args.frames.now.items) (frames_in c.take_first.new.frames.items) c.in-Some.ensures (c.requires (none_there c.args.committee.now (sym c.if-is_some.ensures))))

@@ -1,4 +1,5 @@
-use Rattle.std.proofs.Common.{sym, ◌∙◌}
+use Rattle.std.proofs.Common.{sym, ◌∙◌, subst, List, ℕ, IsTrue}
+use Rattle.bk_frames.specs.Genesis.{is_genesis}
 use Rattle.bk_frames.specs.Cutting.{frames_in}
 use Rattle.bk_follow.proofs.Openings.{is_there, none_is_none, second_early, second_waits, second_opens, taken_genesis}
 use Rattle.bk_follow.proofs.opening.open_second.Goals as goal
@@ -22,4 +23,5 @@ returns c =
 
 pub book_of-requires : goal.book_of-requires
 book_of-requires c =
-    taken_genesis _ (frames_in c.args.frames.now.items) (frames_in c.take_first.new.frames.items) c.in-Some.ensures (c.requires.head (is_there c.args.opened.now.committee c.if-is_none.ensures))
+    subst (λ (p : List ℕ). IsTrue (is_genesis p)) (sym c.deref.ensures.value)
+    (taken_genesis _ (frames_in c.args.frames.now.items) (frames_in c.take_first.new.frames.items) c.in-Some.ensures (c.requires.head (is_there c.args.opened.now.committee c.if-is_none.ensures)))
