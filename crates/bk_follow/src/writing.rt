@@ -20,7 +20,7 @@ use bk_cert::CertRef;
 use bk_frames::{Row, Sink, WriteFault};
 use bk_ledger::Ledger;
 use bk_order::Intake;
-use bk_report::{Page, Parts, leaves_of, write_run};
+use bk_report::{Page, Parts, Sheets, leaves_of, sheets_for, write_run};
 use bk_results::Status;
 use std::alloc::{AllocError, Global};
 use std::thread::Threads;
@@ -67,6 +67,7 @@ fn write_shown<R: Threads + Sync, K: Sink>(
     rt: &R,
     sink: &mut K,
     page: &mut Page,
+    sheets: &mut Option<Sheets>,
     intake: &Intake,
     ledger: &Ledger,
     shown: &Shown,
@@ -104,7 +105,7 @@ fn write_shown<R: Threads + Sync, K: Sink>(
         total: shown.total,
         leaves: &shown.leaves,
     };
-    write_run(rt, sink, page, &parts)
+    write_run(rt, sink, page, sheets, &parts)
 }
 
 impl Book {
@@ -125,8 +126,18 @@ impl Book {
             unreachable!()
         };
         let shown = find_shown(self.alloc, &self.intake, ledger)?;
+        let lines = ledger.receipts().len().saturating_add(shown.rows.len());
         let mut page = Page::new(self.alloc)?;
-        write_shown(rt, sink, &mut page, &self.intake, ledger, &shown)?;
+        let mut sheets = sheets_for(self.alloc, lines)?;
+        write_shown(
+            rt,
+            sink,
+            &mut page,
+            &mut sheets,
+            &self.intake,
+            ledger,
+            &shown,
+        )?;
         match self.intake.missing() {
             Some(_) => Ok(Status::Missing),
             None => Ok(Status::Whole),
