@@ -2,7 +2,7 @@
 use Rattle.std.proofs.Common.{◌≡◌, ℕ, zero, suc, ◌+◌, ◌^◌, ◌<◌, ◌≤◌, List, [], ◌∷◌, ◌++◌, length, take, drop, get_or, Option, Some, None, refl, sym, ap, subst, ◌∙◌, arith, append_assoc, length-append}
 use Rattle.std.specs.List.{AllZip, flat_map}
 use Rattle.std.specs.Global.{Vec}
-use Rattle.std.proofs.lemmas.List.{append-nil, take_more, take_all, take-append-drop, length-map}
+use Rattle.std.proofs.lemmas.List.{append-nil, take_more, take_all, take-append-drop}
 use Rattle.std.proofs.lemmas.List.Concat.{flat_map-append, flat_map-cons}
 use Rattle.bk_frames.specs.declared.kind.Kind.{Kind}
 use Rattle.bk_frames.specs.declared.version.Version.{Version}
@@ -13,7 +13,7 @@ use Rattle.bk_listing.specs.Listing.{AreWords, AreLinesFrom, IsListing, line_wit
 use Rattle.bk_listing.specs.declared.rows.Shown.{Shown}
 use Rattle.bk_listing.specs.declared.lines.Place.{Place}
 use Rattle.bk_listing.specs.declared.lister.Lister.{Lister}
-use Rattle.bk_listing.specs.private.Shown.{IsRow, IsPlaceAfter, PutsLines, IsCommitteeOf, HasListed, OpensBy, GoesOn, row_words}
+use Rattle.bk_listing.specs.private.Shown.{IsRow, PutsLines, IsCommitteeOf, HasListed, OpensBy, GoesOn, row_words}
 use Rattle.bk_listing.proofs.PartsOf.{frames_append}
 use Rattle.bk_listing.proofs.Frames.{zip_push}
 
@@ -95,9 +95,6 @@ rows_all k xs i rows low h = subst (λ (ys : List (Kind × Vec ℕ)). AllZip (Is
 
 -- ---- lines that are put
 
-pub puts_none : (k : CommitteeValue) (start : Place) (xs : List (Kind × Vec ℕ)) (old : List ℕ) → PutsLines k start start (frames_in (take 0 xs)) old old
-puts_none k start xs old = record { text = []; put = sym (append-nil old); lines = refl; after = record { index = omega arith; offset = omega arith } }
-
 pub puts_on : (k : CommitteeValue) (start place next : Place) (xs : List (Kind × Vec ℕ)) (i : ℕ) (x : Kind × Vec ℕ) (row : Shown) (old now new : List ℕ) → i < length xs → x ≡ get_or xs i x → IsRow k (frame_of x.0 x.1.items) row → PutsLines k start place (frames_in (take i xs)) old now
     → new ≡ now ++ (line_with place.index place.offset (row_words k row) ++ 10 ∷ []) → next.index ≡ place.index + 1 → next.offset ≡ place.offset + (length x.1.items + 5) → PutsLines k start next (frames_in (take (i + 1) xs)) old new
 puts_on k start place next xs i x row old now new low there is h pushed index offset =
@@ -124,9 +121,6 @@ place_fits k start place xs i x old now low there h index offset =
     let all = first_bytes xs (i + 1) in
     let more = ap (λ (t : List Frame). length (flat_map frame_text t)) (frames_more xs i x low there) in
     (omega (arith, h.after.index, counted xs i (omega (arith, low)), index, low), omega (arith, h.after.offset, all, more, more_bytes (frames_in (take i xs)) (frame_of x.0 x.1.items), offset))
-
-pub puts_all : (k : CommitteeValue) (start place : Place) (xs : List (Kind × Vec ℕ)) (i : ℕ) (old now : List ℕ) → length xs ≤ i → PutsLines k start place (frames_in (take i xs)) old now → PutsLines k start place (frames_in xs) old now
-puts_all k start place xs i old now low h = subst (λ (ys : List (Kind × Vec ℕ)). PutsLines k start place (frames_in ys) old now) (take_all i xs low) h
 
 -- ---- groups in turn
 

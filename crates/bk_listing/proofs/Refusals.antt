@@ -1,5 +1,5 @@
 -- A feed whose whole frames wait: more bytes come, or no more.
-use Rattle.std.proofs.Common.{◌≡◌, ◌≢◌, ℕ, ◌+◌, ◌-◌, ◌^◌, ◌<◌, ◌≤◌, ◌⊎◌, inl, inr, List, [], ◌∷◌, ◌++◌, length, take, drop, Option, Some, None, refl, sym, ap, subst, ◌∙◌, arith, append_assoc, length-append}
+use Rattle.std.proofs.Common.{◌≡◌, ℕ, ◌+◌, ◌^◌, ◌<◌, ◌≤◌, inl, inr, List, [], ◌∷◌, ◌++◌, length, take, drop, Option, Some, None, refl, sym, ap, subst, ◌∙◌, arith, append_assoc, length-append}
 use Rattle.std.specs.Prelude.{IfSome}
 use Rattle.std.specs.Global.{Vec}
 use Rattle.std.specs.Io.KnownBytes.{Consumes, Keeps, IsAtEnd}
@@ -11,8 +11,8 @@ use Rattle.bk_frames.specs.declared.pulling.TheConstants.{PIECE}
 use Rattle.bk_frames.specs.declared.fault.FaultCode.TheVariants as code
 use Rattle.bk_frames.specs.declared.fault.FeedFault.{FeedFault}
 use Rattle.bk_frames.specs.Device.{Device, Works, Fails, Gives, IfKnown}
-use Rattle.bk_frames.specs.Feed.{Frame, HasFault, Begins, feed_of, spelling, frame_of}
-use Rattle.bk_frames.specs.Pulling.{ByCode, FrontCallsForMemoryAt, Gave, Refuses, StopsAt}
+use Rattle.bk_frames.specs.Feed.{Frame, HasFault, feed_of}
+use Rattle.bk_frames.specs.Pulling.{FrontCallsForMemoryAt, Gave, Refuses, StopsAt}
 use Rattle.bk_frames.specs.Cutting.{Cut, Cuts, in_magic, past_magic, in_frames, IsOpen, ShowsFault, Reaches, RefusesPiece, fresh, frames_in}
 use Rattle.bk_frames.specs.Reading.{room_of}
 use Rattle.bk_frames.proofs.Devices.{consumes_then, take_parts}

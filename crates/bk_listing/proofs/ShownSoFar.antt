@@ -1,12 +1,11 @@
 -- What is listed so far, and what a call leaves.
-use Rattle.std.proofs.Common.{◌≡◌, ℕ, suc, ◌+◌, ◌^◌, ◌<◌, ◌≤◌, ◌⊎◌, inl, inr, List, [], ◌∷◌, ◌++◌, length, take, drop, Option, Some, None, refl, sym, ap, subst, ◌∙◌, arith, append_assoc, length-append}
+use Rattle.std.proofs.Common.{◌≡◌, ℕ, ◌+◌, ◌^◌, ◌<◌, ◌≤◌, inl, inr, List, [], ◌∷◌, ◌++◌, length, take, Option, Some, None, refl, sym, ap, subst, ◌∙◌, arith, append_assoc, length-append}
 use Rattle.std.specs.Prelude.{IfSome, IfErr, OnOk, Ok, Err}
 use Rattle.std.specs.declared.result.Result.{Result}
 use Rattle.std.specs.List.{flat_map}
 use Rattle.std.specs.Global.{Vec}
-use Rattle.std.specs.Io.KnownBytes.{Consumes, Appends, Keeps}
 use Rattle.std.proofs.KnownBytes.{Consumes-nil, Appends-nil, Appends-kept, Keeps-refl}
-use Rattle.std.proofs.lemmas.List.{append-nil, take_at, take-append-drop}
+use Rattle.std.proofs.lemmas.List.{append-nil}
 use Rattle.std.proofs.lemmas.List.Concat.{flat_map-append, flat_map-cons}
 use Rattle.bk_frames.specs.declared.kind.Kind.{Kind}
 use Rattle.bk_frames.specs.declared.version.Version.{Version}
@@ -16,21 +15,20 @@ use Rattle.bk_frames.specs.declared.fault.FaultCode.{FaultCode}
 use Rattle.bk_frames.specs.declared.fault.FaultCode.TheVariants as code
 use Rattle.bk_frames.specs.declared.fault.FeedFault.{FeedFault}
 use Rattle.bk_frames.specs.Device.{Device, Works, Fails, Gives, Receives, IfKnown}
-use Rattle.bk_frames.specs.Writing.{Writes}
-use Rattle.bk_frames.specs.Feed.{Frame, HasFault, Begins, IsFeed, FeedValue, feed_of, spelling, frame_text, AreGoodFrom}
+use Rattle.bk_frames.specs.Feed.{Frame, HasFault, feed_of, spelling, frame_text, AreGoodFrom}
 use Rattle.bk_frames.specs.Pulling.{ByCode, FrontCallsForMemoryAt, Gave, Refuses, StopsAt}
-use Rattle.bk_frames.specs.Cutting.{Cut, Cuts, EndsShort, fresh, frames_in}
+use Rattle.bk_frames.specs.Cutting.{Cut, EndsShort, frames_in}
 use Rattle.bk_frames.proofs.Devices.{appends_then, take_past}
 use Rattle.bk_frames.proofs.CutJoining.{bytes_so_far, none_before_magic, ends_as_feed, ends_cut_short, spelling_then}
 use Rattle.bk_results.specs.declared.fault.Fault.{Fault}
 use Rattle.bk_results.specs.declared.fault.Fault.TheVariants as fault
 use Rattle.bk_results.specs.Devices.{Devices, IsUntouched}
 use Rattle.bk_listing.specs.Listing.{IsListing}
-use Rattle.bk_listing.specs.Answers.{IsListingTo, no_frames, of_frames, AllIsListed, IsListedTo, FrontIsListed, PartIsListed, FailsOnceAtMost, ListFails}
+use Rattle.bk_listing.specs.Answers.{IsListingTo, no_frames, of_frames, AllIsListed, IsListedTo, FailsOnceAtMost, ListFails}
 use Rattle.bk_listing.specs.declared.reader.FrameReader.{FrameReader}
 use Rattle.bk_listing.specs.declared.lister.Lister.{Lister}
-use Rattle.bk_listing.specs.private.Reading.{AreFront, CanBe, HasCut, HasRead, ReadFails}
-use Rattle.bk_listing.specs.private.Shown.{HasListed, ListsMore, MoreFails, GoesOn, AreNext, PushFails}
+use Rattle.bk_listing.specs.private.Reading.{AreFront, CanBe, HasCut, HasRead}
+use Rattle.bk_listing.specs.private.Shown.{HasListed, ListsMore, MoreFails, GoesOn, PushFails}
 use Rattle.bk_listing.specs.private.Listed.{AreListed, CanList, IsEmptied, ListsWaiting, WaitingFails, LeavesBy, EndsBy, HasShown, waiting}
 use Rattle.bk_listing.proofs.Refusals.{front_here, none_read}
 

@@ -1,6 +1,4 @@
-use Rattle.std.proofs.Common.{codes, ◌++◌}
-use Rattle.hex.specs.Hex.{encode_lower}
-use Rattle.bk_results.specs.Lines.{spaced}
+use Rattle.std.proofs.Common.{codes}
 use Rattle.bk_listing.proofs.Puts.{puts_word}
 use Rattle.bk_listing.proofs.lines.put_cert.Goals as goal
 

@@ -1,4 +1,4 @@
-use Rattle.std.proofs.Common.{codes, ◌++◌}
+use Rattle.std.proofs.Common.{codes}
 use Rattle.bk_listing.proofs.Puts.{puts_word}
 use Rattle.bk_listing.proofs.lines.put_genesis.Goals as goal
 

@@ -1,4 +1,4 @@
-use Rattle.std.proofs.Common.{◌+◌, ◌<◌, length, refl, arith, rules}
+use Rattle.std.proofs.Common.{◌<◌, length, refl, arith, rules}
 use Rattle.bk_frames.specs.Cutting.{frames_in}
 use Rattle.bk_listing.specs.private.Shown.{IsRow}
 use Rattle.bk_listing.proofs.Frames.{zip_length}

@@ -1,7 +1,5 @@
-use Rattle.std.proofs.Common.{ℕ, subst, refl, rules}
 use Rattle.std.proofs.lemmas.Result.{err_from_is_err_and}
 use Rattle.bk_frames.specs.Cutting.{frames_in}
-use Rattle.bk_listing.specs.private.Shown.{PushFails}
 use Rattle.bk_listing.proofs.ShownSoFar.{push_more, untouched}
 use Rattle.bk_listing.proofs.lister.Lister.list.Goals as goal
 
