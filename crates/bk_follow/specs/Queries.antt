@@ -27,6 +27,11 @@ rows_of_executed (Some e) = e.rows
 abbrev pub rows_in : Option BookValue → List Row
 rows_in book = rows_of_executed (executed_in book)
 
+-- the opening accounts, none before the genesis is whole
+abbrev pub opening_in : Option BookValue → List Row
+opening_in None = []
+opening_in (Some b) = b.opening
+
 -- nothing stops the whole frames so far, once the genesis is one of them
 abbrev pub NothingStops : Followed → Type 0
 NothingStops v =

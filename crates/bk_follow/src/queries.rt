@@ -4,11 +4,12 @@ ghost use Rattle.std.specs.Prelude.{◌≡◌, Some, None, Err, OnOk, IfOk, IfEr
 ghost use Rattle.bk_rules.specs.Rows.{account_at};
 ghost use Rattle.bk_follow.specs.Follower.{BookValue, receipts_in, executed_in};
 ghost use Rattle.bk_report.specs.Proofs.{IsProofOf, IsAbsent};
-ghost use Rattle.bk_follow.specs.Queries.{executed_of, rows_in, NothingStops, IsStopSoFar};
+ghost use Rattle.bk_follow.specs.Queries.{executed_of, opening_in, rows_in, NothingStops, IsStopSoFar};
 ghost use Rattle.bk_follow.specs.Ordering.{OrderFails};
 
 use crate::fault::Fault;
 use crate::follower::{Follower, stand};
+use bk_frames::Row;
 use bk_ledger::Ledger;
 use bk_order::Intake;
 use bk_report::{Proof, proof_of};
@@ -44,6 +45,16 @@ impl Follower {
         match &self.gathered.opened.book {
             Some(book) => Some(&book.intake),
             None => None,
+        }
+    }
+
+    /// The opening accounts, none before the genesis is whole.
+    pub fn opening(&self) -> &[Row]
+        ensures { result.now ≡ opening_in self.now.book }
+    {
+        match &self.gathered.opened.book {
+            Some(book) => &book.opening,
+            None => &[],
         }
     }
 
