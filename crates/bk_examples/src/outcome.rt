@@ -39,8 +39,9 @@ impl Outcome {
             return self.err.as_slice() == wanted;
         }
         writes_ahead
+            && wanted.len().checked_sub(self.out.len()) == Some(self.err.len())
             && wanted.starts_with(self.out.as_slice())
-            && wanted[self.out.len()..] == *self.err.as_slice()
+            && wanted.ends_with(self.err.as_slice())
     }
 }
 
