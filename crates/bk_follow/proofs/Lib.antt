@@ -9,3 +9,4 @@ pub mod Following
 pub mod QueryStops
 pub mod OrderSoFar
 pub mod ComparedBooks
+pub mod Groups

@@ -6,18 +6,17 @@ ghost use Rattle.bk_frames.specs.Device.{Device, CanBeUsed, IfKnown};
 ghost use Rattle.bk_frames.specs.Reading.{room_of};
 ghost use Rattle.bk_frames.specs.declared.pulling.TheConstants.{PIECE};
 ghost use Rattle.bk_frames.specs.Feed.{Frame};
-ghost use Rattle.bk_follow.specs.private.Gathering.{HasGathered, HasPulled, IsAllOf};
+ghost use Rattle.bk_follow.specs.private.Gathering.{CanPull, CanTake, HasGathered, HasPulled, HasPulledGroup, TakesWaiting};
+ghost use Rattle.std.specs.Thread.{IsSync};
 ghost use Rattle.bk_follow.specs.Replaying.{ReadFails};
 
 use crate::fault::Fault;
 use crate::opening::{Opened, take_frames};
-use bk_frames::{Cutter, Kind, Source, pull_frames};
+use crate::pulling::pull_group;
+use bk_frames::{Cutter, FeedFault, Kind, Source, Version};
 use std::alloc::{AllocError, Global};
 use std::mem::replace;
-use std::thread::Threads;
-
-// How many bytes come before their frames are taken: enough to share among processors.
-const ENOUGH: usize = 1 << 22;
+use std::thread::{Threads, join_mut};
 
 /// What a feed has come to. Its bytes are cut at once; of its whole frames the first are taken, and the others wait.
 #[derive(Drop)]
@@ -26,8 +25,70 @@ pub(crate) struct Gathered {
     pub(crate) opened: Opened,
     /// The frames that wait.
     pub(crate) frames: Vec<(Kind, Vec<u8>)>,
-    /// How many bytes came since frames were last taken.
-    count: usize,
+}
+
+// Takes the frames that wait, of a feed in this version. None do before the version is known.
+fn take_waiting(
+    rt: &(impl Threads + Sync),
+    alloc: Global,
+    version: Option<Version>,
+    opened: &mut Opened,
+    frames: Vec<(Kind, Vec<u8>)>,
+) -> Result<(), AllocError>
+    requires come { CanTake version (frames_in frames.items) opened.old }
+    ensures { OnOk result (TakesWaiting version (frames_in frames.items) opened.old opened.new) }
+{
+    match version {
+        Some(version) => take_frames(rt, alloc, version, opened, frames),
+        None => Ok(()),
+    }
+}
+
+// Takes the frames that wait. Beside that, it pulls those after them.
+fn pull_beside<R: Threads + Sync, S: Source>(
+    rt: &R,
+    alloc: Global,
+    version: Option<Version>,
+    waiting: &mut Vec<(Kind, Vec<u8>)>,
+    opened: &mut Opened,
+    source: &mut S,
+    piece: &mut [u8],
+    cutter: &mut Cutter,
+    frames: &mut Vec<(Kind, Vec<u8>)>,
+) -> (Result<(), AllocError>, Result<bool, FeedFault>)
+    requires come { CanTake version (frames_in waiting.old.items) opened.old }
+    requires sound { CanBeUsed (S.state source.old) }
+    requires some { 0 < length piece.old }
+    requires few { length piece.old ≤ PIECE }
+    requires pulled { CanPull (S.state source.old) frames.old.items cutter.old }
+    ensures took { OnOk result.0 (TakesWaiting version (frames_in waiting.old.items)
+        opened.old opened.new) }
+    ensures pulled { HasPulledGroup result.1 (S.state source.old) (S.state source.new)
+        frames.old.items frames.new.items cutter.old cutter.new }
+{
+    join_mut(
+        rt,
+        &mut || -> Result<(), AllocError>
+            requires { IsSync R.row × CanTake version (frames_in waiting.now.items) opened.now }
+            ensures { OnOk result (TakesWaiting version (frames_in waiting.entry.now.items)
+                opened.entry.now opened.exit.now) }
+        {
+            take_waiting(
+                rt,
+                alloc,
+                version,
+                opened,
+                replace(waiting, Vec::new(alloc)),
+            )
+        },
+        &mut || -> Result<bool, FeedFault>
+            requires { CanBeUsed (S.state source.now) × (0 < length piece.now)
+                × (length piece.now ≤ PIECE)
+                × CanPull (S.state source.now) frames.now.items cutter.now }
+            ensures { HasPulledGroup result (S.state source.entry.now) (S.state source.exit.now)
+                frames.entry.now.items frames.exit.now.items cutter.entry.now cutter.exit.now }
+        { pull_group(source, piece, cutter, frames) },
+    )
 }
 
 impl Gathered {
@@ -48,7 +109,6 @@ impl Gathered {
             cutter,
             opened,
             frames,
-            count: 0,
         }
     }
 
@@ -66,43 +126,18 @@ impl Gathered {
         ensures all { OnOk result (self.new.frames.items ≡ []) }
         ensures cut { self.new.cutter ≡ self.old.cutter }
     {
-        self.count = 0;
         let frames = replace(&mut self.frames, Vec::new(alloc));
-        let Some(version) = self.cutter.version() else {
-            return Ok(());
-        };
-        take_frames(rt, alloc, version, &mut self.opened, frames)?;
+        take_waiting(rt, alloc, self.cutter.version(), &mut self.opened, frames)?;
         Ok(())
     }
 
-    // Pulls the next piece of the feed, whose whole frames wait. Returns how many bytes came: 0 at the end.
-    fn pull_piece<S: Source>(&mut self, source: &mut S, piece: &mut [u8]) -> Result<usize, Fault>
-        requires sound { CanBeUsed (S.state source.old) }
-        requires some { 0 < length piece.old }
-        requires few { length piece.old ≤ PIECE }
-        requires come { (start : Device) × HasPulled start (S.state source.old) self.old }
-        ensures come { OnOk result ((start : Device) → HasPulled start (S.state source.old) self.old
-            → HasPulled start (S.state source.new) self.new) }
-        ensures all { IfOk result (λ n. n ≡ 0 → (start : Device)
-            → HasPulled start (S.state source.old) self.old
-            → IfKnown start (λ bytes. (taken : List Frame) × HasGathered bytes taken self.new)) }
-        ensures nearer { IfOk result
-            (λ n. 0 < n → room_of self.new.cutter < room_of self.old.cutter) }
-        ensures fault { IfErr result (λ f. (start : Device)
-            → HasPulled start (S.state source.old) self.old
-            → ReadFails f start (S.state source.new)) }
-    {
-        let count = pull_frames(source, piece, &mut self.cutter, &mut self.frames)?;
-        // The count says when to judge, and no more: it need not be right where it is huge.
-        self.count = self.count.saturating_add(count);
-        Ok(count)
-    }
-
-    /// Pulls the next piece of the feed. Its frames are judged with those that waited, once there are enough, or at the
-    /// end of the source. Returns whether that was reached.
-    pub(crate) fn pull<S: Source>(
+    /// Takes the frames that wait, while those after them are pulled, which wait then. Returns whether the end of the
+    /// source was reached.
+    ///
+    /// A fault of the bytes comes before memory that runs out beside it.
+    pub(crate) fn pull<R: Threads + Sync, S: Source>(
         &mut self,
-        rt: &(impl Threads + Sync),
+        rt: &R,
         alloc: Global,
         source: &mut S,
         piece: &mut [u8],
@@ -114,22 +149,34 @@ impl Gathered {
         ensures come { OnOk result ((start : Device) → HasPulled start (S.state source.old) self.old
             → HasPulled start (S.state source.new) self.new) }
         ensures all { IfOk result (λ end. IsTrue end → (start : Device)
-            → HasPulled start (S.state source.old) self.old → IsAllOf start self.new) }
+            → HasPulled start (S.state source.old) self.old
+            → IfKnown start (λ bytes. (taken : List Frame) × HasGathered bytes taken self.new)) }
         ensures nearer { IfOk result (λ end. end ≡ false
             → room_of self.new.cutter < room_of self.old.cutter) }
         ensures fault { IfErr result (λ f. (start : Device)
             → HasPulled start (S.state source.old) self.old
             → ReadFails f start (S.state source.new)) }
     {
-        let count = self.pull_piece(source, piece)?;
-        if count == 0 {
-            self.take(rt, alloc)?;
-            return Ok(true);
-        }
-        if self.count < ENOUGH {
-            return Ok(false);
-        }
-        self.take(rt, alloc)?;
-        Ok(false)
+        let mut waiting = replace(&mut self.frames, Vec::new(alloc));
+        let version = self.cutter.version();
+        let Gathered {
+            cutter,
+            opened,
+            frames,
+        } = self;
+        let (took, pulled) = pull_beside(
+            rt,
+            alloc,
+            version,
+            &mut waiting,
+            opened,
+            source,
+            piece,
+            cutter,
+            frames,
+        );
+        let end = pulled?;
+        took?;
+        Ok(end)
     }
 }

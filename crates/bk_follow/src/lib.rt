@@ -12,6 +12,7 @@ mod follower;
 mod gathering;
 mod opening;
 mod order;
+mod pulling;
 mod queries;
 mod replaying;
 mod writing;

@@ -37,8 +37,9 @@ fn pull_all<R: Threads + Sync, S: Source>(
     ensures fault { IfErr result (λ f. ReadFails f (S.state source.old) (S.state source.new)) }
 {
     // The label names the loop for its proof.
-    'pieces: loop {
+    'groups: loop {
         if gathered.pull(rt, alloc, source, piece)? {
+            gathered.take(rt, alloc)?;
             return Ok(());
         }
     }

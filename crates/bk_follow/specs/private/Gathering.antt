@@ -1,10 +1,18 @@
 -- A feed whose frames are gathered before they are taken.
-use Rattle.std.specs.Prelude.{◌≡◌, ℕ, List, [], ◌++◌, None}
+use Rattle.std.specs.Prelude.{◌≡◌, ◌<◌, ℕ, List, [], ◌++◌, Option, None, Some, Bool, true, false, Result, Ok, Err}
 use Rattle.bk_frames.specs.Device.{Device, Works, Gives, IfKnown}
 use Rattle.bk_frames.specs.Feed.{Frame}
-use Rattle.bk_frames.specs.Cutting.{Cuts, IsOpen, fresh, frames_in}
+use Rattle.bk_frames.specs.Cutting.{Cut, Cuts, CutsInto, IsOpen, fresh, frames_in}
+use Rattle.bk_frames.specs.Pulling.{Refuses}
+use Rattle.bk_frames.specs.Reading.{IsPulled, Pulls, room_of}
+use Rattle.bk_frames.specs.declared.fault.FeedFault.{FeedFault}
+use Rattle.bk_frames.specs.declared.kind.Kind.{Kind}
+use Rattle.bk_frames.specs.declared.version.Version.{Version}
+use Rattle.std.specs.Global.{Vec}
 use Rattle.bk_follow.specs.declared.gathering.Gathered.{Gathered}
-use Rattle.bk_follow.specs.Follower.{Follows}
+use Rattle.bk_follow.specs.declared.opening.Opened.{Opened}
+use Rattle.bk_follow.specs.Follower.{Follows, FollowsBy}
+use Rattle.bk_follow.specs.private.Books.{HasFollowed}
 
 -- these bytes came and are cut: of the frames that they make whole these are taken, and the others wait
 pub record HasGathered (bytes : List ℕ) (taken : List Frame) (g : Gathered) : Type 0 where
@@ -25,3 +33,40 @@ pub record HasPulled (start now : Device) (g : Gathered) : Type 0 where
 pub record IsAllOf (start : Device) (g : Gathered) : Type 0 where
   pub none_waits : g.frames.items ≡ []
   pub all : IfKnown start (λ bytes. (taken : List Frame) × HasGathered bytes taken g)
+
+-- frames that wait can be taken, in a version once it is known
+abbrev pub CanTake : Option Version → List Frame → Opened → Type 0
+CanTake None waiting o = Unit {0}
+CanTake (Some version) waiting o =
+    (before : List Frame) × HasFollowed version before waiting o.committee o.book
+
+-- they were taken after those before them; before the version is known nothing was
+abbrev pub TakesWaiting : Option Version → List Frame → Opened → Opened → Type 0
+TakesWaiting None waiting old new = new ≡ old
+TakesWaiting (Some version) waiting old new =
+    (before : List Frame) → FollowsBy version before old.committee old.book
+    → FollowsBy version (before ++ waiting) new.committee new.book
+
+-- what a source gave has come, and after some frames these wait
+abbrev pub CanPull : Device → List (Kind × Vec ℕ) → Cut → Type 0
+CanPull now waiting c =
+    (start : Device) × (bytes : List ℕ) × (taken : List Frame)
+    × IsPulled start now bytes (taken ++ frames_in waiting) c
+
+-- what is known of a pull holds for each of these
+abbrev pub OfPulled : Device → List (Kind × Vec ℕ) → Cut → (Device → List ℕ → List Frame → Type 0) → Type 0
+OfPulled now waiting c holds =
+    (start : Device) (bytes : List ℕ) (taken : List Frame)
+    → IsPulled start now bytes (taken ++ frames_in waiting) c → holds start bytes taken
+
+-- a group of frames was pulled and put behind those that wait: all that the source had, at its end
+pub record PullsGroup (old new : Device) (before after : List (Kind × Vec ℕ)) (c d : Cut) (end : Bool) : Type 0 where
+  pub cuts : (came : List ℕ) × CutsInto c came before after d
+  pub pulls : OfPulled old before c (λ start bytes taken. (count : ℕ) × Pulls start new bytes (taken ++ frames_in after) d count)
+  pub all : end ≡ true → OfPulled old before c (λ start bytes taken. IfKnown start (λ whole. IsPulled start new whole (taken ++ frames_in after) d))
+  pub nearer : end ≡ false → room_of d < room_of c
+
+-- what came of pulling a group
+abbrev pub HasPulledGroup : Result Bool FeedFault → Device → Device → List (Kind × Vec ℕ) → List (Kind × Vec ℕ) → Cut → Cut → Type 0
+HasPulledGroup (Ok end) old new before after c d = PullsGroup old new before after c d end
+HasPulledGroup (Err fault) old new before after c d = OfPulled old before c (λ start bytes taken. Refuses fault start new)

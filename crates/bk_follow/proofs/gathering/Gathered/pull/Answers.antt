@@ -1,47 +1,41 @@
-use Rattle.std.proofs.Common.{◌≡◌, ℕ, zero, suc, ◌<◌, refl, sym, subst, arith}
+use Rattle.std.proofs.Common.{◌≡◌, [], refl, sym, ap, subst, ◌∙◌}
 use Rattle.std.proofs.lemmas.Result.{err_from_is_err_and}
-use Rattle.bk_frames.specs.Cutting.{Cut}
-use Rattle.bk_frames.specs.Reading.{room_of}
-use Rattle.bk_follow.proofs.Pulled.{taken_now, all_taken}
+use Rattle.bk_frames.specs.Cutting.{frames_in}
+use Rattle.bk_follow.specs.private.Gathering.{PullsGroup, TakesWaiting}
+use Rattle.bk_follow.proofs.Groups.{can_pull_behind, pull_refused, group_came, all_gathered, group_works, pulled_ok, pulled_err, got_ok}
 use Rattle.bk_follow.proofs.gathering.Gathered.pull.Goals as goal
 
-not_zero : (n : ℕ) → ¬ (n ≡ 0) → 0 < n
-not_zero zero h = absurd (h refl)
-not_zero (suc n) h = omega arith
+pub pull_beside-took-requires-clause-pulled : goal.pull_beside-took-requires-clause-pulled
+pull_beside-took-requires-clause-pulled g c = λ κs within.
+    can_pull_behind c.requires.come.0 (g.S.Source.state c.args.source.now) c.args.self.now c.replace-waiting.new.dest.items c.requires.come.1 (ap (λ v. v.items) c.replace-waiting.ensures.after ∙ c.new.ensures.items)
 
-pub take-requires-clause-come : goal.take-requires-clause-come
-take-requires-clause-come g c κs within =
-    let h = c.in_ok-count.ensures.come c.requires.come.0 c.requires.come.1 in
-    (h.bytes, h.taken, h.come)
+pub returns-in_err-end-clause-fault : goal.returns-in_err-end-clause-fault
+returns-in_err-end-clause-fault g c =
+    let p = err_from_is_err_and c.from_residual.result c.from_residual.ensures.1 in
+    rw (p.1, p.2)
+    (λ start h. pull_refused start (g.S.Source.state c.args.source.now) (g.S.Source.state c.pull_beside-took.new.source) c.args.self.now c.replace-waiting.new.dest.items _ h (ap (λ v. v.items) c.replace-waiting.ensures.after ∙ c.new.ensures.items)
+    (pulled_err c.pull_beside-took.result.1 _ _ _ _ _ _ _ c.in_err-end.was c.pull_beside-took.ensures.pulled))
 
-pub returns-in_err-take-clause-fault : goal.returns-in_err-take-clause-fault
-returns-in_err-take-clause-fault g c =
-    let p = err_from_is_err_and c.from_residual-in_err-take.result c.from_residual-in_err-take.ensures.1 in
-    rw (p.1, p.2) (λ start h. (c.in_ok-count.ensures.come start h).works)
-
-pub returns-then-count-eq0-clause-come : goal.returns-then-count-eq0-clause-come
-returns-then-count-eq0-clause-come g c = λ start h.
-    taken_now start (g.S.Source.state c.pull_piece.new.source) c.pull_piece.new.self c.take.new.self (c.in_ok-count.ensures.come start h) c.in_ok-take.ensures.takes
-
-pub returns-then-count-eq0-clause-all : goal.returns-then-count-eq0-clause-all
-returns-then-count-eq0-clause-all g c = λ yes start h.
-    all_taken start c.pull_piece.new.self c.take.new.self c.in_ok-take.ensures.takes c.in_ok-take.ensures.all (c.in_ok-count.ensures.all c.if-count-eq0.true start h)
-
-pub take-requires-2-clause-come : goal.take-requires-2-clause-come
-take-requires-2-clause-come g c κs within =
-    let h = c.in_ok-count.ensures.come c.requires.come.0 c.requires.come.1 in
-    (h.bytes, h.taken, h.come)
-
-pub returns-in_err-take-2-clause-fault : goal.returns-in_err-take-2-clause-fault
-returns-in_err-take-2-clause-fault g c =
-    let p = err_from_is_err_and c.from_residual-in_err-take-2.result c.from_residual-in_err-take-2.ensures.1 in
-    rw (p.1, p.2) (λ start h. (c.in_ok-count.ensures.come start h).works)
+pub returns-in_err-took-clause-fault : goal.returns-in_err-took-clause-fault
+returns-in_err-took-clause-fault g c =
+    let p = err_from_is_err_and c.from_residual-in_err-took.result c.from_residual-in_err-took.ensures.1 in
+    rw (p.1, p.2)
+    (λ start h. group_works (g.S.Source.state c.args.source.now) (g.S.Source.state c.pull_beside-took.new.source) c.args.self.now (record { cutter = c.pull_beside-took.new.cutter; opened = c.pull_beside-took.new.opened; frames = c.pull_beside-took.new.frames }) c.replace-waiting.new.dest (ap (λ v. v.items) c.replace-waiting.ensures.after ∙ c.new.ensures.items) c.in_ok-end.end
+    (pulled_ok c.pull_beside-took.result.1 _ _ _ _ _ _ c.in_ok-end.end c.in_ok-end.was c.pull_beside-took.ensures.pulled) start h)
 
 pub returns-clause-come : goal.returns-clause-come
 returns-clause-come g c = λ start h.
-    taken_now start (g.S.Source.state c.pull_piece.new.source) c.pull_piece.new.self c.take-2.new.self (c.in_ok-count.ensures.come start h) c.in_ok-take-2.ensures.takes
+    group_came (g.S.Source.state c.args.source.now) (g.S.Source.state c.pull_beside-took.new.source) c.args.self.now (record { cutter = c.pull_beside-took.new.cutter; opened = c.pull_beside-took.new.opened; frames = c.pull_beside-took.new.frames }) c.replace-waiting.new.dest (ap (λ v. v.items) c.replace-waiting.ensures.after ∙ c.new.ensures.items) c.in_ok-end.end
+    (pulled_ok c.pull_beside-took.result.1 _ _ _ _ _ _ c.in_ok-end.end c.in_ok-end.was c.pull_beside-took.ensures.pulled)
+    c.version-version.result (sym c.version-version.ensures)
+    (subst (λ fs. TakesWaiting c.version-version.result (frames_in fs.items) c.args.self.now.opened c.pull_beside-took.new.opened) c.replace-waiting.ensures.value (got_ok c.pull_beside-took.result.0 _ _ c.in_ok-took.was c.pull_beside-took.ensures.took)) start h
+
+pub returns-clause-all : goal.returns-clause-all
+returns-clause-all g c = λ ended start h.
+    all_gathered (g.S.Source.state c.args.source.now) (g.S.Source.state c.pull_beside-took.new.source) c.args.self.now (record { cutter = c.pull_beside-took.new.cutter; opened = c.pull_beside-took.new.opened; frames = c.pull_beside-took.new.frames }) c.replace-waiting.new.dest (ap (λ v. v.items) c.replace-waiting.ensures.after ∙ c.new.ensures.items) c.in_ok-end.end
+    (pulled_ok c.pull_beside-took.result.1 _ _ _ _ _ _ c.in_ok-end.end c.in_ok-end.was c.pull_beside-took.ensures.pulled)
+    c.version-version.result (sym c.version-version.ensures)
+    (subst (λ fs. TakesWaiting c.version-version.result (frames_in fs.items) c.args.self.now.opened c.pull_beside-took.new.opened) c.replace-waiting.ensures.value (got_ok c.pull_beside-took.result.0 _ _ c.in_ok-took.was c.pull_beside-took.ensures.took)) ended start h
 
 pub returns-clause-nearer : goal.returns-clause-nearer
-returns-clause-nearer g c = λ same.
-    let some : 0 < c.in_ok-count.count = not_zero c.in_ok-count.count c.if-count-eq0.false in
-    subst (λ (t : Cut). room_of t < room_of c.args.self.now.cutter) (sym c.take-2.ensures.cut) (c.in_ok-count.ensures.nearer some)
+returns-clause-nearer g c = λ going. (pulled_ok c.pull_beside-took.result.1 _ _ _ _ _ _ c.in_ok-end.end c.in_ok-end.was c.pull_beside-took.ensures.pulled).nearer going

@@ -1,0 +1,196 @@
+-- Pulling a group of frames: its pieces one after another, and the frames that waited taken beside it.
+use Rattle.std.proofs.Common.{◌≡◌, ℕ, ◌+◌, ◌<◌, ◌≤◌, ◌^◌, List, [], ◌++◌, length, Bool, true, false, Option, Some, None, refl, sym, ap, subst, ◌∙◌, arith, append_assoc, length-append}
+use Rattle.std.specs.Prelude.{IfSome, Result, Ok, Err, OnOk}
+use Rattle.std.specs.Global.{Vec}
+use Rattle.std.proofs.lemmas.List.{append-nil, map-append}
+use Rattle.bk_frames.specs.declared.kind.Kind.{Kind}
+use Rattle.bk_frames.specs.declared.version.Version.{Version}
+use Rattle.bk_frames.specs.declared.fault.FeedFault.{FeedFault}
+use Rattle.bk_frames.specs.Device.{Device, CanBeUsed, Works, IfKnown}
+use Rattle.bk_frames.specs.Feed.{Frame}
+use Rattle.bk_frames.specs.Cutting.{Cut, Cuts, in_magic, past_magic, in_frames, CutsInto, fresh, frames_in}
+use Rattle.bk_frames.specs.Pulling.{Refuses}
+use Rattle.bk_frames.specs.Reading.{IsPulled, Pulls, room_of}
+use Rattle.bk_frames.proofs.CutJoining.{cuts_then}
+use Rattle.bk_frames.proofs.Pulls.{at_end}
+use Rattle.bk_follow.specs.Follower.{FollowsBy}
+use Rattle.bk_follow.specs.declared.gathering.Gathered.{Gathered}
+use Rattle.bk_follow.specs.private.Gathering.{HasGathered, HasPulled, IsAllOf, CanTake, TakesWaiting, CanPull, OfPulled, PullsGroup, HasPulledGroup}
+use Rattle.bk_follow.proofs.Waiting.{can_take, took_all, took_none}
+use Rattle.bk_follow.proofs.Pulled.{cut_so_far, gathered_more, piece_came, taken_now}
+
+-- ---- one piece after another
+
+-- what is known of the pieces of a group so far
+pub record PullsSoFar (old new : Device) (before after : List (Kind × Vec ℕ)) (c d : Cut) : Type 0 where
+  pub cuts : (came : List ℕ) × CutsInto c came before after d
+  pub pulls : OfPulled old before c (λ start bytes taken. (count : ℕ) × Pulls start new bytes (taken ++ frames_in after) d count)
+  pub nearer : room_of d ≤ room_of c
+  pub sound : CanBeUsed new
+  pub known : CanPull old before c
+
+-- nothing came: nothing is cut
+nothing_cut : (bytes : List ℕ) (frames : List Frame) (c : Cut) → Cuts fresh bytes frames c → Cuts c [] [] c
+nothing_cut bytes frames c (in_magic _ cv ci co none text) = in_magic cv cv ci co refl (append-nil c.kept)
+nothing_cut bytes frames c (past_magic v _ cv text good index offset) = in_frames v cv cv (append-nil c.kept) tt (omega arith) (omega arith)
+nothing_cut bytes frames c (in_frames v fv cv text good index offset) = in_frames v cv cv (append-nil c.kept) tt (omega arith) (omega arith)
+
+pub none_so_far : (now : Device) (before : List (Kind × Vec ℕ)) (c : Cut) → CanBeUsed now → CanPull now before c → PullsSoFar now now before before c c
+none_so_far now before c sound known = record {
+  cuts = ([], ([], sym (append-nil before), nothing_cut known.1 (known.2 ++ frames_in before) c known.3.cuts));
+  pulls = λ start bytes taken p. (0, record { came = []; counted = refl; pulled = subst (λ (t : List ℕ). IsPulled start now t (taken ++ frames_in before) c) (sym (append-nil bytes)) p });
+  nearer = omega arith;
+  sound = sound;
+  known = known;
+}
+
+module _ (a b d : Device) (before mid after : List (Kind × Vec ℕ)) (c0 c1 c2 : Cut) (n : ℕ) (s : PullsSoFar a b before mid c0 c1)
+    (cuts : (came : List ℕ) × CutsInto c1 came mid after c2)
+    (pulls : (start : Device) (bytes : List ℕ) (taken : List Frame) → IsPulled start b bytes (taken ++ frames_in mid) c1 → Pulls start d bytes (taken ++ frames_in after) c2 n) where
+  both_cut : (came : List ℕ) × CutsInto c0 came before after c2
+  both_cut =
+      let first = s.cuts.1 in
+      let next = cuts.1 in
+      let joined : after ≡ before ++ (first.0 ++ next.0) = next.1 ∙ ap (λ (t : List (Kind × Vec ℕ)). t ++ next.0) first.1 ∙ append_assoc before first.0 next.0 in
+      (s.cuts.0 ++ cuts.0, (first.0 ++ next.0, joined, subst (λ (fs : List Frame). Cuts c0 (s.cuts.0 ++ cuts.0) fs c2) (sym (map-append _ first.0 next.0)) (cuts_then c0 c1 c2 s.cuts.0 cuts.0 (frames_in first.0) (frames_in next.0) first.2 next.2)))
+
+  pub both_pulled : OfPulled a before c0 (λ start bytes taken. (count : ℕ) × Pulls start d bytes (taken ++ frames_in after) c2 count)
+  both_pulled start bytes taken p =
+      let q = s.pulls start bytes taken p in
+      let r = pulls start (bytes ++ q.1.came) taken q.1.pulled in (
+        q.0 + n,
+        record {
+          came = q.1.came ++ r.came;
+          counted = omega (arith, length-append q.1.came r.came, q.1.counted, r.counted);
+          pulled = subst (λ (t : List ℕ). IsPulled start d t (taken ++ frames_in after) c2) (append_assoc bytes q.1.came r.came) r.pulled;
+        },
+      )
+
+  still_sound : CanBeUsed d
+  still_sound =
+      let k = s.known in
+      let q = both_pulled k.0 k.1 k.2 k.3 in
+      let same = q.1.pulled.works in
+      let was = k.3.works in
+      let first = s.pulls k.0 k.1 k.2 k.3 in
+      let mid = first.1.pulled.works in
+      let sound = s.sound in
+      omega (arith, same, mid, sound)
+
+  -- one piece more
+  pub piece_more : room_of c2 < room_of c1 → PullsSoFar a d before after c0 c2
+  piece_more less = record {
+    cuts = both_cut;
+    pulls = both_pulled;
+    nearer = omega (arith, less, s.nearer);
+    sound = still_sound;
+    known = s.known;
+  }
+
+  -- a group ends with a piece
+  pub group_ends : room_of c2 < room_of c1 → PullsGroup a d before after c0 c2 false
+  group_ends less = record {
+    cuts = both_cut;
+    pulls = both_pulled;
+    all = λ ended. absurd cc;
+    nearer = λ _. omega (arith, less, s.nearer);
+  }
+
+  known_pulled : (start : Device) (o : Option (List ℕ)) (frames : List Frame) (bytes : List ℕ) → IsPulled start d bytes frames c2 → IfSome o (λ whole. whole ≡ bytes) → IfSome o (λ whole. IsPulled start d whole frames c2)
+  known_pulled start None frames bytes p h = tt
+  known_pulled start (Some whole) frames bytes p h = subst (λ (t : List ℕ). IsPulled start d t frames c2) (sym h) p
+
+  -- the source is at its end
+  pub source_ends : n ≡ 0 → ((start : Device) (bytes : List ℕ) (frames : List Frame) → IsPulled start b bytes frames c1 → IfKnown start (λ whole. whole ≡ bytes)) → PullsGroup a d before after c0 c2 true
+  source_ends none all = record {
+    cuts = both_cut;
+    pulls = both_pulled;
+    all = λ _ start bytes taken p.
+        let q = s.pulls start bytes taken p in
+        let r = pulls start (bytes ++ q.1.came) taken q.1.pulled in
+        known_pulled start start.bytes (taken ++ frames_in after) ((bytes ++ q.1.came) ++ r.came) r.pulled (at_end start (bytes ++ q.1.came) r.came (r.counted ∙ none) (all start (bytes ++ q.1.came) (taken ++ frames_in mid) q.1.pulled));
+    nearer = λ going. absurd cc;
+  }
+
+-- a refused piece refuses the group
+pub group_refused : (a b d : Device) (before mid : List (Kind × Vec ℕ)) (c0 c1 : Cut) (fault : FeedFault) → PullsSoFar a b before mid c0 c1
+    → ((start : Device) (bytes : List ℕ) (frames : List Frame) → IsPulled start b bytes frames c1 → Refuses fault start d) → OfPulled a before c0 (λ start bytes taken. Refuses fault start d)
+group_refused a b d before mid c0 c1 fault s refused start bytes taken p =
+    let q = s.pulls start bytes taken p in
+    refused start (bytes ++ q.1.came) (taken ++ frames_in mid) q.1.pulled
+
+-- what the next pull is told
+pub can_pull_next : (a b : Device) (before mid : List (Kind × Vec ℕ)) (c0 c1 : Cut) → PullsSoFar a b before mid c0 c1 → (start : Device) × (bytes : List ℕ) × (frames : List Frame) × IsPulled start b bytes frames c1
+can_pull_next a b before mid c0 c1 s =
+    let k = s.known in
+    let q = s.pulls k.0 k.1 k.2 k.3 in
+    (k.0, k.1 ++ q.1.came, k.2 ++ frames_in mid, q.1.pulled)
+
+-- ---- the frames that waited, taken beside it
+
+pub can_take_waiting : (start now : Device) (g : Gathered) → HasPulled start now g → (version : Option Version) → g.cutter.version ≡ version → CanTake version (frames_in g.frames.items) g.opened
+can_take_waiting start now g p None known = tt
+can_take_waiting start now g p (Some version) known = (p.taken, can_take p.bytes p.taken g p.come version known)
+
+-- the same of the bytes and the frames that came
+pub can_take_all : (bytes : List ℕ) (taken : List Frame) (g : Gathered) → HasGathered bytes taken g → (version : Option Version) → g.cutter.version ≡ version → CanTake version (frames_in g.frames.items) g.opened
+can_take_all bytes taken g h None known = tt
+can_take_all bytes taken g h (Some version) known = (taken, can_take bytes taken g h version known)
+
+-- they were taken, and no others wait
+pub takes_waiting : (g new : Gathered) (version : Option Version) → g.cutter.version ≡ version → new.cutter ≡ g.cutter → new.frames.items ≡ [] → TakesWaiting version (frames_in g.frames.items) g.opened new.opened
+    → (bytes : List ℕ) (taken : List Frame) → HasGathered bytes taken g → HasGathered bytes (taken ++ frames_in g.frames.items) new
+takes_waiting g new None known cut none same bytes taken h = took_none bytes taken g h new known cut same none
+takes_waiting g new (Some version) known cut none takes bytes taken h = took_all bytes taken g h new version known cut none takes
+
+-- the bytes so far, where the frames that waited are taken out
+pub taken_out : (start now : Device) (g : Gathered) (none : List (Kind × Vec ℕ)) (p : HasPulled start now g) → none ≡ [] → IsPulled start now p.bytes ((p.taken ++ frames_in g.frames.items) ++ frames_in none) g.cutter
+taken_out start now g none p is =
+    subst (λ (t : List (Kind × Vec ℕ)). IsPulled start now p.bytes ((p.taken ++ frames_in g.frames.items) ++ frames_in t) g.cutter) (sym is)
+    (subst (λ (fs : List Frame). IsPulled start now p.bytes fs g.cutter) (sym (append-nil (p.taken ++ frames_in g.frames.items))) (cut_so_far start now g p))
+
+pub can_pull_behind : (start now : Device) (g : Gathered) (none : List (Kind × Vec ℕ)) (p : HasPulled start now g) → none ≡ [] → CanPull now none g.cutter
+can_pull_behind start now g none p is = (start, p.bytes, p.taken ++ frames_in g.frames.items, taken_out start now g none p is)
+
+-- the pull was refused
+pub pull_refused : (start now later : Device) (g : Gathered) (none : List (Kind × Vec ℕ)) (fault : FeedFault) → HasPulled start now g → none ≡ [] → OfPulled now none g.cutter (λ start bytes taken. Refuses fault start later) → Refuses fault start later
+pull_refused start now later g none fault p is refused = refused start p.bytes (p.taken ++ frames_in g.frames.items) (taken_out start now g none p is)
+
+module _ (now later : Device) (g new : Gathered) (empty : Vec (Kind × Vec ℕ)) (none : empty.items ≡ []) (end : Bool) (group : PullsGroup now later empty.items new.frames.items g.cutter new.cutter end) where
+  -- the frames are taken, and no others wait
+  abbrev between : Gathered
+  between = record { cutter = g.cutter; opened = new.opened; frames = empty }
+
+  takes_them : (version : Option Version) → g.cutter.version ≡ version → TakesWaiting version (frames_in g.frames.items) g.opened new.opened → (bytes : List ℕ) (taken : List Frame) → HasGathered bytes taken g → HasGathered bytes (taken ++ frames_in g.frames.items) between
+  takes_them version known takes = takes_waiting g between version known refl none takes
+
+  module _ (version : Option Version) (known : g.cutter.version ≡ version) (takes : TakesWaiting version (frames_in g.frames.items) g.opened new.opened) where
+    pub group_came : (start : Device) → HasPulled start now g → HasPulled start later new
+    group_came start p =
+        let w = taken_now start now g between p (takes_them version known takes) in
+        let q = group.pulls start w.bytes w.taken (cut_so_far start now between w) in
+        piece_came start now later between new group.cuts.0 q.0 w q.1 group.cuts.1 refl
+
+    known_whole : (start : Device) (o : Option (List ℕ)) (bytes : List ℕ) (taken : List Frame) → HasGathered bytes taken new → IfSome o (λ whole. IsPulled start later whole (taken ++ frames_in new.frames.items) new.cutter) → IfSome o (λ whole. (more : List Frame) × HasGathered whole more new)
+    known_whole start None bytes taken come h = tt
+    known_whole start (Some whole) bytes taken come h = (taken, record { cuts = h.cuts; is_open = h.is_open; reads = h.reads; follows = come.follows })
+
+    pub all_gathered : end ≡ true → (start : Device) → HasPulled start now g → IfKnown start (λ bytes. (taken : List Frame) × HasGathered bytes taken new)
+    all_gathered ended start p =
+        let w = taken_now start now g between p (takes_them version known takes) in
+        let q = group.pulls start w.bytes w.taken (cut_so_far start now between w) in
+        known_whole start start.bytes (w.bytes ++ q.1.came) w.taken (gathered_more start later w.bytes w.taken between new group.cuts.0 q.0 w.come q.1 group.cuts.1 refl) (group.all ended start w.bytes w.taken (cut_so_far start now between w))
+
+  pub group_works : (start : Device) → HasPulled start now g → Works start later
+  group_works start p = (group.pulls start p.bytes (p.taken ++ frames_in g.frames.items) (taken_out start now g empty.items p none)).1.pulled.works
+
+-- ---- what a call gave whose result is known
+
+pub pulled_ok : (result : Result Bool FeedFault) (old new : Device) (before after : List (Kind × Vec ℕ)) (c d : Cut) (end : Bool) → result ≡ Ok end → HasPulledGroup result old new before after c d → PullsGroup old new before after c d end
+pulled_ok result old new before after c d end is h = subst (λ (r : Result Bool FeedFault). HasPulledGroup r old new before after c d) is h
+
+pub pulled_err : (result : Result Bool FeedFault) (old new : Device) (before after : List (Kind × Vec ℕ)) (c d : Cut) (fault : FeedFault) → result ≡ Err fault → HasPulledGroup result old new before after c d → OfPulled old before c (λ start bytes taken. Refuses fault start new)
+pulled_err result old new before after c d fault is h = subst (λ (r : Result Bool FeedFault). HasPulledGroup r old new before after c d) is h
+
+pub got_ok : {X E : Type 0} (result : Result X E) (x : X) (P : Type 0) → result ≡ Ok x → OnOk result P → P
+got_ok {X} {E} result x P is h = subst (λ (r : Result X E). OnOk r P) is h
