@@ -1,2 +1,4 @@
 pub mod ReplyTexts
 pub mod ReplyAnswers
+pub mod Statements
+pub mod ViewTexts

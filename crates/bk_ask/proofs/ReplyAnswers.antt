@@ -1,9 +1,27 @@
 -- What a book, a Follower and a call reply, from what they found and wrote.
-use Rattle.std.proofs.Common.{◌≡◌, ℕ, ◌<◌, ◌^◌, List, length, Option, Some, None, true, refl, sym, ap, subst, ◌∙◌}
+use Rattle.std.proofs.Common.{◌≡◌, ℕ, ◌<◌, ◌^◌, List, length, take, drop, Option, Some, None, true, false, refl, sym, ap, subst, ◌∙◌, arith}
 use Rattle.std.specs.Prelude.{IfSome}
+use Rattle.std.specs.List.{Contains}
+use Rattle.std.proofs.lemmas.List.{take-append-drop}
+use Rattle.std.proofs.lemmas.List.Elements.{Contains-append_right}
 use Rattle.bk_frames.specs.Device.{Device, Works, IfKnown}
-use Rattle.bk_frames.specs.Feed.{FeedValue}
-use Rattle.bk_order.specs.Intake.{Taken}
+use Rattle.bk_frames.specs.declared.genesis.Row.{Row}
+use Rattle.bk_frames.specs.Feed.{FeedValue, Frame, IsFeed}
+use Rattle.bk_frames.specs.Genesis.{AreAccounts}
+use Rattle.bk_frames.proofs.Accounts.{genesis_accounts}
+use Rattle.bk_committee.specs.Payload.{CommitteeValue, sizes_of}
+use Rattle.bk_rounds.specs.Rounds.{RoundsValue}
+use Rattle.bk_commit.specs.Growth.{IsPartOf}
+use Rattle.bk_commit.specs.Ordering.{IsCommitted}
+use Rattle.bk_order.specs.Frames.{AreCerts}
+use Rattle.bk_order.specs.Intake.{HasTaken, Taken}
+use Rattle.bk_order.specs.Orders.{AreRoundsOf, IsOrderOf}
+use Rattle.bk_order.specs.Stops.{HasNoStop}
+use Rattle.bk_tx.specs.Batches.{transactions_of}
+use Rattle.bk_rules.specs.Fold.{receipts_of}
+use Rattle.bk_views.specs.Told.{IsRun}
+use Rattle.bk_follow.specs.Outcomes.{IsOutcomeOf}
+use Rattle.bk_follow.proofs.Counting.{few_places}
 use Rattle.bk_results.specs.declared.fault.Fault.{Fault}
 use Rattle.bk_results.specs.declared.fault.Fault.TheVariants as fault
 use Rattle.bk_ledger.specs.Ledger.{LedgerValue}
@@ -12,14 +30,13 @@ use Rattle.bk_results.specs.declared.query.Query.TheVariants as query
 use Rattle.bk_results.specs.declared.query.Reply.{Reply}
 use Rattle.bk_results.specs.declared.query.Reply.TheVariants as reply
 use Rattle.bk_results.specs.Devices.{devices}
-use Rattle.bk_follow.specs.Outcomes.{Outcome, IsOutcomeOf}
-use Rattle.bk_ask.specs.Asking.{Replies, HasText, can_reply, IsReplied, PartOfReplyIsOut, AskFailsBy}
+use Rattle.bk_ask.specs.Asking.{Ending, IsEndingOf, Replies, HasText, can_reply, IsReplied, PartOfReplyIsOut, AskFailsBy}
 use Rattle.bk_follow.specs.Finishing.{Closes, CloseFails}
 use Rattle.bk_follow.specs.Follower.{Executed, BookValue, Followed, IsExecuted, IsCurrent, executed_in}
 use Rattle.bk_follow.specs.Replaying.{AllHasCome, ReadFails}
-use Rattle.bk_follow.specs.RunReport.{HasPlaceIn, HasPlace}
-use Rattle.bk_follow.specs.Queries.{executed_of}
-use Rattle.bk_ask.specs.private.Replies.{outcome_of, IsOfClosed, TextFails, WritesReply, ReplyIsOut, ReplyStops, BookReplies, BookReplyFails, FollowerReplies, FollowerReplyFails}
+use Rattle.bk_follow.specs.RunReport.{HasPlaceIn, HasPlace, IsOrderIn, committee_in, later_frames}
+use Rattle.bk_follow.specs.Queries.{executed_of, opening_in}
+use Rattle.bk_ask.specs.private.Replies.{course_in, ending_of, IsOfClosed, TextFails, WritesReply, ReplyIsOut, ReplyStops, BookReplies, BookReplyFails, FollowerReplies, FollowerReplyFails}
 use Rattle.bk_follow.proofs.BookReports.{IsSettledBook, few_of_anchors, few_of_order}
 use Rattle.bk_follow.proofs.Following.{on_closed, settled_now}
 use Rattle.bk_follow.proofs.RunAnswers.{of_feed as of_known_feed, stopped, cut_short, untouched}
@@ -29,54 +46,118 @@ use Rattle.bk_follow.proofs.RunAnswers.{of_feed as of_known_feed, stopped, cut_s
 same_done : (d e : Executed) → Some d ≡ Some e → d ≡ e
 same_done d e same = cc
 
--- what a settled book holds is where its feed ends
-outcome_is : (feed : FeedValue) (b : BookValue) (taken : Taken) (l : LedgerValue) → taken ≡ b.taken → b.executed ≡ Some (executed_of l) → IsCurrent feed b → IsOutcomeOf feed (outcome_of taken l)
-outcome_is feed b taken l same is current =
-    let x = subst (λ (e : Executed). IsExecuted feed b.taken.ordered e) (same_done current.done (executed_of l) (sym current.is_done ∙ is)) current.executed in
-    subst (λ (t : Taken). IsOutcomeOf feed (outcome_of t l)) (sym same) (record { clear = current.clear; ordered = current.ordered; receipts = x.receipts; rows = x.rows })
+later_part : (frames : List Frame) → IsPartOf (drop 2 frames) frames
+later_part frames = λ f h. subst (λ (fs : List Frame). Contains fs f) (take-append-drop 2 frames) (Contains-append_right (take 2 frames) (drop 2 frames) f h)
+
+-- what was opened, taken and executed is that of a book
+pub record IsBookIn (book : Option BookValue) (b : BookValue) (taken : Taken) (rounds : RoundsValue) (opening : List Row) (l : LedgerValue) : Type 0 where
+  pub is : book ≡ Some b
+  pub taken_is : taken ≡ b.taken
+  pub opening_is : opening ≡ b.opening
+  pub executed : b.executed ≡ Some (executed_of l)
+  pub table : (frames : List Frame) → HasTaken frames taken → taken.failed ≡ false → HasNoStop taken.committee frames → AreRoundsOf taken.committee frames rounds
+
+pub book_in : (book : Option BookValue) (b : BookValue) (taken : Taken) (rounds : RoundsValue) (opening : List Row) (l : LedgerValue) → book ≡ Some b → taken ≡ b.taken → opening ≡ opening_in book → executed_in book ≡ Some (executed_of l)
+    → ((frames : List Frame) → HasTaken frames taken → taken.failed ≡ false → HasNoStop taken.committee frames → AreRoundsOf taken.committee frames rounds) → IsBookIn book b taken rounds opening l
+book_in book b taken rounds opening l is same opened done table = record {
+  is = is;
+  taken_is = same;
+  opening_is = opened ∙ ap opening_in is;
+  executed = sym (ap executed_in is) ∙ done;
+  table = table;
+}
+
+module _ (feed : FeedValue) (book : Option BookValue) (b : BookValue) (taken : Taken) (rounds : RoundsValue) (opening : List Row) (l : LedgerValue) (h : IsBookIn book b taken rounds opening l) (current : IsCurrent feed b) where
+  committee_is : taken.committee ≡ committee_in feed
+  committee_is = ap (λ (t : Taken). t.committee) h.taken_is ∙ current.book.committee
+
+  executed_is : IsExecuted feed b.taken.ordered (executed_of l)
+  executed_is = subst (λ (e : Executed). IsExecuted feed b.taken.ordered e) (same_done current.done (executed_of l) (sym current.is_done ∙ h.executed)) current.executed
+
+  has_taken : HasTaken (later_frames feed) taken
+  has_taken = subst (HasTaken (later_frames feed)) (sym h.taken_is) current.book.taken
+
+  works : taken.failed ≡ false
+  works = ap (λ (t : Taken). t.failed) h.taken_is ∙ current.book.works
+
+  clear : HasNoStop taken.committee (later_frames feed)
+  clear = subst (λ (k : CommitteeValue). HasNoStop k (later_frames feed)) (sym committee_is) current.clear
+
+  rounds_are : AreRoundsOf taken.committee (later_frames feed) rounds
+  rounds_are = h.table (later_frames feed) has_taken works clear
+
+  order_is : IsOrderIn feed taken.ordered
+  order_is = subst (λ (t : Taken). IsOrderIn feed t.ordered) (sym h.taken_is) current.ordered
+
+  -- what a settled book holds is where its feed ends
+  ending_is : IsEndingOf feed (ending_of taken rounds.held opening l)
+  ending_is = record {
+    version = executed_is.version;
+    committee = committee_is;
+    opening = h.opening_is ∙ current.book.opening;
+    certs = subst (λ (k : CommitteeValue). AreCerts k (later_frames feed) rounds.held) committee_is rounds_are.certs;
+    outcome = subst (λ (t : Taken). IsOutcomeOf feed (record { ordered = t.ordered; receipts = l.receipts; rows = l.state.rows })) (sym h.taken_is)
+        (record { clear = current.clear; ordered = current.ordered; receipts = executed_is.receipts; rows = executed_is.rows });
+  }
+
+  -- and executing its order gave its receipts
+  run_is : IsFeed feed → IsRun (course_in taken opening l) l.receipts
+  run_is good = record {
+    accounts = subst AreAccounts (sym (h.opening_is ∙ current.book.opening)) (genesis_accounts feed.version feed.frames good);
+    receipts_are = executed_is.receipts ∙ (λ i. receipts_of (sym executed_is.version i) (transactions_of (sym h.taken_is i).ordered.payloads.list) (sym (h.opening_is ∙ current.book.opening) i));
+    few = subst (λ (t : Taken). length (transactions_of t.ordered.payloads.list) < 2 ^ 32) (sym h.taken_is) (let few = few_places feed.version (committee_in feed) feed.frames (later_frames feed) b.taken.ordered good.good (later_part feed.frames) current.ordered in omega (arith, few));
+  }
 
 -- a reply is one that its query can have
-can : (asked : Query) (end : Outcome) (answer : Reply) (text : List ℕ) → Replies asked end answer text → can_reply asked answer ≡ true
+can : (asked : Query) (end : Ending) (answer : Reply) (text : List ℕ) → Replies asked end answer text → can_reply asked answer ≡ true
 can asked end reply.Found text h = refl
 can query.Order end reply.Short text h = absurd h
 can (query.Account id) end reply.Short text h = absurd h
 can (query.Receipt place) end reply.Short text h = absurd h
 can (query.Proof id) end reply.Short text h = absurd h
 can (query.State root) end reply.Short text h = refl
+can query.Anchors end reply.Short text h = absurd h
+can (query.Statement id) end reply.Short text h = refl
 can query.Order end reply.Wrong text h = absurd h
 can (query.Account id) end reply.Wrong text h = absurd h
 can (query.Receipt place) end reply.Wrong text h = absurd h
 can (query.Proof id) end reply.Wrong text h = absurd h
 can (query.State root) end reply.Wrong text h = refl
+can query.Anchors end reply.Wrong text h = absurd h
+can (query.Statement id) end reply.Wrong text h = absurd h
 can query.Order end reply.Absent text h = absurd h.0
 can (query.Account id) end reply.Absent text h = refl
 can (query.Receipt place) end reply.Absent text h = refl
 can (query.Proof id) end reply.Absent text h = refl
 can (query.State root) end reply.Absent text h = absurd h.0
+can query.Anchors end reply.Absent text h = absurd h.0
+can (query.Statement id) end reply.Absent text h = refl
 
-book_replies : (asked : Query) (b : BookValue) (taken : Taken) (l : LedgerValue) (old new : Device) (answer : Reply) → taken ≡ b.taken → b.executed ≡ Some (executed_of l) → WritesReply asked (outcome_of taken l) old new answer → BookReplies asked b old new answer
-book_replies asked b taken l old new answer same is w =
-    (λ feed good current. record { text = w.0; reply = record { end = outcome_of taken l; outcome = outcome_is feed b taken l same is current; it = w.1 }; gave = w.2.1 }, w.2.0, can asked (outcome_of taken l) answer w.0 w.1)
+module _ (asked : Query) (book : Option BookValue) (b : BookValue) (taken : Taken) (rounds : RoundsValue) (opening : List Row) (l : LedgerValue) (old new : Device) (h : IsBookIn book b taken rounds opening l) where
+  book_replies : (answer : Reply) → WritesReply asked (ending_of taken rounds.held opening l) old new answer → BookReplies asked b old new answer
+  book_replies answer w = (
+    λ feed good current. record { text = w.0; reply = record { end = ending_of taken rounds.held opening l; ending = ending_is feed book b taken rounds opening l h current; it = w.1 }; gave = w.2.1 },
+    w.2.0,
+    can asked (ending_of taken rounds.held opening l) answer w.0 w.1,
+  )
 
-book_reply_fails : (asked : Query) (b : BookValue) (taken : Taken) (l : LedgerValue) (old new : Device) (f : Fault) → taken ≡ b.taken → b.executed ≡ Some (executed_of l) → TextFails (HasText asked (outcome_of taken l)) old new f → BookReplyFails asked b old new f
-book_reply_fails asked b taken l old new (fault.Feed found) same is h = absurd h
-book_reply_fails asked b taken l old new (fault.Collision id) same is h = absurd h
-book_reply_fails asked b taken l old new (fault.Equivocation round author first second) same is h = absurd h
-book_reply_fails asked b taken l old new (fault.Unfinished place) same is h = absurd h
-book_reply_fails asked b taken l old new (fault.Write written) same is h =
-    (λ feed good current. record { answer = h.1.0; text = h.0; reply = record { end = outcome_of taken l; outcome = outcome_is feed b taken l same is current; it = h.1.1 }; some = h.2; gave = h.3 }, h.4)
-book_reply_fails asked b taken l old new fault.Memory same is h = h
+  book_reply_fails : (f : Fault) → TextFails (HasText asked (ending_of taken rounds.held opening l)) old new f → BookReplyFails asked b old new f
+  book_reply_fails (fault.Feed found) t = absurd t
+  book_reply_fails (fault.Collision id) t = absurd t
+  book_reply_fails (fault.Equivocation round author first second) t = absurd t
+  book_reply_fails (fault.Unfinished place) t = absurd t
+  book_reply_fails (fault.Write written) t = (
+    λ feed good current. record { answer = t.1.0; text = t.0; reply = record { end = ending_of taken rounds.held opening l; ending = ending_is feed book b taken rounds opening l h current; it = t.1.1 }; some = t.2; gave = t.3 },
+    t.4,
+  )
+  book_reply_fails fault.Memory t = t
 
--- of the book that there is
-pub some_replies : (asked : Query) (book : Option BookValue) (b : BookValue) (taken : Taken) (l : LedgerValue) (old new : Device) (answer : Reply) → book ≡ Some b → taken ≡ b.taken → executed_in book ≡ Some (executed_of l) → WritesReply asked (outcome_of taken l) old new answer
-    → IfSome book (λ b. BookReplies asked b old new answer)
-some_replies asked book b taken l old new answer is same done w =
-    subst (λ (o : Option BookValue). IfSome o (λ b. BookReplies asked b old new answer)) (sym is) (book_replies asked b taken l old new answer same (sym (ap executed_in is) ∙ done) w)
+  -- of the book that there is
+  pub some_replies : (answer : Reply) → WritesReply asked (ending_of taken rounds.held opening l) old new answer → IfSome book (λ b. BookReplies asked b old new answer)
+  some_replies answer w = subst (λ (o : Option BookValue). IfSome o (λ b. BookReplies asked b old new answer)) (sym h.is) (book_replies answer w)
 
-pub some_reply_fails : (asked : Query) (book : Option BookValue) (b : BookValue) (taken : Taken) (l : LedgerValue) (old new : Device) (f : Fault) → book ≡ Some b → taken ≡ b.taken → executed_in book ≡ Some (executed_of l) → TextFails (HasText asked (outcome_of taken l)) old new f
-    → IfSome book (λ b. BookReplyFails asked b old new f)
-some_reply_fails asked book b taken l old new f is same done h =
-    subst (λ (o : Option BookValue). IfSome o (λ b. BookReplyFails asked b old new f)) (sym is) (book_reply_fails asked b taken l old new f same (sym (ap executed_in is) ∙ done) h)
+  pub some_reply_fails : (f : Fault) → TextFails (HasText asked (ending_of taken rounds.held opening l)) old new f → IfSome book (λ b. BookReplyFails asked b old new f)
+  some_reply_fails f t = subst (λ (o : Option BookValue). IfSome o (λ b. BookReplyFails asked b old new f)) (sym h.is) (book_reply_fails f t)
 
 -- there is one, and it was executed
 pub some_book : (book : Option BookValue) → IsOfClosed book → book ≡ None → ⊥
@@ -88,13 +169,27 @@ some_executed book (feed, good, b, is, current) none = absurd (let e : None ≡ 
 same_book : (b c : BookValue) → Some b ≡ Some c → b ≡ c
 same_book b c same = cc
 
-of_settled : (book : Option BookValue) (b : BookValue) (taken : Taken) → IsOfClosed book → book ≡ Some b → IsSettledBook b
-of_settled book b taken (feed, good, c, is, current) same = (feed, good, subst (IsCurrent feed) (same_book c b (sym is ∙ same)) current)
+of_settled : (book : Option BookValue) (b : BookValue) → IsOfClosed book → book ≡ Some b → IsSettledBook b
+of_settled book b (feed, good, c, is, current) same = (feed, good, subst (IsCurrent feed) (same_book c b (sym is ∙ same)) current)
 
-pub few_of_closed : (book : Option BookValue) (b : BookValue) (taken : Taken) → IsOfClosed book → book ≡ Some b → taken ≡ b.taken → (length taken.ordered.anchors < 2 ^ 32) × (length taken.ordered.order < 2 ^ 32)
-few_of_closed book b taken closed is same =
-    let settled = of_settled book b taken closed is in
-    rw same (few_of_anchors b settled, few_of_order b settled)
+module _ (book : Option BookValue) (b : BookValue) (taken : Taken) (rounds : RoundsValue) (opening : List Row) (l : LedgerValue) (closed : IsOfClosed book) (h : IsBookIn book b taken rounds opening l) where
+  pub few_of_closed : (length taken.ordered.anchors < 2 ^ 32) × (length taken.ordered.order < 2 ^ 32)
+  few_of_closed = let settled = of_settled book b closed h.is in rw h.taken_is (few_of_anchors b settled, few_of_order b settled)
+
+  pub open_of_closed : taken.failed ≡ false
+  open_of_closed = let (feed, good, current) = of_settled book b closed h.is in works feed book b taken rounds opening l h current
+
+  pub sizes_of_closed : rounds.sizes ≡ sizes_of taken.committee
+  sizes_of_closed = let (feed, good, current) = of_settled book b closed h.is in (rounds_are feed book b taken rounds opening l h current).sizes
+
+  pub run_of_closed : IsRun (course_in taken opening l) l.receipts
+  run_of_closed = let (feed, good, current) = of_settled book b closed h.is in run_is feed book b taken rounds opening l h current good
+
+  pub committed_of_closed : ((frames : List Frame) → HasTaken frames taken → taken.failed ≡ false → HasNoStop taken.committee frames → IsOrderOf taken.committee frames taken.ordered → IsCommitted rounds.sizes rounds.held taken.ordered.anchors)
+      → IsCommitted rounds.sizes rounds.held taken.ordered.anchors
+  committed_of_closed committed = let (feed, good, current) = of_settled book b closed h.is in
+      committed (later_frames feed) (has_taken feed book b taken rounds opening l h current) (works feed book b taken rounds opening l h current) (clear feed book b taken rounds opening l h current)
+      (subst (λ (k : CommitteeValue). IsOrderOf k (later_frames feed) taken.ordered) (sym (committee_is feed book b taken rounds opening l h current)) (order_is feed book b taken rounds opening l h current))
 
 -- ---- a Follower
 

@@ -10,8 +10,7 @@ use Rattle.bk_report.specs.declared.line.Line.{Line}
 use Rattle.bk_results.specs.declared.query.Query.{Query}
 use Rattle.bk_results.specs.declared.query.Reply.{Reply}
 use Rattle.bk_results.specs.declared.query.Reply.TheVariants as reply
-use Rattle.bk_follow.specs.Outcomes.{Outcome}
-use Rattle.bk_ask.specs.Asking.{Shows, Lacks, HasText}
+use Rattle.bk_ask.specs.Asking.{Ending, Shows, Lacks, HasText}
 use Rattle.bk_report.specs.Lines.{line_text, text_of}
 use Rattle.bk_report.specs.Pages.{Gathered, blank, Puts, Stops}
 use Rattle.bk_ask.specs.private.Replies.{TextFails, IsTextOf, WritesFound, WritesReply}
@@ -44,7 +43,7 @@ two_lines none first all l m empty one two =
     ∙ sym (flat_map-append (λ (x : Line). line_text x ++ 10 ∷ []) (l ∷ []) (m ∷ []))
 
 -- what was found is the reply
-pub found_replies : (asked : Query) (end : Outcome) (found : Option (Vec ℕ)) (old new : Device) (answer : Reply) → (found ≡ None → Lacks asked end) → ((text : Vec ℕ) → found ≡ Some text → Shows asked end text.items)
+pub found_replies : (asked : Query) (end : Ending) (found : Option (Vec ℕ)) (old new : Device) (answer : Reply) → (found ≡ None → Lacks asked end) → ((text : Vec ℕ) → found ≡ Some text → Shows asked end text.items)
     → WritesFound found old new answer → WritesReply asked end old new answer
 found_replies asked end None old new reply.Found lacks shows w = absurd (let e = w.0 in cc)
 found_replies asked end None old new reply.Absent lacks shows w = ([], (lacks refl, refl), w.1)
@@ -56,7 +55,7 @@ found_replies asked end None old new reply.Wrong lacks shows w = absurd (let e =
 found_replies asked end (Some text) old new reply.Wrong lacks shows w = absurd (let e = w.0 in cc)
 
 -- and why it did not go out
-pub found_fails : (asked : Query) (end : Outcome) (found : Option (Vec ℕ)) (old new : Device) (f : Fault) → ((text : Vec ℕ) → found ≡ Some text → Shows asked end text.items)
+pub found_fails : (asked : Query) (end : Ending) (found : Option (Vec ℕ)) (old new : Device) (f : Fault) → ((text : Vec ℕ) → found ≡ Some text → Shows asked end text.items)
     → TextFails (IsTextOf found) old new f → TextFails (HasText asked end) old new f
 found_fails asked end found old new (fault.Feed _) shows h = absurd h
 found_fails asked end found old new (fault.Collision id) shows h = absurd h
@@ -67,7 +66,7 @@ found_fails asked end (Some text) old new (fault.Write written) shows h = (h.0, 
 found_fails asked end found old new fault.Memory shows h = h
 
 -- why a text that some reply has did not go out
-pub text_stops : (asked : Query) (end : Outcome) (text : List ℕ) (old new : Device) (f : Fault) → HasText asked end text → TextFails (λ t. t ≡ text) old new f → TextFails (HasText asked end) old new f
+pub text_stops : (asked : Query) (end : Ending) (text : List ℕ) (old new : Device) (f : Fault) → HasText asked end text → TextFails (λ t. t ≡ text) old new f → TextFails (HasText asked end) old new f
 text_stops asked end text old new (fault.Feed _) has h = absurd h
 text_stops asked end text old new (fault.Collision id) has h = absurd h
 text_stops asked end text old new (fault.Equivocation round author first second) has h = absurd h

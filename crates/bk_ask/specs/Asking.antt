@@ -1,9 +1,13 @@
 -- What a feed replies to a query, read off its frames alone.
 use Rattle.std.specs.Prelude.{◌≡◌, ◌≢◌, ℕ, ◌<◌, List, [], ◌∷◌, ◌++◌, length, take, slice_get, Bool, true, false, Some, None}
 use Rattle.bk_frames.specs.declared.genesis.Row.{Row}
+use Rattle.bk_frames.specs.declared.version.Version.{Version}
 use Rattle.bk_frames.specs.Device.{Device, Works, Fails, Receives, IfKnown}
-use Rattle.bk_frames.specs.Feed.{FeedValue, IsFeed, spelling}
+use Rattle.bk_frames.specs.Feed.{FeedValue, IsFeed, genesis_of, spelling}
 use Rattle.bk_frames.specs.Pulling.{Refuses}
+use Rattle.bk_committee.specs.Payload.{CommitteeValue, sizes_of}
+use Rattle.bk_cert.specs.Node.{Node}
+use Rattle.bk_order.specs.Frames.{AreCerts}
 use Rattle.bk_order.specs.Orders.{Ordered}
 use Rattle.bk_rules.specs.declared.account.Account.{Account}
 use Rattle.bk_rules.specs.declared.receipt.Receipt.{Receipt}
@@ -20,8 +24,38 @@ use Rattle.bk_report.specs.Leaves.{state_of}
 use Rattle.bk_report.specs.Lines.{text_of}
 use Rattle.bk_report.specs.Proofs.{ProofValue, proof_text, IsProofOf, IsAbsent}
 use Rattle.bk_report.specs.RunLines.{anchor_lines, cert_lines}
-use Rattle.bk_follow.specs.RunReport.{IsStopped, HasPlace}
+use Rattle.bk_tx.specs.Batches.{transactions_of}
+use Rattle.bk_follow.specs.RunReport.{IsStopped, HasPlace, committee_in, later_frames}
 use Rattle.bk_follow.specs.Outcomes.{Outcome, IsOutcomeOf}
+use Rattle.bk_views.specs.Anchors.{AreRows, rows_text}
+use Rattle.bk_views.specs.declared.anchors.AnchorRow.{AnchorRow}
+use Rattle.bk_views.specs.Statement.{Course, IsNowhere, IsStatement}
+
+-- ---- what a reply is read off
+
+-- the version, the committee and the opening accounts; the certificates that break no rule; and where the feed ends
+pub record Ending : Type 0 where
+  pub version : Version
+  pub committee : CommitteeValue
+  pub opening : List Row
+  pub certs : List Node
+  pub outcome : Outcome
+
+-- these are those of a feed that nothing stops. Its certificates are known but for their order and repeats
+pub record IsEndingOf (feed : FeedValue) (end : Ending) : Type 0 where
+  pub version : end.version ≡ feed.version
+  pub committee : end.committee ≡ committee_in feed
+  pub opening : end.opening ≡ genesis_of feed.frames
+  pub certs : AreCerts (committee_in feed) (later_frames feed) end.certs
+  pub outcome : IsOutcomeOf feed end.outcome
+
+-- the transactions of its order, on the opening accounts
+abbrev pub course_of : Ending → Course
+course_of end = record {
+  version = end.version;
+  opening = end.opening;
+  txs = transactions_of end.outcome.ordered.payloads.list;
+}
 
 -- ---- the text of a reply
 
@@ -52,51 +86,69 @@ abbrev pub ShowsBad : List Row → List ℕ → List ℕ → Type 0
 ShowsBad rows root text =
     (root ≢ state_of rows) × (text ≡ text_of (line.StateBad ∷ line.State (state_of rows) ∷ []))
 
--- the order stops at a missing batch
-abbrev pub IsShort : Outcome → Type 0
-IsShort end = (digest : List ℕ) × (end.ordered.payloads.missing ≡ Some digest)
+-- the text is that of the rows of the anchors
+abbrev pub ShowsAnchors : Ending → List ℕ → Type 0
+ShowsAnchors end text =
+    (rows : List AnchorRow) × AreRows (sizes_of end.committee) end.certs end.outcome.ordered.anchors rows
+    × (text ≡ rows_text rows)
 
--- what was asked for is there, and this is its text. Of a digest of the state: it is right, and no batch is missing
-abbrev pub Shows : Query → Outcome → List ℕ → Type 0
-Shows query.Order end text = text ≡ order_text end.ordered
-Shows (query.Account id) end text = ShowsAccount end.rows id text
-Shows (query.Receipt place) end text = ShowsReceipt end.receipts place text
-Shows (query.Proof id) end text = ShowsProof end.rows id text
-Shows (query.State root) end text = ShowsGood end.rows root text × (end.ordered.payloads.missing ≡ None)
+-- the order stops at a missing batch, or at none
+abbrev pub IsShort : Ending → Type 0
+IsShort end = (digest : List ℕ) × (end.outcome.ordered.payloads.missing ≡ Some digest)
 
--- the digest of the state that was asked for is right, of an order that stops at a missing batch
-abbrev pub ShowsShort : Query → Outcome → List ℕ → Type 0
+abbrev pub IsWhole : Ending → Type 0
+IsWhole end = end.outcome.ordered.payloads.missing ≡ None
+
+-- what was asked for is there, and this is its text. Of a digest of the state, which is right, and of a statement no batch
+-- is missing
+abbrev pub Shows : Query → Ending → List ℕ → Type 0
+Shows query.Order end text = text ≡ order_text end.outcome.ordered
+Shows (query.Account id) end text = ShowsAccount end.outcome.rows id text
+Shows (query.Receipt place) end text = ShowsReceipt end.outcome.receipts place text
+Shows (query.Proof id) end text = ShowsProof end.outcome.rows id text
+Shows (query.State root) end text = ShowsGood end.outcome.rows root text × IsWhole end
+Shows query.Anchors end text = ShowsAnchors end text
+Shows (query.Statement id) end text = IsStatement (course_of end) id text × IsWhole end
+
+-- the digest of the state that was asked for is right, or there is a statement, of an order that stops at a missing batch
+abbrev pub ShowsShort : Query → Ending → List ℕ → Type 0
 ShowsShort query.Order end text = ⊥
 ShowsShort (query.Account id) end text = ⊥
 ShowsShort (query.Receipt place) end text = ⊥
 ShowsShort (query.Proof id) end text = ⊥
-ShowsShort (query.State root) end text = ShowsGood end.rows root text × IsShort end
+ShowsShort (query.State root) end text = ShowsGood end.outcome.rows root text × IsShort end
+ShowsShort query.Anchors end text = ⊥
+ShowsShort (query.Statement id) end text = IsStatement (course_of end) id text × IsShort end
 
--- it is wrong
-abbrev pub ShowsWrong : Query → Outcome → List ℕ → Type 0
+-- the digest is wrong
+abbrev pub ShowsWrong : Query → Ending → List ℕ → Type 0
 ShowsWrong query.Order end text = ⊥
 ShowsWrong (query.Account id) end text = ⊥
 ShowsWrong (query.Receipt place) end text = ⊥
 ShowsWrong (query.Proof id) end text = ⊥
-ShowsWrong (query.State root) end text = ShowsBad end.rows root text
+ShowsWrong (query.State root) end text = ShowsBad end.outcome.rows root text
+ShowsWrong query.Anchors end text = ⊥
+ShowsWrong (query.Statement id) end text = ⊥
 
--- what was asked for is not there; an order always is, and a digest is right or wrong
-abbrev pub Lacks : Query → Outcome → Type 0
+-- what was asked for is not there; an order and anchors always are, and a digest is right or wrong
+abbrev pub Lacks : Query → Ending → Type 0
 Lacks query.Order end = ⊥
-Lacks (query.Account id) end = account_at end.rows id ≡ None
-Lacks (query.Receipt place) end = slice_get end.receipts place ≡ None
-Lacks (query.Proof id) end = IsAbsent end.rows id
+Lacks (query.Account id) end = account_at end.outcome.rows id ≡ None
+Lacks (query.Receipt place) end = slice_get end.outcome.receipts place ≡ None
+Lacks (query.Proof id) end = IsAbsent end.outcome.rows id
 Lacks (query.State root) end = ⊥
+Lacks query.Anchors end = ⊥
+Lacks (query.Statement id) end = IsNowhere (course_of end) id
 
 -- a reply and its text, which is empty where nothing is found
-abbrev pub Replies : Query → Outcome → Reply → List ℕ → Type 0
+abbrev pub Replies : Query → Ending → Reply → List ℕ → Type 0
 Replies asked end reply.Found text = Shows asked end text
 Replies asked end reply.Short text = ShowsShort asked end text
 Replies asked end reply.Wrong text = ShowsWrong asked end text
 Replies asked end reply.Absent text = Lacks asked end × (text ≡ [])
 
 -- the text of some reply
-abbrev pub HasText : Query → Outcome → List ℕ → Type 0
+abbrev pub HasText : Query → Ending → List ℕ → Type 0
 HasText asked end text = (answer : Reply) × Replies asked end answer text
 
 -- the replies that a query can have, whatever the feed
@@ -107,21 +159,27 @@ can_reply (query.Account id) reply.Short = false
 can_reply (query.Receipt place) reply.Short = false
 can_reply (query.Proof id) reply.Short = false
 can_reply (query.State root) reply.Short = true
+can_reply query.Anchors reply.Short = false
+can_reply (query.Statement id) reply.Short = true
 can_reply query.Order reply.Wrong = false
 can_reply (query.Account id) reply.Wrong = false
 can_reply (query.Receipt place) reply.Wrong = false
 can_reply (query.Proof id) reply.Wrong = false
 can_reply (query.State root) reply.Wrong = true
+can_reply query.Anchors reply.Wrong = false
+can_reply (query.Statement id) reply.Wrong = false
 can_reply query.Order reply.Absent = false
 can_reply (query.Account id) reply.Absent = true
 can_reply (query.Receipt place) reply.Absent = true
 can_reply (query.Proof id) reply.Absent = true
 can_reply (query.State root) reply.Absent = false
+can_reply query.Anchors reply.Absent = false
+can_reply (query.Statement id) reply.Absent = true
 
 -- a feed that nothing stops replies so
 pub record IsReplyOf (feed : FeedValue) (asked : Query) (answer : Reply) (text : List ℕ) : Type 0 where
-  pub end : Outcome
-  pub outcome : IsOutcomeOf feed end
+  pub end : Ending
+  pub ending : IsEndingOf feed end
   pub it : Replies asked end answer text
 
 -- and so do bytes, where they are the encoding of that feed

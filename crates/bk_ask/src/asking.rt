@@ -68,7 +68,8 @@ fn follow_and_reply<R: Threads + Wait + Sync, S: Source, K: Sink, G: Gate + Sync
 
 /// Reads a feed, executes the batches of its order on this many workers, 1 to 64, and writes the text of the reply to
 /// a query: the `anchor` and `cert` lines of the order; the line of an account or of a transaction; the text of a
-/// proof; or the verdict on a digest of the state, `state good`, or `state bad` and the `state` line of the right one.
+/// proof; the verdict on a digest of the state, `state good`, or `state bad` and the `state` line of the right one; a
+/// line for the anchor of each odd round; or the statement of an account.
 ///
 /// Where the order stops at a batch that the feed does not hold, the reply is of what comes before it. The whole feed
 /// is read before anything is written. With `Absent`, and with every fault but `Write`, nothing is written.

@@ -1,9 +1,15 @@
 //! What a feed that was closed replies to a query.
 
-ghost use Rattle.std.specs.Prelude.{◌≡◌, ◌^◌, ◌<◌, ◌++◌, ◌∷◌, [], length, None, OnOk, IfOk, IfErr, IfSome, MatchOption, slice_get};
+ghost use Rattle.std.specs.Prelude.{◌≡◌, ◌^◌, ◌<◌, ◌++◌, ◌∷◌, [], List, false, length, None, OnOk, IfOk, IfErr, IfSome, MatchOption, slice_get, string_bytes};
 ghost use Rattle.bk_frames.specs.Device.{CanBeUsed};
 ghost use Rattle.bk_frames.specs.Writing.{Writes};
+ghost use Rattle.bk_frames.specs.declared.genesis.Row.{Row};
+ghost use Rattle.bk_committee.specs.Payload.{sizes_of};
+ghost use Rattle.bk_cert.specs.Node.{Node};
+ghost use Rattle.bk_commit.specs.Ordering.{IsCommitted};
 ghost use Rattle.bk_rules.specs.Rows.{account_at};
+ghost use Rattle.bk_views.specs.Statement.{IsNowhere, IsStatement};
+ghost use Rattle.bk_views.specs.Told.{IsRun};
 ghost use Rattle.bk_ask.specs.Asking.{Replies, HasText, ShowsAccount, ShowsReceipt, ShowsProof, order_text};
 ghost use Rattle.bk_report.specs.Leaves.{state_of};
 ghost use Rattle.bk_report.specs.Lines.{text_of};
@@ -12,18 +18,20 @@ ghost use Rattle.bk_results.specs.declared.query.Query.TheVariants as asked;
 ghost use Rattle.bk_report.specs.Proofs.{IsAbsent};
 ghost use Rattle.bk_report.specs.RunLines.{anchor_lines, cert_lines};
 ghost use Rattle.bk_report.specs.Pages.{Written, blank};
-ghost use Rattle.bk_ask.specs.private.Replies.{outcome_of, TextFails, IsTextOf};
-ghost use Rattle.bk_ask.specs.private.Replies.{IsOfClosed, WritesFound, WritesReply, BookReplies, BookReplyFails};
+ghost use Rattle.bk_ask.specs.private.Replies.{ShowsRows, TextFails, IsTextOf, course_in, ending_of};
+ghost use Rattle.bk_ask.specs.private.Replies.{IsOfClosed, WritesFound, WritesReply, WritesSome, BookReplies, BookReplyFails};
 
 use bk_cert::CertRef;
 use bk_digest::{Digest32, tree_root_with};
 use bk_follow::Follower;
-use bk_frames::{Sink, WriteFault, push_all};
+use bk_frames::{Row, Sink, WriteFault, push_all};
 use bk_ledger::Ledger;
 use bk_order::Intake;
 use bk_report::{Line, Page, leaves_of, proof_of, push_line, put_anchors, put_certs};
 use bk_results::{Fault, Query, Reply};
+use bk_rounds::Rounds;
 use bk_rules::{Account, Receipt};
+use bk_views::{Statement, anchor_rows, push_rows};
 use std::alloc::{AllocError, Global};
 use std::thread::Threads;
 
@@ -162,8 +170,8 @@ fn verdict<R: Threads + Sync>(
     ledger: &Ledger,
     root: Digest32,
 ) -> Result<(Reply, Vec<u8>), AllocError>
-    ensures { IfOk result (λ v. Replies (asked.State root) (outcome_of intake.now ledger.now)
-        v.0 v.1.items) }
+    ensures { IfOk result (λ v. (certs : List Node) (opening : List Row) →
+        Replies (asked.State root) (ending_of intake.now certs opening ledger.now) v.0 v.1.items) }
 {
     let digest = state_digest(rt, alloc, ledger)?;
     if root != digest {
@@ -186,11 +194,12 @@ fn write_verdict<R: Threads + Sync, K: Sink>(
     root: Digest32,
 ) -> Result<Reply, Fault>
     requires sound { CanBeUsed (K.state sink.old) }
-    ensures reply { IfOk result (WritesReply (asked.State root) (outcome_of intake.now ledger.now)
-        (K.state sink.old) (K.state sink.new)) }
-    ensures fault { IfErr result
-        (TextFails (HasText (asked.State root) (outcome_of intake.now ledger.now))
-        (K.state sink.old) (K.state sink.new)) }
+    ensures reply { IfOk result (λ r. (certs : List Node) (opening : List Row) →
+        WritesReply (asked.State root) (ending_of intake.now certs opening ledger.now)
+        (K.state sink.old) (K.state sink.new) r) }
+    ensures fault { IfErr result (λ f. (certs : List Node) (opening : List Row) →
+        TextFails (HasText (asked.State root) (ending_of intake.now certs opening ledger.now))
+        (K.state sink.old) (K.state sink.new) f) }
 {
     let (reply, text) = verdict(rt, alloc, intake, ledger, root)?;
     push_all(sink, &text)?;
@@ -211,21 +220,110 @@ fn write_found<K: Sink>(sink: &mut K, found: Option<Vec<u8>>) -> Result<Reply, F
     Ok(Reply::Found)
 }
 
+// The text of the rows of the anchors.
+fn anchors_text(alloc: Global, intake: &Intake, rounds: &Rounds) -> Result<String, AllocError>
+    requires { IsCommitted rounds.now.sizes rounds.now.held intake.now.ordered.anchors }
+    ensures { IfOk result (λ text. ShowsRows rounds.now intake.now (string_bytes text)) }
+{
+    let rows = anchor_rows(alloc, rounds, intake.anchors())?;
+    let mut text = String::new(alloc);
+    push_rows(&mut text, &rows)?;
+    Ok(text)
+}
+
+// Writes it.
+fn write_anchors<K: Sink>(
+    alloc: Global,
+    sink: &mut K,
+    intake: &Intake,
+    rounds: &Rounds,
+) -> Result<(), Fault>
+    requires sound { CanBeUsed (K.state sink.old) }
+    requires committed { IsCommitted rounds.now.sizes rounds.now.held intake.now.ordered.anchors }
+    ensures out { OnOk result (WritesSome (ShowsRows rounds.now intake.now)
+        (K.state sink.old) (K.state sink.new)) }
+    ensures fault { IfErr result (TextFails (ShowsRows rounds.now intake.now)
+        (K.state sink.old) (K.state sink.new)) }
+{
+    let text = anchors_text(alloc, intake, rounds)?;
+    push_all(sink, text.as_bytes())?;
+    Ok(())
+}
+
+// The statement of the account with this id, where it is somewhere.
+fn statement_of(
+    alloc: Global,
+    intake: &Intake,
+    opening: &[Row],
+    ledger: &Ledger,
+    id: u64,
+) -> Result<Option<String>, AllocError>
+    requires open { intake.now.failed ≡ false }
+    requires run { IsRun (course_in intake.now opening.now ledger.now) ledger.now.receipts }
+    ensures { IfOk result (λ found. MatchOption found
+        (IsNowhere (course_in intake.now opening.now ledger.now) id)
+        (λ text. IsStatement (course_in intake.now opening.now ledger.now) id
+        (string_bytes text))) }
+{
+    let mut statement = Statement::open(alloc, id, opening)?;
+    for index in 0..intake.batches() {
+        statement.take(alloc, intake.payload(index), ledger.receipts())?;
+    }
+    statement.close()
+}
+
+// Writes it.
+fn write_statement<K: Sink>(
+    alloc: Global,
+    sink: &mut K,
+    intake: &Intake,
+    opening: &[Row],
+    ledger: &Ledger,
+    id: u64,
+) -> Result<Reply, Fault>
+    requires sound { CanBeUsed (K.state sink.old) }
+    requires open { intake.now.failed ≡ false }
+    requires run { IsRun (course_in intake.now opening.now ledger.now) ledger.now.receipts }
+    ensures reply { IfOk result (λ r. (certs : List Node) → WritesReply (asked.Statement id)
+        (ending_of intake.now certs opening.now ledger.now)
+        (K.state sink.old) (K.state sink.new) r) }
+    ensures fault { IfErr result (λ f. (certs : List Node) → TextFails
+        (HasText (asked.Statement id) (ending_of intake.now certs opening.now ledger.now))
+        (K.state sink.old) (K.state sink.new) f) }
+{
+    let Some(text) = statement_of(alloc, intake, opening, ledger, id)? else {
+        return Ok(Reply::Absent);
+    };
+    push_all(sink, text.as_bytes())?;
+    match intake.missing() {
+        Some(_) => Ok(Reply::Short),
+        None => Ok(Reply::Found),
+    }
+}
+
 // Writes the reply of what was ordered and executed.
 fn write_reply<R: Threads + Sync, K: Sink>(
     rt: &R,
     alloc: Global,
     sink: &mut K,
     intake: &Intake,
+    rounds: &Rounds,
+    opening: &[Row],
     ledger: &Ledger,
     query: Query,
 ) -> Result<Reply, Fault>
     requires sound { CanBeUsed (K.state sink.old) }
     requires anchors { length intake.now.ordered.anchors < 2 ^ 32 }
     requires order { length intake.now.ordered.order < 2 ^ 32 }
-    ensures reply { IfOk result (WritesReply query (outcome_of intake.now ledger.now)
+    requires open { intake.now.failed ≡ false }
+    requires sizes { rounds.now.sizes ≡ sizes_of intake.now.committee }
+    requires committed { IsCommitted rounds.now.sizes rounds.now.held intake.now.ordered.anchors }
+    requires run { IsRun (course_in intake.now opening.now ledger.now) ledger.now.receipts }
+    ensures reply { IfOk result (WritesReply query
+        (ending_of intake.now rounds.now.held opening.now ledger.now)
         (K.state sink.old) (K.state sink.new)) }
-    ensures fault { IfErr result (TextFails (HasText query (outcome_of intake.now ledger.now))
+    ensures fault { IfErr result (TextFails
+        (HasText query (ending_of intake.now rounds.now.held opening.now ledger.now))
         (K.state sink.old) (K.state sink.new)) }
 {
     match query {
@@ -252,6 +350,14 @@ fn write_reply<R: Threads + Sync, K: Sink>(
             let reply = write_verdict(rt, alloc, sink, intake, ledger, root)?;
             Ok(reply)
         }
+        Query::Anchors => {
+            write_anchors(alloc, sink, intake, rounds)?;
+            Ok(Reply::Found)
+        }
+        Query::Statement { id } => {
+            let reply = write_statement(alloc, sink, intake, opening, ledger, id)?;
+            Ok(reply)
+        }
     }
 }
 
@@ -276,6 +382,8 @@ pub(crate) fn reply_closed<R: Threads + Sync, K: Sink>(
     let Some(ledger) = follower.ledger() else {
         unreachable!()
     };
-    let reply = write_reply(rt, alloc, sink, intake, ledger, query)?;
+    let rounds = intake.rounds();
+    let opening = follower.opening();
+    let reply = write_reply(rt, alloc, sink, intake, rounds, opening, ledger, query)?;
     Ok(reply)
 }

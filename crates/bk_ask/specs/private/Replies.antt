@@ -3,8 +3,10 @@ use Rattle.std.specs.Prelude.{◌≡◌, ℕ, ◌<◌, List, [], length, take, t
 use Rattle.std.specs.Global.{Vec}
 use Rattle.bk_frames.specs.Cutting.{EndsShort}
 use Rattle.bk_frames.specs.Device.{Device, Works, Fails, Receives}
+use Rattle.bk_frames.specs.declared.genesis.Row.{Row}
 use Rattle.bk_frames.specs.Feed.{FeedValue, IsFeed}
 use Rattle.bk_frames.specs.Writing.{Writes}
+use Rattle.bk_cert.specs.Node.{Node}
 use Rattle.bk_order.specs.Intake.{Taken}
 use Rattle.bk_results.specs.declared.fault.Fault.{Fault}
 use Rattle.bk_results.specs.declared.fault.Fault.TheVariants as fault
@@ -13,15 +15,35 @@ use Rattle.bk_results.specs.declared.query.Query.{Query}
 use Rattle.bk_results.specs.declared.query.Reply.{Reply}
 use Rattle.bk_results.specs.declared.query.Reply.TheVariants as reply
 use Rattle.bk_results.specs.Devices.{IsUntouched}
-use Rattle.bk_follow.specs.Outcomes.{Outcome}
-use Rattle.bk_ask.specs.Asking.{Replies, IsReplyOf, can_reply}
+use Rattle.bk_rounds.specs.Rounds.{RoundsValue}
+use Rattle.bk_tx.specs.Batches.{transactions_of}
+use Rattle.bk_views.specs.Anchors.{AreRows, rows_text}
+use Rattle.bk_views.specs.Statement.{Course}
+use Rattle.bk_views.specs.declared.anchors.AnchorRow.{AnchorRow}
+use Rattle.bk_ask.specs.Asking.{Ending, Replies, IsReplyOf, can_reply}
 use Rattle.bk_follow.specs.Finishing.{OfFeed}
 use Rattle.bk_follow.specs.Follower.{BookValue, Followed, IsCurrent}
 use Rattle.bk_follow.specs.RunReport.{IsStopIn, HasPlaceIn}
 
--- what was ordered and executed
-abbrev pub outcome_of : Taken → LedgerValue → Outcome
-outcome_of taken l = record { ordered = taken.ordered; receipts = l.receipts; rows = l.state.rows }
+-- what was taken, executed and opened
+abbrev pub ending_of : Taken → List Node → List Row → LedgerValue → Ending
+ending_of taken certs opening l = record {
+  version = l.state.version;
+  committee = taken.committee;
+  opening = opening;
+  certs = certs;
+  outcome = record { ordered = taken.ordered; receipts = l.receipts; rows = l.state.rows };
+}
+
+-- the transactions of what was taken, on opening accounts
+abbrev pub course_in : Taken → List Row → LedgerValue → Course
+course_in taken opening l =
+    record { version = l.state.version; opening = opening; txs = transactions_of taken.ordered.payloads.list }
+
+-- a text is that of the rows of the anchors that were taken
+abbrev pub ShowsRows : RoundsValue → Taken → List ℕ → Type 0
+ShowsRows rounds taken text =
+    (rows : List AnchorRow) × AreRows rounds.sizes rounds.held taken.ordered.anchors rows × (text ≡ rows_text rows)
 
 -- a feed was closed, and this is made of its frames
 abbrev pub IsOfClosed : Option BookValue → Type 0
@@ -48,8 +70,12 @@ abbrev pub WritesFound : Option (Vec ℕ) → Device → Device → Reply → Ty
 WritesFound (Some text) old new answer = (answer ≡ reply.Found) × Writes text.items old new
 WritesFound None old new answer = (answer ≡ reply.Absent) × Writes [] old new
 
+-- a text like this was written
+abbrev pub WritesSome : (List ℕ → Type 0) → Device → Device → Type 0
+WritesSome is_text old new = (text : List ℕ) × is_text text × Writes text old new
+
 -- a reply was written
-abbrev pub WritesReply : Query → Outcome → Device → Device → Reply → Type 0
+abbrev pub WritesReply : Query → Ending → Device → Device → Reply → Type 0
 WritesReply asked end old new answer = (text : List ℕ) × Replies asked end answer text × Writes text old new
 
 -- the sink received the reply of a feed
