@@ -10,6 +10,7 @@ pub mod Answers
 pub mod Texts
 pub mod Fitting
 pub mod Proving
+pub mod AnchorRows
 pub mod Replying
 pub mod Growing
 pub mod Following

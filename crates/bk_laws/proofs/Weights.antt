@@ -1,9 +1,10 @@
 -- Whether those who have something weigh enough.
-use Rattle.std.proofs.Common.{◌≡◌, ℕ, List, [], ◌∷◌, eqb, subst, inl, inr, ⊎_elim, arith}
+use Rattle.std.proofs.Common.{◌≡◌, ℕ, List, [], ◌∷◌, eqb, refl, subst, inl, inr, ⊎_elim, arith}
 use Rattle.std.specs.List.{Contains, IsDistinct}
 use Rattle.std.proofs.lemmas.Bool.{eqb-true, false_from_ne_true, cases_lt}
 use Rattle.std.proofs.lemmas.Map.Views.{Contains-from_any}
 use Rattle.bk_committee.specs.Sizes.{Sizes, Weigh, weight_of}
+use Rattle.bk_rounds.specs.Votes.{WeighExactly}
 use Rattle.bk_rounds.proofs.Counting.{apart_from_none}
 use Rattle.bk_cert.proofs.Lists.{none_in_nil, contains_cases, contains_first, contains_later}
 use Rattle.bk_rounds.proofs.Weighed.{inside-le}
@@ -54,3 +55,9 @@ decided_weigh z P all least d in_all =
     (λ low. inr (λ (h : Weigh z P least). omega (arith, h.enough, low, inside-le z h.who c.who h.apart (λ x t. c.every x (in_all x (h.each x t)) (h.each x t)))))
     (λ high. inl (record { who = c.who; apart = c.apart; each = c.each; enough = high }))
     (cases_lt (weight_of z c.who) least)
+
+-- those who have it weigh something together
+pub weight_exists : (z : Sizes) (P : ℕ → Type 0) (all : List ℕ) → ((x : ℕ) → Decided (P x)) → ((x : ℕ) → P x → Contains all x) → (weight : ℕ) × WeighExactly z P weight
+weight_exists z P all d in_all =
+    let c : Chosen P all = chosen P d all in
+    (weight_of z c.who, record { who = c.who; apart = c.apart; lists = λ x. (c.each x, λ p. c.every x (in_all x p) p); is = refl })
