@@ -16,12 +16,12 @@ returns-then-is_some-clause-executed c = executed_same c.args.opened.now.book
 
 pub open_first-requires : goal.open_first-requires
 open_first-requires c = λ none.
-    head_first c.args.version c.requires.0 (frames_in c.args.frames.now.items) c.args.opened.now.committee c.args.opened.now.book c.requires.1 none (none_there c.args.opened.now.book (sym c.if-is_some.ensures))
+    head_first c.args.version c.requires.come.0 (frames_in c.args.frames.now.items) c.args.opened.now.committee c.args.opened.now.book c.requires.come.1 none (none_there c.args.opened.now.book (sym c.if-is_some.ensures))
 
 pub open_second-requires-clause-head : goal.open_second-requires-clause-head
 open_second-requires-clause-head c = λ some.
-    head_second c.args.version c.requires.0 (frames_in c.args.frames.now.items) (frames_in c.open_first.new.frames.items) c.args.opened.now.committee c.open_first.new.committee c.in_ok-open_first.ensures
-    (subst (λ (b : _). HasFollowed c.args.version c.requires.0 (frames_in c.args.frames.now.items) c.args.opened.now.committee b) (none_there c.args.opened.now.book (sym c.if-is_some.ensures)) c.requires.1) some
+    head_second c.args.version c.requires.come.0 (frames_in c.args.frames.now.items) (frames_in c.open_first.new.frames.items) c.args.opened.now.committee c.open_first.new.committee c.in_ok-open_first.ensures
+    (subst (λ (b : _). HasFollowed c.args.version c.requires.come.0 (frames_in c.args.frames.now.items) c.args.opened.now.committee b) (none_there c.args.opened.now.book (sym c.if-is_some.ensures)) c.requires.come.1) some
 
 pub open_second-requires-clause-none : goal.open_second-requires-clause-none
 open_second-requires-clause-none c = none_there c.args.opened.now.book (sym c.if-is_some.ensures)
