@@ -45,7 +45,7 @@ batch_inside c receipts place next run (before, later, split, at) =
 pub place_next : (ps : List (List ℕ)) (i old new : ℕ) (p : List ℕ) → slice_get ps i ≡ Some p → old ≡ length (transactions_of (take i ps)) → new ≡ old + length (transactions_in p) → new ≡ length (transactions_of (take (i + 1) ps))
 place_next ps i old new p here at grown =
     let all : transactions_of (take (i + 1) ps) ≡ transactions_of (take i ps) ++ transactions_in p =
-        ap (λ (k : ℕ). transactions_of (take k ps)) (add-one i) ∙ ap transactions_of (take_next ps i p here) ∙ txs_next (take i ps) p in
+    ap (λ (k : ℕ). transactions_of (take k ps)) (add-one i) ∙ ap transactions_of (take_next ps i p here) ∙ txs_next (take i ps) p in
     omega (arith, at, grown, ap length all, length-append (transactions_of (take i ps)) (transactions_in p))
 
 pub place_end : (ps : List (List ℕ)) (i place : ℕ) → length ps ≤ i → place ≡ length (transactions_of (take i ps)) → place ≡ length (transactions_of ps)

@@ -80,7 +80,8 @@ where
     words.extend_from_slice(more)?;
     let found = outcome_of(rt, &words)?;
     let wanted = fs::read(rt, example.wanted)?;
-    let is_right = found.status == example.status && found.has_printed(&wanted, example.command == "frames");
+    let is_right = found.status == example.status
+        && found.has_printed(&wanted, example.command == "frames");
     judge(rt, example, "another status or another text", is_right)
 }
 

@@ -96,7 +96,7 @@ order_so_far_stays v w bytes more (a ∷ b ∷ frames) next anchors certs later_
     let there = p.ordered (bytes ++ more) (a ∷ b ∷ (frames ++ next)) then (omega arith) in
     let same : here.0 ≡ there.0 = one_version bytes more (a ∷ b ∷ frames) (a ∷ b ∷ (frames ++ next)) v.cut w.cut here.0 there.0 come.cuts then.cuts here.1 there.1 in
     order_goes_on there.0 a b frames next anchors certs later_anchors later_certs
-        (subst (λ (x : Version). AreOrderedIn (feed_of x (a ∷ b ∷ frames)) anchors certs) same here.2) there.2
+    (subst (λ (x : Version). AreOrderedIn (feed_of x (a ∷ b ∷ frames)) anchors certs) same here.2) there.2
 
 -- ---- the receipts go on
 
@@ -142,8 +142,8 @@ pub receipts_stay : (v w : Followed) (bytes more : List ℕ) (frames next : List
     → IsSettled frames v → IsSettled (frames ++ next) w → Begins (receipts_in v.book) (receipts_in w.book)
 receipts_stay v w bytes more frames next come then s t =
     by_books v.cut.version w.cut.version frames next _ _ v.book w.book come.follows then.follows
-        (λ x y is also. one_version bytes more frames (frames ++ next) v.cut w.cut x y come.cuts then.cuts is also)
-        (λ none. (none_before_magic (bytes ++ more) (frames ++ next) w.cut then.cuts none).0) s t
+    (λ x y is also. one_version bytes more frames (frames ++ next) v.cut w.cut x y come.cuts then.cuts is also)
+    (λ none. (none_before_magic (bytes ++ more) (frames ++ next) w.cut then.cuts none).0) s t
 
 -- ---- what is executed
 

@@ -16,8 +16,8 @@ loop-index-init c = record {
 pub take-requires : goal.take-requires
 take-requires c = record {
   inside = subst (λ (rs : List Receipt). c.loop-index.statement.place + length (transactions_in c.payload.result.now) ≤ length rs) (sym c.receipts.ensures)
-    (batch_inside (course_in c.args.intake.now c.args.opening.now c.args.ledger.now) c.args.ledger.now.receipts c.loop-index.statement.place (transactions_in c.payload.result.now) c.requires.run
-    (batch_is_next (course_in c.args.intake.now c.args.opening.now c.args.ledger.now) c.args.intake.now.ordered.payloads.list c.loop-index.index c.loop-index.statement.place c.payload.result.now refl c.payload.ensures c.loop-index.invariant.place));
+      (batch_inside (course_in c.args.intake.now c.args.opening.now c.args.ledger.now) c.args.ledger.now.receipts c.loop-index.statement.place (transactions_in c.payload.result.now) c.requires.run
+      (batch_is_next (course_in c.args.intake.now c.args.opening.now c.args.ledger.now) c.args.intake.now.ordered.payloads.list c.loop-index.index c.loop-index.statement.place c.payload.result.now refl c.payload.ensures c.loop-index.invariant.place));
 }
 
 pub loop-index-preserved : goal.loop-index-preserved

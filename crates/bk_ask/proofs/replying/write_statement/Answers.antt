@@ -18,7 +18,7 @@ returns-in_err-push_all-clause-fault g c =
     let old = g.K.Sink.state c.args.sink.now in
     let new = g.K.Sink.state c.push_all.new.sink in
     let stops : TextFails (λ t. t ≡ c.as_bytes.result.now) old new (fault.Write c.in_err-push_all.field-0.0.written) =
-        (c.as_bytes.result.now, refl, c.in_err-push_all.ensures.fault.short, c.in_err-push_all.ensures.fault.out, c.in_err-push_all.ensures.fault.fails) in
+    (c.as_bytes.result.now, refl, c.in_err-push_all.ensures.fault.short, c.in_err-push_all.ensures.fault.out, c.in_err-push_all.ensures.fault.fails) in
     rw (p.1, p.2) (λ certs. statement_stops (ending_of c.args.intake.now certs c.args.opening.now c.args.ledger.now) c.args.id c.as_bytes.result.now old new
     (fault.Write c.in_err-push_all.field-0.0.written) text stops)
 
