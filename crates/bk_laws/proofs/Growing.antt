@@ -23,7 +23,7 @@ use Rattle.bk_follow.specs.RunReport.{HasNoStopIn, Reads, committee_in, later_fr
 use Rattle.bk_laws.specs.Laws.{AreAlike, Continues, IsPartOfFeed}
 
 -- the receipts of a list of batches begin those of a longer one
-receipts_begin : (v : Version) (xs ys : List (List ℕ)) (rows : List Row) → Begins xs ys → Begins (receipts_of v (transactions_of xs) rows) (receipts_of v (transactions_of ys) rows)
+pub receipts_begin : (v : Version) (xs ys : List (List ℕ)) (rows : List Row) → Begins xs ys → Begins (receipts_of v (transactions_of xs) rows) (receipts_of v (transactions_of ys) rows)
 receipts_begin v xs ys rows h = (
   receipts_of v (transactions_of h.0) (state_after v (transactions_of xs) rows),
   ap (λ (l : List (List ℕ)). receipts_of v (transactions_of l) rows) h.1

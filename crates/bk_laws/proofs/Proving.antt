@@ -50,9 +50,9 @@ same_rows feed end r is reads =
 proves : (feed : FeedValue) (text : List ℕ) (id : ℕ) → IsBytes (spelling feed) → IsFeed feed → IsReplyOf feed (query.Proof id) reply.Found text → ProvesInReport (spelling feed) text
 proves feed text id are good reply =
     let p = reply.it in
-    let report = report_exists feed good reply.outcome.clear in
+    let report = report_exists feed good reply.ending.outcome.clear in
     let ends = money_line_is_genesis feed report.0 report.1 good report.2 in
-    let rows : ends.0.rows ≡ reply.end.rows = same_rows feed reply.end ends.0 reply.outcome ends.1 in
+    let rows : ends.0.rows ≡ reply.end.outcome.rows = same_rows feed reply.end.outcome ends.0 reply.ending.outcome ends.1 in
     let fit = accounts_fit feed ends.0 are good ends.1 in
     record {
       report = report.0;
