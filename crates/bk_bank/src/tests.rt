@@ -69,46 +69,29 @@ fn opened(rt: &HostRuntime, txs: Vec<Option<Tx>>) -> Result<(Arc<Plan>, State), 
     Ok((Arc::new(rt.alloc(), plan)?, state))
 }
 
-// The walk. It gives the place that place 1 waits for; the place of the hold and two opening words that it reads; what
-// another thread sees of the words of both places; and the least place that is not done once the hold is lost.
-fn walk(rt: &HostRuntime) -> Result<(u64, [u64; 5], Option<u32>), Fail> {
+// Place 1 waits for place 0, which reads the opening words. A hold that is lost keeps its place.
+#[test]
+fn bank_walkthrough(rt: HostRuntime) -> Result<(), Fail> {
     let txs = vec![in rt.alloc(); pay_if()?, pay()?]?;
-    let (plan, state) = opened(rt, txs)?;
+    let (plan, state) = opened(&rt, txs)?;
     let (bank, pass) = Bank::new(rt.alloc(), &plan, &state)?;
+    if plan.len() != 2 || bank.len() != 2 || plan.words_of(0).len() != 6 {
+        return Err("two places, and six words of the first".into());
+    }
     let (pass, mut other) = bank.split(pass);
     let Err((pass, found)) = bank.claim(pass, 1) else {
         return Err("place 1 has to wait".into());
     };
+    assert_eq!(rt; found, 1);
     let Ok(mut hold) = bank.claim(pass, 0) else {
         return Err("place 0 is ready".into());
     };
-    let seen = [
-        u64::from(hold.place()),
-        bank.read(&mut hold, 0),
-        bank.read(&mut hold, 4),
-        bank.look(&mut other, 0),
-        bank.look(&mut other, 1),
-    ];
+    assert_eq!(rt; hold.place(), 0);
+    assert_eq!(rt; bank.read(&mut hold, 0), 100);
+    assert_eq!(rt; bank.read(&mut hold, 4), 10);
+    assert_eq!(rt; bank.look(&mut other, 0), HELD);
+    assert_eq!(rt; bank.look(&mut other, 1), 1);
     let words = bank.close(other);
-    Ok((found, seen, words.first_unfinished()))
-}
-
-// Place 1 waits for place 0, which reads the opening words. A hold that is lost keeps its place.
-#[test]
-fn bank_walkthrough(rt: HostRuntime) -> Result<(), Fail> {
-    let (waited, seen, lost) = walk(&rt)?;
-    assert_eq!(rt; waited, 1);
-    assert!(rt; seen == [0, 100, 10, HELD, 1]);
-    assert_eq!(rt; lost, Some(0));
-    Ok(())
-}
-
-// Two places, and six words of the first.
-#[test]
-fn bank_sizes(rt: HostRuntime) -> Result<(), Fail> {
-    let txs = vec![in rt.alloc(); pay_if()?, pay()?]?;
-    let (plan, state) = opened(&rt, txs)?;
-    let (bank, _) = Bank::new(rt.alloc(), &plan, &state)?;
-    assert!(rt; plan.len() == 2 && bank.len() == 2 && plan.words_of(0).len() == 6);
+    assert_eq!(rt; words.first_unfinished(), Some(0));
     Ok(())
 }
