@@ -2,7 +2,7 @@
 use Rattle.std.proofs.Common.{◌≡◌, ◌⊎◌, inl, inr, refl, List, Option, Some, None, true, false}
 use Rattle.clap.specs.Words.{Row, Text}
 use Rattle.bk_cli.specs.CommandLine.{IsJobOf, NamesFrames}
-use Rattle.bk_cli.specs.Exits.{has_fault, is_answer, writes_ahead}
+use Rattle.bk_cli.specs.Exits.{has_fault, is_answer, is_report, writes_ahead}
 use Rattle.bk_cli.specs.declared.exit.Exit.{Exit}
 use Rattle.bk_cli.specs.declared.exit.Exit.TheVariants as exit
 use Rattle.bk_cli.specs.declared.job.Job.{Job}
@@ -28,3 +28,12 @@ fault_is_no_answer j exit.WrongInput h = refl
 fault_is_no_answer j exit.Stopped h = refl
 fault_is_no_answer j exit.Failed h = refl
 fault_is_no_answer j exit.Missing h = absurd (cc)
+
+-- and a report is an answer
+pub report_is_answer : (j : Job) (end : Exit) → is_report end ≡ true → is_answer j end ≡ true
+report_is_answer j exit.Whole h = refl
+report_is_answer j exit.No h = absurd (cc)
+report_is_answer j exit.WrongInput h = absurd (cc)
+report_is_answer j exit.Stopped h = absurd (cc)
+report_is_answer j exit.Failed h = absurd (cc)
+report_is_answer j exit.Missing h = refl

@@ -1,7 +1,6 @@
 -- Where the bytes are to blame, nothing is written but by `frames`.
 use Rattle.std.proofs.Common.{inl, inr}
-use Rattle.bk_jobs.proofs.StatusLemmas.{report_is_answer}
-use Rattle.bkreplay.proofs.Naming.{fault_is_no_answer, frames_or_not}
+use Rattle.bkreplay.proofs.Naming.{fault_is_no_answer, frames_or_not, report_is_answer}
 use Rattle.bkreplay.proofs.program.run_words.Goals as goal
 
 pub returns-in-Ok-clause-blame : goal.returns-in-Ok-clause-blame
