@@ -1,5 +1,5 @@
 -- Pulling a group of frames: its pieces one after another, and the frames that waited taken beside it.
-use Rattle.std.proofs.Common.{◌≡◌, ℕ, ◌+◌, ◌<◌, ◌≤◌, ◌^◌, List, [], ◌++◌, length, Bool, true, false, Option, Some, None, refl, sym, ap, subst, ◌∙◌, arith, append_assoc, length-append}
+use Rattle.std.proofs.Common.{◌≡◌, ℕ, ◌+◌, ◌<◌, ◌≤◌, List, [], ◌++◌, Bool, true, false, Option, Some, None, refl, sym, ap, subst, ◌∙◌, arith, append_assoc, length-append}
 use Rattle.std.specs.Prelude.{IfSome, Result, Ok, Err, OnOk}
 use Rattle.std.specs.Global.{Vec}
 use Rattle.std.proofs.lemmas.List.{append-nil, map-append}
@@ -13,9 +13,8 @@ use Rattle.bk_frames.specs.Pulling.{Refuses}
 use Rattle.bk_frames.specs.Reading.{IsPulled, Pulls, room_of}
 use Rattle.bk_frames.proofs.CutJoining.{cuts_then}
 use Rattle.bk_frames.proofs.Pulls.{at_end}
-use Rattle.bk_follow.specs.Follower.{FollowsBy}
 use Rattle.bk_follow.specs.declared.gathering.Gathered.{Gathered}
-use Rattle.bk_follow.specs.private.Gathering.{HasGathered, HasPulled, IsAllOf, CanTake, TakesWaiting, CanPull, OfPulled, PullsGroup, HasPulledGroup}
+use Rattle.bk_follow.specs.private.Gathering.{HasGathered, HasPulled, CanTake, TakesWaiting, CanPull, OfPulled, PullsGroup, HasPulledGroup}
 use Rattle.bk_follow.proofs.Waiting.{can_take, took_all, took_none}
 use Rattle.bk_follow.proofs.Pulled.{cut_so_far, gathered_more, piece_came, taken_now}
 

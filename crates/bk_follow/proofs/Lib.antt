@@ -8,5 +8,6 @@ pub mod BookReports
 pub mod Following
 pub mod QueryStops
 pub mod OrderSoFar
+pub mod ClosedOrders
 pub mod ComparedBooks
 pub mod Groups

@@ -13,11 +13,11 @@ use Rattle.bk_results.specs.declared.fault.Fault.TheVariants as fault
 use Rattle.bk_ledger.specs.Ledger.{LedgerValue}
 use Rattle.bk_follow.specs.Follower.{BookValue, Followed, FollowsBy, Follows, HasCome, executed_in}
 use Rattle.bk_follow.specs.RunReport.{later_frames}
-use Rattle.bk_follow.specs.Ordering.{FindsOrder, OrderFails, anchors_in, certs_in}
+use Rattle.bk_follow.specs.Ordering.{FindsOrder, IsOrdered, OrderFails, anchors_in, certs_in}
 use Rattle.bk_follow.specs.Queries.{QueryFails}
 use Rattle.bk_follow.specs.private.Books.{IsGoodBook, BookSettleFails}
 use Rattle.bk_follow.specs.private.Ledgers.{book_with}
-use Rattle.bk_follow.specs.private.Ordered.{OrdersBook, BookOrderFails}
+use Rattle.bk_follow.specs.private.Ordered.{BookOrderFails}
 use Rattle.bk_follow.specs.Stopping.{kept_fault}
 use Rattle.bk_follow.proofs.Books.{IsSettling, clear_in, order_in_feed, whole_part}
 use Rattle.bk_follow.proofs.Following.{follower_of, good_of, come_on, settle_fails}
@@ -25,7 +25,7 @@ use Rattle.bk_follow.proofs.Following.{follower_of, good_of, come_on, settle_fai
 -- ---- a book
 
 -- the order of what was taken is that of the feed, and what was executed stays
-pub orders_book : (feed : FeedValue) (intake now : Taken) (ledger : Option LedgerValue) (opening : List Row) → IsSettling intake now → IsGoodBook feed (book_with intake ledger opening) → OrdersBook feed (book_with now ledger opening)
+pub orders_book : (feed : FeedValue) (intake now : Taken) (ledger : Option LedgerValue) (opening : List Row) → IsSettling intake now → IsGoodBook feed (book_with intake ledger opening) → IsOrdered feed (book_with now ledger opening)
 orders_book feed intake now ledger opening s good =
     let b = good.book in
     let clear = s.clear (later_frames feed) b.taken in
@@ -52,7 +52,7 @@ orders_book feed intake now ledger opening s good =
 -- ---- a Follower
 
 -- the order of the book is that of the frames
-pub finds_order : (cut : Cut) (committee : Option CommitteeValue) (book : Option BookValue) (stands : Option Fault) (b new : BookValue) → book ≡ Some b → ((feed : FeedValue) → IsGoodBook feed b → OrdersBook feed new) → new.executed ≡ b.executed
+pub finds_order : (cut : Cut) (committee : Option CommitteeValue) (book : Option BookValue) (stands : Option Fault) (b new : BookValue) → book ≡ Some b → ((feed : FeedValue) → IsGoodBook feed b → IsOrdered feed new) → new.executed ≡ b.executed
     → FindsOrder (follower_of cut committee book stands) (follower_of cut committee (Some new) stands) new.taken.ordered.anchors new.taken.ordered.order
 finds_order cut committee book stands b new is h same =
     let old = follower_of cut committee book stands in

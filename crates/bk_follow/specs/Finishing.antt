@@ -9,7 +9,8 @@ use Rattle.bk_results.specs.declared.fault.Fault.TheVariants as fault
 use Rattle.bk_results.specs.declared.status.Status.{Status}
 use Rattle.bk_results.specs.Devices.{IsUntouched}
 use Rattle.bk_follow.specs.RunReport.{IsReportOf, IsStopIn, HasPlaceIn}
-use Rattle.bk_follow.specs.Follower.{BookValue, Followed, HasCome, IsCurrent, IsSettled}
+use Rattle.bk_follow.specs.Follower.{BookValue, Followed, HasCome, IsCurrent, IsSettled, executed_in}
+use Rattle.bk_follow.specs.Ordering.{IsOrdered}
 
 -- the sink received the whole report of a feed
 pub record ReportIsOut (feed : FeedValue) (answer : Status) (old new : Device) : Type 0 where
@@ -56,6 +57,25 @@ CloseFails old new (fault.Unfinished place) =
     OfFeed old (λ feed. HasPlaceIn feed place) × (new.fault ≡ Some (fault.Unfinished place))
 CloseFails old new (fault.Write written) = ⊥
 CloseFails old new fault.Memory = new.fault ≡ Some fault.Memory
+
+-- the order of a feed was closed: what had come is a feed, the order of all of it was found, and nothing was executed
+pub record ClosesOrder (old new : Followed) : Type 0 where
+  pub come : (bytes : List ℕ) × (frames : List Frame) × HasCome bytes frames old
+  pub stays : (bytes : List ℕ) (frames : List Frame) → HasCome bytes frames old → HasCome bytes frames new
+  pub cut : new.cut ≡ old.cut
+  pub executed : executed_in new.book ≡ executed_in old.book
+  pub ordered : OfFeed old (λ feed. (b : BookValue) × (new.book ≡ Some b) × IsOrdered feed b)
+
+-- why it was not, and what that leaves: the bytes end too early; the stop of the feed, and then all is as it was; or memory
+-- ran out. Only a stop is not returned by every later call
+abbrev pub CloseOrderFails : Followed → Followed → Fault → Type 0
+CloseOrderFails old new (fault.Feed found) = EndsShort old.cut found × (new.fault ≡ Some (fault.Feed found))
+CloseOrderFails old new (fault.Collision id) = OfFeed old (λ feed. IsStopIn feed (fault.Collision id)) × (new ≡ old)
+CloseOrderFails old new (fault.Equivocation round author first second) =
+    OfFeed old (λ feed. IsStopIn feed (fault.Equivocation round author first second)) × (new ≡ old)
+CloseOrderFails old new (fault.Unfinished place) = ⊥
+CloseOrderFails old new (fault.Write written) = ⊥
+CloseOrderFails old new fault.Memory = new.fault ≡ Some fault.Memory
 
 -- a report was written: what had come is a feed, all of it is settled, and the sink received its report
 pub record Finishes (old new : Followed) (before after : Device) (answer : Status) : Type 0 where

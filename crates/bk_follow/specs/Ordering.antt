@@ -7,7 +7,13 @@ use Rattle.bk_cert.specs.declared.place.CertRef.{CertRef}
 use Rattle.bk_results.specs.declared.fault.Fault.{Fault}
 use Rattle.bk_results.specs.declared.fault.Fault.TheVariants as fault
 use Rattle.bk_follow.specs.RunReport.{HasNoStopIn, IsOrderIn, IsStopIn}
-use Rattle.bk_follow.specs.Follower.{BookValue, Followed, HasCome, OfFrames, executed_in}
+use Rattle.bk_follow.specs.Follower.{BookValue, Followed, HasCome, IsBookOf, OfFrames, executed_in}
+
+-- this is made of the frames of a feed that nothing stops, and has the order of all of them
+pub record IsOrdered (feed : FeedValue) (b : BookValue) : Type 0 where
+  pub book : IsBookOf feed b
+  pub clear : HasNoStopIn feed
+  pub ordered : IsOrderIn feed b.taken.ordered
 
 -- nothing stops a feed, and these are the anchors and the certificates of its order
 pub record AreOrderedIn (feed : FeedValue) (anchors certs : List CertRef) : Type 0 where

@@ -150,6 +150,10 @@ impl Follower {
         }
     }
 
+    /// Gives its memory back. A caller that owns a Follower ends with this call: its own proof then need not go through
+    /// all that a Follower holds.
+    pub fn discard(self) {}
+
     /// The fault that every later call returns, if there is one.
     pub fn fault(&self) -> Option<Fault>
         ensures { result ≡ self.now.fault }

@@ -100,6 +100,13 @@ fn book_of(alloc: Global, committee: Committee, payload: &[u8]) -> Result<Book, 
     Ok(book)
 }
 
+// Puts a book where none is. To drop what is there costs proof, so it is done here alone.
+fn put_book(slot: &mut Option<Book>, book: Book)
+    ensures { slot.new ≡ Some book }
+{
+    *slot = Some(book);
+}
+
 // Opens the book, where frame 1 is the next one.
 fn open_second(
     alloc: Global,
@@ -120,7 +127,8 @@ fn open_second(
     let Some(committee) = opened.committee.take() else {
         unreachable!()
     };
-    opened.book = Some(book_of(alloc, committee, &payload)?);
+    let book = book_of(alloc, committee, &payload)?;
+    put_book(&mut opened.book, book);
     Ok(())
 }
 

@@ -1,16 +1,22 @@
 //! The order of what a Follower has so far.
 
-ghost use Rattle.std.specs.Prelude.{◌≡◌, None, Err, OnOk, IfOk, IfErr, IfSome};
-ghost use Rattle.bk_frames.specs.Feed.{FeedValue};
-ghost use Rattle.bk_follow.specs.Ordering.{IsOrderSoFar, FindsOrder, OrderFails, anchors_in, certs_in};
+ghost use Rattle.std.specs.Prelude.{◌≡◌, ℕ, List, None, Err, OnOk, IfOk, IfErr, IfSome};
+ghost use Rattle.bk_frames.specs.Feed.{Frame, FeedValue};
+ghost use Rattle.bk_follow.specs.Finishing.{ClosesOrder, CloseOrderFails};
+ghost use Rattle.bk_follow.specs.Follower.{HasCome};
+ghost use Rattle.bk_follow.specs.Ordering.{IsOrderSoFar, IsOrdered, FindsOrder, OrderFails, anchors_in, certs_in};
 ghost use Rattle.bk_follow.specs.Queries.{QueryFails};
 ghost use Rattle.bk_follow.specs.private.Books.{IsGoodBook};
-ghost use Rattle.bk_follow.specs.private.Ordered.{OrdersBook, BookOrderFails};
+ghost use Rattle.bk_follow.specs.private.Ordered.{BookOrderFails};
+ghost use Rattle.bk_follow.specs.private.Parts.{followed, OrdersNot};
 
 use crate::book::Book;
 use crate::fault::{Fault, stopped};
 use crate::follower::{Follower, keep};
+use crate::gathering::Gathered;
+use crate::opening::Opened;
 use bk_cert::CertRef;
+use bk_frames::Cutter;
 
 /// The order of the whole frames of a feed so far.
 #[derive(Clone, Copy, Debug, PartialEq, Eq)]
@@ -25,7 +31,7 @@ impl Book {
     /// Settles the order of the frames so far, and executes nothing.
     pub(crate) fn settle_order(&mut self) -> Result<(), Fault>
         ensures order { OnOk result ((feed : FeedValue) → IsGoodBook feed self.old
-            → OrdersBook feed self.new) }
+            → IsOrdered feed self.new) }
         ensures executed { self.new.executed ≡ self.old.executed }
         ensures fault { IfErr result (λ f. BookOrderFails self.old self.new f) }
     {
@@ -35,6 +41,23 @@ impl Book {
         self.intake.settle()?;
         Ok(())
     }
+}
+
+// Settles the order, where the feed may end here.
+fn order_at_end(cutter: &Cutter, opened: &mut Opened) -> Result<(), Fault>
+    requires come { (bytes : List ℕ) × (frames : List Frame)
+        × HasCome bytes frames (followed cutter.now opened.old) }
+    ensures closed { OnOk result (ClosesOrder (followed cutter.now opened.old)
+        (followed cutter.now opened.new)) }
+    ensures fault { IfErr result (OrdersNot (followed cutter.now opened.old)
+        (followed cutter.now opened.new)) }
+{
+    cutter.end()?;
+    let Some(book) = &mut opened.book else {
+        unreachable!()
+    };
+    book.settle_order()?;
+    Ok(())
 }
 
 impl Follower {
@@ -56,6 +79,25 @@ impl Follower {
             return Ok(());
         };
         match book.settle_order() {
+            Ok(()) => Ok(()),
+            Err(fault) => Err(keep(&mut self.fault, fault)),
+        }
+    }
+
+    /// Settles the order of the feed that ends here, and executes nothing. After `Ok`, `Collision` or `Equivocation` it
+    /// may go on.
+    pub fn close_order(&mut self) -> Result<(), Fault>
+        ensures closed { OnOk result (ClosesOrder self.old self.new) }
+        ensures works { OnOk result ((self.old.fault ≡ None) × (self.new.fault ≡ None)) }
+        ensures again { IfSome self.old.fault (λ f. (result ≡ Err f) × (self.new ≡ self.old)) }
+        ensures fault { IfErr result (λ f. self.old.fault ≡ None
+            → CloseOrderFails self.old self.new f) }
+    {
+        if let Some(fault) = self.fault {
+            return Err(fault);
+        }
+        let Gathered { cutter, opened, .. } = &mut self.gathered;
+        match order_at_end(cutter, opened) {
             Ok(()) => Ok(()),
             Err(fault) => Err(keep(&mut self.fault, fault)),
         }

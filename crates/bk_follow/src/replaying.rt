@@ -127,5 +127,7 @@ pub fn replay<R: Threads + Wait + Sync, S: Source, K: Sink, G: Gate + Sync>(
 {
     let mut piece = vec![in alloc; 0u8; PIECE]?;
     let mut follower = Follower::new(alloc, workers);
-    follow_to_end(rt, source, sink, piece.as_mut_slice(), &mut follower, gate)
+    let end = follow_to_end(rt, source, sink, piece.as_mut_slice(), &mut follower, gate);
+    follower.discard();
+    end
 }

@@ -24,6 +24,16 @@ ClosesNot old new (fault.Unfinished place) = OfFeed old (λ feed. HasPlaceIn fee
 ClosesNot old new (fault.Write written) = ⊥
 ClosesNot old new fault.Memory = Unit {0}
 
+-- why its order was not closed, but for the same
+abbrev pub OrdersNot : Followed → Followed → Fault → Type 0
+OrdersNot old new (fault.Feed found) = EndsShort old.cut found
+OrdersNot old new (fault.Collision id) = OfFeed old (λ feed. IsStopIn feed (fault.Collision id)) × (new ≡ old)
+OrdersNot old new (fault.Equivocation round author first second) =
+    OfFeed old (λ feed. IsStopIn feed (fault.Equivocation round author first second)) × (new ≡ old)
+OrdersNot old new (fault.Unfinished place) = ⊥
+OrdersNot old new (fault.Write written) = ⊥
+OrdersNot old new fault.Memory = Unit {0}
+
 -- why a feed that is followed did not end in a report, but for the fault that is kept after it
 abbrev pub EndFails : Followed → Followed → Device → Device → Fault → Type 0
 EndFails old new before after (fault.Feed found) = EndsShort old.cut found × IsUntouched before after

@@ -18,8 +18,8 @@ unreachable-requires c = none_is_none c.args.opened.now.committee c.if-is_none.e
 
 pub returns : goal.returns
 returns c =
-    rw (sym c.take.ensures.value ∙ c.in-Some-take.is) (second_opens c.in-Some-take.committee c.take.new.self c.in-Some.payload.items (frames_in c.args.frames.now.items) (frames_in c.take_first.new.frames.items) c.in_ok-book_of.field-0 c.in-Some.ensures
-    (λ second same. c.in_ok-book_of.ensures second (same ∙ sym c.deref.ensures.value)))
+    rw (sym c.take.ensures.value ∙ c.in-Some-take.is, c.put_book.ensures) (second_opens c.in-Some-take.committee c.take.new.self c.in-Some.payload.items (frames_in c.args.frames.now.items) (frames_in c.take_first.new.frames.items) c.in_ok-book.book c.in-Some.ensures
+    (λ second same. c.in_ok-book.ensures second (same ∙ sym c.deref.ensures.value)))
 
 pub book_of-requires : goal.book_of-requires
 book_of-requires c =

@@ -1,7 +1,7 @@
-use Rattle.std.proofs.Common.{◌≡◌, [], refl, sym, ap, subst, ◌∙◌}
+use Rattle.std.proofs.Common.{sym, ap, subst, ◌∙◌}
 use Rattle.std.proofs.lemmas.Result.{err_from_is_err_and}
 use Rattle.bk_frames.specs.Cutting.{frames_in}
-use Rattle.bk_follow.specs.private.Gathering.{PullsGroup, TakesWaiting}
+use Rattle.bk_follow.specs.private.Gathering.{TakesWaiting}
 use Rattle.bk_follow.proofs.Groups.{can_pull_behind, pull_refused, group_came, all_gathered, group_works, pulled_ok, pulled_err, got_ok}
 use Rattle.bk_follow.proofs.gathering.Gathered.pull.Goals as goal
 

@@ -1,0 +1,43 @@
+use Rattle.std.proofs.Common.{◌≡◌, refl, sym, subst, ◌∙◌}
+use Rattle.bk_follow.specs.Follower.{Followed, HasCome}
+use Rattle.bk_follow.specs.Finishing.{ClosesOrder, CloseOrderFails}
+use Rattle.bk_follow.specs.private.Parts.{followed}
+use Rattle.bk_follow.proofs.Following.{follower_of}
+use Rattle.bk_follow.proofs.ClosedOrders.{order_stop_same, close_order_fails}
+use Rattle.bk_follow.proofs.follower.Follower.close_order.Goals as goal
+
+pub invariant_of-self : goal.invariant_of-self
+invariant_of-self c = (
+  c.self.invariant.0,
+  c.self.invariant.1,
+  λ none.
+      let inv = c.self.invariant.2 c.in_default.is in
+      (inv.0, inv.1, c.in-Ok.ensures.closed.stays inv.0 inv.1 inv.2),
+  λ none. c.self.invariant.3 c.in_default.is,
+)
+
+pub invariant_of-self-in-Err : goal.invariant_of-self-in-Err
+invariant_of-self-in-Err c = (
+  c.self.invariant.0,
+  c.self.invariant.1,
+  λ none.
+      let inv = c.self.invariant.2 c.in_default.is in
+      let same = order_stop_same c.in-Err.fault (followed c.self.inside.gathered.cutter c.self.inside.gathered.opened) (followed c.self.inside.gathered.cutter c.order_at_end.new.opened) (sym c.keep.ensures.standing ∙ none) c.in-Err.ensures.fault in
+      (inv.0, inv.1, subst (HasCome inv.0 inv.1) (sym same) inv.2),
+  λ none. c.self.invariant.3 c.in_default.is,
+)
+
+pub returns-in-Ok-clause-closed : goal.returns-in-Ok-clause-closed
+returns-in-Ok-clause-closed c =
+    let none = c.in_default.is in
+    let old : followed c.self.inside.gathered.cutter c.self.inside.gathered.opened ≡ c.args.self.now = (λ i. follower_of c.self.inside.gathered.cutter c.self.inside.gathered.opened.committee c.self.inside.gathered.opened.book (sym none i)) ∙ c.self.view_is in
+    let new : followed c.self.inside.gathered.cutter c.order_at_end.new.opened ≡ follower_of c.self.inside.gathered.cutter c.order_at_end.new.opened.committee c.order_at_end.new.opened.book c.self.inside.fault = λ i. follower_of c.self.inside.gathered.cutter c.order_at_end.new.opened.committee c.order_at_end.new.opened.book (sym none i) in
+    subst (λ (p : Followed × Followed). ClosesOrder p.0 p.1) (λ i. (old i, new i)) c.in-Ok.ensures.closed
+
+pub returns-in-Err-clause-fault : goal.returns-in-Err-clause-fault
+returns-in-Err-clause-fault c = λ _.
+    let none = c.in_default.is in
+    let old : followed c.self.inside.gathered.cutter c.self.inside.gathered.opened ≡ c.args.self.now = (λ i. follower_of c.self.inside.gathered.cutter c.self.inside.gathered.opened.committee c.self.inside.gathered.opened.book (sym none i)) ∙ c.self.view_is in
+    rw c.keep.ensures.same
+    (subst (λ (p : Followed). CloseOrderFails p (follower_of c.self.inside.gathered.cutter c.order_at_end.new.opened.committee c.order_at_end.new.opened.book c.keep.new.standing) c.in-Err.fault) old
+    (close_order_fails c.in-Err.fault (followed c.self.inside.gathered.cutter c.self.inside.gathered.opened) (followed c.self.inside.gathered.cutter c.order_at_end.new.opened) c.keep.new.standing refl c.keep.ensures.standing c.in-Err.ensures.fault))
