@@ -1,4 +1,5 @@
 pub mod ReplyTexts
+pub mod OrderedBooks
 pub mod ReplyAnswers
 pub mod Statements
 pub mod ViewTexts

@@ -1,22 +1,14 @@
 -- What a book, a Follower and a call reply, from what they found and wrote.
-use Rattle.std.proofs.Common.{◌≡◌, ℕ, ◌<◌, ◌^◌, List, length, take, drop, Option, Some, None, true, false, refl, sym, ap, subst, ◌∙◌, arith}
+use Rattle.std.proofs.Common.{◌≡◌, ℕ, ◌<◌, ◌^◌, List, length, Option, Some, None, true, false, refl, sym, ap, subst, ◌∙◌, arith}
 use Rattle.std.specs.Prelude.{IfSome}
-use Rattle.std.specs.List.{Contains}
-use Rattle.std.proofs.lemmas.List.{take-append-drop}
-use Rattle.std.proofs.lemmas.List.Elements.{Contains-append_right}
 use Rattle.bk_frames.specs.Device.{Device, Works, IfKnown}
 use Rattle.bk_frames.specs.declared.genesis.Row.{Row}
-use Rattle.bk_frames.specs.Feed.{FeedValue, Frame, IsFeed}
+use Rattle.bk_frames.specs.Feed.{FeedValue, IsFeed}
 use Rattle.bk_frames.specs.Genesis.{AreAccounts}
 use Rattle.bk_frames.proofs.Accounts.{genesis_accounts}
-use Rattle.bk_committee.specs.Payload.{CommitteeValue, sizes_of}
-use Rattle.bk_rounds.specs.Rounds.{RoundsValue}
-use Rattle.bk_commit.specs.Growth.{IsPartOf}
-use Rattle.bk_commit.specs.Ordering.{IsCommitted}
+use Rattle.bk_committee.specs.Payload.{CommitteeValue}
 use Rattle.bk_order.specs.Frames.{AreCerts}
-use Rattle.bk_order.specs.Intake.{HasTaken, Taken}
-use Rattle.bk_order.specs.Orders.{AreRoundsOf, IsOrderOf}
-use Rattle.bk_order.specs.Stops.{HasNoStop}
+use Rattle.bk_order.specs.Intake.{Taken}
 use Rattle.bk_tx.specs.Batches.{transactions_of}
 use Rattle.bk_rules.specs.Fold.{receipts_of}
 use Rattle.bk_views.specs.Told.{IsRun}
@@ -30,72 +22,52 @@ use Rattle.bk_results.specs.declared.query.Query.TheVariants as query
 use Rattle.bk_results.specs.declared.query.Reply.{Reply}
 use Rattle.bk_results.specs.declared.query.Reply.TheVariants as reply
 use Rattle.bk_results.specs.Devices.{devices}
-use Rattle.bk_ask.specs.Asking.{Ending, IsEndingOf, Replies, HasText, can_reply, IsReplied, PartOfReplyIsOut, AskFailsBy}
+use Rattle.bk_ask.specs.Asking.{Ending, IsEndingOf, Replies, HasText, can_reply, executes, IsReplied, PartOfReplyIsOut, AskFailsBy}
 use Rattle.bk_follow.specs.Finishing.{Closes, CloseFails}
 use Rattle.bk_follow.specs.Follower.{Executed, BookValue, Followed, IsExecuted, IsCurrent, executed_in}
 use Rattle.bk_follow.specs.Replaying.{AllHasCome, ReadFails}
-use Rattle.bk_follow.specs.RunReport.{HasPlaceIn, HasPlace, IsOrderIn, committee_in, later_frames}
+use Rattle.bk_follow.specs.RunReport.{HasPlaceIn, HasPlace, committee_in, later_frames}
 use Rattle.bk_follow.specs.Queries.{executed_of, opening_in}
 use Rattle.bk_ask.specs.private.Replies.{course_in, ending_of, IsOfClosed, TextFails, WritesReply, ReplyIsOut, ReplyStops, BookReplies, BookReplyFails, FollowerReplies, FollowerReplyFails}
-use Rattle.bk_follow.proofs.BookReports.{IsSettledBook, few_of_anchors, few_of_order}
+use Rattle.bk_follow.proofs.BookReports.{IsSettledBook}
 use Rattle.bk_follow.proofs.Following.{on_closed, settled_now}
 use Rattle.bk_follow.proofs.RunAnswers.{of_feed as of_known_feed, stopped, cut_short, untouched}
+use Rattle.bk_ask.proofs.OrderedBooks.{committee_is, has_taken, later_part, ordered_of, works}
 
 -- ---- a book
 
 same_done : (d e : Executed) → Some d ≡ Some e → d ≡ e
 same_done d e same = cc
 
-later_part : (frames : List Frame) → IsPartOf (drop 2 frames) frames
-later_part frames = λ f h. subst (λ (fs : List Frame). Contains fs f) (take-append-drop 2 frames) (Contains-append_right (take 2 frames) (drop 2 frames) f h)
-
 -- what was opened, taken and executed is that of a book
-pub record IsBookIn (book : Option BookValue) (b : BookValue) (taken : Taken) (rounds : RoundsValue) (opening : List Row) (l : LedgerValue) : Type 0 where
+pub record IsBookIn (book : Option BookValue) (b : BookValue) (taken : Taken) (opening : List Row) (l : LedgerValue) : Type 0 where
   pub is : book ≡ Some b
   pub taken_is : taken ≡ b.taken
   pub opening_is : opening ≡ b.opening
   pub executed : b.executed ≡ Some (executed_of l)
-  pub table : (frames : List Frame) → HasTaken frames taken → taken.failed ≡ false → HasNoStop taken.committee frames → AreRoundsOf taken.committee frames rounds
 
-pub book_in : (book : Option BookValue) (b : BookValue) (taken : Taken) (rounds : RoundsValue) (opening : List Row) (l : LedgerValue) → book ≡ Some b → taken ≡ b.taken → opening ≡ opening_in book → executed_in book ≡ Some (executed_of l)
-    → ((frames : List Frame) → HasTaken frames taken → taken.failed ≡ false → HasNoStop taken.committee frames → AreRoundsOf taken.committee frames rounds) → IsBookIn book b taken rounds opening l
-book_in book b taken rounds opening l is same opened done table = record {
+pub book_in : (book : Option BookValue) (b : BookValue) (taken : Taken) (opening : List Row) (l : LedgerValue) → book ≡ Some b → taken ≡ b.taken → opening ≡ opening_in book → executed_in book ≡ Some (executed_of l) → IsBookIn book b taken opening l
+book_in book b taken opening l is same opened done = record {
   is = is;
   taken_is = same;
   opening_is = opened ∙ ap opening_in is;
   executed = sym (ap executed_in is) ∙ done;
-  table = table;
 }
 
-module _ (feed : FeedValue) (book : Option BookValue) (b : BookValue) (taken : Taken) (rounds : RoundsValue) (opening : List Row) (l : LedgerValue) (h : IsBookIn book b taken rounds opening l) (current : IsCurrent feed b) where
-  committee_is : taken.committee ≡ committee_in feed
-  committee_is = ap (λ (t : Taken). t.committee) h.taken_is ∙ current.book.committee
-
+module _ (feed : FeedValue) (book : Option BookValue) (b : BookValue) (taken : Taken) (opening : List Row) (l : LedgerValue) (h : IsBookIn book b taken opening l) (current : IsCurrent feed b) where
   executed_is : IsExecuted feed b.taken.ordered (executed_of l)
   executed_is = subst (λ (e : Executed). IsExecuted feed b.taken.ordered e) (same_done current.done (executed_of l) (sym current.is_done ∙ h.executed)) current.executed
 
-  has_taken : HasTaken (later_frames feed) taken
-  has_taken = subst (HasTaken (later_frames feed)) (sym h.taken_is) current.book.taken
-
-  works : taken.failed ≡ false
-  works = ap (λ (t : Taken). t.failed) h.taken_is ∙ current.book.works
-
-  clear : HasNoStop taken.committee (later_frames feed)
-  clear = subst (λ (k : CommitteeValue). HasNoStop k (later_frames feed)) (sym committee_is) current.clear
-
-  rounds_are : AreRoundsOf taken.committee (later_frames feed) rounds
-  rounds_are = h.table (later_frames feed) has_taken works clear
-
-  order_is : IsOrderIn feed taken.ordered
-  order_is = subst (λ (t : Taken). IsOrderIn feed t.ordered) (sym h.taken_is) current.ordered
+  committee_here : taken.committee ≡ committee_in feed
+  committee_here = committee_is feed b taken h.taken_is (ordered_of feed b current)
 
   -- what a settled book holds is where its feed ends
-  ending_is : IsEndingOf feed (ending_of taken rounds.held opening l)
+  ending_is : IsEndingOf feed (ending_of taken opening l)
   ending_is = record {
     version = executed_is.version;
-    committee = committee_is;
+    committee = committee_here;
     opening = h.opening_is ∙ current.book.opening;
-    certs = subst (λ (k : CommitteeValue). AreCerts k (later_frames feed) rounds.held) committee_is rounds_are.certs;
+    certs = subst (λ (k : CommitteeValue). AreCerts k (later_frames feed) taken.kept.certs) committee_here (has_taken feed b taken h.taken_is (ordered_of feed b current)).certs;
     outcome = subst (λ (t : Taken). IsOutcomeOf feed (record { ordered = t.ordered; receipts = l.receipts; rows = l.state.rows })) (sym h.taken_is)
         (record { clear = current.clear; ordered = current.ordered; receipts = executed_is.receipts; rows = executed_is.rows });
   }
@@ -133,30 +105,30 @@ can (query.State root) end reply.Absent text h = absurd h.0
 can query.Anchors end reply.Absent text h = absurd h.0
 can (query.Statement id) end reply.Absent text h = refl
 
-module _ (asked : Query) (book : Option BookValue) (b : BookValue) (taken : Taken) (rounds : RoundsValue) (opening : List Row) (l : LedgerValue) (old new : Device) (h : IsBookIn book b taken rounds opening l) where
-  book_replies : (answer : Reply) → WritesReply asked (ending_of taken rounds.held opening l) old new answer → BookReplies asked b old new answer
+module _ (asked : Query) (book : Option BookValue) (b : BookValue) (taken : Taken) (opening : List Row) (l : LedgerValue) (old new : Device) (h : IsBookIn book b taken opening l) where
+  book_replies : (answer : Reply) → WritesReply asked (ending_of taken opening l) old new answer → BookReplies asked b old new answer
   book_replies answer w = (
-    λ feed good current. record { text = w.0; reply = record { end = ending_of taken rounds.held opening l; ending = ending_is feed book b taken rounds opening l h current; it = w.1 }; gave = w.2.1 },
+    λ feed good current. record { text = w.0; reply = record { end = ending_of taken opening l; ending = ending_is feed book b taken opening l h current; it = w.1 }; gave = w.2.1 },
     w.2.0,
-    can asked (ending_of taken rounds.held opening l) answer w.0 w.1,
+    can asked (ending_of taken opening l) answer w.0 w.1,
   )
 
-  book_reply_fails : (f : Fault) → TextFails (HasText asked (ending_of taken rounds.held opening l)) old new f → BookReplyFails asked b old new f
+  book_reply_fails : (f : Fault) → TextFails (HasText asked (ending_of taken opening l)) old new f → BookReplyFails asked b old new f
   book_reply_fails (fault.Feed found) t = absurd t
   book_reply_fails (fault.Collision id) t = absurd t
   book_reply_fails (fault.Equivocation round author first second) t = absurd t
   book_reply_fails (fault.Unfinished place) t = absurd t
   book_reply_fails (fault.Write written) t = (
-    λ feed good current. record { answer = t.1.0; text = t.0; reply = record { end = ending_of taken rounds.held opening l; ending = ending_is feed book b taken rounds opening l h current; it = t.1.1 }; some = t.2; gave = t.3 },
+    λ feed good current. record { answer = t.1.0; text = t.0; reply = record { end = ending_of taken opening l; ending = ending_is feed book b taken opening l h current; it = t.1.1 }; some = t.2; gave = t.3 },
     t.4,
   )
   book_reply_fails fault.Memory t = t
 
   -- of the book that there is
-  pub some_replies : (answer : Reply) → WritesReply asked (ending_of taken rounds.held opening l) old new answer → IfSome book (λ b. BookReplies asked b old new answer)
+  pub some_replies : (answer : Reply) → WritesReply asked (ending_of taken opening l) old new answer → IfSome book (λ b. BookReplies asked b old new answer)
   some_replies answer w = subst (λ (o : Option BookValue). IfSome o (λ b. BookReplies asked b old new answer)) (sym h.is) (book_replies answer w)
 
-  pub some_reply_fails : (f : Fault) → TextFails (HasText asked (ending_of taken rounds.held opening l)) old new f → IfSome book (λ b. BookReplyFails asked b old new f)
+  pub some_reply_fails : (f : Fault) → TextFails (HasText asked (ending_of taken opening l)) old new f → IfSome book (λ b. BookReplyFails asked b old new f)
   some_reply_fails f t = subst (λ (o : Option BookValue). IfSome o (λ b. BookReplyFails asked b old new f)) (sym h.is) (book_reply_fails f t)
 
 -- there is one, and it was executed
@@ -172,35 +144,23 @@ same_book b c same = cc
 of_settled : (book : Option BookValue) (b : BookValue) → IsOfClosed book → book ≡ Some b → IsSettledBook b
 of_settled book b (feed, good, c, is, current) same = (feed, good, subst (IsCurrent feed) (same_book c b (sym is ∙ same)) current)
 
-module _ (book : Option BookValue) (b : BookValue) (taken : Taken) (rounds : RoundsValue) (opening : List Row) (l : LedgerValue) (closed : IsOfClosed book) (h : IsBookIn book b taken rounds opening l) where
-  pub few_of_closed : (length taken.ordered.anchors < 2 ^ 32) × (length taken.ordered.order < 2 ^ 32)
-  few_of_closed = let settled = of_settled book b closed h.is in rw h.taken_is (few_of_anchors b settled, few_of_order b settled)
-
+module _ (book : Option BookValue) (b : BookValue) (taken : Taken) (opening : List Row) (l : LedgerValue) (closed : IsOfClosed book) (h : IsBookIn book b taken opening l) where
   pub open_of_closed : taken.failed ≡ false
-  open_of_closed = let (feed, good, current) = of_settled book b closed h.is in works feed book b taken rounds opening l h current
-
-  pub sizes_of_closed : rounds.sizes ≡ sizes_of taken.committee
-  sizes_of_closed = let (feed, good, current) = of_settled book b closed h.is in (rounds_are feed book b taken rounds opening l h current).sizes
+  open_of_closed = let (feed, good, current) = of_settled book b closed h.is in works feed b taken h.taken_is (ordered_of feed b current)
 
   pub run_of_closed : IsRun (course_in taken opening l) l.receipts
-  run_of_closed = let (feed, good, current) = of_settled book b closed h.is in run_is feed book b taken rounds opening l h current good
-
-  pub committed_of_closed : ((frames : List Frame) → HasTaken frames taken → taken.failed ≡ false → HasNoStop taken.committee frames → IsOrderOf taken.committee frames taken.ordered → IsCommitted rounds.sizes rounds.held taken.ordered.anchors)
-      → IsCommitted rounds.sizes rounds.held taken.ordered.anchors
-  committed_of_closed committed = let (feed, good, current) = of_settled book b closed h.is in
-      committed (later_frames feed) (has_taken feed book b taken rounds opening l h current) (works feed book b taken rounds opening l h current) (clear feed book b taken rounds opening l h current)
-      (subst (λ (k : CommitteeValue). IsOrderOf k (later_frames feed) taken.ordered) (sym (committee_is feed book b taken rounds opening l h current)) (order_is feed book b taken rounds opening l h current))
+  run_of_closed = let (feed, good, current) = of_settled book b closed h.is in run_is feed book b taken opening l h current good
 
 -- ---- a Follower
 
 -- why the feed was not closed is why there is no reply
-pub reply_close_fails : (asked : Query) (f : Fault) (old new : Followed) (sink : Device) → CloseFails old new f → FollowerReplyFails asked old sink sink f
-reply_close_fails asked (fault.Feed found) old new sink h = (h.0, untouched sink)
-reply_close_fails asked (fault.Collision id) old new sink h = (h.0, untouched sink)
-reply_close_fails asked (fault.Equivocation round author first second) old new sink h = (h.0, untouched sink)
-reply_close_fails asked (fault.Unfinished place) old new sink h = (h.0, untouched sink)
-reply_close_fails asked (fault.Write written) old new sink h = absurd h
-reply_close_fails asked fault.Memory old new sink h = untouched sink
+pub reply_close_fails : (asked : Query) (f : Fault) (old new : Followed) (sink : Device) → executes asked ≡ true → CloseFails old new f → FollowerReplyFails asked old sink sink f
+reply_close_fails asked (fault.Feed found) old new sink runs h = (h.0, untouched sink)
+reply_close_fails asked (fault.Collision id) old new sink runs h = (h.0, untouched sink)
+reply_close_fails asked (fault.Equivocation round author first second) old new sink runs h = (h.0, untouched sink)
+reply_close_fails asked (fault.Unfinished place) old new sink runs h = (runs, h.0, untouched sink)
+reply_close_fails asked (fault.Write written) old new sink runs h = absurd h
+reply_close_fails asked fault.Memory old new sink runs h = untouched sink
 
 -- what is said of the book that there is
 of_book : (book : Option BookValue) (b : BookValue) (P : BookValue → Type 0) → book ≡ Some b → IfSome book P → P b
@@ -241,7 +201,7 @@ call_fails asked (fault.Feed found) known now old new v works come h = (cut_shor
 call_fails asked (fault.Collision id) known now old new v works come h = ((works, h.1), stopped known v (fault.Collision id) come h.0)
 call_fails asked (fault.Equivocation round author first second) known now old new v works come h = ((works, h.1), stopped known v (fault.Equivocation round author first second) come h.0)
 call_fails asked (fault.Unfinished place) known now old new v works come h =
-    ((works, h.1), of_known_feed known v (λ feed. HasPlaceIn feed place) (λ bytes. HasPlace bytes place) come h.0 (λ bytes feed good spelled there. record { feed = feed; good = good; spelled = spelled; there = there }))
+    (h.0, (works, h.2), of_known_feed known v (λ feed. HasPlaceIn feed place) (λ bytes. HasPlace bytes place) come h.1 (λ bytes feed good spelled there. record { feed = feed; good = good; spelled = spelled; there = there }))
 call_fails asked (fault.Write written) known now old new v works come h = (
   works,
   h.1,

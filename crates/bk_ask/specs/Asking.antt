@@ -189,6 +189,16 @@ pub record IsReply (bytes : List ℕ) (asked : Query) (answer : Reply) (text : L
   pub spelled : bytes ≡ spelling feed
   pub reply : IsReplyOf feed asked answer text
 
+-- a query for which the transactions of the order are executed
+abbrev pub executes : Query → Bool
+executes query.Order = false
+executes (query.Account id) = true
+executes (query.Receipt place) = true
+executes (query.Proof id) = true
+executes (query.State root) = true
+executes query.Anchors = false
+executes (query.Statement id) = true
+
 -- ---- what a call leaves
 
 -- the sink received exactly the text of the reply of bytes
@@ -203,8 +213,8 @@ PartOfReplyIsOut asked written old new bytes =
     × Receives old new (take written text)
 
 -- why there is no reply, by the fault: the source is refused; the feed is stopped; a worker took a place and did not
--- finish it; a call of the sink failed, and exactly the first bytes of the text are out; or memory ran out. But for the sink's
--- failure nothing is written
+-- finish it, where places are executed; a call of the sink failed, and exactly the first bytes of the text are out; or memory
+-- ran out. But for the sink's failure nothing is written
 abbrev pub AskFailsBy : Query → Fault → Devices → Devices → Type 0
 AskFailsBy asked (fault.Feed found) old new =
     Refuses found old.source new.source × IsUntouched old.sink new.sink
@@ -214,7 +224,7 @@ AskFailsBy asked (fault.Equivocation round author first second) old new =
     NothingFailed old new
     × IfKnown old.source (λ bytes. IsStopped bytes (fault.Equivocation round author first second))
 AskFailsBy asked (fault.Unfinished place) old new =
-    NothingFailed old new × IfKnown old.source (λ bytes. HasPlace bytes place)
+    (executes asked ≡ true) × NothingFailed old new × IfKnown old.source (λ bytes. HasPlace bytes place)
 AskFailsBy asked (fault.Write written) old new =
     Works old.source new.source × Fails old.sink new.sink
     × IfKnown old.source (PartOfReplyIsOut asked written old.sink new.sink)

@@ -6,6 +6,7 @@ ghost use Rattle.bk_follow.specs.Follower.{unfed};
 ghost use Rattle.bk_ask.specs.Asking.{IsReplied, AskFailsBy, can_reply};
 ghost use Rattle.bk_ask.specs.private.Replies.{FollowerReplies, FollowerReplyFails};
 
+use crate::ordered::{show_ordered, view_of};
 use crate::replying::reply_closed;
 use bk_follow::Follower;
 use bk_frames::{PIECE, Sink, Source};
@@ -22,18 +23,27 @@ fn close_and_reply<R: Threads + Wait + Sync, G: Gate + Sync, K: Sink>(
     follower: &mut Follower,
     gate: &G,
     sink: &mut K,
-    query: Query,
+    query: &Query,
 ) -> Result<Reply, Fault>
     requires sound { CanBeUsed (K.state sink.old) }
     requires works { follower.old.fault ≡ None }
-    ensures reply { IfOk result (FollowerReplies query follower.old
+    ensures reply { IfOk result (FollowerReplies query.now follower.old
         (K.state sink.old) (K.state sink.new)) }
-    ensures fault { IfErr result (FollowerReplyFails query follower.old
+    ensures fault { IfErr result (FollowerReplyFails query.now follower.old
         (K.state sink.old) (K.state sink.new)) }
 {
-    follower.close(rt, gate)?;
-    let reply = reply_closed(rt, alloc, sink, follower, query)?;
-    Ok(reply)
+    match view_of(query) {
+        Some(view) => {
+            follower.close_order()?;
+            show_ordered(alloc, sink, follower, view)?;
+            Ok(Reply::Found)
+        }
+        None => {
+            follower.close(rt, gate)?;
+            let reply = reply_closed(rt, alloc, sink, follower, query)?;
+            Ok(reply)
+        }
+    }
 }
 
 // Follows all that a source has, and replies.
@@ -45,7 +55,7 @@ fn follow_and_reply<R: Threads + Wait + Sync, S: Source, K: Sink, G: Gate + Sync
     piece: &mut [u8],
     follower: &mut Follower,
     gate: &G,
-    query: Query,
+    query: &Query,
 ) -> Result<Reply, Fault>
     requires some { 0 < length piece.old }
     requires few { length piece.old ≤ PIECE }
@@ -53,11 +63,11 @@ fn follow_and_reply<R: Threads + Wait + Sync, S: Source, K: Sink, G: Gate + Sync
     requires source { CanBeUsed (S.state source.old) }
     requires sink { CanBeUsed (K.state sink.old) }
     ensures reply { IfOk result (λ r. IfKnown (S.state source.old) (λ bytes.
-        IsReplied query r bytes (K.state sink.old) (K.state sink.new))) }
-    ensures kind { IfOk result (λ r. can_reply query r ≡ true) }
+        IsReplied query.now r bytes (K.state sink.old) (K.state sink.new))) }
+    ensures kind { IfOk result (λ r. can_reply query.now r ≡ true) }
     ensures sound { OnOk result (Works (S.state source.old) (S.state source.new)
         × Works (K.state sink.old) (K.state sink.new)) }
-    ensures fault { IfErr result (λ f. AskFailsBy query f
+    ensures fault { IfErr result (λ f. AskFailsBy query.now f
         (devices (S.state source.old) (K.state sink.old))
         (devices (S.state source.new) (K.state sink.new))) }
 {
@@ -66,10 +76,10 @@ fn follow_and_reply<R: Threads + Wait + Sync, S: Source, K: Sink, G: Gate + Sync
     Ok(reply)
 }
 
-/// Reads a feed, executes the batches of its order on this many workers, 1 to 64, and writes the text of the reply to
-/// a query: the `anchor` and `cert` lines of the order; the line of an account or of a transaction; the text of a
-/// proof; the verdict on a digest of the state, `state good`, or `state bad` and the `state` line of the right one; a
-/// line for the anchor of each odd round; or the statement of an account.
+/// Reads a feed and writes the text of the reply to a query: the `anchor` and `cert` lines of the order, or a line for
+/// the anchor of each odd round; or, after executing the batches of the order on at most this many workers, 1 to 64, the
+/// line of an account or of a transaction, the text of a proof, the verdict on a digest of the state, `state good`, or
+/// `state bad` and the `state` line of the right one, or the statement of an account.
 ///
 /// Where the order stops at a batch that the feed does not hold, the reply is of what comes before it. The whole feed
 /// is read before anything is written. With `Absent`, and with every fault but `Write`, nothing is written.
@@ -96,7 +106,7 @@ pub fn ask<R: Threads + Wait + Sync, S: Source, K: Sink, G: Gate + Sync>(
 {
     let mut piece = vec![in alloc; 0u8; PIECE]?;
     let mut follower = Follower::new(alloc, workers);
-    follow_and_reply(
+    let reply = follow_and_reply(
         rt,
         alloc,
         source,
@@ -104,6 +114,8 @@ pub fn ask<R: Threads + Wait + Sync, S: Source, K: Sink, G: Gate + Sync>(
         piece.as_mut_slice(),
         &mut follower,
         gate,
-        query,
-    )
+        &query,
+    );
+    follower.discard();
+    reply
 }

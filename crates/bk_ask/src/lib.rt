@@ -2,6 +2,7 @@
 #![tactic(auto)]
 
 mod asking;
+mod ordered;
 mod replying;
 
 pub use asking::ask;

@@ -1,76 +1,31 @@
-//! What a feed that was closed replies to a query.
+//! What a feed that was closed replies to a query for which its batches are executed.
 
-ghost use Rattle.std.specs.Prelude.{◌≡◌, ◌^◌, ◌<◌, ◌++◌, ◌∷◌, [], List, false, length, None, OnOk, IfOk, IfErr, IfSome, MatchOption, slice_get, string_bytes};
+ghost use Rattle.std.specs.Prelude.{◌≡◌, ◌∷◌, [], List, true, false, None, IfOk, IfErr, IfSome, MatchOption, slice_get, string_bytes};
 ghost use Rattle.bk_frames.specs.Device.{CanBeUsed};
-ghost use Rattle.bk_frames.specs.Writing.{Writes};
 ghost use Rattle.bk_frames.specs.declared.genesis.Row.{Row};
-ghost use Rattle.bk_committee.specs.Payload.{sizes_of};
-ghost use Rattle.bk_cert.specs.Node.{Node};
-ghost use Rattle.bk_commit.specs.Ordering.{IsCommitted};
 ghost use Rattle.bk_rules.specs.Rows.{account_at};
 ghost use Rattle.bk_views.specs.Statement.{IsNowhere, IsStatement};
 ghost use Rattle.bk_views.specs.Told.{IsRun};
-ghost use Rattle.bk_ask.specs.Asking.{Replies, HasText, ShowsAccount, ShowsReceipt, ShowsProof, order_text};
+ghost use Rattle.bk_ask.specs.Asking.{Replies, HasText, ShowsAccount, ShowsReceipt, ShowsProof, executes};
 ghost use Rattle.bk_report.specs.Leaves.{state_of};
 ghost use Rattle.bk_report.specs.Lines.{text_of};
 ghost use Rattle.bk_report.specs.declared.line.Line.TheVariants as line;
 ghost use Rattle.bk_results.specs.declared.query.Query.TheVariants as asked;
 ghost use Rattle.bk_report.specs.Proofs.{IsAbsent};
-ghost use Rattle.bk_report.specs.RunLines.{anchor_lines, cert_lines};
-ghost use Rattle.bk_report.specs.Pages.{Written, blank};
-ghost use Rattle.bk_ask.specs.private.Replies.{ShowsRows, TextFails, IsTextOf, course_in, ending_of};
-ghost use Rattle.bk_ask.specs.private.Replies.{IsOfClosed, WritesFound, WritesReply, WritesSome, BookReplies, BookReplyFails};
+ghost use Rattle.bk_ask.specs.private.Replies.{TextFails, IsTextOf, course_in, ending_of};
+ghost use Rattle.bk_ask.specs.private.Replies.{IsOfClosed, WritesFound, WritesReply, BookReplies, BookReplyFails};
 
-use bk_cert::CertRef;
 use bk_digest::{Digest32, tree_root_with};
 use bk_follow::Follower;
-use bk_frames::{Row, Sink, WriteFault, push_all};
+use bk_frames::{Row, Sink, push_all};
 use bk_ledger::Ledger;
 use bk_order::Intake;
-use bk_report::{Line, Page, leaves_of, proof_of, push_line, put_anchors, put_certs};
+use bk_report::{Line, leaves_of, proof_of, push_line};
 use bk_results::{Fault, Query, Reply};
-use bk_rounds::Rounds;
 use bk_rules::{Account, Receipt};
-use bk_views::{Statement, anchor_rows, push_rows};
+use bk_views::Statement;
 use std::alloc::{AllocError, Global};
 use std::thread::Threads;
-
-// ---- an order
-
-// Puts the anchors and the certificates in order, a page at a time.
-fn put_order<K: Sink>(
-    sink: &mut K,
-    page: &mut Page,
-    anchors: &[CertRef],
-    order: &[CertRef],
-) -> Result<(), WriteFault>
-    requires sound { CanBeUsed (K.state sink.old) }
-    requires anchors { length anchors.now < 2 ^ 32 }
-    requires order { length order.now < 2 ^ 32 }
-    requires blank { page.old ≡ blank }
-    ensures written { Written result (K.state sink.old) (K.state sink.new) page.old page.new
-        (text_of (anchor_lines anchors.now ++ cert_lines order.now)) }
-    ensures empty { OnOk result (page.new.bytes ≡ []) }
-{
-    put_anchors(sink, page, anchors)?;
-    put_certs(sink, page, order)?;
-    page.flush(sink)
-}
-
-// Writes them.
-fn write_order<K: Sink>(alloc: Global, sink: &mut K, intake: &Intake) -> Result<(), Fault>
-    requires sound { CanBeUsed (K.state sink.old) }
-    requires anchors { length intake.now.ordered.anchors < 2 ^ 32 }
-    requires order { length intake.now.ordered.order < 2 ^ 32 }
-    ensures out { OnOk result (Writes (order_text intake.now.ordered)
-        (K.state sink.old) (K.state sink.new)) }
-    ensures fault { IfErr result (TextFails (λ text. text ≡ order_text intake.now.ordered)
-        (K.state sink.old) (K.state sink.new)) }
-{
-    let mut page = Page::new(alloc)?;
-    put_order(sink, &mut page, intake.anchors(), intake.order())?;
-    Ok(())
-}
 
 // ---- an account, a receipt, a proof or a digest
 
@@ -170,8 +125,8 @@ fn verdict<R: Threads + Sync>(
     ledger: &Ledger,
     root: Digest32,
 ) -> Result<(Reply, Vec<u8>), AllocError>
-    ensures { IfOk result (λ v. (certs : List Node) (opening : List Row) →
-        Replies (asked.State root) (ending_of intake.now certs opening ledger.now) v.0 v.1.items) }
+    ensures { IfOk result (λ v. (opening : List Row) →
+        Replies (asked.State root) (ending_of intake.now opening ledger.now) v.0 v.1.items) }
 {
     let digest = state_digest(rt, alloc, ledger)?;
     if root != digest {
@@ -194,11 +149,11 @@ fn write_verdict<R: Threads + Sync, K: Sink>(
     root: Digest32,
 ) -> Result<Reply, Fault>
     requires sound { CanBeUsed (K.state sink.old) }
-    ensures reply { IfOk result (λ r. (certs : List Node) (opening : List Row) →
-        WritesReply (asked.State root) (ending_of intake.now certs opening ledger.now)
+    ensures reply { IfOk result (λ r. (opening : List Row) →
+        WritesReply (asked.State root) (ending_of intake.now opening ledger.now)
         (K.state sink.old) (K.state sink.new) r) }
-    ensures fault { IfErr result (λ f. (certs : List Node) (opening : List Row) →
-        TextFails (HasText (asked.State root) (ending_of intake.now certs opening ledger.now))
+    ensures fault { IfErr result (λ f. (opening : List Row) →
+        TextFails (HasText (asked.State root) (ending_of intake.now opening ledger.now))
         (K.state sink.old) (K.state sink.new) f) }
 {
     let (reply, text) = verdict(rt, alloc, intake, ledger, root)?;
@@ -218,36 +173,6 @@ fn write_found<K: Sink>(sink: &mut K, found: Option<Vec<u8>>) -> Result<Reply, F
     };
     push_all(sink, &text)?;
     Ok(Reply::Found)
-}
-
-// The text of the rows of the anchors.
-fn anchors_text(alloc: Global, intake: &Intake, rounds: &Rounds) -> Result<String, AllocError>
-    requires { IsCommitted rounds.now.sizes rounds.now.held intake.now.ordered.anchors }
-    ensures { IfOk result (λ text. ShowsRows rounds.now intake.now (string_bytes text)) }
-{
-    let rows = anchor_rows(alloc, rounds, intake.anchors())?;
-    let mut text = String::new(alloc);
-    push_rows(&mut text, &rows)?;
-    Ok(text)
-}
-
-// Writes it.
-fn write_anchors<K: Sink>(
-    alloc: Global,
-    sink: &mut K,
-    intake: &Intake,
-    rounds: &Rounds,
-) -> Result<(), Fault>
-    requires sound { CanBeUsed (K.state sink.old) }
-    requires committed { IsCommitted rounds.now.sizes rounds.now.held intake.now.ordered.anchors }
-    ensures out { OnOk result (WritesSome (ShowsRows rounds.now intake.now)
-        (K.state sink.old) (K.state sink.new)) }
-    ensures fault { IfErr result (TextFails (ShowsRows rounds.now intake.now)
-        (K.state sink.old) (K.state sink.new)) }
-{
-    let text = anchors_text(alloc, intake, rounds)?;
-    push_all(sink, text.as_bytes())?;
-    Ok(())
 }
 
 // The statement of the account with this id, where it is somewhere.
@@ -284,12 +209,11 @@ fn write_statement<K: Sink>(
     requires sound { CanBeUsed (K.state sink.old) }
     requires open { intake.now.failed ≡ false }
     requires run { IsRun (course_in intake.now opening.now ledger.now) ledger.now.receipts }
-    ensures reply { IfOk result (λ r. (certs : List Node) → WritesReply (asked.Statement id)
-        (ending_of intake.now certs opening.now ledger.now)
-        (K.state sink.old) (K.state sink.new) r) }
-    ensures fault { IfErr result (λ f. (certs : List Node) → TextFails
-        (HasText (asked.Statement id) (ending_of intake.now certs opening.now ledger.now))
-        (K.state sink.old) (K.state sink.new) f) }
+    ensures reply { IfOk result (WritesReply (asked.Statement id)
+        (ending_of intake.now opening.now ledger.now) (K.state sink.old) (K.state sink.new)) }
+    ensures fault { IfErr result (TextFails
+        (HasText (asked.Statement id) (ending_of intake.now opening.now ledger.now))
+        (K.state sink.old) (K.state sink.new)) }
 {
     let Some(text) = statement_of(alloc, intake, opening, ledger, id)? else {
         return Ok(Reply::Absent);
@@ -307,30 +231,21 @@ fn write_reply<R: Threads + Sync, K: Sink>(
     alloc: Global,
     sink: &mut K,
     intake: &Intake,
-    rounds: &Rounds,
     opening: &[Row],
     ledger: &Ledger,
-    query: Query,
+    query: &Query,
 ) -> Result<Reply, Fault>
     requires sound { CanBeUsed (K.state sink.old) }
-    requires anchors { length intake.now.ordered.anchors < 2 ^ 32 }
-    requires order { length intake.now.ordered.order < 2 ^ 32 }
+    requires executes { executes query.now ≡ true }
     requires open { intake.now.failed ≡ false }
-    requires sizes { rounds.now.sizes ≡ sizes_of intake.now.committee }
-    requires committed { IsCommitted rounds.now.sizes rounds.now.held intake.now.ordered.anchors }
     requires run { IsRun (course_in intake.now opening.now ledger.now) ledger.now.receipts }
-    ensures reply { IfOk result (WritesReply query
-        (ending_of intake.now rounds.now.held opening.now ledger.now)
-        (K.state sink.old) (K.state sink.new)) }
+    ensures reply { IfOk result (WritesReply query.now
+        (ending_of intake.now opening.now ledger.now) (K.state sink.old) (K.state sink.new)) }
     ensures fault { IfErr result (TextFails
-        (HasText query (ending_of intake.now rounds.now.held opening.now ledger.now))
+        (HasText query.now (ending_of intake.now opening.now ledger.now))
         (K.state sink.old) (K.state sink.new)) }
 {
-    match query {
-        Query::Order => {
-            write_order(alloc, sink, intake)?;
-            Ok(Reply::Found)
-        }
+    match *query {
         Query::Account { id } => {
             let found = account_text(alloc, ledger, id)?;
             let reply = write_found(sink, found)?;
@@ -350,14 +265,11 @@ fn write_reply<R: Threads + Sync, K: Sink>(
             let reply = write_verdict(rt, alloc, sink, intake, ledger, root)?;
             Ok(reply)
         }
-        Query::Anchors => {
-            write_anchors(alloc, sink, intake, rounds)?;
-            Ok(Reply::Found)
-        }
         Query::Statement { id } => {
             let reply = write_statement(alloc, sink, intake, opening, ledger, id)?;
             Ok(reply)
         }
+        Query::Order | Query::Anchors => unreachable!(),
     }
 }
 
@@ -367,14 +279,15 @@ pub(crate) fn reply_closed<R: Threads + Sync, K: Sink>(
     alloc: Global,
     sink: &mut K,
     follower: &Follower,
-    query: Query,
+    query: &Query,
 ) -> Result<Reply, Fault>
     requires sound { CanBeUsed (K.state sink.old) }
+    requires executes { executes query.now ≡ true }
     requires current { IsOfClosed follower.now.book }
     ensures reply { IfOk result (λ r. IfSome follower.now.book (λ b.
-        BookReplies query b (K.state sink.old) (K.state sink.new) r)) }
+        BookReplies query.now b (K.state sink.old) (K.state sink.new) r)) }
     ensures fault { IfErr result (λ f. IfSome follower.now.book (λ b.
-        BookReplyFails query b (K.state sink.old) (K.state sink.new) f)) }
+        BookReplyFails query.now b (K.state sink.old) (K.state sink.new) f)) }
 {
     let Some(intake) = follower.intake() else {
         unreachable!()
@@ -382,8 +295,7 @@ pub(crate) fn reply_closed<R: Threads + Sync, K: Sink>(
     let Some(ledger) = follower.ledger() else {
         unreachable!()
     };
-    let rounds = intake.rounds();
     let opening = follower.opening();
-    let reply = write_reply(rt, alloc, sink, intake, rounds, opening, ledger, query)?;
+    let reply = write_reply(rt, alloc, sink, intake, opening, ledger, query)?;
     Ok(reply)
 }

@@ -6,12 +6,12 @@ use Rattle.bk_frames.specs.Device.{Device, Works, Fails, Receives}
 use Rattle.bk_frames.specs.declared.genesis.Row.{Row}
 use Rattle.bk_frames.specs.Feed.{FeedValue, IsFeed}
 use Rattle.bk_frames.specs.Writing.{Writes}
-use Rattle.bk_cert.specs.Node.{Node}
 use Rattle.bk_order.specs.Intake.{Taken}
 use Rattle.bk_results.specs.declared.fault.Fault.{Fault}
 use Rattle.bk_results.specs.declared.fault.Fault.TheVariants as fault
 use Rattle.bk_ledger.specs.Ledger.{LedgerValue}
 use Rattle.bk_results.specs.declared.query.Query.{Query}
+use Rattle.bk_results.specs.declared.query.Query.TheVariants as query
 use Rattle.bk_results.specs.declared.query.Reply.{Reply}
 use Rattle.bk_results.specs.declared.query.Reply.TheVariants as reply
 use Rattle.bk_results.specs.Devices.{IsUntouched}
@@ -20,18 +20,21 @@ use Rattle.bk_tx.specs.Batches.{transactions_of}
 use Rattle.bk_views.specs.Anchors.{AreRows, rows_text}
 use Rattle.bk_views.specs.Statement.{Course}
 use Rattle.bk_views.specs.declared.anchors.AnchorRow.{AnchorRow}
-use Rattle.bk_ask.specs.Asking.{Ending, Replies, IsReplyOf, can_reply}
+use Rattle.bk_ask.specs.Asking.{Ending, Replies, IsReplyOf, can_reply, executes, order_text}
+use Rattle.bk_ask.specs.declared.ordered.View.{View}
+use Rattle.bk_ask.specs.declared.ordered.View.TheVariants as view
 use Rattle.bk_follow.specs.Finishing.{OfFeed}
 use Rattle.bk_follow.specs.Follower.{BookValue, Followed, IsCurrent}
+use Rattle.bk_follow.specs.Ordering.{IsOrdered}
 use Rattle.bk_follow.specs.RunReport.{IsStopIn, HasPlaceIn}
 
 -- what was taken, executed and opened
-abbrev pub ending_of : Taken → List Node → List Row → LedgerValue → Ending
-ending_of taken certs opening l = record {
+abbrev pub ending_of : Taken → List Row → LedgerValue → Ending
+ending_of taken opening l = record {
   version = l.state.version;
   committee = taken.committee;
   opening = opening;
-  certs = certs;
+  certs = taken.kept.certs;
   outcome = record { ordered = taken.ordered; receipts = l.receipts; rows = l.state.rows };
 }
 
@@ -40,10 +43,25 @@ abbrev pub course_in : Taken → List Row → LedgerValue → Course
 course_in taken opening l =
     record { version = l.state.version; opening = opening; txs = transactions_of taken.ordered.payloads.list }
 
+-- the query of a view
+abbrev pub asked_by : View → Query
+asked_by view.Order = query.Order
+asked_by view.Anchors = query.Anchors
+
 -- a text is that of the rows of the anchors that were taken
 abbrev pub ShowsRows : RoundsValue → Taken → List ℕ → Type 0
 ShowsRows rounds taken text =
     (rows : List AnchorRow) × AreRows rounds.sizes rounds.held taken.ordered.anchors rows × (text ≡ rows_text rows)
+
+-- a text is that of a view of what was taken
+abbrev pub ShowsView : View → RoundsValue → Taken → List ℕ → Type 0
+ShowsView view.Order rounds taken text = text ≡ order_text taken.ordered
+ShowsView view.Anchors rounds taken text = ShowsRows rounds taken text
+
+-- the order of a feed was closed, and this is made of its frames
+abbrev pub IsOfOrdered : Option BookValue → Type 0
+IsOfOrdered book =
+    (feed : FeedValue) × IsFeed feed × (b : BookValue) × (book ≡ Some b) × IsOrdered feed b
 
 -- a feed was closed, and this is made of its frames
 abbrev pub IsOfClosed : Option BookValue → Type 0
@@ -108,6 +126,21 @@ BookReplyFails asked b old new (fault.Write written) =
     ((feed : FeedValue) → IsFeed feed → IsCurrent feed b → ReplyStops feed asked written old new) × Fails old new
 BookReplyFails asked b old new fault.Memory = IsUntouched old new
 
+-- a view of a book that is ordered was written
+abbrev pub BookShows : Query → BookValue → Device → Device → Type 0
+BookShows asked b old new =
+    ((feed : FeedValue) → IsFeed feed → IsOrdered feed b → ReplyIsOut feed asked reply.Found old new) × Works old new
+
+-- why it was not, and how much of it is out
+abbrev pub BookShowsNot : Query → BookValue → Device → Device → Fault → Type 0
+BookShowsNot asked b old new (fault.Feed found) = ⊥
+BookShowsNot asked b old new (fault.Collision id) = ⊥
+BookShowsNot asked b old new (fault.Equivocation round author first second) = ⊥
+BookShowsNot asked b old new (fault.Unfinished place) = ⊥
+BookShowsNot asked b old new (fault.Write written) =
+    ((feed : FeedValue) → IsFeed feed → IsOrdered feed b → ReplyStops feed asked written old new) × Fails old new
+BookShowsNot asked b old new fault.Memory = IsUntouched old new
+
 -- a Follower replied at the end of its feed
 abbrev pub FollowerReplies : Query → Followed → Device → Device → Reply → Type 0
 FollowerReplies asked v old new answer =
@@ -121,7 +154,7 @@ FollowerReplyFails asked v old new (fault.Collision id) =
 FollowerReplyFails asked v old new (fault.Equivocation round author first second) =
     OfFeed v (λ feed. IsStopIn feed (fault.Equivocation round author first second)) × IsUntouched old new
 FollowerReplyFails asked v old new (fault.Unfinished place) =
-    OfFeed v (λ feed. HasPlaceIn feed place) × IsUntouched old new
+    (executes asked ≡ true) × OfFeed v (λ feed. HasPlaceIn feed place) × IsUntouched old new
 FollowerReplyFails asked v old new (fault.Write written) =
     OfFeed v (λ feed. ReplyStops feed asked written old new) × Fails old new
 FollowerReplyFails asked v old new fault.Memory = IsUntouched old new

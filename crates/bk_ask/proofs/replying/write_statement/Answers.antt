@@ -19,21 +19,21 @@ returns-in_err-push_all-clause-fault g c =
     let new = g.K.Sink.state c.push_all.new.sink in
     let stops : TextFails (λ t. t ≡ c.as_bytes.result.now) old new (fault.Write c.in_err-push_all.field-0.0.written) =
     (c.as_bytes.result.now, refl, c.in_err-push_all.ensures.fault.short, c.in_err-push_all.ensures.fault.out, c.in_err-push_all.ensures.fault.fails) in
-    rw (p.1, p.2) (λ certs. statement_stops (ending_of c.args.intake.now certs c.args.opening.now c.args.ledger.now) c.args.id c.as_bytes.result.now old new
+    rw (p.1, p.2) (statement_stops (ending_of c.args.intake.now c.args.opening.now c.args.ledger.now) c.args.id c.as_bytes.result.now old new
     (fault.Write c.in_err-push_all.field-0.0.written) text stops)
 
 pub returns-in-Some-missing-clause-reply : goal.returns-in-Some-missing-clause-reply
-returns-in-Some-missing-clause-reply g c = λ certs.
+returns-in-Some-missing-clause-reply g c =
     let run = course_in c.args.intake.now c.args.opening.now c.args.ledger.now in
     let is = subst (λ (o : Option _). MatchOption o (IsNowhere run c.args.id) (λ t. IsStatement run c.args.id (string_bytes t))) c.in-Some.is c.in_ok-text.ensures in
     let text = subst (λ (t : List ℕ). IsStatement run c.args.id t) (sym c.as_bytes.ensures.value) is in
-    statement_short (ending_of c.args.intake.now certs c.args.opening.now c.args.ledger.now) c.args.id c.as_bytes.result.now _ _ _ text
+    statement_short (ending_of c.args.intake.now c.args.opening.now c.args.ledger.now) c.args.id c.as_bytes.result.now _ _ _ text
     (sym c.missing.ensures ∙ ap option_copied c.in-Some-missing.is) c.in_ok-push_all.ensures.ok
 
 pub returns-clause-reply : goal.returns-clause-reply
-returns-clause-reply g c = λ certs.
+returns-clause-reply g c =
     let run = course_in c.args.intake.now c.args.opening.now c.args.ledger.now in
     let is = subst (λ (o : Option _). MatchOption o (IsNowhere run c.args.id) (λ t. IsStatement run c.args.id (string_bytes t))) c.in-Some.is c.in_ok-text.ensures in
     let text = subst (λ (t : List ℕ). IsStatement run c.args.id t) (sym c.as_bytes.ensures.value) is in
-    statement_found (ending_of c.args.intake.now certs c.args.opening.now c.args.ledger.now) c.args.id c.as_bytes.result.now _ _ text
+    statement_found (ending_of c.args.intake.now c.args.opening.now c.args.ledger.now) c.args.id c.as_bytes.result.now _ _ text
     (sym c.missing.ensures ∙ ap option_copied c.in-None.is) c.in_ok-push_all.ensures.ok

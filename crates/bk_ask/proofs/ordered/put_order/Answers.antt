@@ -4,7 +4,7 @@ use Rattle.bk_report.specs.Lines.{text_of}
 use Rattle.bk_report.specs.RunLines.{anchor_lines, cert_lines}
 use Rattle.bk_report.proofs.Putting.{written_last}
 use Rattle.bk_report.proofs.LineGroups.{groups_put, group_stops, stops_before}
-use Rattle.bk_ask.proofs.replying.put_order.Goals as goal
+use Rattle.bk_ask.proofs.ordered.put_order.Goals as goal
 
 pub returns-in_err-put_anchors-clause-written : goal.returns-in_err-put_anchors-clause-written
 returns-in_err-put_anchors-clause-written g c =
