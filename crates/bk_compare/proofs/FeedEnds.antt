@@ -1,5 +1,5 @@
 -- Where feeds end that are followed, and whether two of them agree.
-use Rattle.std.proofs.Common.{◌≡◌, ℕ, ◌+◌, ◌≤◌, true, false, List, length, Option, Some, None, refl, sym, ap, subst, ◌∙◌, ◌⊎◌, inl, inr, ⊎_elim, arith}
+use Rattle.std.proofs.Common.{◌≡◌, ℕ, true, false, List, Option, Some, None, sym, ap, subst, ◌∙◌, ◌⊎◌, inl, inr, ⊎_elim}
 use Rattle.std.specs.Prelude.{IfSome, IfOk, IfErr, OnOk, Result, Ok, Err}
 use Rattle.std.proofs.lemmas.List.Elements.{Contains-append_left, Contains-append_right}
 use Rattle.bk_frames.specs.declared.kind.Kind.TheVariants as kind
@@ -22,19 +22,18 @@ use Rattle.bk_results.specs.declared.differ.Differ.{Differ}
 use Rattle.bk_results.specs.declared.differ.Differ.TheVariants as differ
 use Rattle.bk_results.specs.declared.fault.Fault.{Fault}
 use Rattle.bk_results.specs.declared.fault.Fault.TheVariants as fault
-use Rattle.bk_results.specs.declared.status.Status.{Status}
 use Rattle.bk_follow.specs.Agreement.{HaveOneSetup, frames_together, HaveNoStop, HaveStop, settled_in, OfBoth, FollowersAgree, FollowersDiffer}
 use Rattle.bk_results.specs.Devices.{AreFeed}
 use Rattle.bk_follow.specs.Outcomes.{IsOutcomeOf}
 use Rattle.bk_compare.specs.FeedAgreement.{FeedsAgree, FeedsDiffer, OfTheirFeeds, IfBothKnown, BothWork, FollowFails, ComparesNot, sources}
 use Rattle.bk_follow.specs.Finishing.{OfFeed, Closes, CloseFails}
-use Rattle.bk_follow.specs.Follower.{BookValue, Followed, IsCurrent, IsSettledBy, HasCome, receipts_of_executed}
+use Rattle.bk_follow.specs.Follower.{BookValue, Followed, IsCurrent, receipts_of_executed}
 use Rattle.bk_follow.specs.Queries.{rows_of_executed}
 use Rattle.bk_follow.specs.Replaying.{AllHasCome, ReadFails}
 use Rattle.bk_follow.specs.RunReport.{committee_in, later_frames, IsStopIn, HasPlaceIn, HasPlace}
 use Rattle.bk_compare.specs.private.Ends.{HasStopIn, HasEnded, Ends, EndsNot, AgreesWith, ComparesNotWith, IsDifferOf}
 use Rattle.bk_follow.specs.Stopping.{stops}
-use Rattle.bk_follow.proofs.ComparedBooks.{unopened, version_is}
+use Rattle.bk_follow.proofs.ComparedBooks.{version_is}
 use Rattle.bk_follow.proofs.RunAnswers.{of_known, of_feed, cut_short}
 
 -- ---- one feed

@@ -168,8 +168,10 @@ pub fn compare<R: Threads + Wait + Sync, S: Source, T: Source, G: Gate + Sync>(
         (sources (S.state first.old) (T.state second.old))
         (sources (S.state first.new) (T.state second.new))) }
 {
-    // The one function that owns Followers: where a value of this size is dropped costs proof.
     let mut one = Follower::new(alloc, workers);
     let mut other = Follower::new(alloc, workers);
-    compare_both(rt, alloc, first, second, &mut one, &mut other, gate)
+    let agreed = compare_both(rt, alloc, first, second, &mut one, &mut other, gate);
+    one.discard();
+    other.discard();
+    agreed
 }
