@@ -1,0 +1,3 @@
+pub mod LineParts
+pub mod Findings
+pub mod Judged

@@ -1,0 +1,15 @@
+use Rattle.std.proofs.Common.{◌-◌, ◌<◌, ◌≤◌, length}
+use Rattle.bk_frames.specs.Device.{Works}
+use Rattle.bk_claim.specs.private.Finding.{Leads}
+use Rattle.bk_claim.proofs.comparing.finish_line.Given as goal
+
+abbrev pub invariant-pieces : goal.invariant-pieces
+invariant-pieces g l = record {
+  works : Works (g.S.Source.state l.fn.claimed) (g.S.Source.state l.claimed);
+  some : 0 < length l.piece;
+  short : length l.line.items ≤ 200;
+  leads : Leads (g.S.Source.state l.fn.claimed).bytes (g.S.Source.state l.claimed).bytes l.fn.line.items l.line.items;
+}
+
+abbrev pub decreases-pieces : goal.decreases-pieces
+decreases-pieces g l = 200 - length l.line.items

@@ -1,0 +1,118 @@
+//! The verdict on a claim, from the bytes of a feed to the text.
+
+ghost use Rattle.std.specs.Prelude.{◌≡◌, ◌≤◌, ℕ, List, IfOk, IfErr, OnOk};
+ghost use Rattle.bk_claim.specs.Claims.{AllWork, ClaimFailsBy, IfBothKnown, ShowsVerdict, VerdictIsOut, claim_devices, good};
+ghost use Rattle.bk_claim.specs.private.Judging.{HoldFailsBy, JudgeFailsBy, ShownIsOut};
+ghost use Rattle.bk_follow.specs.RunReport.{IsReport};
+ghost use Rattle.bk_frames.specs.Device.{CanBeUsed, Works, IfKnown};
+ghost use Rattle.bk_results.specs.Devices.{devices};
+
+use crate::comparing::compare_claim;
+use crate::verdict::{ClaimStop, Verdict};
+use crate::wording::found_text;
+use bk_follow::replay;
+use bk_frames::{Counted, Sink, Source, push_all};
+use bk_pool::Gate;
+use bk_results::{Fault, Status};
+use std::alloc::Global;
+use std::sync::Wait;
+use std::thread::Threads;
+
+// Holds the report of a feed in memory.
+fn hold_report<R: Threads + Wait + Sync, S: Source, G: Gate + Sync>(
+    rt: &R,
+    alloc: Global,
+    feed: &mut S,
+    workers: usize,
+    gate: &G,
+) -> Result<(Vec<u8>, Status), Fault>
+    requires feed { CanBeUsed (S.state feed.old) }
+    requires workers { (1 ≤ workers) × (workers ≤ 64) }
+    ensures report { IfOk result (λ r. IfKnown (S.state feed.old)
+        (λ bytes. IsReport bytes r.0.items r.1)) }
+    ensures works { OnOk result (Works (S.state feed.old) (S.state feed.new)) }
+    ensures fault { IfErr result (λ f. HoldFailsBy f (S.state feed.old) (S.state feed.new)) }
+{
+    let mut held = Counted::new(Vec::new(alloc));
+    match replay(rt, alloc, feed, &mut held, workers, gate) {
+        Ok(status) => Ok((held.into_inner(), status)),
+        // Memory takes all that there is room for.
+        Err(Fault::Write { .. }) => Err(Fault::Memory),
+        Err(fault) => Err(fault),
+    }
+}
+
+// The verdict on a claim that is the report.
+fn good(status: Status) -> Verdict
+    ensures { (right : List ℕ) → ShowsVerdict right right status result good }
+{
+    match status {
+        Status::Whole => Verdict::Good,
+        Status::Missing => Verdict::Short,
+    }
+}
+
+// Writes the verdict on a claim beside the report.
+fn judge<S: Source, K: Sink>(
+    alloc: Global,
+    right: &[u8],
+    status: Status,
+    claimed: &mut S,
+    sink: &mut K,
+) -> Result<Verdict, ClaimStop>
+    requires claimed { CanBeUsed (S.state claimed.old) }
+    requires sink { CanBeUsed (K.state sink.old) }
+    ensures shown { IfOk result (λ v. IfKnown (S.state claimed.old)
+        (ShownIsOut right.now status v (K.state sink.old) (K.state sink.new))) }
+    ensures works { OnOk result (Works (S.state claimed.old) (S.state claimed.new)
+        × Works (K.state sink.old) (K.state sink.new)) }
+    ensures stop { IfErr result (λ e. JudgeFailsBy right.now status e
+        (devices (S.state claimed.old) (K.state sink.old))
+        (devices (S.state claimed.new) (K.state sink.new))) }
+{
+    match compare_claim(alloc, right, claimed)? {
+        Some(found) => {
+            let text = found_text(alloc, right, &found)?;
+            push_all(sink, &text)?;
+            Ok(Verdict::Differs)
+        }
+        None => {
+            push_all(sink, b"report good\n")?;
+            Ok(good(status))
+        }
+    }
+}
+
+/// Reads a feed, executes the batches of its order on this many workers, 1 to 64, and compares its report byte for byte
+/// with what is claimed to be the report. Writes the verdict: `report good`; or `report differs at line N`, and what
+/// both have there.
+///
+/// The feed's report is held in memory. The claim is not: it is read in pieces, and no further than to the first line
+/// that differs or that is shown. Nothing is read of it before the feed is found to have a report. The whole verdict is
+/// known before anything is written, and with every stop but `Run(Fault::Write)` nothing is written.
+pub fn check_report<R: Threads + Wait + Sync, S1: Source, S2: Source, K: Sink, G: Gate + Sync>(
+    rt: &R,
+    alloc: Global,
+    feed: &mut S1,
+    claimed: &mut S2,
+    sink: &mut K,
+    workers: usize,
+    gate: &G,
+) -> Result<Verdict, ClaimStop>
+    requires feed { CanBeUsed (S1.state feed.old) }
+    requires claimed { CanBeUsed (S2.state claimed.old) }
+    requires sink { CanBeUsed (K.state sink.old) }
+    requires workers { (1 ≤ workers) × (workers ≤ 64) }
+    ensures verdict { IfOk result (λ v. IfBothKnown
+        (claim_devices (S1.state feed.old) (S2.state claimed.old) (K.state sink.old))
+        (VerdictIsOut v (K.state sink.old) (K.state sink.new))) }
+    ensures work { OnOk result (AllWork
+        (claim_devices (S1.state feed.old) (S2.state claimed.old) (K.state sink.old))
+        (claim_devices (S1.state feed.new) (S2.state claimed.new) (K.state sink.new))) }
+    ensures stop { IfErr result (λ e. ClaimFailsBy e
+        (claim_devices (S1.state feed.old) (S2.state claimed.old) (K.state sink.old))
+        (claim_devices (S1.state feed.new) (S2.state claimed.new) (K.state sink.new))) }
+{
+    let (right, status) = hold_report(rt, alloc, feed, workers, gate)?;
+    judge(alloc, &right, status, claimed, sink)
+}
