@@ -1,4 +1,5 @@
-"""Reads the command line of `bkreplay` from its definition in crates/bk_cli/src: commands.rt, help.rt and verb.rt.
+"""Reads the command line of `bkreplay` from its definition in crates/bk_cli/src: commands.rt, help.rt, more_help.rt and
+verb.rt.
 
 The functions of commands.rt are evaluated as they are written: `let` statements, calls, and the methods in METHODS.
 Whatever else occurs there ends the script with a message.
@@ -37,8 +38,8 @@ def unquoted(text):
 
 
 def read_texts():
-    """The constants of help.rt: a text, or the two texts of a command."""
-    source = read(f"{SOURCE}/help.rt")
+    """The constants of help.rt and more_help.rt: a text, or the two texts of a command."""
+    source = read(f"{SOURCE}/help.rt") + read(f"{SOURCE}/more_help.rt")
     literal = r'"((?:[^"\\]|\\.)*)"'
     texts = {name: unquoted(text)
              for name, text in re.findall(rf"const (\w+): &str =\s*{literal};", source, re.DOTALL)}
@@ -47,7 +48,7 @@ def read_texts():
     texts |= {name: {"about": unquoted(about), "after": unquoted(after)} for name, about, after in helps}
     for name in re.findall(r"\bconst (\w+)", source):
         if name not in texts:
-            fail(f"{SOURCE}/help.rt: the constant {name} is neither a text nor a Help with about and after")
+            fail(f"{SOURCE}: the constant {name} is neither a text nor a Help with about and after")
     return texts
 
 
@@ -145,10 +146,11 @@ class Body:
             return self.variables[token]
         if token in ("true", "ArgAction::Set"):
             return token
-        if token.startswith("help::"):
-            if token[6:] not in self.source.texts:
-                fail(f"{SOURCE}/help.rt: the constant {token[6:]} is not there")
-            return self.source.texts[token[6:]]
+        if token.startswith(("help::", "more_help::")):
+            name = token.split("::")[1]
+            if name not in self.source.texts:
+                fail(f"{SOURCE}: the constant {name} is not there")
+            return self.source.texts[name]
         if token == "value_parser!":
             self.next("(")
             found = Built("Parser", self.next())
@@ -162,7 +164,7 @@ class Body:
 
 
 class Source:
-    """The functions of commands.rt, each with its parameters and its body, and the constants of help.rt."""
+    """The functions of commands.rt, each with its parameters and its body, and the constants of help.rt and more_help.rt."""
 
     def __init__(self):
         text = re.sub(r"^ *//.*\n", "", read(f"{SOURCE}/commands.rt"), flags=re.MULTILINE)

@@ -69,6 +69,10 @@ _bkreplay() {
         names='--workers --help'
         kinds=(none file)
         ;;
+    check-report)
+        names='--workers --help'
+        kinds=(file file)
+        ;;
     apply)
         names='--help'
         kinds=(file)
@@ -87,6 +91,7 @@ _bkreplay() {
     'run --workers') COMPREPLY=($(compgen -W '{1..64}' -- "$current")) ;;
     'statement --workers') COMPREPLY=($(compgen -W '{1..64}' -- "$current")) ;;
     'check-state --workers') COMPREPLY=($(compgen -W '{1..64}' -- "$current")) ;;
+    'check-report --workers') COMPREPLY=($(compgen -W '{1..64}' -- "$current")) ;;
     'schedule --workers') COMPREPLY=($(compgen -W '{1..64}' -- "$current")) ;;
     *redirection) compopt -o default 2>/dev/null ;;
     *)
@@ -113,7 +118,7 @@ _bkreplay_commands() {
     COMPREPLY=()
     while read -r name about; do
         [[ $name == "$1"* ]] || continue
-        printf -v about '%-11s  %s' "$name" "$about"
+        printf -v about '%-12s  %s' "$name" "$about"
         COMPREPLY+=("${about:0:${COLUMNS:-80}-1}")
     done <<<"$_bkreplay_abouts"
 }
@@ -129,6 +134,7 @@ anchors Write what became of the anchor of each odd round, with its votes
 statement Write what the transactions of the order do to one account
 check-proof Check that a text proves an account of the state of this digest
 check-state Check that a digest is that of the state at the end of a feed
+check-report Check that a file is the report of a feed
 apply Execute all batches of a feed, in feed order and on one thread, and write the apply report
 schedule Execute all batches of a feed in the order of a list of worker events, and write the apply report
 compare Compare the orders of two feeds and what was executed by them'

@@ -37,10 +37,11 @@ complete -c bkreplay -n "__bkreplay_at ''" -a anchors -d 'Write what became of t
 complete -c bkreplay -n "__bkreplay_at ''" -a statement -d 'Write what the transactions of the order do to one account'
 complete -c bkreplay -n "__bkreplay_at ''" -a check-proof -d 'Check that a text proves an account of the state of this digest'
 complete -c bkreplay -n "__bkreplay_at ''" -a check-state -d 'Check that a digest is that of the state at the end of a feed'
+complete -c bkreplay -n "__bkreplay_at ''" -a check-report -d 'Check that a file is the report of a feed'
 complete -c bkreplay -n "__bkreplay_at ''" -a apply -d 'Execute all batches of a feed, in feed order and on one thread, and write the apply report'
 complete -c bkreplay -n "__bkreplay_at ''" -a schedule -d 'Execute all batches of a feed in the order of a list of worker events, and write the apply report'
 complete -c bkreplay -n "__bkreplay_at ''" -a compare -d 'Compare the orders of two feeds and what was executed by them'
-complete -c bkreplay -n '__bkreplay_at run' -l workers -x -a '(seq 1 64)' -d 'How many threads execute, 1 to 64; 1 by default. The report is the same for any number'
+complete -c bkreplay -n '__bkreplay_at run' -l workers -x -a '(seq 1 64)' -d 'How many threads execute at most, 1 to 64; 1 by default. The output is the same for any number'
 complete -c bkreplay -n '__bkreplay_at run 0' -F
 complete -c bkreplay -n '__bkreplay_at make 0' -F
 complete -c bkreplay -n '__bkreplay_at order 0' -F
@@ -49,11 +50,14 @@ complete -c bkreplay -n '__bkreplay_at receipt 1' -F
 complete -c bkreplay -n '__bkreplay_at prove 1' -F
 complete -c bkreplay -n '__bkreplay_at frames 0' -F
 complete -c bkreplay -n '__bkreplay_at anchors 0' -F
-complete -c bkreplay -n '__bkreplay_at statement' -l workers -x -a '(seq 1 64)' -d 'How many threads execute, 1 to 64; 1 by default. The report is the same for any number'
+complete -c bkreplay -n '__bkreplay_at statement' -l workers -x -a '(seq 1 64)' -d 'How many threads execute at most, 1 to 64; 1 by default. The output is the same for any number'
 complete -c bkreplay -n '__bkreplay_at statement 1' -F
 complete -c bkreplay -n '__bkreplay_at check-proof 1' -F
-complete -c bkreplay -n '__bkreplay_at check-state' -l workers -x -a '(seq 1 64)' -d 'How many threads execute, 1 to 64; 1 by default. The report is the same for any number'
+complete -c bkreplay -n '__bkreplay_at check-state' -l workers -x -a '(seq 1 64)' -d 'How many threads execute at most, 1 to 64; 1 by default. The output is the same for any number'
 complete -c bkreplay -n '__bkreplay_at check-state 1' -F
+complete -c bkreplay -n '__bkreplay_at check-report' -l workers -x -a '(seq 1 64)' -d 'How many threads execute at most, 1 to 64; 1 by default. The output is the same for any number'
+complete -c bkreplay -n '__bkreplay_at check-report 0' -F
+complete -c bkreplay -n '__bkreplay_at check-report 1' -F
 complete -c bkreplay -n '__bkreplay_at apply 0' -F
 complete -c bkreplay -n '__bkreplay_at schedule' -l workers -x -a '(seq 1 64)' -d 'The number of workers in the list of events, 1 to 64; 2 by default. The first is worker 0'
 complete -c bkreplay -n '__bkreplay_at schedule 0' -F

@@ -1,5 +1,5 @@
 -- Commands that are added in turn.
-use Rattle.std.proofs.Common.{◌≡◌, ◌∙◌, ap, ap₂, subst, Bool, false, ◌||◌}
+use Rattle.std.proofs.Common.{◌≡◌, ◌∙◌, ap, ap₂, Bool, false, ◌||◌}
 use Rattle.clap.specs.Words.{App, Rule, Text, with_subcommand}
 use Rattle.bk_cli.specs.CommandLine.{value_line, working_line}
 

@@ -39,6 +39,10 @@ required_rule name = record (new_rule name) { action = Some Set; required = true
 abbrev pub root_rule : Rule
 root_rule = required_rule (codes "ROOT")
 
+-- the argument REPORT
+abbrev pub report_rule : Rule
+report_rule = required_rule (codes "REPORT")
+
 -- the argument FEED
 abbrev pub feed_rule : Rule
 feed_rule = required_rule (codes "FEED")
@@ -108,6 +112,7 @@ word_of verb.Anchors = codes "anchors"
 word_of verb.Statement = codes "statement"
 word_of verb.CheckProof = codes "check-proof"
 word_of verb.CheckState = codes "check-state"
+word_of verb.CheckReport = codes "check-report"
 word_of verb.Apply = codes "apply"
 word_of verb.Schedule = codes "schedule"
 word_of verb.Compare = codes "compare"
@@ -125,6 +130,7 @@ line_of verb.Anchors = file_line (codes "anchors")
 line_of verb.Statement = working_line (codes "statement") id_rule
 line_of verb.CheckProof = value_line (codes "check-proof") root_rule
 line_of verb.CheckState = working_line (codes "check-state") root_rule
+line_of verb.CheckReport = working_line (codes "check-report") report_rule
 line_of verb.Apply = file_line (codes "apply")
 line_of verb.Schedule = schedule_line
 line_of verb.Compare = compare_line
@@ -154,14 +160,15 @@ abbrev pub viewing_line : App
 viewing_line =
     with_command (with_command (with_command asking_line verb.Frames) verb.Anchors) verb.Statement
 
--- the program with all commands that read one file
-abbrev pub single_line : App
-single_line =
-    with_command (with_command (with_command viewing_line verb.CheckProof) verb.CheckState) verb.Apply
+-- and with those that check something
+abbrev pub checking_line : App
+checking_line =
+    with_command (with_command (with_command viewing_line verb.CheckProof) verb.CheckState) verb.CheckReport
 
 -- the whole command line: `bkreplay`, and one of the commands
 abbrev pub command_line : App
-command_line = with_command (with_command single_line verb.Schedule) verb.Compare
+command_line =
+    with_command (with_command (with_command checking_line verb.Apply) verb.Schedule) verb.Compare
 
 -- ---- the job
 
@@ -226,6 +233,10 @@ IsJobAt word rows (job.CheckProof root file) =
 IsJobAt word rows (job.Ask workers asked file) =
     IsQueryAt word rows asked × AreWorkersFor rows asked workers
     × IsFileIn rows (option_map string_bytes file)
+IsJobAt word rows (job.CheckReport workers report file) =
+    (word ≡ word_of verb.CheckReport) × AreNamedBy 1 (one_of (codes "workers") rows) workers
+    × IsTextIn rows (codes "REPORT") (string_bytes report)
+    × IsFileIn rows (option_map string_bytes file)
 IsJobAt word rows (job.Frames file) =
     (word ≡ word_of verb.Frames) × IsFileIn rows (option_map string_bytes file)
 IsJobAt word rows (job.Apply file) =
@@ -277,5 +288,5 @@ abbrev pub all_words : List Text
 all_words =
     word_of verb.Run ∷ word_of verb.Make ∷ word_of verb.Order ∷ word_of verb.Account ∷ word_of verb.Receipt
     ∷ word_of verb.Prove ∷ word_of verb.Frames ∷ word_of verb.Anchors ∷ word_of verb.Statement
-    ∷ word_of verb.CheckProof ∷ word_of verb.CheckState ∷ word_of verb.Apply ∷ word_of verb.Schedule
-    ∷ word_of verb.Compare ∷ []
+    ∷ word_of verb.CheckProof ∷ word_of verb.CheckState ∷ word_of verb.CheckReport ∷ word_of verb.Apply
+    ∷ word_of verb.Schedule ∷ word_of verb.Compare ∷ []

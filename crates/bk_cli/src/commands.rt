@@ -3,10 +3,11 @@
 ghost use Rattle.std.specs.Prelude.{◌≡◌, true, false, IfOk};
 ghost use Rattle.clap.specs.Words.{app_of, new_app, rule_of, with_subcommand};
 ghost use Rattle.clap.specs.declared.builder.command.Command.TheViews.{out-Command};
-ghost use Rattle.bk_cli.specs.CommandLine.{program, asking_line, single_line, viewing_line, command_line, file_line, value_line, schedule_line, working_line};
+ghost use Rattle.bk_cli.specs.CommandLine.{program, asking_line, checking_line, viewing_line, command_line, file_line, value_line, schedule_line, working_line};
 ghost use Rattle.bk_cli.specs.CommandLine.{file_rule, workers_rule, required_rule, root_rule, id_rule, place_rule, compare_line};
 
 use crate::help::{self, Help};
+use crate::more_help;
 use clap::{Arg, ArgAction, Command, value_parser};
 use std::alloc::{AllocError, Global};
 
@@ -130,7 +131,7 @@ fn schedule_command<'a>(alloc: Global) -> Result<Command<'a>, AllocError>
     ensures line { IfOk result (λ c. app_of c ≡ schedule_line) }
     ensures local { IfOk result (λ c. (out-Command c).has_globals ≡ false) }
 {
-    named(alloc, "schedule", help::SCHEDULE)
+    named(alloc, "schedule", more_help::SCHEDULE)
         .arg(workers_arg(alloc, help::EVENT_WORKERS))?
         .arg(required_arg(alloc, "FEED", help::FEED))?
         .arg(required_arg(alloc, "EVENTS", help::EVENTS))
@@ -141,7 +142,7 @@ fn compare_command<'a>(alloc: Global) -> Result<Command<'a>, AllocError>
     ensures line { IfOk result (λ c. app_of c ≡ compare_line) }
     ensures local { IfOk result (λ c. (out-Command c).has_globals ≡ false) }
 {
-    named(alloc, "compare", help::COMPARE)
+    named(alloc, "compare", more_help::COMPARE)
         .arg(required_arg(alloc, "FEED1", help::FEED1))?
         .arg(required_arg(alloc, "FEED2", help::FEED2))
 }
@@ -257,27 +258,33 @@ fn viewing_command<'a>(alloc: Global) -> Result<Command<'a>, AllocError>
     with_working(alloc, anchors, "statement", id_arg(alloc), help::STATEMENT)
 }
 
-// The program with all commands that read one file.
-fn single_command<'a>(alloc: Global) -> Result<Command<'a>, AllocError>
-    ensures line { IfOk result (λ c. app_of c ≡ single_line) }
+// And with those that check something.
+fn checking_command<'a>(alloc: Global) -> Result<Command<'a>, AllocError>
+    ensures line { IfOk result (λ c. app_of c ≡ checking_line) }
     ensures local { IfOk result (λ c. (out-Command c).has_globals ≡ false) }
 {
     let viewing = viewing_command(alloc)?;
-    let check = with_value(
+    let proof = with_value(
         alloc,
         viewing,
         "check-proof",
         root_arg(alloc),
-        help::CHECK_PROOF,
+        more_help::CHECK_PROOF,
     )?;
     let state = with_working(
         alloc,
-        check,
+        proof,
         "check-state",
         root_arg(alloc),
-        help::CHECK_STATE,
+        more_help::CHECK_STATE,
     )?;
-    with_file(alloc, state, "apply", help::APPLY)
+    with_working(
+        alloc,
+        state,
+        "check-report",
+        required_arg(alloc, "REPORT", help::REPORT),
+        more_help::CHECK_REPORT,
+    )
 }
 
 /// All commands, in the order in which a user meets them.
@@ -285,7 +292,8 @@ pub(crate) fn command<'a>(alloc: Global) -> Result<Command<'a>, AllocError>
     ensures line { IfOk result (λ c. app_of c ≡ command_line) }
     ensures local { IfOk result (λ c. (out-Command c).has_globals ≡ false) }
 {
-    let single = single_command(alloc)?;
-    let schedule = with_schedule(alloc, single)?;
+    let checking = checking_command(alloc)?;
+    let apply = with_file(alloc, checking, "apply", more_help::APPLY)?;
+    let schedule = with_schedule(alloc, apply)?;
     with_compare(alloc, schedule)
 }

@@ -14,8 +14,8 @@ use bk_results::{CompareStop, Differ, EventsFault, Fault, ScriptFault, Status};
 pub enum Exit {
     /// The whole answer is written.
     Whole = 0,
-    /// The answer is no: the command line names no job, what was asked for is not there, or the proof or the digest is
-    /// bad.
+    /// The answer is no: the command line names no job, what was asked for is not there, the proof or the digest is bad,
+    /// or the report differs.
     No = 1,
     /// The bytes of the input are wrong, or two feeds differ in version, committee or opening accounts.
     WrongInput = 2,
@@ -23,7 +23,7 @@ pub enum Exit {
     Stopped = 3,
     /// A read, a write or memory failed, or a worker did not finish.
     Failed = 4,
-    /// The report, a statement, or that a digest is good, is written, and the order stops at a missing batch.
+    /// The report, a statement, or that a digest or a report is good, is written, and the order stops at a missing batch.
     Missing = 5,
 }
 

@@ -37,6 +37,14 @@ pub enum Job {
         root: String,
         file: Option<String>,
     },
+    /// Writes whether a text is the report of a feed.
+    CheckReport {
+        /// How many threads execute.
+        workers: Workers,
+        /// The path of the text.
+        report: String,
+        file: Option<String>,
+    },
     /// Writes the reply of a feed to a query.
     Ask {
         /// How many threads execute.
@@ -72,12 +80,13 @@ pub enum Job {
 }
 
 impl Job {
-    /// The path of the first file, where one is named.
+    /// The path of the feed, of the script or of the proof, where one is named; of two feeds that of the first.
     pub fn file(&self) -> Option<&str> {
         match self {
             Job::Run { file, .. }
             | Job::Make { file }
             | Job::CheckProof { file, .. }
+            | Job::CheckReport { file, .. }
             | Job::Ask { file, .. }
             | Job::Frames { file }
             | Job::Apply { file } => file.as_deref(),
@@ -86,7 +95,8 @@ impl Job {
         }
     }
 
-    /// The path of the second file, where two are named.
+    /// The path of the other file that is read, where there is one: the text that is said to be a report, a list of events,
+    /// or a second feed.
     pub fn second_file(&self) -> Option<&str> {
         match self {
             Job::Run { .. }
@@ -95,6 +105,7 @@ impl Job {
             | Job::Ask { .. }
             | Job::Frames { .. }
             | Job::Apply { .. } => None,
+            Job::CheckReport { report, .. } => Some(report.as_str()),
             Job::Schedule { events, .. } => Some(events.as_str()),
             Job::Compare { second, .. } => Some(second.as_str()),
         }
@@ -220,6 +231,20 @@ fn statement_of(found: &ArgMatches<'_>, file: Option<String>) -> Job
     }
 }
 
+// The job of `check-report` of this file, with the values of its other arguments.
+fn report_of(alloc: Global, found: &ArgMatches<'_>, file: Option<String>) -> Result<Job, AllocError>
+    requires { IsFileIn (rows_of (found_of found.now)) (option_map string_bytes file) }
+    ensures { IfOk result (IsJobAt (codes "check-report") (rows_of (found_of found.now))) }
+{
+    let report = text_in(alloc, found, "REPORT")?;
+    let workers = workers_in(found, Workers::one());
+    Ok(Job::CheckReport {
+        workers,
+        report,
+        file,
+    })
+}
+
 // The job of a query for which one thread executes.
 fn ask_one(asked: Query, file: Option<String>) -> Job
     ensures { result ≡ job.Ask 1 asked file }
@@ -262,6 +287,10 @@ fn job_of(alloc: Global, verb: Verb, found: &ArgMatches<'_>) -> Result<Option<Jo
         Verb::CheckState => {
             let job = state_of(alloc, found, file)?;
             Ok(job)
+        }
+        Verb::CheckReport => {
+            let job = report_of(alloc, found, file)?;
+            Ok(Some(job))
         }
         Verb::Apply => Ok(Some(Job::Apply { file })),
         Verb::Schedule => {

@@ -12,6 +12,7 @@ mod job;
 mod job_fault;
 mod line;
 mod list_fault;
+mod more_help;
 mod verb;
 mod workers;
 

@@ -17,6 +17,7 @@ pub(crate) enum Verb {
     Statement,
     CheckProof,
     CheckState,
+    CheckReport,
     Apply,
     Schedule,
     Compare,
@@ -60,6 +61,9 @@ impl Verb {
         }
         if word == "check-state" {
             return Verb::CheckState;
+        }
+        if word == "check-report" {
+            return Verb::CheckReport;
         }
         if word == "apply" {
             return Verb::Apply;

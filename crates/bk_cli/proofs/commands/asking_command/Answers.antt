@@ -1,9 +1,7 @@
 -- Each command is added to those before it.
-use Rattle.std.proofs.Common.{codes, ◌≡◌}
+use Rattle.std.proofs.Common.{codes}
 use Rattle.std.proofs.lemmas.Result.{IfOk-weaker}
-use Rattle.clap.specs.Words.{app_of}
-use Rattle.bk_cli.specs.CommandLine.{program, with_command, file_line}
-use Rattle.bk_cli.specs.declared.verb.Verb.TheVariants as verb
+use Rattle.bk_cli.specs.CommandLine.{file_line}
 use Rattle.bk_cli.proofs.InTurn.{more, more_by}
 use Rattle.bk_cli.proofs.commands.asking_command.Goals as goal
 

@@ -87,6 +87,12 @@ state_of-requires c = let found = found_of c.args.found.now in sym (first_value-
 pub returns-in_ok-job-in-CheckState : goal.returns-in_ok-job-in-CheckState
 returns-in_ok-job-in-CheckState c = rw c.in-CheckState.is c.in_ok-job-in-CheckState.ensures
 
+pub report_of-requires : goal.report_of-requires
+report_of-requires c = let found = found_of c.args.found.now in sym (first_value-rows found (codes "FILE")) ∙ (sym c.get_str.ensures ∙ sym c.in_ok-file.ensures)
+
+pub returns-in_ok-job-in-CheckReport : goal.returns-in_ok-job-in-CheckReport
+returns-in_ok-job-in-CheckReport c = rw c.in-CheckReport.is c.in_ok-job-in-CheckReport.ensures
+
 pub returns-in_ok-job-in-Schedule : goal.returns-in_ok-job-in-Schedule
 returns-in_ok-job-in-Schedule c = rw c.in-Schedule.is c.in_ok-job-in-Schedule.ensures
 

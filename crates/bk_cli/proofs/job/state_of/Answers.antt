@@ -1,5 +1,5 @@
 -- The digest is the value of ROOT, and the workers are those of `--workers`.
-use Rattle.std.proofs.Common.{◌≡◌, ◌∙◌, ap, sym, subst, codes, List, ℕ, Option, None, unwrap_or, [], refl}
+use Rattle.std.proofs.Common.{◌≡◌, ◌∙◌, ap, sym, subst, codes, Option, None, unwrap_or, [], refl}
 use Rattle.std.specs.Prelude.{IsSome}
 use Rattle.clap.proofs.WalkLemmas.{first_value-rows, one_text-rows}
 use Rattle.clap.specs.Words.{Text, first_value, found_of}
