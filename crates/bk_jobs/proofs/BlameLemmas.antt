@@ -102,26 +102,26 @@ stopped_together P bytes more f h = weaker bytes (λ bs k. weaker more (λ ms o.
 compare_blames : (first second : _) (e : CompareStop) (old new : JobDevices) → AgreeNot e old new → is_refusal (exit_after_compare e) ≡ true
     → AreToBlame (job.Compare first second) (exit_after_compare e) (inputs_of old) × IsUntouched old.out new.out
 compare_blames first second (compared.First (replay.Feed found)) old new h r =
-    (refused (job.Compare first second) (inputs_of old) found.code found.offset old.first new.first (λ b. inl b) h.0.0 r, h.1)
-compare_blames first second (compared.First (replay.Collision id)) old new h r = absurd h.0.0
-compare_blames first second (compared.First (replay.Equivocation round author one other)) old new h r = absurd h.0.0
+    (refused (job.Compare first second) (inputs_of old) found.code found.offset old.first new.first (λ b. inl b) h.why.0 r, h.untouched)
+compare_blames first second (compared.First (replay.Collision id)) old new h r = absurd h.why.0
+compare_blames first second (compared.First (replay.Equivocation round author one other)) old new h r = absurd h.why.0
 compare_blames first second (compared.First (replay.Unfinished place)) old new h r = absurd (cc)
 compare_blames first second (compared.First (replay.Write written)) old new h r = absurd (cc)
 compare_blames first second (compared.First replay.Memory) old new h r = absurd (cc)
 compare_blames first second (compared.Second (replay.Feed found)) old new h r =
-    (refused (job.Compare first second) (inputs_of old) found.code found.offset old.second new.second (λ b. inr (inl (h.0.1, b))) h.0.2 r, h.1)
-compare_blames first second (compared.Second (replay.Collision id)) old new h r = absurd h.0.2
-compare_blames first second (compared.Second (replay.Equivocation round author one other)) old new h r = absurd h.0.2
+    (refused (job.Compare first second) (inputs_of old) found.code found.offset old.second new.second (λ b. inr (inl (h.why.1, b))) h.why.2 r, h.untouched)
+compare_blames first second (compared.Second (replay.Collision id)) old new h r = absurd h.why.2
+compare_blames first second (compared.Second (replay.Equivocation round author one other)) old new h r = absurd h.why.2
 compare_blames first second (compared.Second (replay.Unfinished place)) old new h r = absurd (cc)
 compare_blames first second (compared.Second (replay.Write written)) old new h r = absurd (cc)
 compare_blames first second (compared.Second replay.Memory) old new h r = absurd (cc)
-compare_blames first second (compared.Differ differ.Setup) old new h r = (inr (inr h.0.1), h.1)
+compare_blames first second (compared.Differ differ.Setup) old new h r = (inr (inr h.why.1), h.untouched)
 compare_blames first second (compared.Differ (differ.Collision id)) old new h r =
-    (stopped_together (FeedsDiffer (differ.Collision id)) old.first.bytes old.second.bytes (λ f g k. (stop.Collision id, k)) h.0.1, h.1)
+    (stopped_together (FeedsDiffer (differ.Collision id)) old.first.bytes old.second.bytes (λ f g k. (stop.Collision id, k)) h.why.1, h.untouched)
 compare_blames first second (compared.Differ (differ.Twins round author one other)) old new h r = (
   stopped_together (FeedsDiffer (differ.Twins round author one other)) old.first.bytes old.second.bytes
-      (λ f g k. (stop.Twins (record { round = round; author = author; first = one; second = other }), k)) h.0.1,
-  h.1,
+      (λ f g k. (stop.Twins (record { round = round; author = author; first = one; second = other }), k)) h.why.1,
+  h.untouched,
 )
 compare_blames first second (compared.Differ differ.Memory) old new h r = absurd (cc)
 
@@ -153,6 +153,19 @@ blames (job.Ask workers asked file) (fault.Replay (replay.Unfinished place)) old
 blames (job.Ask workers asked file) (fault.Replay (replay.Write written)) old new w h r = absurd (cc)
 blames (job.Ask workers asked file) (fault.Replay replay.Memory) old new w h r = absurd (cc)
 blames (job.Ask workers asked file) (fault.Text e) old new w h r = absurd h
+blames (job.CheckReport workers report file) (fault.Replay (replay.Feed found)) old new w h r =
+    (refused (job.CheckReport workers report file) (inputs_of old) found.code found.offset _ _ (λ b. b) h.0 r, h.1.1)
+blames (job.CheckReport workers report file) (fault.Replay (replay.Collision id)) old new w h r = (stopped _ old.first.bytes h.2, h.1.1)
+blames (job.CheckReport workers report file) (fault.Replay (replay.Equivocation round author first second)) old new w h r = (stopped _ old.first.bytes h.2, h.1.1)
+blames (job.CheckReport workers report file) (fault.Replay (replay.Unfinished place)) old new w h r = absurd (cc)
+blames (job.CheckReport workers report file) (fault.Replay (replay.Write written)) old new w h r = absurd (cc)
+blames (job.CheckReport workers report file) (fault.Replay replay.Memory) old new w h r = absurd (cc)
+blames (job.CheckReport workers report file) (fault.Text (text.Script line found)) old new w h r = absurd h
+blames (job.CheckReport workers report file) (fault.Text text.Read) old new w h r = absurd (cc)
+blames (job.CheckReport workers report file) (fault.Text (text.Write written)) old new w h r = absurd h
+blames (job.CheckReport workers report file) (fault.Text text.Memory) old new w h r = absurd h
+blames (job.CheckReport workers report file) (fault.Events e) old new w h r = absurd h
+blames (job.CheckReport workers report file) (fault.Compared e) old new w h r = absurd h
 blames j (fault.AbsentAccount id) old new w h r = absurd (cc)
 blames j (fault.AbsentPlace place) old new w h r = absurd (cc)
 blames (job.Apply file) (fault.Replay (replay.Feed found)) old new w h r =
@@ -234,6 +247,7 @@ bytes_to_blame (job.Run workers file) e old new h r = unwritten (job.Run workers
 bytes_to_blame (job.Make file) e old new h r = unwritten (job.Make file) e old new (blames (job.Make file) e old new refl h r)
 bytes_to_blame (job.CheckProof root file) e old new h r = unwritten (job.CheckProof root file) e old new (blames (job.CheckProof root file) e old new refl h r)
 bytes_to_blame (job.Ask workers asked file) e old new h r = unwritten (job.Ask workers asked file) e old new (blames (job.Ask workers asked file) e old new refl h r)
+bytes_to_blame (job.CheckReport workers report file) e old new h r = unwritten (job.CheckReport workers report file) e old new (blames (job.CheckReport workers report file) e old new refl h r)
 bytes_to_blame (job.Apply file) e old new h r = unwritten (job.Apply file) e old new (blames (job.Apply file) e old new refl h r)
 bytes_to_blame (job.Schedule workers feed events) e old new h r = unwritten (job.Schedule workers feed events) e old new (blames (job.Schedule workers feed events) e old new refl h r)
 bytes_to_blame (job.Compare first second) e old new h r = unwritten (job.Compare first second) e old new (blames (job.Compare first second) e old new refl h r)

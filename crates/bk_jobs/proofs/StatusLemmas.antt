@@ -25,7 +25,10 @@ use Rattle.bk_cli.specs.declared.list_fault.ListFault.TheVariants as list
 use Rattle.bk_jobs.specs.Schedules.{ScheduleFailsBy}
 use Rattle.bk_jobs.specs.Sources.{JobDevices, first_devices}
 use Rattle.bk_cli.specs.Exits.{absence, ending, gives_state, may_be_absent, exit_after, exit_after_compare, exit_after_replay, exit_by_code, is_answer, is_refusal, is_report, may_end}
+use Rattle.bk_claim.specs.declared.verdict.Verdict.{Verdict}
+use Rattle.bk_claim.specs.declared.verdict.Verdict.TheVariants as verdict
 use Rattle.bk_jobs.specs.Comparisons.{CompareFailsBy}
+use Rattle.bk_jobs.specs.Reports.{ClaimCheckFailsBy, exit_by_verdict}
 use Rattle.bk_jobs.specs.Faults.{JobFailsBy, QueryFailsBy}
 
 -- ---- how a job ends
@@ -113,6 +116,20 @@ ends_by_fault (job.Make file) (fault.AbsentAccount id) old new h = absurd h
 ends_by_fault (job.Make file) (fault.AbsentPlace place) old new h = absurd h
 ends_by_fault (job.CheckProof root file) (fault.AbsentAccount id) old new h = absurd h
 ends_by_fault (job.CheckProof root file) (fault.AbsentPlace place) old new h = absurd h
+ends_by_fault (job.CheckReport workers report file) (fault.Replay (replay.Feed found)) old new h = feed_may_end (job.CheckReport workers report file) refl found.code
+ends_by_fault (job.CheckReport workers report file) (fault.Replay (replay.Collision id)) old new h = refl
+ends_by_fault (job.CheckReport workers report file) (fault.Replay (replay.Equivocation round author first second)) old new h = refl
+ends_by_fault (job.CheckReport workers report file) (fault.Replay (replay.Unfinished place)) old new h = refl
+ends_by_fault (job.CheckReport workers report file) (fault.Replay (replay.Write written)) old new h = refl
+ends_by_fault (job.CheckReport workers report file) (fault.Replay replay.Memory) old new h = refl
+ends_by_fault (job.CheckReport workers report file) (fault.Text (text.Script line found)) old new h = absurd h
+ends_by_fault (job.CheckReport workers report file) (fault.Text text.Read) old new h = refl
+ends_by_fault (job.CheckReport workers report file) (fault.Text (text.Write written)) old new h = absurd h
+ends_by_fault (job.CheckReport workers report file) (fault.Text text.Memory) old new h = absurd h
+ends_by_fault (job.CheckReport workers report file) (fault.Events e) old new h = absurd h
+ends_by_fault (job.CheckReport workers report file) (fault.Compared e) old new h = absurd h
+ends_by_fault (job.CheckReport workers report file) (fault.AbsentAccount id) old new h = absurd h
+ends_by_fault (job.CheckReport workers report file) (fault.AbsentPlace place) old new h = absurd h
 ends_by_fault (job.Frames file) (fault.AbsentAccount id) old new h = absurd h
 ends_by_fault (job.Frames file) (fault.AbsentPlace place) old new h = absurd h
 ends_by_fault (job.Frames file) (fault.Replay (replay.Feed found)) old new h = feed_may_end (job.Frames file) refl found.code
@@ -206,6 +223,8 @@ fault_is_none (job.Run workers file) (fault.AbsentAccount id) old new h = absurd
 fault_is_none (job.Make file) (fault.AbsentAccount id) old new h = absurd h
 fault_is_none (job.CheckProof root file) (fault.AbsentAccount id) old new h = absurd h
 fault_is_none (job.Ask workers asked file) (fault.AbsentAccount id) old new h = absent_is_none asked _ h.0
+fault_is_none (job.CheckReport workers report file) (fault.AbsentAccount id) old new h = absurd h
+fault_is_none (job.CheckReport workers report file) (fault.AbsentPlace place) old new h = absurd h
 fault_is_none (job.Frames file) (fault.AbsentAccount id) old new h = absurd h
 fault_is_none (job.Frames file) (fault.AbsentPlace place) old new h = absurd h
 fault_is_none (job.Apply file) (fault.AbsentAccount id) old new h = absurd h
@@ -253,6 +272,12 @@ run_answers workers file exit.WrongInput h = absurd (cc)
 run_answers workers file exit.Stopped h = absurd (cc)
 run_answers workers file exit.Failed h = absurd (cc)
 run_answers workers file exit.Missing h = (refl, refl)
+
+pub claim_answers : (workers : ℕ) (report file : _) (v : Verdict) (end : Exit) → end ≡ exit_by_verdict v
+    → (is_answer (job.CheckReport workers report file) end ≡ true) × (may_end (job.CheckReport workers report file) end ≡ true)
+claim_answers workers report file verdict.Good end e = rw e (refl, refl)
+claim_answers workers report file verdict.Short end e = rw e (refl, refl)
+claim_answers workers report file verdict.Differs end e = rw e (refl, refl)
 
 -- a query ends well with a reply that it can have
 EndsWell : Query → Exit → Type 0
@@ -310,6 +335,16 @@ job_of_schedule workers feed events (fault.Events e) old new h = h
 job_of_schedule workers feed events (fault.Compared e) old new h = absurd h
 job_of_schedule workers feed events (fault.AbsentAccount id) old new h = absurd h
 job_of_schedule workers feed events (fault.AbsentPlace place) old new h = absurd h
+
+-- why there is no verdict on a text is why its job has no answer
+pub job_of_claim : (workers : ℕ) (report file : _) (e : JobFault) (old new : JobDevices) → ClaimCheckFailsBy e old new
+    → JobFailsBy (job.CheckReport workers report file) e old new
+job_of_claim workers report file (fault.Replay e) old new h = h
+job_of_claim workers report file (fault.Text e) old new h = h
+job_of_claim workers report file (fault.Events e) old new h = absurd h
+job_of_claim workers report file (fault.Compared e) old new h = absurd h
+job_of_claim workers report file (fault.AbsentAccount id) old new h = absurd h
+job_of_claim workers report file (fault.AbsentPlace place) old new h = absurd h
 
 -- why a comparison has no answer is why its job has none
 pub job_of_compare : (first second : _) (e : JobFault) (old new : JobDevices) → CompareFailsBy e old new

@@ -37,23 +37,25 @@ abbrev pub SpellAgreed : Agreed → List ℕ → List ℕ → Type 0
 SpellAgreed a bytes more = OfTheirFeeds bytes more (λ f g. FeedsAgree f g a)
 
 -- the output got the whole line of how far the feeds of both sources agree, and the exit is Whole
-abbrev pub AgreementIsOut : Exit → Inputs → Device → Device → Type 0
-AgreementIsOut end given old new =
-    (a : Agreed) × (end ≡ exit.Whole) × IfBothGive given (SpellAgreed a)
-    × Receives old new (agree_text a)
+pub record AgreementIsOut (end : Exit) (given : Inputs) (old new : Device) : Type 0 where
+  pub agreed : Agreed
+  pub exit_is : end ≡ exit.Whole
+  pub agree : IfBothGive given (SpellAgreed agreed)
+  pub gave : Receives old new (agree_text agreed)
 
 -- ---- why there is none
 
 -- the first bytes of the line are out, and not all
-abbrev pub PartOfAgreementIsOut : ℕ → Inputs → Device → Device → Type 0
-PartOfAgreementIsOut written given old new =
-    (a : Agreed) × IfBothGive given (SpellAgreed a) × (written < length (agree_text a))
-    × Receives old new (take written (agree_text a))
+pub record PartOfAgreementIsOut (written : ℕ) (given : Inputs) (old new : Device) : Type 0 where
+  pub agreed : Agreed
+  pub agree : IfBothGive given (SpellAgreed agreed)
+  pub some : written < length (agree_text agreed)
+  pub gave : Receives old new (take written (agree_text agreed))
 
 -- the feeds do not agree, and nothing is written
-abbrev pub AgreeNot : CompareStop → JobDevices → JobDevices → Type 0
-AgreeNot e old new =
-    ComparesNot e (both_sources old) (both_sources new) × IsUntouched old.out new.out
+pub record AgreeNot (e : CompareStop) (old new : JobDevices) : Type 0 where
+  pub why : ComparesNot e (both_sources old) (both_sources new)
+  pub untouched : IsUntouched old.out new.out
 
 -- why the line is not out though the feeds agree: a call of the output failed, and exactly its first bytes are out
 abbrev pub AgreementFailsBy : Fault → JobDevices → JobDevices → Type 0

@@ -19,7 +19,8 @@ use Rattle.bk_script.specs.Answers as script
 use Rattle.bk_script.specs.Script.{LineFault, feed_of}
 use Rattle.bk_results.specs.declared.script_fault.ScriptFault.{ScriptFault}
 use Rattle.bk_results.specs.declared.script_fault.ScriptFault.TheVariants as text
-use Rattle.bk_jobs.specs.Comparisons.{AgreeNot, AgreementFailsBy, AgreementIsOut, AreStoppedTogether, AreWrongTogether}
+use Rattle.bk_jobs.specs.Comparisons.{AgreeNot, AgreementFailsBy, AgreementIsOut, AreStoppedTogether, AreWrongTogether, IfBothGive}
+use Rattle.bk_jobs.specs.Reports.{ClaimCheckFailsBy, ClaimIsOut, ClaimIsUnread}
 use Rattle.bk_cli.specs.Exits.{absence, ending, exit_at, exit_by, exit_after}
 use Rattle.bk_cli.specs.FaultLines.{Reports, line_of}
 use Rattle.bk_jobs.specs.Schedules.{AreNoEvents, AreRefused, IsWholeRun, ListFailsBy, ScheduleFailsBy}
@@ -87,6 +88,7 @@ AnswerIsOut (job.CheckProof root file) end given old new =
     IfSome given.first (VerdictIsOut (string_bytes root) end old new)
 AnswerIsOut (job.Ask workers asked file) end given old new =
     IfSome given.first (ReplyIsOut asked end old new)
+AnswerIsOut (job.CheckReport workers report file) end given old new = IfBothGive given (ClaimIsOut end old new)
 AnswerIsOut (job.Frames file) end given old new = IfSome given.first (FramesAreOut end old new)
 AnswerIsOut (job.Apply file) end given old new = IfSome given.first (ReportIsOut end old new)
 AnswerIsOut (job.Schedule workers feed events) end given old new =
@@ -124,6 +126,7 @@ ReplayFailsBy (job.Make file) e old new = ⊥
 ReplayFailsBy (job.CheckProof root file) e old new = ⊥
 ReplayFailsBy (job.Ask workers asked file) e old new =
     AskFailsBy asked e (first_devices old) (first_devices new)
+ReplayFailsBy (job.CheckReport workers report file) e old new = ClaimCheckFailsBy (fault.Replay e) old new
 ReplayFailsBy (job.Frames file) e old new = ListFails e (first_devices old) (first_devices new)
 ReplayFailsBy (job.Apply file) e old new = FailsBy e (first_devices old) (first_devices new)
 ReplayFailsBy (job.Schedule workers feed events) e old new =
@@ -138,6 +141,7 @@ TextFailsBy (job.Make file) e old new =
 TextFailsBy (job.CheckProof root file) e old new =
     CheckFailsBy (string_bytes root) e (first_devices old) (first_devices new)
 TextFailsBy (job.Ask workers asked file) e old new = ⊥
+TextFailsBy (job.CheckReport workers report file) e old new = ClaimIsUnread e old new
 TextFailsBy (job.Frames file) e old new = ⊥
 TextFailsBy (job.Apply file) e old new = ⊥
 TextFailsBy (job.Schedule workers feed events) e old new = ⊥
@@ -149,6 +153,7 @@ EventsFailBy (job.Run workers file) e old new = ⊥
 EventsFailBy (job.Make file) e old new = ⊥
 EventsFailBy (job.CheckProof root file) e old new = ⊥
 EventsFailBy (job.Ask workers asked file) e old new = ⊥
+EventsFailBy (job.CheckReport workers report file) e old new = ⊥
 EventsFailBy (job.Frames file) e old new = ⊥
 EventsFailBy (job.Apply file) e old new = ⊥
 EventsFailBy (job.Schedule workers feed events) e old new = ListFailsBy workers e old new
@@ -160,6 +165,7 @@ ComparisonFailsBy (job.Run workers file) e old new = ⊥
 ComparisonFailsBy (job.Make file) e old new = ⊥
 ComparisonFailsBy (job.CheckProof root file) e old new = ⊥
 ComparisonFailsBy (job.Ask workers asked file) e old new = ⊥
+ComparisonFailsBy (job.CheckReport workers report file) e old new = ⊥
 ComparisonFailsBy (job.Frames file) e old new = ⊥
 ComparisonFailsBy (job.Apply file) e old new = ⊥
 ComparisonFailsBy (job.Schedule workers feed events) e old new = ⊥
@@ -178,6 +184,7 @@ IsAbsentFor (job.Make file) e old new = ⊥
 IsAbsentFor (job.CheckProof root file) e old new = ⊥
 IsAbsentFor (job.Ask workers asked file) e old new =
     IsAbsentBy asked e (first_devices old) (first_devices new)
+IsAbsentFor (job.CheckReport workers report file) e old new = ⊥
 IsAbsentFor (job.Frames file) e old new = ⊥
 IsAbsentFor (job.Apply file) e old new = ⊥
 IsAbsentFor (job.Schedule workers feed events) e old new = ⊥
@@ -231,6 +238,7 @@ AreWrong (job.Run workers file) given = IfSome given.first AreBroken
 AreWrong (job.Make file) given = IfSome given.first MakeNoFeed
 AreWrong (job.CheckProof root file) given = ⊥
 AreWrong (job.Ask workers asked file) given = IfSome given.first AreBroken
+AreWrong (job.CheckReport workers report file) given = IfSome given.first AreBroken
 AreWrong (job.Frames file) given = IfSome given.first AreBroken
 AreWrong (job.Apply file) given = IfSome given.first AreBroken
 AreWrong (job.Schedule workers feed events) given = AreWrongFor workers given
@@ -246,6 +254,7 @@ AreStoppedFor (job.Run workers file) given = IfSome given.first AreStopped
 AreStoppedFor (job.Make file) given = ⊥
 AreStoppedFor (job.CheckProof root file) given = ⊥
 AreStoppedFor (job.Ask workers asked file) given = IfSome given.first AreStopped
+AreStoppedFor (job.CheckReport workers report file) given = IfSome given.first AreStopped
 AreStoppedFor (job.Frames file) given = ⊥
 AreStoppedFor (job.Apply file) given = ⊥
 AreStoppedFor (job.Schedule workers feed events) given = ⊥

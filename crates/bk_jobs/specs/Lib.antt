@@ -1,4 +1,5 @@
 pub mod Comparisons
 pub mod Faults
+pub mod Reports
 pub mod Schedules
 pub mod Sources

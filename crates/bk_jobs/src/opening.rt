@@ -31,11 +31,83 @@ fn not_opened<E: Sink>(err: &mut E) -> Exit
     Exit::Failed
 }
 
+// Opens the feed, after the text that is said to be its report, and runs the job.
+fn open_feed<R, J: Read + Drop, O: Sink, E: Sink>(
+    rt: &R,
+    job: &Job,
+    claimed: J,
+    out: &mut O,
+    err: &mut E,
+) -> Exit
+where
+    R: Files + Input + AllocGlobal + Threads + Wait + Sync,
+    requires out { CanBeUsed (O.state out.old) }
+    requires err { CanBeUsed (E.state err.old) }
+    ensures quiet { is_answer job.now result ≡ true → err.new ≡ err.old }
+    ensures line { is_answer job.now result ≡ false
+        → EndsWithLine result (E.state err.old) (E.state err.new) }
+    ensures unwritten { is_refusal result ≡ true → writes_ahead job.now ≡ false
+        → IsUntouched (O.state out.old) (O.state out.new) }
+    ensures ends { may_end job.now result ≡ true }
+{
+    match job.file() {
+        Some(path) => match fs::open(rt, path) {
+            Ok(feed) => run_over(rt, job, feed, claimed, out, err),
+            Err(_) => not_opened(err),
+        },
+        None => run_over(rt, job, rt.reader(), claimed, out, err),
+    }
+}
+
+// Opens the text that is said to be a report, and then the feed, and runs the job.
+fn open_report<R, O: Sink, E: Sink>(
+    rt: &R,
+    job: &Job,
+    report: &str,
+    out: &mut O,
+    err: &mut E,
+) -> Exit
+where
+    R: Files + Input + AllocGlobal + Threads + Wait + Sync,
+    requires out { CanBeUsed (O.state out.old) }
+    requires err { CanBeUsed (E.state err.old) }
+    ensures quiet { is_answer job.now result ≡ true → err.new ≡ err.old }
+    ensures line { is_answer job.now result ≡ false
+        → EndsWithLine result (E.state err.old) (E.state err.new) }
+    ensures unwritten { is_refusal result ≡ true → writes_ahead job.now ≡ false
+        → IsUntouched (O.state out.old) (O.state out.new) }
+    ensures ends { may_end job.now result ≡ true }
+{
+    match fs::open(rt, report) {
+        Ok(claimed) => open_feed(rt, job, claimed, out, err),
+        Err(_) => not_opened(err),
+    }
+}
+
 /// Opens what the job names, in the order of its words and before anything is read, and runs it.
 ///
 /// Standard input is read where no file is named. A file that cannot be opened ends with `Failed` and `read failed`. An
 /// end that is no answer has the line of its fault on `err`.
 pub fn open_and_run<R, O: Sink, E: Sink>(rt: &R, job: &Job, out: &mut O, err: &mut E) -> Exit
+where
+    R: Files + Input + AllocGlobal + Threads + Wait + Sync,
+    requires out { CanBeUsed (O.state out.old) }
+    requires err { CanBeUsed (E.state err.old) }
+    ensures quiet { is_answer job.now result ≡ true → err.new ≡ err.old }
+    ensures line { is_answer job.now result ≡ false
+        → EndsWithLine result (E.state err.old) (E.state err.new) }
+    ensures unwritten { is_refusal result ≡ true → writes_ahead job.now ≡ false
+        → IsUntouched (O.state out.old) (O.state out.new) }
+    ensures ends { may_end job.now result ≡ true }
+{
+    match job {
+        Job::CheckReport { report, .. } => open_report(rt, job, report.as_str(), out, err),
+        _ => open_first(rt, job, out, err),
+    }
+}
+
+// Opens the first file, where the job names one, then the second, and runs the job.
+fn open_first<R, O: Sink, E: Sink>(rt: &R, job: &Job, out: &mut O, err: &mut E) -> Exit
 where
     R: Files + Input + AllocGlobal + Threads + Wait + Sync,
     requires out { CanBeUsed (O.state out.old) }

@@ -8,6 +8,7 @@ ghost use Rattle.bk_cli.specs.Exits.{is_answer, is_refusal, may_end, reads_secon
 ghost use Rattle.bk_jobs.specs.Faults.{EndsBy, JobFailsBy, AnswerIsOut, AreToBlame};
 ghost use Rattle.bk_jobs.specs.Sources.{AllWork, inputs, job_devices};
 
+use crate::claiming::check_claim;
 use crate::comparing::compare_feeds;
 use crate::listing::list;
 use crate::queries::reply;
@@ -56,6 +57,10 @@ fn answer<R: Threads + Wait + Sync + AllocGlobal, S1: Source, S2: Source, O: Sin
             let end = check(rt, root.as_bytes(), first, out)?;
             Ok(end)
         }
+        Job::CheckReport { workers, .. } => {
+            let end = check_claim(rt, *workers, first, second, out)?;
+            Ok(end)
+        }
         Job::Ask { workers, asked, .. } => {
             let end = reply(rt, asked, *workers, first, out)?;
             Ok(end)
@@ -81,11 +86,11 @@ fn answer<R: Threads + Wait + Sync + AllocGlobal, S1: Source, S2: Source, O: Sin
 
 /// Runs a job, and returns how the program ends.
 ///
-/// The sources are the files that the job names, in their order; a job of one file does not read the second. `out` is
+/// The sources are what `Job::file` and `Job::second_file` name; a job of one file does not read the second. `out` is
 /// standard output and `err` standard error, whose failures are ignored.
 ///
 /// - `Whole` and `Missing`: the whole answer is on `out`, and nothing on `err`.
-/// - `No`, of a check of a proof or of a digest: it is bad, which is the answer on `out`. Nothing is on `err`.
+/// - `No`, of a check of a proof, of a digest or of a report: it is bad, which is the answer on `out`. Nothing is on `err`.
 /// - `No`, of another query: what it asks for is absent, which is one line on `err`. Nothing is on `out`.
 /// - `WrongInput` and `Stopped`: the bytes are to blame. The fault is one line on `err`, and nothing is on `out`.
 /// - `Failed`: a read, a write or memory failed, or a transaction is not finished. The fault is one line on `err`;

@@ -14,6 +14,7 @@ frames_or_not None j h = absurd h
 frames_or_not (Some f) (job.Run workers file) h = inl refl
 frames_or_not (Some f) (job.Make file) h = inl refl
 frames_or_not (Some f) (job.CheckProof root file) h = inl refl
+frames_or_not (Some f) (job.CheckReport workers report file) h = inl refl
 frames_or_not (Some f) (job.Ask workers asked file) h = inl refl
 frames_or_not (Some f) (job.Frames file) h = inr h.0
 frames_or_not (Some f) (job.Apply file) h = inl refl

@@ -1,12 +1,13 @@
 //! From the words of the command line to the exit status.
 
-ghost use Rattle.std.specs.Prelude.{◌≡◌, ◌≢◌, ◌⊎◌, map, true};
+ghost use Rattle.std.specs.Prelude.{◌≡◌, ◌⊎◌, map, true};
 ghost use Rattle.bk_frames.specs.Device.{CanBeUsed};
 ghost use Rattle.bk_results.specs.Devices.{IsUntouched};
 ghost use Rattle.bk_cli.specs.Exits.{has_fault, is_refusal, is_report};
 ghost use Rattle.bk_jobs.specs.Faults.{EndsWithLine};
 ghost use Rattle.bk_cli.specs.CommandLine.{NamesFrames, command_line};
-ghost use Rattle.clap.specs.Words.{kind_of, subcommand_of};
+ghost use Rattle.clap.specs.Words.{subcommand_of};
+ghost use Rattle.bkreplay.specs.Endings.{EndsByKind};
 
 use bk_cli::{Exit, JobFault, parse, report};
 use bk_frames::{Sink, push_all};
@@ -79,10 +80,7 @@ fn refuse_words<E: Sink>(error: &io::Error, err: &mut E) -> Exit
 // Help and the version go to standard output, a fault of the words to standard error.
 fn answer_error<R: Print + Eprint, E: Sink>(rt: &R, error: &Error, err: &mut E) -> Exit
     requires { CanBeUsed (E.state err.old) }
-    ensures memory { kind_of error.now ≡ ErrorKind.OutOfMemory → result ≡ Exit.Failed }
-    ensures mistake { kind_of error.now ≢ ErrorKind.OutOfMemory
-        → kind_of error.now ≢ ErrorKind.DisplayHelp
-        → kind_of error.now ≢ ErrorKind.DisplayVersion → result ≡ Exit.No }
+    ensures kind { EndsByKind error.now result }
     ensures quiet { is_report result ≡ true → err.new ≡ err.old }
     ensures line { has_fault result ≡ true
         → EndsWithLine result (E.state err.old) (E.state err.new) }

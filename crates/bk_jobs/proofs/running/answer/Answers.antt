@@ -1,6 +1,6 @@
 -- How each job may end with an answer.
 use Rattle.std.proofs.Common.{refl, inl, inr}
-use Rattle.bk_jobs.proofs.StatusLemmas.{run_answers, query_ends}
+use Rattle.bk_jobs.proofs.StatusLemmas.{run_answers, claim_answers, query_ends}
 use Rattle.bk_jobs.proofs.running.answer.Goals as goal
 
 pub returns-in_ok-end-in-Run-clause-answer : goal.returns-in_ok-end-in-Run-clause-answer
@@ -29,3 +29,8 @@ returns-in_ok-end-in-Compare-clause-answer g c = rw (c.in-Compare.is, c.in_ok-en
 
 pub returns-in_ok-end-in-Frames-clause-answer : goal.returns-in_ok-end-in-Frames-clause-answer
 returns-in_ok-end-in-Frames-clause-answer g c = rw (c.in-Frames.is, c.in_ok-end-in-Frames.ensures.answer) (refl, refl)
+
+pub returns-in_ok-end-in-CheckReport-clause-answer : goal.returns-in_ok-end-in-CheckReport-clause-answer
+returns-in_ok-end-in-CheckReport-clause-answer g c =
+    let (v, e) = c.in_ok-end-in-CheckReport.ensures.answer in
+    rw c.in-CheckReport.is (claim_answers c.in-CheckReport.workers c.in-CheckReport.report c.in-CheckReport.file v _ e)
