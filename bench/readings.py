@@ -1,5 +1,7 @@
 """A plain reading of the commands that show what is in a feed: the lines of `frames`, `anchors` and `statement`, from the
-bytes of the feed by the definitions alone. A statement also takes the receipts of the report of `run`."""
+bytes of the feed by the definitions alone, and of `check-report`. The last two also take the receipts, or the text, of the
+report of `run`."""
+import os
 import struct
 from hashlib import sha256
 
@@ -199,3 +201,25 @@ def statement_lines(name, genesis, texts, receipts):
     if len(lines) == 1 and account is None:
         return []
     return [*lines, f"closing {name} {shown(account)}"]
+
+
+# ---- check-report
+
+
+def line_there(text, at):
+    """The line of a byte of a text, None where the text ends before that byte."""
+    if at == len(text):
+        return None
+    end = text.find(b"\n", at)
+    return text[text.rfind(b"\n", 0, at) + 1 : len(text) if end < 0 else end]
+
+
+def claim_lines(right, claimed):
+    """The lines of the verdict on what is claimed to be this report."""
+    if right == claimed:
+        return ["report good"]
+    at = len(os.path.commonprefix([right, claimed]))
+    line, other = line_there(right, at), line_there(claimed, at)
+    shown_there = "end" if other is None else "".join(chr(b) if 32 <= b <= 126 else "?" for b in other[:200])
+    return [f"report differs at line {right.count(bytes([10]), 0, at) + 1}",
+            "feed " + ("end" if line is None else line.decode()), f"claimed {shown_there}"]
