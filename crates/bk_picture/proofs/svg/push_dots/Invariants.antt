@@ -1,0 +1,8 @@
+use Rattle.std.proofs.Common.{◌≡◌, ◌++◌, take}
+use Rattle.std.specs.Prelude.{string_bytes}
+use Rattle.std.specs.List.{flat_map}
+use Rattle.bk_picture.specs.Svg.{dot_text}
+use Rattle.bk_picture.proofs.svg.push_dots.Given as goal
+
+abbrev pub invariant-loop-cell : goal.invariant-loop-cell
+invariant-loop-cell l = string_bytes l.text ≡ string_bytes l.initial.text ++ flat_map (dot_text l.round l.ring) (take l.cell-index l.cells)

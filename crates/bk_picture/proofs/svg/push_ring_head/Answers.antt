@@ -1,0 +1,4 @@
+use Rattle.bk_picture.proofs.svg.push_ring_head.Goals as goal
+
+pub returns : goal.returns
+returns c = c.in_ok-write.ensures.bytes

@@ -1,0 +1,4 @@
+pub mod Picture
+pub mod Svg
+pub mod Drawing
+pub mod private

@@ -1,0 +1,96 @@
+-- What is drawn of some rounds, read off the certificates that break no rule and their order.
+use Rattle.std.specs.Prelude.{◌≡◌, ℕ, ◌+◌, ◌-◌, ◌/◌, ◌%◌, ◌<◌, ◌↔◌, ◌==◌, List, length, slice_get, slice_index_or, Contains, Option, Some, None, if◌then◌else◌}
+use Rattle.bk_committee.specs.Sizes.{Sizes, members}
+use Rattle.bk_cert.specs.Node.{Node}
+use Rattle.bk_cert.specs.Place.{place_of}
+use Rattle.bk_cert.specs.declared.place.CertRef.{CertRef}
+use Rattle.bk_rounds.specs.Admission.{IsPresent, WaitsAt}
+use Rattle.bk_rounds.specs.Links.{Links}
+use Rattle.bk_rounds.specs.Members.{Has}
+use Rattle.bk_rounds.specs.Votes.{IsAnchor}
+use Rattle.bk_views.specs.Anchors.{AreRows}
+use Rattle.bk_views.specs.declared.anchors.AnchorRow.{AnchorRow}
+use Rattle.bk_picture.specs.declared.picture.Cell.{Cell}
+use Rattle.bk_picture.specs.declared.picture.Class.{Class}
+use Rattle.bk_picture.specs.declared.picture.Class.TheVariants as class
+use Rattle.bk_picture.specs.declared.picture.Column.{Column}
+use Rattle.bk_picture.specs.declared.picture.Picture.{Picture}
+
+-- what a picture is read off: the sizes of the committee, the held certificates, the committed anchors, and the
+-- certificates in order
+pub record Graph : Type 0 where
+  pub sizes : Sizes
+  pub held : List Node
+  pub anchors : List CertRef
+  pub order : List CertRef
+
+abbrev pub graph_with : Sizes → List Node → List CertRef → List CertRef → Graph
+graph_with z held anchors order = record { sizes = z; held = held; anchors = anchors; order = order }
+
+-- the place of a member in a round
+abbrev pub at_place : ℕ → ℕ → CertRef
+at_place round member = record { round = round; author = member }
+
+-- ---- a cell
+
+-- what became of the certificate of a place: it is in the order; it is admitted and not in the order; it is held and not
+-- admitted; or none is held
+abbrev pub IsClassOf : Graph → CertRef → Option Class → Type 0
+IsClassOf g a (Some class.Ordered) = Contains g.order a
+IsClassOf g a (Some class.Admitted) = IsPresent g.sizes g.held a × (Contains g.order a → ⊥)
+IsClassOf g a (Some class.Waiting) = WaitsAt g.sizes g.held a × (Contains g.order a → ⊥)
+IsClassOf g a None = (c : Node) → Contains g.held c → place_of c ≡ a → ⊥
+
+-- the certificate of a place names that of this member in the round before as a parent; both are admitted, and both rounds
+-- are drawn. A certificate that waits has no such parent
+abbrev pub IsParentIn : Graph → ℕ → CertRef → ℕ → Type 0
+IsParentIn g from a y = (from < a.round) × Links g.sizes g.held a (at_place (a.round - 1) y)
+
+-- and that parent is an anchor
+abbrev pub IsVoteIn : Graph → ℕ → CertRef → ℕ → Type 0
+IsVoteIn g from a y = IsParentIn g from a y × IsAnchor g.sizes g.held (at_place (a.round - 1) y)
+
+-- the member that the certificate of a place votes for, if it votes
+abbrev pub IsVoteOf : Graph → ℕ → CertRef → Option ℕ → Type 0
+IsVoteOf g from a None = (y : ℕ) → IsVoteIn g from a y → ⊥
+IsVoteOf g from a (Some y) = IsVoteIn g from a y
+
+-- the cell of a place
+pub record IsCellOf (g : Graph) (from : ℕ) (a : CertRef) (cell : Cell) : Type 0 where
+  pub member : cell.member ≡ a.author
+  pub class_is : IsClassOf g a cell.class
+  pub parents : (y : ℕ) → Has cell.parents y ↔ IsParentIn g from a y
+  pub vote : IsVoteOf g from a cell.vote
+
+-- ---- a column
+
+-- a cell for each member
+pub record AreCellsOf (g : Graph) (from round : ℕ) (cells : List Cell) : Type 0 where
+  pub sized : length cells ≡ members g.sizes
+  pub each : (x : ℕ) (d : Cell) → x < length cells → IsCellOf g from (at_place round x) (slice_index_or cells x d)
+
+-- of the rows of anchors, the first of which is of round 1, the next of round 3, the one of a round
+abbrev pub ring_at : List AnchorRow → ℕ → Option AnchorRow
+ring_at rows round = if round % 2 == 1 then slice_get rows (round / 2) else None
+
+-- the column of a round
+pub record IsColumnOf (g : Graph) (rows : List AnchorRow) (from round : ℕ) (column : Column) : Type 0 where
+  pub round_is : column.round ≡ round
+  pub ring : column.ring ≡ ring_at rows round
+  pub cells : AreCellsOf g from round column.cells.items
+
+-- a column for each round
+pub record AreColumnsOf (g : Graph) (rows : List AnchorRow) (from count : ℕ) (columns : List Column) : Type 0 where
+  pub sized : length columns ≡ count
+  pub each : (k : ℕ) (d : Column) → k < length columns → IsColumnOf g rows from (from + k) (slice_index_or columns k d)
+
+-- ---- the picture
+
+-- the picture of `count` rounds from the round `from` on
+pub record IsPictureOf (g : Graph) (from count : ℕ) (p : Picture) : Type 0 where
+  pub from_is : p.from ≡ from
+  pub count_is : p.count ≡ count
+  pub members_are : p.members ≡ members g.sizes
+  pub rows : List AnchorRow
+  pub are_rows : AreRows g.sizes g.held g.anchors rows
+  pub columns : AreColumnsOf g rows from count p.columns.items

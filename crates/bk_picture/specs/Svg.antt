@@ -1,0 +1,179 @@
+-- The text of a picture: SVG 1.1.
+use Rattle.std.specs.Prelude.{ℕ, zero, suc, ◌+◌, ◌-◌, ◌*◌, max, ◌==◌, List, [], ◌++◌, codes, decimal, Option, Some, None, if◌then◌else◌}
+use Rattle.std.specs.List.{flat_map}
+use Rattle.std.specs.Int.{bit_at}
+use Rattle.bk_views.specs.Anchors.{row_text, state_word, votes_word}
+use Rattle.bk_views.specs.declared.anchors.AnchorRow.{AnchorRow}
+use Rattle.bk_views.specs.declared.anchors.AnchorState.{AnchorState}
+use Rattle.bk_picture.specs.declared.fixed.TheConstants.{KEY, STYLE}
+use Rattle.bk_picture.specs.declared.picture.Cell.{Cell}
+use Rattle.bk_picture.specs.declared.picture.Class.{Class}
+use Rattle.bk_picture.specs.declared.picture.Class.TheVariants as class
+use Rattle.bk_picture.specs.declared.picture.Column.{Column}
+use Rattle.bk_picture.specs.declared.picture.Picture.{Picture}
+
+-- ---- where things are
+
+-- how far to the right a round is, and how far down a member
+abbrev pub left_of : ℕ → ℕ → ℕ
+left_of from round = 40 * (round - from) + 60
+
+abbrev pub height_of : ℕ → ℕ
+height_of member = 28 * member + 50
+
+-- ---- the head
+
+-- the size
+abbrev pub size_words : ℕ → ℕ → List ℕ
+size_words wide high =
+    codes "viewBox='0 0 " ++ decimal wide ++ codes " " ++ decimal high ++ codes "' width='" ++ decimal wide
+    ++ codes "' height='" ++ decimal high ++ codes "'"
+
+-- the first line, without its line feed: at least eight rounds wide, so that the key has room
+abbrev pub head_line : ℕ → ℕ → List ℕ
+head_line count members =
+    codes "<svg xmlns='http://www.w3.org/2000/svg' version='1.1' role='img' "
+    ++ size_words (40 * max count 8 + 60) (28 * members + 170) ++ codes ">"
+
+-- the title
+abbrev pub name_line : ℕ → ℕ → ℕ → List ℕ
+name_line count from members =
+    codes "\n<title>" ++ decimal count ++ codes " rounds from " ++ decimal from ++ codes ", " ++ decimal members
+    ++ codes " members</title>\n"
+
+unfoldable pub head_text : Picture → List ℕ
+head_text p = head_line p.count p.members ++ (name_line p.count p.from p.members ++ STYLE.now)
+
+-- ---- the lines to parents
+
+-- from a member's circle to that of a parent in the column before
+abbrev pub segment_text : ℕ → ℕ → List ℕ
+segment_text member parent =
+    codes "M0 " ++ decimal (height_of member) ++ codes "L-40 " ++ decimal (height_of parent)
+
+-- where the parent is in the set
+abbrev pub segment_if : ℕ → ℕ → ℕ → List ℕ
+segment_if member parents parent = if bit_at parents parent == 1 then segment_text member parent else []
+
+-- to all of them below a number
+unfoldable pub segments_below : ℕ → ℕ → ℕ → List ℕ
+segments_below member parents zero = []
+segments_below member parents (suc parent) = segments_below member parents parent ++ segment_if member parents parent
+
+-- the lines to all parents of a cell
+abbrev pub parents_text : Cell → List ℕ
+parents_text cell = segments_below cell.member cell.parents 128
+
+-- the line to the one that it votes for
+abbrev pub vote_text_of : ℕ → Option ℕ → List ℕ
+vote_text_of member None = []
+vote_text_of member (Some parent) = segment_text member parent
+
+abbrev pub vote_text : Cell → List ℕ
+vote_text cell = vote_text_of cell.member cell.vote
+
+-- the beginning of the path of all lines of a column, and where it ends and that of the votes begins
+abbrev pub path_text : ℕ → List ℕ
+path_text x = codes "<path class='l' transform='translate(" ++ decimal x ++ codes ")' d='"
+
+abbrev pub vote_path_text : ℕ → List ℕ
+vote_path_text x = codes "'/>\n<path class='v' transform='translate(" ++ decimal x ++ codes ")' d='"
+
+-- the paths of a column: one of the lines to all parents, and one of those that are votes
+unfoldable pub links_text : ℕ → Column → List ℕ
+links_text from column =
+    path_text (left_of from column.round) ++ (flat_map parents_text column.cells.items
+    ++ (vote_path_text (left_of from column.round) ++ (flat_map vote_text column.cells.items ++ codes "'/>\n")))
+
+-- ---- the circles
+
+-- the word for what became of a certificate
+abbrev pub class_word : Class → List ℕ
+class_word class.Ordered = codes "ordered"
+class_word class.Admitted = codes "admitted"
+class_word class.Waiting = codes "waiting"
+
+-- what the title of an anchor says besides
+abbrev pub note_words : Option AnchorRow → List ℕ
+note_words None = []
+note_words (Some row) =
+    codes ", anchor " ++ state_word row.state ++ codes ", votes " ++ votes_word row.votes ++ codes " need " ++ decimal row.need
+
+-- the title of a certificate
+abbrev pub title_words : ℕ → ℕ → Class → Option AnchorRow → List ℕ
+title_words round member class anchor =
+    codes "round " ++ decimal round ++ codes " member " ++ decimal member ++ codes " " ++ class_word class
+    ++ note_words anchor
+
+-- how a certificate's circle begins, and how any circle ends
+abbrev pub dot_head : Class → ℕ → List ℕ
+dot_head class y =
+    codes "<circle class='" ++ (class_word class ++ (codes "' cy='" ++ (decimal y ++ codes "' r='6'><title>")))
+
+abbrev pub circle_end : List ℕ
+circle_end = codes "</title></circle>\n"
+
+-- the line of a certificate's circle
+unfoldable pub dot_line : ℕ → ℕ → Class → Option AnchorRow → List ℕ
+dot_line round member class anchor =
+    dot_head class (height_of member) ++ (title_words round member class anchor ++ circle_end)
+
+-- the row of a round, for the member that leads it
+abbrev pub anchor_of : Option AnchorRow → ℕ → Option AnchorRow
+anchor_of None member = None
+anchor_of (Some row) member = if row.leader == member then Some row else None
+
+-- the circle of a cell, if it has one
+abbrev pub dot_text_of : ℕ → Option AnchorRow → ℕ → Option Class → List ℕ
+dot_text_of round ring member None = []
+dot_text_of round ring member (Some class) = dot_line round member class (anchor_of ring member)
+
+abbrev pub dot_text : ℕ → Option AnchorRow → Cell → List ℕ
+dot_text round ring cell = dot_text_of round ring cell.member cell.class
+
+-- the line of a ring round a leader's place; its title is the line of the anchor
+abbrev pub ring_head : AnchorState → ℕ → List ℕ
+ring_head state y =
+    codes "<circle class='" ++ (state_word state ++ (codes "' cy='" ++ (decimal y ++ codes "' r='11'><title>")))
+
+unfoldable pub ring_line : AnchorRow → List ℕ
+ring_line row = ring_head row.state (height_of row.leader) ++ (row_text row ++ circle_end)
+
+abbrev pub ring_text : Option AnchorRow → List ℕ
+ring_text None = []
+ring_text (Some row) = ring_line row
+
+-- the number, the ring and the circles of a round
+abbrev pub round_text : ℕ → ℕ → List ℕ
+round_text x round =
+    codes "<g transform='translate(" ++ (decimal x ++ (codes ")'>\n<text y='24'>" ++ (decimal round ++ codes "</text>\n")))
+
+unfoldable pub column_text : ℕ → Column → List ℕ
+column_text from column =
+    round_text (left_of from column.round) column.round ++ (ring_text column.ring
+    ++ (flat_map (dot_text column.round column.ring) column.cells.items ++ codes "</g>\n"))
+
+-- ---- the numbers of the members, and the key
+
+-- the number of a member
+abbrev pub label_text : ℕ → ℕ → List ℕ
+label_text y member = codes "<text x='24' y='" ++ (decimal y ++ (codes "'>" ++ (decimal member ++ codes "</text>\n")))
+
+-- the numbers of all members below one
+unfoldable pub members_text : ℕ → List ℕ
+members_text zero = []
+members_text (suc member) = members_text member ++ label_text (height_of member + 4) member
+
+-- the key, under the last member
+abbrev pub key_head : ℕ → List ℕ
+key_head y = codes "<g class='k' transform='translate(60 " ++ decimal y ++ codes ")'>\n"
+
+unfoldable pub key_text : ℕ → List ℕ
+key_text members = key_head (height_of members + 20) ++ (KEY.now ++ codes "</g>\n</svg>\n")
+
+-- ---- the whole
+
+abbrev pub svg_text : Picture → List ℕ
+svg_text p =
+    head_text p ++ (flat_map (links_text p.from) p.columns.items ++ (flat_map (column_text p.from) p.columns.items
+    ++ (members_text p.members ++ key_text p.members)))

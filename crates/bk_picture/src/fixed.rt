@@ -1,0 +1,28 @@
+//! The fixed parts of a picture's text.
+
+/// The style, for light and dark backgrounds, and the background.
+pub const STYLE: &str = "<style>\n\
+    .b{fill:#fff}text{font:12px sans-serif;fill:#222;text-anchor:middle}.k text{text-anchor:start}\n\
+    .l{fill:none;stroke:#888;stroke-width:.8;stroke-opacity:.6}.v{fill:none;stroke:#a50;stroke-width:2.6}\n\
+    .ordered{fill:#124;stroke:#124;stroke-width:2}.admitted{fill:#fff;stroke:#124;stroke-width:2}\n\
+    .waiting{fill:#fff;stroke:#a50;stroke-width:1.6;stroke-dasharray:2.4 2.4}\n\
+    .voted,.linked,.skipped,.open{fill:none;stroke:#222}.voted{stroke-width:2.4}\n\
+    .linked{stroke-width:2.4;stroke-dasharray:8 4}.skipped{stroke-width:2.4;stroke-dasharray:1.5 4}.open{stroke-width:.9}\n\
+    @media(prefers-color-scheme:dark){.b{fill:#15181c}text{fill:#ddd}.l{stroke:#889}.v{stroke:#e94}\n\
+    .ordered{fill:#9cf;stroke:#9cf}.admitted{fill:#15181c;stroke:#9cf}.waiting{fill:#15181c;stroke:#e94}\n\
+    .voted,.linked,.skipped,.open{stroke:#ddd}}\n\
+    </style>\n\
+    <rect class='b' width='100%' height='100%'/>\n\
+    ";
+
+/// The key.
+pub const KEY: &str = "<circle class='ordered' r='6'/><text x='18' y='4'>ordered</text>\n\
+    <circle class='admitted' cy='24' r='6'/><text x='18' y='28'>admitted</text>\n\
+    <circle class='waiting' cy='48' r='6'/><text x='18' y='52'>waiting</text>\n\
+    <circle class='voted' cx='120' r='10'/><text x='138' y='4'>voted</text>\n\
+    <circle class='linked' cx='120' cy='24' r='10'/><text x='138' y='28'>linked</text>\n\
+    <circle class='skipped' cx='120' cy='48' r='10'/><text x='138' y='52'>skipped</text>\n\
+    <circle class='open' cx='120' cy='72' r='10'/><text x='138' y='76'>open</text>\n\
+    <path class='l' d='M230 0h24'/><text x='262' y='4'>parent</text>\n\
+    <path class='v' d='M230 24h24'/><text x='262' y='28'>vote</text>\n\
+    ";

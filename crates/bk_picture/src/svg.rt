@@ -1,0 +1,377 @@
+//! The text of a picture.
+
+ghost use Rattle.std.specs.Prelude.{◌≡◌, ◌<◌, ◌++◌, OnOk, IfOk, string_bytes};
+ghost use Rattle.std.specs.List.{flat_map};
+ghost use Rattle.bk_views.specs.Anchors.{row_text};
+ghost use Rattle.bk_picture.specs.Svg.{anchor_of, column_text, dot_head, head_line, key_head, label_text, name_line, path_text, ring_head, round_text, title_words, vote_path_text, dot_line, dot_text, head_text, key_text, left_of, links_text, members_text, parents_text, ring_line, ring_text, segment_if, segment_text, svg_text, vote_text};
+
+use crate::fixed::{KEY, STYLE};
+use crate::picture::{Cell, Class, Column, Picture};
+use crate::words::{Head, Note, Title, height_of};
+use bk_views::{AnchorRow, AnchorState};
+use itoa::Buffer;
+use std::alloc::{AllocError, Global};
+use std::fmt::Write;
+
+// Where the column of a round is.
+fn left_of(from: u32, round: u32) -> u64
+    ensures { result ≡ left_of from round }
+{
+    40 * u64::from(round.saturating_sub(from)) + 60
+}
+
+// Adds the line from a member's circle to that of a parent.
+fn push_segment(text: &mut String, member: u8, parent: u8) -> Result<(), AllocError>
+    ensures { OnOk result (string_bytes text.new
+        ≡ string_bytes text.old ++ segment_text member parent) }
+{
+    text.push_str("M0 ")?;
+    text.push_str(Buffer::new().format(height_of(member)))?;
+    text.push_str("L-40 ")?;
+    text.push_str(Buffer::new().format(height_of(parent)))?;
+    Ok(())
+}
+
+// Adds it, if the parent is one.
+fn push_parent(text: &mut String, cell: &Cell, parent: u8) -> Result<(), AllocError>
+    requires { parent < 128 }
+    ensures { OnOk result (string_bytes text.new
+        ≡ string_bytes text.old ++ segment_if cell.now.member cell.now.parents parent) }
+{
+    if cell.parents.has(parent) {
+        push_segment(text, cell.member, parent)?;
+    }
+    Ok(())
+}
+
+// Adds the lines to all parents of a cell.
+fn push_parents(text: &mut String, cell: &Cell) -> Result<(), AllocError>
+    ensures { OnOk result (string_bytes text.new ≡ string_bytes text.old ++ parents_text cell.now) }
+{
+    for parent in 0..128 {
+        push_parent(text, cell, parent)?;
+    }
+    Ok(())
+}
+
+// Adds the line to the parent that a cell votes for.
+fn push_vote(text: &mut String, cell: &Cell) -> Result<(), AllocError>
+    ensures { OnOk result (string_bytes text.new ≡ string_bytes text.old ++ vote_text cell.now) }
+{
+    match cell.vote {
+        Some(parent) => push_segment(text, cell.member, parent),
+        None => Ok(()),
+    }
+}
+
+// Adds the lines to all parents of a column.
+fn push_all_parents(text: &mut String, cells: &[Cell]) -> Result<(), AllocError>
+    ensures { OnOk result (string_bytes text.new
+        ≡ string_bytes text.old ++ flat_map parents_text cells.now) }
+{
+    for cell in cells {
+        push_parents(text, cell)?;
+    }
+    Ok(())
+}
+
+// Adds the lines of all its votes.
+fn push_votes(text: &mut String, cells: &[Cell]) -> Result<(), AllocError>
+    ensures { OnOk result (string_bytes text.new
+        ≡ string_bytes text.old ++ flat_map vote_text cells.now) }
+{
+    for cell in cells {
+        push_vote(text, cell)?;
+    }
+    Ok(())
+}
+
+// Begins the path of the lines to all parents.
+fn push_path(text: &mut String, x: u64) -> Result<(), AllocError>
+    ensures { OnOk result (string_bytes text.new ≡ string_bytes text.old ++ path_text x) }
+{
+    write!(text, "<path class='l' transform='translate({x})' d='")?;
+    Ok(())
+}
+
+// Ends it, and begins that of the votes.
+fn push_vote_path(text: &mut String, x: u64) -> Result<(), AllocError>
+    ensures { OnOk result (string_bytes text.new ≡ string_bytes text.old ++ vote_path_text x) }
+{
+    write!(text, "'/>\n<path class='v' transform='translate({x})' d='")?;
+    Ok(())
+}
+
+// Adds the two paths of a column.
+fn push_links(text: &mut String, from: u32, column: &Column) -> Result<(), AllocError>
+    ensures { OnOk result (string_bytes text.new
+        ≡ string_bytes text.old ++ links_text from column.now) }
+{
+    let x = left_of(from, column.round);
+    push_path(text, x)?;
+    push_all_parents(text, &column.cells)?;
+    push_vote_path(text, x)?;
+    push_votes(text, &column.cells)?;
+    text.push_str("'/>\n")?;
+    Ok(())
+}
+
+// Adds the paths of all columns.
+fn push_all_links(text: &mut String, from: u32, columns: &[Column]) -> Result<(), AllocError>
+    ensures { OnOk result (string_bytes text.new
+        ≡ string_bytes text.old ++ flat_map (links_text from) columns.now) }
+{
+    for column in columns {
+        push_links(text, from, column)?;
+    }
+    Ok(())
+}
+
+// The row of a member that leads its round.
+fn note_of(ring: Option<AnchorRow>, member: u8) -> Option<AnchorRow>
+    ensures { result ≡ anchor_of ring member }
+{
+    match ring {
+        Some(row) if row.leader == member => Some(row),
+        Some(_) | None => None,
+    }
+}
+
+// Begins the circle of a certificate.
+fn push_dot_head(text: &mut String, class: Class, y: u64) -> Result<(), AllocError>
+    ensures { OnOk result (string_bytes text.new ≡ string_bytes text.old ++ dot_head class y) }
+{
+    write!(text, "<circle class='{class}' cy='{y}' r='6'><title>")?;
+    Ok(())
+}
+
+// Adds its title.
+fn push_title(
+    text: &mut String,
+    round: u32,
+    member: u8,
+    class: Class,
+    anchor: Option<AnchorRow>,
+) -> Result<(), AllocError>
+    ensures { OnOk result (string_bytes text.new
+        ≡ string_bytes text.old ++ title_words round member class anchor) }
+{
+    let note = Note { anchor };
+    let title = Title {
+        round,
+        member,
+        class,
+        note,
+    };
+    write!(text, "{title}")?;
+    Ok(())
+}
+
+// Adds the circle of a certificate.
+fn push_circle(
+    text: &mut String,
+    round: u32,
+    member: u8,
+    class: Class,
+    anchor: Option<AnchorRow>,
+) -> Result<(), AllocError>
+    ensures { OnOk result (string_bytes text.new
+        ≡ string_bytes text.old ++ dot_line round member class anchor) }
+{
+    let y = height_of(member);
+    push_dot_head(text, class, y)?;
+    push_title(text, round, member, class, anchor)?;
+    text.push_str("</title></circle>\n")?;
+    Ok(())
+}
+
+// Adds the circle of a cell, if it has one.
+fn push_dot(
+    text: &mut String,
+    round: u32,
+    ring: Option<AnchorRow>,
+    cell: &Cell,
+) -> Result<(), AllocError>
+    ensures { OnOk result (string_bytes text.new
+        ≡ string_bytes text.old ++ dot_text round ring cell.now) }
+{
+    match cell.class {
+        Some(class) => {
+            let anchor = note_of(ring, cell.member);
+            push_circle(text, round, cell.member, class, anchor)
+        }
+        None => Ok(()),
+    }
+}
+
+// Adds the circles of all cells of a round.
+fn push_dots(
+    text: &mut String,
+    round: u32,
+    ring: Option<AnchorRow>,
+    cells: &[Cell],
+) -> Result<(), AllocError>
+    ensures { OnOk result (string_bytes text.new
+        ≡ string_bytes text.old ++ flat_map (dot_text round ring) cells.now) }
+{
+    for cell in cells {
+        push_dot(text, round, ring, cell)?;
+    }
+    Ok(())
+}
+
+// Begins the ring of a row.
+fn push_ring_head(text: &mut String, state: AnchorState, y: u64) -> Result<(), AllocError>
+    ensures { OnOk result (string_bytes text.new ≡ string_bytes text.old ++ ring_head state y) }
+{
+    write!(text, "<circle class='{state}' cy='{y}' r='11'><title>")?;
+    Ok(())
+}
+
+// Adds the line of a row.
+fn push_line(text: &mut String, row: AnchorRow) -> Result<(), AllocError>
+    ensures { OnOk result (string_bytes text.new ≡ string_bytes text.old ++ row_text row) }
+{
+    write!(text, "{row}")?;
+    Ok(())
+}
+
+// Adds the ring of a row.
+fn push_row(text: &mut String, row: AnchorRow) -> Result<(), AllocError>
+    ensures { OnOk result (string_bytes text.new ≡ string_bytes text.old ++ ring_line row) }
+{
+    let y = height_of(row.leader);
+    push_ring_head(text, row.state, y)?;
+    push_line(text, row)?;
+    text.push_str("</title></circle>\n")?;
+    Ok(())
+}
+
+// Adds a ring, if there is one.
+fn push_ring(text: &mut String, ring: Option<AnchorRow>) -> Result<(), AllocError>
+    ensures { OnOk result (string_bytes text.new ≡ string_bytes text.old ++ ring_text ring) }
+{
+    match ring {
+        Some(row) => push_row(text, row),
+        None => Ok(()),
+    }
+}
+
+// Begins a round, and adds its number.
+fn push_round(text: &mut String, x: u64, round: u32) -> Result<(), AllocError>
+    ensures { OnOk result (string_bytes text.new ≡ string_bytes text.old ++ round_text x round) }
+{
+    write!(
+        text,
+        "<g transform='translate({x})'>\n<text y='24'>{round}</text>\n"
+    )?;
+    Ok(())
+}
+
+// Adds the number of a round, its ring and its circles.
+fn push_column(text: &mut String, from: u32, column: &Column) -> Result<(), AllocError>
+    ensures { OnOk result (string_bytes text.new
+        ≡ string_bytes text.old ++ column_text from column.now) }
+{
+    let round = column.round;
+    let x = left_of(from, round);
+    push_round(text, x, round)?;
+    push_ring(text, column.ring)?;
+    push_dots(text, round, column.ring, &column.cells)?;
+    text.push_str("</g>\n")?;
+    Ok(())
+}
+
+// Adds those of all rounds.
+fn push_columns(text: &mut String, from: u32, columns: &[Column]) -> Result<(), AllocError>
+    ensures { OnOk result (string_bytes text.new
+        ≡ string_bytes text.old ++ flat_map (column_text from) columns.now) }
+{
+    for column in columns {
+        push_column(text, from, column)?;
+    }
+    Ok(())
+}
+
+// Adds the number of a member.
+fn push_label(text: &mut String, y: u64, member: u8) -> Result<(), AllocError>
+    ensures { OnOk result (string_bytes text.new ≡ string_bytes text.old ++ label_text y member) }
+{
+    write!(text, "<text x='24' y='{y}'>{member}</text>\n")?;
+    Ok(())
+}
+
+// Adds the numbers of the members.
+fn push_members(text: &mut String, members: u8) -> Result<(), AllocError>
+    ensures { OnOk result (string_bytes text.new
+        ≡ string_bytes text.old ++ members_text members) }
+{
+    for member in 0..members {
+        let y = height_of(member);
+        push_label(text, y + 4, member)?;
+    }
+    Ok(())
+}
+
+// Begins with the size.
+fn push_size(text: &mut String, count: u32, members: u8) -> Result<(), AllocError>
+    ensures { OnOk result (string_bytes text.new ≡ string_bytes text.old ++ head_line count members) }
+{
+    let head = Head { count, members };
+    write!(text, "{head}")?;
+    Ok(())
+}
+
+// Adds the title.
+fn push_name(text: &mut String, count: u32, from: u32, members: u8) -> Result<(), AllocError>
+    ensures { OnOk result (string_bytes text.new
+        ≡ string_bytes text.old ++ name_line count from members) }
+{
+    write!(
+        text,
+        "\n<title>{count} rounds from {from}, {members} members</title>\n"
+    )?;
+    Ok(())
+}
+
+// Adds the head: the size, the title and the style.
+fn push_head(text: &mut String, picture: &Picture) -> Result<(), AllocError>
+    ensures { OnOk result (string_bytes text.new ≡ string_bytes text.old ++ head_text picture.now) }
+{
+    push_size(text, picture.count, picture.members)?;
+    push_name(text, picture.count, picture.from, picture.members)?;
+    text.push_str(STYLE)?;
+    Ok(())
+}
+
+// Begins the key.
+fn push_key_head(text: &mut String, y: u64) -> Result<(), AllocError>
+    ensures { OnOk result (string_bytes text.new ≡ string_bytes text.old ++ key_head y) }
+{
+    write!(text, "<g class='k' transform='translate(60 {y})'>\n")?;
+    Ok(())
+}
+
+// Adds the key and the end.
+fn push_key(text: &mut String, members: u8) -> Result<(), AllocError>
+    ensures { OnOk result (string_bytes text.new ≡ string_bytes text.old ++ key_text members) }
+{
+    let y = height_of(members);
+    push_key_head(text, y + 20)?;
+    text.push_str(KEY)?;
+    text.push_str("</g>\n</svg>\n")?;
+    Ok(())
+}
+
+/// The text of a picture: SVG 1.1.
+pub fn svg_of(alloc: Global, picture: &Picture) -> Result<String, AllocError>
+    ensures { IfOk result (λ text. string_bytes text ≡ svg_text picture.now) }
+{
+    let mut text = String::new(alloc);
+    push_head(&mut text, picture)?;
+    push_all_links(&mut text, picture.from, &picture.columns)?;
+    push_columns(&mut text, picture.from, &picture.columns)?;
+    push_members(&mut text, picture.members)?;
+    push_key(&mut text, picture.members)?;
+    Ok(text)
+}
