@@ -18,7 +18,7 @@ METHODS = {
     "Parser": {"range"},
 }
 REPEATED = ("arg", "subcommand")
-TOKEN = re.compile(r'"(?:[^"\\]|\\.)*"|[A-Za-z_]\w*!?(?:::\w+)*|\d+|\.\.=|\S')
+TOKEN = re.compile(r'"(?:[^"\\]|\\.)*"|[A-Za-z_]\w*!?(?:::\w+)*|\d[\d_]*|\.\.=|\S')
 
 
 def fail(why):
@@ -140,7 +140,7 @@ class Body:
         token = self.next()
         if token.startswith('"'):
             return unquoted(token[1:-1])
-        if token.isdigit():
+        if token[0].isdigit():
             return int(token)
         if token in self.variables:
             return self.variables[token]

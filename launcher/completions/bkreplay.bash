@@ -5,7 +5,7 @@ _bkreplay() {
     for ((at = 1; at < COMP_CWORD; at++)); do
         word=${COMP_WORDS[at]}
         case $word in
-        --workers) value=$word ;;
+        --from | --rounds | --workers) value=$word ;;
         *[\<\>]*) value=redirection ;;
         = | -*) ;;
         *)
@@ -57,6 +57,10 @@ _bkreplay() {
         names='--help'
         kinds=(file)
         ;;
+    dag)
+        names='--from --rounds --help'
+        kinds=(file)
+        ;;
     statement)
         names='--workers --help'
         kinds=(none file)
@@ -89,6 +93,8 @@ _bkreplay() {
     esac
     case "$command $value" in
     'run --workers') COMPREPLY=($(compgen -W '{1..64}' -- "$current")) ;;
+    'dag --from') COMPREPLY=($(compgen -W '{1..1000000}' -- "$current")) ;;
+    'dag --rounds') COMPREPLY=($(compgen -W '{1..1000}' -- "$current")) ;;
     'statement --workers') COMPREPLY=($(compgen -W '{1..64}' -- "$current")) ;;
     'check-state --workers') COMPREPLY=($(compgen -W '{1..64}' -- "$current")) ;;
     'check-report --workers') COMPREPLY=($(compgen -W '{1..64}' -- "$current")) ;;
@@ -131,6 +137,7 @@ receipt Write what became of the transaction at one place of the order
 prove Write a proof that one account is in the state at the end
 frames Write a line for each frame of a feed: what it holds, and which rule a certificate breaks
 anchors Write what became of the anchor of each odd round, with its votes
+dag Draw the certificates of some rounds and what became of them, as an SVG picture
 statement Write what the transactions of the order do to one account
 check-proof Check that a text proves an account of the state of this digest
 check-state Check that a digest is that of the state at the end of a feed

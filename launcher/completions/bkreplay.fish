@@ -6,7 +6,7 @@ function __bkreplay_at --argument-names command index
     set -l found
     for word in (commandline -opc)[2..]
         switch $word
-            case --workers
+            case --from --rounds --workers
                 set value $word
             case '-*'
             case '*'
@@ -34,6 +34,7 @@ complete -c bkreplay -n "__bkreplay_at ''" -a receipt -d 'Write what became of t
 complete -c bkreplay -n "__bkreplay_at ''" -a prove -d 'Write a proof that one account is in the state at the end'
 complete -c bkreplay -n "__bkreplay_at ''" -a frames -d 'Write a line for each frame of a feed: what it holds, and which rule a certificate breaks'
 complete -c bkreplay -n "__bkreplay_at ''" -a anchors -d 'Write what became of the anchor of each odd round, with its votes'
+complete -c bkreplay -n "__bkreplay_at ''" -a dag -d 'Draw the certificates of some rounds and what became of them, as an SVG picture'
 complete -c bkreplay -n "__bkreplay_at ''" -a statement -d 'Write what the transactions of the order do to one account'
 complete -c bkreplay -n "__bkreplay_at ''" -a check-proof -d 'Check that a text proves an account of the state of this digest'
 complete -c bkreplay -n "__bkreplay_at ''" -a check-state -d 'Check that a digest is that of the state at the end of a feed'
@@ -50,6 +51,9 @@ complete -c bkreplay -n '__bkreplay_at receipt 1' -F
 complete -c bkreplay -n '__bkreplay_at prove 1' -F
 complete -c bkreplay -n '__bkreplay_at frames 0' -F
 complete -c bkreplay -n '__bkreplay_at anchors 0' -F
+complete -c bkreplay -n '__bkreplay_at dag' -l from -x -a '(seq 1 1000000)' -d 'The first round that is drawn, 1 to 1,000,000; 1 by default'
+complete -c bkreplay -n '__bkreplay_at dag' -l rounds -x -a '(seq 1 1000)' -d 'How many rounds are drawn, 1 to 1,000; 40 by default'
+complete -c bkreplay -n '__bkreplay_at dag 0' -F
 complete -c bkreplay -n '__bkreplay_at statement' -l workers -x -a '(seq 1 64)' -d 'How many threads execute at most, 1 to 64; 1 by default. The output is the same for any number'
 complete -c bkreplay -n '__bkreplay_at statement 1' -F
 complete -c bkreplay -n '__bkreplay_at check-proof 1' -F

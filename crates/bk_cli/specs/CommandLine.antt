@@ -59,6 +59,24 @@ first_feed_rule = required_rule (codes "FEED1")
 abbrev pub second_feed_rule : Rule
 second_feed_rule = required_rule (codes "FEED2")
 
+-- the option `--from R`, a number from 1 to 1,000,000
+abbrev pub from_rule : Rule
+from_rule = record (new_rule (codes "from")) {
+  long = Some (codes "from");
+  action = Some Set;
+  value_names = 1;
+  parser = Some (Signed (pos 1) (pos 1000000));
+}
+
+-- the option `--rounds N`, a number from 1 to 1,000
+abbrev pub rounds_rule : Rule
+rounds_rule = record (new_rule (codes "rounds")) {
+  long = Some (codes "rounds");
+  action = Some Set;
+  value_names = 1;
+  parser = Some (Signed (pos 1) (pos 1000));
+}
+
 -- the argument ID, a number below 2^64
 abbrev pub id_rule : Rule
 id_rule = record (new_rule (codes "ID")) {
@@ -95,6 +113,12 @@ schedule_line =
     let named = new_app (codes "schedule") in
     with_rule (with_rule (with_rule named workers_rule) feed_rule) events_rule
 
+-- the command `dag [--from R] [--rounds N] [FILE]`
+abbrev pub dag_line : App
+dag_line =
+    let named = new_app (codes "dag") in
+    with_rule (with_rule (with_rule named from_rule) rounds_rule) file_rule
+
 -- the command `compare FEED1 FEED2`
 abbrev pub compare_line : App
 compare_line = with_rule (with_rule (new_app (codes "compare")) first_feed_rule) second_feed_rule
@@ -109,6 +133,7 @@ word_of verb.Receipt = codes "receipt"
 word_of verb.Prove = codes "prove"
 word_of verb.Frames = codes "frames"
 word_of verb.Anchors = codes "anchors"
+word_of verb.Dag = codes "dag"
 word_of verb.Statement = codes "statement"
 word_of verb.CheckProof = codes "check-proof"
 word_of verb.CheckState = codes "check-state"
@@ -127,6 +152,7 @@ line_of verb.Receipt = value_line (codes "receipt") place_rule
 line_of verb.Prove = value_line (codes "prove") id_rule
 line_of verb.Frames = file_line (codes "frames")
 line_of verb.Anchors = file_line (codes "anchors")
+line_of verb.Dag = dag_line
 line_of verb.Statement = working_line (codes "statement") id_rule
 line_of verb.CheckProof = value_line (codes "check-proof") root_rule
 line_of verb.CheckState = working_line (codes "check-state") root_rule
@@ -158,7 +184,8 @@ asking_line =
 -- and with those that show what is in a feed
 abbrev pub viewing_line : App
 viewing_line =
-    with_command (with_command (with_command asking_line verb.Frames) verb.Anchors) verb.Statement
+    with_command (with_command (with_command (with_command asking_line verb.Frames) verb.Anchors) verb.Dag)
+    verb.Statement
 
 -- and with those that check something
 abbrev pub checking_line : App
@@ -180,13 +207,17 @@ IsFileIn rows file = first_of (codes "FILE") rows ≡ file
 abbrev pub IsTextIn : List Row → Text → Text → Type 0
 IsTextIn rows name text = text ≡ unwrap_or (first_of name rows) []
 
--- so many workers are named by the value of `--workers`: this number where there is none
-abbrev pub AreNamedBy : ℕ → Option Text → ℕ → Type 0
-AreNamedBy usual None count = count ≡ usual
-AreNamedBy usual (Some text) count =
+-- a number from 1 to the first is the value of an option: the second where there is none
+abbrev pub IsChosenBy : ℕ → ℕ → Option Text → ℕ → Type 0
+IsChosenBy most usual None n = n ≡ usual
+IsChosenBy most usual (Some text) n =
     IsNumeral 10 (without_leading_plus text) → 1 ≤ digits_value 10 (without_leading_plus text)
-    → digits_value 10 (without_leading_plus text) ≤ 64
-    → count ≡ digits_value 10 (without_leading_plus text)
+    → digits_value 10 (without_leading_plus text) ≤ most
+    → n ≡ digits_value 10 (without_leading_plus text)
+
+-- the number of workers is the value of `--workers`: this number where there is none
+abbrev pub AreNamedBy : ℕ → Option Text → ℕ → Type 0
+AreNamedBy usual text count = IsChosenBy 64 usual text count
 
 -- a number below a limit is the value of an argument that is required
 abbrev pub IsNumberBy : ℕ → Option Text → ℕ → Type 0
@@ -239,6 +270,10 @@ IsJobAt word rows (job.CheckReport workers report file) =
     × IsFileIn rows (option_map string_bytes file)
 IsJobAt word rows (job.Frames file) =
     (word ≡ word_of verb.Frames) × IsFileIn rows (option_map string_bytes file)
+IsJobAt word rows (job.Dag window file) =
+    (word ≡ word_of verb.Dag) × IsChosenBy 1000000 1 (one_of (codes "from") rows) window.from
+    × IsChosenBy 1000 40 (one_of (codes "rounds") rows) window.rounds
+    × IsFileIn rows (option_map string_bytes file)
 IsJobAt word rows (job.Apply file) =
     (word ≡ word_of verb.Apply) × IsFileIn rows (option_map string_bytes file)
 IsJobAt word rows (job.Schedule workers feed events) =
@@ -287,6 +322,6 @@ IsOneOf (x ∷ xs) word = (word ≡ x) ⊎ IsOneOf xs word
 abbrev pub all_words : List Text
 all_words =
     word_of verb.Run ∷ word_of verb.Make ∷ word_of verb.Order ∷ word_of verb.Account ∷ word_of verb.Receipt
-    ∷ word_of verb.Prove ∷ word_of verb.Frames ∷ word_of verb.Anchors ∷ word_of verb.Statement
+    ∷ word_of verb.Prove ∷ word_of verb.Frames ∷ word_of verb.Anchors ∷ word_of verb.Dag ∷ word_of verb.Statement
     ∷ word_of verb.CheckProof ∷ word_of verb.CheckState ∷ word_of verb.CheckReport ∷ word_of verb.Apply
     ∷ word_of verb.Schedule ∷ word_of verb.Compare ∷ []

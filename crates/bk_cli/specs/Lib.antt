@@ -1,3 +1,4 @@
 pub mod CommandLine
 pub mod Exits
 pub mod FaultLines
+pub mod Windows

@@ -4,7 +4,7 @@ ghost use Rattle.std.specs.Prelude.{◌≡◌, true, false, IfOk};
 ghost use Rattle.clap.specs.Words.{app_of, new_app, rule_of, with_subcommand};
 ghost use Rattle.clap.specs.declared.builder.command.Command.TheViews.{out-Command};
 ghost use Rattle.bk_cli.specs.CommandLine.{program, asking_line, checking_line, viewing_line, command_line, file_line, value_line, schedule_line, working_line};
-ghost use Rattle.bk_cli.specs.CommandLine.{file_rule, workers_rule, required_rule, root_rule, id_rule, place_rule, compare_line};
+ghost use Rattle.bk_cli.specs.CommandLine.{file_rule, workers_rule, required_rule, root_rule, id_rule, place_rule, from_rule, rounds_rule, dag_line, compare_line};
 
 use crate::help::{self, Help};
 use crate::more_help;
@@ -137,6 +137,43 @@ fn schedule_command<'a>(alloc: Global) -> Result<Command<'a>, AllocError>
         .arg(required_arg(alloc, "EVENTS", help::EVENTS))
 }
 
+// The option `--from R`.
+fn from_arg<'a>(alloc: Global) -> Arg<'a>
+    ensures rule { rule_of result ≡ from_rule }
+    ensures local { result.global ≡ false }
+{
+    Arg::new(alloc, "from")
+        .long("from")
+        .action(ArgAction::Set)
+        .value_name("R")
+        .value_parser(value_parser!(u32).range(1..=1_000_000))
+        .help(help::FROM)
+}
+
+// The option `--rounds N`.
+fn rounds_arg<'a>(alloc: Global) -> Arg<'a>
+    ensures rule { rule_of result ≡ rounds_rule }
+    ensures local { result.global ≡ false }
+{
+    Arg::new(alloc, "rounds")
+        .long("rounds")
+        .action(ArgAction::Set)
+        .value_name("N")
+        .value_parser(value_parser!(u32).range(1..=1_000))
+        .help(help::ROUNDS)
+}
+
+// The command `dag [--from R] [--rounds N] [FILE]`.
+fn dag_command<'a>(alloc: Global) -> Result<Command<'a>, AllocError>
+    ensures line { IfOk result (λ c. app_of c ≡ dag_line) }
+    ensures local { IfOk result (λ c. (out-Command c).has_globals ≡ false) }
+{
+    named(alloc, "dag", help::DAG)
+        .arg(from_arg(alloc))?
+        .arg(rounds_arg(alloc))?
+        .arg(file_arg(alloc))
+}
+
 // The command `compare FEED1 FEED2`.
 fn compare_command<'a>(alloc: Global) -> Result<Command<'a>, AllocError>
     ensures line { IfOk result (λ c. app_of c ≡ compare_line) }
@@ -200,6 +237,16 @@ fn with_working<'a>(
     program.subcommand(command)
 }
 
+// The program with the command `dag`.
+fn with_dag<'a>(alloc: Global, program: Command<'a>) -> Result<Command<'a>, AllocError>
+    requires { (out-Command program).has_globals ≡ false }
+    ensures line { IfOk result (λ c. app_of c ≡ with_subcommand (app_of program.entry) dag_line.top) }
+    ensures local { IfOk result (λ c. (out-Command c).has_globals ≡ false) }
+{
+    let command = dag_command(alloc)?;
+    program.subcommand(command)
+}
+
 // The program with the command `schedule`.
 fn with_schedule<'a>(alloc: Global, program: Command<'a>) -> Result<Command<'a>, AllocError>
     requires { (out-Command program).has_globals ≡ false }
@@ -255,7 +302,8 @@ fn viewing_command<'a>(alloc: Global) -> Result<Command<'a>, AllocError>
     let asking = asking_command(alloc)?;
     let frames = with_file(alloc, asking, "frames", help::FRAMES)?;
     let anchors = with_file(alloc, frames, "anchors", help::ANCHORS)?;
-    with_working(alloc, anchors, "statement", id_arg(alloc), help::STATEMENT)
+    let dag = with_dag(alloc, anchors)?;
+    with_working(alloc, dag, "statement", id_arg(alloc), help::STATEMENT)
 }
 
 // And with those that check something.

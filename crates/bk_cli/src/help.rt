@@ -12,6 +12,10 @@ pub(crate) const FILE: &str = "The path of the file; standard input by default";
 pub(crate) const WORKERS: &str =
     "How many threads execute at most, 1 to 64; 1 by default. The output is the same for any number";
 
+pub(crate) const FROM: &str = "The first round that is drawn, 1 to 1,000,000; 1 by default";
+
+pub(crate) const ROUNDS: &str = "How many rounds are drawn, 1 to 1,000; 40 by default";
+
 pub(crate) const EVENT_WORKERS: &str =
     "The number of workers in the list of events, 1 to 64; 2 by default. The first is worker 0";
 
@@ -242,6 +246,29 @@ Exit status:
 
 Example:
   ./bkreplay anchors examples/order/one_commit.feed",
+};
+
+pub(crate) const DAG: Help<'static> = Help {
+    about: "Draw the certificates of some rounds and what became of them, as an SVG picture",
+    after: "\
+Reads a feed, as `run` does, and finds its order. Writes a picture of N rounds from round R on as SVG 1.1: a column for
+each round and a row for each member.
+
+  circle                          a certificate: full if it is in the order, empty if it is not, with a broken outline if
+                                  it waits for a parent; a browser shows its title when the pointer is on it
+  ring                            the place of the leader of an odd round, by what became of its anchor: thick if it is
+                                  `voted`, in long dashes if `linked`, in dots if `skipped`, thin if `open`
+  line                            from an admitted certificate to a parent; thick if it is a vote for an anchor
+
+Exit status:
+  0  the picture is written
+  1  the command line is wrong
+  2  feed fault CODE at OFFSET, with a code of 1 to 7: the bytes are not a feed
+  3  collision ID, or equivocation ROUND AUTHOR ID ID: the feed is stopped
+  4  feed fault 8 or 9, memory, read failed, or write failed
+
+Example:
+  ./bkreplay dag --rounds 8 examples/order/one_commit.feed",
 };
 
 pub(crate) const STATEMENT: Help<'static> = Help {

@@ -1,15 +1,16 @@
 //! What the command line asks for.
 
-ghost use Rattle.std.specs.Prelude.{◌≡◌, ◌⊎◌, ◌^◌, true, [], map, option_map, string_bytes, codes, unwrap_or, Some, IfOk, IfErr, MatchOption};
+ghost use Rattle.std.specs.Prelude.{◌≡◌, ◌≤◌, ◌⊎◌, ◌^◌, true, [], map, option_map, string_bytes, codes, unwrap_or, Some, IfOk, IfErr, MatchOption};
 ghost use Rattle.clap.specs.Kinds.{FailsBy, HasKind};
 ghost use Rattle.clap.specs.Words.{fault_of, has_subcommand, kind_of, one_text, first_value, found_of, rows_of};
 ghost use Rattle.clap.specs.Words.{subcommand_of, subcommand_rows_of, takes};
 ghost use Rattle.bk_cli.specs.declared.job.Job.TheVariants as job;
 ghost use Rattle.bk_cli.specs.CommandLine.{IsFileIn, IsOfRoot, NamesNoDigest};
-ghost use Rattle.bk_cli.specs.CommandLine.{IsJobOf, IsJobAt, AreNamedBy, IsNumberBy, command_line, word_of};
+ghost use Rattle.bk_cli.specs.CommandLine.{IsJobOf, IsJobAt, AreNamedBy, IsChosenBy, IsNumberBy, command_line, word_of};
 
 use crate::commands::command;
 use crate::verb::Verb;
+use crate::window::{MOST_FROM, MOST_ROUNDS, Window};
 use crate::workers::Workers;
 use bk_digest::Digest32;
 use bk_results::Query;
@@ -57,6 +58,12 @@ pub enum Job {
     Frames {
         file: Option<String>,
     },
+    /// Draws the certificates of some rounds of a feed.
+    Dag {
+        /// The rounds.
+        window: Window,
+        file: Option<String>,
+    },
     /// Executes the batches of a feed in feed order and writes the apply report.
     Apply {
         file: Option<String>,
@@ -89,6 +96,7 @@ impl Job {
             | Job::CheckReport { file, .. }
             | Job::Ask { file, .. }
             | Job::Frames { file }
+            | Job::Dag { file, .. }
             | Job::Apply { file } => file.as_deref(),
             Job::Schedule { feed, .. } => Some(feed.as_str()),
             Job::Compare { first, .. } => Some(first.as_str()),
@@ -104,6 +112,7 @@ impl Job {
             | Job::CheckProof { .. }
             | Job::Ask { .. }
             | Job::Frames { .. }
+            | Job::Dag { .. }
             | Job::Apply { .. } => None,
             Job::CheckReport { report, .. } => Some(report.as_str()),
             Job::Schedule { events, .. } => Some(events.as_str()),
@@ -245,6 +254,30 @@ fn report_of(alloc: Global, found: &ArgMatches<'_>, file: Option<String>) -> Res
     })
 }
 
+// The value of an option, a number from 1 to `most`, and the usual one where it is left out. The parser has refused what
+// is out of this range.
+fn chosen_in(found: &ArgMatches<'_>, name: &str, most: u32, usual: u32) -> u32
+    requires { (1 ≤ usual) × (usual ≤ most) }
+    ensures value { IsChosenBy most usual (one_text (found_of found.now) name.now) result }
+    ensures fit { (1 ≤ result) × (result ≤ most) }
+{
+    match found.get_one::<u32>(name) {
+        Some(number) if number >= 1 && number <= most => number,
+        Some(_) | None => usual,
+    }
+}
+
+// The job of `dag` of this file, with the values of its other arguments.
+fn dag_of(found: &ArgMatches<'_>, file: Option<String>) -> Job
+    requires { IsFileIn (rows_of (found_of found.now)) (option_map string_bytes file) }
+    ensures { IsJobAt (codes "dag") (rows_of (found_of found.now)) result }
+{
+    let from = chosen_in(found, "from", MOST_FROM, 1);
+    let rounds = chosen_in(found, "rounds", MOST_ROUNDS, 40);
+    let window = Window::new(from, rounds);
+    Job::Dag { window, file }
+}
+
 // The job of a query for which one thread executes.
 fn ask_one(asked: Query, file: Option<String>) -> Job
     ensures { result ≡ job.Ask 1 asked file }
@@ -279,6 +312,7 @@ fn job_of(alloc: Global, verb: Verb, found: &ArgMatches<'_>) -> Result<Option<Jo
         Verb::Prove => Ok(Some(ask_one(Query::Proof { id: id_in(found) }, file))),
         Verb::Frames => Ok(Some(Job::Frames { file })),
         Verb::Anchors => Ok(Some(ask_one(Query::Anchors, file))),
+        Verb::Dag => Ok(Some(dag_of(found, file))),
         Verb::Statement => Ok(Some(statement_of(found, file))),
         Verb::CheckProof => {
             let root = text_in(alloc, found, "ROOT")?;

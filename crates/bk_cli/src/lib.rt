@@ -14,6 +14,7 @@ mod line;
 mod list_fault;
 mod more_help;
 mod verb;
+mod window;
 mod workers;
 
 pub use exit::Exit;
@@ -22,4 +23,5 @@ pub use job::{Job, parse};
 pub use job_fault::JobFault;
 pub use line::{ShortLine, put_number, put_text};
 pub use list_fault::ListFault;
+pub use window::Window;
 pub use workers::Workers;

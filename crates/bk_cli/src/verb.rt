@@ -14,6 +14,7 @@ pub(crate) enum Verb {
     Prove,
     Frames,
     Anchors,
+    Dag,
     Statement,
     CheckProof,
     CheckState,
@@ -52,6 +53,9 @@ impl Verb {
         }
         if word == "anchors" {
             return Verb::Anchors;
+        }
+        if word == "dag" {
+            return Verb::Dag;
         }
         if word == "statement" {
             return Verb::Statement;

@@ -75,6 +75,12 @@ returns-in-Anchors c =
     let found = found_of c.args.found.now in
     rw c.ask_one-in-Anchors.ensures (ap word_of c.in-Anchors.is, refl, sym (first_value-rows found (codes "FILE")) ∙ (sym c.get_str.ensures ∙ sym c.in_ok-file.ensures))
 
+pub dag_of-requires : goal.dag_of-requires
+dag_of-requires c = let found = found_of c.args.found.now in sym (first_value-rows found (codes "FILE")) ∙ (sym c.get_str.ensures ∙ sym c.in_ok-file.ensures)
+
+pub returns-in-Dag : goal.returns-in-Dag
+returns-in-Dag c = rw c.in-Dag.is c.dag_of.ensures
+
 pub statement_of-requires : goal.statement_of-requires
 statement_of-requires c = let found = found_of c.args.found.now in sym (first_value-rows found (codes "FILE")) ∙ (sym c.get_str.ensures ∙ sym c.in_ok-file.ensures)
 

@@ -1,0 +1,16 @@
+-- The rounds are the values of `--from` and `--rounds`.
+use Rattle.std.proofs.Common.{ap, subst, codes, Option, refl, sym, ◌∙◌}
+use Rattle.clap.proofs.WalkLemmas.{one_text-rows}
+use Rattle.clap.specs.Words.{Text, found_of}
+use Rattle.bk_cli.specs.CommandLine.{IsChosenBy}
+use Rattle.bk_cli.specs.Windows.{WindowValue}
+use Rattle.bk_cli.proofs.job.dag_of.Goals as goal
+
+pub returns : goal.returns
+returns c =
+    let found = found_of c.args.found.now in (
+      refl,
+      rw (c.new-window.ensures) (subst (λ (t : Option Text). IsChosenBy 1000000 1 t c.chosen_in-from.result) (one_text-rows found (codes "from")) c.chosen_in-from.ensures.value),
+      rw (c.new-window.ensures) (subst (λ (t : Option Text). IsChosenBy 1000 40 t c.chosen_in-rounds.result) (one_text-rows found (codes "rounds")) c.chosen_in-rounds.ensures.value),
+      c.requires,
+    )
