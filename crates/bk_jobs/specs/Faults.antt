@@ -8,6 +8,7 @@ use Rattle.bk_results.specs.Devices.{Devices, IsUntouched}
 use Rattle.bk_apply.specs.Answers.{FailsBy}
 use Rattle.bk_ask.specs.Asking.{AskFailsBy, IsReplied}
 use Rattle.bk_listing.specs.Answers.{AllIsListed, ListFails}
+use Rattle.bk_picture.specs.Drawing.{DrawFailsBy, IsDrawn}
 use Rattle.bk_report.specs.Proofs.{IsGoodProof}
 use Rattle.bk_results.specs.declared.query.Query.{Query}
 use Rattle.bk_results.specs.declared.query.Reply.{Reply}
@@ -23,6 +24,7 @@ use Rattle.bk_jobs.specs.Comparisons.{AgreeNot, AgreementFailsBy, AgreementIsOut
 use Rattle.bk_jobs.specs.Reports.{ClaimCheckFailsBy, ClaimIsOut, ClaimIsUnread}
 use Rattle.bk_cli.specs.Exits.{absence, ending, exit_at, exit_by, exit_after}
 use Rattle.bk_cli.specs.FaultLines.{Reports, line_of}
+use Rattle.bk_cli.specs.Windows.{WindowValue}
 use Rattle.bk_jobs.specs.Schedules.{AreNoEvents, AreRefused, IsWholeRun, ListFailsBy, ScheduleFailsBy}
 use Rattle.bk_jobs.specs.Sources.{AreBroken, Inputs, JobDevices, first_devices}
 use Rattle.bk_cli.specs.declared.exit.Exit.{Exit}
@@ -73,6 +75,11 @@ ReplyIsOut asked end old new bytes =
 abbrev pub FramesAreOut : Exit → Device → Device → List ℕ → Type 0
 FramesAreOut end old new bytes = (end ≡ exit.Whole) × AllIsListed old new bytes
 
+-- the output got the whole picture of the bytes, of the rounds of this window
+abbrev pub PictureIsOut : WindowValue → Exit → Device → Device → List ℕ → Type 0
+PictureIsOut window end old new bytes =
+    (end ≡ exit.Whole) × IsDrawn window.from window.rounds bytes old new
+
 -- the output got the whole apply report of the first source, and the exit is the report's; and the second source lists
 -- events that are a whole run of its transactions
 abbrev pub ScheduleIsOut : ℕ → Exit → Inputs → Device → Device → Type 0
@@ -90,6 +97,7 @@ AnswerIsOut (job.Ask workers asked file) end given old new =
     IfSome given.first (ReplyIsOut asked end old new)
 AnswerIsOut (job.CheckReport workers report file) end given old new = IfBothGive given (ClaimIsOut end old new)
 AnswerIsOut (job.Frames file) end given old new = IfSome given.first (FramesAreOut end old new)
+AnswerIsOut (job.Dag window file) end given old new = IfSome given.first (PictureIsOut window end old new)
 AnswerIsOut (job.Apply file) end given old new = IfSome given.first (ReportIsOut end old new)
 AnswerIsOut (job.Schedule workers feed events) end given old new =
     ScheduleIsOut workers end given old new
@@ -128,6 +136,8 @@ ReplayFailsBy (job.Ask workers asked file) e old new =
     AskFailsBy asked e (first_devices old) (first_devices new)
 ReplayFailsBy (job.CheckReport workers report file) e old new = ClaimCheckFailsBy (fault.Replay e) old new
 ReplayFailsBy (job.Frames file) e old new = ListFails e (first_devices old) (first_devices new)
+ReplayFailsBy (job.Dag window file) e old new =
+    DrawFailsBy window.from window.rounds e (first_devices old) (first_devices new)
 ReplayFailsBy (job.Apply file) e old new = FailsBy e (first_devices old) (first_devices new)
 ReplayFailsBy (job.Schedule workers feed events) e old new =
     ScheduleFailsBy workers (fault.Replay e) old new
@@ -143,6 +153,7 @@ TextFailsBy (job.CheckProof root file) e old new =
 TextFailsBy (job.Ask workers asked file) e old new = ⊥
 TextFailsBy (job.CheckReport workers report file) e old new = ClaimIsUnread e old new
 TextFailsBy (job.Frames file) e old new = ⊥
+TextFailsBy (job.Dag window file) e old new = ⊥
 TextFailsBy (job.Apply file) e old new = ⊥
 TextFailsBy (job.Schedule workers feed events) e old new = ⊥
 TextFailsBy (job.Compare first second) e old new = ⊥
@@ -155,6 +166,7 @@ EventsFailBy (job.CheckProof root file) e old new = ⊥
 EventsFailBy (job.Ask workers asked file) e old new = ⊥
 EventsFailBy (job.CheckReport workers report file) e old new = ⊥
 EventsFailBy (job.Frames file) e old new = ⊥
+EventsFailBy (job.Dag window file) e old new = ⊥
 EventsFailBy (job.Apply file) e old new = ⊥
 EventsFailBy (job.Schedule workers feed events) e old new = ListFailsBy workers e old new
 EventsFailBy (job.Compare first second) e old new = ⊥
@@ -167,6 +179,7 @@ ComparisonFailsBy (job.CheckProof root file) e old new = ⊥
 ComparisonFailsBy (job.Ask workers asked file) e old new = ⊥
 ComparisonFailsBy (job.CheckReport workers report file) e old new = ⊥
 ComparisonFailsBy (job.Frames file) e old new = ⊥
+ComparisonFailsBy (job.Dag window file) e old new = ⊥
 ComparisonFailsBy (job.Apply file) e old new = ⊥
 ComparisonFailsBy (job.Schedule workers feed events) e old new = ⊥
 ComparisonFailsBy (job.Compare first second) e old new = AgreeNot e old new
@@ -186,6 +199,7 @@ IsAbsentFor (job.Ask workers asked file) e old new =
     IsAbsentBy asked e (first_devices old) (first_devices new)
 IsAbsentFor (job.CheckReport workers report file) e old new = ⊥
 IsAbsentFor (job.Frames file) e old new = ⊥
+IsAbsentFor (job.Dag window file) e old new = ⊥
 IsAbsentFor (job.Apply file) e old new = ⊥
 IsAbsentFor (job.Schedule workers feed events) e old new = ⊥
 IsAbsentFor (job.Compare first second) e old new = ⊥
@@ -240,6 +254,7 @@ AreWrong (job.CheckProof root file) given = ⊥
 AreWrong (job.Ask workers asked file) given = IfSome given.first AreBroken
 AreWrong (job.CheckReport workers report file) given = IfSome given.first AreBroken
 AreWrong (job.Frames file) given = IfSome given.first AreBroken
+AreWrong (job.Dag window file) given = IfSome given.first AreBroken
 AreWrong (job.Apply file) given = IfSome given.first AreBroken
 AreWrong (job.Schedule workers feed events) given = AreWrongFor workers given
 AreWrong (job.Compare first second) given = AreWrongTogether given
@@ -256,6 +271,7 @@ AreStoppedFor (job.CheckProof root file) given = ⊥
 AreStoppedFor (job.Ask workers asked file) given = IfSome given.first AreStopped
 AreStoppedFor (job.CheckReport workers report file) given = IfSome given.first AreStopped
 AreStoppedFor (job.Frames file) given = ⊥
+AreStoppedFor (job.Dag window file) given = IfSome given.first AreStopped
 AreStoppedFor (job.Apply file) given = ⊥
 AreStoppedFor (job.Schedule workers feed events) given = ⊥
 AreStoppedFor (job.Compare first second) given = AreStoppedTogether given

@@ -6,6 +6,7 @@
 
 mod claiming;
 mod comparing;
+mod drawing;
 mod listing;
 mod opening;
 mod queries;

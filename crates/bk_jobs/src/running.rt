@@ -10,6 +10,7 @@ ghost use Rattle.bk_jobs.specs.Sources.{AllWork, inputs, job_devices};
 
 use crate::claiming::check_claim;
 use crate::comparing::compare_feeds;
+use crate::drawing::draw_rounds;
 use crate::listing::list;
 use crate::queries::reply;
 use crate::replaying::{apply_all, run};
@@ -67,6 +68,10 @@ fn answer<R: Threads + Wait + Sync + AllocGlobal, S1: Source, S2: Source, O: Sin
         }
         Job::Frames { .. } => {
             let end = list(rt, first, out)?;
+            Ok(end)
+        }
+        Job::Dag { window, .. } => {
+            let end = draw_rounds(rt, *window, first, out)?;
             Ok(end)
         }
         Job::Apply { .. } => {

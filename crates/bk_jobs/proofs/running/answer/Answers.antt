@@ -34,3 +34,6 @@ pub returns-in_ok-end-in-CheckReport-clause-answer : goal.returns-in_ok-end-in-C
 returns-in_ok-end-in-CheckReport-clause-answer g c =
     let (v, e) = c.in_ok-end-in-CheckReport.ensures.answer in
     rw c.in-CheckReport.is (claim_answers c.in-CheckReport.workers c.in-CheckReport.report c.in-CheckReport.file v _ e)
+
+pub returns-in_ok-end-in-Dag-clause-answer : goal.returns-in_ok-end-in-Dag-clause-answer
+returns-in_ok-end-in-Dag-clause-answer g c = rw (c.in-Dag.is, c.in_ok-end-in-Dag.ensures.answer) (refl, refl)
