@@ -1,0 +1,80 @@
+"""A plain reading of `dag`: the picture of some rounds, from the bytes of a feed that is not stopped. The style and the key
+are those of the program's source; all else is written here once more."""
+import os
+import re
+import struct
+
+from common import ROOT
+from drawn import committee_of, verdict
+from readings import admitted_of, anchors_lines, history_of, leader_of
+
+
+def constant(name):
+    """A text of crates/bk_picture/src/fixed.rt."""
+    with open(os.path.join(ROOT, "crates/bk_picture/src/fixed.rt"), encoding="utf-8") as source:
+        text = re.search(rf'const {name}: &str = "([^"]*)"', source.read())[1]
+    return re.sub(r"\\\n *", "", text).replace("\\n", "\n")
+
+
+def height(member):
+    return 28 * member + 50
+
+
+def classes_of(committee, frames, admitted, rows):
+    """What became of the certificate of each round and author that has one."""
+    found = {}
+    for kind, payload in frames:
+        if kind == 3 and verdict(committee, payload)[0] is None:
+            author, number = struct.unpack_from(">BI", payload)
+            found[number, author] = "admitted" if (number, author) in admitted else "waiting"
+    for number, row in rows.items():
+        if row.split()[-1] in ("voted", "linked"):
+            found.update(dict.fromkeys(history_of(admitted, (number, leader_of(committee, number))), "ordered"))
+    return found
+
+
+def path(kind, x, segments):
+    lines = "".join(f"M0 {height(member)}L-40 {height(parent)}" for member, parent in segments)
+    return f"<path class='{kind}' transform='translate({x})' d='{lines}'/>\n"
+
+
+def links(committee, admitted, first, number, x):
+    """The lines from the certificates of a round to their parents, and those of them that are votes."""
+    drawn = [(member, parent) for member in range(committee.n) if number > first
+             for parent in sorted(admitted.get((number, member), ()))]
+    votes = [(member, parent) for member, parent in drawn
+             if number % 2 == 0 and parent == leader_of(committee, number - 1)]
+    return path("l", x, drawn) + path("v", x, votes)
+
+
+def column(committee, classes, row, number, x):
+    """The number, the ring and the circles of a round."""
+    text = f"<g transform='translate({x})'>\n<text y='24'>{number}</text>\n"
+    note, leader = "", None
+    if row:
+        _, _, _, leader, _, votes, _, need, state = row.split()
+        leader, note = int(leader), f", anchor {state}, votes {votes} need {need}"
+        text += f"<circle class='{state}' cy='{height(leader)}' r='11'><title>{row}</title></circle>\n"
+    for member in range(committee.n):
+        kind = classes.get((number, member))
+        if kind:
+            title = f"round {number} member {member} {kind}{note if member == leader else ''}"
+            text += f"<circle class='{kind}' cy='{height(member)}' r='6'><title>{title}</title></circle>\n"
+    return text + "</g>\n"
+
+
+def dag_text(version, frames, first, count):
+    """The picture of `count` rounds from the first on; each frame is its kind and its payload."""
+    committee = committee_of(version, frames[0][1])
+    admitted = admitted_of(committee, frames)
+    rows = {int(line.split()[1]): line for line in anchors_lines(version, frames)}
+    classes = classes_of(committee, frames, admitted, rows)
+    wide, high = 40 * max(count, 8) + 60, 28 * committee.n + 170
+    places = [(number, 40 * (number - first) + 60) for number in range(first, first + count)]
+    labels = (f"<text x='24' y='{height(member) + 4}'>{member}</text>\n" for member in range(committee.n))
+    return (f"<svg xmlns='http://www.w3.org/2000/svg' version='1.1' role='img' viewBox='0 0 {wide} {high}'"
+            f" width='{wide}' height='{high}'>\n<title>{count} rounds from {first}, {committee.n} members</title>\n"
+            + constant("STYLE") + "".join(links(committee, admitted, first, *place) for place in places)
+            + "".join(column(committee, classes, rows.get(number), number, x) for number, x in places)
+            + "".join(labels) + f"<g class='k' transform='translate(60 {height(committee.n) + 20})'>\n"
+            + constant("KEY") + "</g>\n</svg>\n")
