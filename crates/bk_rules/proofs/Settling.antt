@@ -159,23 +159,10 @@ undeclared_sender t no_w = ap (λ (b : Bool). b && list_all (λ (to : ℕ). writ
 
 -- ---- an effect
 
--- what is declared for writing is declared
-writable_low : (ds : List Declared) (k : ℕ) → is_writable ds k ≡ true → k < length ds
-writable_low [] k w = absurd (cc)
-writable_low (d ∷ ds) zero w = omega arith
-writable_low (d ∷ ds) (suc k) w = let rest = writable_low ds k w in omega arith
-
 -- what was settled, and the accounts that are written
 pub effect_of : (v : Version) (t : Transaction) (view old new : List (Option Account)) → old ≡ view → (r : Receipt) → Settles v t old r new → (writes : List (Option Account)) → ((k : ℕ) → nth writes k ≡ cond (is_writable t.declared k) (nth new k) None) → IsEffect v t view (record { status = r.status; moved = r.moved; writes = writes })
-effect_of v t view old new same r settles writes written = by_view (subst (λ (x : List (Option Account)). Settles v t x r new) same settles)
-  where
-    by_flag : (b : Bool) (x y : Option Account) → (b ≡ true → x ≡ y) → cond b x None ≡ cond b y None
-    by_flag true x y e = e refl
-    by_flag false x y e = refl
-
-    by_view : Settles v t view r new → IsEffect v t view (record { status = r.status; moved = r.moved; writes = writes })
-    by_view s = record {
-      status = s.status;
-      moved = s.moved;
-      writes = λ k. written k ∙ by_flag (is_writable t.declared k) (nth new k) _ (λ w. s.after k (writable_low t.declared k w));
-    }
+effect_of v t view old new same r settles writes written = record {
+  after = new;
+  settles = subst (λ (x : List (Option Account)). Settles v t x r new) same settles;
+  writes = written;
+}

@@ -114,10 +114,12 @@ module _ (v : Version) (t : Transaction) (view : List (Option Account)) (e : Eff
           let s = writable_stands t.declared id w in
           let at = s.at in
           let same = sees in
+          let settles = effect.settles in
           ap (account_at after) (sym at.has_id)
           ∙ stored.written_there s.place at.in_range s.passes
           ∙ effect.writes s.place
-          ∙ ap (λ (b : Bool). cond b (account_after (changes_of (status_of v (seen t.declared view) t) (seen t.declared view) t) (nth_id t.declared s.place) (nth view s.place)) None) s.passes
+          ∙ ap (λ (b : Bool). cond b (nth effect.after s.place) None) s.passes
+          ∙ settles.after s.place at.in_range
           ∙ ap₂ (λ (cs : List Change) (o : Option Account). account_after cs (nth_id t.declared s.place) o) same.changes (is_view s.place at.in_range)
           ∙ ap (λ (n : ℕ). account_after (changes_of (status_of v (account_at rows) t) (account_at rows) t) n (account_at rows n)) at.has_id
       by_test false w = stored.kept_else id w ∙ sym (changes_writable_alone v t (account_at rows) id (account_at rows id) w)
@@ -125,9 +127,10 @@ module _ (v : Version) (t : Transaction) (view : List (Option Account)) (e : Eff
   outcome : AreOutcome v t rows e after
   outcome =
       let same = sees in
+      let settles = effect.settles in
       let kept = ledger_kept v (Some t) rows ledger in
       record {
-        receipt = ap₂ (λ (s : Status) (m : ℕ). record { status = s; moved = m }) (effect.status ∙ same.statuses) (effect.moved ∙ same.moved);
+        receipt = ap₂ (λ (s : Status) (m : ℕ). record { status = s; moved = m }) (settles.status ∙ same.statuses) (settles.moved ∙ same.moved);
         after_is = rows_same after (outcome_of v (Some t) rows).after stored.ascending kept.ascending (λ id. found id ∙ sym (rule_of_rows v t rows id ledger));
       }
 

@@ -41,8 +41,8 @@ pub record Settles (version : Version) (t : Transaction) (old : List (Option Acc
 abbrev pub is_writable : List Declared → ℕ → Bool
 is_writable ds k = (slice_index_or ds k no_declared).writable
 
--- the effect is that of the rule on this view
+-- the effect is what the rule makes of this view: of the accounts afterwards it has those declared for writing
 pub record IsEffect (version : Version) (t : Transaction) (view : List (Option Account)) (e : Effect) : Type 0 where
-  pub status : e.status ≡ status_of version (seen t.declared view) t
-  pub moved : e.moved ≡ moved_by (status_of version (seen t.declared view) t) (seen t.declared view) t
-  pub writes : (k : ℕ) → nth e.writes k ≡ (if is_writable t.declared k then account_after (changes_of (status_of version (seen t.declared view) t) (seen t.declared view) t) (nth_id t.declared k) (nth view k) else None)
+  pub after : List (Option Account)
+  pub settles : Settles version t view (record { status = e.status; moved = e.moved }) after
+  pub writes : (k : ℕ) → nth e.writes k ≡ (if is_writable t.declared k then nth after k else None)
