@@ -34,16 +34,18 @@ impl SharedCert {
         Ok(SharedCert { id, header })
     }
 
-    /// The same certificate, shared. It takes no memory: an `Err` comes only where there are 2^63
-    /// holders.
-    pub fn share(&self) -> Result<SharedCert, AllocError>
+    /// The same certificate, shared: it takes no memory. Only where the count of holders is full, at
+    /// 2^63, it copies the header; so an `Err` comes only where memory was refused.
+    pub fn share(&self, alloc: Global) -> Result<SharedCert, AllocError>
         ensures { IfOk result (λ s. s ≡ self.now) }
     {
-        let header = Arc::try_clone(&self.header)?;
-        Ok(SharedCert {
-            id: self.id,
-            header,
-        })
+        match Arc::try_clone(&self.header) {
+            Ok(header) => Ok(SharedCert {
+                id: self.id,
+                header,
+            }),
+            Err(_) => SharedCert::new(alloc, self.id, self.header.try_clone(alloc)?),
+        }
     }
 
     /// Its id.

@@ -84,7 +84,7 @@ impl Plan {
         ensures plan { IfOk result IsPlan }
     {
         let lists = lists_of(alloc, version, ids, &txs, near)?;
-        let ids = ids.share()?;
+        let ids = ids.share(alloc)?;
         Ok(Plan {
             version,
             ids,

@@ -142,7 +142,7 @@ fn offer_all(all: &mut Held, certs: &[SharedCert]) -> Result<(), AllocError>
     ensures { OnOk result (HaveSame all.new (all.old ++ certs.now)) }
 {
     for cert in certs {
-        let shared = cert.share()?;
+        let shared = cert.share(all.alloc)?;
         let _answer = all.offer(shared)?;
     }
     Ok(())

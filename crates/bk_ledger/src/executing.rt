@@ -145,7 +145,7 @@ impl Ledger {
             let ledger = ledger.run_ready(rt, alloc, ready, workers, gate)?;
             return Ok((ledger, Ahead::none(alloc, from)));
         }
-        let ids = ledger.state().ids().share()?;
+        let ids = ledger.state().ids().share(alloc)?;
         let (later, ran) = join(
             rt,
             || -> Result<Ahead, AllocError>

@@ -52,7 +52,7 @@ impl Touched {
         ensures all { IfOk result (λ t. t.ids ≡ ids.now) }
     {
         let list = counted(alloc, ids.len())?;
-        let ids = ids.share()?;
+        let ids = ids.share(alloc)?;
         Ok(Touched { list, ids })
     }
 

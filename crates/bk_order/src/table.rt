@@ -66,7 +66,7 @@ fn hold(
     let _ = committee.n();
     let id = good.id();
     let cert = SharedCert::new(alloc, id, good.into_header())?;
-    let shared = cert.share()?;
+    let shared = cert.share(alloc)?;
     match held.offer(cert)? {
         Offer::New => {
             rounds.add(shared)?;

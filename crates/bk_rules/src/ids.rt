@@ -78,12 +78,15 @@ impl Ids {
         Ok(Ids { table })
     }
 
-    /// The same ids, shared.
-    pub fn share(&self) -> Result<Ids, AllocError>
+    /// The same ids, shared: it takes no memory. Only where the count of holders is full, at 2^63, it copies them; so
+    /// an `Err` comes only where memory was refused.
+    pub fn share(&self, alloc: Global) -> Result<Ids, AllocError>
         ensures { IfOk result (λ i. i ≡ self.now) }
     {
-        let table = Arc::try_clone(&self.table)?;
-        Ok(Ids { table })
+        match Arc::try_clone(&self.table) {
+            Ok(table) => Ok(Ids { table }),
+            Err(_) => self.grown(alloc, Vec::from_slice(alloc, self.as_slice())?),
+        }
     }
 
     /// All ids, in ascending order.

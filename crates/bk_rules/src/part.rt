@@ -61,7 +61,7 @@ impl State {
             rows_shown part.version part.slots (slot_numbers part) ≡ part.rows) }
     {
         let numbers = numbers_in(alloc, &self.numbers, list)?;
-        let ids = ids.share()?;
+        let ids = ids.share(alloc)?;
         Ok(State {
             version: self.version,
             ids,
