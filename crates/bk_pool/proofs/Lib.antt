@@ -2,3 +2,4 @@ pub mod WordsOfPlace
 pub mod Ended
 pub mod Folds
 pub mod Prepared
+pub mod Stays

@@ -5,7 +5,7 @@ use Rattle.bk_conflicts.specs.Plan.{PlanValue}
 use Rattle.bk_conflicts.specs.SceneOf.{CanRunOn}
 use Rattle.bk_bank.specs.declared.view.Stage.TheVariants.{Holding}
 use Rattle.bk_bank.specs.Setting.{word_at, may_write}
-use Rattle.bk_bank.specs.Plays.{reads_of, writes_of}
+use Rattle.bk_bank.specs.Plays.{reads_of, writes_of, stay}
 use Rattle.bk_bank.specs.Bank.{BankData, HoldData, bank_scene, IsHoldOf}
 
 -- nothing was read or written
@@ -22,6 +22,7 @@ pub record ReadSoFar (b : BankData) (old new : HoldData) (values : List ℕ) (n 
   pub own : IsHoldOf b new
   pub place : new.place ≡ old.place
   pub unwritten : writes_of new.view.stage ≡ []
+  pub stays : new.view ≡ stay old.view new.view.stage
   pub read : (k : ℕ) → k < n → HasRead (reads_of new.view.stage) (word_at b.setting.plan old.place k)
   pub held : (k : ℕ) → k < n → slice_index values k ≡ (bank_scene b).fold old.place (word_at b.setting.plan old.place k)
 
@@ -30,5 +31,6 @@ pub record WrittenSoFar (b : BankData) (old new : HoldData) (n : ℕ) : Type 0 w
   pub own : IsHoldOf b new
   pub place : new.place ≡ old.place
   pub reads : reads_of new.view.stage ≡ reads_of old.view.stage
+  pub stays : new.view ≡ stay old.view new.view.stage
   pub wrote : (k : ℕ) → k < n → may_write b.setting.plan old.place k ≡ true → Has (writes_of new.view.stage) (word_at b.setting.plan old.place k)
   pub only : (x : ℕ) → Has (writes_of new.view.stage) x → (k : ℕ) × (k < n) × (word_at b.setting.plan old.place k ≡ x)

@@ -1,9 +1,9 @@
 //! One place, from its hold to its leaving.
 ghost use Rattle.std.specs.Prelude.{◌≡◌, ℕ, suc, ◌+◌, ◌<◌, ◌≤◌, length, slice_index, [], true, false};
 ghost use Rattle.bk_steps.specs.Moves.{HasReadAll, HasWrittenAll};
-ghost use Rattle.bk_bank.specs.declared.view.Stage.TheVariants.{Holding};
+ghost use Rattle.bk_bank.specs.declared.view.Stage.TheVariants.{Holding, Leaving as Left};
 ghost use Rattle.bk_bank.specs.Setting.{words_at, word_at, may_write};
-ghost use Rattle.bk_bank.specs.Plays.{reads_of, writes_of};
+ghost use Rattle.bk_bank.specs.Plays.{Grows, reads_of, writes_of, stay};
 ghost use Rattle.bk_bank.specs.Bank.{bank_scene, IsHoldOf, IsLeavingOf};
 ghost use Rattle.bk_pool.specs.Reads.{IsFresh, IsBankOf};
 
@@ -41,6 +41,8 @@ pub fn run_place<G: Gate>(bank: &Bank, plan: &Plan, hold: Hold, gate: &G) -> Lea
     requires fresh { IsFresh hold }
     ensures own { IsLeavingOf bank.now result }
     ensures left { (result.place ≡ hold.place) × (result.next ≡ 0) }
+    ensures view { result.view ≡ stay hold.view (Left hold.place 0 0) }
+    ensures grows { Grows hold.view result.view }
 {
     let place = hold.place();
     gate.inside(place);
@@ -65,6 +67,7 @@ fn read_all(bank: &Bank, hold: &mut Hold, count: usize, values: &mut [u64])
     requires fresh { writes_of hold.old.view.stage ≡ [] }
     ensures own { IsHoldOf bank.now hold.new × (hold.new.place ≡ hold.old.place) }
     ensures fresh { writes_of hold.new.view.stage ≡ [] }
+    ensures stays { hold.new.view ≡ stay hold.old.view hold.new.view.stage }
     ensures read { HasReadAll (bank_scene bank.now) hold.old.place (reads_of hold.new.view.stage) }
     ensures values { let plan = bank.now.setting.plan in (k : ℕ) → k < count
         → slice_index values.new k
@@ -88,6 +91,7 @@ fn write_all(bank: &Bank, plan: &Plan, hold: &mut Hold, values: &[u64])
         → slice_index values.now k ≡ (bank_scene bank.now).fold (suc place) (word_at plan place k) }
     ensures own { IsHoldOf bank.now hold.new × (hold.new.place ≡ hold.old.place) }
     ensures read { HasReadAll (bank_scene bank.now) hold.old.place (reads_of hold.new.view.stage) }
+    ensures stays { hold.new.view ≡ stay hold.old.view hold.new.view.stage }
     ensures wrote { HasWrittenAll (bank_scene bank.now) hold.old.place
         (writes_of hold.new.view.stage) }
 {
