@@ -5,3 +5,4 @@ pub mod BatchReading
 pub mod Touching
 pub mod PartRuns
 pub mod FeedSlices
+pub mod Growth

@@ -1,5 +1,6 @@
 -- Slices that are planned before their turn comes.
-use Rattle.std.proofs.Common.{◌≡◌, ℕ, ◌+◌, ◌≤◌, List, [], ◌++◌, length, Option, refl, sym, ap, subst, ◌∙◌, arith}
+use Rattle.std.proofs.Common.{◌≡◌, ℕ, ◌+◌, ◌≤◌, List, [], ◌++◌, length, Option, Result, Ok, Err, refl, sym, ap, subst, ◌∙◌, arith}
+use Rattle.std.specs.Prelude.{OnOk}
 use Rattle.std.specs.Arc.{arc_value}
 use Rattle.bk_frames.specs.declared.genesis.Row.{Row}
 use Rattle.bk_frames.specs.declared.version.Version.{Version}
@@ -15,8 +16,10 @@ use Rattle.bk_ledger.specs.declared.ready.Next.{Next}
 use Rattle.bk_ledger.specs.declared.ready.Next.TheVariants as next
 use Rattle.bk_ledger.specs.declared.batches.Batches.{Batches}
 use Rattle.bk_ledger.specs.Executing.{HasRun, Leaves}
+use Rattle.bk_ledger.specs.Naming.{named_by}
 use Rattle.bk_ledger.specs.private.Slices.{CanRunPart, IsAheadOf, IsNextFrom, IsNextOf, IsNoneAhead, IsPlannedOn, IsReadOf, IsReady, IsSame, ahead_of, counts_of, txs_of}
 use Rattle.bk_pool.specs.declared.outcome.ExecFault.{ExecFault}
+use Rattle.bk_ledger.proofs.Growth.{slots_long}
 use Rattle.bk_ledger.proofs.SliceLemmas.{slice_none}
 
 -- ---- reading
@@ -105,20 +108,37 @@ pub same_room : (n : ℕ) (a b : LedgerValue) → IsSame a b → HasRoom a.state
 same_room n a b same room = subst (λ (y : Version × List Row). HasRoom y.0 n y.1) (λ j. (sym same.version j, sym same.rows j)) room
 
 -- the same, seen from the ledger before its slots were made
-same_ran : (counts : List (Option ℕ)) (txs : List (Option Transaction)) (a b c : LedgerValue) → IsSame a b → HasRun counts txs b c → HasRun counts txs a c
-same_ran counts txs a b c same ran = record {
+same_ran : (counts : List (Option ℕ)) (txs : List (Option Transaction)) (a b c : LedgerValue) → IsSame a b → length b.state.slots ≤ length a.state.slots + named_by txs → c.state.slots ≡ b.state.slots → HasRun counts txs b c → HasRun counts txs a c
+same_ran counts txs a b c same grown still ran = record {
   version = ran.version ∙ same.version;
   counts_are = ran.counts_are ∙ ap (λ (xs : List (Option ℕ)). xs ++ counts) same.counts_are;
   receipts = ran.receipts ∙ (λ i. same.receipts i ++ receipts_of (same.version i) txs (same.rows i));
   rows = ran.rows ∙ (λ i. state_after (same.version i) txs (same.rows i));
+  slots = omega (arith, grown, ap length still);
 }
 
-pub ready_ran : (version : Version) (slots : List ℕ) (counts : List (Option ℕ)) (txs : List (Option Transaction)) (r : Ready) (a b c : LedgerValue) → IsReady version slots counts txs r → IsSame a b → HasRun r.counts.items (arc_value r.plan).txs b c
+pub ready_ran : (version : Version) (slots : List ℕ) (counts : List (Option ℕ)) (txs : List (Option Transaction)) (r : Ready) (a b c : LedgerValue) → IsReady version slots counts txs r → IsSame a b → length b.state.slots ≤ length a.state.slots + named_by txs → c.state.slots ≡ b.state.slots → HasRun r.counts.items (arc_value r.plan).txs b c
     → HasRun counts txs a c
-ready_ran version slots counts txs r a b c ready same ran =
-    same_ran counts txs a b c same (subst (λ (s : List (Option ℕ) × List (Option Transaction)). HasRun s.0 s.1 b c) (λ i. (ready.counts_are i, ready.txs_are i)) ran)
+ready_ran version slots counts txs r a b c ready same grown still ran =
+    same_ran counts txs a b c same grown still (subst (λ (s : List (Option ℕ) × List (Option Transaction)). HasRun s.0 s.1 b c) (λ i. (ready.counts_are i, ready.txs_are i)) ran)
 
 pub ready_leaves : (version : Version) (slots : List ℕ) (counts : List (Option ℕ)) (txs : List (Option Transaction)) (r : Ready) (a b : LedgerValue) (e : ExecFault) → IsReady version slots counts txs r → IsSame a b
     → Leaves (length b.receipts) (length b.receipts + length (arc_value r.plan).txs) e → Leaves (length a.receipts) (length a.receipts + length txs) e
 ready_leaves version slots counts txs r a b e ready same left =
     subst (λ (s : ℕ × ℕ). Leaves s.0 (s.0 + s.1) e) (λ i. (length (same.receipts i), length (ready.txs_are i))) left
+
+-- transactions in their order, once slots are made for them
+pub run_is : (counts : List (Option ℕ)) (txs : List (Option Transaction)) (a : LedgerValue) (mid : rules.Ledger) (b : LedgerValue) → rules.IsPrepared txs a.state mid → b.counts ≡ a.counts ++ counts → b.receipts ≡ a.receipts ++ receipts_of mid.version txs mid.rows
+    → b.state ≡ rules.ledger_of mid.version mid.slots (state_after mid.version txs mid.rows) → HasRun counts txs a b
+run_is counts txs a mid b p counted received after = record {
+  version = ap (λ (l : rules.Ledger). l.version) after ∙ p.version;
+  counts_are = counted;
+  receipts = received ∙ (λ i. a.receipts ++ receipts_of (p.version i) txs (p.rows i));
+  rows = ap (λ (l : rules.Ledger). l.rows) after ∙ (λ i. state_after (p.version i) txs (p.rows i));
+  slots = omega (arith, ap (λ (l : rules.Ledger). length l.slots) after, slots_long txs a.state mid p);
+}
+
+-- what holds, holds where a call gave something
+pub on_ok : {T E : Type 0} (r : Result T E) (P : Type 0) → P → OnOk r P
+on_ok (Ok x) P p = p
+on_ok (Err e) P p = tt

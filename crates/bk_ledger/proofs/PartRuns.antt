@@ -104,11 +104,12 @@ module _ (r : Ready) (l : rules.Ledger) (runs : CanRunPart r l) (p : rules.Ledge
         omega (arith, same, within)
 
     -- the ledger after it
-    pub part_ran : (counts : List (Option ℕ)) (a b : LedgerValue) → a.state ≡ l → b.counts ≡ a.counts ++ counts → b.receipts ≡ a.receipts ++ o.receipts.items → b.state.version ≡ l.version → ArePutBack o.state.slots o.state.rows l.rows b.state.rows
+    pub part_ran : (counts : List (Option ℕ)) (a b : LedgerValue) → a.state ≡ l → b.counts ≡ a.counts ++ counts → b.receipts ≡ a.receipts ++ o.receipts.items → b.state.version ≡ l.version → ArePutBack o.state.slots o.state.rows l.rows b.state.rows → b.state.slots ≡ l.slots
         → HasRun counts (arc_value r.plan).txs a b
-    part_ran counts a b state counted received version put = record {
+    part_ran counts a b state counted received version put slots = record {
       version = version ∙ ap (λ (x : rules.Ledger). x.version) (sym state);
       counts_are = counted;
       receipts = received ∙ ap (λ rs. a.receipts ++ rs) (out_receipts ∙ ap (λ (x : rules.Ledger). receipts_of x.version (arc_value r.plan).txs x.rows) (sym state));
       rows = back_is b.state.rows put ∙ ap (λ (x : rules.Ledger). state_after x.version (arc_value r.plan).txs x.rows) (sym state);
+      slots = omega (arith, ap length slots, ap (λ (x : rules.Ledger). length x.slots) state);
     }

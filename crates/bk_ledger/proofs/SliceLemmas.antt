@@ -1,5 +1,5 @@
 -- Slices of batches, one after another.
-use Rattle.std.proofs.Common.{◌≡◌, ℕ, zero, suc, ◌+◌, ◌<◌, ◌≤◌, Bor, get_or, List, [], ◌∷◌, ◌++◌, length, map, drop, Option, Some, refl, sym, ap, subst, ◌∙◌, append-nil, append_assoc, length-append, drop_of_length-le, arith}
+use Rattle.std.proofs.Common.{◌≡◌, ℕ, zero, suc, ◌+◌, ◌^◌, ◌<◌, ◌≤◌, Bor, get_or, List, [], ◌∷◌, ◌++◌, length, map, drop, Option, Some, refl, sym, ap, subst, ◌∙◌, append-nil, append_assoc, length-append, drop_of_length-le, arith}
 use Rattle.std.specs.Prelude.{slice_get}
 use Rattle.std.proofs.lemmas.List.{map-append}
 use Rattle.std.proofs.lemmas.List.Concat.{flat_map-append, flat_map-cons}
@@ -16,7 +16,9 @@ use Rattle.bk_tx.specs.Batches.{count_in, transactions_in, transactions_of}
 use Rattle.bk_pool.specs.declared.outcome.ExecFault.{ExecFault}
 use Rattle.bk_pool.specs.declared.outcome.ExecFault.TheVariants.{OutOfMemory, Unfinished}
 use Rattle.bk_ledger.specs.Executing.{HasRun, HasExecuted, Leaves}
+use Rattle.bk_ledger.specs.Naming.{named_by}
 use Rattle.bk_ledger.specs.private.Slices.{IsSliceOf, IsOnTheWay}
+use Rattle.bk_ledger.proofs.Growth.{named-append}
 
 -- ---- lists
 
@@ -60,6 +62,7 @@ run_then counts more txs others a b c first second =
           ∙ append_assoc a.receipts (receipts_of v txs a.state.rows) (receipts_of v others (state_after v txs a.state.rows))
           ∙ ap (λ (rs : List Receipt). a.receipts ++ rs) (sym (receipts_append v txs others a.state.rows));
       rows = second.rows ∙ (λ i. state_after (first.version i) others (first.rows i)) ∙ sym (state_append v txs others a.state.rows);
+      slots = omega (arith, first.slots, second.slots, named-append txs others);
     }
 
 executed_then : (xs ys : List (List ℕ)) (a b c : LedgerValue) → HasExecuted xs a b → HasExecuted ys b c → HasExecuted (xs ++ ys) a c
@@ -115,7 +118,7 @@ pub way_begins : (payloads : List (List ℕ)) (l : LedgerValue) → IsOnTheWay p
 way_begins payloads l = record {
   done = [];
   split = refl;
-  ran = record { version = refl; counts_are = sym (append-nil l.counts); receipts = sym (append-nil l.receipts); rows = refl };
+  ran = record { version = refl; counts_are = sym (append-nil l.counts); receipts = sym (append-nil l.receipts); rows = refl; slots = omega arith };
 }
 
 -- the batches of a slice that is executed
@@ -157,6 +160,18 @@ pub room_for_slice : (payloads : List (List ℕ)) (at : ℕ) (counts : List (Opt
 room_for_slice payloads at counts txs first now way slice room =
     let left = room_after way.done (drop at payloads) first now way.ran (subst (λ (t : List (List ℕ)). HasRoom first.state.version (length (transactions_of t)) first.state.rows) way.split room) in
     room_weaker now.state.version (length (transactions_of (drop at payloads))) (length txs) now.state.rows (sizes payloads at counts txs first now way slice).0 left
+
+-- and there is room for the slots that are made for it
+pub slots_for_slice : (payloads : List (List ℕ)) (at : ℕ) (counts : List (Option ℕ)) (txs : List (Option Transaction)) (first now : LedgerValue) → IsOnTheWay payloads at first now → IsSliceOf payloads at counts txs
+    → length first.state.slots + named_by (transactions_of payloads) < 2 ^ 31 → length now.state.slots + named_by txs < 2 ^ 31
+slots_for_slice payloads at counts txs first now way slice few =
+    let rest = drop (at + length counts) payloads in
+    let ran = way.ran in
+    let part : named_by (transactions_of (drop at payloads)) ≡ named_by (transactions_of slice.batches) + named_by (transactions_of rest) =
+    ap (λ (t : List (List ℕ)). named_by (transactions_of t)) slice.split ∙ ap named_by (transactions-append slice.batches rest) ∙ named-append (transactions_of slice.batches) (transactions_of rest) in
+    let whole : named_by (transactions_of payloads) ≡ named_by (transactions_of way.done) + named_by (transactions_of (drop at payloads)) =
+    ap (λ (t : List (List ℕ)). named_by (transactions_of t)) way.split ∙ ap named_by (transactions-append way.done (drop at payloads)) ∙ named-append (transactions_of way.done) (transactions_of (drop at payloads)) in
+    omega (arith, few, part, whole, ap named_by slice.txs_are, ran.slots)
 
 -- a place of some is one of more
 pub leaves_weaker : (first end start stop : ℕ) (e : ExecFault) → start ≤ first → end ≤ stop → Leaves first end e → Leaves start stop e

@@ -1,11 +1,12 @@
 -- What executing further batches gives, and why it gives nothing.
-use Rattle.std.specs.Prelude.{◌≡◌, ℕ, ◌<◌, ◌≤◌, List, ◌++◌, map, Option}
+use Rattle.std.specs.Prelude.{◌≡◌, ℕ, ◌+◌, ◌<◌, ◌≤◌, List, ◌++◌, length, map, Option}
 use Rattle.bk_tx.specs.Transaction.{Transaction}
 use Rattle.bk_tx.specs.Batches.{count_in, transactions_of}
 use Rattle.bk_rules.specs.Fold.{state_after, receipts_of}
 use Rattle.bk_pool.specs.declared.outcome.ExecFault.{ExecFault}
 use Rattle.bk_pool.specs.declared.outcome.ExecFault.TheVariants.{OutOfMemory, Unfinished}
 use Rattle.bk_ledger.specs.Ledger.{LedgerValue}
+use Rattle.bk_ledger.specs.Naming.{named_by}
 
 -- a ledger after further transactions, in batches of these counts
 pub record HasRun (counts : List (Option ℕ)) (txs : List (Option Transaction)) (before after : LedgerValue) : Type 0 where
@@ -13,6 +14,7 @@ pub record HasRun (counts : List (Option ℕ)) (txs : List (Option Transaction))
   pub counts_are : after.counts ≡ before.counts ++ counts
   pub receipts : after.receipts ≡ before.receipts ++ receipts_of before.state.version txs before.state.rows
   pub rows : after.state.rows ≡ state_after before.state.version txs before.state.rows
+  pub slots : length after.state.slots ≤ length before.state.slots + named_by txs
 
 -- a ledger after further batches
 abbrev pub HasExecuted : List (List ℕ) → LedgerValue → LedgerValue → Type 0

@@ -1,3 +1,4 @@
 pub mod Ledger
 pub mod Executing
 pub mod private
+pub mod Naming

@@ -12,13 +12,14 @@ ghost use Rattle.bk_pool.specs.Outcomes.{IsBelow};
 ghost use Rattle.bk_steps.specs.Schedule.{IsFoldOf};
 ghost use Rattle.bk_tx.specs.Batches.{transactions_of};
 ghost use Rattle.bk_ledger.specs.Executing.{HasExecuted, HasRun, Leaves};
+ghost use Rattle.bk_ledger.specs.Naming.{named_by};
 ghost use Rattle.bk_ledger.specs.private.Slices.{CanRunPart, IsAheadOf, IsPlannedOn, IsReadOf, IsReady, IsSame, counts_of, txs_of};
 
 use crate::ledger::Ledger;
 use crate::ready::{Ahead, Next, Ready, look_ahead, read_two};
 use crate::slice::{FEWEST, least_of};
 use crate::workers::{WORTH_THREADS, workers_at_once};
-use bk_conflicts::{Plan, SLOTS_END};
+use bk_conflicts::Plan;
 use bk_pool::{ExecFault, Gate, execute, execute_here};
 use bk_rules::State;
 use bk_steps::Outcome;
@@ -52,17 +53,17 @@ impl Ledger {
     fn make_ready(&mut self, alloc: Global, next: Next) -> Result<Ready, AllocError>
         requires planned { IsPlannedOn self.old.state.version self.old.state.slots next }
         requires few { length (txs_of next) < 2 ^ 31 }
+        requires slots { length self.old.state.slots + named_by (txs_of next) < 2 ^ 31 }
         ensures ready { IfOk result (IsReady self.new.state.version self.new.state.slots
             (counts_of next) (txs_of next)) }
         ensures same { OnOk result (IsSame self.old self.new) }
+        ensures slots { OnOk result (length self.new.state.slots
+            ≤ length self.old.state.slots + named_by (txs_of next)) }
     {
         match next {
             Next::Ready(ready) => Ok(ready),
             Next::Read(batches) => {
                 self.state.prepare(alloc, &batches.txs)?;
-                if SLOTS_END <= self.state.slots().len() {
-                    return Err(AllocError);
-                }
                 batches.planned(alloc, self.state.version(), self.state.ids())
             }
         }
@@ -126,6 +127,7 @@ impl Ledger {
             self.state.version self.state.slots ahead }
         requires room { HasRoom self.state.version (length (txs_of ahead.next)) self.state.rows }
         requires places { length self.receipts + length (txs_of ahead.next) < 2 ^ 32 }
+        requires slots { length self.state.slots + named_by (txs_of ahead.next) < 2 ^ 31 }
         requires fits { length payloads.now < 2 ^ 64 }
         requires least { least < 2 ^ 30 }
         requires workers { (1 ≤ workers) × (workers ≤ 64) }
@@ -198,6 +200,8 @@ impl Ledger {
             (length (transactions_of (map (λ p. p.now) payloads.now))) self.state.rows }
         requires few { length self.receipts
             + length (transactions_of (map (λ p. p.now) payloads.now)) < 2 ^ 32 }
+        requires slots { length self.state.slots
+            + named_by (transactions_of (map (λ p. p.now) payloads.now)) < 2 ^ 31 }
         requires fewest { fewest < 2 ^ 30 }
         requires workers { (1 ≤ workers) × (workers ≤ 64) }
         ensures executed { IfOk result (HasExecuted (map (λ p. p.now) payloads.now) self) }
@@ -240,6 +244,8 @@ impl Ledger {
             (length (transactions_of (map (λ p. p.now) payloads.now))) self.state.rows }
         requires few { length self.receipts
             + length (transactions_of (map (λ p. p.now) payloads.now)) < 2 ^ 32 }
+        requires slots { length self.state.slots
+            + named_by (transactions_of (map (λ p. p.now) payloads.now)) < 2 ^ 31 }
         requires workers { (1 ≤ workers) × (workers ≤ 64) }
         ensures executed { IfOk result (HasExecuted (map (λ p. p.now) payloads.now) self) }
         ensures fault { let first = length self.receipts in

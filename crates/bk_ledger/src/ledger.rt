@@ -2,7 +2,7 @@
 
 ghost use Rattle.std.specs.Prelude.{◌≡◌, ◌^◌, ◌<◌, [], length, map, IfOk, OnOk, slice_get};
 ghost use Rattle.bk_frames.specs.Feed.{genesis_of};
-ghost use Rattle.bk_frames.specs.Genesis.{AreAccounts, total_of};
+ghost use Rattle.bk_frames.specs.Genesis.{AreAccounts, ids_of, total_of};
 ghost use Rattle.bk_rules.specs.Fold.{receipts_of, state_after, HasRoom};
 ghost use Rattle.bk_tx.specs.Batches.{count_in, payloads_of, feed_transactions};
 ghost use Rattle.bk_ledger.specs.Executing.{HasRun};
@@ -47,6 +47,7 @@ impl Ledger {
         ensures receipts { IfOk result (λ l. l.receipts ≡ []) }
         ensures version { IfOk result (λ l. l.state.version ≡ version) }
         ensures rows { IfOk result (λ l. l.state.rows ≡ rows.now) }
+        ensures slots { IfOk result (λ l. l.state.slots ≡ ids_of rows.now) }
     {
         Ok(Ledger {
             counts: Vec::new(alloc),
@@ -125,13 +126,8 @@ impl Ledger {
         ensures receipts { IfOk result (λ s. s.receipts.items ≡ self.receipts) }
         ensures rows { IfOk result (λ s. s.rows.items ≡ self.state.rows) }
         ensures total { IfOk result (λ s. s.total ≡ total_of self.state.rows) }
-        ensures few { IfOk result (λ s. length s.rows.items < 2 ^ 32) }
     {
         let rows = self.state.rows(alloc)?;
-        // This never holds: a feed has fewer than 2^32 bytes, and an account that comes to be is named in nine of them.
-        if rows.len() >= 1 << 32 {
-            return Err(AllocError);
-        }
         let total = self.state.total();
         Ok(Summary {
             counts: self.counts,

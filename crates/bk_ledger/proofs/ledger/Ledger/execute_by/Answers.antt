@@ -1,7 +1,7 @@
 use Rattle.std.proofs.Common.{ℕ, map, subst, sym, arith}
 use Rattle.bk_ledger.specs.private.Slices.{IsOnTheWay}
 use Rattle.std.proofs.lemmas.Result.{err_from_is_err_and}
-use Rattle.bk_ledger.proofs.SliceLemmas.{lent_count, way_begins, way_goes_on, way_ends, places_within, room_for_slice, leaves_weaker}
+use Rattle.bk_ledger.proofs.SliceLemmas.{lent_count, way_begins, way_goes_on, way_ends, places_within, room_for_slice, slots_for_slice, leaves_weaker}
 use Rattle.bk_ledger.proofs.NextLemmas.{ahead_again}
 use Rattle.bk_ledger.proofs.ledger.Ledger.execute_by.Goals as goal
 
@@ -22,6 +22,9 @@ run_next-requires-clause-room g c = λ _ _. room_for_slice _ _ _ _ c.args.self c
 
 pub run_next-requires-clause-places : goal.run_next-requires-clause-places
 run_next-requires-clause-places g c = let within = places_within _ _ _ _ c.args.self c.loop-ahead.ledger c.loop-ahead.invariant.way c.loop-ahead.invariant.ahead.next.read.slice in omega (arith, within.1, c.requires.few)
+
+pub run_next-requires-clause-slots : goal.run_next-requires-clause-slots
+run_next-requires-clause-slots g c = λ _ _. slots_for_slice _ _ _ _ c.args.self c.loop-ahead.ledger c.loop-ahead.invariant.way c.loop-ahead.invariant.ahead.next.read.slice c.requires.slots
 
 pub returns-clause-executed : goal.returns-clause-executed
 returns-clause-executed g c = way_ends _ c.loop-ahead.ahead.from c.args.self c.loop-ahead.ledger c.loop-ahead.invariant.way (omega (arith, lent_count c.args.payloads.now, c.loop-ahead-test.false))

@@ -1,5 +1,5 @@
 use Rattle.std.proofs.Common.{◌∙◌}
-use Rattle.bk_ledger.proofs.FeedSlices.{slices_room, slices_few, slices_counts, slices_receipts, slices_rows}
+use Rattle.bk_ledger.proofs.FeedSlices.{slices_room, slices_few, slices_slots, slices_counts, slices_receipts, slices_rows}
 use Rattle.bk_ledger.proofs.ledger.Ledger.of_slices.Goals as goal
 
 pub execute_by-requires-clause-room : goal.execute_by-requires-clause-room
@@ -7,6 +7,9 @@ execute_by-requires-clause-room g c = λ _ _. slices_room c.args.feed.now _ _ c.
 
 pub execute_by-requires-clause-few : goal.execute_by-requires-clause-few
 execute_by-requires-clause-few g c = λ _ _. slices_few c.args.feed.now _ _ c.in_ok-ledger.ledger c.in_ok-payloads.ensures.feed (rw (← c.deref.ensures.value) at c.in_ok-payloads.ensures.payloads) c.in_ok-ledger.ensures.counts c.in_ok-ledger.ensures.receipts (c.in_ok-ledger.ensures.version ∙ c.version.ensures) c.in_ok-ledger.ensures.rows c.genesis.ensures.rows c.genesis.ensures.accounts
+
+pub execute_by-requires-clause-slots : goal.execute_by-requires-clause-slots
+execute_by-requires-clause-slots g c = λ _ _. slices_slots c.args.feed.now _ _ c.in_ok-ledger.ledger c.in_ok-payloads.ensures.feed (rw (← c.deref.ensures.value) at c.in_ok-payloads.ensures.payloads) c.in_ok-ledger.ensures.counts c.in_ok-ledger.ensures.receipts (c.in_ok-ledger.ensures.version ∙ c.version.ensures) c.in_ok-ledger.ensures.rows c.genesis.ensures.rows c.genesis.ensures.accounts c.in_ok-ledger.ensures.slots
 
 pub returns-clause-counts : goal.returns-clause-counts
 returns-clause-counts g c = slices_counts c.args.feed.now _ _ c.in_ok-ledger.ledger c.in_ok-payloads.ensures.feed (rw (← c.deref.ensures.value) at c.in_ok-payloads.ensures.payloads) c.in_ok-ledger.ensures.counts c.in_ok-ledger.ensures.receipts (c.in_ok-ledger.ensures.version ∙ c.version.ensures) c.in_ok-ledger.ensures.rows c.genesis.ensures.rows c.genesis.ensures.accounts c.in_ok-ledger-2.ledger c.in_ok-ledger-2.ensures.executed

@@ -14,7 +14,7 @@ pub run_ready-requires-clause-places : goal.run_ready-requires-clause-places
 run_ready-requires-clause-places g c = omega (arith, c.requires.places, ap length c.in_ok-ready.ensures.same.receipts, ap length c.in_ok-ready.ensures.ready.txs_are)
 
 pub returns-then-from-payloads-clause-ran : goal.returns-then-from-payloads-clause-ran
-returns-then-from-payloads-clause-ran g c = ready_ran _ _ (counts_of c.args.ahead.next) (txs_of c.args.ahead.next) c.in_ok-ready.ready c.args.self c.make_ready.new.self c.in_ok-ledger.ledger c.in_ok-ready.ensures.ready c.in_ok-ready.ensures.same c.in_ok-ledger.ensures.ran
+returns-then-from-payloads-clause-ran g c = ready_ran _ _ (counts_of c.args.ahead.next) (txs_of c.args.ahead.next) c.in_ok-ready.ready c.args.self c.make_ready.new.self c.in_ok-ledger.ledger c.in_ok-ready.ensures.ready c.in_ok-ready.ensures.same c.in_ok-ready.ensures.slots c.in_ok-ledger.ensures.slots c.in_ok-ledger.ensures.ran
 
 pub returns-then-from-payloads-clause-ahead : goal.returns-then-from-payloads-clause-ahead
 returns-then-from-payloads-clause-ahead g c =

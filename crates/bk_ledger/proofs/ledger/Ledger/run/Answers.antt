@@ -1,0 +1,9 @@
+use Rattle.bk_ledger.proofs.NextLemmas.{run_is}
+use Rattle.bk_ledger.proofs.ledger.Ledger.run.Goals as goal
+
+pub returns-clause-ran : goal.returns-clause-ran
+returns-clause-ran c =
+    rw (← c.self.view_is) (run_is c.args.batches.now.counts.items c.args.batches.now.txs.items _ c.prepare.new.self _ (rw c.deref.ensures.value at c.in_ok-prepare.ensures.prepared)
+    (rw c.deref-4.ensures.value at c.in_ok-extend_from_slice-2.ensures.items)
+    (rw (c.deref-3.ensures.value, c.in_ok-receipts.ensures.receipts, c.deref-2.ensures.value) at c.in_ok-extend_from_slice.ensures.items)
+    (rw c.deref-2.ensures.value at c.in_ok-receipts.ensures.after))
