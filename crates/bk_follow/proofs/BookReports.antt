@@ -13,7 +13,9 @@ use Rattle.bk_order.specs.Frames.{AreRejects}
 use Rattle.bk_order.specs.Intake.{first_frame, Taken, HasTaken}
 use Rattle.bk_order.specs.Orders.{AreWaiting}
 use Rattle.bk_order.specs.Stops.{HasNoStop}
+use Rattle.bk_frames.proofs.Accounts.{genesis_few}
 use Rattle.bk_rules.proofs.Folding.{length-receipts}
+use Rattle.bk_ledger.proofs.Growth.{state_long}
 use Rattle.bk_ledger.specs.Ledger.{LedgerValue}
 use Rattle.bk_results.specs.declared.status.Status.{Status}
 use Rattle.bk_follow.specs.Finishing.{ReportIsOut, ReportStops}
@@ -25,7 +27,7 @@ use Rattle.bk_follow.specs.RunReport.{committee_in, later_frames, Reads, IsRepor
 use Rattle.bk_follow.specs.Queries.{executed_of}
 use Rattle.bk_follow.specs.private.Ledgers.{book_with}
 use Rattle.bk_report.specs.Pages.{Gathered, blank, Puts, Stops}
-use Rattle.bk_follow.proofs.Counting.{few_places, few_ordered_batches, few_waiting, few_anchors, few_in_order, few_rejects}
+use Rattle.bk_follow.proofs.Counting.{few_places, few_named, few_ordered_batches, few_waiting, few_anchors, few_in_order, few_rejects}
 use Rattle.bk_report.proofs.Putting.{all_out, part_out, part_size}
 use Rattle.bk_report.proofs.RunText.{run_text_is}
 
@@ -160,3 +162,9 @@ few_receipts b e waiting rows (feed, good, current) s =
     let few = few_places feed.version (committee_in feed) feed.frames (later_frames feed) b.taken.ordered good.good (later_part feed.frames) current.ordered in
     let same : length e.receipts ≡ length (transactions_of b.taken.ordered.payloads.list) = ap length (executed_is feed b e s.is_done current).receipts ∙ length-receipts feed.version (transactions_of b.taken.ordered.payloads.list) (genesis_of feed.frames) in
     omega (arith, few, same)
+
+pub few_of_rows : (b : BookValue) (e : Executed) (waiting : List CertRef) (rows : List Row) → IsSettledBook b → IsShownOf b e waiting rows → length rows < 2 ^ 32
+few_of_rows b e waiting rows (feed, good, current) s =
+    let few = few_named feed.version (committee_in feed) feed.frames (later_frames feed) b.taken.ordered good.good (later_part feed.frames) current.ordered in
+    let same = ap length (s.rows_are ∙ (executed_is feed b e s.is_done current).rows) in
+    omega (arith, few, same, state_long feed.version (transactions_of b.taken.ordered.payloads.list) (genesis_of feed.frames), genesis_few feed.frames)

@@ -7,7 +7,7 @@ use Rattle.std.proofs.lemmas.List.Concat.{flat_map-append}
 use Rattle.bk_frames.specs.declared.version.Version.{Version}
 use Rattle.bk_frames.specs.declared.genesis.Row.{Row}
 use Rattle.bk_frames.specs.Feed.{Frame, FeedValue, IsFeed, feed_of, genesis_of}
-use Rattle.bk_frames.proofs.Accounts.{genesis_accounts}
+use Rattle.bk_frames.proofs.Accounts.{genesis_accounts, genesis_few}
 use Rattle.bk_committee.specs.Payload.{CommitteeValue, committee_of}
 use Rattle.bk_commit.specs.Growth.{IsPartOf, Begins}
 use Rattle.bk_order.specs.Intake.{Taken, Kept, HasTaken, IsKeptOf, nothing_ordered}
@@ -29,7 +29,9 @@ use Rattle.bk_pool.specs.declared.outcome.ExecFault.{ExecFault}
 use Rattle.bk_pool.specs.declared.outcome.ExecFault.TheVariants.{OutOfMemory, Unfinished}
 use Rattle.bk_ledger.specs.Executing.{Leaves}
 use Rattle.bk_follow.specs.private.Ledgers.{fault_of_execution}
-use Rattle.bk_follow.proofs.Counting.{few_places}
+use Rattle.bk_ledger.specs.Naming.{named_by}
+use Rattle.bk_ledger.proofs.Growth.{named-append}
+use Rattle.bk_follow.proofs.Counting.{few_places, few_named}
 
 -- ---- the opening
 
@@ -54,8 +56,8 @@ part_more version f g rest more o h = record { part = h.part; within = λ c i. C
 
 -- the book of the committee and the genesis alone
 pub opened_book : (feed : FeedValue) (taken : Taken) (e : Executed) (rows : List Row) → later_frames feed ≡ [] → taken.committee ≡ committee_in feed → HasTaken [] taken → taken.ordered ≡ nothing_ordered → taken.failed ≡ false
-    → e.version ≡ taken.committee.version → e.counts ≡ [] → e.receipts ≡ [] → e.rows ≡ rows → rows ≡ genesis_of feed.frames → IsBookOf feed (record { opening = rows; taken = taken; executed = Some e })
-opened_book feed taken e rows none same took nothing works version counts receipts rows_are genesis = record {
+    → e.version ≡ taken.committee.version → e.counts ≡ [] → e.receipts ≡ [] → e.rows ≡ rows → rows ≡ genesis_of feed.frames → e.slots ≡ length rows → IsBookOf feed (record { opening = rows; taken = taken; executed = Some e })
+opened_book feed taken e rows none same took nothing works version counts receipts rows_are genesis slots = record {
   opening = genesis;
   committee = same;
   taken = subst (λ (fs : List Frame). HasTaken fs taken) (sym none) took;
@@ -70,6 +72,7 @@ opened_book feed taken e rows none same took nothing works version counts receip
     counts = counts;
     receipts = receipts;
     rows = rows_are ∙ genesis;
+    slots = omega (arith, slots, ap length genesis);
   };
 }
 
@@ -90,7 +93,7 @@ book_more version (f ∷ g ∷ rest) more old new two same kept works took b = r
   before = part_more version f g rest more b.order b.before;
   done = b.done;
   is_done = b.is_done;
-  executed = record { version = b.executed.version; counts = b.executed.counts; receipts = b.executed.receipts; rows = b.executed.rows };
+  executed = record { version = b.executed.version; counts = b.executed.counts; receipts = b.executed.receipts; rows = b.executed.rows; slots = b.executed.slots };
 }
 
 -- ---- a settle
@@ -100,6 +103,7 @@ pub record GoesOn (e : Executed) (list : List (List ℕ)) : Type 0 where
   pub within : length e.counts ≤ length list
   pub room : HasRoom e.version (length (transactions_of (drop (length e.counts) list))) e.rows
   pub few : length e.receipts + length (transactions_of (drop (length e.counts) list)) < 2 ^ 31
+  pub slots : e.slots + named_by (transactions_of (drop (length e.counts) list)) < 2 ^ 31
   pub all : length e.receipts + length (transactions_of (drop (length e.counts) list)) ≡ length (transactions_of list)
 
 later_part : (frames : List Frame) → IsPartOf (drop 2 frames) frames
@@ -139,6 +143,7 @@ goes_on feed old now good clear ordered =
     let tail : length (transactions_of (drop (length e.counts) now.payloads.list)) ≡ length (transactions_of t.rest) = ap (λ (l : List (List ℕ)). length (transactions_of l)) t.dropped in
     let txs : length (transactions_of now.payloads.list) ≡ length (transactions_of before) + length (transactions_of t.rest) = ap length t.txs ∙ length-append (transactions_of before) (transactions_of t.rest) in
     let few = few_places feed.version (committee_in feed) feed.frames (later_frames feed) now good.good (later_part feed.frames) ordered in
+    let named = few_named feed.version (committee_in feed) feed.frames (later_frames feed) now good.good (later_part feed.frames) ordered in
     let all : length e.receipts + length (transactions_of (drop (length e.counts) now.payloads.list)) ≡ length (transactions_of now.payloads.list) = omega (arith, receipts, tail, txs) in
     let sum : length (transactions_of before) + length (transactions_of t.rest) < 2 ^ 63 = omega (arith, txs, few) in
     record {
@@ -146,6 +151,7 @@ goes_on feed old now good clear ordered =
       room = subst (λ (p : Version × ℕ × List Row). HasRoom p.0 p.1 p.2) (λ i. (sym x.version i, sym tail i, sym x.rows i))
           (room_left feed.version (transactions_of before) (length (transactions_of t.rest)) (genesis_of feed.frames) (genesis_accounts feed.version feed.frames (feed_good feed old good)) sum);
       few = omega (arith, all, few);
+      slots = omega (arith, x.slots, named, genesis_few feed.frames, ap (λ (l : List (List ℕ)). named_by (transactions_of l)) t.dropped, ap named_by t.txs, named-append (transactions_of before) (transactions_of t.rest));
       all = all;
     }
 
@@ -155,6 +161,7 @@ pub record Executes (e f : Executed) (list : List (List ℕ)) : Type 0 where
   pub counts : f.counts ≡ e.counts ++ map count_in (drop (length e.counts) list)
   pub receipts : f.receipts ≡ e.receipts ++ receipts_of e.version (transactions_of (drop (length e.counts) list)) e.rows
   pub rows : f.rows ≡ state_after e.version (transactions_of (drop (length e.counts) list)) e.rows
+  pub slots : f.slots ≤ e.slots + named_by (transactions_of (drop (length e.counts) list))
 
 -- the fold of a front and then of the rest is the fold of both
 executed_all : (feed : FeedValue) (o now : Ordered) (e f : Executed) → IsExecuted feed o e → Begins o.payloads.list now.payloads.list → Executes e f now.payloads.list → IsExecuted feed now f
@@ -169,6 +176,7 @@ executed_all feed o now e f x begins r =
           ∙ sym (receipts_append feed.version (transactions_of before) (transactions_of t.rest) genesis) ∙ sym (ap (λ (txs : List (Option _)). receipts_of feed.version txs genesis) t.txs);
       rows = r.rows ∙ (λ i. state_after (x.version i) (transactions_of (t.dropped i)) (x.rows i))
           ∙ sym (state_append feed.version (transactions_of before) (transactions_of t.rest) genesis) ∙ sym (ap (λ (txs : List (Option _)). state_after feed.version txs genesis) t.txs);
+      slots = omega (arith, r.slots, x.slots, ap (λ (l : List (List ℕ)). named_by (transactions_of l)) t.dropped, ap named_by t.txs, named-append (transactions_of before) (transactions_of t.rest));
     }
 
 -- the book that a settle leaves

@@ -39,6 +39,8 @@ use Rattle.bk_order.specs.declared.reject.Reject.{Reject}
 use Rattle.bk_order.specs.Frames.{AreCerts, AreBatches, rejects_by, IsRejectOf, AreRejects}
 use Rattle.bk_order.specs.Orders.{Ordered, IsOrderOf, AreWaiting}
 use Rattle.bk_tx.specs.Batches.{transactions_in, transactions_of}
+use Rattle.bk_ledger.specs.Naming.{named_by}
+use Rattle.bk_ledger.proofs.Growth.{named-append, batch_weight}
 use Rattle.bk_ledger.proofs.Runs.{transactions_size, good_size}
 
 -- ---- different things, each out of one of a list
@@ -201,6 +203,10 @@ double_size : (ps : List (List ℕ)) → total (λ (p : List ℕ). 2 * length (t
 double_size [] = refl
 double_size (p ∷ ps) = omega (arith, double_size ps, ap length (flat_map-cons transactions_in p ps), length-append (transactions_in p) (transactions_of ps))
 
+eightfold : (ps : List (List ℕ)) → total (λ (p : List ℕ). 8 * named_by (transactions_in p)) ps ≡ 8 * named_by (transactions_of ps)
+eightfold [] = refl
+eightfold (p ∷ ps) = omega (arith, eightfold ps, ap named_by (flat_map-cons transactions_in p ps), named-append (transactions_in p) (transactions_of ps))
+
 module _ (version : Version) (k : CommitteeValue) (frames later : List Frame) (o : Ordered) (good : AreGoodFrom version 0 4 frames) (into : IsPartOf later frames) (is : IsOrderOf k later o) where
   -- payloads that are ordered, no larger in all than the frames
   ordered_inside : (size : List ℕ → ℕ) → ((q : List ℕ) → size q ≤ 5 + length q) → total size o.payloads.list ≤ total bytes_in frames
@@ -217,6 +223,10 @@ module _ (version : Version) (k : CommitteeValue) (frames later : List Frame) (o
 
   pub few_ordered_batches : length o.payloads.list < 2 ^ 31
   few_ordered_batches = omega (arith, ordered_inside (λ (q : List ℕ). 5) (λ q. omega arith), five_each o.payloads.list, bytes_inside version frames good)
+
+  -- and its transactions name fewer than 2^29 accounts
+  pub few_named : named_by (transactions_of o.payloads.list) < 2 ^ 29
+  few_named = omega (arith, ordered_inside (λ (q : List ℕ). 8 * named_by (transactions_in q)) (λ q. omega (arith, batch_weight q)), eightfold o.payloads.list, bytes_inside version frames good)
 
 -- ---- certificates
 

@@ -4,8 +4,6 @@ use Rattle.bk_frames.specs.declared.version.Version.{Version}
 use Rattle.bk_frames.specs.Feed.{Frame, FeedValue, feed_of, genesis_of}
 use Rattle.bk_commit.specs.Growth.{Begins}
 use Rattle.bk_order.specs.Agreement.{OneBegins}
-use Rattle.bk_order.specs.Intake.{nothing_ordered}
-use Rattle.bk_order.specs.Orders.{Ordered}
 use Rattle.bk_order.specs.Stops.{HasNoStop, IsStop}
 use Rattle.bk_order.specs.declared.stop.Stop.{Stop}
 use Rattle.bk_order.specs.declared.stop.Stop.TheVariants as stop
@@ -13,7 +11,7 @@ use Rattle.bk_follow.specs.Outcomes.{Outcome}
 use Rattle.bk_results.specs.declared.differ.Agreed.{Agreed}
 use Rattle.bk_results.specs.declared.differ.Differ.{Differ}
 use Rattle.bk_results.specs.declared.differ.Differ.TheVariants as differ
-use Rattle.bk_follow.specs.Follower.{BookValue, Followed, HasCome, OfFrames, receipts_in}
+use Rattle.bk_follow.specs.Follower.{BookValue, Followed, HasCome, OfFrames, ordered_in, receipts_in}
 use Rattle.bk_follow.specs.Queries.{rows_in}
 use Rattle.bk_follow.specs.RunReport.{committee_in, later_frames}
 
@@ -42,11 +40,6 @@ HaveStop one other s =
     HaveOneSetup one other × IsStop (committee_in one) (frames_together one other) s
 
 -- ---- what they were settled to
-
--- the order as it was settled last; nothing where there is no book
-abbrev pub ordered_in : Option BookValue → Ordered
-ordered_in None = nothing_ordered
-ordered_in (Some b) = b.taken.ordered
 
 -- what a book was settled to
 abbrev pub settled_in : Option BookValue → Outcome

@@ -1,27 +1,29 @@
 -- What a Follower is to its callers.
-use Rattle.std.specs.Prelude.{◌≡◌, ℕ, ◌+◌, false, List, [], ◌∷◌, ◌++◌, length, map, Option, Some, None, IfSome}
+use Rattle.std.specs.Prelude.{◌≡◌, ◌≤◌, ℕ, ◌+◌, false, List, [], ◌∷◌, ◌++◌, length, map, Option, Some, None, IfSome}
 use Rattle.bk_frames.specs.declared.version.Version.{Version}
 use Rattle.bk_frames.specs.declared.genesis.Row.{Row}
 use Rattle.bk_frames.specs.Feed.{Frame, FeedValue, feed_of, genesis_of}
 use Rattle.bk_frames.specs.Cutting.{Cut, fresh, Cuts, IsOpen, RefusesPiece}
 use Rattle.bk_committee.specs.Payload.{CommitteeValue, committee_of}
 use Rattle.bk_commit.specs.Growth.{IsPartOf}
-use Rattle.bk_order.specs.Intake.{Taken, HasTaken}
+use Rattle.bk_order.specs.Intake.{Taken, HasTaken, nothing_ordered}
 use Rattle.bk_order.specs.Orders.{Ordered, IsOrderOf}
 use Rattle.bk_rules.specs.declared.receipt.Receipt.{Receipt}
 use Rattle.bk_rules.specs.Fold.{state_after, receipts_of}
 use Rattle.bk_results.specs.declared.fault.Fault.{Fault}
 use Rattle.bk_results.specs.declared.fault.Fault.TheVariants as fault
+use Rattle.bk_ledger.specs.Naming.{named_by}
 use Rattle.bk_tx.specs.Batches.{count_in, transactions_of}
 use Rattle.bk_follow.specs.RunReport.{committee_in, later_frames, HasNoStopIn, IsOrderIn, IsStopIn, HasPlaceIn}
 
 -- what executing batches gave: how many transactions each holds, None where it is void; what became of each
--- transaction; and the accounts after them
+-- transaction; the accounts after them; and how many accounts have a slot
 pub record Executed : Type 0 where
   pub version : Version
   pub counts : List (Option ℕ)
   pub receipts : List Receipt
   pub rows : List Row
+  pub slots : ℕ
 
 -- what is made of the frames of a feed: the opening accounts; what was taken of the frames after the genesis, with their
 -- order as it was settled last; and what executing its batches gave, None once that failed
@@ -48,6 +50,7 @@ pub record IsExecuted (feed : FeedValue) (o : Ordered) (e : Executed) : Type 0 w
   pub counts : e.counts ≡ map count_in o.payloads.list
   pub receipts : e.receipts ≡ receipts_of feed.version (transactions_of o.payloads.list) (genesis_of feed.frames)
   pub rows : e.rows ≡ state_after feed.version (transactions_of o.payloads.list) (genesis_of feed.frames)
+  pub slots : e.slots ≤ length (genesis_of feed.frames) + named_by (transactions_of o.payloads.list)
 
 -- the order of a part of the frames of a feed
 pub record OrdersPart (feed : FeedValue) (o : Ordered) : Type 0 where
@@ -105,6 +108,11 @@ abbrev pub Takes : Followed → List ℕ → Followed → Type 0
 Takes old piece new =
     (bytes : List ℕ) (frames : List Frame) → HasCome bytes frames old
     → (more : List Frame) × HasCome (bytes ++ piece) (frames ++ more) new
+
+-- the order as it was settled last; nothing where there is no book
+abbrev pub ordered_in : Option BookValue → Ordered
+ordered_in None = nothing_ordered
+ordered_in (Some b) = b.taken.ordered
 
 -- what was executed, as of the last settle
 abbrev pub executed_in : Option BookValue → Option Executed

@@ -16,6 +16,7 @@ executed_of l = record {
   counts = l.counts;
   receipts = l.receipts;
   rows = l.state.rows;
+  slots = length l.state.slots;
 }
 
 -- the accounts after what was executed

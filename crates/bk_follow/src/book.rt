@@ -5,10 +5,12 @@ ghost use Rattle.bk_frames.specs.declared.version.Version.{Version};
 ghost use Rattle.bk_frames.specs.Cutting.{frames_in};
 ghost use Rattle.bk_frames.specs.Feed.{Frame, FeedValue, feed_of, genesis_of};
 ghost use Rattle.bk_frames.specs.Genesis.{AreAccounts};
+ghost use Rattle.bk_order.specs.Intake.{nothing_ordered};
 ghost use Rattle.bk_follow.specs.RunReport.{committee_in, later_frames, HasNoStopIn, IsStopIn};
 ghost use Rattle.bk_follow.specs.Follower.{IsBookOf, IsCurrent, receipts_of_executed};
 ghost use Rattle.bk_rules.specs.Fold.{HasRoom};
 ghost use Rattle.bk_ledger.specs.Executing.{HasExecuted};
+ghost use Rattle.bk_ledger.specs.Naming.{named_by};
 ghost use Rattle.bk_follow.specs.private.Books.{IsGoodBook, BookSettleFails};
 ghost use Rattle.bk_follow.specs.private.Ledgers.{LeavesBy, left_after};
 
@@ -71,6 +73,7 @@ fn execute_rest<R: Threads + Wait + Sync, G: Gate + Sync>(
     requires within { length ledger.counts ≤ length intake.now.ordered.payloads.list }
     requires room { HasRoom ledger.state.version (length (left_after ledger intake.now)) ledger.state.rows }
     requires few { length ledger.receipts + length (left_after ledger intake.now) < 2 ^ 32 }
+    requires slots { length ledger.state.slots + named_by (left_after ledger intake.now) < 2 ^ 31 }
     requires workers { (1 ≤ workers) × (workers ≤ 64) }
     ensures executed { IfOk result
         (HasExecuted (drop (length ledger.counts) intake.now.ordered.payloads.list) ledger) }
@@ -96,6 +99,7 @@ impl Book {
             → committee ≡ committee_in feed → opening.items ≡ genesis_of feed.frames
             → IsBookOf feed b) }
         ensures none { IfOk result (λ b. receipts_of_executed b.executed ≡ []) }
+        ensures unordered { IfOk result (λ b. b.taken.ordered ≡ nothing_ordered) }
     {
         let version = committee.version();
         let ledger = Ledger::new(alloc, version, &opening)?;
@@ -117,6 +121,7 @@ impl Book {
         ensures taken { OnOk result ((version : Version) (before : List Frame) → 2 ≤ length before
             → IsBookOf (feed_of version before) self.old
             → IsBookOf (feed_of version (before ++ frames_in frames.items)) self.new) }
+        ensures order { OnOk result (self.new.taken.ordered ≡ self.old.taken.ordered) }
         ensures executed { self.new.executed ≡ self.old.executed }
     {
         self.intake.take(rt, frames)?;

@@ -3,7 +3,7 @@
 ghost use Rattle.std.specs.Prelude.{◌≡◌, ◌≤◌, ℕ, List, None, Some, Err, OnOk, IfOk, IfErr, IfSome};
 ghost use Rattle.bk_frames.specs.Device.{CanBeUsed};
 ghost use Rattle.bk_frames.specs.Feed.{Frame};
-ghost use Rattle.bk_follow.specs.Follower.{unfed, HasCome, Takes, FeedFails, Settles, SettleFails, receipts_in, executed_in};
+ghost use Rattle.bk_follow.specs.Follower.{unfed, HasCome, Takes, FeedFails, Settles, SettleFails, ordered_in, receipts_in, executed_in};
 ghost use Rattle.bk_follow.specs.Finishing.{Closes, CloseFails, Finishes, FinishFails};
 ghost use Rattle.bk_results.specs.Devices.{IsUntouched};
 ghost use Rattle.bk_follow.specs.private.Parts.{followed, ClosesNot, EndFails};
@@ -171,9 +171,10 @@ impl Follower {
     /// Takes the next piece of the feed. Certificates are judged on as many threads as there are processors.
     ///
     /// A fault of the feed comes with the first byte that shows it; bytes that are only cut short are none here, and
-    /// neither are collisions and twins.
+    /// neither are collisions and twins. The order stays as it was settled last.
     pub fn feed<R: Threads + Sync>(&mut self, rt: &R, piece: &[u8]) -> Result<(), Fault>
         ensures takes { OnOk result (Takes self.old piece.now self.new) }
+        ensures order { OnOk result (ordered_in self.new.book ≡ ordered_in self.old.book) }
         ensures rests { OnOk result (receipts_in self.new.book ≡ receipts_in self.old.book) }
         ensures executed { OnOk result (IfSome self.old.book
             (λ b. executed_in self.new.book ≡ b.executed)) }

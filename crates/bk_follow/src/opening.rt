@@ -7,7 +7,7 @@ ghost use Rattle.bk_frames.specs.Feed.{Frame};
 ghost use Rattle.bk_frames.specs.Committee.{is_committee};
 ghost use Rattle.bk_frames.specs.Genesis.{AreAccounts, is_genesis, rows_of};
 ghost use Rattle.bk_committee.specs.Payload.{blamed, committee_of};
-ghost use Rattle.bk_follow.specs.Follower.{HasCome, Takes, FollowsBy, FeedFails, receipts_in, executed_in};
+ghost use Rattle.bk_follow.specs.Follower.{HasCome, Takes, FollowsBy, FeedFails, ordered_in, receipts_in, executed_in};
 ghost use Rattle.bk_follow.specs.private.Books.{HasFollowed};
 ghost use Rattle.bk_follow.specs.private.Openings.{HeadIsCommittee, HeadIsGenesis, IsFirstOf, IsOpening, OpensFirst, OpensSecond, IsOpened};
 ghost use Rattle.bk_follow.specs.private.Parts.{followed};
@@ -145,6 +145,7 @@ fn open(
         → FollowsBy version before opened.old.committee opened.old.book
         → IsOpened version (before ++ frames_in frames.old.items)
         opened.new.committee opened.new.book (frames_in frames.new.items)) }
+    ensures order { OnOk result (ordered_in opened.new.book ≡ ordered_in opened.old.book) }
     ensures receipts { OnOk result (receipts_in opened.new.book ≡ receipts_in opened.old.book) }
     ensures executed { OnOk result (IfSome opened.old.book
         (λ b. executed_in opened.new.book ≡ b.executed)) }
@@ -171,6 +172,7 @@ pub(crate) fn take_frames(
         → FollowsBy version before opened.old.committee opened.old.book
         → FollowsBy version (before ++ frames_in frames.items)
         opened.new.committee opened.new.book) }
+    ensures order { OnOk result (ordered_in opened.new.book ≡ ordered_in opened.old.book) }
     ensures receipts { OnOk result (receipts_in opened.new.book ≡ receipts_in opened.old.book) }
     ensures executed { OnOk result (IfSome opened.old.book
         (λ b. executed_in opened.new.book ≡ b.executed)) }
@@ -196,6 +198,7 @@ pub(crate) fn advance(
         × HasCome bytes frames (followed cutter.old opened.old) }
     ensures takes { OnOk result (Takes (followed cutter.old opened.old) piece.now
         (followed cutter.new opened.new)) }
+    ensures order { OnOk result (ordered_in opened.new.book ≡ ordered_in opened.old.book) }
     ensures receipts { OnOk result (receipts_in opened.new.book ≡ receipts_in opened.old.book) }
     ensures executed { OnOk result (IfSome opened.old.book
         (λ b. executed_in opened.new.book ≡ b.executed)) }

@@ -44,14 +44,9 @@ fn find_shown(alloc: Global, intake: &Intake, ledger: &Ledger) -> Result<Shown, 
     ensures rows { IfOk result (λ s. s.rows.items ≡ ledger.now.state.rows) }
     ensures total { IfOk result (λ s. s.total ≡ total_of s.rows.items) }
     ensures leaves { IfOk result (λ s. s.leaves.items ≡ leaves_of s.rows.items) }
-    ensures few { IfOk result (λ s. length s.rows.items < 2 ^ 32) }
 {
     let waiting = intake.waiting()?;
     let rows = ledger.state().rows(alloc)?;
-    // This never holds: a feed has fewer than 2^32 bytes, and an account that comes to be is named in nine of them.
-    if rows.len() >= 1 << 32 {
-        return Err(AllocError);
-    }
     let leaves = leaves_of(alloc, &rows)?;
     let total = ledger.state().total();
     Ok(Shown {

@@ -1,6 +1,6 @@
 //! What executing batches gave so far.
 
-ghost use Rattle.std.specs.Prelude.{◌≡◌, ◌^◌, ◌<◌, [], length, map, IfOk, OnOk, slice_get};
+ghost use Rattle.std.specs.Prelude.{◌≡◌, [], length, map, IfOk, OnOk, slice_get};
 ghost use Rattle.bk_frames.specs.Feed.{genesis_of};
 ghost use Rattle.bk_frames.specs.Genesis.{AreAccounts, ids_of, total_of};
 ghost use Rattle.bk_rules.specs.Fold.{receipts_of, state_after, HasRoom};

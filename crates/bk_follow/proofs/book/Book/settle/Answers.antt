@@ -23,6 +23,12 @@ execute_rest-requires-clause-few g c κs within =
     let few = (ledger_next c.requires.good.0 c.self.inside.intake c.settle.new.self c.self.inside.ledger c.self.inside.opening.items c.in-Some-take.ledger s (sym c.in-Some-take.ensures.value) good).few in
     omega (arith, few)
 
+pub execute_rest-requires-clause-slots : goal.execute_rest-requires-clause-slots
+execute_rest-requires-clause-slots g c κs within =
+    let s : IsSettling c.self.inside.intake c.settle.new.self = record { same = c.in_ok-settle.ensures.committee; kept = c.in_ok-settle.ensures.kept; works = c.in_ok-settle.ensures.open.1; clear = c.in_default.ensures; order = c.in_ok-settle.ensures.order } in
+    let good = subst (IsGoodBook c.requires.good.0) (sym c.self.view_is) c.requires.good.1 in
+    (ledger_next c.requires.good.0 c.self.inside.intake c.settle.new.self c.self.inside.ledger c.self.inside.opening.items c.in-Some-take.ledger s (sym c.in-Some-take.ensures.value) good).slots
+
 pub returns-in_err-ledger-clause-fault : goal.returns-in_err-ledger-clause-fault
 returns-in_err-ledger-clause-fault g c =
     let s : IsSettling c.self.inside.intake c.settle.new.self = record { same = c.in_ok-settle.ensures.committee; kept = c.in_ok-settle.ensures.kept; works = c.in_ok-settle.ensures.open.1; clear = c.in_default.ensures; order = c.in_ok-settle.ensures.order } in
@@ -37,7 +43,7 @@ returns-clause-settled g c = λ feed good.
     let s : IsSettling c.self.inside.intake c.settle.new.self = record { same = c.in_ok-settle.ensures.committee; kept = c.in_ok-settle.ensures.kept; works = c.in_ok-settle.ensures.open.1; clear = c.in_default.ensures; order = c.in_ok-settle.ensures.order } in
     let e = c.in_ok-ledger.ensures.executed in
     ledger_done feed c.self.inside.intake c.settle.new.self c.self.inside.ledger c.self.inside.opening.items c.in-Some-take.ledger c.in_ok-ledger.ledger s (sym c.in-Some-take.ensures.value) (subst (IsGoodBook feed) (sym c.self.view_is) good)
-    (record { version = e.version; counts = e.counts_are; receipts = e.receipts; rows = e.rows })
+    (record { version = e.version; counts = e.counts_are; receipts = e.receipts; rows = e.rows; slots = e.slots })
 
 pub unreachable-unreachable : goal.unreachable-unreachable
 unreachable-unreachable g c = no_ledger c.requires.good.0 c.self.inside.intake c.self.inside.ledger c.self.inside.opening.items

@@ -4,7 +4,7 @@ use Rattle.bk_results.specs.declared.status.Status.TheVariants as status
 use Rattle.bk_follow.specs.RunReport.{status_of}
 use Rattle.bk_follow.specs.Queries.{executed_of}
 use Rattle.bk_follow.specs.private.Ledgers.{book_with}
-use Rattle.bk_follow.proofs.BookReports.{IsSettledBook, shown_of, few_rejected, few_waits, few_of_anchors, few_of_order, few_counts, few_receipts, report_out, report_front}
+use Rattle.bk_follow.proofs.BookReports.{IsSettledBook, shown_of, few_rejected, few_waits, few_of_anchors, few_of_order, few_counts, few_receipts, few_of_rows, report_out, report_front}
 use Rattle.bk_follow.proofs.book.Book.write.Goals as goal
 
 pub write_shown-requires-clause-rejected : goal.write_shown-requires-clause-rejected
@@ -24,6 +24,9 @@ write_shown-requires-clause-counts g c = λ _ _. few_counts (book_with c.self.in
 
 pub write_shown-requires-clause-receipts : goal.write_shown-requires-clause-receipts
 write_shown-requires-clause-receipts g c = λ _ _. few_receipts (book_with c.self.inside.intake c.self.inside.ledger c.self.inside.opening.items) (executed_of c.in-Some.ledger) c.in_ok-shown.shown.waiting.items c.in_ok-shown.shown.rows.items (subst IsSettledBook (sym c.self.view_is) c.requires.current) (shown_of c.self.inside.intake c.self.inside.ledger c.self.inside.opening.items c.in-Some.ledger c.in_ok-shown.shown.waiting.items c.in_ok-shown.shown.rows.items c.in-Some.is c.in_ok-shown.ensures.rows c.in_ok-shown.ensures.waiting)
+
+pub write_shown-requires-clause-rows : goal.write_shown-requires-clause-rows
+write_shown-requires-clause-rows g c = λ _ _. few_of_rows (book_with c.self.inside.intake c.self.inside.ledger c.self.inside.opening.items) (executed_of c.in-Some.ledger) c.in_ok-shown.shown.waiting.items c.in_ok-shown.shown.rows.items (subst IsSettledBook (sym c.self.view_is) c.requires.current) (shown_of c.self.inside.intake c.self.inside.ledger c.self.inside.opening.items c.in-Some.ledger c.in_ok-shown.shown.waiting.items c.in_ok-shown.shown.rows.items c.in-Some.is c.in_ok-shown.ensures.rows c.in_ok-shown.ensures.waiting)
 
 pub returns-in_err-write_shown-clause-fault : goal.returns-in_err-write_shown-clause-fault
 returns-in_err-write_shown-clause-fault g c =
