@@ -189,4 +189,4 @@ pub follower_shows : (v : View) (old new : Followed) (before after : Device) →
 follower_shows v old new before after closed h =
     let s = ordered_now old new closed in
     let r = of_book new.book s.2 (λ b. BookShows (asked_by v) b before after) s.3 h in
-    (on_ordered old new s.2 (λ feed. ReplyIsOut feed (asked_by v) reply.Found before after) closed s.3 r.0, r.1, refl)
+    (on_ordered old new s.2 (λ feed. ReplyIsOut feed (asked_by v) reply.Found before after) closed s.3 r.0, r.1, refl, λ is. absurd cc)

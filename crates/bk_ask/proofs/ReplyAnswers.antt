@@ -1,10 +1,12 @@
 -- What a book, a Follower and a call reply, from what they found and wrote.
-use Rattle.std.proofs.Common.{◌≡◌, ℕ, ◌<◌, ◌^◌, List, length, Option, Some, None, true, false, refl, sym, ap, subst, ◌∙◌, arith}
+use Rattle.std.proofs.Common.{◌≡◌, ℕ, ◌<◌, ◌^◌, List, [], length, append-nil, Option, Some, None, true, false, refl, sym, ap, subst, ◌∙◌, arith}
 use Rattle.std.specs.Prelude.{IfSome}
-use Rattle.bk_frames.specs.Device.{Device, Works, IfKnown}
+use Rattle.std.specs.Io.KnownBytes.{Appends, Keeps}
+use Rattle.bk_frames.specs.Device.{Device, Works, Receives, IfKnown}
 use Rattle.bk_frames.specs.declared.genesis.Row.{Row}
 use Rattle.bk_frames.specs.Feed.{FeedValue, IsFeed}
 use Rattle.bk_frames.specs.Genesis.{AreAccounts}
+use Rattle.bk_frames.specs.Writing.{Writes}
 use Rattle.bk_frames.proofs.Accounts.{genesis_accounts}
 use Rattle.bk_committee.specs.Payload.{CommitteeValue}
 use Rattle.bk_order.specs.Frames.{AreCerts}
@@ -22,7 +24,7 @@ use Rattle.bk_results.specs.declared.query.Query.TheVariants as query
 use Rattle.bk_results.specs.declared.query.Reply.{Reply}
 use Rattle.bk_results.specs.declared.query.Reply.TheVariants as reply
 use Rattle.bk_results.specs.Devices.{devices}
-use Rattle.bk_ask.specs.Asking.{Ending, IsEndingOf, Replies, HasText, can_reply, executes, IsReplied, PartOfReplyIsOut, AskFailsBy}
+use Rattle.bk_ask.specs.Asking.{Ending, IsEndingOf, Replies, HasText, IsQuiet, can_reply, executes, IsReplied, PartOfReplyIsOut, AskFailsBy}
 use Rattle.bk_follow.specs.Finishing.{Closes, CloseFails}
 use Rattle.bk_follow.specs.Follower.{Executed, BookValue, Followed, IsExecuted, IsCurrent, executed_in}
 use Rattle.bk_follow.specs.Replaying.{AllHasCome, ReadFails}
@@ -105,12 +107,26 @@ can (query.State root) end reply.Absent text h = absurd h.0
 can query.Anchors end reply.Absent text h = absurd h.0
 can (query.Statement id) end reply.Absent text h = refl
 
+-- an empty text changes no known bytes
+keeps_none : (old new : Option (List ℕ)) → Appends old new [] → Keeps old new
+keeps_none None new h = tt
+keeps_none (Some xs) None h = absurd h
+keeps_none (Some xs) (Some ys) h = h ∙ append-nil xs
+
+-- where nothing is found the text is empty
+quiet : (asked : Query) (end : Ending) (answer : Reply) (text : List ℕ) (old new : Device) → Replies asked end answer text → Writes text old new → IsQuiet answer old new
+quiet asked end reply.Found text old new h w = λ is. absurd cc
+quiet asked end reply.Short text old new h w = λ is. absurd cc
+quiet asked end reply.Wrong text old new h w = λ is. absurd cc
+quiet asked end reply.Absent text old new h w = λ is. (w.0, keeps_none old.bytes new.bytes (subst (Receives old new) h.1 w.1))
+
 module _ (asked : Query) (book : Option BookValue) (b : BookValue) (taken : Taken) (opening : List Row) (l : LedgerValue) (old new : Device) (h : IsBookIn book b taken opening l) where
   book_replies : (answer : Reply) → WritesReply asked (ending_of taken opening l) old new answer → BookReplies asked b old new answer
   book_replies answer w = (
     λ feed good current. record { text = w.0; reply = record { end = ending_of taken opening l; ending = ending_is feed book b taken opening l h current; it = w.1 }; gave = w.2.1 },
     w.2.0,
     can asked (ending_of taken opening l) answer w.0 w.1,
+    quiet asked (ending_of taken opening l) answer w.0 old new w.1 w.2,
   )
 
   book_reply_fails : (f : Fault) → TextFails (HasText asked (ending_of taken opening l)) old new f → BookReplyFails asked b old new f
@@ -185,7 +201,7 @@ pub follower_replies : (asked : Query) (old new : Followed) (before after : Devi
 follower_replies asked old new before after answer closed h =
     let s = settled_now old new closed in
     let r = of_book new.book s.2 (λ b. BookReplies asked b before after answer) s.3 h in
-    (on_closed old new s.2 (λ feed. ReplyIsOut feed asked answer before after) closed s.3 r.0, r.1, r.2)
+    (on_closed old new s.2 (λ feed. ReplyIsOut feed asked answer before after) closed s.3 r.0, r.1, r.2, r.3)
 
 -- ---- a call
 

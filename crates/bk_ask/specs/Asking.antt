@@ -206,6 +206,10 @@ abbrev pub IsReplied : Query → Reply → List ℕ → Device → Device → Ty
 IsReplied asked answer bytes old new =
     (text : List ℕ) × IsReply bytes asked answer text × Receives old new text
 
+-- where nothing is found nothing is written, whatever is known of the source
+abbrev pub IsQuiet : Reply → Device → Device → Type 0
+IsQuiet answer old new = answer ≡ reply.Absent → IsUntouched old new
+
 -- the first bytes of the text of the reply are out, and not all
 abbrev pub PartOfReplyIsOut : Query → ℕ → Device → Device → List ℕ → Type 0
 PartOfReplyIsOut asked written old new bytes =

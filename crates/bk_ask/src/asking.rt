@@ -3,7 +3,7 @@ ghost use Rattle.std.specs.Prelude.{◌≡◌, ◌<◌, ◌≤◌, length, true,
 ghost use Rattle.bk_frames.specs.Device.{CanBeUsed, Works, IfKnown};
 ghost use Rattle.bk_results.specs.Devices.{devices};
 ghost use Rattle.bk_follow.specs.Follower.{unfed};
-ghost use Rattle.bk_ask.specs.Asking.{IsReplied, AskFailsBy, can_reply};
+ghost use Rattle.bk_ask.specs.Asking.{IsReplied, IsQuiet, AskFailsBy, can_reply};
 ghost use Rattle.bk_ask.specs.private.Replies.{FollowerReplies, FollowerReplyFails};
 
 use crate::ordered::{show_ordered, view_of};
@@ -65,6 +65,7 @@ fn follow_and_reply<R: Threads + Wait + Sync, S: Source, K: Sink, G: Gate + Sync
     ensures reply { IfOk result (λ r. IfKnown (S.state source.old) (λ bytes.
         IsReplied query.now r bytes (K.state sink.old) (K.state sink.new))) }
     ensures kind { IfOk result (λ r. can_reply query.now r ≡ true) }
+    ensures absent { IfOk result (λ r. IsQuiet r (K.state sink.old) (K.state sink.new)) }
     ensures sound { OnOk result (Works (S.state source.old) (S.state source.new)
         × Works (K.state sink.old) (K.state sink.new)) }
     ensures fault { IfErr result (λ f. AskFailsBy query.now f
@@ -98,6 +99,7 @@ pub fn ask<R: Threads + Wait + Sync, S: Source, K: Sink, G: Gate + Sync>(
     ensures reply { IfOk result (λ r. IfKnown (S.state source.old) (λ bytes.
         IsReplied query r bytes (K.state sink.old) (K.state sink.new))) }
     ensures kind { IfOk result (λ r. can_reply query r ≡ true) }
+    ensures absent { IfOk result (λ r. IsQuiet r (K.state sink.old) (K.state sink.new)) }
     ensures sound { OnOk result (Works (S.state source.old) (S.state source.new)
         × Works (K.state sink.old) (K.state sink.new)) }
     ensures fault { IfErr result (λ f. AskFailsBy query f

@@ -20,7 +20,7 @@ use Rattle.bk_tx.specs.Batches.{transactions_of}
 use Rattle.bk_views.specs.Anchors.{AreRows, rows_text}
 use Rattle.bk_views.specs.Statement.{Course}
 use Rattle.bk_views.specs.declared.anchors.AnchorRow.{AnchorRow}
-use Rattle.bk_ask.specs.Asking.{Ending, Replies, IsReplyOf, can_reply, executes, order_text}
+use Rattle.bk_ask.specs.Asking.{Ending, Replies, IsReplyOf, IsQuiet, can_reply, executes, order_text}
 use Rattle.bk_ask.specs.declared.ordered.View.{View}
 use Rattle.bk_ask.specs.declared.ordered.View.TheVariants as view
 use Rattle.bk_follow.specs.Finishing.{OfFeed}
@@ -114,7 +114,7 @@ pub record ReplyStops (feed : FeedValue) (asked : Query) (written : ℕ) (old ne
 abbrev pub BookReplies : Query → BookValue → Device → Device → Reply → Type 0
 BookReplies asked b old new answer =
     ((feed : FeedValue) → IsFeed feed → IsCurrent feed b → ReplyIsOut feed asked answer old new) × Works old new
-    × (can_reply asked answer ≡ true)
+    × (can_reply asked answer ≡ true) × IsQuiet answer old new
 
 -- why it was not, and how much of it is out
 abbrev pub BookReplyFails : Query → BookValue → Device → Device → Fault → Type 0
@@ -145,6 +145,7 @@ BookShowsNot asked b old new fault.Memory = IsUntouched old new
 abbrev pub FollowerReplies : Query → Followed → Device → Device → Reply → Type 0
 FollowerReplies asked v old new answer =
     OfFeed v (λ feed. ReplyIsOut feed asked answer old new) × Works old new × (can_reply asked answer ≡ true)
+    × IsQuiet answer old new
 
 -- why it did not
 abbrev pub FollowerReplyFails : Query → Followed → Device → Device → Fault → Type 0
