@@ -16,6 +16,7 @@ use Rattle.bk_report.specs.Pages.{Gathered, blank, Puts, Stops}
 use Rattle.bk_tx.specs.Batches.{payloads_of, feed_transactions, count_in}
 use Rattle.bk_report.specs.Report.{lines_of, apply_report_of, IsApplyReport}
 use Rattle.bk_report.proofs.Putting.{all_out, part_out, part_size}
+use Rattle.bk_ledger.proofs.Growth.{few_rows}
 use Rattle.bk_ledger.proofs.Runs.{few_batches, few_feed_transactions}
 
 pub untouched : (d : Device) → IsUntouched d d
@@ -33,6 +34,9 @@ few_counts feed counts n good e len = omega (arith, ap length e, length-map (pay
 pub few_receipts : (feed : FeedValue) (receipts : List Receipt) (n : ℕ) → IsFeed feed → receipts ≡ receipts_of feed.version (feed_transactions feed.frames) (genesis_of feed.frames) → n ≡ length receipts → n < 2 ^ 32
 few_receipts feed receipts n good e len =
     omega (arith, ap length e, length-receipts feed.version (feed_transactions feed.frames) (genesis_of feed.frames), few_feed_transactions feed good)
+
+pub few_accounts : (feed : FeedValue) (rows : List Row) → IsFeed feed → rows ≡ state_after feed.version (feed_transactions feed.frames) (genesis_of feed.frames) → length rows < 2 ^ 32
+few_accounts feed rows good e = omega (arith, ap length e, few_rows feed good)
 
 -- the lines of such a ledger are the apply report
 lines_are : (feed : FeedValue) (counts : List (Option ℕ)) (receipts : List Receipt) (rows : List Row) → IsLedgerOf feed counts receipts rows → text_of (lines_of counts receipts rows) ≡ text_of (apply_report_of feed)

@@ -27,6 +27,10 @@ use Rattle.bk_results.specs.Devices.{devices}
 use Rattle.bk_tx.specs.Batches.{feed_transactions}
 use Rattle.bk_apply.specs.Scheduling.{opening_of, IsPlanOfFeed, InExecution, InExecutionOf, StopsBy}
 use Rattle.bk_apply.specs.private.Schedules.{stop_of, Unscheduled, IsScheduled}
+use Rattle.std.proofs.lemmas.List.{length-map}
+use Rattle.bk_frames.proofs.Accounts.{genesis_few}
+use Rattle.bk_ledger.specs.Naming.{named_by}
+use Rattle.bk_ledger.proofs.Growth.{slots_long, few_named}
 use Rattle.bk_ledger.proofs.Runs.{few_feed_transactions}
 use Rattle.bk_apply.proofs.FeedReports.{untouched, are_feed}
 
@@ -47,6 +51,11 @@ plan_of_feed feed txs opening ledger plan all opened prepared is_plan version id
   ids = ids;
   prepared = subst (λ (y : List (Option Transaction) × Ledger). IsPrepared y.0 y.1 ledger) (λ j. (all j, opened j)) prepared;
 }
+
+-- a feed has too few bytes to name 2^31 accounts
+pub few_slots : (feed : FeedValue) (txs : List (Option Transaction)) (opening ledger : Ledger) (ids : List ℕ) → IsFeed feed → txs ≡ feed_transactions feed.frames → opening ≡ opening_of feed → IsPrepared txs opening ledger → ids ≡ ledger.slots → length ids < 2 ^ 31
+few_slots feed txs opening ledger ids good all opened prepared same =
+    omega (arith, ap length same, slots_long txs opening ledger prepared, ap (λ (l : Ledger). length l.slots) opened, length-map (genesis_of feed.frames) (λ (r : Row). r.id), genesis_few feed.frames, ap named_by all, few_named feed good)
 
 -- there is room for all transactions
 pub feed_room : (feed : FeedValue) (txs : List (Option Transaction)) (opening ledger : Ledger) → IsFeed feed → AreAccounts (genesis_of feed.frames) → txs ≡ feed_transactions feed.frames

@@ -14,7 +14,7 @@ ghost use Rattle.bk_apply.specs.Scheduling.{InExecution, IsWholeFor, StopsBy};
 ghost use Rattle.bk_apply.specs.private.Schedules.{stop_of, Unscheduled, IsScheduled};
 
 use crate::applying::write_report;
-use bk_conflicts::{Plan, SLOTS_END};
+use bk_conflicts::Plan;
 use bk_frames::{Feed, FeedFault, Sink, Source, WriteFault};
 use bk_ledger::{Batches, Ledger};
 use bk_report::Page;
@@ -98,9 +98,6 @@ fn run_events(
 {
     let mut state = State::new(alloc, feed.version(), feed.genesis())?;
     state.prepare(alloc, &txs)?;
-    if state.slots().len() >= SLOTS_END {
-        return Err(ScheduleStop::Fault(Fault::Memory));
-    }
     let plan = Plan::make(alloc, state.version(), state.ids(), txs)?;
     // A plan's length also says that its accounts are few.
     let _ = plan.len();

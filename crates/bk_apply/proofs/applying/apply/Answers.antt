@@ -1,6 +1,6 @@
 use Rattle.std.proofs.Common.{◌∙◌}
 use Rattle.std.proofs.lemmas.Result.{err_from_is_err_and}
-use Rattle.bk_apply.proofs.FeedReports.{few_counts, few_receipts, part_is_out, all_is_out}
+use Rattle.bk_apply.proofs.FeedReports.{few_accounts, few_counts, few_receipts, part_is_out, all_is_out}
 use Rattle.bk_apply.proofs.applying.apply.Goals as goal
 
 pub write_report-requires-clause-few : goal.write_report-requires-clause-few
@@ -9,7 +9,7 @@ write_report-requires-clause-few g c =
     let good = c.in_ok-feed.ensures.feed.0 in
     let counts = c.in_ok-summary.ensures.counts ∙ c.in_ok-ledger.ensures.counts in
     let receipts = c.in_ok-summary.ensures.receipts ∙ c.in_ok-ledger.ensures.receipts in
-    (few_counts c.in_ok-feed.feed l.counts.items _ good counts l.counts.ok.0, few_receipts c.in_ok-feed.feed l.receipts.items _ good receipts l.receipts.ok.0, c.in_ok-summary.ensures.few)
+    (few_counts c.in_ok-feed.feed l.counts.items _ good counts l.counts.ok.0, few_receipts c.in_ok-feed.feed l.receipts.items _ good receipts l.receipts.ok.0, few_accounts c.in_ok-feed.feed l.rows.items good (c.in_ok-summary.ensures.rows ∙ c.in_ok-ledger.ensures.rows))
 
 pub returns-in_err-write_report-clause-fault : goal.returns-in_err-write_report-clause-fault
 returns-in_err-write_report-clause-fault g c =

@@ -1,7 +1,7 @@
 use Rattle.std.proofs.Common.{◌∙◌}
 use Rattle.std.proofs.lemmas.Result.{err_from_is_err_and}
 use Rattle.bk_steps.specs.Schedule.{IsWholeAmong}
-use Rattle.bk_apply.proofs.FeedReports.{untouched, few_counts, few_receipts, part_is_out, all_is_out}
+use Rattle.bk_apply.proofs.FeedReports.{untouched, few_accounts, few_counts, few_receipts, part_is_out, all_is_out}
 use Rattle.bk_apply.proofs.Schedules.{known_execution, stops_memory, stops_unscheduled}
 use Rattle.bk_apply.proofs.scheduling.apply_schedule.Goals as goal
 
@@ -31,7 +31,7 @@ write_report-requires-clause-few g c =
     let good = c.in_ok-feed.ensures.feed.0 in
     let counts = c.in_ok-summary.ensures.counts ∙ c.in_ok-ledger.ensures.counts in
     let receipts = c.in_ok-summary.ensures.receipts ∙ c.in_ok-ledger.ensures.receipts in
-    (few_counts c.in_ok-feed.feed l.counts.items _ good counts l.counts.ok.0, few_receipts c.in_ok-feed.feed l.receipts.items _ good receipts l.receipts.ok.0, c.in_ok-summary.ensures.few)
+    (few_counts c.in_ok-feed.feed l.counts.items _ good counts l.counts.ok.0, few_receipts c.in_ok-feed.feed l.receipts.items _ good receipts l.receipts.ok.0, few_accounts c.in_ok-feed.feed l.rows.items good (c.in_ok-summary.ensures.rows ∙ c.in_ok-ledger.ensures.rows))
 
 pub returns-in_err-write_report-clause-stop : goal.returns-in_err-write_report-clause-stop
 returns-in_err-write_report-clause-stop g c =

@@ -1,11 +1,17 @@
 use Rattle.std.proofs.Common.{◌∙◌, subst}
 use Rattle.std.proofs.lemmas.Result.{err_from_is_err_and}
 use Rattle.bk_frames.specs.Genesis.{AreAccounts}
-use Rattle.bk_apply.proofs.Schedules.{opens, plan_of_feed, feed_room, runs_on, few_places, is_scheduled, unscheduled}
+use Rattle.bk_apply.proofs.Schedules.{opens, plan_of_feed, feed_room, runs_on, few_places, few_slots, is_scheduled, unscheduled}
 use Rattle.bk_apply.proofs.scheduling.run_events.Goals as goal
 
 pub make-requires-clause-few : goal.make-requires-clause-few
 make-requires-clause-few c = few_places c.args.feed.now c.args.txs.items c.requires.good c.requires.txs
+
+pub make-requires-clause-few_slots : goal.make-requires-clause-few_slots
+make-requires-clause-few_slots c =
+    let opened = opens c.args.feed.now c.version.result c.genesis.result.now c.in_ok-state.state c.version.ensures c.genesis.ensures.rows c.in_ok-state.ensures in
+    let prepared = rw c.deref.ensures.value at c.in_ok-prepare.ensures.prepared in
+    few_slots c.args.feed.now c.args.txs.items c.in_ok-state.state c.prepare.new.self c.ids.result.now c.requires.good c.requires.txs opened prepared c.ids.ensures
 
 pub run_schedule-requires : goal.run_schedule-requires
 run_schedule-requires c =
