@@ -8,7 +8,7 @@ use Rattle.std.proofs.lemmas.List.{append-nil, nil_from_length}
 use Rattle.std.proofs.lemmas.Option.{cond_some, none-some}
 use Rattle.bk_frames.specs.Numbers.{IsBytes, ◌>>=◌, number_at, list_at, is_ascending}
 use Rattle.bk_tx.specs.declared.declared.Declared.{Declared}
-use Rattle.bk_tx.specs.Transaction.{Transaction}
+use Rattle.bk_tx.specs.Transaction.{Transaction, transaction}
 use Rattle.bk_tx.specs.declared.body.Body.{Body}
 use Rattle.bk_tx.specs.declared.body.Body.TheVariants.{Pay, PayIf, Sweep, Split}
 use Rattle.bk_tx.specs.Access.{declared_ids, IdsFit}
@@ -282,16 +282,18 @@ judged : (bytes r0 r1 r2 r3 r4 : List ℕ) (kind seq from : ℕ) (ds : List Decl
 unfolding transaction_of
 judged bytes r0 r1 r2 r3 r4 kind seq from ds body e0 e1 e2 e3 e4 e5 = rw (← e0, ← e1, ← e2, ← e3, ← e4, ← e5) refl
 
-pub made_is : (bytes r0 r1 r2 r3 r4 : List ℕ) (kind seq from : ℕ) (ds : List Declared) (body : Body) (o : Option Transaction) → IsBytes bytes → Some (kind, r0) ≡ number_at w8 bytes → Some (ds, r1) ≡ declarations_at r0 → Some (seq, r2) ≡ number_at w64 r1 → Some (from, r3) ≡ number_at w64 r2 → Some (body, r4) ≡ body_at kind r3 → true ≡ eqb (length r4) 0
-    → (IsSome o ↔ IsTransaction (record { declared = ds; seq = seq; from = from; body = body })) → IfSome o (λ t. t ≡ record { declared = ds; seq = seq; from = from; body = body }) → o ≡ transaction_of bytes
-made_is bytes r0 r1 r2 r3 r4 kind seq from ds body o fits e0 e1 e2 e3 e4 e5 exact parts =
-    by_test (pays body from) o refl (judged bytes r0 r1 r2 r3 r4 kind seq from ds body e0 e1 e2 e3 e4 e5) exact parts
-  where
-    made : Transaction
-    made = record { declared = ds; seq = seq; from = from; body = body }
+-- no such transaction where it would pay its sender
+pub not_read : (bytes r0 r1 r2 r3 r4 : List ℕ) (kind seq from : ℕ) (ds : List Declared) (body : Body) → Some (kind, r0) ≡ number_at w8 bytes → Some (ds, r1) ≡ declarations_at r0 → Some (seq, r2) ≡ number_at w64 r1 → Some (from, r3) ≡ number_at w64 r2 → Some (body, r4) ≡ body_at kind r3 → true ≡ eqb (length r4) 0
+    → pays body from ≡ true → None ≡ transaction_of bytes
+not_read bytes r0 r1 r2 r3 r4 kind seq from ds body e0 e1 e2 e3 e4 e5 paid =
+    sym (judged bytes r0 r1 r2 r3 r4 kind seq from ds body e0 e1 e2 e3 e4 e5 ∙ ap (λ (b : Bool). cond (not b) (Some (record { declared = ds; seq = seq; from = from; body = body })) None) paid)
 
-    by_test : (b : Bool) (o : Option Transaction) → pays body from ≡ b → transaction_of bytes ≡ cond (not b) (Some made) None → (IsSome o ↔ IsTransaction made) → IfSome o (λ t. t ≡ made) → o ≡ transaction_of bytes
-    by_test true None paid e exact parts = sym e
-    by_test true (Some t) paid e exact parts = absurd (not_apart made paid (exact.0 refl))
-    by_test false None paid e exact parts = let none : false ≡ true = exact.1 (transaction_takes bytes made fits e).0 in absurd cc
-    by_test false (Some t) paid e exact parts = ap (λ (u : Transaction). Some u) parts ∙ sym e
+-- and else these parts
+pub is_read : (bytes r0 r1 r2 r3 r4 : List ℕ) (kind seq from : ℕ) (ds : List Declared) (body : Body) → Some (kind, r0) ≡ number_at w8 bytes → Some (ds, r1) ≡ declarations_at r0 → Some (seq, r2) ≡ number_at w64 r1 → Some (from, r3) ≡ number_at w64 r2 → Some (body, r4) ≡ body_at kind r3 → true ≡ eqb (length r4) 0
+    → pays body from ≡ false → Some (transaction ds seq from body) ≡ transaction_of bytes
+is_read bytes r0 r1 r2 r3 r4 kind seq from ds body e0 e1 e2 e3 e4 e5 apart =
+    sym (judged bytes r0 r1 r2 r3 r4 kind seq from ds body e0 e1 e2 e3 e4 e5 ∙ ap (λ (b : Bool). cond (not b) (Some (record { declared = ds; seq = seq; from = from; body = body })) None) apart)
+
+-- what is read is a transaction
+pub read_is_sound : (bytes : List ℕ) (t : Transaction) → IsBytes bytes → Some t ≡ transaction_of bytes → IsTransaction t
+read_is_sound bytes t fits e = (transaction_takes bytes t fits (sym e)).0

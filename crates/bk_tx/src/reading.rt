@@ -1,6 +1,6 @@
 //! A transaction from its bytes, field by field.
 
-ghost use Rattle.std.specs.Prelude.{◌≡◌, ◌≤◌, option_map};
+ghost use Rattle.std.specs.Prelude.{◌≡◌, ◌≤◌, [], option_map};
 ghost use Rattle.bk_frames.specs.Numbers.{list_at};
 ghost use Rattle.bk_tx.specs.Reading.{writable_of, declared_at, declarations_at, pay_at, pay_if_at, sweep_at, payment_at, split_at, body_at, transaction_of};
 
@@ -30,31 +30,33 @@ fn declared(fields: &mut Fields) -> Option<Declared>
     Some(Declared { id, writable })
 }
 
-fn entries(count: usize, fields: &mut Fields) -> Option<Declarations>
-    requires { count ≤ 8 }
-    ensures { option_map (λ read. (read, fields.new)) result ≡ list_at declared_at count fields.old }
+// Puts so many entries into a list of none. It is filled where it lies: a list that is returned would be copied.
+fn entries(count: usize, fields: &mut Fields, read: &mut Declarations) -> Option<()>
+    requires few { count ≤ 8 }
+    requires none { read.old ≡ [] }
+    ensures { option_map (λ _. (read.new, fields.new)) result ≡ list_at declared_at count fields.old }
 {
-    let mut read = Declarations::none();
     for _ in 0..count {
         let entry = declared(fields)?;
         read.push(entry.id, entry.writable);
     }
-    Some(read)
+    Some(())
 }
 
 #[tactic(auto, unfolding(crate::specs::Reading::declarations_at))]
-fn declarations(fields: &mut Fields) -> Option<Declarations>
-    ensures { option_map (λ d. (d, fields.new)) result ≡ declarations_at fields.old }
+fn declarations(fields: &mut Fields, read: &mut Declarations) -> Option<()>
+    requires { read.old ≡ [] }
+    ensures { option_map (λ _. (read.new, fields.new)) result ≡ declarations_at fields.old }
 {
     let count = fields.u8()? as usize;
     if count < 1 || count > MOST_DECLARED {
         return None;
     }
-    let declared = entries(count, fields)?;
-    if !declared.is_ascending() {
+    entries(count, fields, read)?;
+    if !read.is_ascending() {
         return None;
     }
-    Some(declared)
+    Some(())
 }
 
 #[tactic(auto, unfolding(crate::specs::Reading::pay_at))]
@@ -127,6 +129,7 @@ fn split(fields: &mut Fields) -> Option<Body>
     Some(Body::Split { payments })
 }
 
+#[inline(always)]
 #[tactic(auto, unfolding(crate::specs::Reading::body_at))]
 fn body(kind: u8, fields: &mut Fields) -> Option<Body>
     ensures { option_map (λ b. (b, fields.new)) result ≡ body_at kind fields.old }
@@ -147,12 +150,22 @@ pub fn read_transaction(bytes: &[u8]) -> Option<Tx>
 {
     let mut fields = Fields::new(bytes);
     let kind = fields.u8()?;
-    let declared = declarations(&mut fields)?;
+    let mut declared = Declarations::none();
+    declarations(&mut fields, &mut declared)?;
     let seq = fields.u64()?;
     let from = fields.u64()?;
     let body = body(kind, &mut fields)?;
     if !fields.rest().is_empty() {
         return None;
     }
-    Tx::new(declared, seq, from, body)
+    if body.pays(from) {
+        return None;
+    }
+    // What was read has been judged: `Tx::new` would do it again.
+    Some(Tx {
+        declared,
+        seq,
+        from,
+        body,
+    })
 }

@@ -13,10 +13,10 @@ use std::marker::Model;
 /// One transaction, of fixed size. A value that its bytes cannot encode cannot be made.
 #[derive(Debug, Drop)]
 pub struct Tx {
-    declared: Declarations,
-    seq: u64,
-    from: u64,
-    body: Body,
+    pub(crate) declared: Declarations,
+    pub(crate) seq: u64,
+    pub(crate) from: u64,
+    pub(crate) body: Body,
 }
 
 impl Model for Tx {

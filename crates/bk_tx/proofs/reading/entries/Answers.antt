@@ -5,7 +5,7 @@ use Rattle.bk_frames.proofs.Lists.{list_goes_on, list_ends, list_done}
 use Rattle.bk_tx.proofs.reading.entries.Goals as goal
 
 pub push-requires : goal.push-requires
-push-requires c = omega (arith, c.loop.invariant.passed, c.loop-test.true, c.requires)
+push-requires c = omega (arith, c.loop.invariant.passed, c.loop-test.true, c.requires.few)
 
 pub returns-in_err-entry : goal.returns-in_err-entry
 returns-in_err-entry c = rw c.from_residual.ensures (list_ends declared_at c.loop.read c.args.count c.loop.counter c.loop.fields (list_at declared_at c.args.count c.args.fields.now) c.loop-test.true c.in_err-entry.ensures c.loop.invariant.read)
