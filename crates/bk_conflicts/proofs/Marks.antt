@@ -1,12 +1,12 @@
 -- What is found once, by stamps.
-use Rattle.std.proofs.Common.{◌≡◌, ◌≢◌, ◌⊎◌, ⊎_elim, ℕ, ◌+◌, ◌<◌, ◌≤◌, ◌==◌, ◌||◌, List, [], ◌∷◌, ◌++◌, length, get_or, set, Bool, true, false, cond, eqb, refl, sym, ap, ◌∙◌, subst, arith, length-append, length-set, get_or-set_same, get_or-set_other, eq-eqb, ne_eqb}
+use Rattle.std.proofs.Common.{◌≡◌, ◌≢◌, ◌⊎◌, ⊎_elim, ℕ, ◌+◌, ◌<◌, ◌≤◌, ◌==◌, ◌||◌, List, [], ◌∷◌, ◌++◌, length, get_or, set, Bool, true, false, cond, eqb, refl, sym, ap, ◌∙◌, subst, arith, length-append, append_assoc, append-nil, length-set, get_or-set_same, get_or-set_other, eq-eqb, ne_eqb}
 use mathlib.Core.Logic.{dite}
 use native.Mathlib.Decide.{ℕ_discrete}
 use Rattle.std.proofs.lemmas.List.Folds.{list_any-append}
 use Rattle.std.proofs.lemmas.Bool.{or_left, or_right, both_ways, cond-true, cond-false}
 use Rattle.std.proofs.lemmas.List.{get_or_append_left, get_or-append-add}
 use Rattle.bk_conflicts.specs.Scene.{times}
-use Rattle.bk_conflicts.specs.private.Trail.{none, WriterIs, sources_of, has, with_once, all_once, Linked, IsMarked}
+use Rattle.bk_conflicts.specs.private.Trail.{none, WriterIs, sources_of, has, with_once, all_once, Linked, IsMarked, IsRow}
 
 pub has_push : (p x : ℕ) (xs : List ℕ) → has p (xs ++ x ∷ []) ≡ (has p xs || ((x == p) || false))
 unfolding has
@@ -41,10 +41,23 @@ mark_new mark x stamp found l h n = (
   sym (cond-false (has x found) found (found ++ x ∷ []) (sym (h.marks x l) ∙ ne_eqb (get_or stamp x 0) mark n)),
 )
 
+-- a row in which a place is already
+pub row_known : (mark x : ℕ) (before row stamp found : List ℕ) → x < length stamp → IsRow mark before row stamp found → get_or stamp x 0 ≡ mark → IsRow mark before (with_once row x) stamp found
+row_known mark x before row stamp found l h e = subst (λ (xs : List ℕ). IsRow mark before xs stamp found) (mark_known mark x stamp row l h.marked e) h
+
+-- and one to which it is added
+pub row_new : (mark x : ℕ) (before row stamp found : List ℕ) → x < length stamp → IsRow mark before row stamp found → get_or stamp x 0 ≢ mark → IsRow mark before (with_once row x) (set stamp x mark) (found ++ x ∷ [])
+row_new mark x before row stamp found l h n = let m = mark_new mark x stamp row l h.marked n in
+    subst (λ (xs : List ℕ). IsRow mark before xs (set stamp x mark) (found ++ x ∷ [])) m.1 (record { lies = ap (λ (xs : List ℕ). xs ++ x ∷ []) h.lies ∙ append_assoc before row (x ∷ []); marked = m.0 })
+
 -- a new mark: nothing was found
 pub mark_none : (q : ℕ) (stamp : List ℕ) → ((p : ℕ) → p < length stamp → get_or stamp p 0 ≤ q) → IsMarked (q + 1) stamp []
 unfolding has
 mark_none q stamp low = record { marks = λ p l. ne_eqb (get_or stamp p 0) (q + 1) (λ e. let a = low p l in absurd (omega arith)); low = λ p l. let a = low p l in omega arith }
+
+-- nor is there anything in a new row
+pub row_none : (q : ℕ) (stamp before : List ℕ) → ((p : ℕ) → p < length stamp → get_or stamp p 0 ≤ q) → IsRow (q + 1) before [] stamp before
+row_none q stamp before low = record { lies = sym (append-nil before); marked = mark_none q stamp low }
 
 pub once_more : (xs ys zs : List ℕ) → all_once xs (ys ++ zs) ≡ all_once (all_once xs ys) zs
 unfolding all_once

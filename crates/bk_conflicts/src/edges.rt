@@ -12,7 +12,7 @@ ghost use Rattle.bk_conflicts.specs.private.Flat.{AreFlat};
 ghost use Rattle.bk_conflicts.specs.private.Rows.{IsRows};
 ghost use Rattle.bk_conflicts.specs.private.Trail.{direct, Stands, IsTrail};
 
-use crate::rows::{Rows, filled, lengths, no_rows, push_row, turned_round};
+use crate::rows::{Rows, end_row, filled, lengths, no_rows, turned_round};
 use crate::trail::{Trail, meet_all, no_trail};
 use crate::words::{WordRows, likely_after, list_accesses, no_words, push_word_row};
 use bk_frames::Version;
@@ -61,18 +61,16 @@ fn meet_places(
         r.earlier.start.items r.earlier.items.items) }
     ensures declared { IfOk result (λ _. (q : ℕ) → AreDeclared (declared_at txs.now q)) }
 {
-    let mut found = Vec::new(alloc);
     let mut xs = Vec::new(alloc);
     let mut words = no_words(alloc, txs.len())?;
     let mut earlier = no_rows(alloc, txs.len())?;
     let mut rest = near;
     for q in 0..txs.len() {
-        found.clear();
         list_accesses(ids, txs, q, rest, &mut xs)?;
         rest = likely_after(rest, txs[q].as_ref());
-        meet_all(trail, stamp, &mut found, q as u32, &xs)?;
+        meet_all(trail, stamp, &mut earlier.items, q as u32, &xs)?;
+        end_row(&mut earlier)?;
         push_word_row(&mut words, &xs)?;
-        push_row(&mut earlier, &found)?;
     }
     Ok(Met { words, earlier })
 }

@@ -1,6 +1,6 @@
 //! Rows of numbers in one list, and the same rows turned round.
 
-ghost use Rattle.std.specs.Prelude.{◌≡◌, [], ◌∷◌, OnOk, ℕ, ◌+◌, ◌^◌, ◌-◌, ◌<◌, ◌≤◌, List, length, sum, take, replicate, All, IfOk, slice_index_or};
+ghost use Rattle.std.specs.Prelude.{◌≡◌, [], ◌∷◌, ◌++◌, OnOk, ℕ, ◌+◌, ◌^◌, ◌-◌, ◌<◌, ◌≤◌, List, length, sum, take, replicate, All, IfOk, slice_index_or};
 ghost use Rattle.bk_conflicts.specs.Scene.{times};
 ghost use Rattle.bk_conflicts.specs.private.Rows.{laid, turned_rows, row_at, IsRows};
 
@@ -36,13 +36,13 @@ fn copied(alloc: Global, xs: &[usize]) -> Result<Vec<usize>, AllocError>
     Ok(copy)
 }
 
-// Adds a row.
-pub(crate) fn push_row(rows: &mut Rows, row: &[u32]) -> Result<(), AllocError>
-    ensures { (f : ℕ → List ℕ) (n : ℕ) →
-        IsRows f n rows.old.start.items rows.old.items.items → row.now ≡ f n →
+// Ends a row, whose items are at the end already.
+pub(crate) fn end_row(rows: &mut Rows) -> Result<(), AllocError>
+    ensures { (f : ℕ → List ℕ) (n : ℕ) (before row : List ℕ) →
+        IsRows f n rows.old.start.items before → row ≡ f n →
+        rows.old.items.items ≡ before ++ row →
         OnOk result (IsRows f (n + 1) rows.new.start.items rows.new.items.items) }
 {
-    rows.items.extend_from_slice(row)?;
     let end = rows.items.len();
     rows.start.push(end)?;
     Ok(())

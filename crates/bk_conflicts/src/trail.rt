@@ -2,7 +2,7 @@
 
 ghost use Rattle.std.specs.Prelude.{◌≡◌, ◌≢◌, ℕ, ◌+◌, ◌^◌, ◌<◌, ◌≤◌, List, [], ◌∷◌, length, cond, OnOk, IfOk, All, replicate, slice_index_or};
 ghost use Rattle.bk_conflicts.specs.private.Accesses.{Places, IsAscending};
-ghost use Rattle.bk_conflicts.specs.private.Trail.{none, WriterIs, Stands, Linked, IsLinks, IsTrail, Shows, IsMarked, with_once, all_once, sources_of, gathered};
+ghost use Rattle.bk_conflicts.specs.private.Trail.{none, WriterIs, Stands, Linked, IsLinks, IsTrail, Shows, IsRow, with_once, all_once, sources_of, gathered};
 
 use crate::rows::{filled, filled_wide};
 use crate::words::Access;
@@ -24,7 +24,7 @@ pub(crate) struct Trail {
     prev: Vec<usize>,
 }
 
-// Adds `source` where it was not found yet for this mark.
+// Adds `source` to the row at the end of `found`, where it is not in it yet.
 fn add_once(
     stamp: &mut [u32],
     found: &mut Vec<u32>,
@@ -32,9 +32,8 @@ fn add_once(
     source: u32,
 ) -> Result<(), AllocError>
     requires { source < length stamp.old }
-    ensures { IsMarked mark stamp.old found.old.items →
-        OnOk result (IsMarked mark stamp.new found.new.items
-        × (found.new.items ≡ with_once found.old.items source)) }
+    ensures { (before row : List ℕ) → IsRow mark before row stamp.old found.old.items →
+        OnOk result (IsRow mark before (with_once row source) stamp.new found.new.items) }
 {
     if stamp[source as usize] != mark {
         found.push(source)?;
@@ -54,10 +53,9 @@ fn add_readers(
 ) -> Result<(), AllocError>
     requires links { IsLinks (length stamp.old) place.now prev.now }
     requires head { newest < length place.now }
-    ensures { (ps : List ℕ) →
-        Linked place.now prev.now newest ps → IsMarked mark stamp.old found.old.items →
-        OnOk result (IsMarked mark stamp.new found.new.items
-        × (found.new.items ≡ all_once found.old.items ps)) }
+    ensures { (before row ps : List ℕ) → Linked place.now prev.now newest ps →
+        IsRow mark before row stamp.old found.old.items →
+        OnOk result (IsRow mark before (all_once row ps) stamp.new found.new.items) }
 {
     let mut at = newest;
     while at != 0 {
@@ -75,9 +73,9 @@ fn add_writer(
     mark: u32,
 ) -> Result<(), AllocError>
     requires { writer ≢ none → writer < length stamp.old }
-    ensures { (ws : List ℕ) → WriterIs writer ws → IsMarked mark stamp.old found.old.items →
-        OnOk result (IsMarked mark stamp.new found.new.items
-        × (found.new.items ≡ all_once found.old.items ws)) }
+    ensures { (before row ws : List ℕ) → WriterIs writer ws →
+        IsRow mark before row stamp.old found.old.items →
+        OnOk result (IsRow mark before (all_once row ws) stamp.new found.new.items) }
 {
     if writer != NONE {
         add_once(stamp, found, mark, writer)?;
@@ -96,12 +94,12 @@ fn wait_for(
     requires trail { IsTrail (length trail.now.newest.items) (length stamp.old) trail.now }
     requires slot { access.slot < length trail.now.newest.items }
     requires small { q < 2 ^ 31 }
-    ensures { (rs ws : List ℕ) →
-        Shows trail.now access.slot rs ws → IsMarked (q + 1) stamp.old found.old.items →
-        OnOk result (IsMarked (q + 1) stamp.new found.new.items
-        × (found.new.items ≡ all_once found.old.items (sources_of access.writable rs ws))) }
+    ensures { (before row rs ws : List ℕ) → Shows trail.now access.slot rs ws →
+        IsRow (q + 1) before row stamp.old found.old.items →
+        OnOk result (IsRow (q + 1) before (all_once row (sources_of access.writable rs ws))
+        stamp.new found.new.items) }
 {
-    let a = access.slot;
+    let a = access.slot as usize;
     let newest = trail.newest[a];
     if access.writable && newest != 0 {
         add_readers(&trail.place, &trail.prev, newest, stamp, found, q + 1)?;
@@ -149,7 +147,7 @@ fn enter(trail: &mut Trail, q: u32, access: Access) -> Result<(), AllocError>
         Shows trail.new access.slot
         (cond access.writable [] (q ∷ rs)) (cond access.writable (q ∷ []) ws)) }
 {
-    let a = access.slot;
+    let a = access.slot as usize;
     if access.writable {
         trail.newest[a] = 0;
         trail.writer[a] = q;
@@ -160,7 +158,7 @@ fn enter(trail: &mut Trail, q: u32, access: Access) -> Result<(), AllocError>
     }
 }
 
-// Finds what place `q` waits for, and enters its accesses.
+// Adds what place `q` waits for to the row at the end of `found`, and enters its accesses.
 pub(crate) fn meet_all(
     trail: &mut Trail,
     stamp: &mut [u32],
@@ -174,10 +172,10 @@ pub(crate) fn meet_all(
     requires small { length stamp.old < 2 ^ 31 }
     ensures trail { OnOk result (
         IsTrail (length trail.old.newest.items) (length stamp.old) trail.new) }
-    ensures found { (t : Places) → t q ≡ xs.now → IsAscending xs.now →
-        Stands t q trail.old → IsMarked (q + 1) stamp.old found.old.items →
-        OnOk result (Stands t (q + 1) trail.new × IsMarked (q + 1) stamp.new found.new.items
-        × (found.new.items ≡ all_once found.old.items (gathered t q xs.now))) }
+    ensures found { (t : Places) (before row : List ℕ) → t q ≡ xs.now → IsAscending xs.now →
+        Stands t q trail.old → IsRow (q + 1) before row stamp.old found.old.items →
+        OnOk result (Stands t (q + 1) trail.new
+        × IsRow (q + 1) before (all_once row (gathered t q xs.now)) stamp.new found.new.items) }
 {
     for x in xs {
         wait_for(trail, stamp, found, q, *x)?;

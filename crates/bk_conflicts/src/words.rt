@@ -24,7 +24,7 @@ pub struct WordRef {
 // A slot that a transaction accesses, and whether it may write it.
 #[derive(Clone, Copy)]
 pub(crate) struct Access {
-    pub(crate) slot: usize,
+    pub(crate) slot: u32,
     pub(crate) writable: bool,
 }
 
@@ -56,7 +56,8 @@ pub(crate) fn list_accesses(
     near: &[u32],
     xs: &mut Vec<Access>,
 ) -> Result<(), AllocError>
-    requires { place < length txs.now }
+    requires place { place < length txs.now }
+    requires few_slots { length ids.now < 2 ^ 31 }
     ensures list { OnOk result (xs.new.items ≡ places_of ids.now txs.now place) }
     ensures declared { AreDeclared (declared_at txs.now place) }
 {
@@ -74,13 +75,14 @@ fn push_accesses(
     near: &[u32],
     xs: &mut Vec<Access>,
 ) -> Result<(), AllocError>
+    requires { length ids.now < 2 ^ 31 }
     ensures { OnOk result (xs.new.items ≡ xs.old.items ++ accesses_of ids.now declared.now) }
 {
     for k in 0..declared.len() {
         let account = declared.get(k);
         if let Some(slot) = ids.index_by(account.id, likely_at(near, k)) {
             xs.push(Access {
-                slot,
+                slot: slot as u32,
                 writable: account.writable,
             })?;
         }
@@ -114,11 +116,14 @@ fn push_words(items: &mut Vec<WordRef>, xs: &[Access]) -> Result<(), AllocError>
     ensures { OnOk result (items.new.items ≡ items.old.items ++ words_of_slots xs.now) }
 {
     for x in xs {
-        let word = (2 * x.slot) as u32;
+        let word = 2 * x.slot;
         let writable = x.writable;
-        items.push(WordRef { word, writable })?;
-        let word = word + 1;
-        items.push(WordRef { word, writable })?;
+        let balance = WordRef { word, writable };
+        let seq = WordRef {
+            word: word + 1,
+            writable,
+        };
+        items.extend_from_slice(&[balance, seq])?;
     }
     Ok(())
 }

@@ -81,6 +81,11 @@ pub record IsMarked (mark : ℕ) (stamp found : List ℕ) : Type 0 where
   pub marks : (p : ℕ) → p < length stamp → (slice_index_or stamp p 0 == mark) ≡ has p found
   pub low : (p : ℕ) → p < length stamp → slice_index_or stamp p 0 ≤ mark
 
+-- what was found is at the end of a list, after what was there before, and the stamps say it
+pub record IsRow (mark : ℕ) (before row stamp found : List ℕ) : Type 0 where
+  pub lies : found ≡ before ++ row
+  pub marked : IsMarked mark stamp row
+
 -- the trail shows what the first k places did to each account
 abbrev pub Stands : Places → ℕ → Trail → Type 0
 Stands t k r = (a : ℕ) → a < length r.newest.items → Shows r a (readers t a k) (last_writer t a k)

@@ -1,4 +1,4 @@
-use Rattle.std.proofs.Common.{◌≡◌, ◌<◌, ℕ, length, All, refl, sym, ◌∙◌, subst, arith}
+use Rattle.std.proofs.Common.{◌≡◌, ◌<◌, ℕ, [], length, All, refl, sym, ◌∙◌, subst, arith}
 use mathlib.Core.Logic.{dite}
 use native.Mathlib.Decide.{ℕ_discrete}
 use Rattle.bk_conflicts.specs.declared.words.Access.{Access}
@@ -10,7 +10,7 @@ use Rattle.bk_conflicts.specs.private.Rows.{IsRows}
 use Rattle.bk_conflicts.specs.private.Trail.{IsTrail, direct, gathered, all_once}
 use Rattle.bk_conflicts.proofs.Accessed.{places_low, places_ascend, places_words, all_declared}
 use Rattle.bk_conflicts.proofs.First.{rows_none}
-use Rattle.bk_conflicts.proofs.Marks.{mark_none}
+use Rattle.bk_conflicts.proofs.Marks.{row_none}
 use Rattle.bk_conflicts.proofs.edges.meet_places.Goals as goal
 
 pub loop-q-init : goal.loop-q-init
@@ -44,18 +44,18 @@ loop-q-preserved c =
     let is : c.list_accesses.new.xs.items ≡ t c.loop-q.q = c.in_ok-list_accesses.ensures.list in
     let here : t c.loop-q.q ≡ c.deref.result.now = sym (c.deref.ensures.value ∙ is) in
     let sound = c.in_ok-list_accesses.ensures.declared in
-    let m = c.in_ok-meet_all.ensures.found t here (rw (c.deref.ensures.value, is) (places_ascend c.args.ids.now c.args.txs.now c.loop-q.q c.requires.ids sound)) c.loop-q.invariant.stands
-    (rw c.clear.ensures.items (mark_none c.loop-q.q c.loop-q.stamp c.loop-q.invariant.low)) in
+    let m = c.in_ok-meet_all.ensures.found t c.loop-q.earlier.items.items [] here (rw (c.deref.ensures.value, is) (places_ascend c.args.ids.now c.args.txs.now c.loop-q.q c.requires.ids sound)) c.loop-q.invariant.stands
+    (row_none c.loop-q.q c.loop-q.stamp c.loop-q.earlier.items.items c.loop-q.invariant.low) in
     let safe = c.in_ok-meet_all.ensures.trail in
-    let row : c.meet_all.new.found.items ≡ direct t c.loop-q.q = m.2 ∙ (λ i. all_once (c.clear.ensures.items i) (gathered t c.loop-q.q (sym here i))) in
+    let row : all_once [] (gathered t c.loop-q.q c.deref.result.now) ≡ direct t c.loop-q.q = λ i. all_once [] (gathered t c.loop-q.q (sym here i)) in
     record {
       wide = safe.newests ∙ c.loop-q.invariant.wide;
       safe = subst (λ (n : ℕ × ℕ). IsTrail n.0 n.1 c.meet_all.new.trail) (λ i. (sym safe.newests i, sym c.meet_all.auto.stamp i)) safe;
       stands = m.0;
-      low = m.1.low;
+      low = m.1.marked.low;
       worded = c.in_ok-push_word_row.ensures (words_at c.args.ids.now c.args.txs.now) c.loop-q.q c.loop-q.invariant.worded
           (rw (c.deref-in-loop-q.ensures.value, is) (places_words c.args.ids.now c.args.txs.now c.loop-q.q));
-      met = c.in_ok-push_row.ensures (direct t) c.loop-q.q c.loop-q.invariant.met (rw c.deref-in-loop-q-2.ensures.value row);
+      met = c.in_ok-end_row.ensures (direct t) c.loop-q.q c.loop-q.earlier.items.items _ c.loop-q.invariant.met row m.1.lies;
       declared = λ k l. dite (ℕ_discrete k c.loop-q.q) (λ e. subst (λ (n : ℕ). AreDeclared (declared_at c.args.txs.now n)) (sym e) sound) (λ n. c.loop-q.invariant.declared k (omega arith));
     }
 

@@ -1,5 +1,5 @@
-use Rattle.std.proofs.Common.{◌≡◌, ◌<◌, ℕ, List, get_or, length, refl, sym, ap, ◌∙◌, arith}
-use Rattle.bk_conflicts.specs.private.Trail.{IsLinks, all_once}
+use Rattle.std.proofs.Common.{◌≡◌, ◌<◌, ℕ, List, get_or, length, refl, sym, subst, ◌∙◌, arith}
+use Rattle.bk_conflicts.specs.private.Trail.{IsLinks, IsRow, with_once}
 use Rattle.bk_conflicts.proofs.Marks.{walk_step, walk_end}
 use Rattle.bk_conflicts.proofs.trail.add_readers.Goals as goal
 
@@ -8,7 +8,7 @@ back : (n at : ℕ) (place prev : List ℕ) → IsLinks n place prev → at < le
 back n at place prev h l e = h.back at (omega arith) l
 
 pub loop-at-init : goal.loop-at-init
-loop-at-init c = record { inside = c.requires.head; rest = λ ps h m. (ps, h, m, refl) }
+loop-at-init c = record { inside = c.requires.head; rest = λ before row ps h m. (ps, row, h, m, refl) }
 
 pub add_once-requires : goal.add_once-requires
 add_once-requires c = let a = c.requires.links.low c.loop-at.at (let e = c.loop-at-test.true in omega arith) c.loop-at.invariant.inside in let b = c.loop-at.auto.stamp in omega arith
@@ -16,14 +16,14 @@ add_once-requires c = let a = c.requires.links.low c.loop-at.at (let e = c.loop-
 pub loop-at-preserved : goal.loop-at-preserved
 loop-at-preserved c = record {
   inside = let a = back _ c.loop-at.at c.args.place.now c.args.prev.now c.requires.links c.loop-at.invariant.inside c.loop-at-test.true in let b = c.loop-at.invariant.inside in omega arith;
-  rest = λ ps h m. let w = c.loop-at.invariant.rest ps h m in
-      let s = walk_step c.args.place.now c.args.prev.now c.loop-at.found.items c.loop-at.at w.0 c.loop-at-test.true w.1 in
-      let f = c.in_ok-add_once.ensures w.2 in
-      (s.0, s.1, f.0, w.3 ∙ (s.2 ∙ ap (λ xs. all_once xs s.0) (sym f.1)));
+  rest = λ before row ps h m. let w = c.loop-at.invariant.rest before row ps h m in
+      let s = walk_step c.args.place.now c.args.prev.now w.1 c.loop-at.at w.0 c.loop-at-test.true w.2 in
+      (s.0, with_once w.1 (get_or c.args.place.now c.loop-at.at 0), s.1, c.in_ok-add_once.ensures before w.1 w.3, w.4 ∙ s.2);
 }
 
 pub loop-at-smaller : goal.loop-at-smaller
 loop-at-smaller c = back _ c.loop-at.at c.args.place.now c.args.prev.now c.requires.links c.loop-at.invariant.inside c.loop-at-test.true
 
 pub returns : goal.returns
-returns c = λ ps h m. let w = c.loop-at.invariant.rest ps h m in (w.2, sym (w.3 ∙ walk_end c.args.place.now c.args.prev.now c.loop-at.found.items c.loop-at.at w.0 c.loop-at-test.false w.1))
+returns c = λ before row ps h m. let w = c.loop-at.invariant.rest before row ps h m in
+    subst (λ (xs : List ℕ). IsRow c.args.mark before xs c.loop-at.stamp c.loop-at.found.items) (sym (w.4 ∙ walk_end c.args.place.now c.args.prev.now w.1 c.loop-at.at w.0 c.loop-at-test.false w.2)) w.3

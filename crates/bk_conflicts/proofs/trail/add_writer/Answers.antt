@@ -1,9 +1,10 @@
-use Rattle.std.proofs.Common.{◌∙◌}
+use Rattle.std.proofs.Common.{ℕ, List, subst}
+use Rattle.bk_conflicts.specs.private.Trail.{IsRow}
 use Rattle.bk_conflicts.proofs.Marks.{writer_some, writer_none}
 use Rattle.bk_conflicts.proofs.trail.add_writer.Goals as goal
 
 pub returns-in_ok-add_once : goal.returns-in_ok-add_once
-returns-in_ok-add_once c = λ ws h m. let f = c.in_ok-add_once.ensures m in (f.0, f.1 ∙ writer_some c.args.writer ws c.args.found.now.items c.if-writer-ne-NONE.true h)
+returns-in_ok-add_once c = λ before row ws h m. subst (λ (xs : List ℕ). IsRow c.args.mark before xs c.add_once.new.stamp c.add_once.new.found.items) (writer_some c.args.writer ws row c.if-writer-ne-NONE.true h) (c.in_ok-add_once.ensures before row m)
 
 pub returns-else-writer-ne-NONE : goal.returns-else-writer-ne-NONE
-returns-else-writer-ne-NONE c = λ ws h m. (m, writer_none c.args.writer ws c.args.found.now.items c.if-writer-ne-NONE.false h)
+returns-else-writer-ne-NONE c = λ before row ws h m. subst (λ (xs : List ℕ). IsRow c.args.mark before xs c.args.stamp.now c.args.found.now.items) (writer_none c.args.writer ws row c.if-writer-ne-NONE.false h) m

@@ -1,12 +1,12 @@
-use Rattle.std.proofs.Common.{◌<◌, ℕ, length, get_or, refl, sym, ap, ◌∙◌, subst, arith}
+use Rattle.std.proofs.Common.{◌<◌, ℕ, ◌+◌, List, length, get_or, refl, sym, ◌∙◌, subst, arith}
 use Rattle.std.proofs.lemmas.List.{take_all}
 use Rattle.bk_conflicts.specs.declared.words.Access.{Access}
-use Rattle.bk_conflicts.specs.private.Trail.{IsTrail, readers, last_writer, gathered, all_once}
+use Rattle.bk_conflicts.specs.private.Trail.{IsTrail, IsRow, readers, last_writer, gathered, all_once}
 use Rattle.bk_conflicts.proofs.Stages.{nobody, fresh, stage_next, stage_last, found_next, found_none}
 use Rattle.bk_conflicts.proofs.trail.meet_all.Goals as goal
 
 pub loop-x-init : goal.loop-x-init
-loop-x-init c = record { wide = refl; safe = c.requires.trail; so_far = λ t e asc s m. (s, m, found_none t c.args.q c.args.found.now.items) }
+loop-x-init c = record { wide = refl; safe = c.requires.trail; so_far = λ t before row e asc s m. (s, subst (λ (xs : List ℕ). IsRow (c.args.q + 1) before xs c.args.stamp.now c.args.found.now.items) (found_none t c.args.q row) m) }
 
 pub wait_for-requires : goal.wait_for-requires
 wait_for-requires c = record {
@@ -31,24 +31,22 @@ loop-x-preserved c =
     record {
       wide = safe.newests ∙ c.loop-x.invariant.wide;
       safe = subst (λ (n : ℕ × ℕ). IsTrail n.0 n.1 c.enter.new.trail) (λ i. (sym safe.newests i, sym c.wait_for.auto.stamp i)) safe;
-      so_far = λ t e asc s m.
-          let was = c.loop-x.invariant.so_far t e asc s m in
+      so_far = λ t before row e asc s m.
+          let was = c.loop-x.invariant.so_far t before row e asc s m in
           let here = fresh t c.args.q c.args.xs.now j c.loop-x.trail c.loop-x-test.true asc (was.0 x.slot low) in
-          let f = c.in_ok-wait_for.ensures (readers t x.slot c.args.q) (last_writer t x.slot c.args.q) here was.1 in (
+          let f = c.in_ok-wait_for.ensures before _ (readers t x.slot c.args.q) (last_writer t x.slot c.args.q) here was.1 in (
             (λ b l. stage_next t c.args.q c.args.xs.now j (length c.loop-x.trail.newest.items) c.loop-x.trail c.enter.new.trail c.loop-x-test.true asc
                 (λ k rs ws other h. c.in_ok-enter.ensures.kept (length c.loop-x.stamp) k rs ws c.loop-x.invariant.safe other h)
                 (λ rs ws h. c.in_ok-enter.ensures.changed (length c.loop-x.stamp) rs ws c.loop-x.invariant.safe h) was.0 low b (let n = safe.newests in omega arith)),
-            f.0,
-            found_next t c.args.q c.args.xs.now j c.args.found.now.items c.loop-x.found.items c.wait_for.new.found.items c.loop-x-test.true was.2 f.1,
+            subst (λ (xs : List ℕ). IsRow (c.args.q + 1) before xs c.wait_for.new.stamp c.wait_for.new.found.items) (found_next t c.args.q c.args.xs.now j row _ _ c.loop-x-test.true refl refl) f,
           );
     }
 
 pub returns : goal.returns
 returns c = record {
   trail = subst (λ (n : ℕ × ℕ). IsTrail n.0 n.1 c.loop-x.trail) (λ i. (c.loop-x.invariant.wide i, c.loop-x.auto.stamp i)) c.loop-x.invariant.safe;
-  found = λ t e asc s m. let was = c.loop-x.invariant.so_far t e asc s m in (
+  found = λ t before row e asc s m. let was = c.loop-x.invariant.so_far t before row e asc s m in (
     stage_last t c.args.q c.args.xs.now c.loop-x.x-index (length c.loop-x.trail.newest.items) c.loop-x.trail c.loop-x-test.false e was.0,
-    was.1,
-    was.2 ∙ ap (λ xs. all_once c.args.found.now.items (gathered t c.args.q xs)) (take_all c.loop-x.x-index c.args.xs.now c.loop-x-test.false),
+    subst (λ (xs : List Access). IsRow (c.args.q + 1) before (all_once row (gathered t c.args.q xs)) c.loop-x.stamp c.loop-x.found.items) (take_all c.loop-x.x-index c.args.xs.now c.loop-x-test.false) was.1,
   );
 }

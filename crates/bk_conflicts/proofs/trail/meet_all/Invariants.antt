@@ -1,14 +1,14 @@
-use Rattle.std.proofs.Common.{◌≡◌, ℕ, ◌+◌, ◌<◌, length, take}
+use Rattle.std.proofs.Common.{◌≡◌, ℕ, ◌+◌, ◌<◌, List, length, take}
 use Rattle.bk_conflicts.specs.private.Accesses.{Places}
 use Rattle.bk_conflicts.specs.private.Accesses.{IsAscending}
-use Rattle.bk_conflicts.specs.private.Trail.{IsTrail, Shows, Stands, IsMarked, all_once, gathered, readers_in, writer_in}
+use Rattle.bk_conflicts.specs.private.Trail.{IsTrail, Shows, Stands, IsRow, all_once, gathered, readers_in, writer_in}
 use Rattle.bk_conflicts.proofs.trail.meet_all.Given as goal
 
 abbrev pub invariant-loop-x : goal.invariant-loop-x
 invariant-loop-x l = record {
   wide : length l.trail.newest.items ≡ length l.fn.trail.newest.items;
   safe : IsTrail (length l.trail.newest.items) (length l.stamp) l.trail;
-  so_far : (t : Places) → t l.q ≡ l.xs → IsAscending l.xs → Stands t l.q l.fn.trail → IsMarked (l.q + 1) l.fn.stamp l.fn.found.items
+  so_far : (t : Places) (before row : List ℕ) → t l.q ≡ l.xs → IsAscending l.xs → Stands t l.q l.fn.trail → IsRow (l.q + 1) before row l.fn.stamp l.fn.found.items
       → ((a : ℕ) → a < length l.trail.newest.items → Shows l.trail a (readers_in t l.q (take l.x-index l.xs) a) (writer_in t l.q (take l.x-index l.xs) a))
-      × IsMarked (l.q + 1) l.stamp l.found.items × (l.found.items ≡ all_once l.fn.found.items (gathered t l.q (take l.x-index l.xs)));
+      × IsRow (l.q + 1) before (all_once row (gathered t l.q (take l.x-index l.xs))) l.stamp l.found.items;
 }
