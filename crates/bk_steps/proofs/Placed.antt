@@ -1,6 +1,7 @@
 -- Where the words of a declared account are among those of all.
-use Rattle.std.proofs.Common.{◌≡◌, ℕ, zero, suc, ◌+◌, ◌*◌, ◌<◌, ◌≤◌, List, [], ◌∷◌, ◌++◌, length, get_or, set, Bool, Option, None, Some, refl, sym, ap, ◌∙◌, arith, length-set, get_or-set_other, get_or-set_same}
+use Rattle.std.proofs.Common.{◌≡◌, ℕ, zero, suc, ◌+◌, ◌*◌, ◌/◌, ◌<◌, ◌≤◌, List, [], ◌∷◌, ◌++◌, length, get_or, set, Bool, Option, None, Some, refl, sym, ap, ◌∙◌, arith, length-set, get_or-set_other, get_or-set_same}
 use mathlib.Core.Logic.{dite}
+use Rattle.std.proofs.Math.Nat.{mul-div_cancel_left}
 use native.Mathlib.Decide.{ℕ_discrete}
 use Rattle.bk_frames.specs.declared.version.Version.{Version}
 use Rattle.bk_tx.specs.declared.declared.Declared.{Declared}
@@ -16,6 +17,10 @@ use Rattle.bk_conflicts.proofs.Accessed.{slot_there}
 use Rattle.bk_conflicts.proofs.Said as said
 use Rattle.bk_steps.specs.Machine.{no_word}
 use Rattle.bk_steps.specs.Settling.{wide, words_in, words_before, word_in, said_at, put_at, Say, AreOf}
+
+pub wide_most : (o : Option ℕ) → wide o ≤ 2
+wide_most None = omega arith
+wide_most (Some s) = omega arith
 
 pub next_word : (slots : List ℕ) (ds : List Declared) (k : ℕ) → k < length ds → words_before slots ds (suc k) ≡ words_before slots ds k + wide (slot_of slots (nth_id ds k))
 next_word slots [] k l = absurd (omega arith)
@@ -50,6 +55,35 @@ words_here slots (d ∷ ds) (suc k) s l e = let ih = words_here slots ds k s (om
   skip d.writable (slot_of slots d.id) (words_in slots ds) (wide (slot_of slots d.id) + n) n refl ∙ ih.0,
   skip d.writable (slot_of slots d.id) (words_in slots ds) (wide (slot_of slots d.id) + n + 1) (n + 1) (omega arith) ∙ ih.1,
 )
+
+-- ---- where each declared account has words
+
+two_at_most : (slots : List ℕ) (ds : List Declared) → length (words_in slots ds) ≤ 2 * length ds
+two_at_most slots [] = omega arith
+two_at_most slots (d ∷ ds) = let e = length-one d.writable (slot_of slots d.id) (words_in slots ds) in let w = wide_most (slot_of slots d.id) in let ih = two_at_most slots ds in omega arith
+
+pub all_slots : (slots : List ℕ) (ds : List Declared) → length (words_in slots ds) ≡ 2 * length ds → (k : ℕ) → k < length ds → (s : ℕ) × (slot_of slots (nth_id ds k) ≡ Some s)
+all_slots slots [] whole k l = absurd (omega arith)
+all_slots slots (d ∷ ds) whole zero l = at (slot_of slots d.id) refl
+  where
+    at : (o : Option ℕ) → slot_of slots d.id ≡ o → (s : ℕ) × (slot_of slots d.id ≡ Some s)
+    at None e = let one = length-one d.writable (slot_of slots d.id) (words_in slots ds) in let none : wide (slot_of slots d.id) ≡ 0 = ap wide e in let most = two_at_most slots ds in absurd (omega arith)
+    at (Some s) e = (s, e)
+all_slots slots (d ∷ ds) whole (suc k) l = let one = length-one d.writable (slot_of slots d.id) (words_in slots ds) in let w = wide_most (slot_of slots d.id) in let most = two_at_most slots ds in
+    all_slots slots ds (omega arith) k (omega arith)
+
+-- the slot is half of the first of its words
+pub slot_by_word : (slots : List ℕ) (ds : List Declared) (words : List WordRef) (k at slot : ℕ) → k < length ds → words ≡ words_in slots ds → length words ≡ 2 * length ds → at ≡ words_before slots ds k
+    → slot ≡ (get_or words at no_word).word / 2 → Some slot ≡ slot_of slots (nth_id ds k)
+slot_by_word slots ds words k at slot l is whole here e =
+    let there = all_slots slots ds (ap length (sym is) ∙ whole) k l in
+    let word : (get_or words at no_word).word ≡ 2 * there.0 = (λ i. (get_or (is i) (here i) no_word).word) ∙ (words_here slots ds k there.0 l there.1).0 in
+    ap (λ (n : ℕ). Some n) (e ∙ (ap (λ (n : ℕ). n / 2) word ∙ mul-div_cancel_left there.0 (omega arith))) ∙ sym there.1
+
+pub word_inside : (slots : List ℕ) (ds : List Declared) (words : List WordRef) (k at : ℕ) → k < length ds → words ≡ words_in slots ds → length words ≡ 2 * length ds → at ≡ words_before slots ds k → at < length words
+word_inside slots ds words k at l is whole here =
+    let there = all_slots slots ds (ap length (sym is) ∙ whole) k l in
+    let two : wide (slot_of slots (nth_id ds k)) ≡ 2 = ap wide there.1 in let room = room_here slots ds k l in let same : length words ≡ length (words_in slots ds) = ap length is in omega arith
 
 -- what the values at its index say of an account
 pub said_here : (v : Version) (slots : List ℕ) (ds : List Declared) (values : List ℕ) (f : ℕ → ℕ) → Say f slots ds values → (k : ℕ) → k < length ds
@@ -93,10 +127,6 @@ put_here slots ds values view accounts long are k l so_far i low = at (slot_of s
         (λ more. get_or-set_other (set values n b) (n + 1) i q 0 more ∙ (get_or-set_other values n i b 0 other ∙ so_far i (omega arith))))
 
 -- ---- for the loops over the declared accounts
-
-pub wide_most : (o : Option ℕ) → wide o ≤ 2
-wide_most None = omega arith
-wide_most (Some s) = omega arith
 
 pub no_account : (j : ℕ) → nth (None ∷ None ∷ None ∷ None ∷ None ∷ None ∷ None ∷ None ∷ []) j ≡ None
 no_account zero = refl

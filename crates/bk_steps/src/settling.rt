@@ -5,30 +5,50 @@ ghost use Rattle.bk_rules.specs.Rule.{Accounts};
 ghost use Rattle.bk_rules.specs.View.{nth, nth_id};
 ghost use Rattle.bk_rules.specs.Ledger.{shown_by};
 ghost use Rattle.bk_conflicts.specs.Conflicts.{declared_at};
-ghost use Rattle.bk_conflicts.specs.Words.{words_at};
+ghost use Rattle.bk_conflicts.specs.Words.{slot_of, words_at};
 ghost use Rattle.bk_conflicts.specs.SceneOf.{accounts_by, word_by, tx_at};
-ghost use Rattle.bk_steps.specs.Settling.{wide, said_at, put_at, words_in, Say, AreOf, AreLow, Does};
+ghost use Rattle.bk_steps.specs.Settling.{wide, said_at, put_at, words_before, words_in, Say, AreOf, AreLow, Does};
 
 use bk_conflicts::{Plan, WordRef};
 use bk_frames::Version;
 use bk_rules::{Account, Ids, Local, Receipt, Status, settle};
 use bk_tx::{Declarations, Tx};
 
-// The likely slot of the account whose words are at an index among those of a place, if they are there.
-fn slot_at(words: &[WordRef], at: usize) -> usize {
-    match words.get(at) {
-        Some(word) => word.word as usize / 2,
-        None => usize::MAX,
-    }
-}
-
 // The words of a place, if there is such a place.
-fn words_of(plan: &Plan, place: u32) -> &[WordRef] {
+fn words_of(plan: &Plan, place: u32) -> &[WordRef]
+    ensures { place < length plan.now.txs →
+        result.now ≡ words_at plan.now.ids plan.now.txs place }
+{
     if (place as usize) < plan.len() {
         plan.words_of(place)
     } else {
         &[]
     }
+}
+
+// The slot of the k-th declared account. Its words begin at an index among those of all, if it has any.
+//
+// Where there are two words of each account, the slot is that of its words, and no id is looked at.
+fn slot_of(
+    ids: &Ids,
+    declared: &Declarations,
+    words: &[WordRef],
+    k: usize,
+    at: usize,
+) -> Option<usize>
+    requires index { k < length declared.now }
+    requires words { words.now ≡ words_in ids.now declared.now }
+    requires at { at ≡ words_before ids.now declared.now k }
+    ensures { result ≡ slot_of ids.now (nth_id declared.now k) }
+{
+    if words.len() == 2 * declared.len() {
+        return Some(words[at].word as usize / 2);
+    }
+    let near = match words.get(at) {
+        Some(word) => word.word as usize / 2,
+        None => usize::MAX,
+    };
+    ids.index_by(declared.get(k).id, near)
 }
 
 // How many words an account has: none where it has no slot.
@@ -84,8 +104,6 @@ fn put(values: &mut [u64], at: usize, slot: Option<usize>, account: Option<Accou
 }
 
 // The accounts that the words of a place say, the i-th being the i-th that is declared.
-//
-// The words of the plan say where each account is likely to be, so that no table is asked.
 fn accounts_in(
     version: Version,
     ids: &Ids,
@@ -93,6 +111,7 @@ fn accounts_in(
     words: &[WordRef],
     values: &[u64],
 ) -> Local
+    requires words { words.now ≡ words_in ids.now declared.now }
     requires few { length (words_in ids.now declared.now) ≤ length values.now }
     ensures found { (f : ℕ → ℕ) → Say f ids.now declared.now values.now
         → (k : ℕ) → k < length declared.now
@@ -102,7 +121,7 @@ fn accounts_in(
     let mut local = Local::new();
     let mut at = 0;
     for k in 0..declared.len() {
-        let slot = ids.index_by(declared.get(k).id, slot_at(words, at));
+        let slot = slot_of(ids, declared, words, k, at);
         let account = said(version, slot, values, at);
         local.set(k, account);
         at += wide(slot);
@@ -118,13 +137,14 @@ fn put_accounts(
     local: &Local,
     values: &mut [u64],
 )
+    requires words { words.now ≡ words_in ids.now declared.now }
     requires few { length (words_in ids.now declared.now) ≤ length values.old }
     ensures { (accounts : Accounts) → AreOf accounts declared.now local.now
         → Say (word_by ids.now accounts) ids.now declared.now values.new }
 {
     let mut at = 0;
     for k in 0..declared.len() {
-        let slot = ids.index_by(declared.get(k).id, slot_at(words, at));
+        let slot = slot_of(ids, declared, words, k, at);
         put(values, at, slot, local.account(k));
         at += wide(slot);
     }
@@ -132,6 +152,7 @@ fn put_accounts(
 
 // Does a transaction on the words of its place.
 fn settle_tx(version: Version, ids: &Ids, tx: &Tx, words: &[WordRef], values: &mut [u64]) -> Receipt
+    requires words { words.now ≡ words_in ids.now tx.now.declared }
     requires few { length (words_in ids.now tx.now.declared) ≤ length values.old }
     requires low { AreLow version ids.now tx.now.declared values.old }
     ensures { (f : ℕ → ℕ) → Say f ids.now tx.now.declared values.old

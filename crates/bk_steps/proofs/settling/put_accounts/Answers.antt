@@ -15,20 +15,20 @@ loop-k-init c = record {
 
 pub put-requires : goal.put-requires
 put-requires c = let a = c.loop-k-test.true in let b = c.len-k-end.ensures.len in let long = c.loop-k.invariant.long in let few = c.requires.few in
-    room_at c.args.ids.now c.args.declared.now c.loop-k.k c.index_by-slot.result c.loop-k.at (length c.loop-k.values) (omega arith)
-    (c.index_by-slot.ensures ∙ ap (λ (d : Declared). slot_of c.args.ids.now d.id) c.get.ensures) c.loop-k.invariant.at_is (omega arith)
+    room_at c.args.ids.now c.args.declared.now c.loop-k.k c.slot_of-slot.result c.loop-k.at (length c.loop-k.values) (omega arith)
+    (c.slot_of-slot.ensures) c.loop-k.invariant.at_is (omega arith)
 
 pub overflow_add-at : goal.overflow_add-at
-overflow_add-at c = let a = c.loop-k-test.true in let b = c.len-k-end.ensures.few in let w = wide_most c.index_by-slot.result in let e = c.wide-at.ensures in let l = c.loop-k.invariant.at_low in omega arith
+overflow_add-at c = let a = c.loop-k-test.true in let b = c.len-k-end.ensures.few in let w = wide_most c.slot_of-slot.result in let e = c.wide-at.ensures in let l = c.loop-k.invariant.at_low in omega arith
 
 pub loop-k-preserved : goal.loop-k-preserved
 loop-k-preserved c = let a = c.loop-k-test.true in let b = c.len-k-end.ensures.len in let few = c.requires.few in let long = c.loop-k.invariant.long in
     let low : c.loop-k.k < length c.args.declared.now = omega arith in
-    let slot : c.index_by-slot.result ≡ slot_of c.args.ids.now (get_or c.args.declared.now c.loop-k.k _).id = c.index_by-slot.ensures ∙ ap (λ (d : Declared). slot_of c.args.ids.now d.id) c.get.ensures in record {
-      at_is = next_at c.args.ids.now c.args.declared.now c.loop-k.k c.index_by-slot.result c.loop-k.at c.wide-at.result low slot c.loop-k.invariant.at_is c.wide-at.ensures;
-      at_low = let w = wide_most c.index_by-slot.result in let e = c.wide-at.ensures in let l = c.loop-k.invariant.at_low in omega arith;
-      long = ap length c.put.ensures ∙ (length-put c.index_by-slot.result c.account.result c.loop-k.values c.loop-k.at ∙ long);
-      so_far = λ accounts are. put_more c.args.ids.now c.args.declared.now c.loop-k.values c.args.local.now accounts (omega arith) are c.loop-k.k low c.index_by-slot.result c.loop-k.at c.wide-at.result c.account.result c.put.new.values
+    let slot : c.slot_of-slot.result ≡ slot_of c.args.ids.now (get_or c.args.declared.now c.loop-k.k _).id = c.slot_of-slot.ensures in record {
+      at_is = next_at c.args.ids.now c.args.declared.now c.loop-k.k c.slot_of-slot.result c.loop-k.at c.wide-at.result low slot c.loop-k.invariant.at_is c.wide-at.ensures;
+      at_low = let w = wide_most c.slot_of-slot.result in let e = c.wide-at.ensures in let l = c.loop-k.invariant.at_low in omega arith;
+      long = ap length c.put.ensures ∙ (length-put c.slot_of-slot.result c.account.result c.loop-k.values c.loop-k.at ∙ long);
+      so_far = λ accounts are. put_more c.args.ids.now c.args.declared.now c.loop-k.values c.args.local.now accounts (omega arith) are c.loop-k.k low c.slot_of-slot.result c.loop-k.at c.wide-at.result c.account.result c.put.new.values
           slot c.loop-k.invariant.at_is c.wide-at.ensures c.account.ensures c.put.ensures (c.loop-k.invariant.so_far accounts are);
     }
 
