@@ -29,7 +29,11 @@ fn decode_all(txs: &mut Vec<Option<Tx>>, payload: &[u8], slices: &[Slice]) -> Re
 {
     txs.reserve(slices.len())?;
     for slice in slices {
-        txs.push(Tx::decode(slice.of(payload)))?;
+        // Each arm puts its own value there: one that both share would be moved once more.
+        match Tx::decode(slice.of(payload)) {
+            Some(tx) => txs.push(Some(tx))?,
+            None => txs.push(None)?,
+        }
     }
     Ok(())
 }

@@ -20,6 +20,30 @@ pub(crate) fn least_of(slots: usize, fewest: usize) -> usize
     (slots / 8).min(524_288).max(fewest)
 }
 
+// How many transactions the batches from an index on say that they hold, until they are enough for a slice. A batch that
+// says more than it has bytes for is void.
+fn room_for(payloads: &[&[u8]], from: usize, least: usize) -> usize {
+    let mut room = 0usize;
+    for payload in payloads.iter().skip(from) {
+        room = room.saturating_add(said_in(payload));
+        if room >= least {
+            return room;
+        }
+    }
+    room
+}
+
+// How many transactions a batch says that it holds; each takes two bytes at least.
+fn said_in(payload: &[u8]) -> usize {
+    match payload {
+        [high, low, rest @ ..] => {
+            let count = u16::from_be_bytes([*high, *low]) as usize;
+            if rest.len() / 2 < count { 0 } else { count }
+        }
+        _ => 0,
+    }
+}
+
 /// Reads batches from an index on, until they have so many transactions or there are no more.
 pub(crate) fn gather(
     alloc: Global,
@@ -33,6 +57,8 @@ pub(crate) fn gather(
         b.counts.items b.txs.items) }
 {
     let mut batches = Batches::new(alloc);
+    // Once for all of them: a list that grows is moved each time.
+    batches.txs.reserve(room_for(payloads, from, least))?;
     for index in from..payloads.len() {
         batches.push(alloc, payloads[index])?;
         if batches.txs.len() >= least {
@@ -56,6 +82,8 @@ pub(crate) fn gather_near(
         b.counts.items b.txs.items) }
 {
     let mut batches = gather(alloc, payloads, from, least)?;
+    // Most transactions declare two accounts.
+    batches.near.reserve(batches.txs.len().saturating_mul(2))?;
     ids.push_likely(&mut batches.near, &batches.txs)?;
     Ok(batches)
 }

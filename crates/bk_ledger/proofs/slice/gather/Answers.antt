@@ -1,9 +1,14 @@
-use Rattle.std.proofs.Common.{ap, length, arith}
+use Rattle.std.proofs.Common.{ap, ◌∙◌, length, arith}
 use Rattle.bk_ledger.proofs.SliceLemmas.{lent_at, lent_count, one_more, slice_none, slice_more}
 use Rattle.bk_ledger.proofs.slice.gather.Goals as goal
 
 pub loop-index-init : goal.loop-index-init
-loop-index-init c = record { slice = slice_none _ c.args.from _ _ c.new-batches.ensures.counts c.new-batches.ensures.txs; at = omega (arith, ap length c.new-batches.ensures.counts); within = c.requires.within; few = omega (arith, ap length c.new-batches.ensures.txs) }
+loop-index-init c = let none = c.in_ok-reserve.ensures.items ∙ c.new-batches.ensures.txs in record {
+  slice = slice_none _ c.args.from _ _ c.new-batches.ensures.counts none;
+  at = omega (arith, ap length c.new-batches.ensures.counts);
+  within = c.requires.within;
+  few = omega (arith, ap length none);
+}
 
 pub returns-then-len-least : goal.returns-then-len-least
 returns-then-len-least c = record {
