@@ -1,8 +1,10 @@
 -- Numbers in the order of the ids, read as a whole and set as a whole.
-use Rattle.std.proofs.Common.{◌≡◌, ℕ, zero, suc, ◌+◌, ◌*◌, ◌^◌, ◌<◌, Bool, true, false, cond, eqb, List, [], ◌∷◌, ◌++◌, length, map, take, get_or, set, Option, Some, None, option_map, refl, sym, subst, ap, ap₂, ◌∙◌, inl, inr, arith}
+use Rattle.std.proofs.Common.{◌≡◌, ℕ, zero, suc, ◌+◌, ◌*◌, ◌^◌, ◌<◌, ◌≤◌, Bool, true, false, cond, eqb, List, [], ◌∷◌, ◌++◌, length, map, take, get_or, set, get_or-set_same, get_or-set_other, Option, Some, None, option_map, refl, sym, subst, ap, ap₂, ◌∙◌, inl, inr, arith}
+use mathlib.Core.Logic.{dite}
+use native.Mathlib.Decide.{ℕ_discrete}
 use Rattle.std.specs.Prelude.{slice_get, option_and_then}
 use Rattle.std.proofs.lemmas.Bool.{cases_lt}
-use Rattle.std.proofs.lemmas.List.{length-map, take_more, take_more_set, length-take-le}
+use Rattle.std.proofs.lemmas.List.{length-map, ext_get_or, get_or-map, take_more, take_more_set, length-take-le}
 use Rattle.std.proofs.lemmas.Option.{slice_get_past, slice_get-get_or, slice_get-map}
 use Rattle.bk_frames.specs.declared.genesis.Row.{Row}
 use Rattle.bk_frames.specs.declared.version.Version.{Version}
@@ -137,3 +139,26 @@ slots_set v ids old numbers are pairs same is within =
 
 pub shows_set : (v : Version) (ids : List ℕ) (numbers pairs : List Account) → numbers ≡ map (tidied v) pairs → shown v ids numbers ≡ ledger_of v ids (rows_shown v ids pairs)
 shows_set v ids numbers pairs is = ap (ledger_of v ids) (ap (rows_shown v ids) is ∙ rows_tidied v ids pairs)
+
+-- ---- numbers that are tidied where they lie
+
+-- the numbers of nobody, read past the end
+abbrev pub blank : Account
+blank = record { balance = 0; seq = 0 }
+
+pub tidied_one : (numbers : List Account) → numbers ≡ map (tidied One) numbers
+tidied_one [] = refl
+tidied_one (a ∷ numbers) = ap (λ (more : List Account). a ∷ more) (tidied_one numbers)
+
+pub tidied_more : (numbers old : List Account) (k : ℕ) (x : Account) → k < length numbers → x ≡ tidied Two (get_or old k blank) → ((i : ℕ) → i < k → get_or numbers i blank ≡ tidied Two (get_or old i blank))
+    → (i : ℕ) → i < k + 1 → get_or (set numbers k x) i blank ≡ tidied Two (get_or old i blank)
+tidied_more numbers old k x low is before i l = dite (ℕ_discrete i k)
+    (λ same. subst (λ (n : ℕ). get_or (set numbers k x) n blank ≡ tidied Two (get_or old n blank)) (sym same) (get_or-set_same numbers k x blank low ∙ is))
+    (λ other. get_or-set_other numbers k i x blank other ∙ before i (omega arith))
+
+pub tidied_rest : (numbers old : List Account) (k : ℕ) (x : Account) → ((i : ℕ) → k ≤ i → get_or numbers i blank ≡ get_or old i blank) → (i : ℕ) → k + 1 ≤ i → get_or (set numbers k x) i blank ≡ get_or old i blank
+tidied_rest numbers old k x after i l = get_or-set_other numbers k i x blank (λ e. absurd (omega arith)) ∙ after i (omega arith)
+
+pub tidied_all : (numbers old : List Account) → length numbers ≡ length old → ((i : ℕ) → i < length old → get_or numbers i blank ≡ tidied Two (get_or old i blank)) → numbers ≡ map (tidied Two) old
+tidied_all numbers old long each = ext_get_or blank numbers (map (tidied Two) old) (long ∙ sym (length-map old (tidied Two)))
+    (λ i l. let low : i < length old = omega arith in each i low ∙ sym (get_or-map (tidied Two) old i blank blank low))

@@ -153,16 +153,17 @@ impl Hints {
     // Both are read, so that there is no branch to be guessed wrong. What belongs to another id is past all ids.
     pub(crate) fn slot(&self, id: u64) -> u32 {
         let home = self.home(id);
-        let first = self.at(home.slot) ^ home.tag;
-        let second = self.at(home.slot.wrapping_add(1)) ^ home.tag;
+        let (first, second) = match self.slots.get(home.slot..) {
+            Some([first, second, ..]) => (*first ^ home.tag, *second ^ home.tag),
+            _ => (EMPTY, EMPTY),
+        };
         if first <= self.mask { first } else { second }
     }
 
-    // What a slot holds.
-    fn at(&self, slot: usize) -> u32 {
-        match self.slots.get(slot) {
-            Some(held) => *held,
-            None => EMPTY,
+    // The same of each of these ids, in their order.
+    pub(crate) fn list_slots(&self, ids: &[u64], slots: &mut [u32]) {
+        for (slot, id) in slots.iter_mut().zip(ids) {
+            *slot = self.slot(*id);
         }
     }
 }

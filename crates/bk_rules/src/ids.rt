@@ -143,22 +143,22 @@ impl Ids {
     /// No contract says that they are right: where one is not, the look-up takes longer.
     pub fn push_likely(&self, near: &mut Vec<u32>, txs: &[Option<Tx>]) -> Result<(), AllocError> {
         let mut declared = [0; MOST_DECLARED * BLOCK];
+        let mut found = [0; MOST_DECLARED * BLOCK];
         for block in txs.chunks(BLOCK) {
-            let count = list_declared(&mut declared, block);
-            let from = near.len();
-            for id in declared.iter().take(count) {
-                near.push(self.table.hints.slot(*id))?;
-            }
-            self.mend(near, from, &declared);
+            let count = list_declared(&mut declared, block).min(MOST_DECLARED * BLOCK);
+            let ids = &declared[..count];
+            let slots = &mut found[..count];
+            self.table.hints.list_slots(ids, slots);
+            self.mend(slots, ids);
+            near.extend_from_slice(slots)?;
         }
         Ok(())
     }
 
-    // Searches for the ids that are not where their slots say, from a likely index on. An id that is not there gets a
-    // number that is no index.
-    fn mend(&self, near: &mut [u32], from: usize, declared: &[u64]) {
+    // Searches for the ids that are not where their slots say. An id that is not there gets a number that is no index.
+    fn mend(&self, near: &mut [u32], declared: &[u64]) {
         let ids = self.as_slice();
-        for (index, id) in near.iter_mut().skip(from).zip(declared) {
+        for (index, id) in near.iter_mut().zip(declared) {
             if ids.get(*index as usize) != Some(id) {
                 *index = u32::try_from(self.index_or_len(*id)).unwrap_or(u32::MAX);
             }

@@ -6,6 +6,7 @@ mod hints;
 mod ids;
 mod laws;
 mod local;
+mod numbers;
 mod part;
 mod receipt;
 mod roles;

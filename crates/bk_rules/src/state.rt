@@ -232,7 +232,7 @@ fn numbers_in(alloc: Global, rows: &[Row]) -> Result<Vec<Account>, AllocError>
 }
 
 // The account that numbers show.
-fn shown(version: Version, numbers: Account) -> Option<Account>
+pub(crate) fn shown(version: Version, numbers: Account) -> Option<Account>
     ensures { result ≡ shown_by version numbers }
 {
     match version {
@@ -248,7 +248,7 @@ fn shown(version: Version, numbers: Account) -> Option<Account>
 }
 
 // The numbers of an account, or those that mark one as absent.
-fn numbers_of(account: Option<Account>) -> Account
+pub(crate) fn numbers_of(account: Option<Account>) -> Account
     ensures { result ≡ numbers_of account }
 {
     account.unwrap_or(Account {

@@ -175,6 +175,26 @@ fn accounts_are_set(rt: HostRuntime) -> Result<(), Fail> {
     Ok(())
 }
 
+// The same by numbers, those of an absent account too.
+#[test]
+fn numbers_are_set(rt: HostRuntime) -> Result<(), Fail> {
+    let numbers = [
+        Account { balance: 4, seq: 1 },
+        Account {
+            balance: 9,
+            seq: u64::MAX,
+        },
+    ];
+    let mut state = State::new(rt.alloc(), Version::Two, &two_rows())?;
+    state.set_numbers(Vec::from_slice(rt.alloc(), &numbers)?);
+    assert!(rt; has(&rt, &state, &[3, 5], &[row(3, 4, 1)])?);
+    assert!(rt; state.total() == 4);
+    let mut state = State::new(rt.alloc(), Version::One, &two_rows())?;
+    state.set_numbers(Vec::from_slice(rt.alloc(), &numbers)?);
+    assert!(rt; has(&rt, &state, &[3, 5], &[row(3, 4, 1), row(5, 9, u64::MAX)])?);
+    Ok(())
+}
+
 #[test]
 fn the_mark_is_a_number_in_version_one(rt: HostRuntime) -> Result<(), Fail> {
     let mut state = State::new(rt.alloc(), Version::One, &two_rows())?;
