@@ -1,13 +1,15 @@
 -- What the words of a closed bank say, where all places are done.
-use Rattle.std.proofs.Common.{◌≡◌, ℕ, ◌+◌, ◌-◌, ◌*◌, ◌^◌, ◌<◌, ◌≤◌, List, [], ◌∷◌, ◌++◌, length, get_or, Option, Some, refl, sym, ap, ◌∙◌, subst, arith, length-append}
-use Rattle.std.proofs.lemmas.List.{get_or_append_left}
+use Rattle.std.proofs.Common.{◌≡◌, ℕ, zero, suc, ◌+◌, ◌-◌, ◌*◌, ◌^◌, ◌<◌, ◌≤◌, List, [], ◌∷◌, ◌++◌, length, get_or, Option, Some, refl, sym, ap, ◌∙◌, subst, arith, length-append}
+use Rattle.std.proofs.lemmas.List.{get_or_append_left, get_or-append-add}
 use lib.Seq.{get_or-append_seam}
 use mathlib.Core.Logic.{dite}
 use native.Mathlib.Decide.{ℕ_discrete}
+use Rattle.bk_rules.specs.declared.account.Account.{Account}
 use Rattle.bk_rules.specs.declared.receipt.Receipt.{Receipt}
 use Rattle.bk_rules.specs.declared.receipt.Status.{Status}
 use Rattle.bk_rules.specs.declared.receipt.Status.TheVariants as status
-use Rattle.bk_rules.specs.Ledger.{Ledger}
+use Rattle.bk_rules.specs.Ledger.{Ledger, in_pairs}
+use Rattle.bk_rules.proofs.Words.{length-pairs}
 use Rattle.bk_rules.specs.Numbers.{number_of, status_with}
 use Rattle.bk_conflicts.specs.Plan.{PlanValue}
 use Rattle.bk_conflicts.specs.Scene.{status_at, moved_at}
@@ -20,7 +22,7 @@ use Rattle.bk_bank.specs.Words.{WordsData, state_at, moved_word_at, AllFinished}
 use Rattle.bk_bank.proofs.Settings.{scene_places, scene_words}
 use Rattle.bk_pool.specs.Reads.{IsBankOf}
 use Rattle.bk_pool.specs.Outcomes.{IsClosed}
-use Rattle.bk_pool.specs.private.Receipts.{receipt_at, no_receipt, AreReceipts, AreStatuses}
+use Rattle.bk_pool.specs.private.Receipts.{receipt_at, no_receipt, AreReceipts, AreStatuses, AreNumbers}
 
 -- ---- statuses by number
 
@@ -78,6 +80,35 @@ more_receipts w rs n r (long, each) st mv = (
       let e = each p (omega arith) in
       (e.0 ∙ ap (λ (z : Receipt). 2 ^ 63 + number_of z.status) (sym old), ap (λ (z : Receipt). z.moved) old ∙ e.1)),
 )
+
+-- ---- numbers
+
+pairs_more : (n : ℕ) (words : List ℕ) (b s : ℕ) → length words ≡ 2 * n → in_pairs (words ++ b ∷ s ∷ []) ≡ in_pairs words ++ record { balance = b; seq = s } ∷ []
+pairs_more zero [] b s e = refl
+pairs_more zero (x ∷ words) b s e = absurd (omega arith)
+pairs_more (suc n) [] b s e = absurd (omega arith)
+pairs_more (suc n) (x ∷ []) b s e = absurd (omega arith)
+pairs_more (suc n) (x ∷ y ∷ words) b s e = ap (λ (more : List Account). record { balance = x; seq = y } ∷ more) (pairs_more n words b s (omega arith))
+
+pub no_numbers : (w : WordsData) (numbers : List Account) → numbers ≡ [] → AreNumbers w numbers 0
+no_numbers w numbers e = record { words = []; numbers_are = e; long = refl; same = λ x l. absurd (omega arith) }
+
+-- the numbers of one account more
+pub more_numbers : (w : WordsData) (numbers : List Account) (k b s : ℕ) → AreNumbers w numbers (2 * k) → b ≡ get_or w.items (2 * k) 0 → s ≡ get_or w.items (2 * k + 1) 0
+    → AreNumbers w (numbers ++ record { balance = b; seq = s } ∷ []) (2 * (k + 1))
+more_numbers w numbers k b s h first second = record {
+  words = h.words ++ b ∷ s ∷ [];
+  numbers_are = ap (λ (xs : List Account). xs ++ record { balance = b; seq = s } ∷ []) h.numbers_are ∙ sym (pairs_more k h.words b s h.long);
+  long = let a = length-append h.words (b ∷ s ∷ []) in let e = h.long in omega arith;
+  same = λ x l. dite (ℕ_discrete x (2 * k))
+      (λ is. ap (λ (i : ℕ). get_or (h.words ++ b ∷ s ∷ []) i 0) (let e = h.long in let z : x ≡ length h.words + 0 = omega arith in z) ∙ (get_or-append-add h.words (b ∷ s ∷ []) 0 0 ∙ (first ∙ ap (λ (i : ℕ). get_or w.items i 0) (sym is))))
+      (λ other. dite (ℕ_discrete x (2 * k + 1))
+      (λ is. ap (λ (i : ℕ). get_or (h.words ++ b ∷ s ∷ []) i 0) (let e = h.long in let z : x ≡ length h.words + 1 = omega arith in z) ∙ (get_or-append-add h.words (b ∷ s ∷ []) 1 0 ∙ (second ∙ ap (λ (i : ℕ). get_or w.items i 0) (sym is))))
+      (λ more. let low : x < 2 * k = omega arith in get_or_append_left h.words (b ∷ s ∷ []) 0 x (let e = h.long in omega arith) ∙ h.same x low));
+}
+
+pub numbers_long : (w : WordsData) (numbers : List Account) (n : ℕ) → AreNumbers w numbers (2 * n) → length numbers ≡ n
+numbers_long w numbers n h = ap length h.numbers_are ∙ length-pairs n h.words h.long
 
 -- ---- words
 

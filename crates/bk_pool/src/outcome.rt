@@ -1,16 +1,16 @@
 //! What the words of a closed bank give.
-ghost use Rattle.std.specs.Prelude.{◌≡◌, ℕ, ◌+◌, ◌^◌, ◌<◌, length, IfOk, IfErr, slice_index};
+ghost use Rattle.std.specs.Prelude.{◌≡◌, ◌+◌, ◌*◌, ◌^◌, ◌<◌, length, IfOk, IfErr};
 ghost use Rattle.bk_rules.specs.Numbers.{number_of};
 ghost use Rattle.bk_conflicts.specs.SceneOf.{CanRunOn};
 ghost use Rattle.bk_bank.specs.Words.{state_at, moved_word_at, AllFinished, IsFirstUnfinished};
 ghost use Rattle.bk_pool.specs.declared.outcome.ExecFault.TheVariants.{OutOfMemory};
 ghost use Rattle.bk_steps.specs.Schedule.{IsFoldOf};
 ghost use Rattle.bk_pool.specs.Outcomes.{IsClosed, IsLeft, IsBelow};
-ghost use Rattle.bk_pool.specs.private.Receipts.{AreReceipts, AreStatuses};
+ghost use Rattle.bk_pool.specs.private.Receipts.{AreReceipts, AreStatuses, AreNumbers};
 
 use bk_bank::Words;
 use bk_conflicts::Plan;
-use bk_rules::{Receipt, State, Status};
+use bk_rules::{Account, Receipt, State, Status};
 use bk_steps::Outcome;
 use std::alloc::{AllocError, Global};
 
@@ -53,9 +53,9 @@ pub fn outcome_of(
         return Err(ExecFault::Unfinished(place));
     }
     let receipts = receipts_of(alloc, plan.len(), words)?;
-    let all = account_words(alloc, 2 * plan.accounts().len(), words)?;
+    let numbers = numbers_in(alloc, plan.accounts().len(), words)?;
     let mut state = state;
-    state.set_words(&all);
+    state.set_numbers(numbers);
     Ok(Outcome { state, receipts })
 }
 
@@ -87,16 +87,17 @@ fn receipt_of(place: u32, words: &Words) -> Receipt
     Receipt { status, moved }
 }
 
-// The words of the accounts.
-fn account_words(alloc: Global, count: usize, words: &Words) -> Result<Vec<u64>, AllocError>
-    requires { count ≡ words.now.words }
-    ensures count { IfOk result (λ xs. length xs.items ≡ words.now.words) }
-    ensures same { IfOk result (λ xs. (x : ℕ) → x < words.now.words
-        → slice_index xs.items x ≡ slice_index words.now.items x) }
+// The numbers of the accounts, two words each.
+fn numbers_in(alloc: Global, count: usize, words: &Words) -> Result<Vec<Account>, AllocError>
+    requires { 2 * count ≡ words.now.words }
+    ensures { IfOk result (λ numbers. AreNumbers words.now numbers.items words.now.words) }
 {
-    let mut xs = Vec::with_capacity(alloc, count)?;
-    for x in 0..count {
-        xs.push(words.word(x))?;
+    let mut numbers = Vec::with_capacity(alloc, count)?;
+    for k in 0..count {
+        numbers.push(Account {
+            balance: words.word(2 * k),
+            seq: words.word(2 * k + 1),
+        })?;
     }
-    Ok(xs)
+    Ok(numbers)
 }

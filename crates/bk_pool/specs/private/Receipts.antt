@@ -1,8 +1,10 @@
 -- The receipts that the words show.
 use Rattle.std.specs.Prelude.{◌≡◌, ℕ, ◌+◌, ◌^◌, ◌<◌, List, length, slice_index_or}
+use Rattle.bk_rules.specs.declared.account.Account.{Account}
 use Rattle.bk_rules.specs.declared.receipt.Receipt.{Receipt}
 use Rattle.bk_rules.specs.declared.receipt.Status.{Status}
 use Rattle.bk_rules.specs.declared.receipt.Status.TheVariants as status
+use Rattle.bk_rules.specs.Ledger.{in_pairs}
 use Rattle.bk_rules.specs.Numbers.{number_of}
 use Rattle.bk_bank.specs.Words.{WordsData, state_at, moved_word_at}
 
@@ -21,3 +23,10 @@ AreReceipts w rs n = (length rs ≡ n) × ((p : ℕ) → p < n → (state_at w p
 -- each place is done and shows a status
 abbrev pub AreStatuses : WordsData → Type 0
 AreStatuses w = (p : ℕ) → p < w.places → (s : Status) × (state_at w p ≡ 2 ^ 63 + number_of s)
+
+-- the numbers of accounts, as the first n words show them, two words each
+pub record AreNumbers (w : WordsData) (numbers : List Account) (n : ℕ) : Type 0 where
+  pub words : List ℕ
+  pub numbers_are : numbers ≡ in_pairs words
+  pub long : length words ≡ n
+  pub same : (x : ℕ) → x < n → slice_index_or words x 0 ≡ slice_index_or w.items x 0
