@@ -143,6 +143,13 @@ impl Plan {
         }
     }
 
+    /// Its transactions again.
+    pub fn into_txs(self) -> Vec<Option<Tx>>
+        ensures { result.items ≡ self.txs }
+    {
+        self.txs
+    }
+
     /// The words of a place: two of each declared account that has a slot, by ascending number,
     /// each with its mode.
     pub fn words_of(&self, place: u32) -> &[WordRef]
