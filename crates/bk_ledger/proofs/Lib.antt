@@ -6,3 +6,4 @@ pub mod Touching
 pub mod PartRuns
 pub mod FeedSlices
 pub mod Growth
+pub mod Enough

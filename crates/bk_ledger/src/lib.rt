@@ -8,6 +8,7 @@
 mod batches;
 mod executing;
 mod feeds;
+mod held;
 mod ledger;
 mod ready;
 mod slice;

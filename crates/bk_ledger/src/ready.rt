@@ -1,12 +1,14 @@
 //! Slices that are planned before it is their turn.
 
 ghost use Rattle.std.specs.Prelude.{◌≡◌, ◌^◌, ◌<◌, ◌≤◌, ℕ, List, true, map, length, IfOk};
+ghost use Rattle.bk_frames.specs.declared.version.Version.TheVariants.{One, Two};
 ghost use Rattle.bk_rules.specs.Ledger.{are_covered};
 ghost use Rattle.bk_rules.specs.Part.{are_held};
 ghost use Rattle.bk_ledger.specs.private.Slices.{IsAheadOf, IsNextFrom, IsNoneAhead, IsReadOf, IsReady};
 ghost use Rattle.bk_ledger.specs.private.Touched.{AreTouched};
 
 use crate::batches::Batches;
+use crate::held::holds_all;
 use crate::slice::gather_near;
 use crate::touched::Touched;
 use bk_conflicts::Plan;
@@ -142,6 +144,37 @@ fn plan_ahead(
     requires few { length batches.txs.items < 2 ^ 31 }
     ensures { IfOk result (IsNextFrom batches version ids.now) }
 {
+    match version {
+        Version::One => plan_first(alloc, batches, ids),
+        Version::Two => hold_first(alloc, batches, ids),
+    }
+}
+
+// The same in version One, where any transactions have a plan: afterwards its words say whether its slots are enough.
+fn plan_first(alloc: Global, batches: Batches, ids: &Ids) -> Result<Next, AllocError>
+    requires few { length batches.txs.items < 2 ^ 31 }
+    ensures { IfOk result (IsNextFrom batches One ids.now) }
+{
+    let Batches { counts, txs, near } = batches;
+    let mut near = near;
+    let touched = Touched::near(alloc, ids, &mut near)?;
+    let plan = Plan::make_near(alloc, Version::One, &touched.ids, txs, &near)?;
+    let list = touched.list;
+    if holds_all(&plan, ids) {
+        let plan = Arc::new(alloc, plan)?;
+        return Ok(Next::Ready(Ready { counts, list, plan }));
+    }
+    // It never comes to this: the look-up finds each account that has a slot.
+    let txs = plan.into_txs();
+    Ok(Next::Read(Batches { counts, txs, near }))
+}
+
+// The same in version Two, where a plan has a slot of each account that is declared.
+fn hold_first(alloc: Global, batches: Batches, ids: &Ids) -> Result<Next, AllocError>
+    requires few { length batches.txs.items < 2 ^ 31 }
+    ensures { IfOk result (IsNextFrom batches Two ids.now) }
+{
+    let version = Version::Two;
     let mut batches = batches;
     let touched = Touched::near(alloc, ids, &mut batches.near)?;
     if touched.ids.hold(version, ids, &batches.txs, &batches.near) {
