@@ -20,8 +20,8 @@ pub(crate) fn least_of(slots: usize, fewest: usize) -> usize
     (slots / 8).min(524_288).max(fewest)
 }
 
-// How many transactions the batches from an index on say that they hold, until they are enough for a slice. A batch that
-// says more than it has bytes for is void.
+// How many transactions the batches of a slice say that they hold. A batch that says more than it has bytes for is
+// void.
 fn room_for(payloads: &[&[u8]], from: usize, least: usize) -> usize {
     let mut room = 0usize;
     for payload in payloads.iter().skip(from) {

@@ -11,8 +11,8 @@ use crate::state::{State, numbers_of, shown};
 use bk_frames::Version;
 
 impl State {
-    /// Sets all accounts: slot k has the k-th of these numbers, which in version Two are those of an absent account where
-    /// the sequence number is 2^64 - 1. The list becomes the state's own: nothing is copied.
+    /// Sets all accounts: slot k has the k-th of these numbers. In version Two its account is absent if the sequence
+    /// number is 2^64 - 1. The list becomes the state's own: nothing is copied. O(n) in version Two, else O(1).
     pub fn set_numbers(&mut self, numbers: Vec<Account>)
         requires length { length numbers.items ≡ length self.old.slots }
         requires within { total_of (rows_shown self.old.version self.old.slots numbers.items) < 2 ^ 63 }

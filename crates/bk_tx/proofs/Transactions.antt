@@ -1,6 +1,6 @@
 -- The two laws of a transaction: what is read encodes to the same bytes, and what is encoded is read again.
 use Rattle.std.proofs.Common.{◌≡◌, ◌≢◌, ℕ, zero, suc, ◌^◌, ◌<◌, ◌≤◌, Bool, true, false, cond, eqb, leb, not, ◌&&◌, IsTrue, List, [], ◌∷◌, ◌++◌, length, Option, Some, None, refl, sym, ap, subst, ◌∙◌, append_assoc, ◌⊎◌, inl, inr, arith}
-use Rattle.std.specs.Prelude.{IfSome, IfNone, IsSome, ◌↔◌}
+use Rattle.std.specs.Prelude.{IfSome, IfNone}
 use Rattle.std.specs.List.{flat_map, AllByRecursion, list_any}
 use Rattle.std.specs.Int.{w8, w64}
 use Rattle.std.proofs.lemmas.Bool.{eqb-true, eqb-false, ne_eqb, leb-true, le-leb, and_parts, and_from, not-true, or_parts, or_from}

@@ -1,4 +1,4 @@
-use Rattle.std.proofs.Common.{◌≡◌, ℕ, ◌+◌, ◌∷◌, [], ◌++◌, List, length, sym, subst, ap, arith}
+use Rattle.std.proofs.Common.{ℕ, ◌+◌, ◌∷◌, [], ◌++◌, List, length, sym, subst, ap, arith}
 use Rattle.bk_conflicts.specs.private.Rows.{IsRows}
 use Rattle.bk_conflicts.proofs.First.{rows_more}
 use Rattle.bk_conflicts.proofs.rows.end_row.Goals as goal

@@ -1,4 +1,4 @@
-use Rattle.std.proofs.Common.{◌≡◌, ◌*◌, true, Option, length, refl, ap, subst, arith}
+use Rattle.std.proofs.Common.{◌≡◌, true, Option, length, refl, ap, subst, arith}
 use Rattle.bk_frames.specs.declared.version.Version.TheVariants.{One}
 use Rattle.bk_tx.specs.Transaction.{Transaction}
 use Rattle.bk_rules.specs.Part.{is_held}

@@ -1,4 +1,4 @@
-use Rattle.std.proofs.Common.{◌≡◌, ◌^◌, ◌*◌, ◌<◌, ℕ, List, length, ◌∙◌, sym, ap, subst, arith}
+use Rattle.std.proofs.Common.{◌^◌, ◌<◌, ℕ, List, length, ◌∙◌, sym, ap, subst}
 use Rattle.bk_frames.specs.Genesis.{total_of}
 use Rattle.bk_rules.specs.declared.account.Account.{Account}
 use Rattle.bk_rules.specs.Ledger.{ledger_of, rows_shown}

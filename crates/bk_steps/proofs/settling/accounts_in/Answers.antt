@@ -1,5 +1,4 @@
 use Rattle.std.proofs.Common.{◌≡◌, ◌<◌, length, get_or, None, refl, ap, ◌∙◌, arith, length-set}
-use Rattle.bk_tx.specs.declared.declared.Declared.{Declared}
 use Rattle.bk_conflicts.specs.Words.{slot_of}
 use Rattle.bk_steps.proofs.Placed.{wide_most, no_account, room_at, next_at, found_more, rest_more}
 use Rattle.bk_steps.proofs.settling.accounts_in.Goals as goal

@@ -1,5 +1,4 @@
 use Rattle.std.proofs.Common.{◌≡◌, ◌<◌, length, get_or, refl, ap, ◌∙◌, arith}
-use Rattle.bk_tx.specs.declared.declared.Declared.{Declared}
 use Rattle.bk_conflicts.specs.Words.{slot_of}
 use Rattle.bk_steps.specs.Settling.{words_before}
 use Rattle.bk_steps.proofs.Placed.{wide_most, room_at, next_at, words_all, put_more, length-put}

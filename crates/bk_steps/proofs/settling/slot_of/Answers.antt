@@ -1,4 +1,4 @@
-use Rattle.std.proofs.Common.{◌≡◌, ◌*◌, length, refl, arith}
+use Rattle.std.proofs.Common.{refl, arith}
 use Rattle.bk_steps.proofs.Placed.{slot_by_word, word_inside}
 use Rattle.bk_steps.proofs.settling.slot_of.Goals as goal
 

@@ -1,4 +1,4 @@
-use Rattle.std.proofs.Common.{◌≡◌, ◌^◌, ◌<◌, length, sym, ap, subst, ◌∙◌, arith}
+use Rattle.std.proofs.Common.{◌^◌, ◌<◌, length, sym, ap, subst, ◌∙◌, arith}
 use Rattle.bk_frames.specs.Genesis.{total_of}
 use Rattle.bk_rules.specs.Ledger.{Ledger, ledger_of, rows_shown}
 use Rattle.bk_rules.proofs.Words.{slots_set, shows_set}
