@@ -1,0 +1,271 @@
+//! Drawn feeds in several orders and in pieces, against the plain reading.
+
+use crate::chance::Chance;
+use crate::drawn::{Style, drawn_rows};
+use crate::frames::{Frame, drawn_held, frames_of};
+use crate::members::Members;
+use crate::plain::{Expected, read_plainly, skipped};
+use crate::row::{Row, digest, payload};
+use crate::taking::{Way, discard, numbers, rejects, take_all};
+use crate::tally::Tally;
+use anyhow::Result;
+use bk_commit::committed;
+use bk_flatten::whole_order;
+use bk_frames::Version;
+use bk_order::Intake;
+use bk_rounds::Rounds;
+use std::alloc::Global;
+use std::thread::Threads;
+
+// In which order frames come, and how many are taken at once.
+const WAYS: [(Way, usize); 4] = [
+    (Way::AsDrawn, 1_000_000),
+    (Way::Reversed, 7),
+    (Way::Shuffled, 1),
+    (Way::Shuffled, 64),
+];
+
+// How much the feeds of some members have shown.
+#[derive(Clone, Copy)]
+struct Shown {
+    ordered: u64,
+    waiting: u64,
+    missing: u64,
+    skipped: u64,
+}
+
+impl Shown {
+    fn add(&mut self, members: Members<'_>, rows: &[Row], expected: &Expected) {
+        let missing = u64::from(expected.missing.is_some());
+        self.ordered = self.ordered.saturating_add(expected.order.len() as u64);
+        self.waiting = self.waiting.saturating_add(expected.waiting.len() as u64);
+        self.missing = self.missing.saturating_add(missing);
+        self.skipped = self
+            .skipped
+            .saturating_add(skipped(members, rows, expected));
+    }
+}
+
+// ---- what an Intake has found
+
+fn has_batches(intake: &Intake, expected: &Expected) -> bool {
+    if intake.failed() || intake.batches() != expected.batches.len() {
+        return false;
+    }
+    for place in 0..intake.batches() {
+        let Some(batch) = expected.batches.get(place) else {
+            return false;
+        };
+        if intake.payload(place) != payload(*batch).as_slice() {
+            return false;
+        }
+    }
+    intake.missing().copied() == expected.missing.map(digest)
+}
+
+fn has_places(intake: &Intake, expected: &Expected) -> Result<bool> {
+    let waiting = intake.waiting()?;
+    Ok(
+        waiting.as_slice() == expected.waiting.as_slice()
+            && intake.anchors() == expected.anchors.as_slice()
+            && intake.order() == expected.order.as_slice(),
+    )
+}
+
+// Whether the same comes of the table at once.
+fn has_at_once(alloc: Global, rounds: &Rounds, expected: &Expected) -> Result<bool> {
+    let anchors = committed(alloc, rounds)?;
+    let order = whole_order(alloc, rounds)?;
+    Ok(
+        anchors.as_slice() == expected.anchors.as_slice()
+            && order.order() == expected.order.as_slice(),
+    )
+}
+
+fn is_as_expected(alloc: Global, intake: &Intake, expected: &Expected) -> Result<bool> {
+    Ok(
+        intake.stop().is_none()
+            && has_batches(intake, expected)
+            && has_places(intake, expected)?
+            && has_at_once(alloc, intake.rounds(), expected)?,
+    )
+}
+
+// ---- feeds
+
+fn takes<R: Threads + Sync>(
+    rt: &R,
+    alloc: Global,
+    intake: &mut Intake,
+    frames: &[Frame],
+    expected: &Expected,
+    taken: &[usize],
+    size: usize,
+) -> Result<bool> {
+    take_all(rt, alloc, intake, frames, taken, size)?;
+    Ok(rejects(intake, frames, taken) && is_as_expected(alloc, intake, expected)?)
+}
+
+fn is_taken<R: Threads + Sync>(
+    rt: &R,
+    alloc: Global,
+    members: Members<'_>,
+    frames: &[Frame],
+    expected: &Expected,
+    taken: &[usize],
+    size: usize,
+) -> Result<bool> {
+    let mut intake = Intake::new(alloc, members.committee(alloc)?)?;
+    let found = takes(rt, alloc, &mut intake, frames, expected, taken, size);
+    discard(intake);
+    found
+}
+
+fn try_ways<R>(
+    rt: &R,
+    chance: &mut Chance,
+    members: Members<'_>,
+    frames: &[Frame],
+    expected: &Expected,
+    tally: &mut Tally,
+) -> Result<()>
+where
+    R: AllocGlobal + Eprint + Threads + Sync,
+{
+    let alloc: Global = rt.alloc();
+    for (way, size) in WAYS {
+        let taken = numbers(alloc, chance, way, frames.len())?;
+        let is_right = is_taken(rt, alloc, members, frames, expected, &taken, size)?;
+        tally.note(rt, "a drawn feed", is_right)?;
+    }
+    Ok(())
+}
+
+// The frames of a graph in each way.
+fn try_rows<R>(
+    rt: &R,
+    chance: &mut Chance,
+    members: Members<'_>,
+    rows: &[Row],
+    shown: &mut Shown,
+    tally: &mut Tally,
+) -> Result<()>
+where
+    R: AllocGlobal + Eprint + Threads + Sync,
+{
+    let alloc: Global = rt.alloc();
+    let held = drawn_held(alloc, chance)?;
+    let expected = read_plainly(alloc, members, rows, &held)?;
+    shown.add(members, rows, &expected);
+    let frames = frames_of(alloc, chance, members, rows, &held)?;
+    try_ways(rt, chance, members, &frames, &expected, tally)
+}
+
+// Some graphs of these members.
+fn try_graphs<R>(
+    rt: &R,
+    members: Members<'_>,
+    style: Style,
+    (last, graphs): (u32, u64),
+    shown: &mut Shown,
+    tally: &mut Tally,
+) -> Result<()>
+where
+    R: AllocGlobal + Eprint + Threads + Sync,
+{
+    let mut chance = Chance::new(u64::from(last).wrapping_add(graphs));
+    for _ in 0..graphs {
+        let rows = drawn_rows(rt.alloc(), &mut chance, members, style, last)?;
+        try_rows(rt, &mut chance, members, &rows, shown, tally)?;
+    }
+    Ok(())
+}
+
+// ---- committees
+
+fn weighted(weights: &[u32]) -> Members<'_> {
+    Members {
+        version: Version::Two,
+        weights,
+    }
+}
+
+fn heads(weights: &[u32]) -> Members<'_> {
+    Members {
+        version: Version::One,
+        weights,
+    }
+}
+
+// Four and seven members.
+fn try_small<R>(rt: &R, style: Style, shown: &mut Shown, tally: &mut Tally) -> Result<()>
+where
+    R: AllocGlobal + Eprint + Threads + Sync,
+{
+    try_graphs(rt, heads(&[1; 4]), style, (9, 25), shown, tally)?;
+    try_graphs(rt, heads(&[1; 7]), style, (9, 12), shown, tally)?;
+    for weights in [[1, 1, 1, 1], [5, 1, 1, 1], [4, 1, 1, 1], [1, 2, 3, 4]] {
+        try_graphs(rt, weighted(&weights), style, (9, 20), shown, tally)?;
+    }
+    let seven = weighted(&[3, 1, 4, 1, 5, 9, 2]);
+    try_graphs(rt, seven, style, (9, 12), shown, tally)
+}
+
+// Seven of 128 members weigh 1,000 each. The first 20 lead in turn.
+fn try_heavy<R>(rt: &R, shown: &mut Shown, tally: &mut Tally) -> Result<()>
+where
+    R: AllocGlobal + Eprint + Threads + Sync,
+{
+    let mut weights = [1u32; 128];
+    for member in [0usize, 31, 63, 64, 65, 100, 127] {
+        if let Some(weight) = weights.get_mut(member) {
+            *weight = 1_000;
+        }
+    }
+    try_graphs(rt, weighted(&weights), Style::Few, (40, 1), shown, tally)
+}
+
+// 64, 65 and 128 members.
+fn try_large<R>(rt: &R, shown: &mut Shown, tally: &mut Tally) -> Result<()>
+where
+    R: AllocGlobal + Eprint + Threads + Sync,
+{
+    try_graphs(rt, heads(&[1; 64]), Style::Tight, (5, 1), shown, tally)?;
+    try_graphs(rt, heads(&[1; 65]), Style::Tight, (5, 1), shown, tally)?;
+    try_graphs(rt, heads(&[1; 128]), Style::Tight, (5, 1), shown, tally)?;
+    try_graphs(rt, weighted(&[1; 128]), Style::Tight, (5, 1), shown, tally)?;
+    try_heavy(rt, shown, tally)
+}
+
+// Some certificates have to be ordered and some have to wait, a batch has to be missing, and an anchor has to be skipped.
+fn note_shown<R>(rt: &R, shown: Shown, tally: &mut Tally) -> Result<()>
+where
+    R: Eprint,
+{
+    tally.note(rt, "feeds that order little", shown.ordered > 500)?;
+    tally.note(rt, "feeds in which little waits", shown.waiting > 50)?;
+    tally.note(rt, "feeds in which little is missing", shown.missing > 10)?;
+    tally.note(
+        rt,
+        "feeds in which few anchors are skipped",
+        shown.skipped > 10,
+    )
+}
+
+/// Drawn feeds of small and of large committees, by heads and by weights.
+pub(crate) fn try_feeds<R>(rt: &R, tally: &mut Tally) -> Result<()>
+where
+    R: AllocGlobal + Eprint + Threads + Sync,
+{
+    let mut shown = Shown {
+        ordered: 0,
+        waiting: 0,
+        missing: 0,
+        skipped: 0,
+    };
+    for style in [Style::Most, Style::Tight, Style::Any] {
+        try_small(rt, style, &mut shown, tally)?;
+    }
+    try_large(rt, &mut shown, tally)?;
+    note_shown(rt, shown, tally)
+}

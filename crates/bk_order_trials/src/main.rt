@@ -1,0 +1,52 @@
+//! Orders drawn and chosen certificates, and compares what the order wing makes of them with a plain second reading of
+//! the rules, or with what was worked out by hand.
+//!
+//! It names on standard error what failed. The last line is `N passed, M failed`.
+#![tactic(auto)]
+
+mod boundaries;
+mod certs;
+mod chance;
+mod checks;
+mod drawn;
+mod feeds;
+mod frames;
+mod members;
+mod plain;
+mod row;
+mod set;
+mod taking;
+mod tally;
+mod twins;
+mod votes;
+
+use crate::boundaries::try_boundaries;
+use crate::checks::try_checks;
+use crate::feeds::try_feeds;
+use crate::tally::Tally;
+use crate::twins::try_twins;
+use crate::votes::try_votes;
+use anyhow::{Result, bail};
+use std::thread::Threads;
+
+fn run_all<R>(rt: &R) -> Result<Tally>
+where
+    R: AllocGlobal + Eprint + Threads + Sync,
+{
+    let mut tally = Tally::new();
+    try_checks(rt, &mut tally)?;
+    try_boundaries(rt, &mut tally)?;
+    try_feeds(rt, &mut tally)?;
+    try_votes(rt, &mut tally)?;
+    try_twins(rt, &mut tally)?;
+    Ok(tally)
+}
+
+fn main(rt: HostRuntime) -> Result<()> {
+    let tally = run_all(&rt)?;
+    println!(rt; "{} passed, {} failed", tally.passed, tally.failed)?;
+    if tally.failed > 0 {
+        bail!("trials failed");
+    }
+    Ok(())
+}

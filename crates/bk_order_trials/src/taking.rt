@@ -1,0 +1,123 @@
+//! Frames that are taken in some order and in pieces.
+
+ghost use Rattle.std.specs.Prelude.{◌≡◌};
+
+use crate::chance::Chance;
+use crate::frames::{Frame, GOOD};
+use anyhow::{Result, bail};
+use bk_frames::Kind;
+use bk_order::Intake;
+use std::alloc::Global;
+use std::thread::Threads;
+
+// So few frames come that their numbers are far from the last one.
+const MOST: u64 = 1 << 32;
+
+// A few frames.
+type Piece = Vec<(Kind, Vec<u8>)>;
+
+/// In which order frames come.
+#[derive(Clone, Copy)]
+pub(crate) enum Way {
+    AsDrawn,
+    Reversed,
+    Shuffled,
+}
+
+/// The numbers below `count` in some order.
+pub(crate) fn numbers(
+    alloc: Global,
+    chance: &mut Chance,
+    way: Way,
+    count: usize,
+) -> Result<Vec<usize>> {
+    let mut numbers: Vec<usize> = Vec::new(alloc);
+    for number in 0..count {
+        numbers.push(number)?;
+    }
+    match way {
+        Way::AsDrawn => {}
+        Way::Reversed => numbers.reverse(),
+        Way::Shuffled => shuffle(chance, &mut numbers),
+    }
+    Ok(numbers)
+}
+
+fn shuffle(chance: &mut Chance, numbers: &mut [usize]) {
+    for index in 1..numbers.len() {
+        let other = chance.below(index as u64 + 1) as usize;
+        numbers.swap(index, other);
+    }
+}
+
+fn piece_of(alloc: Global, frames: &[Frame], part: &[usize]) -> Result<Piece> {
+    let mut piece = Vec::new(alloc);
+    for index in part {
+        if let Some(frame) = frames.get(*index) {
+            piece.push((frame.kind, Vec::from_slice(alloc, &frame.bytes)?))?;
+        }
+    }
+    Ok(piece)
+}
+
+// Takes these frames, and settles.
+fn take<R: Threads + Sync>(
+    rt: &R,
+    alloc: Global,
+    intake: &mut Intake,
+    frames: &[Frame],
+    taken: &[usize],
+) -> Result<()>
+    ensures { intake.new.committee ≡ intake.old.committee }
+{
+    let piece = piece_of(alloc, frames, taken)?;
+    if intake.next() > MOST || piece.len() as u64 > MOST {
+        bail!("too many frames");
+    }
+    intake.take(rt, piece)?;
+    intake.settle()?;
+    Ok(())
+}
+
+/// Lets an Intake go. It is a function of its own so that those that own one have no other way out.
+pub(crate) fn discard(_intake: Intake) {}
+
+/// Takes these frames in pieces of this size, and settles after each.
+pub(crate) fn take_all<R: Threads + Sync>(
+    rt: &R,
+    alloc: Global,
+    intake: &mut Intake,
+    frames: &[Frame],
+    taken: &[usize],
+    size: usize,
+) -> Result<()>
+    ensures { intake.new.committee ≡ intake.old.committee }
+{
+    for part in taken.chunks(size.max(1)) {
+        take(rt, alloc, intake, frames, part)?;
+    }
+    Ok(())
+}
+
+/// Whether just those of these frames are rejected that break a rule, each for its rule. The first is frame 2.
+pub(crate) fn rejects(intake: &Intake, frames: &[Frame], taken: &[usize]) -> bool {
+    let rejected = intake.rejected();
+    let mut count = 0usize;
+    let mut number = 2u64;
+    for index in taken {
+        let Some(frame) = frames.get(*index) else {
+            return false;
+        };
+        if frame.rule != GOOD {
+            let Some(found) = rejected.get(count) else {
+                return false;
+            };
+            if found.frame != number || found.rule as u8 != frame.rule {
+                return false;
+            }
+            count = count.saturating_add(1);
+        }
+        number = number.saturating_add(1);
+    }
+    rejected.len() == count && intake.next() == number
+}
