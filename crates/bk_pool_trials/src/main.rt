@@ -11,16 +11,20 @@ mod drawn;
 mod executing;
 mod hostile;
 mod lists;
+mod lost;
 mod making;
 mod meeting;
 mod plans;
+mod schedules;
 mod slices;
 mod tally;
 
 use crate::hostile::try_hints;
 use crate::lists::try_all_lists;
+use crate::lost::try_lost;
 use crate::meeting::try_meetings;
 use crate::plans::try_plans;
+use crate::schedules::try_schedules;
 use crate::slices::try_all_slices;
 use crate::tally::Tally;
 use anyhow::{Result, bail};
@@ -37,6 +41,8 @@ where
     try_hints(rt, &mut tally)?;
     try_meetings(rt, &mut tally)?;
     try_all_slices(rt, &mut tally)?;
+    try_lost(rt, &mut tally)?;
+    try_schedules(rt, &mut tally)?;
     Ok(tally)
 }
 

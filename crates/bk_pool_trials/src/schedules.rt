@@ -1,0 +1,210 @@
+//! Lists of events of two payments in conflict, against what was worked out by hand.
+
+ghost use Rattle.std.specs.Prelude.{IfOk};
+ghost use Rattle.bk_conflicts.specs.SceneOf.{CanRunOn};
+
+use crate::cases::{Case, Name, case_of};
+use crate::executing::gives;
+use crate::making::feed_with;
+use crate::tally::Tally;
+use anyhow::{Result, bail};
+use bk_conflicts::Plan;
+use bk_frames::{Feed, Version};
+use bk_ledger::Batches;
+use bk_rules::State;
+use bk_steps::{Event, Outcome, Refused, ScheduleFault, run_schedule};
+use std::alloc::Global;
+
+const MOST: usize = 1 << 31;
+
+// How many events do both places, and how many of them the first one.
+const BOTH: usize = 22;
+
+const FIRST: usize = 12;
+
+// The plan of the transactions of a feed, and the opening accounts.
+fn planned(alloc: Global, feed: &Feed) -> Result<(Plan, State)>
+    ensures { IfOk result (λ r. CanRunOn r.0 r.1) }
+{
+    let Batches { txs, .. } = Batches::of(alloc, feed)?;
+    let mut state = State::new(alloc, feed.version(), feed.genesis())?;
+    state.prepare(alloc, &txs)?;
+    if txs.len() >= MOST || state.ids().len() >= MOST {
+        bail!("too many");
+    }
+    let plan = Plan::make_near(alloc, state.version(), state.ids(), txs, &[])?;
+    Ok((plan, state))
+}
+
+// What two workers come to by these events.
+fn scheduled(
+    alloc: Global,
+    feed: &Feed,
+    events: &[Event],
+) -> Result<Result<Outcome, ScheduleFault>> {
+    let (plan, state) = planned(alloc, feed)?;
+    Ok(run_schedule(alloc, plan, state, 2, events))
+}
+
+fn has_fault(alloc: Global, feed: &Feed, events: &[Event], wanted: ScheduleFault) -> Result<bool> {
+    let found = scheduled(alloc, feed, events)?;
+    Ok(found.err() == Some(wanted))
+}
+
+// Whether they come to what the transactions give one at a time.
+fn is_whole(alloc: Global, case: &Case, feed: &Feed, events: &[Event]) -> Result<bool> {
+    match scheduled(alloc, feed, events)? {
+        Ok(outcome) => gives(alloc, &outcome, &case.receipts, &case.accounts),
+        Err(_) => Ok(false),
+    }
+}
+
+// ---- lists
+
+// A worker does a place that has these words, of which it may write those.
+fn push_place(
+    events: &mut Vec<Event>,
+    worker: u64,
+    place: u64,
+    words: &[u64],
+    writable: &[u64],
+) -> Result<()> {
+    events.push(Event::Claim { worker, place })?;
+    for word in words {
+        events.push(Event::Read {
+            worker,
+            word: *word,
+        })?;
+    }
+    for word in writable {
+        events.push(Event::Write {
+            worker,
+            word: *word,
+        })?;
+    }
+    events.push(Event::Finish { worker })?;
+    Ok(())
+}
+
+// Both places, the first by one worker and the second by another.
+fn whole(alloc: Global, first: u64, second: u64) -> Result<Vec<Event>> {
+    let mut events = Vec::new(alloc);
+    push_place(&mut events, first, 0, &[0, 1, 2, 3, 4, 5], &[0, 1, 4, 5])?;
+    push_place(&mut events, second, 1, &[0, 1, 2, 3], &[0, 1, 2, 3])?;
+    Ok(events)
+}
+
+// ---- trials
+
+fn try_whole<R>(rt: &R, case: &Case, feed: &Feed, tally: &mut Tally) -> Result<()>
+where
+    R: AllocGlobal + Eprint,
+{
+    for (first, second) in [(0, 0), (0, 1), (1, 0), (1, 1)] {
+        let events = whole(rt.alloc(), first, second)?;
+        let is_right = is_whole(rt.alloc(), case, feed, &events)?;
+        tally.note(rt, "a whole list of events", is_right)?;
+    }
+    Ok(())
+}
+
+// A list that ends too early leaves a place undone.
+fn try_beginnings<R>(rt: &R, feed: &Feed, tally: &mut Tally) -> Result<()>
+where
+    R: AllocGlobal + Eprint,
+{
+    let alloc: Global = rt.alloc();
+    let events = whole(alloc, 0, 1)?;
+    for count in 0..BOTH {
+        let place = if count < FIRST { 0 } else { 1 };
+        let begun = events.get(..count).unwrap_or(&[]);
+        let wanted = ScheduleFault::Unfinished(place);
+        let is_right = has_fault(alloc, feed, begun, wanted)?;
+        tally.note(rt, "a list that ends too early", is_right)?;
+    }
+    Ok(())
+}
+
+// The list of one worker with one event more at an index, and why that is refused.
+type Refusal = (usize, Event, Refused);
+
+fn is_refused(alloc: Global, feed: &Feed, refusal: Refusal) -> Result<bool> {
+    let (index, event, code) = refusal;
+    let events = whole(alloc, 0, 0)?;
+    let mut changed = Vec::from_slice(alloc, events.get(..index).unwrap_or(&[]))?;
+    changed.push(event)?;
+    changed.extend_from_slice(events.get(index..).unwrap_or(&[]))?;
+    has_fault(
+        alloc,
+        feed,
+        &changed,
+        ScheduleFault::Refused { index, code },
+    )
+}
+
+fn claim(worker: u64, place: u64) -> Event {
+    Event::Claim { worker, place }
+}
+
+fn write(word: u64) -> Event {
+    Event::Write { worker: 0, word }
+}
+
+fn read(word: u64) -> Event {
+    Event::Read { worker: 0, word }
+}
+
+// Of the first place, words 0 to 5 are read by events 1 to 6, and four of them are written by 7 to 10.
+fn try_refused<R>(rt: &R, feed: &Feed, tally: &mut Tally) -> Result<()>
+where
+    R: AllocGlobal + Eprint,
+{
+    let finish = Event::Finish { worker: 0 };
+    let refusals: [Refusal; 17] = [
+        (0, finish, Refused::NotHolder),
+        (0, read(0), Refused::NotHolder),
+        (0, claim(2, 0), Refused::NotIdle),
+        (0, claim(0, 7), Refused::NotReady),
+        (0, claim(0, 1), Refused::NotReady),
+        (1, claim(0, 1), Refused::NotIdle),
+        (1, claim(1, 1), Refused::NotReady),
+        (1, read(99), Refused::NotDeclared),
+        (1, write(0), Refused::OutOfTurn),
+        (1, write(2), Refused::NotDeclared),
+        (1, finish, Refused::OutOfTurn),
+        (7, write(2), Refused::NotDeclared),
+        (8, read(1), Refused::OutOfTurn),
+        (8, write(0), Refused::OutOfTurn),
+        (8, finish, Refused::OutOfTurn),
+        (11, claim(1, 1), Refused::NotReady),
+        (BOTH, claim(0, 0), Refused::NotReady),
+    ];
+    for refusal in refusals {
+        let is_right = is_refused(rt.alloc(), feed, refusal)?;
+        tally.note(rt, "an event that is refused", is_right)?;
+    }
+    Ok(())
+}
+
+fn try_version<R>(rt: &R, version: Version, tally: &mut Tally) -> Result<()>
+where
+    R: AllocGlobal + Eprint,
+{
+    let alloc: Global = rt.alloc();
+    let case = case_of(alloc, version, Name::GuardThenPayment)?;
+    let feed = feed_with(alloc, version, &case.opening, &case.txs)?;
+    try_whole(rt, &case, &feed, tally)?;
+    try_beginnings(rt, &feed, tally)?;
+    try_refused(rt, &feed, tally)
+}
+
+/// Lists of events of two workers, in both versions.
+pub(crate) fn try_schedules<R>(rt: &R, tally: &mut Tally) -> Result<()>
+where
+    R: AllocGlobal + Eprint,
+{
+    for version in [Version::One, Version::Two] {
+        try_version(rt, version, tally)?;
+    }
+    Ok(())
+}
