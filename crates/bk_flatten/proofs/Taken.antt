@@ -27,7 +27,7 @@ use Rattle.bk_flatten.proofs.Growth.{finds, stands_there, place_is}
 
 -- ---- digests, each once
 
-any_filter : (x d : List ℕ) (ys : List (List ℕ)) → bytes_eq d x ≡ false → list_any (bytes_eq d) (filter (λ (e : List ℕ). not (bytes_eq x e)) ys) ≡ list_any (bytes_eq d) ys
+pub any_filter : (x d : List ℕ) (ys : List (List ℕ)) → bytes_eq d x ≡ false → list_any (bytes_eq d) (filter (λ (e : List ℕ). not (bytes_eq x e)) ys) ≡ list_any (bytes_eq d) ys
 any_filter x d [] e = refl
 any_filter x d (y ∷ ys) e = by_test (bytes_eq x y) refl (any_filter x d ys e)
   where
@@ -56,7 +56,7 @@ cond_cons x true us vs = refl
 cond_cons x false us vs = refl
 
 -- one digest more
-once_push : (xs : List (List ℕ)) (d : List ℕ) → once (xs ++ d ∷ []) ≡ with_digest (once xs) d
+pub once_push : (xs : List (List ℕ)) (d : List ℕ) → once (xs ++ d ∷ []) ≡ with_digest (once xs) d
 once_push [] d = refl
 once_push (x ∷ xs) d = by_test (bytes_eq d x) refl (once_push xs d)
   where

@@ -52,7 +52,7 @@ pub record Listed : Type 0 where
   pub digests : List (List ℕ)
   pub found : List BatchRef
 
--- the list of these digests, of which the batches of the first are found
+-- the list of these digests, where the batches of the first are found
 abbrev pub listed_with : List (List ℕ) → List BatchRef → Listed
 listed_with digests found = record { digests = digests; found = found }
 

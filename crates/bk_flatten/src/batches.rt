@@ -60,7 +60,7 @@ impl BatchList {
         self.digests.as_slice().get(self.found.len())
     }
 
-    /// Goes on to the digests that the next part of the order names, each of which it takes once.
+    /// Goes on to the digests that the next part of the order names, and takes each of them once.
     ///
     /// An `Err` comes only where memory runs out, and leaves the list as it was.
     pub fn name(&mut self, rounds: &Rounds, part: &[CertRef]) -> Result<(), AllocError>

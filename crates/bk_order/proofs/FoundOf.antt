@@ -14,7 +14,8 @@ use Rattle.bk_committee.specs.Payload.{CommitteeValue}
 use Rattle.bk_certcheck.specs.declared.verdict.Verdict.{Verdict}
 use Rattle.bk_certcheck.specs.Verdicts.{IsVerdict}
 use Rattle.bk_order.specs.declared.finding.Found.{Found}
-use Rattle.bk_order.specs.private.Judging.{IsFound, CanTakeNext, TakesNext, IsPutting, certificate_in, batch_in, certificates_in, batches_in}
+use Rattle.bk_order.specs.Frames.{certificate_in, batch_in, certificates_in, batches_in}
+use Rattle.bk_order.specs.private.Judging.{IsFound, CanTakeNext, TakesNext, IsPutting}
 use Rattle.bk_order.proofs.Frames.{zip_push}
 
 -- one item more

@@ -1,5 +1,5 @@
 -- A good certificate that is held, and the table of rounds beside it.
-use Rattle.std.proofs.Common.{◌≡◌, ◌≢◌, ℕ, List, [], ◌∷◌, ◌++◌, refl, sym, ap, subst, ◌∙◌, ⊎_elim}
+use Rattle.std.proofs.Common.{◌≡◌, ◌≢◌, ℕ, Bool, true, false, List, [], ◌∷◌, ◌++◌, refl, sym, ap, subst, ◌∙◌, ⊎_elim}
 use Rattle.std.specs.List.{Contains}
 use Rattle.std.proofs.lemmas.List.Elements.{Contains-append_left, Contains-push, Contains-push_cases}
 use Rattle.bk_committee.specs.Payload.{CommitteeValue, IsCommittee, sizes_of}
@@ -16,6 +16,7 @@ use Rattle.bk_evidence.specs.Held.{IsOffer, held_after}
 use Rattle.bk_evidence.specs.declared.offer.Offer.{Offer}
 use Rattle.bk_evidence.specs.declared.offer.Offer.TheVariants as offer
 use Rattle.bk_order.specs.private.Joined.{IsJoined}
+use Rattle.bk_order.specs.private.Tallies.{IsNewBy}
 
 pub fit_here : (k : CommitteeValue) (z : Sizes) (bytes : List ℕ) (good shared : Node) → IsCommittee k → z ≡ sizes_of k → IsGood k bytes good → shared ≡ good → IsFit z shared
 fit_here k z bytes good shared committee e is_good same =
@@ -85,3 +86,22 @@ new_not_twin o p id q = let clash : offer.New ≡ offer.Twin id = sym p ∙ q in
 
 pub new_not_collision : (o : Offer) → o ≡ offer.New → o ≡ offer.Collision → ⊥
 new_not_collision o p q = let clash : offer.New ≡ offer.Collision = sym p ∙ q in absurd cc
+
+-- ---- what is new
+
+-- whether an offer says that the id is new
+abbrev pub is_fresh : Offer → Bool
+is_fresh offer.New = true
+is_fresh offer.Repeat = false
+is_fresh (offer.Twin id) = true
+is_fresh offer.Collision = false
+
+new_as_offered : (held : List Node) (c : Node) (o : Offer) → IsOffer held c o → IsNewBy (λ (d : Node). d.id) held c.id (is_fresh o)
+new_as_offered held c offer.New h = h.0
+new_as_offered held c offer.Repeat h = (c, h, refl)
+new_as_offered held c (offer.Twin id) h = h.0
+new_as_offered held c offer.Collision h = h.1
+
+pub id_is_new : (held : List Node) (cert good : Node) (o : Offer) (new : Bool) → cert ≡ good → IsOffer held cert o → is_fresh o ≡ new → IsNewBy (λ (d : Node). d.id) held good.id new
+id_is_new held cert good o new same answer e =
+    subst (λ (p : Node × Bool). IsNewBy (λ (d : Node). d.id) held p.0.id p.1) (λ j. (same j, e j)) (new_as_offered held cert o answer)

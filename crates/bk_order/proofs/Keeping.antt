@@ -20,9 +20,10 @@ use Rattle.bk_cert.proofs.Lists.{none_in_nil, contains_cases, contains_first}
 use Rattle.bk_order.specs.declared.reject.Reject.{Reject}
 use Rattle.bk_order.specs.Frames.{IsCertIn, AreCerts, batch_of, IsBatchIn, AreBatches, certs_by, rejects_by, IsRejectOf, AreRejects}
 use Rattle.bk_order.specs.Intake.{Kept, IsKeptOf, first_frame}
+use Rattle.bk_order.specs.Tally.{IsTallyOf}
 
 -- the only member of a list of one
-lone : {X : Type 0} (x y : X) → Contains (x ∷ []) y → x ≡ y
+pub lone : {X : Type 0} (x y : X) → Contains (x ∷ []) y → x ≡ y
 lone {X} x y h = ⊎_elim (λ (e : x ≡ y). e) (λ (later : Contains {X = X} [] y). absurd (none_in_nil y later)) (contains_cases x [] y h)
 
 pub certs_more : (k : CommitteeValue) (before : List Frame) (f : Frame) (certs extra new : List Node) → AreCerts k before certs
@@ -79,11 +80,11 @@ no_batches f other b s = absurd (other (ap (λ (x : Frame). x.kind) (lone f (fra
 pub same_nothing : {E : Type 0} (new old : List E) → new ≡ old → HaveSame new (old ++ [])
 same_nothing {E} new old e = subst (HaveSame new) (e ∙ sym (append-nil old)) (same_itself new)
 
-good_certs : (k : CommitteeValue) (p : List ℕ) (v : Verdict) → IsVerdict k p v → (c : Node) → Contains (certs_by v) c → IsGood k p c
+pub good_certs : (k : CommitteeValue) (p : List ℕ) (v : Verdict) → IsVerdict k p v → (c : Node) → Contains (certs_by v) c → IsGood k p c
 good_certs k p (verdict.Good d) h c t = subst (IsGood k p) (lone d c t) h
 good_certs k p (verdict.Broken r) h c t = absurd (none_in_nil c t)
 
-certs_good : (k : CommitteeValue) (p : List ℕ) (v : Verdict) → IsVerdict k p v → (c : Node) → IsGood k p c → Contains (certs_by v) c
+pub certs_good : (k : CommitteeValue) (p : List ℕ) (v : Verdict) → IsVerdict k p v → (c : Node) → IsGood k p c → Contains (certs_by v) c
 certs_good k p (verdict.Good d) h c t =
     let e : verdict.Good d ≡ verdict.Good c = one_verdict k p (verdict.Good d) (verdict.Good c) h t in
     let same : d ≡ c = cc in
@@ -95,7 +96,7 @@ certs_good k p (verdict.Broken r) h c t =
 next_more : (before : List Frame) (f : Frame) (old new : ℕ) → old ≡ first_frame + length before → new ≡ old + 1 → new ≡ first_frame + length (before ++ f ∷ [])
 next_more before f old new e s = let l = length-append before (f ∷ []) in omega (arith, e, s, l)
 
-module _ (k : CommitteeValue) (before : List Frame) (f : Frame) (old new : Kept) (kept : IsKeptOf k before old) (next : new.next ≡ old.next + 1) where
+module _ (k : CommitteeValue) (before : List Frame) (f : Frame) (old new : Kept) (kept : IsKeptOf k before old) (next : new.next ≡ old.next + 1) (tally : IsTallyOf k (before ++ f ∷ []) new.tally) where
   pub kept_certificate : (v : Verdict) → f.kind ≡ kind.Certificate → IsVerdict k f.payload v → HaveSame new.certs (old.certs ++ certs_by v) → new.batches ≡ old.batches
       → new.rejected ≡ old.rejected ++ rejects_by old.next v → IsKeptOf k (before ++ f ∷ []) new
   kept_certificate v e h certs batches rejected = record {
@@ -108,6 +109,7 @@ module _ (k : CommitteeValue) (before : List Frame) (f : Frame) (old new : Kept)
         (no_batches f (λ q. let clash : kind.Certificate ≡ kind.Batch = sym e ∙ q in absurd cc)) (same_nothing new.batches old.batches batches);
     rejected = subst (AreRejects k first_frame (before ++ f ∷ [])) (sym rejected) (rejects_more k first_frame before f old.rejected (rejects_by old.next v) kept.rejected
         (subst (λ (x : Kind). IsRejectOf k (first_frame + length before) f.payload x (rejects_by old.next v)) (sym e) (v, h, ap (λ (n : ℕ). rejects_by n v) kept.next)));
+    tally = tally;
   }
 
   nothing_rejected : (f.kind ≡ kind.Certificate → ⊥) → new.rejected ≡ old.rejected → AreRejects k first_frame (before ++ f ∷ []) new.rejected
@@ -135,6 +137,7 @@ module _ (k : CommitteeValue) (before : List Frame) (f : Frame) (old new : Kept)
             subst (Contains (batch_with digest payload ∷ [])) (one ∙ ap batch_of q ∙ sym s.2) (contains_first (batch_with digest payload) []))
             batches;
         rejected = nothing_rejected (λ q. let clash : kind.Batch ≡ kind.Certificate = sym e ∙ q in absurd cc) rejected;
+        tally = tally;
       }
 
   pub kept_other : (f.kind ≡ kind.Certificate → ⊥) → (f.kind ≡ kind.Batch → ⊥) → new.certs ≡ old.certs → new.batches ≡ old.batches → new.rejected ≡ old.rejected
@@ -144,4 +147,5 @@ module _ (k : CommitteeValue) (before : List Frame) (f : Frame) (old new : Kept)
     certs = certs_more k before f old.certs [] new.certs kept.certs (λ c t. absurd (none_in_nil c t)) (no_certs k f not_cert) (same_nothing new.certs old.certs certs);
     batches = batches_more before f old.batches [] new.batches kept.batches (λ b t. absurd (none_in_nil b t)) (no_batches f not_batch) (same_nothing new.batches old.batches batches);
     rejected = nothing_rejected not_cert rejected;
+    tally = tally;
   }

@@ -11,3 +11,5 @@ pub mod Together
 pub mod FoundOf
 pub mod PartsOf
 pub mod Groups
+pub mod OnceMore
+pub mod Tallying

@@ -1,5 +1,5 @@
 -- The table with one more frame.
-use Rattle.std.proofs.Common.{◌≡◌, ℕ, ◌+◌, ◌<◌, ◌^◌, List, [], ◌∷◌, ◌++◌, length, refl, sym, ap, subst, ◌∙◌, arith, append_assoc}
+use Rattle.std.proofs.Common.{◌≡◌, ℕ, ◌+◌, ◌<◌, ◌^◌, Bool, true, false, List, [], ◌∷◌, ◌++◌, length, refl, sym, ap, subst, ◌∙◌, arith, append_assoc}
 use Rattle.std.specs.List.{AllZip}
 use Rattle.std.proofs.lemmas.List.{append-nil}
 use Rattle.bk_frames.specs.declared.kind.Kind.{Kind}
@@ -21,15 +21,22 @@ use Rattle.bk_order.specs.Frames.{certs_by, rejects_by}
 use Rattle.bk_order.specs.Intake.{IsKeptOf}
 use Rattle.bk_order.specs.private.Judging.{IsJudged, IsOther}
 use Rattle.bk_order.specs.private.Joined.{GoesOn, IsJoined, IsKeeping, kept_in}
+use Rattle.bk_order.specs.declared.tally.Tally.{Tally}
+use Rattle.bk_order.specs.private.Tallies.{CountsBatch, CountsVerdict, HasRoom, IsNewDigest}
 use Rattle.bk_order.proofs.Keeping.{kept_certificate, kept_batch, kept_other}
+use Rattle.bk_order.proofs.Tallying.{batch_tallied, other_tallied, tally_has_room, verdict_tallied}
 
 -- the frame is counted
 abbrev pub tick : Table → Table
-tick t = record { next = t.next + 1; held = t.held; batches = t.batches; rejected = t.rejected; rounds = t.rounds }
+tick t = record { next = t.next + 1; held = t.held; batches = t.batches; rejected = t.rejected; tally = t.tally; rounds = t.rounds }
 
--- with these batches
-abbrev pub with_batches : Table → List Batch → Table
-with_batches t bs = record { next = t.next; held = t.held; batches = bs; rejected = t.rejected; rounds = t.rounds }
+-- with these batches and this tally
+abbrev pub with_batches : Table → List Batch → Tally → Table
+with_batches t bs tally = record { next = t.next; held = t.held; batches = bs; rejected = t.rejected; tally = tally; rounds = t.rounds }
+
+-- the tally of what was kept has room for one frame more
+room_for : (k : CommitteeValue) (fs : List Frame) (old : Table) → IsKeptOf k fs (kept_in old) → old.next + 1 < 2 ^ 64 → HasRoom old.tally
+room_for k fs old h few = tally_has_room k fs old.tally h.tally (let n = h.next in omega (arith, n, few))
 
 pub record Keeps (k : CommitteeValue) (old mid : Table) (one : Judged) : Type 0 where
   pub joined : IsJoined k mid.held mid.rounds
@@ -39,23 +46,26 @@ pub record Keeps (k : CommitteeValue) (old mid : Table) (one : Judged) : Type 0 
 
 pub cert_keeps : (k : CommitteeValue) (old mid : Table) (one : Judged) (v : Verdict) → one ≡ judged.Certificate v → IsJoined k old.held old.rounds → IsJoined k mid.held mid.rounds
     → mid.next ≡ old.next → IsPartOf old.rounds.held mid.rounds.held → mid.batches ≡ old.batches → HaveSame mid.held (old.held ++ certs_by v)
-    → mid.rejected.items ≡ old.rejected.items ++ rejects_by old.next v → Keeps k old mid one
-cert_keeps k old mid one v e before after next rounds batches certs rejected = record {
+    → mid.rejected.items ≡ old.rejected.items ++ rejects_by old.next v → old.next + 1 < 2 ^ 64 → CountsVerdict old.held old.tally mid.tally v → Keeps k old mid one
+cert_keeps k old mid one v e before after next rounds batches certs rejected few counts = record {
   joined = after;
   goes_on = record { rounds = rounds; sizes = after.sizes ∙ sym before.sizes; batches = ([], batches ∙ sym (append-nil old.batches)) };
   next = ap (λ (n : ℕ). n + 1) next;
   kept = λ f fs j h. let is : IsJudged k f (judged.Certificate v) = subst (IsJudged k f) e j in
-      kept_certificate k fs f (kept_in old) (kept_in (tick mid)) h (ap (λ (n : ℕ). n + 1) next) v is.0 is.1 certs batches rejected;
+      kept_certificate k fs f (kept_in old) (kept_in (tick mid)) h (ap (λ (n : ℕ). n + 1) next)
+      (verdict_tallied k fs f old.tally h.tally old.held mid.tally v h.certs (room_for k fs old h few) is.0 is.1 counts) v is.0 is.1 certs batches rejected;
 }
 
-pub batch_keeps : (k : CommitteeValue) (old : Table) (bs : List Batch) (one : Judged) (b : Digested) → one ≡ judged.Batch b → IsJoined k old.held old.rounds
-    → HaveSame bs (old.batches ++ batch_with b.digest b.payload.items ∷ []) → Begins old.batches bs → Keeps k old (with_batches old bs) one
-batch_keeps k old bs one b e before same begins = record {
+pub batch_keeps : (k : CommitteeValue) (old : Table) (bs : List Batch) (tally : Tally) (one : Judged) (b : Digested) → one ≡ judged.Batch b → IsJoined k old.held old.rounds
+    → HaveSame bs (old.batches ++ batch_with b.digest b.payload.items ∷ []) → Begins old.batches bs → old.next + 1 < 2 ^ 64 → CountsBatch old.batches old.tally tally b.digest
+    → Keeps k old (with_batches old bs tally) one
+batch_keeps k old bs tally one b e before same begins few counts = record {
   joined = before;
   goes_on = record { rounds = λ c h. h; sizes = refl; batches = begins };
   next = refl;
   kept = λ f fs j h. let is : IsJudged k f (judged.Batch b) = subst (IsJudged k f) e j in
-      kept_batch k fs f (kept_in old) (kept_in (tick (with_batches old bs))) h refl b.digest b.payload.items is.0 is.1 is.2 refl same refl;
+      kept_batch k fs f (kept_in old) (kept_in (tick (with_batches old bs tally))) h refl
+      (batch_tallied k fs f old.tally h.tally old.batches tally b.digest h.batches (room_for k fs old h few) is.0 is.1 counts) b.digest b.payload.items is.0 is.1 is.2 refl same refl;
 }
 
 other_apart : (x : Kind) → IsOther x → (x ≡ kind.Certificate → ⊥) × (x ≡ kind.Batch → ⊥)
@@ -71,7 +81,7 @@ other_keeps k old one e before = record {
   next = refl;
   kept = λ f fs j h. let is : IsOther f.kind = subst (IsJudged k f) e j in
       let apart = other_apart f.kind is in
-      kept_other k fs f (kept_in old) (kept_in (tick old)) h refl apart.0 apart.1 refl refl refl;
+      kept_other k fs f (kept_in old) (kept_in (tick old)) h refl (other_tallied k fs f old.tally h.tally old.tally apart.0 apart.1 refl) apart.0 apart.1 refl refl refl;
 }
 
 -- ---- an offer of a batch
@@ -85,6 +95,16 @@ pub batch_begins : (old new : List Batch) (b : Batch) (o : BatchOffer) → new �
 batch_begins old new b offer.New e = (b ∷ [], e)
 batch_begins old new b offer.Repeat e = ([], e ∙ sym (append-nil old))
 batch_begins old new b offer.Collision e = (b ∷ [], e)
+
+abbrev pub is_fresh_batch : BatchOffer → Bool
+is_fresh_batch offer.New = true
+is_fresh_batch offer.Repeat = false
+is_fresh_batch offer.Collision = false
+
+pub batch_is_new : (old : List Batch) (b : Batch) (o : BatchOffer) → IsBatchOffer old b o → IsNewDigest old b.digest (is_fresh_batch o)
+batch_is_new old b offer.New h = h
+batch_is_new old b offer.Repeat h = (b, h, refl)
+batch_is_new old b offer.Collision h = h.1
 
 -- ---- all frames
 

@@ -1,6 +1,7 @@
 -- What frames hold: the certificates that break no rule, the batches, and what is rejected. Only
 -- what a list of them contains counts, not in which order or how often.
 use Rattle.std.specs.Prelude.{◌≡◌, ℕ, ◌+◌, List, [], ◌∷◌, ◌++◌, Contains}
+use Rattle.std.specs.List.{flat_map}
 use Rattle.sha2.specs.Sha256.{sha256}
 use Rattle.bk_frames.specs.declared.kind.Kind.{Kind}
 use Rattle.bk_frames.specs.declared.kind.Kind.TheVariants as kind
@@ -55,9 +56,33 @@ IsRejectOf k number payload kind.Certificate found =
     (v : Verdict) × IsVerdict k payload v × (found ≡ rejects_by number v)
 IsRejectOf k number payload kind.Batch found = found ≡ []
 
--- what is rejected of these frames, of which the first has this number, in their order
+-- what is rejected of these frames, in their order; the first has this number
 abbrev pub AreRejects : CommitteeValue → ℕ → List Frame → List Reject → Type 0
 AreRejects k number [] rejects = rejects ≡ []
 AreRejects k number (f ∷ more) rejects =
     (first : List Reject) × (later : List Reject) × IsRejectOf k number f.payload f.kind first
     × AreRejects k (number + 1) more later × (rejects ≡ first ++ later)
+
+-- ---- the payloads of a kind, in the order of the frames and as often as they come
+
+-- the payload of a frame of this kind, if it is a certificate
+abbrev pub certificate_in : Kind → List ℕ → List (List ℕ)
+certificate_in kind.Committee payload = []
+certificate_in kind.Genesis payload = []
+certificate_in kind.Certificate payload = payload ∷ []
+certificate_in kind.Batch payload = []
+
+-- the payload of a frame of this kind, if it is a batch
+abbrev pub batch_in : Kind → List ℕ → List (List ℕ)
+batch_in kind.Committee payload = []
+batch_in kind.Genesis payload = []
+batch_in kind.Certificate payload = []
+batch_in kind.Batch payload = payload ∷ []
+
+-- the payloads of the certificates of frames
+abbrev pub certificates_in : List Frame → List (List ℕ)
+certificates_in frames = flat_map (λ f. certificate_in f.kind f.payload) frames
+
+-- the payloads of the batches of frames
+abbrev pub batches_in : List Frame → List (List ℕ)
+batches_in frames = flat_map (λ f. batch_in f.kind f.payload) frames

@@ -7,17 +7,20 @@ use Rattle.bk_evidence.specs.Batches.{Batch}
 use Rattle.bk_order.specs.declared.reject.Reject.{Reject}
 use Rattle.bk_order.specs.Frames.{AreCerts, AreBatches, AreRejects}
 use Rattle.bk_order.specs.Orders.{Ordered, ordered_with}
+use Rattle.bk_order.specs.Tally.{IsTallyOf}
+use Rattle.bk_order.specs.declared.tally.Tally.{Tally}
 
 -- the number of the first frame that is taken: those of the committee and the genesis are 0 and 1
 abbrev pub first_frame : ℕ
 first_frame = 2
 
--- the number of the next frame, and what is held and rejected of those before
+-- the number of the next frame, and what is held, rejected and counted of those before
 pub record Kept : Type 0 where
   pub next : ℕ
   pub certs : List Node
   pub batches : List Batch
   pub rejected : List Reject
+  pub tally : Tally
 
 -- a committee, what is kept, the order as it was settled last, and whether memory ran out in a call
 pub record Taken : Type 0 where
@@ -32,6 +35,7 @@ pub record IsKeptOf (k : CommitteeValue) (frames : List Frame) (kept : Kept) : T
   pub certs : AreCerts k frames kept.certs
   pub batches : AreBatches frames kept.batches
   pub rejected : AreRejects k first_frame frames kept.rejected
+  pub tally : IsTallyOf k frames kept.tally
 
 -- these frames were taken
 abbrev pub HasTaken : List Frame → Taken → Type 0

@@ -1,4 +1,5 @@
 pub mod Frames
+pub mod Tally
 pub mod Stops
 pub mod Orders
 pub mod Intake

@@ -1,3 +1,4 @@
 pub mod Judging
 pub mod Joined
+pub mod Tallies
 pub mod Lesser

@@ -8,7 +8,8 @@ ghost use Rattle.sha2.specs.Sha256.{sha256};
 ghost use Rattle.bk_committee.specs.Payload.{CommitteeValue};
 ghost use Rattle.bk_frames.specs.Cutting.{frames_in};
 ghost use Rattle.bk_certcheck.specs.Verdicts.{IsVerdict};
-ghost use Rattle.bk_order.specs.private.Judging.{IsFound, CanTakeNext, TakesNext, certificate_in, batch_in, certificates_in, batches_in};
+ghost use Rattle.bk_order.specs.Frames.{certificate_in, batch_in, certificates_in, batches_in};
+ghost use Rattle.bk_order.specs.private.Judging.{IsFound, CanTakeNext, TakesNext};
 
 use bk_certcheck::{Verdict, check_each};
 use bk_committee::Committee;

@@ -15,6 +15,7 @@ use crate::settling::{Settled, settle, unsettled};
 use crate::stop::{Stop, stop_of, stop_of_both};
 use crate::table::{Table, empty_table};
 use crate::taking::take_all;
+use crate::tally::Tally;
 use bk_cert::CertRef;
 use bk_committee::Committee;
 use bk_digest::Digest32;
@@ -129,6 +130,13 @@ impl Intake {
         ensures { result.now ≡ self.now.kept.rejected }
     {
         self.table.rejected.as_slice()
+    }
+
+    /// How many there are of what the frames hold.
+    pub fn tally(&self) -> Tally
+        ensures { result ≡ self.now.kept.tally }
+    {
+        self.table.tally
     }
 
     /// The stop of the frames so far, if they have one.

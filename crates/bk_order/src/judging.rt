@@ -36,7 +36,7 @@ pub(crate) enum Judged {
     Certificate(Verdict),
     /// A batch.
     Batch(Digested),
-    /// A committee or a genesis, of which nothing is held.
+    /// A committee or a genesis. Nothing of it is held.
     Other,
 }
 
@@ -97,7 +97,7 @@ fn find_all(
     Ok(out)
 }
 
-// A frame of which this was found, with its payload.
+// A frame with its payload, as it was found to be.
 fn with_payload(found: Found, payload: Vec<u8>) -> Judged
     ensures { (k : CommitteeValue) (kind : Kind) → IsFound k (frame_of kind payload.items) found
         → IsJudged k (frame_of kind payload.items) result }

@@ -16,6 +16,7 @@ mod settling;
 mod stop;
 mod table;
 mod taking;
+mod tally;
 
 pub use intake::Intake;
 pub use laws::{
@@ -24,3 +25,4 @@ pub use laws::{
 };
 pub use reject::Reject;
 pub use stop::Stop;
+pub use tally::Tally;

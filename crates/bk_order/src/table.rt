@@ -12,14 +12,16 @@ ghost use Rattle.bk_evidence.specs.Batches.{batch_with};
 ghost use Rattle.bk_order.specs.Frames.{certs_by, rejects_by};
 ghost use Rattle.bk_order.specs.Intake.{IsKeptOf, first_frame};
 ghost use Rattle.bk_order.specs.private.Judging.{IsJudged};
+ghost use Rattle.bk_order.specs.private.Tallies.{CountsVerdict, IsNewDigest, IsNewId};
 ghost use Rattle.bk_order.specs.private.Joined.{CanKeep, GoesOn, HasKept, IsJoined, kept_in};
 
 use crate::judging::{Digested, Judged};
 use crate::reject::Reject;
+use crate::tally::Tally;
 use bk_cert::SharedCert;
 use bk_certcheck::{Checked, Verdict};
 use bk_committee::Committee;
-use bk_evidence::{Batches, Held, Offer};
+use bk_evidence::{BatchOffer, Batches, Held, Offer};
 use bk_rounds::Rounds;
 use std::alloc::{AllocError, Global};
 
@@ -30,6 +32,7 @@ pub(crate) struct Table {
     pub held: Held,
     pub batches: Batches,
     pub rejected: Vec<Reject>,
+    pub tally: Tally,
     pub rounds: Rounds,
 }
 
@@ -44,20 +47,22 @@ pub(crate) fn empty_table(alloc: Global, committee: &Committee) -> Result<Table,
         held: Held::new(alloc),
         batches: Batches::new(alloc),
         rejected: Vec::new(alloc),
+        tally: Tally::none(),
         rounds,
     })
 }
 
-// Holds a good certificate, and adds it to its round where its id and its place are new.
+// Holds a good certificate, and adds it to its round where its id and its place are new. Returns whether its id is new.
 fn hold(
     alloc: Global,
     committee: &Committee,
     held: &mut Held,
     rounds: &mut Rounds,
     good: Checked,
-) -> Result<(), AllocError>
+) -> Result<bool, AllocError>
     requires joined { IsJoined committee.now held.old rounds.old }
     requires good { (bytes : List ℕ) × IsGood committee.now bytes good }
+    ensures new { IfOk result (IsNewId held.old good.id) }
     ensures joined { OnOk result (IsJoined committee.now held.new rounds.new) }
     ensures held { OnOk result (HaveSame held.new (held.old ++ good ∷ [])) }
     ensures rounds { OnOk result (IsPartOf rounds.old.held rounds.new.held) }
@@ -70,10 +75,11 @@ fn hold(
     match held.offer(cert)? {
         Offer::New => {
             rounds.add(shared)?;
+            Ok(true)
         }
-        Offer::Repeat | Offer::Twin(_) | Offer::Collision => {}
+        Offer::Twin(_) => Ok(true),
+        Offer::Repeat | Offer::Collision => Ok(false),
     }
-    Ok(())
 }
 
 // Keeps the verdict on a certificate, which the frame with this number holds.
@@ -92,29 +98,36 @@ fn keep_verdict(
     ensures certs { OnOk result (HaveSame table.new.held (table.old.held ++ certs_by verdict)) }
     ensures rejected { OnOk result (table.new.rejected.items
         ≡ table.old.rejected.items ++ rejects_by table.old.next verdict) }
+    ensures tally { OnOk result
+        (CountsVerdict table.old.held table.old.tally table.new.tally verdict) }
 {
     match verdict {
         Verdict::Good(good) => {
-            hold(alloc, committee, &mut table.held, &mut table.rounds, good)?;
+            let new = hold(alloc, committee, &mut table.held, &mut table.rounds, good)?;
+            table.tally = table.tally.with_good(new);
         }
         Verdict::Broken(rule) => {
             table.rejected.push(Reject {
                 frame: table.next,
                 rule,
             })?;
+            table.tally = table.tally.with_broken();
         }
     }
     Ok(())
 }
 
-// Keeps a batch.
-fn keep_batch(batches: &mut Batches, one: Digested) -> Result<(), AllocError>
+// Keeps a batch. Returns whether its digest is new.
+fn keep_batch(batches: &mut Batches, one: Digested) -> Result<bool, AllocError>
+    ensures new { IfOk result (IsNewDigest batches.old one.digest) }
     ensures same { OnOk result (HaveSame batches.new
         (batches.old ++ batch_with one.digest one.payload.items ∷ [])) }
     ensures begins { OnOk result (Begins batches.old batches.new) }
 {
-    batches.offer(one.digest, one.payload)?;
-    Ok(())
+    match batches.offer(one.digest, one.payload)? {
+        BatchOffer::New => Ok(true),
+        BatchOffer::Repeat | BatchOffer::Collision => Ok(false),
+    }
 }
 
 // Keeps what a frame is found to be.
@@ -136,7 +149,10 @@ fn keep(
 {
     match one {
         Judged::Certificate(verdict) => keep_verdict(alloc, committee, table, verdict)?,
-        Judged::Batch(batch) => keep_batch(&mut table.batches, batch)?,
+        Judged::Batch(batch) => {
+            let new = keep_batch(&mut table.batches, batch)?;
+            table.tally = table.tally.with_batch(new);
+        }
         Judged::Other => {}
     }
     table.next += 1;

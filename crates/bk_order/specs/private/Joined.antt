@@ -33,6 +33,7 @@ kept_in t = record {
   certs = t.held;
   batches = t.batches;
   rejected = t.rejected.items;
+  tally = t.tally;
 }
 
 -- the one table goes on to the other
@@ -61,7 +62,7 @@ pub record IsSettled (z : Sizes) (held : List Node) (batches : List Batch) (s : 
 abbrev pub order_in : List Batch → Settled → Ordered
 order_in batches s = ordered_with s.walk s.flat (payloads_of batches s.list)
 
--- settling has gone as far as so many of the new anchors, which follow the old ones
+-- settling has gone as far as this many of the new anchors, which follow the old ones
 pub record IsSettling (z : Sizes) (held : List Node) (batches : List Batch) (old new : List CertRef)
     (count : ℕ) (s : Settled) : Type 0 where
   pub walk : s.walk ≡ old ++ new
@@ -70,7 +71,7 @@ pub record IsSettling (z : Sizes) (held : List Node) (batches : List Batch) (old
   pub named : s.list.digests ≡ digests_of held s.flat
   pub found : AreFound batches s.list.digests s.list.found
 
--- so many of the frames are kept that these are left
+-- the frames are kept but for these, which are left
 pub record IsKeeping (k : CommitteeValue) (start table : Table) (all left : List Judged) : Type 0 where
   pub joined : IsJoined k table.held table.rounds
   pub goes_on : GoesOn start table

@@ -1,6 +1,6 @@
 -- A frame as it is judged.
 use Rattle.std.specs.Prelude.{◌≡◌, ◌≢◌, ℕ, List, [], ◌∷◌, ◌++◌, length, map}
-use Rattle.std.specs.List.{AllZip, flat_map}
+use Rattle.std.specs.List.{AllZip}
 use Rattle.sha2.specs.Sha256.{sha256}
 use Rattle.bk_frames.specs.declared.kind.Kind.{Kind}
 use Rattle.bk_frames.specs.declared.kind.Kind.TheVariants as kind
@@ -8,6 +8,7 @@ use Rattle.bk_frames.specs.Feed.{Frame}
 use Rattle.bk_committee.specs.Payload.{CommitteeValue}
 use Rattle.bk_certcheck.specs.declared.verdict.Verdict.{Verdict}
 use Rattle.bk_certcheck.specs.Verdicts.{IsVerdict}
+use Rattle.bk_order.specs.Frames.{certificates_in, batches_in}
 use Rattle.bk_order.specs.declared.finding.Found.{Found}
 use Rattle.bk_order.specs.declared.finding.Found.TheVariants as found
 use Rattle.bk_order.specs.declared.judging.Judged.{Judged}
@@ -33,34 +34,12 @@ IsJudged k f (judged.Batch one) =
     (f.kind ≡ kind.Batch) × (one.digest ≡ sha256 f.payload) × (one.payload.items ≡ f.payload)
 IsJudged k f judged.Other = IsOther f.kind
 
--- of all frames these are left, of which this was found, and those before them were found to be this
+-- of all frames these are left, with what was found of them; those before them were found to be this
 pub record IsJudging (k : CommitteeValue) (all frames : List Frame) (left : List Found) (out : List Judged) : Type 0 where
   pub done : List Frame
   pub split : all ≡ done ++ frames
   pub is_found : AllZip (IsFound k) frames left
   pub judged : AllZip (IsJudged k) done out
-
--- the payload of a frame of this kind, if it is a certificate
-abbrev pub certificate_in : Kind → List ℕ → List (List ℕ)
-certificate_in kind.Committee payload = []
-certificate_in kind.Genesis payload = []
-certificate_in kind.Certificate payload = payload ∷ []
-certificate_in kind.Batch payload = []
-
--- the payload of a frame of this kind, if it is a batch
-abbrev pub batch_in : Kind → List ℕ → List (List ℕ)
-batch_in kind.Committee payload = []
-batch_in kind.Genesis payload = []
-batch_in kind.Certificate payload = []
-batch_in kind.Batch payload = payload ∷ []
-
--- the payloads of the certificates of frames
-abbrev pub certificates_in : List Frame → List (List ℕ)
-certificates_in frames = flat_map (λ f. certificate_in f.kind f.payload) frames
-
--- the payloads of the batches of frames
-abbrev pub batches_in : List Frame → List (List ℕ)
-batches_in frames = flat_map (λ f. batch_in f.kind f.payload) frames
 
 -- for a frame of this kind a verdict or a digest is left, where it needs one
 abbrev pub CanTakeNext : Kind → List Verdict → List (List ℕ) → Type 0

@@ -2,7 +2,7 @@ use Rattle.std.proofs.Common.{sym}
 use Rattle.rayon.proofs.ListFacts.{IfOk-then}
 use Rattle.bk_frames.specs.Cutting.{frames_in}
 use Rattle.bk_certcheck.specs.Verdicts.{IsVerdict}
-use Rattle.bk_order.specs.private.Judging.{certificates_in, batches_in}
+use Rattle.bk_order.specs.Frames.{certificates_in, batches_in}
 use Rattle.bk_order.proofs.Frames.{zip_length}
 use Rattle.bk_order.proofs.FoundOf.{part_verdicts, part_digests}
 use Rattle.bk_order.proofs.finding.find_part.Goals as goal

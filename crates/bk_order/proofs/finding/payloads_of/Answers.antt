@@ -1,6 +1,6 @@
 use Rattle.std.proofs.Common.{◌∙◌}
 use Rattle.bk_order.proofs.FoundOf.{certificates_flat, batches_flat, flat_whole}
-use Rattle.bk_order.specs.private.Judging.{certificate_in, batch_in}
+use Rattle.bk_order.specs.Frames.{certificate_in, batch_in}
 use Rattle.bk_order.proofs.finding.payloads_of.Goals as goal
 
 pub returns-clause-certificates : goal.returns-clause-certificates

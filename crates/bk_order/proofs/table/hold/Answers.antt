@@ -1,7 +1,7 @@
-use Rattle.std.proofs.Common.{◌≡◌, ◌∙◌, ⊎_elim}
+use Rattle.std.proofs.Common.{◌≡◌, ◌∙◌, ⊎_elim, ap, true, false}
 use Rattle.bk_cert.specs.Node.{node_with}
 use Rattle.bk_evidence.proofs.Members.{same_offered}
-use Rattle.bk_order.proofs.Holding.{fit_here, new_id, free_place, joined_new, grown_new, joined_other, new_not_repeat, new_not_twin, new_not_collision}
+use Rattle.bk_order.proofs.Holding.{fit_here, new_id, free_place, id_is_new, is_fresh, joined_new, grown_new, joined_other, new_not_repeat, new_not_twin, new_not_collision}
 use Rattle.bk_order.proofs.table.hold.Goals as goal
 
 pub add-requires-clause-good : goal.add-requires-clause-good
@@ -26,12 +26,32 @@ returns-in_ok-add-in-New-clause-held c = same_offered c.args.held.now c.offer.ne
 pub returns-in_ok-add-in-New-clause-rounds : goal.returns-in_ok-add-in-New-clause-rounds
 returns-in_ok-add-in-New-clause-rounds c = grown_new c.args.committee.now c.args.held.now c.args.rounds.now c.requires.joined c.in_ok-cert.cert c.in_ok-shared.shared c.in_ok-shared.ensures c.add.new.self c.in_ok-add-in-New.ensures.ok
 
-pub returns-in-Repeat : goal.returns-in-Repeat
-returns-in-Repeat c = record {
-  joined = joined_other c.args.committee.now c.args.held.now c.args.rounds.now c.requires.joined c.in_ok-cert.cert c.in_ok-shared.shared c.in_ok-shared.ensures c.in_ok-offer.field-0 c.offer.new.self
-      (λ p. ⊎_elim (λ q. new_not_repeat c.in_ok-offer.field-0 p q) (λ more. ⊎_elim (λ t. new_not_twin c.in_ok-offer.field-0 p t.0 t.1) (λ q. new_not_collision c.in_ok-offer.field-0 p q) more) c.in-Repeat.is)
-      c.in_ok-offer.ensures.answer c.in_ok-offer.ensures.stored;
-  held = same_offered c.args.held.now c.offer.new.self c.args.good c.in_ok-cert.cert c.in_ok-offer.field-0
-      (c.in_ok-cert.ensures ∙ (λ i. node_with (c.id-id.ensures i) (c.into_header.ensures i))) c.in_ok-offer.ensures.answer c.in_ok-offer.ensures.stored;
-  rounds = λ x h. h;
-}
+pub returns-in_ok-add-in-New-clause-new : goal.returns-in_ok-add-in-New-clause-new
+returns-in_ok-add-in-New-clause-new c = id_is_new c.args.held.now c.in_ok-cert.cert c.args.good c.in_ok-offer.field-0 true
+    (c.in_ok-cert.ensures ∙ (λ i. node_with (c.id-id.ensures i) (c.into_header.ensures i))) c.in_ok-offer.ensures.answer (ap is_fresh c.in-New.is)
+
+pub returns-in-Twin-clause-new : goal.returns-in-Twin-clause-new
+returns-in-Twin-clause-new c = id_is_new c.args.held.now c.in_ok-cert.cert c.args.good c.in_ok-offer.field-0 true
+    (c.in_ok-cert.ensures ∙ (λ i. node_with (c.id-id.ensures i) (c.into_header.ensures i))) c.in_ok-offer.ensures.answer (ap is_fresh c.in-Twin.is)
+
+pub returns-in-Twin-clause-joined : goal.returns-in-Twin-clause-joined
+returns-in-Twin-clause-joined c = joined_other c.args.committee.now c.args.held.now c.args.rounds.now c.requires.joined c.in_ok-cert.cert c.in_ok-shared.shared c.in_ok-shared.ensures c.in_ok-offer.field-0 c.offer.new.self
+    (λ p. new_not_twin c.in_ok-offer.field-0 p _ c.in-Twin.is) c.in_ok-offer.ensures.answer c.in_ok-offer.ensures.stored
+
+pub returns-in-Twin-clause-held : goal.returns-in-Twin-clause-held
+returns-in-Twin-clause-held c = same_offered c.args.held.now c.offer.new.self c.args.good c.in_ok-cert.cert c.in_ok-offer.field-0
+    (c.in_ok-cert.ensures ∙ (λ i. node_with (c.id-id.ensures i) (c.into_header.ensures i))) c.in_ok-offer.ensures.answer c.in_ok-offer.ensures.stored
+
+pub returns-in-Repeat-clause-new : goal.returns-in-Repeat-clause-new
+returns-in-Repeat-clause-new c = id_is_new c.args.held.now c.in_ok-cert.cert c.args.good c.in_ok-offer.field-0 false
+    (c.in_ok-cert.ensures ∙ (λ i. node_with (c.id-id.ensures i) (c.into_header.ensures i))) c.in_ok-offer.ensures.answer
+    (⊎_elim (λ q. ap is_fresh q) (λ q. ap is_fresh q) c.in-Repeat.is)
+
+pub returns-in-Repeat-clause-joined : goal.returns-in-Repeat-clause-joined
+returns-in-Repeat-clause-joined c = joined_other c.args.committee.now c.args.held.now c.args.rounds.now c.requires.joined c.in_ok-cert.cert c.in_ok-shared.shared c.in_ok-shared.ensures c.in_ok-offer.field-0 c.offer.new.self
+    (λ p. ⊎_elim (λ q. new_not_repeat c.in_ok-offer.field-0 p q) (λ q. new_not_collision c.in_ok-offer.field-0 p q) c.in-Repeat.is)
+    c.in_ok-offer.ensures.answer c.in_ok-offer.ensures.stored
+
+pub returns-in-Repeat-clause-held : goal.returns-in-Repeat-clause-held
+returns-in-Repeat-clause-held c = same_offered c.args.held.now c.offer.new.self c.args.good c.in_ok-cert.cert c.in_ok-offer.field-0
+    (c.in_ok-cert.ensures ∙ (λ i. node_with (c.id-id.ensures i) (c.into_header.ensures i))) c.in_ok-offer.ensures.answer c.in_ok-offer.ensures.stored
