@@ -1,0 +1,5 @@
+pub mod FirstFrames
+pub mod Unordered
+pub mod OrderedDigests
+pub mod Summed
+pub mod Shown

@@ -1,0 +1,5 @@
+pub mod Summary
+pub mod Text
+pub mod Summarizing
+pub mod Laws
+pub mod private
