@@ -103,7 +103,7 @@ file_line name = with_rule (new_app name) file_rule
 abbrev pub value_line : Text → Rule → App
 value_line name rule = with_rule (with_rule (new_app name) rule) file_rule
 
--- a command `NAME [--workers W] VALUE [FILE]`, of which the value is this argument
+-- a command `NAME [--workers W] VALUE [FILE]`, where the value is this argument
 abbrev pub working_line : Text → Rule → App
 working_line name rule = with_rule (with_rule (with_rule (new_app name) workers_rule) rule) file_rule
 
@@ -132,6 +132,7 @@ word_of verb.Account = codes "account"
 word_of verb.Receipt = codes "receipt"
 word_of verb.Prove = codes "prove"
 word_of verb.Frames = codes "frames"
+word_of verb.Summary = codes "summary"
 word_of verb.Anchors = codes "anchors"
 word_of verb.Dag = codes "dag"
 word_of verb.Statement = codes "statement"
@@ -151,6 +152,7 @@ line_of verb.Account = value_line (codes "account") id_rule
 line_of verb.Receipt = value_line (codes "receipt") place_rule
 line_of verb.Prove = value_line (codes "prove") id_rule
 line_of verb.Frames = file_line (codes "frames")
+line_of verb.Summary = value_line (codes "summary") workers_rule
 line_of verb.Anchors = file_line (codes "anchors")
 line_of verb.Dag = dag_line
 line_of verb.Statement = working_line (codes "statement") id_rule
@@ -184,8 +186,8 @@ asking_line =
 -- and with those that show what is in a feed
 abbrev pub viewing_line : App
 viewing_line =
-    with_command (with_command (with_command (with_command asking_line verb.Frames) verb.Anchors) verb.Dag)
-    verb.Statement
+    with_command (with_command (with_command (with_command (with_command asking_line
+    verb.Frames) verb.Summary) verb.Anchors) verb.Dag) verb.Statement
 
 -- and with those that check something
 abbrev pub checking_line : App
@@ -270,6 +272,9 @@ IsJobAt word rows (job.CheckReport workers report file) =
     × IsFileIn rows (option_map string_bytes file)
 IsJobAt word rows (job.Frames file) =
     (word ≡ word_of verb.Frames) × IsFileIn rows (option_map string_bytes file)
+IsJobAt word rows (job.Summary workers file) =
+    (word ≡ word_of verb.Summary) × AreNamedBy 1 (one_of (codes "workers") rows) workers
+    × IsFileIn rows (option_map string_bytes file)
 IsJobAt word rows (job.Dag window file) =
     (word ≡ word_of verb.Dag) × IsChosenBy 1000000 1 (one_of (codes "from") rows) window.from
     × IsChosenBy 1000 40 (one_of (codes "rounds") rows) window.rounds
@@ -322,6 +327,6 @@ IsOneOf (x ∷ xs) word = (word ≡ x) ⊎ IsOneOf xs word
 abbrev pub all_words : List Text
 all_words =
     word_of verb.Run ∷ word_of verb.Make ∷ word_of verb.Order ∷ word_of verb.Account ∷ word_of verb.Receipt
-    ∷ word_of verb.Prove ∷ word_of verb.Frames ∷ word_of verb.Anchors ∷ word_of verb.Dag ∷ word_of verb.Statement
-    ∷ word_of verb.CheckProof ∷ word_of verb.CheckState ∷ word_of verb.CheckReport ∷ word_of verb.Apply
+    ∷ word_of verb.Prove ∷ word_of verb.Frames ∷ word_of verb.Summary ∷ word_of verb.Anchors ∷ word_of verb.Dag
+    ∷ word_of verb.Statement ∷ word_of verb.CheckProof ∷ word_of verb.CheckState ∷ word_of verb.CheckReport ∷ word_of verb.Apply
     ∷ word_of verb.Schedule ∷ word_of verb.Compare ∷ []

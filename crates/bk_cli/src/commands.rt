@@ -301,7 +301,9 @@ fn viewing_command<'a>(alloc: Global) -> Result<Command<'a>, AllocError>
 {
     let asking = asking_command(alloc)?;
     let frames = with_file(alloc, asking, "frames", help::FRAMES)?;
-    let anchors = with_file(alloc, frames, "anchors", help::ANCHORS)?;
+    let workers = workers_arg(alloc, help::WORKERS);
+    let summary = with_value(alloc, frames, "summary", workers, help::SUMMARY)?;
+    let anchors = with_file(alloc, summary, "anchors", help::ANCHORS)?;
     let dag = with_dag(alloc, anchors)?;
     with_working(alloc, dag, "statement", id_arg(alloc), help::STATEMENT)
 }

@@ -48,8 +48,8 @@ Exit status:
   2  a feed, the script or the list of events is wrong, or two feeds differ in version, committee or opening accounts
   3  a feed, or two together, are stopped by a collision or an equivocation
   4  a read, a write or memory failed, or a worker did not finish
-  5  the whole output of `run`, `statement`, `check-state` or `check-report` is written, and the order stops at a missing
-     batch
+  5  the whole output of `run`, `summary`, `statement`, `check-state` or `check-report` is written, and the order stops at
+     a missing batch
 
 Example:
   ./bkreplay run examples/order/one_commit.feed",
@@ -219,6 +219,41 @@ Exit status:
 
 Example:
   ./bkreplay frames examples/order/one_commit.feed",
+};
+
+pub(crate) const SUMMARY: Help<'static> = Help {
+    about: "Write how much is in a feed, how much of it is ordered, and what became of the transactions",
+    after: "\
+Reads a feed, as `run` does, finds its order and executes its batches, up to the first missing one. Writes to standard
+output:
+
+  version V                       1 or 2
+  committee HEX, genesis HEX      SHA-256 of the payloads of frame 0 and frame 1, a line for each
+  members N faulty F quorum Q     of the committee; weights in version 2
+  frames K                        all frames
+  certificates C rejected R repeated P waiting W ordered O
+                                  frames of certificates; those that break a rule; good ones whose id came before; those
+                                  that wait for a parent; those in the order
+  anchors A skipped S open X      odd rounds by what became of their anchors, as the command `anchors` says it
+  batches B repeated P ordered O void V unordered U
+                                  frames of batches; those whose digest came before; those of the order, of these the
+                                  ones that are no batch; digests of batches that the order does not have
+  missing HEX                     only where a batch is missing
+  transactions M ok A malformed B undeclared C unknown D stale E guard F funds G
+                                  executed transactions, and how many of them have each status
+  accounts A money T              accounts at the end, and what they hold together
+  state HEX                       the digest of the state
+
+Exit status:
+  0  all lines are written
+  1  the command line is wrong
+  2  feed fault CODE at OFFSET, with a code of 1 to 7: the bytes are not a feed
+  3  collision ID, or equivocation ROUND AUTHOR ID ID: the feed is stopped
+  4  feed fault 8 or 9, memory, read failed, write failed, or unfinished PLACE
+  5  all lines are written, and the order stops at a missing batch
+
+Example:
+  ./bkreplay summary examples/order/one_commit.feed",
 };
 
 pub(crate) const ANCHORS: Help<'static> = Help {

@@ -58,6 +58,12 @@ pub enum Job {
     Frames {
         file: Option<String>,
     },
+    /// Finds the committed order of a feed, executes its batches and writes the summary of the feed.
+    Summary {
+        /// How many threads execute.
+        workers: Workers,
+        file: Option<String>,
+    },
     /// Draws the certificates of some rounds of a feed.
     Dag {
         /// The rounds.
@@ -96,6 +102,7 @@ impl Job {
             | Job::CheckReport { file, .. }
             | Job::Ask { file, .. }
             | Job::Frames { file }
+            | Job::Summary { file, .. }
             | Job::Dag { file, .. }
             | Job::Apply { file } => file.as_deref(),
             Job::Schedule { feed, .. } => Some(feed.as_str()),
@@ -112,6 +119,7 @@ impl Job {
             | Job::CheckProof { .. }
             | Job::Ask { .. }
             | Job::Frames { .. }
+            | Job::Summary { .. }
             | Job::Dag { .. }
             | Job::Apply { .. } => None,
             Job::CheckReport { report, .. } => Some(report.as_str()),
@@ -311,6 +319,10 @@ fn job_of(alloc: Global, verb: Verb, found: &ArgMatches<'_>) -> Result<Option<Jo
         }
         Verb::Prove => Ok(Some(ask_one(Query::Proof { id: id_in(found) }, file))),
         Verb::Frames => Ok(Some(Job::Frames { file })),
+        Verb::Summary => {
+            let workers = workers_in(found, Workers::one());
+            Ok(Some(Job::Summary { workers, file }))
+        }
         Verb::Anchors => Ok(Some(ask_one(Query::Anchors, file))),
         Verb::Dag => Ok(Some(dag_of(found, file))),
         Verb::Statement => Ok(Some(statement_of(found, file))),
@@ -348,7 +360,7 @@ fn no_digest(alloc: Global) -> Result<Error, AllocError>
     )
 }
 
-/// Reads the words of a command line, of which the first is the program's name.
+/// Reads the words of a command line; the first is the program's name.
 ///
 /// An error is a fault of the words, a request for help or for the version, or that memory ran out; its kind says which.
 /// Words without a fault give a job, and those with one an error of the fault's kind, unless memory ran out. A ROOT of

@@ -13,6 +13,7 @@ pub(crate) enum Verb {
     Receipt,
     Prove,
     Frames,
+    Summary,
     Anchors,
     Dag,
     Statement,
@@ -50,6 +51,9 @@ impl Verb {
         }
         if word == "frames" {
             return Verb::Frames;
+        }
+        if word == "summary" {
+            return Verb::Summary;
         }
         if word == "anchors" {
             return Verb::Anchors;

@@ -37,7 +37,7 @@ impl Workers {
         Workers { count: 2 }
     }
 
-    /// So many threads, `None` where they are not 1 to 64.
+    /// This many threads, `None` where they are not 1 to 64.
     pub fn new(count: u8) -> Option<Workers>
         ensures fit { IsSome result ↔ ((1 ≤ count) × (count ≤ 64)) }
         ensures value { IfSome result (λ workers. workers ≡ count) }

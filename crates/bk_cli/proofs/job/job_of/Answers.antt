@@ -70,6 +70,15 @@ returns-in-Frames c =
     let found = found_of c.args.found.now in
     (ap word_of c.in-Frames.is, sym (first_value-rows found (codes "FILE")) ∙ (sym c.get_str.ensures ∙ sym c.in_ok-file.ensures))
 
+pub returns-in-Summary : goal.returns-in-Summary
+returns-in-Summary c =
+    let found = found_of c.args.found.now in (
+      ap word_of c.in-Summary.is,
+      named_by_usual c.one-in-Summary.result 1 _ c.workers_in-workers-in-Summary.result c.one-in-Summary.ensures
+          (subst (λ (t : Option Text). AreNamedBy c.one-in-Summary.result t c.workers_in-workers-in-Summary.result) (one_text-rows found (codes "workers")) c.workers_in-workers-in-Summary.ensures),
+      sym (first_value-rows found (codes "FILE")) ∙ (sym c.get_str.ensures ∙ sym c.in_ok-file.ensures),
+    )
+
 pub returns-in-Anchors : goal.returns-in-Anchors
 returns-in-Anchors c =
     let found = found_of c.args.found.now in
