@@ -53,6 +53,10 @@ _bkreplay() {
         names='--help'
         kinds=(file)
         ;;
+    summary)
+        names='--workers --help'
+        kinds=(file)
+        ;;
     anchors)
         names='--help'
         kinds=(file)
@@ -93,6 +97,7 @@ _bkreplay() {
     esac
     case "$command $value" in
     'run --workers') COMPREPLY=($(compgen -W '{1..64}' -- "$current")) ;;
+    'summary --workers') COMPREPLY=($(compgen -W '{1..64}' -- "$current")) ;;
     'dag --from') COMPREPLY=($(compgen -W '{1..1000000}' -- "$current")) ;;
     'dag --rounds') COMPREPLY=($(compgen -W '{1..1000}' -- "$current")) ;;
     'statement --workers') COMPREPLY=($(compgen -W '{1..64}' -- "$current")) ;;
@@ -136,6 +141,7 @@ account Write one account as the order of a feed leaves it
 receipt Write what became of the transaction at one place of the order
 prove Write a proof that one account is in the state at the end
 frames Write a line for each frame of a feed: what it holds, and which rule a certificate breaks
+summary Write how much is in a feed, how much of it is ordered, and what became of the transactions
 anchors Write what became of the anchor of each odd round, with its votes
 dag Draw the certificates of some rounds and what became of them, as an SVG picture
 statement Write what the transactions of the order do to one account

@@ -33,6 +33,7 @@ complete -c bkreplay -n "__bkreplay_at ''" -a account -d 'Write one account as t
 complete -c bkreplay -n "__bkreplay_at ''" -a receipt -d 'Write what became of the transaction at one place of the order'
 complete -c bkreplay -n "__bkreplay_at ''" -a prove -d 'Write a proof that one account is in the state at the end'
 complete -c bkreplay -n "__bkreplay_at ''" -a frames -d 'Write a line for each frame of a feed: what it holds, and which rule a certificate breaks'
+complete -c bkreplay -n "__bkreplay_at ''" -a summary -d 'Write how much is in a feed, how much of it is ordered, and what became of the transactions'
 complete -c bkreplay -n "__bkreplay_at ''" -a anchors -d 'Write what became of the anchor of each odd round, with its votes'
 complete -c bkreplay -n "__bkreplay_at ''" -a dag -d 'Draw the certificates of some rounds and what became of them, as an SVG picture'
 complete -c bkreplay -n "__bkreplay_at ''" -a statement -d 'Write what the transactions of the order do to one account'
@@ -50,6 +51,8 @@ complete -c bkreplay -n '__bkreplay_at account 1' -F
 complete -c bkreplay -n '__bkreplay_at receipt 1' -F
 complete -c bkreplay -n '__bkreplay_at prove 1' -F
 complete -c bkreplay -n '__bkreplay_at frames 0' -F
+complete -c bkreplay -n '__bkreplay_at summary' -l workers -x -a '(seq 1 64)' -d 'How many threads execute at most, 1 to 64; 1 by default. The output is the same for any number'
+complete -c bkreplay -n '__bkreplay_at summary 0' -F
 complete -c bkreplay -n '__bkreplay_at anchors 0' -F
 complete -c bkreplay -n '__bkreplay_at dag' -l from -x -a '(seq 1 1000000)' -d 'The first round that is drawn, 1 to 1,000,000; 1 by default'
 complete -c bkreplay -n '__bkreplay_at dag' -l rounds -x -a '(seq 1 1000)' -d 'How many rounds are drawn, 1 to 1,000; 40 by default'

@@ -166,6 +166,16 @@ blames (job.CheckReport workers report file) (fault.Text (text.Write written)) o
 blames (job.CheckReport workers report file) (fault.Text text.Memory) old new w h r = absurd h
 blames (job.CheckReport workers report file) (fault.Events e) old new w h r = absurd h
 blames (job.CheckReport workers report file) (fault.Compared e) old new w h r = absurd h
+blames (job.Summary workers file) (fault.Replay (replay.Feed found)) old new w h r =
+    (refused (job.Summary workers file) (inputs_of old) found.code found.offset _ _ (λ b. b) h.0 r, h.1)
+blames (job.Summary workers file) (fault.Replay (replay.Collision id)) old new w h r = (stopped _ old.first.bytes h.1, h.0.1)
+blames (job.Summary workers file) (fault.Replay (replay.Equivocation round author first second)) old new w h r = (stopped _ old.first.bytes h.1, h.0.1)
+blames (job.Summary workers file) (fault.Replay (replay.Unfinished place)) old new w h r = absurd (cc)
+blames (job.Summary workers file) (fault.Replay (replay.Write written)) old new w h r = absurd (cc)
+blames (job.Summary workers file) (fault.Replay replay.Memory) old new w h r = absurd (cc)
+blames (job.Summary workers file) (fault.Text e) old new w h r = absurd h
+blames (job.Summary workers file) (fault.Events e) old new w h r = absurd h
+blames (job.Summary workers file) (fault.Compared e) old new w h r = absurd h
 blames (job.Dag window file) (fault.Replay (replay.Feed found)) old new w h r =
     (refused (job.Dag window file) (inputs_of old) found.code found.offset _ _ (λ b. b) h.0 r, h.1)
 blames (job.Dag window file) (fault.Replay (replay.Collision id)) old new w h r = (stopped _ old.first.bytes h.1, h.0.1)
@@ -258,6 +268,7 @@ bytes_to_blame (job.Make file) e old new h r = unwritten (job.Make file) e old n
 bytes_to_blame (job.CheckProof root file) e old new h r = unwritten (job.CheckProof root file) e old new (blames (job.CheckProof root file) e old new refl h r)
 bytes_to_blame (job.Ask workers asked file) e old new h r = unwritten (job.Ask workers asked file) e old new (blames (job.Ask workers asked file) e old new refl h r)
 bytes_to_blame (job.CheckReport workers report file) e old new h r = unwritten (job.CheckReport workers report file) e old new (blames (job.CheckReport workers report file) e old new refl h r)
+bytes_to_blame (job.Summary workers file) e old new h r = unwritten (job.Summary workers file) e old new (blames (job.Summary workers file) e old new refl h r)
 bytes_to_blame (job.Dag window file) e old new h r = unwritten (job.Dag window file) e old new (blames (job.Dag window file) e old new refl h r)
 bytes_to_blame (job.Apply file) e old new h r = unwritten (job.Apply file) e old new (blames (job.Apply file) e old new refl h r)
 bytes_to_blame (job.Schedule workers feed events) e old new h r = unwritten (job.Schedule workers feed events) e old new (blames (job.Schedule workers feed events) e old new refl h r)

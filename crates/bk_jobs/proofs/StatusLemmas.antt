@@ -141,6 +141,17 @@ ends_by_fault (job.Frames file) (fault.Replay replay.Memory) old new h = refl
 ends_by_fault (job.Frames file) (fault.Text e) old new h = absurd h
 ends_by_fault (job.Frames file) (fault.Events e) old new h = absurd h
 ends_by_fault (job.Frames file) (fault.Compared e) old new h = absurd h
+ends_by_fault (job.Summary workers file) (fault.Replay (replay.Feed found)) old new h = feed_may_end (job.Summary workers file) refl found.code
+ends_by_fault (job.Summary workers file) (fault.Replay (replay.Collision id)) old new h = refl
+ends_by_fault (job.Summary workers file) (fault.Replay (replay.Equivocation round author first second)) old new h = refl
+ends_by_fault (job.Summary workers file) (fault.Replay (replay.Unfinished place)) old new h = refl
+ends_by_fault (job.Summary workers file) (fault.Replay (replay.Write written)) old new h = refl
+ends_by_fault (job.Summary workers file) (fault.Replay replay.Memory) old new h = refl
+ends_by_fault (job.Summary workers file) (fault.Text e) old new h = absurd h
+ends_by_fault (job.Summary workers file) (fault.Events e) old new h = absurd h
+ends_by_fault (job.Summary workers file) (fault.Compared e) old new h = absurd h
+ends_by_fault (job.Summary workers file) (fault.AbsentAccount id) old new h = absurd h
+ends_by_fault (job.Summary workers file) (fault.AbsentPlace place) old new h = absurd h
 ends_by_fault (job.Dag window file) (fault.Replay (replay.Feed found)) old new h = feed_may_end (job.Dag window file) refl found.code
 ends_by_fault (job.Dag window file) (fault.Replay (replay.Collision id)) old new h = refl
 ends_by_fault (job.Dag window file) (fault.Replay (replay.Equivocation round author first second)) old new h = refl
@@ -238,6 +249,8 @@ fault_is_none (job.CheckReport workers report file) (fault.AbsentAccount id) old
 fault_is_none (job.CheckReport workers report file) (fault.AbsentPlace place) old new h = absurd h
 fault_is_none (job.Frames file) (fault.AbsentAccount id) old new h = absurd h
 fault_is_none (job.Frames file) (fault.AbsentPlace place) old new h = absurd h
+fault_is_none (job.Summary workers file) (fault.AbsentAccount id) old new h = absurd h
+fault_is_none (job.Summary workers file) (fault.AbsentPlace place) old new h = absurd h
 fault_is_none (job.Dag window file) (fault.AbsentAccount id) old new h = absurd h
 fault_is_none (job.Dag window file) (fault.AbsentPlace place) old new h = absurd h
 fault_is_none (job.Apply file) (fault.AbsentAccount id) old new h = absurd h
@@ -285,6 +298,15 @@ run_answers workers file exit.WrongInput h = absurd (cc)
 run_answers workers file exit.Stopped h = absurd (cc)
 run_answers workers file exit.Failed h = absurd (cc)
 run_answers workers file exit.Missing h = (refl, refl)
+
+pub summary_answers : (workers : ℕ) (file : _) (end : Exit) → is_report end ≡ true
+    → (is_answer (job.Summary workers file) end ≡ true) × (may_end (job.Summary workers file) end ≡ true)
+summary_answers workers file exit.Whole h = (refl, refl)
+summary_answers workers file exit.No h = absurd (cc)
+summary_answers workers file exit.WrongInput h = absurd (cc)
+summary_answers workers file exit.Stopped h = absurd (cc)
+summary_answers workers file exit.Failed h = absurd (cc)
+summary_answers workers file exit.Missing h = (refl, refl)
 
 pub claim_answers : (workers : ℕ) (report file : _) (v : Verdict) (end : Exit) → end ≡ exit_by_verdict v
     → (is_answer (job.CheckReport workers report file) end ≡ true) × (may_end (job.CheckReport workers report file) end ≡ true)

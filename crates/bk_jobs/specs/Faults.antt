@@ -9,6 +9,7 @@ use Rattle.bk_apply.specs.Answers.{FailsBy}
 use Rattle.bk_ask.specs.Asking.{AskFailsBy, IsReplied}
 use Rattle.bk_listing.specs.Answers.{AllIsListed, ListFails}
 use Rattle.bk_picture.specs.Drawing.{DrawFailsBy, IsDrawn}
+use Rattle.bk_summary.specs.Summarizing.{IsSummaryText, SummaryFailsBy}
 use Rattle.bk_report.specs.Proofs.{IsGoodProof}
 use Rattle.bk_results.specs.declared.query.Query.{Query}
 use Rattle.bk_results.specs.declared.query.Reply.{Reply}
@@ -75,6 +76,12 @@ ReplyIsOut asked end old new bytes =
 abbrev pub FramesAreOut : Exit → Device → Device → List ℕ → Type 0
 FramesAreOut end old new bytes = (end ≡ exit.Whole) × AllIsListed old new bytes
 
+-- the output got the whole summary of the bytes, and the exit says whether a batch is missing
+abbrev pub SummaryIsOut : Exit → Device → Device → List ℕ → Type 0
+SummaryIsOut end old new bytes =
+    (text : List ℕ) × (answer : Status) × IsSummaryText bytes text answer × (end ≡ exit_at answer)
+    × Receives old new text
+
 -- the output got the whole picture of the bytes, of the rounds of this window
 abbrev pub PictureIsOut : WindowValue → Exit → Device → Device → List ℕ → Type 0
 PictureIsOut window end old new bytes =
@@ -97,6 +104,7 @@ AnswerIsOut (job.Ask workers asked file) end given old new =
     IfSome given.first (ReplyIsOut asked end old new)
 AnswerIsOut (job.CheckReport workers report file) end given old new = IfBothGive given (ClaimIsOut end old new)
 AnswerIsOut (job.Frames file) end given old new = IfSome given.first (FramesAreOut end old new)
+AnswerIsOut (job.Summary workers file) end given old new = IfSome given.first (SummaryIsOut end old new)
 AnswerIsOut (job.Dag window file) end given old new = IfSome given.first (PictureIsOut window end old new)
 AnswerIsOut (job.Apply file) end given old new = IfSome given.first (ReportIsOut end old new)
 AnswerIsOut (job.Schedule workers feed events) end given old new =
@@ -136,6 +144,7 @@ ReplayFailsBy (job.Ask workers asked file) e old new =
     AskFailsBy asked e (first_devices old) (first_devices new)
 ReplayFailsBy (job.CheckReport workers report file) e old new = ClaimCheckFailsBy (fault.Replay e) old new
 ReplayFailsBy (job.Frames file) e old new = ListFails e (first_devices old) (first_devices new)
+ReplayFailsBy (job.Summary workers file) e old new = SummaryFailsBy e (first_devices old) (first_devices new)
 ReplayFailsBy (job.Dag window file) e old new =
     DrawFailsBy window.from window.rounds e (first_devices old) (first_devices new)
 ReplayFailsBy (job.Apply file) e old new = FailsBy e (first_devices old) (first_devices new)
@@ -153,6 +162,7 @@ TextFailsBy (job.CheckProof root file) e old new =
 TextFailsBy (job.Ask workers asked file) e old new = ⊥
 TextFailsBy (job.CheckReport workers report file) e old new = ClaimIsUnread e old new
 TextFailsBy (job.Frames file) e old new = ⊥
+TextFailsBy (job.Summary workers file) e old new = ⊥
 TextFailsBy (job.Dag window file) e old new = ⊥
 TextFailsBy (job.Apply file) e old new = ⊥
 TextFailsBy (job.Schedule workers feed events) e old new = ⊥
@@ -166,6 +176,7 @@ EventsFailBy (job.CheckProof root file) e old new = ⊥
 EventsFailBy (job.Ask workers asked file) e old new = ⊥
 EventsFailBy (job.CheckReport workers report file) e old new = ⊥
 EventsFailBy (job.Frames file) e old new = ⊥
+EventsFailBy (job.Summary workers file) e old new = ⊥
 EventsFailBy (job.Dag window file) e old new = ⊥
 EventsFailBy (job.Apply file) e old new = ⊥
 EventsFailBy (job.Schedule workers feed events) e old new = ListFailsBy workers e old new
@@ -179,6 +190,7 @@ ComparisonFailsBy (job.CheckProof root file) e old new = ⊥
 ComparisonFailsBy (job.Ask workers asked file) e old new = ⊥
 ComparisonFailsBy (job.CheckReport workers report file) e old new = ⊥
 ComparisonFailsBy (job.Frames file) e old new = ⊥
+ComparisonFailsBy (job.Summary workers file) e old new = ⊥
 ComparisonFailsBy (job.Dag window file) e old new = ⊥
 ComparisonFailsBy (job.Apply file) e old new = ⊥
 ComparisonFailsBy (job.Schedule workers feed events) e old new = ⊥
@@ -199,6 +211,7 @@ IsAbsentFor (job.Ask workers asked file) e old new =
     IsAbsentBy asked e (first_devices old) (first_devices new)
 IsAbsentFor (job.CheckReport workers report file) e old new = ⊥
 IsAbsentFor (job.Frames file) e old new = ⊥
+IsAbsentFor (job.Summary workers file) e old new = ⊥
 IsAbsentFor (job.Dag window file) e old new = ⊥
 IsAbsentFor (job.Apply file) e old new = ⊥
 IsAbsentFor (job.Schedule workers feed events) e old new = ⊥
@@ -254,6 +267,7 @@ AreWrong (job.CheckProof root file) given = ⊥
 AreWrong (job.Ask workers asked file) given = IfSome given.first AreBroken
 AreWrong (job.CheckReport workers report file) given = IfSome given.first AreBroken
 AreWrong (job.Frames file) given = IfSome given.first AreBroken
+AreWrong (job.Summary workers file) given = IfSome given.first AreBroken
 AreWrong (job.Dag window file) given = IfSome given.first AreBroken
 AreWrong (job.Apply file) given = IfSome given.first AreBroken
 AreWrong (job.Schedule workers feed events) given = AreWrongFor workers given
@@ -271,6 +285,7 @@ AreStoppedFor (job.CheckProof root file) given = ⊥
 AreStoppedFor (job.Ask workers asked file) given = IfSome given.first AreStopped
 AreStoppedFor (job.CheckReport workers report file) given = IfSome given.first AreStopped
 AreStoppedFor (job.Frames file) given = ⊥
+AreStoppedFor (job.Summary workers file) given = IfSome given.first AreStopped
 AreStoppedFor (job.Dag window file) given = IfSome given.first AreStopped
 AreStoppedFor (job.Apply file) given = ⊥
 AreStoppedFor (job.Schedule workers feed events) given = ⊥

@@ -6,7 +6,8 @@ ghost use Rattle.bk_results.specs.Devices.{devices};
 ghost use Rattle.bk_apply.specs.Answers.{FailsBy};
 ghost use Rattle.bk_follow.specs.Replaying.{RunFailsBy};
 ghost use Rattle.bk_cli.specs.Exits.{is_report};
-ghost use Rattle.bk_jobs.specs.Faults.{RunIsOut, ReportIsOut};
+ghost use Rattle.bk_summary.specs.Summarizing.{SummaryFailsBy};
+ghost use Rattle.bk_jobs.specs.Faults.{RunIsOut, ReportIsOut, SummaryIsOut};
 
 use bk_apply::apply;
 use bk_cli::{Exit, Workers};
@@ -14,6 +15,7 @@ use bk_follow::replay;
 use bk_frames::{Sink, Source};
 use bk_pool::Open;
 use bk_results::Fault;
+use bk_summary::summarize;
 use std::sync::Wait;
 use std::thread::Threads;
 
@@ -35,6 +37,28 @@ pub(crate) fn run<R: Threads + Wait + Sync + AllocGlobal, S: Source, O: Sink>(
         (devices (S.state source.new) (O.state out.new))) }
 {
     let status = replay(rt, rt.alloc(), source, out, workers.count(), &Open)?;
+    Ok(Exit::at(status))
+}
+
+/// Writes the summary of a feed.
+pub(crate) fn sum_up<R: Threads + Wait + Sync + AllocGlobal, S: Source, O: Sink>(
+    rt: &R,
+    workers: Workers,
+    source: &mut S,
+    out: &mut O,
+) -> Result<Exit, Fault>
+    requires source { CanBeUsed (S.state source.old) }
+    requires out { CanBeUsed (O.state out.old) }
+    ensures report { IfOk result (λ end. IfKnown (S.state source.old)
+        (SummaryIsOut end (O.state out.old) (O.state out.new))) }
+    ensures answer { IfOk result (λ end. is_report end ≡ true) }
+    ensures sound { OnOk result (Works (S.state source.old) (S.state source.new)
+        × Works (O.state out.old) (O.state out.new)) }
+    ensures fault { IfErr result (λ e. SummaryFailsBy e
+        (devices (S.state source.old) (O.state out.old))
+        (devices (S.state source.new) (O.state out.new))) }
+{
+    let status = summarize(rt, rt.alloc(), source, out, workers.count(), &Open)?;
     Ok(Exit::at(status))
 }
 

@@ -13,7 +13,7 @@ use crate::comparing::compare_feeds;
 use crate::drawing::draw_rounds;
 use crate::listing::list;
 use crate::queries::reply;
-use crate::replaying::{apply_all, run};
+use crate::replaying::{apply_all, run, sum_up};
 use crate::scheduling::schedule;
 use crate::texts::{check, make_feed};
 use bk_cli::{Exit, Job, JobFault, report};
@@ -68,6 +68,10 @@ fn answer<R: Threads + Wait + Sync + AllocGlobal, S1: Source, S2: Source, O: Sin
         }
         Job::Frames { .. } => {
             let end = list(rt, first, out)?;
+            Ok(end)
+        }
+        Job::Summary { workers, .. } => {
+            let end = sum_up(rt, *workers, first, out)?;
             Ok(end)
         }
         Job::Dag { window, .. } => {

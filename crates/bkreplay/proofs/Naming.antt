@@ -17,6 +17,7 @@ frames_or_not (Some f) (job.CheckProof root file) h = inl refl
 frames_or_not (Some f) (job.CheckReport workers report file) h = inl refl
 frames_or_not (Some f) (job.Ask workers asked file) h = inl refl
 frames_or_not (Some f) (job.Frames file) h = inr h.0
+frames_or_not (Some f) (job.Summary workers file) h = inl refl
 frames_or_not (Some f) (job.Dag window file) h = inl refl
 frames_or_not (Some f) (job.Apply file) h = inl refl
 frames_or_not (Some f) (job.Schedule workers feed events) h = inl refl

@@ -1,10 +1,13 @@
 -- How each job may end with an answer.
 use Rattle.std.proofs.Common.{refl, inl, inr}
-use Rattle.bk_jobs.proofs.StatusLemmas.{run_answers, claim_answers, query_ends}
+use Rattle.bk_jobs.proofs.StatusLemmas.{run_answers, claim_answers, query_ends, summary_answers}
 use Rattle.bk_jobs.proofs.running.answer.Goals as goal
 
 pub returns-in_ok-end-in-Run-clause-answer : goal.returns-in_ok-end-in-Run-clause-answer
 returns-in_ok-end-in-Run-clause-answer g c = rw c.in-Run.is (run_answers c.in-Run.workers c.in-Run.file _ c.in_ok-end-in-Run.ensures.answer)
+
+pub returns-in_ok-end-in-Summary-clause-answer : goal.returns-in_ok-end-in-Summary-clause-answer
+returns-in_ok-end-in-Summary-clause-answer g c = rw c.in-Summary.is (summary_answers c.in-Summary.workers c.in-Summary.file _ c.in_ok-end-in-Summary.ensures.answer)
 
 pub returns-in_ok-end-in-Make-clause-answer : goal.returns-in_ok-end-in-Make-clause-answer
 returns-in_ok-end-in-Make-clause-answer g c = rw (c.in-Make.is, c.in_ok-end-in-Make.ensures.answer) (refl, refl)
