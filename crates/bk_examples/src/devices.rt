@@ -12,7 +12,7 @@ use std::thread::Threads;
 /// More calls than any run of an example makes.
 pub(crate) const MOST_CALLS: u32 = 1_000_000;
 
-/// What devices do: at most so many bytes a call, and so many calls before they fail.
+/// What devices do: at most this many bytes a call, and this many calls before they fail.
 #[derive(Clone, Copy)]
 pub(crate) struct Devices {
     pub(crate) read_size: usize,
@@ -64,39 +64,57 @@ impl Write for Writer {
     }
 }
 
-/// What `run` leaves of a feed with these devices.
-pub(crate) fn run_with<R>(rt: &R, feed: &[u8], devices: Devices) -> Outcome
+/// The bytes that a job reads: those of a feed, and those of a second file, of which this many reads succeed.
+#[derive(Clone, Copy)]
+pub(crate) struct Given<'a> {
+    pub(crate) feed: &'a [u8],
+    pub(crate) second: &'a [u8],
+    pub(crate) second_reads: u32,
+}
+
+/// What a job leaves with these devices.
+pub(crate) fn job_with<R>(rt: &R, job: &Job, given: Given<'_>, devices: Devices) -> Outcome
 where
     R: AllocGlobal + Threads + Wait + Sync,
 {
     let alloc: Global = rt.alloc();
     let mut source = Counted::new(Reader {
-        rest: feed,
+        rest: given.feed,
         most: devices.read_size,
         calls: devices.reads,
     });
-    let nothing: &[u8] = b"";
+    let mut second = Counted::new(Reader {
+        rest: given.second,
+        most: devices.read_size,
+        calls: given.second_reads,
+    });
     let mut out = Counted::new(Writer {
         held: Vec::new(alloc),
         most: devices.write_size,
         calls: devices.writes,
     });
     let mut err = Counted::new(Vec::new(alloc));
-    let job = Job::Run {
-        workers: Workers::two(),
-        file: None,
-    };
-    let exit = run_job(
-        rt,
-        &job,
-        &mut source,
-        &mut Counted::new(nothing),
-        &mut out,
-        &mut err,
-    );
+    let exit = run_job(rt, job, &mut source, &mut second, &mut out, &mut err);
     Outcome {
         status: exit.number(),
         out: out.into_inner().held,
         err: err.into_inner(),
     }
+}
+
+/// What `run` leaves of a feed with these devices.
+pub(crate) fn run_with<R>(rt: &R, feed: &[u8], devices: Devices) -> Outcome
+where
+    R: AllocGlobal + Threads + Wait + Sync,
+{
+    let job = Job::Run {
+        workers: Workers::two(),
+        file: None,
+    };
+    let given = Given {
+        feed,
+        second: b"",
+        second_reads: MOST_CALLS,
+    };
+    job_with(rt, &job, given, devices)
 }

@@ -14,7 +14,7 @@ pub(crate) struct Example<'a> {
     pub(crate) command: &'a str,
     /// The file that is read last, after which the example is named.
     pub(crate) name: &'a str,
-    /// The words, of which the first is the program's name.
+    /// The words; the first is the program's name.
     pub(crate) words: Vec<&'a str>,
 }
 
@@ -39,7 +39,7 @@ impl<'a> Example<'a> {
         })
     }
 
-    /// Whether it is a run of which no number of workers is given.
+    /// Whether it is a run without a number of workers.
     pub(crate) fn has_free_workers(&self) -> bool {
         matches!(self.words.as_slice(), [_, "run", _])
     }

@@ -7,7 +7,8 @@ use std::alloc::Global;
 use std::sync::Wait;
 use std::thread::Threads;
 
-const GOOD: Devices = Devices {
+/// Devices that do not fail.
+pub(crate) const GOOD: Devices = Devices {
     read_size: usize::MAX,
     reads: MOST_CALLS,
     write_size: usize::MAX,

@@ -2,18 +2,21 @@
 //!
 //! The folder that it is run in has the examples and the table `commands`. A run of a feed that names no number of
 //! workers is done by 1, 2, 8 and 64, by a Follower that gets the feed in pieces, with each read and each write failing
-//! in turn, and with the feed cut. The last line is `N passed, M failed`.
+//! in turn, and with the feed cut. A job that asks something of a feed is done with each read and each write failing. The
+//! last line is `N passed, M failed`.
 #![tactic(auto)]
 
 mod devices;
 mod example;
 mod failing;
 mod following;
+mod jobs;
 mod outcome;
 
 use crate::example::Example;
 use crate::failing::{cuts_are_right, reads_fail_well, writes_fail_well};
 use crate::following::{Pieces, followed};
+use crate::jobs::{asks, job_fails_well, long_line_is_told};
 use crate::outcome::{Outcome, outcome_of};
 use anyhow::{Result, bail};
 use std::alloc::Global;
@@ -124,13 +127,26 @@ where
     Ok(tally.add(judge(rt, example, "a feed that is cut", cuts)?))
 }
 
+// Runs a job that asks something of a feed with devices that fail.
+fn run_asking<R>(rt: &R, example: &Example<'_>, tally: Tally) -> Result<Tally>
+where
+    R: AllocGlobal + Files + Eprint + Threads + Wait + Sync,
+{
+    if !asks(example) {
+        return Ok(tally);
+    }
+    let is_right = job_fails_well(rt, example)?;
+    Ok(tally.add(judge(rt, example, "a device that fails", is_right)?))
+}
+
 // Runs an example in each way that its command has.
 fn run_example<R>(rt: &R, example: &Example<'_>, tally: Tally) -> Result<Tally>
 where
     R: AllocGlobal + Files + Input + Eprint + Threads + Wait + Sync,
 {
     if !example.has_free_workers() {
-        return Ok(tally.add(run_words(rt, example, &[])?));
+        let tally = tally.add(run_words(rt, example, &[])?);
+        return run_asking(rt, example, tally);
     }
     let mut tally = tally;
     for count in WORKERS {
@@ -161,7 +177,7 @@ where
         let example = Example::of(rt.alloc(), line)?;
         tally = run_example(rt, &example, tally)?;
     }
-    Ok(tally)
+    Ok(tally.add(long_line_is_told(rt)?))
 }
 
 fn main(rt: HostRuntime) -> Result<()> {
