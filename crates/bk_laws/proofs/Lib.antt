@@ -1,3 +1,4 @@
+pub mod Claiming
 pub mod Deciding
 pub mod Weights
 pub mod Listings

@@ -145,7 +145,7 @@ pub data ScheduleAnswer : Type 0 where
   whole : ScheduleAnswer
   not_whole : ScheduleFault → ScheduleAnswer
 
--- so many workers and these events come to this on these bytes
+-- this many workers and these events come to this on these bytes
 abbrev pub SchedulesTo : ℕ → List Event → List ℕ → ScheduleAnswer → Type 0
 SchedulesTo workers events bytes whole = IsWholeFor workers events bytes
 SchedulesTo workers events bytes (not_whole found) =

@@ -1,5 +1,6 @@
 //! The laws, each the contract of a function that does nothing.
 
+ghost use Rattle.bk_laws.specs.Claims.{ExactlyOneVerdict, GoodIsTheReport};
 ghost use Rattle.bk_laws.specs.Following.{ExecutedIsFold, NamesFirstFault, OrderSoFarStays, ReceiptsStay};
 ghost use Rattle.bk_laws.specs.Laws.{AccountsFit, ExactlyOneAnswer, ExactlyOneComparison, ExactlyOneReply, ExactlyOneScheduleAnswer, FaultOrApplyReport, FewPlaces, OrderedIsFinal, OrderOfFramesIsNothing, ProofsOfFeedsAreGood, RejectedAreBroken, RejectedStay, StopsStay};
 
@@ -18,6 +19,13 @@ pub fn fault_or_apply_report()
 /// Where a byte string has a report, each query has exactly one reply, found or absent, with one text.
 pub fn exactly_one_reply()
     ensures { ExactlyOneReply }
+{}
+
+/// Where a byte string has a report, each claim of what the report is has exactly one verdict with one text, and it is
+/// found good exactly where it is the report: `check-report` accepts what `run` writes, and nothing else.
+pub fn claims_have_one_verdict()
+    ensures one { ExactlyOneVerdict }
+    ensures good { GoodIsTheReport }
 {}
 
 /// Two feeds come to exactly one thing: they agree, so far as the shorter order and the shorter list of receipts go, or
