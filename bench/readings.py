@@ -1,6 +1,6 @@
-"""A plain reading of the commands that show what is in a feed: the lines of `frames`, `anchors` and `statement`, from the
-bytes of the feed by the definitions alone, and of `check-report`. The last two also take the receipts, or the text, of the
-report of `run`."""
+"""A plain reading of the commands that show what is in a feed: the lines of `frames`, `summary`, `anchors` and `statement`,
+from the bytes of the feed by the definitions alone, and of `check-report`. `summary`, `statement` and `check-report` also
+take lines of the report of `run`."""
 import os
 import struct
 from hashlib import sha256
@@ -149,6 +149,61 @@ def anchors_lines(version, frames):
         lines.append(f"round {number} leader {leader_of(committee, number)} votes {'-' if weight is None else weight}"
                      f" need {committee.faulty + 1} {result}")
     return lines
+
+
+# ---- a summary
+
+
+def ordered_batches(committee, frames, order, held):
+    """The digests of the batches that the certificates of these places name, before the first that is not held."""
+    named = {}
+    for kind, payload in frames:
+        if kind == 3 and verdict(committee, payload)[0] is None:
+            number, author, batches = verdict(committee, payload)[1]
+            named[number, author] = batches
+    ordered = []
+    for place in order:
+        for name in named[place]:
+            if name in ordered:
+                continue
+            if name not in held:
+                return ordered
+            ordered.append(name)
+    return ordered
+
+
+def summary_lines(version, frames, report):
+    """The summary of a feed that is not stopped, with these lines of its report."""
+    committee = committee_of(version, frames[0][1])
+    found = {name: [line.split()[1:] for line in report if line.split()[0] == name]
+             for name in ("members", "waiting", "cert", "missing", "tx", "account", "money", "state")}
+    certs = [payload for kind, payload in frames if kind == 3]
+    good = [id_of(parts_of(payload)[0]) for payload in certs if verdict(committee, payload)[0] is None]
+    batches = {sha256(payload).digest(): payload for kind, payload in frames if kind == 4}
+    count = sum(kind == 4 for kind, _ in frames)
+    order = [(int(number), int(author)) for number, author in found["cert"]]
+    ordered = ordered_batches(committee, frames, order, batches)
+    void = sum(texts_of(batches[name]) is None for name in ordered)
+    results = [line.split()[-1] for line in anchors_lines(version, frames)]
+    statuses = [int(status) for _, status, _ in found["tx"]]
+    names = ("ok", "malformed", "undeclared", "unknown", "stale", "guard", "funds")
+    return [
+        f"version {version}",
+        f"committee {sha256(frames[0][1]).hexdigest()}",
+        f"genesis {sha256(frames[1][1]).hexdigest()}",
+        f"members {' '.join(found['members'][0])}",
+        f"frames {len(frames)}",
+        f"certificates {len(certs)} rejected {len(certs) - len(good)} repeated {len(good) - len(set(good))}"
+        f" waiting {len(found['waiting'])} ordered {len(order)}",
+        f"anchors {results.count('voted') + results.count('linked')} skipped {results.count('skipped')}"
+        f" open {results.count('open')}",
+        f"batches {count} repeated {count - len(batches)} ordered {len(ordered)} void {void}"
+        f" unordered {len(set(batches) - set(ordered))}",
+        *(f"missing {name}" for name, in found["missing"]),
+        f"transactions {len(statuses)} " + " ".join(f"{name} {statuses.count(k)}" for k, name in enumerate(names)),
+        f"accounts {len(found['account'])} money {found['money'][0][0]}",
+        f"state {found['state'][0][0]}",
+    ]
 
 
 # ---- a statement
