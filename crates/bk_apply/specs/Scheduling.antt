@@ -18,7 +18,7 @@ use Rattle.bk_apply.specs.Answers.{FailsBy}
 use Rattle.bk_results.specs.Devices.{NothingFailed}
 use Rattle.bk_tx.specs.Batches.{feed_transactions}
 
--- the accounts before the first transaction: those of genesis, each of which has a slot
+-- the accounts before the first transaction: those of genesis, each with a slot
 abbrev pub opening_of : FeedValue → Ledger
 opening_of feed = ledger_of feed.version (ids_of (genesis_of feed.frames)) (genesis_of feed.frames)
 

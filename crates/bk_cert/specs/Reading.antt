@@ -6,7 +6,7 @@ use Rattle.bk_frames.specs.Numbers.{◌>>=◌, number_at, bytes_at}
 use Rattle.bk_cert.specs.Values.{HeaderValue, CertValue, header_with, cert_with}
 use Rattle.bk_cert.specs.Mask.{signer_count}
 
--- so many digests at the front, and the bytes after them
+-- this many digests at the front, and the bytes after them
 unfoldable pub digests_at : ℕ → List ℕ → Option (List (List ℕ) × List ℕ)
 digests_at n bytes = do
   run ← bytes_at (32 * n) bytes

@@ -26,7 +26,7 @@ const LARGEST_ID: &str = "5c1542a6ed16ca7250269dfdcc1e1c5f99b8f7f467471674f10dc7
 
 const LAST_TAG: &str = "29d0ca7f957b95ca738c26b97b3aee6b834c07c4ae89f206a81ec04c8ab8db2b";
 
-/// A committee of so many members, of which member i has 32 bytes i + 1 as its key.
+/// A committee of this many members; the key of member i is the byte i + 1, 32 times.
 fn committee_of(alloc: Global, members: u8) -> Result<Committee, Bad> {
     match payload_of(alloc, members) {
         Ok(payload) => Committee::parse(alloc, Version::One, &payload),
@@ -43,7 +43,7 @@ fn payload_of(alloc: Global, members: u8) -> Result<Vec<u8>, AllocError> {
     Ok(payload)
 }
 
-/// So many digests, of which number j has 32 bytes j mod 251.
+/// This many digests; number j is the byte j mod 251, 32 times.
 fn digests(alloc: Global, count: usize) -> Result<Vec<Digest32>, AllocError> {
     let mut made = Vec::new(alloc);
     for j in 0..count {

@@ -213,7 +213,7 @@ fn a_checked_certificate(rt: HostRuntime) -> Result<(), Fail> {
     Ok(())
 }
 
-// Payloads of which each breaks the rule of its index, by a committee of four.
+// Payloads under a committee of four; each breaks the rule of its index.
 fn one_for_each_rule(rt: &impl Abort, alloc: Global) -> Result<Vec<Vec<u8>>, Fail> {
     let rows = [
         made(1, 4, &[], &[0, 1, 2]),

@@ -22,7 +22,7 @@ pub fn committed(alloc: Global, rounds: &Rounds) -> Result<Vec<CertRef>, AllocEr
     Ok(anchors)
 }
 
-/// The round of the newest of these anchors, of which the oldest comes first; 0 where there is none.
+/// The round of the newest of these anchors, oldest first; 0 where there is none.
 pub(crate) fn newest_round(anchors: &[CertRef]) -> u32
     ensures { result ≡ newest_in anchors.now }
 {
@@ -33,7 +33,7 @@ pub(crate) fn newest_round(anchors: &[CertRef]) -> u32
 }
 
 /// The committed anchors of a later round than this one, oldest first: what follows the anchors
-/// that were committed before, of which the newest is of this round.
+/// that were committed before; the newest of those is of this round.
 pub(crate) fn anchors_above(
     alloc: Global,
     rounds: &Rounds,

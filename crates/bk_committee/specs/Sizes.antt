@@ -22,7 +22,7 @@ faulty z = (total z - 1) / 3
 abbrev pub quorum : Sizes → ℕ
 quorum z = total z - faulty z
 
--- the weight of a member; whoever is no member weighs nothing
+-- the weight of a member; 0 for a number that is no member's
 abbrev pub weight : Sizes → ℕ → ℕ
 weight z x = slice_index_or z.weights x 0
 

@@ -194,7 +194,7 @@ impl Committee {
     }
 }
 
-// The committee of a payload of which nothing is wrong: of its first byte and the others.
+// The committee of a payload with nothing wrong: of its first byte and the others.
 fn read_committee(
     alloc: Global,
     version: Version,

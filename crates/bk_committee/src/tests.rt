@@ -5,7 +5,7 @@ use std::alloc::{AllocError, Global};
 use std::process::Abort;
 use std::test::Fail;
 
-/// A payload of so many members, of which member j has 32 bytes j as its key.
+/// A payload of this many members; the key of member j is the byte j, 32 times.
 fn payload_of(alloc: Global, members: u8) -> Result<Vec<u8>, AllocError> {
     let mut payload = Vec::new(alloc);
     payload.push(members)?;
@@ -22,7 +22,7 @@ fn committee_of(alloc: Global, members: u8) -> Result<Committee, Bad> {
     }
 }
 
-/// The payload of version Two with these weights, of which member j has 32 bytes j as its key.
+/// The payload of version Two with these weights; the key of member j is the byte j, 32 times.
 fn weighted_payload(alloc: Global, weights: &[u32]) -> Result<Vec<u8>, AllocError> {
     let mut payload = payload_of(alloc, weights.len().min(255) as u8)?;
     for weight in weights {

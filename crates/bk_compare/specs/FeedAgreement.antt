@@ -52,7 +52,7 @@ sources first second = record { first = first; second = second }
 abbrev pub BothWork : Sources → Sources → Type 0
 BothWork old new = Works old.first new.first × Works old.second new.second
 
--- two byte strings encode feeds of which this holds
+-- two byte strings encode feeds, and this holds of the feeds
 pub record OfTheirFeeds (bytes more : List ℕ) (holds : FeedValue → FeedValue → Type 0) : Type 0 where
   pub one : FeedValue
   pub other : FeedValue
@@ -62,7 +62,7 @@ pub record OfTheirFeeds (bytes more : List ℕ) (holds : FeedValue → FeedValue
   pub also_spelled : more ≡ spelling other
   pub it : holds one other
 
--- the bytes of both sources, where they are known, encode feeds of which this holds
+-- the bytes of both sources, where they are known, encode feeds, and this holds of the feeds
 abbrev pub IfBothKnown : Sources → (FeedValue → FeedValue → Type 0) → Type 0
 IfBothKnown s holds =
     IfKnown s.first (λ bytes. IfKnown s.second (λ more. OfTheirFeeds bytes more holds))

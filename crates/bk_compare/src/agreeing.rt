@@ -77,7 +77,7 @@ fn follow_to_end<R: Threads + Wait + Sync, S: Source, G: Gate + Sync>(
     follow_in_pieces(rt, source, piece.as_mut_slice(), follower, gate)
 }
 
-// Compares two Followers, of which each has followed a feed to its end.
+// Compares two Followers. Each has followed a feed to its end.
 fn compare_ended(one: &Follower, other: &Follower) -> Result<Agreed, CompareStop>
     requires one { one.now.fault ≡ None }
     requires other { other.now.fault ≡ None }
@@ -113,7 +113,7 @@ fn compare_with<R: Threads + Wait + Sync, S: Source, G: Gate + Sync>(
     }
 }
 
-// Compares the feeds of two sources, of which each has a Follower.
+// Compares the feeds of two sources, each with a Follower of its own.
 fn compare_both<R: Threads + Wait + Sync, S: Source, T: Source, G: Gate + Sync>(
     rt: &R,
     alloc: Global,

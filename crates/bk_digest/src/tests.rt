@@ -15,7 +15,7 @@ const ABC: &str = "ba7816bf8f01cfea414140de5dae2223b00361a396177a9cb410ff61f2001
 
 const EMPTY: &str = "e3b0c44298fc1c149afbf4c8996fb92427ae41e4649b934ca495991b7852b855";
 
-/// The roots of 0 to 9 leaves, of which leaf j is 24 bytes j.
+/// The roots of 0 to 9 leaves; leaf j is the byte j, 24 times.
 const ROOTS: [&str; 10] = [
     EMPTY,
     "61126de1b795b976f3ac878f48e88fa77a87d7308ba57c7642b9e1068403a496",

@@ -19,10 +19,10 @@ pub(crate) const LEAF_TAG: u8 = 0x00;
 
 pub(crate) const NODE_TAG: u8 = 0x01;
 
-// A thread costs some tens of microseconds, and so many leaves a hundred times that.
+// A thread costs some tens of microseconds, and this many leaves a hundred times that.
 const MIN_PIECE: usize = 16_384;
 
-// No more than twice so many threads are started.
+// No more than twice this many threads are started.
 const PIECES: usize = 64;
 
 /// The root over a list of leaf data. Over no leaves it is SHA-256 of the empty text.

@@ -14,7 +14,7 @@ const MOST: usize = 1 << 25;
 
 const FRAMES: usize = 24;
 
-// Whether so many bytes and frames are worth judging.
+// Whether this many bytes and frames are worth judging.
 fn are_enough(bytes: usize, frames: usize) -> bool {
     MOST <= bytes || LEAST <= bytes && FRAMES <= frames
 }

@@ -19,7 +19,7 @@ ByCode code.Committee failed refused found = found
 ByCode code.Genesis failed refused found = found
 ByCode code.Extra failed refused found = found
 
--- from one moment to a later one a source gave bytes of which this holds
+-- this holds of the bytes that a source gave from one moment to a later one
 abbrev pub Gave : Device → Device → (List ℕ → Type 0) → Type 0
 Gave start now holds = (given : List ℕ) × Gives start now given × holds given
 

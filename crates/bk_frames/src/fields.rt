@@ -94,7 +94,7 @@ impl<'a> Fields<'a> {
         self.take(32)
     }
 
-    /// So many bytes, as they are.
+    /// This many bytes, as they are.
     pub fn take(&mut self, len: usize) -> Option<&'a [u8]>
         ensures found { option_map (λ s. (s.now, self.new)) result ≡ bytes_at len self.old }
         ensures none { IfNone result (self.new ≡ self.old) }

@@ -88,7 +88,7 @@ abbrev pub count_words : Option ℕ → List ℕ
 count_words (Some n) = codes " transactions" ++ spaced n
 count_words None = codes " void"
 
--- of a batch with this digest that holds so many transactions
+-- of a batch with this digest that holds this many transactions
 abbrev pub batch_words : List ℕ → Option ℕ → List ℕ
 batch_words digest count = codes "batch " ++ encode_lower digest ++ count_words count
 

@@ -167,7 +167,7 @@ fn put_line(
     Ok(())
 }
 
-/// Puts the lines of frames with these rows, of which the first stands at this place. The place is then that of the
+/// Puts the lines of frames with these rows. The first frame is at this place, which is then that of the
 /// frame that follows them.
 pub(crate) fn put_lines(
     text: &mut Vec<u8>,

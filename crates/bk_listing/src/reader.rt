@@ -92,7 +92,7 @@ impl FrameReader {
         }
     }
 
-    // How many of so many bytes may be fed at once.
+    // How many of this many bytes may be fed at once.
     fn next_len(&self, len: usize) -> usize
         requires some { 0 < len }
         requires come { (bytes : List ℕ) × (taken : List Frame) × HasCut bytes taken self.now }

@@ -133,7 +133,7 @@ fn batch(alloc: Global, payload: &[u8], digest: Digest32) -> Result<Shown, Alloc
     }
 }
 
-// What the line of a frame says of which this was found.
+// What the line of a frame says, with what was found of it.
 fn row_of(alloc: Global, kind: Kind, payload: &[u8], found: &Found) -> Result<Shown, AllocError>
     requires { (k : CommitteeValue) × IsFound k (frame_of kind payload.now) found.now }
     ensures { IfOk result (λ row. (k : CommitteeValue)
@@ -152,7 +152,7 @@ fn row_of(alloc: Global, kind: Kind, payload: &[u8], found: &Found) -> Result<Sh
     }
 }
 
-/// The rows of frames of which this was found.
+/// The rows of frames, with what was found of each.
 pub(crate) fn rows_of(
     alloc: Global,
     committee: &Committee,

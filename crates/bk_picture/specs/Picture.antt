@@ -69,7 +69,7 @@ pub record AreCellsOf (g : Graph) (from round : ℕ) (cells : List Cell) : Type 
   pub sized : length cells ≡ members g.sizes
   pub each : (x : ℕ) (d : Cell) → x < length cells → IsCellOf g from (at_place round x) (slice_index_or cells x d)
 
--- of the rows of anchors, the first of which is of round 1, the next of round 3, the one of a round
+-- of the rows of anchors, for rounds 1, 3 and so on, the one of a round
 abbrev pub ring_at : List AnchorRow → ℕ → Option AnchorRow
 ring_at rows round = if round % 2 == 1 then slice_get rows (round / 2) else None
 

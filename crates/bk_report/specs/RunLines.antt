@@ -58,7 +58,7 @@ abbrev pub order_lines : List Reject → List CertRef → List CertRef → List 
 order_lines rejected waiting anchors order =
     reject_lines rejected ++ waiting_lines waiting ++ anchor_lines anchors ++ cert_lines order
 
--- batches, of which each holds so many transactions, and the one that is missing
+-- batches, each with its number of transactions, and the one that is missing
 abbrev pub batches_lines : List (Option ℕ) → Option (List ℕ) → List Line
 batches_lines counts missing = batch_lines 0 counts ++ missing_lines missing
 
@@ -74,7 +74,7 @@ rows_lines receipts rows = tx_lines 0 receipts ++ account_lines rows
 abbrev pub ledger_lines : List Receipt → List Row → List Line
 ledger_lines receipts rows = tx_lines 0 receipts ++ account_lines rows ++ ending_lines rows
 
--- the lines of the report of a run over so many frames
+-- the lines of the report of a run over this many frames
 abbrev pub run_lines : CommitteeValue → ℕ → Reading → List Line
 run_lines k frames r =
     head_lines k frames ++ order_lines r.rejected r.waiting r.ordered.anchors r.ordered.order

@@ -1,4 +1,4 @@
-//! Proof texts, read back. Only the text of a proof is sure to be read; whoever reads another
+//! Proof texts, read back. Only the text of a proof is sure to be read; who reads another
 //! compares what comes of it.
 
 ghost use Rattle.std.specs.Prelude.{◌≡◌, ℕ, ◌==◌, ◌^◌, ◌<◌, ◌≤◌, ◌∷◌, ◌++◌, List, Some, IfSome};

@@ -29,7 +29,7 @@ fn line_at(receipts: &[Receipt], rows: &[Row], index: usize) -> Line
     Line::Account { id, balance, seq }
 }
 
-/// Puts so many lines from one on, where there is room for 96 bytes for each.
+/// Puts this many lines from one on, where there is room for 96 bytes for each.
 pub(crate) fn put_lines(
     receipts: &[Receipt],
     rows: &[Row],

@@ -83,7 +83,7 @@ pub struct Sheets {
     d: Sheet,
 }
 
-/// Room for the text of so many lines, `None` where they are not worth several threads.
+/// Room for the text of this many lines, `None` where they are not worth several threads.
 pub fn sheets_for(alloc: Global, lines: usize) -> Result<Option<Sheets>, AllocError> {
     if lines < WORTH_THREADS {
         return Ok(None);

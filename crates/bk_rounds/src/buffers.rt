@@ -28,7 +28,7 @@ impl Buffers {
         }
     }
 
-    /// Empties them, and makes room for so many where there is less.
+    /// Empties them, and makes room for this many where there is less.
     pub fn clear_for(&mut self, most: usize) -> Result<(), AllocError>
         ensures { OnOk result (AreClearFor self.new most) }
     {

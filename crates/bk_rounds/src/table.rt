@@ -306,7 +306,7 @@ fn admitted_number(
     }
 }
 
-// Whether a header is good for so many members.
+// Whether a header is good for this many members.
 fn is_fit(members: u8, header: &Header) -> bool
     ensures member { IsTrue result → header.now.author < members }
     ensures round { IsTrue result → (1 ≤ header.now.round) × (header.now.round ≤ last_round) }

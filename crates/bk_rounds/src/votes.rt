@@ -49,7 +49,7 @@ impl Votes {
         }
     }
 
-    /// Makes the entry for one certificate more than so many.
+    /// Makes the entry for one certificate more than this many.
     pub fn make_room(&mut self, held: usize) -> Result<(), AllocError>
         requires { held ≤ 2 * length self.old.weights.items + 1 }
         ensures same { (r : ℕ) → kept_at self.new r ≡ kept_at self.old r }

@@ -53,7 +53,7 @@ impl Weights {
         self.each.len() as u8
     }
 
-    /// What a member weighs, which is 0 for whoever is no member.
+    /// What a member weighs; 0 for a number that is no member's.
     pub fn weight(&self, member: u8) -> u64
         ensures is { result ≡ weight self.now member }
         ensures small { result < 2 ^ 32 }

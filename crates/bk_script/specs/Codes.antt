@@ -1,4 +1,4 @@
--- Steps of judging a line, of which the first that finds a fault decides.
+-- Steps of judging a line. The first that finds a fault decides.
 use Rattle.std.specs.Prelude.{Result, Ok, Err}
 use Rattle.bk_results.specs.declared.script_fault.ScriptCode.{ScriptCode}
 

@@ -65,7 +65,7 @@ abbrev pub then_list : Result EventList ℕ → (EventList → Result EventList 
 then_list (Ok events) next = next events
 then_list (Err line) next = Err line
 
--- the events with those of these lines, of which the first has this number; or the first line that has a fault
+-- the events with those of these lines, where the first has this number; or the first line that has a fault
 unfoldable pub listed : EventList → ℕ → List (List ℕ) → Result EventList ℕ
 listed events n [] = Ok events
 listed events n (line ∷ lines) = then_list (with_event_line events n line) (λ more. listed more (n + 1) lines)

@@ -43,7 +43,7 @@ abbrev pub then_from : {A : Type 0} → Result Known LineFault → (Known → Re
 then_from (Ok k) next = next k
 then_from (Err found) next = Err found
 
--- what is known after these lines, the first of which has this number; or the first of them that has a fault
+-- what is known after these lines, where the first has this number; or the first of them that has a fault
 unfoldable pub after_lines : Known → ℕ → List (List ℕ) → Result Known LineFault
 after_lines k n [] = Ok k
 after_lines k n (line ∷ lines) = then_from (in_line n (judged k line)) (λ after. after_lines after (n + 1) lines)

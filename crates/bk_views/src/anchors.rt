@@ -71,7 +71,7 @@ fn state_of(is_committed: bool, is_passed: bool, votes: Option<u64>, need: u64) 
     }
 }
 
-// The row of a round, of which it is known whether its anchor is committed, and whether a later one is.
+// The row of a round, where it is known whether its anchor is committed, and whether a later one is.
 fn row_of(rounds: &Rounds, is_committed: bool, is_passed: bool, round: u32) -> AnchorRow
     requires low { 1 ≤ round }
     requires anchor { IsTrue is_committed → (a : CertRef)

@@ -147,7 +147,7 @@ fn received(account: Option<Account>, amount: u64) -> Account
     }
 }
 
-// The account after a transaction of which it is the sender.
+// The account of the sender after a transaction.
 fn after_sending(status: Status, moved: u64, account: Option<Account>) -> Option<Account>
     ensures { seq_of account + 1 < 2 ^ 64 → result ≡ after_sending status moved account }
 {
@@ -158,7 +158,7 @@ fn after_sending(status: Status, moved: u64, account: Option<Account>) -> Option
     }
 }
 
-// The account after a transaction of which it is a receiver.
+// The account of a receiver after a transaction.
 fn after_receiving(status: Status, credited: u64, account: Option<Account>) -> Option<Account>
     ensures { balance_of account + credited < 2 ^ 64
         → result ≡ after_receiving status credited account }

@@ -31,7 +31,7 @@ pub record IsWayTo (z : Sizes) (held : List Node) (last : CertRef) (floor : ℕ)
   pub above : floor < x.round
   pub rest : (b : CertRef) → IsEarlier z held x b → b.round ≤ floor
 
--- the round of the newest of these anchors, of which the oldest comes first; 0 where there is none
+-- the round of the newest of these anchors, oldest first; 0 where there is none
 unfoldable pub newest_in : List CertRef → ℕ
 newest_in [] = 0
 newest_in (a ∷ []) = a.round

@@ -65,7 +65,7 @@ LeavesBy found (fault.Unfinished place) taken text r l old new = ⊥
 LeavesBy found (fault.Write written) taken text r l old new = WaitingFails (fault.Write written) taken text r old new
 LeavesBy found fault.Memory taken text r l old new = WaitingFails fault.Memory taken text r old new
 
--- why a feed of which all bytes came was not listed whole: it ends too early, after the frames that are listed; or the
+-- why a feed was not listed whole though all its bytes came: it ends too early, after the frames that are listed; or the
 -- last frames are not listed
 abbrev pub EndsBy : Fault → List Frame → List ℕ → FrameReader → Lister → Device → Device → Type 0
 EndsBy (fault.Feed found) taken text r l old new = EndsShort r.cutter found × ListsWaiting taken text r l old new

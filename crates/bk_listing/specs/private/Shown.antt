@@ -59,7 +59,7 @@ abbrev pub OpensBy : Version → List Frame → Option CommitteeValue → Option
 OpensBy version frames (Some k) new = new ≡ Some k
 OpensBy version frames None new = IsCommitteeOf version frames new
 
--- why lines did not go out whole after so many bytes: the sink failed, and exactly the first of their bytes are out; or
+-- why lines did not go out whole after this many bytes: the sink failed, and exactly the first of their bytes are out; or
 -- the count of bytes would not fit, and none are
 abbrev pub PushFails : Fault → ℕ → List ℕ → Device → Device → Type 0
 PushFails (fault.Feed found) before lines old new = ⊥

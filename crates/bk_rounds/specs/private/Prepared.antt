@@ -15,7 +15,7 @@ pub record IsPrepared (n : Names) (c : Node) (p : Prepared) : Type 0 where
   pub waits : (q : ℕ) → Contains p.parents.items q → is_marked n.marks.items q ≡ false
       → Contains (row_of n.pending.items q) p.number
 
--- nothing is in the buffers, and so many fit in each
+-- nothing is in the buffers, and this many fit in each
 pub record AreClearFor (b : Buffers) (most : ℕ) : Type 0 where
   pub none : b.out.items ≡ []
   pub room : most ≤ vec_capacity b.out
