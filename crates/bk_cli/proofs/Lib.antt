@@ -1,3 +1,4 @@
 mod InTurn
 mod LineLemmas
+mod ReportLemmas
 mod WordLemmas

@@ -22,3 +22,17 @@ script_line o n m = flat o (codes "script fault") (spaced n) (codes " at line") 
 pub event_line : (o : List ℕ) (n m : ℕ)
     → (((o ++ codes "event") ++ spaced n) ++ codes " refused") ++ spaced m ≡ o ++ (codes "event" ++ spaced n ++ codes " refused" ++ spaced m)
 event_line o n m = flat o (codes "event") (spaced n) (codes " refused") (spaced m)
+
+-- ---- a line that grows by its parts in turn
+
+-- by two
+pub in_two : (k l m a b : List ℕ) → l ≡ k ++ a → m ≡ l ++ b → m ≡ k ++ (a ++ b)
+in_two k l m a b e f = f ∙ (ap (λ t. t ++ b) e ∙ append_assoc k a b)
+
+-- by three
+pub in_three : (k l m n a b c : List ℕ) → l ≡ k ++ a → m ≡ l ++ b → n ≡ m ++ c → n ≡ k ++ ((a ++ b) ++ c)
+in_three k l m n a b c e f g = in_two k m n (a ++ b) c (in_two k l m a b e f) g
+
+-- by a number that is another by name
+pub by_number : (k l : List ℕ) (n m : ℕ) → l ≡ k ++ spaced n → n ≡ m → l ≡ k ++ spaced m
+by_number k l n m e is = e ∙ ap (λ (j : ℕ). k ++ spaced j) is

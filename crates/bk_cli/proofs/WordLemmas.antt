@@ -11,8 +11,9 @@ use Rattle.clap.specs.Words.{App, HasMatchesOf, Row, Text, subcommand_of, subcom
 use Rattle.clap.specs.declared.parser.matches.ArgMatches.{ArgMatches}
 use Rattle.clap.specs.declared.parser.matches.SubCommand.{SubCommand}
 use Rattle.clap.specs.declared.parser.matches.ArgMatches.TheViews.{out-ArgMatches, out-SubCommand}
-use Rattle.bk_cli.specs.CommandLine.{command_line, all_words, AreNamedBy, IsOneOf, IsJobOf, IsJobAt, NamesNoDigest}
+use Rattle.bk_cli.specs.CommandLine.{command_line, all_words, AreNamedBy, AreNotesIn, AreNotesOf, IsOneOf, IsJobOf, IsJobAt, NamesNoDigest}
 use Rattle.bk_cli.specs.declared.job.Job.{Job}
+use Rattle.bk_cli.specs.declared.notes.Notes.{Notes}
 
 -- ---- a parse and its rows
 
@@ -45,6 +46,11 @@ pub job_at_found : (found : Option (Text × List Row)) (name word : Text) (rows 
 job_at_found found name word rows j is same h =
     let is_word : found ≡ Some (word, rows) = is ∙ ap (λ (t : Text). Some (t, rows)) same in
     subst (λ (f : Option (Text × List Row)). IsJobOf f j) (sym is_word) h
+
+-- the notes at these rows are those of the words
+pub notes_at_found : (found : Option (Text × List Row)) (name : Text) (rows : List Row) (n : Notes) → found ≡ Some (name, rows) → AreNotesIn rows n
+    → AreNotesOf found n
+notes_at_found found name rows n is h = subst (λ (f : Option (Text × List Row)). AreNotesOf f n) (sym is) h
 
 -- and where there is none for want of a digest, the words name none
 pub no_digest_at : (found : Option (Text × List Row)) (name word : Text) (rows : List Row) → found ≡ Some (name, rows) → name ≡ word → NamesNoDigest (Some (word, rows))

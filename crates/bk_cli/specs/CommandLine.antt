@@ -1,18 +1,19 @@
 -- The command line, and the job that its words ask for.
-use Rattle.std.specs.Prelude.{◌≡◌, ◌≤◌, ◌<◌, ◌⊎◌, ◌^◌, ℕ, List, [], ◌∷◌, Option, Some, None, true, codes, option_map, string_bytes, pos, unwrap_or}
+use Rattle.std.specs.Prelude.{◌≡◌, ◌≤◌, ◌<◌, ◌⊎◌, ◌^◌, ℕ, Bool, List, [], ◌∷◌, Option, Some, None, true, false, codes, option_map, string_bytes, pos, unwrap_or}
 use Rattle.std.specs.Str.Parse.{IsNumeral, digits_value, without_leading_plus}
 use Rattle.hex.specs.Hex.{encode_lower}
 use Rattle.clap.specs.Values.{kind_of}
 use Rattle.clap.specs.declared.error.Error.{Error}
 use Rattle.clap.specs.declared.error.kind.ErrorKind.TheVariants as kind
 use Rattle.clap.specs.Words.{App, Rule, Row, Text, first_of, one_of, new_app, new_rule, with_rule, with_subcommand}
-use Rattle.clap.specs.declared.builder.action.ArgAction.TheVariants.{Set}
+use Rattle.clap.specs.declared.builder.action.ArgAction.TheVariants.{Set, SetTrue}
 use Rattle.clap.specs.declared.builder.value_parser.ValueParser.TheVariants.{Signed, Unsigned}
 use Rattle.bk_digest.specs.Digest.{IsHexDigest}
 use Rattle.bk_results.specs.declared.query.Query.{Query}
 use Rattle.bk_results.specs.declared.query.Query.TheVariants as query
 use Rattle.bk_cli.specs.declared.job.Job.{Job}
 use Rattle.bk_cli.specs.declared.job.Job.TheVariants as job
+use Rattle.bk_cli.specs.declared.notes.Notes.{Notes}
 use Rattle.bk_cli.specs.declared.verb.Verb.{Verb}
 use Rattle.bk_cli.specs.declared.verb.Verb.TheVariants as verb
 
@@ -77,6 +78,10 @@ rounds_rule = record (new_rule (codes "rounds")) {
   parser = Some (Signed (pos 1) (pos 1000));
 }
 
+-- an option without a value, by its name
+abbrev pub flag_rule : Text → Rule
+flag_rule name = record (new_rule name) { long = Some name; action = Some SetTrue }
+
 -- the argument ID, a number below 2^64
 abbrev pub id_rule : Rule
 id_rule = record (new_rule (codes "ID")) {
@@ -95,33 +100,38 @@ place_rule = record (new_rule (codes "PLACE")) {
 
 -- ---- the commands
 
+-- a command with the options `--progress` and `--verbose`, which every command has
+abbrev pub noted_line : App → App
+noted_line a = with_rule (with_rule a (flag_rule (codes "progress"))) (flag_rule (codes "verbose"))
+
 -- a command `NAME [FILE]`
 abbrev pub file_line : Text → App
-file_line name = with_rule (new_app name) file_rule
+file_line name = noted_line (with_rule (new_app name) file_rule)
 
 -- a command with one argument more in front
 abbrev pub value_line : Text → Rule → App
-value_line name rule = with_rule (with_rule (new_app name) rule) file_rule
+value_line name rule = noted_line (with_rule (with_rule (new_app name) rule) file_rule)
 
 -- a command `NAME [--workers W] VALUE [FILE]`, where the value is this argument
 abbrev pub working_line : Text → Rule → App
-working_line name rule = with_rule (with_rule (with_rule (new_app name) workers_rule) rule) file_rule
+working_line name rule = noted_line (with_rule (with_rule (with_rule (new_app name) workers_rule) rule) file_rule)
 
 -- the command `schedule [--workers W] FEED EVENTS`
 abbrev pub schedule_line : App
 schedule_line =
     let named = new_app (codes "schedule") in
-    with_rule (with_rule (with_rule named workers_rule) feed_rule) events_rule
+    noted_line (with_rule (with_rule (with_rule named workers_rule) feed_rule) events_rule)
 
 -- the command `dag [--from R] [--rounds N] [FILE]`
 abbrev pub dag_line : App
 dag_line =
     let named = new_app (codes "dag") in
-    with_rule (with_rule (with_rule named from_rule) rounds_rule) file_rule
+    noted_line (with_rule (with_rule (with_rule named from_rule) rounds_rule) file_rule)
 
 -- the command `compare FEED1 FEED2`
 abbrev pub compare_line : App
-compare_line = with_rule (with_rule (new_app (codes "compare")) first_feed_rule) second_feed_rule
+compare_line =
+    noted_line (with_rule (with_rule (new_app (codes "compare")) first_feed_rule) second_feed_rule)
 
 -- the word of a command
 abbrev pub word_of : Verb → Text
@@ -293,6 +303,23 @@ IsJobAt word rows (job.Compare first second) =
 abbrev pub IsJobOf : Option (Text × List Row) → Job → Type 0
 IsJobOf None j = ⊥
 IsJobOf (Some found) j = IsJobAt found.0 found.1 j
+
+-- ---- what else is told
+
+-- an option without a value is given: its value is true
+abbrev pub IsOn : Option Text → Bool → Type 0
+IsOn None on = on ≡ false
+IsOn (Some text) on = (text ≡ codes "true" → on ≡ true) × (text ≡ codes "false" → on ≡ false)
+
+-- the notes are the values of `--progress` and `--verbose`
+abbrev pub AreNotesIn : List Row → Notes → Type 0
+AreNotesIn rows notes =
+    IsOn (one_of (codes "progress") rows) notes.progress × IsOn (one_of (codes "verbose") rows) notes.verbose
+
+-- the notes are those of the command that was found in the words
+abbrev pub AreNotesOf : Option (Text × List Row) → Notes → Type 0
+AreNotesOf None notes = ⊥
+AreNotesOf (Some found) notes = AreNotesIn found.1 notes
 
 -- ---- a digest that is none
 

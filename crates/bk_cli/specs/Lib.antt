@@ -1,4 +1,6 @@
 pub mod CommandLine
 pub mod Exits
+pub mod Explanations
 pub mod FaultLines
+pub mod Files
 pub mod Windows

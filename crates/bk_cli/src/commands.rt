@@ -4,7 +4,7 @@ ghost use Rattle.std.specs.Prelude.{◌≡◌, true, false, IfOk};
 ghost use Rattle.clap.specs.Words.{app_of, new_app, rule_of, with_subcommand};
 ghost use Rattle.clap.specs.declared.builder.command.Command.TheViews.{out-Command};
 ghost use Rattle.bk_cli.specs.CommandLine.{program, asking_line, checking_line, viewing_line, command_line, file_line, value_line, schedule_line, working_line};
-ghost use Rattle.bk_cli.specs.CommandLine.{file_rule, workers_rule, required_rule, root_rule, id_rule, place_rule, from_rule, rounds_rule, dag_line, compare_line};
+ghost use Rattle.bk_cli.specs.CommandLine.{flag_rule, noted_line, file_rule, workers_rule, required_rule, root_rule, id_rule, place_rule, from_rule, rounds_rule, dag_line, compare_line};
 
 use crate::help::{self, Help};
 use crate::more_help;
@@ -77,6 +77,17 @@ fn place_arg<'a>(alloc: Global) -> Arg<'a>
         .help(help::PLACE)
 }
 
+// An option without a value.
+fn flag_arg<'a>(alloc: Global, name: &'a str, text: &'a str) -> Arg<'a>
+    ensures rule { rule_of result ≡ flag_rule name.now }
+    ensures local { result.global ≡ false }
+{
+    Arg::new(alloc, name)
+        .long(name)
+        .action(ArgAction::SetTrue)
+        .help(text)
+}
+
 // A command of this name and help, without arguments.
 fn named<'a>(alloc: Global, name: &'a str, text: Help<'a>) -> Command<'a>
     ensures line { app_of result ≡ new_app name.now }
@@ -87,12 +98,24 @@ fn named<'a>(alloc: Global, name: &'a str, text: Help<'a>) -> Command<'a>
         .after_help(text.after)
 }
 
+// The command with the options that every command has.
+fn noted<'a>(alloc: Global, command: Command<'a>) -> Result<Command<'a>, AllocError>
+    requires { (out-Command command).has_globals ≡ false }
+    ensures line { IfOk result (λ c. app_of c ≡ noted_line (app_of command.entry)) }
+    ensures local { IfOk result (λ c. (out-Command c).has_globals ≡ false) }
+{
+    command
+        .arg(flag_arg(alloc, "progress", help::PROGRESS))?
+        .arg(flag_arg(alloc, "verbose", help::VERBOSE))
+}
+
 // The command `NAME [FILE]`.
 fn file_command<'a>(alloc: Global, name: &'a str, text: Help<'a>) -> Result<Command<'a>, AllocError>
     ensures line { IfOk result (λ c. app_of c ≡ file_line name.now) }
     ensures local { IfOk result (λ c. (out-Command c).has_globals ≡ false) }
 {
-    named(alloc, name, text).arg(file_arg(alloc))
+    let command = named(alloc, name, text).arg(file_arg(alloc))?;
+    noted(alloc, command)
 }
 
 // The same with one argument more in front.
@@ -106,7 +129,8 @@ fn value_command<'a>(
     ensures line { IfOk result (λ c. app_of c ≡ value_line name.now (rule_of value.entry)) }
     ensures local { IfOk result (λ c. (out-Command c).has_globals ≡ false) }
 {
-    named(alloc, name, text).arg(value)?.arg(file_arg(alloc))
+    let command = named(alloc, name, text).arg(value)?.arg(file_arg(alloc))?;
+    noted(alloc, command)
 }
 
 // A command `NAME [--workers W] VALUE [FILE]`.
@@ -120,10 +144,11 @@ fn working_command<'a>(
     ensures line { IfOk result (λ c. app_of c ≡ working_line name.now (rule_of value.entry)) }
     ensures local { IfOk result (λ c. (out-Command c).has_globals ≡ false) }
 {
-    named(alloc, name, text)
+    let command = named(alloc, name, text)
         .arg(workers_arg(alloc, help::WORKERS))?
         .arg(value)?
-        .arg(file_arg(alloc))
+        .arg(file_arg(alloc))?;
+    noted(alloc, command)
 }
 
 // The command `schedule [--workers W] FEED EVENTS`.
@@ -131,10 +156,11 @@ fn schedule_command<'a>(alloc: Global) -> Result<Command<'a>, AllocError>
     ensures line { IfOk result (λ c. app_of c ≡ schedule_line) }
     ensures local { IfOk result (λ c. (out-Command c).has_globals ≡ false) }
 {
-    named(alloc, "schedule", more_help::SCHEDULE)
+    let command = named(alloc, "schedule", more_help::SCHEDULE)
         .arg(workers_arg(alloc, help::EVENT_WORKERS))?
         .arg(required_arg(alloc, "FEED", help::FEED))?
-        .arg(required_arg(alloc, "EVENTS", help::EVENTS))
+        .arg(required_arg(alloc, "EVENTS", help::EVENTS))?;
+    noted(alloc, command)
 }
 
 // The option `--from R`.
@@ -168,10 +194,11 @@ fn dag_command<'a>(alloc: Global) -> Result<Command<'a>, AllocError>
     ensures line { IfOk result (λ c. app_of c ≡ dag_line) }
     ensures local { IfOk result (λ c. (out-Command c).has_globals ≡ false) }
 {
-    named(alloc, "dag", help::DAG)
+    let command = named(alloc, "dag", help::DAG)
         .arg(from_arg(alloc))?
         .arg(rounds_arg(alloc))?
-        .arg(file_arg(alloc))
+        .arg(file_arg(alloc))?;
+    noted(alloc, command)
 }
 
 // The command `compare FEED1 FEED2`.
@@ -179,9 +206,10 @@ fn compare_command<'a>(alloc: Global) -> Result<Command<'a>, AllocError>
     ensures line { IfOk result (λ c. app_of c ≡ compare_line) }
     ensures local { IfOk result (λ c. (out-Command c).has_globals ≡ false) }
 {
-    named(alloc, "compare", more_help::COMPARE)
+    let command = named(alloc, "compare", more_help::COMPARE)
         .arg(required_arg(alloc, "FEED1", help::FEED1))?
-        .arg(required_arg(alloc, "FEED2", help::FEED2))
+        .arg(required_arg(alloc, "FEED2", help::FEED2))?;
+    noted(alloc, command)
 }
 
 // The program with one command `NAME [FILE]` more. It is handed on from one such call to the next, so that a caller

@@ -13,8 +13,8 @@ use bk_digest::Digest32;
 use bk_frames::{Sink, push_all};
 use bk_results::{CompareStop, Differ, EventsFault, Fault, ScriptFault};
 
-// Puts a space and the digits of a digest where there is room for 65 bytes.
-fn put_digest(line: &mut ShortLine, digest: &Digest32)
+/// Puts a space and the digits of a digest where there is room for 65 bytes.
+pub(crate) fn put_digest(line: &mut ShortLine, digest: &Digest32)
     requires { array_vec_len line.old + 65 ≤ 192 }
     ensures items { line.new.items ≡ line.old.items ++ digits_of digest.now }
     ensures len { array_vec_len line.new ≡ array_vec_len line.old + 65 }
@@ -163,8 +163,8 @@ fn put_compare(line: &mut ShortLine, stop: &CompareStop)
     }
 }
 
-// The line of a fault.
-fn fault_line(fault: &JobFault) -> ShortLine
+/// The line of a fault.
+pub(crate) fn fault_line(fault: &JobFault) -> ShortLine
     ensures { result.items ≡ line_of fault.now }
 {
     let mut line = ShortLine::new();

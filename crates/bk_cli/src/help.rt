@@ -12,6 +12,12 @@ pub(crate) const FILE: &str = "The path of the file; standard input by default";
 pub(crate) const WORKERS: &str =
     "How many threads execute at most, 1 to 64; 1 by default. The output is the same for any number";
 
+pub(crate) const PROGRESS: &str =
+    "Tell on standard error how many bytes are read, and how many transactions are executed";
+
+pub(crate) const VERBOSE: &str =
+    "After the line of a fault, tell in one more line what is wrong, in words and with the name of the file";
+
 pub(crate) const FROM: &str = "The first round that is drawn, 1 to 1,000,000; 1 by default";
 
 pub(crate) const ROUNDS: &str = "How many rounds are drawn, 1 to 1,000; 40 by default";

@@ -1,23 +1,19 @@
 //! What the command line asks for.
 
-ghost use Rattle.std.specs.Prelude.{◌≡◌, ◌≤◌, ◌⊎◌, ◌^◌, true, [], map, option_map, string_bytes, codes, unwrap_or, Some, IfOk, IfErr, MatchOption};
-ghost use Rattle.clap.specs.Kinds.{FailsBy, HasKind};
-ghost use Rattle.clap.specs.Words.{fault_of, has_subcommand, kind_of, one_text, first_value, found_of, rows_of};
-ghost use Rattle.clap.specs.Words.{subcommand_of, subcommand_rows_of, takes};
+ghost use Rattle.std.specs.Prelude.{◌≡◌, ◌≤◌, ◌^◌, [], option_map, string_bytes, codes, unwrap_or, Some, IfOk, MatchOption};
+ghost use Rattle.clap.specs.Words.{one_text, first_value, found_of, rows_of};
 ghost use Rattle.bk_cli.specs.declared.job.Job.TheVariants as job;
-ghost use Rattle.bk_cli.specs.CommandLine.{IsFileIn, IsOfRoot, NamesNoDigest};
-ghost use Rattle.bk_cli.specs.CommandLine.{IsJobOf, IsJobAt, AreNamedBy, IsChosenBy, IsNumberBy, command_line, word_of};
+ghost use Rattle.bk_cli.specs.CommandLine.{IsFileIn, NamesNoDigest};
+ghost use Rattle.bk_cli.specs.CommandLine.{IsJobAt, AreNamedBy, IsChosenBy, IsNumberBy, word_of};
+ghost use Rattle.bk_cli.specs.Files.{file_of, second_file_of};
 
-use crate::commands::command;
 use crate::verb::Verb;
 use crate::window::{MOST_FROM, MOST_ROUNDS, Window};
 use crate::workers::Workers;
 use bk_digest::Digest32;
 use bk_results::Query;
-use clap::error::ErrorKind;
-use clap::{ArgMatches, Error};
+use clap::ArgMatches;
 use std::alloc::{AllocError, Global};
-use std::convert::AsStr;
 
 /// What the program is to do. A `file` is a path; standard input is read where there is none.
 #[derive(Debug, Drop)]
@@ -94,7 +90,9 @@ pub enum Job {
 
 impl Job {
     /// The path of the feed, of the script or of the proof, where one is named; of two feeds that of the first.
-    pub fn file(&self) -> Option<&str> {
+    pub fn file(&self) -> Option<&str>
+        ensures { option_map (λ s. s.now) result ≡ file_of self.now }
+    {
         match self {
             Job::Run { file, .. }
             | Job::Make { file }
@@ -112,7 +110,9 @@ impl Job {
 
     /// The path of the other file that is read, where there is one: the text that is said to be a report, a list of events,
     /// or a second feed.
-    pub fn second_file(&self) -> Option<&str> {
+    pub fn second_file(&self) -> Option<&str>
+        ensures { option_map (λ s. s.now) result ≡ second_file_of self.now }
+    {
         match self {
             Job::Run { .. }
             | Job::Make { .. }
@@ -127,18 +127,6 @@ impl Job {
             Job::Compare { second, .. } => Some(second.as_str()),
         }
     }
-}
-
-// The matches of the words; every command line that is whole names a command.
-fn matches_of<'a, S: AsStr>(alloc: Global, words: &'a [S]) -> Result<ArgMatches<'a>, Error>
-    ensures found { IfOk result (λ m. subcommand_rows_of m
-        ≡ subcommand_of command_line (map S.text words.now)) }
-    ensures named { IfOk result (λ m. has_subcommand m ≡ true) }
-    ensures kinds { FailsBy (fault_of command_line (map S.text words.now)) result }
-    ensures error { IfErr result (λ e. takes command_line (map S.text words.now) ≡ true
-        → kind_of e ≡ ErrorKind.OutOfMemory) }
-{
-    command(alloc)?.try_get_matches_from(words)
 }
 
 // The text in a string of its own, where there is one.
@@ -298,8 +286,12 @@ fn ask_one(asked: Query, file: Option<String>) -> Job
     }
 }
 
-// The job of a command, with the values of its arguments. There is none where a ROOT has to be a digest and is not.
-fn job_of(alloc: Global, verb: Verb, found: &ArgMatches<'_>) -> Result<Option<Job>, AllocError>
+/// The job of a command, with the values of its arguments. There is none where a ROOT has to be a digest and is not.
+pub(crate) fn job_of(
+    alloc: Global,
+    verb: Verb,
+    found: &ArgMatches<'_>,
+) -> Result<Option<Job>, AllocError>
     ensures { IfOk result (λ made. MatchOption made
         (NamesNoDigest (Some (word_of verb, rows_of (found_of found.now))))
         (IsJobAt (word_of verb) (rows_of (found_of found.now)))) }
@@ -348,38 +340,4 @@ fn job_of(alloc: Global, verb: Verb, found: &ArgMatches<'_>) -> Result<Option<Jo
             Ok(Some(job))
         }
     }
-}
-
-// The error of a ROOT that is not a digest.
-fn no_digest(alloc: Global) -> Result<Error, AllocError>
-    ensures { IfOk result (λ e. kind_of e ≡ ErrorKind.ValueValidation) }
-{
-    command(alloc)?.error(
-        ErrorKind::ValueValidation,
-        "ROOT is not a digest: 64 hexadecimal digits in lower case",
-    )
-}
-
-/// Reads the words of a command line; the first is the program's name.
-///
-/// An error is a fault of the words, a request for help or for the version, or that memory ran out; its kind says which.
-/// Words without a fault give a job, and those with one an error of the fault's kind, unless memory ran out. A ROOT of
-/// `check-state` that is not a digest is a fault of the kind `ValueValidation`.
-pub fn parse<'a, S: AsStr>(alloc: Global, words: &'a [S]) -> Result<Job, Error>
-    ensures job { IfOk result (IsJobOf (subcommand_of command_line (map S.text words.now))) }
-    ensures whole { IfOk result (λ _. fault_of command_line (map S.text words.now) ≡ []) }
-    ensures kinds { IfErr result (λ e. HasKind (fault_of command_line (map S.text words.now)) e
-        ⊎ IsOfRoot e (subcommand_of command_line (map S.text words.now))) }
-    ensures error { IfErr result (λ e. takes command_line (map S.text words.now) ≡ true
-        → (kind_of e ≡ ErrorKind.OutOfMemory)
-        ⊎ IsOfRoot e (subcommand_of command_line (map S.text words.now))) }
-{
-    let matches = matches_of(alloc, words)?;
-    let Some((name, found)) = matches.subcommand() else {
-        unreachable!()
-    };
-    let Some(job) = job_of(alloc, Verb::of(name), found)? else {
-        return Err(no_digest(alloc)?);
-    };
-    Ok(job)
 }

@@ -1,11 +1,14 @@
 //! The command line: from words to a job, and from the fault of a job to its line and its exit status.
 //!
-//! [`parse`] reads the words of a command line. [`report`] writes the one line of a fault, and [`Exit::after`] is the
-//! exit status that goes with it. Nothing here reads a file or does a job.
+//! [`parse_line`] reads the words of a command line, and [`parse`] only the job that they name. [`report`] writes the one
+//! line of a fault, [`tell`] the same and what is wrong in words, and [`Exit::after`] is the exit status that goes with
+//! it. Nothing here reads a file or does a job.
 #![tactic(auto)]
 
+mod about;
 mod commands;
 mod exit;
+mod explain;
 mod fault_line;
 mod help;
 mod job;
@@ -13,15 +16,21 @@ mod job_fault;
 mod line;
 mod list_fault;
 mod more_help;
+mod notes;
+mod parsing;
+mod telling;
 mod verb;
 mod window;
 mod workers;
 
 pub use exit::Exit;
 pub use fault_line::report;
-pub use job::{Job, parse};
+pub use job::Job;
 pub use job_fault::JobFault;
 pub use line::{ShortLine, put_number, put_text};
 pub use list_fault::ListFault;
+pub use notes::Notes;
+pub use parsing::{Line, parse, parse_line};
+pub use telling::{tell, tell_of};
 pub use window::Window;
 pub use workers::Workers;

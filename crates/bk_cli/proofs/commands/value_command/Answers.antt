@@ -2,9 +2,10 @@
 use Rattle.std.proofs.Common.{ap, ap₂, ◌∙◌}
 use Rattle.std.proofs.lemmas.Result.{IfOk-weaker}
 use Rattle.clap.specs.Words.{with_rule, rule_of}
+use Rattle.bk_cli.specs.CommandLine.{noted_line}
 use Rattle.bk_cli.proofs.commands.value_command.Goals as goal
 
 pub returns-clause-line : goal.returns-clause-line
 returns-clause-line c =
-    IfOk-weaker c.arg-2.result _ _ (λ r h. h.shape c.file_arg.ensures.local
-    ∙ ap₂ with_rule (c.in_ok-arg.ensures.shape c.requires ∙ ap (λ a. with_rule a (rule_of c.args.value)) c.named.ensures.line) c.file_arg.ensures.rule) c.arg-2.ensures
+    IfOk-weaker c.noted.result _ _ (λ r h. h ∙ ap noted_line (c.in_ok-command.ensures.shape c.file_arg.ensures.local
+    ∙ ap₂ with_rule (c.in_ok-arg.ensures.shape c.requires ∙ ap (λ a. with_rule a (rule_of c.args.value)) c.named.ensures.line) c.file_arg.ensures.rule)) c.noted.ensures.line

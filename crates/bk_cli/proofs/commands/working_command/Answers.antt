@@ -1,12 +1,12 @@
 -- The command is what the definition writes: each part by its contract.
-use Rattle.std.proofs.Common.{ap₂, ◌≡◌, ◌∙◌, refl}
+use Rattle.std.proofs.Common.{ap, ap₂, ◌≡◌, ◌∙◌, refl}
 use Rattle.std.proofs.lemmas.Result.{IfOk-weaker}
 use Rattle.clap.specs.Words.{app_of, rule_of, with_rule, new_app}
-use Rattle.bk_cli.specs.CommandLine.{workers_rule}
+use Rattle.bk_cli.specs.CommandLine.{noted_line, workers_rule}
 use Rattle.bk_cli.proofs.commands.working_command.Goals as goal
 
 pub returns-clause-line : goal.returns-clause-line
 returns-clause-line c =
     let with_workers : app_of c.in_ok-arg.field-0 ≡ with_rule (new_app c.args.name.now) workers_rule = c.in_ok-arg.ensures.shape c.workers_arg.ensures.local ∙ ap₂ with_rule c.named.ensures.line c.workers_arg.ensures.rule in
     let with_value : app_of c.in_ok-arg-2.field-0 ≡ with_rule (with_rule (new_app c.args.name.now) workers_rule) (rule_of c.args.value) = c.in_ok-arg-2.ensures.shape c.requires ∙ ap₂ with_rule with_workers (refl) in
-    IfOk-weaker c.arg-3.result _ _ (λ r h. h.shape c.file_arg.ensures.local ∙ ap₂ with_rule with_value c.file_arg.ensures.rule) c.arg-3.ensures
+    IfOk-weaker c.noted.result _ _ (λ r h. h ∙ ap noted_line (c.in_ok-command.ensures.shape c.file_arg.ensures.local ∙ ap₂ with_rule with_value c.file_arg.ensures.rule)) c.noted.ensures.line

@@ -5,8 +5,8 @@ use Rattle.std.proofs.lemmas.Result.{err_from_is_err_and}
 use Rattle.clap.specs.Words.{rows_of, found_of, subcommand_of}
 use Rattle.bk_cli.specs.CommandLine.{command_line, word_of, IsJobAt, NamesNoDigest}
 use Rattle.bk_cli.specs.declared.job.Job.{Job}
-use Rattle.bk_cli.proofs.WordLemmas.{what_is_found, job_at_found, no_digest_at, one_of_all, are_text}
-use Rattle.bk_cli.proofs.job.parse.Goals as goal
+use Rattle.bk_cli.proofs.WordLemmas.{what_is_found, job_at_found, notes_at_found, no_digest_at, one_of_all, are_text}
+use Rattle.bk_cli.proofs.parsing.parse_line.Goals as goal
 
 pub of-requires-text-word : goal.of-requires-text-word
 of-requires-text-word g c κs =
@@ -29,6 +29,11 @@ returns-clause-job g c =
     let it : IsJobAt (word_of c.of.result) rows c.in-Some-2.job = subst (λ (o : Option Job). MatchOption o (NamesNoDigest (Some (word_of c.of.result, rows))) (IsJobAt (word_of c.of.result) rows)) c.in-Some-2.is c.in_ok-job.ensures in
     job_at_found (subcommand_of command_line (map g.S.AsStr.text c.args.words.now)) c.in-Some.name.now (word_of c.of.result) rows c.in-Some-2.job
     (what_is_found c.in_ok-matches.matches (map g.S.AsStr.text c.args.words.now) _ _ c.in_ok-matches.ensures.found c.in-Some.ensures.name c.in-Some.ensures.rows) c.of.ensures it
+
+pub returns-clause-notes : goal.returns-clause-notes
+returns-clause-notes g c =
+    notes_at_found (subcommand_of command_line (map g.S.AsStr.text c.args.words.now)) c.in-Some.name.now (rows_of (found_of c.in-Some.found.now)) c.found_in-notes.result
+    (what_is_found c.in_ok-matches.matches (map g.S.AsStr.text c.args.words.now) _ _ c.in_ok-matches.ensures.found c.in-Some.ensures.name c.in-Some.ensures.rows) c.found_in-notes.ensures
 
 pub returns-clause-whole : goal.returns-clause-whole
 returns-clause-whole g c = c.in_ok-matches.ensures.kinds

@@ -5,7 +5,7 @@ use Rattle.clap.specs.Kinds.{FailsBy}
 use Rattle.clap.specs.Words.{App, fault_of, is_simple_and_free, takes}
 use Rattle.bk_cli.specs.CommandLine.{command_line}
 use Rattle.bk_cli.proofs.WordLemmas.{named_by_words}
-use Rattle.bk_cli.proofs.job.matches_of.Goals as goal
+use Rattle.bk_cli.proofs.parsing.matches_of.Goals as goal
 
 -- the parser's clause speaks of commands like this one
 is_of_this_form : (a : App) → a ≡ command_line → is_simple_and_free a ≡ true

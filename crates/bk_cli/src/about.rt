@@ -1,0 +1,76 @@
+//! What a fault is about: one of the files of a job, or its output.
+
+ghost use Rattle.std.specs.Prelude.{◌≡◌};
+ghost use Rattle.bk_cli.specs.Files.{about_of, compare_about, name_of, reads_report, replay_about, text_about};
+
+use crate::job::Job;
+use crate::job_fault::JobFault;
+use bk_results::{CompareStop, Fault, ScriptFault};
+
+/// What a fault is about.
+#[derive(Clone, Copy, Debug, PartialEq, Eq)]
+pub(crate) enum About {
+    /// The first file of the job, or standard input.
+    First,
+    /// The second.
+    Second,
+    /// Standard output.
+    Output,
+}
+
+// What is wrong where a feed was not replayed.
+fn about_replay(fault: &Fault) -> About
+    ensures { result ≡ replay_about fault.now }
+{
+    match fault {
+        Fault::Write { .. } => About::Output,
+        _ => About::First,
+    }
+}
+
+// What is wrong where a text was not read or answered.
+fn about_text(job: &Job, fault: &ScriptFault) -> About
+    ensures { result ≡ text_about job.now fault.now }
+{
+    match (fault, job) {
+        (ScriptFault::Write { .. }, _) => About::Output,
+        (ScriptFault::Read, Job::CheckReport { .. }) => About::Second,
+        _ => About::First,
+    }
+}
+
+// What is wrong where two feeds do not agree.
+fn about_compare(stop: &CompareStop) -> About
+    ensures { result ≡ compare_about stop.now }
+{
+    match stop {
+        CompareStop::First(fault) => about_replay(fault),
+        CompareStop::Second(_) | CompareStop::Differ(_) => About::Second,
+    }
+}
+
+impl About {
+    /// What a fault of a job is about.
+    pub(crate) fn of(job: &Job, fault: &JobFault) -> About
+        ensures { result ≡ about_of job.now fault.now }
+    {
+        match fault {
+            JobFault::Replay(fault) => about_replay(fault),
+            JobFault::Text(fault) => about_text(job, fault),
+            JobFault::Events(_) => About::Second,
+            JobFault::Compared(stop) => about_compare(stop),
+            JobFault::AbsentAccount { .. } | JobFault::AbsentPlace { .. } => About::First,
+        }
+    }
+
+    /// Its name.
+    pub(crate) fn name(self, job: &Job) -> &str
+        ensures { result.now ≡ name_of job.now self }
+    {
+        match self {
+            About::First => job.file().unwrap_or("standard input"),
+            About::Second => job.second_file().unwrap_or("standard input"),
+            About::Output => "standard output",
+        }
+    }
+}

@@ -1,0 +1,35 @@
+//! What else is told on standard error.
+
+ghost use Rattle.std.specs.Prelude.{codes};
+ghost use Rattle.clap.specs.Words.{found_of, one_text, rows_of};
+ghost use Rattle.bk_cli.specs.CommandLine.{AreNotesIn, IsOn};
+
+use clap::ArgMatches;
+
+/// What is told on standard error besides the line of a fault.
+#[derive(Clone, Copy, Debug, PartialEq, Eq)]
+pub struct Notes {
+    /// How far the job is, while it runs.
+    pub progress: bool,
+    /// After the line of a fault, what is wrong in words, with the name of the file.
+    pub verbose: bool,
+}
+
+// Whether an option without a value is given.
+fn flag_in(found: &ArgMatches<'_>, name: &str) -> bool
+    ensures { IsOn (one_text (found_of found.now) name.now) result }
+{
+    found.get_flag(name)
+}
+
+impl Notes {
+    /// The values of `--progress` and `--verbose`.
+    pub(crate) fn found_in(found: &ArgMatches<'_>) -> Notes
+        ensures { AreNotesIn (rows_of (found_of found.now)) result }
+    {
+        Notes {
+            progress: flag_in(found, "progress"),
+            verbose: flag_in(found, "verbose"),
+        }
+    }
+}

@@ -1,0 +1,88 @@
+//! From the words of a command line to a job.
+
+ghost use Rattle.std.specs.Prelude.{◌≡◌, ◌⊎◌, true, [], map, IfOk, IfErr};
+ghost use Rattle.clap.specs.Kinds.{FailsBy, HasKind};
+ghost use Rattle.clap.specs.Words.{fault_of, has_subcommand, kind_of, subcommand_of, subcommand_rows_of, takes};
+ghost use Rattle.bk_cli.specs.CommandLine.{AreNotesOf, IsJobOf, IsOfRoot, command_line};
+
+use crate::commands::command;
+use crate::job::{Job, job_of};
+use crate::notes::Notes;
+use crate::verb::Verb;
+use clap::error::ErrorKind;
+use clap::{ArgMatches, Error};
+use std::alloc::{AllocError, Global};
+use std::convert::AsStr;
+
+/// What a command line says.
+#[derive(Debug, Drop)]
+pub struct Line {
+    /// What the program is to do.
+    pub job: Job,
+    /// What it tells while it does it, and after a fault.
+    pub notes: Notes,
+}
+
+// The matches of the words; every command line that is whole names a command.
+fn matches_of<'a, S: AsStr>(alloc: Global, words: &'a [S]) -> Result<ArgMatches<'a>, Error>
+    ensures found { IfOk result (λ m. subcommand_rows_of m
+        ≡ subcommand_of command_line (map S.text words.now)) }
+    ensures named { IfOk result (λ m. has_subcommand m ≡ true) }
+    ensures kinds { FailsBy (fault_of command_line (map S.text words.now)) result }
+    ensures error { IfErr result (λ e. takes command_line (map S.text words.now) ≡ true
+        → kind_of e ≡ ErrorKind.OutOfMemory) }
+{
+    command(alloc)?.try_get_matches_from(words)
+}
+
+// The error of a ROOT that is not a digest.
+fn no_digest(alloc: Global) -> Result<Error, AllocError>
+    ensures { IfOk result (λ e. kind_of e ≡ ErrorKind.ValueValidation) }
+{
+    command(alloc)?.error(
+        ErrorKind::ValueValidation,
+        "ROOT is not a digest: 64 hexadecimal digits in lower case",
+    )
+}
+
+/// Reads the words of a command line; the first is the program's name.
+///
+/// An error is a fault of the words, a request for help or for the version, or that memory ran out; its kind says which.
+/// Words without a fault give a job, and those with one an error of the fault's kind, unless memory ran out. A ROOT of
+/// `check-state` that is not a digest is a fault of the kind `ValueValidation`.
+pub fn parse_line<'a, S: AsStr>(alloc: Global, words: &'a [S]) -> Result<Line, Error>
+    ensures job { IfOk result (λ l. IsJobOf (subcommand_of command_line (map S.text words.now)) l.job) }
+    ensures notes { IfOk result (λ l. AreNotesOf (subcommand_of command_line (map S.text words.now)) l.notes) }
+    ensures whole { IfOk result (λ _. fault_of command_line (map S.text words.now) ≡ []) }
+    ensures kinds { IfErr result (λ e. HasKind (fault_of command_line (map S.text words.now)) e
+        ⊎ IsOfRoot e (subcommand_of command_line (map S.text words.now))) }
+    ensures error { IfErr result (λ e. takes command_line (map S.text words.now) ≡ true
+        → (kind_of e ≡ ErrorKind.OutOfMemory)
+        ⊎ IsOfRoot e (subcommand_of command_line (map S.text words.now))) }
+{
+    let matches = matches_of(alloc, words)?;
+    let Some((name, found)) = matches.subcommand() else {
+        unreachable!()
+    };
+    let Some(job) = job_of(alloc, Verb::of(name), found)? else {
+        return Err(no_digest(alloc)?);
+    };
+    let notes = Notes::found_in(found);
+    Ok(Line { job, notes })
+}
+
+/// The job of the words of a command line, as [`parse_line`] reads them.
+pub fn parse<'a, S: AsStr>(alloc: Global, words: &'a [S]) -> Result<Job, Error>
+    ensures job { IfOk result (IsJobOf (subcommand_of command_line (map S.text words.now))) }
+    ensures whole { IfOk result (λ _. fault_of command_line (map S.text words.now) ≡ []) }
+    ensures kinds { IfErr result (λ e. HasKind (fault_of command_line (map S.text words.now)) e
+        ⊎ IsOfRoot e (subcommand_of command_line (map S.text words.now))) }
+    ensures error { IfErr result (λ e. takes command_line (map S.text words.now) ≡ true
+        → (kind_of e ≡ ErrorKind.OutOfMemory)
+        ⊎ IsOfRoot e (subcommand_of command_line (map S.text words.now))) }
+{
+    match parse_line(alloc, words) {
+        Ok(Line { job, .. }) => Ok(job),
+        Err(error) => Err(error),
+    }
+}
