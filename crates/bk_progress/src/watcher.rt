@@ -1,0 +1,13 @@
+//! Who watches a job.
+
+use bk_pool::{Gate, Open};
+
+/// A gate that is told when the job is over, before anything is said of a fault.
+pub trait Watcher: Gate {
+    /// The job has its answer, or a fault.
+    fn ended(&self);
+}
+
+impl Watcher for Open {
+    fn ended(&self) {}
+}
