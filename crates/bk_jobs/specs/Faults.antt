@@ -24,7 +24,8 @@ use Rattle.bk_results.specs.declared.script_fault.ScriptFault.TheVariants as tex
 use Rattle.bk_jobs.specs.Comparisons.{AgreeNot, AgreementFailsBy, AgreementIsOut, AreStoppedTogether, AreWrongTogether, IfBothGive}
 use Rattle.bk_jobs.specs.Reports.{ClaimCheckFailsBy, ClaimIsOut, ClaimIsUnread}
 use Rattle.bk_cli.specs.Exits.{absence, ending, exit_at, exit_by, exit_after}
-use Rattle.bk_cli.specs.FaultLines.{Reports, line_of}
+use Rattle.bk_cli.specs.Explanations.{told_of}
+use Rattle.bk_cli.specs.FaultLines.{Reports}
 use Rattle.bk_cli.specs.Windows.{WindowValue}
 use Rattle.bk_jobs.specs.Schedules.{AreNoEvents, AreRefused, IsWholeRun, ListFailsBy, ScheduleFailsBy}
 use Rattle.bk_jobs.specs.Sources.{AreBroken, Inputs, JobDevices, first_devices}
@@ -196,10 +197,10 @@ ComparisonFailsBy (job.Apply file) e old new = ⊥
 ComparisonFailsBy (job.Schedule workers feed events) e old new = ⊥
 ComparisonFailsBy (job.Compare first second) e old new = AgreeNot e old new
 
--- what a query asks for is absent, and no call failed
+-- what a query asks for is absent, no call failed, and nothing is written
 abbrev pub IsAbsentBy : Query → JobFault → Devices → Devices → Type 0
 IsAbsentBy asked e old new =
-    (absence asked ≡ Err e) × Works old.source new.source × Works old.sink new.sink
+    (absence asked ≡ Err e) × Works old.source new.source × IsUntouched old.sink new.sink
     × IfKnown old.source (λ bytes. IsReplied asked reply.Absent bytes old.sink new.sink)
 
 -- what a job asks for is absent
@@ -235,16 +236,18 @@ JobFailsBy j (fault.Compared e) old new = ComparisonFailsBy j e old new
 JobFailsBy j (fault.AbsentAccount id) old new = IsAbsentFor j (fault.AbsentAccount id) old new
 JobFailsBy j (fault.AbsentPlace place) old new = IsAbsentFor j (fault.AbsentPlace place) old new
 
--- a job ended by this fault: its exit and its line are the fault's, and the devices are as it says
-pub record EndsBy (j : Job) (e : JobFault) (end : Exit) (old new : JobDevices) (err err' : Device)
+-- a job ended by this fault, of which this is said on standard error: its exit is the fault's, and the devices are as the
+-- fault says
+pub record EndsBy (j : Job) (said : JobFault → List ℕ) (e : JobFault) (end : Exit) (old new : JobDevices) (err err' : Device)
     : Type 0 where
   pub exit_is : end ≡ exit_after e
   pub fault : JobFailsBy j e old new
-  pub line : Reports (line_of e) err err'
+  pub line : Reports (said e) err err'
 
--- the end is that of a fault, whose line is on standard error
-abbrev pub EndsWithLine : Exit → Device → Device → Type 0
-EndsWithLine end err err' = (e : JobFault) × (end ≡ exit_after e) × Reports (line_of e) err err'
+-- the end is that of a fault, which is told on standard error
+abbrev pub EndsWithLine : Bool → Exit → Device → Device → Type 0
+EndsWithLine verbose end err err' =
+    (e : JobFault) × (name : List ℕ) × (end ≡ exit_after e) × Reports (told_of verbose name e) err err'
 
 -- ---- bytes to blame
 

@@ -10,7 +10,7 @@ ghost use Rattle.bk_jobs.specs.Sources.{AllWork, inputs, job_devices};
 use bk_claim::{ClaimStop, Verdict, check_report};
 use bk_cli::{Exit, JobFault, Workers};
 use bk_frames::{Sink, Source};
-use bk_pool::Open;
+use bk_pool::Gate;
 use bk_script::ScriptFault;
 use std::sync::Wait;
 use std::thread::Threads;
@@ -37,8 +37,9 @@ fn fault_of(stop: ClaimStop) -> JobFault
 }
 
 /// Writes the verdict on whether a text is the report of a feed. The text is read once the feed's report is made.
-pub(crate) fn check_claim<R, S1: Source, S2: Source, O: Sink>(
+pub(crate) fn check_claim<R, G: Gate + Sync, S1: Source, S2: Source, O: Sink>(
     rt: &R,
+    gate: &G,
     workers: Workers,
     feed: &mut S1,
     claimed: &mut S2,
@@ -60,7 +61,7 @@ where
         (job_devices (S1.state feed.old) (S2.state claimed.old) (O.state out.old))
         (job_devices (S1.state feed.new) (S2.state claimed.new) (O.state out.new))) }
 {
-    match check_report(rt, rt.alloc(), feed, claimed, out, workers.count(), &Open) {
+    match check_report(rt, rt.alloc(), feed, claimed, out, workers.count(), gate) {
         Ok(verdict) => Ok(exit_by(verdict)),
         Err(stop) => Err(fault_of(stop)),
     }

@@ -8,7 +8,7 @@ ghost use Rattle.bk_jobs.specs.Sources.{AllWork, inputs, job_devices};
 use bk_cli::{Exit, JobFault, ShortLine, put_number, put_text};
 use bk_compare::compare;
 use bk_frames::{Sink, Source, push_all};
-use bk_pool::Open;
+use bk_pool::Gate;
 use bk_results::{Agreed, Fault};
 use std::sync::Wait;
 use std::thread::Threads;
@@ -26,8 +26,9 @@ fn agree_line(agreed: Agreed) -> ShortLine
 }
 
 /// Writes how far the feeds of two sources agree. The second is read once the first was followed to its end.
-pub(crate) fn compare_feeds<R, S1: Source, S2: Source, O: Sink>(
+pub(crate) fn compare_feeds<R, G: Gate + Sync, S1: Source, S2: Source, O: Sink>(
     rt: &R,
+    gate: &G,
     first: &mut S1,
     second: &mut S2,
     out: &mut O,
@@ -48,7 +49,7 @@ where
         (job_devices (S1.state first.old) (S2.state second.old) (O.state out.old))
         (job_devices (S1.state first.new) (S2.state second.new) (O.state out.new))) }
 {
-    let agreed = compare(rt, rt.alloc(), first, second, 1, &Open)?;
+    let agreed = compare(rt, rt.alloc(), first, second, 1, gate)?;
     match push_all(out, agree_line(agreed).as_slice()) {
         Ok(()) => Ok(Exit::Whole),
         Err(fault) => Err(JobFault::Replay(Fault::from(fault))),

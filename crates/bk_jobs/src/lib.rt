@@ -16,4 +16,4 @@ mod scheduling;
 mod texts;
 
 pub use opening::open_and_run;
-pub use running::run_job;
+pub use running::{Watch, run_job, run_watched};

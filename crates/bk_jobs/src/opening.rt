@@ -5,11 +5,13 @@ ghost use Rattle.bk_frames.specs.Device.{CanBeUsed};
 ghost use Rattle.bk_results.specs.Devices.{IsUntouched};
 ghost use Rattle.bk_cli.specs.Exits.{is_answer, is_refusal, may_end, writes_ahead};
 ghost use Rattle.bk_jobs.specs.Faults.{AnswerIsOut, EndsWithLine};
+ghost use Rattle.bk_jobs.specs.Openings.{Ran};
 ghost use Rattle.bk_jobs.specs.Sources.{inputs};
 
-use crate::running::run_job;
-use bk_cli::{Exit, Job, JobFault, report};
+use crate::running::{Watch, run_watched};
+use bk_cli::{Exit, Job, JobFault, Line, tell, tell_of};
 use bk_frames::{Counted, Sink};
+use bk_progress::{Metered, Progress};
 use bk_results::Fault;
 use bk_script::ScriptFault;
 use std::fs;
@@ -17,177 +19,251 @@ use std::io::{BufReader, Read};
 use std::rt::Files;
 use std::sync::Wait;
 use std::thread::Threads;
+use std::time::Clock;
 
 // How many bytes are read ahead, so that small pulls cost little. The number is none of the format's.
 const AHEAD: usize = 65_536;
 
 // Reports a file that cannot be opened.
-fn not_opened<E: Sink>(err: &mut E) -> Exit
+fn not_opened<E: Sink>(path: &str, verbose: bool, err: &mut E) -> Exit
     requires { CanBeUsed (E.state err.old) }
     ensures failed { result ≡ Exit.Failed }
-    ensures line { EndsWithLine result (E.state err.old) (E.state err.new) }
+    ensures line { EndsWithLine verbose result (E.state err.old) (E.state err.new) }
 {
-    report(&JobFault::Text(ScriptFault::Read), err);
+    tell_of(path, verbose, &JobFault::Text(ScriptFault::Read), err);
     Exit::Failed
+}
+
+// Reports that there is no memory to read ahead.
+fn no_memory<E: Sink>(line: &Line, err: &mut E) -> Exit
+    requires { CanBeUsed (E.state err.old) }
+    ensures failed { result ≡ Exit.Failed }
+    ensures line { EndsWithLine line.now.notes.verbose result (E.state err.old) (E.state err.new) }
+{
+    let fault = JobFault::Replay(Fault::Memory);
+    tell(&line.job, line.notes.verbose, &fault, err);
+    Exit::Failed
+}
+
+// How many bytes a file has, where that is known.
+fn size_of<R: Files>(rt: &R, path: &str) -> Option<u64> {
+    match fs::metadata(rt, path) {
+        Ok(found) if found.is_file() => Some(found.len()),
+        _ => None,
+    }
+}
+
+// Counts the bytes that are going to be read.
+fn expect_files<R: Files + Clock + Eprint>(rt: &R, job: &Job, progress: &Progress<'_, R>) {
+    if !progress.is_shown() {
+        return;
+    }
+    match job.file() {
+        Some(path) => progress.expect(size_of(rt, path)),
+        None => progress.expect(None),
+    }
+    if let Some(path) = job.second_file() {
+        progress.expect(size_of(rt, path));
+    }
 }
 
 // Opens the feed, after the text that is said to be its report, and runs the job.
 fn open_feed<R, J: Read + Drop, O: Sink, E: Sink>(
     rt: &R,
-    job: &Job,
+    line: &Line,
+    progress: &Progress<'_, R>,
     claimed: J,
     out: &mut O,
     err: &mut E,
 ) -> Exit
 where
-    R: Files + Input + AllocGlobal + Threads + Wait + Sync,
+    R: Files + Input + Eprint + Clock + AllocGlobal + Threads + Wait + Sync,
     requires out { CanBeUsed (O.state out.old) }
     requires err { CanBeUsed (E.state err.old) }
-    ensures quiet { is_answer job.now result ≡ true → err.new ≡ err.old }
-    ensures line { is_answer job.now result ≡ false
-        → EndsWithLine result (E.state err.old) (E.state err.new) }
-    ensures unwritten { is_refusal result ≡ true → writes_ahead job.now ≡ false
+    ensures quiet { is_answer line.now.job result ≡ true → err.new ≡ err.old }
+    ensures line { is_answer line.now.job result ≡ false
+        → EndsWithLine line.now.notes.verbose result (E.state err.old) (E.state err.new) }
+    ensures unwritten { is_refusal result ≡ true → writes_ahead line.now.job ≡ false
         → IsUntouched (O.state out.old) (O.state out.new) }
-    ensures ends { may_end job.now result ≡ true }
+    ensures ends { may_end line.now.job result ≡ true }
+    ensures ran { Ran line.now.job line.now.notes.verbose result
+        (O.state out.old) (O.state out.new) (E.state err.old) (E.state err.new) }
 {
-    match job.file() {
+    match line.job.file() {
         Some(path) => match fs::open(rt, path) {
-            Ok(feed) => run_over(rt, job, feed, claimed, out, err),
-            Err(_) => not_opened(err),
+            Ok(feed) => run_over(rt, line, progress, feed, claimed, out, err),
+            Err(_) => not_opened(path, line.notes.verbose, err),
         },
-        None => run_over(rt, job, rt.reader(), claimed, out, err),
+        None => run_over(rt, line, progress, rt.reader(), claimed, out, err),
     }
 }
 
 // Opens the text that is said to be a report, and then the feed, and runs the job.
 fn open_report<R, O: Sink, E: Sink>(
     rt: &R,
-    job: &Job,
+    line: &Line,
+    progress: &Progress<'_, R>,
     report: &str,
     out: &mut O,
     err: &mut E,
 ) -> Exit
 where
-    R: Files + Input + AllocGlobal + Threads + Wait + Sync,
+    R: Files + Input + Eprint + Clock + AllocGlobal + Threads + Wait + Sync,
     requires out { CanBeUsed (O.state out.old) }
     requires err { CanBeUsed (E.state err.old) }
-    ensures quiet { is_answer job.now result ≡ true → err.new ≡ err.old }
-    ensures line { is_answer job.now result ≡ false
-        → EndsWithLine result (E.state err.old) (E.state err.new) }
-    ensures unwritten { is_refusal result ≡ true → writes_ahead job.now ≡ false
+    ensures quiet { is_answer line.now.job result ≡ true → err.new ≡ err.old }
+    ensures line { is_answer line.now.job result ≡ false
+        → EndsWithLine line.now.notes.verbose result (E.state err.old) (E.state err.new) }
+    ensures unwritten { is_refusal result ≡ true → writes_ahead line.now.job ≡ false
         → IsUntouched (O.state out.old) (O.state out.new) }
-    ensures ends { may_end job.now result ≡ true }
+    ensures ends { may_end line.now.job result ≡ true }
+    ensures ran { Ran line.now.job line.now.notes.verbose result
+        (O.state out.old) (O.state out.new) (E.state err.old) (E.state err.new) }
 {
     match fs::open(rt, report) {
-        Ok(claimed) => open_feed(rt, job, claimed, out, err),
-        Err(_) => not_opened(err),
+        Ok(claimed) => open_feed(rt, line, progress, claimed, out, err),
+        Err(_) => not_opened(report, line.notes.verbose, err),
     }
 }
 
-/// Opens what the job names, in the order of its words and before anything is read, and runs it.
+/// Opens what the job names, in the order of its words and before anything is read, and runs it, watched by `progress`.
 ///
 /// Standard input is read where no file is named. A file that cannot be opened ends with `Failed` and `read failed`. An
-/// end that is no answer has the line of its fault on `err`.
-pub fn open_and_run<R, O: Sink, E: Sink>(rt: &R, job: &Job, out: &mut O, err: &mut E) -> Exit
+/// end that is no answer has the line of its fault on `err`, and where the notes are verbose one more line in words.
+pub fn open_and_run<R, O: Sink, E: Sink>(
+    rt: &R,
+    line: &Line,
+    progress: &Progress<'_, R>,
+    out: &mut O,
+    err: &mut E,
+) -> Exit
 where
-    R: Files + Input + AllocGlobal + Threads + Wait + Sync,
+    R: Files + Input + Eprint + Clock + AllocGlobal + Threads + Wait + Sync,
     requires out { CanBeUsed (O.state out.old) }
     requires err { CanBeUsed (E.state err.old) }
-    ensures quiet { is_answer job.now result ≡ true → err.new ≡ err.old }
-    ensures line { is_answer job.now result ≡ false
-        → EndsWithLine result (E.state err.old) (E.state err.new) }
-    ensures unwritten { is_refusal result ≡ true → writes_ahead job.now ≡ false
+    ensures quiet { is_answer line.now.job result ≡ true → err.new ≡ err.old }
+    ensures line { is_answer line.now.job result ≡ false
+        → EndsWithLine line.now.notes.verbose result (E.state err.old) (E.state err.new) }
+    ensures unwritten { is_refusal result ≡ true → writes_ahead line.now.job ≡ false
         → IsUntouched (O.state out.old) (O.state out.new) }
-    ensures ends { may_end job.now result ≡ true }
+    ensures ends { may_end line.now.job result ≡ true }
+    ensures ran { Ran line.now.job line.now.notes.verbose result
+        (O.state out.old) (O.state out.new) (E.state err.old) (E.state err.new) }
 {
-    match job {
-        Job::CheckReport { report, .. } => open_report(rt, job, report.as_str(), out, err),
-        _ => open_first(rt, job, out, err),
+    expect_files(rt, &line.job, progress);
+    match &line.job {
+        Job::CheckReport { report, .. } => open_report(
+            rt,
+            line,
+            progress,
+            report.as_str(),
+            out,
+            err,
+        ),
+        _ => open_first(rt, line, progress, out, err),
     }
 }
 
 // Opens the first file, where the job names one, then the second, and runs the job.
-fn open_first<R, O: Sink, E: Sink>(rt: &R, job: &Job, out: &mut O, err: &mut E) -> Exit
+fn open_first<R, O: Sink, E: Sink>(
+    rt: &R,
+    line: &Line,
+    progress: &Progress<'_, R>,
+    out: &mut O,
+    err: &mut E,
+) -> Exit
 where
-    R: Files + Input + AllocGlobal + Threads + Wait + Sync,
+    R: Files + Input + Eprint + Clock + AllocGlobal + Threads + Wait + Sync,
     requires out { CanBeUsed (O.state out.old) }
     requires err { CanBeUsed (E.state err.old) }
-    ensures quiet { is_answer job.now result ≡ true → err.new ≡ err.old }
-    ensures line { is_answer job.now result ≡ false
-        → EndsWithLine result (E.state err.old) (E.state err.new) }
-    ensures unwritten { is_refusal result ≡ true → writes_ahead job.now ≡ false
+    ensures quiet { is_answer line.now.job result ≡ true → err.new ≡ err.old }
+    ensures line { is_answer line.now.job result ≡ false
+        → EndsWithLine line.now.notes.verbose result (E.state err.old) (E.state err.new) }
+    ensures unwritten { is_refusal result ≡ true → writes_ahead line.now.job ≡ false
         → IsUntouched (O.state out.old) (O.state out.new) }
-    ensures ends { may_end job.now result ≡ true }
+    ensures ends { may_end line.now.job result ≡ true }
+    ensures ran { Ran line.now.job line.now.notes.verbose result
+        (O.state out.old) (O.state out.new) (E.state err.old) (E.state err.new) }
 {
-    match job.file() {
+    match line.job.file() {
         Some(path) => match fs::open(rt, path) {
-            Ok(first) => open_second(rt, job, first, out, err),
-            Err(_) => not_opened(err),
+            Ok(first) => open_second(rt, line, progress, first, out, err),
+            Err(_) => not_opened(path, line.notes.verbose, err),
         },
-        None => open_second(rt, job, rt.reader(), out, err),
+        None => open_second(rt, line, progress, rt.reader(), out, err),
     }
 }
 
 // Opens the second file, where the job names one, and runs the job.
 fn open_second<R, I: Read + Drop, O: Sink, E: Sink>(
     rt: &R,
-    job: &Job,
+    line: &Line,
+    progress: &Progress<'_, R>,
     first: I,
     out: &mut O,
     err: &mut E,
 ) -> Exit
 where
-    R: Files + AllocGlobal + Threads + Wait + Sync,
+    R: Files + Eprint + Clock + AllocGlobal + Threads + Wait + Sync,
     requires out { CanBeUsed (O.state out.old) }
     requires err { CanBeUsed (E.state err.old) }
-    ensures quiet { is_answer job.now result ≡ true → err.new ≡ err.old }
-    ensures line { is_answer job.now result ≡ false
-        → EndsWithLine result (E.state err.old) (E.state err.new) }
-    ensures unwritten { is_refusal result ≡ true → writes_ahead job.now ≡ false
+    ensures quiet { is_answer line.now.job result ≡ true → err.new ≡ err.old }
+    ensures line { is_answer line.now.job result ≡ false
+        → EndsWithLine line.now.notes.verbose result (E.state err.old) (E.state err.new) }
+    ensures unwritten { is_refusal result ≡ true → writes_ahead line.now.job ≡ false
         → IsUntouched (O.state out.old) (O.state out.new) }
-    ensures ends { may_end job.now result ≡ true }
+    ensures ends { may_end line.now.job result ≡ true }
+    ensures ran { Ran line.now.job line.now.notes.verbose result
+        (O.state out.old) (O.state out.new) (E.state err.old) (E.state err.new) }
 {
     let nothing: &[u8] = b"";
-    match job.second_file() {
+    match line.job.second_file() {
         Some(path) => match fs::open(rt, path) {
-            Ok(second) => run_over(rt, job, first, second, out, err),
-            Err(_) => not_opened(err),
+            Ok(second) => run_over(rt, line, progress, first, second, out, err),
+            Err(_) => not_opened(path, line.notes.verbose, err),
         },
-        None => run_over(rt, job, first, nothing, out, err),
+        None => run_over(rt, line, progress, first, nothing, out, err),
     }
 }
 
 // Runs a job over its inputs. Small pulls are made of the first alone.
 fn run_over<R, I: Read + Drop, J: Read + Drop, O: Sink, E: Sink>(
     rt: &R,
-    job: &Job,
+    line: &Line,
+    progress: &Progress<'_, R>,
     first: I,
     second: J,
     out: &mut O,
     err: &mut E,
 ) -> Exit
 where
-    R: AllocGlobal + Threads + Wait + Sync,
+    R: Eprint + Clock + AllocGlobal + Threads + Wait + Sync,
     requires out { CanBeUsed (O.state out.old) }
     requires err { CanBeUsed (E.state err.old) }
-    ensures whole { is_answer job.now result ≡ true → AnswerIsOut job.now result
+    ensures whole { is_answer line.now.job result ≡ true → AnswerIsOut line.now.job result
         (inputs (I.remaining first) (J.remaining second)) (O.state out.old) (O.state out.new) }
-    ensures quiet { is_answer job.now result ≡ true → err.new ≡ err.old }
-    ensures line { is_answer job.now result ≡ false
-        → EndsWithLine result (E.state err.old) (E.state err.new) }
-    ensures unwritten { is_refusal result ≡ true → writes_ahead job.now ≡ false
+    ensures quiet { is_answer line.now.job result ≡ true → err.new ≡ err.old }
+    ensures line { is_answer line.now.job result ≡ false
+        → EndsWithLine line.now.notes.verbose result (E.state err.old) (E.state err.new) }
+    ensures unwritten { is_refusal result ≡ true → writes_ahead line.now.job ≡ false
         → IsUntouched (O.state out.old) (O.state out.new) }
-    ensures ends { may_end job.now result ≡ true }
+    ensures ends { may_end line.now.job result ≡ true }
+    ensures ran { Ran line.now.job line.now.notes.verbose result
+        (O.state out.old) (O.state out.new) (E.state err.old) (E.state err.new) }
 {
     let Ok(reader) = BufReader::with_capacity(rt.alloc(), AHEAD, first) else {
-        report(&JobFault::Replay(Fault::Memory), err);
-        return Exit::Failed;
+        return no_memory(line, err);
     };
-    run_job(
+    let watch = Watch {
+        watcher: progress,
+        verbose: line.notes.verbose,
+    };
+    run_watched(
         rt,
-        job,
-        &mut Counted::new(reader),
-        &mut Counted::new(second),
+        &line.job,
+        &watch,
+        &mut Metered::new(Counted::new(reader), progress),
+        &mut Metered::new(Counted::new(second), progress),
         out,
         err,
     )

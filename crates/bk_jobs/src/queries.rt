@@ -11,7 +11,7 @@ ghost use Rattle.bk_jobs.specs.Faults.{QueryFailsBy, ReplyIsOut};
 use bk_ask::ask;
 use bk_cli::{Exit, JobFault, Workers};
 use bk_frames::{Sink, Source};
-use bk_pool::Open;
+use bk_pool::Gate;
 use bk_results::{Query, Reply};
 use std::sync::Wait;
 use std::thread::Threads;
@@ -42,13 +42,16 @@ fn end_of(asked: &Query, found: Reply) -> Result<Exit, JobFault>
 }
 
 /// Writes the reply to a query.
-pub(crate) fn reply<R: Threads + Wait + Sync + AllocGlobal, S: Source, O: Sink>(
+pub(crate) fn reply<R, G: Gate + Sync, S: Source, O: Sink>(
     rt: &R,
+    gate: &G,
     asked: &Query,
     workers: Workers,
     source: &mut S,
     out: &mut O,
 ) -> Result<Exit, JobFault>
+where
+    R: Threads + Wait + Sync + AllocGlobal,
     requires source { CanBeUsed (S.state source.old) }
     requires out { CanBeUsed (O.state out.old) }
     ensures reply { IfOk result (λ end. IfKnown (S.state source.old)
@@ -61,6 +64,6 @@ pub(crate) fn reply<R: Threads + Wait + Sync + AllocGlobal, S: Source, O: Sink>(
         (devices (S.state source.old) (O.state out.old))
         (devices (S.state source.new) (O.state out.new))) }
 {
-    let found = ask(rt, rt.alloc(), source, out, *asked, workers.count(), &Open)?;
+    let found = ask(rt, rt.alloc(), source, out, *asked, workers.count(), gate)?;
     end_of(asked, found)
 }

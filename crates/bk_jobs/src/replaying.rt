@@ -13,19 +13,22 @@ use bk_apply::apply;
 use bk_cli::{Exit, Workers};
 use bk_follow::replay;
 use bk_frames::{Sink, Source};
-use bk_pool::Open;
+use bk_pool::Gate;
 use bk_results::Fault;
 use bk_summary::summarize;
 use std::sync::Wait;
 use std::thread::Threads;
 
 /// Writes the report of a run.
-pub(crate) fn run<R: Threads + Wait + Sync + AllocGlobal, S: Source, O: Sink>(
+pub(crate) fn run<R, G: Gate + Sync, S: Source, O: Sink>(
     rt: &R,
+    gate: &G,
     workers: Workers,
     source: &mut S,
     out: &mut O,
 ) -> Result<Exit, Fault>
+where
+    R: Threads + Wait + Sync + AllocGlobal,
     requires source { CanBeUsed (S.state source.old) }
     requires out { CanBeUsed (O.state out.old) }
     ensures report { IfOk result (λ end. IfKnown (S.state source.old)
@@ -36,17 +39,20 @@ pub(crate) fn run<R: Threads + Wait + Sync + AllocGlobal, S: Source, O: Sink>(
     ensures fault { IfErr result (λ e. RunFailsBy e (devices (S.state source.old) (O.state out.old))
         (devices (S.state source.new) (O.state out.new))) }
 {
-    let status = replay(rt, rt.alloc(), source, out, workers.count(), &Open)?;
+    let status = replay(rt, rt.alloc(), source, out, workers.count(), gate)?;
     Ok(Exit::at(status))
 }
 
 /// Writes the summary of a feed.
-pub(crate) fn sum_up<R: Threads + Wait + Sync + AllocGlobal, S: Source, O: Sink>(
+pub(crate) fn sum_up<R, G: Gate + Sync, S: Source, O: Sink>(
     rt: &R,
+    gate: &G,
     workers: Workers,
     source: &mut S,
     out: &mut O,
 ) -> Result<Exit, Fault>
+where
+    R: Threads + Wait + Sync + AllocGlobal,
     requires source { CanBeUsed (S.state source.old) }
     requires out { CanBeUsed (O.state out.old) }
     ensures report { IfOk result (λ end. IfKnown (S.state source.old)
@@ -58,7 +64,7 @@ pub(crate) fn sum_up<R: Threads + Wait + Sync + AllocGlobal, S: Source, O: Sink>
         (devices (S.state source.old) (O.state out.old))
         (devices (S.state source.new) (O.state out.new))) }
 {
-    let status = summarize(rt, rt.alloc(), source, out, workers.count(), &Open)?;
+    let status = summarize(rt, rt.alloc(), source, out, workers.count(), gate)?;
     Ok(Exit::at(status))
 }
 

@@ -4,6 +4,8 @@ ghost use Rattle.std.specs.Prelude.{◌≡◌, true, false, OnOk, IfOk, IfErr};
 ghost use Rattle.bk_frames.specs.Device.{CanBeUsed};
 ghost use Rattle.bk_results.specs.Devices.{IsUntouched};
 ghost use Rattle.bk_cli.specs.declared.job_fault.JobFault.{JobFault as AnyFault};
+ghost use Rattle.bk_cli.specs.Explanations.{told};
+ghost use Rattle.bk_cli.specs.FaultLines.{line_of};
 ghost use Rattle.bk_cli.specs.Exits.{is_answer, is_refusal, may_end, reads_second, writes_ahead};
 ghost use Rattle.bk_jobs.specs.Faults.{EndsBy, JobFailsBy, AnswerIsOut, AreToBlame};
 ghost use Rattle.bk_jobs.specs.Sources.{AllWork, inputs, job_devices};
@@ -16,19 +18,24 @@ use crate::queries::reply;
 use crate::replaying::{apply_all, run, sum_up};
 use crate::scheduling::schedule;
 use crate::texts::{check, make_feed};
-use bk_cli::{Exit, Job, JobFault, report};
+use bk_cli::{Exit, Job, JobFault, tell};
 use bk_frames::{Sink, Source};
+use bk_pool::{Gate, Open};
+use bk_progress::Watcher;
 use std::sync::Wait;
 use std::thread::Threads;
 
 // Writes the answer of a job.
-fn answer<R: Threads + Wait + Sync + AllocGlobal, S1: Source, S2: Source, O: Sink>(
+fn answer<R, G: Gate + Sync, S1: Source, S2: Source, O: Sink>(
     rt: &R,
     job: &Job,
+    gate: &G,
     first: &mut S1,
     second: &mut S2,
     out: &mut O,
 ) -> Result<Exit, JobFault>
+where
+    R: Threads + Wait + Sync + AllocGlobal,
     requires first { CanBeUsed (S1.state first.old) }
     requires second { reads_second job.now ≡ true → CanBeUsed (S2.state second.old) }
     requires out { CanBeUsed (O.state out.old) }
@@ -47,7 +54,7 @@ fn answer<R: Threads + Wait + Sync + AllocGlobal, S1: Source, S2: Source, O: Sin
 {
     match job {
         Job::Run { workers, .. } => {
-            let end = run(rt, *workers, first, out)?;
+            let end = run(rt, gate, *workers, first, out)?;
             Ok(end)
         }
         Job::Make { .. } => {
@@ -59,11 +66,11 @@ fn answer<R: Threads + Wait + Sync + AllocGlobal, S1: Source, S2: Source, O: Sin
             Ok(end)
         }
         Job::CheckReport { workers, .. } => {
-            let end = check_claim(rt, *workers, first, second, out)?;
+            let end = check_claim(rt, gate, *workers, first, second, out)?;
             Ok(end)
         }
         Job::Ask { workers, asked, .. } => {
-            let end = reply(rt, asked, *workers, first, out)?;
+            let end = reply(rt, gate, asked, *workers, first, out)?;
             Ok(end)
         }
         Job::Frames { .. } => {
@@ -71,7 +78,7 @@ fn answer<R: Threads + Wait + Sync + AllocGlobal, S1: Source, S2: Source, O: Sin
             Ok(end)
         }
         Job::Summary { workers, .. } => {
-            let end = sum_up(rt, *workers, first, out)?;
+            let end = sum_up(rt, gate, *workers, first, out)?;
             Ok(end)
         }
         Job::Dag { window, .. } => {
@@ -87,8 +94,64 @@ fn answer<R: Threads + Wait + Sync + AllocGlobal, S1: Source, S2: Source, O: Sin
             Ok(end)
         }
         Job::Compare { .. } => {
-            let end = compare_feeds(rt, first, second, out)?;
+            let end = compare_feeds(rt, gate, first, second, out)?;
             Ok(end)
+        }
+    }
+}
+
+/// How a job is watched.
+#[derive(Drop)]
+pub struct Watch<'a, W> {
+    /// What its workers call between their steps, and what is told when the job is over.
+    pub watcher: &'a W,
+    /// Whether a fault is told in words too.
+    pub verbose: bool,
+}
+
+/// Runs a job as [`run_job`] does, and lets it be watched. Where the watch is verbose, the line of a fault has one more
+/// after it, which says in words what is wrong and where, with the name of the file.
+pub fn run_watched<R, W: Watcher + Sync, S1: Source, S2: Source, O: Sink, E: Sink>(
+    rt: &R,
+    job: &Job,
+    watch: &Watch<'_, W>,
+    first: &mut S1,
+    second: &mut S2,
+    out: &mut O,
+    err: &mut E,
+) -> Exit
+where
+    R: Threads + Wait + Sync + AllocGlobal,
+    requires first { CanBeUsed (S1.state first.old) }
+    requires second { reads_second job.now ≡ true → CanBeUsed (S2.state second.old) }
+    requires out { CanBeUsed (O.state out.old) }
+    requires err { CanBeUsed (E.state err.old) }
+    ensures whole { is_answer job.now result ≡ true → AnswerIsOut job.now result
+        (inputs (S1.state first.old).bytes (S2.state second.old).bytes)
+        (O.state out.old) (O.state out.new) }
+    ensures sound { is_answer job.now result ≡ true → AllWork
+        (job_devices (S1.state first.old) (S2.state second.old) (O.state out.old))
+        (job_devices (S1.state first.new) (S2.state second.new) (O.state out.new))
+        × (err.new ≡ err.old) }
+    ensures fault { is_answer job.now result ≡ false → (e : AnyFault)
+        × EndsBy job.now (told watch.now.verbose job.now) e result
+        (job_devices (S1.state first.old) (S2.state second.old) (O.state out.old))
+        (job_devices (S1.state first.new) (S2.state second.new) (O.state out.new))
+        (E.state err.old) (E.state err.new) }
+    ensures ends { may_end job.now result ≡ true }
+    ensures blame { is_refusal result ≡ true → AreToBlame job.now result
+        (inputs (S1.state first.old).bytes (S2.state second.old).bytes) }
+    ensures unwritten { is_refusal result ≡ true → writes_ahead job.now ≡ false
+        → IsUntouched (O.state out.old) (O.state out.new) }
+    ensures second { reads_second job.now ≡ false → second.new ≡ second.old }
+{
+    let found = answer(rt, job, watch.watcher, first, second, out);
+    watch.watcher.ended();
+    match found {
+        Ok(exit) => exit,
+        Err(fault) => {
+            tell(job, watch.verbose, &fault, err);
+            Exit::after(&fault)
         }
     }
 }
@@ -96,7 +159,7 @@ fn answer<R: Threads + Wait + Sync + AllocGlobal, S1: Source, S2: Source, O: Sin
 /// Runs a job, and returns how the program ends.
 ///
 /// The sources are what `Job::file` and `Job::second_file` name; a job of one file does not read the second. `out` is
-/// standard output and `err` standard error, whose failures are ignored.
+/// standard output and `err` standard error, whose failures are ignored. Nothing watches.
 ///
 /// - `Whole` and `Missing`: the whole answer is on `out`, and nothing on `err`.
 /// - `No`, of a check of a proof, of a digest or of a report: it is bad, which is the answer on `out`. Nothing is on `err`.
@@ -125,7 +188,7 @@ pub fn run_job<R: Threads + Wait + Sync + AllocGlobal, S1: Source, S2: Source, O
         (job_devices (S1.state first.old) (S2.state second.old) (O.state out.old))
         (job_devices (S1.state first.new) (S2.state second.new) (O.state out.new))
         × (err.new ≡ err.old) }
-    ensures fault { is_answer job.now result ≡ false → (e : AnyFault) × EndsBy job.now e result
+    ensures fault { is_answer job.now result ≡ false → (e : AnyFault) × EndsBy job.now line_of e result
         (job_devices (S1.state first.old) (S2.state second.old) (O.state out.old))
         (job_devices (S1.state first.new) (S2.state second.new) (O.state out.new))
         (E.state err.old) (E.state err.new) }
@@ -136,11 +199,9 @@ pub fn run_job<R: Threads + Wait + Sync + AllocGlobal, S1: Source, S2: Source, O
         → IsUntouched (O.state out.old) (O.state out.new) }
     ensures second { reads_second job.now ≡ false → second.new ≡ second.old }
 {
-    match answer(rt, job, first, second, out) {
-        Ok(exit) => exit,
-        Err(fault) => {
-            report(&fault, err);
-            Exit::after(&fault)
-        }
-    }
+    let watch = Watch {
+        watcher: &Open,
+        verbose: false,
+    };
+    run_watched(rt, job, &watch, first, second, out, err)
 }

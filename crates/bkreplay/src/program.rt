@@ -1,17 +1,18 @@
 //! From the words of the command line to the exit status.
 
-ghost use Rattle.std.specs.Prelude.{◌≡◌, ◌⊎◌, map, true};
+ghost use Rattle.std.specs.Prelude.{◌≡◌, ◌⊎◌, Bool as AnyBool, map, true, false};
 ghost use Rattle.bk_frames.specs.Device.{CanBeUsed};
 ghost use Rattle.bk_results.specs.Devices.{IsUntouched};
 ghost use Rattle.bk_cli.specs.Exits.{has_fault, is_refusal, is_report};
 ghost use Rattle.bk_jobs.specs.Faults.{EndsWithLine};
 ghost use Rattle.bk_cli.specs.CommandLine.{NamesFrames, command_line};
 ghost use Rattle.clap.specs.Words.{subcommand_of};
-ghost use Rattle.bkreplay.specs.Endings.{EndsByKind};
+ghost use Rattle.bkreplay.specs.Endings.{EndsByKind, IsTold, RanWords};
 
-use bk_cli::{Exit, JobFault, parse, report};
+use bk_cli::{Exit, JobFault, Line, parse_line, report};
 use bk_frames::{Sink, push_all};
 use bk_jobs::open_and_run;
+use bk_progress::{Manner, Progress};
 use bk_results::Fault;
 use clap::Error;
 use clap::error::ErrorKind;
@@ -19,40 +20,62 @@ use std::convert::AsStr;
 use std::rt::{Env, Files};
 use std::sync::Wait;
 use std::thread::Threads;
+use std::time::Clock;
 use std::{env, io};
 
-/// Reads the words, opens the files and runs the job; returns how the program ends.
-pub(crate) fn program<R, O: Sink, E: Sink>(rt: &R, out: &mut O, err: &mut E) -> Exit
+/// Reads the words, opens the files and runs the job; returns how the program ends. Standard error may be a terminal, on
+/// which progress is told in one line.
+pub(crate) fn program<R, O: Sink, E: Sink>(rt: &R, terminal: bool, out: &mut O, err: &mut E) -> Exit
 where
-    R: Env + Files + Input + Print + Eprint + AllocGlobal + Threads + Wait + Sync,
+    R: Env + Files + Input + Print + Eprint + Clock + AllocGlobal + Threads + Wait + Sync,
     requires out { CanBeUsed (O.state out.old) }
     requires err { CanBeUsed (E.state err.old) }
     ensures quiet { is_report result ≡ true → err.new ≡ err.old }
-    ensures line { has_fault result ≡ true
-        → EndsWithLine result (E.state err.old) (E.state err.new) }
+    ensures line { has_fault result ≡ true → (verbose : AnyBool)
+        × EndsWithLine verbose result (E.state err.old) (E.state err.new) }
 {
     match words(rt) {
-        Ok(words) => run_words(rt, words.as_slice(), out, err),
+        Ok(words) => run_words(rt, terminal, words.as_slice(), out, err),
         Err(error) => refuse_words(&error, err),
     }
 }
 
 // Runs the job of the words. Where the bytes of a feed are to blame nothing is on standard output, but for the lines of
 // `frames`, which writes while it reads.
-fn run_words<R, S: AsStr, O: Sink, E: Sink>(rt: &R, words: &[S], out: &mut O, err: &mut E) -> Exit
+fn run_words<R, S: AsStr, O: Sink, E: Sink>(
+    rt: &R,
+    terminal: bool,
+    words: &[S],
+    out: &mut O,
+    err: &mut E,
+) -> Exit
 where
-    R: Files + Input + Print + Eprint + AllocGlobal + Threads + Wait + Sync,
+    R: Files + Input + Print + Eprint + Clock + AllocGlobal + Threads + Wait + Sync,
     requires out { CanBeUsed (O.state out.old) }
     requires err { CanBeUsed (E.state err.old) }
     ensures quiet { is_report result ≡ true → err.new ≡ err.old }
     ensures line { has_fault result ≡ true
-        → EndsWithLine result (E.state err.old) (E.state err.new) }
+        → IsTold (subcommand_of command_line (map S.text words.now)) result (E.state err.old) (E.state err.new) }
     ensures blame { is_refusal result ≡ true → IsUntouched (O.state out.old) (O.state out.new)
         ⊎ NamesFrames (subcommand_of command_line (map S.text words.now)) }
+    ensures ran { RanWords (subcommand_of command_line (map S.text words.now)) result
+        (O.state out.old) (O.state out.new) (E.state err.old) (E.state err.new) }
 {
-    match parse(rt.alloc(), words) {
-        Ok(job) => open_and_run(rt, &job, out, err),
+    match parse_line(rt.alloc(), words) {
+        Ok(line) => {
+            let progress = Progress::new(rt, manner(&line, terminal));
+            open_and_run(rt, &line, &progress, out, err)
+        }
         Err(error) => answer_error(rt, &error, err),
+    }
+}
+
+// How progress is told.
+fn manner(line: &Line, terminal: bool) -> Manner {
+    match (line.notes.progress, terminal) {
+        (false, _) => Manner::Hidden,
+        (true, false) => Manner::Lines,
+        (true, true) => Manner::Terminal,
     }
 }
 
@@ -66,7 +89,7 @@ fn refuse_words<E: Sink>(error: &io::Error, err: &mut E) -> Exit
     requires { CanBeUsed (E.state err.old) }
     ensures ends { (result ≡ Exit.No) ⊎ (result ≡ Exit.Failed) }
     ensures line { has_fault result ≡ true
-        → EndsWithLine result (E.state err.old) (E.state err.new) }
+        → EndsWithLine false result (E.state err.old) (E.state err.new) }
 {
     if error.kind() == io::ErrorKind::OutOfMemory {
         report(&JobFault::Replay(Fault::Memory), err);
@@ -83,7 +106,7 @@ fn answer_error<R: Print + Eprint, E: Sink>(rt: &R, error: &Error, err: &mut E) 
     ensures kind { EndsByKind error.now result }
     ensures quiet { is_report result ≡ true → err.new ≡ err.old }
     ensures line { has_fault result ≡ true
-        → EndsWithLine result (E.state err.old) (E.state err.new) }
+        → EndsWithLine false result (E.state err.old) (E.state err.new) }
     ensures ends { (result ≡ Exit.Whole) ⊎ (result ≡ Exit.No) ⊎ (result ≡ Exit.Failed) }
 {
     if error.kind() == ErrorKind::OutOfMemory {

@@ -1,0 +1,13 @@
+-- The job ran over the sources that were opened.
+use Rattle.std.proofs.Common.{inl, refl}
+use Rattle.bk_jobs.proofs.opening.run_over.Goals as goal
+
+pub returns-clause-ran : goal.returns-clause-ran
+returns-clause-ran g c = inl (record {
+  old = _;
+  new = _;
+  begins = refl;
+  ends = refl;
+  answer = λ a. (c.run_watched.ensures.whole a, (c.run_watched.ensures.sound a).0);
+  fault = c.run_watched.ensures.fault;
+})
