@@ -102,19 +102,19 @@ where
     }
 }
 
-/// What `run` leaves of a feed with these devices.
-pub(crate) fn run_with<R>(rt: &R, feed: &[u8], devices: Devices) -> Outcome
-where
-    R: AllocGlobal + Threads + Wait + Sync,
-{
-    let job = Job::Run {
-        workers: Workers::two(),
-        file: None,
-    };
-    let given = Given {
+/// A feed alone, of which every read succeeds.
+pub(crate) fn feed_alone(feed: &[u8]) -> Given<'_> {
+    Given {
         feed,
         second: b"",
         second_reads: MOST_CALLS,
-    };
-    job_with(rt, &job, given, devices)
+    }
+}
+
+/// A run by two workers.
+pub(crate) fn run_by_two() -> Job {
+    Job::Run {
+        workers: Workers::two(),
+        file: None,
+    }
 }

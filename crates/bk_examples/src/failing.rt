@@ -1,8 +1,9 @@
-//! Each read and each write of a run fails in turn, and a feed ends at each of its bytes.
+//! Each read and each write of a job fails in turn, and a feed ends at each of its bytes.
 
-use crate::devices::{Devices, MOST_CALLS, run_with};
+use crate::devices::{Devices, Given, MOST_CALLS, feed_alone, job_with, run_by_two};
 use crate::outcome::Outcome;
 use anyhow::Result;
+use bk_cli::Job;
 use std::alloc::Global;
 use std::sync::Wait;
 use std::thread::Threads;
@@ -15,23 +16,23 @@ pub(crate) const GOOD: Devices = Devices {
     writes: MOST_CALLS,
 };
 
-/// Whether a failed read gives its fault and writes nothing, whichever read it is.
-pub(crate) fn reads_fail_well<R>(rt: &R, feed: &[u8], whole: &Outcome) -> bool
+/// How many bytes a call reads or writes at most: pieces that end within lines and frames.
+pub(crate) const SIZE: usize = 97;
+
+/// Whether a failed read of the feed gives its fault and writes nothing, whichever read it is; and one of them fails.
+pub(crate) fn reads_fail_well<R>(rt: &R, job: &Job, given: Given<'_>, whole: &Outcome) -> bool
 where
     R: AllocGlobal + Threads + Wait + Sync,
 {
     for reads in 0..MOST_CALLS {
-        let found = run_with(
-            rt,
-            feed,
-            Devices {
-                read_size: 97,
-                reads,
-                ..GOOD
-            },
-        );
+        let devices = Devices {
+            read_size: SIZE,
+            reads,
+            ..GOOD
+        };
+        let found = job_with(rt, job, given, devices);
         if found.is_same(whole) {
-            return true;
+            return reads > 0;
         }
         let is_fault = found.status == 4 && found.err.starts_with(b"feed fault 8 at ");
         if !is_fault || !found.out.is_empty() {
@@ -41,23 +42,27 @@ where
     false
 }
 
-/// Whether a failed write leaves exactly the first bytes of the report, whichever write it is.
-pub(crate) fn writes_fail_well<R>(rt: &R, feed: &[u8], whole: &Outcome, write_size: usize) -> bool
+/// Whether a failed write leaves exactly the first bytes of the answer, whichever write it is; and one of them fails,
+/// unless there is nothing to write.
+pub(crate) fn writes_fail_well<R>(
+    rt: &R,
+    job: &Job,
+    given: Given<'_>,
+    whole: &Outcome,
+    write_size: usize,
+) -> bool
 where
     R: AllocGlobal + Threads + Wait + Sync,
 {
     for writes in 0..MOST_CALLS {
-        let found = run_with(
-            rt,
-            feed,
-            Devices {
-                write_size,
-                writes,
-                ..GOOD
-            },
-        );
+        let devices = Devices {
+            write_size,
+            writes,
+            ..GOOD
+        };
+        let found = job_with(rt, job, given, devices);
         if found.is_same(whole) {
-            return true;
+            return writes > 0 || whole.out.is_empty();
         }
         let is_fault = found.status == 4 && found.err.as_slice() == b"write failed\n".as_slice();
         let is_first = whole.out.starts_with(&found.out)
@@ -101,13 +106,14 @@ where
 {
     let alloc: Global = rt.alloc();
     let ends = ends_of(alloc, feed)?;
+    let job = run_by_two();
     let mut frame = 0usize;
     for kept in 0..feed.len() {
         let end = ends.iter().position(|end| *end == kept);
         if kept > EACH && kept % 41 != 0 && end.is_none() {
             continue;
         }
-        let found = run_with(rt, &feed[..kept], GOOD);
+        let found = job_with(rt, &job, feed_alone(&feed[..kept]), GOOD);
         if let Some(index) = end {
             frame = kept;
             if index >= 2 {

@@ -2,7 +2,7 @@
 
 use crate::devices::{Devices, Given, MOST_CALLS, job_with};
 use crate::example::Example;
-use crate::failing::GOOD;
+use crate::failing::{GOOD, SIZE, reads_fail_well, writes_fail_well};
 use crate::outcome::Outcome;
 use anyhow::{Result, bail};
 use bk_cli::{Job, Workers, parse};
@@ -12,33 +12,8 @@ use std::rt::Files;
 use std::sync::Wait;
 use std::thread::Threads;
 
-// How many bytes a call reads or writes at most: pieces that end within lines and frames.
-const SIZE: usize = 97;
-
-// Whether a failed read of the feed gives its fault and writes nothing, whichever read it is.
-fn reads_fail_well<R>(rt: &R, job: &Job, given: Given<'_>, whole: &Outcome) -> bool
-where
-    R: AllocGlobal + Threads + Wait + Sync,
-{
-    for reads in 0..MOST_CALLS {
-        let devices = Devices {
-            read_size: SIZE,
-            reads,
-            ..GOOD
-        };
-        let found = job_with(rt, job, given, devices);
-        if found.is_same(whole) {
-            return true;
-        }
-        let is_fault = found.status == 4 && found.err.starts_with(b"feed fault 8 at ");
-        if !is_fault || !found.out.is_empty() {
-            return false;
-        }
-    }
-    false
-}
-
-// The same of the second file, which is read after the feed.
+// Whether a failed read of the second file, which is read after the feed, gives its fault and writes nothing, whichever
+// read it is; and one of them fails, where there is a second file.
 fn second_reads_fail_well<R>(rt: &R, job: &Job, given: Given<'_>, whole: &Outcome) -> bool
 where
     R: AllocGlobal + Threads + Wait + Sync,
@@ -54,35 +29,10 @@ where
         };
         let found = job_with(rt, job, failing, devices);
         if found.is_same(whole) {
-            return true;
+            return second_reads > 0 || job.second_file().is_none();
         }
         let is_fault = found.status == 4 && found.err.as_slice() == b"read failed\n".as_slice();
         if !is_fault || !found.out.is_empty() {
-            return false;
-        }
-    }
-    false
-}
-
-// Whether a failed write leaves exactly the first bytes of the answer, whichever write it is.
-fn writes_fail_well<R>(rt: &R, job: &Job, given: Given<'_>, whole: &Outcome) -> bool
-where
-    R: AllocGlobal + Threads + Wait + Sync,
-{
-    for writes in 0..MOST_CALLS {
-        let devices = Devices {
-            write_size: SIZE,
-            writes,
-            ..GOOD
-        };
-        let found = job_with(rt, job, given, devices);
-        if found.is_same(whole) {
-            return true;
-        }
-        let is_fault = found.status == 4 && found.err.as_slice() == b"write failed\n".as_slice();
-        let is_first = whole.out.starts_with(&found.out)
-            && found.out.len() == (writes as usize).saturating_mul(SIZE);
-        if !is_fault || !is_first {
             return false;
         }
     }
@@ -105,7 +55,7 @@ where
     let whole = job_with(rt, job, given, GOOD);
     reads_fail_well(rt, job, given, &whole)
         && second_reads_fail_well(rt, job, given, &whole)
-        && writes_fail_well(rt, job, given, &whole)
+        && writes_fail_well(rt, job, given, &whole, SIZE)
 }
 
 /// Whether it is a job that asks something of a feed and gets an answer.
@@ -156,7 +106,7 @@ fn long_verdict(alloc: Global) -> Result<Vec<u8>> {
     Ok(text)
 }
 
-/// Whether a claim is told apart that is the report with one line more, a very long one without its line feed.
+/// Whether a claim is rejected at its last line: it is the report and one line more, of 16 MiB and without a line feed.
 pub(crate) fn long_line_is_told<R>(rt: &R) -> Result<bool>
 where
     R: AllocGlobal + Files + Threads + Wait + Sync,

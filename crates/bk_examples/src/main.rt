@@ -2,8 +2,8 @@
 //!
 //! The folder that it is run in has the examples and the table `commands`. A run of a feed that names no number of
 //! workers is done by 1, 2, 8 and 64, by a Follower that gets the feed in pieces, with each read and each write failing
-//! in turn, and with the feed cut. A job that asks something of a feed is done with each read and each write failing. The
-//! last line is `N passed, M failed`.
+//! in turn, and with the feed cut. A job that asks something of a feed is done with each read and each write failing. A
+//! clock of its own makes progress tell. The last line is `N passed, M failed`.
 #![tactic(auto)]
 
 mod devices;
@@ -12,18 +12,22 @@ mod failing;
 mod following;
 mod jobs;
 mod outcome;
+mod telling;
 
+use crate::devices::{feed_alone, run_by_two};
 use crate::example::Example;
 use crate::failing::{cuts_are_right, reads_fail_well, writes_fail_well};
 use crate::following::{Pieces, followed};
 use crate::jobs::{asks, job_fails_well, long_line_is_told};
 use crate::outcome::{Outcome, outcome_of};
+use crate::telling::progress_is_told;
 use anyhow::{Result, bail};
 use std::alloc::Global;
 use std::fs;
 use std::rt::Files;
 use std::sync::Wait;
 use std::thread::Threads;
+use std::time::Clock;
 
 // By how many workers a run is done.
 const WORKERS: [&str; 4] = ["1", "2", "8", "64"];
@@ -77,7 +81,7 @@ fn judge<R: Eprint>(rt: &R, example: &Example<'_>, what: &str, is_right: bool) -
 // Runs the command line of an example with these words more.
 fn run_words<'a, R>(rt: &R, example: &Example<'a>, more: &[&'a str]) -> Result<bool>
 where
-    R: AllocGlobal + Files + Input + Eprint + Threads + Wait + Sync,
+    R: AllocGlobal + Files + Input + Eprint + Clock + Threads + Wait + Sync,
 {
     let mut words = Vec::from_slice(rt.alloc(), &example.words)?;
     words.extend_from_slice(more)?;
@@ -118,10 +122,11 @@ fn run_failing<R>(
 where
     R: AllocGlobal + Eprint + Threads + Wait + Sync,
 {
-    let reads = reads_fail_well(rt, feed, whole);
+    let (job, given) = (run_by_two(), feed_alone(feed));
+    let reads = reads_fail_well(rt, &job, given, whole);
     let tally = tally.add(judge(rt, example, "a failed read", reads)?);
-    let writes = writes_fail_well(rt, feed, whole, 7)
-        && writes_fail_well(rt, feed, whole, usize::MAX);
+    let writes = writes_fail_well(rt, &job, given, whole, 7)
+        && writes_fail_well(rt, &job, given, whole, usize::MAX);
     let tally = tally.add(judge(rt, example, "a failed write", writes)?);
     let cuts = cuts_are_right(rt, feed)?;
     Ok(tally.add(judge(rt, example, "a feed that is cut", cuts)?))
@@ -142,7 +147,7 @@ where
 // Runs an example in each way that its command has.
 fn run_example<R>(rt: &R, example: &Example<'_>, tally: Tally) -> Result<Tally>
 where
-    R: AllocGlobal + Files + Input + Eprint + Threads + Wait + Sync,
+    R: AllocGlobal + Files + Input + Eprint + Clock + Threads + Wait + Sync,
 {
     if !example.has_free_workers() {
         let tally = tally.add(run_words(rt, example, &[])?);
@@ -166,7 +171,7 @@ where
 // Runs all examples of the table.
 fn run_all<R>(rt: &R) -> Result<Tally>
 where
-    R: AllocGlobal + Files + Input + Eprint + Threads + Wait + Sync,
+    R: AllocGlobal + Files + Input + Eprint + Clock + Threads + Wait + Sync,
 {
     let table = fs::read_to_string(rt, "commands")?;
     let mut tally = Tally {
@@ -177,7 +182,8 @@ where
         let example = Example::of(rt.alloc(), line)?;
         tally = run_example(rt, &example, tally)?;
     }
-    Ok(tally.add(long_line_is_told(rt)?))
+    let tally = tally.add(long_line_is_told(rt)?);
+    Ok(tally.add(progress_is_told(rt.alloc())))
 }
 
 fn main(rt: HostRuntime) -> Result<()> {

@@ -1,15 +1,17 @@
 //! What a command line leaves.
 
 use anyhow::{Result, bail};
-use bk_cli::{Exit, parse};
+use bk_cli::{Exit, parse_line};
 use bk_frames::Counted;
 use bk_jobs::open_and_run;
+use bk_progress::{Manner, Progress};
 use clap::Error;
 use clap::error::ErrorKind;
 use std::alloc::Global;
 use std::rt::Files;
 use std::sync::Wait;
 use std::thread::Threads;
+use std::time::Clock;
 
 /// What a command line leaves.
 #[derive(Drop)]
@@ -64,16 +66,17 @@ fn refused(alloc: Global, error: &Error) -> Result<Outcome> {
 /// Runs a command line whose input is in files.
 pub(crate) fn outcome_of<R>(rt: &R, words: &[&str]) -> Result<Outcome>
 where
-    R: AllocGlobal + Files + Input + Threads + Wait + Sync,
+    R: AllocGlobal + Files + Input + Eprint + Clock + Threads + Wait + Sync,
 {
     let alloc: Global = rt.alloc();
-    let job = match parse(alloc, words) {
-        Ok(job) => job,
+    let line = match parse_line(alloc, words) {
+        Ok(line) => line,
         Err(error) => return refused(alloc, &error),
     };
     let mut out = Counted::new(Vec::new(alloc));
     let mut err = Counted::new(Vec::new(alloc));
-    let exit = open_and_run(rt, &job, &mut out, &mut err);
+    let hidden = Progress::new(rt, Manner::Hidden);
+    let exit = open_and_run(rt, &line, &hidden, &mut out, &mut err);
     Ok(Outcome {
         status: exit.number(),
         out: out.into_inner(),
