@@ -144,7 +144,7 @@ class Body:
             return int(token)
         if token in self.variables:
             return self.variables[token]
-        if token in ("true", "ArgAction::Set"):
+        if token in ("true", "ArgAction::Set", "ArgAction::SetTrue"):
             return token
         if token.startswith(("help::", "more_help::")):
             name = token.split("::")[1]
@@ -185,6 +185,11 @@ def kind_of(arg):
          "and it is no number")
 
 
+def is_flag(arg):
+    """Whether an option takes no value."""
+    return arg.get("action") == "ArgAction::SetTrue"
+
+
 def limits_of(option):
     """The least and the greatest number that an option takes."""
     numbers = option.get("value_parser", {}).get("range")
@@ -202,7 +207,10 @@ def checked(command):
         if f"\n{heading}\n" not in command["after_help"]:
             fail(f"the help of {command.name} has no `{heading}`")
     for arg in command["arg"]:
-        limits_of(arg) if "long" in arg else kind_of(arg)
+        if not is_flag(arg):
+            limits_of(arg) if "long" in arg else kind_of(arg)
+        elif "long" not in arg or "help" not in arg:
+            fail(f"the option {arg.name} has no name or no help")
 
 
 def read_program():

@@ -26,71 +26,71 @@ _bkreplay() {
         kinds=(command)
         ;;
     run)
-        names='--workers --help'
+        names='--workers --progress --verbose --help'
         kinds=(file)
         ;;
     make)
-        names='--help'
+        names='--progress --verbose --help'
         kinds=(file)
         ;;
     order)
-        names='--help'
+        names='--progress --verbose --help'
         kinds=(file)
         ;;
     account)
-        names='--help'
+        names='--progress --verbose --help'
         kinds=(none file)
         ;;
     receipt)
-        names='--help'
+        names='--progress --verbose --help'
         kinds=(none file)
         ;;
     prove)
-        names='--help'
+        names='--progress --verbose --help'
         kinds=(none file)
         ;;
     frames)
-        names='--help'
+        names='--progress --verbose --help'
         kinds=(file)
         ;;
     summary)
-        names='--workers --help'
+        names='--workers --progress --verbose --help'
         kinds=(file)
         ;;
     anchors)
-        names='--help'
+        names='--progress --verbose --help'
         kinds=(file)
         ;;
     dag)
-        names='--from --rounds --help'
+        names='--from --rounds --progress --verbose --help'
         kinds=(file)
         ;;
     statement)
-        names='--workers --help'
+        names='--workers --progress --verbose --help'
         kinds=(none file)
         ;;
     check-proof)
-        names='--help'
+        names='--progress --verbose --help'
         kinds=(none file)
         ;;
     check-state)
-        names='--workers --help'
+        names='--workers --progress --verbose --help'
         kinds=(none file)
         ;;
     check-report)
-        names='--workers --help'
+        names='--workers --progress --verbose --help'
         kinds=(file file)
         ;;
     apply)
-        names='--help'
+        names='--progress --verbose --help'
         kinds=(file)
         ;;
     schedule)
-        names='--workers --help'
+        names='--workers --progress --verbose --help'
         kinds=(file file)
         ;;
     compare)
-        names='--help'
+        names='--progress --verbose --help'
         kinds=(file file)
         ;;
     *) return ;;
