@@ -1,0 +1,103 @@
+//! Texts of transactions, some of them with a fault that makes them malformed.
+
+use crate::chance::Chance;
+use crate::drawn::drawn_tx;
+use crate::plain::rows_after;
+use anyhow::{Result, bail};
+use bk_frames::{Row, Version};
+use bk_tx::{Body, Declarations, Declared, Tx};
+use std::alloc::Global;
+
+// The kind of a split, as the first byte of its text.
+const SPLIT: u8 = 4;
+
+/// Writes the receiver of the last payment but one over that of the last. A payment ends a split and has 16 bytes.
+pub(crate) fn name_twice(text: &mut [u8]) {
+    let len = text.len();
+    for k in 0..8usize {
+        let byte = text.get(len.saturating_sub(32).saturating_add(k)).copied();
+        let place = text.get_mut(len.saturating_sub(16).saturating_add(k));
+        if let (Some(byte), Some(place)) = (byte, place) {
+            *place = byte;
+        }
+    }
+}
+
+// Gives a text a fault.
+fn spoil(chance: &mut Chance, text: &mut Vec<u8>) -> Result<()> {
+    if text.first() == Some(&SPLIT) {
+        name_twice(text);
+        return Ok(());
+    }
+    match chance.below(3) {
+        0 => {
+            let _last = text.pop();
+        }
+        1 => text.push(0)?,
+        _ => {
+            if let Some(kind) = text.first_mut() {
+                *kind = 5;
+            }
+        }
+    }
+    Ok(())
+}
+
+/// The text of a transaction for these rows, one time in ten with a fault.
+pub(crate) fn drawn_text(alloc: Global, chance: &mut Chance, rows: &[Row]) -> Result<Vec<u8>> {
+    let Some(tx) = drawn_tx(alloc, chance, rows)? else {
+        return Ok(Vec::from_slice(alloc, &[0])?);
+    };
+    let mut text = tx.encode(alloc)?;
+    if chance.is_one_in(10) {
+        spoil(chance, &mut text)?;
+    }
+    Ok(text)
+}
+
+// Draws one more text, and finds the rows after it.
+fn draw(
+    alloc: Global,
+    chance: &mut Chance,
+    version: Version,
+    rows: &mut Vec<Row>,
+    texts: &mut Vec<Vec<u8>>,
+) -> Result<()> {
+    let text = drawn_text(alloc, chance, rows)?;
+    let tx = Tx::decode(&text);
+    *rows = rows_after(alloc, version, tx.as_ref(), rows)?;
+    texts.push(text)?;
+    Ok(())
+}
+
+/// Up to 19 texts, each for the rows after those before it.
+pub(crate) fn drawn_texts(
+    alloc: Global,
+    chance: &mut Chance,
+    version: Version,
+    opening: &[Row],
+) -> Result<Vec<Vec<u8>>> {
+    let mut rows = Vec::from_slice(alloc, opening)?;
+    let mut texts = Vec::new(alloc);
+    for _ in 0..4 + chance.below(16) {
+        draw(alloc, chance, version, &mut rows, &mut texts)?;
+    }
+    Ok(texts)
+}
+
+/// The text of a transaction of these parts.
+pub(crate) fn text_of(
+    alloc: Global,
+    declared: &[Declared],
+    from: u64,
+    seq: u64,
+    body: Body,
+) -> Result<Vec<u8>> {
+    let Some(declared) = Declarations::new(declared) else {
+        bail!("more than eight accounts");
+    };
+    let Some(tx) = Tx::new(declared, seq, from, body) else {
+        bail!("it is no transaction");
+    };
+    Ok(tx.encode(alloc)?)
+}
