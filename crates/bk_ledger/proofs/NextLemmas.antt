@@ -1,6 +1,6 @@
 -- Slices that are planned before their turn comes.
-use Rattle.std.proofs.Common.{◌≡◌, ℕ, ◌+◌, ◌≤◌, List, [], ◌++◌, length, Option, Result, Ok, Err, refl, sym, ap, subst, ◌∙◌, arith}
-use Rattle.std.specs.Prelude.{OnOk}
+use Rattle.std.proofs.Common.{◌≡◌, ℕ, ◌+◌, ◌^◌, ◌<◌, ◌≤◌, List, [], ◌++◌, length, Option, Result, Ok, Err, refl, sym, ap, subst, ◌∙◌, arith}
+use Rattle.std.specs.Prelude.{IfOk, IfErr, OnOk}
 use Rattle.std.specs.Arc.{arc_value}
 use Rattle.bk_frames.specs.declared.genesis.Row.{Row}
 use Rattle.bk_frames.specs.declared.version.Version.{Version}
@@ -142,3 +142,38 @@ run_is counts txs a mid b p counted received after = record {
 pub on_ok : {T E : Type 0} (r : Result T E) (P : Type 0) → P → OnOk r P
 on_ok (Ok x) P p = p
 on_ok (Err e) P p = tt
+
+-- ---- the slice whose turn it is, and those after it
+
+-- it can run once it is ready
+pub made_runs : (counts : List (Option ℕ)) (txs : List (Option Transaction)) (r : Ready) (a b : LedgerValue) → IsReady b.state.version b.state.slots counts txs r → IsSame a b → IsLedger b.state.rows → HaveSlots b.state.slots b.state.rows
+    → HasRoom a.state.version (length txs) a.state.rows → CanRunPart r b.state
+made_runs counts txs r a b ready same is_ledger have room = ready_runs b.state counts txs r ready is_ledger have (same_room (length txs) a b same room)
+
+-- and its places are numbered
+pub made_places : (version : Version) (slots : List ℕ) (counts : List (Option ℕ)) (txs : List (Option Transaction)) (r : Ready) (a b : LedgerValue) → IsReady version slots counts txs r → IsSame a b
+    → length a.receipts + length txs < 2 ^ 32 → length b.receipts + length (arc_value r.plan).txs < 2 ^ 32
+made_places version slots counts txs r a b ready same few = omega (arith, few, ap length same.receipts, ap length ready.txs_are)
+
+-- what it gives, seen from the ledger before its slots were made
+pub made_ran : (version : Version) (slots : List ℕ) (counts : List (Option ℕ)) (txs : List (Option Transaction)) (r : Ready) (a b : LedgerValue) (x : Result (LedgerValue × Ahead) ExecFault) → IsReady version slots counts txs r → IsSame a b
+    → length b.state.slots ≤ length a.state.slots + named_by txs → IfOk x (λ s. HasRun r.counts.items (arc_value r.plan).txs b s.0) → IfOk x (λ s. s.0.state.slots ≡ b.state.slots) → IfOk x (λ s. HasRun counts txs a s.0)
+made_ran version slots counts txs r a b (Ok s) ready same grown ran still = ready_ran version slots counts txs r a b s.0 ready same grown still ran
+made_ran version slots counts txs r a b (Err e) ready same grown ran still = tt
+
+-- the slices after it
+pub made_ahead : (payloads : List (List ℕ)) (from at : ℕ) (counts : List (Option ℕ)) (txs : List (Option Transaction)) (b : LedgerValue) (x : Result (LedgerValue × Ahead) ExecFault) → from ≡ at → IfOk x (λ s. HasRun counts txs b s.0)
+    → IfOk x (λ s. s.0.state.slots ≡ b.state.slots) → IfOk x (λ s. IsAheadOf payloads from b.state.version b.state.slots s.1) → IfOk x (λ s. IsAheadOf payloads at s.0.state.version s.0.state.slots s.1)
+made_ahead payloads from at counts txs b (Ok s) same ran still behind = ahead_after payloads from at b.state.version b.state.slots s.0 s.1 same ran.version still behind
+made_ahead payloads from at counts txs b (Err e) same ran still behind = tt
+
+-- there are none
+pub none_made : (payloads : List (List ℕ)) (from at : ℕ) (x : Result (LedgerValue × Ahead) ExecFault) → from ≡ at → from ≡ length payloads → IfOk x (λ s. IsNoneAhead from s.1) → IfOk x (λ s. IsAheadOf payloads at s.0.state.version s.0.state.slots s.1)
+none_made payloads from at (Ok s) same all none = none_ahead payloads at s.0.state.version s.0.state.slots s.1 (sym same ∙ all) (subst (λ (n : ℕ). IsNoneAhead n s.1) same none)
+none_made payloads from at (Err e) same all none = tt
+
+-- what it leaves undone
+pub made_leaves : (version : Version) (slots : List ℕ) (counts : List (Option ℕ)) (txs : List (Option Transaction)) (r : Ready) (a b : LedgerValue) (x : Result (LedgerValue × Ahead) ExecFault) → IsReady version slots counts txs r → IsSame a b
+    → IfErr x (Leaves (length b.receipts) (length b.receipts + length (arc_value r.plan).txs)) → IfErr x (Leaves (length a.receipts) (length a.receipts + length txs))
+made_leaves version slots counts txs r a b (Ok s) ready same left = tt
+made_leaves version slots counts txs r a b (Err e) ready same left = ready_leaves version slots counts txs r a b e ready same left

@@ -3,18 +3,20 @@
 //! While a slice is executed, the one after it is planned in a thread of its own, and the next one is read and decoded
 //! in another, which also looks up its accounts.
 
-ghost use Rattle.std.specs.Prelude.{◌≡◌, ◌+◌, ◌^◌, ◌<◌, ◌≤◌, map, length, IfOk, IfErr, OnOk};
+ghost use Rattle.std.specs.Prelude.{◌≡◌, ◌+◌, ◌^◌, ◌<◌, ◌≤◌, ◌⊎◌, Ok, Err, map, length, IfOk, IfErr, OnOk};
 ghost use Rattle.std.specs.Arc.{arc_value};
 ghost use Rattle.std.specs.Thread.{IsSync};
 ghost use Rattle.bk_rules.specs.Fold.{HasRoom};
 ghost use Rattle.bk_conflicts.specs.SceneOf.{CanRunOn};
 ghost use Rattle.bk_pool.specs.Outcomes.{IsBelow};
+ghost use Rattle.bk_pool.specs.declared.outcome.ExecFault.TheVariants.{OutOfMemory};
 ghost use Rattle.bk_steps.specs.Schedule.{IsFoldOf};
 ghost use Rattle.bk_tx.specs.Batches.{transactions_of};
 ghost use Rattle.bk_ledger.specs.Executing.{HasExecuted, HasRun, Leaves};
 ghost use Rattle.bk_ledger.specs.Naming.{named_by};
-ghost use Rattle.bk_ledger.specs.private.Slices.{CanRunPart, IsAheadOf, IsPlannedOn, IsReadOf, IsReady, IsSame, counts_of, txs_of};
+ghost use Rattle.bk_ledger.specs.private.Slices.{CanRunPart, IsAheadOf, IsNoneAhead, IsPartFold, IsPlannedOn, IsReadOf, IsReady, IsSame, counts_of, txs_of};
 
+use crate::batches::Batches;
 use crate::ledger::Ledger;
 use crate::ready::{Ahead, Next, Ready, look_ahead, read_two};
 use crate::slice::{FEWEST, least_of};
@@ -48,6 +50,37 @@ fn run_plan<R: Threads + Wait + Sync, G: Gate + Sync>(
     execute(rt, alloc, plan, state, workers, gate)
 }
 
+// Executes a slice on a copy of the accounts that it touches.
+fn run_part<R: Threads + Wait + Sync, G: Gate + Sync>(
+    rt: &R,
+    alloc: Global,
+    state: &State,
+    ready: &Ready,
+    workers: usize,
+    gate: &G,
+) -> Result<Outcome, ExecFault>
+    requires runs { CanRunPart ready.now state.now }
+    requires workers { (1 ≤ workers) × (workers ≤ 64) }
+    ensures fold { IfOk result (IsPartFold ready.now state.now) }
+    ensures unfinished { IfErr result (IsBelow (length (arc_value ready.now.plan).txs)) }
+{
+    let part = state.part(alloc, &ready.list, ready.plan.ids())?;
+    run_plan(rt, alloc, &ready.plan, part, workers, gate)
+}
+
+// What both of two calls gave; the fault of the first comes first.
+fn both(
+    ran: Result<Ledger, ExecFault>,
+    later: Result<Ahead, AllocError>,
+) -> Result<(Ledger, Ahead), ExecFault>
+    ensures both { IfOk result (λ r. (ran ≡ Ok r.0) × (later ≡ Ok r.1)) }
+    ensures fault { IfErr result (λ e. (ran ≡ Err e) ⊎ (e ≡ OutOfMemory)) }
+{
+    let ledger = ran?;
+    let later = later?;
+    Ok((ledger, later))
+}
+
 impl Ledger {
     // Makes a slice ready: in version Two it gives each account a slot that the transactions declare.
     fn make_ready(&mut self, alloc: Global, next: Next) -> Result<Ready, AllocError>
@@ -69,7 +102,51 @@ impl Ledger {
         }
     }
 
+    // Puts what a slice gave into the ledger.
+    fn keep(&mut self, ready: &Ready, outcome: &Outcome) -> Result<(), AllocError>
+        requires runs { CanRunPart ready.now self.old.state }
+        requires fold { IsPartFold ready.now self.old.state outcome.now }
+        ensures ran { OnOk result (HasRun ready.now.counts.items
+            (arc_value ready.now.plan).txs self.old self.new) }
+        ensures slots { OnOk result (self.new.state.slots ≡ self.old.state.slots) }
+    {
+        self.counts.extend_from_slice(&ready.counts)?;
+        self.receipts.extend_from_slice(&outcome.receipts)?;
+        self.state.put_back(&ready.list, &outcome.state);
+        Ok(())
+    }
+
     // Executes a slice on the accounts that it touches.
+    fn run_on<R: Threads + Wait + Sync, G: Gate + Sync>(
+        &mut self,
+        rt: &R,
+        alloc: Global,
+        ready: &Ready,
+        workers: usize,
+        gate: &G,
+    ) -> Result<(), ExecFault>
+        requires runs { CanRunPart ready.now self.old.state }
+        requires places { length self.old.receipts
+            + length (arc_value ready.now.plan).txs < 2 ^ 32 }
+        requires workers { (1 ≤ workers) × (workers ≤ 64) }
+        ensures ran { OnOk result (HasRun ready.now.counts.items
+            (arc_value ready.now.plan).txs self.old self.new) }
+        ensures slots { OnOk result (self.new.state.slots ≡ self.old.state.slots) }
+        ensures fault { let first = length self.old.receipts in
+            IfErr result (Leaves first (first + length (arc_value ready.now.plan).txs)) }
+    {
+        let first = self.receipts.len() as u32;
+        match run_part(rt, alloc, &self.state, ready, workers, gate) {
+            Ok(outcome) => {
+                self.keep(ready, &outcome)?;
+                Ok(())
+            }
+            Err(ExecFault::OutOfMemory) => Err(ExecFault::OutOfMemory),
+            Err(ExecFault::Unfinished(place)) => Err(ExecFault::Unfinished(first + place)),
+        }
+    }
+
+    // The same, for a ledger that is handed on.
     fn run_ready<R: Threads + Wait + Sync, G: Gate + Sync>(
         self,
         rt: &R,
@@ -86,30 +163,87 @@ impl Ledger {
         ensures fault { let first = length self.receipts in
             IfErr result (Leaves first (first + length (arc_value ready.plan).txs)) }
     {
-        let Ledger {
-            counts,
-            receipts,
-            state,
-        } = self;
-        let mut counts = counts;
-        let mut receipts = receipts;
-        let mut state = state;
-        let first = receipts.len() as u32;
-        let part = state.part(alloc, &ready.list, ready.plan.ids())?;
-        match run_plan(rt, alloc, &ready.plan, part, workers, gate) {
-            Ok(outcome) => {
-                counts.extend_from_slice(&ready.counts)?;
-                receipts.extend_from_slice(&outcome.receipts)?;
-                state.put_back(&ready.list, &outcome.state);
-                Ok(Ledger {
-                    counts,
-                    receipts,
-                    state,
-                })
-            }
-            Err(ExecFault::OutOfMemory) => Err(ExecFault::OutOfMemory),
-            Err(ExecFault::Unfinished(place)) => Err(ExecFault::Unfinished(first + place)),
-        }
+        let mut ledger = self;
+        ledger.run_on(rt, alloc, &ready, workers, gate)?;
+        Ok(ledger)
+    }
+
+    // Executes a slice after which there is none.
+    fn run_last<R: Threads + Wait + Sync, G: Gate + Sync>(
+        self,
+        rt: &R,
+        alloc: Global,
+        from: usize,
+        ready: Ready,
+        workers: usize,
+        gate: &G,
+    ) -> Result<(Ledger, Ahead), ExecFault>
+        requires runs { CanRunPart ready self.state }
+        requires places { length self.receipts + length (arc_value ready.plan).txs < 2 ^ 32 }
+        requires workers { (1 ≤ workers) × (workers ≤ 64) }
+        ensures ran { IfOk result (λ r.
+            HasRun ready.counts.items (arc_value ready.plan).txs self r.0) }
+        ensures slots { IfOk result (λ r. r.0.state.slots ≡ self.state.slots) }
+        ensures ahead { IfOk result (λ r. IsNoneAhead from r.1) }
+        ensures fault { let first = length self.receipts in
+            IfErr result (Leaves first (first + length (arc_value ready.plan).txs)) }
+    {
+        let ledger = self.run_ready(rt, alloc, ready, workers, gate)?;
+        Ok((ledger, Ahead::none(alloc, from)))
+    }
+
+    // Executes a slice, while the one after it is planned. It was read from an index on.
+    fn run_beside<R: Threads + Wait + Sync, G: Gate + Sync>(
+        self,
+        rt: &R,
+        alloc: Global,
+        payloads: &[&[u8]],
+        from: usize,
+        read: Batches,
+        least: usize,
+        ready: Ready,
+        workers: usize,
+        gate: &G,
+    ) -> Result<(Ledger, Ahead), ExecFault>
+        requires read { IsReadOf (map (λ p. p.now) payloads.now) from
+            read.counts.items read.txs.items }
+        requires fits { length payloads.now < 2 ^ 64 }
+        requires least { least < 2 ^ 30 }
+        requires runs { CanRunPart ready self.state }
+        requires places { length self.receipts + length (arc_value ready.plan).txs < 2 ^ 32 }
+        requires workers { (1 ≤ workers) × (workers ≤ 64) }
+        ensures ran { IfOk result (λ r.
+            HasRun ready.counts.items (arc_value ready.plan).txs self r.0) }
+        ensures slots { IfOk result (λ r. r.0.state.slots ≡ self.state.slots) }
+        ensures ahead { IfOk result (λ r. IsAheadOf (map (λ p. p.now) payloads.now) from
+            self.state.version self.state.slots r.1) }
+        ensures fault { let first = length self.receipts in
+            IfErr result (Leaves first (first + length (arc_value ready.plan).txs)) }
+    {
+        let version = self.state().version();
+        let ids = self.state().ids().share(alloc)?;
+        let (later, ran) = join(
+            rt,
+            || -> Result<Ahead, AllocError>
+                requires { IsSync R.row × (least < 2 ^ 30) × (length payloads.now < 2 ^ 64)
+                    × IsReadOf (map (λ p. p.now) payloads.now) from
+                    read.counts.items read.txs.items }
+                ensures { IfOk result (IsAheadOf (map (λ p. p.now) payloads.entry.now)
+                    from version ids) }
+            { look_ahead(rt, alloc, payloads, read, from, least, version, &ids) },
+            || -> Result<Ledger, ExecFault>
+                requires { IsSync R.row × IsSync G.row
+                    × CanRunPart ready self.state
+                    × (length self.receipts + length (arc_value ready.plan).txs < 2 ^ 32)
+                    × (1 ≤ workers) × (workers ≤ 64) }
+                ensures { IfOk result (HasRun ready.counts.items
+                    (arc_value ready.plan).txs self)
+                    × IfOk result (λ l. l.state.slots ≡ self.state.slots)
+                    × IfErr result (Leaves (length self.receipts)
+                    (length self.receipts + length (arc_value ready.plan).txs)) }
+            { self.run_ready(rt, alloc, ready, workers, gate) },
+        );
+        both(ran, later)
     }
 
     // Executes the slice whose turn it is, and looks at those after it, if there are any.
@@ -141,37 +275,13 @@ impl Ledger {
         let Ahead { from, next, read } = ahead;
         let mut ledger = self;
         let ready = ledger.make_ready(alloc, next)?;
-        let version = ledger.state().version();
+        // Its contract says that the accounts are those of a ledger.
+        let _version = ledger.state().version();
         let from = from + ready.counts.len();
         if from == payloads.len() {
-            let ledger = ledger.run_ready(rt, alloc, ready, workers, gate)?;
-            return Ok((ledger, Ahead::none(alloc, from)));
+            return ledger.run_last(rt, alloc, from, ready, workers, gate);
         }
-        let ids = ledger.state().ids().share(alloc)?;
-        let (later, ran) = join(
-            rt,
-            || -> Result<Ahead, AllocError>
-                requires { IsSync R.row × (least < 2 ^ 30) × (length payloads.now < 2 ^ 64)
-                    × IsReadOf (map (λ p. p.now) payloads.now) from
-                    read.counts.items read.txs.items }
-                ensures { IfOk result (IsAheadOf (map (λ p. p.now) payloads.entry.now)
-                    from version ids) }
-            { look_ahead(rt, alloc, payloads, read, from, least, version, &ids) },
-            || -> Result<Ledger, ExecFault>
-                requires { IsSync R.row × IsSync G.row
-                    × CanRunPart ready ledger.state
-                    × (length ledger.receipts + length (arc_value ready.plan).txs < 2 ^ 32)
-                    × (1 ≤ workers) × (workers ≤ 64) }
-                ensures { IfOk result (HasRun ready.counts.items
-                    (arc_value ready.plan).txs ledger)
-                    × IfOk result (λ l. l.state.slots ≡ ledger.state.slots)
-                    × IfErr result (Leaves (length ledger.receipts)
-                    (length ledger.receipts + length (arc_value ready.plan).txs)) }
-            { ledger.run_ready(rt, alloc, ready, workers, gate) },
-        );
-        let ledger = ran?;
-        let later = later?;
-        Ok((ledger, later))
+        ledger.run_beside(rt, alloc, payloads, from, read, least, ready, workers, gate)
     }
 
     // How many transactions the slices after the next two take at least.

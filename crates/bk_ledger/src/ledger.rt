@@ -80,16 +80,34 @@ impl Ledger {
             ≡ state_after feed.now.version (feed_transactions feed.now.frames) (genesis_of feed.now.frames)) }
     {
         let mut ledger = Ledger::new(alloc, feed.version(), feed.genesis())?;
+        ledger.run_feed(alloc, feed)?;
+        Ok(ledger)
+    }
+
+    // Executes the batches of a feed on its opening accounts.
+    fn run_feed(&mut self, alloc: Global, feed: &Feed) -> Result<(), AllocError>
+        requires counts { self.old.counts ≡ [] }
+        requires receipts { self.old.receipts ≡ [] }
+        requires version { self.old.state.version ≡ feed.now.version }
+        requires rows { self.old.state.rows ≡ genesis_of feed.now.frames }
+        requires accounts { AreAccounts (genesis_of feed.now.frames) }
+        ensures counts { OnOk result (self.new.counts
+            ≡ map count_in (payloads_of feed.now.frames)) }
+        ensures receipts { OnOk result (self.new.receipts
+            ≡ receipts_of feed.now.version (feed_transactions feed.now.frames) (genesis_of feed.now.frames)) }
+        ensures rows { OnOk result (self.new.state.rows
+            ≡ state_after feed.now.version (feed_transactions feed.now.frames) (genesis_of feed.now.frames)) }
+    {
         let mut batches = Batches::new(alloc);
         for index in 0..feed.len() {
             let (kind, payload) = feed.frame(index);
             batches.push_frame(alloc, kind, payload)?;
-            if ledger.are_enough(&batches) {
-                ledger.run(alloc, &mut batches)?;
+            if self.are_enough(&batches) {
+                self.run(alloc, &mut batches)?;
             }
         }
-        ledger.run(alloc, &mut batches)?;
-        Ok(ledger)
+        self.run(alloc, &mut batches)?;
+        Ok(())
     }
 
     /// How many transactions each batch holds, `None` where it is void.

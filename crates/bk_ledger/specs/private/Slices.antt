@@ -9,7 +9,9 @@ use Rattle.bk_tx.specs.Batches.{count_in, feed_transactions, payloads_of, transa
 use Rattle.bk_rules.specs.Fold.{state_after, receipts_of, HasRoom}
 use Rattle.bk_rules.specs.Rows.{IsLedger}
 use Rattle.bk_rules.specs.Ledger as rules
-use Rattle.bk_rules.specs.Part.{AreIndexes, HaveSlots, are_held, ids_at}
+use Rattle.bk_rules.specs.Part.{AreIndexes, HaveSlots, are_held, ids_at, part_of}
+use Rattle.bk_steps.specs.Schedule.{IsFoldOf}
+use Rattle.bk_steps.specs.declared.outcome.Outcome.{Outcome}
 use Rattle.bk_ledger.specs.declared.ready.Ready.{Ready}
 use Rattle.bk_ledger.specs.declared.ready.Ahead.{Ahead}
 use Rattle.bk_ledger.specs.declared.ready.Next.{Next}
@@ -71,6 +73,10 @@ pub record CanRunPart (r : Ready) (l : rules.Ledger) : Type 0 where
   pub is_ledger : IsLedger l.rows
   pub have_slots : HaveSlots l.slots l.rows
   pub has_room : HasRoom l.version (length (arc_value r.plan).txs) l.rows
+
+-- what the slice gives on the accounts that it touches
+abbrev pub IsPartFold : Ready → rules.Ledger → Outcome → Type 0
+IsPartFold r l o = IsFoldOf (arc_value r.plan) (part_of (arc_value r.plan).ids l) o
 
 -- the slice that begins at an index: batches where there are some, and not too many transactions
 pub record IsReadOf (payloads : List (List ℕ)) (from : ℕ) (counts : List (Option ℕ)) (txs : List (Option Transaction)) : Type 0 where
