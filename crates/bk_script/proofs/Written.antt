@@ -46,6 +46,13 @@ one_left (n ∷ m ∷ more) l = absurd (omega (arith, l))
 pub payments_all : (ns : List ℕ) (read : List Payment) (i : ℕ) → length ns / 2 ≤ i → take i read ++ payments_in (drop (2 * i) ns) ≡ payments_in ns → take i read ≡ payments_in ns
 payments_all ns read i l inv = sym (append-nil (take i read)) ∙ ap (λ t. take i read ++ t) (sym (one_left (drop (2 * i) ns) (omega (arith, l, length-drop (2 * i) ns)))) ∙ inv
 
+-- ---- an account, three numbers
+
+pub row_written : (r : Row) (out x y z a b c : List ℕ) → a ≡ to_be_bytes w64 r.id → b ≡ to_be_bytes w64 r.balance → c ≡ to_be_bytes w64 r.seq → x ≡ out ++ a → y ≡ x ++ b → z ≡ y ++ c → z ≡ out ++ row_text r
+row_written r out x y z a b c id balance seq first second third =
+    third ∙ ap (λ t. t ++ c) (second ∙ ap (λ t. t ++ b) first) ∙ append_assoc (out ++ a) b c ∙ append_assoc out a (b ++ c)
+    ∙ (λ i. out ++ (id i ++ (balance i ++ seq i)))
+
 -- ---- keys
 
 pub key_more : (out next all : List ℕ) (n i : ℕ) → i < n → next ≡ out ++ member_key i

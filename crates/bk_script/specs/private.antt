@@ -3,3 +3,5 @@ pub mod Agreeing
 pub mod Listing
 pub mod Held
 pub mod Places
+pub mod Keywords
+pub mod Certificates

@@ -77,7 +77,8 @@ fn put_row(out: &mut Vec<u8>, row: &Row) -> Result<(), AllocError>
 {
     out.extend_from_slice(&row.id.to_be_bytes())?;
     out.extend_from_slice(&row.balance.to_be_bytes())?;
-    out.extend_from_slice(&row.seq.to_be_bytes())
+    out.extend_from_slice(&row.seq.to_be_bytes())?;
+    Ok(())
 }
 
 impl Accounts {

@@ -8,6 +8,7 @@
 
 mod accounts;
 mod batch;
+mod certificates;
 mod events;
 mod fault;
 mod frames;

@@ -3,6 +3,7 @@
 ghost use Rattle.std.specs.Prelude.{◌≡◌, ◌==◌, map, IfOk, IfSome, IsTrue, ◌<◌, ◌≤◌, ◌-◌, length, nat_lt};
 ghost use Rattle.std.specs.List.{list_all};
 ghost use Rattle.bk_script.specs.Lines.{is_skipped, is_ascii, keyword_of, takes, kind_of};
+ghost use Rattle.bk_script.specs.private.Keywords.{in_batch_or_after, raw_or_certificate};
 
 use crate::words::are_filled;
 use bk_frames::Version;
@@ -50,7 +51,16 @@ pub fn keyword_named(word: &[u8]) -> Option<Keyword>
         Some(Keyword::Account)
     } else if word == b"batch".as_slice() {
         Some(Keyword::Batch)
-    } else if word == b"pay".as_slice() {
+    } else {
+        in_batch_or_after(word)
+    }
+}
+
+// The same of a line in a batch, or of a certificate.
+fn in_batch_or_after(word: &[u8]) -> Option<Keyword>
+    ensures { result ≡ in_batch_or_after word.now }
+{
+    if word == b"pay".as_slice() {
         Some(Keyword::Pay)
     } else if word == b"payif".as_slice() {
         Some(Keyword::PayIf)
@@ -58,7 +68,16 @@ pub fn keyword_named(word: &[u8]) -> Option<Keyword>
         Some(Keyword::Sweep)
     } else if word == b"split".as_slice() {
         Some(Keyword::Split)
-    } else if word == b"raw".as_slice() {
+    } else {
+        raw_or_certificate(word)
+    }
+}
+
+// The same of a line of a raw text or of a certificate.
+fn raw_or_certificate(word: &[u8]) -> Option<Keyword>
+    ensures { result ≡ raw_or_certificate word.now }
+{
+    if word == b"raw".as_slice() {
         Some(Keyword::Raw)
     } else if word == b"cert".as_slice() {
         Some(Keyword::Cert)

@@ -4,6 +4,7 @@ ghost use Rattle.std.specs.Prelude.{◌≡◌, ◌+◌, ◌≤◌, ◌<◌, ◌^
 ghost use Rattle.bk_frames.specs.Device.{CanBeUsed, Works, IfKnown};
 ghost use Rattle.bk_script.specs.Answers.{FailsBy, IsMade, devices};
 ghost use Rattle.bk_script.specs.Judging.{judged};
+ghost use Rattle.bk_script.specs.Known.{nothing_known};
 ghost use Rattle.bk_script.specs.Script.{after_lines, ended_lines, feed_after, feed_within, in_line, last_line};
 ghost use Rattle.bk_script.specs.private.Agreeing.{IsFeedFrom, IsNoFeedFrom, Agrees};
 
@@ -59,9 +60,9 @@ fn take_ended(script: &mut Script, text: &[u8]) -> Result<Ended, ScriptFault>
 }
 
 // The feed of what is known after this many lines.
-fn feed_after(mut script: Script, lines: u64) -> Result<Vec<u8>, ScriptFault>
+fn feed_after(script: &mut Script, lines: u64) -> Result<Vec<u8>, ScriptFault>
     requires { lines < 2 ^ 32 }
-    ensures { Agrees (λ feed. feed.items) result (feed_after lines script) }
+    ensures { Agrees (λ feed. feed.items) result (feed_after lines script.old) }
 {
     script.close()?;
     match script.feed()? {
@@ -74,15 +75,15 @@ fn feed_after(mut script: Script, lines: u64) -> Result<Vec<u8>, ScriptFault>
     }
 }
 
-/// The feed of a text that may have `most` bytes. Of a longer one, these and one byte more are enough.
+// The feed of a text, by a script that knows nothing before it.
 #[tactic(auto, unfolding(crate::specs::Script::feed_within))]
-pub(crate) fn feed_within(alloc: Global, text: &[u8], most: usize) -> Result<Vec<u8>, ScriptFault>
+fn feed_by(script: &mut Script, text: &[u8], most: usize) -> Result<Vec<u8>, ScriptFault>
+    requires nothing { script.old ≡ nothing_known }
     requires few { length text.now ≤ most + 1 }
     requires most { most < 2 ^ 31 }
     ensures { Agrees (λ feed. feed.items) result (feed_within most text.now) }
 {
-    let mut script = Script::new(alloc)?;
-    let ended = take_ended(&mut script, text)?;
+    let ended = take_ended(script, text)?;
     let last = &text[ended.end..];
     let lines = if last.is_empty() {
         ended.count
@@ -94,9 +95,19 @@ pub(crate) fn feed_within(alloc: Global, text: &[u8], most: usize) -> Result<Vec
         return Err(ScriptFault::Script { line: lines, code });
     }
     if !last.is_empty() {
-        take_line(&mut script, lines, last)?;
+        take_line(script, lines, last)?;
     }
     feed_after(script, lines)
+}
+
+/// The feed of a text that may have `most` bytes. Of a longer one, these and one byte more are enough.
+pub(crate) fn feed_within(alloc: Global, text: &[u8], most: usize) -> Result<Vec<u8>, ScriptFault>
+    requires few { length text.now ≤ most + 1 }
+    requires most { most < 2 ^ 31 }
+    ensures { Agrees (λ feed. feed.items) result (feed_within most text.now) }
+{
+    let mut script = Script::new(alloc)?;
+    feed_by(&mut script, text, most)
 }
 
 // The feed of the script that a source gives, whose text may have `most` bytes.

@@ -1,9 +1,9 @@
 //! What the lines of a script say so far, and what a line adds to it.
 
-ghost use Rattle.std.specs.Prelude.{◌≡◌, ◌++◌, ◌≤◌, ◌<◌, ◌-◌, ◌^◌, Ok, Err, MatchResult, IfOk, OnOk, IsTrue, length, map, All, Some, option_map};
+ghost use Rattle.std.specs.Prelude.{◌≡◌, ◌++◌, ◌≤◌, ◌<◌, ◌-◌, ◌^◌, Ok, Err, MatchResult, IfOk, OnOk, IsTrue, length, map, Some, option_map};
 ghost use Rattle.bk_frames.specs.Feed.{frame_of, frame_text};
 ghost use Rattle.bk_script.specs.Known.{nothing_known, closed, grown, with_frame};
-ghost use Rattle.bk_script.specs.Judging.{is_in_place, meaning, judged, version_line, members_line, account_line, batch_line, transaction_line, raw_line, cert_line, again_line, with_certificate, with_named};
+ghost use Rattle.bk_script.specs.Judging.{is_in_place, meaning, judged, version_line, members_line, account_line, batch_line, transaction_line, raw_line};
 ghost use Rattle.bk_script.specs.Transactions.{with_text};
 ghost use Rattle.bk_script.specs.Feeds.{feed_text};
 ghost use Rattle.bk_script.specs.Lines.{takes};
@@ -14,13 +14,11 @@ use crate::batch::OpenBatch;
 use crate::fault::{ScriptCode, Stop};
 use crate::frames::{feed_bytes, put_frame};
 use crate::line::{Keyword, is_ascii, is_skipped, kind};
-use crate::names::{Names, all_meant, is_new_name, place};
-use crate::parts::{
-    header_in, members_size, parents_of, signers_in, weights_for, weights_listed, word,
-};
-use crate::sealing::{sealed, sealer};
+use crate::names::{Names, is_new_name};
+use crate::parts::{members_size, weights_for, weights_listed, word};
+use crate::sealing::sealer;
 use crate::transactions::line_text;
-use crate::words::{hex_bytes, list, number, numbers, pieces};
+use crate::words::{hex_bytes, number, pieces};
 use bk_cert::Header;
 use bk_committee::Committee;
 use bk_digest::Digest32;
@@ -31,16 +29,16 @@ use std::marker::Model;
 /// What the lines so far say.
 #[derive(Drop)]
 pub struct Script {
-    alloc: Global,
-    sealer: Committee,
+    pub(crate) alloc: Global,
+    pub(crate) sealer: Committee,
     version: Version,
     versioned: bool,
     weights: Option<Vec<u32>>,
-    late: bool,
+    pub(crate) late: bool,
     accounts: Accounts,
-    batches: Names,
-    certs: Names,
-    headers: Vec<Header>,
+    pub(crate) batches: Names,
+    pub(crate) certs: Names,
+    pub(crate) headers: Vec<Header>,
     batch: Option<OpenBatch>,
     body: Vec<u8>,
     size: u64,
@@ -97,9 +95,9 @@ impl Script {
         }
     }
 
-    // This many bytes more.
+    /// This many bytes more.
     #[tactic(auto, unfolding(crate::specs::Known::grown))]
-    fn grow(&mut self, bytes: usize) -> Result<(), ScriptCode>
+    pub(crate) fn grow(&mut self, bytes: usize) -> Result<(), ScriptCode>
         ensures { MatchResult result (λ _. grown self.old bytes ≡ Ok self.new)
             (λ e. grown self.old bytes ≡ Err e) }
     {
@@ -111,8 +109,8 @@ impl Script {
         Ok(())
     }
 
-    // Writes one frame more.
-    fn put_frame(&mut self, kind: Kind, payload: &[u8]) -> Result<(), AllocError>
+    /// Writes one frame more.
+    pub(crate) fn put_frame(&mut self, kind: Kind, payload: &[u8]) -> Result<(), AllocError>
         requires { length payload.now < 2 ^ 32 }
         ensures { OnOk result (self.new ≡ with_frame self.old kind payload.now) }
     {
@@ -227,75 +225,6 @@ impl Script {
     {
         let text = line_text(self.alloc, keyword, &words[1..])?;
         self.put_text(text)
-    }
-
-    // Writes the frame of a certificate that these members sign.
-    #[tactic(auto, unfolding(crate::specs::Judging::with_certificate, crate::specs::Known::grown))]
-    fn put_certificate(&mut self, header: &Header, signers: &[u8]) -> Result<(), Stop>
-        requires { All (λ signer. signer < 128) signers.now }
-        ensures { Answers (λ _. self.new) result
-            (with_certificate self.old header.now signers.now) }
-    {
-        let header = header.try_clone(self.alloc)?;
-        let payload = sealed(self.alloc, &self.sealer, header, signers)?;
-        self.grow(5 + payload.len())?;
-        Ok(self.put_frame(Kind::Certificate, &payload)?)
-    }
-
-    // Writes the frame of a certificate that these members sign, and keeps it under its name.
-    #[tactic(auto, unfolding(crate::specs::Judging::with_named))]
-    fn put_named(&mut self, name: &[u8], header: Header, signers: &[u8]) -> Result<(), Stop>
-        requires { All (λ signer. signer < 128) signers.now }
-        ensures { Answers (λ _. self.new) result
-            (with_named self.old name.now header signers.now) }
-    {
-        self.put_certificate(&header, signers)?;
-        let name = name.to_vec(self.alloc)?;
-        self.certs.push(self.alloc, name, header.id())?;
-        self.headers.push(header)?;
-        self.late = true;
-        Ok(())
-    }
-
-    #[tactic(auto, unfolding(crate::specs::Judging::cert_line))]
-    fn cert_line(&mut self, words: &[&[u8]]) -> Result<(), Stop>
-        ensures { Answers (λ _. self.new) result
-            (cert_line self.old (map (λ w. w.now) words.now)) }
-    {
-        let round = number(word(words, 2))?;
-        let author = number(word(words, 3))?;
-        let batches = list(self.alloc, word(words, 4))?;
-        let parent_items = list(self.alloc, word(words, 5))?;
-        let signer_items = list(self.alloc, word(words, 6))?;
-        let members = numbers(self.alloc, &signer_items)?;
-        let name = word(words, 1);
-        if !is_new_name(&self.certs, name) {
-            return Err(Stop::Code(ScriptCode::Name));
-        }
-        let batches = all_meant(self.alloc, &self.batches, &batches)?;
-        let ids = all_meant(self.alloc, &self.certs, &parent_items)?;
-        let parents = parents_of(self.alloc, &ids)?;
-        let signers = signers_in(self.alloc, &members)?;
-        let header = header_in(author, round, batches, parents)?;
-        self.put_named(name, header, &signers)
-    }
-
-    #[tactic(auto, unfolding(crate::specs::Judging::again_line))]
-    fn again_line(&mut self, words: &[&[u8]]) -> Result<(), Stop>
-        ensures { Answers (λ _. self.new) result
-            (again_line self.old (map (λ w. w.now) words.now)) }
-    {
-        let items = list(self.alloc, word(words, 2))?;
-        let members = numbers(self.alloc, &items)?;
-        let Some(place) = place(&self.certs, word(words, 1)) else {
-            return Err(Stop::Code(ScriptCode::Name));
-        };
-        let Some(header) = self.headers.get(place) else {
-            return Err(Stop::Code(ScriptCode::Name));
-        };
-        let header = header.try_clone(self.alloc)?;
-        let signers = signers_in(self.alloc, &members)?;
-        self.put_certificate(&header, &signers)
     }
 
     // A line in its place.
