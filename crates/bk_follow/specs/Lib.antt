@@ -1,6 +1,7 @@
 pub mod RunReport
 pub mod Follower
 pub mod Finishing
+pub mod Gaps
 pub mod Stopping
 pub mod Queries
 pub mod Ordering

@@ -5,10 +5,12 @@ ghost use Rattle.bk_rules.specs.Rows.{account_at};
 ghost use Rattle.bk_follow.specs.Follower.{BookValue, receipts_in, executed_in};
 ghost use Rattle.bk_report.specs.Proofs.{IsProofOf, IsAbsent};
 ghost use Rattle.bk_follow.specs.Queries.{executed_of, opening_in, rows_in, NothingStops, IsStopSoFar};
+ghost use Rattle.bk_follow.specs.Gaps.{missing_in};
 ghost use Rattle.bk_follow.specs.Ordering.{OrderFails};
 
 use crate::fault::Fault;
 use crate::follower::{Follower, stand};
+use bk_digest::Digest32;
 use bk_frames::Row;
 use bk_ledger::Ledger;
 use bk_order::Intake;
@@ -44,6 +46,16 @@ impl Follower {
     {
         match &self.gathered.opened.book {
             Some(book) => Some(&book.intake),
+            None => None,
+        }
+    }
+
+    /// The digest of the missing batch at which the order stops, as it was settled last; `None` where it stops at none.
+    pub fn missing(&self) -> Option<Digest32>
+        ensures { result ≡ missing_in self.now.book }
+    {
+        match &self.gathered.opened.book {
+            Some(book) => book.intake.missing().copied(),
             None => None,
         }
     }

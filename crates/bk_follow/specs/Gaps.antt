@@ -1,0 +1,24 @@
+-- At which missing batch the order of a feed stops.
+use Rattle.std.specs.Prelude.{◌≡◌, ℕ, List, Option}
+use Rattle.bk_frames.specs.Feed.{FeedValue, IsFeed, spelling}
+use Rattle.bk_order.specs.Orders.{Ordered}
+use Rattle.bk_follow.specs.Follower.{BookValue, ordered_in}
+use Rattle.bk_follow.specs.RunReport.{HasNoStopIn, IsOrderIn}
+
+-- nothing stops a feed, and its order stops at this missing batch, or at none
+pub record IsGapIn (feed : FeedValue) (missing : Option (List ℕ)) : Type 0 where
+  pub clear : HasNoStopIn feed
+  pub ordered : Ordered
+  pub order : IsOrderIn feed ordered
+  pub missing_is : missing ≡ ordered.payloads.missing
+
+-- the bytes are the encoding of such a feed
+pub record IsGap (bytes : List ℕ) (missing : Option (List ℕ)) : Type 0 where
+  pub feed : FeedValue
+  pub good : IsFeed feed
+  pub spelled : bytes ≡ spelling feed
+  pub gap : IsGapIn feed missing
+
+-- at which missing batch an order stops, as it was settled last
+abbrev pub missing_in : Option BookValue → Option (List ℕ)
+missing_in book = (ordered_in book).payloads.missing
