@@ -21,7 +21,8 @@ use Rattle.bk_results.specs.declared.fault.Fault.{Fault}
 use Rattle.bk_results.specs.declared.fault.Fault.TheVariants as fault
 use Rattle.bk_results.specs.declared.query.Reply.TheVariants as reply
 use Rattle.bk_views.specs.Anchors.{AreRows}
-use Rattle.bk_follow.specs.Finishing.{ClosesOrder, CloseOrderFails, OfFeed}
+use Rattle.bk_follow.specs.Finishing.{Closes, ClosesOrder, CloseOrderFails, OfFeed}
+use Rattle.bk_follow.specs.Gaps.{IsGapIn, missing_in}
 use Rattle.bk_follow.specs.Follower.{BookValue, Followed, IsCurrent}
 use Rattle.bk_follow.specs.Ordering.{IsOrdered}
 use Rattle.bk_follow.specs.RunReport.{IsOrderIn, committee_in, later_frames}
@@ -190,3 +191,20 @@ follower_shows v old new before after closed h =
     let s = ordered_now old new closed in
     let r = of_book new.book s.2 (λ b. BookShows (asked_by v) b before after) s.3 h in
     (on_ordered old new s.2 (λ feed. ReplyIsOut feed (asked_by v) reply.Found before after) closed s.3 r.0, r.1, refl, λ is. absurd cc)
+
+-- ---- at which missing batch the order stops
+
+gap_of_book : (feed : FeedValue) (book : Option BookValue) → ((b : BookValue) × (book ≡ Some b) × IsOrdered feed b) → IsGapIn feed (missing_in book)
+gap_of_book feed book (b, is, o) = record { clear = o.clear; ordered = b.taken.ordered; order = o.ordered; missing_is = ap missing_in is }
+
+-- what holds of the feed that has come
+of_feed_too : (old : Followed) (holds too : FeedValue → Type 0) → ((feed : FeedValue) → holds feed → too feed) → OfFeed old holds → OfFeed old too
+of_feed_too old holds too f h = λ bytes frames come.
+    let e = h bytes frames come in
+    record { version = e.version; known = e.known; good = e.good; spelled = e.spelled; it = f _ e.it }
+
+pub gap_ordered : (old new : Followed) → ClosesOrder old new → OfFeed old (λ feed. IsGapIn feed (missing_in new.book))
+gap_ordered old new closed = of_feed_too old (λ feed. (b : BookValue) × (new.book ≡ Some b) × IsOrdered feed b) (λ feed. IsGapIn feed (missing_in new.book)) (λ feed h. gap_of_book feed new.book h) closed.ordered
+
+pub gap_closed : (old new : Followed) → Closes old new → OfFeed old (λ feed. IsGapIn feed (missing_in new.book))
+gap_closed old new closed = of_feed_too old (λ feed. (b : BookValue) × (new.book ≡ Some b) × IsCurrent feed b) (λ feed. IsGapIn feed (missing_in new.book)) (λ feed h. gap_of_book feed new.book (h.0, h.1, ordered_of feed h.0 h.2)) closed.current

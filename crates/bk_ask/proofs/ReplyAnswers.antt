@@ -25,7 +25,8 @@ use Rattle.bk_results.specs.declared.query.Reply.{Reply}
 use Rattle.bk_results.specs.declared.query.Reply.TheVariants as reply
 use Rattle.bk_results.specs.Devices.{devices}
 use Rattle.bk_ask.specs.Asking.{Ending, IsEndingOf, Replies, HasText, IsQuiet, can_reply, executes, IsReplied, PartOfReplyIsOut, AskFailsBy}
-use Rattle.bk_follow.specs.Finishing.{Closes, CloseFails}
+use Rattle.bk_follow.specs.Finishing.{Closes, CloseFails, OfFeed}
+use Rattle.bk_follow.specs.Gaps.{IsGap, IsGapIn}
 use Rattle.bk_follow.specs.Follower.{Executed, BookValue, Followed, IsExecuted, IsCurrent, executed_in}
 use Rattle.bk_follow.specs.Replaying.{AllHasCome, ReadFails}
 use Rattle.bk_follow.specs.RunReport.{HasPlaceIn, HasPlace, committee_in, later_frames}
@@ -210,6 +211,12 @@ pub call_replies : (asked : Query) (known old new : Device) (v : Followed) (answ
 call_replies asked known old new v answer come h =
     of_known_feed known v (λ feed. ReplyIsOut feed asked answer old new) (λ bytes. IsReplied asked answer bytes old new) come h.0
     (λ bytes feed good spelled out. (out.text, record { feed = feed; good = good; spelled = spelled; reply = out.reply }, out.gave))
+
+-- the missing batch of the feed is that of the bytes
+pub call_gap : (known : Device) (v : Followed) (missing : Option (List ℕ)) → IfKnown known (λ bytes. AllHasCome bytes v) → OfFeed v (λ feed. IsGapIn feed missing) → IfKnown known (λ bytes. IsGap bytes missing)
+call_gap known v missing come h =
+    of_known_feed known v (λ feed. IsGapIn feed missing) (λ bytes. IsGap bytes missing) come h
+    (λ bytes feed good spelled gap. record { feed = feed; good = good; spelled = spelled; gap = gap })
 
 -- why the Follower did not reply is why the call did not
 pub call_fails : (asked : Query) (f : Fault) (known now old new : Device) (v : Followed) → Works known now → IfKnown known (λ bytes. AllHasCome bytes v) → FollowerReplyFails asked v old new f → AskFailsBy asked f (devices known old) (devices now new)

@@ -2,11 +2,14 @@ ghost use Rattle.bk_frames.specs.declared.pulling.TheConstants.{PIECE};
 ghost use Rattle.std.specs.Prelude.{◌≡◌, ◌<◌, ◌≤◌, length, true, None, OnOk, IfOk, IfErr};
 ghost use Rattle.bk_frames.specs.Device.{CanBeUsed, Works, IfKnown};
 ghost use Rattle.bk_results.specs.Devices.{devices};
+ghost use Rattle.bk_follow.specs.Finishing.{OfFeed};
 ghost use Rattle.bk_follow.specs.Follower.{unfed};
+ghost use Rattle.bk_follow.specs.Gaps.{IsGap, IsGapIn, missing_in};
 ghost use Rattle.bk_ask.specs.Asking.{IsReplied, IsQuiet, AskFailsBy, can_reply};
 ghost use Rattle.bk_ask.specs.private.Replies.{FollowerReplies, FollowerReplyFails};
 
 use crate::ordered::{show_ordered, view_of};
+use crate::replied::Replied;
 use crate::replying::reply_closed;
 use bk_follow::Follower;
 use bk_frames::{PIECE, Sink, Source};
@@ -29,6 +32,8 @@ fn close_and_reply<R: Threads + Wait + Sync, G: Gate + Sync, K: Sink>(
     requires works { follower.old.fault ≡ None }
     ensures reply { IfOk result (FollowerReplies query.now follower.old
         (K.state sink.old) (K.state sink.new)) }
+    ensures missing { OnOk result (OfFeed follower.old
+        (λ feed. IsGapIn feed (missing_in follower.new.book))) }
     ensures fault { IfErr result (FollowerReplyFails query.now follower.old
         (K.state sink.old) (K.state sink.new)) }
 {
@@ -56,16 +61,17 @@ fn follow_and_reply<R: Threads + Wait + Sync, S: Source, K: Sink, G: Gate + Sync
     follower: &mut Follower,
     gate: &G,
     query: &Query,
-) -> Result<Reply, Fault>
+) -> Result<Replied, Fault>
     requires some { 0 < length piece.old }
     requires few { length piece.old ≤ PIECE }
     requires first { follower.old ≡ unfed }
     requires source { CanBeUsed (S.state source.old) }
     requires sink { CanBeUsed (K.state sink.old) }
     ensures reply { IfOk result (λ r. IfKnown (S.state source.old) (λ bytes.
-        IsReplied query.now r bytes (K.state sink.old) (K.state sink.new))) }
-    ensures kind { IfOk result (λ r. can_reply query.now r ≡ true) }
-    ensures absent { IfOk result (λ r. IsQuiet r (K.state sink.old) (K.state sink.new)) }
+        IsReplied query.now r.reply bytes (K.state sink.old) (K.state sink.new))) }
+    ensures missing { IfOk result (λ r. IfKnown (S.state source.old) (λ bytes. IsGap bytes r.missing)) }
+    ensures kind { IfOk result (λ r. can_reply query.now r.reply ≡ true) }
+    ensures absent { IfOk result (λ r. IsQuiet r.reply (K.state sink.old) (K.state sink.new)) }
     ensures sound { OnOk result (Works (S.state source.old) (S.state source.new)
         × Works (K.state sink.old) (K.state sink.new)) }
     ensures fault { IfErr result (λ f. AskFailsBy query.now f
@@ -74,7 +80,8 @@ fn follow_and_reply<R: Threads + Wait + Sync, S: Source, K: Sink, G: Gate + Sync
 {
     follower.follow(rt, source, piece)?;
     let reply = close_and_reply(rt, alloc, follower, gate, sink, query)?;
-    Ok(reply)
+    let missing = follower.missing();
+    Ok(Replied { reply, missing })
 }
 
 /// Reads a feed and writes the text of the reply to a query: the `anchor` and `cert` lines of the order, or a line for
@@ -82,8 +89,8 @@ fn follow_and_reply<R: Threads + Wait + Sync, S: Source, K: Sink, G: Gate + Sync
 /// line of an account or of a transaction, the text of a proof, the verdict on a digest of the state, `state good`, or
 /// `state bad` and the `state` line of the right one, or the statement of an account.
 ///
-/// Where the order stops at a batch that the feed does not hold, the reply is of what comes before it. The whole feed
-/// is read before anything is written. With `Absent`, and with every fault but `Write`, nothing is written.
+/// Where the order stops at a batch that the feed does not hold, the reply is of what comes before it, and the digest of
+/// that batch comes with it. The whole feed is read before anything is written. With `Absent`, and with every fault but `Write`, nothing is written.
 pub fn ask<R: Threads + Wait + Sync, S: Source, K: Sink, G: Gate + Sync>(
     rt: &R,
     alloc: Global,
@@ -92,14 +99,15 @@ pub fn ask<R: Threads + Wait + Sync, S: Source, K: Sink, G: Gate + Sync>(
     query: Query,
     workers: usize,
     gate: &G,
-) -> Result<Reply, Fault>
+) -> Result<Replied, Fault>
     requires source { CanBeUsed (S.state source.old) }
     requires sink { CanBeUsed (K.state sink.old) }
     requires workers { (1 ≤ workers) × (workers ≤ 64) }
     ensures reply { IfOk result (λ r. IfKnown (S.state source.old) (λ bytes.
-        IsReplied query r bytes (K.state sink.old) (K.state sink.new))) }
-    ensures kind { IfOk result (λ r. can_reply query r ≡ true) }
-    ensures absent { IfOk result (λ r. IsQuiet r (K.state sink.old) (K.state sink.new)) }
+        IsReplied query r.reply bytes (K.state sink.old) (K.state sink.new))) }
+    ensures missing { IfOk result (λ r. IfKnown (S.state source.old) (λ bytes. IsGap bytes r.missing)) }
+    ensures kind { IfOk result (λ r. can_reply query r.reply ≡ true) }
+    ensures absent { IfOk result (λ r. IsQuiet r.reply (K.state sink.old) (K.state sink.new)) }
     ensures sound { OnOk result (Works (S.state source.old) (S.state source.new)
         × Works (K.state sink.old) (K.state sink.new)) }
     ensures fault { IfErr result (λ f. AskFailsBy query f
@@ -108,7 +116,7 @@ pub fn ask<R: Threads + Wait + Sync, S: Source, K: Sink, G: Gate + Sync>(
 {
     let mut piece = vec![in alloc; 0u8; PIECE]?;
     let mut follower = Follower::new(alloc, workers);
-    let reply = follow_and_reply(
+    let replied = follow_and_reply(
         rt,
         alloc,
         source,
@@ -119,5 +127,5 @@ pub fn ask<R: Threads + Wait + Sync, S: Source, K: Sink, G: Gate + Sync>(
         &query,
     );
     follower.discard();
-    reply
+    replied
 }

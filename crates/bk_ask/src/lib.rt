@@ -3,6 +3,8 @@
 
 mod asking;
 mod ordered;
+mod replied;
 mod replying;
 
 pub use asking::ask;
+pub use replied::Replied;

@@ -1,5 +1,5 @@
 -- The exit statuses of the program.
-use Rattle.std.specs.Prelude.{ℕ, Bool, true, false, ◌||◌, if◌then◌else◌, Result, Ok, Err}
+use Rattle.std.specs.Prelude.{ℕ, List, Option, Bool, true, false, ◌||◌, if◌then◌else◌, Result, Ok, Err}
 use Rattle.bk_frames.specs.declared.fault.FaultCode.{FaultCode}
 use Rattle.bk_frames.specs.declared.fault.FaultCode.TheVariants as code
 use Rattle.bk_results.specs.declared.compare_stop.CompareStop.{CompareStop}
@@ -272,22 +272,22 @@ exit_after_compare (compared.First e) = exit_after_replay e
 exit_after_compare (compared.Second e) = exit_after_replay e
 exit_after_compare (compared.Differ e) = exit_after_differ e
 
--- after a query whose object is absent
-abbrev pub absence : Query → Result Exit JobFault
-absence query.Order = Ok exit.Whole
-absence (query.Account id) = Err (fault.AbsentAccount id)
-absence (query.Receipt place) = Err (fault.AbsentPlace place)
-absence (query.Proof id) = Err (fault.AbsentAccount id)
-absence (query.State root) = Ok exit.Whole
-absence query.Anchors = Ok exit.Whole
-absence (query.Statement id) = Err (fault.AbsentAccount id)
+-- after a query whose object is absent, of an order that stops at this missing batch
+abbrev pub absence : Query → Option (List ℕ) → Result Exit JobFault
+absence query.Order missing = Ok exit.Whole
+absence (query.Account id) missing = Err (fault.AbsentAccount id missing)
+absence (query.Receipt place) missing = Err (fault.AbsentPlace place missing)
+absence (query.Proof id) missing = Err (fault.AbsentAccount id missing)
+absence (query.State root) missing = Ok exit.Whole
+absence query.Anchors missing = Ok exit.Whole
+absence (query.Statement id) missing = Err (fault.AbsentAccount id missing)
 
 -- after a reply to a query
-abbrev pub ending : Query → Reply → Result Exit JobFault
-ending asked reply.Found = Ok exit.Whole
-ending asked reply.Short = Ok exit.Missing
-ending asked reply.Wrong = Ok exit.No
-ending asked reply.Absent = absence asked
+abbrev pub ending : Query → Option (List ℕ) → Reply → Result Exit JobFault
+ending asked missing reply.Found = Ok exit.Whole
+ending asked missing reply.Short = Ok exit.Missing
+ending asked missing reply.Wrong = Ok exit.No
+ending asked missing reply.Absent = absence asked missing
 
 -- after a fault
 abbrev pub exit_after : JobFault → Exit
@@ -295,5 +295,5 @@ exit_after (fault.Replay e) = exit_after_replay e
 exit_after (fault.Text e) = exit_after_text e
 exit_after (fault.Events e) = exit_after_list e
 exit_after (fault.Compared e) = exit_after_compare e
-exit_after (fault.AbsentAccount id) = exit.No
-exit_after (fault.AbsentPlace place) = exit.No
+exit_after (fault.AbsentAccount id missing) = exit.No
+exit_after (fault.AbsentPlace place missing) = exit.No

@@ -1,5 +1,5 @@
 -- What `--verbose` adds to the line of a fault: one more line, which has it in words with the name of the file.
-use Rattle.std.specs.Prelude.{ℕ, Bool, List, ◌++◌, ◌==◌, codes, if◌then◌else◌}
+use Rattle.std.specs.Prelude.{ℕ, Bool, List, [], ◌++◌, ◌==◌, codes, if◌then◌else◌, Option, Some, None}
 use Rattle.bk_frames.specs.declared.fault.FaultCode.{FaultCode}
 use Rattle.bk_frames.specs.declared.fault.FaultCode.TheVariants as code
 use Rattle.bk_results.specs.declared.compare_stop.CompareStop.{CompareStop}
@@ -19,6 +19,8 @@ use Rattle.bk_steps.specs.declared.refused.Refused as refused
 use Rattle.bk_steps.specs.declared.refused.Refused.TheVariants as reason
 use Rattle.bk_cli.specs.FaultLines.{digits_of, line_of}
 use Rattle.bk_cli.specs.Files.{about_of, name_of}
+use Rattle.bk_cli.specs.declared.about.About.TheVariants as about
+use Rattle.bk_cli.specs.declared.gaps.Gaps.{Gaps}
 use Rattle.bk_cli.specs.declared.job.Job.{Job}
 use Rattle.bk_cli.specs.declared.job_fault.JobFault.{JobFault}
 use Rattle.bk_cli.specs.declared.job_fault.JobFault.TheVariants as fault
@@ -123,6 +125,34 @@ compare_words (compared.First e) = replay_words e
 compare_words (compared.Second e) = replay_words e
 compare_words (compared.Differ e) = differ_words e
 
+-- ---- missing batches
+
+-- no order stops at a missing batch, or none is reported
+abbrev pub no_gaps : Gaps
+no_gaps = record { first = None; second = None }
+
+-- at which missing batch an order stops
+abbrev pub gap_words : List ℕ → List ℕ
+gap_words digest = codes "the order stops at the missing batch" ++ digits_of digest
+
+-- the same after other words
+abbrev pub and_gap : Option (List ℕ) → List ℕ
+and_gap None = []
+and_gap (Some digest) = codes "; " ++ gap_words digest
+
+-- the line of a feed of this name whose order stops so
+abbrev pub gap_line : List ℕ → List ℕ → List ℕ
+gap_line name digest = codes "bkreplay: " ++ (name ++ (codes ": " ++ gap_words digest ++ codes "\n"))
+
+-- nothing where it stops at none
+abbrev pub gap_note : List ℕ → Option (List ℕ) → List ℕ
+gap_note name None = []
+gap_note name (Some digest) = gap_line name digest
+
+-- what is told of the feeds of a job
+abbrev pub gaps_told : Job → Gaps → List ℕ
+gaps_told j gaps = gap_note (name_of j about.First) gaps.first ++ gap_note (name_of j about.Second) gaps.second
+
 -- ---- the line
 
 -- a fault in words
@@ -131,8 +161,8 @@ words_of (fault.Replay e) = replay_words e
 words_of (fault.Text e) = text_words e
 words_of (fault.Events e) = list_words e
 words_of (fault.Compared e) = compare_words e
-words_of (fault.AbsentAccount id) = codes "there is no account" ++ spaced id
-words_of (fault.AbsentPlace place) = codes "there is no transaction at place" ++ spaced place
+words_of (fault.AbsentAccount id missing) = codes "there is no account" ++ spaced id ++ and_gap missing
+words_of (fault.AbsentPlace place missing) = codes "there is no transaction at place" ++ spaced place ++ and_gap missing
 
 -- the line that has a fault in words, after the name of what it is about
 abbrev pub note_line : List ℕ → JobFault → List ℕ

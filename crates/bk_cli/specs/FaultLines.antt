@@ -78,15 +78,17 @@ reported (fault.Replay e) = replay_text e
 reported (fault.Text e) = script_text e
 reported (fault.Events e) = list_text e
 reported (fault.Compared e) = compare_text e
-reported (fault.AbsentAccount id) = codes "absent account" ++ spaced id
-reported (fault.AbsentPlace place) = codes "absent place" ++ spaced place
+reported (fault.AbsentAccount id missing) = codes "absent account" ++ spaced id
+reported (fault.AbsentPlace place missing) = codes "absent place" ++ spaced place
 
 -- the line of a fault, with its line feed
 abbrev pub line_of : JobFault → List ℕ
 line_of e = reported e ++ codes "\n"
 
--- a sink was to receive a text: it received all of it; or one of its calls failed, and it received only some first bytes
+-- a call of a sink that was to receive a text failed, and it received only some first bytes
+abbrev pub StopsReport : List ℕ → Device → Device → Type 0
+StopsReport text old new = Fails old new × ((written : ℕ) × Receives old new (take written text))
+
+-- a sink was to receive a text: it received all of it; or not
 abbrev pub Reports : List ℕ → Device → Device → Type 0
-Reports text old new =
-    (Works old new × Receives old new text)
-    ⊎ (Fails old new × ((written : ℕ) × Receives old new (take written text)))
+Reports text old new = (Works old new × Receives old new text) ⊎ StopsReport text old new

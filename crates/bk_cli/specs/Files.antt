@@ -85,8 +85,8 @@ about_of j (fault.Replay e) = replay_about e
 about_of j (fault.Text e) = text_about j e
 about_of j (fault.Events e) = about.Second
 about_of j (fault.Compared e) = compare_about e
-about_of j (fault.AbsentAccount id) = about.First
-about_of j (fault.AbsentPlace place) = about.First
+about_of j (fault.AbsentAccount id missing) = about.First
+about_of j (fault.AbsentPlace place missing) = about.First
 
 -- its name: a path, or standard input or output
 abbrev pub name_of : Job → About → List ℕ

@@ -5,6 +5,7 @@ ghost use Rattle.arrayvec.specs.ArrayVec.{array_vec_len};
 ghost use Rattle.bk_cli.specs.Explanations.{back_words, front_words, refused_words, script_words};
 ghost use Rattle.bk_cli.specs.Explanations.{collision_words, compare_words, differ_words, feed_words, list_words};
 ghost use Rattle.bk_cli.specs.Explanations.{replay_words, text_words, twins_words, unread_words, words_of};
+ghost use Rattle.bk_cli.specs.Explanations.{and_gap, gap_words};
 
 use crate::fault_line::put_digest;
 use crate::job_fault::JobFault;
@@ -231,6 +232,31 @@ fn put_compare(line: &mut ShortLine, stop: &CompareStop)
     }
 }
 
+/// Puts at which missing batch an order stops where there is room for 110 bytes.
+pub(crate) fn put_gap(line: &mut ShortLine, digest: &Digest32)
+    requires { array_vec_len line.old + 110 ≤ 192 }
+    ensures items { line.new.items ≡ line.old.items ++ gap_words digest.now }
+    ensures len { array_vec_len line.new ≤ array_vec_len line.old + 110 }
+{
+    put_text(line, b"the order stops at the missing batch");
+    put_digest(line, digest);
+}
+
+// Puts the same after other words, where there is one, where there is room for 112 bytes.
+fn put_and_gap(line: &mut ShortLine, missing: &Option<Digest32>)
+    requires { array_vec_len line.old + 112 ≤ 192 }
+    ensures items { line.new.items ≡ line.old.items ++ and_gap missing.now }
+    ensures len { array_vec_len line.new ≤ array_vec_len line.old + 112 }
+{
+    match missing {
+        Some(digest) => {
+            put_text(line, b"; ");
+            put_gap(line, digest);
+        }
+        None => {}
+    }
+}
+
 /// A fault in words, after a colon and up to the end of its line.
 pub(crate) fn in_words(fault: &JobFault) -> ShortLine
     ensures { result.items ≡ codes ": " ++ words_of fault.now ++ codes "\n" }
@@ -242,13 +268,15 @@ pub(crate) fn in_words(fault: &JobFault) -> ShortLine
         JobFault::Text(fault) => put_script(&mut line, fault),
         JobFault::Events(fault) => put_list(&mut line, fault),
         JobFault::Compared(stop) => put_compare(&mut line, stop),
-        JobFault::AbsentAccount { id } => {
+        JobFault::AbsentAccount { id, missing } => {
             put_text(&mut line, b"there is no account");
             put_number(&mut line, *id);
+            put_and_gap(&mut line, missing);
         }
-        JobFault::AbsentPlace { place } => {
+        JobFault::AbsentPlace { place, missing } => {
             put_text(&mut line, b"there is no transaction at place");
             put_number(&mut line, u64::from(*place));
+            put_and_gap(&mut line, missing);
         }
     }
     put_text(&mut line, b"\n");

@@ -173,11 +173,11 @@ pub(crate) fn fault_line(fault: &JobFault) -> ShortLine
         JobFault::Text(fault) => put_script(&mut line, fault),
         JobFault::Events(fault) => put_list(&mut line, fault),
         JobFault::Compared(stop) => put_compare(&mut line, stop),
-        JobFault::AbsentAccount { id } => {
+        JobFault::AbsentAccount { id, .. } => {
             put_text(&mut line, b"absent account");
             put_number(&mut line, *id);
         }
-        JobFault::AbsentPlace { place } => {
+        JobFault::AbsentPlace { place, .. } => {
             put_text(&mut line, b"absent place");
             put_number(&mut line, u64::from(*place));
         }

@@ -16,7 +16,7 @@ pub(crate) const PROGRESS: &str =
     "Tell on standard error how many bytes are read, and how many transactions are executed";
 
 pub(crate) const VERBOSE: &str =
-    "After the line of a fault, tell in one more line what is wrong, in words and with the name of the file";
+    "Tell in one more line what a fault is, in words, or at which missing batch an order stops, with the name of the file";
 
 pub(crate) const FROM: &str = "The first round that is drawn, 1 to 1,000,000; 1 by default";
 

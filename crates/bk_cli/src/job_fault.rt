@@ -5,6 +5,7 @@ ghost use Rattle.bk_cli.specs.declared.job_fault.JobFault.TheVariants as fault;
 ghost use Rattle.bk_cli.specs.declared.list_fault.ListFault.TheVariants as list;
 
 use crate::list_fault::ListFault;
+use bk_digest::Digest32;
 use bk_results::{CompareStop, EventsFault, Fault, ScriptFault};
 
 /// Why a job has no answer. The program prints each as one line on standard error.
@@ -18,10 +19,16 @@ pub enum JobFault {
     Events(ListFault),
     /// Two feeds do not agree.
     Compared(CompareStop),
-    /// The feed has no account of this id.
-    AbsentAccount { id: u64 },
-    /// The order of the feed has no transaction at this place.
-    AbsentPlace { place: u32 },
+    /// The feed has no account of this id. Where its order stops at a missing batch, this is the digest.
+    AbsentAccount {
+        id: u64,
+        missing: Option<Digest32>,
+    },
+    /// The order of the feed has no transaction at this place. Where it stops at a missing batch, this is the digest.
+    AbsentPlace {
+        place: u32,
+        missing: Option<Digest32>,
+    },
 }
 
 impl From<Fault> for JobFault {

@@ -1,7 +1,7 @@
 //! The command line: from words to a job, and from the fault of a job to its line and its exit status.
 //!
 //! [`parse_line`] reads the words of a command line, and [`parse`] only the job that they name. [`report`] writes the one
-//! line of a fault, [`tell`] the same and what is wrong in words, and [`Exit::after`] is the exit status that goes with
+//! line of a fault, [`tell`] the same and what is wrong in words, [`tell_gaps`] where an order stops, and [`Exit::after`] is the exit status that goes with
 //! it. Nothing here reads a file or does a job.
 #![tactic(auto)]
 
@@ -10,6 +10,8 @@ mod commands;
 mod exit;
 mod explain;
 mod fault_line;
+mod gap_notes;
+mod gaps;
 mod help;
 mod job;
 mod job_fault;
@@ -25,6 +27,8 @@ mod workers;
 
 pub use exit::Exit;
 pub use fault_line::report;
+pub use gap_notes::tell_gaps;
+pub use gaps::Gaps;
 pub use job::Job;
 pub use job_fault::JobFault;
 pub use line::{ShortLine, put_number, put_text};

@@ -11,7 +11,7 @@ use clap::ArgMatches;
 pub struct Notes {
     /// How far the job is, while it runs.
     pub progress: bool,
-    /// After the line of a fault, what is wrong in words, with the name of the file.
+    /// What a fault is in words, and at which missing batch an order stops, with the name of the file.
     pub verbose: bool,
 }
 

@@ -1,5 +1,5 @@
 -- Where feeds end that are followed, and whether two of them agree.
-use Rattle.std.proofs.Common.{◌≡◌, ℕ, true, false, List, Option, Some, None, sym, ap, subst, ◌∙◌, ◌⊎◌, inl, inr, ⊎_elim}
+use Rattle.std.proofs.Common.{◌≡◌, ℕ, true, false, List, Option, Some, None, refl, sym, ap, subst, ◌∙◌, ◌⊎◌, inl, inr, ⊎_elim}
 use Rattle.std.specs.Prelude.{IfSome, IfOk, IfErr, OnOk, Result, Ok, Err}
 use Rattle.std.proofs.lemmas.List.Elements.{Contains-append_left, Contains-append_right}
 use Rattle.bk_frames.specs.declared.kind.Kind.TheVariants as kind
@@ -25,13 +25,15 @@ use Rattle.bk_results.specs.declared.fault.Fault.TheVariants as fault
 use Rattle.bk_follow.specs.Agreement.{HaveOneSetup, frames_together, HaveNoStop, HaveStop, settled_in, OfBoth, FollowersAgree, FollowersDiffer}
 use Rattle.bk_results.specs.Devices.{AreFeed}
 use Rattle.bk_follow.specs.Outcomes.{IsOutcomeOf}
-use Rattle.bk_compare.specs.FeedAgreement.{FeedsAgree, FeedsDiffer, OfTheirFeeds, IfBothKnown, BothWork, FollowFails, ComparesNot, sources}
+use Rattle.bk_compare.specs.FeedAgreement.{FeedsAgree, FeedsCompared, FeedsDiffer, OfTheirFeeds, IfBothKnown, Sources, BothWork, FollowFails, ComparesNot, sources}
+use Rattle.bk_compare.specs.declared.compared.Compared.{Compared}
+use Rattle.bk_follow.specs.Gaps.{IsGap, IsGapIn, missing_in}
 use Rattle.bk_follow.specs.Finishing.{OfFeed, Closes, CloseFails}
-use Rattle.bk_follow.specs.Follower.{BookValue, Followed, IsCurrent, receipts_of_executed}
+use Rattle.bk_follow.specs.Follower.{BookValue, Followed, IsCurrent, ordered_in, receipts_of_executed}
 use Rattle.bk_follow.specs.Queries.{rows_of_executed}
 use Rattle.bk_follow.specs.Replaying.{AllHasCome, ReadFails}
 use Rattle.bk_follow.specs.RunReport.{committee_in, later_frames, IsStopIn, HasPlaceIn, HasPlace}
-use Rattle.bk_compare.specs.private.Ends.{HasStopIn, HasEnded, Ends, EndsNot, AgreesWith, ComparesNotWith, IsDifferOf}
+use Rattle.bk_compare.specs.private.Ends.{HasStopIn, HasEnded, Ends, EndsNot, AgreesWith, compared_of, ComparesNotWith, IsDifferOf}
 use Rattle.bk_follow.specs.Stopping.{stops}
 use Rattle.bk_follow.proofs.ComparedBooks.{version_is}
 use Rattle.bk_follow.proofs.RunAnswers.{of_known, of_feed, cut_short}
@@ -165,6 +167,10 @@ module _ (k : CommitteeValue) (part whole : List Frame) (s : Stop) (into : IsPar
 outcome_of_end : (feed : FeedValue) (v : Followed) → HasStopIn feed ⊎ IsOutcomeOf feed (settled_in v.book) → (HasStopIn feed → ⊥) → IsOutcomeOf feed (settled_in v.book)
 outcome_of_end feed v end none = ⊎_elim (λ (s : HasStopIn feed). absurd (none s)) (λ (o : IsOutcomeOf feed (settled_in v.book)). o) end
 
+-- the missing batch of an outcome is where its order stops
+gap_of_outcome : (feed : FeedValue) (book : Option BookValue) → IsOutcomeOf feed (settled_in book) → IsGapIn feed (missing_in book)
+gap_of_outcome feed book o = record { clear = o.clear; ordered = ordered_in book; order = o.ordered; missing_is = refl }
+
 -- what holds of both Followers holds of the feeds that have come to them
 both_feeds : (one other : Followed) (holds : FeedValue → FeedValue → Type 0) (bytes more : List ℕ) → OfBoth one other holds → (x : HasEnded bytes one) (y : HasEnded more other) → holds (feed_of x.version x.frames) (feed_of y.version y.frames)
 both_feeds one other holds bytes more h x y =
@@ -191,16 +197,22 @@ module _ (one other : Followed) (bytes more : List ℕ) (x : HasEnded bytes one)
       (λ f t. Contains-append_right (later_frames left) (later_frames right) f t) none.1
       (subst (λ (k : CommitteeValue). IsStop k (later_frames right) s) (sym none.0.committee) h)
 
-  pub ended_agree : (a : Agreed) → FollowersAgree one other a → OfTheirFeeds bytes more (λ f g. FeedsAgree f g a)
+  pub ended_agree : (a : Agreed) → FollowersAgree one other a → OfTheirFeeds bytes more (λ f g. FeedsCompared f g (compared_of one other a))
   ended_agree a h =
       let clear : HaveNoStop left right = both_feeds one other HaveNoStop bytes more h.clear x y in
-      spelled_so (λ f g. FeedsAgree f g a) (record {
-        clear = clear;
-        end = settled_in one.book;
-        also = settled_in other.book;
-        outcome = outcome_of_end left one x.end (left_clear clear);
-        also_outcome = outcome_of_end right other y.end (right_clear clear);
-        agree = h.agree;
+      let outcome : IsOutcomeOf left (settled_in one.book) = outcome_of_end left one x.end (left_clear clear) in
+      let also : IsOutcomeOf right (settled_in other.book) = outcome_of_end right other y.end (right_clear clear) in
+      spelled_so (λ f g. FeedsCompared f g (compared_of one other a)) (record {
+        agree = record {
+          clear = clear;
+          end = settled_in one.book;
+          also = settled_in other.book;
+          outcome = outcome;
+          also_outcome = also;
+          agree = h.agree;
+        };
+        first = gap_of_outcome left one.book outcome;
+        second = gap_of_outcome right other.book also;
       })
 
   pub ended_differ : (d : Differ) → FollowersDiffer one other d → OfTheirFeeds bytes more (FeedsDiffer d)
@@ -221,14 +233,15 @@ of_other source other P ended f = by_known source.bytes ended
     by_known None h = tt
     by_known (Some more) h = f more h
 
-pub agrees_with : (one other : Followed) (source : Device) (a : Agreed) → IfKnown source (λ more. HasEnded more other) → FollowersAgree one other a → AgreesWith one source a
-agrees_with one other source a ended h = λ bytes x. of_other source other (λ more. OfTheirFeeds bytes more (λ f g. FeedsAgree f g a)) ended (λ more y. ended_agree one other bytes more x y a h)
+pub agrees_with : (one other : Followed) (source : Device) (a : Agreed) → IfKnown source (λ more. HasEnded more other) → FollowersAgree one other a → AgreesWith one other source a
+agrees_with one other source a ended h =
+    λ bytes x. of_other source other (λ more. OfTheirFeeds bytes more (λ f g. FeedsCompared f g (compared_of one other a))) ended (λ more y. ended_agree one other bytes more x y a h)
 
 pub differs_with : (one other : Followed) (old new : Device) (d : Differ) → Works old new → IfKnown old (λ more. HasEnded more other) → FollowersDiffer one other d → ComparesNotWith (why.Differ d) one old new
 differs_with one other old new d works ended h = (works, λ bytes x. of_other old other (λ more. OfTheirFeeds bytes more (FeedsDiffer d)) ended (λ more y. ended_differ one other bytes more x y d h))
 
 -- what comparing both says of the source of the other
-pub agrees_by : (result : Result Agreed CompareStop) (one other : Followed) (source : Device) → IfKnown source (λ more. HasEnded more other) → IfOk result (FollowersAgree one other) → IfOk result (AgreesWith one source)
+pub agrees_by : (result : Result Agreed CompareStop) (one other : Followed) (source : Device) → IfKnown source (λ more. HasEnded more other) → IfOk result (FollowersAgree one other) → IfOk result (AgreesWith one other source)
 agrees_by (Ok a) one other source ended h = agrees_with one other source a ended h
 agrees_by (Err e) one other source ended h = tt
 
@@ -246,25 +259,54 @@ stops_by (Ok a) one other old new works ended h = tt
 stops_by (Err e) one other old new works ended h = differs_by e one other old new works ended h
 
 -- and of both sources
-pub both_agree : (result : Result Agreed CompareStop) (one : Followed) (first second : Device) → IfKnown first (λ bytes. HasEnded bytes one) → IfOk result (AgreesWith one second) → IfOk result (λ a. IfBothKnown (sources first second) (λ f g. FeedsAgree f g a))
-both_agree (Ok a) one first second ended h = of_other first one (λ bytes. IfKnown second (λ more. OfTheirFeeds bytes more (λ f g. FeedsAgree f g a))) ended (λ bytes x. h bytes x)
-both_agree (Err e) one first second ended h = tt
+pub both_agree : (a : Agreed) (one other : Followed) (first second : Device) → IfKnown first (λ bytes. HasEnded bytes one) → AgreesWith one other second a
+    → IfBothKnown (sources first second) (λ f g. FeedsCompared f g (compared_of one other a))
+both_agree a one other first second ended h =
+    of_other first one (λ bytes. IfKnown second (λ more. OfTheirFeeds bytes more (λ f g. FeedsCompared f g (compared_of one other a)))) ended (λ bytes x. h bytes x)
 
-pub both_work : (result : Result Agreed CompareStop) (first first' second second' : Device) → Works first first' → OnOk result (Works second second') → OnOk result (BothWork (sources first second) (sources first' second'))
-both_work (Ok a) first first' second second' works h = (works, h)
-both_work (Err e) first first' second second' works h = tt
+-- what follows from what holds of both feeds holds of them
+pub both_known : (s : Sources) (holds too : FeedValue → FeedValue → Type 0) → ((f g : FeedValue) → holds f g → too f g) → IfBothKnown s holds → IfBothKnown s too
+both_known s holds too f h = by_first s.first.bytes h
+  where
+    of_feeds : (bytes more : List ℕ) → OfTheirFeeds bytes more holds → OfTheirFeeds bytes more too
+    of_feeds bytes more x = record { one = x.one; other = x.other; good = x.good; also_good = x.also_good; spelled = x.spelled; also_spelled = x.also_spelled; it = f x.one x.other x.it }
+
+    by_second : (bytes : List ℕ) (o : Option (List ℕ)) → IfSome o (λ more. OfTheirFeeds bytes more holds) → IfSome o (λ more. OfTheirFeeds bytes more too)
+    by_second bytes None h = tt
+    by_second bytes (Some more) h = of_feeds bytes more h
+
+    by_first : (o : Option (List ℕ)) → IfSome o (λ bytes. IfKnown s.second (λ more. OfTheirFeeds bytes more holds)) → IfSome o (λ bytes. IfKnown s.second (λ more. OfTheirFeeds bytes more too))
+    by_first None h = tt
+    by_first (Some bytes) h = by_second bytes s.second.bytes h
+
+pub agree_too : (s : Sources) (c : Compared) → IfBothKnown s (λ f g. FeedsCompared f g c) → IfBothKnown s (λ f g. FeedsAgree f g c.agreed)
+agree_too s c h = both_known s (λ f g. FeedsCompared f g c) (λ f g. FeedsAgree f g c.agreed) (λ f g x. x.agree) h
+
+-- and the bytes of both stop at the missing batches of both
+pub gaps_too : (s : Sources) (c : Compared) → IfBothKnown s (λ f g. FeedsCompared f g c) → IfKnown s.first (λ bytes. IfKnown s.second (λ more. IsGap bytes c.first × IsGap more c.second))
+gaps_too s c h = by_first s.first.bytes h
+  where
+    of_feeds : (bytes more : List ℕ) → OfTheirFeeds bytes more (λ f g. FeedsCompared f g c) → IsGap bytes c.first × IsGap more c.second
+    of_feeds bytes more x = (
+      record { feed = x.one; good = x.good; spelled = x.spelled; gap = x.it.first },
+      record { feed = x.other; good = x.also_good; spelled = x.also_spelled; gap = x.it.second },
+    )
+
+    by_second : (bytes : List ℕ) (o : Option (List ℕ)) → IfSome o (λ more. OfTheirFeeds bytes more (λ f g. FeedsCompared f g c)) → IfSome o (λ more. IsGap bytes c.first × IsGap more c.second)
+    by_second bytes None h = tt
+    by_second bytes (Some more) h = of_feeds bytes more h
+
+    by_first : (o : Option (List ℕ)) → IfSome o (λ bytes. IfKnown s.second (λ more. OfTheirFeeds bytes more (λ f g. FeedsCompared f g c)))
+        → IfSome o (λ bytes. IfKnown s.second (λ more. IsGap bytes c.first × IsGap more c.second))
+    by_first None h = tt
+    by_first (Some bytes) h = by_second bytes s.second.bytes h
 
 -- a feed that has ended is a feed
 is_feed : (first : Device) (one : Followed) → IfKnown first (λ bytes. HasEnded bytes one) → IfKnown first AreFeed
 is_feed first one ended = of_other first one AreFeed ended (λ bytes x. (feed_of x.version x.frames, x.good, x.spelled))
 
-compares_not : (e : CompareStop) (one : Followed) (first first' second second' : Device) → Works first first' → IfKnown first (λ bytes. HasEnded bytes one) → ComparesNotWith e one second second' → ComparesNot e (sources first second) (sources first' second')
+pub compares_not : (e : CompareStop) (one : Followed) (first first' second second' : Device) → Works first first' → IfKnown first (λ bytes. HasEnded bytes one) → ComparesNotWith e one second second' → ComparesNot e (sources first second) (sources first' second')
 compares_not (why.First found) one first first' second second' works ended h = absurd h
 compares_not (why.Second found) one first first' second second' works ended h = (works, is_feed first one ended, h)
 compares_not (why.Differ found) one first first' second second' works ended h =
     ((works, h.0), of_other first one (λ bytes. IfKnown second (λ more. OfTheirFeeds bytes more (FeedsDiffer found))) ended (λ bytes x. h.1 bytes x))
-
-pub both_stop : (result : Result Agreed CompareStop) (one : Followed) (first first' second second' : Device) → Works first first' → IfKnown first (λ bytes. HasEnded bytes one) → IfErr result (λ e. ComparesNotWith e one second second')
-    → IfErr result (λ e. ComparesNot e (sources first second) (sources first' second'))
-both_stop (Ok a) one first first' second second' works ended h = tt
-both_stop (Err e) one first first' second second' works ended h = compares_not e one first first' second second' works ended h

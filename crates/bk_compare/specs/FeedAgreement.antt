@@ -11,6 +11,8 @@ use Rattle.bk_results.specs.declared.differ.Differ.{Differ}
 use Rattle.bk_results.specs.declared.differ.Differ.TheVariants as differ
 use Rattle.bk_results.specs.declared.fault.Fault.{Fault}
 use Rattle.bk_results.specs.declared.fault.Fault.TheVariants as fault
+use Rattle.bk_compare.specs.declared.compared.Compared.{Compared}
+use Rattle.bk_follow.specs.Gaps.{IsGapIn}
 use Rattle.bk_follow.specs.Agreement.{HaveOneSetup, HaveNoStop, HaveStop, Agree}
 use Rattle.bk_results.specs.Devices.{AreFeed}
 use Rattle.bk_follow.specs.Outcomes.{Outcome, IsOutcomeOf}
@@ -27,6 +29,12 @@ pub record FeedsAgree (one other : FeedValue) (a : Agreed) : Type 0 where
   pub outcome : IsOutcomeOf one end
   pub also_outcome : IsOutcomeOf other also
   pub agree : Agree end also a
+
+-- they agree so far, and these are the missing batches at which their orders stop
+pub record FeedsCompared (one other : FeedValue) (c : Compared) : Type 0 where
+  pub agree : FeedsAgree one other c.agreed
+  pub first : IsGapIn one c.first
+  pub second : IsGapIn other c.second
 
 -- why they do not: they have no one setup; or the frames of both together are stopped so; or memory ran out
 abbrev pub FeedsDiffer : Differ → FeedValue → FeedValue → Type 0

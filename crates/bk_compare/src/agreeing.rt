@@ -5,9 +5,10 @@ ghost use Rattle.std.specs.Prelude.{◌≡◌, ◌<◌, ◌≤◌, None, length,
 ghost use Rattle.bk_frames.specs.Device.{CanBeUsed, Works, IfKnown};
 ghost use Rattle.bk_follow.specs.Agreement.{FollowersAgree};
 ghost use Rattle.bk_follow.specs.Follower.{unfed};
-ghost use Rattle.bk_compare.specs.FeedAgreement.{BothWork, ComparesNot, FeedsAgree, FollowFails, IfBothKnown, sources};
+ghost use Rattle.bk_compare.specs.FeedAgreement.{BothWork, ComparesNot, FeedsAgree, FeedsCompared, FollowFails, IfBothKnown, sources};
 ghost use Rattle.bk_compare.specs.private.Ends.{AgreesWith, ComparesNotWith, Ends, EndsNot, HasEnded, IsDifferOf};
 
+use crate::compared::Compared;
 use bk_follow::{Follower, is_stop};
 use bk_frames::{PIECE, Source};
 use bk_pool::Gate;
@@ -102,7 +103,7 @@ fn compare_with<R: Threads + Wait + Sync, S: Source, G: Gate + Sync>(
     requires works { one.now.fault ≡ None }
     requires other { other.old ≡ unfed }
     requires sound { CanBeUsed (S.state source.old) }
-    ensures agree { IfOk result (AgreesWith one.now (S.state source.old)) }
+    ensures agree { IfOk result (AgreesWith one.now other.new (S.state source.old)) }
     ensures sound { OnOk result (Works (S.state source.old) (S.state source.new)) }
     ensures stop { IfErr result (λ e. ComparesNotWith e one.now
         (S.state source.old) (S.state source.new)) }
@@ -122,13 +123,13 @@ fn compare_both<R: Threads + Wait + Sync, S: Source, T: Source, G: Gate + Sync>(
     one: &mut Follower,
     other: &mut Follower,
     gate: &G,
-) -> Result<Agreed, CompareStop>
+) -> Result<Compared, CompareStop>
     requires first { CanBeUsed (S.state first.old) }
     requires second { CanBeUsed (T.state second.old) }
     requires one { one.old ≡ unfed }
     requires other { other.old ≡ unfed }
-    ensures agree { IfOk result (λ a. IfBothKnown
-        (sources (S.state first.old) (T.state second.old)) (λ f g. FeedsAgree f g a)) }
+    ensures agree { IfOk result (λ c. IfBothKnown
+        (sources (S.state first.old) (T.state second.old)) (λ f g. FeedsCompared f g c)) }
     ensures sound { OnOk result (BothWork
         (sources (S.state first.old) (T.state second.old))
         (sources (S.state first.new) (T.state second.new))) }
@@ -137,7 +138,16 @@ fn compare_both<R: Threads + Wait + Sync, S: Source, T: Source, G: Gate + Sync>(
         (sources (S.state first.new) (T.state second.new))) }
 {
     match follow_to_end(rt, alloc, first, one, gate) {
-        Ok(()) => compare_with(rt, alloc, one, second, other, gate),
+        Ok(()) => {
+            let agreed = compare_with(rt, alloc, one, second, other, gate)?;
+            let first = one.missing();
+            let second = other.missing();
+            Ok(Compared {
+                agreed,
+                first,
+                second,
+            })
+        }
         Err(fault) => Err(CompareStop::First(fault)),
     }
 }
@@ -146,8 +156,37 @@ fn compare_both<R: Threads + Wait + Sync, S: Source, T: Source, G: Gate + Sync>(
 /// they come to.
 ///
 /// Where both have one version, committee and genesis and their frames together have neither a collision nor twins, the
-/// order of one begins that of the other and so do the receipts: the answer says how far. A collision or twins are those
-/// of both feeds together, be they in one of them alone.
+/// order of one begins that of the other and so do the receipts: the answer says how far, and at which missing batch each
+/// order stops. A collision or twins are those of both feeds together, be they in one of them alone.
+pub fn compare_with_gaps<R: Threads + Wait + Sync, S: Source, T: Source, G: Gate + Sync>(
+    rt: &R,
+    alloc: Global,
+    first: &mut S,
+    second: &mut T,
+    workers: usize,
+    gate: &G,
+) -> Result<Compared, CompareStop>
+    requires first { CanBeUsed (S.state first.old) }
+    requires second { CanBeUsed (T.state second.old) }
+    requires workers { (1 ≤ workers) × (workers ≤ 64) }
+    ensures agree { IfOk result (λ c. IfBothKnown
+        (sources (S.state first.old) (T.state second.old)) (λ f g. FeedsCompared f g c)) }
+    ensures sound { OnOk result (BothWork
+        (sources (S.state first.old) (T.state second.old))
+        (sources (S.state first.new) (T.state second.new))) }
+    ensures stop { IfErr result (λ e. ComparesNot e
+        (sources (S.state first.old) (T.state second.old))
+        (sources (S.state first.new) (T.state second.new))) }
+{
+    let mut one = Follower::new(alloc, workers);
+    let mut other = Follower::new(alloc, workers);
+    let agreed = compare_both(rt, alloc, first, second, &mut one, &mut other, gate);
+    one.discard();
+    other.discard();
+    agreed
+}
+
+/// The same, without the batches at which the orders stop.
 pub fn compare<R: Threads + Wait + Sync, S: Source, T: Source, G: Gate + Sync>(
     rt: &R,
     alloc: Global,
@@ -168,10 +207,8 @@ pub fn compare<R: Threads + Wait + Sync, S: Source, T: Source, G: Gate + Sync>(
         (sources (S.state first.old) (T.state second.old))
         (sources (S.state first.new) (T.state second.new))) }
 {
-    let mut one = Follower::new(alloc, workers);
-    let mut other = Follower::new(alloc, workers);
-    let agreed = compare_both(rt, alloc, first, second, &mut one, &mut other, gate);
-    one.discard();
-    other.discard();
-    agreed
+    match compare_with_gaps(rt, alloc, first, second, workers, gate) {
+        Ok(compared) => Ok(compared.agreed),
+        Err(stop) => Err(stop),
+    }
 }

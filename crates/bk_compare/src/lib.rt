@@ -2,7 +2,9 @@
 #![tactic(auto)]
 
 mod agreeing;
+mod compared;
 mod nowhere;
 
-pub use agreeing::compare;
+pub use agreeing::{compare, compare_with_gaps};
+pub use compared::Compared;
 pub use nowhere::Nowhere;

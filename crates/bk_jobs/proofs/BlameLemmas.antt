@@ -186,8 +186,8 @@ blames (job.Dag window file) (fault.Replay replay.Memory) old new w h r = absurd
 blames (job.Dag window file) (fault.Text e) old new w h r = absurd h
 blames (job.Dag window file) (fault.Events e) old new w h r = absurd h
 blames (job.Dag window file) (fault.Compared e) old new w h r = absurd h
-blames j (fault.AbsentAccount id) old new w h r = absurd (cc)
-blames j (fault.AbsentPlace place) old new w h r = absurd (cc)
+blames j (fault.AbsentAccount id missing) old new w h r = absurd (cc)
+blames j (fault.AbsentPlace place missing) old new w h r = absurd (cc)
 blames (job.Apply file) (fault.Replay (replay.Feed found)) old new w h r =
     (refused (job.Apply file) (inputs_of old) found.code found.offset _ _ (λ b. b) h.0 r, h.1)
 blames (job.Apply file) (fault.Replay (replay.Collision id)) old new w h r = absurd h
@@ -246,8 +246,8 @@ frames_blame file (fault.Replay replay.Memory) old new h r = absurd (cc)
 frames_blame file (fault.Text e) old new h r = absurd h
 frames_blame file (fault.Events e) old new h r = absurd h
 frames_blame file (fault.Compared e) old new h r = absurd h
-frames_blame file (fault.AbsentAccount id) old new h r = absurd (cc)
-frames_blame file (fault.AbsentPlace place) old new h r = absurd (cc)
+frames_blame file (fault.AbsentAccount id missing) old new h r = absurd (cc)
+frames_blame file (fault.AbsentPlace place missing) old new h r = absurd (cc)
 
 -- the bytes are to blame, and nothing is written but by a job that writes while it reads
 pub BlamesThem : Job → JobFault → JobDevices → JobDevices → Type 0

@@ -1,5 +1,5 @@
 -- How a job may end.
-use Rattle.std.proofs.Common.{◌≡◌, ℕ, true, false, ◌||◌, refl, subst}
+use Rattle.std.proofs.Common.{◌≡◌, ℕ, List, Option, true, false, ◌||◌, refl, subst}
 use Rattle.bk_frames.specs.declared.fault.FaultCode.{FaultCode}
 use Rattle.bk_frames.specs.declared.fault.FaultCode.TheVariants as code
 use Rattle.bk_results.specs.declared.compare_stop.CompareStop.{CompareStop}
@@ -24,7 +24,7 @@ use Rattle.bk_results.specs.declared.events_fault.EventsFault.TheVariants as unr
 use Rattle.bk_cli.specs.declared.list_fault.ListFault.TheVariants as list
 use Rattle.bk_jobs.specs.Schedules.{ScheduleFailsBy}
 use Rattle.bk_jobs.specs.Sources.{JobDevices, first_devices}
-use Rattle.bk_cli.specs.Exits.{absence, ending, gives_state, may_be_absent, exit_after, exit_after_compare, exit_after_replay, exit_by_code, is_answer, is_refusal, is_report, may_end}
+use Rattle.bk_cli.specs.Exits.{absence, ending, gives_state, may_be_absent, exit_after, exit_after_compare, exit_after_replay, exit_by_code, is_answer, is_report, may_end}
 use Rattle.bk_claim.specs.declared.verdict.Verdict.{Verdict}
 use Rattle.bk_claim.specs.declared.verdict.Verdict.TheVariants as verdict
 use Rattle.bk_jobs.specs.Comparisons.{CompareFailsBy}
@@ -45,24 +45,24 @@ feed_may_end j right code.Read = refl
 feed_may_end j right code.Memory = refl
 
 -- a query of what is absent may say no
-absent_may_say_no : (asked : Query) (e : JobFault) → absence asked ≡ Err e → (gives_state asked || may_be_absent asked) ≡ true
-absent_may_say_no query.Order e h = absurd (cc)
-absent_may_say_no (query.Account id) e h = refl
-absent_may_say_no (query.Receipt place) e h = refl
-absent_may_say_no (query.Proof id) e h = refl
-absent_may_say_no (query.State root) e h = refl
-absent_may_say_no query.Anchors e h = absurd (cc)
-absent_may_say_no (query.Statement id) e h = refl
+absent_may_say_no : (asked : Query) (missing : Option (List ℕ)) (e : JobFault) → absence asked missing ≡ Err e → (gives_state asked || may_be_absent asked) ≡ true
+absent_may_say_no query.Order missing e h = absurd (cc)
+absent_may_say_no (query.Account id) missing e h = refl
+absent_may_say_no (query.Receipt place) missing e h = refl
+absent_may_say_no (query.Proof id) missing e h = refl
+absent_may_say_no (query.State root) missing e h = refl
+absent_may_say_no query.Anchors missing e h = absurd (cc)
+absent_may_say_no (query.Statement id) missing e h = refl
 
 -- and none is an answer
-absent_is_none : (asked : Query) (e : JobFault) → absence asked ≡ Err e → gives_state asked ≡ false
-absent_is_none query.Order e h = refl
-absent_is_none (query.Account id) e h = refl
-absent_is_none (query.Receipt place) e h = refl
-absent_is_none (query.Proof id) e h = refl
-absent_is_none (query.State root) e h = absurd (cc)
-absent_is_none query.Anchors e h = refl
-absent_is_none (query.Statement id) e h = refl
+absent_is_none : (asked : Query) (missing : Option (List ℕ)) (e : JobFault) → absence asked missing ≡ Err e → gives_state asked ≡ false
+absent_is_none query.Order missing e h = refl
+absent_is_none (query.Account id) missing e h = refl
+absent_is_none (query.Receipt place) missing e h = refl
+absent_is_none (query.Proof id) missing e h = refl
+absent_is_none (query.State root) missing e h = absurd (cc)
+absent_is_none query.Anchors missing e h = refl
+absent_is_none (query.Statement id) missing e h = refl
 
 -- a comparison may end as a run of one of its feeds may
 replay_may_end : (first second : _) (e : Fault) → may_end (job.Compare first second) (exit_after_replay e) ≡ true
@@ -108,14 +108,14 @@ ends_by_fault (job.Ask workers asked file) (fault.Replay (replay.Unfinished plac
 ends_by_fault (job.Ask workers asked file) (fault.Replay (replay.Write written)) old new h = refl
 ends_by_fault (job.Ask workers asked file) (fault.Replay replay.Memory) old new h = refl
 ends_by_fault (job.Ask workers asked file) (fault.Text e) old new h = absurd h
-ends_by_fault (job.Ask workers asked file) (fault.AbsentAccount id) old new h = absent_may_say_no asked _ h.0
-ends_by_fault (job.Ask workers asked file) (fault.AbsentPlace place) old new h = absent_may_say_no asked _ h.0
-ends_by_fault (job.Run workers file) (fault.AbsentAccount id) old new h = absurd h
-ends_by_fault (job.Run workers file) (fault.AbsentPlace place) old new h = absurd h
-ends_by_fault (job.Make file) (fault.AbsentAccount id) old new h = absurd h
-ends_by_fault (job.Make file) (fault.AbsentPlace place) old new h = absurd h
-ends_by_fault (job.CheckProof root file) (fault.AbsentAccount id) old new h = absurd h
-ends_by_fault (job.CheckProof root file) (fault.AbsentPlace place) old new h = absurd h
+ends_by_fault (job.Ask workers asked file) (fault.AbsentAccount id missing) old new h = absent_may_say_no asked h.missing _ h.fault_is
+ends_by_fault (job.Ask workers asked file) (fault.AbsentPlace place missing) old new h = absent_may_say_no asked h.missing _ h.fault_is
+ends_by_fault (job.Run workers file) (fault.AbsentAccount id missing) old new h = absurd h
+ends_by_fault (job.Run workers file) (fault.AbsentPlace place missing) old new h = absurd h
+ends_by_fault (job.Make file) (fault.AbsentAccount id missing) old new h = absurd h
+ends_by_fault (job.Make file) (fault.AbsentPlace place missing) old new h = absurd h
+ends_by_fault (job.CheckProof root file) (fault.AbsentAccount id missing) old new h = absurd h
+ends_by_fault (job.CheckProof root file) (fault.AbsentPlace place missing) old new h = absurd h
 ends_by_fault (job.CheckReport workers report file) (fault.Replay (replay.Feed found)) old new h = feed_may_end (job.CheckReport workers report file) refl found.code
 ends_by_fault (job.CheckReport workers report file) (fault.Replay (replay.Collision id)) old new h = refl
 ends_by_fault (job.CheckReport workers report file) (fault.Replay (replay.Equivocation round author first second)) old new h = refl
@@ -128,10 +128,10 @@ ends_by_fault (job.CheckReport workers report file) (fault.Text (text.Write writ
 ends_by_fault (job.CheckReport workers report file) (fault.Text text.Memory) old new h = absurd h
 ends_by_fault (job.CheckReport workers report file) (fault.Events e) old new h = absurd h
 ends_by_fault (job.CheckReport workers report file) (fault.Compared e) old new h = absurd h
-ends_by_fault (job.CheckReport workers report file) (fault.AbsentAccount id) old new h = absurd h
-ends_by_fault (job.CheckReport workers report file) (fault.AbsentPlace place) old new h = absurd h
-ends_by_fault (job.Frames file) (fault.AbsentAccount id) old new h = absurd h
-ends_by_fault (job.Frames file) (fault.AbsentPlace place) old new h = absurd h
+ends_by_fault (job.CheckReport workers report file) (fault.AbsentAccount id missing) old new h = absurd h
+ends_by_fault (job.CheckReport workers report file) (fault.AbsentPlace place missing) old new h = absurd h
+ends_by_fault (job.Frames file) (fault.AbsentAccount id missing) old new h = absurd h
+ends_by_fault (job.Frames file) (fault.AbsentPlace place missing) old new h = absurd h
 ends_by_fault (job.Frames file) (fault.Replay (replay.Feed found)) old new h = feed_may_end (job.Frames file) refl found.code
 ends_by_fault (job.Frames file) (fault.Replay (replay.Collision id)) old new h = absurd h
 ends_by_fault (job.Frames file) (fault.Replay (replay.Equivocation round author first second)) old new h = absurd h
@@ -150,8 +150,8 @@ ends_by_fault (job.Summary workers file) (fault.Replay replay.Memory) old new h 
 ends_by_fault (job.Summary workers file) (fault.Text e) old new h = absurd h
 ends_by_fault (job.Summary workers file) (fault.Events e) old new h = absurd h
 ends_by_fault (job.Summary workers file) (fault.Compared e) old new h = absurd h
-ends_by_fault (job.Summary workers file) (fault.AbsentAccount id) old new h = absurd h
-ends_by_fault (job.Summary workers file) (fault.AbsentPlace place) old new h = absurd h
+ends_by_fault (job.Summary workers file) (fault.AbsentAccount id missing) old new h = absurd h
+ends_by_fault (job.Summary workers file) (fault.AbsentPlace place missing) old new h = absurd h
 ends_by_fault (job.Dag window file) (fault.Replay (replay.Feed found)) old new h = feed_may_end (job.Dag window file) refl found.code
 ends_by_fault (job.Dag window file) (fault.Replay (replay.Collision id)) old new h = refl
 ends_by_fault (job.Dag window file) (fault.Replay (replay.Equivocation round author first second)) old new h = refl
@@ -161,10 +161,10 @@ ends_by_fault (job.Dag window file) (fault.Replay replay.Memory) old new h = ref
 ends_by_fault (job.Dag window file) (fault.Text e) old new h = absurd h
 ends_by_fault (job.Dag window file) (fault.Events e) old new h = absurd h
 ends_by_fault (job.Dag window file) (fault.Compared e) old new h = absurd h
-ends_by_fault (job.Dag window file) (fault.AbsentAccount id) old new h = absurd h
-ends_by_fault (job.Dag window file) (fault.AbsentPlace place) old new h = absurd h
-ends_by_fault (job.Apply file) (fault.AbsentAccount id) old new h = absurd h
-ends_by_fault (job.Apply file) (fault.AbsentPlace place) old new h = absurd h
+ends_by_fault (job.Dag window file) (fault.AbsentAccount id missing) old new h = absurd h
+ends_by_fault (job.Dag window file) (fault.AbsentPlace place missing) old new h = absurd h
+ends_by_fault (job.Apply file) (fault.AbsentAccount id missing) old new h = absurd h
+ends_by_fault (job.Apply file) (fault.AbsentPlace place missing) old new h = absurd h
 ends_by_fault (job.Apply file) (fault.Replay (replay.Feed found)) old new h = feed_may_end (job.Apply file) refl found.code
 ends_by_fault (job.Apply file) (fault.Replay (replay.Collision id)) old new h = absurd h
 ends_by_fault (job.Apply file) (fault.Replay (replay.Equivocation round author first second)) old new h = absurd h
@@ -190,8 +190,8 @@ ends_by_fault (job.Schedule workers feed events) (fault.Events (list.Unread unre
 ends_by_fault (job.Schedule workers feed events) (fault.Events (list.Unread unread.Memory)) old new h = refl
 ends_by_fault (job.Schedule workers feed events) (fault.Events (list.Refused line why)) old new h = refl
 ends_by_fault (job.Schedule workers feed events) (fault.Events (list.Unfinished place)) old new h = refl
-ends_by_fault (job.Schedule workers feed events) (fault.AbsentAccount id) old new h = absurd h
-ends_by_fault (job.Schedule workers feed events) (fault.AbsentPlace place) old new h = absurd h
+ends_by_fault (job.Schedule workers feed events) (fault.AbsentAccount id missing) old new h = absurd h
+ends_by_fault (job.Schedule workers feed events) (fault.AbsentPlace place missing) old new h = absurd h
 ends_by_fault (job.Run workers file) (fault.Compared e) old new h = absurd h
 ends_by_fault (job.Make file) (fault.Compared e) old new h = absurd h
 ends_by_fault (job.CheckProof root file) (fault.Compared e) old new h = absurd h
@@ -207,8 +207,8 @@ ends_by_fault (job.Compare first second) (fault.Replay (replay.Write written)) o
 ends_by_fault (job.Compare first second) (fault.Replay replay.Memory) old new h = absurd h
 ends_by_fault (job.Compare first second) (fault.Text e) old new h = absurd h
 ends_by_fault (job.Compare first second) (fault.Events e) old new h = absurd h
-ends_by_fault (job.Compare first second) (fault.AbsentAccount id) old new h = absurd h
-ends_by_fault (job.Compare first second) (fault.AbsentPlace place) old new h = absurd h
+ends_by_fault (job.Compare first second) (fault.AbsentAccount id missing) old new h = absurd h
+ends_by_fault (job.Compare first second) (fault.AbsentPlace place missing) old new h = absurd h
 
 -- a fault is no answer
 feed_is_none : (j : Job) (f : FaultCode) → is_answer j (exit_by_code f) ≡ false
@@ -241,28 +241,28 @@ fault_is_none j (fault.Events (list.Unread unread.Read)) old new h = refl
 fault_is_none j (fault.Events (list.Unread unread.Memory)) old new h = refl
 fault_is_none j (fault.Events (list.Refused line why)) old new h = refl
 fault_is_none j (fault.Events (list.Unfinished place)) old new h = refl
-fault_is_none (job.Run workers file) (fault.AbsentAccount id) old new h = absurd h
-fault_is_none (job.Make file) (fault.AbsentAccount id) old new h = absurd h
-fault_is_none (job.CheckProof root file) (fault.AbsentAccount id) old new h = absurd h
-fault_is_none (job.Ask workers asked file) (fault.AbsentAccount id) old new h = absent_is_none asked _ h.0
-fault_is_none (job.CheckReport workers report file) (fault.AbsentAccount id) old new h = absurd h
-fault_is_none (job.CheckReport workers report file) (fault.AbsentPlace place) old new h = absurd h
-fault_is_none (job.Frames file) (fault.AbsentAccount id) old new h = absurd h
-fault_is_none (job.Frames file) (fault.AbsentPlace place) old new h = absurd h
-fault_is_none (job.Summary workers file) (fault.AbsentAccount id) old new h = absurd h
-fault_is_none (job.Summary workers file) (fault.AbsentPlace place) old new h = absurd h
-fault_is_none (job.Dag window file) (fault.AbsentAccount id) old new h = absurd h
-fault_is_none (job.Dag window file) (fault.AbsentPlace place) old new h = absurd h
-fault_is_none (job.Apply file) (fault.AbsentAccount id) old new h = absurd h
-fault_is_none (job.Run workers file) (fault.AbsentPlace place) old new h = absurd h
-fault_is_none (job.Make file) (fault.AbsentPlace place) old new h = absurd h
-fault_is_none (job.CheckProof root file) (fault.AbsentPlace place) old new h = absurd h
-fault_is_none (job.Ask workers asked file) (fault.AbsentPlace place) old new h = absent_is_none asked _ h.0
-fault_is_none (job.Apply file) (fault.AbsentPlace place) old new h = absurd h
-fault_is_none (job.Schedule workers feed events) (fault.AbsentAccount id) old new h = absurd h
-fault_is_none (job.Schedule workers feed events) (fault.AbsentPlace place) old new h = absurd h
-fault_is_none (job.Compare first second) (fault.AbsentAccount id) old new h = absurd h
-fault_is_none (job.Compare first second) (fault.AbsentPlace place) old new h = absurd h
+fault_is_none (job.Run workers file) (fault.AbsentAccount id missing) old new h = absurd h
+fault_is_none (job.Make file) (fault.AbsentAccount id missing) old new h = absurd h
+fault_is_none (job.CheckProof root file) (fault.AbsentAccount id missing) old new h = absurd h
+fault_is_none (job.Ask workers asked file) (fault.AbsentAccount id missing) old new h = absent_is_none asked h.missing _ h.fault_is
+fault_is_none (job.CheckReport workers report file) (fault.AbsentAccount id missing) old new h = absurd h
+fault_is_none (job.CheckReport workers report file) (fault.AbsentPlace place missing) old new h = absurd h
+fault_is_none (job.Frames file) (fault.AbsentAccount id missing) old new h = absurd h
+fault_is_none (job.Frames file) (fault.AbsentPlace place missing) old new h = absurd h
+fault_is_none (job.Summary workers file) (fault.AbsentAccount id missing) old new h = absurd h
+fault_is_none (job.Summary workers file) (fault.AbsentPlace place missing) old new h = absurd h
+fault_is_none (job.Dag window file) (fault.AbsentAccount id missing) old new h = absurd h
+fault_is_none (job.Dag window file) (fault.AbsentPlace place missing) old new h = absurd h
+fault_is_none (job.Apply file) (fault.AbsentAccount id missing) old new h = absurd h
+fault_is_none (job.Run workers file) (fault.AbsentPlace place missing) old new h = absurd h
+fault_is_none (job.Make file) (fault.AbsentPlace place missing) old new h = absurd h
+fault_is_none (job.CheckProof root file) (fault.AbsentPlace place missing) old new h = absurd h
+fault_is_none (job.Ask workers asked file) (fault.AbsentPlace place missing) old new h = absent_is_none asked h.missing _ h.fault_is
+fault_is_none (job.Apply file) (fault.AbsentPlace place missing) old new h = absurd h
+fault_is_none (job.Schedule workers feed events) (fault.AbsentAccount id missing) old new h = absurd h
+fault_is_none (job.Schedule workers feed events) (fault.AbsentPlace place missing) old new h = absurd h
+fault_is_none (job.Compare first second) (fault.AbsentAccount id missing) old new h = absurd h
+fault_is_none (job.Compare first second) (fault.AbsentPlace place missing) old new h = absurd h
 fault_is_none j (fault.Compared (compared.First e)) old new h = replay_is_none j e
 fault_is_none j (fault.Compared (compared.Second e)) old new h = replay_is_none j e
 fault_is_none j (fault.Compared (compared.Differ differ.Setup)) old new h = refl
@@ -278,15 +278,6 @@ report_is_answer j exit.WrongInput h = absurd (cc)
 report_is_answer j exit.Stopped h = absurd (cc)
 report_is_answer j exit.Failed h = absurd (cc)
 report_is_answer j exit.Missing h = refl
-
--- and an answer is no refusal of the bytes
-pub answer_is_no_refusal : (j : Job) (end : Exit) → is_answer j end ≡ true → is_refusal end ≡ false
-answer_is_no_refusal j exit.Whole h = refl
-answer_is_no_refusal j exit.No h = refl
-answer_is_no_refusal j exit.WrongInput h = absurd (cc)
-answer_is_no_refusal j exit.Stopped h = absurd (cc)
-answer_is_no_refusal j exit.Failed h = absurd (cc)
-answer_is_no_refusal j exit.Missing h = refl
 
 -- ---- the answers of the jobs
 
@@ -321,35 +312,36 @@ EndsWell asked end = (workers : ℕ) (file : _) → (is_answer (job.Ask workers 
 ends_as : (asked : Query) (end as_is : Exit) → ◌≡◌ {A = Result Exit JobFault} (Ok end) (Ok as_is) → EndsWell asked as_is → EndsWell asked end
 ends_as asked end as_is same h = let e : as_is ≡ end = let s = same in cc in subst (EndsWell asked) e h
 
-by_reply : (asked : Query) (answer : Reply) (end : Exit) → can_reply asked answer ≡ true → Ok end ≡ ending asked answer → EndsWell asked end
+by_reply : (asked : Query) (missing : Option (List ℕ)) (answer : Reply) (end : Exit) → can_reply asked answer ≡ true → Ok end ≡ ending asked missing answer → EndsWell asked end
 unfolding EndsWell
-by_reply asked reply.Found end can is = ends_as asked end exit.Whole is (λ w f. (refl, refl))
-by_reply (query.Statement id) reply.Short end can is = ends_as (query.Statement id) end exit.Missing is (λ w f. (refl, refl))
-by_reply query.Anchors reply.Short end can is = absurd (cc)
-by_reply (query.State root) reply.Short end can is = ends_as (query.State root) end exit.Missing is (λ w f. (refl, refl))
-by_reply query.Order reply.Short end can is = absurd (cc)
-by_reply (query.Account id) reply.Short end can is = absurd (cc)
-by_reply (query.Receipt place) reply.Short end can is = absurd (cc)
-by_reply (query.Proof id) reply.Short end can is = absurd (cc)
-by_reply (query.Statement id) reply.Wrong end can is = absurd (cc)
-by_reply query.Anchors reply.Wrong end can is = absurd (cc)
-by_reply (query.State root) reply.Wrong end can is = ends_as (query.State root) end exit.No is (λ w f. (refl, refl))
-by_reply query.Order reply.Wrong end can is = absurd (cc)
-by_reply (query.Account id) reply.Wrong end can is = absurd (cc)
-by_reply (query.Receipt place) reply.Wrong end can is = absurd (cc)
-by_reply (query.Proof id) reply.Wrong end can is = absurd (cc)
-by_reply query.Order reply.Absent end can is = absurd (cc)
-by_reply (query.Account id) reply.Absent end can is = absurd (cc)
-by_reply (query.Receipt place) reply.Absent end can is = absurd (cc)
-by_reply (query.Proof id) reply.Absent end can is = absurd (cc)
-by_reply (query.State root) reply.Absent end can is = absurd (cc)
-by_reply query.Anchors reply.Absent end can is = absurd (cc)
-by_reply (query.Statement id) reply.Absent end can is = absurd (cc)
+by_reply asked missing reply.Found end can is = ends_as asked end exit.Whole is (λ w f. (refl, refl))
+by_reply (query.Statement id) missing reply.Short end can is = ends_as (query.Statement id) end exit.Missing is (λ w f. (refl, refl))
+by_reply query.Anchors missing reply.Short end can is = absurd (cc)
+by_reply (query.State root) missing reply.Short end can is = ends_as (query.State root) end exit.Missing is (λ w f. (refl, refl))
+by_reply query.Order missing reply.Short end can is = absurd (cc)
+by_reply (query.Account id) missing reply.Short end can is = absurd (cc)
+by_reply (query.Receipt place) missing reply.Short end can is = absurd (cc)
+by_reply (query.Proof id) missing reply.Short end can is = absurd (cc)
+by_reply (query.Statement id) missing reply.Wrong end can is = absurd (cc)
+by_reply query.Anchors missing reply.Wrong end can is = absurd (cc)
+by_reply (query.State root) missing reply.Wrong end can is = ends_as (query.State root) end exit.No is (λ w f. (refl, refl))
+by_reply query.Order missing reply.Wrong end can is = absurd (cc)
+by_reply (query.Account id) missing reply.Wrong end can is = absurd (cc)
+by_reply (query.Receipt place) missing reply.Wrong end can is = absurd (cc)
+by_reply (query.Proof id) missing reply.Wrong end can is = absurd (cc)
+by_reply query.Order missing reply.Absent end can is = absurd (cc)
+by_reply (query.Account id) missing reply.Absent end can is = absurd (cc)
+by_reply (query.Receipt place) missing reply.Absent end can is = absurd (cc)
+by_reply (query.Proof id) missing reply.Absent end can is = absurd (cc)
+by_reply (query.State root) missing reply.Absent end can is = absurd (cc)
+by_reply query.Anchors missing reply.Absent end can is = absurd (cc)
+by_reply (query.Statement id) missing reply.Absent end can is = absurd (cc)
 
-pub query_ends : (workers : ℕ) (asked : Query) (file : _) (end : Exit) → (answer : Reply) × (can_reply asked answer ≡ true) × (Ok end ≡ ending asked answer)
+pub query_ends : (workers : ℕ) (asked : Query) (file : _) (end : Exit)
+    → (answer : Reply) × (missing : Option (List ℕ)) × (can_reply asked answer ≡ true) × (Ok end ≡ ending asked missing answer)
     → (is_answer (job.Ask workers asked file) end ≡ true) × (may_end (job.Ask workers asked file) end ≡ true)
 unfolding EndsWell
-query_ends workers asked file end (answer, can, is) = by_reply asked answer end can is workers file
+query_ends workers asked file end (answer, missing, can, is) = by_reply asked missing answer end can is workers file
 
 -- why a query has no reply is why its job has no answer
 pub job_of_query : (workers : ℕ) (asked : Query) (file : _) (e : JobFault) (old new : JobDevices)
@@ -358,8 +350,8 @@ job_of_query workers asked file (fault.Replay e) old new h = h
 job_of_query workers asked file (fault.Text e) old new h = absurd h
 job_of_query workers asked file (fault.Events e) old new h = absurd h
 job_of_query workers asked file (fault.Compared e) old new h = absurd h
-job_of_query workers asked file (fault.AbsentAccount id) old new h = h
-job_of_query workers asked file (fault.AbsentPlace place) old new h = h
+job_of_query workers asked file (fault.AbsentAccount id missing) old new h = h
+job_of_query workers asked file (fault.AbsentPlace place missing) old new h = h
 
 -- why a schedule has no report is why its job has no answer
 pub job_of_schedule : (workers : ℕ) (feed events : _) (e : JobFault) (old new : JobDevices)
@@ -368,8 +360,8 @@ job_of_schedule workers feed events (fault.Replay e) old new h = h
 job_of_schedule workers feed events (fault.Text e) old new h = absurd h
 job_of_schedule workers feed events (fault.Events e) old new h = h
 job_of_schedule workers feed events (fault.Compared e) old new h = absurd h
-job_of_schedule workers feed events (fault.AbsentAccount id) old new h = absurd h
-job_of_schedule workers feed events (fault.AbsentPlace place) old new h = absurd h
+job_of_schedule workers feed events (fault.AbsentAccount id missing) old new h = absurd h
+job_of_schedule workers feed events (fault.AbsentPlace place missing) old new h = absurd h
 
 -- why there is no verdict on a text is why its job has no answer
 pub job_of_claim : (workers : ℕ) (report file : _) (e : JobFault) (old new : JobDevices) → ClaimCheckFailsBy e old new
@@ -378,8 +370,8 @@ job_of_claim workers report file (fault.Replay e) old new h = h
 job_of_claim workers report file (fault.Text e) old new h = h
 job_of_claim workers report file (fault.Events e) old new h = absurd h
 job_of_claim workers report file (fault.Compared e) old new h = absurd h
-job_of_claim workers report file (fault.AbsentAccount id) old new h = absurd h
-job_of_claim workers report file (fault.AbsentPlace place) old new h = absurd h
+job_of_claim workers report file (fault.AbsentAccount id missing) old new h = absurd h
+job_of_claim workers report file (fault.AbsentPlace place missing) old new h = absurd h
 
 -- why a comparison has no answer is why its job has none
 pub job_of_compare : (first second : _) (e : JobFault) (old new : JobDevices) → CompareFailsBy e old new
@@ -388,5 +380,5 @@ job_of_compare first second (fault.Replay e) old new h = h
 job_of_compare first second (fault.Text e) old new h = absurd h
 job_of_compare first second (fault.Events e) old new h = absurd h
 job_of_compare first second (fault.Compared e) old new h = h
-job_of_compare first second (fault.AbsentAccount id) old new h = absurd h
-job_of_compare first second (fault.AbsentPlace place) old new h = absurd h
+job_of_compare first second (fault.AbsentAccount id missing) old new h = absurd h
+job_of_compare first second (fault.AbsentPlace place missing) old new h = absurd h

@@ -74,8 +74,8 @@ CompareFailsBy (fault.Replay e) old new = AgreementFailsBy e old new
 CompareFailsBy (fault.Text e) old new = ⊥
 CompareFailsBy (fault.Events e) old new = ⊥
 CompareFailsBy (fault.Compared e) old new = AgreeNot e old new
-CompareFailsBy (fault.AbsentAccount id) old new = ⊥
-CompareFailsBy (fault.AbsentPlace place) old new = ⊥
+CompareFailsBy (fault.AbsentAccount id missing) old new = ⊥
+CompareFailsBy (fault.AbsentPlace place missing) old new = ⊥
 
 -- ---- bytes to blame
 

@@ -1,5 +1,5 @@
 -- What a job leaves: its answer, or the fault that kept it from one.
-use Rattle.std.specs.Prelude.{◌≡◌, ◌↔◌, ◌⊎◌, ℕ, ◌<◌, Bool, List, IfSome, codes, if◌then◌else◌, length, take, string_bytes, IsTrue, Ok, Err}
+use Rattle.std.specs.Prelude.{◌≡◌, ◌↔◌, ◌⊎◌, ℕ, ◌<◌, Bool, List, Option, IfSome, codes, if◌then◌else◌, length, take, string_bytes, IsTrue, Ok, Err}
 use Rattle.bk_frames.specs.Device.{Device, Works, Fails, Receives, IfKnown}
 use Rattle.bk_results.specs.declared.compare_stop.CompareStop.{CompareStop}
 use Rattle.bk_results.specs.declared.fault.Fault.{Fault}
@@ -14,6 +14,7 @@ use Rattle.bk_report.specs.Proofs.{IsGoodProof}
 use Rattle.bk_results.specs.declared.query.Query.{Query}
 use Rattle.bk_results.specs.declared.query.Reply.{Reply}
 use Rattle.bk_results.specs.declared.query.Reply.TheVariants as reply
+use Rattle.bk_follow.specs.Gaps.{IsGap}
 use Rattle.bk_follow.specs.Replaying.{RunFailsBy}
 use Rattle.bk_report.specs.Report.{IsApplyReport}
 use Rattle.bk_follow.specs.RunReport.{IsReport, IsStopped}
@@ -71,7 +72,7 @@ VerdictIsOut root end old new bytes =
 -- the output got the whole reply of the bytes to a query, and the exit is the reply's
 abbrev pub ReplyIsOut : Query → Exit → Device → Device → List ℕ → Type 0
 ReplyIsOut asked end old new bytes =
-    (answer : Reply) × (Ok end ≡ ending asked answer) × IsReplied asked answer bytes old new
+    (answer : Reply) × (missing : Option (List ℕ)) × (Ok end ≡ ending asked missing answer) × IsReplied asked answer bytes old new
 
 -- the output got the lines of all frames of the bytes
 abbrev pub FramesAreOut : Exit → Device → Device → List ℕ → Type 0
@@ -197,11 +198,14 @@ ComparisonFailsBy (job.Apply file) e old new = ⊥
 ComparisonFailsBy (job.Schedule workers feed events) e old new = ⊥
 ComparisonFailsBy (job.Compare first second) e old new = AgreeNot e old new
 
--- what a query asks for is absent, no call failed, and nothing is written
-abbrev pub IsAbsentBy : Query → JobFault → Devices → Devices → Type 0
-IsAbsentBy asked e old new =
-    (absence asked ≡ Err e) × Works old.source new.source × IsUntouched old.sink new.sink
-    × IfKnown old.source (λ bytes. IsReplied asked reply.Absent bytes old.sink new.sink)
+-- what a query asks for is absent, no call failed, and nothing is written; and at this missing batch the order stops
+pub record IsAbsentBy (asked : Query) (e : JobFault) (old new : Devices) : Type 0 where
+  pub missing : Option (List ℕ)
+  pub fault_is : absence asked missing ≡ Err e
+  pub works : Works old.source new.source
+  pub untouched : IsUntouched old.sink new.sink
+  pub reply : IfKnown old.source (λ bytes. IsReplied asked reply.Absent bytes old.sink new.sink)
+  pub gap : IfKnown old.source (λ bytes. IsGap bytes missing)
 
 -- what a job asks for is absent
 abbrev pub IsAbsentFor : Job → JobFault → JobDevices → JobDevices → Type 0
@@ -224,8 +228,8 @@ QueryFailsBy asked (fault.Replay e) old new = AskFailsBy asked e old new
 QueryFailsBy asked (fault.Text e) old new = ⊥
 QueryFailsBy asked (fault.Events e) old new = ⊥
 QueryFailsBy asked (fault.Compared e) old new = ⊥
-QueryFailsBy asked (fault.AbsentAccount id) old new = IsAbsentBy asked (fault.AbsentAccount id) old new
-QueryFailsBy asked (fault.AbsentPlace place) old new = IsAbsentBy asked (fault.AbsentPlace place) old new
+QueryFailsBy asked (fault.AbsentAccount id missing) old new = IsAbsentBy asked (fault.AbsentAccount id missing) old new
+QueryFailsBy asked (fault.AbsentPlace place missing) old new = IsAbsentBy asked (fault.AbsentPlace place missing) old new
 
 -- why a job has no answer
 abbrev pub JobFailsBy : Job → JobFault → JobDevices → JobDevices → Type 0
@@ -233,8 +237,8 @@ JobFailsBy j (fault.Replay e) old new = ReplayFailsBy j e old new
 JobFailsBy j (fault.Text e) old new = TextFailsBy j e old new
 JobFailsBy j (fault.Events e) old new = EventsFailBy j e old new
 JobFailsBy j (fault.Compared e) old new = ComparisonFailsBy j e old new
-JobFailsBy j (fault.AbsentAccount id) old new = IsAbsentFor j (fault.AbsentAccount id) old new
-JobFailsBy j (fault.AbsentPlace place) old new = IsAbsentFor j (fault.AbsentPlace place) old new
+JobFailsBy j (fault.AbsentAccount id missing) old new = IsAbsentFor j (fault.AbsentAccount id missing) old new
+JobFailsBy j (fault.AbsentPlace place missing) old new = IsAbsentFor j (fault.AbsentPlace place missing) old new
 
 -- a job ended by this fault, of which this is said on standard error: its exit is the fault's, and the devices are as the
 -- fault says

@@ -1,5 +1,6 @@
 pub mod Comparisons
 pub mod Faults
+pub mod Gaps
 pub mod Openings
 pub mod Reports
 pub mod Schedules

@@ -8,6 +8,7 @@ use Rattle.bk_cli.specs.declared.exit.Exit.TheVariants as exit
 use Rattle.bk_cli.specs.declared.job.Job.{Job}
 use Rattle.bk_cli.specs.declared.job_fault.JobFault.{JobFault}
 use Rattle.bk_jobs.specs.Faults.{AnswerIsOut, EndsBy, EndsWithLine}
+use Rattle.bk_jobs.specs.Gaps.{GapsAreTold}
 use Rattle.bk_jobs.specs.Sources.{AllWork, JobDevices, inputs_of}
 
 -- the job ran over some sources, and standard output and error are as its answer or its fault says
@@ -17,6 +18,7 @@ pub record RanOver (j : Job) (verbose : Bool) (end : Exit) (out out' err err' : 
   pub begins : old.out ≡ out
   pub ends : new.out ≡ out'
   pub answer : is_answer j end ≡ true → AnswerIsOut j end (inputs_of old) out out' × AllWork old new
+  pub gaps : is_answer j end ≡ true → verbose ≡ true → GapsAreTold j (inputs_of old) err err'
   pub fault : is_answer j end ≡ false → (e : JobFault) × EndsBy j (told verbose j) e end old new err err'
 
 -- the job did not begin: a file could not be opened, or there was no memory to read ahead

@@ -48,5 +48,5 @@ ClaimCheckFailsBy (fault.Replay e) old new = ClaimFailsBy (stop.Run e) (claim_of
 ClaimCheckFailsBy (fault.Text e) old new = ClaimIsUnread e old new
 ClaimCheckFailsBy (fault.Events e) old new = ⊥
 ClaimCheckFailsBy (fault.Compared e) old new = ⊥
-ClaimCheckFailsBy (fault.AbsentAccount id) old new = ⊥
-ClaimCheckFailsBy (fault.AbsentPlace place) old new = ⊥
+ClaimCheckFailsBy (fault.AbsentAccount id missing) old new = ⊥
+ClaimCheckFailsBy (fault.AbsentPlace place missing) old new = ⊥

@@ -76,8 +76,8 @@ ScheduleFailsBy workers (fault.Replay e) old new =
 ScheduleFailsBy workers (fault.Text e) old new = ⊥
 ScheduleFailsBy workers (fault.Events e) old new = ListFailsBy workers e old new
 ScheduleFailsBy workers (fault.Compared e) old new = ⊥
-ScheduleFailsBy workers (fault.AbsentAccount id) old new = ⊥
-ScheduleFailsBy workers (fault.AbsentPlace place) old new = ⊥
+ScheduleFailsBy workers (fault.AbsentAccount id missing) old new = ⊥
+ScheduleFailsBy workers (fault.AbsentPlace place missing) old new = ⊥
 
 -- ---- bytes to blame
 

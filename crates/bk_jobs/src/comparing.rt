@@ -2,11 +2,14 @@
 
 ghost use Rattle.std.specs.Prelude.{◌≡◌, OnOk, IfOk, IfErr};
 ghost use Rattle.bk_frames.specs.Device.{CanBeUsed};
-ghost use Rattle.bk_jobs.specs.Comparisons.{AgreementIsOut, CompareFailsBy, agree_text};
+ghost use Rattle.bk_follow.specs.Gaps.{IsGap};
+ghost use Rattle.bk_jobs.specs.Comparisons.{AgreementIsOut, CompareFailsBy, IfBothGive, agree_text};
 ghost use Rattle.bk_jobs.specs.Sources.{AllWork, inputs, job_devices};
 
-use bk_cli::{Exit, JobFault, ShortLine, put_number, put_text};
-use bk_compare::compare;
+use crate::end::End;
+use crate::machine::all_workers;
+use bk_cli::{Exit, Gaps, JobFault, ShortLine, put_number, put_text};
+use bk_compare::compare_with_gaps;
 use bk_frames::{Sink, Source, push_all};
 use bk_pool::Gate;
 use bk_results::{Agreed, Fault};
@@ -32,16 +35,19 @@ pub(crate) fn compare_feeds<R, G: Gate + Sync, S1: Source, S2: Source, O: Sink>(
     first: &mut S1,
     second: &mut S2,
     out: &mut O,
-) -> Result<Exit, JobFault>
+) -> Result<End, JobFault>
 where
     R: Threads + Wait + Sync + AllocGlobal,
     requires first { CanBeUsed (S1.state first.old) }
     requires second { CanBeUsed (S2.state second.old) }
     requires out { CanBeUsed (O.state out.old) }
-    ensures agree { IfOk result (λ end. AgreementIsOut end
+    ensures agree { IfOk result (λ end. AgreementIsOut end.exit
         (inputs (S1.state first.old).bytes (S2.state second.old).bytes)
         (O.state out.old) (O.state out.new)) }
-    ensures answer { IfOk result (λ end. end ≡ Exit.Whole) }
+    ensures gaps { IfOk result (λ end. IfBothGive
+        (inputs (S1.state first.old).bytes (S2.state second.old).bytes)
+        (λ bytes more. IsGap bytes end.gaps.first × IsGap more end.gaps.second)) }
+    ensures answer { IfOk result (λ end. end.exit ≡ Exit.Whole) }
     ensures sound { OnOk result (AllWork
         (job_devices (S1.state first.old) (S2.state second.old) (O.state out.old))
         (job_devices (S1.state first.new) (S2.state second.new) (O.state out.new))) }
@@ -49,9 +55,16 @@ where
         (job_devices (S1.state first.old) (S2.state second.old) (O.state out.old))
         (job_devices (S1.state first.new) (S2.state second.new) (O.state out.new))) }
 {
-    let agreed = compare(rt, rt.alloc(), first, second, 1, gate)?;
-    match push_all(out, agree_line(agreed).as_slice()) {
-        Ok(()) => Ok(Exit::Whole),
+    let workers = all_workers(rt);
+    let compared = compare_with_gaps(rt, rt.alloc(), first, second, workers, gate)?;
+    match push_all(out, agree_line(compared.agreed).as_slice()) {
+        Ok(()) => Ok(End {
+            exit: Exit::Whole,
+            gaps: Gaps {
+                first: compared.first,
+                second: compared.second,
+            },
+        }),
         Err(fault) => Err(JobFault::Replay(Fault::from(fault))),
     }
 }

@@ -7,7 +7,9 @@
 mod claiming;
 mod comparing;
 mod drawing;
+mod end;
 mod listing;
+mod machine;
 mod opening;
 mod queries;
 mod replaying;

@@ -80,7 +80,8 @@ where
     R: Files + Input + Eprint + Clock + AllocGlobal + Threads + Wait + Sync,
     requires out { CanBeUsed (O.state out.old) }
     requires err { CanBeUsed (E.state err.old) }
-    ensures quiet { is_answer line.now.job result ≡ true → err.new ≡ err.old }
+    ensures quiet { is_answer line.now.job result ≡ true → line.now.notes.verbose ≡ false
+        → err.new ≡ err.old }
     ensures line { is_answer line.now.job result ≡ false
         → EndsWithLine line.now.notes.verbose result (E.state err.old) (E.state err.new) }
     ensures unwritten { is_refusal result ≡ true → writes_ahead line.now.job ≡ false
@@ -111,7 +112,8 @@ where
     R: Files + Input + Eprint + Clock + AllocGlobal + Threads + Wait + Sync,
     requires out { CanBeUsed (O.state out.old) }
     requires err { CanBeUsed (E.state err.old) }
-    ensures quiet { is_answer line.now.job result ≡ true → err.new ≡ err.old }
+    ensures quiet { is_answer line.now.job result ≡ true → line.now.notes.verbose ≡ false
+        → err.new ≡ err.old }
     ensures line { is_answer line.now.job result ≡ false
         → EndsWithLine line.now.notes.verbose result (E.state err.old) (E.state err.new) }
     ensures unwritten { is_refusal result ≡ true → writes_ahead line.now.job ≡ false
@@ -129,7 +131,8 @@ where
 /// Opens what the job names, in the order of its words and before anything is read, and runs it, watched by `progress`.
 ///
 /// Standard input is read where no file is named. A file that cannot be opened ends with `Failed` and `read failed`. An
-/// end that is no answer has the line of its fault on `err`, and where the notes are verbose one more line in words.
+/// end that is no answer has the line of its fault on `err`, and where the notes are verbose one more line in words; an
+/// answer to a query or of a comparison has a line then for each missing batch at which an order stops.
 pub fn open_and_run<R, O: Sink, E: Sink>(
     rt: &R,
     line: &Line,
@@ -141,7 +144,8 @@ where
     R: Files + Input + Eprint + Clock + AllocGlobal + Threads + Wait + Sync,
     requires out { CanBeUsed (O.state out.old) }
     requires err { CanBeUsed (E.state err.old) }
-    ensures quiet { is_answer line.now.job result ≡ true → err.new ≡ err.old }
+    ensures quiet { is_answer line.now.job result ≡ true → line.now.notes.verbose ≡ false
+        → err.new ≡ err.old }
     ensures line { is_answer line.now.job result ≡ false
         → EndsWithLine line.now.notes.verbose result (E.state err.old) (E.state err.new) }
     ensures unwritten { is_refusal result ≡ true → writes_ahead line.now.job ≡ false
@@ -176,7 +180,8 @@ where
     R: Files + Input + Eprint + Clock + AllocGlobal + Threads + Wait + Sync,
     requires out { CanBeUsed (O.state out.old) }
     requires err { CanBeUsed (E.state err.old) }
-    ensures quiet { is_answer line.now.job result ≡ true → err.new ≡ err.old }
+    ensures quiet { is_answer line.now.job result ≡ true → line.now.notes.verbose ≡ false
+        → err.new ≡ err.old }
     ensures line { is_answer line.now.job result ≡ false
         → EndsWithLine line.now.notes.verbose result (E.state err.old) (E.state err.new) }
     ensures unwritten { is_refusal result ≡ true → writes_ahead line.now.job ≡ false
@@ -207,7 +212,8 @@ where
     R: Files + Eprint + Clock + AllocGlobal + Threads + Wait + Sync,
     requires out { CanBeUsed (O.state out.old) }
     requires err { CanBeUsed (E.state err.old) }
-    ensures quiet { is_answer line.now.job result ≡ true → err.new ≡ err.old }
+    ensures quiet { is_answer line.now.job result ≡ true → line.now.notes.verbose ≡ false
+        → err.new ≡ err.old }
     ensures line { is_answer line.now.job result ≡ false
         → EndsWithLine line.now.notes.verbose result (E.state err.old) (E.state err.new) }
     ensures unwritten { is_refusal result ≡ true → writes_ahead line.now.job ≡ false
@@ -242,7 +248,8 @@ where
     requires err { CanBeUsed (E.state err.old) }
     ensures whole { is_answer line.now.job result ≡ true → AnswerIsOut line.now.job result
         (inputs (I.remaining first) (J.remaining second)) (O.state out.old) (O.state out.new) }
-    ensures quiet { is_answer line.now.job result ≡ true → err.new ≡ err.old }
+    ensures quiet { is_answer line.now.job result ≡ true → line.now.notes.verbose ≡ false
+        → err.new ≡ err.old }
     ensures line { is_answer line.now.job result ≡ false
         → EndsWithLine line.now.notes.verbose result (E.state err.old) (E.state err.new) }
     ensures unwritten { is_refusal result ≡ true → writes_ahead line.now.job ≡ false

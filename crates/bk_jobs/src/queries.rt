@@ -1,43 +1,63 @@
 //! Queries of a feed.
 
-ghost use Rattle.std.specs.Prelude.{◌≡◌, true, Ok, OnOk, IfOk, IfErr};
+ghost use Rattle.std.specs.Prelude.{◌≡◌, ◌≤◌, ℕ, List as AnyList, Option as AnyOption, None, true, Ok, OnOk, IfOk, IfErr};
 ghost use Rattle.bk_frames.specs.Device.{CanBeUsed, Works, IfKnown};
 ghost use Rattle.bk_results.specs.Devices.{devices};
 ghost use Rattle.bk_results.specs.declared.query.Reply.{Reply as AnyReply};
 ghost use Rattle.bk_ask.specs.Asking.{can_reply};
+ghost use Rattle.bk_follow.specs.Gaps.{IsGap};
 ghost use Rattle.bk_cli.specs.Exits.{absence, ending};
 ghost use Rattle.bk_jobs.specs.Faults.{QueryFailsBy, ReplyIsOut};
 
-use bk_ask::ask;
-use bk_cli::{Exit, JobFault, Workers};
+use crate::end::End;
+use crate::machine::all_workers;
+use bk_ask::{Replied, ask};
+use bk_cli::{Exit, Gaps, JobFault, Workers};
+use bk_digest::Digest32;
 use bk_frames::{Sink, Source};
 use bk_pool::Gate;
 use bk_results::{Query, Reply};
 use std::sync::Wait;
 use std::thread::Threads;
 
-// The end of a query of something that is absent. An order and its anchors never are, and a digest is right or wrong.
-fn absent(asked: &Query) -> Result<Exit, JobFault>
-    ensures { result ≡ absence asked.now }
+// The end of a query of something that is absent, of an order that stops at this missing batch. An order and its anchors
+// never are, and a digest is right or wrong.
+fn absent(asked: &Query, missing: Option<Digest32>) -> Result<Exit, JobFault>
+    ensures { result ≡ absence asked.now missing }
 {
     match *asked {
         Query::Order | Query::State { .. } | Query::Anchors => Ok(Exit::Whole),
-        Query::Account { id } => Err(JobFault::AbsentAccount { id }),
-        Query::Receipt { place } => Err(JobFault::AbsentPlace { place }),
-        Query::Proof { id } => Err(JobFault::AbsentAccount { id }),
-        Query::Statement { id } => Err(JobFault::AbsentAccount { id }),
+        Query::Account { id } => Err(JobFault::AbsentAccount { id, missing }),
+        Query::Receipt { place } => Err(JobFault::AbsentPlace { place, missing }),
+        Query::Proof { id } => Err(JobFault::AbsentAccount { id, missing }),
+        Query::Statement { id } => Err(JobFault::AbsentAccount { id, missing }),
     }
 }
 
 // The end of a query after its reply.
-fn end_of(asked: &Query, found: Reply) -> Result<Exit, JobFault>
-    ensures { result ≡ ending asked.now found }
+fn exit_of(asked: &Query, replied: &Replied) -> Result<Exit, JobFault>
+    ensures { result ≡ ending asked.now replied.now.missing replied.now.reply }
 {
-    match found {
+    match replied.reply {
         Reply::Found => Ok(Exit::Whole),
         Reply::Short => Ok(Exit::Missing),
         Reply::Wrong => Ok(Exit::No),
-        Reply::Absent => absent(asked),
+        Reply::Absent => absent(asked, replied.missing),
+    }
+}
+
+// How many workers execute for a query: those of the command line, where it can say it, else one for each processor.
+fn workers_for<R: Threads>(rt: &R, asked: &Query, workers: Workers) -> usize
+    ensures some { 1 ≤ result }
+    ensures few { result ≤ 64 }
+{
+    match *asked {
+        Query::State { .. } | Query::Statement { .. } => workers.count(),
+        Query::Order
+        | Query::Anchors
+        | Query::Account { .. }
+        | Query::Receipt { .. }
+        | Query::Proof { .. } => all_workers(rt),
     }
 }
 
@@ -49,21 +69,34 @@ pub(crate) fn reply<R, G: Gate + Sync, S: Source, O: Sink>(
     workers: Workers,
     source: &mut S,
     out: &mut O,
-) -> Result<Exit, JobFault>
+) -> Result<End, JobFault>
 where
     R: Threads + Wait + Sync + AllocGlobal,
     requires source { CanBeUsed (S.state source.old) }
     requires out { CanBeUsed (O.state out.old) }
     ensures reply { IfOk result (λ end. IfKnown (S.state source.old)
-        (ReplyIsOut asked.now end (O.state out.old) (O.state out.new))) }
-    ensures answer { IfOk result (λ end. (answer : AnyReply) × (can_reply asked.now answer ≡ true)
-        × (Ok end ≡ ending asked.now answer)) }
+        (ReplyIsOut asked.now end.exit (O.state out.old) (O.state out.new))) }
+    ensures gap { IfOk result (λ end. IfKnown (S.state source.old)
+        (λ bytes. IsGap bytes end.gaps.first)) }
+    ensures one { IfOk result (λ end. end.gaps.second ≡ None) }
+    ensures answer { IfOk result (λ end. (answer : AnyReply) × (missing : AnyOption (AnyList ℕ))
+        × (can_reply asked.now answer ≡ true) × (Ok end.exit ≡ ending asked.now missing answer)) }
     ensures sound { OnOk result (Works (S.state source.old) (S.state source.new)
         × Works (O.state out.old) (O.state out.new)) }
     ensures fault { IfErr result (λ e. QueryFailsBy asked.now e
         (devices (S.state source.old) (O.state out.old))
         (devices (S.state source.new) (O.state out.new))) }
 {
-    let found = ask(rt, rt.alloc(), source, out, *asked, workers.count(), gate)?;
-    end_of(asked, found)
+    let workers = workers_for(rt, asked, workers);
+    let replied = ask(rt, rt.alloc(), source, out, *asked, workers, gate)?;
+    match exit_of(asked, &replied) {
+        Ok(exit) => Ok(End {
+            exit,
+            gaps: Gaps {
+                first: replied.missing,
+                second: None,
+            },
+        }),
+        Err(fault) => Err(fault),
+    }
 }

@@ -8,17 +8,19 @@ ghost use Rattle.bk_cli.specs.Explanations.{told};
 ghost use Rattle.bk_cli.specs.FaultLines.{line_of};
 ghost use Rattle.bk_cli.specs.Exits.{is_answer, is_refusal, may_end, reads_second, writes_ahead};
 ghost use Rattle.bk_jobs.specs.Faults.{EndsBy, JobFailsBy, AnswerIsOut, AreToBlame};
+ghost use Rattle.bk_jobs.specs.Gaps.{AreGapsOf, GapsAreTold};
 ghost use Rattle.bk_jobs.specs.Sources.{AllWork, inputs, job_devices};
 
 use crate::claiming::check_claim;
 use crate::comparing::compare_feeds;
 use crate::drawing::draw_rounds;
+use crate::end::End;
 use crate::listing::list;
 use crate::queries::reply;
 use crate::replaying::{apply_all, run, sum_up};
 use crate::scheduling::schedule;
 use crate::texts::{check, make_feed};
-use bk_cli::{Exit, Job, JobFault, tell};
+use bk_cli::{Exit, Gaps, Job, JobFault, tell, tell_gaps};
 use bk_frames::{Sink, Source};
 use bk_pool::{Gate, Open};
 use bk_progress::Watcher;
@@ -33,17 +35,19 @@ fn answer<R, G: Gate + Sync, S1: Source, S2: Source, O: Sink>(
     first: &mut S1,
     second: &mut S2,
     out: &mut O,
-) -> Result<Exit, JobFault>
+) -> Result<End, JobFault>
 where
     R: Threads + Wait + Sync + AllocGlobal,
     requires first { CanBeUsed (S1.state first.old) }
     requires second { reads_second job.now ≡ true → CanBeUsed (S2.state second.old) }
     requires out { CanBeUsed (O.state out.old) }
-    ensures report { IfOk result (λ end. AnswerIsOut job.now end
+    ensures report { IfOk result (λ end. AnswerIsOut job.now end.exit
         (inputs (S1.state first.old).bytes (S2.state second.old).bytes)
         (O.state out.old) (O.state out.new)) }
-    ensures answer { IfOk result (λ end. (is_answer job.now end ≡ true)
-        × (may_end job.now end ≡ true)) }
+    ensures gaps { IfOk result (λ end. AreGapsOf job.now
+        (inputs (S1.state first.old).bytes (S2.state second.old).bytes) end.gaps) }
+    ensures answer { IfOk result (λ end. (is_answer job.now end.exit ≡ true)
+        × (may_end job.now end.exit ≡ true)) }
     ensures sound { OnOk result (AllWork
         (job_devices (S1.state first.old) (S2.state second.old) (O.state out.old))
         (job_devices (S1.state first.new) (S2.state second.new) (O.state out.new))) }
@@ -55,19 +59,43 @@ where
     match job {
         Job::Run { workers, .. } => {
             let end = run(rt, gate, *workers, first, out)?;
-            Ok(end)
+            Ok(End {
+                exit: end,
+                gaps: Gaps {
+                    first: None,
+                    second: None,
+                },
+            })
         }
         Job::Make { .. } => {
             let end = make_feed(rt, first, out)?;
-            Ok(end)
+            Ok(End {
+                exit: end,
+                gaps: Gaps {
+                    first: None,
+                    second: None,
+                },
+            })
         }
         Job::CheckProof { root, .. } => {
             let end = check(rt, root.as_bytes(), first, out)?;
-            Ok(end)
+            Ok(End {
+                exit: end,
+                gaps: Gaps {
+                    first: None,
+                    second: None,
+                },
+            })
         }
         Job::CheckReport { workers, .. } => {
             let end = check_claim(rt, gate, *workers, first, second, out)?;
-            Ok(end)
+            Ok(End {
+                exit: end,
+                gaps: Gaps {
+                    first: None,
+                    second: None,
+                },
+            })
         }
         Job::Ask { workers, asked, .. } => {
             let end = reply(rt, gate, asked, *workers, first, out)?;
@@ -75,23 +103,53 @@ where
         }
         Job::Frames { .. } => {
             let end = list(rt, first, out)?;
-            Ok(end)
+            Ok(End {
+                exit: end,
+                gaps: Gaps {
+                    first: None,
+                    second: None,
+                },
+            })
         }
         Job::Summary { workers, .. } => {
             let end = sum_up(rt, gate, *workers, first, out)?;
-            Ok(end)
+            Ok(End {
+                exit: end,
+                gaps: Gaps {
+                    first: None,
+                    second: None,
+                },
+            })
         }
         Job::Dag { window, .. } => {
             let end = draw_rounds(rt, *window, first, out)?;
-            Ok(end)
+            Ok(End {
+                exit: end,
+                gaps: Gaps {
+                    first: None,
+                    second: None,
+                },
+            })
         }
         Job::Apply { .. } => {
             let end = apply_all(rt, first, out)?;
-            Ok(end)
+            Ok(End {
+                exit: end,
+                gaps: Gaps {
+                    first: None,
+                    second: None,
+                },
+            })
         }
         Job::Schedule { workers, .. } => {
             let end = schedule(rt, *workers, first, second, out)?;
-            Ok(end)
+            Ok(End {
+                exit: end,
+                gaps: Gaps {
+                    first: None,
+                    second: None,
+                },
+            })
         }
         Job::Compare { .. } => {
             let end = compare_feeds(rt, gate, first, second, out)?;
@@ -105,12 +163,13 @@ where
 pub struct Watch<'a, W> {
     /// What its workers call between their steps, and what is told when the job is over.
     pub watcher: &'a W,
-    /// Whether a fault is told in words too.
+    /// Whether a fault is told in words too, and at which missing batch an order stops.
     pub verbose: bool,
 }
 
 /// Runs a job as [`run_job`] does, and lets it be watched. Where the watch is verbose, the line of a fault has one more
-/// after it, which says in words what is wrong and where, with the name of the file.
+/// after it, which says in words what is wrong and where, with the name of the file; and after the answer to a query or of
+/// a comparison a line on `err` names each missing batch at which an order stops.
 pub fn run_watched<R, W: Watcher + Sync, S1: Source, S2: Source, O: Sink, E: Sink>(
     rt: &R,
     job: &Job,
@@ -131,8 +190,12 @@ where
         (O.state out.old) (O.state out.new) }
     ensures sound { is_answer job.now result ≡ true → AllWork
         (job_devices (S1.state first.old) (S2.state second.old) (O.state out.old))
-        (job_devices (S1.state first.new) (S2.state second.new) (O.state out.new))
-        × (err.new ≡ err.old) }
+        (job_devices (S1.state first.new) (S2.state second.new) (O.state out.new)) }
+    ensures quiet { is_answer job.now result ≡ true → watch.now.verbose ≡ false
+        → err.new ≡ err.old }
+    ensures gaps { is_answer job.now result ≡ true → watch.now.verbose ≡ true
+        → GapsAreTold job.now (inputs (S1.state first.old).bytes (S2.state second.old).bytes)
+        (E.state err.old) (E.state err.new) }
     ensures fault { is_answer job.now result ≡ false → (e : AnyFault)
         × EndsBy job.now (told watch.now.verbose job.now) e result
         (job_devices (S1.state first.old) (S2.state second.old) (O.state out.old))
@@ -148,7 +211,12 @@ where
     let found = answer(rt, job, watch.watcher, first, second, out);
     watch.watcher.ended();
     match found {
-        Ok(exit) => exit,
+        Ok(end) => {
+            if watch.verbose {
+                tell_gaps(job, &end.gaps, err);
+            }
+            end.exit
+        }
         Err(fault) => {
             tell(job, watch.verbose, &fault, err);
             Exit::after(&fault)

@@ -6,8 +6,8 @@
 mod laws;
 
 pub use bk_apply::{ScheduleStop, apply, apply_schedule, money_is_that_of_genesis, one_report};
-pub use bk_ask::ask;
-pub use bk_compare::{Nowhere, compare};
+pub use bk_ask::{Replied, ask};
+pub use bk_compare::{Compared, Nowhere, compare, compare_with_gaps};
 pub use bk_follow::{Follower, Order, replay};
 pub use bk_report::{Line, MOST_PROOF, Proof, check_proof, made_proofs_are_good};
 pub use bk_results::{Agreed, CompareStop, Differ, Fault, Query, Reply, Status};

@@ -1,12 +1,16 @@
 -- What the words and the end of a job say of each other.
-use Rattle.std.proofs.Common.{◌≡◌, ◌⊎◌, inl, inr, refl, List, Option, Some, None, true, false}
+use Rattle.std.proofs.Common.{◌≡◌, ◌∙◌, ◌⊎◌, inl, inr, refl, sym, ap, List, Option, Some, None, Bool, true, false, true≢false}
 use Rattle.clap.specs.Words.{Row, Text}
-use Rattle.bk_cli.specs.CommandLine.{IsJobOf, NamesFrames}
+use Rattle.bk_frames.specs.Device.{Device}
+use Rattle.bk_cli.specs.CommandLine.{AreNotesOf, IsJobOf, NamesFrames}
 use Rattle.bk_cli.specs.Exits.{has_fault, is_answer, is_report, writes_ahead}
 use Rattle.bk_cli.specs.declared.exit.Exit.{Exit}
 use Rattle.bk_cli.specs.declared.exit.Exit.TheVariants as exit
 use Rattle.bk_cli.specs.declared.job.Job.{Job}
 use Rattle.bk_cli.specs.declared.job.Job.TheVariants as job
+use Rattle.bk_cli.specs.declared.notes.Notes.{Notes}
+use Rattle.bk_jobs.specs.Openings.{Ran}
+use Rattle.bkreplay.specs.Endings.{IsQuietAsNoted}
 
 -- a job that writes while it reads is that of `frames`
 pub frames_or_not : (found : Option (Text × List Row)) (j : Job) → IsJobOf found j → (writes_ahead j ≡ false) ⊎ NamesFrames found
@@ -40,3 +44,17 @@ report_is_answer j exit.WrongInput h = absurd (cc)
 report_is_answer j exit.Stopped h = absurd (cc)
 report_is_answer j exit.Failed h = absurd (cc)
 report_is_answer j exit.Missing h = refl
+
+-- a job that did not begin has no answer
+failed_is_none : (j : Job) (end : Exit) → end ≡ exit.Failed → is_answer j end ≡ true → ⊥
+failed_is_none j end is answer = true≢false (sym answer ∙ ap (is_answer j) is)
+
+-- after an answer missing batches are told only where the notes are verbose
+pub quiet_as_noted : (found : Option (Text × List Row)) (j : Job) (n : Notes) (end : Exit) (out out' err err' : Device) → IsJobOf found j → AreNotesOf found n → is_answer j end ≡ true
+    → (n.verbose ≡ false → err' ≡ err) → Ran j n.verbose end out out' err err' → IsQuietAsNoted found err err'
+quiet_as_noted found j n end out out' err err' job notes answer quiet (inr began) = absurd (failed_is_none j end began.failed answer)
+quiet_as_noted found j n end out out' err err' job notes answer quiet (inl ran) = by_verbose n.verbose refl
+  where
+    by_verbose : (v : Bool) → n.verbose ≡ v → IsQuietAsNoted found err err'
+    by_verbose true is = let t = ran.gaps answer is in inr (j, n, job, notes, is, (t.gaps, t.line))
+    by_verbose false is = inl (quiet is)

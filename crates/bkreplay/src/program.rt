@@ -7,7 +7,7 @@ ghost use Rattle.bk_cli.specs.Exits.{has_fault, is_refusal, is_report};
 ghost use Rattle.bk_jobs.specs.Faults.{EndsWithLine};
 ghost use Rattle.bk_cli.specs.CommandLine.{NamesFrames, command_line};
 ghost use Rattle.clap.specs.Words.{subcommand_of};
-ghost use Rattle.bkreplay.specs.Endings.{EndsByKind, IsTold, RanWords};
+ghost use Rattle.bkreplay.specs.Endings.{EndsByKind, IsQuiet, IsQuietAsNoted, IsTold, RanWords};
 
 use bk_cli::{Exit, JobFault, Line, parse_line, report};
 use bk_frames::{Sink, push_all};
@@ -30,7 +30,7 @@ where
     R: Env + Files + Input + Print + Eprint + Clock + AllocGlobal + Threads + Wait + Sync,
     requires out { CanBeUsed (O.state out.old) }
     requires err { CanBeUsed (E.state err.old) }
-    ensures quiet { is_report result ≡ true → err.new ≡ err.old }
+    ensures quiet { is_report result ≡ true → IsQuiet (E.state err.old) (E.state err.new) }
     ensures line { has_fault result ≡ true → (verbose : AnyBool)
         × EndsWithLine verbose result (E.state err.old) (E.state err.new) }
 {
@@ -53,7 +53,8 @@ where
     R: Files + Input + Print + Eprint + Clock + AllocGlobal + Threads + Wait + Sync,
     requires out { CanBeUsed (O.state out.old) }
     requires err { CanBeUsed (E.state err.old) }
-    ensures quiet { is_report result ≡ true → err.new ≡ err.old }
+    ensures quiet { is_report result ≡ true
+        → IsQuietAsNoted (subcommand_of command_line (map S.text words.now)) (E.state err.old) (E.state err.new) }
     ensures line { has_fault result ≡ true
         → IsTold (subcommand_of command_line (map S.text words.now)) result (E.state err.old) (E.state err.new) }
     ensures blame { is_refusal result ≡ true → IsUntouched (O.state out.old) (O.state out.new)

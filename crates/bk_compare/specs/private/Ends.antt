@@ -13,7 +13,9 @@ use Rattle.bk_results.specs.declared.fault.Fault.{Fault}
 use Rattle.bk_results.specs.declared.fault.Fault.TheVariants as fault
 use Rattle.bk_follow.specs.Agreement.{settled_in, FollowersDiffer}
 use Rattle.bk_follow.specs.Outcomes.{IsOutcomeOf}
-use Rattle.bk_compare.specs.FeedAgreement.{FeedsAgree, FeedsDiffer, OfTheirFeeds, FollowFails}
+use Rattle.bk_compare.specs.declared.compared.Compared.{Compared}
+use Rattle.bk_compare.specs.FeedAgreement.{FeedsCompared, FeedsDiffer, OfTheirFeeds, FollowFails}
+use Rattle.bk_follow.specs.Gaps.{missing_in}
 use Rattle.bk_follow.specs.Finishing.{OfFeed}
 use Rattle.bk_follow.specs.Follower.{Followed, HasCome}
 use Rattle.bk_follow.specs.RunReport.{committee_in, later_frames, HasPlaceIn}
@@ -45,10 +47,15 @@ EndsNot v (fault.Unfinished place) = OfFeed v (λ feed. HasPlaceIn feed place)
 EndsNot v (fault.Write written) = ⊥
 EndsNot v fault.Memory = Unit {0}
 
--- it agrees with the feed that another source has, where that is known
-abbrev pub AgreesWith : Followed → Device → Agreed → Type 0
-AgreesWith v source a =
-    (bytes : List ℕ) → HasEnded bytes v → IfKnown source (λ more. OfTheirFeeds bytes more (λ f g. FeedsAgree f g a))
+-- how far two Followers agree, and where their orders stop
+abbrev pub compared_of : Followed → Followed → Agreed → Compared
+compared_of one other a = record { agreed = a; first = missing_in one.book; second = missing_in other.book }
+
+-- it agrees with the feed that another source has, which another Follower has followed, where that is known
+abbrev pub AgreesWith : Followed → Followed → Device → Agreed → Type 0
+AgreesWith one other source a =
+    (bytes : List ℕ) → HasEnded bytes one
+    → IfKnown source (λ more. OfTheirFeeds bytes more (λ f g. FeedsCompared f g (compared_of one other a)))
 
 -- why it does not: the other feed was not followed to its end; or they differ
 abbrev pub ComparesNotWith : CompareStop → Followed → Device → Device → Type 0

@@ -1,6 +1,6 @@
 use Rattle.std.proofs.lemmas.Result.{err_from_is_err_and}
 use Rattle.bk_follow.proofs.Following.{settled_now}
-use Rattle.bk_ask.proofs.OrderedBooks.{ordered_now, show_close_fails, show_write_fails, follower_shows}
+use Rattle.bk_ask.proofs.OrderedBooks.{gap_closed, gap_ordered, ordered_now, show_close_fails, show_write_fails, follower_shows}
 use Rattle.bk_ask.proofs.ReplyAnswers.{reply_close_fails, reply_write_fails, follower_replies}
 use Rattle.bk_ask.proofs.asking.close_and_reply.Goals as goal
 
@@ -35,3 +35,9 @@ returns-in_err-reply-in-None-clause-fault g c =
 
 pub returns-in_ok-reply-in-None-clause-reply : goal.returns-in_ok-reply-in-None-clause-reply
 returns-in_ok-reply-in-None-clause-reply g c = follower_replies c.args.query.now c.args.follower.now c.close.new.self _ _ c.in_ok-reply-in-None.reply c.in_ok-close-in-None.ensures.closed c.in_ok-reply-in-None.ensures.reply
+
+pub returns-in_ok-show_ordered-in-Some-clause-missing : goal.returns-in_ok-show_ordered-in-Some-clause-missing
+returns-in_ok-show_ordered-in-Some-clause-missing g c = gap_ordered c.args.follower.now c.close_order.new.self c.in_ok-close_order-in-Some.ensures.closed
+
+pub returns-in_ok-reply-in-None-clause-missing : goal.returns-in_ok-reply-in-None-clause-missing
+returns-in_ok-reply-in-None-clause-missing g c = gap_closed c.args.follower.now c.close.new.self c.in_ok-close-in-None.ensures.closed

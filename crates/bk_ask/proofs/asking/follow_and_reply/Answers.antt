@@ -1,5 +1,6 @@
 use Rattle.std.proofs.lemmas.Result.{err_from_is_err_and}
-use Rattle.bk_ask.proofs.ReplyAnswers.{call_replies, call_fails, call_read_fails}
+use Rattle.bk_follow.specs.Gaps.{missing_in}
+use Rattle.bk_ask.proofs.ReplyAnswers.{call_replies, call_gap, call_fails, call_read_fails}
 use Rattle.bk_ask.proofs.asking.follow_and_reply.Goals as goal
 
 pub returns-in_err-follow-clause-fault : goal.returns-in_err-follow-clause-fault
@@ -19,3 +20,7 @@ returns-clause-reply g c =
 
 pub returns-clause-sound : goal.returns-clause-sound
 returns-clause-sound g c = (c.in_ok-follow.ensures.works.0, c.in_ok-reply.ensures.reply.1)
+
+pub returns-clause-missing : goal.returns-clause-missing
+returns-clause-missing g c =
+    rw c.missing-missing.ensures (call_gap (g.S.Source.state c.args.source.now) c.follow.new.self (missing_in c.close_and_reply.new.follower.book) c.in_ok-follow.ensures.come c.in_ok-reply.ensures.missing)

@@ -1,10 +1,6 @@
+use Rattle.bk_compare.specs.FeedAgreement.{sources}
+use Rattle.bk_compare.proofs.FeedEnds.{agree_too}
 use Rattle.bk_compare.proofs.agreeing.compare.Goals as goal
 
-pub returns-clause-agree : goal.returns-clause-agree
-returns-clause-agree g c = c.compare_both-agreed.ensures.agree
-
-pub returns-clause-sound : goal.returns-clause-sound
-returns-clause-sound g c = c.compare_both-agreed.ensures.sound
-
-pub returns-clause-stop : goal.returns-clause-stop
-returns-clause-stop g c = c.compare_both-agreed.ensures.stop
+pub returns-in-Ok-clause-agree : goal.returns-in-Ok-clause-agree
+returns-in-Ok-clause-agree g c = agree_too (sources (g.S.Source.state c.args.first.now) (g.T.Source.state c.args.second.now)) c.in-Ok.compared c.in-Ok.ensures.agree

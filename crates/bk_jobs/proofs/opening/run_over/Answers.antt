@@ -8,6 +8,7 @@ returns-clause-ran g c = inl (record {
   new = _;
   begins = refl;
   ends = refl;
-  answer = λ a. (c.run_watched.ensures.whole a, (c.run_watched.ensures.sound a).0);
+  answer = λ a. (c.run_watched.ensures.whole a, c.run_watched.ensures.sound a);
+  gaps = c.run_watched.ensures.gaps;
   fault = c.run_watched.ensures.fault;
 })

@@ -40,3 +40,36 @@ returns-in_ok-end-in-CheckReport-clause-answer g c =
 
 pub returns-in_ok-end-in-Dag-clause-answer : goal.returns-in_ok-end-in-Dag-clause-answer
 returns-in_ok-end-in-Dag-clause-answer g c = rw (c.in-Dag.is, c.in_ok-end-in-Dag.ensures.answer) (refl, refl)
+
+pub returns-in_ok-end-in-Run-clause-gaps : goal.returns-in_ok-end-in-Run-clause-gaps
+returns-in_ok-end-in-Run-clause-gaps g c = rw c.in-Run.is refl
+
+pub returns-in_ok-end-in-Summary-clause-gaps : goal.returns-in_ok-end-in-Summary-clause-gaps
+returns-in_ok-end-in-Summary-clause-gaps g c = rw c.in-Summary.is refl
+
+pub returns-in_ok-end-in-Make-clause-gaps : goal.returns-in_ok-end-in-Make-clause-gaps
+returns-in_ok-end-in-Make-clause-gaps g c = rw c.in-Make.is refl
+
+pub returns-in_ok-end-in-CheckProof-clause-gaps : goal.returns-in_ok-end-in-CheckProof-clause-gaps
+returns-in_ok-end-in-CheckProof-clause-gaps g c = rw c.in-CheckProof.is refl
+
+pub returns-in_ok-end-in-Apply-clause-gaps : goal.returns-in_ok-end-in-Apply-clause-gaps
+returns-in_ok-end-in-Apply-clause-gaps g c = rw c.in-Apply.is refl
+
+pub returns-in_ok-end-in-Schedule-clause-gaps : goal.returns-in_ok-end-in-Schedule-clause-gaps
+returns-in_ok-end-in-Schedule-clause-gaps g c = rw c.in-Schedule.is refl
+
+pub returns-in_ok-end-in-Frames-clause-gaps : goal.returns-in_ok-end-in-Frames-clause-gaps
+returns-in_ok-end-in-Frames-clause-gaps g c = rw c.in-Frames.is refl
+
+pub returns-in_ok-end-in-CheckReport-clause-gaps : goal.returns-in_ok-end-in-CheckReport-clause-gaps
+returns-in_ok-end-in-CheckReport-clause-gaps g c = rw c.in-CheckReport.is refl
+
+pub returns-in_ok-end-in-Dag-clause-gaps : goal.returns-in_ok-end-in-Dag-clause-gaps
+returns-in_ok-end-in-Dag-clause-gaps g c = rw c.in-Dag.is refl
+
+pub returns-in_ok-end-in-Ask-clause-gaps : goal.returns-in_ok-end-in-Ask-clause-gaps
+returns-in_ok-end-in-Ask-clause-gaps g c = rw c.in-Ask.is (c.in_ok-end-in-Ask.ensures.gap, c.in_ok-end-in-Ask.ensures.one)
+
+pub returns-in_ok-end-in-Compare-clause-gaps : goal.returns-in_ok-end-in-Compare-clause-gaps
+returns-in_ok-end-in-Compare-clause-gaps g c = rw c.in-Compare.is c.in_ok-end-in-Compare.ensures.gaps

@@ -1,16 +1,10 @@
--- An answer blames nothing; a fault is no answer, and it says where the bytes are to blame.
+-- A fault is no answer, and it says where the bytes are to blame.
 use Rattle.std.proofs.Common.{◌≡◌, ◌∙◌, sym, false, true≢false}
 use Rattle.bk_jobs.specs.Sources.{job_devices}
 use Rattle.bk_cli.specs.Exits.{is_answer}
 use Rattle.bk_jobs.proofs.BlameLemmas.{bytes_to_blame}
-use Rattle.bk_jobs.proofs.StatusLemmas.{ends_by_fault, fault_is_none, answer_is_no_refusal}
+use Rattle.bk_jobs.proofs.StatusLemmas.{ends_by_fault, fault_is_none}
 use Rattle.bk_jobs.proofs.running.run_watched.Goals as goal
-
-pub returns-in-Ok-clause-blame : goal.returns-in-Ok-clause-blame
-returns-in-Ok-clause-blame g c = λ r. absurd (true≢false (sym r ∙ answer_is_no_refusal c.args.job.now c.in-Ok.exit c.in-Ok.ensures.answer.0))
-
-pub returns-in-Ok-clause-unwritten : goal.returns-in-Ok-clause-unwritten
-returns-in-Ok-clause-unwritten g c = λ r w. absurd (true≢false (sym r ∙ answer_is_no_refusal c.args.job.now c.in-Ok.exit c.in-Ok.ensures.answer.0))
 
 pub returns-in-Err-clause-whole : goal.returns-in-Err-clause-whole
 returns-in-Err-clause-whole g c = λ r.

@@ -1,6 +1,6 @@
 -- The job of the words ran, and where the bytes are to blame, nothing is written but by `frames`.
-use Rattle.std.proofs.Common.{inl, inr, refl}
-use Rattle.bkreplay.proofs.Naming.{fault_is_no_answer, frames_or_not, report_is_answer}
+use Rattle.std.proofs.Common.{ap, inl, inr, refl}
+use Rattle.bkreplay.proofs.Naming.{fault_is_no_answer, frames_or_not, quiet_as_noted, report_is_answer}
 use Rattle.bkreplay.proofs.program.run_words.Goals as goal
 
 pub returns-in-Ok-clause-blame : goal.returns-in-Ok-clause-blame
@@ -10,7 +10,10 @@ returns-in-Ok-clause-blame g c = λ r. elim (frames_or_not _ c.in-Ok.line.job c.
 ]
 
 pub returns-in-Ok-clause-quiet : goal.returns-in-Ok-clause-quiet
-returns-in-Ok-clause-quiet g c = λ r. c.open_and_run.ensures.quiet (report_is_answer c.in-Ok.line.job c.open_and_run.result r)
+returns-in-Ok-clause-quiet g c = λ r.
+    let answer = report_is_answer c.in-Ok.line.job c.open_and_run.result r in
+    quiet_as_noted _ c.in-Ok.line.job c.in-Ok.line.notes c.open_and_run.result _ _ _ _ c.in-Ok.ensures.job c.in-Ok.ensures.notes answer
+    (λ v. ap g.E.Sink.state (c.open_and_run.ensures.quiet answer v)) c.open_and_run.ensures.ran
 
 pub returns-in-Ok-clause-line : goal.returns-in-Ok-clause-line
 returns-in-Ok-clause-line g c = λ r.
@@ -19,6 +22,9 @@ returns-in-Ok-clause-line g c = λ r.
 pub returns-in-Ok-clause-ran : goal.returns-in-Ok-clause-ran
 returns-in-Ok-clause-ran g c =
     inl (c.in-Ok.line.job, c.in-Ok.line.notes, c.in-Ok.ensures.job, c.in-Ok.ensures.notes, c.open_and_run.ensures.ran)
+
+pub returns-in-Err-clause-quiet : goal.returns-in-Err-clause-quiet
+returns-in-Err-clause-quiet g c = λ r. inl (ap g.E.Sink.state (c.answer_error.ensures.quiet r))
 
 pub returns-in-Err-clause-line : goal.returns-in-Err-clause-line
 returns-in-Err-clause-line g c = λ r. inl (c.answer_error.ensures.line r)

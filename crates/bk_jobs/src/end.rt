@@ -1,0 +1,10 @@
+use bk_cli::{Exit, Gaps};
+
+/// How a job ends that has an answer.
+#[derive(Clone, Copy)]
+pub(crate) struct End {
+    /// The exit of the program.
+    pub(crate) exit: Exit,
+    /// At which missing batches the orders of the feeds stop, of a query and of a comparison.
+    pub(crate) gaps: Gaps,
+}
