@@ -39,6 +39,12 @@ impl<'a> Example<'a> {
         })
     }
 
+    /// Whether both standard output and standard error may get something: `frames` writes while it reads, and with
+    /// `--verbose` an answer may be followed by the name of a missing batch.
+    pub(crate) fn writes_both(&self) -> bool {
+        self.command == "frames" || self.words.contains(&"--verbose")
+    }
+
     /// Whether it is a run without a number of workers.
     pub(crate) fn has_free_workers(&self) -> bool {
         matches!(self.words.as_slice(), [_, "run", _])

@@ -19,8 +19,26 @@ pub(crate) const GOOD: Devices = Devices {
 /// How many bytes a call reads or writes at most: pieces that end within lines and frames.
 pub(crate) const SIZE: usize = 97;
 
-/// Whether a failed read of the feed gives its fault and writes nothing, whichever read it is; and one of them fails.
-pub(crate) fn reads_fail_well<R>(rt: &R, job: &Job, given: Given<'_>, whole: &Outcome) -> bool
+/// The fault of a feed that cannot be read, without its offset.
+pub(crate) const UNREAD_FEED: &[u8] = b"feed fault 8 at ";
+
+/// The fault of a text that cannot be read.
+pub(crate) const UNREAD_TEXT: &[u8] = b"read failed\n";
+
+/// Whether this is the fault of a failed read, and nothing is written.
+pub(crate) fn is_unread(found: &Outcome, fault: &[u8]) -> bool {
+    found.status == 4 && found.err.starts_with(fault) && found.out.is_empty()
+}
+
+/// Whether a failed read of the first file gives this fault and writes nothing, whichever read it is; and one of them
+/// fails.
+pub(crate) fn reads_fail_well<R>(
+    rt: &R,
+    job: &Job,
+    given: Given<'_>,
+    whole: &Outcome,
+    fault: &[u8],
+) -> bool
 where
     R: AllocGlobal + Threads + Wait + Sync,
 {
@@ -34,8 +52,7 @@ where
         if found.is_same(whole) {
             return reads > 0;
         }
-        let is_fault = found.status == 4 && found.err.starts_with(b"feed fault 8 at ");
-        if !is_fault || !found.out.is_empty() {
+        if !is_unread(&found, fault) {
             return false;
         }
     }

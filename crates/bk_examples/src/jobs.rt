@@ -1,8 +1,10 @@
-//! Jobs that ask something of a feed, with devices that fail.
+//! Jobs that have an answer, with devices that fail.
 
 use crate::devices::{Devices, Given, MOST_CALLS, job_with};
 use crate::example::Example;
-use crate::failing::{GOOD, SIZE, reads_fail_well, writes_fail_well};
+use crate::failing::{
+    GOOD, SIZE, UNREAD_FEED, UNREAD_TEXT, is_unread, reads_fail_well, writes_fail_well,
+};
 use crate::outcome::Outcome;
 use anyhow::{Result, bail};
 use bk_cli::{Job, Workers, parse};
@@ -12,9 +14,31 @@ use std::rt::Files;
 use std::sync::Wait;
 use std::thread::Threads;
 
-// Whether a failed read of the second file, which is read after the feed, gives its fault and writes nothing, whichever
-// read it is; and one of them fails, where there is a second file.
-fn second_reads_fail_well<R>(rt: &R, job: &Job, given: Given<'_>, whole: &Outcome) -> bool
+// The fault of a failed read of the first file of a command.
+fn first_fault(command: &str) -> &'static [u8] {
+    match command {
+        "make" | "check-proof" => UNREAD_TEXT,
+        _ => UNREAD_FEED,
+    }
+}
+
+// The fault of a failed read of the second file of a command.
+fn second_fault(command: &str) -> &'static [u8] {
+    match command {
+        "compare" => UNREAD_FEED,
+        _ => UNREAD_TEXT,
+    }
+}
+
+// Whether a failed read of the second file gives this fault and writes nothing, whichever read it is; and one of them
+// fails, where there is a second file.
+fn second_reads_fail_well<R>(
+    rt: &R,
+    job: &Job,
+    given: Given<'_>,
+    whole: &Outcome,
+    fault: &[u8],
+) -> bool
 where
     R: AllocGlobal + Threads + Wait + Sync,
 {
@@ -31,49 +55,35 @@ where
         if found.is_same(whole) {
             return second_reads > 0 || job.second_file().is_none();
         }
-        let is_fault = found.status == 4 && found.err.as_slice() == b"read failed\n".as_slice();
-        if !is_fault || !found.out.is_empty() {
+        if !is_unread(&found, fault) {
             return false;
         }
     }
     false
 }
 
-// The bytes of the second file of a job, none where it has none.
-fn second_of<R: AllocGlobal + Files>(rt: &R, job: &Job) -> Result<Vec<u8>> {
-    let Some(path) = job.second_file() else {
+// The bytes of a file of a job, none where it has none.
+fn bytes_of<R: AllocGlobal + Files>(rt: &R, path: Option<&str>) -> Result<Vec<u8>> {
+    let Some(path) = path else {
         return Ok(Vec::new(rt.alloc()));
     };
     Ok(fs::read(rt, path)?)
 }
 
 // Whether a job of these files ends well with each read and each write failing in turn.
-fn ends_well<R>(rt: &R, job: &Job, given: Given<'_>) -> bool
+fn ends_well<R>(rt: &R, job: &Job, given: Given<'_>, command: &str) -> bool
 where
     R: AllocGlobal + Threads + Wait + Sync,
 {
     let whole = job_with(rt, job, given, GOOD);
-    reads_fail_well(rt, job, given, &whole)
-        && second_reads_fail_well(rt, job, given, &whole)
+    reads_fail_well(rt, job, given, &whole, first_fault(command))
+        && second_reads_fail_well(rt, job, given, &whole, second_fault(command))
         && writes_fail_well(rt, job, given, &whole, SIZE)
 }
 
-/// Whether it is a job that asks something of a feed and gets an answer.
-pub(crate) fn asks(example: &Example<'_>) -> bool {
-    let is_asking = matches!(
-        example.command,
-        "order"
-            | "account"
-            | "receipt"
-            | "prove"
-            | "anchors"
-            | "summary"
-            | "statement"
-            | "dag"
-            | "check-state"
-            | "check-report"
-    );
-    is_asking && matches!(example.status, 0 | 5)
+/// Whether it is a job that gets an answer and writes nothing before it.
+pub(crate) fn is_answered(example: &Example<'_>) -> bool {
+    !matches!(example.command, "run" | "frames") && matches!(example.status, 0 | 5)
 }
 
 /// Whether such a job ends well with each read and each write failing in turn.
@@ -84,14 +94,14 @@ where
     let Ok(job) = parse(rt.alloc(), &example.words) else {
         bail!("an example that has an answer is parsed");
     };
-    let feed = fs::read(rt, example.name)?;
-    let second = second_of(rt, &job)?;
+    let feed = bytes_of(rt, job.file())?;
+    let second = bytes_of(rt, job.second_file())?;
     let given = Given {
         feed: &feed,
         second: &second,
         second_reads: MOST_CALLS,
     };
-    Ok(ends_well(rt, &job, given))
+    Ok(ends_well(rt, &job, given, example.command))
 }
 
 // How many bytes the last line of a claim has that is longer than any line of a report.

@@ -2,7 +2,7 @@
 //!
 //! The folder that it is run in has the examples and the table `commands`. A run of a feed that names no number of
 //! workers is done by 1, 2, 8 and 64, by a Follower that gets the feed in pieces, with each read and each write failing
-//! in turn, and with the feed cut. A job that asks something of a feed is done with each read and each write failing. A
+//! in turn, and with the feed cut. Each other job that has an answer is done with each read and each write failing. A
 //! clock of its own makes progress tell. The last line is `N passed, M failed`.
 #![tactic(auto)]
 
@@ -16,9 +16,9 @@ mod telling;
 
 use crate::devices::{feed_alone, run_by_two};
 use crate::example::Example;
-use crate::failing::{cuts_are_right, reads_fail_well, writes_fail_well};
+use crate::failing::{UNREAD_FEED, cuts_are_right, reads_fail_well, writes_fail_well};
 use crate::following::{Pieces, followed};
-use crate::jobs::{asks, job_fails_well, long_line_is_told};
+use crate::jobs::{is_answered, job_fails_well, long_line_is_told};
 use crate::outcome::{Outcome, outcome_of};
 use crate::telling::progress_is_told;
 use anyhow::{Result, bail};
@@ -88,7 +88,7 @@ where
     let found = outcome_of(rt, &words)?;
     let wanted = fs::read(rt, example.wanted)?;
     let is_right = found.status == example.status
-        && found.has_printed(&wanted, example.command == "frames");
+        && found.has_printed(&wanted, example.writes_both());
     judge(rt, example, "another status or another text", is_right)
 }
 
@@ -123,7 +123,7 @@ where
     R: AllocGlobal + Eprint + Threads + Wait + Sync,
 {
     let (job, given) = (run_by_two(), feed_alone(feed));
-    let reads = reads_fail_well(rt, &job, given, whole);
+    let reads = reads_fail_well(rt, &job, given, whole, UNREAD_FEED);
     let tally = tally.add(judge(rt, example, "a failed read", reads)?);
     let writes = writes_fail_well(rt, &job, given, whole, 7)
         && writes_fail_well(rt, &job, given, whole, usize::MAX);
@@ -132,12 +132,12 @@ where
     Ok(tally.add(judge(rt, example, "a feed that is cut", cuts)?))
 }
 
-// Runs a job that asks something of a feed with devices that fail.
-fn run_asking<R>(rt: &R, example: &Example<'_>, tally: Tally) -> Result<Tally>
+// Runs a job that has an answer with devices that fail.
+fn run_answered<R>(rt: &R, example: &Example<'_>, tally: Tally) -> Result<Tally>
 where
     R: AllocGlobal + Files + Eprint + Threads + Wait + Sync,
 {
-    if !asks(example) {
+    if !is_answered(example) {
         return Ok(tally);
     }
     let is_right = job_fails_well(rt, example)?;
@@ -151,7 +151,7 @@ where
 {
     if !example.has_free_workers() {
         let tally = tally.add(run_words(rt, example, &[])?);
-        return run_asking(rt, example, tally);
+        return run_answered(rt, example, tally);
     }
     let mut tally = tally;
     for count in WORKERS {

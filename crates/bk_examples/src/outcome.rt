@@ -32,15 +32,15 @@ impl Outcome {
     }
 
     /// Whether just these bytes were printed, all of them on standard output or all on standard error; of a command that
-    /// writes while it reads, first those on standard output.
-    pub(crate) fn has_printed(&self, wanted: &[u8], writes_ahead: bool) -> bool {
+    /// may write to both, first those on standard output.
+    pub(crate) fn has_printed(&self, wanted: &[u8], writes_both: bool) -> bool {
         if self.err.is_empty() {
             return self.out.as_slice() == wanted;
         }
         if self.out.is_empty() {
             return self.err.as_slice() == wanted;
         }
-        writes_ahead
+        writes_both
             && wanted.len().checked_sub(self.out.len()) == Some(self.err.len())
             && wanted.starts_with(self.out.as_slice())
             && wanted.ends_with(self.err.as_slice())
