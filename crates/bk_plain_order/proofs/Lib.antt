@@ -1,1 +1,3 @@
 pub mod Marked
+pub mod Growing
+pub mod Steps
