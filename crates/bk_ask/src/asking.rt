@@ -69,7 +69,8 @@ fn follow_and_reply<R: Threads + Wait + Sync, S: Source, K: Sink, G: Gate + Sync
     requires sink { CanBeUsed (K.state sink.old) }
     ensures reply { IfOk result (λ r. IfKnown (S.state source.old) (λ bytes.
         IsReplied query.now r.reply bytes (K.state sink.old) (K.state sink.new))) }
-    ensures missing { IfOk result (λ r. IfKnown (S.state source.old) (λ bytes. IsGap bytes r.missing)) }
+    ensures missing { IfOk result (λ r. IfKnown (S.state source.old)
+        (λ bytes. IsGap bytes r.missing)) }
     ensures kind { IfOk result (λ r. can_reply query.now r.reply ≡ true) }
     ensures absent { IfOk result (λ r. IsQuiet r.reply (K.state sink.old) (K.state sink.new)) }
     ensures sound { OnOk result (Works (S.state source.old) (S.state source.new)
@@ -105,7 +106,8 @@ pub fn ask<R: Threads + Wait + Sync, S: Source, K: Sink, G: Gate + Sync>(
     requires workers { (1 ≤ workers) × (workers ≤ 64) }
     ensures reply { IfOk result (λ r. IfKnown (S.state source.old) (λ bytes.
         IsReplied query r.reply bytes (K.state sink.old) (K.state sink.new))) }
-    ensures missing { IfOk result (λ r. IfKnown (S.state source.old) (λ bytes. IsGap bytes r.missing)) }
+    ensures missing { IfOk result (λ r. IfKnown (S.state source.old)
+        (λ bytes. IsGap bytes r.missing)) }
     ensures kind { IfOk result (λ r. can_reply query r.reply ≡ true) }
     ensures absent { IfOk result (λ r. IsQuiet r.reply (K.state sink.old) (K.state sink.new)) }
     ensures sound { OnOk result (Works (S.state source.old) (S.state source.new)

@@ -149,7 +149,7 @@ abbrev pub gap_note : List ℕ → Option (List ℕ) → List ℕ
 gap_note name None = []
 gap_note name (Some digest) = gap_line name digest
 
--- what is told of the feeds of a job
+-- the lines for both feeds of a job
 abbrev pub gaps_told : Job → Gaps → List ℕ
 gaps_told j gaps = gap_note (name_of j about.First) gaps.first ++ gap_note (name_of j about.Second) gaps.second
 

@@ -1,4 +1,4 @@
-//! What is told of a missing batch on standard error.
+//! The lines on standard error that report missing batches.
 
 ghost use Rattle.std.specs.Prelude.{◌≡◌, ◌++◌, codes, OnOk, IfErr};
 ghost use Rattle.bk_frames.specs.Device.{CanBeUsed};
@@ -28,7 +28,8 @@ fn gap_end(digest: &Digest32) -> ShortLine
 // Writes the line of a feed whose order stops at a missing batch.
 fn push_line<E: Sink>(name: &str, digest: &Digest32, err: &mut E) -> Result<(), WriteFault>
     requires { CanBeUsed (E.state err.old) }
-    ensures whole { OnOk result (Writes (gap_line name.now digest.now) (E.state err.old) (E.state err.new)) }
+    ensures whole { OnOk result (Writes (gap_line name.now digest.now)
+        (E.state err.old) (E.state err.new)) }
     ensures part { IfErr result (λ _. StopsReport (gap_line name.now digest.now)
         (E.state err.old) (E.state err.new)) }
 {
@@ -41,7 +42,8 @@ fn push_line<E: Sink>(name: &str, digest: &Digest32, err: &mut E) -> Result<(), 
 // Writes it where there is a missing batch, and else nothing.
 fn push_note<E: Sink>(name: &str, missing: &Option<Digest32>, err: &mut E) -> Result<(), WriteFault>
     requires { CanBeUsed (E.state err.old) }
-    ensures whole { OnOk result (Writes (gap_note name.now missing.now) (E.state err.old) (E.state err.new)) }
+    ensures whole { OnOk result (Writes (gap_note name.now missing.now)
+        (E.state err.old) (E.state err.new)) }
     ensures part { IfErr result (λ _. StopsReport (gap_note name.now missing.now)
         (E.state err.old) (E.state err.new)) }
 {
@@ -54,7 +56,8 @@ fn push_note<E: Sink>(name: &str, missing: &Option<Digest32>, err: &mut E) -> Re
 // Writes those of both feeds of a job.
 fn push_notes<E: Sink>(job: &Job, gaps: &Gaps, err: &mut E) -> Result<(), WriteFault>
     requires { CanBeUsed (E.state err.old) }
-    ensures whole { OnOk result (Writes (gaps_told job.now gaps.now) (E.state err.old) (E.state err.new)) }
+    ensures whole { OnOk result (Writes (gaps_told job.now gaps.now)
+        (E.state err.old) (E.state err.new)) }
     ensures part { IfErr result (λ _. StopsReport (gaps_told job.now gaps.now)
         (E.state err.old) (E.state err.new)) }
 {

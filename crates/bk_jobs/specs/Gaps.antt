@@ -1,4 +1,4 @@
--- At which missing batches the orders of a job's feeds stop, and what is told of them.
+-- At which missing batches the orders of a job's feeds stop, and the lines that report them.
 use Rattle.std.specs.Prelude.{◌≡◌, None, IfSome}
 use Rattle.bk_frames.specs.Device.{Device}
 use Rattle.bk_follow.specs.Gaps.{IsGap}
