@@ -44,64 +44,64 @@ complete -c bkreplay -n "__bkreplay_at ''" -a apply -d 'Execute all batches of a
 complete -c bkreplay -n "__bkreplay_at ''" -a schedule -d 'Execute all batches of a feed in the order of a list of worker events, and write the apply report'
 complete -c bkreplay -n "__bkreplay_at ''" -a compare -d 'Compare the orders of two feeds and what was executed by them'
 complete -c bkreplay -n '__bkreplay_at run' -l workers -x -a '(seq 1 64)' -d 'How many threads execute at most, 1 to 64; 1 by default. The output is the same for any number'
-complete -c bkreplay -n '__bkreplay_at run' -l progress -d 'Tell on standard error how many bytes are read, and how many transactions are executed'
-complete -c bkreplay -n '__bkreplay_at run' -l verbose -d 'Tell in one more line what a fault is, in words, or at which missing batch an order stops, with the name of the file'
+complete -c bkreplay -n '__bkreplay_at run' -l progress -d 'Show on standard error how many bytes are read, and how many transactions are executed'
+complete -c bkreplay -n '__bkreplay_at run' -l verbose -d 'Say in one more line what a fault is, in words, or at which missing batch an order stops, and name the file'
 complete -c bkreplay -n '__bkreplay_at run 0' -F
-complete -c bkreplay -n '__bkreplay_at make' -l progress -d 'Tell on standard error how many bytes are read, and how many transactions are executed'
-complete -c bkreplay -n '__bkreplay_at make' -l verbose -d 'Tell in one more line what a fault is, in words, or at which missing batch an order stops, with the name of the file'
+complete -c bkreplay -n '__bkreplay_at make' -l progress -d 'Show on standard error how many bytes are read, and how many transactions are executed'
+complete -c bkreplay -n '__bkreplay_at make' -l verbose -d 'Say in one more line what a fault is, in words, or at which missing batch an order stops, and name the file'
 complete -c bkreplay -n '__bkreplay_at make 0' -F
-complete -c bkreplay -n '__bkreplay_at order' -l progress -d 'Tell on standard error how many bytes are read, and how many transactions are executed'
-complete -c bkreplay -n '__bkreplay_at order' -l verbose -d 'Tell in one more line what a fault is, in words, or at which missing batch an order stops, with the name of the file'
+complete -c bkreplay -n '__bkreplay_at order' -l progress -d 'Show on standard error how many bytes are read, and how many transactions are executed'
+complete -c bkreplay -n '__bkreplay_at order' -l verbose -d 'Say in one more line what a fault is, in words, or at which missing batch an order stops, and name the file'
 complete -c bkreplay -n '__bkreplay_at order 0' -F
-complete -c bkreplay -n '__bkreplay_at account' -l progress -d 'Tell on standard error how many bytes are read, and how many transactions are executed'
-complete -c bkreplay -n '__bkreplay_at account' -l verbose -d 'Tell in one more line what a fault is, in words, or at which missing batch an order stops, with the name of the file'
+complete -c bkreplay -n '__bkreplay_at account' -l progress -d 'Show on standard error how many bytes are read, and how many transactions are executed'
+complete -c bkreplay -n '__bkreplay_at account' -l verbose -d 'Say in one more line what a fault is, in words, or at which missing batch an order stops, and name the file'
 complete -c bkreplay -n '__bkreplay_at account 1' -F
-complete -c bkreplay -n '__bkreplay_at receipt' -l progress -d 'Tell on standard error how many bytes are read, and how many transactions are executed'
-complete -c bkreplay -n '__bkreplay_at receipt' -l verbose -d 'Tell in one more line what a fault is, in words, or at which missing batch an order stops, with the name of the file'
+complete -c bkreplay -n '__bkreplay_at receipt' -l progress -d 'Show on standard error how many bytes are read, and how many transactions are executed'
+complete -c bkreplay -n '__bkreplay_at receipt' -l verbose -d 'Say in one more line what a fault is, in words, or at which missing batch an order stops, and name the file'
 complete -c bkreplay -n '__bkreplay_at receipt 1' -F
-complete -c bkreplay -n '__bkreplay_at prove' -l progress -d 'Tell on standard error how many bytes are read, and how many transactions are executed'
-complete -c bkreplay -n '__bkreplay_at prove' -l verbose -d 'Tell in one more line what a fault is, in words, or at which missing batch an order stops, with the name of the file'
+complete -c bkreplay -n '__bkreplay_at prove' -l progress -d 'Show on standard error how many bytes are read, and how many transactions are executed'
+complete -c bkreplay -n '__bkreplay_at prove' -l verbose -d 'Say in one more line what a fault is, in words, or at which missing batch an order stops, and name the file'
 complete -c bkreplay -n '__bkreplay_at prove 1' -F
-complete -c bkreplay -n '__bkreplay_at frames' -l progress -d 'Tell on standard error how many bytes are read, and how many transactions are executed'
-complete -c bkreplay -n '__bkreplay_at frames' -l verbose -d 'Tell in one more line what a fault is, in words, or at which missing batch an order stops, with the name of the file'
+complete -c bkreplay -n '__bkreplay_at frames' -l progress -d 'Show on standard error how many bytes are read, and how many transactions are executed'
+complete -c bkreplay -n '__bkreplay_at frames' -l verbose -d 'Say in one more line what a fault is, in words, or at which missing batch an order stops, and name the file'
 complete -c bkreplay -n '__bkreplay_at frames 0' -F
 complete -c bkreplay -n '__bkreplay_at summary' -l workers -x -a '(seq 1 64)' -d 'How many threads execute at most, 1 to 64; 1 by default. The output is the same for any number'
-complete -c bkreplay -n '__bkreplay_at summary' -l progress -d 'Tell on standard error how many bytes are read, and how many transactions are executed'
-complete -c bkreplay -n '__bkreplay_at summary' -l verbose -d 'Tell in one more line what a fault is, in words, or at which missing batch an order stops, with the name of the file'
+complete -c bkreplay -n '__bkreplay_at summary' -l progress -d 'Show on standard error how many bytes are read, and how many transactions are executed'
+complete -c bkreplay -n '__bkreplay_at summary' -l verbose -d 'Say in one more line what a fault is, in words, or at which missing batch an order stops, and name the file'
 complete -c bkreplay -n '__bkreplay_at summary 0' -F
-complete -c bkreplay -n '__bkreplay_at anchors' -l progress -d 'Tell on standard error how many bytes are read, and how many transactions are executed'
-complete -c bkreplay -n '__bkreplay_at anchors' -l verbose -d 'Tell in one more line what a fault is, in words, or at which missing batch an order stops, with the name of the file'
+complete -c bkreplay -n '__bkreplay_at anchors' -l progress -d 'Show on standard error how many bytes are read, and how many transactions are executed'
+complete -c bkreplay -n '__bkreplay_at anchors' -l verbose -d 'Say in one more line what a fault is, in words, or at which missing batch an order stops, and name the file'
 complete -c bkreplay -n '__bkreplay_at anchors 0' -F
 complete -c bkreplay -n '__bkreplay_at dag' -l from -x -a '(seq 1 1000000)' -d 'The first round that is drawn, 1 to 1,000,000; 1 by default'
 complete -c bkreplay -n '__bkreplay_at dag' -l rounds -x -a '(seq 1 1000)' -d 'How many rounds are drawn, 1 to 1,000; 40 by default'
-complete -c bkreplay -n '__bkreplay_at dag' -l progress -d 'Tell on standard error how many bytes are read, and how many transactions are executed'
-complete -c bkreplay -n '__bkreplay_at dag' -l verbose -d 'Tell in one more line what a fault is, in words, or at which missing batch an order stops, with the name of the file'
+complete -c bkreplay -n '__bkreplay_at dag' -l progress -d 'Show on standard error how many bytes are read, and how many transactions are executed'
+complete -c bkreplay -n '__bkreplay_at dag' -l verbose -d 'Say in one more line what a fault is, in words, or at which missing batch an order stops, and name the file'
 complete -c bkreplay -n '__bkreplay_at dag 0' -F
 complete -c bkreplay -n '__bkreplay_at statement' -l workers -x -a '(seq 1 64)' -d 'How many threads execute at most, 1 to 64; 1 by default. The output is the same for any number'
-complete -c bkreplay -n '__bkreplay_at statement' -l progress -d 'Tell on standard error how many bytes are read, and how many transactions are executed'
-complete -c bkreplay -n '__bkreplay_at statement' -l verbose -d 'Tell in one more line what a fault is, in words, or at which missing batch an order stops, with the name of the file'
+complete -c bkreplay -n '__bkreplay_at statement' -l progress -d 'Show on standard error how many bytes are read, and how many transactions are executed'
+complete -c bkreplay -n '__bkreplay_at statement' -l verbose -d 'Say in one more line what a fault is, in words, or at which missing batch an order stops, and name the file'
 complete -c bkreplay -n '__bkreplay_at statement 1' -F
-complete -c bkreplay -n '__bkreplay_at check-proof' -l progress -d 'Tell on standard error how many bytes are read, and how many transactions are executed'
-complete -c bkreplay -n '__bkreplay_at check-proof' -l verbose -d 'Tell in one more line what a fault is, in words, or at which missing batch an order stops, with the name of the file'
+complete -c bkreplay -n '__bkreplay_at check-proof' -l progress -d 'Show on standard error how many bytes are read, and how many transactions are executed'
+complete -c bkreplay -n '__bkreplay_at check-proof' -l verbose -d 'Say in one more line what a fault is, in words, or at which missing batch an order stops, and name the file'
 complete -c bkreplay -n '__bkreplay_at check-proof 1' -F
 complete -c bkreplay -n '__bkreplay_at check-state' -l workers -x -a '(seq 1 64)' -d 'How many threads execute at most, 1 to 64; 1 by default. The output is the same for any number'
-complete -c bkreplay -n '__bkreplay_at check-state' -l progress -d 'Tell on standard error how many bytes are read, and how many transactions are executed'
-complete -c bkreplay -n '__bkreplay_at check-state' -l verbose -d 'Tell in one more line what a fault is, in words, or at which missing batch an order stops, with the name of the file'
+complete -c bkreplay -n '__bkreplay_at check-state' -l progress -d 'Show on standard error how many bytes are read, and how many transactions are executed'
+complete -c bkreplay -n '__bkreplay_at check-state' -l verbose -d 'Say in one more line what a fault is, in words, or at which missing batch an order stops, and name the file'
 complete -c bkreplay -n '__bkreplay_at check-state 1' -F
 complete -c bkreplay -n '__bkreplay_at check-report' -l workers -x -a '(seq 1 64)' -d 'How many threads execute at most, 1 to 64; 1 by default. The output is the same for any number'
-complete -c bkreplay -n '__bkreplay_at check-report' -l progress -d 'Tell on standard error how many bytes are read, and how many transactions are executed'
-complete -c bkreplay -n '__bkreplay_at check-report' -l verbose -d 'Tell in one more line what a fault is, in words, or at which missing batch an order stops, with the name of the file'
+complete -c bkreplay -n '__bkreplay_at check-report' -l progress -d 'Show on standard error how many bytes are read, and how many transactions are executed'
+complete -c bkreplay -n '__bkreplay_at check-report' -l verbose -d 'Say in one more line what a fault is, in words, or at which missing batch an order stops, and name the file'
 complete -c bkreplay -n '__bkreplay_at check-report 0' -F
 complete -c bkreplay -n '__bkreplay_at check-report 1' -F
-complete -c bkreplay -n '__bkreplay_at apply' -l progress -d 'Tell on standard error how many bytes are read, and how many transactions are executed'
-complete -c bkreplay -n '__bkreplay_at apply' -l verbose -d 'Tell in one more line what a fault is, in words, or at which missing batch an order stops, with the name of the file'
+complete -c bkreplay -n '__bkreplay_at apply' -l progress -d 'Show on standard error how many bytes are read, and how many transactions are executed'
+complete -c bkreplay -n '__bkreplay_at apply' -l verbose -d 'Say in one more line what a fault is, in words, or at which missing batch an order stops, and name the file'
 complete -c bkreplay -n '__bkreplay_at apply 0' -F
 complete -c bkreplay -n '__bkreplay_at schedule' -l workers -x -a '(seq 1 64)' -d 'The number of workers in the list of events, 1 to 64; 2 by default. The first is worker 0'
-complete -c bkreplay -n '__bkreplay_at schedule' -l progress -d 'Tell on standard error how many bytes are read, and how many transactions are executed'
-complete -c bkreplay -n '__bkreplay_at schedule' -l verbose -d 'Tell in one more line what a fault is, in words, or at which missing batch an order stops, with the name of the file'
+complete -c bkreplay -n '__bkreplay_at schedule' -l progress -d 'Show on standard error how many bytes are read, and how many transactions are executed'
+complete -c bkreplay -n '__bkreplay_at schedule' -l verbose -d 'Say in one more line what a fault is, in words, or at which missing batch an order stops, and name the file'
 complete -c bkreplay -n '__bkreplay_at schedule 0' -F
 complete -c bkreplay -n '__bkreplay_at schedule 1' -F
-complete -c bkreplay -n '__bkreplay_at compare' -l progress -d 'Tell on standard error how many bytes are read, and how many transactions are executed'
-complete -c bkreplay -n '__bkreplay_at compare' -l verbose -d 'Tell in one more line what a fault is, in words, or at which missing batch an order stops, with the name of the file'
+complete -c bkreplay -n '__bkreplay_at compare' -l progress -d 'Show on standard error how many bytes are read, and how many transactions are executed'
+complete -c bkreplay -n '__bkreplay_at compare' -l verbose -d 'Say in one more line what a fault is, in words, or at which missing batch an order stops, and name the file'
 complete -c bkreplay -n '__bkreplay_at compare 0' -F
 complete -c bkreplay -n '__bkreplay_at compare 1' -F

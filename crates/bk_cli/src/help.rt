@@ -13,10 +13,10 @@ pub(crate) const WORKERS: &str =
     "How many threads execute at most, 1 to 64; 1 by default. The output is the same for any number";
 
 pub(crate) const PROGRESS: &str =
-    "Tell on standard error how many bytes are read, and how many transactions are executed";
+    "Show on standard error how many bytes are read, and how many transactions are executed";
 
 pub(crate) const VERBOSE: &str =
-    "Tell in one more line what a fault is, in words, or at which missing batch an order stops, with the name of the file";
+    "Say in one more line what a fault is, in words, or at which missing batch an order stops, and name the file";
 
 pub(crate) const FROM: &str = "The first round that is drawn, 1 to 1,000,000; 1 by default";
 
@@ -31,7 +31,7 @@ pub(crate) const PLACE: &str =
     "The place of the transaction, a number below 2^32; the first has place 0";
 
 pub(crate) const ROOT: &str =
-    "The digest of a state, 64 hexadecimal digits, as the line `state` of a report has it";
+    "The digest of a state, 64 lower-case hexadecimal digits, as the line `state` of a report has it";
 
 pub(crate) const REPORT: &str = "The path of the file that is said to be the report of the feed";
 
@@ -57,6 +57,12 @@ Exit status:
   5  the whole output of `run`, `summary`, `statement`, `check-state` or `check-report` is written, and the order stops at
      a missing batch
 
+Codes:
+  feed fault  1 the first bytes are not `BKF1` or `BKF2`, 2 cut short, 3 kind of frame, 4 length, 5 committee,
+              6 opening accounts, 7 a second committee or list of accounts, 8 reading failed, 9 memory ran out
+  RULE        0 malformed, 1 author, 2 round, 3 number of parents, 4 order of parents, 5 signer, 6 quorum, 7 tag
+  STATUS      0 ok, 1 malformed, 2 undeclared account, 3 unknown account, 4 stale, 5 guard, 6 funds
+
 Example:
   ./bkreplay run examples/order/one_commit.feed",
 };
@@ -80,10 +86,13 @@ batches in any order. Writes these lines to standard output, in this order:
   money TOTAL                     all balances at the end
   state HEX                       the digest of all accounts at the end
 
+RULE is 0 malformed, 1 author, 2 round, 3 number of parents, 4 order of parents, 5 signer, 6 quorum, 7 tag. STATUS is
+0 ok, 1 malformed, 2 undeclared account, 3 unknown account, 4 stale, 5 guard, 6 funds.
+
 Exit status:
   0  the whole report is written
   1  the command line is wrong
-  2  feed fault CODE at OFFSET, with a code of 1 to 7: the bytes are not a feed
+  2  feed fault CODE at OFFSET, CODE 1 to 7 (`bkreplay --help` names them): the bytes are not a feed
   3  collision ID, or equivocation ROUND AUTHOR ID ID: the feed is stopped
   4  feed fault 8 or 9, memory, read failed, write failed, or unfinished PLACE
   5  the whole report is written, and stops at a missing batch
@@ -125,7 +134,7 @@ Example:
 pub(crate) const ORDER: Help<'static> = Help {
     about: "Write the committed anchors and the certificates in order",
     after: "\
-Reads a feed, as `run` does, and finds its order, up to the first missing batch. Writes to standard output:
+Reads a feed, as `run` does, and finds its order. Writes to standard output:
 
   anchor ROUND AUTHOR             a committed anchor, oldest first
   cert ROUND AUTHOR               a certificate of the order
@@ -133,7 +142,7 @@ Reads a feed, as `run` does, and finds its order, up to the first missing batch.
 Exit status:
   0  all lines are written
   1  the command line is wrong
-  2  feed fault CODE at OFFSET, with a code of 1 to 7: the bytes are not a feed
+  2  feed fault CODE at OFFSET, CODE 1 to 7 (`bkreplay --help` names them): the bytes are not a feed
   3  collision ID, or equivocation ROUND AUTHOR ID ID: the feed is stopped
   4  feed fault 8 or 9, memory, read failed, or write failed
 
@@ -151,7 +160,7 @@ Reads a feed, as `run` does, and finds its order, up to the first missing batch.
 Exit status:
   0  the line is written
   1  absent account ID: there is none; or the command line is wrong
-  2  feed fault CODE at OFFSET, with a code of 1 to 7: the bytes are not a feed
+  2  feed fault CODE at OFFSET, CODE 1 to 7 (`bkreplay --help` names them): the bytes are not a feed
   3  collision ID, or equivocation ROUND AUTHOR ID ID: the feed is stopped
   4  feed fault 8 or 9, memory, read failed, write failed, or unfinished PLACE
 
@@ -166,10 +175,12 @@ Reads a feed, as `run` does, and finds its order, up to the first missing batch.
 
   tx PLACE STATUS MOVED           the executed transaction
 
+STATUS is 0 ok, 1 malformed, 2 undeclared account, 3 unknown account, 4 stale, 5 guard, 6 funds.
+
 Exit status:
   0  the line is written
   1  absent place PLACE: the order is shorter; or the command line is wrong
-  2  feed fault CODE at OFFSET, with a code of 1 to 7: the bytes are not a feed
+  2  feed fault CODE at OFFSET, CODE 1 to 7 (`bkreplay --help` names them): the bytes are not a feed
   3  collision ID, or equivocation ROUND AUTHOR ID ID: the feed is stopped
   4  feed fault 8 or 9, memory, read failed, write failed, or unfinished PLACE
 
@@ -192,7 +203,7 @@ Reads a feed, as `run` does, and finds its order, up to the first missing batch.
 Exit status:
   0  the proof is written
   1  absent account ID: there is none; or the command line is wrong
-  2  feed fault CODE at OFFSET, with a code of 1 to 7: the bytes are not a feed
+  2  feed fault CODE at OFFSET, CODE 1 to 7 (`bkreplay --help` names them): the bytes are not a feed
   3  collision ID, or equivocation ROUND AUTHOR ID ID: the feed is stopped
   4  feed fault 8 or 9, memory, read failed, write failed, or unfinished PLACE
 
@@ -220,7 +231,7 @@ rule that the certificate breaks: 0 it is malformed, 1 author, 2 round, 3 number
 Exit status:
   0  all lines are written
   1  the command line is wrong
-  2  feed fault CODE at OFFSET, with a code of 1 to 7: the bytes are not a feed from there on
+  2  feed fault CODE at OFFSET, CODE 1 to 7 (`bkreplay --help` names them): the bytes are not a feed from there on
   4  feed fault 8 or 9, memory, or write failed
 
 Example:
@@ -253,7 +264,7 @@ output:
 Exit status:
   0  all lines are written
   1  the command line is wrong
-  2  feed fault CODE at OFFSET, with a code of 1 to 7: the bytes are not a feed
+  2  feed fault CODE at OFFSET, CODE 1 to 7 (`bkreplay --help` names them): the bytes are not a feed
   3  collision ID, or equivocation ROUND AUTHOR ID ID: the feed is stopped
   4  feed fault 8 or 9, memory, read failed, write failed, or unfinished PLACE
   5  all lines are written, and the order stops at a missing batch
@@ -281,7 +292,7 @@ has, `-` where the leader has no admitted certificate of this round. RESULT is o
 Exit status:
   0  all lines are written
   1  the command line is wrong
-  2  feed fault CODE at OFFSET, with a code of 1 to 7: the bytes are not a feed
+  2  feed fault CODE at OFFSET, CODE 1 to 7 (`bkreplay --help` names them): the bytes are not a feed
   3  collision ID, or equivocation ROUND AUTHOR ID ID: the feed is stopped
   4  feed fault 8 or 9, memory, read failed, or write failed
 
@@ -304,7 +315,7 @@ each round and a row for each member.
 Exit status:
   0  the picture is written
   1  the command line is wrong
-  2  feed fault CODE at OFFSET, with a code of 1 to 7: the bytes are not a feed
+  2  feed fault CODE at OFFSET, CODE 1 to 7 (`bkreplay --help` names them): the bytes are not a feed
   3  collision ID, or equivocation ROUND AUTHOR ID ID: the feed is stopped
   4  feed fault 8 or 9, memory, read failed, or write failed
 
@@ -325,10 +336,12 @@ output:
                                   those after the transaction; `absent` in place of both if there is no account
   closing ID BALANCE SEQ          the account at the end; `absent` in place of BALANCE and SEQ if there is none
 
+STATUS is 0 ok, 1 malformed, 2 undeclared account, 3 unknown account, 4 stale, 5 guard, 6 funds.
+
 Exit status:
   0  all lines are written
   1  absent account ID: there is none at any time, and no transaction has it; or the command line is wrong
-  2  feed fault CODE at OFFSET, with a code of 1 to 7: the bytes are not a feed
+  2  feed fault CODE at OFFSET, CODE 1 to 7 (`bkreplay --help` names them): the bytes are not a feed
   3  collision ID, or equivocation ROUND AUTHOR ID ID: the feed is stopped
   4  feed fault 8 or 9, memory, read failed, write failed, or unfinished PLACE
   5  all lines are written, and the order stops at a missing batch

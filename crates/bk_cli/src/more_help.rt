@@ -35,7 +35,7 @@ output:
 Exit status:
   0  state good, and no batch of the order is missing
   1  state bad; or the command line is wrong, as where ROOT is not a digest
-  2  feed fault CODE at OFFSET, with a code of 1 to 7: the bytes are not a feed
+  2  feed fault CODE at OFFSET, CODE 1 to 7 (`bkreplay --help` names them): the bytes are not a feed
   3  collision ID, or equivocation ROUND AUTHOR ID ID: the feed is stopped
   4  feed fault 8 or 9, memory, read failed, write failed, or unfinished PLACE
   5  state good, and the order stops at a missing batch
@@ -58,7 +58,7 @@ Reads a feed and finds its report, as `run` does. Then reads REPORT, and writes 
 Exit status:
   0  report good, and no batch of the order is missing
   1  report differs; or the command line is wrong
-  2  feed fault CODE at OFFSET, with a code of 1 to 7: the bytes are not a feed
+  2  feed fault CODE at OFFSET, CODE 1 to 7 (`bkreplay --help` names them): the bytes are not a feed
   3  collision ID, or equivocation ROUND AUTHOR ID ID: the feed is stopped
   4  feed fault 8 or 9, memory, read failed, write failed, or unfinished PLACE
   5  report good, and the order stops at a missing batch
@@ -78,10 +78,12 @@ these lines to standard output, in this order:
   account ID BALANCE SEQ          an account at the end
   money TOTAL                     all balances at the end
 
+STATUS is 0 ok, 1 malformed, 2 undeclared account, 3 unknown account, 4 stale, 5 guard, 6 funds.
+
 Exit status:
   0  the whole report is written
   1  the command line is wrong
-  2  feed fault CODE at OFFSET, with a code of 1 to 7: the bytes are not a feed
+  2  feed fault CODE at OFFSET, CODE 1 to 7 (`bkreplay --help` names them): the bytes are not a feed
   4  feed fault 8 or 9, memory, read failed, or write failed
 
 Example:
@@ -107,7 +109,7 @@ Exit status:
   0  the whole report is written
   1  the command line is wrong
   2  events fault at line LINE: the line is not an event
-  2  feed fault CODE at OFFSET, with a code of 1 to 7: the bytes are not a feed
+  2  feed fault CODE at OFFSET, CODE 1 to 7 (`bkreplay --help` names them): the bytes are not a feed
   2  event LINE refused CODE: 1 the place cannot be claimed, 2 the worker has a transaction, or there is no such worker,
      3 the worker has no transaction, 4 the word is not one of the transaction's, 5 the event comes out of turn
   4  feed fault 8 or 9, memory, read failed, write failed, or unfinished PLACE: after all events this transaction is not
