@@ -1,7 +1,8 @@
 #!/usr/bin/env python3
 """Writes feeds for bkreplay. A converter can import this file or copy it; it needs Python 3.7 or later and nothing else.
 
-usage: docs/feed_writer.py FILE     writes the feed of `one_commit`, in which one payment is executed
+usage: docs/feed_writer.py FILE                  writes the feed of `one_commit`, in which one payment is executed
+       docs/feed_writer.py FILE two_commits      writes that of `two_commits`: two batches of two rounds are executed
 """
 import hmac
 import sys
@@ -58,6 +59,7 @@ class Feed:
         `author` and `signers` are member numbers.
         """
         parents, signers = sorted(parents), sorted(set(signers))
+        need(all(0 <= member < len(self.keys) for member in [author, *signers]), "author and signers that are members")
         need(all(len(digest) == 32 for digest in [*batches, *parents]), "digests and ids of 32 bytes")
         need(len(batches) <= 1_000, "at most 1,000 batches")
         need(len(parents) <= 128 and ascending(parents), "at most 128 parents, each once")
@@ -114,8 +116,22 @@ def one_commit(out):
         feed.certificate(author, 2, [], first[:3], [0, 1, 2])
 
 
+def two_commits(out):
+    """Account 1 pays 30 to account 2, which then pays 50 to account 1, in a batch that a later round names."""
+    keys = [bytes([member + 1]) * 32 for member in range(4)]
+    feed = Feed(out, keys, [(1, 100, 0), (2, 50, 0)])
+    # Member 0 names the first batch in round 1, which it leads, and member 1 the second in round 2. The leader of round 3
+    # is member 1, whose certificate has all of round 2 as parents, and all of round 4 name it.
+    named = {(1, 0): [feed.batch([pay(1, 2, 30, 0)])], (2, 1): [feed.batch([pay(2, 1, 50, 0)])]}
+    parents = []
+    for number in (1, 2, 3, 4):
+        parents = [
+            feed.certificate(author, number, named.get((number, author), []), parents, [0, 1, 2]) for author in range(4)
+        ]
+
+
 if __name__ == "__main__":
-    if len(sys.argv) != 2:
+    if len(sys.argv) not in (2, 3) or sys.argv[2:] not in ([], ["two_commits"]):
         sys.exit(__doc__)
     with open(sys.argv[1], "wb") as file:
-        one_commit(file)
+        (two_commits if sys.argv[2:] else one_commit)(file)
