@@ -111,9 +111,10 @@ def tagged(pairs, label_of=synopsis, gap=False):
 
 
 def body(after):
-    """The help below the arguments of a command: what it does, its exit statuses, and its example."""
+    """The help below the arguments of a command: what it does, its exit statuses and codes, and its example."""
     head, _, rest = after.partition("\nExit status:\n")
     statuses, _, command = rest.partition("\nExample:\n")
+    statuses, _, codes = statuses.strip("\n").partition("\n\n")
     lines = []
     for part in head.strip("\n").split("\n\n"):
         rows = part.split("\n")
@@ -123,7 +124,11 @@ def body(after):
             fail(f"an empty line has to be between text and a list in a help: `{rows[0]}`")
         else:
             lines += [".PP", *text(" ".join(rows))]
-    return lines, tagged(items(statuses.strip("\n").split("\n"))), example(command.strip())
+    ends = tagged(items(statuses.split("\n")))
+    if codes:
+        heading, *rows = codes.split("\n")
+        ends += [".PP", heading, *tagged(items(rows))]
+    return lines, ends, example(command.strip())
 
 
 def label(arg):
