@@ -1,5 +1,5 @@
 -- One member more is marked in a mask, and what is known of the marked members below a number.
-use Rattle.std.proofs.Common.{◌≡◌, ℕ, zero, suc, ◌+◌, ◌*◌, ◌/◌, ◌%◌, ◌^◌, ◌<◌, ◌≤◌, Bool, true, false, cond, eqb, not, ◌||◌, ◌↔◌, IsTrue, Contains, List, [], ◌∷◌, ◌++◌, length, get_or, set, take, refl, sym, ap, subst, ◌∙◌, arith, inl, inr}
+use Rattle.std.proofs.Common.{◌≡◌, ℕ, zero, suc, ◌+◌, ◌-◌, ◌*◌, ◌/◌, ◌%◌, ◌^◌, ◌<◌, ◌≤◌, Bool, true, false, cond, eqb, not, ◌||◌, ◌↔◌, IsTrue, Contains, List, [], ◌∷◌, ◌++◌, length, get_or, set, take, refl, sym, ap, subst, ◌∙◌, arith, inl, inr}
 use Rattle.std.specs.Prelude.{filter, bit_or}
 use Rattle.std.specs.List.{range_with_len}
 use Rattle.std.specs.Int.{w8, bit_at}
@@ -40,6 +40,22 @@ count_short mask n =
 pub all_marked : (mask : List ℕ) → signers_of mask ≡ marked mask 128
 unfolding signers_of
 all_marked mask = refl
+
+-- where none is marked from n on, all that are marked are below n
+marked_rest : (mask : List ℕ) (n d : ℕ) → ((k : ℕ) → IsTrue (is_signer mask k) → k < n) → marked mask (n + d) ≡ marked mask n
+marked_rest mask n zero low = ap (marked mask) (omega arith)
+marked_rest mask n (suc d) low =
+    let next : (n + d) + 1 ≡ n + suc d = omega arith in
+    let off : is_signer mask (n + d) ≡ false = elim (cases_Bool (is_signer mask (n + d))) [
+      | inl m ↦ let lt : n + d < n = low (n + d) m in absurd (omega (arith, lt))
+      | inr m ↦ m
+    ] in
+    ap (marked mask) (sym next) ∙ marked_without mask (n + d) off ∙ marked_rest mask n d low
+
+pub marked_below : (mask : List ℕ) (n : ℕ) → n ≤ 128 → ((k : ℕ) → IsTrue (is_signer mask k) → k < n) → signers_of mask ≡ marked mask n
+marked_below mask n le low =
+    let all : n + (128 - n) ≡ 128 = omega arith in
+    all_marked mask ∙ ap (marked mask) (sym all) ∙ marked_rest mask n (128 - n) low
 
 -- ---- one bit more
 

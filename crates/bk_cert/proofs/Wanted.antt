@@ -9,7 +9,7 @@ use Rattle.bk_digest.specs.declared.tags.ToTag.{ToTag}
 use Rattle.bk_cert.specs.Mask.{is_signer, signers_of}
 use Rattle.bk_cert.specs.Identity.{tag_of}
 use Rattle.bk_cert.specs.Tagging.{AreTagsOf}
-use Rattle.bk_cert.proofs.Marks.{marked, marked_with, marked_without, all_marked}
+use Rattle.bk_cert.proofs.Marks.{marked, marked_with, marked_without}
 
 tags_joined : (wanted more : List ToTag) (tags later : List (List ℕ)) → AreTagsOf wanted tags → AreTagsOf more later → AreTagsOf (wanted ++ more) (tags ++ later)
 tags_joined [] more [] later h k = k
@@ -51,7 +51,6 @@ pub want_without : (keys : List (List ℕ)) (mask id : List ℕ) (n : ℕ) (old 
     → AreTagsOf old (tags ++ map (tag_by keys id) (marked mask n)) → AreTagsOf new (tags ++ map (tag_by keys id) (marked mask (n + 1)))
 want_without keys mask id n old new tags marks is h = rw is (subst (λ ms. AreTagsOf old (tags ++ map (tag_by keys id) ms)) (sym (marked_without mask n marks)) h)
 
-pub want_all : (keys : List (List ℕ)) (mask id : List ℕ) (n : ℕ) (wanted : List ToTag) (tags : List (List ℕ)) → n ≡ 128
+pub want_all : (keys : List (List ℕ)) (mask id : List ℕ) (n : ℕ) (wanted : List ToTag) (tags : List (List ℕ)) → signers_of mask ≡ marked mask n
     → AreTagsOf wanted (tags ++ map (tag_by keys id) (marked mask n)) → AreTagsOf wanted (tags ++ map (tag_by keys id) (signers_of mask))
-want_all keys mask id n wanted tags all h =
-    subst (λ ms. AreTagsOf wanted (tags ++ map (tag_by keys id) ms)) (ap (marked mask) all ∙ sym (all_marked mask)) h
+want_all keys mask id n wanted tags all h = subst (λ ms. AreTagsOf wanted (tags ++ map (tag_by keys id) ms)) (sym all) h

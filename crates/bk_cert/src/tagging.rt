@@ -24,7 +24,8 @@ pub fn want_tags<'a>(
     ensures { OnOk result ((tags : List (List ℕ)) → AreTagsOf wanted.old.items tags
         → AreTagsOf wanted.new.items (tags ++ tags_under committee.now.keys id mask.now)) }
 {
-    for member in 0..128u8 {
+    // None is marked from the number of members on.
+    for member in 0..committee.n() as u8 {
         if mask.has(member) {
             let key = committee.mac(member as usize);
             // The toolchain has no rule for `?` on what a push of a `ToTag` returns.

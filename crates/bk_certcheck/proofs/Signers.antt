@@ -1,5 +1,5 @@
 -- Members that a mask marks: who they are, and how much they weigh.
-use Rattle.std.proofs.Common.{◌≡◌, ℕ, zero, suc, ◌+◌, ◌/◌, ◌%◌, ◌<◌, ◌≤◌, Bool, true, false, eqb, IsTrue, Contains, List, [], ◌∷◌, ◌++◌, length, get_or, refl, sym, ap, subst, ◌∙◌, arith, inl, inr}
+use Rattle.std.proofs.Common.{◌≡◌, ℕ, zero, suc, ◌+◌, ◌*◌, ◌/◌, ◌%◌, ◌<◌, ◌≤◌, Bool, true, false, eqb, IsTrue, Contains, List, [], ◌∷◌, ◌++◌, length, get_or, refl, sym, ap, subst, ◌∙◌, arith, inl, inr}
 use Rattle.std.specs.Int.{bit_at}
 use Rattle.std.proofs.lemmas.Bool.{cases_Bool, cases_lt}
 use Rattle.std.proofs.lemmas.List.{get_or_past}
@@ -44,6 +44,12 @@ is_marked mask (suc n) k m lt =
           rw (marked_with mask n last) (subst (λ (j : ℕ). Contains (marked mask n ++ n ∷ []) j) same (Contains-push (marked mask n) n))
     ])
 
+differ : (b : Bool) → b ≡ true → b ≡ false → ⊥
+differ b t f = absurd cc
+
+no_bit : (j : ℕ) → eqb (bit_at 0 j) 1 ≡ false
+no_bit j = ap (λ (b : ℕ). eqb b 1) (bit_at-zero j)
+
 -- a mask of 16 bytes marks nobody past the last member
 pub below_all : (mask : List ℕ) (k : ℕ) → length mask ≡ 16 → is_signer mask k ≡ true → k < 128
 below_all mask k len m =
@@ -54,12 +60,6 @@ below_all mask k len m =
           let off : is_signer mask k ≡ false = rw none (no_bit (k % 8)) in
           absurd (differ (is_signer mask k) m off)
     ]
-  where
-    differ : (b : Bool) → b ≡ true → b ≡ false → ⊥
-    differ b t f = absurd cc
-
-    no_bit : (j : ℕ) → eqb (bit_at 0 j) 1 ≡ false
-    no_bit j = ap (λ (b : ℕ). eqb b 1) (bit_at-zero j)
 
 -- ---- strangers
 
@@ -70,15 +70,38 @@ pub no_stranger : (mask : List ℕ) (members : ℕ) → ((k : ℕ) → members �
 no_stranger mask members unmarked (k, there, past) =
     let so = are_marked mask 128 k (subst (λ (xs : List ℕ). Contains xs k) (all_marked mask) there) in
     differ (is_signer mask k) so.0 (unmarked k past so.1)
-  where
-    differ : (b : Bool) → b ≡ true → b ≡ false → ⊥
-    differ b t f = absurd cc
 
 pub signers_are_members : (mask : List ℕ) (members : ℕ) → length mask ≡ 16 → (((m : ℕ) × Contains (signers_of mask) m × (members ≤ m)) → ⊥) → (k : ℕ) → IsTrue (is_signer mask k) → k < members
 signers_are_members mask members len none k m =
     elim (cases_lt k members) [
       | inl lt ↦ lt
       | inr past ↦ absurd (none (stranger mask members k m past (below_all mask k len m)))
+    ]
+
+-- ---- a byte of the mask
+
+-- one of the eight members of a byte is marked, from a number on
+abbrev pub MarkedIn : List ℕ → ℕ → ℕ → Type 0
+MarkedIn mask at from = (m : ℕ) × IsTrue (is_signer mask m) × (m / 8 ≡ at) × (from ≤ m)
+
+pub none_in_zero : (mask : List ℕ) (at from : ℕ) → get_or mask at 0 ≡ 0 → MarkedIn mask at from → ⊥
+none_in_zero mask at from empty (m, marks, there, past) =
+    let none : get_or mask (m / 8) 0 ≡ 0 = ap (λ (k : ℕ). get_or mask k 0) there ∙ empty in
+    let off : is_signer mask m ≡ false = rw none (no_bit (m % 8)) in
+    differ (is_signer mask m) marks off
+
+pub none_from : (mask : List ℕ) (at from end : ℕ) → 8 * at + 8 ≤ end → ((k : ℕ) → from ≤ k → 8 * at ≤ k → k < end → is_signer mask k ≡ false) → MarkedIn mask at from → ⊥
+none_from mask at from end all unmarked (m, marks, there, past) =
+    differ (is_signer mask m) marks (unmarked m past (omega (arith, there)) (omega (arith, there, all)))
+
+pub unmarked_more : (mask : List ℕ) (n at : ℕ) → (MarkedIn mask at n → ⊥) → ((k : ℕ) → n ≤ k → k / 8 < at → is_signer mask k ≡ false) → (k : ℕ) → n ≤ k → k / 8 < at + 1 → is_signer mask k ≡ false
+unmarked_more mask n at none so_far k past lt =
+    elim (cases_lt (k / 8) at) [
+      | inl below ↦ so_far k past below
+      | inr here ↦ elim (cases_Bool (is_signer mask k)) [
+        | inl m ↦ absurd (none (k, m, omega (arith, lt, here), past))
+        | inr m ↦ m
+      ]
     ]
 
 -- ---- weights
@@ -96,5 +119,5 @@ weighed_with z mask n so_far w m e is = rw (marked_with mask n m, weight_more z 
 pub weighed_without : (z : Sizes) (mask : List ℕ) (n so_far : ℕ) → is_signer mask n ≡ false → so_far ≡ weight_of z (marked mask n) → so_far ≡ weight_of z (marked mask (n + 1))
 weighed_without z mask n so_far m e = e ∙ ap (weight_of z) (sym (marked_without mask n m))
 
-pub weighed_all : (z : Sizes) (mask : List ℕ) (n so_far : ℕ) → n ≡ 128 → so_far ≡ weight_of z (marked mask n) → so_far ≡ weight_of z (signers_of mask)
-weighed_all z mask n so_far all e = e ∙ ap (λ (k : ℕ). weight_of z (marked mask k)) all ∙ ap (weight_of z) (sym (all_marked mask))
+pub weighed_all : (z : Sizes) (mask : List ℕ) (n so_far : ℕ) → signers_of mask ≡ marked mask n → so_far ≡ weight_of z (marked mask n) → so_far ≡ weight_of z (signers_of mask)
+weighed_all z mask n so_far all e = e ∙ ap (weight_of z) (sym all)

@@ -1,6 +1,6 @@
 //! A test for each rule but the first.
 
-ghost use Rattle.std.specs.Prelude.{◌≡◌, ◌<◌, ◌≤◌, ◌↔◌, ◌^◌, ℕ, IsTrue, IfSome, IfNone, length, Contains, Some, ◌≢◌, All};
+ghost use Rattle.std.specs.Prelude.{◌≡◌, ◌/◌, ◌<◌, ◌≤◌, ◌↔◌, ◌^◌, ℕ, IsTrue, IfSome, IfNone, length, Contains, Some, ◌≢◌, All};
 ghost use Rattle.std.specs.List.Sorted.{IsStrictlySortedBy};
 ghost use Rattle.std.specs.Ordering.{nat_cmp};
 ghost use Rattle.std.specs.Cmp.Lexicographic.{slice_cmp};
@@ -49,13 +49,31 @@ fn do_ascend(ids: &[[u8; 32]]) -> bool
     true
 }
 
-// Whether a member at or above the number of members is marked.
+// Whether one of the eight members of a byte of the mask is marked, from a number on.
+fn marks_from(mask: &Mask, at: usize, from: usize) -> bool
+    requires { at < 16 }
+    ensures { IsTrue result ↔ ((member : ℕ) × IsTrue (is_signer mask.now member)
+        × (member / 8 ≡ at) × (from ≤ member)) }
+{
+    if mask.as_bytes()[at] == 0 {
+        return false;
+    }
+    for member in (8 * at).max(from)..8 * at + 8 {
+        if mask.has(member as u8) {
+            return true;
+        }
+    }
+    false
+}
+
+// Whether a member at or above the number of members is marked. A byte that is 0 costs one look.
 fn marks_strangers(committee: &Committee, mask: &Mask) -> bool
     ensures { IsTrue result ↔ ((member : ℕ) × Contains (signers_of mask.now) member
         × (length committee.now.keys ≤ member)) }
 {
-    for member in committee.n()..128 {
-        if mask.has(member as u8) {
+    let members = committee.n();
+    for at in members / 8..16 {
+        if marks_from(mask, at, members) {
             return true;
         }
     }
@@ -69,7 +87,7 @@ fn weight_of_signers(committee: &Committee, mask: &Mask) -> u64
     ensures { result ≡ weight_of (sizes_of committee.now) (signers_of mask.now) }
 {
     let mut weight: u64 = 0;
-    for member in 0..128u8 {
+    for member in 0..committee.n() as u8 {
         if mask.has(member) {
             weight += u64::from(committee.weight(member as usize));
         }

@@ -1,4 +1,5 @@
-use Rattle.std.proofs.Common.{refl, sym, arith}
+use Rattle.std.proofs.Common.{◌≡◌, ℕ, ◌≤◌, List, length, refl, sym, ap, ◌∙◌, arith}
+use Rattle.bk_cert.proofs.Marks.{marked, marked_below}
 use Rattle.bk_cert.proofs.Wanted.{pushed, want_with, want_without, want_all}
 use Rattle.bk_cert.proofs.tagging.want_tags.Goals as goal
 use Rattle.bk_cert.proofs.tagging.want_tags.Goals.{then-has+else-is_err, else-has}
@@ -15,4 +16,8 @@ loop-member-preserved c = λ tags h.
 
 pub returns : goal.returns
 returns c = λ tags h.
-    want_all c.args.committee.now.keys c.args.mask.now c.args.id c.loop-member.member c.loop-member.wanted.items tags (omega (arith, c.loop-member-test.false, c.loop-member.auto.member-end)) (c.loop-member.invariant tags h)
+    let mask : List ℕ = c.args.mask.now in
+    let n : ℕ = length c.args.committee.now.keys in
+    let few : n ≤ 128 = omega (arith, c.n-member-end.ensures.few, c.n-member-end.ensures.members) in
+    let end : n ≡ c.loop-member.member = omega (arith, c.loop-member-test.false, c.loop-member.auto.member-end, c.n-member-end.ensures.members) in
+    want_all c.args.committee.now.keys mask c.args.id c.loop-member.member c.loop-member.wanted.items tags (marked_below mask n few c.requires ∙ ap (marked mask) end) (c.loop-member.invariant tags h)

@@ -1,5 +1,6 @@
-use Rattle.std.proofs.Common.{◌≡◌, ◌+◌, ◌*◌, ◌<◌, ◌≤◌, sym, ◌∙◌, arith}
+use Rattle.std.proofs.Common.{◌≡◌, ℕ, List, length, ap, ◌+◌, ◌*◌, ◌<◌, ◌≤◌, sym, ◌∙◌, arith}
 use Rattle.bk_committee.specs.Payload.{sizes_of}
+use Rattle.bk_cert.proofs.Marks.{marked, marked_below}
 use Rattle.bk_certcheck.proofs.Signers.{weighed_with, weighed_without, weighed_all}
 use Rattle.bk_certcheck.proofs.tests_of_rules.weight_of_signers.Goals as goal
 use Rattle.bk_certcheck.proofs.tests_of_rules.weight_of_signers.Goals.{then-has, else-has}
@@ -26,4 +27,9 @@ loop-member-preserved c =
     ]
 
 pub returns : goal.returns
-returns c = weighed_all _ c.args.mask.now c.loop-member.member c.loop-member.weight (omega (arith, c.loop-member-test.false, c.loop-member.auto.member-end)) c.loop-member.invariant.added
+returns c =
+    let mask : List ℕ = c.args.mask.now in
+    let n : ℕ = length c.args.committee.now.keys in
+    let few : n ≤ 128 = omega (arith, c.n-member-end.ensures.few, c.n-member-end.ensures.members) in
+    let end : n ≡ c.loop-member.member = omega (arith, c.loop-member-test.false, c.loop-member.auto.member-end, c.n-member-end.ensures.members) in
+    weighed_all _ mask c.loop-member.member c.loop-member.weight (marked_below mask n few c.requires ∙ ap (marked mask) end) c.loop-member.invariant.added
