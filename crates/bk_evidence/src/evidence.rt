@@ -15,3 +15,12 @@ pub struct Evidence {
     /// The least of the other ids.
     pub second: Digest32,
 }
+
+/// What is wrong with what two tables hold together.
+#[derive(Clone, Copy, Debug, PartialEq, Eq)]
+pub struct Together {
+    /// The least id under which two headers are held.
+    pub collision: Option<Digest32>,
+    /// The evidence of the least round and author that has two ids.
+    pub evidence: Option<Evidence>,
+}

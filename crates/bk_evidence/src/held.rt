@@ -13,7 +13,7 @@ ghost use Rattle.bk_evidence.specs.private.Indexed.{IsIndexed};
 ghost use Rattle.bk_evidence.specs.private.Answers.{offer_of};
 ghost use Rattle.bk_evidence.specs.private.Places.{AreSamePlaces, IsNoted, ids_at};
 
-use crate::evidence::Evidence;
+use crate::evidence::{Evidence, Together};
 use crate::least::least_id;
 use crate::offer::Offer;
 use crate::places::{Places, note};
@@ -124,6 +124,22 @@ impl Held {
     {
         let all = self.joined(other)?;
         Ok(all.collision())
+    }
+
+    /// The collision and the evidence over what both hold together, at the cost of one of them.
+    pub fn together_with(&self, other: &Held) -> Result<Together, AllocError>
+        ensures collision { IfOk result (λ t. MatchOption t.collision
+            (NoCollision (self.now ++ other.now)) (IsCollision (self.now ++ other.now))) }
+        ensures evidence { IfOk result (λ t. MatchOption t.evidence
+            (NoTwins (self.now ++ other.now)) (IsEvidence (self.now ++ other.now))) }
+    {
+        let all = self.joined(other)?;
+        let collision = all.collision();
+        let evidence = all.evidence();
+        Ok(Together {
+            collision,
+            evidence,
+        })
     }
 
     // What both hold.

@@ -14,7 +14,7 @@ mod offer;
 mod places;
 
 pub use batches::{BatchOffer, BatchRef, Batches};
-pub use evidence::Evidence;
+pub use evidence::{Evidence, Together};
 pub use held::Held;
 pub use laws::{
     clear_is_neither, collision_of_members, evidence_of_members, one_answer, one_batch_answer,

@@ -186,6 +186,8 @@ fn expect_slow(rt: &impl Abort, tables: &Tables) -> Result<(), AllocError> {
     assert!(rt; together == evidence);
     let collides = tables.odd.collision_with(&tables.even)?;
     assert!(rt; collides == collision);
+    let both = tables.even.together_with(&tables.odd)?;
+    assert!(rt; both.evidence == evidence && both.collision == collision);
     Ok(())
 }
 

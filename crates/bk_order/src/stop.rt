@@ -58,7 +58,7 @@ pub(crate) fn stop_of(held: &Held, batches: &Batches) -> Option<Stop>
     }
 }
 
-/// The stop of what both hold together.
+/// The stop of what both hold together. The table of the certificates of both is built once.
 pub(crate) fn stop_of_both(
     held: &Held,
     more: &Held,
@@ -69,12 +69,12 @@ pub(crate) fn stop_of_both(
         (AreClear (held.now ++ more.now) (batches.now ++ others.now))
         (StopsAt (held.now ++ more.now) (batches.now ++ others.now))) }
 {
-    let id = held.collision_with(more)?;
+    let certs = held.together_with(more)?;
     let digest = batches.collision_with(others)?;
-    if let Some(id) = least(id, digest) {
+    if let Some(id) = least(certs.collision, digest) {
         return Ok(Some(Stop::Collision(id)));
     }
-    match held.evidence_with(more)? {
+    match certs.evidence {
         Some(evidence) => Ok(Some(Stop::Twins(evidence))),
         None => Ok(None),
     }
