@@ -41,6 +41,7 @@ use Rattle.bk_order.specs.Stops.{HasNoStop}
 use Rattle.bk_order.specs.Orders.{AreRoundsOf, AreWaiting, IsOrderOf, Ordered, ordered_with}
 use Rattle.bk_order.specs.Intake.{nothing_ordered}
 use Rattle.bk_order.specs.declared.settling.Settled.{Settled}
+use Rattle.bk_order.proofs.Sets.{clear_part}
 use Rattle.bk_order.specs.private.Joined.{IsJoined, order_in, IsFollowed, IsSettled, IsSettling}
 
 -- an order stays in a larger set
@@ -164,12 +165,6 @@ settling_ends z held batches old new i s t high h w flat digests whole =
 
 -- ---- of the frames
 
-clear_same : (held others : List Node) → IsPartOf held others → IsClear others → IsClear held
-clear_same held others part h = record {
-  no_collision = λ c d a b e. h.no_collision c d (part c a) (part d b) e;
-  no_twins = λ c d a b e. h.no_twins c d (part c a) (part d b) e;
-}
-
 -- anchors that are committed are so over the same certificates in another list
 committed_same : (z : Sizes) (one other : List Node) → IsClear other → IsPartOf one other → IsPartOf other one → (back : List CertRef) → IsCommittedBack z one back → IsCommittedBack z other back
 committed_same z one other clear into from [] h = λ a voted. h a (voted_more z other one from a voted)
@@ -182,7 +177,7 @@ module _ (k : CommitteeValue) (frames : List Frame) (held : List Node) (rounds :
   certs_in_rounds : AreCerts k frames rounds.held
   certs_in_rounds = record {
     sound = λ c h. are.sound c (joined.inside c h);
-    complete = λ c s. joined.whole (clear_same held none.certs (λ d h. none.are_certs.complete d (are.sound d h)) none.none.clear) c (are.complete c s);
+    complete = λ c s. joined.whole (clear_part held none.certs (λ d h. none.are_certs.complete d (are.sound d h)) none.none.clear) c (are.complete c s);
   }
 
   pub order_told : (batches : List Batch) (s : Settled) → AreBatches frames batches → IsSettled rounds.sizes rounds.held batches s → IsOrderOf k frames (order_in batches s)
@@ -210,7 +205,7 @@ module _ (k : CommitteeValue) (frames : List Frame) (held : List Node) (rounds :
   committed_told o h =
       let into : IsPartOf h.certs rounds.held = λ c t. certs_in_rounds.complete c (h.are_certs.sound c t) in
       let from : IsPartOf rounds.held h.certs = λ c t. h.are_certs.complete c (certs_in_rounds.sound c t) in
-      let clear : IsClear rounds.held = clear_same rounds.held none.certs (λ c t. none.are_certs.complete c (certs_in_rounds.sound c t)) none.none.clear in
+      let clear : IsClear rounds.held = clear_part rounds.held none.certs (λ c t. none.are_certs.complete c (certs_in_rounds.sound c t)) none.none.clear in
       subst (λ (z : Sizes). IsCommitted z rounds.held o.anchors) (sym joined.sizes) (committed_same (sizes_of k) h.certs rounds.held clear into from (reverse o.anchors) h.committed)
 
 -- an empty table

@@ -59,6 +59,31 @@ clear_of k frames certs none are =
 pub apart_of : (k : CommitteeValue) (frames : List Frame) (batches : List Batch) → HasNoStop k frames → AreBatches frames batches → AreApart batches
 apart_of k frames batches none are c d a b e = none.none.apart c d (none.are_batches.complete c (are.sound c a)) (none.are_batches.complete d (are.sound d b)) e
 
+-- ---- a part of frames that nothing stops
+
+pub clear_part : (xs ys : List Node) → IsPartOf xs ys → IsClear ys → IsClear xs
+clear_part xs ys into h = record {
+  no_collision = λ c d x y. h.no_collision c d (into c x) (into d y);
+  no_twins = λ c d x y. h.no_twins c d (into c x) (into d y);
+}
+
+apart_part : (xs ys : List Batch) → IsPartOf xs ys → AreApart ys → AreApart xs
+apart_part xs ys into h = λ b d x y. h b d (into b x) (into d y)
+
+-- nothing stops the part either
+pub none_in_part : (k : CommitteeValue) (part whole : List Frame) → IsPartOf part whole → HasNoStop k whole → (certs : List Node) (batches : List Batch) → AreCerts k part certs → AreBatches part batches
+    → HasNoStop k part
+none_in_part k part whole into none certs batches are_certs are_batches = record {
+  certs = certs;
+  batches = batches;
+  are_certs = are_certs;
+  are_batches = are_batches;
+  none = record {
+    clear = clear_part certs none.certs (λ c t. let x = are_certs.sound c t in none.are_certs.complete c (x.0, into (frame_of kind.Certificate x.0) x.1, x.2)) none.none.clear;
+    apart = apart_part batches none.batches (λ b t. let x = are_batches.sound b t in none.are_batches.complete b (x.0, into (frame_of kind.Batch x.0) x.1, x.2)) none.none.apart;
+  };
+}
+
 pub whole_of : (k : CommitteeValue) (frames : List Frame) (o : Ordered) (h : IsOrderOf k frames o) → IsWholeOrder (sizes_of k) h.certs o.order
 whole_of k frames o h = record { anchors = o.anchors; committed = h.committed; ordered = h.ordered }
 

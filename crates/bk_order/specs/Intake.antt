@@ -6,7 +6,8 @@ use Rattle.bk_cert.specs.Node.{Node}
 use Rattle.bk_evidence.specs.Batches.{Batch}
 use Rattle.bk_order.specs.declared.reject.Reject.{Reject}
 use Rattle.bk_order.specs.Frames.{AreCerts, AreBatches, AreRejects}
-use Rattle.bk_order.specs.Orders.{Ordered, ordered_with}
+use Rattle.bk_order.specs.Orders.{IsOrderOf, Ordered, ordered_with}
+use Rattle.bk_order.specs.Stops.{HasNoStop}
 use Rattle.bk_order.specs.Tally.{IsTallyOf}
 use Rattle.bk_order.specs.declared.tally.Tally.{Tally}
 
@@ -40,6 +41,12 @@ pub record IsKeptOf (k : CommitteeValue) (frames : List Frame) (kept : Kept) : T
 -- these frames were taken
 abbrev pub HasTaken : List Frame → Taken → Type 0
 HasTaken frames v = IsKeptOf v.committee frames v.kept
+
+-- the order of the frames of which this is kept, where they have no stop, has this many certificates
+abbrev pub HasAsOrder : CommitteeValue → Kept → ℕ → Type 0
+HasAsOrder k kept n =
+    (frames : List Frame) → IsKeptOf k frames kept → HasNoStop k frames
+    → (o : Ordered) × IsOrderOf k frames o × (n ≡ length o.order)
 
 -- nothing is ordered
 abbrev pub nothing_ordered : Ordered

@@ -7,8 +7,9 @@ ghost use Rattle.bk_commit.specs.Ordering.{IsCommitted};
 ghost use Rattle.bk_frames.specs.Cutting.{frames_in};
 ghost use Rattle.bk_order.specs.Stops.{HasNoStop, IsStop};
 ghost use Rattle.bk_order.specs.Orders.{AreRoundsOf, AreWaiting, IsOrderOf};
-ghost use Rattle.bk_order.specs.Intake.{HasTaken, IsKeptOf, nothing_ordered};
-ghost use Rattle.bk_order.specs.private.Joined.{GoesOn, IsJoined, kept_in};
+ghost use Rattle.bk_order.specs.Intake.{HasAsOrder, HasTaken, IsKeptOf, nothing_ordered};
+ghost use Rattle.bk_order.specs.declared.settling.Settled.{Settled};
+ghost use Rattle.bk_order.specs.private.Joined.{GoesOn, IsJoined, IsSettled, kept_in};
 
 use crate::reject::Reject;
 use crate::settling::{Settled, settle, unsettled};
@@ -29,8 +30,8 @@ use std::thread::Threads;
 /// is kept of the frames, and their order as it was settled last.
 ///
 /// `take` costs what its frames cost, and `settle` what the new anchors and their histories cost.
-/// `stop_with` and `waiting` go over all certificates that are held. The others take O(log n) at
-/// most.
+/// `stop_with` and `waiting` go over all certificates that are held, and so does `count_ordered`
+/// where frames were taken since the order was settled. The others take O(log n) at most.
 ///
 /// Where memory runs out in `take` or in `settle` the value has failed: every later call of these
 /// two returns the same error, and what the others return of the order means nothing.
@@ -40,21 +41,35 @@ pub struct Intake {
     committee: Committee,
     table: Table,
     settled: Settled,
+    // Whether that is the order of all frames that were taken.
+    current: bool,
     failed: bool,
 }
 
 impl Model for Intake {
-    ghost use Rattle.std.specs.Prelude.{◌≡◌, false};
+    ghost use Rattle.std.specs.Prelude.{◌≡◌, false, true};
     ghost use Rattle.bk_committee.specs.Payload.{IsCommittee};
     ghost use Rattle.bk_order.specs.Intake.{Taken};
-    ghost use Rattle.bk_order.specs.private.Joined.{IsFollowed, IsJoined, kept_in, order_in};
+    ghost use Rattle.bk_order.specs.private.Joined.{IsFollowed, IsJoined, IsSettled, kept_in, order_in};
 
     ghost Value = { Taken };
 
     ghost view = { λ s. record { committee = s.committee; kept = kept_in s.table; ordered = order_in s.table.batches s.settled; failed = s.failed } };
 
     ghost invariant = { λ s. s.failed ≡ false → IsJoined s.committee s.table.held s.table.rounds
-        × IsFollowed s.table.rounds.sizes s.table.rounds.held s.table.batches s.settled };
+        × IsFollowed s.table.rounds.sizes s.table.rounds.held s.table.batches s.settled
+        × (s.current ≡ true
+        → IsSettled s.table.rounds.sizes s.table.rounds.held s.table.batches s.settled) };
+}
+
+// How many certificates the order of what a table holds has.
+fn count_anew(alloc: Global, table: &Table) -> Result<usize, AllocError>
+    ensures { IfOk result (λ n. (s : Settled) × (n ≡ length s.flat)
+        × IsSettled table.now.rounds.sizes table.now.rounds.held table.now.batches s) }
+{
+    let mut settled = unsettled(alloc);
+    settle(&mut settled, &table.rounds, &table.batches)?;
+    Ok(settled.flat.order().len())
 }
 
 impl Intake {
@@ -71,6 +86,7 @@ impl Intake {
             committee,
             table,
             settled: unsettled(alloc),
+            current: false,
             failed: false,
         })
     }
@@ -95,6 +111,7 @@ impl Intake {
         if self.failed {
             return Err(AllocError);
         }
+        self.current = false;
         match take_all(rt, self.alloc, &self.committee, &mut self.table, frames) {
             Ok(()) => Ok(()),
             Err(error) => {
@@ -181,12 +198,30 @@ impl Intake {
             return Err(AllocError);
         }
         match settle(&mut self.settled, &self.table.rounds, &self.table.batches) {
-            Ok(()) => Ok(()),
+            Ok(()) => {
+                self.current = true;
+                Ok(())
+            }
             Err(error) => {
                 self.failed = true;
                 Err(error)
             }
         }
+    }
+
+    /// How many certificates the order of all frames so far has. Where frames were taken since it was
+    /// settled, it is found from the beginning, and not kept.
+    ///
+    /// An `Err` comes only where memory runs out.
+    pub fn count_ordered(&self) -> Result<usize, AllocError>
+        ensures { IfOk result (λ n. self.now.failed ≡ false
+            → HasAsOrder self.now.committee self.now.kept n) }
+    {
+        if self.current {
+            return Ok(self.settled.flat.order().len());
+        }
+        let count = count_anew(self.alloc, &self.table)?;
+        Ok(count)
     }
 
     /// The committed anchors as they were settled last, oldest first.

@@ -60,6 +60,19 @@ fn piece_of(alloc: Global, frames: &[Frame], part: &[usize]) -> Result<Piece> {
     Ok(piece)
 }
 
+// Settles. The order found from the beginning is as long as the one that is settled.
+fn settle(intake: &mut Intake) -> Result<()>
+    ensures { intake.new.committee ≡ intake.old.committee }
+{
+    let before = intake.count_ordered()?;
+    intake.settle()?;
+    let count = intake.count_ordered()?;
+    if before != count || count != intake.order().len() {
+        bail!("an order of another length");
+    }
+    Ok(())
+}
+
 // Takes these frames, and settles.
 fn take<R: Threads + Sync>(
     rt: &R,
@@ -75,8 +88,7 @@ fn take<R: Threads + Sync>(
         bail!("too many frames");
     }
     intake.take(rt, piece)?;
-    intake.settle()?;
-    Ok(())
+    settle(intake)
 }
 
 /// Lets an Intake go. It is a function of its own so that those that own one have no other way out.

@@ -1,4 +1,5 @@
 use Rattle.std.proofs.Common.{◌∙◌, ap}
+use Rattle.std.proofs.lemmas.Bool.{false≢true}
 use Rattle.bk_order.proofs.Ordering.{order_kept, followed_on}
 use Rattle.bk_order.proofs.intake.Intake.take.Goals as goal
 
@@ -7,6 +8,7 @@ invariant_of-self g c = λ open_. (
   c.in-Ok.ensures.joined,
   followed_on c.self.inside.table.rounds.sizes c.take_all.new.table.rounds.sizes c.self.inside.table.rounds.held c.take_all.new.table.rounds.held c.self.inside.table.batches c.take_all.new.table.batches c.self.inside.settled
       c.in-Ok.ensures.goes_on.sizes c.in-Ok.ensures.goes_on.rounds c.in-Ok.ensures.goes_on.batches (c.self.invariant open_).1,
+  λ e. absurd (false≢true e),
 )
 
 pub returns-in-Ok-clause-order : goal.returns-in-Ok-clause-order
