@@ -2,19 +2,18 @@
 use Rattle.std.proofs.Common.{◌≡◌, ℕ, true, false, List, Option, Some, None, refl, sym, ap, subst, ◌∙◌, ◌⊎◌, inl, inr, ⊎_elim}
 use Rattle.std.specs.Prelude.{IfSome, IfOk, IfErr, OnOk, Result, Ok, Err}
 use Rattle.std.proofs.lemmas.List.Elements.{Contains-append_left, Contains-append_right}
-use Rattle.bk_frames.specs.declared.kind.Kind.TheVariants as kind
 use Rattle.bk_frames.specs.declared.version.Version.{Version}
 use Rattle.bk_frames.specs.Device.{Device, Works, IfKnown}
-use Rattle.bk_frames.specs.Feed.{Frame, FeedValue, feed_of, frame_of}
-use Rattle.bk_cert.specs.Node.{Node}
+use Rattle.bk_frames.specs.Feed.{Frame, FeedValue, feed_of}
 use Rattle.bk_committee.specs.Payload.{CommitteeValue}
-use Rattle.bk_cert.specs.Clear.{IsClear}
-use Rattle.bk_evidence.specs.Batches.{Batch, AreApart}
 use Rattle.bk_commit.specs.Growth.{IsPartOf}
+use Rattle.bk_order.specs.Agreement.{OneBegins}
+use Rattle.bk_order.specs.Orders.{Ordered}
 use Rattle.bk_order.specs.Stops.{HasNoStop, IsStop}
 use Rattle.bk_order.specs.declared.stop.Stop.{Stop}
 use Rattle.bk_order.specs.declared.stop.Stop.TheVariants as stop
-use Rattle.bk_order.proofs.OneReading.{no_stop}
+use Rattle.bk_order.proofs.OneReading.{no_stop, one_ordered}
+use Rattle.bk_order.proofs.Sets.{none_in_part}
 use Rattle.bk_results.specs.declared.compare_stop.CompareStop.{CompareStop}
 use Rattle.bk_results.specs.declared.compare_stop.CompareStop.TheVariants as why
 use Rattle.bk_results.specs.declared.differ.Agreed.{Agreed}
@@ -22,7 +21,7 @@ use Rattle.bk_results.specs.declared.differ.Differ.{Differ}
 use Rattle.bk_results.specs.declared.differ.Differ.TheVariants as differ
 use Rattle.bk_results.specs.declared.fault.Fault.{Fault}
 use Rattle.bk_results.specs.declared.fault.Fault.TheVariants as fault
-use Rattle.bk_follow.specs.Agreement.{HaveOneSetup, frames_together, HaveNoStop, HaveStop, settled_in, OfBoth, FollowersAgree, FollowersDiffer}
+use Rattle.bk_follow.specs.Agreement.{Agree, AgreeInOrder, BeginsWith, HaveOneSetup, frames_together, HaveNoStop, HaveStop, settled_in, OfBoth, FollowersAgree, FollowersDiffer}
 use Rattle.bk_results.specs.Devices.{AreFeed}
 use Rattle.bk_follow.specs.Outcomes.{IsOutcomeOf}
 use Rattle.bk_compare.specs.FeedAgreement.{FeedsAgree, FeedsCompared, FeedsDiffer, OfTheirFeeds, IfBothKnown, Sources, BothWork, FollowFails, ComparesNot, sources}
@@ -135,33 +134,9 @@ source_unread fault.Memory known now h = h
 
 -- ---- two feeds
 
-clear_part : (xs ys : List Node) → IsPartOf xs ys → IsClear ys → IsClear xs
-clear_part xs ys into h = record {
-  no_collision = λ c d x y. h.no_collision c d (into c x) (into d y);
-  no_twins = λ c d x y. h.no_twins c d (into c x) (into d y);
-}
-
-apart_part : (xs ys : List Batch) → IsPartOf xs ys → AreApart ys → AreApart xs
-apart_part xs ys into h = λ b d x y. h b d (into b x) (into d y)
-
 -- nothing stops a part of frames that nothing stops
-module _ (k : CommitteeValue) (part whole : List Frame) (s : Stop) (into : IsPartOf part whole) (none : HasNoStop k whole) (h : IsStop k part s) where
-  certs_in : IsPartOf h.certs none.certs
-  certs_in c t = let x = h.are_certs.sound c t in none.are_certs.complete c (x.0, into (frame_of kind.Certificate x.0) x.1, x.2)
-
-  batches_in : IsPartOf h.batches none.batches
-  batches_in b t = let x = h.are_batches.sound b t in none.are_batches.complete b (x.0, into (frame_of kind.Batch x.0) x.1, x.2)
-
-  pub part_unstopped : ⊥
-  part_unstopped = no_stop k part s
-      (record {
-        certs = h.certs;
-        batches = h.batches;
-        are_certs = h.are_certs;
-        are_batches = h.are_batches;
-        none = record { clear = clear_part h.certs none.certs certs_in none.none.clear; apart = apart_part h.batches none.batches batches_in none.none.apart };
-      })
-      h
+part_unstopped : (k : CommitteeValue) (part whole : List Frame) (s : Stop) → IsPartOf part whole → HasNoStop k whole → IsStop k part s → ⊥
+part_unstopped k part whole s into none h = no_stop k part s (none_in_part k part whole into none h.certs h.batches h.are_certs h.are_batches) h
 
 -- an end of a feed that nothing stops is its outcome
 outcome_of_end : (feed : FeedValue) (v : Followed) → HasStopIn feed ⊎ IsOutcomeOf feed (settled_in v.book) → (HasStopIn feed → ⊥) → IsOutcomeOf feed (settled_in v.book)
@@ -197,6 +172,20 @@ module _ (one other : Followed) (bytes more : List ℕ) (x : HasEnded bytes one)
       (λ f t. Contains-append_right (later_frames left) (later_frames right) f t) none.1
       (subst (λ (k : CommitteeValue). IsStop k (later_frames right) s) (sym none.0.committee) h)
 
+  -- the orders of both are those that the Followers have found
+  as_found : (a : Agreed) → FollowersAgree one other a → HaveNoStop left right → IsOutcomeOf left (settled_in one.book) → IsOutcomeOf right (settled_in other.book)
+      → Agree (settled_in one.book) (settled_in other.book) a
+  as_found a h clear end also =
+      let o = both_feeds one other (λ f g. AgreeInOrder f g a.certs) bytes more h.orders x y in
+      let here : o.order ≡ ordered_in one.book = one_ordered (committee_in left) (later_frames left) o.order (ordered_in one.book) end.clear o.is_order end.ordered in
+      let there : o.also ≡ ordered_in other.book = one_ordered (committee_in right) (later_frames right) o.also (ordered_in other.book) also.clear o.also_is also.ordered in
+      record {
+        anchors = subst (λ (p : Ordered × Ordered). OneBegins p.0.anchors p.1.anchors) (λ i. (here i, there i)) o.anchors;
+        certs = subst (λ (p : Ordered × Ordered). BeginsWith a.certs p.0.order p.1.order) (λ i. (here i, there i)) o.certs;
+        places = h.places;
+        rows = h.rows;
+      }
+
   pub ended_agree : (a : Agreed) → FollowersAgree one other a → OfTheirFeeds bytes more (λ f g. FeedsCompared f g (compared_of one other a))
   ended_agree a h =
       let clear : HaveNoStop left right = both_feeds one other HaveNoStop bytes more h.clear x y in
@@ -209,7 +198,7 @@ module _ (one other : Followed) (bytes more : List ℕ) (x : HasEnded bytes one)
           also = settled_in other.book;
           outcome = outcome;
           also_outcome = also;
-          agree = h.agree;
+          agree = as_found a h clear outcome also;
         };
         first = gap_of_outcome left one.book outcome;
         second = gap_of_outcome right other.book also;

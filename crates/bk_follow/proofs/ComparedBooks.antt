@@ -1,5 +1,5 @@
 -- What two books that are compared say of their feeds.
-use Rattle.std.proofs.Common.{◌≡◌, ℕ, suc, ◌+◌, ◌<◌, ◌≤◌, ◌⊎◌, inl, inr, ⊎_elim, List, [], ◌∷◌, ◌++◌, length, Option, Some, None, refl, sym, ap, subst, ◌∙◌, arith, length-append}
+use Rattle.std.proofs.Common.{◌≡◌, ℕ, false, suc, ◌+◌, ◌<◌, ◌≤◌, ◌⊎◌, inl, inr, ⊎_elim, List, [], ◌∷◌, ◌++◌, length, Option, Some, None, refl, sym, ap, subst, ◌∙◌, arith, length-append}
 use Rattle.std.specs.Prelude.{slice_get, MatchOption}
 use Rattle.std.proofs.lemmas.Bool.{cases_lt}
 use Rattle.std.proofs.lemmas.List.{append-nil}
@@ -13,17 +13,19 @@ use Rattle.bk_commit.specs.Growth.{Begins}
 use Rattle.bk_order.specs.Agreement.{OneBegins, OrderBegins}
 use Rattle.bk_order.specs.Orders.{Ordered, IsOrderOf}
 use Rattle.bk_order.specs.Stops.{HasNoStop, IsStop}
-use Rattle.bk_order.specs.Intake.{Taken, HasTaken}
+use Rattle.bk_order.specs.Frames.{AreCerts}
+use Rattle.bk_order.specs.Intake.{HasAsOrder, IsKeptOf, Taken, HasTaken}
 use Rattle.bk_order.specs.declared.stop.Stop.{Stop}
 use Rattle.bk_order.specs.declared.stop.Stop.TheVariants as stop
 use Rattle.bk_cert.specs.declared.place.CertRef.{CertRef}
 use Rattle.bk_order.proofs.Agreeing.{parts_agree}
+use Rattle.bk_order.proofs.Sets.{none_in_part}
 use Rattle.bk_rules.specs.declared.receipt.Receipt.{Receipt}
 use Rattle.bk_rules.specs.Fold.{state_after, receipts_of}
 use Rattle.bk_rules.proofs.Folding.{length-receipts, receipts_append}
 use Rattle.bk_tx.specs.Transaction.{Transaction}
 use Rattle.bk_tx.specs.Batches.{transactions_in, transactions_of}
-use Rattle.bk_follow.specs.RunReport.{committee_in, later_frames}
+use Rattle.bk_follow.specs.RunReport.{IsOrderIn, committee_in, later_frames}
 use Rattle.bk_follow.specs.Follower.{BookValue, Followed, OrdersPart, FollowsBy, Follows, HasCome, OfFrames, receipts_of_executed, receipts_in}
 use Rattle.bk_follow.specs.Queries.{rows_of_executed, rows_in}
 use Rattle.bk_results.specs.declared.differ.Agreed.{Agreed}
@@ -31,9 +33,9 @@ use Rattle.bk_results.specs.declared.differ.Differ.{Differ}
 use Rattle.bk_results.specs.declared.differ.Differ.TheVariants as differ
 use Rattle.bk_results.specs.declared.fault.Fault.{Fault}
 use Rattle.bk_follow.specs.declared.opening.Opened.{Opened}
-use Rattle.bk_follow.specs.Agreement.{HaveOneSetup, frames_together, HaveNoStop, HaveStop, settled_in, BeginsWith, Agree, OfBoth, FollowersAgree, FollowersDiffer}
+use Rattle.bk_follow.specs.Agreement.{AgreeInOrder, HaveOneSetup, frames_together, HaveNoStop, HaveStop, BeginsWith, OfBoth, FollowersAgree, FollowersDiffer}
 use Rattle.bk_follow.specs.private.Books.{IsGoodBook}
-use Rattle.bk_follow.specs.private.Comparing.{differ_of, IsLesser, HaveSameSetup, OfTaken, BooksAgree, BooksDiffer}
+use Rattle.bk_follow.specs.private.Comparing.{differ_of, HasOrderOf, IsLesser, HaveSameSetup, OfTaken, BooksAgree, BooksDiffer}
 use Rattle.bk_follow.specs.private.Parts.{followed}
 use Rattle.bk_follow.proofs.Books.{committee_version}
 use Rattle.bk_follow.proofs.Following.{follower_of, good_of, of_frames}
@@ -129,6 +131,10 @@ module _ (v : Version) (rows : List Row) where
 
 -- ---- two books
 
+-- the order of all frames of a feed is that of a part
+all_of : (f : FeedValue) (o : Ordered) → IsOrderIn f o → OrdersPart f o
+all_of f o h = record { part = later_frames f; within = λ x t. t; ordered = h }
+
 module _ (f g : FeedValue) (b c : BookValue) (good : IsGoodBook f b) (also : IsGoodBook g c) where
   committees : HaveSameSetup b c → committee_in f ≡ committee_in g
   committees s = sym good.book.committee ∙ s.committee ∙ also.book.committee
@@ -164,8 +170,33 @@ module _ (f g : FeedValue) (b c : BookValue) (good : IsGoodBook f b) (also : IsG
         (λ x t. Contains-append_right (later_frames f) (later_frames g) x (i.within x t))
         none h.ordered (subst (λ (k : CommitteeValue). IsOrderOf k i.part p) (sym (committees s)) i.ordered)
 
-    orders : OrderBegins b.taken.ordered c.taken.ordered ⊎ OrderBegins c.taken.ordered b.taken.ordered
-    orders = (parts b.taken.ordered c.taken.ordered good.book.found also.book.found).0
+    -- nothing stops the frames of one of them
+    here_clear : HasNoStop (committee_in f) (later_frames f)
+    here_clear = none_in_part (committee_in f) (later_frames f) (frames_together f g) (λ x t. Contains-append_left (later_frames f) (later_frames g) x t) none
+        b.taken.kept.certs b.taken.kept.batches (subst (λ (k : CommitteeValue). AreCerts k (later_frames f) b.taken.kept.certs) good.book.committee good.book.taken.certs) good.book.taken.batches
+
+    there_clear : HasNoStop (committee_in g) (later_frames g)
+    there_clear = none_in_part (committee_in g) (later_frames g) (frames_together f g) (λ x t. Contains-append_right (later_frames f) (later_frames g) x t)
+        (subst (λ (k : CommitteeValue). HasNoStop k (frames_together f g)) (committees s) none)
+        c.taken.kept.certs c.taken.kept.batches (subst (λ (k : CommitteeValue). AreCerts k (later_frames g) c.taken.kept.certs) also.book.committee also.book.taken.certs) also.book.taken.batches
+
+    -- the orders of all frames of each agree as far as the shorter one goes
+    pub orders_agree : (count m n : ℕ) → HasOrderOf b m → HasOrderOf c n → IsLesser count m n → AgreeInOrder f g count
+    orders_agree count m n first second lesser =
+        let o = subst (λ (k : CommitteeValue). HasAsOrder k b.taken.kept m) good.book.committee (first good.book.works) (later_frames f)
+        (subst (λ (k : CommitteeValue). IsKeptOf k (later_frames f) b.taken.kept) good.book.committee good.book.taken) here_clear in
+        let p = subst (λ (k : CommitteeValue). HasAsOrder k c.taken.kept n) also.book.committee (second also.book.works) (later_frames g)
+        (subst (λ (k : CommitteeValue). IsKeptOf k (later_frames g) c.taken.kept) also.book.committee also.book.taken) there_clear in
+        let begin : OrderBegins o.0 p.0 ⊎ OrderBegins p.0 o.0 = (parts o.0 p.0 (all_of f o.0 o.1) (all_of g p.0 p.1)).0 in
+        record {
+          order = o.0;
+          also = p.0;
+          is_order = o.1;
+          also_is = p.1;
+          anchors = ⊎_elim (λ (t : OrderBegins o.0 p.0). inl t.0) (λ (t : OrderBegins p.0 o.0). inr t.0) begin;
+          certs = begins_with count o.0.order p.0.order (⊎_elim (λ (t : OrderBegins o.0 p.0). inl t.1) (λ (t : OrderBegins p.0 o.0). inr t.1) begin)
+              (subst (λ (r : ℕ × ℕ). IsLesser count r.0 r.1) (λ i. (o.2 i, p.2 i)) lesser);
+        }
 
     lists : OneBegins good.book.order.payloads.list also.book.order.payloads.list
     lists = (parts good.book.order also.book.order good.book.before also.book.before).1
@@ -184,21 +215,17 @@ module _ (f g : FeedValue) (b c : BookValue) (good : IsGoodBook f b) (also : IsG
     rows_there = ap rows_of_executed also.book.is_done ∙ also.book.executed.rows
         ∙ (λ i. state_after (sym (one_setup s).version i) (transactions_of also.book.order.payloads.list) (sym (one_setup s).genesis i))
 
-    -- what the books were settled to agrees
-    pub agree_now : (a : Agreed) → IsLesser a.certs (length b.taken.ordered.order) (length c.taken.ordered.order)
-        → IsLesser a.places (length (receipts_in (Some b))) (length (receipts_in (Some c))) → Agree (settled_in (Some b)) (settled_in (Some c)) a
-    agree_now a certs places =
-        let begin : OneBegins (receipts_in (Some b)) (receipts_in (Some c)) =
-        subst (λ (p : List Receipt × List Receipt). OneBegins p.0 p.1) (λ i. (sym receipts_here i, sym receipts_there i))
-        (one_receipts f.version (genesis_of f.frames) good.book.order.payloads.list also.book.order.payloads.list lists) in
-        record {
-          anchors = ⊎_elim (λ (t : OrderBegins b.taken.ordered c.taken.ordered). inl t.0) (λ (t : OrderBegins c.taken.ordered b.taken.ordered). inr t.0) orders;
-          certs = begins_with a.certs b.taken.ordered.order c.taken.ordered.order
-              (⊎_elim (λ (t : OrderBegins b.taken.ordered c.taken.ordered). inl t.1) (λ (t : OrderBegins c.taken.ordered b.taken.ordered). inr t.1) orders) certs;
-          places = begins_with a.places (receipts_in (Some b)) (receipts_in (Some c)) begin places;
-          rows = λ e. rows_here ∙ same_rows f.version (genesis_of f.frames) good.book.order.payloads.list also.book.order.payloads.list lists (sym (ap length receipts_here) ∙ e ∙ ap length receipts_there)
-              ∙ sym rows_there;
-        }
+    begin_now : OneBegins (receipts_in (Some b)) (receipts_in (Some c))
+    begin_now = subst (λ (p : List Receipt × List Receipt). OneBegins p.0 p.1) (λ i. (sym receipts_here i, sym receipts_there i))
+        (one_receipts f.version (genesis_of f.frames) good.book.order.payloads.list also.book.order.payloads.list lists)
+
+    -- what was executed of both agrees
+    pub places_agree : (count : ℕ) → IsLesser count (length (receipts_in (Some b))) (length (receipts_in (Some c))) → BeginsWith count (receipts_in (Some b)) (receipts_in (Some c))
+    places_agree count lesser = begins_with count (receipts_in (Some b)) (receipts_in (Some c)) begin_now lesser
+
+    pub rows_agree : length (receipts_in (Some b)) ≡ length (receipts_in (Some c)) → rows_in (Some b) ≡ rows_in (Some c)
+    rows_agree e = rows_here ∙ same_rows f.version (genesis_of f.frames) good.book.order.payloads.list also.book.order.payloads.list lists (sym (ap length receipts_here) ∙ e ∙ ap length receipts_there)
+        ∙ sym rows_there
 
 -- the stop of both books is why they differ
 pub books_stopped : (b c : BookValue) (v w : Taken) (o : Option Stop) (s : Stop) (d : Differ) → b.taken ≡ v → c.taken ≡ w → HaveSameSetup b c → o ≡ Some s
@@ -214,15 +241,20 @@ books_stopped b c v w o s d is also setup found h e = subst (BooksDiffer b c) (s
     by_stop (stop.Twins e) t = (setup, t)
 
 -- and where there is none they agree
-pub books_clear : (b c : BookValue) (v w : Taken) (o : Option Stop) (xs ys : List CertRef) (certs m n places : ℕ) → b.taken ≡ v → c.taken ≡ w → HaveSameSetup b c → o ≡ None
+pub books_clear : (b c : BookValue) (v w : Taken) (o : Option Stop) (first second certs m n places : ℕ) → b.taken ≡ v → c.taken ≡ w → HaveSameSetup b c → o ≡ None
     → ((fs gs : List Frame) → HasTaken fs v → HasTaken gs w → MatchOption o (HasNoStop v.committee (fs ++ gs)) (IsStop v.committee (fs ++ gs)))
-    → xs ≡ v.ordered.order → ys ≡ w.ordered.order → IsLesser certs (length xs) (length ys) → m ≡ length (receipts_of_executed b.executed) → n ≡ length (receipts_of_executed c.executed) → IsLesser places m n
+    → (v.failed ≡ false → HasAsOrder v.committee v.kept first) → (w.failed ≡ false → HasAsOrder w.committee w.kept second) → IsLesser certs first second
+    → m ≡ length (receipts_of_executed b.executed) → n ≡ length (receipts_of_executed c.executed) → IsLesser places m n
     → BooksAgree b c (record { certs = certs; places = places })
-books_clear b c v w o xs ys certs m n places is also setup none h x y lesser p q fewer = record {
+books_clear b c v w o first second certs m n places is also setup none h x y lesser p q fewer = record {
   setup = setup;
   clear = λ fs gs t u. subst (λ (z : Taken). HasNoStop z.committee (fs ++ gs)) (sym is)
       (subst (λ (r : Option Stop). MatchOption r (HasNoStop v.committee (fs ++ gs)) (IsStop v.committee (fs ++ gs))) none (h fs gs (subst (HasTaken fs) is t) (subst (HasTaken gs) also u)));
-  certs = subst (λ (r : ℕ × ℕ). IsLesser certs r.0 r.1) (λ i. (length ((x ∙ ap (λ (z : Taken). z.ordered.order) (sym is)) i), length ((y ∙ ap (λ (z : Taken). z.ordered.order) (sym also)) i))) lesser;
+  first = first;
+  second = second;
+  first_is = subst (λ (z : Taken). z.failed ≡ false → HasAsOrder z.committee z.kept first) (sym is) x;
+  second_is = subst (λ (z : Taken). z.failed ≡ false → HasAsOrder z.committee z.kept second) (sym also) y;
+  certs = lesser;
   places = subst (λ (r : ℕ × ℕ). IsLesser places r.0 r.1) (λ i. (p i, q i)) fewer;
 }
 
@@ -240,8 +272,12 @@ followers_agree one other b c bytes more fs gs a come came is also h =
     let y = good_of more gs other c came also in
     record {
       clear = of_both one other b c HaveNoStop is also (λ f g good fine. (one_setup f g b c good fine h.setup, of_feeds f g b c good fine HasNoStop h.clear));
-      agree = subst (λ (p : Option BookValue × Option BookValue). Agree (settled_in p.0) (settled_in p.1) a) (λ i. (sym is i, sym also i))
-          (agree_now (feed_of x.version fs) (feed_of y.version gs) b c x.good y.good h.setup (of_feeds (feed_of x.version fs) (feed_of y.version gs) b c x.good y.good HasNoStop h.clear) a h.certs h.places);
+      orders = of_both one other b c (λ f g. AgreeInOrder f g a.certs) is also (λ f g good fine.
+          orders_agree f g b c good fine h.setup (of_feeds f g b c good fine HasNoStop h.clear) a.certs h.first h.second h.first_is h.second_is h.certs);
+      places = subst (λ (p : Option BookValue × Option BookValue). BeginsWith a.places (receipts_in p.0) (receipts_in p.1)) (λ i. (sym is i, sym also i))
+          (places_agree (feed_of x.version fs) (feed_of y.version gs) b c x.good y.good h.setup (of_feeds (feed_of x.version fs) (feed_of y.version gs) b c x.good y.good HasNoStop h.clear) a.places h.places);
+      rows = subst (λ (p : Option BookValue × Option BookValue). length (receipts_in p.0) ≡ length (receipts_in p.1) → rows_in p.0 ≡ rows_in p.1) (λ i. (sym is i, sym also i))
+          (rows_agree (feed_of x.version fs) (feed_of y.version gs) b c x.good y.good h.setup (of_feeds (feed_of x.version fs) (feed_of y.version gs) b c x.good y.good HasNoStop h.clear));
     }
 
 pub version_is : (v w : Version) (known : Option Version) → known ≡ Some v → known ≡ Some w → v ≡ w

@@ -4,6 +4,7 @@ use Rattle.bk_frames.specs.declared.version.Version.{Version}
 use Rattle.bk_frames.specs.Feed.{Frame, FeedValue, feed_of, genesis_of}
 use Rattle.bk_commit.specs.Growth.{Begins}
 use Rattle.bk_order.specs.Agreement.{OneBegins}
+use Rattle.bk_order.specs.Orders.{Ordered}
 use Rattle.bk_order.specs.Stops.{HasNoStop, IsStop}
 use Rattle.bk_order.specs.declared.stop.Stop.{Stop}
 use Rattle.bk_order.specs.declared.stop.Stop.TheVariants as stop
@@ -13,7 +14,14 @@ use Rattle.bk_results.specs.declared.differ.Differ.{Differ}
 use Rattle.bk_results.specs.declared.differ.Differ.TheVariants as differ
 use Rattle.bk_follow.specs.Follower.{BookValue, Followed, HasCome, OfFrames, ordered_in, receipts_in}
 use Rattle.bk_follow.specs.Queries.{rows_in}
-use Rattle.bk_follow.specs.RunReport.{committee_in, later_frames}
+use Rattle.bk_follow.specs.RunReport.{IsOrderIn, committee_in, later_frames}
+
+-- ---- two lists
+
+-- one of two lists begins the other, and this is its length
+abbrev pub BeginsWith : {X : Type 0} → ℕ → List X → List X → Type 0
+BeginsWith {X} count xs ys =
+    (Begins xs ys × (count ≡ length xs)) ⊎ (Begins ys xs × (count ≡ length ys))
 
 -- ---- two feeds
 
@@ -39,17 +47,22 @@ abbrev pub HaveStop : FeedValue → FeedValue → Stop → Type 0
 HaveStop one other s =
     HaveOneSetup one other × IsStop (committee_in one) (frames_together one other) s
 
+-- the orders of both agree: of anchors and of certificates the shorter one begins the longer, and so many certificates
+-- are in the shorter
+pub record AgreeInOrder (one other : FeedValue) (count : ℕ) : Type 0 where
+  pub order : Ordered
+  pub also : Ordered
+  pub is_order : IsOrderIn one order
+  pub also_is : IsOrderIn other also
+  pub anchors : OneBegins order.anchors also.anchors
+  pub certs : BeginsWith count order.order also.order
+
 -- ---- what they were settled to
 
 -- what a book was settled to
 abbrev pub settled_in : Option BookValue → Outcome
 settled_in book =
     record { ordered = ordered_in book; receipts = receipts_in book; rows = rows_in book }
-
--- one of two lists begins the other, and this is its length
-abbrev pub BeginsWith : {X : Type 0} → ℕ → List X → List X → Type 0
-BeginsWith {X} count xs ys =
-    (Begins xs ys × (count ≡ length xs)) ⊎ (Begins ys xs × (count ≡ length ys))
 
 -- The orders agree as far as the shorter one goes, and so do the receipts; and where these are equally many, so do the
 -- accounts.
@@ -71,10 +84,13 @@ OfBothKnown one other holds =
     (bytes more : List ℕ) (fs gs : List Frame) (v w : Version) → HasCome bytes fs one → HasCome more gs other
     → one.cut.version ≡ Some v → other.cut.version ≡ Some w → holds (feed_of v fs) (feed_of w gs)
 
--- two Followers agree: nothing stops the frames of both together, and what they were settled to agrees
+-- two Followers agree: nothing stops the frames of both together; the orders of their whole frames so far agree; and so
+-- do the receipts of their last settles, and where these are equally many, the accounts
 pub record FollowersAgree (one other : Followed) (a : Agreed) : Type 0 where
   pub clear : OfBoth one other HaveNoStop
-  pub agree : Agree (settled_in one.book) (settled_in other.book) a
+  pub orders : OfBoth one other (λ f g. AgreeInOrder f g a.certs)
+  pub places : BeginsWith a.places (receipts_in one.book) (receipts_in other.book)
+  pub rows : length (receipts_in one.book) ≡ length (receipts_in other.book) → rows_in one.book ≡ rows_in other.book
 
 -- why they do not: they have no one setup; or the frames of both together are stopped so; or memory ran out
 abbrev pub FollowersDiffer : Followed → Followed → Differ → Type 0

@@ -141,18 +141,22 @@ impl Book {
         if let Some(stop) = self.intake.stop_with(&other.intake)? {
             return Err(differing(stop));
         }
-        let certs = lesser(self.intake.order().len(), other.intake.order().len());
+        let first = self.intake.count_ordered()?;
+        let second = other.intake.count_ordered()?;
+        let certs = lesser(first, second);
         let places = lesser(self.places(), other.places());
         Ok(Agreed { certs, places })
     }
 }
 
 impl Follower {
-    /// Compares what two Followers were settled to. Neither changes.
+    /// Compares the orders of the whole frames so far of two Followers, and what was executed up to their last settles.
+    /// Neither changes.
     ///
     /// Where both have one version, committee and genesis and their frames together have neither a collision nor twins,
     /// the order of one begins that of the other and so do the receipts: the answer says how far. It takes time and
-    /// memory for a table of the certificates of both.
+    /// memory for a table of the certificates of both, and for the order of a Follower whose order was not settled since
+    /// its last frame.
     pub fn compare(&self, other: &Follower) -> Result<Agreed, Differ>
         requires one { self.now.fault ≡ None }
         requires other { other.now.fault ≡ None }

@@ -1,7 +1,7 @@
 -- What comparing two books finds.
-use Rattle.std.specs.Prelude.{◌≡◌, ◌≤◌, ◌⊎◌, ℕ, List, ◌++◌, length}
+use Rattle.std.specs.Prelude.{◌≡◌, ◌≤◌, ◌⊎◌, ℕ, false, List, ◌++◌, length}
 use Rattle.bk_frames.specs.Feed.{Frame}
-use Rattle.bk_order.specs.Intake.{HasTaken}
+use Rattle.bk_order.specs.Intake.{HasAsOrder, HasTaken}
 use Rattle.bk_order.specs.Stops.{HasNoStop, IsStop}
 use Rattle.bk_order.specs.declared.stop.Stop.{Stop}
 use Rattle.bk_order.specs.declared.stop.Stop.TheVariants as stop
@@ -29,11 +29,20 @@ abbrev pub OfTaken : BookValue → BookValue → (List Frame → Type 0) → Typ
 OfTaken b c holds =
     (fs gs : List Frame) → HasTaken fs b.taken → HasTaken gs c.taken → holds (fs ++ gs)
 
--- they are of one setup, nothing stops them, and these are the shorter lengths
+-- the order of all that was taken has this many certificates
+abbrev pub HasOrderOf : BookValue → ℕ → Type 0
+HasOrderOf b n = b.taken.failed ≡ false → HasAsOrder b.taken.committee b.taken.kept n
+
+-- they are of one setup, nothing stops them, and these are the shorter lengths: of the orders of all that was taken, and of
+-- the receipts
 pub record BooksAgree (b c : BookValue) (a : Agreed) : Type 0 where
   pub setup : HaveSameSetup b c
   pub clear : OfTaken b c (HasNoStop b.taken.committee)
-  pub certs : IsLesser a.certs (length b.taken.ordered.order) (length c.taken.ordered.order)
+  pub first : ℕ
+  pub second : ℕ
+  pub first_is : HasOrderOf b first
+  pub second_is : HasOrderOf c second
+  pub certs : IsLesser a.certs first second
   pub places : IsLesser a.places (length (receipts_of_executed b.executed)) (length (receipts_of_executed c.executed))
 
 -- why they differ

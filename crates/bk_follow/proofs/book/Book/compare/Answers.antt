@@ -24,6 +24,16 @@ returns-in-Some-clause-differ c =
 
 pub returns-clause-agree : goal.returns-clause-agree
 returns-clause-agree c =
-    books_clear c.args.self.now c.args.other.now c.self.inside.intake c.other.inside.intake c.in_ok-stop.field-0 c.order.result.now c.order-2.result.now c.lesser-certs.result c.places.result c.places-2.result c.lesser-places.result
+    books_clear c.args.self.now c.args.other.now c.self.inside.intake c.other.inside.intake c.in_ok-stop.field-0 c.in_ok-first.first c.in_ok-second.second c.lesser-certs.result c.places.result c.places-2.result c.lesser-places.result
     (ap (λ (b : BookValue). b.taken) (sym c.self.view_is)) (ap (λ (b : BookValue). b.taken) (sym c.other.view_is)) (c.if-not-has_setup_of.ensures.0 refl) c.in_default.is c.in_ok-stop.ensures
-    c.order.ensures c.order-2.ensures c.lesser-certs.ensures c.places.ensures c.places-2.ensures c.lesser-places.ensures
+    c.in_ok-first.ensures c.in_ok-second.ensures c.lesser-certs.ensures c.places.ensures c.places-2.ensures c.lesser-places.ensures
+
+pub returns-in_err-first-clause-differ : goal.returns-in_err-first-clause-differ
+returns-in_err-first-clause-differ c =
+    let p = err_from_is_err_and c.from_residual-in_err-first.result c.from_residual-in_err-first.ensures.1 in
+    rw (p.1, p.2) (c.if-not-has_setup_of.ensures.0 refl)
+
+pub returns-in_err-second-clause-differ : goal.returns-in_err-second-clause-differ
+returns-in_err-second-clause-differ c =
+    let p = err_from_is_err_and c.from_residual-in_err-second.result c.from_residual-in_err-second.ensures.1 in
+    rw (p.1, p.2) (c.if-not-has_setup_of.ensures.0 refl)
