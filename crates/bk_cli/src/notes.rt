@@ -1,4 +1,4 @@
-//! What else is told on standard error.
+//! What else is written to standard error.
 
 ghost use Rattle.std.specs.Prelude.{codes};
 ghost use Rattle.clap.specs.Words.{found_of, one_text, rows_of};
@@ -6,7 +6,7 @@ ghost use Rattle.bk_cli.specs.CommandLine.{AreNotesIn, IsOn};
 
 use clap::ArgMatches;
 
-/// What is told on standard error besides the line of a fault.
+/// What is written to standard error besides the line of a fault.
 #[derive(Clone, Copy, Debug, PartialEq, Eq)]
 pub struct Notes {
     /// How far the job is, while it runs.

@@ -19,7 +19,7 @@ use std::convert::AsStr;
 pub struct Line {
     /// What the program is to do.
     pub job: Job,
-    /// What it tells while it does it, and after a fault.
+    /// What it reports while it runs, and after a fault.
     pub notes: Notes,
 }
 

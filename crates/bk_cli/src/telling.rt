@@ -1,4 +1,4 @@
-//! What is told of a fault on standard error.
+//! What is reported of a fault on standard error.
 
 ghost use Rattle.std.specs.Prelude.{◌++◌, codes};
 ghost use Rattle.bk_frames.specs.Device.{CanBeUsed};
@@ -56,7 +56,7 @@ fn report_twice<E: Sink>(name: &str, fault: &JobFault, err: &mut E)
     }
 }
 
-/// Reports a fault that is about a file of this name in its line, and where it is to be told in words, in one line more.
+/// Reports a fault that is about a file of this name in its line, and where it has to be in words too, in one more line.
 /// A sink that fails is ignored.
 pub fn tell_of<E: Sink>(name: &str, verbose: bool, fault: &JobFault, err: &mut E)
     requires { CanBeUsed (E.state err.old) }

@@ -1,4 +1,4 @@
-//! What progress tells, by a clock that goes on at each look at it.
+//! What progress shows, by a clock that goes on at each look at it.
 
 use bk_pool::Gate;
 use bk_progress::{Manner, Progress, Watcher};
@@ -90,10 +90,10 @@ fn is_told(alloc: Global, step: u64, manner: Manner, sizes: &[Option<u64>], want
     fake.has_said(wanted)
 }
 
-/// Whether progress is told as often as it is to be, and in the right words.
+/// Whether progress is shown as often as it has to be, and in the right words.
 ///
 /// At a look each 600 milliseconds a line is due at the second, the fourth and the sixth look; at one each 60 milliseconds
-/// too, where a terminal has a line each 100. Nothing is told of what is over in a second, and nothing where it is hidden.
+/// too, where a terminal has a line each 100. Nothing is shown of what is over in a second, and nothing where it is hidden.
 pub(crate) fn progress_is_told(alloc: Global) -> bool {
     let known = [Some(150_000), Some(50_000)];
     let unknown = [None, Some(5)];

@@ -5,6 +5,7 @@ ghost use Rattle.bk_frames.specs.Device.{CanBeUsed};
 ghost use Rattle.bk_results.specs.Devices.{IsUntouched};
 ghost use Rattle.bk_cli.specs.Exits.{is_answer, is_refusal, may_end, writes_ahead};
 ghost use Rattle.bk_jobs.specs.Faults.{AnswerIsOut, EndsWithLine};
+ghost use Rattle.bk_jobs.specs.Gaps.{GapsAreTold};
 ghost use Rattle.bk_jobs.specs.Openings.{Ran};
 ghost use Rattle.bk_jobs.specs.Sources.{inputs};
 
@@ -250,6 +251,9 @@ where
         (inputs (I.remaining first) (J.remaining second)) (O.state out.old) (O.state out.new) }
     ensures quiet { is_answer line.now.job result ≡ true → line.now.notes.verbose ≡ false
         → err.new ≡ err.old }
+    ensures gaps { is_answer line.now.job result ≡ true → line.now.notes.verbose ≡ true
+        → GapsAreTold line.now.job (inputs (I.remaining first) (J.remaining second))
+        (E.state err.old) (E.state err.new) }
     ensures line { is_answer line.now.job result ≡ false
         → EndsWithLine line.now.notes.verbose result (E.state err.old) (E.state err.new) }
     ensures unwritten { is_refusal result ≡ true → writes_ahead line.now.job ≡ false

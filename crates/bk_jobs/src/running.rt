@@ -161,9 +161,9 @@ where
 /// How a job is watched.
 #[derive(Drop)]
 pub struct Watch<'a, W> {
-    /// What its workers call between their steps, and what is told when the job is over.
+    /// What its workers call between their steps, and what is called when the job is over.
     pub watcher: &'a W,
-    /// Whether a fault is told in words too, and at which missing batch an order stops.
+    /// Whether a fault is reported in words too, and the missing batches at which orders stop.
     pub verbose: bool,
 }
 

@@ -20,7 +20,7 @@ const LISTS: u64 = 20;
 
 const WORKERS: [usize; 4] = [1, 2, 3, 8];
 
-// A slice has at least so many transactions.
+// The least number of transactions of a slice.
 const LEAST: usize = 5;
 
 // What the transactions of a feed give by the plain bodies.

@@ -84,7 +84,7 @@ pub(crate) fn given_by_ledger<R: Threads + Sync>(
     given_in(rt, alloc, &ledger)
 }
 
-/// What they give in slices of at least so many, by this many workers.
+/// What they give in slices of at least this many, by a number of workers.
 pub(crate) fn given_in_slices<R: Threads + Wait + Sync>(
     rt: &R,
     alloc: Global,

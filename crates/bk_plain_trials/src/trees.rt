@@ -53,7 +53,7 @@ where
     tally.note(rt, "a tree", "state", state_of(alloc, rows)? == root)
 }
 
-// A tree over so many rows.
+// A tree over this many rows.
 fn try_count<R>(rt: &R, chance: &mut Chance, count: u64, tally: &mut Tally) -> Result<()>
 where
     R: AllocGlobal + Eprint + Threads + Sync,

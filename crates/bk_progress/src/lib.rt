@@ -1,10 +1,10 @@
-//! How far a job is, told on standard error while it runs.
+//! How far a job is: a line on standard error while it runs.
 //!
 //! A [`Progress`] counts the bytes that are read, through a [`Metered`] source, and the transactions that are executed,
-//! since it is a gate. It tells both in one line: rewritten in place ten times a second at most where standard error is a
-//! terminal, and else as a new line once a second at most. Nothing is told of a job that ends before that.
+//! since it is a gate. It shows both in one line: rewritten in place ten times a second at most where standard error is a
+//! terminal, and else as a new line once a second at most. A job that ends before that shows nothing.
 //!
-//! What it tells is no part of any contract but one: a `Metered` source is the source in it.
+//! What it shows is part of no contract but one: a `Metered` source is the source in it.
 #![tactic(auto)]
 
 mod metered;

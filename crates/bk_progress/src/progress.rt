@@ -1,4 +1,4 @@
-//! The counts, and the line that tells them.
+//! The counts, and the line that shows them.
 
 use crate::watcher::Watcher;
 use bk_pool::Gate;
@@ -10,7 +10,7 @@ const BYTES: u64 = 65_536;
 
 const PLACES: u64 = 1_024;
 
-/// How progress is told.
+/// How progress is shown.
 #[derive(Clone, Copy, Debug, PartialEq, Eq)]
 pub enum Manner {
     /// Not at all.
@@ -37,7 +37,7 @@ impl Manner {
 pub struct Progress<'a, R> {
     rt: &'a R,
     manner: Manner,
-    // When it began; none where the clock cannot be read, and then nothing is told.
+    // When it began; none where the clock cannot be read, and then nothing is shown.
     start: Option<Instant>,
     // How many bytes the files have, those whose size is known, and whether it is known of all.
     size: AtomicU64,
@@ -127,7 +127,7 @@ impl<'a, R: Clock + Eprint> Progress<'a, R> {
         }
     }
 
-    // A line that cannot be written is told nowhere.
+    // A line that cannot be written is dropped.
     fn begin_line(&self) {
         if self.manner == Manner::Terminal {
             let _ = self.rt.eprint("\r");
@@ -154,7 +154,7 @@ impl<'a, R: Clock + Eprint> Progress<'a, R> {
         };
     }
 
-    /// Whether anything is told.
+    /// Whether anything is shown.
     pub fn is_shown(&self) -> bool {
         self.start.is_some()
     }

@@ -2,7 +2,7 @@
 
 use bk_pool::{Gate, Open};
 
-/// A gate that is told when the job is over, before anything is said of a fault.
+/// A gate that is called when the job is over, before a fault is reported.
 pub trait Watcher: Gate {
     /// The job has its answer, or a fault.
     fn ended(&self);

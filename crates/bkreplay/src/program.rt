@@ -24,7 +24,7 @@ use std::time::Clock;
 use std::{env, io};
 
 /// Reads the words, opens the files and runs the job; returns how the program ends. Standard error may be a terminal, on
-/// which progress is told in one line.
+/// which progress is shown in one line.
 pub(crate) fn program<R, O: Sink, E: Sink>(rt: &R, terminal: bool, out: &mut O, err: &mut E) -> Exit
 where
     R: Env + Files + Input + Print + Eprint + Clock + AllocGlobal + Threads + Wait + Sync,
@@ -71,7 +71,7 @@ where
     }
 }
 
-// How progress is told.
+// How progress is shown.
 fn manner(line: &Line, terminal: bool) -> Manner {
     match (line.notes.progress, terminal) {
         (false, _) => Manner::Hidden,
