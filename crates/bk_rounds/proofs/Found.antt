@@ -235,3 +235,6 @@ cert_read slots k s low e = ap (λ (x : Slot). x.cert) e ∙ sym (get_or-map (λ
 
 pub round_read : (slots : List Slot) (k : ℕ) (s : Slot) → k < length slots → s ≡ get_or slots k s → s.round ≡ round_of slots k
 round_read slots k s low e = ap (λ (x : Slot). x.round) e ∙ sym (get_or-map (λ (x : Slot). x.round) slots k s 0 low)
+
+pub id_read : (slots : List Slot) (k : ℕ) (s : Slot) → k < length slots → s ≡ get_or slots k s → s.id ≡ id_of slots k
+id_read slots k s low e = ap (λ (x : Slot). x.id) e ∙ sym (get_or-map (λ (x : Slot). x.id) slots k s [] low)

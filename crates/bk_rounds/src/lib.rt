@@ -9,6 +9,7 @@ mod members;
 mod names;
 mod preparing;
 mod rounds;
+mod rows;
 mod slots;
 mod table;
 mod votes;

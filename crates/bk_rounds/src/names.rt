@@ -5,6 +5,7 @@ ghost use Rattle.bk_rounds.specs.private.Numbered.{id_of};
 ghost use Rattle.bk_rounds.specs.private.Names.{AreNames, AreSame, HasRoom, Grows};
 
 use crate::members::Members;
+use crate::rows::{has_id, likely, skip};
 use crate::slots::Slot;
 use crate::waking::Pending;
 use bk_digest::Digest32;
@@ -43,10 +44,11 @@ impl Names {
     }
 }
 
-/// The numbers of these ids.
+/// The numbers of these ids. Where they ascend, most are found in the row, which is by id.
 pub(crate) fn numbers_of(
     alloc: Global,
     names: &mut Names,
+    row: &[u32],
     ids: &[Digest32],
 ) -> Result<Vec<usize>, AllocError>
     requires names { AreNames names.old }
@@ -56,11 +58,34 @@ pub(crate) fn numbers_of(
     ensures inside { IfOk result (λ ps. All (λ p. p < length names.new.slots.items) ps.items) }
 {
     let mut numbers = Vec::with_capacity(alloc, ids.len())?;
+    let mut at = 0;
     for id in ids {
-        let number = number_of(alloc, names, id)?;
+        at = skip(&names.slots, row, at, id);
+        let number = number_near(alloc, names, likely(row, at), id)?;
         numbers.push(number)?;
     }
     Ok(numbers)
+}
+
+// The number of an id, which it gets where it has none. The hint is a number that it may have.
+fn number_near(
+    alloc: Global,
+    names: &mut Names,
+    hint: Option<usize>,
+    id: &Digest32,
+) -> Result<usize, AllocError>
+    requires names { AreNames names.old }
+    ensures names { AreNames names.new }
+    ensures grows { Grows names.old names.new }
+    ensures inside { IfOk result (λ k. k < length names.new.slots.items) }
+    ensures id { IfOk result (λ k. id_of names.new.slots.items k ≡ id.now) }
+{
+    if let Some(number) = hint {
+        if has_id(&names.slots, number, id) {
+            return Ok(number);
+        }
+    }
+    number_of(alloc, names, id)
 }
 
 /// The number of an id, which it gets where it has none.

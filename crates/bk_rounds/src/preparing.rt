@@ -6,6 +6,7 @@ ghost use Rattle.bk_rounds.specs.private.Prepared.{IsPrepared, AreClearFor};
 
 use crate::buffers::Buffers;
 use crate::names::{Names, number_of, numbers_of};
+use crate::rows::Rows;
 use crate::waking::register;
 use bk_cert::SharedCert;
 use std::alloc::{AllocError, Global};
@@ -24,6 +25,7 @@ pub(crate) fn prepare(
     names: &mut Names,
     certs: &mut Vec<SharedCert>,
     buffers: &mut Buffers,
+    rows: &mut Rows,
     cert: &SharedCert,
 ) -> Result<Prepared, AllocError>
     requires names { AreNames names.old }
@@ -34,10 +36,11 @@ pub(crate) fn prepare(
     ensures prepared { IfOk result (IsPrepared names.new cert.now) }
     ensures clear { OnOk result (AreClearFor buffers.new names.new.unmarked) }
 {
-    let parents = numbers_of(alloc, names, cert.header().parents())?;
+    let parents = numbers_of(alloc, names, rows.before(cert), cert.header().parents())?;
     let number = number_of(alloc, names, cert.id())?;
     buffers.clear_for(names.unmarked)?;
     certs.reserve(1)?;
+    rows.open(cert, certs.len())?;
     register(&names.marks, &mut names.pending, number, &parents)?;
     Ok(Prepared { number, parents })
 }

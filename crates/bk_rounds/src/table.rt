@@ -22,6 +22,7 @@ use crate::buffers::{Buffers, hand_over};
 use crate::members::Members;
 use crate::names::Names;
 use crate::preparing::prepare;
+use crate::rows::Rows;
 use crate::slots::Slot;
 use crate::weights::Weights;
 use bk_cert::{CertRef, Header, SharedCert};
@@ -41,6 +42,7 @@ pub(crate) struct Table {
     certs: Vec<SharedCert>,
     names: Names,
     places: BTreeMap<CertRef, usize>,
+    rows: Rows,
     buffers: Buffers,
     // The greatest round of an admitted one.
     top: u32,
@@ -66,12 +68,14 @@ impl Table {
         ensures { IfOk result (λ rounds. rounds ≡ rounds_with (sizes_with weights.now) []) }
     {
         let weights = Weights::new(alloc, weights)?;
+        let rows = Rows::new(alloc, weights.members());
         Ok(Table {
             alloc,
             weights,
             certs: Vec::new(alloc),
             names: Names::new(alloc),
             places: BTreeMap::new(alloc),
+            rows,
             buffers: Buffers::new(alloc),
             top: 0,
         })
@@ -106,7 +110,8 @@ impl Table {
     /// Adds a certificate, and answers the places of all that this makes admitted, by round and
     /// author.
     ///
-    /// An `Err` comes only where memory runs out, and leaves the table as it was.
+    /// An `Err` comes only where memory runs out, and leaves the table as it was. It may leave
+    /// empty rows, which change no result: what a row says is compared before it is used.
     pub fn add(&mut self, cert: SharedCert) -> Result<Vec<CertRef>, AllocError>
         requires good { IsFit self.old.sizes cert }
         requires new { (c : Node) → Contains self.old.held c → c.id ≢ cert.id }
@@ -122,6 +127,7 @@ impl Table {
             &mut self.names,
             &mut self.certs,
             &mut self.buffers,
+            &mut self.rows,
             &cert,
         )?;
         let place = CertRef {
@@ -155,6 +161,7 @@ impl Table {
             &mut self.buffers.places,
             self.top,
         );
+        self.rows.enter(&self.names.slots, ready.number);
         Ok(hand_over(alloc, &mut self.buffers.places))
     }
 
@@ -163,7 +170,7 @@ impl Table {
         ensures found { IfSome result (λ c. StandsAt self.now.sizes self.now.held place c.now) }
         ensures none { IfNone result (IsPresent self.now.sizes self.now.held place → ⊥) }
     {
-        match admitted_number(&self.names, &self.places, place) {
+        match admitted_number(&self.names, &self.places, &self.rows, place) {
             Some(number) => Some(&self.certs[self.names.slots[number].cert]),
             None => None,
         }
@@ -176,7 +183,7 @@ impl Table {
             ↔ Links self.now.sizes self.now.held place
             (record { round = place.round - 1; author = x }) }
     {
-        match admitted_number(&self.names, &self.places, place) {
+        match admitted_number(&self.names, &self.places, &self.rows, place) {
             Some(number) => self.names.sets[number],
             None => Members::none(),
         }
@@ -186,7 +193,7 @@ impl Table {
     pub fn has(&self, place: CertRef) -> bool
         ensures { IsTrue result ↔ ((c : Node) × Contains self.now.held c × (place_of c ≡ place)) }
     {
-        self.places.contains_key(&place)
+        find(&self.names, &self.places, &self.rows, place).is_some()
     }
 
     /// Whether a certificate with this id is held.
@@ -287,6 +294,7 @@ impl Table {
 fn admitted_number(
     names: &Names,
     places: &BTreeMap<CertRef, usize>,
+    rows: &Rows,
     place: CertRef,
 ) -> Option<usize>
     requires names { AreNames names.now }
@@ -294,7 +302,7 @@ fn admitted_number(
     ensures found { IfSome result (IsNumberAt names.now place) }
     ensures none { IfNone result ((k : ℕ) → IsNumberAt names.now place k → 1 ≤ place.round → ⊥) }
 {
-    match places.get(&place).copied() {
+    match find(names, places, rows, place) {
         Some(number) => {
             if names.marks[number] {
                 Some(number)
@@ -303,6 +311,22 @@ fn admitted_number(
             }
         }
         None => None,
+    }
+}
+
+// The number of the certificate of this place. Most are found without a search.
+fn find(
+    names: &Names,
+    places: &BTreeMap<CertRef, usize>,
+    rows: &Rows,
+    place: CertRef,
+) -> Option<usize>
+    requires placed { IsPlaced names.now.slots.items (number_at places.now) }
+    ensures { result ≡ number_at places.now place }
+{
+    match rows.at(&names.slots, place) {
+        Some(number) => Some(number),
+        None => places.get(&place).copied(),
     }
 }
 

@@ -16,15 +16,15 @@ loop-id-init c = record {
 }
 
 pub returns-in_err-number-clause-grows : goal.returns-in_err-number-clause-grows
-returns-in_err-number-clause-grows c = grows_on c.args.names.now c.loop-id.names c.number_of.new.names c.loop-id.invariant.grows c.in_err-number.ensures.grows
+returns-in_err-number-clause-grows c = grows_on c.args.names.now c.loop-id.names c.number_near.new.names c.loop-id.invariant.grows c.in_err-number.ensures.grows
 
 pub returns-in_err-push-clause-grows : goal.returns-in_err-push-clause-grows
-returns-in_err-push-clause-grows c = grows_on c.args.names.now c.loop-id.names c.number_of.new.names c.loop-id.invariant.grows c.in_ok-number.ensures.grows
+returns-in_err-push-clause-grows c = grows_on c.args.names.now c.loop-id.names c.number_near.new.names c.loop-id.invariant.grows c.in_ok-number.ensures.grows
 
 pub loop-id-preserved : goal.loop-id-preserved
 loop-id-preserved c =
     let old = c.loop-id.names in
-    let new = c.number_of.new.names in
+    let new = c.number_near.new.names in
     let ps : List ℕ = c.loop-id.numbers.items in
     let k : ℕ = c.in_ok-number.number in
     let here : id_of new.slots.items k ≡ get_or c.args.ids.now c.loop-id.id-index c.id-item.result = c.in_ok-number.ensures.id ∙ c.id-item.is in

@@ -6,13 +6,13 @@ use Rattle.bk_rounds.proofs.table.admitted_number.Goals as goal
 
 pub index-requires : goal.index-requires
 index-requires c =
-    let known : number_at c.args.places.now c.args.place ≡ Some c.in-Some.number = sym c.get.ensures.value ∙ (sym c.copied.ensures ∙ c.in-Some.is) in
+    let known : number_at c.args.places.now c.args.place ≡ Some c.in-Some.number = sym c.find.ensures ∙ c.in-Some.is in
     let low = number_low c.args.names.now.slots.items (number_at c.args.places.now) c.args.place c.in-Some.number c.requires.placed known in
     omega (arith, low, c.requires.names.marks)
 
 pub returns-then-index-clause-found : goal.returns-then-index-clause-found
 returns-then-index-clause-found c =
-    let known : number_at c.args.places.now c.args.place ≡ Some c.in-Some.number = sym c.get.ensures.value ∙ (sym c.copied.ensures ∙ c.in-Some.is) in
+    let known : number_at c.args.places.now c.args.place ≡ Some c.in-Some.number = sym c.find.ensures ∙ c.in-Some.is in
     let low = number_low c.args.names.now.slots.items (number_at c.args.places.now) c.args.place c.in-Some.number c.requires.placed known in
     let within : c.in-Some.number < length c.args.names.now.marks.items = omega (arith, low, c.requires.names.marks) in
     let marked : is_marked c.args.names.now.marks.items c.in-Some.number ≡ true =
@@ -21,7 +21,7 @@ returns-then-index-clause-found c =
 
 pub returns-else-index-clause-none : goal.returns-else-index-clause-none
 returns-else-index-clause-none c =
-    let known : number_at c.args.places.now c.args.place ≡ Some c.in-Some.number = sym c.get.ensures.value ∙ (sym c.copied.ensures ∙ c.in-Some.is) in
+    let known : number_at c.args.places.now c.args.place ≡ Some c.in-Some.number = sym c.find.ensures ∙ c.in-Some.is in
     let low = number_low c.args.names.now.slots.items (number_at c.args.places.now) c.args.place c.in-Some.number c.requires.placed known in
     let within : c.in-Some.number < length c.args.names.now.marks.items = omega (arith, low, c.requires.names.marks) in
     let unmarked : is_marked c.args.names.now.marks.items c.in-Some.number ≡ false =
@@ -30,4 +30,4 @@ returns-else-index-clause-none c =
 
 pub returns-in-None-clause-none : goal.returns-in-None-clause-none
 returns-in-None-clause-none c = number_none c.args.names.now (number_at c.args.places.now) c.args.place c.requires.placed
-    (sym c.get.ensures.value ∙ (sym c.copied.ensures ∙ c.in-None.is))
+    (sym c.find.ensures ∙ c.in-None.is)

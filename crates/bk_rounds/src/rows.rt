@@ -1,0 +1,190 @@
+//! Likely numbers of ids and places. A number from here is used only after its slot was compared.
+
+ghost use Rattle.std.specs.Prelude.{◌≡◌, ◌<◌, ◌≤◌, ◌^◌, IfSome, IsTrue, length};
+ghost use Rattle.bk_cert.specs.declared.place.CertRef.{CertRef};
+ghost use Rattle.bk_rounds.specs.private.Numbered.{id_of, round_of};
+ghost use Rattle.bk_rounds.specs.private.Tied.{place_at};
+
+use crate::slots::Slot;
+use bk_cert::{CertRef, SharedCert};
+use bk_digest::Digest32;
+use std::alloc::{AllocError, Global};
+
+// Rows are made while there are at most this many entries for each held certificate.
+const ENTRIES_FOR_EACH: usize = 16;
+
+// The number of certificates that are counted beyond those held, for the first rounds.
+const FREE: usize = 64;
+
+/// For each round a row by author and a row by id, with an entry for each member: the number of a
+/// held certificate of that round, plus 1, or 0 at the end of what is known.
+///
+/// A parent is looked up in the row of the round before, where the map of all ids costs several
+/// cache misses. Nothing relies on what an entry is: one that is wrong or missing only costs the
+/// search in the map. So a round may have no rows, or lack what came before they were made, and
+/// those that were made for a certificate whose `add` then ran out of memory stay.
+#[derive(Drop)]
+pub(crate) struct Rows {
+    // How many members there are.
+    members: u8,
+    by_author: Vec<u32>,
+    // Each row by the first bytes of the ids.
+    by_id: Vec<u32>,
+}
+
+impl Rows {
+    /// No row.
+    pub fn new(alloc: Global, members: u8) -> Rows {
+        Rows {
+            members,
+            by_author: Vec::new(alloc),
+            by_id: Vec::new(alloc),
+        }
+    }
+
+    /// Makes the rows up to a certificate's round. Where most members have no certificates, as in a
+    /// feed with one for each round, no further rows are made: their memory stays in proportion to
+    /// what is held.
+    pub fn open(&mut self, cert: &SharedCert, held: usize) -> Result<(), AllocError> {
+        let round = cert.header().round();
+        if round == 0 {
+            return Ok(());
+        }
+        let end = self.start_of(round) + usize::from(self.members);
+        if end <= self.by_id.len() || end / ENTRIES_FOR_EACH > held.saturating_add(FREE) {
+            return Ok(());
+        }
+        self.by_author.resize(end, 0)?;
+        self.by_id.resize(end, 0)
+    }
+
+    /// Enters the certificate of this number, where its round has rows.
+    pub fn enter(&mut self, slots: &[Slot], number: usize) {
+        let Some(slot) = slots.get(number) else {
+            return;
+        };
+        let entry = entry_of(number);
+        if slot.round == 0 || entry == 0 {
+            return;
+        }
+        let start = self.start_of(slot.round);
+        let end = start + usize::from(self.members);
+        if slot.author >= self.members || end > self.by_author.len() || end > self.by_id.len() {
+            return;
+        }
+        self.by_author[start + usize::from(slot.author)] = entry;
+        let row = &mut self.by_id[start..end];
+        let at = skip(slots, row, 0, &slot.id);
+        insert(row, at, entry);
+    }
+
+    /// The row by id of the round before a certificate's; none where it is not kept.
+    pub fn before(&self, cert: &SharedCert) -> &[u32] {
+        let round = cert.header().round();
+        if round < 2 {
+            return &[];
+        }
+        let start = self.start_of(round - 1);
+        match self.by_id.get(start..start + usize::from(self.members)) {
+            Some(row) => row,
+            None => &[],
+        }
+    }
+
+    /// The number of the certificate of this place, where it is known here.
+    pub fn at(&self, slots: &[Slot], place: CertRef) -> Option<usize>
+        ensures { IfSome result (λ k. (0 < round_of slots.now k)
+            × (place_at slots.now k ≡ place)) }
+    {
+        if place.round == 0 {
+            return None;
+        }
+        let index = self.start_of(place.round) + usize::from(place.author);
+        let number = likely(&self.by_author, index)?;
+        if number >= slots.len() {
+            return None;
+        }
+        let slot = &slots[number];
+        if slot.round == place.round && slot.author == place.author {
+            Some(number)
+        } else {
+            None
+        }
+    }
+
+    // Where the rows of a round start.
+    fn start_of(&self, round: u32) -> usize
+        requires { 1 ≤ round }
+        ensures { result < 2 ^ 40 }
+    {
+        let members = self.members;
+        (round - 1) as usize * usize::from(members)
+    }
+}
+
+// The entry for a number; 0 where it is too great for one.
+fn entry_of(number: usize) -> u32 {
+    match u32::try_from(number) {
+        Ok(number) => number.checked_add(1).unwrap_or(0),
+        Err(_) => 0,
+    }
+}
+
+/// The number of an entry.
+pub(crate) fn likely(entries: &[u32], at: usize) -> Option<usize> {
+    match entries.get(at) {
+        Some(entry) => (*entry as usize).checked_sub(1),
+        None => None,
+    }
+}
+
+/// The index of the first entry at or past this one whose id is not before the given one.
+pub(crate) fn skip(slots: &[Slot], row: &[u32], from: usize, id: &Digest32) -> usize {
+    let key = key_of(id);
+    for at in from..row.len() {
+        if !is_before(slots, row[at], key) {
+            return at;
+        }
+    }
+    row.len()
+}
+
+// Whether an entry's id starts with smaller bytes. The end of a row is before no id.
+fn is_before(slots: &[Slot], entry: u32, key: u64) -> bool {
+    match (entry as usize).checked_sub(1) {
+        Some(number) => match slots.get(number) {
+            Some(slot) => key_of(&slot.id) < key,
+            None => false,
+        },
+        None => false,
+    }
+}
+
+// The first 8 bytes of an id, in their order. Where two ids share them, they are compared whole.
+fn key_of(id: &Digest32) -> u64 {
+    let b = id.as_bytes();
+    u64::from_be_bytes([b[0], b[1], b[2], b[3], b[4], b[5], b[6], b[7]])
+}
+
+/// Whether a number is that of the id.
+pub(crate) fn has_id(slots: &[Slot], number: usize, id: &Digest32) -> bool
+    ensures { IsTrue result → (number < length slots.now) × (id_of slots.now number ≡ id.now) }
+{
+    if number >= slots.len() {
+        return false;
+    }
+    slots[number].id == *id
+}
+
+// Puts an entry at this index, and those from there on one further, up to the first 0.
+fn insert(row: &mut [u32], at: usize, entry: u32) {
+    let mut moved = entry;
+    for i in at..row.len() {
+        let next = row[i];
+        row[i] = moved;
+        if next == 0 {
+            return;
+        }
+        moved = next;
+    }
+}
