@@ -1,13 +1,12 @@
 -- How many accounts transactions can make: each takes eight bytes of a feed, or more.
 use Rattle.std.proofs.Common.{◌≡◌, ℕ, zero, suc, ◌+◌, ◌*◌, ◌^◌, ◌<◌, ◌≤◌, Bool, true, false, cond, eqb, ltb, ◌&&◌, ◌||◌, not, List, [], ◌∷◌, ◌++◌, length, map, take, drop, Option, Some, None, refl, sym, ap, subst, ◌∙◌, length-append, length-drop, length-take, arith}
-use Rattle.std.specs.Prelude.{unwrap_or, nat_le}
+use Rattle.std.specs.Prelude.{unwrap_or}
 use Rattle.std.specs.List.{flat_map}
 use Rattle.std.specs.Int.{Width, w8, w16, w64, byte_len, from_be_bytes}
 use Rattle.std.proofs.lemmas.Bool.{eqb-true, ltb-false, ltb-true}
 use Rattle.std.proofs.lemmas.Bool.Decides.{nat_tests}
-use Rattle.std.proofs.lemmas.List.{length-map, map-append}
+use Rattle.std.proofs.lemmas.List.{length-map}
 use Rattle.std.proofs.lemmas.List.Concat.{flat_map-cons}
-use Rattle.bk_frames.specs.declared.limits.TheConstants.{MOST_ACCOUNTS, MOST_FEED}
 use Rattle.bk_frames.specs.declared.genesis.Row.{Row}
 use Rattle.bk_frames.specs.declared.version.Version.{Version}
 use Rattle.bk_frames.specs.Feed.{Frame, FeedValue, IsFeed, frame_text, genesis_of}
@@ -23,7 +22,7 @@ use Rattle.bk_tx.specs.declared.payments.Payment.{Payment}
 use Rattle.bk_tx.specs.Transaction.{Transaction}
 use Rattle.bk_tx.specs.Spelling.{receivers_of}
 use Rattle.bk_tx.specs.Reading.{writable_of, declared_at, declarations_at, is_count, pay_at, pay_if_at, sweep_at, payment_at, is_payment_count, split_at, body_at, pays, transaction_of, text_at, texts_of}
-use Rattle.bk_tx.specs.Batches.{is_batch, payloads_of, transactions_in, transactions_of, feed_transactions}
+use Rattle.bk_tx.specs.Batches.{is_batch, transactions_in, transactions_of, feed_transactions}
 use Rattle.bk_rules.specs.declared.receipt.Status.{Status}
 use Rattle.bk_rules.specs.declared.receipt.Status.TheVariants as status
 use Rattle.bk_rules.specs.Rule.{Accounts, Change, balance_at, new_account, status_of, payments_of, payments_on, receive, changes_of}

@@ -7,3 +7,5 @@ pub mod PartRuns
 pub mod FeedSlices
 pub mod Growth
 pub mod Enough
+pub mod Covering
+pub mod MadeSlots

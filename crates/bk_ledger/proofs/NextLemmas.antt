@@ -1,6 +1,6 @@
 -- Slices that are planned before their turn comes.
 use Rattle.std.proofs.Common.{◌≡◌, ℕ, ◌+◌, ◌^◌, ◌<◌, ◌≤◌, List, [], ◌++◌, length, Option, Result, Ok, Err, refl, sym, ap, subst, ◌∙◌, arith}
-use Rattle.std.specs.Prelude.{IfOk, IfErr, OnOk}
+use Rattle.std.specs.Prelude.{IfOk, IfErr}
 use Rattle.std.specs.Arc.{arc_value}
 use Rattle.bk_frames.specs.declared.genesis.Row.{Row}
 use Rattle.bk_frames.specs.declared.version.Version.{Version}
@@ -17,25 +17,12 @@ use Rattle.bk_ledger.specs.declared.ready.Next.TheVariants as next
 use Rattle.bk_ledger.specs.declared.batches.Batches.{Batches}
 use Rattle.bk_ledger.specs.Executing.{HasRun, Leaves}
 use Rattle.bk_ledger.specs.Naming.{named_by}
-use Rattle.bk_ledger.specs.private.Slices.{CanRunPart, IsAheadOf, IsNextFrom, IsNextOf, IsNoneAhead, IsPlannedOn, IsReadOf, IsReady, IsSame, ahead_of, counts_of, txs_of}
+use Rattle.bk_ledger.specs.private.Slices.{CanRunPart, IsAheadOf, IsNextFrom, IsNoneAhead, IsPlannedOn, IsReadOf, IsReady, IsSame, ahead_of, counts_of, txs_of}
 use Rattle.bk_pool.specs.declared.outcome.ExecFault.{ExecFault}
 use Rattle.bk_ledger.proofs.Growth.{slots_long}
 use Rattle.bk_ledger.proofs.SliceLemmas.{slice_none}
 
 -- ---- reading
-
--- a slice that is read
-pub read_next : (payloads : List (List ℕ)) (from : ℕ) (version : Version) (slots : List ℕ) (b : Batches) → IsReadOf payloads from b.counts.items b.txs.items → IsNextOf payloads from version slots (next.Read b)
-read_next payloads from version slots b read = record { read = read; planned = tt }
-
--- the first two slices
-pub two_ahead : (payloads : List (List ℕ)) (from later : ℕ) (version : Version) (slots : List ℕ) (b c : Batches) → later ≡ from + length b.counts.items → IsReadOf payloads from b.counts.items b.txs.items → IsReadOf payloads later c.counts.items c.txs.items
-    → IsAheadOf payloads from version slots (ahead_of from (next.Read b) c)
-two_ahead payloads from later version slots b c at read behind = record {
-  at = refl;
-  next = read_next payloads from version slots b read;
-  read = subst (λ (n : ℕ). IsReadOf payloads n c.counts.items c.txs.items) at behind;
-}
 
 -- a slice that was read, and planned
 pub ready_from : (b : Batches) (version : Version) (slots : List ℕ) (r : Ready) → IsReady version slots b.counts.items b.txs.items r → IsNextFrom b version slots (next.Ready r)
@@ -108,7 +95,7 @@ pub same_room : (n : ℕ) (a b : LedgerValue) → IsSame a b → HasRoom a.state
 same_room n a b same room = subst (λ (y : Version × List Row). HasRoom y.0 n y.1) (λ j. (sym same.version j, sym same.rows j)) room
 
 -- the same, seen from the ledger before its slots were made
-same_ran : (counts : List (Option ℕ)) (txs : List (Option Transaction)) (a b c : LedgerValue) → IsSame a b → length b.state.slots ≤ length a.state.slots + named_by txs → c.state.slots ≡ b.state.slots → HasRun counts txs b c → HasRun counts txs a c
+pub same_ran : (counts : List (Option ℕ)) (txs : List (Option Transaction)) (a b c : LedgerValue) → IsSame a b → length b.state.slots ≤ length a.state.slots + named_by txs → c.state.slots ≡ b.state.slots → HasRun counts txs b c → HasRun counts txs a c
 same_ran counts txs a b c same grown still ran = record {
   version = ran.version ∙ same.version;
   counts_are = ran.counts_are ∙ ap (λ (xs : List (Option ℕ)). xs ++ counts) same.counts_are;
@@ -117,15 +104,19 @@ same_ran counts txs a b c same grown still ran = record {
   slots = omega (arith, grown, ap length still);
 }
 
-pub ready_ran : (version : Version) (slots : List ℕ) (counts : List (Option ℕ)) (txs : List (Option Transaction)) (r : Ready) (a b c : LedgerValue) → IsReady version slots counts txs r → IsSame a b → length b.state.slots ≤ length a.state.slots + named_by txs → c.state.slots ≡ b.state.slots → HasRun r.counts.items (arc_value r.plan).txs b c
-    → HasRun counts txs a c
-ready_ran version slots counts txs r a b c ready same grown still ran =
-    same_ran counts txs a b c same grown still (subst (λ (s : List (Option ℕ) × List (Option Transaction)). HasRun s.0 s.1 b c) (λ i. (ready.counts_are i, ready.txs_are i)) ran)
+-- what it gives, by the names of its parts
+pub ready_ran : (version : Version) (slots : List ℕ) (counts : List (Option ℕ)) (txs : List (Option Transaction)) (r : Ready) (a : LedgerValue) (x : Result (LedgerValue × Ahead) ExecFault) → IsReady version slots counts txs r
+    → IfOk x (λ s. HasRun r.counts.items (arc_value r.plan).txs a s.0) → IfOk x (λ s. HasRun counts txs a s.0)
+ready_ran version slots counts txs r a x ready ran = subst (λ (s : List (Option ℕ) × List (Option Transaction)). IfOk x (λ y. HasRun s.0 s.1 a y.0)) (λ i. (ready.counts_are i, ready.txs_are i)) ran
 
-pub ready_leaves : (version : Version) (slots : List ℕ) (counts : List (Option ℕ)) (txs : List (Option Transaction)) (r : Ready) (a b : LedgerValue) (e : ExecFault) → IsReady version slots counts txs r → IsSame a b
-    → Leaves (length b.receipts) (length b.receipts + length (arc_value r.plan).txs) e → Leaves (length a.receipts) (length a.receipts + length txs) e
-ready_leaves version slots counts txs r a b e ready same left =
-    subst (λ (s : ℕ × ℕ). Leaves s.0 (s.0 + s.1) e) (λ i. (length (same.receipts i), length (ready.txs_are i))) left
+-- its places are numbered
+pub ready_places : (first : ℕ) (version : Version) (slots : List ℕ) (counts : List (Option ℕ)) (txs : List (Option Transaction)) (r : Ready) → IsReady version slots counts txs r → first + length txs < 2 ^ 32 → first + length (arc_value r.plan).txs < 2 ^ 32
+ready_places first version slots counts txs r ready few = omega (arith, few, ap length ready.txs_are)
+
+-- what it leaves undone
+pub ready_leaves : (first : ℕ) (version : Version) (slots : List ℕ) (counts : List (Option ℕ)) (txs : List (Option Transaction)) (r : Ready) (x : Result (LedgerValue × Ahead) ExecFault) → IsReady version slots counts txs r
+    → IfErr x (Leaves first (first + length (arc_value r.plan).txs)) → IfErr x (Leaves first (first + length txs))
+ready_leaves first version slots counts txs r x ready left = subst (λ (n : ℕ). IfErr x (Leaves first (first + n))) (ap length ready.txs_are) left
 
 -- transactions in their order, once slots are made for them
 pub run_is : (counts : List (Option ℕ)) (txs : List (Option Transaction)) (a : LedgerValue) (mid : rules.Ledger) (b : LedgerValue) → rules.IsPrepared txs a.state mid → b.counts ≡ a.counts ++ counts → b.receipts ≡ a.receipts ++ receipts_of mid.version txs mid.rows
@@ -138,30 +129,9 @@ run_is counts txs a mid b p counted received after = record {
   slots = omega (arith, ap (λ (l : rules.Ledger). length l.slots) after, slots_long txs a.state mid p);
 }
 
--- what holds, holds where a call gave something
-pub on_ok : {T E : Type 0} (r : Result T E) (P : Type 0) → P → OnOk r P
-on_ok (Ok x) P p = p
-on_ok (Err e) P p = tt
+-- ---- the slices after the one whose turn it is
 
--- ---- the slice whose turn it is, and those after it
-
--- it can run once it is ready
-pub made_runs : (counts : List (Option ℕ)) (txs : List (Option Transaction)) (r : Ready) (a b : LedgerValue) → IsReady b.state.version b.state.slots counts txs r → IsSame a b → IsLedger b.state.rows → HaveSlots b.state.slots b.state.rows
-    → HasRoom a.state.version (length txs) a.state.rows → CanRunPart r b.state
-made_runs counts txs r a b ready same is_ledger have room = ready_runs b.state counts txs r ready is_ledger have (same_room (length txs) a b same room)
-
--- and its places are numbered
-pub made_places : (version : Version) (slots : List ℕ) (counts : List (Option ℕ)) (txs : List (Option Transaction)) (r : Ready) (a b : LedgerValue) → IsReady version slots counts txs r → IsSame a b
-    → length a.receipts + length txs < 2 ^ 32 → length b.receipts + length (arc_value r.plan).txs < 2 ^ 32
-made_places version slots counts txs r a b ready same few = omega (arith, few, ap length same.receipts, ap length ready.txs_are)
-
--- what it gives, seen from the ledger before its slots were made
-pub made_ran : (version : Version) (slots : List ℕ) (counts : List (Option ℕ)) (txs : List (Option Transaction)) (r : Ready) (a b : LedgerValue) (x : Result (LedgerValue × Ahead) ExecFault) → IsReady version slots counts txs r → IsSame a b
-    → length b.state.slots ≤ length a.state.slots + named_by txs → IfOk x (λ s. HasRun r.counts.items (arc_value r.plan).txs b s.0) → IfOk x (λ s. s.0.state.slots ≡ b.state.slots) → IfOk x (λ s. HasRun counts txs a s.0)
-made_ran version slots counts txs r a b (Ok s) ready same grown ran still = ready_ran version slots counts txs r a b s.0 ready same grown still ran
-made_ran version slots counts txs r a b (Err e) ready same grown ran still = tt
-
--- the slices after it
+-- where there are some
 pub made_ahead : (payloads : List (List ℕ)) (from at : ℕ) (counts : List (Option ℕ)) (txs : List (Option Transaction)) (b : LedgerValue) (x : Result (LedgerValue × Ahead) ExecFault) → from ≡ at → IfOk x (λ s. HasRun counts txs b s.0)
     → IfOk x (λ s. s.0.state.slots ≡ b.state.slots) → IfOk x (λ s. IsAheadOf payloads from b.state.version b.state.slots s.1) → IfOk x (λ s. IsAheadOf payloads at s.0.state.version s.0.state.slots s.1)
 made_ahead payloads from at counts txs b (Ok s) same ran still behind = ahead_after payloads from at b.state.version b.state.slots s.0 s.1 same ran.version still behind
@@ -171,9 +141,3 @@ made_ahead payloads from at counts txs b (Err e) same ran still behind = tt
 pub none_made : (payloads : List (List ℕ)) (from at : ℕ) (x : Result (LedgerValue × Ahead) ExecFault) → from ≡ at → from ≡ length payloads → IfOk x (λ s. IsNoneAhead from s.1) → IfOk x (λ s. IsAheadOf payloads at s.0.state.version s.0.state.slots s.1)
 none_made payloads from at (Ok s) same all none = none_ahead payloads at s.0.state.version s.0.state.slots s.1 (sym same ∙ all) (subst (λ (n : ℕ). IsNoneAhead n s.1) same none)
 none_made payloads from at (Err e) same all none = tt
-
--- what it leaves undone
-pub made_leaves : (version : Version) (slots : List ℕ) (counts : List (Option ℕ)) (txs : List (Option Transaction)) (r : Ready) (a b : LedgerValue) (x : Result (LedgerValue × Ahead) ExecFault) → IsReady version slots counts txs r → IsSame a b
-    → IfErr x (Leaves (length b.receipts) (length b.receipts + length (arc_value r.plan).txs)) → IfErr x (Leaves (length a.receipts) (length a.receipts + length txs))
-made_leaves version slots counts txs r a b (Ok s) ready same left = tt
-made_leaves version slots counts txs r a b (Err e) ready same left = ready_leaves version slots counts txs r a b e ready same left

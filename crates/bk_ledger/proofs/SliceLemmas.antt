@@ -1,5 +1,5 @@
 -- Slices of batches, one after another.
-use Rattle.std.proofs.Common.{◌≡◌, ℕ, zero, suc, ◌+◌, ◌^◌, ◌<◌, ◌≤◌, Bor, get_or, List, [], ◌∷◌, ◌++◌, length, map, drop, Option, Some, refl, sym, ap, subst, ◌∙◌, append-nil, append_assoc, length-append, drop_of_length-le, arith}
+use Rattle.std.proofs.Common.{◌≡◌, ℕ, zero, suc, ◌+◌, ◌<◌, ◌≤◌, Bor, get_or, List, [], ◌∷◌, ◌++◌, length, map, drop, Option, Some, refl, sym, ap, subst, ◌∙◌, append-nil, append_assoc, length-append, drop_of_length-le, arith}
 use Rattle.std.specs.Prelude.{slice_get}
 use Rattle.std.proofs.lemmas.List.{map-append}
 use Rattle.std.proofs.lemmas.List.Concat.{flat_map-append, flat_map-cons}
@@ -16,13 +16,12 @@ use Rattle.bk_tx.specs.Batches.{count_in, transactions_in, transactions_of}
 use Rattle.bk_pool.specs.declared.outcome.ExecFault.{ExecFault}
 use Rattle.bk_pool.specs.declared.outcome.ExecFault.TheVariants.{OutOfMemory, Unfinished}
 use Rattle.bk_ledger.specs.Executing.{HasRun, HasExecuted, Leaves}
-use Rattle.bk_ledger.specs.Naming.{named_by}
 use Rattle.bk_ledger.specs.private.Slices.{IsSliceOf, IsOnTheWay}
 use Rattle.bk_ledger.proofs.Growth.{named-append}
 
 -- ---- lists
 
-transactions-append : (xs ys : List (List ℕ)) → transactions_of (xs ++ ys) ≡ transactions_of xs ++ transactions_of ys
+pub transactions-append : (xs ys : List (List ℕ)) → transactions_of (xs ++ ys) ≡ transactions_of xs ++ transactions_of ys
 transactions-append xs ys = flat_map-append transactions_in xs ys
 
 transactions-one : (payload : List ℕ) → transactions_of (payload ∷ []) ≡ transactions_in payload
@@ -65,14 +64,14 @@ run_then counts more txs others a b c first second =
       slots = omega (arith, first.slots, second.slots, named-append txs others);
     }
 
-executed_then : (xs ys : List (List ℕ)) (a b c : LedgerValue) → HasExecuted xs a b → HasExecuted ys b c → HasExecuted (xs ++ ys) a c
+pub executed_then : (xs ys : List (List ℕ)) (a b c : LedgerValue) → HasExecuted xs a b → HasExecuted ys b c → HasExecuted (xs ++ ys) a c
 executed_then xs ys a b c first second =
     let both = run_then (map count_in xs) (map count_in ys) (transactions_of xs) (transactions_of ys) a b c first second in
     let counts : map count_in (xs ++ ys) ≡ map count_in xs ++ map count_in ys = map-append count_in xs ys in
     subst (λ (s : List (Option ℕ) × List (Option Transaction)). HasRun s.0 s.1 a c) (λ i. (sym counts i, sym (transactions-append xs ys) i)) both
 
 -- there is room for what is left
-room_after : (xs ys : List (List ℕ)) (a b : LedgerValue) → HasExecuted xs a b → HasRoom a.state.version (length (transactions_of (xs ++ ys))) a.state.rows → HasRoom b.state.version (length (transactions_of ys)) b.state.rows
+pub room_after : (xs ys : List (List ℕ)) (a b : LedgerValue) → HasExecuted xs a b → HasRoom a.state.version (length (transactions_of (xs ++ ys))) a.state.rows → HasRoom b.state.version (length (transactions_of ys)) b.state.rows
 room_after xs ys a b ran room =
     let v = a.state.version in
     let sum : length (transactions_of (xs ++ ys)) ≡ length (transactions_of xs) + length (transactions_of ys) = ap length (transactions-append xs ys) ∙ length-append (transactions_of xs) (transactions_of ys) in
@@ -80,7 +79,7 @@ room_after xs ys a b ran room =
     subst (λ (s : Version × List Row). HasRoom s.0 (length (transactions_of ys)) s.1) (λ i. (sym ran.version i, sym ran.rows i)) left
 
 -- so many receipts
-receipts_after : (counts : List (Option ℕ)) (txs : List (Option Transaction)) (a b : LedgerValue) → HasRun counts txs a b → length b.receipts ≡ length a.receipts + length txs
+pub receipts_after : (counts : List (Option ℕ)) (txs : List (Option Transaction)) (a b : LedgerValue) → HasRun counts txs a b → length b.receipts ≡ length a.receipts + length txs
 receipts_after counts txs a b ran =
     ap length ran.receipts ∙ length-append a.receipts (receipts_of a.state.version txs a.state.rows)
     ∙ ap (λ n. length a.receipts + n) (length-receipts a.state.version txs a.state.rows)
@@ -160,18 +159,6 @@ pub room_for_slice : (payloads : List (List ℕ)) (at : ℕ) (counts : List (Opt
 room_for_slice payloads at counts txs first now way slice room =
     let left = room_after way.done (drop at payloads) first now way.ran (subst (λ (t : List (List ℕ)). HasRoom first.state.version (length (transactions_of t)) first.state.rows) way.split room) in
     room_weaker now.state.version (length (transactions_of (drop at payloads))) (length txs) now.state.rows (sizes payloads at counts txs first now way slice).0 left
-
--- and there is room for the slots that are made for it
-pub slots_for_slice : (payloads : List (List ℕ)) (at : ℕ) (counts : List (Option ℕ)) (txs : List (Option Transaction)) (first now : LedgerValue) → IsOnTheWay payloads at first now → IsSliceOf payloads at counts txs
-    → length first.state.slots + named_by (transactions_of payloads) < 2 ^ 31 → length now.state.slots + named_by txs < 2 ^ 31
-slots_for_slice payloads at counts txs first now way slice few =
-    let rest = drop (at + length counts) payloads in
-    let ran = way.ran in
-    let part : named_by (transactions_of (drop at payloads)) ≡ named_by (transactions_of slice.batches) + named_by (transactions_of rest) =
-    ap (λ (t : List (List ℕ)). named_by (transactions_of t)) slice.split ∙ ap named_by (transactions-append slice.batches rest) ∙ named-append (transactions_of slice.batches) (transactions_of rest) in
-    let whole : named_by (transactions_of payloads) ≡ named_by (transactions_of way.done) + named_by (transactions_of (drop at payloads)) =
-    ap (λ (t : List (List ℕ)). named_by (transactions_of t)) way.split ∙ ap named_by (transactions-append way.done (drop at payloads)) ∙ named-append (transactions_of way.done) (transactions_of (drop at payloads)) in
-    omega (arith, few, part, whole, ap named_by slice.txs_are, ran.slots)
 
 -- a place of some is one of more
 pub leaves_weaker : (first end start stop : ℕ) (e : ExecFault) → start ≤ first → end ≤ stop → Leaves first end e → Leaves start stop e

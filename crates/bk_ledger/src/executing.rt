@@ -1,12 +1,14 @@
 //! Batches, executed in slices by any number of workers.
 //!
 //! While a slice is executed, the one after it is planned in a thread of its own, and the next one is read and decoded
-//! in another, which also looks up its accounts.
+//! in another, which also looks up its accounts. In version Two a slice may declare accounts without a slot: then slots
+//! are made for it and for all slices after it at once, so that these are planned ahead too.
 
-ghost use Rattle.std.specs.Prelude.{◌≡◌, ◌+◌, ◌^◌, ◌<◌, ◌≤◌, ◌⊎◌, Ok, Err, map, length, IfOk, IfErr, OnOk};
+ghost use Rattle.std.specs.Prelude.{◌≡◌, ◌+◌, ◌^◌, ◌<◌, ◌≤◌, ◌⊎◌, Ok, Err, true, map, length, IfOk, IfErr, OnOk};
 ghost use Rattle.std.specs.Arc.{arc_value};
 ghost use Rattle.std.specs.Thread.{IsSync};
 ghost use Rattle.bk_rules.specs.Fold.{HasRoom};
+ghost use Rattle.bk_rules.specs.Ledger.{are_covered};
 ghost use Rattle.bk_conflicts.specs.SceneOf.{CanRunOn};
 ghost use Rattle.bk_pool.specs.Outcomes.{IsBelow};
 ghost use Rattle.bk_pool.specs.declared.outcome.ExecFault.TheVariants.{OutOfMemory};
@@ -14,12 +16,12 @@ ghost use Rattle.bk_steps.specs.Schedule.{IsFoldOf};
 ghost use Rattle.bk_tx.specs.Batches.{transactions_of};
 ghost use Rattle.bk_ledger.specs.Executing.{HasExecuted, HasRun, Leaves};
 ghost use Rattle.bk_ledger.specs.Naming.{named_by};
-ghost use Rattle.bk_ledger.specs.private.Slices.{CanRunPart, IsAheadOf, IsNoneAhead, IsPartFold, IsPlannedOn, IsReadOf, IsReady, IsSame, counts_of, txs_of};
+ghost use Rattle.bk_ledger.specs.private.Slices.{CanRunPart, IsAheadOf, IsNoneAhead, IsOnTheWay, IsPartFold, IsReadOf, counts_of, is_plannable, txs_of};
 
 use crate::batches::Batches;
 use crate::ledger::Ledger;
-use crate::ready::{Ahead, Next, Ready, look_ahead, read_two};
-use crate::slice::{FEWEST, least_of};
+use crate::ready::{Ahead, Ready, look_ahead, look_first};
+use crate::slice::FEWEST;
 use crate::workers::{WORTH_THREADS, workers_at_once};
 use bk_conflicts::Plan;
 use bk_pool::{ExecFault, Gate, execute, execute_here};
@@ -82,26 +84,6 @@ fn both(
 }
 
 impl Ledger {
-    // Makes a slice ready: in version Two it gives each account a slot that the transactions declare.
-    fn make_ready(&mut self, alloc: Global, next: Next) -> Result<Ready, AllocError>
-        requires planned { IsPlannedOn self.old.state.version self.old.state.slots next }
-        requires few { length (txs_of next) < 2 ^ 31 }
-        requires slots { length self.old.state.slots + named_by (txs_of next) < 2 ^ 31 }
-        ensures ready { IfOk result (IsReady self.new.state.version self.new.state.slots
-            (counts_of next) (txs_of next)) }
-        ensures same { OnOk result (IsSame self.old self.new) }
-        ensures slots { OnOk result (length self.new.state.slots
-            ≤ length self.old.state.slots + named_by (txs_of next)) }
-    {
-        match next {
-            Next::Ready(ready) => Ok(ready),
-            Next::Read(batches) => {
-                self.state.prepare(alloc, &batches.txs)?;
-                batches.planned(alloc, self.state.version(), self.state.ids())
-            }
-        }
-    }
-
     // Puts what a slice gave into the ledger.
     fn keep(&mut self, ready: &Ready, outcome: &Outcome) -> Result<(), AllocError>
         requires runs { CanRunPart ready.now self.old.state }
@@ -259,41 +241,76 @@ impl Ledger {
     ) -> Result<(Ledger, Ahead), ExecFault>
         requires ahead { IsAheadOf (map (λ p. p.now) payloads.now) ahead.from
             self.state.version self.state.slots ahead }
+        requires plannable { is_plannable self.state.version self.state.slots ahead.next ≡ true }
         requires room { HasRoom self.state.version (length (txs_of ahead.next)) self.state.rows }
         requires places { length self.receipts + length (txs_of ahead.next) < 2 ^ 32 }
-        requires slots { length self.state.slots + named_by (txs_of ahead.next) < 2 ^ 31 }
+        requires slots { length self.state.slots < 2 ^ 31 }
         requires fits { length payloads.now < 2 ^ 64 }
         requires least { least < 2 ^ 30 }
         requires workers { (1 ≤ workers) × (workers ≤ 64) }
         ensures ran { IfOk result
             (λ r. HasRun (counts_of ahead.next) (txs_of ahead.next) self r.0) }
+        ensures slots { IfOk result (λ r. r.0.state.slots ≡ self.state.slots) }
         ensures ahead { IfOk result (λ r. IsAheadOf (map (λ p. p.now) payloads.now)
             (ahead.from + length (counts_of ahead.next)) r.0.state.version r.0.state.slots r.1) }
         ensures fault { let first = length self.receipts in
             IfErr result (Leaves first (first + length (txs_of ahead.next))) }
     {
         let Ahead { from, next, read } = ahead;
-        let mut ledger = self;
-        let ready = ledger.make_ready(alloc, next)?;
         // Its contract says that the accounts are those of a ledger.
-        let _version = ledger.state().version();
+        let version = self.state().version();
+        let ready = next.into_ready(alloc, version, self.state().ids())?;
         let from = from + ready.counts.len();
         if from == payloads.len() {
-            return ledger.run_last(rt, alloc, from, ready, workers, gate);
+            return self.run_last(rt, alloc, from, ready, workers, gate);
         }
-        ledger.run_beside(rt, alloc, payloads, from, read, least, ready, workers, gate)
+        self.run_beside(rt, alloc, payloads, from, read, least, ready, workers, gate)
     }
 
-    // How many transactions the slices after the next two take at least.
-    fn later_least(&self, ahead: &Ahead, fewest: usize) -> usize
-        requires { fewest < 2 ^ 30 }
-        ensures { result < 2 ^ 30 }
+    /// Executes further batches, up to the first slice that declares an account without a slot, which must have one.
+    /// Returns the index of its first batch too: the number of all batches, if there is no such slice.
+    pub(crate) fn execute_covered<R: Threads + Wait + Sync, G: Gate + Sync>(
+        self,
+        rt: &R,
+        alloc: Global,
+        payloads: &[&[u8]],
+        fewest: usize,
+        workers: usize,
+        gate: &G,
+    ) -> Result<(Ledger, usize), ExecFault>
+        requires room { HasRoom self.state.version
+            (length (transactions_of (map (λ p. p.now) payloads.now))) self.state.rows }
+        requires few { length self.receipts
+            + length (transactions_of (map (λ p. p.now) payloads.now)) < 2 ^ 32 }
+        requires slots { length self.state.slots < 2 ^ 31 }
+        requires fewest { fewest < 2 ^ 30 }
+        requires workers { (1 ≤ workers) × (workers ≤ 64) }
+        ensures ran { IfOk result (λ r.
+            IsOnTheWay (map (λ p. p.now) payloads.now) r.1 self r.0) }
+        ensures slots { IfOk result (λ r. r.0.state.slots ≡ self.state.slots) }
+        ensures within { IfOk result (λ r. r.1 ≤ length payloads.now) }
+        ensures all { are_covered self.state.version self.state.slots
+            (transactions_of (map (λ p. p.now) payloads.now)) ≡ true
+            → IfOk result (λ r. length payloads.now ≤ r.1) }
+        ensures fault { let first = length self.receipts in
+            let added = transactions_of (map (λ p. p.now) payloads.now) in
+            IfErr result (Leaves first (first + length added)) }
     {
-        if ahead.lacks_slots(self.state().version()) {
-            least_of(self.state().slots().len(), fewest)
-        } else {
-            fewest
+        let mut ledger = self;
+        let workers = workers_at_once(rt, workers);
+        let end = payloads.len();
+        let mut ahead = look_first(alloc, payloads, ledger.state(), fewest)?;
+        while ahead.from < end {
+            if !ahead.next.is_plannable(ledger.state()) {
+                return Ok((ledger, ahead.from));
+            }
+            let (after, later) = ledger.run_next(
+                rt, alloc, payloads, ahead, fewest, workers, gate,
+            )?;
+            ledger = after;
+            ahead = later;
         }
+        Ok((ledger, ahead.from))
     }
 
     /// Executes further batches, in slices of at least so many transactions.
@@ -319,17 +336,11 @@ impl Ledger {
             let added = transactions_of (map (λ p. p.now) payloads.now) in
             IfErr result (Leaves first (first + length added)) }
     {
-        let mut ledger = self;
-        let workers = workers_at_once(rt, workers);
-        let end = payloads.len();
-        let mut ahead = read_two(alloc, payloads, ledger.state().ids(), 0, fewest)?;
-        while ahead.from < end {
-            let least = ledger.later_least(&ahead, fewest);
-            let (after, later) = ledger.run_next(rt, alloc, payloads, ahead, least, workers, gate)?;
-            ledger = after;
-            ahead = later;
+        let (ledger, from) = self.execute_covered(rt, alloc, payloads, fewest, workers, gate)?;
+        if from == payloads.len() {
+            return Ok(ledger);
         }
-        Ok(ledger)
+        ledger.execute_widened(rt, alloc, &payloads[from..], fewest, workers, gate)
     }
 
     /// Executes further batches, a slice at a time, with this many workers, 1 to 64.

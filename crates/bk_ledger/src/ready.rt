@@ -1,10 +1,10 @@
 //! Slices that are planned before it is their turn.
 
-ghost use Rattle.std.specs.Prelude.{◌≡◌, ◌^◌, ◌<◌, ◌≤◌, ℕ, List, true, map, length, IfOk};
+ghost use Rattle.std.specs.Prelude.{◌≡◌, ◌^◌, ◌<◌, ◌≤◌, true, map, length, IfOk};
 ghost use Rattle.bk_frames.specs.declared.version.Version.TheVariants.{One, Two};
 ghost use Rattle.bk_rules.specs.Ledger.{are_covered};
 ghost use Rattle.bk_rules.specs.Part.{are_held};
-ghost use Rattle.bk_ledger.specs.private.Slices.{IsAheadOf, IsNextFrom, IsNoneAhead, IsReadOf, IsReady};
+ghost use Rattle.bk_ledger.specs.private.Slices.{IsAheadOf, IsNextFrom, IsNoneAhead, IsPlannedOn, IsReadOf, IsReady, counts_of, is_plannable, txs_of};
 ghost use Rattle.bk_ledger.specs.private.Touched.{AreTouched};
 
 use crate::batches::Batches;
@@ -13,7 +13,8 @@ use crate::slice::gather_near;
 use crate::touched::Touched;
 use bk_conflicts::Plan;
 use bk_frames::Version;
-use bk_rules::Ids;
+use bk_rules::{Ids, State};
+use bk_tx::Tx;
 use std::alloc::{AllocError, Global};
 use std::sync::{Arc, Wait};
 use std::thread::{Threads, join};
@@ -32,10 +33,48 @@ pub(crate) struct Ready {
 /// The slice whose turn is next.
 #[derive(Drop)]
 pub(crate) enum Next {
-    /// One to be planned when its turn comes: its transactions declare accounts that have no slot before.
+    /// One that was not planned: in version Two its transactions declare accounts without a slot.
     Read(Batches),
     /// One to be executed as it is.
     Ready(Ready),
+}
+
+impl Next {
+    /// Whether the slice is planned, or can be: each account that must have a slot has one.
+    pub(crate) fn is_plannable(&self, state: &State) -> bool
+        ensures { result ≡ is_plannable state.now.version state.now.slots self.now }
+    {
+        match self {
+            Next::Read(batches) => cover_all(state, &batches.txs),
+            Next::Ready(_) => true,
+        }
+    }
+
+    /// The slice as it is to be executed.
+    pub(crate) fn into_ready(
+        self,
+        alloc: Global,
+        version: Version,
+        ids: &Ids,
+    ) -> Result<Ready, AllocError>
+        requires planned { IsPlannedOn version ids.now self }
+        requires plannable { is_plannable version ids.now self ≡ true }
+        requires few { length (txs_of self) < 2 ^ 31 }
+        requires few_slots { length ids.now < 2 ^ 31 }
+        ensures { IfOk result (IsReady version ids.now (counts_of self) (txs_of self)) }
+    {
+        match self {
+            Next::Read(batches) => batches.planned(alloc, version, ids),
+            Next::Ready(ready) => Ok(ready),
+        }
+    }
+}
+
+// Whether each account that transactions declare has a slot, where it must have one.
+fn cover_all(state: &State, txs: &[Option<Tx>]) -> bool
+    ensures { result ≡ are_covered state.now.version state.now.slots txs.now }
+{
+    txs.iter().all(|tx| state.covers(tx.as_ref()))
 }
 
 /// The slice whose turn is next, and the one after it, which is read and not planned.
@@ -48,7 +87,8 @@ pub(crate) struct Ahead {
 }
 
 impl Batches {
-    /// Plans the transactions, all of whose accounts have a slot.
+    /// Plans the transactions over all slots, each account having one that must have one. It never comes to this but
+    /// where a look-up missed a slot.
     pub(crate) fn planned(
         self,
         alloc: Global,
@@ -60,17 +100,8 @@ impl Batches {
         requires few_slots { length ids.now < 2 ^ 31 }
         ensures { IfOk result (IsReady version ids.now self.counts.items self.txs.items) }
     {
-        let mut batches = self;
-        // Slots may have been made since the last look-up.
-        batches.near.clear();
-        ids.push_likely(&mut batches.near, &batches.txs)?;
-        let touched = Touched::near(alloc, ids, &mut batches.near)?;
-        if touched.ids.hold(version, ids, &batches.txs, &batches.near) {
-            return batches.planned_over(alloc, version, ids, touched);
-        }
-        // It never comes to this: the look-up finds each account that has a slot.
         let all = Touched::all(alloc, ids)?;
-        batches.planned_over(alloc, version, ids, all)
+        self.planned_over(alloc, version, ids, all)
     }
 
     // Plans them over slots that are enough.
@@ -103,35 +134,28 @@ impl Ahead {
         let read = Batches::new(alloc);
         Ahead { from, next, read }
     }
-
-    /// Whether slots are to be made for the slice whose turn is next. It is so of the first slice, which is planned when
-    /// its turn comes.
-    pub(crate) fn lacks_slots(&self, version: Version) -> bool {
-        match (version, &self.next) {
-            (Version::Two, Next::Read(_)) => true,
-            _ => false,
-        }
-    }
 }
 
-/// Reads the slice from an index on, and the one after it.
-pub(crate) fn read_two(
+/// Reads the first two slices, and plans the first.
+pub(crate) fn look_first(
     alloc: Global,
     payloads: &[&[u8]],
-    ids: &Ids,
-    from: usize,
+    state: &State,
     least: usize,
 ) -> Result<Ahead, AllocError>
-    requires within { from ≤ length payloads.now }
-    requires fits { length payloads.now < 2 ^ 64 }
     requires least { least < 2 ^ 30 }
-    ensures { IfOk result (λ a. (version : Version) (slots : List ℕ)
-        → IsAheadOf (map (λ p. p.now) payloads.now) from version slots a) }
+    ensures { IfOk result (IsAheadOf (map (λ p. p.now) payloads.now) 0
+        state.now.version state.now.slots) }
 {
-    let first = gather_near(alloc, payloads, ids, from, least)?;
-    let read = gather_near(alloc, payloads, ids, from + first.counts.len(), least)?;
-    let next = Next::Read(first);
-    Ok(Ahead { from, next, read })
+    let ids = state.ids();
+    let first = gather_near(alloc, payloads, ids, 0, least)?;
+    let read = gather_near(alloc, payloads, ids, first.counts.len(), least)?;
+    let next = plan_ahead(alloc, first, state.version(), ids)?;
+    Ok(Ahead {
+        from: 0,
+        next,
+        read,
+    })
 }
 
 // Plans a slice, if each account that it declares has a slot among these.

@@ -11,8 +11,8 @@ use std::alloc::{AllocError, Global};
 /// 65,536.
 pub(crate) const FEWEST: usize = 8_192;
 
-/// How many transactions a slice takes where slots are made: an eighth of the accounts, since to make slots costs what
-/// all of them cost, if these are no fewer than a given number.
+/// For how many transactions slots are made at a time: for an eighth as many as there are slots, since to make slots
+/// costs what all of them cost; for at most 524,288, since so many are decoded; and for a given number at least.
 pub(crate) fn least_of(slots: usize, fewest: usize) -> usize
     requires { fewest < 2 ^ 30 }
     ensures { result < 2 ^ 30 }

@@ -1,5 +1,5 @@
 -- Batches that were read, and slices of batches.
-use Rattle.std.specs.Prelude.{◌≡◌, true, ℕ, ◌+◌, ◌^◌, ◌<◌, ◌≤◌, List, [], ◌++◌, length, map, drop, Option}
+use Rattle.std.specs.Prelude.{◌≡◌, Bool, true, ℕ, ◌+◌, ◌^◌, ◌<◌, ◌≤◌, List, [], ◌++◌, length, map, drop, Option}
 use Rattle.std.specs.Arc.{arc_value}
 use Rattle.bk_frames.specs.declared.genesis.Row.{Row}
 use Rattle.bk_frames.specs.declared.version.Version.{Version}
@@ -60,6 +60,11 @@ pub record IsPlanned (version : Version) (slots : List ℕ) (r : Ready) : Type 0
 abbrev pub IsPlannedOn : Version → List ℕ → Next → Type 0
 IsPlannedOn version slots (next.Read b) = Unit {0}
 IsPlannedOn version slots (next.Ready r) = IsPlanned version slots r
+
+-- the slice is planned, or can be: each account that must have a slot has one
+abbrev pub is_plannable : Version → List ℕ → Next → Bool
+is_plannable version slots (next.Read b) = rules.are_covered version slots b.txs.items
+is_plannable version slots (next.Ready r) = true
 
 -- the slice of these transactions is planned, by these rules and over some of these slots
 pub record IsReady (version : Version) (slots : List ℕ) (counts : List (Option ℕ)) (txs : List (Option Transaction)) (r : Ready) : Type 0 where
