@@ -3,7 +3,7 @@
 ghost use Rattle.std.specs.Prelude.{◌≡◌, ◌+◌, ◌^◌, ◌<◌, ◌≤◌, ◌∷◌, ◌++◌, [], length, vec_len, IfOk, OnOk};
 ghost use Rattle.std.specs.Vec.{vec_capacity};
 ghost use Rattle.bk_frames.specs.Device.{CanBeUsed};
-ghost use Rattle.bk_report.specs.Lines.{line_text, placed, hashed};
+ghost use Rattle.bk_report.specs.Lines.{line_text, hashed};
 ghost use Rattle.bk_results.specs.Lines.{spaced};
 ghost use Rattle.bk_report.specs.declared.line.Line.TheVariants.{Members};
 ghost use Rattle.bk_report.specs.Pages.{Gathered, Written, size_of};
@@ -42,17 +42,41 @@ fn put_number(page: &mut Vec<u8>, number: u64)
     put_text(page, Buffer::new().format(number).as_bytes());
 }
 
-// Puts a word, and a round and an author, where there is room for 49 bytes.
-fn put_place(page: &mut Vec<u8>, word: &[u8], round: u32, author: u8)
+// Puts a word and a number where there is room for 28 bytes.
+fn put_one(page: &mut Vec<u8>, word: &[u8], one: u64)
     requires short { length word.now ≤ 7 }
-    requires room { vec_len page.old + 49 ≤ vec_capacity page.old }
-    ensures items { page.new.items ≡ page.old.items ++ placed word.now round author }
-    ensures len { vec_len page.new ≤ vec_len page.old + 49 }
+    requires room { vec_len page.old + 28 ≤ vec_capacity page.old }
+    ensures items { page.new.items ≡ page.old.items ++ (word.now ++ spaced one) }
+    ensures len { vec_len page.new ≤ vec_len page.old + 28 }
     ensures room { vec_capacity page.old ≤ vec_capacity page.new }
 {
     put_text(page, word);
-    put_number(page, u64::from(round));
-    put_number(page, u64::from(author));
+    put_number(page, one);
+}
+
+// Puts a word and two numbers where there is room for 49 bytes.
+fn put_two(page: &mut Vec<u8>, word: &[u8], one: u64, two: u64)
+    requires short { length word.now ≤ 7 }
+    requires room { vec_len page.old + 49 ≤ vec_capacity page.old }
+    ensures items { page.new.items ≡ page.old.items ++ (word.now ++ spaced one ++ spaced two) }
+    ensures len { vec_len page.new ≤ vec_len page.old + 49 }
+    ensures room { vec_capacity page.old ≤ vec_capacity page.new }
+{
+    put_one(page, word, one);
+    put_number(page, two);
+}
+
+// Puts a word and three numbers where there is room for 70 bytes.
+fn put_three(page: &mut Vec<u8>, word: &[u8], one: u64, two: u64, three: u64)
+    requires short { length word.now ≤ 7 }
+    requires room { vec_len page.old + 70 ≤ vec_capacity page.old }
+    ensures items { page.new.items
+        ≡ page.old.items ++ (word.now ++ spaced one ++ spaced two ++ spaced three) }
+    ensures len { vec_len page.new ≤ vec_len page.old + 70 }
+    ensures room { vec_capacity page.old ≤ vec_capacity page.new }
+{
+    put_two(page, word, one, two);
+    put_number(page, three);
 }
 
 // Puts a word, a space and a digest where there is room for 72 bytes.
@@ -100,26 +124,22 @@ pub(crate) fn put_line(page: &mut Vec<u8>, line: Line)
             faulty,
             quorum,
         } => put_members(page, members, faulty, quorum),
-        Line::Frames { count } => {
-            put_text(page, b"frames");
-            put_number(page, count);
+        Line::Frames { count } => put_one(page, b"frames", count),
+        Line::Reject { frame, rule } => put_two(page, b"reject", frame, u64::from(rule as u8)),
+        Line::Waiting { round, author } => {
+            put_two(page, b"waiting", u64::from(round), u64::from(author))
         }
-        Line::Reject { frame, rule } => {
-            put_text(page, b"reject");
-            put_number(page, frame);
-            put_number(page, u64::from(rule as u8));
+        Line::Anchor { round, author } => {
+            put_two(page, b"anchor", u64::from(round), u64::from(author))
         }
-        Line::Waiting { round, author } => put_place(page, b"waiting", round, author),
-        Line::Anchor { round, author } => put_place(page, b"anchor", round, author),
-        Line::Cert { round, author } => put_place(page, b"cert", round, author),
+        Line::Cert { round, author } => {
+            put_two(page, b"cert", u64::from(round), u64::from(author))
+        }
         Line::Batch { index, count } => {
-            put_text(page, b"batch");
-            put_number(page, u64::from(index));
-            put_number(page, u64::from(count));
+            put_two(page, b"batch", u64::from(index), u64::from(count))
         }
         Line::VoidBatch { index } => {
-            put_text(page, b"batch");
-            put_number(page, u64::from(index));
+            put_one(page, b"batch", u64::from(index));
             put_text(page, b" void");
         }
         Line::Missing { digest } => put_digest(page, b"missing", &digest),
@@ -127,33 +147,20 @@ pub(crate) fn put_line(page: &mut Vec<u8>, line: Line)
             place,
             status,
             moved,
-        } => {
-            put_text(page, b"tx");
-            put_number(page, u64::from(place));
-            put_number(page, u64::from(status.number()));
-            put_number(page, moved);
-        }
-        Line::Account { id, balance, seq } => {
-            put_text(page, b"account");
-            put_number(page, id);
-            put_number(page, balance);
-            put_number(page, seq);
-        }
-        Line::Money { total } => {
-            put_text(page, b"money");
-            put_number(page, total);
-        }
+        } => put_three(
+            page,
+            b"tx",
+            u64::from(place),
+            u64::from(status.number()),
+            moved,
+        ),
+        Line::Account { id, balance, seq } => put_three(page, b"account", id, balance, seq),
+        Line::Money { total } => put_one(page, b"money", total),
         Line::State { digest } => put_digest(page, b"state", &digest),
         Line::StateGood => put_text(page, b"state good"),
         Line::StateBad => put_text(page, b"state bad"),
-        Line::Size { size } => {
-            put_text(page, b"size");
-            put_number(page, size);
-        }
-        Line::Index { index } => {
-            put_text(page, b"index");
-            put_number(page, index);
-        }
+        Line::Size { size } => put_one(page, b"size", size),
+        Line::Index { index } => put_one(page, b"index", index),
         Line::Path { digest } => put_digest(page, b"path", &digest),
     }
     put_text(page, b"\n");
