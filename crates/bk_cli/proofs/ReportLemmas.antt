@@ -1,11 +1,10 @@
 -- Texts that are reported in two parts.
-use Rattle.std.proofs.Common.{arith, ◌≡◌, ◌∙◌, ◌++◌, ◌+◌, ◌⊎◌, ℕ, List, Option, Some, None, inl, inr, refl, sym, ap, subst, append_assoc}
-use Rattle.std.specs.Prelude.{◌<◌, ◌≤◌, length, take}
+use Rattle.std.proofs.Common.{arith, ◌≡◌, ◌∙◌, ◌++◌, ◌+◌, ℕ, List, Option, Some, None, inl, inr, sym, ap, append_assoc, length-append}
+use Rattle.std.specs.Prelude.{◌≤◌, length, take}
 use Rattle.std.specs.Io.KnownBytes.{Appends}
-use Rattle.std.proofs.lemmas.Bool.{cases_lt}
-use Rattle.std.proofs.lemmas.List.{take-append-le, take_all}
+use Rattle.std.proofs.lemmas.List.{take-append-le}
 use Rattle.std.proofs.Math.Seq.{take-append-add}
-use Rattle.bk_frames.specs.Device.{Device, Receives}
+use Rattle.bk_frames.specs.Device.{Device}
 use Rattle.bk_frames.specs.Writing.{Writes, StopsWriting}
 use Rattle.bk_frames.specs.declared.writing.WriteFault.{WriteFault}
 use Rattle.bk_cli.specs.FaultLines.{Reports, StopsReport}
@@ -23,10 +22,10 @@ then_writes x a b old mid new is first second =
 
 -- the first part is written, and the second is not written whole
 pub then_stops : (x a b : List ℕ) (old mid new : Device) → x ≡ a → Writes x old mid → StopsReport b mid new → StopsReport (a ++ b) old new
-then_stops x a b old mid new is first (fails, (written, gave)) =
+then_stops x a b old mid new is first (fails, (written, short, gave)) =
     rw (sym is) (
       fails ∙ ap (λ (n : ℕ). n + 1) first.0,
-      (length x + written, rw (take-append-add x b written) (appends_then old.bytes mid.bytes new.bytes x (take written b) first.1 gave)),
+      (length x + written, omega (arith, short, length-append x b), rw (take-append-add x b written) (appends_then old.bytes mid.bytes new.bytes x (take written b) first.1 gave)),
     )
 
 -- the first part is written, and then the second is reported
@@ -38,20 +37,16 @@ then_reports x a b old mid new is first (inr stops) = inr (then_stops x a b old 
 pub stops_first : (e : WriteFault) (x a b : List ℕ) (old new : Device) → x ≡ a → StopsWriting e x old new → StopsReport (a ++ b) old new
 stops_first e x a b old new is h =
     let few : e.written ≤ length x = omega (arith, h.short) in
-    rw (sym is) (h.fails, (e.written, rw (take-append-le e.written x b few) h.out))
+    rw (sym is) (h.fails, (e.written, omega (arith, h.short, length-append x b), rw (take-append-le e.written x b few) h.out))
 
 pub stops_reporting : (e : WriteFault) (x a b : List ℕ) (old new : Device) → x ≡ a → StopsWriting e x old new → Reports (a ++ b) old new
 stops_reporting e x a b old new is h = inr (stops_first e x a b old new is h)
 
 -- the only part is not written whole
 pub stops_only : (e : WriteFault) (x a : List ℕ) (old new : Device) → x ≡ a → StopsWriting e x old new → StopsReport a old new
-stops_only e x a old new is h = rw (sym is) (h.fails, (e.written, h.out))
+stops_only e x a old new is h = rw (sym is) (h.fails, (e.written, h.short, h.out))
 
 -- the part before it is not written whole
 pub stops_before : (a b : List ℕ) (old new : Device) → StopsReport a old new → StopsReport (a ++ b) old new
-stops_before a b old new (fails, (written, gave)) = (fails, at_most (cases_lt written (length a)))
-  where
-    at_most : (written < length a) ⊎ (length a ≤ written) → (n : ℕ) × Receives old new (take n (a ++ b))
-    at_most (inl few) = (written, rw (take-append-le written a b (omega (arith, few))) gave)
-    at_most (inr all) =
-        (length a, rw (take-append-le (length a) a b (omega arith)) (rw (take_all (length a) a (omega arith)) (subst (λ (t : List ℕ). Receives old new t) (take_all written a all) gave)))
+stops_before a b old new (fails, (written, short, gave)) =
+    (fails, (written, omega (arith, short, length-append a b), rw (take-append-le written a b (omega (arith, short))) gave))

@@ -1,5 +1,5 @@
 -- The line that reports a fault.
-use Rattle.std.specs.Prelude.{ℕ, List, ◌∷◌, ◌++◌, ◌⊎◌, codes, take}
+use Rattle.std.specs.Prelude.{ℕ, ◌<◌, List, ◌∷◌, ◌++◌, ◌⊎◌, codes, length, take}
 use Rattle.hex.specs.Hex.{encode_lower}
 use Rattle.bk_frames.specs.Device.{Device, Works, Fails, Receives}
 use Rattle.bk_frames.specs.Faults.{fault_text}
@@ -85,9 +85,10 @@ reported (fault.AbsentPlace place missing) = codes "absent place" ++ spaced plac
 abbrev pub line_of : JobFault → List ℕ
 line_of e = reported e ++ codes "\n"
 
--- a call of a sink that was to receive a text failed, and it received only some first bytes
+-- a call of a sink that was to receive a text failed, and it received only some first bytes, not all
 abbrev pub StopsReport : List ℕ → Device → Device → Type 0
-StopsReport text old new = Fails old new × ((written : ℕ) × Receives old new (take written text))
+StopsReport text old new =
+    Fails old new × ((written : ℕ) × (written < length text) × Receives old new (take written text))
 
 -- a sink was to receive a text: it received all of it; or not
 abbrev pub Reports : List ℕ → Device → Device → Type 0

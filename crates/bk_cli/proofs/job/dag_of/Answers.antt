@@ -1,9 +1,8 @@
 -- The rounds are the values of `--from` and `--rounds`.
-use Rattle.std.proofs.Common.{ap, subst, codes, Option, refl, sym, ◌∙◌}
+use Rattle.std.proofs.Common.{subst, codes, Option, refl}
 use Rattle.clap.proofs.WalkLemmas.{one_text-rows}
 use Rattle.clap.specs.Words.{Text, found_of}
 use Rattle.bk_cli.specs.CommandLine.{IsChosenBy}
-use Rattle.bk_cli.specs.Windows.{WindowValue}
 use Rattle.bk_cli.proofs.job.dag_of.Goals as goal
 
 pub returns : goal.returns

@@ -1,7 +1,6 @@
 -- One part is written, and the rest is reported after it.
 use Rattle.std.proofs.Common.{◌++◌, codes}
-use Rattle.bk_cli.specs.Explanations.{note_line, words_of}
-use Rattle.bk_cli.specs.FaultLines.{line_of}
+use Rattle.bk_cli.specs.Explanations.{words_of}
 use Rattle.bk_cli.proofs.ReportLemmas.{stops_reporting, then_reports}
 use Rattle.bk_cli.proofs.telling.push_name.Goals as goal
 
