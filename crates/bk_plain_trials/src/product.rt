@@ -109,10 +109,11 @@ fn executed<R: Threads + Wait + Sync>(
     requires workers { (1 ≤ workers) × (workers ≤ 64) }
 {
     let Batches { txs, .. } = Batches::of(alloc, feed)?;
-    if txs.len() >= MOST {
+    let mut state = State::new(alloc, feed.version(), feed.genesis())?;
+    state.prepare(alloc, &txs)?;
+    if txs.len() >= MOST || state.ids().len() >= MOST {
         bail!("too many");
     }
-    let state = State::new(alloc, feed.version(), feed.genesis())?;
     match execute_all(rt, alloc, state, txs, workers, &Open) {
         Ok(outcome) => Ok(outcome),
         Err(ExecFault::OutOfMemory) => bail!("out of memory"),

@@ -1,10 +1,9 @@
--- A plan of transactions, on a ledger that was prepared for them.
+-- A plan of transactions, on a ledger with slots for them.
 use Rattle.std.proofs.Common.{◌≡◌, ℕ, List, length, Option, sym, ap, ◌∙◌, subst}
-use Rattle.bk_frames.specs.declared.genesis.Row.{Row}
 use Rattle.bk_frames.specs.declared.version.Version.{Version}
 use Rattle.bk_tx.specs.Transaction.{Transaction}
 use Rattle.bk_rules.specs.Fold.{state_after, receipts_of, HasRoom}
-use Rattle.bk_rules.specs.Ledger.{Ledger, IsPrepared, rows_shown, slot_numbers}
+use Rattle.bk_rules.specs.Ledger.{Ledger, rows_shown, slot_numbers}
 use Rattle.bk_rules.specs.Rows.{IsLedger}
 use Rattle.bk_conflicts.specs.Plan.{PlanValue}
 use Rattle.bk_conflicts.specs.SceneOf.{CanRunOn}
@@ -22,16 +21,13 @@ can_run txs ledger plan made is_ledger shown room = record {
   slots_show = (λ j. rows_shown (made.version j) (made.ids j) (slot_numbers ledger)) ∙ shown;
 }
 
-pub room_after : (txs : List (Option Transaction)) (n : ℕ) (old new : Ledger) → IsPrepared txs old new → HasRoom old.version n old.rows → HasRoom new.version n new.rows
-room_after txs n old new prepared room = subst (λ (y : Version × List Row). HasRoom y.0 n y.1) (λ j. (sym prepared.version j, sym prepared.rows j)) room
+-- ---- what the transactions of a plan give
 
-pub last_version : (txs : List (Option Transaction)) (old new : Ledger) (plan : PlanValue) → IsPrepared txs old new → (o : Outcome) → IsFoldOf plan new o → o.state.version ≡ old.version
-last_version txs old new plan prepared o fold = ap (λ (l : Ledger). l.version) fold.state ∙ prepared.version
+pub plan_version : (ledger : Ledger) (plan : PlanValue) → (o : Outcome) → IsFoldOf plan ledger o → o.state.version ≡ ledger.version
+plan_version ledger plan o fold = ap (λ (l : Ledger). l.version) fold.state
 
-pub last_rows : (txs : List (Option Transaction)) (old new : Ledger) (plan : PlanValue) → IsPrepared txs old new → IsPlanOf txs new plan → (o : Outcome) → IsFoldOf plan new o
-    → o.state.rows ≡ state_after old.version txs old.rows
-last_rows txs old new plan prepared made o fold = ap (λ (l : Ledger). l.rows) fold.state ∙ (λ j. state_after (prepared.version j) (made.txs_are j) (prepared.rows j))
+pub plan_rows : (txs : List (Option Transaction)) (ledger : Ledger) (plan : PlanValue) → IsPlanOf txs ledger plan → (o : Outcome) → IsFoldOf plan ledger o → o.state.rows ≡ state_after ledger.version txs ledger.rows
+plan_rows txs ledger plan made o fold = ap (λ (l : Ledger). l.rows) fold.state ∙ (λ j. state_after ledger.version (made.txs_are j) ledger.rows)
 
-pub last_receipts : (txs : List (Option Transaction)) (old new : Ledger) (plan : PlanValue) → IsPrepared txs old new → IsPlanOf txs new plan → (o : Outcome) → IsFoldOf plan new o
-    → o.receipts.items ≡ receipts_of old.version txs old.rows
-last_receipts txs old new plan prepared made o fold = fold.receipts ∙ (λ j. receipts_of (prepared.version j) (made.txs_are j) (prepared.rows j))
+pub plan_receipts : (txs : List (Option Transaction)) (ledger : Ledger) (plan : PlanValue) → IsPlanOf txs ledger plan → (o : Outcome) → IsFoldOf plan ledger o → o.receipts.items ≡ receipts_of ledger.version txs ledger.rows
+plan_receipts txs ledger plan made o fold = fold.receipts ∙ (λ j. receipts_of ledger.version (made.txs_are j) ledger.rows)

@@ -17,7 +17,7 @@ use crate::outcome::{ExecFault, outcome_of};
 use crate::place::Gate;
 use crate::work::{serve, try_claim};
 use bk_bank::{Bank, Pass};
-use bk_conflicts::{Plan, SLOTS_END};
+use bk_conflicts::Plan;
 use bk_rules::State;
 use bk_steps::Outcome;
 use bk_tx::Tx;
@@ -28,10 +28,10 @@ use std::thread::Threads;
 /// Executes transactions from a state, with so many workers. The accounts and the receipts are what
 /// the transactions give one at a time, however the workers run.
 ///
-/// Each account that they declare gets a slot in version Two. Opening accounts have room for fewer
-/// than 2^63 transactions in all (`bk_rules::room_is_left`).
+/// Each account that they declare has a slot in version Two: `State::prepare` makes them. A plan has fewer than
+/// `bk_conflicts::SLOTS_END` slots. Opening accounts have room for fewer than 2^63 transactions in all
+/// (`bk_rules::room_is_left`).
 ///
-/// `OutOfMemory` where memory was refused, or where 2^31 accounts or more would have a slot.
 /// `Unfinished` names a place that a worker took and did not finish.
 pub fn execute_all<R: Threads + Wait + Sync, G: Gate + Sync>(
     rt: &R,
@@ -41,8 +41,10 @@ pub fn execute_all<R: Threads + Wait + Sync, G: Gate + Sync>(
     workers: usize,
     gate: &G,
 ) -> Result<Outcome, ExecFault>
+    requires covered { are_covered state.version state.slots txs.items ≡ true }
     requires room { HasRoom state.version (length txs.items) state.rows }
     requires few { length txs.items < 2 ^ 31 }
+    requires few_slots { length state.slots < 2 ^ 31 }
     requires workers { (1 ≤ workers) × (workers ≤ 64) }
     ensures version { IfOk result (λ o. o.state.version ≡ state.version) }
     ensures rows { IfOk result (λ o. o.state.rows
@@ -51,11 +53,6 @@ pub fn execute_all<R: Threads + Wait + Sync, G: Gate + Sync>(
         ≡ receipts_of state.version txs.items state.rows) }
     ensures unfinished { IfErr result (λ e. IsBelow (length txs.items) e) }
 {
-    let mut state = state;
-    state.prepare(alloc, &txs)?;
-    if SLOTS_END <= state.slots().len() {
-        return Err(ExecFault::OutOfMemory);
-    }
     let plan = plan_of(alloc, &state, txs)?;
     execute(rt, alloc, &plan, state, workers, gate)
 }

@@ -1,4 +1,4 @@
--- A plan on a ledger that was prepared for its transactions.
+-- A plan on a ledger with slots for its transactions.
 use Rattle.std.specs.Prelude.{◌≡◌, List, Option}
 use Rattle.bk_tx.specs.Transaction.{Transaction}
 use Rattle.bk_rules.specs.Ledger.{Ledger}

@@ -2,20 +2,17 @@ use Rattle.std.proofs.Common.{ℕ, length, ap, subst, IfErr}
 use Rattle.std.specs.Arc.{arc_value}
 use Rattle.std.proofs.lemmas.Result.{IfOk-weaker}
 use Rattle.bk_pool.specs.Outcomes.{IsBelow}
-use Rattle.bk_pool.proofs.Prepared.{room_after, last_version, last_rows, last_receipts}
+use Rattle.bk_pool.proofs.Prepared.{plan_version, plan_rows, plan_receipts}
 use Rattle.bk_pool.proofs.run.execute_all.Goals as goal
 
-pub plan_of-requires-clause-room : goal.plan_of-requires-clause-room
-plan_of-requires-clause-room g c = room_after c.args.txs.items (length c.args.txs.items) c.args.state c.prepare.new.self (rw c.deref.ensures.value at c.in_ok-prepare.ensures.prepared) c.requires.room
-
 pub returns-clause-version : goal.returns-clause-version
-returns-clause-version g c = IfOk-weaker c.execute.result _ _ (last_version c.args.txs.items c.args.state c.prepare.new.self (arc_value c.in_ok-plan.plan) (rw c.deref.ensures.value at c.in_ok-prepare.ensures.prepared)) c.execute.ensures.fold
+returns-clause-version g c = IfOk-weaker c.execute.result _ _ (plan_version c.args.state (arc_value c.in_ok-plan.plan)) c.execute.ensures.fold
 
 pub returns-clause-rows : goal.returns-clause-rows
-returns-clause-rows g c = IfOk-weaker c.execute.result _ _ (last_rows c.args.txs.items c.args.state c.prepare.new.self (arc_value c.in_ok-plan.plan) (rw c.deref.ensures.value at c.in_ok-prepare.ensures.prepared) c.in_ok-plan.ensures.plan) c.execute.ensures.fold
+returns-clause-rows g c = IfOk-weaker c.execute.result _ _ (plan_rows c.args.txs.items c.args.state (arc_value c.in_ok-plan.plan) c.in_ok-plan.ensures.plan) c.execute.ensures.fold
 
 pub returns-clause-receipts : goal.returns-clause-receipts
-returns-clause-receipts g c = IfOk-weaker c.execute.result _ _ (last_receipts c.args.txs.items c.args.state c.prepare.new.self (arc_value c.in_ok-plan.plan) (rw c.deref.ensures.value at c.in_ok-prepare.ensures.prepared) c.in_ok-plan.ensures.plan) c.execute.ensures.fold
+returns-clause-receipts g c = IfOk-weaker c.execute.result _ _ (plan_receipts c.args.txs.items c.args.state (arc_value c.in_ok-plan.plan) c.in_ok-plan.ensures.plan) c.execute.ensures.fold
 
 pub returns-clause-unfinished : goal.returns-clause-unfinished
 returns-clause-unfinished g c = subst (λ (n : ℕ). IfErr c.execute.result (λ e. IsBelow n e)) (ap length c.in_ok-plan.ensures.plan.txs_are) c.execute.ensures.unfinished
