@@ -2,7 +2,7 @@
 
 ghost use Rattle.std.specs.Prelude.{◌≡◌, ◌≤◌, length, sum, IfSome};
 ghost use Rattle.bk_committee.specs.Payload.{sizes_of};
-ghost use Rattle.bk_committee.specs.Sizes.{quorum, weight, weight_of};
+ghost use Rattle.bk_committee.specs.Sizes.{faulty, quorum, weight, weight_of};
 
 use bk_committee::Committee;
 
@@ -16,6 +16,13 @@ fn sum_of(weights: &[u32]) -> u64
         total += u64::from(*weight);
     }
     total
+}
+
+/// The weight that may be faulty: a third of all but one.
+pub fn faulty_of(committee: &Committee) -> u64
+    ensures { result ≡ faulty (sizes_of committee.now) }
+{
+    sum_of(committee.weights()).saturating_sub(1) / 3
 }
 
 /// The weight of a quorum: all but a third of the others.
