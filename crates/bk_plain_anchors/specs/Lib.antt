@@ -1,0 +1,4 @@
+pub mod Links
+pub mod Histories
+pub mod Anchors
+pub mod Named
