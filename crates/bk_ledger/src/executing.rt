@@ -267,8 +267,8 @@ impl Ledger {
         self.run_beside(rt, alloc, payloads, from, read, least, ready, workers, gate)
     }
 
-    /// Executes further batches, up to the first slice that declares an account without a slot, which must have one.
-    /// Returns the index of its first batch too: the number of all batches, if there is no such slice.
+    /// Executes further batches, up to the first slice that declares an account that needs a slot and has none. Also
+    /// returns the index of the first batch of that slice, or the number of batches where there is no such slice.
     pub(crate) fn execute_covered<R: Threads + Wait + Sync, G: Gate + Sync>(
         self,
         rt: &R,

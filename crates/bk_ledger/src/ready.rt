@@ -40,7 +40,7 @@ pub(crate) enum Next {
 }
 
 impl Next {
-    /// Whether the slice is planned, or can be: each account that must have a slot has one.
+    /// Whether the slice is planned, or can be: each account that needs a slot has one.
     pub(crate) fn is_plannable(&self, state: &State) -> bool
         ensures { result ≡ is_plannable state.now.version state.now.slots self.now }
     {
@@ -70,7 +70,7 @@ impl Next {
     }
 }
 
-// Whether each account that transactions declare has a slot, where it must have one.
+// Whether each account that transactions declare has a slot, if it needs one.
 fn cover_all(state: &State, txs: &[Option<Tx>]) -> bool
     ensures { result ≡ are_covered state.now.version state.now.slots txs.now }
 {
@@ -87,8 +87,8 @@ pub(crate) struct Ahead {
 }
 
 impl Batches {
-    /// Plans the transactions over all slots, each account having one that must have one. It never comes to this but
-    /// where a look-up missed a slot.
+    /// Plans the transactions over all slots; each account that needs a slot has one. It comes to this only where a
+    /// look-up missed a slot.
     pub(crate) fn planned(
         self,
         alloc: Global,

@@ -11,8 +11,8 @@ use std::alloc::{AllocError, Global};
 /// 65,536.
 pub(crate) const FEWEST: usize = 8_192;
 
-/// For how many transactions slots are made at a time: for an eighth as many as there are slots, since to make slots
-/// costs what all of them cost; for at most 524,288, since so many are decoded; and for a given number at least.
+/// For how many transactions slots are made at once: an eighth as many as there are slots, since it costs a pass over all
+/// of them, but at most 524,288, which are decoded and kept for it, and at least a given number.
 pub(crate) fn least_of(slots: usize, fewest: usize) -> usize
     requires { fewest < 2 ^ 30 }
     ensures { result < 2 ^ 30 }

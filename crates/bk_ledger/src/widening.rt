@@ -19,7 +19,7 @@ use std::sync::Wait;
 use std::thread::Threads;
 
 impl Ledger {
-    /// Executes further batches, once a slot is made for each account that they declare and that must have one.
+    /// Executes further batches, after a slot is made for each account that they declare and that needs one.
     pub(crate) fn execute_widened<R: Threads + Wait + Sync, G: Gate + Sync>(
         self,
         rt: &R,
@@ -48,7 +48,7 @@ impl Ledger {
         Ok(ledger)
     }
 
-    // Makes a slot for each account that batches declare. In version One none must have a slot.
+    // Makes a slot for each account that batches declare. In version One no account needs a slot.
     fn widen(&mut self, alloc: Global, payloads: &[&[u8]], fewest: usize) -> Result<(), AllocError>
         requires fewest { fewest < 2 ^ 30 }
         ensures same { OnOk result (IsSame self.old self.new) }
@@ -69,8 +69,8 @@ impl Ledger {
     }
 }
 
-// Makes the slots for some batches after others: at a time for an eighth as many transactions as there are slots, since
-// to make slots costs what all of them cost. The decoded transactions are kept no longer.
+// Makes the slots in steps: each is for an eighth as many transactions as there are slots, since it costs a pass over all
+// slots. The transactions that it decodes are dropped after it.
 fn widen_state(
     state: &mut State,
     alloc: Global,

@@ -61,7 +61,7 @@ abbrev pub IsPlannedOn : Version → List ℕ → Next → Type 0
 IsPlannedOn version slots (next.Read b) = Unit {0}
 IsPlannedOn version slots (next.Ready r) = IsPlanned version slots r
 
--- the slice is planned, or can be: each account that must have a slot has one
+-- the slice is planned, or can be: each account that needs a slot has one
 abbrev pub is_plannable : Version → List ℕ → Next → Bool
 is_plannable version slots (next.Read b) = rules.are_covered version slots b.txs.items
 is_plannable version slots (next.Ready r) = true

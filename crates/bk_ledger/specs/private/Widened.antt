@@ -4,7 +4,7 @@ use Rattle.bk_tx.specs.Batches.{transactions_of}
 use Rattle.bk_rules.specs.Ledger as rules
 use Rattle.bk_ledger.specs.Naming.{named_by}
 
--- the same accounts, with a slot of each that the transactions of batches declare and that must have one
+-- the same accounts, with a slot of each that the transactions of batches declare and that needs one
 pub record IsWidened (payloads : List (List ℕ)) (before after : rules.Ledger) : Type 0 where
   pub version : after.version ≡ before.version
   pub rows : after.rows ≡ before.rows
