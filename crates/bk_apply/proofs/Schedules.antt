@@ -19,7 +19,7 @@ use Rattle.bk_steps.specs.declared.event.Event.{Event}
 use Rattle.bk_steps.specs.declared.outcome.Outcome.{Outcome}
 use Rattle.bk_steps.specs.declared.outcome.ScheduleFault.{ScheduleFault}
 use Rattle.bk_steps.specs.declared.outcome.ScheduleFault.TheVariants.{Refused, Unfinished, OutOfMemory}
-use Rattle.bk_pool.proofs.Prepared.{can_run, room_after}
+use Rattle.bk_pool.proofs.Prepared.{can_run}
 use Rattle.bk_results.specs.declared.fault.Fault.TheVariants as fault
 use Rattle.bk_apply.specs.declared.scheduling.ScheduleStop.{ScheduleStop}
 use Rattle.bk_apply.specs.declared.scheduling.ScheduleStop.TheVariants as stop
@@ -56,6 +56,10 @@ plan_of_feed feed txs opening ledger plan all opened prepared is_plan version id
 pub few_slots : (feed : FeedValue) (txs : List (Option Transaction)) (opening ledger : Ledger) (ids : List ℕ) → IsFeed feed → txs ≡ feed_transactions feed.frames → opening ≡ opening_of feed → IsPrepared txs opening ledger → ids ≡ ledger.slots → length ids < 2 ^ 31
 few_slots feed txs opening ledger ids good all opened prepared same =
     omega (arith, ap length same, slots_long txs opening ledger prepared, ap (λ (l : Ledger). length l.slots) opened, length-map (genesis_of feed.frames) (λ (r : Row). r.id), genesis_few feed.frames, ap named_by all, few_named feed good)
+
+-- making slots leaves the room as it was
+room_after : (txs : List (Option Transaction)) (n : ℕ) (old new : Ledger) → IsPrepared txs old new → HasRoom old.version n old.rows → HasRoom new.version n new.rows
+room_after txs n old new prepared room = subst (λ (y : Version × List Row). HasRoom y.0 n y.1) (λ j. (sym prepared.version j, sym prepared.rows j)) room
 
 -- there is room for all transactions
 pub feed_room : (feed : FeedValue) (txs : List (Option Transaction)) (opening ledger : Ledger) → IsFeed feed → AreAccounts (genesis_of feed.frames) → txs ≡ feed_transactions feed.frames
