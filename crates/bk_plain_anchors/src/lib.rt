@@ -23,4 +23,4 @@ pub use history::history_of;
 pub use link::Link;
 pub use linking::links_of;
 pub use ordering::{order_of, whole_order};
-pub use voting::{is_voted, voters_of};
+pub use voting::{has_votes, voters_of};

@@ -48,7 +48,7 @@ pub fn voters_of(alloc: Global, links: &[Link], a: CertRef) -> Result<Vec<u8>, A
 }
 
 /// Whether the voters for a place weigh more than may be faulty.
-pub fn is_voted(
+pub fn has_votes(
     alloc: Global,
     committee: &Committee,
     held: &[Checked],
@@ -85,7 +85,7 @@ fn push_voted(
         ↔ (Contains voted.old.items b
         ⊎ IsVotedBy (sizes_of committee.now) held.now a b)) }
 {
-    if is_voted(alloc, committee, held, links, a)? {
+    if has_votes(alloc, committee, held, links, a)? {
         voted.push(a)?;
     }
     Ok(())

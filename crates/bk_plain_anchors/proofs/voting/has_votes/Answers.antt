@@ -2,7 +2,7 @@ use Rattle.std.proofs.Common.{false, true, ◌∙◌, ap}
 use Rattle.bk_committee.specs.Payload.{sizes_of}
 use Rattle.bk_committee.specs.Sizes.{weight_of}
 use Rattle.bk_plain_anchors.proofs.Voted.{votes_weigh, no_more, some_more}
-use Rattle.bk_plain_anchors.proofs.voting.is_voted.Goals as goal
+use Rattle.bk_plain_anchors.proofs.voting.has_votes.Goals as goal
 
 pub returns-then-weight-faulty_of : goal.returns-then-weight-faulty_of
 returns-then-weight-faulty_of c =
