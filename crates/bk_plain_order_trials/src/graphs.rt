@@ -91,6 +91,15 @@ where
     try_certs(rt, drawing.members, &certs, &batches, shown, tally)
 }
 
+// Other weights begin with other numbers, also where there are as many members.
+fn seed_of(weights: &[u32], last: u32, graphs: u64) -> u64 {
+    let mut seed = u64::from(last).wrapping_add(graphs);
+    for weight in weights {
+        seed = seed.wrapping_mul(31).wrapping_add(u64::from(*weight));
+    }
+    seed
+}
+
 // Some graphs of these members, in each style. Where votes are scarce there are twice as many.
 fn try_members<R>(
     rt: &R,
@@ -103,7 +112,7 @@ where
     R: AllocGlobal + Eprint,
 {
     let all = EVERYBODY.committee(rt.alloc())?;
-    let mut chance = Chance::new(u64::from(last).wrapping_add(graphs));
+    let mut chance = Chance::new(seed_of(members.weights, last, graphs));
     for style in [Style::Most, Style::Tight, Style::Tight, Style::Any] {
         let drawing = Drawing {
             members,
@@ -135,7 +144,7 @@ where
     let mut shown = Shown::new();
     try_members(rt, weighted(&[3; 1]), (9, 1), &mut shown, tally)?;
     for weights in [[1, 1, 1, 1], [5, 1, 1, 1], [1, 2, 3, 4]] {
-        try_members(rt, weighted(&weights), (9, 1), &mut shown, tally)?;
+        try_members(rt, weighted(&weights), (9, 2), &mut shown, tally)?;
     }
     let seven = weighted(&[3, 1, 4, 1, 5, 9, 2]);
     try_members(rt, seven, (6, 1), &mut shown, tally)?;

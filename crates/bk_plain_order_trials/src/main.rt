@@ -17,6 +17,7 @@ mod plain;
 mod product;
 mod shown;
 mod stories;
+mod story;
 mod strays;
 mod tally;
 mod verdicts;

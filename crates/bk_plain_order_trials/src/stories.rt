@@ -1,153 +1,9 @@
 //! Graphs whose admission, anchors, order and batches were found by hand.
 
-use crate::certs::{Parts, id_of, place, sealed};
-use crate::drawn::{absent_id, digest, payload};
-use crate::given::Given;
-use crate::members::{EVERYBODY, Members, heads, weighted};
-use crate::plain::given_plainly;
-use crate::product::{given_by_product, held_of, stored_of};
+use crate::members::{heads, weighted};
+use crate::story::{Step, Story, try_story};
 use crate::tally::Tally;
 use anyhow::Result;
-use bk_cert::CertRef;
-use bk_committee::Committee;
-use bk_digest::Digest32;
-use std::alloc::Global;
-
-// A round and an author.
-type Place = (u32, u8);
-
-// A certificate by its place, the authors of its parents, and the batches that it names.
-type Step<'a> = (Place, &'a [u8], &'a [u8]);
-
-// Certificates and the batches that are held, and what they have to give.
-#[derive(Clone, Copy)]
-struct Story<'a> {
-    name: &'a str,
-    members: Members<'a>,
-    steps: &'a [Step<'a>],
-    held: &'a [u8],
-    waiting: &'a [Place],
-    anchors: &'a [Place],
-    order: &'a [Place],
-    payloads: &'a [u8],
-    missing: Option<u8>,
-}
-
-// ---- certificates
-
-// The id of the certificate of a place.
-fn id_at(made: &[(Place, Digest32)], round: u32, author: u8) -> Digest32 {
-    for (at, id) in made {
-        if *at == (round, author) {
-            return *id;
-        }
-    }
-    absent_id(author)
-}
-
-fn parents_of(
-    alloc: Global,
-    made: &[(Place, Digest32)],
-    round: u32,
-    authors: &[u8],
-) -> Result<Vec<Digest32>> {
-    let mut ids = Vec::new(alloc);
-    for author in authors {
-        ids.push(id_at(made, round.saturating_sub(1), *author))?;
-    }
-    ids.sort()?;
-    Ok(ids)
-}
-
-fn digests_of(alloc: Global, batches: &[u8]) -> Result<Vec<Digest32>> {
-    let mut digests = Vec::new(alloc);
-    for batch in batches {
-        digests.push(digest(*batch))?;
-    }
-    Ok(digests)
-}
-
-// Puts the certificate of a step at the end, and its id beside it.
-fn put_step(
-    alloc: Global,
-    all: &Committee,
-    signers: &[u8],
-    step: Step<'_>,
-    made: &mut Vec<(Place, Digest32)>,
-    certs: &mut Vec<Vec<u8>>,
-) -> Result<()> {
-    let ((round, author), authors, batches) = step;
-    let parents = parents_of(alloc, made, round, authors)?;
-    let batches = digests_of(alloc, batches)?;
-    let parts = Parts {
-        at: place(round, author),
-        batches: &batches,
-        parents: &parents,
-    };
-    certs.push(sealed(alloc, all, parts, signers)?)?;
-    made.push(((round, author), id_of(alloc, parts)?))?;
-    Ok(())
-}
-
-fn certs_of(alloc: Global, story: &Story<'_>) -> Result<Vec<Vec<u8>>> {
-    let all = EVERYBODY.committee(alloc)?;
-    let signers = story.members.signers(alloc)?;
-    let mut made = Vec::new(alloc);
-    let mut certs = Vec::new(alloc);
-    for step in story.steps {
-        put_step(alloc, &all, &signers, *step, &mut made, &mut certs)?;
-    }
-    Ok(certs)
-}
-
-// ---- what is wanted
-
-fn places_of(alloc: Global, places: &[Place]) -> Result<Vec<CertRef>> {
-    let mut refs = Vec::new(alloc);
-    for (round, author) in places {
-        refs.push(place(*round, *author))?;
-    }
-    Ok(refs)
-}
-
-fn payloads_of(alloc: Global, batches: &[u8]) -> Result<Vec<Vec<u8>>> {
-    let mut payloads = Vec::new(alloc);
-    for batch in batches {
-        payloads.push(Vec::from_slice(alloc, &payload(*batch))?)?;
-    }
-    Ok(payloads)
-}
-
-fn wanted_of(alloc: Global, story: &Story<'_>) -> Result<Given> {
-    let mut admitted = Vec::new(alloc);
-    for (at, _, _) in story.steps {
-        admitted.push(!story.waiting.contains(at))?;
-    }
-    Ok(Given {
-        admitted,
-        anchors: places_of(alloc, story.anchors)?,
-        order: places_of(alloc, story.order)?,
-        payloads: payloads_of(alloc, story.payloads)?,
-        missing: story.missing.map(digest),
-    })
-}
-
-fn try_story<R>(rt: &R, story: &Story<'_>, tally: &mut Tally) -> Result<()>
-where
-    R: AllocGlobal + Eprint,
-{
-    let alloc: Global = rt.alloc();
-    let committee = story.members.committee(alloc)?;
-    let certs = certs_of(alloc, story)?;
-    let held = held_of(alloc, &committee, &certs)?;
-    tally.note(rt, story.name, "held", held.len() == certs.len())?;
-    let stored = stored_of(alloc, story.held)?;
-    let given = given_plainly(alloc, &committee, &held, &stored)?;
-    let wanted = wanted_of(alloc, story)?;
-    given.note_same(rt, story.name, &wanted, tally)?;
-    let found = given_by_product(alloc, &committee, &held, story.held)?;
-    given.note_same(rt, story.name, &found, tally)
-}
 
 // ---- one member
 
@@ -311,6 +167,61 @@ where
     try_story(rt, &story, tally)
 }
 
+// ---- a distant prior
+
+// Member 1 made nothing in round 3, so the prior of (5, 2) is four rounds before it.
+const DISTANT: [Step<'static>; 17] = [
+    ((1, 0), &[], &[1]),
+    ((1, 1), &[], &[2]),
+    ((1, 2), &[], &[]),
+    ((2, 0), &[0, 1, 2], &[]),
+    ((2, 1), &[0, 1, 2], &[]),
+    ((2, 2), &[0, 1, 2], &[]),
+    ((3, 0), &[0, 1, 2], &[]),
+    ((3, 2), &[0, 1, 2], &[]),
+    ((3, 3), &[0, 1, 2], &[3]),
+    ((4, 0), &[0, 2, 3], &[]),
+    ((4, 2), &[0, 2, 3], &[]),
+    ((4, 3), &[0, 2, 3], &[]),
+    ((5, 0), &[0, 2, 3], &[4]),
+    ((5, 2), &[0, 2, 3], &[5]),
+    ((5, 3), &[0, 2, 3], &[]),
+    ((6, 0), &[0, 2, 3], &[]),
+    ((6, 2), &[0, 2, 3], &[]),
+];
+
+fn try_distant<R>(rt: &R, tally: &mut Tally) -> Result<()>
+where
+    R: AllocGlobal + Eprint,
+{
+    let story = Story {
+        name: "a prior four rounds back",
+        members: heads(&[1; 4]),
+        steps: &DISTANT,
+        held: &[1, 2, 3, 4, 5],
+        waiting: &[],
+        anchors: &[(1, 0), (5, 2)],
+        order: &[
+            (1, 0),
+            (1, 1),
+            (1, 2),
+            (2, 0),
+            (2, 1),
+            (2, 2),
+            (3, 0),
+            (3, 2),
+            (3, 3),
+            (4, 0),
+            (4, 2),
+            (4, 3),
+            (5, 2),
+        ],
+        payloads: &[1, 2, 3, 5],
+        missing: None,
+    };
+    try_story(rt, &story, tally)
+}
+
 // ---- weights
 
 // All weigh 8, of which 2 may be faulty: votes of 3 are enough, and parents of 6 are a quorum.
@@ -389,6 +300,7 @@ where
     try_one(rt, tally)?;
     try_four(rt, tally)?;
     try_missing(rt, tally)?;
+    try_distant(rt, tally)?;
     try_light(rt, tally)?;
     try_heavy(rt, tally)
 }
