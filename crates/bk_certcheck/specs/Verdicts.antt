@@ -27,13 +27,7 @@ pub record BreaksFirst (k : CommitteeValue) (bytes : List ℕ) (r : Rule) : Type
 -- the least rule that the bytes break: the first where they are no certificate
 abbrev pub IsBroken : CommitteeValue → List ℕ → Rule → Type 0
 IsBroken k bytes rule.Shape = certificate_of bytes ≡ None
-IsBroken k bytes rule.Author = BreaksFirst k bytes rule.Author
-IsBroken k bytes rule.Round = BreaksFirst k bytes rule.Round
-IsBroken k bytes rule.Parents = BreaksFirst k bytes rule.Parents
-IsBroken k bytes rule.ParentOrder = BreaksFirst k bytes rule.ParentOrder
-IsBroken k bytes rule.Signer = BreaksFirst k bytes rule.Signer
-IsBroken k bytes rule.Quorum = BreaksFirst k bytes rule.Quorum
-IsBroken k bytes rule.Tag = BreaksFirst k bytes rule.Tag
+IsBroken k bytes r = BreaksFirst k bytes r
 
 -- the verdict on the bytes
 abbrev pub IsVerdict : CommitteeValue → List ℕ → Verdict → Type 0

@@ -61,8 +61,7 @@ spelling feed = magic feed.version ++ flat_map frame_text feed.frames
 abbrev pub stands_at : ℕ → Kind → Bool
 stands_at index kind.Committee = index == 0
 stands_at index kind.Genesis = index == 1
-stands_at index kind.Certificate = nat_le 2 index
-stands_at index kind.Batch = nat_le 2 index
+stands_at index later = nat_le 2 index
 
 -- a frame whose kind and length are good, with this index and with its first byte at this offset
 pub record IsFramedAt (index offset : ℕ) (f : Frame) : Type 0 where

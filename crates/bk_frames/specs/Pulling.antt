@@ -11,13 +11,7 @@ use Rattle.bk_frames.specs.Feed.{HasFault, Begins, Frame, FeedValue, frame_text,
 abbrev pub ByCode : FaultCode → Type 0 → Type 0 → Type 0 → Type 0
 ByCode code.Read failed refused found = failed
 ByCode code.Memory failed refused found = refused
-ByCode code.Magic failed refused found = found
-ByCode code.Truncated failed refused found = found
-ByCode code.Kind failed refused found = found
-ByCode code.Length failed refused found = found
-ByCode code.Committee failed refused found = found
-ByCode code.Genesis failed refused found = found
-ByCode code.Extra failed refused found = found
+ByCode other failed refused found = found
 
 -- this holds of the bytes that a source gave from one moment to a later one
 abbrev pub Gave : Device → Device → (List ℕ → Type 0) → Type 0

@@ -14,7 +14,7 @@ use Rattle.bk_frames.specs.Feed.{Frame, FeedValue, IsFeed, genesis_of, spelling}
 use Rattle.bk_frames.proofs.Accounts.{genesis_accounts}
 use Rattle.bk_frames.proofs.GenesisGrammar.{genesis_spelled}
 use Rattle.bk_tx.specs.Access.{PaymentsFit}
-use Rattle.bk_tx.specs.Spelling.{BodyFits, IsTransaction}
+use Rattle.bk_tx.specs.Spelling.{payments_of, BodyFits, IsTransaction}
 use Rattle.bk_tx.specs.Transaction.{Transaction}
 use Rattle.bk_tx.specs.declared.body.Body.{Body}
 use Rattle.bk_tx.specs.declared.body.Body.TheVariants.{Pay, PayIf, Sweep, Split}
@@ -23,7 +23,7 @@ use Rattle.bk_cert.proofs.Lists.{contains_first, contains_later}
 use Rattle.bk_rules.specs.declared.receipt.Status.{Status}
 use Rattle.bk_rules.specs.declared.receipt.Status.TheVariants as status
 use Rattle.bk_rules.specs.Fold.{seq_end, state_after}
-use Rattle.bk_rules.specs.Rule.{Accounts, Change, balance_at, changes_of, payments_of, payments_on, new_account, receive, status_of}
+use Rattle.bk_rules.specs.Rule.{Accounts, Change, balance_at, changes_of, payments_on, new_account, receive, status_of}
 use Rattle.bk_rules.specs.Rows.{account_at, account_of, changed, outcome_of, row_of, rows_after}
 use Rattle.bk_rules.proofs.Folding.{total_below}
 use Rattle.bk_rules.proofs.Room.{room_left}

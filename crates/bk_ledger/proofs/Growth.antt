@@ -20,12 +20,12 @@ use Rattle.bk_tx.specs.declared.body.Body.TheVariants.{Pay, PayIf, Sweep, Split}
 use Rattle.bk_tx.specs.declared.declared.Declared.{Declared}
 use Rattle.bk_tx.specs.declared.payments.Payment.{Payment}
 use Rattle.bk_tx.specs.Transaction.{Transaction}
-use Rattle.bk_tx.specs.Spelling.{receivers_of}
-use Rattle.bk_tx.specs.Reading.{writable_of, declared_at, declarations_at, is_count, pay_at, pay_if_at, sweep_at, payment_at, is_payment_count, split_at, body_at, pays, transaction_of, text_at, texts_of}
+use Rattle.bk_tx.specs.Spelling.{payments_of, receivers_of}
+use Rattle.bk_tx.specs.Reading.{writable_of, declared_at, declarations_at, is_count, pay_at, pay_if_at, sweep_at, payment_at, split_at, body_at, pays, transaction_of, text_at, texts_of}
 use Rattle.bk_tx.specs.Batches.{is_batch, transactions_in, transactions_of, feed_transactions}
 use Rattle.bk_rules.specs.declared.receipt.Status.{Status}
 use Rattle.bk_rules.specs.declared.receipt.Status.TheVariants as status
-use Rattle.bk_rules.specs.Rule.{Accounts, Change, balance_at, new_account, status_of, payments_of, payments_on, receive, changes_of}
+use Rattle.bk_rules.specs.Rule.{Accounts, Change, balance_at, new_account, status_of, payments_on, receive, changes_of}
 use Rattle.bk_rules.specs.Rows.{account_of, row_of, account_at, changed, rows_after, outcome_of}
 use Rattle.bk_rules.specs.Fold.{state_after}
 use Rattle.bk_rules.specs.Ledger.{Ledger, has_slot, has_slot_after, is_declared_by, IsPrepared}
@@ -115,9 +115,9 @@ declared_size bytes x e =
 declarations_size : (bytes : List ℕ) (x : List Declared × List ℕ) → declarations_at bytes ≡ Some x → 9 * length x.0 + length x.1 + 1 ≤ length bytes
 unfolding declarations_at
 declarations_size bytes x e =
-    let a = bind_some (number_at w8 bytes) (λ count. cond (is_count count.0) (list_at declared_at count.0 count.1) None >>= λ entries. cond (is_ascending (declared_ids entries.0)) (Some entries) None) x e in
-    let b = bind_some (cond (is_count a.0.0) (list_at declared_at a.0.0 a.0.1) None) (λ entries. cond (is_ascending (declared_ids entries.0)) (Some entries) None) x a.2 in
-    let c = if_some (is_count a.0.0) (list_at declared_at a.0.0 a.0.1) b.0 b.1 in
+    let a = bind_some (number_at w8 bytes) (λ count. cond (is_count 8 count.0) (list_at declared_at count.0 count.1) None >>= λ entries. cond (is_ascending (declared_ids entries.0)) (Some entries) None) x e in
+    let b = bind_some (cond (is_count 8 a.0.0) (list_at declared_at a.0.0 a.0.1) None) (λ entries. cond (is_ascending (declared_ids entries.0)) (Some entries) None) x a.2 in
+    let c = if_some (is_count 8 a.0.0) (list_at declared_at a.0.0 a.0.1) b.0 b.1 in
     let g = guard_some (is_ascending (declared_ids b.0.0)) b.0 x b.2 in
     omega (arith, number_size w8 bytes a.0 a.1, list_size declared_at 9 declared_size a.0.0 a.0.1 b.0 c.1, ap (λ (p : List Declared × List ℕ). 9 * length p.0 + length p.1) g.1)
 
@@ -158,9 +158,9 @@ payment_size bytes x e =
 split_size : (bytes : List ℕ) (x : Body × List ℕ) → split_at bytes ≡ Some x → 16 * length (receivers_of x.0) + length x.1 ≤ length bytes
 unfolding split_at
 split_size bytes x e =
-    let a = bind_some (number_at w8 bytes) (λ count. cond (is_payment_count count.0) (list_at payment_at count.0 count.1) None >>= λ payments. cond (is_ascending (receivers_in payments.0)) (Some (Split payments.0, payments.1)) None) x e in
-    let b = bind_some (cond (is_payment_count a.0.0) (list_at payment_at a.0.0 a.0.1) None) (λ payments. cond (is_ascending (receivers_in payments.0)) (Some (Split payments.0, payments.1)) None) x a.2 in
-    let c = if_some (is_payment_count a.0.0) (list_at payment_at a.0.0 a.0.1) b.0 b.1 in
+    let a = bind_some (number_at w8 bytes) (λ count. cond (is_count 6 count.0) (list_at payment_at count.0 count.1) None >>= λ payments. cond (is_ascending (receivers_in payments.0)) (Some (Split payments.0, payments.1)) None) x e in
+    let b = bind_some (cond (is_count 6 a.0.0) (list_at payment_at a.0.0 a.0.1) None) (λ payments. cond (is_ascending (receivers_in payments.0)) (Some (Split payments.0, payments.1)) None) x a.2 in
+    let c = if_some (is_count 6 a.0.0) (list_at payment_at a.0.0 a.0.1) b.0 b.1 in
     let g = guard_some (is_ascending (receivers_in b.0.0)) (Split b.0.0, b.0.1) x b.2 in
     omega (arith, number_size w8 bytes a.0 a.1, list_size payment_at 16 payment_size a.0.0 a.0.1 b.0 c.1, length-map b.0.0 (λ (p : Payment). p.to), ap (λ (p : Body × List ℕ). 16 * length (receivers_of p.0) + length p.1) g.1)
 

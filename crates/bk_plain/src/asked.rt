@@ -1,8 +1,8 @@
 //! What the body of a transaction asks for.
 
 ghost use Rattle.std.specs.Prelude.{◌≡◌, ◌≤◌, ◌^◌, [], ◌∷◌, nat_lt, IfOk, IfSome, IfNone};
-ghost use Rattle.bk_tx.specs.Spelling.{receivers_of};
-ghost use Rattle.bk_rules.specs.Rule.{payments_of, sum_of};
+ghost use Rattle.bk_tx.specs.Spelling.{payments_of, receivers_of};
+ghost use Rattle.bk_rules.specs.Rule.{sum_of};
 
 use bk_tx::{Body, Payment};
 use std::alloc::{AllocError, Global};

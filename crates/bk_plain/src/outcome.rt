@@ -3,7 +3,7 @@
 ghost use Rattle.std.specs.Prelude.{◌≡◌, ◌∷◌, map, IfOk};
 ghost use Rattle.std.specs.Option.{option_copied};
 ghost use Rattle.bk_rules.specs.Rule.{changes_of, moved_by, receive, send, sum_of};
-ghost use Rattle.bk_rules.specs.Rows.{account_at, outcome_of, settled};
+ghost use Rattle.bk_rules.specs.Rows.{account_at, outcome_of, rows_after};
 ghost use Rattle.bk_plain.specs.Changes.{meant};
 
 use crate::asked::sum_of;
@@ -98,8 +98,12 @@ fn moved_by(alloc: Global, status: Status, rows: &[Row], tx: &Tx) -> Result<u64,
 
 // What follows from a status.
 fn settled(alloc: Global, status: Status, rows: &[Row], tx: &Tx) -> Result<Outcome, Unfit>
-    ensures receipt { IfOk result (λ o. o.receipt ≡ (settled status tx.now rows.now).receipt) }
-    ensures after { IfOk result (λ o. o.after.items ≡ (settled status tx.now rows.now).after) }
+    ensures receipt { IfOk result (λ o. o.receipt ≡ record {
+      status = status;
+      moved = moved_by status (account_at rows.now) tx.now;
+    }) }
+    ensures after { IfOk result (λ o. o.after.items
+        ≡ rows_after (changes_of status (account_at rows.now) tx.now) rows.now) }
 {
     let moved = moved_by(alloc, status, rows, tx)?;
     let changes = changes_of(alloc, status, rows, tx)?;

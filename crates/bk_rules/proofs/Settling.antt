@@ -7,7 +7,7 @@ use Rattle.bk_tx.specs.Access.{writes, declares, receivers_in}
 use Rattle.bk_tx.specs.declared.declared.Declared.{Declared}
 use Rattle.bk_tx.specs.declared.payments.Payment.{Payment}
 use Rattle.bk_tx.specs.Transaction.{Transaction}
-use Rattle.bk_tx.specs.Spelling.{receivers_of}
+use Rattle.bk_tx.specs.Spelling.{payments_of, receivers_of}
 use Rattle.bk_rules.specs.declared.account.Account.{Account}
 use Rattle.bk_frames.specs.declared.version.Version.{Version}
 use Rattle.bk_rules.specs.declared.receipt.Status.{Status}
@@ -16,7 +16,7 @@ use Rattle.bk_rules.specs.declared.receipt.Receipt.{Receipt}
 use Rattle.bk_rules.specs.declared.roles.Floor.{Floor}
 use Rattle.bk_rules.specs.declared.roles.FloorAt.{FloorAt}
 use Rattle.bk_rules.specs.declared.roles.Roles.{Roles}
-use Rattle.bk_rules.specs.Rule.{Accounts, Guard, balance_of, seq_of, seq_at, payments_of, payments_on, sum_of, guard_of, guard_passes, is_declared, can_receive, are_known, status_of, moved_by, sent, send, receive, changes_of, account_after}
+use Rattle.bk_rules.specs.Rule.{Accounts, Guard, balance_of, seq_of, seq_at, payments_on, sum_of, guard_of, guard_passes, is_declared, can_receive, are_known, status_of, moved_by, sent, send, receive, changes_of, account_after}
 use Rattle.bk_rules.specs.View.{nth, nth_or_new, seen, nth_id, Become, Settles, is_writable, IsEffect}
 use Rattle.bk_rules.specs.private.Roles.{AllAt, guard_in, AreAt, floor_passes, credited}
 use Rattle.bk_rules.proofs.RowLemmas.{step}

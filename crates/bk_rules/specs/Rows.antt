@@ -46,14 +46,9 @@ pub record Outcome : Type 0 where
   pub receipt : Receipt
   pub after : List Row
 
--- what follows from a status
-abbrev pub settled : Status → Transaction → List Row → Outcome
-settled s t rows = record {
-  receipt = record { status = s; moved = moved_by s (account_at rows) t };
-  after = rows_after (changes_of s (account_at rows) t) rows;
-}
-
 -- the rule: bytes that are no transaction are malformed, and else the status says what follows
 abbrev pub outcome_of : Version → Option Transaction → List Row → Outcome
 outcome_of version None rows = record { receipt = record { status = status.Malformed; moved = 0 }; after = rows }
-outcome_of version (Some t) rows = settled (status_of version (account_at rows) t) t rows
+outcome_of version (Some t) rows =
+    let s = status_of version (account_at rows) t in let moved = moved_by s (account_at rows) t in
+    record { receipt = record { status = s; moved = moved }; after = rows_after (changes_of s (account_at rows) t) rows }

@@ -6,7 +6,7 @@ use Rattle.bk_tx.specs.Transaction.{Transaction}
 use Rattle.bk_tx.specs.declared.body.Body.{Body}
 use Rattle.bk_tx.specs.declared.body.Body.TheVariants.{Pay, PayIf, Sweep, Split}
 use Rattle.bk_tx.specs.Access.{writes, declares}
-use Rattle.bk_tx.specs.Spelling.{receivers_of}
+use Rattle.bk_tx.specs.Spelling.{payments_of, receivers_of}
 use Rattle.bk_rules.specs.declared.account.Account.{Account}
 use Rattle.bk_frames.specs.declared.version.Version.{Version}
 use Rattle.bk_frames.specs.declared.version.Version.TheVariants.{One, Two}
@@ -41,13 +41,6 @@ seq_at accounts id = seq_of (accounts id)
 
 -- ---- what a body asks for
 
--- the payments that a body asks for, all from the sender, who has this balance: a sweep pays what there is above what it keeps
-abbrev pub payments_of : ℕ → Body → List Payment
-payments_of balance (Pay to amount) = record { to = to; amount = amount } ∷ []
-payments_of balance (PayIf to amount guard min) = record { to = to; amount = amount } ∷ []
-payments_of balance (Sweep to keep) = record { to = to; amount = balance - keep } ∷ []
-payments_of balance (Split payments) = payments
-
 -- the payments that a transaction asks for on these accounts
 abbrev pub payments_on : Accounts → Transaction → List Payment
 payments_on accounts t = payments_of (balance_at accounts t.from) t.body
@@ -63,10 +56,8 @@ pub record Guard : Type 0 where
 
 -- the guard of a body, if it has one
 abbrev pub guard_of : Body → Option Guard
-guard_of (Pay to amount) = None
 guard_of (PayIf to amount guard min) = Some (record { id = guard; least = min })
-guard_of (Sweep to keep) = None
-guard_of (Split payments) = None
+guard_of other = None
 
 -- a test of the guard, which holds where there is none
 abbrev pub guard_passes : (Guard → Bool) → Body → Bool

@@ -3,8 +3,8 @@
 ghost use Rattle.std.specs.Prelude.{◌≡◌, ◌&&◌, ◌==◌, ◌≤◌, true, [], ◌∷◌, IfSome, is_some, length, option_map};
 ghost use Rattle.std.specs.List.{list_all, position};
 ghost use Rattle.bk_tx.specs.Access.{writes, receivers_in};
-ghost use Rattle.bk_tx.specs.Spelling.{receivers_of};
-ghost use Rattle.bk_rules.specs.Rule.{payments_of, guard_of, is_declared};
+ghost use Rattle.bk_tx.specs.Spelling.{payments_of, receivers_of};
+ghost use Rattle.bk_rules.specs.Rule.{guard_of, is_declared};
 ghost use Rattle.bk_rules.specs.private.Roles.{IsAt, AllAt, AreAt, guard_in};
 
 use bk_tx::{Body, Declarations, Payment, Tx};

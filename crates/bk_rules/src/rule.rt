@@ -4,7 +4,8 @@ ghost use Rattle.std.specs.Prelude.{◌≡◌, ◌&&◌, ◌+◌, ◌^◌, ◌<�
 ghost use Rattle.std.specs.List.{list_all, sum_by};
 ghost use Rattle.bk_frames.specs.Numbers.{is_ascending};
 ghost use Rattle.bk_tx.specs.Access.{declared_ids};
-ghost use Rattle.bk_rules.specs.Rule.{balance_of, seq_of, payments_of, is_declared, can_receive};
+ghost use Rattle.bk_tx.specs.Spelling.{payments_of};
+ghost use Rattle.bk_rules.specs.Rule.{balance_of, seq_of, is_declared, can_receive};
 ghost use Rattle.bk_rules.specs.View.{nth, is_writable, Settles, IsEffect};
 ghost use Rattle.bk_rules.specs.private.Roles.{AreAt, floor_passes, credited};
 

@@ -11,7 +11,7 @@ use Rattle.bk_tx.specs.declared.body.Body.{Body}
 use Rattle.bk_tx.specs.declared.body.Body.TheVariants.{Sweep, Split}
 use Rattle.bk_tx.specs.Access.{receivers_in}
 use Rattle.bk_tx.specs.Spelling.{wide, payment_text, kind_of, body_text, ArePayments, BodyFits}
-use Rattle.bk_tx.specs.Reading.{sweep_at, payment_at, is_payment_count, split_at}
+use Rattle.bk_tx.specs.Reading.{sweep_at, payment_at, is_count, split_at}
 use Rattle.bk_frames.proofs.FieldLemmas.{list_takes, list_again, bind_some, if_some, some_is, Takes, Takes-then, byte_takes, byte_again, wide64, number_takes, number_again}
 
 -- ---- a sweep
@@ -70,17 +70,17 @@ pays_receiver (p ∷ ps) id = ap (λ (b : Bool). eqb p.to id || b) (pays_receive
 
 -- ---- a split
 
-count_is : {A : Type 0} (n : ℕ) (o : Option A) (x : A) → cond (is_payment_count n) o None ≡ Some x → (1 ≤ n) × (n ≤ 6) × (o ≡ Some x)
+count_is : {A : Type 0} (n : ℕ) (o : Option A) (x : A) → cond (is_count 6 n) o None ≡ Some x → (1 ≤ n) × (n ≤ 6) × (o ≡ Some x)
 count_is n o x e =
-    let t = if_some (is_payment_count n) o x e in
+    let t = if_some (is_count 6 n) o x e in
     let p = and_parts (leb 1 n) (leb n 6) t.0 in
     (leb-true 1 n p.0, leb-true n 6 p.1, t.1)
 
 pub split_takes : (bytes : List ℕ) (x : Body × List ℕ) → IsBytes bytes → split_at bytes ≡ Some x → Takes bytes (body_text x.0) x.1 × BodyFits x.0 × (kind_of x.0 ≡ 4)
 unfolding split_at
 split_takes bytes x fits e =
-    let a = bind_some (number_at w8 bytes) (λ count. cond (is_payment_count count.0) (list_at payment_at count.0 count.1) None >>= λ payments. cond (is_ascending (receivers_in payments.0)) (Some (Split payments.0, payments.1)) None) x e in
-    let b = bind_some (cond (is_payment_count a.0.0) (list_at payment_at a.0.0 a.0.1) None) (λ payments. cond (is_ascending (receivers_in payments.0)) (Some (Split payments.0, payments.1)) None) x a.2 in
+    let a = bind_some (number_at w8 bytes) (λ count. cond (is_count 6 count.0) (list_at payment_at count.0 count.1) None >>= λ payments. cond (is_ascending (receivers_in payments.0)) (Some (Split payments.0, payments.1)) None) x e in
+    let b = bind_some (cond (is_count 6 a.0.0) (list_at payment_at a.0.0 a.0.1) None) (λ payments. cond (is_ascending (receivers_in payments.0)) (Some (Split payments.0, payments.1)) None) x a.2 in
     let n = count_is a.0.0 (list_at payment_at a.0.0 a.0.1) b.0 b.1 in
     let made : Body × List ℕ = (Split b.0.0, b.0.1) in
     let g = cond_some (is_ascending (receivers_in b.0.0)) made x b.2 in
@@ -91,7 +91,7 @@ split_takes bytes x fits e =
     let good : ArePayments b.0.0 = record { some = omega (arith, t1.1, n.0); few = omega (arith, t1.1, n.1); ascending = g.0; fit = t1.2 } in
     subst (λ (y : Body × List ℕ). Takes bytes (body_text y.0) y.1 × BodyFits y.0 × (kind_of y.0 ≡ 4)) g.1 (spelled, good, refl)
 
-split_steps : (bytes r0 r1 : List ℕ) (n : ℕ) (ps : List Payment) → number_at w8 bytes ≡ Some (n, r0) → is_payment_count n ≡ true → list_at payment_at n r0 ≡ Some (ps, r1) → is_ascending (receivers_in ps) ≡ true → split_at bytes ≡ Some (Split ps, r1)
+split_steps : (bytes r0 r1 : List ℕ) (n : ℕ) (ps : List Payment) → number_at w8 bytes ≡ Some (n, r0) → is_count 6 n ≡ true → list_at payment_at n r0 ≡ Some (ps, r1) → is_ascending (receivers_in ps) ≡ true → split_at bytes ≡ Some (Split ps, r1)
 unfolding split_at
 split_steps bytes r0 r1 n ps e0 e1 e2 e3 = rw (e0, e1, e2, e3) refl
 

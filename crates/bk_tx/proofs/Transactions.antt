@@ -64,17 +64,17 @@ record AreDeclared (ds : List Declared) : Type 0 where
   ascending : IsTrue (is_ascending (declared_ids ds))
   ids_fit : AllByRecursion IdFits ds
 
-count_is : {A : Type 0} (n : ℕ) (o : Option A) (x : A) → cond (is_count n) o None ≡ Some x → (1 ≤ n) × (n ≤ 8) × (o ≡ Some x)
+count_is : {A : Type 0} (n : ℕ) (o : Option A) (x : A) → cond (is_count 8 n) o None ≡ Some x → (1 ≤ n) × (n ≤ 8) × (o ≡ Some x)
 count_is n o x e =
-    let t = if_some (is_count n) o x e in
+    let t = if_some (is_count 8 n) o x e in
     let p = and_parts (leb 1 n) (leb n 8) t.0 in
     (leb-true 1 n p.0, leb-true n 8 p.1, t.1)
 
 declarations_take : (bytes : List ℕ) (x : List Declared × List ℕ) → IsBytes bytes → declarations_at bytes ≡ Some x → Takes bytes (length x.0 ∷ flat_map declared_text x.0) x.1 × AreDeclared x.0
 unfolding declarations_at
 declarations_take bytes x fits e =
-    let a = bind_some (number_at w8 bytes) (λ count. cond (is_count count.0) (list_at declared_at count.0 count.1) None >>= λ entries. cond (is_ascending (declared_ids entries.0)) (Some entries) None) x e in
-    let b = bind_some (cond (is_count a.0.0) (list_at declared_at a.0.0 a.0.1) None) (λ entries. cond (is_ascending (declared_ids entries.0)) (Some entries) None) x a.2 in
+    let a = bind_some (number_at w8 bytes) (λ count. cond (is_count 8 count.0) (list_at declared_at count.0 count.1) None >>= λ entries. cond (is_ascending (declared_ids entries.0)) (Some entries) None) x e in
+    let b = bind_some (cond (is_count 8 a.0.0) (list_at declared_at a.0.0 a.0.1) None) (λ entries. cond (is_ascending (declared_ids entries.0)) (Some entries) None) x a.2 in
     let n = count_is a.0.0 (list_at declared_at a.0.0 a.0.1) b.0 b.1 in
     let g = cond_some (is_ascending (declared_ids b.0.0)) b.0 x b.2 in
     let t0 = byte_takes bytes a.0.0 a.0.1 fits a.1 in
@@ -83,7 +83,7 @@ declarations_take bytes x fits e =
     let spelled : Takes bytes (length b.0.0 ∷ flat_map declared_text b.0.0) b.0.1 = subst (λ (k : ℕ). Takes bytes (k ∷ flat_map declared_text b.0.0) b.0.1) (sym t1.1) both in
     subst (λ (y : List Declared × List ℕ). Takes bytes (length y.0 ∷ flat_map declared_text y.0) y.1 × AreDeclared y.0) g.1 (spelled, record { some = omega (arith, t1.1, n.0); few = omega (arith, t1.1, n.1); ascending = g.0; ids_fit = t1.2 })
 
-declarations_steps : (bytes r0 r1 : List ℕ) (n : ℕ) (ds : List Declared) → number_at w8 bytes ≡ Some (n, r0) → is_count n ≡ true → list_at declared_at n r0 ≡ Some (ds, r1) → is_ascending (declared_ids ds) ≡ true → declarations_at bytes ≡ Some (ds, r1)
+declarations_steps : (bytes r0 r1 : List ℕ) (n : ℕ) (ds : List Declared) → number_at w8 bytes ≡ Some (n, r0) → is_count 8 n ≡ true → list_at declared_at n r0 ≡ Some (ds, r1) → is_ascending (declared_ids ds) ≡ true → declarations_at bytes ≡ Some (ds, r1)
 unfolding declarations_at
 declarations_steps bytes r0 r1 n ds e0 e1 e2 e3 = rw (e0, e1, e2, e3) refl
 

@@ -9,10 +9,8 @@ use Rattle.bk_tx.specs.Reading.{transaction_of, texts_of}
 
 -- a frame of a batch
 abbrev pub is_batch : Kind → Bool
-is_batch kind.Committee = false
-is_batch kind.Genesis = false
-is_batch kind.Certificate = false
 is_batch kind.Batch = true
+is_batch other = false
 
 -- the payloads of the batches of a feed, in feed order, repeated ones too
 abbrev pub payloads_of : List Frame → List (List ℕ)

@@ -25,15 +25,15 @@ declared_at bytes = do
   id ← number_at w64 mode.1
   Some (record { id = id.0; writable = writable }, id.1)
 
--- one to eight
-abbrev pub is_count : ℕ → Bool
-is_count n = nat_le 1 n && nat_le n 8
+-- a count from one to this
+abbrev pub is_count : ℕ → ℕ → Bool
+is_count most n = nat_le 1 n && nat_le n most
 
 -- a count and so many declared accounts by ascending id at the front
 unfoldable pub declarations_at : List ℕ → Option (List Declared × List ℕ)
 declarations_at bytes = do
   count ← number_at w8 bytes
-  entries ← (if is_count count.0 then list_at declared_at count.0 count.1 else None)
+  entries ← (if is_count 8 count.0 then list_at declared_at count.0 count.1 else None)
   if is_ascending (declared_ids entries.0) then Some entries else None
 
 -- receiver and amount at the front
@@ -66,15 +66,11 @@ payment_at bytes = do
   amount ← number_at w64 to.1
   Some (record { to = to.0; amount = amount.0 }, amount.1)
 
--- one to six
-abbrev pub is_payment_count : ℕ → Bool
-is_payment_count n = nat_le 1 n && nat_le n 6
-
 -- a count and so many payments by ascending receiver at the front
 unfoldable pub split_at : List ℕ → Option (Body × List ℕ)
 split_at bytes = do
   count ← number_at w8 bytes
-  payments ← (if is_payment_count count.0 then list_at payment_at count.0 count.1 else None)
+  payments ← (if is_count 6 count.0 then list_at payment_at count.0 count.1 else None)
   if is_ascending (receivers_in payments.0) then Some (Split payments.0, payments.1) else None
 
 -- the body of a transaction of this kind at the front

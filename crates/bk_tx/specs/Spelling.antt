@@ -1,5 +1,5 @@
 -- What transactions and batches are, and the one encoding of each.
-use Rattle.std.specs.Prelude.{◌≢◌, ℕ, ◌^◌, ◌<◌, ◌≤◌, List, [], ◌∷◌, ◌++◌, length, map, IsTrue, if◌then◌else◌}
+use Rattle.std.specs.Prelude.{◌≢◌, ℕ, ◌-◌, ◌^◌, ◌<◌, ◌≤◌, List, [], ◌∷◌, ◌++◌, length, map, IsTrue, if◌then◌else◌}
 use Rattle.std.specs.List.{flat_map, AllByRecursion}
 use Rattle.std.specs.Int.{w16, w64, to_be_bytes}
 use Rattle.bk_frames.specs.Numbers.{is_ascending}
@@ -40,12 +40,16 @@ body_text (Split payments) = length payments ∷ flat_map payment_text payments
 abbrev pub transaction_text : Transaction → List ℕ
 transaction_text t = kind_of t.body ∷ length t.declared ∷ flat_map declared_text t.declared ++ wide t.seq ++ wide t.from ++ body_text t.body
 
--- who is paid by a body
+-- the payments that a body asks for, all from the sender, who has this balance: a sweep pays what there is above what it keeps
+abbrev pub payments_of : ℕ → Body → List Payment
+payments_of balance (Pay to amount) = record { to = to; amount = amount } ∷ []
+payments_of balance (PayIf to amount guard min) = record { to = to; amount = amount } ∷ []
+payments_of balance (Sweep to keep) = record { to = to; amount = balance - keep } ∷ []
+payments_of balance (Split payments) = payments
+
+-- who is paid by a body, which is the same for every balance
 abbrev pub receivers_of : Body → List ℕ
-receivers_of (Pay to amount) = to ∷ []
-receivers_of (PayIf to amount guard min) = to ∷ []
-receivers_of (Sweep to keep) = to ∷ []
-receivers_of (Split payments) = receivers_in payments
+receivers_of body = receivers_in (payments_of 0 body)
 
 -- the lists of payments that a split can make: 1 to 6 by ascending receiver, of numbers that fit eight bytes
 pub record ArePayments (payments : List Payment) : Type 0 where
