@@ -1,7 +1,7 @@
 //! One pass over the transactions: the words of each place, and the places that it waits for
 //! directly.
 
-ghost use Rattle.std.specs.Prelude.{◌≡◌, ℕ, ◌^◌, ◌<◌, ◌≤◌, true, IsTrue, List, length, IfOk, slice_index_or};
+ghost use Rattle.std.specs.Prelude.{◌≡◌, ℕ, ◌^◌, ◌<◌, ◌≤◌, true, IsTrue, List, [], ◌∷◌, length, OnOk, IfOk, slice_index_or};
 ghost use Rattle.bk_frames.specs.Numbers.{is_ascending};
 ghost use Rattle.bk_rules.specs.Ledger.{are_covered};
 ghost use Rattle.bk_conflicts.specs.Conflicts.{declared_at};
@@ -12,19 +12,24 @@ ghost use Rattle.bk_conflicts.specs.private.Flat.{AreFlat};
 ghost use Rattle.bk_conflicts.specs.private.Rows.{IsRows};
 ghost use Rattle.bk_conflicts.specs.private.Trail.{direct, Stands, IsTrail};
 
-use crate::rows::{Rows, end_row, filled, lengths, no_rows, turned_round};
-use crate::trail::{Trail, meet_all, no_trail};
-use crate::words::{WordRows, likely_after, list_accesses, no_words, push_word_row};
+use crate::rows::{Rows, clear_rows, end_row, lengths, new_rows, refill, turned_round};
+use crate::trail::{Trail, clear_trail, meet_all, new_trail};
+use crate::words::{Access, WordRows, likely_after, list_accesses, no_words, push_word_row};
 use bk_frames::Version;
 use bk_rules::Ids;
 use bk_tx::Tx;
 use std::alloc::{AllocError, Global};
 
-// The words of each place, and the places that each waits for directly.
+// What a plan is made with: lists that keep their memory for the next plan.
 #[derive(Drop)]
-struct Met {
-    words: WordRows,
-    earlier: Rows,
+pub(crate) struct Kept {
+    pub(crate) trail: Trail,
+    // By place: the last place, counted from 1, in whose row it is.
+    pub(crate) stamp: Vec<u32>,
+    // The places that each place waits for directly.
+    pub(crate) earlier: Rows,
+    // The accesses of one place.
+    pub(crate) xs: Vec<Access>,
 }
 
 // The lists of a plan.
@@ -35,6 +40,16 @@ pub(crate) struct Lists {
     pub(crate) after: Rows,
 }
 
+// It takes no memory yet.
+pub(crate) fn new_kept(alloc: Global) -> Kept {
+    Kept {
+        trail: new_trail(alloc),
+        stamp: Vec::new(alloc),
+        earlier: new_rows(alloc),
+        xs: Vec::new(alloc),
+    }
+}
+
 // One pass over the places, from the first. `near` has likely slots of all declared accounts, in their order, as far as
 // it goes.
 fn meet_places(
@@ -42,56 +57,60 @@ fn meet_places(
     ids: &Ids,
     txs: &[Option<Tx>],
     near: &[u32],
-    trail: &mut Trail,
-    stamp: &mut [u32],
-) -> Result<Met, AllocError>
-    requires wide { length trail.old.newest.items ≡ length ids.now }
+    kept: &mut Kept,
+) -> Result<WordRows, AllocError>
+    requires wide { length kept.old.trail.newest.items ≡ length ids.now }
     requires ids { IsTrue (is_ascending ids.now) }
     requires few { length txs.now < 2 ^ 31 }
     requires few_slots { length ids.now < 2 ^ 31 }
-    requires long { length stamp.old ≡ length txs.now }
-    requires trail { IsTrail (length trail.old.newest.items) (length stamp.old) trail.old }
-    requires stands { Stands (places_of ids.now txs.now) 0 trail.old }
-    requires low { (p : ℕ) → p < length stamp.old → slice_index_or stamp.old p 0 ≤ 0 }
+    requires long { length kept.old.stamp.items ≡ length txs.now }
+    requires trail { IsTrail (length ids.now) (length txs.now) kept.old.trail }
+    requires stands { Stands (places_of ids.now txs.now) 0 kept.old.trail }
+    requires low { (p : ℕ) → p < length kept.old.stamp.items →
+        slice_index_or kept.old.stamp.items p 0 ≤ 0 }
+    requires no_rows { (kept.old.earlier.start.items ≡ 0 ∷ []) × (kept.old.earlier.items.items ≡ []) }
     ensures words { IfOk result (λ r.
-        IsRows (words_at ids.now txs.now) (length txs.now)
-        r.words.start.items r.words.items.items) }
-    ensures earlier { IfOk result (λ r.
+        IsRows (words_at ids.now txs.now) (length txs.now) r.start.items r.items.items) }
+    ensures earlier { OnOk result (
         IsRows (direct (places_of ids.now txs.now)) (length txs.now)
-        r.earlier.start.items r.earlier.items.items) }
-    ensures declared { IfOk result (λ _. (q : ℕ) → AreDeclared (declared_at txs.now q)) }
+        kept.new.earlier.start.items kept.new.earlier.items.items) }
+    ensures declared { OnOk result ((q : ℕ) → AreDeclared (declared_at txs.now q)) }
 {
-    let mut xs = Vec::new(alloc);
     let mut words = no_words(alloc, txs.len())?;
-    let mut earlier = no_rows(alloc, txs.len())?;
     let mut rest = near;
     for q in 0..txs.len() {
-        list_accesses(ids, txs, q, rest, &mut xs)?;
+        list_accesses(ids, txs, q, rest, &mut kept.xs)?;
         rest = likely_after(rest, txs[q].as_ref());
-        meet_all(trail, stamp, &mut earlier.items, q as u32, &xs)?;
-        end_row(&mut earlier)?;
-        push_word_row(&mut words, &xs)?;
+        let found = &mut kept.earlier.items;
+        meet_all(&mut kept.trail, &mut kept.stamp, found, q as u32, &kept.xs)?;
+        end_row(&mut kept.earlier)?;
+        push_word_row(&mut words, &kept.xs)?;
     }
-    Ok(Met { words, earlier })
+    Ok(words)
 }
 
-// The same, from nothing.
-fn meet(alloc: Global, ids: &Ids, txs: &[Option<Tx>], near: &[u32]) -> Result<Met, AllocError>
+// The same, whatever was kept.
+fn meet(
+    alloc: Global,
+    ids: &Ids,
+    txs: &[Option<Tx>],
+    near: &[u32],
+    kept: &mut Kept,
+) -> Result<WordRows, AllocError>
     requires few { length txs.now < 2 ^ 31 }
     requires few_slots { length ids.now < 2 ^ 31 }
     ensures words { IfOk result (λ r.
-        IsRows (words_at ids.now txs.now) (length txs.now)
-        r.words.start.items r.words.items.items) }
-    ensures earlier { IfOk result (λ r.
+        IsRows (words_at ids.now txs.now) (length txs.now) r.start.items r.items.items) }
+    ensures earlier { OnOk result (
         IsRows (direct (places_of ids.now txs.now)) (length txs.now)
-        r.earlier.start.items r.earlier.items.items) }
-    ensures declared { IfOk result (λ _. (q : ℕ) → AreDeclared (declared_at txs.now q)) }
+        kept.new.earlier.start.items kept.new.earlier.items.items) }
+    ensures declared { OnOk result ((q : ℕ) → AreDeclared (declared_at txs.now q)) }
     ensures ids { IsTrue (is_ascending ids.now) }
 {
-    let slots = ids.as_slice().len();
-    let mut trail = no_trail(alloc, slots)?;
-    let mut stamp = filled(alloc, 0, txs.len())?;
-    meet_places(alloc, ids, txs, near, &mut trail, &mut stamp)
+    clear_trail(&mut kept.trail, ids.as_slice().len())?;
+    refill(&mut kept.stamp, 0, txs.len())?;
+    clear_rows(&mut kept.earlier, txs.len())?;
+    meet_places(alloc, ids, txs, near, kept)
 }
 
 // The lists of the plan of these transactions.
@@ -101,6 +120,7 @@ pub(crate) fn lists_of(
     ids: &Ids,
     txs: &[Option<Tx>],
     near: &[u32],
+    kept: &mut Kept,
 ) -> Result<Lists, AllocError>
     requires covered { are_covered version ids.now txs.now ≡ true }
     requires few { length txs.now < 2 ^ 31 }
@@ -111,11 +131,12 @@ pub(crate) fn lists_of(
 {
     // The version is named in the condition alone.
     let _ = version;
-    let met = meet(alloc, ids, txs, near)?;
-    let before = lengths(alloc, &met.earlier.start)?;
-    let after = turned_round(alloc, &met.earlier.start, &met.earlier.items, txs.len())?;
+    let words = meet(alloc, ids, txs, near, kept)?;
+    let earlier = &kept.earlier;
+    let before = lengths(alloc, &earlier.start)?;
+    let after = turned_round(alloc, &earlier.start, &earlier.items, txs.len())?;
     Ok(Lists {
-        words: met.words,
+        words,
         before,
         after,
     })

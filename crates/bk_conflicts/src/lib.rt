@@ -10,6 +10,7 @@
 mod edges;
 mod laws;
 mod plan;
+mod planner;
 mod rows;
 mod trail;
 mod words;
@@ -19,6 +20,7 @@ pub use laws::{
     words_show_rows,
 };
 pub use plan::{Plan, SLOTS_END};
+pub use planner::Planner;
 pub use words::WordRef;
 
 #[cfg(test)]

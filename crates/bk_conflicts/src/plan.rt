@@ -5,9 +5,11 @@ ghost use Rattle.std.specs.Option.{option_copied};
 ghost use Rattle.bk_rules.specs.Ledger.{are_covered};
 ghost use Rattle.bk_conflicts.specs.Words.{words_at};
 ghost use Rattle.bk_conflicts.specs.Plan.{IsPlan, before_of, after_of};
+ghost use Rattle.bk_conflicts.specs.private.Flat.{AreFlat};
 ghost use Rattle.bk_conflicts.specs.private.Rows.{row_at};
 
-use crate::edges::lists_of;
+use crate::edges::Lists;
+use crate::planner::Planner;
 use crate::words::WordRef;
 use bk_frames::Version;
 use bk_rules::Ids;
@@ -83,7 +85,25 @@ impl Plan {
         ensures txs { IfOk result (λ p. p.txs ≡ txs.items) }
         ensures plan { IfOk result IsPlan }
     {
-        let lists = lists_of(alloc, version, ids, &txs, near)?;
+        Planner::new(alloc).plan(alloc, version, ids, txs, near)
+    }
+
+    // The plan that lists hold.
+    pub(crate) fn of_lists(
+        alloc: Global,
+        version: Version,
+        ids: &Ids,
+        txs: Vec<Option<Tx>>,
+        lists: Lists,
+    ) -> Result<Plan, AllocError>
+        requires { AreFlat version ids.now txs.items lists.words.start.items
+            lists.words.items.items lists.before.items lists.after.start.items
+            lists.after.items.items }
+        ensures version { IfOk result (λ p. p.version ≡ version) }
+        ensures ids { IfOk result (λ p. p.ids ≡ ids.now) }
+        ensures txs { IfOk result (λ p. p.txs ≡ txs.items) }
+        ensures plan { IfOk result IsPlan }
+    {
         let ids = ids.share(alloc)?;
         Ok(Plan {
             version,

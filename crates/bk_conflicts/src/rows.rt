@@ -27,6 +27,22 @@ pub(crate) fn filled_wide(alloc: Global, value: usize, n: usize) -> Result<Vec<u
     Ok(vec![in alloc; value; n]?)
 }
 
+// Puts the same value, n times, in place of others.
+pub(crate) fn refill(xs: &mut Vec<u32>, value: u32, n: usize) -> Result<(), AllocError>
+    ensures { OnOk result (xs.new.items ≡ replicate n value) }
+{
+    xs.clear();
+    xs.resize(n, value)
+}
+
+// The same for offsets.
+pub(crate) fn refill_wide(xs: &mut Vec<usize>, value: usize, n: usize) -> Result<(), AllocError>
+    ensures { OnOk result (xs.new.items ≡ replicate n value) }
+{
+    xs.clear();
+    xs.resize(n, value)
+}
+
 // A copy.
 fn copied(alloc: Global, xs: &[usize]) -> Result<Vec<usize>, AllocError>
     ensures { IfOk result (λ v. v.items ≡ xs.now) }
@@ -48,17 +64,24 @@ pub(crate) fn end_row(rows: &mut Rows) -> Result<(), AllocError>
     Ok(())
 }
 
-// No rows, with room for the starts of so many.
-pub(crate) fn no_rows(alloc: Global, rows: usize) -> Result<Rows, AllocError>
-    requires { rows < 2 ^ 31 }
-    ensures { IfOk result (λ r. (r.start.items ≡ 0 ∷ []) × (r.items.items ≡ [])) }
-{
-    let mut start = Vec::with_capacity(alloc, rows + 1)?;
-    start.push(0)?;
-    Ok(Rows {
-        start,
+// No rows, and no memory yet.
+pub(crate) fn new_rows(alloc: Global) -> Rows {
+    Rows {
+        start: Vec::new(alloc),
         items: Vec::new(alloc),
-    })
+    }
+}
+
+// Takes all rows out, and makes room for the starts of so many.
+pub(crate) fn clear_rows(all: &mut Rows, rows: usize) -> Result<(), AllocError>
+    requires { rows < 2 ^ 31 }
+    ensures { OnOk result ((all.new.start.items ≡ 0 ∷ []) × (all.new.items.items ≡ [])) }
+{
+    all.items.clear();
+    all.start.clear();
+    all.start.reserve(rows + 1)?;
+    all.start.push(0)?;
+    Ok(())
 }
 
 // How often each number below `width` is in `items`.

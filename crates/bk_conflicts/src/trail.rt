@@ -4,7 +4,7 @@ ghost use Rattle.std.specs.Prelude.{◌≡◌, ◌≢◌, ℕ, ◌+◌, ◌^◌,
 ghost use Rattle.bk_conflicts.specs.private.Accesses.{Places, IsAscending};
 ghost use Rattle.bk_conflicts.specs.private.Trail.{none, WriterIs, Stands, Linked, IsLinks, IsTrail, Shows, IsRow, with_once, all_once, sources_of, gathered};
 
-use crate::rows::{filled, filled_wide};
+use crate::rows::{refill, refill_wide};
 use crate::words::Access;
 use std::alloc::{AllocError, Global};
 
@@ -184,16 +184,25 @@ pub(crate) fn meet_all(
     Ok(())
 }
 
-// Nobody has accessed anything.
-pub(crate) fn no_trail(alloc: Global, slots: usize) -> Result<Trail, AllocError>
-    ensures { IfOk result (λ r. (r.writer.items ≡ replicate slots none)
-        × (r.newest.items ≡ replicate slots 0)
-        × (r.place.items ≡ 0 ∷ []) × (r.prev.items ≡ 0 ∷ [])) }
+// Nobody has accessed anything, and it takes no memory yet.
+pub(crate) fn new_trail(alloc: Global) -> Trail {
+    Trail {
+        writer: Vec::new(alloc),
+        newest: Vec::new(alloc),
+        place: Vec::new(alloc),
+        prev: Vec::new(alloc),
+    }
+}
+
+// Forgets all accesses: nobody has accessed these slots.
+pub(crate) fn clear_trail(trail: &mut Trail, slots: usize) -> Result<(), AllocError>
+    ensures { OnOk result ((trail.new.writer.items ≡ replicate slots none)
+        × (trail.new.newest.items ≡ replicate slots 0)
+        × (trail.new.place.items ≡ 0 ∷ []) × (trail.new.prev.items ≡ 0 ∷ [])) }
 {
-    Ok(Trail {
-        writer: filled(alloc, NONE, slots)?,
-        newest: filled_wide(alloc, 0, slots)?,
-        place: vec![in alloc; 0]?,
-        prev: vec![in alloc; 0]?,
-    })
+    refill(&mut trail.writer, NONE, slots)?;
+    refill_wide(&mut trail.newest, 0, slots)?;
+    refill(&mut trail.place, 0, 1)?;
+    refill_wide(&mut trail.prev, 0, 1)?;
+    Ok(())
 }

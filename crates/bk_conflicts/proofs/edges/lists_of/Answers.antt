@@ -11,19 +11,19 @@ less xs n e = omega arith
 
 pub lengths-requires : goal.lengths-requires
 lengths-requires c =
-    let m = c.in_ok-met.ensures in
+    let m = c.in_ok-words.ensures in
     let r = m.earlier in
     let t : Places = places_of c.args.ids.now c.args.txs.now in
     let met : AreMet c.args.version c.args.ids.now c.args.txs.now = record { few_places = c.requires.few; few_slots = c.requires.few_slots; ids_ascend = m.ids; covered = c.requires.covered; declared = m.declared } in
     rw c.deref.ensures.value (record {
       some = let e = r.long in omega arith;
-      ascending = λ q l. (flat_in (direct t) (length c.args.txs.now) c.in_ok-met.met.earlier.start.items c.in_ok-met.met.earlier.items.items q r (let e = r.long in omega arith)).1;
-      short = λ q l. row_short c.args.version c.args.ids.now c.args.txs.now c.in_ok-met.met.earlier.start.items c.in_ok-met.met.earlier.items.items met r q (let e = r.long in omega arith);
+      ascending = λ q l. (flat_in (direct t) (length c.args.txs.now) c.meet.new.kept.earlier.start.items c.meet.new.kept.earlier.items.items q r (let e = r.long in omega arith)).1;
+      short = λ q l. row_short c.args.version c.args.ids.now c.args.txs.now c.meet.new.kept.earlier.start.items c.meet.new.kept.earlier.items.items met r q (let e = r.long in omega arith);
     })
 
 pub turned_round-requires : goal.turned_round-requires
 turned_round-requires c =
-    let m = c.in_ok-met.ensures in
+    let m = c.in_ok-words.ensures in
     let r = m.earlier in
     let t : Places = places_of c.args.ids.now c.args.txs.now in
     let met : AreMet c.args.version c.args.ids.now c.args.txs.now = record { few_places = c.requires.few; few_slots = c.requires.few_slots; ids_ascend = m.ids; covered = c.requires.covered; declared = m.declared } in
@@ -31,25 +31,25 @@ turned_round-requires c =
     record {
       some = rw c.deref-2.ensures.value (let e = r.long in omega arith);
       small = rw c.deref-2.ensures.value (let e = r.long in let few = c.requires.few in omega arith);
-      low = rw c.deref-3.ensures.value (direct_low t (length c.args.txs.now) c.in_ok-met.met.earlier.items.items (are_sound c.args.version c.args.ids.now c.args.txs.now met).ascend r.all);
+      low = rw c.deref-3.ensures.value (direct_low t (length c.args.txs.now) c.meet.new.kept.earlier.items.items (are_sound c.args.version c.args.ids.now c.args.txs.now met).ascend r.all);
       few = small;
       rows = rw (c.deref-2.ensures.value, c.deref-3.ensures.value)
-          (subst (λ (n : ℕ). IsRows (row_at c.in_ok-met.met.earlier.start.items c.in_ok-met.met.earlier.items.items) n c.in_ok-met.met.earlier.start.items c.in_ok-met.met.earlier.items.items) (less c.in_ok-met.met.earlier.start.items (length c.args.txs.now) r.long)
-          (rows_own (direct t) (length c.args.txs.now) c.in_ok-met.met.earlier.start.items c.in_ok-met.met.earlier.items.items r));
+          (subst (λ (n : ℕ). IsRows (row_at c.meet.new.kept.earlier.start.items c.meet.new.kept.earlier.items.items) n c.meet.new.kept.earlier.start.items c.meet.new.kept.earlier.items.items) (less c.meet.new.kept.earlier.start.items (length c.args.txs.now) r.long)
+          (rows_own (direct t) (length c.args.txs.now) c.meet.new.kept.earlier.start.items c.meet.new.kept.earlier.items.items r));
     }
 
 pub returns : goal.returns
 returns c =
-    let m = c.in_ok-met.ensures in
+    let m = c.in_ok-words.ensures in
     let r = m.earlier in
     let met : AreMet c.args.version c.args.ids.now c.args.txs.now = record { few_places = c.requires.few; few_slots = c.requires.few_slots; ids_ascend = m.ids; covered = c.requires.covered; declared = m.declared } in
-    let w = less c.in_ok-met.met.earlier.start.items (length c.args.txs.now) r.long in
-    let turned_rows = subst (λ (n : ℕ). IsRows (turned (row_at c.in_ok-met.met.earlier.start.items c.in_ok-met.met.earlier.items.items) n) (length c.args.txs.now) c.in_ok-after.after.start.items c.in_ok-after.after.items.items) (sym w)
+    let w = less c.meet.new.kept.earlier.start.items (length c.args.txs.now) r.long in
+    let turned_rows = subst (λ (n : ℕ). IsRows (turned (row_at c.meet.new.kept.earlier.start.items c.meet.new.kept.earlier.items.items) n) (length c.args.txs.now) c.in_ok-after.after.start.items c.in_ok-after.after.items.items) (sym w)
     (rw (c.deref-2.ensures.value, c.deref-3.ensures.value) at c.in_ok-after.ensures) in
     record {
       words_lie = m.words;
-      rows = rows_own (turned (row_at c.in_ok-met.met.earlier.start.items c.in_ok-met.met.earlier.items.items) (length c.args.txs.now)) (length c.args.txs.now) c.in_ok-after.after.start.items c.in_ok-after.after.items.items turned_rows;
+      rows = rows_own (turned (row_at c.meet.new.kept.earlier.start.items c.meet.new.kept.earlier.items.items) (length c.args.txs.now)) (length c.args.txs.now) c.in_ok-after.after.start.items c.in_ok-after.after.items.items turned_rows;
       long = let a = c.in_ok-before.ensures.long in let b = ap length c.deref.ensures.value in let e = r.long in omega arith;
-      plan = is_plan c.args.version c.args.ids.now c.args.txs.now c.in_ok-met.met.earlier.start.items c.in_ok-met.met.earlier.items.items c.in_ok-after.after.start.items c.in_ok-after.after.items.items c.in_ok-before.before.items met r turned_rows
+      plan = is_plan c.args.version c.args.ids.now c.args.txs.now c.meet.new.kept.earlier.start.items c.meet.new.kept.earlier.items.items c.in_ok-after.after.start.items c.in_ok-after.after.items.items c.in_ok-before.before.items met r turned_rows
           (λ q l. (rw c.deref.ensures.value at c.in_ok-before.ensures.each) q (let e = r.long in omega arith));
     }

@@ -9,11 +9,12 @@ use Rattle.bk_conflicts.proofs.edges.meet_places.Given as goal
 
 abbrev pub invariant-loop-q : goal.invariant-loop-q
 invariant-loop-q l = record {
-  wide : length l.trail.newest.items ≡ length l.fn.trail.newest.items;
-  safe : IsTrail (length l.trail.newest.items) (length l.stamp) l.trail;
-  stands : Stands (places_of l.ids l.txs) l.q l.trail;
-  low : (p : ℕ) → p < length l.stamp → slice_index_or l.stamp p 0 ≤ l.q;
+  wide : length l.kept.trail.newest.items ≡ length l.ids;
+  long : length l.kept.stamp.items ≡ length l.txs;
+  safe : IsTrail (length l.ids) (length l.txs) l.kept.trail;
+  stands : Stands (places_of l.ids l.txs) l.q l.kept.trail;
+  low : (p : ℕ) → p < length l.kept.stamp.items → slice_index_or l.kept.stamp.items p 0 ≤ l.q;
   worded : IsRows (words_at l.ids l.txs) l.q l.words.start.items l.words.items.items;
-  met : IsRows (direct (places_of l.ids l.txs)) l.q l.earlier.start.items l.earlier.items.items;
+  met : IsRows (direct (places_of l.ids l.txs)) l.q l.kept.earlier.start.items l.kept.earlier.items.items;
   declared : (k : ℕ) → k < l.q → AreDeclared (declared_at l.txs k);
 }
