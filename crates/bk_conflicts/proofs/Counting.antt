@@ -1,21 +1,31 @@
 -- Counts of the numbers of a list, and their sums.
-use Rattle.std.proofs.Common.{◌≡◌, ◌⊎◌, inl, inr, ⊎_elim, ℕ, zero, suc, ◌+◌, ◌<◌, ◌≤◌, List, [], ◌∷◌, length, take, get_or, set, sum, All, Bool, true, false, cond, eqb, refl, sym, ap, ◌∙◌, subst, arith, length-append, get_or-set_same, get_or-set_other, take_all, length-take}
+use Rattle.std.proofs.Common.{◌≡◌, ◌⊎◌, inl, inr, ⊎_elim, ℕ, zero, suc, ◌+◌, ◌<◌, ◌≤◌, List, [], ◌∷◌, ◌++◌, length, replicate, take, get_or, set, sum, All, Bool, true, false, cond, eqb, refl, sym, ap, ◌∙◌, subst, arith, length-append, get_or-set_same, get_or-set_other, take_all, length-set}
 use mathlib.Core.Logic.{dite}
 use native.Mathlib.Decide.{ℕ_discrete}
+use Rattle.std.proofs.lemmas.List.{length-replicate, get_or-replicate}
 use Rattle.std.proofs.lemmas.List.Sums.{sum_by_more}
 use Rattle.bk_conflicts.specs.Plan.{sum_below}
 use Rattle.bk_conflicts.specs.Scene.{times}
-use Rattle.bk_conflicts.specs.private.Rows.{laid, turned, row_at, IsRows}
-use Rattle.bk_conflicts.proofs.Turning.{times_more, hit, miss, length_turned}
+use Rattle.bk_conflicts.specs.private.Rows.{laid, turned, row_at, AreCounts, IsRows}
+use Rattle.bk_conflicts.proofs.Turning.{times_append, hit, miss, length_turned}
+
+times_one : (p x : ℕ) → times p (x ∷ []) ≡ cond (eqb x p) 1 0
+unfolding times
+times_one p x = let k : ℕ = cond (eqb x p) 1 0 in let e : k + 0 ≡ k = omega arith in e
+
+-- nothing is counted
+pub counts_none : (n : ℕ) (counts items : List ℕ) → counts ≡ replicate n 0 → items ≡ [] → AreCounts counts items
+unfolding times
+counts_none n counts items a b p l = ap (λ (xs : List ℕ). get_or xs p 0) a
+    ∙ (get_or-replicate n p 0 0 (let c = ap length a in let d : length (replicate {A = ℕ} n 0) ≡ n = length-replicate n 0 in omega arith)
+    ∙ ap (times p) (sym b))
 
 -- one item more is counted
-pub count_next : (counts items : List ℕ) (j p : ℕ) → j < length items → get_or items j 0 < length counts → ((k : ℕ) → k < length counts → get_or counts k 0 ≡ times k (take j items)) → p < length counts
-    → get_or (set counts (get_or items j 0) (get_or counts (get_or items j 0) 0 + 1)) p 0 ≡ times p (take (j + 1) items)
-count_next counts items j p l m h n = let x : ℕ = get_or items j 0 in dite (ℕ_discrete p x)
-    (λ is. subst (λ (k : ℕ). get_or (set counts x (get_or counts x 0 + 1)) k 0 ≡ times k (take (j + 1) items)) (sym is)
-    (get_or-set_same counts x (get_or counts x 0 + 1) 0 m ∙ (let a = h x m in let b = times_more x items j l in let c = hit x in let d : times x (take (suc j) items) ≡ get_or counts x 0 + 1 = omega arith in sym d ∙ ap (λ (k : ℕ). times x (take k items)) (let e : suc j ≡ j + 1 = omega arith in e))))
-    (λ other. get_or-set_other counts x p (get_or counts x 0 + 1) 0 other
-    ∙ (let a = h p n in let b = times_more p items j l in let c = miss x p (λ z. other (sym z)) in let d : times p (take (suc j) items) ≡ get_or counts p 0 = omega arith in sym d ∙ ap (λ (k : ℕ). times p (take k items)) (let e : suc j ≡ j + 1 = omega arith in e)))
+pub count_push : (counts items : List ℕ) (x n : ℕ) → x < length counts → n ≡ get_or counts x 0 → AreCounts counts items → AreCounts (set counts x (n + 1)) (items ++ x ∷ [])
+count_push counts items x n m is h p l = let long = length-set counts x (n + 1) in dite (ℕ_discrete p x)
+    (λ same. subst (λ (k : ℕ). get_or (set counts x (n + 1)) k 0 ≡ times k (items ++ x ∷ [])) (sym same)
+    (get_or-set_same counts x (n + 1) 0 m ∙ (let a = h x m in let b = times_append x items (x ∷ []) in let c = times_one x x in let d = hit x in omega arith)))
+    (λ other. get_or-set_other counts x p (n + 1) 0 other ∙ (let a = h p (omega arith) in let b = times_append p items (x ∷ []) in let c = times_one p x in let d = miss x p (λ z. other (sym z)) in omega arith))
 
 times_least : (x : ℕ) (xs : List ℕ) → times x xs ≤ length xs
 unfolding times
@@ -26,9 +36,9 @@ times_least x (y ∷ xs) = let a = times_least x xs in let b = cond_one (eqb y x
     cond_one true = omega arith
     cond_one false = omega arith
 
--- a count so far leaves room for one more
-pub count_room : (items : List ℕ) (j x : ℕ) → j < length items → times x (take j items) < length items
-count_room items j x l = let a = times_least x (take j items) in let b = length-take j items in omega arith
+-- a count is no more than there are items
+pub count_room : (counts items : List ℕ) (x : ℕ) → x < length counts → AreCounts counts items → get_or counts x 0 ≤ length items
+count_room counts items x l h = let a = h x l in let b = times_least x items in omega arith
 
 pub sum_below_take : (h : ℕ → ℕ) (xs : List ℕ) (k : ℕ) → k ≤ length xs → ((p : ℕ) → p < length xs → get_or xs p 0 ≡ h p) → sum (take k xs) ≡ sum_below h k
 unfolding sum_below

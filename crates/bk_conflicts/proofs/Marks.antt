@@ -1,11 +1,10 @@
 -- What is found once, by stamps.
-use Rattle.std.proofs.Common.{◌≡◌, ◌≢◌, ◌⊎◌, ⊎_elim, ℕ, ◌+◌, ◌<◌, ◌≤◌, ◌==◌, ◌||◌, List, [], ◌∷◌, ◌++◌, length, get_or, set, Bool, true, false, cond, eqb, refl, sym, ap, ◌∙◌, subst, arith, length-append, append_assoc, append-nil, length-set, get_or-set_same, get_or-set_other, eq-eqb, ne_eqb}
+use Rattle.std.proofs.Common.{◌≡◌, ◌≢◌, ◌⊎◌, ⊎_elim, ℕ, ◌+◌, ◌<◌, ◌≤◌, ◌==◌, ◌||◌, List, [], ◌∷◌, ◌++◌, length, get_or, set, Bool, true, false, cond, refl, sym, ap, ◌∙◌, subst, arith, length-append, append_assoc, append-nil, length-set, get_or-set_same, get_or-set_other, eq-eqb, ne_eqb}
 use mathlib.Core.Logic.{dite}
 use native.Mathlib.Decide.{ℕ_discrete}
 use Rattle.std.proofs.lemmas.List.Folds.{list_any-append}
 use Rattle.std.proofs.lemmas.Bool.{or_left, or_right, both_ways, cond-true, cond-false}
 use Rattle.std.proofs.lemmas.List.{get_or_append_left, get_or-append-add}
-use Rattle.bk_conflicts.specs.Scene.{times}
 use Rattle.bk_conflicts.specs.private.Trail.{none, WriterIs, sources_of, has, with_once, all_once, Linked, IsMarked, IsRow}
 
 pub has_push : (p x : ℕ) (xs : List ℕ) → has p (xs ++ x ∷ []) ≡ (has p xs || ((x == p) || false))
@@ -63,10 +62,6 @@ pub once_more : (xs ys zs : List ℕ) → all_once xs (ys ++ zs) ≡ all_once (a
 unfolding all_once
 once_more xs [] zs = refl
 once_more xs (y ∷ ys) zs = once_more (with_once xs y) ys zs
-
-times_one : (p x : ℕ) → times p (x ∷ []) ≡ cond (eqb x p) 1 0
-unfolding times
-times_one p x = let k : ℕ = cond (eqb x p) 1 0 in let e : k + 0 ≡ k = omega arith in e
 
 -- at an entry, the list begins with its place
 pub walk_step : (place prev found : List ℕ) (at : ℕ) (ps : List ℕ) → (at ≡ 0 → ⊥) → Linked place prev at ps

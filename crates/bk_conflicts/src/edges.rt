@@ -9,10 +9,12 @@ ghost use Rattle.bk_conflicts.specs.Words.{words_at};
 ghost use Rattle.bk_conflicts.specs.Plan.{AreDeclared};
 ghost use Rattle.bk_conflicts.specs.private.Accesses.{places_of};
 ghost use Rattle.bk_conflicts.specs.private.Flat.{AreFlat};
-ghost use Rattle.bk_conflicts.specs.private.Rows.{IsRows};
+ghost use Rattle.bk_conflicts.specs.private.Rows.{AreCounts, IsRows};
 ghost use Rattle.bk_conflicts.specs.private.Trail.{direct, Stands, IsTrail};
 
-use crate::rows::{Rows, clear_rows, end_row, lengths, new_rows, refill, turned_round};
+use crate::rows::{
+    Rows, clear_rows, end_row, lengths, new_rows, refill, refill_wide, turned_round,
+};
 use crate::trail::{Trail, clear_trail, meet_all, new_trail};
 use crate::words::{Access, WordRows, likely_after, list_accesses, no_words, push_word_row};
 use bk_frames::Version;
@@ -28,6 +30,8 @@ pub(crate) struct Kept {
     pub(crate) stamp: Vec<u32>,
     // The places that each place waits for directly.
     pub(crate) earlier: Rows,
+    // By place: how often it is in these rows, until they are turned round.
+    pub(crate) counts: Vec<usize>,
     // The accesses of one place.
     pub(crate) xs: Vec<Access>,
 }
@@ -46,6 +50,7 @@ pub(crate) fn new_kept(alloc: Global) -> Kept {
         trail: new_trail(alloc),
         stamp: Vec::new(alloc),
         earlier: new_rows(alloc),
+        counts: Vec::new(alloc),
         xs: Vec::new(alloc),
     }
 }
@@ -68,12 +73,16 @@ fn meet_places(
     requires stands { Stands (places_of ids.now txs.now) 0 kept.old.trail }
     requires low { (p : ℕ) → p < length kept.old.stamp.items →
         slice_index_or kept.old.stamp.items p 0 ≤ 0 }
+    requires many { length kept.old.counts.items ≡ length txs.now }
+    requires counted { AreCounts kept.old.counts.items kept.old.earlier.items.items }
     requires no_rows { (kept.old.earlier.start.items ≡ 0 ∷ []) × (kept.old.earlier.items.items ≡ []) }
     ensures words { IfOk result (λ r.
         IsRows (words_at ids.now txs.now) (length txs.now) r.start.items r.items.items) }
     ensures earlier { OnOk result (
         IsRows (direct (places_of ids.now txs.now)) (length txs.now)
         kept.new.earlier.start.items kept.new.earlier.items.items) }
+    ensures many { OnOk result (length kept.new.counts.items ≡ length txs.now) }
+    ensures counted { OnOk result (AreCounts kept.new.counts.items kept.new.earlier.items.items) }
     ensures declared { OnOk result ((q : ℕ) → AreDeclared (declared_at txs.now q)) }
 {
     let mut words = no_words(alloc, txs.len())?;
@@ -82,7 +91,8 @@ fn meet_places(
         list_accesses(ids, txs, q, rest, &mut kept.xs)?;
         rest = likely_after(rest, txs[q].as_ref());
         let found = &mut kept.earlier.items;
-        meet_all(&mut kept.trail, &mut kept.stamp, found, q as u32, &kept.xs)?;
+        let (stamp, counts) = (&mut kept.stamp, &mut kept.counts);
+        meet_all(&mut kept.trail, stamp, counts, found, q as u32, &kept.xs)?;
         end_row(&mut kept.earlier)?;
         push_word_row(&mut words, &kept.xs)?;
     }
@@ -104,11 +114,14 @@ fn meet(
     ensures earlier { OnOk result (
         IsRows (direct (places_of ids.now txs.now)) (length txs.now)
         kept.new.earlier.start.items kept.new.earlier.items.items) }
+    ensures many { OnOk result (length kept.new.counts.items ≡ length txs.now) }
+    ensures counted { OnOk result (AreCounts kept.new.counts.items kept.new.earlier.items.items) }
     ensures declared { OnOk result ((q : ℕ) → AreDeclared (declared_at txs.now q)) }
     ensures ids { IsTrue (is_ascending ids.now) }
 {
     clear_trail(&mut kept.trail, ids.as_slice().len())?;
     refill(&mut kept.stamp, 0, txs.len())?;
+    refill_wide(&mut kept.counts, 0, txs.len())?;
     clear_rows(&mut kept.earlier, txs.len())?;
     meet_places(alloc, ids, txs, near, kept)
 }
@@ -134,7 +147,7 @@ pub(crate) fn lists_of(
     let words = meet(alloc, ids, txs, near, kept)?;
     let earlier = &kept.earlier;
     let before = lengths(alloc, &earlier.start)?;
-    let after = turned_round(alloc, &earlier.start, &earlier.items, txs.len())?;
+    let after = turned_round(alloc, &earlier.start, &earlier.items, &mut kept.counts)?;
     Ok(Lists {
         words,
         before,

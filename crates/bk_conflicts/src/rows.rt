@@ -2,7 +2,7 @@
 
 ghost use Rattle.std.specs.Prelude.{◌≡◌, [], ◌∷◌, ◌++◌, OnOk, ℕ, ◌+◌, ◌^◌, ◌-◌, ◌<◌, ◌≤◌, List, length, sum, take, replicate, All, IfOk, slice_index_or};
 ghost use Rattle.bk_conflicts.specs.Scene.{times};
-ghost use Rattle.bk_conflicts.specs.private.Rows.{laid, turned_rows, row_at, IsRows};
+ghost use Rattle.bk_conflicts.specs.private.Rows.{laid, turned_rows, row_at, AreCounts, IsRows};
 
 use std::alloc::{AllocError, Global};
 
@@ -14,14 +14,7 @@ pub(crate) struct Rows {
 }
 
 // The same value, n times.
-pub(crate) fn filled(alloc: Global, value: u32, n: usize) -> Result<Vec<u32>, AllocError>
-    ensures { IfOk result (λ v. v.items ≡ replicate n value) }
-{
-    Ok(vec![in alloc; value; n]?)
-}
-
-// The same for offsets.
-pub(crate) fn filled_wide(alloc: Global, value: usize, n: usize) -> Result<Vec<usize>, AllocError>
+fn filled(alloc: Global, value: u32, n: usize) -> Result<Vec<u32>, AllocError>
     ensures { IfOk result (λ v. v.items ≡ replicate n value) }
 {
     Ok(vec![in alloc; value; n]?)
@@ -43,18 +36,19 @@ pub(crate) fn refill_wide(xs: &mut Vec<usize>, value: usize, n: usize) -> Result
     xs.resize(n, value)
 }
 
-// A copy.
-fn copied(alloc: Global, xs: &[usize]) -> Result<Vec<usize>, AllocError>
-    ensures { IfOk result (λ v. v.items ≡ xs.now) }
+// Puts a copy in place of others.
+fn copy_to(copy: &mut Vec<usize>, xs: &[usize]) -> Result<(), AllocError>
+    ensures { OnOk result (copy.new.items ≡ xs.now) }
 {
-    let mut copy = Vec::new(alloc);
+    copy.clear();
     copy.extend_from_slice(xs)?;
-    Ok(copy)
+    Ok(())
 }
 
 // Ends a row, whose items are at the end already.
 pub(crate) fn end_row(rows: &mut Rows) -> Result<(), AllocError>
-    ensures { (f : ℕ → List ℕ) (n : ℕ) (before row : List ℕ) →
+    ensures same { rows.new.items ≡ rows.old.items }
+    ensures row { (f : ℕ → List ℕ) (n : ℕ) (before row : List ℕ) →
         IsRows f n rows.old.start.items before → row ≡ f n →
         rows.old.items.items ≡ before ++ row →
         OnOk result (IsRows f (n + 1) rows.new.start.items rows.new.items.items) }
@@ -84,21 +78,6 @@ pub(crate) fn clear_rows(all: &mut Rows, rows: usize) -> Result<(), AllocError>
     Ok(())
 }
 
-// How often each number below `width` is in `items`.
-fn counted(alloc: Global, items: &[u32], width: usize) -> Result<Vec<usize>, AllocError>
-    requires low { All (λ x. x < width) items.now }
-    requires few { length items.now < 2 ^ 64 }
-    ensures long { IfOk result (λ v. length v.items ≡ width) }
-    ensures each { IfOk result (λ v. (p : ℕ) → p < width →
-        slice_index_or v.items p 0 ≡ times p items.now) }
-{
-    let mut counts = filled_wide(alloc, 0, width)?;
-    for &x in items {
-        counts[x as usize] += 1;
-    }
-    Ok(counts)
-}
-
 // The sum of the first `p` counts, for each `p` up to their number.
 fn sums(alloc: Global, counts: &[usize]) -> Result<Vec<usize>, AllocError>
     requires { sum counts.now < 2 ^ 64 }
@@ -116,28 +95,27 @@ fn sums(alloc: Global, counts: &[usize]) -> Result<Vec<usize>, AllocError>
     Ok(starts)
 }
 
-// Puts each row's number into the rows that its items name, from where these begin.
+// Puts each row's number into the rows that its items name, from where these begin, which is changed.
 fn spread(
     alloc: Global,
     start: &[usize],
     items: &[u32],
-    first: &[usize],
+    cursor: &mut [usize],
 ) -> Result<Vec<u32>, AllocError>
     requires some { 0 < length start.now }
-    requires width { 0 < length first.now }
+    requires width { 0 < length cursor.old }
     requires small { length start.now ≤ 2 ^ 32 }
-    requires low { All (λ x. x < length first.now - 1) items.now }
+    requires low { All (λ x. x < length cursor.old - 1) items.now }
     requires few { length items.now < 2 ^ 64 }
     requires rows { IsRows (row_at start.now items.now) (length start.now - 1) start.now items.now }
-    requires room { (p : ℕ) → p < length first.now →
-        slice_index_or first.now p 0
+    requires room { (p : ℕ) → p < length cursor.old →
+        slice_index_or cursor.old p 0
         ≡ length (laid (turned_rows start.now items.now) p) }
-    requires whole { length (laid (turned_rows start.now items.now) (length first.now - 1))
+    requires whole { length (laid (turned_rows start.now items.now) (length cursor.old - 1))
         ≡ length items.now }
     ensures { IfOk result (λ v. v.items
-        ≡ laid (turned_rows start.now items.now) (length first.now - 1)) }
+        ≡ laid (turned_rows start.now items.now) (length cursor.old - 1)) }
 {
-    let mut cursor = copied(alloc, first)?;
     let mut after = filled(alloc, 0, items.len())?;
     for q in 0..start.len() - 1 {
         let row = &items[start[q]..start[q + 1]];
@@ -150,25 +128,26 @@ fn spread(
     Ok(after)
 }
 
-// The rows turned round, `width` of them: row `p` lists, in ascending order, the rows that name
-// `p`.
+// The rows turned round: row `p` lists, in ascending order, the rows that name `p`. Of each `p` the items are counted
+// already; the counts are not left.
 pub(crate) fn turned_round(
     alloc: Global,
     start: &[usize],
     items: &[u32],
-    width: usize,
+    counts: &mut Vec<usize>,
 ) -> Result<Rows, AllocError>
     requires some { 0 < length start.now }
     requires small { length start.now ≤ 2 ^ 32 }
-    requires low { All (λ x. x < width) items.now }
+    requires low { All (λ x. x < length counts.old.items) items.now }
     requires few { length items.now < 2 ^ 64 }
     requires rows { IsRows (row_at start.now items.now) (length start.now - 1) start.now items.now }
-    ensures { IfOk result (λ r.
-        IsRows (turned_rows start.now items.now) width r.start.items r.items.items) }
+    requires counted { AreCounts counts.old.items items.now }
+    ensures { IfOk result (λ r. IsRows (turned_rows start.now items.now)
+        (length counts.old.items) r.start.items r.items.items) }
 {
-    let counts = counted(alloc, items, width)?;
-    let first = sums(alloc, &counts)?;
-    let after = spread(alloc, start, items, &first)?;
+    let first = sums(alloc, counts)?;
+    copy_to(counts, &first)?;
+    let after = spread(alloc, start, items, counts)?;
     Ok(Rows {
         start: first,
         items: after,

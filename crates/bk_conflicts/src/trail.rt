@@ -2,6 +2,7 @@
 
 ghost use Rattle.std.specs.Prelude.{◌≡◌, ◌≢◌, ℕ, ◌+◌, ◌^◌, ◌<◌, ◌≤◌, List, [], ◌∷◌, length, cond, OnOk, IfOk, All, replicate, slice_index_or};
 ghost use Rattle.bk_conflicts.specs.private.Accesses.{Places, IsAscending};
+ghost use Rattle.bk_conflicts.specs.private.Rows.{AreCounts};
 ghost use Rattle.bk_conflicts.specs.private.Trail.{none, WriterIs, Stands, Linked, IsLinks, IsTrail, Shows, IsRow, with_once, all_once, sources_of, gathered};
 
 use crate::rows::{refill, refill_wide};
@@ -24,20 +25,25 @@ pub(crate) struct Trail {
     prev: Vec<usize>,
 }
 
-// Adds `source` to the row at the end of `found`, where it is not in it yet.
+// Adds `source` to the row at the end of `found`, and counts it, where it is not in it yet.
 fn add_once(
     stamp: &mut [u32],
+    counts: &mut [usize],
     found: &mut Vec<u32>,
     mark: u32,
     source: u32,
 ) -> Result<(), AllocError>
-    requires { source < length stamp.old }
-    ensures { (before row : List ℕ) → IsRow mark before row stamp.old found.old.items →
+    requires inside { source < length stamp.old }
+    requires wide { length counts.old ≡ length stamp.old }
+    requires counted { AreCounts counts.old found.old.items }
+    ensures row { (before row : List ℕ) → IsRow mark before row stamp.old found.old.items →
         OnOk result (IsRow mark before (with_once row source) stamp.new found.new.items) }
+    ensures counted { OnOk result (AreCounts counts.new found.new.items) }
 {
     if stamp[source as usize] != mark {
         found.push(source)?;
         stamp[source as usize] = mark;
+        counts[source as usize] += 1;
     }
     Ok(())
 }
@@ -48,18 +54,22 @@ fn add_readers(
     prev: &[usize],
     newest: usize,
     stamp: &mut [u32],
+    counts: &mut [usize],
     found: &mut Vec<u32>,
     mark: u32,
 ) -> Result<(), AllocError>
     requires links { IsLinks (length stamp.old) place.now prev.now }
     requires head { newest < length place.now }
-    ensures { (before row ps : List ℕ) → Linked place.now prev.now newest ps →
+    requires wide { length counts.old ≡ length stamp.old }
+    requires counted { AreCounts counts.old found.old.items }
+    ensures row { (before row ps : List ℕ) → Linked place.now prev.now newest ps →
         IsRow mark before row stamp.old found.old.items →
         OnOk result (IsRow mark before (all_once row ps) stamp.new found.new.items) }
+    ensures counted { OnOk result (AreCounts counts.new found.new.items) }
 {
     let mut at = newest;
     while at != 0 {
-        add_once(stamp, found, mark, place[at])?;
+        add_once(stamp, counts, found, mark, place[at])?;
         at = prev[at];
     }
     Ok(())
@@ -69,16 +79,20 @@ fn add_readers(
 fn add_writer(
     writer: u32,
     stamp: &mut [u32],
+    counts: &mut [usize],
     found: &mut Vec<u32>,
     mark: u32,
 ) -> Result<(), AllocError>
-    requires { writer ≢ none → writer < length stamp.old }
-    ensures { (before row ws : List ℕ) → WriterIs writer ws →
+    requires inside { writer ≢ none → writer < length stamp.old }
+    requires wide { length counts.old ≡ length stamp.old }
+    requires counted { AreCounts counts.old found.old.items }
+    ensures row { (before row ws : List ℕ) → WriterIs writer ws →
         IsRow mark before row stamp.old found.old.items →
         OnOk result (IsRow mark before (all_once row ws) stamp.new found.new.items) }
+    ensures counted { OnOk result (AreCounts counts.new found.new.items) }
 {
     if writer != NONE {
-        add_once(stamp, found, mark, writer)?;
+        add_once(stamp, counts, found, mark, writer)?;
     }
     Ok(())
 }
@@ -87,6 +101,7 @@ fn add_writer(
 fn wait_for(
     trail: &Trail,
     stamp: &mut [u32],
+    counts: &mut [usize],
     found: &mut Vec<u32>,
     q: u32,
     access: Access,
@@ -94,18 +109,29 @@ fn wait_for(
     requires trail { IsTrail (length trail.now.newest.items) (length stamp.old) trail.now }
     requires slot { access.slot < length trail.now.newest.items }
     requires small { q < 2 ^ 31 }
-    ensures { (before row rs ws : List ℕ) → Shows trail.now access.slot rs ws →
+    requires wide { length counts.old ≡ length stamp.old }
+    requires counted { AreCounts counts.old found.old.items }
+    ensures row { (before row rs ws : List ℕ) → Shows trail.now access.slot rs ws →
         IsRow (q + 1) before row stamp.old found.old.items →
         OnOk result (IsRow (q + 1) before (all_once row (sources_of access.writable rs ws))
         stamp.new found.new.items) }
+    ensures counted { OnOk result (AreCounts counts.new found.new.items) }
 {
     let a = access.slot as usize;
     let newest = trail.newest[a];
     if access.writable && newest != 0 {
-        add_readers(&trail.place, &trail.prev, newest, stamp, found, q + 1)?;
+        add_readers(
+            &trail.place,
+            &trail.prev,
+            newest,
+            stamp,
+            counts,
+            found,
+            q + 1,
+        )?;
         Ok(())
     } else {
-        add_writer(trail.writer[a], stamp, found, q + 1)?;
+        add_writer(trail.writer[a], stamp, counts, found, q + 1)?;
         Ok(())
     }
 }
@@ -158,10 +184,11 @@ fn enter(trail: &mut Trail, q: u32, access: Access) -> Result<(), AllocError>
     }
 }
 
-// Adds what place `q` waits for to the row at the end of `found`, and enters its accesses.
+// Adds what place `q` waits for to the row at the end of `found`, counts it, and enters its accesses.
 pub(crate) fn meet_all(
     trail: &mut Trail,
     stamp: &mut [u32],
+    counts: &mut [usize],
     found: &mut Vec<u32>,
     q: u32,
     xs: &[Access],
@@ -170,15 +197,18 @@ pub(crate) fn meet_all(
     requires slots { All (λ x. x.slot < length trail.old.newest.items) xs.now }
     requires place { q < length stamp.old }
     requires small { length stamp.old < 2 ^ 31 }
+    requires wide { length counts.old ≡ length stamp.old }
+    requires counted { AreCounts counts.old found.old.items }
     ensures trail { OnOk result (
         IsTrail (length trail.old.newest.items) (length stamp.old) trail.new) }
     ensures found { (t : Places) (before row : List ℕ) → t q ≡ xs.now → IsAscending xs.now →
         Stands t q trail.old → IsRow (q + 1) before row stamp.old found.old.items →
         OnOk result (Stands t (q + 1) trail.new
         × IsRow (q + 1) before (all_once row (gathered t q xs.now)) stamp.new found.new.items) }
+    ensures counted { OnOk result (AreCounts counts.new found.new.items) }
 {
     for x in xs {
-        wait_for(trail, stamp, found, q, *x)?;
+        wait_for(trail, stamp, counts, found, q, *x)?;
         enter(trail, q, *x)?;
     }
     Ok(())

@@ -1,5 +1,5 @@
 -- Rows that lie in one list, one after the other, and rows turned round.
-use Rattle.std.specs.Prelude.{◌≡◌, ℕ, zero, suc, ◌+◌, ◌-◌, ◌≤◌, List, [], ◌++◌, length, replicate, slice_range, slice_index_or}
+use Rattle.std.specs.Prelude.{◌≡◌, ℕ, zero, suc, ◌+◌, ◌-◌, ◌<◌, ◌≤◌, List, [], ◌++◌, length, replicate, slice_range, slice_index_or}
 use Rattle.bk_conflicts.specs.Scene.{times}
 
 -- the first n rows, one after the other
@@ -25,3 +25,7 @@ turned f (suc q) p = turned f q p ++ replicate (times p (f q)) q
 -- the same of all rows that lie in these lists
 abbrev pub turned_rows : List ℕ → List ℕ → ℕ → List ℕ
 turned_rows start items = turned (row_at start items) (length start - 1)
+
+-- how often each number is in the list, below their number
+abbrev pub AreCounts : List ℕ → List ℕ → Type 0
+AreCounts counts items = (p : ℕ) → p < length counts → slice_index_or counts p 0 ≡ times p items

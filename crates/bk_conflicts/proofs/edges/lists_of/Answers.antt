@@ -1,4 +1,4 @@
-use Rattle.std.proofs.Common.{◌≡◌, ◌-◌, ℕ, suc, List, length, sym, ap, subst, arith}
+use Rattle.std.proofs.Common.{◌≡◌, ◌<◌, ◌-◌, ℕ, suc, List, length, All, sym, ap, subst, arith}
 use Rattle.bk_conflicts.specs.private.Accesses.{Places, places_of}
 use Rattle.bk_conflicts.specs.private.Rows.{turned, row_at, IsRows}
 use Rattle.bk_conflicts.specs.private.Trail.{direct}
@@ -31,8 +31,9 @@ turned_round-requires c =
     record {
       some = rw c.deref-2.ensures.value (let e = r.long in omega arith);
       small = rw c.deref-2.ensures.value (let e = r.long in let few = c.requires.few in omega arith);
-      low = rw c.deref-3.ensures.value (direct_low t (length c.args.txs.now) c.meet.new.kept.earlier.items.items (are_sound c.args.version c.args.ids.now c.args.txs.now met).ascend r.all);
+      low = rw c.deref-3.ensures.value (subst (λ (n : ℕ). All (λ x. x < n) c.meet.new.kept.earlier.items.items) (sym m.many) (direct_low t (length c.args.txs.now) c.meet.new.kept.earlier.items.items (are_sound c.args.version c.args.ids.now c.args.txs.now met).ascend r.all));
       few = small;
+      counted = rw c.deref-3.ensures.value m.counted;
       rows = rw (c.deref-2.ensures.value, c.deref-3.ensures.value)
           (subst (λ (n : ℕ). IsRows (row_at c.meet.new.kept.earlier.start.items c.meet.new.kept.earlier.items.items) n c.meet.new.kept.earlier.start.items c.meet.new.kept.earlier.items.items) (less c.meet.new.kept.earlier.start.items (length c.args.txs.now) r.long)
           (rows_own (direct t) (length c.args.txs.now) c.meet.new.kept.earlier.start.items c.meet.new.kept.earlier.items.items r));
@@ -44,7 +45,7 @@ returns c =
     let r = m.earlier in
     let met : AreMet c.args.version c.args.ids.now c.args.txs.now = record { few_places = c.requires.few; few_slots = c.requires.few_slots; ids_ascend = m.ids; covered = c.requires.covered; declared = m.declared } in
     let w = less c.meet.new.kept.earlier.start.items (length c.args.txs.now) r.long in
-    let turned_rows = subst (λ (n : ℕ). IsRows (turned (row_at c.meet.new.kept.earlier.start.items c.meet.new.kept.earlier.items.items) n) (length c.args.txs.now) c.in_ok-after.after.start.items c.in_ok-after.after.items.items) (sym w)
+    let turned_rows = subst (λ (n : ℕ × ℕ). IsRows (turned (row_at c.meet.new.kept.earlier.start.items c.meet.new.kept.earlier.items.items) n.0) n.1 c.in_ok-after.after.start.items c.in_ok-after.after.items.items) (λ i. (sym w i, m.many i))
     (rw (c.deref-2.ensures.value, c.deref-3.ensures.value) at c.in_ok-after.ensures) in
     record {
       words_lie = m.words;

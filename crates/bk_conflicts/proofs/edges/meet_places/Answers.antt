@@ -7,7 +7,7 @@ use Rattle.bk_conflicts.specs.Conflicts.{declared_at}
 use Rattle.bk_conflicts.specs.Words.{words_at}
 use Rattle.bk_conflicts.specs.Plan.{AreDeclared}
 use Rattle.bk_conflicts.specs.private.Accesses.{Places, places_of}
-use Rattle.bk_conflicts.specs.private.Rows.{IsRows}
+use Rattle.bk_conflicts.specs.private.Rows.{AreCounts, IsRows}
 use Rattle.bk_conflicts.specs.private.Trail.{IsTrail, direct, gathered, all_once}
 use Rattle.bk_conflicts.proofs.Accessed.{places_low, places_ascend, places_words, all_declared}
 use Rattle.bk_conflicts.proofs.First.{rows_none}
@@ -20,6 +20,8 @@ loop-q-init c = record {
   long = c.requires.long;
   safe = c.requires.trail;
   stands = c.requires.stands;
+  many = c.requires.many;
+  counted = c.requires.counted;
   low = c.requires.low;
   worded = rows_none (words_at c.args.ids.now c.args.txs.now) c.in_ok-words.words.start.items c.in_ok-words.words.items.items c.in_ok-words.ensures.0 c.in_ok-words.ensures.1;
   met = rows_none (direct (places_of c.args.ids.now c.args.txs.now)) c.args.kept.now.earlier.start.items c.args.kept.now.earlier.items.items c.requires.no_rows.0 c.requires.no_rows.1;
@@ -35,6 +37,8 @@ meet_all-requires c =
           (rw (c.deref.ensures.value, c.in_ok-list_accesses.ensures.list) (places_low c.args.ids.now c.args.txs.now c.loop-q.q));
       place = let a = c.loop-q-test.true in let b = stamps in omega arith;
       small = let b = stamps in let e = c.requires.few in omega arith;
+      wide = ap length c.deref_mut-in-loop-q.ensures.value ∙ (c.loop-q.invariant.many ∙ sym stamps);
+      counted = subst (λ (xs : List ℕ). AreCounts xs c.loop-q.kept.earlier.items.items) (sym c.deref_mut-in-loop-q.ensures.value) c.loop-q.invariant.counted;
     }
 
 pub push_word_row-requires : goal.push_word_row-requires
@@ -54,16 +58,20 @@ loop-q-preserved c =
     let safe = c.in_ok-meet_all.ensures.trail in
     let long : length c.meet_all.new.stamp ≡ length c.args.txs.now = c.meet_all.auto.stamp ∙ stamps in
     let stamp = with_items_is c.loop-q.kept.stamp c.meet_all.new.stamp (omega (arith, c.meet_all.auto.stamp, ap length c.deref_mut.ensures.value, c.loop-q.kept.stamp.ok.0)) in
+    let counts = with_items_is c.loop-q.kept.counts c.meet_all.new.counts (omega (arith, c.meet_all.auto.counts, ap length c.deref_mut-in-loop-q.ensures.value, c.loop-q.kept.counts.ok.0)) in
+    let many : length c.meet_all.new.counts ≡ length c.args.txs.now = c.meet_all.auto.counts ∙ (ap length c.deref_mut-in-loop-q.ensures.value ∙ c.loop-q.invariant.many) in
     let row : all_once [] (gathered t c.loop-q.q c.deref.result.now) ≡ direct t c.loop-q.q = λ i. all_once [] (gathered t c.loop-q.q (sym here i)) in
     record {
       wide = safe.newests ∙ c.loop-q.invariant.wide;
       long = ap length stamp ∙ long;
       safe = subst (λ (n : ℕ × ℕ). IsTrail n.0 n.1 c.meet_all.new.trail) (λ i. (c.loop-q.invariant.wide i, stamps i)) safe;
       stands = m.0;
+      many = ap length counts ∙ many;
+      counted = rw (counts, c.end_row.ensures.same) c.in_ok-meet_all.ensures.counted;
       low = subst (λ (xs : List ℕ). (p : ℕ) → p < length xs → get_or xs p 0 ≤ c.loop-q.q + 1) (sym stamp) m.1.marked.low;
       worded = c.in_ok-push_word_row.ensures (words_at c.args.ids.now c.args.txs.now) c.loop-q.q c.loop-q.invariant.worded
           (rw (c.deref-in-loop-q.ensures.value, is) (places_words c.args.ids.now c.args.txs.now c.loop-q.q));
-      met = c.in_ok-end_row.ensures (direct t) c.loop-q.q c.loop-q.kept.earlier.items.items _ c.loop-q.invariant.met row m.1.lies;
+      met = c.in_ok-end_row.ensures.row (direct t) c.loop-q.q c.loop-q.kept.earlier.items.items _ c.loop-q.invariant.met row m.1.lies;
       declared = λ k l. dite (ℕ_discrete k c.loop-q.q) (λ e. subst (λ (n : ℕ). AreDeclared (declared_at c.args.txs.now n)) (sym e) sound) (λ n. c.loop-q.invariant.declared k (omega arith));
     }
 
@@ -73,5 +81,7 @@ returns c =
     record {
       words = subst (λ (n : ℕ). IsRows (words_at c.args.ids.now c.args.txs.now) n c.loop-q.words.start.items c.loop-q.words.items.items) e c.loop-q.invariant.worded;
       earlier = subst (λ (n : ℕ). IsRows (direct (places_of c.args.ids.now c.args.txs.now)) n c.loop-q.kept.earlier.start.items c.loop-q.kept.earlier.items.items) e c.loop-q.invariant.met;
+      many = c.loop-q.invariant.many;
+      counted = c.loop-q.invariant.counted;
       declared = all_declared c.args.txs.now c.loop-q.q (let z = e in omega arith) c.loop-q.invariant.declared;
     }

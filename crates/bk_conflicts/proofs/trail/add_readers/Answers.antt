@@ -8,22 +8,30 @@ back : (n at : ℕ) (place prev : List ℕ) → IsLinks n place prev → at < le
 back n at place prev h l e = h.back at (omega arith) l
 
 pub loop-at-init : goal.loop-at-init
-loop-at-init c = record { inside = c.requires.head; rest = λ before row ps h m. (ps, row, h, m, refl) }
+loop-at-init c = record { inside = c.requires.head; counted = c.requires.counted; rest = λ before row ps h m. (ps, row, h, m, refl) }
 
 pub add_once-requires : goal.add_once-requires
-add_once-requires c = let a = c.requires.links.low c.loop-at.at (let e = c.loop-at-test.true in omega arith) c.loop-at.invariant.inside in let b = c.loop-at.auto.stamp in omega arith
+add_once-requires c = record {
+  inside = let a = c.requires.links.low c.loop-at.at (let e = c.loop-at-test.true in omega arith) c.loop-at.invariant.inside in let b = c.loop-at.auto.stamp in omega arith;
+  wide = let a = c.loop-at.auto.stamp in let b = c.loop-at.auto.counts in let d = c.requires.wide in omega arith;
+  counted = c.loop-at.invariant.counted;
+}
 
 pub loop-at-preserved : goal.loop-at-preserved
 loop-at-preserved c = record {
   inside = let a = back _ c.loop-at.at c.args.place.now c.args.prev.now c.requires.links c.loop-at.invariant.inside c.loop-at-test.true in let b = c.loop-at.invariant.inside in omega arith;
+  counted = c.in_ok-add_once.ensures.counted;
   rest = λ before row ps h m. let w = c.loop-at.invariant.rest before row ps h m in
       let s = walk_step c.args.place.now c.args.prev.now w.1 c.loop-at.at w.0 c.loop-at-test.true w.2 in
-      (s.0, with_once w.1 (get_or c.args.place.now c.loop-at.at 0), s.1, c.in_ok-add_once.ensures before w.1 w.3, w.4 ∙ s.2);
+      (s.0, with_once w.1 (get_or c.args.place.now c.loop-at.at 0), s.1, c.in_ok-add_once.ensures.row before w.1 w.3, w.4 ∙ s.2);
 }
 
 pub loop-at-smaller : goal.loop-at-smaller
 loop-at-smaller c = back _ c.loop-at.at c.args.place.now c.args.prev.now c.requires.links c.loop-at.invariant.inside c.loop-at-test.true
 
 pub returns : goal.returns
-returns c = λ before row ps h m. let w = c.loop-at.invariant.rest before row ps h m in
-    subst (λ (xs : List ℕ). IsRow c.args.mark before xs c.loop-at.stamp c.loop-at.found.items) (sym (w.4 ∙ walk_end c.args.place.now c.args.prev.now w.1 c.loop-at.at w.0 c.loop-at-test.false w.2)) w.3
+returns c = record {
+  row = λ before row ps h m. let w = c.loop-at.invariant.rest before row ps h m in
+      subst (λ (xs : List ℕ). IsRow c.args.mark before xs c.loop-at.stamp c.loop-at.found.items) (sym (w.4 ∙ walk_end c.args.place.now c.args.prev.now w.1 c.loop-at.at w.0 c.loop-at-test.false w.2)) w.3;
+  counted = c.loop-at.invariant.counted;
+}
