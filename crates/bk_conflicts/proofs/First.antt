@@ -3,10 +3,12 @@ use Rattle.std.proofs.Common.{◌≡◌, ℕ, suc, ◌+◌, ◌<◌, ◌≤◌, 
 use mathlib.Core.Logic.{dite}
 use native.Mathlib.Decide.{ℕ_discrete}
 use Rattle.std.proofs.lemmas.List.{get_or_append_left, get_or-append-add, get_or-replicate, length-replicate}
+use Rattle.bk_conflicts.specs.declared.trail.Reader.{Reader}
 use Rattle.bk_conflicts.specs.declared.trail.Trail.{Trail}
 use Rattle.bk_conflicts.specs.private.Accesses.{Places}
 use Rattle.bk_conflicts.specs.private.Rows.{laid, IsRows}
-use Rattle.bk_conflicts.specs.private.Trail.{none, Linked, IsTrail, Stands, readers, last_writer}
+use Rattle.bk_conflicts.specs.private.Trail.{none, newest_by, Linked, IsTrace, IsTrail, Stands, readers, last_writer}
+use Rattle.bk_conflicts.proofs.Traces.{writer_low}
 
 pub rows_none : {A : Type 0} (f : ℕ → List A) (start : List ℕ) (items : List A) → start ≡ 0 ∷ [] → items ≡ [] → IsRows f 0 start items
 unfolding laid
@@ -25,18 +27,24 @@ rows_more f n start items row end r e last =
       all = whole;
     })
 
-pub stands_none : (t : Places) (n : ℕ) (r : Trail) → r.writer.items ≡ replicate n none → r.newest.items ≡ replicate n 0 → Stands t 0 r
-unfolding readers last_writer Linked
-stands_none t n r a b = λ k l. let m : k < n = let c = ap length b in let d : length (replicate {A = ℕ} n 0) ≡ n = length-replicate n 0 in omega arith in
-    record { linked = ap (λ (xs : List ℕ). get_or xs k 0) b ∙ get_or-replicate n k 0 0 m; last = ap (λ (xs : List ℕ). get_or xs k 0) a ∙ get_or-replicate n k none 0 m }
+nothing : (readers : List Reader) (last : ℕ) → last ≡ none → 0 < length readers → IsTrace readers last [] []
+unfolding Linked
+nothing readers last e some = let z : newest_by last ≡ 0 = omega arith in record { within = let y = z in omega arith; linked = z; writer = writer_low readers last z ∙ e }
 
-pub trail_none : (n places : ℕ) (r : Trail) → r.writer.items ≡ replicate n none → r.newest.items ≡ replicate n 0 → r.place.items ≡ 0 ∷ [] → r.prev.items ≡ 0 ∷ [] → IsTrail n places r
-trail_none n places r a b c d = record {
-  writers = ap length a ∙ length-replicate n none;
-  newests = ap length b ∙ length-replicate n 0;
-  links = record { some = let e = ap length c in omega arith; same = ap length d ∙ sym (ap length c); back = λ i l m. absurd (let e = ap length c in omega arith); low = λ i l m. absurd (let e = ap length c in omega arith) };
-  heads = λ k l. let e = ap length c in let f = ap (λ (xs : List ℕ). get_or xs k 0) b ∙ get_or-replicate n k 0 0 l in omega arith;
-  wrote = λ k l other. absurd (other (ap (λ (xs : List ℕ). get_or xs k 0) a ∙ get_or-replicate n k none 0 l));
+at_slot : (n : ℕ) (last : List ℕ) → last ≡ replicate n none → (k : ℕ) → k < n → get_or last k 0 ≡ none
+at_slot n last a k l = ap (λ (xs : List ℕ). get_or xs k 0) a ∙ get_or-replicate n k none 0 l
+
+pub stands_none : (t : Places) (n : ℕ) (r : Trail) → r.last.items ≡ replicate n none → length r.readers.items ≡ 1 → Stands t 0 r
+unfolding readers last_writer
+stands_none t n r a b = λ k l. let m : k < n = let c = ap length a in let d : length (replicate {A = ℕ} n none) ≡ n = length-replicate n none in omega arith in
+    nothing r.readers.items (get_or r.last.items k 0) (at_slot n r.last.items a k m) (omega arith)
+
+pub trail_none : (n places : ℕ) (r : Trail) → r.last.items ≡ replicate n none → length r.readers.items ≡ 1 → IsTrail n places r
+trail_none n places r a b = record {
+  many = ap length a ∙ length-replicate n none;
+  links = record { some = omega arith; back = λ i l m. absurd (omega arith); low = λ i l m. absurd (omega arith) };
+  heads = λ k l. let e = at_slot n r.last.items a k l in omega arith;
+  wrote = λ k l other. let e = at_slot n r.last.items a k l in let z : newest_by (get_or r.last.items k 0) ≡ 0 = omega arith in absurd (other (writer_low r.readers.items (get_or r.last.items k 0) z ∙ e));
 }
 
 -- with mark 0 nothing is found yet, whatever the stamps: the first mark used is 1

@@ -17,6 +17,7 @@ pub mod Sound
 pub mod Sources
 pub mod Spreading
 pub mod Stages
+pub mod Traces
 pub mod Turned
 pub mod Turning
 pub mod Whole

@@ -64,7 +64,7 @@ fn meet_places(
     near: &[u32],
     kept: &mut Kept,
 ) -> Result<WordRows, AllocError>
-    requires wide { length kept.old.trail.newest.items ≡ length ids.now }
+    requires wide { length kept.old.trail.last.items ≡ length ids.now }
     requires ids { IsTrue (is_ascending ids.now) }
     requires few { length txs.now < 2 ^ 31 }
     requires few_slots { length ids.now < 2 ^ 31 }

@@ -1,7 +1,8 @@
 -- What is known of each account after some places: its last writer, and its readers since.
-use Rattle.std.specs.Prelude.{◌≡◌, ◌≢◌, ℕ, zero, suc, ◌<◌, ◌≤◌, ◌==◌, List, [], ◌∷◌, ◌++◌, length, slice_index_or, Bool, true, false, cond, flat_map}
+use Rattle.std.specs.Prelude.{◌≡◌, ◌≢◌, ℕ, zero, suc, ◌-◌, ◌<◌, ◌≤◌, ◌==◌, List, [], ◌∷◌, ◌++◌, length, slice_index_or, Bool, true, false, cond, flat_map}
 use Rattle.std.specs.List.{list_any}
 use Rattle.bk_conflicts.specs.declared.words.Access.{Access}
+use Rattle.bk_conflicts.specs.declared.trail.Reader.{Reader}
 use Rattle.bk_conflicts.specs.declared.trail.Trail.{Trail}
 use Rattle.bk_conflicts.specs.private.Accesses.{Places, uses, writes, uses_in, writes_in}
 
@@ -46,35 +47,54 @@ all_once xs (y ∷ ys) = all_once (with_once xs y) ys
 abbrev pub direct : Places → ℕ → List ℕ
 direct t q = all_once [] (gathered t q (t q))
 
--- the list that begins at entry h of the links, where entry 0 is nobody
-unfoldable pub Linked : List ℕ → List ℕ → ℕ → List ℕ → Type 0
-Linked place prev h [] = h ≡ 0
-Linked place prev h (p ∷ ps) = (0 < h) × (h < length place) × (slice_index_or place h 0 ≡ p) × Linked place prev (slice_index_or prev h 0) ps
+-- no reader
+abbrev pub no_reader : Reader
+no_reader = record { place = 0; writer = 0; prev = 0 }
+
+-- the entry of the newest reader of a slot since its last writer, or 0
+abbrev pub newest_by : ℕ → ℕ
+newest_by last = last - none
+
+-- the last writer of a slot, or none
+unfoldable pub writer_by : List Reader → ℕ → ℕ
+writer_by readers last = cond (newest_by last == 0) last (slice_index_or readers (newest_by last) no_reader).writer
+
+-- the list of places that begins at entry h, where entry 0 is nobody
+unfoldable pub Linked : List Reader → ℕ → List ℕ → Type 0
+Linked readers h [] = h ≡ 0
+Linked readers h (p ∷ ps) = (0 < h) × (h < length readers) × ((slice_index_or readers h no_reader).place ≡ p) × Linked readers (slice_index_or readers h no_reader).prev ps
 
 -- each entry leads to an earlier one
-pub record IsLinks (places : ℕ) (place prev : List ℕ) : Type 0 where
-  pub some : 0 < length place
-  pub same : length prev ≡ length place
-  pub back : (i : ℕ) → 0 < i → i < length place → slice_index_or prev i 0 < i
-  pub low : (i : ℕ) → 0 < i → i < length place → slice_index_or place i 0 < places
+pub record IsLinks (places : ℕ) (readers : List Reader) : Type 0 where
+  pub some : 0 < length readers
+  pub back : (i : ℕ) → 0 < i → i < length readers → (slice_index_or readers i no_reader).prev < i
+  pub low : (i : ℕ) → 0 < i → i < length readers → (slice_index_or readers i no_reader).place < places
 
--- what a trail's tables may hold
-pub record IsTrail (slots places : ℕ) (r : Trail) : Type 0 where
-  pub writers : length r.writer.items ≡ slots
-  pub newests : length r.newest.items ≡ slots
-  pub links : IsLinks places r.place.items r.prev.items
-  pub heads : (a : ℕ) → a < slots → slice_index_or r.newest.items a 0 < length r.place.items
-  pub wrote : (a : ℕ) → a < slots → slice_index_or r.writer.items a 0 ≢ none → slice_index_or r.writer.items a 0 < places
+-- what the lists of a trail may hold
+pub record AreTraces (slots places : ℕ) (last : List ℕ) (readers : List Reader) : Type 0 where
+  pub many : length last ≡ slots
+  pub links : IsLinks places readers
+  pub heads : (a : ℕ) → a < slots → newest_by (slice_index_or last a 0) < length readers
+  pub wrote : (a : ℕ) → a < slots → writer_by readers (slice_index_or last a 0) ≢ none → writer_by readers (slice_index_or last a 0) < places
+
+-- the same of a trail
+abbrev pub IsTrail : ℕ → ℕ → Trail → Type 0
+IsTrail slots places r = AreTraces slots places r.last.items r.readers.items
 
 -- this writer, of which there is at most one, is kept as w
 abbrev pub WriterIs : ℕ → List ℕ → Type 0
 WriterIs w [] = w ≡ none
 WriterIs w (x ∷ xs) = (w ≡ x) × (w ≢ none) × (xs ≡ [])
 
+-- what is kept of a slot says that it had these readers and this writer
+pub record IsTrace (readers : List Reader) (last : ℕ) (rs ws : List ℕ) : Type 0 where
+  pub within : newest_by last < length readers
+  pub linked : Linked readers (newest_by last) rs
+  pub writer : WriterIs (writer_by readers last) ws
+
 -- the trail shows, of account a, these readers and this writer
-pub record Shows (r : Trail) (a : ℕ) (rs ws : List ℕ) : Type 0 where
-  pub linked : Linked r.place.items r.prev.items (slice_index_or r.newest.items a 0) rs
-  pub last : WriterIs (slice_index_or r.writer.items a 0) ws
+abbrev pub Shows : Trail → ℕ → List ℕ → List ℕ → Type 0
+Shows r a rs ws = IsTrace r.readers.items (slice_index_or r.last.items a 0) rs ws
 
 -- the stamps say what was found: whose stamp is the mark
 pub record IsMarked (mark : ℕ) (stamp found : List ℕ) : Type 0 where
@@ -88,7 +108,7 @@ pub record IsRow (mark : ℕ) (before row stamp found : List ℕ) : Type 0 where
 
 -- the trail shows what the first k places did to each account
 abbrev pub Stands : Places → ℕ → Trail → Type 0
-Stands t k r = (a : ℕ) → a < length r.newest.items → Shows r a (readers t a k) (last_writer t a k)
+Stands t k r = (a : ℕ) → a < length r.last.items → Shows r a (readers t a k) (last_writer t a k)
 
 -- the same, where of place q the accesses xs are entered
 abbrev pub readers_in : Places → ℕ → List Access → ℕ → List ℕ

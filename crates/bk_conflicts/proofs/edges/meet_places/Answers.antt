@@ -62,7 +62,7 @@ loop-q-preserved c =
     let many : length c.meet_all.new.counts ≡ length c.args.txs.now = c.meet_all.auto.counts ∙ (ap length c.deref_mut-in-loop-q.ensures.value ∙ c.loop-q.invariant.many) in
     let row : all_once [] (gathered t c.loop-q.q c.deref.result.now) ≡ direct t c.loop-q.q = λ i. all_once [] (gathered t c.loop-q.q (sym here i)) in
     record {
-      wide = safe.newests ∙ c.loop-q.invariant.wide;
+      wide = safe.many ∙ c.loop-q.invariant.wide;
       long = ap length stamp ∙ long;
       safe = subst (λ (n : ℕ × ℕ). IsTrail n.0 n.1 c.meet_all.new.trail) (λ i. (c.loop-q.invariant.wide i, stamps i)) safe;
       stands = m.0;

@@ -9,7 +9,7 @@ use Rattle.bk_conflicts.proofs.edges.meet_places.Given as goal
 
 abbrev pub invariant-loop-q : goal.invariant-loop-q
 invariant-loop-q l = record {
-  wide : length l.kept.trail.newest.items ≡ length l.ids;
+  wide : length l.kept.trail.last.items ≡ length l.ids;
   long : length l.kept.stamp.items ≡ length l.txs;
   safe : IsTrail (length l.ids) (length l.txs) l.kept.trail;
   stands : Stands (places_of l.ids l.txs) l.q l.kept.trail;

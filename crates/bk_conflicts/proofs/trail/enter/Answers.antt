@@ -1,13 +1,14 @@
-use Rattle.std.proofs.Common.{[], ◌∷◌, cond, Bool, sym, subst, arith}
-use Rattle.bk_conflicts.specs.private.Trail.{Shows}
-use Rattle.bk_conflicts.proofs.Marks.{write_changed}
+use Rattle.std.proofs.Common.{ℕ, [], ◌∷◌, cond, Bool, sym, subst, arith, get_or-set_other}
+use Rattle.bk_conflicts.specs.private.Trail.{Shows, IsTrace}
+use Rattle.bk_conflicts.proofs.Traces.{trace_write, traces_write}
 use Rattle.bk_conflicts.proofs.trail.enter.Goals as goal
 
-pub returns-then-access-clause-changed : goal.returns-then-access-clause-changed
-returns-then-access-clause-changed c = λ n rs ws t h.
-    let s = write_changed c.args.trail.now.place.items c.args.trail.now.prev.items c.args.trail.now.newest.items c.args.trail.now.writer.items c.args.q c.args.access.slot c.args.access.writable rs ws
-    c.if-access.true c.requires.slot (let a = c.requires.slot in let b = c.requires.trail in omega arith) (let a = c.requires.small in omega arith) in
-    record { linked = s.0; last = s.1 }
+pub returns-then-access : goal.returns-then-access
+returns-then-access c = record {
+  trail = λ n p t. traces_write _ n c.args.trail.now.last.items c.args.trail.now.readers.items c.args.access.slot c.args.q c.requires.slot p (let a = c.requires.small in omega arith) t;
+  kept = λ n b rs ws t other h. subst (λ (k : ℕ). IsTrace c.args.trail.now.readers.items k rs ws) (sym (get_or-set_other c.args.trail.now.last.items c.args.access.slot b c.args.q 0 other)) h;
+  changed = λ n rs ws t h. trace_write c.args.trail.now.readers.items c.args.trail.now.last.items c.args.access.slot c.args.q c.args.access.writable rs ws c.if-access.true t.links.some c.requires.slot (let a = c.requires.small in omega arith);
+}
 
 pub returns-in_ok-push_reader-clause-changed : goal.returns-in_ok-push_reader-clause-changed
 returns-in_ok-push_reader-clause-changed c = λ n rs ws t h.

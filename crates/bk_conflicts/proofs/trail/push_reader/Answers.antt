@@ -1,17 +1,19 @@
-use Rattle.std.proofs.Common.{◌∙◌, arith}
+use Rattle.std.proofs.Common.{◌≡◌, ℕ, ◌+◌, length, get_or, ap, ◌∙◌, arith}
 use Rattle.std.proofs.lemmas.Grind.{get_or_default_zero}
-use Rattle.bk_conflicts.proofs.Marks.{push_kept, push_changed}
+use Rattle.bk_conflicts.specs.declared.trail.Reader.{Reader}
+use Rattle.bk_conflicts.specs.private.Trail.{none, newest_by, writer_by}
+use Rattle.bk_conflicts.proofs.Traces.{trace_kept, trace_read, traces_read}
 use Rattle.bk_conflicts.proofs.trail.push_reader.Goals as goal
 
-pub returns-clause-kept : goal.returns-clause-kept
-returns-clause-kept c = λ n b rs ws t other h. record {
-  linked = rw (c.in_ok-push.ensures.items, c.in_ok-push-2.ensures.items) (push_kept c.args.trail.now.place.items c.args.trail.now.prev.items c.args.trail.now.newest.items c.args.q _ _ c.args.a b rs t.links.same other h.linked);
-  last = h.last;
-}
-
-pub returns-clause-changed : goal.returns-clause-changed
-returns-clause-changed c = λ n rs ws t h. record {
-  linked = rw (c.in_ok-push.ensures.items, c.in_ok-push-2.ensures.items) (push_changed c.args.trail.now.place.items c.args.trail.now.prev.items c.args.trail.now.newest.items c.args.q _ _ c.args.a rs t.links.same t.links.some c.requires.slot
-      (c.index.ensures ∙ get_or_default_zero c.args.trail.now.newest.items c.args.a _ c.requires.slot) (let e = c.len-entry.ensures in omega arith) h.linked);
-  last = h.last;
-}
+pub returns : goal.returns
+returns c =
+    let at = c.index-last.ensures ∙ get_or_default_zero c.args.trail.now.last.items c.args.a _ c.requires.slot in
+    let x : Reader = record { place = c.args.q; writer = c.writer_of.result; prev = c.newest_of.result } in
+    let v : none + c.len-entry.result ≡ none + length c.args.trail.now.readers.items = ap (λ (k : ℕ). none + k) (let e = c.len-entry.ensures in let z : c.len-entry.result ≡ length c.args.trail.now.readers.items = omega arith in z) in
+    let w : x.writer ≡ writer_by c.args.trail.now.readers.items (get_or c.args.trail.now.last.items c.args.a 0) = c.writer_of.ensures ∙ (λ i. writer_by (c.deref.ensures.value i) (at i)) in
+    let p : x.prev ≡ newest_by (get_or c.args.trail.now.last.items c.args.a 0) = c.newest_of.ensures ∙ (λ i. newest_by (at i)) in
+    rw c.in_ok-push.ensures.items (record {
+      trail = λ n l t. traces_read (length c.args.trail.now.last.items) n c.args.trail.now.last.items c.args.trail.now.readers.items x c.args.a _ c.requires.slot l v w p t;
+      kept = λ n b rs ws t other h. trace_kept c.args.trail.now.readers.items x c.args.trail.now.last.items c.args.a b _ rs ws other h;
+      changed = λ n rs ws t h. trace_read c.args.trail.now.readers.items x c.args.trail.now.last.items c.args.a _ rs ws t.links.some c.requires.slot v w p h;
+    })
