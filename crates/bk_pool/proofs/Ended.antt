@@ -1,6 +1,6 @@
 -- What the words of a closed bank say, where all places are done.
-use Rattle.std.proofs.Common.{◌≡◌, ℕ, zero, suc, ◌+◌, ◌-◌, ◌*◌, ◌^◌, ◌<◌, ◌≤◌, List, [], ◌∷◌, ◌++◌, length, get_or, Option, Some, refl, sym, ap, ◌∙◌, subst, arith, length-append}
-use Rattle.std.proofs.lemmas.List.{get_or_append_left, get_or-append-add}
+use Rattle.std.proofs.Common.{◌≡◌, ℕ, zero, suc, ◌+◌, ◌-◌, ◌*◌, ◌^◌, ◌<◌, ◌≤◌, List, [], ◌∷◌, ◌++◌, length, take, get_or, set, Option, Some, refl, sym, ap, ◌∙◌, subst, arith, length-append}
+use Rattle.std.proofs.lemmas.List.{append-nil, append_assoc, get_or_append_left, get_or-append-add, take_more_set}
 use lib.Seq.{get_or-append_seam}
 use mathlib.Core.Logic.{dite}
 use native.Mathlib.Decide.{ℕ_discrete}
@@ -22,7 +22,7 @@ use Rattle.bk_bank.specs.Words.{WordsData, state_at, moved_word_at, AllFinished}
 use Rattle.bk_bank.proofs.Settings.{scene_places, scene_words}
 use Rattle.bk_pool.specs.Reads.{IsBankOf}
 use Rattle.bk_pool.specs.Outcomes.{IsClosed}
-use Rattle.bk_pool.specs.private.Receipts.{receipt_at, no_receipt, AreReceipts, AreStatuses, AreNumbers}
+use Rattle.bk_pool.specs.private.Receipts.{receipt_at, no_receipt, AreReceipts, AreAdded, AreStatuses, AreNumbers}
 
 -- ---- statuses by number
 
@@ -81,6 +81,17 @@ more_receipts w rs n r (long, each) st mv = (
       (e.0 ∙ ap (λ (z : Receipt). 2 ^ 63 + number_of z.status) (sym old), ap (λ (z : Receipt). z.moved) old ∙ e.1)),
 )
 
+pub none_added : (w : WordsData) (old : List Receipt) → AreAdded w old old 0
+none_added w old = record { added = []; new_is = sym (append-nil old); are = (refl, λ p l. absurd (omega arith)) }
+
+pub more_added : (w : WordsData) (old new : List Receipt) (n : ℕ) (r : Receipt) → AreAdded w old new n → state_at w n ≡ 2 ^ 63 + number_of r.status → r.moved ≡ moved_word_at w n
+    → AreAdded w old (new ++ r ∷ []) (n + 1)
+more_added w old new n r a st mv = record {
+  added = a.added ++ r ∷ [];
+  new_is = ap (λ (rs : List Receipt). rs ++ r ∷ []) a.new_is ∙ append_assoc old a.added (r ∷ []);
+  are = more_receipts w a.added n r a.are st mv;
+}
+
 -- ---- numbers
 
 pairs_more : (n : ℕ) (words : List ℕ) (b s : ℕ) → length words ≡ 2 * n → in_pairs (words ++ b ∷ s ∷ []) ≡ in_pairs words ++ record { balance = b; seq = s } ∷ []
@@ -90,8 +101,8 @@ pairs_more (suc n) [] b s e = absurd (omega arith)
 pairs_more (suc n) (x ∷ []) b s e = absurd (omega arith)
 pairs_more (suc n) (x ∷ y ∷ words) b s e = ap (λ (more : List Account). record { balance = x; seq = y } ∷ more) (pairs_more n words b s (omega arith))
 
-pub no_numbers : (w : WordsData) (numbers : List Account) → numbers ≡ [] → AreNumbers w numbers 0
-no_numbers w numbers e = record { words = []; numbers_are = e; long = refl; same = λ x l. absurd (omega arith) }
+pub no_numbers : (w : WordsData) (numbers : List Account) → AreNumbers w (take 0 numbers) 0
+no_numbers w numbers = record { words = []; numbers_are = refl; long = refl; same = λ x l. absurd (omega arith) }
 
 -- the numbers of one account more
 pub more_numbers : (w : WordsData) (numbers : List Account) (k b s : ℕ) → AreNumbers w numbers (2 * k) → b ≡ get_or w.items (2 * k) 0 → s ≡ get_or w.items (2 * k + 1) 0
@@ -106,6 +117,12 @@ more_numbers w numbers k b s h first second = record {
       (λ is. ap (λ (i : ℕ). get_or (h.words ++ b ∷ s ∷ []) i 0) (let e = h.long in let z : x ≡ length h.words + 1 = omega arith in z) ∙ (get_or-append-add h.words (b ∷ s ∷ []) 1 0 ∙ (second ∙ ap (λ (i : ℕ). get_or w.items i 0) (sym is))))
       (λ more. let low : x < 2 * k = omega arith in get_or_append_left h.words (b ∷ s ∷ []) 0 x (let e = h.long in omega arith) ∙ h.same x low));
 }
+
+-- the same, where they are written over others
+pub more_written : (w : WordsData) (numbers : List Account) (k b s : ℕ) → k < length numbers → AreNumbers w (take k numbers) (2 * k) → b ≡ get_or w.items (2 * k) 0 → s ≡ get_or w.items (2 * k + 1) 0
+    → AreNumbers w (take (k + 1) (set numbers k (record { balance = b; seq = s }))) (2 * (k + 1))
+more_written w numbers k b s low h first second = subst (λ (xs : List Account). AreNumbers w xs (2 * (k + 1))) (sym (take_more_set numbers k (record { balance = b; seq = s }) low))
+    (more_numbers w (take k numbers) k b s h first second)
 
 pub numbers_long : (w : WordsData) (numbers : List Account) (n : ℕ) → AreNumbers w numbers (2 * n) → length numbers ≡ n
 numbers_long w numbers n h = ap length h.numbers_are ∙ length-pairs n h.words h.long

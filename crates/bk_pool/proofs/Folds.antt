@@ -1,5 +1,5 @@
 -- What the words of all places show is what the transactions give one at a time.
-use Rattle.std.proofs.Common.{◌≡◌, ℕ, ◌*◌, ◌^◌, ◌<◌, List, length, get_or, Option, None, Some, refl, sym, ap, ◌∙◌, subst, arith, take_all}
+use Rattle.std.proofs.Common.{◌≡◌, ℕ, ◌*◌, ◌^◌, ◌<◌, List, [], ◌++◌, length, get_or, Option, None, Some, refl, sym, ap, ◌∙◌, subst, arith, take_all}
 use Rattle.std.proofs.lemmas.List.{ext_get_or}
 use Rattle.std.specs.Prelude.{slice_get}
 use Rattle.std.proofs.lemmas.Option.{get_or_from_slice_get, slice_get_within}
@@ -26,8 +26,8 @@ use Rattle.bk_bank.specs.Setting.{scene_of, setting_with}
 use Rattle.bk_bank.specs.Words.{WordsData, AllFinished}
 use Rattle.bk_steps.specs.declared.outcome.Outcome.{Outcome}
 use Rattle.bk_steps.specs.Schedule.{IsFoldOf}
-use Rattle.bk_pool.specs.Outcomes.{IsClosed}
-use Rattle.bk_pool.specs.private.Receipts.{receipt_at, no_receipt, AreReceipts}
+use Rattle.bk_pool.specs.Outcomes.{IsClosed, IsFoldOnto}
+use Rattle.bk_pool.specs.private.Receipts.{receipt_at, no_receipt, AreReceipts, AreAdded}
 use Rattle.bk_pool.proofs.Ended.{status_again, done_at}
 
 -- ---- the accounts
@@ -106,11 +106,20 @@ last_receipts plan ledger is runs rs long each = ext_get_or no_receipt rs (recei
 
 pub is_fold : (plan : PlanValue) (ledger : Ledger) → IsPlan plan → CanRunOn plan ledger → (w : WordsData) → IsClosed plan ledger w → AllFinished w → (xs : List ℕ) → length xs ≡ 2 * length plan.ids
     → ((x : ℕ) → x < length xs → get_or xs x 0 ≡ (scene_of (setting_with plan ledger)).fold (length plan.txs) x)
-    → (o : Outcome) → AreReceipts w o.receipts.items (length plan.txs) → o.state ≡ ledger_of ledger.version ledger.slots (rows_shown ledger.version ledger.slots (in_pairs xs))
-    → IsFoldOf plan ledger o
-is_fold plan ledger is runs w closed all xs long values o (count, each) state = record {
+    → (old new : List Receipt) → AreAdded w old new (length plan.txs) → (after : Ledger) → after ≡ ledger_of ledger.version ledger.slots (rows_shown ledger.version ledger.slots (in_pairs xs))
+    → IsFoldOnto plan ledger old new after
+is_fold plan ledger is runs w closed all xs long values old new added after state = record {
   state = state ∙ ap (ledger_of ledger.version ledger.slots) (last_rows plan ledger is runs xs long values ∙ ap (λ (v : Version). state_after v plan.txs ledger.rows) (sym runs.same_version));
-  receipts = last_receipts plan ledger is runs o.receipts.items count (λ p l. let places = closed.places in let d = done_at plan ledger w closed all p (omega arith) in let e = each p l in
-      let a = d.0 in let b = e.0 in (omega arith, e.1 ∙ d.1))
-      ∙ ap (λ (v : Version). receipts_of v plan.txs ledger.rows) (sym runs.same_version);
+  receipts = added.new_is ∙ ap (λ (rs : List Receipt). old ++ rs) (receipts_are added.added added.are ∙ ap (λ (v : Version). receipts_of v plan.txs ledger.rows) (sym runs.same_version));
+}
+  where
+    receipts_are : (rs : List Receipt) → AreReceipts w rs (length plan.txs) → rs ≡ receipts_of plan.version plan.txs ledger.rows
+    receipts_are rs (count, each) = last_receipts plan ledger is runs rs count (λ p l. let places = closed.places in let d = done_at plan ledger w closed all p (omega arith) in let e = each p l in
+        let a = d.0 in let b = e.0 in (omega arith, e.1 ∙ d.1))
+
+-- after those of no list they are the outcome
+pub fold_of : (plan : PlanValue) (ledger : Ledger) (old : List Receipt) → old ≡ [] → (o : Outcome) → IsFoldOnto plan ledger old o.receipts.items o.state → IsFoldOf plan ledger o
+fold_of plan ledger old none o fold = record {
+  state = fold.state;
+  receipts = fold.receipts ∙ ap (λ (rs : List Receipt). rs ++ receipts_of ledger.version plan.txs ledger.rows) none;
 }

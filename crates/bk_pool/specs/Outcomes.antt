@@ -1,6 +1,8 @@
 -- What an execution answers.
-use Rattle.std.specs.Prelude.{◌≡◌, ℕ, ◌*◌, ◌<◌, length}
-use Rattle.bk_rules.specs.Ledger.{Ledger}
+use Rattle.std.specs.Prelude.{◌≡◌, ℕ, ◌*◌, ◌<◌, List, ◌++◌, length}
+use Rattle.bk_rules.specs.declared.receipt.Receipt.{Receipt}
+use Rattle.bk_rules.specs.Fold.{state_after, receipts_of}
+use Rattle.bk_rules.specs.Ledger.{Ledger, ledger_of}
 use Rattle.bk_conflicts.specs.Plan.{PlanValue}
 use Rattle.bk_bank.specs.Setting.{scene_of, setting_with}
 use Rattle.bk_bank.specs.Steps.{Ends}
@@ -12,6 +14,11 @@ use Rattle.bk_pool.specs.declared.outcome.ExecFault.TheVariants.{OutOfMemory, Un
 abbrev pub IsBelow : ℕ → ExecFault → Type 0
 IsBelow places OutOfMemory = Unit {0}
 IsBelow places (Unfinished p) = p < places
+
+-- the accounts after the places, one at a time, and their receipts after those of a list
+pub record IsFoldOnto (plan : PlanValue) (ledger : Ledger) (old new : List Receipt) (after : Ledger) : Type 0 where
+  pub state : after ≡ ledger_of ledger.version ledger.slots (state_after ledger.version plan.txs ledger.rows)
+  pub receipts : new ≡ old ++ receipts_of ledger.version plan.txs ledger.rows
 
 -- ---- of the words that are left
 

@@ -1,12 +1,13 @@
 //! What the words of a closed bank give.
-ghost use Rattle.std.specs.Prelude.{◌≡◌, ◌+◌, ◌*◌, ◌^◌, ◌<◌, length, IfOk, IfErr};
+ghost use Rattle.std.specs.Prelude.{◌≡◌, ◌+◌, ◌*◌, ◌^◌, ◌<◌, ◌≤◌, length, IfOk, IfErr, vec_len};
+ghost use Rattle.std.specs.Vec.{vec_capacity};
 ghost use Rattle.bk_rules.specs.Numbers.{number_of};
 ghost use Rattle.bk_conflicts.specs.SceneOf.{CanRunOn};
 ghost use Rattle.bk_bank.specs.Words.{state_at, moved_word_at, AllFinished, IsFirstUnfinished};
 ghost use Rattle.bk_pool.specs.declared.outcome.ExecFault.TheVariants.{OutOfMemory};
 ghost use Rattle.bk_steps.specs.Schedule.{IsFoldOf};
-ghost use Rattle.bk_pool.specs.Outcomes.{IsClosed, IsLeft, IsBelow};
-ghost use Rattle.bk_pool.specs.private.Receipts.{AreReceipts, AreStatuses, AreNumbers};
+ghost use Rattle.bk_pool.specs.Outcomes.{IsClosed, IsFoldOnto, IsLeft, IsBelow};
+ghost use Rattle.bk_pool.specs.private.Receipts.{AreAdded, AreStatuses, AreNumbers};
 
 use bk_bank::Words;
 use bk_conflicts::Plan;
@@ -47,29 +48,51 @@ pub fn outcome_of(
     ensures left { IfErr result (λ e. IsLeft words.now e) }
     ensures below { IfErr result (λ e. IsBelow (length plan.now.txs) e) }
 {
+    let mut receipts = Vec::new(alloc);
+    let state = outcome_onto(plan, state, words, &mut receipts)?;
+    Ok(Outcome { state, receipts })
+}
+
+/// The same, with the receipts at the end of a list. On an `Err` the list has what it had before.
+pub fn outcome_onto(
+    plan: &Plan,
+    state: State,
+    words: &Words,
+    receipts: &mut Vec<Receipt>,
+) -> Result<State, ExecFault>
+    requires runs { CanRunOn plan.now state }
+    requires closed { IsClosed plan.now state words.now }
+    ensures done { IfOk result (λ s. AllFinished words.now) }
+    ensures fold { IfOk result
+        (IsFoldOnto plan.now state receipts.old.items receipts.new.items) }
+    ensures unchanged { IfErr result (λ e. receipts.new.items ≡ receipts.old.items) }
+    ensures left { IfErr result (λ e. IsLeft words.now e) }
+    ensures below { IfErr result (λ e. IsBelow (length plan.now.txs) e) }
+{
     // A plan's length also says that its accounts are few.
     let _ = plan.len();
     if let Some(place) = words.first_unfinished() {
         return Err(ExecFault::Unfinished(place));
     }
-    let receipts = receipts_of(alloc, plan.len(), words)?;
-    let numbers = numbers_in(alloc, plan.accounts().len(), words)?;
-    let mut state = state;
-    state.set_numbers(numbers);
-    Ok(Outcome { state, receipts })
+    receipts.reserve(plan.len())?;
+    push_receipts(plan.len(), words, receipts);
+    let version = state.version();
+    let (ids, numbers) = state.into_numbers();
+    let mut numbers = numbers;
+    write_numbers(&mut numbers, words);
+    Ok(State::of_numbers(version, ids, numbers))
 }
 
-// The receipts of the places, all of which are done.
-fn receipts_of(alloc: Global, places: usize, words: &Words) -> Result<Vec<Receipt>, AllocError>
+// Puts the receipts of the places, all of which are done, at the end of a list that has room for them.
+fn push_receipts(places: usize, words: &Words, receipts: &mut Vec<Receipt>)
     requires places { (places ≡ words.now.places) × (places < 2 ^ 31) }
     requires statuses { AreStatuses words.now }
-    ensures { IfOk result (λ rs. AreReceipts words.now rs.items places) }
+    requires room { vec_len receipts.old + places ≤ vec_capacity receipts.old }
+    ensures { AreAdded words.now receipts.old.items receipts.new.items places }
 {
-    let mut receipts = Vec::with_capacity(alloc, places)?;
     for place in 0..places {
-        receipts.push(receipt_of(place as u32, words))?;
+        receipts.push_reserved(receipt_of(place as u32, words));
     }
-    Ok(receipts)
 }
 
 // The receipt of a place that is done.
@@ -87,17 +110,15 @@ fn receipt_of(place: u32, words: &Words) -> Receipt
     Receipt { status, moved }
 }
 
-// The numbers of the accounts, two words each.
-fn numbers_in(alloc: Global, count: usize, words: &Words) -> Result<Vec<Account>, AllocError>
-    requires { 2 * count ≡ words.now.words }
-    ensures { IfOk result (λ numbers. AreNumbers words.now numbers.items words.now.words) }
+// Writes the numbers of the accounts, two words each, over those of a list.
+fn write_numbers(numbers: &mut [Account], words: &Words)
+    requires { 2 * length numbers.old ≡ words.now.words }
+    ensures { AreNumbers words.now numbers.new words.now.words }
 {
-    let mut numbers = Vec::with_capacity(alloc, count)?;
-    for k in 0..count {
-        numbers.push(Account {
+    for k in 0..numbers.len() {
+        numbers[k] = Account {
             balance: words.word(2 * k),
             seq: words.word(2 * k + 1),
-        })?;
+        };
     }
-    Ok(numbers)
 }

@@ -7,32 +7,33 @@ ghost use Rattle.bk_conflicts.specs.SceneOf.{CanRunOn};
 ghost use Rattle.bk_bank.specs.Bank.{bank_scene, IsPassOf};
 ghost use Rattle.bk_pool.specs.Reads.{IsBankOf};
 ghost use Rattle.bk_steps.specs.Schedule.{IsFoldOf};
-ghost use Rattle.bk_pool.specs.Outcomes.{IsBelow};
+ghost use Rattle.bk_pool.specs.Outcomes.{IsBelow, IsClosed, IsFoldOnto};
 ghost use Rattle.bk_pool.specs.private.Prepared.{IsPlanOf};
 
 use crate::deques::ends_for;
 use crate::hints::{Hints, Nobody};
 use crate::levels::levels;
-use crate::outcome::{ExecFault, outcome_of};
+use crate::outcome::{ExecFault, outcome_of, outcome_onto};
 use crate::place::Gate;
 use crate::work::{serve, try_claim};
-use bk_bank::{Bank, Pass};
+use bk_bank::{Bank, Pass, Words};
 use bk_conflicts::Plan;
-use bk_rules::State;
+use bk_rules::{Receipt, State};
 use bk_steps::Outcome;
 use bk_tx::Tx;
 use std::alloc::{AllocError, Global};
 use std::sync::{Arc, Wait};
 use std::thread::Threads;
 
-/// Executes transactions from a state, with so many workers. The accounts and the receipts are what
+/// Executes transactions from a state, with 1 to 64 workers. The accounts and the receipts are what
 /// the transactions give one at a time, however the workers run.
 ///
 /// Each account that they declare has a slot in version Two: `State::prepare` makes them. A plan has fewer than
 /// `bk_conflicts::SLOTS_END` slots. Opening accounts have room for fewer than 2^63 transactions in all
 /// (`bk_rules::room_is_left`).
 ///
-/// `Unfinished` names a place that a worker took and did not finish.
+/// `OutOfMemory` where the plan, the words of its execution, the workers' queues or the receipts get no memory;
+/// `Unfinished` where a worker took a place and did not finish it.
 pub fn execute_all<R: Threads + Wait + Sync, G: Gate + Sync>(
     rt: &R,
     alloc: Global,
@@ -89,26 +90,7 @@ pub fn execute_with<R: Threads + Wait + Sync, G: Gate + Sync, H: Hints + Send + 
 {
     let mut ends = ends;
     put_opening(plan, &mut ends[0]);
-    run_ends(rt, alloc, plan, state, gate, ends)
-}
-
-// Executes a plan by the hints that the ends give, and then what the workers left.
-fn run_ends<R: Threads + Wait + Sync, G: Gate + Sync, H: Hints + Send + Drop>(
-    rt: &R,
-    alloc: Global,
-    plan: &Arc<Plan>,
-    state: State,
-    gate: &G,
-    ends: Vec<H>,
-) -> Result<Outcome, ExecFault>
-    requires runs { CanRunOn (arc_value plan.now) state }
-    ensures fold { IfOk result (λ o. IsFoldOf (arc_value plan.now) state o) }
-    ensures unfinished { IfErr result (λ e. IsBelow (length (arc_value plan.now).txs) e) }
-{
-    let (bank, pass) = Bank::new(alloc, plan, &state)?;
-    let pass = levels(rt, &bank, plan, gate, pass, ends);
-    let pass = claim_left(&bank, plan, gate, pass);
-    let words = bank.close(pass);
+    let words = run_ends(rt, alloc, plan, &state, gate, ends)?;
     outcome_of(alloc, plan, state, &words)
 }
 
@@ -125,10 +107,26 @@ pub fn execute_here<G: Gate>(
     ensures fold { IfOk result (λ o. IsFoldOf (arc_value plan.now) state o) }
     ensures unfinished { IfErr result (λ e. IsBelow (length (arc_value plan.now).txs) e) }
 {
-    let (bank, pass) = Bank::new(alloc, plan, &state)?;
-    let done = claim_left(&bank, plan, gate, pass);
-    let words = bank.close(done);
-    outcome_of(alloc, plan, state, &words)
+    let done = run_here(alloc, plan, &state, gate)?;
+    outcome_of(alloc, plan, state, &done)
+}
+
+/// The same, with the receipts at the end of a list. On an `Err` the list has what it had before.
+pub fn execute_here_onto<G: Gate>(
+    alloc: Global,
+    plan: &Arc<Plan>,
+    state: State,
+    gate: &G,
+    receipts: &mut Vec<Receipt>,
+) -> Result<State, ExecFault>
+    requires runs { CanRunOn (arc_value plan.now) state }
+    ensures fold { IfOk result
+        (IsFoldOnto (arc_value plan.now) state receipts.old.items receipts.new.items) }
+    ensures unchanged { IfErr result (λ e. receipts.new.items ≡ receipts.old.items) }
+    ensures unfinished { IfErr result (λ e. IsBelow (length (arc_value plan.now).txs) e) }
+{
+    let done = run_here(alloc, plan, &state, gate)?;
+    outcome_onto(plan, state, &done, receipts)
 }
 
 /// Executes a plan from a state that it can run on, with so many workers, the last of them in the
@@ -147,7 +145,63 @@ pub fn execute<R: Threads + Wait + Sync, G: Gate + Sync>(
     ensures unfinished { IfErr result (λ e. IsBelow (length (arc_value plan.now).txs) e) }
 {
     let ends = ends_for(rt, alloc, plan.len() as u32, workers)?;
-    run_ends(rt, alloc, plan, state, gate, ends)
+    let words = run_ends(rt, alloc, plan, &state, gate, ends)?;
+    outcome_of(alloc, plan, state, &words)
+}
+
+/// The same, with the receipts at the end of a list. On an `Err` the list has what it had before.
+pub fn execute_onto<R: Threads + Wait + Sync, G: Gate + Sync>(
+    rt: &R,
+    alloc: Global,
+    plan: &Arc<Plan>,
+    state: State,
+    workers: usize,
+    gate: &G,
+    receipts: &mut Vec<Receipt>,
+) -> Result<State, ExecFault>
+    requires runs { CanRunOn (arc_value plan.now) state }
+    requires workers { (1 ≤ workers) × (workers ≤ 64) }
+    ensures fold { IfOk result
+        (IsFoldOnto (arc_value plan.now) state receipts.old.items receipts.new.items) }
+    ensures unchanged { IfErr result (λ e. receipts.new.items ≡ receipts.old.items) }
+    ensures unfinished { IfErr result (λ e. IsBelow (length (arc_value plan.now).txs) e) }
+{
+    let ends = ends_for(rt, alloc, plan.len() as u32, workers)?;
+    let words = run_ends(rt, alloc, plan, &state, gate, ends)?;
+    outcome_onto(plan, state, &words, receipts)
+}
+
+// Executes a plan by the hints that the ends give, and then what the workers left: the words at the end.
+fn run_ends<R: Threads + Wait + Sync, G: Gate + Sync, H: Hints + Send + Drop>(
+    rt: &R,
+    alloc: Global,
+    plan: &Arc<Plan>,
+    state: &State,
+    gate: &G,
+    ends: Vec<H>,
+) -> Result<Words, AllocError>
+    requires runs { CanRunOn (arc_value plan.now) state.now }
+    ensures { IfOk result (λ w. IsClosed (arc_value plan.now) state.now w) }
+{
+    let (bank, pass) = Bank::new(alloc, plan, state)?;
+    let pass = levels(rt, &bank, plan, gate, pass, ends);
+    let pass = claim_left(&bank, plan, gate, pass);
+    Ok(bank.close(pass))
+}
+
+// Executes a plan in the calling thread: the words at the end.
+fn run_here<G: Gate>(
+    alloc: Global,
+    plan: &Arc<Plan>,
+    state: &State,
+    gate: &G,
+) -> Result<Words, AllocError>
+    requires runs { CanRunOn (arc_value plan.now) state.now }
+    ensures { IfOk result (λ w. IsClosed (arc_value plan.now) state.now w) }
+{
+    let (bank, pass) = Bank::new(alloc, plan, state)?;
+    let done = claim_left(&bank, plan, gate, pass);
+    Ok(bank.close(done))
 }
 
 // Puts the places that wait for no other.

@@ -1,5 +1,5 @@
 -- Numbers in the order of the ids, read as a whole and set as a whole.
-use Rattle.std.proofs.Common.{◌≡◌, ℕ, zero, suc, ◌+◌, ◌*◌, ◌^◌, ◌<◌, ◌≤◌, Bool, true, false, cond, eqb, List, [], ◌∷◌, ◌++◌, length, map, take, get_or, set, get_or-set_same, get_or-set_other, Option, Some, None, option_map, refl, sym, subst, ap, ap₂, ◌∙◌, inl, inr, arith}
+use Rattle.std.proofs.Common.{◌≡◌, ℕ, zero, suc, ◌+◌, ◌*◌, ◌^◌, ◌<◌, ◌≤◌, Bool, IsTrue, true, false, cond, eqb, List, [], ◌∷◌, ◌++◌, length, map, take, get_or, set, get_or-set_same, get_or-set_other, Option, Some, None, option_map, refl, sym, subst, ap, ap₂, ◌∙◌, inl, inr, arith}
 use mathlib.Core.Logic.{dite}
 use native.Mathlib.Decide.{ℕ_discrete}
 use Rattle.std.specs.Prelude.{slice_get, option_and_then}
@@ -10,6 +10,7 @@ use Rattle.bk_frames.specs.declared.genesis.Row.{Row}
 use Rattle.bk_frames.specs.declared.version.Version.{Version}
 use Rattle.bk_frames.specs.declared.version.Version.TheVariants.{One, Two}
 use Rattle.bk_frames.specs.Genesis.{total_of}
+use Rattle.bk_frames.specs.Numbers.{is_ascending}
 use Rattle.bk_rules.specs.declared.account.Account.{Account}
 use Rattle.bk_rules.specs.Rows.{IsLedger, account_at}
 use Rattle.bk_rules.specs.Ledger.{ledger_of, numbers_of, shown_by, row_before, rows_shown, in_pairs, slot_numbers}
@@ -128,12 +129,12 @@ set_more v numbers words k x low wide so_far is =
     map_push f (x ∷ xs) a = ap (λ (more : List Account). f x ∷ more) (map_push f xs a)
 
 -- a state of numbers that were set
-pub slots_set : (v : Version) (ids : List ℕ) (old numbers : List Account) → AreSlots v ids old → (pairs : List Account) → length pairs ≡ length ids → numbers ≡ map (tidied v) pairs → total_of (rows_shown v ids pairs) < 2 ^ 63 → AreSlots v ids numbers
-slots_set v ids old numbers are pairs same is within =
+pub slots_set : (v : Version) (ids : List ℕ) (numbers : List Account) → IsTrue (is_ascending ids) → (pairs : List Account) → length pairs ≡ length ids → numbers ≡ map (tidied v) pairs → total_of (rows_shown v ids pairs) < 2 ^ 63 → AreSlots v ids numbers
+slots_set v ids numbers ascending pairs same is within =
     subst (λ (xs : List Account). AreSlots v ids xs) (sym is) (record {
       same = length-map pairs (tidied v) ∙ same;
-      ascending = are.ascending;
-      ledger = subst (λ (rows : List Row). IsLedger rows) (sym (rows_tidied v ids pairs)) (record { ascending = ascend-shown v ids pairs are.ascending; within = within });
+      ascending = ascending;
+      ledger = subst (λ (rows : List Row). IsLedger rows) (sym (rows_tidied v ids pairs)) (record { ascending = ascend-shown v ids pairs ascending; within = within });
       own = own_tidied v pairs;
     })
 

@@ -185,12 +185,13 @@ fn numbers_are_set(rt: HostRuntime) -> Result<(), Fail> {
             seq: u64::MAX,
         },
     ];
-    let mut state = State::new(rt.alloc(), Version::Two, &two_rows())?;
-    state.set_numbers(Vec::from_slice(rt.alloc(), &numbers)?);
+    let ids = Ids::new(rt.alloc(), Vec::from_slice(rt.alloc(), &[3, 5])?)?;
+    let given = Vec::from_slice(rt.alloc(), &numbers)?;
+    let state = State::of_numbers(Version::Two, ids, given);
     assert!(rt; has(&rt, &state, &[3, 5], &[row(3, 4, 1)])?);
-    assert!(rt; state.total() == 4);
-    let mut state = State::new(rt.alloc(), Version::One, &two_rows())?;
-    state.set_numbers(Vec::from_slice(rt.alloc(), &numbers)?);
+    let (ids, _) = state.into_numbers();
+    let given = Vec::from_slice(rt.alloc(), &numbers)?;
+    let state = State::of_numbers(Version::One, ids, given);
     assert!(rt; has(&rt, &state, &[3, 5], &[row(3, 4, 1), row(5, 9, u64::MAX)])?);
     Ok(())
 }

@@ -1,5 +1,5 @@
 -- The receipts that the words show.
-use Rattle.std.specs.Prelude.{◌≡◌, ℕ, ◌+◌, ◌^◌, ◌<◌, List, length, slice_index_or}
+use Rattle.std.specs.Prelude.{◌≡◌, ℕ, ◌+◌, ◌^◌, ◌<◌, List, ◌++◌, length, slice_index_or}
 use Rattle.bk_rules.specs.declared.account.Account.{Account}
 use Rattle.bk_rules.specs.declared.receipt.Receipt.{Receipt}
 use Rattle.bk_rules.specs.declared.receipt.Status.{Status}
@@ -19,6 +19,12 @@ receipt_at rs p = slice_index_or rs p no_receipt
 -- the receipts of the first n places, as the words show them
 abbrev pub AreReceipts : WordsData → List Receipt → ℕ → Type 0
 AreReceipts w rs n = (length rs ≡ n) × ((p : ℕ) → p < n → (state_at w p ≡ 2 ^ 63 + number_of (receipt_at rs p).status) × ((receipt_at rs p).moved ≡ moved_word_at w p))
+
+-- a list has these receipts after those that it had
+pub record AreAdded (w : WordsData) (old new : List Receipt) (n : ℕ) : Type 0 where
+  pub added : List Receipt
+  pub new_is : new ≡ old ++ added
+  pub are : AreReceipts w added n
 
 -- each place is done and shows a status
 abbrev pub AreStatuses : WordsData → Type 0

@@ -1,9 +1,6 @@
-use Rattle.std.proofs.Common.{sym, ap, ◌∙◌}
-use Rattle.bk_conflicts.specs.Plan.{PlanValue}
-use Rattle.bk_bank.specs.Setting.{setting_with}
+use Rattle.std.specs.Arc.{arc_value}
 use Rattle.bk_pool.proofs.Ended.{closed_of}
 use Rattle.bk_pool.proofs.run.run_ends.Goals as goal
 
-pub outcome_of-requires-clause-closed : goal.outcome_of-requires-clause-closed
-outcome_of-requires-clause-closed g c = closed_of c.deref-3.result.now c.args.state c.in_ok-bank.bank c.close-words.result
-    (c.in_ok-bank.ensures.setting ∙ ap (λ (p : PlanValue). setting_with p c.args.state) (sym c.deref-3.ensures)) c.close-words.ensures.ends c.close-words.ensures.size
+pub returns : goal.returns
+returns g c = closed_of (arc_value c.args.plan.now) c.args.state.now c.in_ok-bank.bank c.close.result c.in_ok-bank.ensures.setting c.close.ensures.ends c.close.ensures.size

@@ -15,7 +15,7 @@ pub invariant_of-self : goal.invariant_of-self
 invariant_of-self c =
     let len : length c.set_all.new.numbers ≡ c.self.inside.numbers.len = omega arith in
     let slots = ap (λ (l : Ledger). length l.slots) c.self.view_is in
-    rw (take_at c.set_all.new.numbers _ c.self.inside.numbers.len len) (slots_set c.self.inside.version c.self.inside.ids c.self.inside.numbers.items c.set_all.new.numbers c.self.invariant (in_pairs c.args.words.now) (length-pairs (length c.self.inside.ids) c.args.words.now (omega (arith, c.requires.length))) c.set_all.ensures (subst (λ (l : Ledger). total_of (rows_shown l.version l.slots (in_pairs c.args.words.now)) < 2 ^ 63) (sym c.self.view_is) c.requires.within))
+    rw (take_at c.set_all.new.numbers _ c.self.inside.numbers.len len) (slots_set c.self.inside.version c.self.inside.ids c.set_all.new.numbers c.self.invariant.ascending (in_pairs c.args.words.now) (length-pairs (length c.self.inside.ids) c.args.words.now (omega (arith, c.requires.length))) c.set_all.ensures (subst (λ (l : Ledger). total_of (rows_shown l.version l.slots (in_pairs c.args.words.now)) < 2 ^ 63) (sym c.self.view_is) c.requires.within))
 
 pub returns : goal.returns
 returns c =
