@@ -8,6 +8,7 @@ use Rattle.bk_frames.specs.declared.version.Version.TheVariants.{One, Two}
 use Rattle.bk_frames.specs.Genesis.{total_of}
 use Rattle.bk_tx.specs.Transaction.{Transaction}
 use Rattle.bk_tx.specs.declared.declared.Declared.{Declared}
+use Rattle.bk_rules.specs.declared.receipt.Receipt.{Receipt}
 use Rattle.bk_rules.specs.Rows.{IsLedger}
 use Rattle.bk_rules.specs.Fold.{state_after, receipts_of, HasRoom}
 use Rattle.bk_rules.specs.Ledger as rules
@@ -16,8 +17,7 @@ use Rattle.bk_rules.proofs.Folding.{total_kept_by_fold}
 use Rattle.bk_rules.proofs.Parts.{part_receipts, part_state, room-among}
 use Rattle.bk_rules.proofs.RowLemmas.{and_left, and_right, and_both}
 use Rattle.bk_conflicts.specs.SceneOf.{CanRunOn}
-use Rattle.bk_steps.specs.declared.outcome.Outcome.{Outcome}
-use Rattle.bk_steps.specs.Schedule.{IsFoldOf}
+use Rattle.bk_pool.specs.Outcomes.{IsFoldOnto}
 use Rattle.bk_ledger.specs.Ledger.{LedgerValue}
 use Rattle.bk_ledger.specs.Executing.{HasRun}
 use Rattle.bk_ledger.specs.declared.ready.Ready.{Ready}
@@ -72,31 +72,31 @@ module _ (r : Ready) (l : rules.Ledger) (runs : CanRunPart r l) (p : rules.Ledge
         slots_show = (λ i. rules.rows_shown (sym version i) (sym slots i) (rules.slot_numbers p)) ∙ shown;
       }
 
-  module _ (o : Outcome) (fold : IsFoldOf (arc_value r.plan) p o) where
-    out_is : o.state ≡ rules.ledger_of l.version (arc_value r.plan).ids (state_after l.version (arc_value r.plan).txs (rows_among (arc_value r.plan).ids l.rows))
-    out_is = fold.state ∙ ap (λ (x : rules.Ledger). rules.ledger_of x.version x.slots (state_after x.version (arc_value r.plan).txs x.rows)) is
+  module _ (old new : List Receipt) (after : rules.Ledger) (fold : IsFoldOnto (arc_value r.plan) p old new after) where
+    after_is : after ≡ rules.ledger_of l.version (arc_value r.plan).ids (state_after l.version (arc_value r.plan).txs (rows_among (arc_value r.plan).ids l.rows))
+    after_is = fold.state ∙ ap (λ (x : rules.Ledger). rules.ledger_of x.version x.slots (state_after x.version (arc_value r.plan).txs x.rows)) is
 
-    pub out_slots : o.state.slots ≡ (arc_value r.plan).ids
-    out_slots = ap (λ (x : rules.Ledger). x.slots) out_is
+    pub after_slots : after.slots ≡ (arc_value r.plan).ids
+    after_slots = ap (λ (x : rules.Ledger). x.slots) after_is
 
-    pub out_version : o.state.version ≡ l.version
-    out_version = ap (λ (x : rules.Ledger). x.version) out_is
+    pub after_version : after.version ≡ l.version
+    after_version = ap (λ (x : rules.Ledger). x.version) after_is
 
-    out_receipts : o.receipts.items ≡ receipts_of l.version (arc_value r.plan).txs l.rows
-    out_receipts =
+    receipts_are : new ≡ old ++ receipts_of l.version (arc_value r.plan).txs l.rows
+    receipts_are =
         let planned = runs.planned in
         fold.receipts
-        ∙ ap (λ (x : rules.Ledger). receipts_of x.version (arc_value r.plan).txs x.rows) is
-        ∙ part_receipts l.version l.slots (arc_value r.plan).ids (arc_value r.plan).txs l.rows runs.is_ledger runs.have_slots planned.held
+        ∙ ap (λ (x : rules.Ledger). old ++ receipts_of x.version (arc_value r.plan).txs x.rows) is
+        ∙ ap (λ (rs : List Receipt). old ++ rs) (part_receipts l.version l.slots (arc_value r.plan).ids (arc_value r.plan).txs l.rows runs.is_ledger runs.have_slots planned.held)
 
     -- what is put back is what the transactions leave of the whole
-    back_is : (rows : List Row) → ArePutBack o.state.slots o.state.rows l.rows rows → rows ≡ state_after l.version (arc_value r.plan).txs l.rows
+    back_is : (rows : List Row) → ArePutBack after.slots after.rows l.rows rows → rows ≡ state_after l.version (arc_value r.plan).txs l.rows
     back_is rows put =
         let planned = runs.planned in
         part_state l.version l.slots (arc_value r.plan).ids (arc_value r.plan).txs l.rows runs.is_ledger runs.have_slots planned.held rows
-        (subst (λ (x : rules.Ledger). ArePutBack x.slots x.rows l.rows rows) out_is put)
+        (subst (λ (x : rules.Ledger). ArePutBack x.slots x.rows l.rows rows) after_is put)
 
-    pub back_within : (rows : List Row) → ArePutBack o.state.slots o.state.rows l.rows rows → total_of rows < 2 ^ 63
+    pub back_within : (rows : List Row) → ArePutBack after.slots after.rows l.rows rows → total_of rows < 2 ^ 63
     back_within rows put =
         let ledger = runs.is_ledger in
         let same : total_of rows ≡ total_of l.rows = ap total_of (back_is rows put) ∙ total_kept_by_fold l.version (arc_value r.plan).txs l.rows ledger in
@@ -104,12 +104,13 @@ module _ (r : Ready) (l : rules.Ledger) (runs : CanRunPart r l) (p : rules.Ledge
         omega (arith, same, within)
 
     -- the ledger after it
-    pub part_ran : (counts : List (Option ℕ)) (a b : LedgerValue) → a.state ≡ l → b.counts ≡ a.counts ++ counts → b.receipts ≡ a.receipts ++ o.receipts.items → b.state.version ≡ l.version → ArePutBack o.state.slots o.state.rows l.rows b.state.rows → b.state.slots ≡ l.slots
+    pub part_ran : (counts : List (Option ℕ)) (a b : LedgerValue) → a.state ≡ l → a.receipts ≡ old → b.counts ≡ a.counts ++ counts → b.receipts ≡ new → b.state.version ≡ l.version → ArePutBack after.slots after.rows l.rows b.state.rows → b.state.slots ≡ l.slots
         → HasRun counts (arc_value r.plan).txs a b
-    part_ran counts a b state counted received version put slots = record {
+    part_ran counts a b state before counted received version put slots = record {
       version = version ∙ ap (λ (x : rules.Ledger). x.version) (sym state);
       counts_are = counted;
-      receipts = received ∙ ap (λ rs. a.receipts ++ rs) (out_receipts ∙ ap (λ (x : rules.Ledger). receipts_of x.version (arc_value r.plan).txs x.rows) (sym state));
+      receipts = received ∙ receipts_are
+          ∙ ap (λ (y : List Receipt × rules.Ledger). y.0 ++ receipts_of y.1.version (arc_value r.plan).txs y.1.rows) (λ i. (sym before i, sym state i));
       rows = back_is b.state.rows put ∙ ap (λ (x : rules.Ledger). state_after x.version (arc_value r.plan).txs x.rows) (sym state);
       slots = omega (arith, ap length slots, ap (λ (x : rules.Ledger). length x.slots) state);
     }

@@ -10,9 +10,8 @@ ghost use Rattle.std.specs.Thread.{IsSync};
 ghost use Rattle.bk_rules.specs.Fold.{HasRoom};
 ghost use Rattle.bk_rules.specs.Ledger.{are_covered};
 ghost use Rattle.bk_conflicts.specs.SceneOf.{CanRunOn};
-ghost use Rattle.bk_pool.specs.Outcomes.{IsBelow};
+ghost use Rattle.bk_pool.specs.Outcomes.{IsBelow, IsFoldOnto};
 ghost use Rattle.bk_pool.specs.declared.outcome.ExecFault.TheVariants.{OutOfMemory};
-ghost use Rattle.bk_steps.specs.Schedule.{IsFoldOf};
 ghost use Rattle.bk_tx.specs.Batches.{transactions_of};
 ghost use Rattle.bk_ledger.specs.Executing.{HasExecuted, HasRun, Leaves};
 ghost use Rattle.bk_ledger.specs.Naming.{named_by};
@@ -24,15 +23,14 @@ use crate::ready::{Ahead, Ready, look_ahead, look_first};
 use crate::slice::FEWEST;
 use crate::workers::{WORTH_THREADS, workers_at_once};
 use bk_conflicts::Plan;
-use bk_pool::{ExecFault, Gate, execute, execute_here};
-use bk_rules::State;
-use bk_steps::Outcome;
+use bk_pool::{ExecFault, Gate, execute_here_onto, execute_onto};
+use bk_rules::{Receipt, State};
 use std::alloc::{AllocError, Global};
 use std::sync::{Arc, Wait};
 use std::thread::{Threads, join};
 
-// Executes a plan from a state that it can run on, with so many workers. For one of them, and for few transactions, no
-// thread is started.
+// Executes a plan from a state that it can run on, with this many workers, and puts the receipts at the end of a list.
+// With one worker, and for few transactions, no thread is started.
 fn run_plan<R: Threads + Wait + Sync, G: Gate + Sync>(
     rt: &R,
     alloc: Global,
@@ -40,19 +38,21 @@ fn run_plan<R: Threads + Wait + Sync, G: Gate + Sync>(
     state: State,
     workers: usize,
     gate: &G,
-) -> Result<Outcome, ExecFault>
+    receipts: &mut Vec<Receipt>,
+) -> Result<State, ExecFault>
     requires runs { CanRunOn (arc_value plan.now) state }
     requires workers { (1 ≤ workers) × (workers ≤ 64) }
-    ensures fold { IfOk result (λ o. IsFoldOf (arc_value plan.now) state o) }
+    ensures fold { IfOk result
+        (IsFoldOnto (arc_value plan.now) state receipts.old.items receipts.new.items) }
     ensures unfinished { IfErr result (λ e. IsBelow (length (arc_value plan.now).txs) e) }
 {
     if workers == 1 || plan.len() < WORTH_THREADS {
-        return execute_here(alloc, plan, state, gate);
+        return execute_here_onto(alloc, plan, state, gate, receipts);
     }
-    execute(rt, alloc, plan, state, workers, gate)
+    execute_onto(rt, alloc, plan, state, workers, gate, receipts)
 }
 
-// Executes a slice on a copy of the accounts that it touches.
+// Executes a slice on a copy of the accounts that it touches, and puts the receipts at the end of a list.
 fn run_part<R: Threads + Wait + Sync, G: Gate + Sync>(
     rt: &R,
     alloc: Global,
@@ -60,14 +60,16 @@ fn run_part<R: Threads + Wait + Sync, G: Gate + Sync>(
     ready: &Ready,
     workers: usize,
     gate: &G,
-) -> Result<Outcome, ExecFault>
+    receipts: &mut Vec<Receipt>,
+) -> Result<State, ExecFault>
     requires runs { CanRunPart ready.now state.now }
     requires workers { (1 ≤ workers) × (workers ≤ 64) }
-    ensures fold { IfOk result (IsPartFold ready.now state.now) }
+    ensures fold { IfOk result
+        (IsPartFold ready.now state.now receipts.old.items receipts.new.items) }
     ensures unfinished { IfErr result (IsBelow (length (arc_value ready.now.plan).txs)) }
 {
     let part = state.part(alloc, &ready.list, ready.plan.ids())?;
-    run_plan(rt, alloc, &ready.plan, part, workers, gate)
+    run_plan(rt, alloc, &ready.plan, part, workers, gate, receipts)
 }
 
 // What both of two calls gave; the fault of the first comes first.
@@ -84,20 +86,6 @@ fn both(
 }
 
 impl Ledger {
-    // Puts what a slice gave into the ledger.
-    fn keep(&mut self, ready: &Ready, outcome: &Outcome) -> Result<(), AllocError>
-        requires runs { CanRunPart ready.now self.old.state }
-        requires fold { IsPartFold ready.now self.old.state outcome.now }
-        ensures ran { OnOk result (HasRun ready.now.counts.items
-            (arc_value ready.now.plan).txs self.old self.new) }
-        ensures slots { OnOk result (self.new.state.slots ≡ self.old.state.slots) }
-    {
-        self.counts.extend_from_slice(&ready.counts)?;
-        self.receipts.extend_from_slice(&outcome.receipts)?;
-        self.state.put_back(&ready.list, &outcome.state);
-        Ok(())
-    }
-
     // Executes a slice on the accounts that it touches.
     fn run_on<R: Threads + Wait + Sync, G: Gate + Sync>(
         &mut self,
@@ -118,9 +106,18 @@ impl Ledger {
             IfErr result (Leaves first (first + length (arc_value ready.now.plan).txs)) }
     {
         let first = self.receipts.len() as u32;
-        match run_part(rt, alloc, &self.state, ready, workers, gate) {
-            Ok(outcome) => {
-                self.keep(ready, &outcome)?;
+        match run_part(
+            rt,
+            alloc,
+            &self.state,
+            ready,
+            workers,
+            gate,
+            &mut self.receipts,
+        ) {
+            Ok(part) => {
+                self.counts.extend_from_slice(&ready.counts)?;
+                self.state.put_back(&ready.list, &part);
                 Ok(())
             }
             Err(ExecFault::OutOfMemory) => Err(ExecFault::OutOfMemory),

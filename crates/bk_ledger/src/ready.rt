@@ -87,8 +87,8 @@ pub(crate) struct Ahead {
 }
 
 impl Batches {
-    /// Plans the transactions over all slots; each account that needs a slot has one. It comes to this only where a
-    /// look-up missed a slot.
+    /// Plans the transactions over all slots; each account that needs a slot has one. It is for a slice whose own slots
+    /// are not enough. That comes only where the look-up misses a slot, which it never does, but no contract says so.
     pub(crate) fn planned(
         self,
         alloc: Global,
@@ -188,7 +188,7 @@ fn plan_first(alloc: Global, batches: Batches, ids: &Ids) -> Result<Next, AllocE
         let plan = Arc::new(alloc, plan)?;
         return Ok(Next::Ready(Ready { counts, list, plan }));
     }
-    // It never comes to this: the look-up finds each account that has a slot.
+    // It never comes to this, as the look-up misses no slot; but no contract says so.
     let txs = plan.into_txs();
     Ok(Next::Read(Batches { counts, txs, near }))
 }

@@ -6,12 +6,12 @@ use Rattle.bk_frames.specs.declared.version.Version.{Version}
 use Rattle.bk_frames.specs.Feed.{Frame}
 use Rattle.bk_tx.specs.Transaction.{Transaction}
 use Rattle.bk_tx.specs.Batches.{count_in, feed_transactions, payloads_of, transactions_of}
+use Rattle.bk_rules.specs.declared.receipt.Receipt.{Receipt}
 use Rattle.bk_rules.specs.Fold.{state_after, receipts_of, HasRoom}
 use Rattle.bk_rules.specs.Rows.{IsLedger}
 use Rattle.bk_rules.specs.Ledger as rules
 use Rattle.bk_rules.specs.Part.{AreIndexes, HaveSlots, are_held, ids_at, part_of}
-use Rattle.bk_steps.specs.Schedule.{IsFoldOf}
-use Rattle.bk_steps.specs.declared.outcome.Outcome.{Outcome}
+use Rattle.bk_pool.specs.Outcomes.{IsFoldOnto}
 use Rattle.bk_ledger.specs.declared.ready.Ready.{Ready}
 use Rattle.bk_ledger.specs.declared.ready.Ahead.{Ahead}
 use Rattle.bk_ledger.specs.declared.ready.Next.{Next}
@@ -79,9 +79,9 @@ pub record CanRunPart (r : Ready) (l : rules.Ledger) : Type 0 where
   pub have_slots : HaveSlots l.slots l.rows
   pub has_room : HasRoom l.version (length (arc_value r.plan).txs) l.rows
 
--- what the slice gives on the accounts that it touches
-abbrev pub IsPartFold : Ready → rules.Ledger → Outcome → Type 0
-IsPartFold r l o = IsFoldOf (arc_value r.plan) (part_of (arc_value r.plan).ids l) o
+-- what the slice gives on the accounts that it touches, with its receipts after those of a list
+abbrev pub IsPartFold : Ready → rules.Ledger → List Receipt → List Receipt → rules.Ledger → Type 0
+IsPartFold r l old new after = IsFoldOnto (arc_value r.plan) (part_of (arc_value r.plan).ids l) old new after
 
 -- the slice that begins at an index: batches where there are some, and not too many transactions
 pub record IsReadOf (payloads : List (List ℕ)) (from : ℕ) (counts : List (Option ℕ)) (txs : List (Option Transaction)) : Type 0 where
