@@ -11,6 +11,7 @@ use Rattle.bk_rules.specs.Rows.{IsLedger}
 use Rattle.bk_rules.specs.Part.{HaveSlots}
 use Rattle.bk_ledger.specs.Ledger.{LedgerValue}
 use Rattle.bk_ledger.specs.declared.ready.Ready.{Ready}
+use Rattle.bk_conflicts.specs.declared.planner.Planner.{Planner}
 use Rattle.bk_ledger.specs.declared.ready.Ahead.{Ahead}
 use Rattle.bk_ledger.specs.declared.ready.Next.{Next}
 use Rattle.bk_ledger.specs.declared.ready.Next.TheVariants as next
@@ -33,9 +34,9 @@ pub read_from : (b c : Batches) (version : Version) (slots : List ℕ) → c.cou
 read_from b c version slots counts txs = record { counts_are = counts; txs_are = txs; planned = tt }
 
 -- and the one after it
-pub from_ahead : (payloads : List (List ℕ)) (from later : ℕ) (version : Version) (slots : List ℕ) (b c : Batches) (n : Next) → IsReadOf payloads from b.counts.items b.txs.items → IsNextFrom b version slots n → later ≡ from + length b.counts.items
-    → IsReadOf payloads later c.counts.items c.txs.items → IsAheadOf payloads from version slots (ahead_of from n c)
-from_ahead payloads from later version slots b c n read planned at behind = record {
+pub from_ahead : (payloads : List (List ℕ)) (from later : ℕ) (version : Version) (slots : List ℕ) (b c : Batches) (n : Next) (p : Planner) → IsReadOf payloads from b.counts.items b.txs.items → IsNextFrom b version slots n → later ≡ from + length b.counts.items
+    → IsReadOf payloads later c.counts.items c.txs.items → IsAheadOf payloads from version slots (ahead_of from n c p)
+from_ahead payloads from later version slots b c n p read planned at behind = record {
   at = refl;
   next = record {
     read = subst (λ (s : List (Option ℕ) × List (Option Transaction)). IsReadOf payloads from s.0 s.1) (λ i. (sym planned.counts_are i, sym planned.txs_are i)) read;

@@ -22,7 +22,7 @@ use crate::ledger::Ledger;
 use crate::ready::{Ahead, Ready, look_ahead, look_first};
 use crate::slice::FEWEST;
 use crate::workers::{WORTH_THREADS, workers_at_once};
-use bk_conflicts::Plan;
+use bk_conflicts::{Plan, Planner};
 use bk_pool::{ExecFault, Gate, execute_here_onto, execute_onto};
 use bk_rules::{Receipt, State};
 use std::alloc::{AllocError, Global};
@@ -178,6 +178,7 @@ impl Ledger {
         alloc: Global,
         payloads: &[&[u8]],
         from: usize,
+        planner: Planner,
         read: Batches,
         least: usize,
         ready: Ready,
@@ -209,7 +210,11 @@ impl Ledger {
                     read.counts.items read.txs.items }
                 ensures { IfOk result (IsAheadOf (map (λ p. p.now) payloads.entry.now)
                     from version ids) }
-            { look_ahead(rt, alloc, payloads, read, from, least, version, &ids) },
+            {
+                look_ahead(
+                    rt, alloc, payloads, planner, read, from, least, version, &ids,
+                )
+            },
             || -> Result<Ledger, ExecFault>
                 requires { IsSync R.row × IsSync G.row
                     × CanRunPart ready self.state
@@ -253,7 +258,12 @@ impl Ledger {
         ensures fault { let first = length self.receipts in
             IfErr result (Leaves first (first + length (txs_of ahead.next))) }
     {
-        let Ahead { from, next, read } = ahead;
+        let Ahead {
+            from,
+            next,
+            read,
+            planner,
+        } = ahead;
         // Its contract says that the accounts are those of a ledger.
         let version = self.state().version();
         let ready = next.into_ready(alloc, version, self.state().ids())?;
@@ -261,7 +271,9 @@ impl Ledger {
         if from == payloads.len() {
             return self.run_last(rt, alloc, from, ready, workers, gate);
         }
-        self.run_beside(rt, alloc, payloads, from, read, least, ready, workers, gate)
+        self.run_beside(
+            rt, alloc, payloads, from, planner, read, least, ready, workers, gate,
+        )
     }
 
     /// Executes further batches, up to the first slice that declares an account that needs a slot and has none. Also

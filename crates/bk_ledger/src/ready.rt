@@ -11,7 +11,7 @@ use crate::batches::Batches;
 use crate::held::holds_all;
 use crate::slice::gather_near;
 use crate::touched::Touched;
-use bk_conflicts::Plan;
+use bk_conflicts::{Plan, Planner};
 use bk_frames::Version;
 use bk_rules::{Ids, State};
 use bk_tx::Tx;
@@ -84,6 +84,8 @@ pub(crate) struct Ahead {
     pub(crate) from: usize,
     pub(crate) next: Next,
     pub(crate) read: Batches,
+    /// Plans one slice after another, in the memory of the slices before.
+    pub(crate) planner: Planner,
 }
 
 impl Batches {
@@ -101,13 +103,15 @@ impl Batches {
         ensures { IfOk result (IsReady version ids.now self.counts.items self.txs.items) }
     {
         let all = Touched::all(alloc, ids)?;
-        self.planned_over(alloc, version, ids, all)
+        let mut planner = Planner::new(alloc);
+        self.planned_over(alloc, &mut planner, version, ids, all)
     }
 
     // Plans them over slots that are enough.
     fn planned_over(
         self,
         alloc: Global,
+        planner: &mut Planner,
         version: Version,
         ids: &Ids,
         touched: Touched,
@@ -119,7 +123,7 @@ impl Batches {
     {
         let Batches { counts, txs, near } = self;
         let Touched { list, ids } = touched;
-        let plan = Plan::make_near(alloc, version, &ids, txs, &near)?;
+        let plan = planner.plan(alloc, version, &ids, txs, &near)?;
         let plan = Arc::new(alloc, plan)?;
         Ok(Ready { counts, list, plan })
     }
@@ -132,7 +136,13 @@ impl Ahead {
     {
         let next = Next::Read(Batches::new(alloc));
         let read = Batches::new(alloc);
-        Ahead { from, next, read }
+        let planner = Planner::new(alloc);
+        Ahead {
+            from,
+            next,
+            read,
+            planner,
+        }
     }
 }
 
@@ -150,17 +160,36 @@ pub(crate) fn look_first(
     let ids = state.ids();
     let first = gather_near(alloc, payloads, ids, 0, least)?;
     let read = gather_near(alloc, payloads, ids, first.counts.len(), least)?;
-    let next = plan_ahead(alloc, first, state.version(), ids)?;
+    let mut planner = Planner::new(alloc);
+    let next = plan_ahead(alloc, &mut planner, first, state.version(), ids)?;
     Ok(Ahead {
         from: 0,
         next,
         read,
+        planner,
     })
+}
+
+// Plans a slice, if each account that it declares has a slot among these, and gives the planner back.
+fn plan_later(
+    alloc: Global,
+    planner: Planner,
+    batches: Batches,
+    version: Version,
+    ids: &Ids,
+) -> Result<(Next, Planner), AllocError>
+    requires few { length batches.txs.items < 2 ^ 31 }
+    ensures { IfOk result (λ r. IsNextFrom batches version ids.now r.0) }
+{
+    let mut planner = planner;
+    let next = plan_ahead(alloc, &mut planner, batches, version, ids)?;
+    Ok((next, planner))
 }
 
 // Plans a slice, if each account that it declares has a slot among these.
 fn plan_ahead(
     alloc: Global,
+    planner: &mut Planner,
     batches: Batches,
     version: Version,
     ids: &Ids,
@@ -169,20 +198,25 @@ fn plan_ahead(
     ensures { IfOk result (IsNextFrom batches version ids.now) }
 {
     match version {
-        Version::One => plan_first(alloc, batches, ids),
-        Version::Two => hold_first(alloc, batches, ids),
+        Version::One => plan_first(alloc, planner, batches, ids),
+        Version::Two => hold_first(alloc, planner, batches, ids),
     }
 }
 
 // The same in version One, where any transactions have a plan: afterwards its words say whether its slots are enough.
-fn plan_first(alloc: Global, batches: Batches, ids: &Ids) -> Result<Next, AllocError>
+fn plan_first(
+    alloc: Global,
+    planner: &mut Planner,
+    batches: Batches,
+    ids: &Ids,
+) -> Result<Next, AllocError>
     requires few { length batches.txs.items < 2 ^ 31 }
     ensures { IfOk result (IsNextFrom batches One ids.now) }
 {
     let Batches { counts, txs, near } = batches;
     let mut near = near;
     let touched = Touched::near(alloc, ids, &mut near)?;
-    let plan = Plan::make_near(alloc, Version::One, &touched.ids, txs, &near)?;
+    let plan = planner.plan(alloc, Version::One, &touched.ids, txs, &near)?;
     let list = touched.list;
     if holds_all(&plan, ids) {
         let plan = Arc::new(alloc, plan)?;
@@ -194,7 +228,12 @@ fn plan_first(alloc: Global, batches: Batches, ids: &Ids) -> Result<Next, AllocE
 }
 
 // The same in version Two, where a plan has a slot of each account that is declared.
-fn hold_first(alloc: Global, batches: Batches, ids: &Ids) -> Result<Next, AllocError>
+fn hold_first(
+    alloc: Global,
+    planner: &mut Planner,
+    batches: Batches,
+    ids: &Ids,
+) -> Result<Next, AllocError>
     requires few { length batches.txs.items < 2 ^ 31 }
     ensures { IfOk result (IsNextFrom batches Two ids.now) }
 {
@@ -202,7 +241,7 @@ fn hold_first(alloc: Global, batches: Batches, ids: &Ids) -> Result<Next, AllocE
     let mut batches = batches;
     let touched = Touched::near(alloc, ids, &mut batches.near)?;
     if touched.ids.hold(version, ids, &batches.txs, &batches.near) {
-        let ready = batches.planned_over(alloc, version, ids, touched)?;
+        let ready = batches.planned_over(alloc, planner, version, ids, touched)?;
         return Ok(Next::Ready(ready));
     }
     Ok(Next::Read(batches))
@@ -213,6 +252,7 @@ pub(crate) fn look_ahead<R: Threads + Wait + Sync>(
     rt: &R,
     alloc: Global,
     payloads: &[&[u8]],
+    planner: Planner,
     read: Batches,
     from: usize,
     least: usize,
@@ -233,12 +273,17 @@ pub(crate) fn look_ahead<R: Threads + Wait + Sync>(
             ensures { IfOk result (λ b. IsReadOf (map (λ p. p.now) payloads.entry.now)
                 later b.counts.items b.txs.items) }
         { gather_near(alloc, payloads, ids, later, least) },
-        || -> Result<Next, AllocError>
+        || -> Result<(Next, Planner), AllocError>
             requires { length read.txs.items < 2 ^ 31 }
-            ensures { IfOk result (IsNextFrom read version ids.entry.now) }
-        { plan_ahead(alloc, read, version, ids) },
+            ensures { IfOk result (λ r. IsNextFrom read version ids.entry.now r.0) }
+        { plan_later(alloc, planner, read, version, ids) },
     );
-    let next = planned?;
+    let (next, planner) = planned?;
     let read = gathered?;
-    Ok(Ahead { from, next, read })
+    Ok(Ahead {
+        from,
+        next,
+        read,
+        planner,
+    })
 }

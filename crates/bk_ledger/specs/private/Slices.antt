@@ -11,6 +11,7 @@ use Rattle.bk_rules.specs.Fold.{state_after, receipts_of, HasRoom}
 use Rattle.bk_rules.specs.Rows.{IsLedger}
 use Rattle.bk_rules.specs.Ledger as rules
 use Rattle.bk_rules.specs.Part.{AreIndexes, HaveSlots, are_held, ids_at, part_of}
+use Rattle.bk_conflicts.specs.declared.planner.Planner.{Planner}
 use Rattle.bk_pool.specs.Outcomes.{IsFoldOnto}
 use Rattle.bk_ledger.specs.declared.ready.Ready.{Ready}
 use Rattle.bk_ledger.specs.declared.ready.Ahead.{Ahead}
@@ -95,9 +96,9 @@ pub record IsNextOf (payloads : List (List ℕ)) (from : ℕ) (version : Version
   pub read : IsReadOf payloads from (counts_of n) (txs_of n)
   pub planned : IsPlannedOn version slots n
 
--- a slice that begins at an index, and batches after it
-abbrev pub ahead_of : ℕ → Next → Batches → Ahead
-ahead_of from n b = record { from = from; next = n; read = b }
+-- a slice that begins at an index, batches after it, and what plans these
+abbrev pub ahead_of : ℕ → Next → Batches → Planner → Ahead
+ahead_of from n b p = record { from = from; next = n; read = b; planner = p }
 
 -- the slice that begins at an index, and the one after it
 pub record IsAheadOf (payloads : List (List ℕ)) (from : ℕ) (version : Version) (slots : List ℕ) (a : Ahead) : Type 0 where

@@ -4,8 +4,8 @@ use Rattle.bk_ledger.proofs.Enough.{covered_in_one}
 use Rattle.bk_ledger.proofs.NextLemmas.{read_from}
 use Rattle.bk_ledger.proofs.ready.plan_first.Goals as goal
 
-pub make_near-requires-clause-covered : goal.make_near-requires-clause-covered
-make_near-requires-clause-covered c = covered_in_one c.in_ok-touched.touched.ids c.args.batches.txs.items
+pub plan-requires-clause-covered : goal.plan-requires-clause-covered
+plan-requires-clause-covered c = covered_in_one c.in_ok-touched.touched.ids c.args.batches.txs.items
 
 pub returns-then-holds_all : goal.returns-then-holds_all
 returns-then-holds_all c = let touched = c.in_ok-touched.ensures in let plan = c.in_ok-plan.ensures in rw c.in_ok-plan-2.ensures.ok (record {
