@@ -19,7 +19,7 @@ use Rattle.bk_evidence.specs.declared.places.LeastIds.{LeastIds}
 use Rattle.bk_evidence.specs.declared.places.Places.{Places}
 use Rattle.bk_evidence.specs.private.Answers.{offer_of}
 use Rattle.bk_evidence.specs.private.Least.{IsLeastBy}
-use Rattle.bk_evidence.specs.private.Places.{second_in, AreLeastIds, ids_at, evidence_with, evidence_at, evidence_in, HasTwins, ArePlaces, AreSamePlaces, IsEmptyPlaces}
+use Rattle.bk_evidence.specs.private.Places.{ids_with, second_in, AreLeastIds, id_at, AreIdsOf, first_at, second_at, ids_at, evidence_with, evidence_at, evidence_in, HasTwins, ArePlaces, IsEmptyPlaces}
 use Rattle.bk_evidence.proofs.Lesser.{less_from, same_or_not}
 use Rattle.bk_evidence.proofs.Colliding.{id_order}
 use Rattle.bk_evidence.proofs.Payloads.{decided_same}
@@ -47,28 +47,23 @@ same_tested c d r e is = (
 -- ---- offers
 
 -- the answer to an offer of a new id
-pub answered : (held : List Node) (c : Node) (p : Places) → IsNewId held c.id → ArePlaces held p
-    → IsOffer held c (offer_of (option_map (λ (l : LeastIds). l.least) (ids_at p (place_of c))))
-answered held c p new places = by (ids_at p (place_of c)) (places.ids (place_of c))
-  where
-    by : (o : Option LeastIds) → AreLeastIds (IsIdAt held (place_of c)) o → IsOffer held c (offer_of (option_map (λ (l : LeastIds). l.least) o))
-    by None h = (new, h)
-    by (Some l) h = (new, h.0.0, h.0.1)
+pub answered : (held : List Node) (c : Node) (least : Option (List ℕ)) → IsNewId held c.id → IsLeastBy id_cmp (IsIdAt held (place_of c)) least → IsOffer held c (offer_of least)
+answered held c None new h = (new, h)
+answered held c (Some id) new h = (new, h.0, h.1)
 
 -- ---- places
 
-pub places_as : (xs ys : List Node) (p q : Places) → ys ≡ xs → AreSamePlaces p q → ArePlaces xs p → ArePlaces ys q
-places_as xs ys p q e same h = record {
-  ids = λ a. subst (λ (zs : List Node). AreLeastIds (IsIdAt zs a) (ids_at q a)) (sym e)
-      (subst (AreLeastIds (IsIdAt xs a)) (sym (ap (λ (es : List (CertRef × LeastIds)). lookup (λ k. is_eq (place_cmp a k)) es) same.ids)) (h.ids a));
-  twins = subst (λ (zs : List Node). IsLeastBy place_cmp (HasTwins zs) q.twins) (sym e) (subst (IsLeastBy place_cmp (HasTwins xs)) (sym same.twins) h.twins);
-}
-
 pub places_none : (p : Places) → IsEmptyPlaces p → ArePlaces [] p
 places_none p empty = record {
-  ids = λ a. subst (AreLeastIds (IsIdAt [] a)) (sym (ap (λ (es : List (CertRef × LeastIds)). lookup (λ k. is_eq (place_cmp a k)) es) empty.ids)) (λ id h. none_in_nil h.cert h.is_held);
+  ids = λ a. subst (λ f. AreIdsOf [] a f (second_at p a)) (sym (ap (λ (es : List (CertRef × ℕ)). lookup (λ k. is_eq (place_cmp a k)) es) empty.firsts))
+      (ap (λ (es : List (CertRef × List ℕ)). lookup (λ k. is_eq (place_cmp a k)) es) empty.seconds, λ id h. none_in_nil h.cert h.is_held);
   twins = subst (IsLeastBy place_cmp (HasTwins [])) (sym empty.twins) (λ a h. none_in_nil h.2.one.cert h.2.one.is_held);
 }
+
+-- the least ids of a place by its index and its second id
+pub ids_known : (held : List Node) (a : CertRef) (o : Option ℕ) (s : Option (List ℕ)) → AreIdsOf held a o s → AreLeastIds (IsIdAt held a) (option_map (λ k. ids_with (id_at held k) s) o)
+ids_known held a None s h = h.1
+ids_known held a (Some k) s h = h.1
 
 -- ---- evidence
 
@@ -98,7 +93,7 @@ evidence_is held a l s least ids e =
     }
 
 -- what is kept of the places is the evidence, or there are no twins
-pub evidence_told : (held : List Node) (p : Places) → ArePlaces held p → MatchOption (evidence_in p p.twins) (NoTwins held) (IsEvidence held)
+pub evidence_told : (held : List Node) (p : Places) → ArePlaces held p → MatchOption (evidence_in held p p.twins) (NoTwins held) (IsEvidence held)
 evidence_told held p places = by p.twins places.twins
   where
     at_second : (a : CertRef) (l : LeastIds) → IsLeastBy place_cmp (HasTwins held) (Some a) → AreLeastIds (IsIdAt held a) (Some l) → (o : Option (List ℕ)) → second_in l ≡ o
@@ -110,6 +105,6 @@ evidence_told held p places = by p.twins places.twins
     at_place a least None ids = absurd (no_twins_at held a ids least.0)
     at_place a least (Some l) ids = at_second a l least ids (second_in l) refl
 
-    by : (t : Option CertRef) → IsLeastBy place_cmp (HasTwins held) t → MatchOption (evidence_in p t) (NoTwins held) (IsEvidence held)
+    by : (t : Option CertRef) → IsLeastBy place_cmp (HasTwins held) t → MatchOption (evidence_in held p t) (NoTwins held) (IsEvidence held)
     by None none = no_twins_told held none
-    by (Some a) least = at_place a least (ids_at p a) (places.ids a)
+    by (Some a) least = at_place a least (ids_at held p a) (ids_known held a (first_at p a) (second_at p a) (places.ids a))

@@ -1,7 +1,11 @@
 -- The least ids of each place, and the least place with twins, where one more certificate is stored.
-use Rattle.std.proofs.Common.{◌≡◌, ◌≢◌, ◌⊎◌, ℕ, true, false, cond, List, [], ◌∷◌, ◌++◌, Option, Some, None, refl, sym, ap, subst, ◌∙◌, inl, inr, ⊎_elim, if◌then◌else◌}
+use Rattle.std.proofs.Common.{◌≡◌, ◌≢◌, ◌⊎◌, ◌<◌, ℕ, true, false, cond, List, [], ◌∷◌, ◌++◌, length, map, get_or, Option, Some, None, refl, sym, ap, subst, ◌∙◌, inl, inr, ⊎_elim, arith}
 use Rattle.std.specs.List.{Contains}
+use Rattle.std.specs.BTreeMap.{BTreeMap, get}
 use Rattle.std.specs.Ordering.{match_ordering, is_eq}
+use Rattle.std.proofs.lemmas.Cmp.{tied_itself}
+use Rattle.std.proofs.lemmas.List.{length-append, length-map, map-append, get_or-map, get_or_append_left}
+use Rattle.std.proofs.Math.Seq.{get_or-append_seam}
 use Rattle.std.specs.declared.cmp.Ordering.{Ordering}
 use Rattle.std.specs.declared.cmp.Ordering.TheVariants.{Less, Equal, Greater}
 use Rattle.std.proofs.lemmas.List.Elements.{Contains-push, Contains-push_cases, Contains-append_left}
@@ -14,7 +18,7 @@ use Rattle.bk_evidence.specs.Twins.{IsIdAt, AreTwins}
 use Rattle.bk_evidence.specs.declared.places.LeastIds.{LeastIds}
 use Rattle.bk_evidence.specs.declared.places.Places.{Places}
 use Rattle.bk_evidence.specs.private.Least.{least_of, IsLeastBy}
-use Rattle.bk_evidence.specs.private.Places.{lone_id, two_ids, second_in, ids_with, AreLeastIds, ids_at, twins_with, IsNoted, HasTwins, ArePlaces}
+use Rattle.bk_evidence.specs.private.Places.{ids_with, lone_id, two_ids, second_in, AreLeastIds, id_at, AreIdsOf, first_at, second_at, AreSamePlaces, HasTwins, ArePlaces}
 use Rattle.bk_evidence.proofs.Lesser.{IsExactOrder, less_apart, flipped, same_or_not, least_same, least_step}
 use Rattle.bk_evidence.proofs.Colliding.{id_order}
 
@@ -27,13 +31,13 @@ abbrev pub Others : (List ℕ → Type 0) → List ℕ → List ℕ → Type 0
 Others P least x = P x × (x ≢ least)
 
 module _ (P Q : List ℕ → Type 0) (k : List ℕ) (here : Q k) (more : (x : List ℕ) → P x → Q x) (less : (x : List ℕ) → Q x → P x ⊎ (x ≡ k)) where
-  first_id : ((x : List ℕ) → P x → ⊥) → AreLeastIds Q (Some (lone_id k))
+  pub first_id : ((x : List ℕ) → P x → ⊥) → AreLeastIds Q (Some (lone_id k))
   first_id none = (
     least_step id_order P Q None k here more less none,
     λ x q. ⊎_elim (λ (p : P x). none x p) (λ (e : x ≡ k). q.1 e) (less x q.0),
   )
 
-  lesser_id : (a : List ℕ) → id_cmp k a ≡ Less → IsLeastBy id_cmp P (Some a) → AreLeastIds Q (Some (two_ids k a))
+  pub lesser_id : (a : List ℕ) → id_cmp k a ≡ Less → IsLeastBy id_cmp P (Some a) → AreLeastIds Q (Some (two_ids k a))
   lesser_id a e h = (
     subst (λ o. IsLeastBy id_cmp Q (Some (match_ordering o k a a))) e (least_step id_order P Q (Some a) k here more less h),
     (
@@ -42,30 +46,13 @@ module _ (P Q : List ℕ → Type 0) (k : List ℕ) (here : Q k) (more : (x : Li
     ),
   )
 
-  same_id : (l : LeastIds) → k ≡ l.least → AreLeastIds P (Some l) → AreLeastIds Q (Some l)
-  same_id l e h =
-      let back : (x : List ℕ) → Q x → P x = λ x q. ⊎_elim (λ (p : P x). p) (λ (s : x ≡ k). subst P (sym (s ∙ e)) h.0.0) (less x q) in (
-        least_same id_order P Q (Some l.least) more back h.0,
-        least_same id_order (Others P l.least) (Others Q l.least) (second_in l) (λ x p. (more x p.0, p.1)) (λ x q. (back x q.0, q.1)) h.1,
-      )
-
-  greater_id : (l : LeastIds) → id_cmp k l.least ≡ Greater → AreLeastIds P (Some l) → AreLeastIds Q (Some (two_ids l.least (least_of id_cmp (second_in l) k)))
+  pub greater_id : (l : LeastIds) → id_cmp k l.least ≡ Greater → AreLeastIds P (Some l) → AreLeastIds Q (Some (two_ids l.least (least_of id_cmp (second_in l) k)))
   greater_id l e h =
       let apart : k ≢ l.least = λ s. less_apart id_order l.least k (flipped id_order k l.least e) (sym s) in (
         subst (λ o. IsLeastBy id_cmp Q (Some (match_ordering o k l.least l.least))) e (least_step id_order P Q (Some l.least) k here more less h.0),
         least_step id_order (Others P l.least) (Others Q l.least) (second_in l) k (here, apart) (λ x p. (more x p.0, p.1))
             (λ x q. ⊎_elim (λ (p : P x). inl (p, q.1)) (λ (s : x ≡ k). inr s) (less x q.0)) h.1,
       )
-
-  pub ids_step : (o : Option LeastIds) → AreLeastIds P o → AreLeastIds Q (Some (ids_with o k))
-  ids_step None h = first_id h
-  ids_step (Some l) h = by (id_cmp k l.least) refl
-    where
-      by : (o : Ordering) → id_cmp k l.least ≡ o
-          → AreLeastIds Q (Some (match_ordering o (two_ids k l.least) l (two_ids l.least (least_of id_cmp (second_in l) k))))
-      by Less e = lesser_id l.least e h.0
-      by Equal e = same_id l (id_order.exact k l.least e) h
-      by Greater e = greater_id l e h
 
 pub ids_same : (P Q : List ℕ → Type 0) → ((x : List ℕ) → P x → Q x) → ((x : List ℕ) → Q x → P x) → (o : Option LeastIds) → AreLeastIds P o → AreLeastIds Q o
 ids_same P Q more back None h = λ x q. h x (back x q)
@@ -115,57 +102,159 @@ no_twins_from held a l e h (p, q, t) =
 pub no_twins_at : (held : List Node) (a : CertRef) → AreLeastIds (IsIdAt held a) None → HasTwins held a → ⊥
 no_twins_at held a h (p, q, t) = h p t.one
 
-some_or_none : (o : Option (List ℕ)) → (o ≡ None) ⊎ ((s : List ℕ) × (o ≡ Some s))
-some_or_none None = inl refl
-some_or_none (Some s) = inr (s, refl)
+-- ---- the ids by index
 
-module _ (held : List Node) (c : Node) (old new : Places) (before : ArePlaces held old) (noted : IsNoted old new (place_of c) c.id) where
+module _ (held : List Node) (c : Node) where
   abbrev more : List Node
   more = held ++ c ∷ []
 
-  here_now : AreLeastIds (IsIdAt more (place_of c)) (Some (ids_with (ids_at old (place_of c)) c.id))
-  here_now = ids_step (IsIdAt held (place_of c)) (IsIdAt more (place_of c)) c.id (id_here held c) (id_more held c (place_of c))
-      (λ id h. ⊎_elim (λ (was : IsIdAt held (place_of c) id). inl was) (λ (is : (place_of c ≡ place_of c) × (id ≡ c.id)). inr is.1) (id_less held c (place_of c) id h))
-      (ids_at old (place_of c)) (before.ids (place_of c))
+  abbrev here : CertRef
+  here = place_of c
 
-  elsewhere : (a : CertRef) → place_of c ≢ a → AreLeastIds (IsIdAt more a) (ids_at old a)
-  elsewhere a other = ids_same (IsIdAt held a) (IsIdAt more a) (id_more held c a) (id_elsewhere held c a other) (ids_at old a) (before.ids a)
+  last_low : length held < length more
+  last_low = omega (arith, length-append held (c ∷ []))
 
-  ids_now : (a : CertRef) → AreLeastIds (IsIdAt more a) (ids_at new a)
-  ids_now a = subst (AreLeastIds (IsIdAt more a)) (sym (noted.ids a)) (by (place_cmp (place_of c) a) refl)
-    where
-      by : (o : Ordering) → place_cmp (place_of c) a ≡ o → AreLeastIds (IsIdAt more a) (cond (is_eq o) (Some (ids_with (ids_at old (place_of c)) c.id)) (ids_at old a))
-      by Less e = elsewhere a (less_apart place_order (place_of c) a e)
-      by Equal e = subst (λ b. AreLeastIds (IsIdAt more b) (Some (ids_with (ids_at old (place_of c)) c.id))) (place_order.exact (place_of c) a e) here_now
-      by Greater e = elsewhere a (λ s. less_apart place_order a (place_of c) (flipped place_order (place_of c) a e) (sym s))
+  at_kept : (k : ℕ) → k < length held → id_at more k ≡ id_at held k
+  at_kept k low = ap (λ ids. get_or ids k []) (map-append (λ (d : Node). d.id) held (c ∷ []))
+      ∙ get_or_append_left (map (λ (d : Node). d.id) held) (c.id ∷ []) [] k (omega (arith, low, length-map held (λ (d : Node). d.id)))
 
-  twins_now : IsLeastBy place_cmp (HasTwins more) new.twins
-  twins_now = subst (IsLeastBy place_cmp (HasTwins more)) (sym noted.twins) (⊎_elim none some (some_or_none (second_in (ids_with (ids_at old (place_of c)) c.id))))
-    where
-      split : (a : CertRef) → HasTwins more a → HasTwins held a ⊎ (a ≡ place_of c)
-      split a h = ⊎_elim (λ (e : place_of c ≡ a). inr (sym e)) (λ (other : place_of c ≢ a). inl (twins_elsewhere held c a other h)) (same_or_not place_order (place_of c) a)
+  at_last : id_at more (length held) ≡ c.id
+  at_last = get_or-map (λ (d : Node). d.id) more (length held) c [] last_low ∙ ap (λ (d : Node). d.id) (get_or-append_seam held c [] c)
 
-      none : second_in (ids_with (ids_at old (place_of c)) c.id) ≡ None
-          → IsLeastBy place_cmp (HasTwins more) (twins_with old.twins (place_of c) (second_in (ids_with (ids_at old (place_of c)) c.id)))
-      none e = subst (λ s. IsLeastBy place_cmp (HasTwins more) (twins_with old.twins (place_of c) s)) (sym e)
-          (least_same place_order (HasTwins held) (HasTwins more) old.twins (twins_more held c)
-          (λ a h. ⊎_elim (λ (was : HasTwins held a). was)
-          (λ (s : a ≡ place_of c). absurd (no_twins_from more (place_of c) (ids_with (ids_at old (place_of c)) c.id) e here_now (subst (HasTwins more) s h))) (split a h)) before.twins)
+  kept_low : (k : ℕ) → k < length held → k < length more
+  kept_low k low = omega (arith, low, length-append held (c ∷ []))
 
-      some : (s : List ℕ) × (second_in (ids_with (ids_at old (place_of c)) c.id) ≡ Some s)
-          → IsLeastBy place_cmp (HasTwins more) (twins_with old.twins (place_of c) (second_in (ids_with (ids_at old (place_of c)) c.id)))
-      some (s, e) = subst (λ t. IsLeastBy place_cmp (HasTwins more) (twins_with old.twins (place_of c) t)) (sym e)
-          (least_step place_order (HasTwins held) (HasTwins more) old.twins (place_of c)
-          ((ids_with (ids_at old (place_of c)) c.id).least, s, twins_from more (place_of c) (ids_with (ids_at old (place_of c)) c.id) s e here_now)
-          (twins_more held c) split before.twins)
+  here_is : is_eq (place_cmp here here) ≡ true
+  here_is = ap is_eq (tied_itself place_order.total here)
 
-  -- one more certificate
-  pub places_step : ArePlaces more new
-  places_step = record { ids = ids_now; twins = twins_now }
+  -- ids that were least are so where the place has the same ids
+  kept_elsewhere : (a : CertRef) → ((id : List ℕ) → IsIdAt more a id → IsIdAt held a id) → (o : Option ℕ) (s : Option (List ℕ)) → AreIdsOf held a o s → AreIdsOf more a o s
+  kept_elsewhere a back None s h = (h.0, λ id t. h.1 id (back id t))
+  kept_elsewhere a back (Some k) s h = (
+    kept_low k h.0,
+    subst (λ id. AreLeastIds (IsIdAt more a) (Some (ids_with id s))) (sym (at_kept k h.0))
+        (ids_same (IsIdAt held a) (IsIdAt more a) (id_more held c a) back (Some (ids_with (id_at held k) s)) h.1),
+  )
 
--- the least place with twins after a place with these ids was noted
-pub noted_twins : (l m : LeastIds) (known : Option CertRef) (a r : CertRef) → l ≡ m → l.has_twins ≡ true → r ≡ least_of place_cmp known a → Some r ≡ twins_with known a (second_in m)
-noted_twins l m known a r e h is = ap Some is ∙ (λ i. twins_with known a (if sym h i then Some l.second else None)) ∙ ap (λ (x : LeastIds). twins_with known a (second_in x)) e
+  less_here : (id : List ℕ) → IsIdAt more here id → IsIdAt held here id ⊎ (id ≡ c.id)
+  less_here id h = ⊎_elim (λ (was : IsIdAt held here id). inl was) (λ (is : (here ≡ here) × (id ≡ c.id)). inr is.1) (id_less held c here id h)
 
-pub noted_lone : (l m : LeastIds) (known : Option CertRef) (a : CertRef) → l ≡ m → l.has_twins ≡ false → known ≡ twins_with known a (second_in m)
-noted_lone l m known a e h = (λ i. twins_with known a (if sym h i then Some l.second else None)) ∙ ap (λ (x : LeastIds). twins_with known a (second_in x)) e
+  module _ (old new : Places) (before : ArePlaces held old) where
+    -- ---- the place has an id of its own for the first time, or its ids change
+
+    module _ (elsewhere : (b : CertRef) → is_eq (place_cmp here b) ≡ false → (first_at new b ≡ first_at old b) × (second_at new b ≡ second_at old b))
+        (o : Option ℕ) (s : Option (List ℕ)) (first_is : first_at new here ≡ o) (second_is : second_at new here ≡ s) (now : AreIdsOf more here o s) where
+      ids_elsewhere : (a : CertRef) → here ≢ a → is_eq (place_cmp here a) ≡ false → AreIdsOf more a (first_at new a) (second_at new a)
+      ids_elsewhere a other e = subst (λ f. AreIdsOf more a f (second_at new a)) (sym (elsewhere a e).0)
+          (subst (AreIdsOf more a (first_at old a)) (sym (elsewhere a e).1) (kept_elsewhere a (id_elsewhere held c a other) (first_at old a) (second_at old a) (before.ids a)))
+
+      ids_here : AreIdsOf more here (first_at new here) (second_at new here)
+      ids_here = subst (λ f. AreIdsOf more here f (second_at new here)) (sym first_is) (subst (AreIdsOf more here o) (sym second_is) now)
+
+      ids_now : (a : CertRef) → AreIdsOf more a (first_at new a) (second_at new a)
+      ids_now a = by (place_cmp here a) refl
+        where
+          by : (r : Ordering) → place_cmp here a ≡ r → AreIdsOf more a (first_at new a) (second_at new a)
+          by Less e = ids_elsewhere a (less_apart place_order here a e) (ap is_eq e)
+          by Equal e = subst (λ b. AreIdsOf more b (first_at new b) (second_at new b)) (place_order.exact here a e) ids_here
+          by Greater e = ids_elsewhere a (λ p. less_apart place_order a here (flipped place_order here a e) (sym p)) (ap is_eq e)
+
+    split : (a : CertRef) → HasTwins more a → HasTwins held a ⊎ (a ≡ here)
+    split a h = ⊎_elim (λ (e : here ≡ a). inr (sym e)) (λ (other : here ≢ a). inl (twins_elsewhere held c a other h)) (same_or_not place_order here a)
+
+    -- the place has no other id
+    twins_lone : AreLeastIds (IsIdAt more here) (Some (lone_id c.id)) → new.twins ≡ old.twins → IsLeastBy place_cmp (HasTwins more) new.twins
+    twins_lone lone e = subst (IsLeastBy place_cmp (HasTwins more)) (sym e)
+        (least_same place_order (HasTwins held) (HasTwins more) old.twins (twins_more held c)
+        (λ a h. ⊎_elim (λ (was : HasTwins held a). was) (λ (s : a ≡ here). absurd (no_twins_from more here (lone_id c.id) refl lone (subst (HasTwins more) s h))) (split a h)) before.twins)
+
+    -- the place has two
+    twins_two : (p q : List ℕ) → AreLeastIds (IsIdAt more here) (Some (two_ids p q)) → new.twins ≡ Some (least_of place_cmp old.twins here)
+        → IsLeastBy place_cmp (HasTwins more) new.twins
+    twins_two p q two e = subst (IsLeastBy place_cmp (HasTwins more)) (sym e)
+        (least_step place_order (HasTwins held) (HasTwins more) old.twins here (p, q, twins_from more here (two_ids p q) q refl two) (twins_more held c) split before.twins)
+
+    -- ---- one more certificate
+
+    pub noted_first : first_at old here ≡ None → ((b : CertRef) → first_at new b ≡ cond (is_eq (place_cmp here b)) (Some (length held)) (first_at old b))
+        → ((b : CertRef) → second_at new b ≡ second_at old b) → new.twins ≡ old.twins → ArePlaces more new
+    noted_first none firsts seconds twins =
+        let was : AreIdsOf held here None (second_at old here) = subst (λ o. AreIdsOf held here o (second_at old here)) none (before.ids here) in
+        let lone : AreLeastIds (IsIdAt more here) (Some (lone_id c.id)) = first_id (IsIdAt held here) (IsIdAt more here) c.id (id_here held c) (id_more held c here) less_here was.1 in
+        record {
+          ids = ids_now (λ b e. (firsts b ∙ ap (λ x. cond x (Some (length held)) (first_at old b)) e, seconds b)) (Some (length held)) None
+              (firsts here ∙ ap (λ x. cond x (Some (length held)) (first_at old here)) here_is) (seconds here ∙ was.0)
+              (last_low, subst (λ id. AreLeastIds (IsIdAt more here) (Some (lone_id id))) (sym at_last) lone);
+          twins = twins_lone lone twins;
+        }
+
+    pub noted_less : (k : ℕ) → first_at old here ≡ Some k → id_cmp c.id (id_at held k) ≡ Less
+        → ((b : CertRef) → first_at new b ≡ cond (is_eq (place_cmp here b)) (Some (length held)) (first_at old b))
+        → ((b : CertRef) → second_at new b ≡ cond (is_eq (place_cmp here b)) (Some (id_at held k)) (second_at old b))
+        → new.twins ≡ Some (least_of place_cmp old.twins here) → ArePlaces more new
+    noted_less k there e firsts seconds twins =
+        let was : AreIdsOf held here (Some k) (second_at old here) = subst (λ o. AreIdsOf held here o (second_at old here)) there (before.ids here) in
+        let two : AreLeastIds (IsIdAt more here) (Some (two_ids c.id (id_at held k))) =
+        lesser_id (IsIdAt held here) (IsIdAt more here) c.id (id_here held c) (id_more held c here) less_here (id_at held k) e was.1.0 in
+        record {
+          ids = ids_now (λ b f. (firsts b ∙ ap (λ x. cond x (Some (length held)) (first_at old b)) f, seconds b ∙ ap (λ x. cond x (Some (id_at held k)) (second_at old b)) f))
+              (Some (length held)) (Some (id_at held k))
+              (firsts here ∙ ap (λ x. cond x (Some (length held)) (first_at old here)) here_is) (seconds here ∙ ap (λ x. cond x (Some (id_at held k)) (second_at old here)) here_is)
+              (last_low, subst (λ id. AreLeastIds (IsIdAt more here) (Some (two_ids id (id_at held k)))) (sym at_last) two);
+          twins = twins_two c.id (id_at held k) two twins;
+        }
+
+    pub noted_greater : (k : ℕ) → first_at old here ≡ Some k → id_cmp c.id (id_at held k) ≡ Greater
+        → ((b : CertRef) → first_at new b ≡ first_at old b)
+        → ((b : CertRef) → second_at new b ≡ cond (is_eq (place_cmp here b)) (Some (least_of id_cmp (second_at old here) c.id)) (second_at old b))
+        → new.twins ≡ Some (least_of place_cmp old.twins here) → ArePlaces more new
+    noted_greater k there e firsts seconds twins =
+        let was : AreIdsOf held here (Some k) (second_at old here) = subst (λ o. AreIdsOf held here o (second_at old here)) there (before.ids here) in
+        let second : List ℕ = least_of id_cmp (second_at old here) c.id in
+        let two : AreLeastIds (IsIdAt more here) (Some (two_ids (id_at held k) (least_of id_cmp (second_at old here) c.id))) =
+        greater_id (IsIdAt held here) (IsIdAt more here) c.id (id_here held c) (id_more held c here) less_here (ids_with (id_at held k) (second_at old here)) e was.1 in
+        record {
+          ids = ids_now (λ b f. (firsts b, seconds b ∙ ap (λ x. cond x (Some second) (second_at old b)) f)) (Some k) (Some second)
+              (firsts here ∙ there) (seconds here ∙ ap (λ x. cond x (Some second) (second_at old here)) here_is)
+              (kept_low k was.0, subst (λ id. AreLeastIds (IsIdAt more here) (Some (two_ids id second))) (sym (at_kept k was.0)) two);
+          twins = twins_two (id_at held k) second two twins;
+        }
+
+    -- a header more under an id of the place
+    pub noted_same : (k : ℕ) → first_at old here ≡ Some k → c.id ≡ id_at held k → AreSamePlaces old new → ArePlaces more new
+    noted_same k there e same =
+        let was : AreIdsOf held here (Some k) (second_at old here) = subst (λ o. AreIdsOf held here o (second_at old here)) there (before.ids here) in
+        let back : (a : CertRef) (id : List ℕ) → IsIdAt more a id → IsIdAt held a id = λ a id h. ⊎_elim (λ (was : IsIdAt held a id). was)
+        (λ (is : (here ≡ a) × (id ≡ c.id)). subst (λ b. IsIdAt held b id) is.0 (subst (IsIdAt held here) (sym (is.1 ∙ e)) was.1.0.0)) (id_less held c a id h) in
+        record {
+          ids = λ a. subst (λ f. AreIdsOf more a f (second_at new a)) (sym (same.firsts a))
+              (subst (AreIdsOf more a (first_at old a)) (sym (same.seconds a)) (kept_elsewhere a (back a) (first_at old a) (second_at old a) (before.ids a)));
+          twins = subst (IsLeastBy place_cmp (HasTwins more)) (sym same.twins) (least_same place_order (HasTwins held) (HasTwins more) old.twins (twins_more held c)
+              (λ a h. (h.0, h.1, record { one = back a h.0 h.2.one; two = back a h.1 h.2.two; apart = h.2.apart })) before.twins);
+        }
+
+-- a place that has an index and gets it again is as it was
+pub same_put : (m n : BTreeMap CertRef ℕ) (a : CertRef) (k : ℕ) → get place_cmp m a ≡ Some k
+    → ((b : CertRef) → get place_cmp n b ≡ cond (is_eq (place_cmp a b)) (Some k) (get place_cmp m b)) → (b : CertRef) → get place_cmp n b ≡ get place_cmp m b
+same_put m n a k there put b = put b ∙ by (place_cmp a b) refl
+  where
+    by : (r : Ordering) → place_cmp a b ≡ r → cond (is_eq r) (Some k) (get place_cmp m b) ≡ get place_cmp m b
+    by Less e = refl
+    by Equal e = sym there ∙ ap (get place_cmp m) (place_order.exact a b e)
+    by Greater e = refl
+
+-- what is known of the places is the same
+pub places_same : (held : List Node) (p q : Places) → AreSamePlaces p q → ArePlaces held p → ArePlaces held q
+places_same held p q same h = record {
+  ids = λ a. subst (λ f. AreIdsOf held a f (second_at q a)) (sym (same.firsts a)) (subst (AreIdsOf held a (first_at p a)) (sym (same.seconds a)) (h.ids a));
+  twins = subst (IsLeastBy place_cmp (HasTwins held)) (sym same.twins) h.twins;
+}
+
+-- the least id of a place is at the index that is kept
+pub least_kept : (held : List Node) (p : Places) (a : CertRef) → ArePlaces held p → (k : ℕ) → first_at p a ≡ Some k
+    → (k < length held) × IsLeastBy id_cmp (IsIdAt held a) (Some (id_at held k))
+least_kept held p a h k e = let was : AreIdsOf held a (Some k) (second_at p a) = subst (λ o. AreIdsOf held a o (second_at p a)) e (h.ids a) in (was.0, was.1.0)
+
+-- a place without an index has no id
+pub none_kept : (held : List Node) (p : Places) (a : CertRef) → ArePlaces held p → first_at p a ≡ None → IsLeastBy id_cmp (IsIdAt held a) None
+none_kept held p a h e = let was : AreIdsOf held a None (second_at p a) = subst (λ o. AreIdsOf held a o (second_at p a)) e (h.ids a) in was.1

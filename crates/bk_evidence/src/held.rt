@@ -1,23 +1,23 @@
 //! The certificates that are held, by id.
 
-ghost use Rattle.std.specs.Prelude.{◌≡◌, ◌<◌, ◌++◌, ◌∷◌, ◌↔◌, [], length, Contains, IfOk, OnOk, OnErr, None, Some, cond, IsTrue, MatchOption, option_map, ℕ, List};
+ghost use Rattle.std.specs.Prelude.{◌≡◌, ◌<◌, ◌++◌, ◌∷◌, ◌↔◌, [], length, Contains, IfOk, OnOk, OnErr, None, Some, cond, IsTrue, MatchOption, ℕ, List};
 ghost use Rattle.std.specs.BTreeMap.{get};
 ghost use Rattle.bk_evidence.specs.Collisions.{id_cmp};
 ghost use Rattle.bk_cert.specs.Node.{Node};
 ghost use Rattle.bk_cert.specs.Place.{place_of};
-ghost use Rattle.bk_cert.specs.declared.place.CertRef.{CertRef};
 ghost use Rattle.bk_evidence.specs.Held.{IsCollision, IsOffer, NoCollision, held_after};
-ghost use Rattle.bk_evidence.specs.Twins.{IsEvidence, NoTwins};
+ghost use Rattle.bk_evidence.specs.Twins.{IsEvidence, IsIdAt, NoTwins};
 ghost use Rattle.bk_evidence.specs.Laws.{HaveSame};
 ghost use Rattle.bk_evidence.specs.private.Indexed.{IsIndexed};
 ghost use Rattle.bk_evidence.specs.private.Answers.{offer_of};
-ghost use Rattle.bk_evidence.specs.private.Places.{AreSamePlaces, IsNoted, ids_at};
+ghost use Rattle.bk_evidence.specs.private.Least.{IsLeastBy};
+ghost use Rattle.bk_evidence.specs.private.Places.{ArePlaces};
 
 use crate::evidence::{Evidence, Together};
 use crate::least::least_id;
 use crate::offer::Offer;
 use crate::places::{Places, note};
-use bk_cert::{CertRef, SharedCert};
+use bk_cert::SharedCert;
 use bk_digest::Digest32;
 use std::alloc::{AllocError, Global};
 use std::collections::BTreeMap;
@@ -26,8 +26,9 @@ use std::marker::Model;
 /// The certificates that were offered, each distinct pair of an id and a header once, those of
 /// collisions and twins too. Contracts see them in the order in which they were stored.
 ///
-/// A certificate takes some 250 bytes, besides the header, which is shared. Where two headers have
-/// one id, a further offer under it goes over all that is held; with SHA-256 no such two are known.
+/// A certificate takes 96 bytes, besides the header, which is shared, and its tables have room for
+/// about twice as many at most. A place takes 40 bytes more once it has twins. Where two headers have one
+/// id, a further offer under it goes over all that is held; with SHA-256 no such two are known.
 #[derive(Drop)]
 pub struct Held {
     alloc: Global,
@@ -96,7 +97,7 @@ impl Held {
     pub fn evidence(&self) -> Option<Evidence>
         ensures { MatchOption result (NoTwins self.now) (IsEvidence self.now) }
     {
-        self.places.evidence()
+        self.places.evidence(&self.certs)
     }
 
     /// The least id under which two headers are held.
@@ -174,17 +175,6 @@ fn offer_after(earlier: Option<Digest32>) -> Offer
     }
 }
 
-// The place of a certificate.
-fn place_at(cert: &SharedCert) -> CertRef
-    ensures { result ≡ place_of cert.now }
-{
-    let header = cert.header();
-    CertRef {
-        round: header.round(),
-        author: header.author(),
-    }
-}
-
 // Whether the certificate is held. A repeat of the first one under its id is found at once.
 fn is_held(certs: &[SharedCert], firsts: &BTreeMap<Digest32, usize>, cert: &SharedCert) -> bool
     ensures { IsTrue result ↔ Contains certs.now cert.now }
@@ -231,15 +221,15 @@ fn store(
     places: &mut Places,
     cert: SharedCert,
 ) -> Result<Option<Digest32>, AllocError>
-    ensures earlier { IfOk result
-        (λ least. least ≡ option_map (λ l. l.least) (ids_at places.old (place_of cert))) }
+    requires { ArePlaces certs.old.items places.old }
+    ensures earlier { IfOk result (IsLeastBy id_cmp (IsIdAt certs.old.items (place_of cert))) }
     ensures ok { OnOk result (certs.new.items ≡ certs.old.items ++ cert ∷ []) }
-    ensures noted { OnOk result (IsNoted places.old places.new (place_of cert) cert.id) }
+    ensures noted { OnOk result (ArePlaces (certs.old.items ++ cert ∷ []) places.new) }
     ensures err { OnErr result (certs.new.items ≡ certs.old.items) }
-    ensures same { OnErr result (AreSamePlaces places.old places.new) }
+    ensures same { OnErr result (ArePlaces certs.old.items places.new) }
 {
     certs.reserve(1)?;
-    let earlier = note(places, place_at(&cert), *cert.id())?;
+    let earlier = note(places, certs, &cert)?;
     certs.push_reserved(cert);
     Ok(earlier)
 }
@@ -254,13 +244,13 @@ fn store_first(
 ) -> Result<Option<Digest32>, AllocError>
     requires indexed { IsIndexed (λ (c : Node). c.id) certs.old.items firsts.old }
     requires new { get id_cmp firsts.old cert.id ≡ None }
+    requires places { ArePlaces certs.old.items places.old }
     ensures indexed { IsIndexed (λ (c : Node). c.id) certs.new.items firsts.new }
-    ensures earlier { IfOk result
-        (λ least. least ≡ option_map (λ l. l.least) (ids_at places.old (place_of cert))) }
+    ensures earlier { IfOk result (IsLeastBy id_cmp (IsIdAt certs.old.items (place_of cert))) }
     ensures ok { OnOk result (certs.new.items ≡ certs.old.items ++ cert ∷ []) }
-    ensures noted { OnOk result (IsNoted places.old places.new (place_of cert) cert.id) }
+    ensures noted { OnOk result (ArePlaces (certs.old.items ++ cert ∷ []) places.new) }
     ensures err { OnErr result (certs.new.items ≡ certs.old.items) }
-    ensures same { OnErr result (AreSamePlaces places.old places.new) }
+    ensures same { OnErr result (ArePlaces certs.old.items places.new) }
 {
     let id = *cert.id();
     firsts.insert(id, certs.len())?;

@@ -7,6 +7,7 @@
 
 mod batches;
 mod evidence;
+mod firsts;
 mod held;
 mod laws;
 mod least;

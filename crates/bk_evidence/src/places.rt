@@ -1,43 +1,36 @@
 //! The ids of each place: the least two, which show whether the place has twins.
 
-ghost use Rattle.std.specs.Prelude.{◌≡◌, IfOk, OnOk, OnErr, option_map};
-ghost use Rattle.std.specs.Option.{option_copied};
-ghost use Rattle.bk_evidence.specs.private.Places.{AreSamePlaces, IsEmptyPlaces, IsNoted, evidence_in, ids_at, ids_with, second_in};
+ghost use Rattle.std.specs.Prelude.{◌≡◌, ◌<◌, ◌++◌, ◌∷◌, [], Some, length, IfOk, OnOk, OnErr};
+ghost use Rattle.std.specs.BTreeMap.{get};
+ghost use Rattle.bk_cert.specs.Place.{place_cmp, place_of};
+ghost use Rattle.bk_evidence.specs.Collisions.{id_cmp};
+ghost use Rattle.bk_evidence.specs.Twins.{IsIdAt};
+ghost use Rattle.bk_evidence.specs.private.Least.{IsLeastBy};
+ghost use Rattle.bk_evidence.specs.private.Places.{ArePlaces, AreSamePlaces, HasSecond, IsEmptyPlaces, evidence_in, id_at, ids_at};
 
 use crate::evidence::Evidence;
+use crate::firsts::{first_of, put_back};
 use crate::least::{least_id, least_place};
-use bk_cert::CertRef;
+use bk_cert::{CertRef, SharedCert};
 use bk_digest::Digest32;
 use std::alloc::{AllocError, Global};
 use std::cmp::Ordering;
 use std::collections::BTreeMap;
 
-/// The least id of a place, and the least of its other ids.
-#[derive(Drop)]
+/// The least id of a place, and the least of its other ids, where there are others.
+#[derive(Clone, Copy)]
 pub(crate) struct LeastIds {
     pub least: Digest32,
-    // This counts only where the place has twins.
-    pub second: Digest32,
-    pub has_twins: bool,
-}
-
-impl LeastIds {
-    // The least of the other ids, if there are others.
-    fn second(&self) -> Option<Digest32>
-        ensures { result ≡ second_in self.now }
-    {
-        if self.has_twins {
-            Some(self.second)
-        } else {
-            None
-        }
-    }
+    pub second: Option<Digest32>,
 }
 
 /// The least ids of each place, and the least place that has twins.
 #[derive(Drop)]
 pub(crate) struct Places {
-    pub ids: BTreeMap<CertRef, LeastIds>,
+    // The index of a certificate with the least id of the place.
+    pub firsts: BTreeMap<CertRef, usize>,
+    // The second id. Only a place with twins is in it, so it takes no memory where there are none.
+    pub seconds: BTreeMap<CertRef, Digest32>,
     pub twins: Option<CertRef>,
 }
 
@@ -47,18 +40,20 @@ impl Places {
         ensures { IsEmptyPlaces result }
     {
         Places {
-            ids: BTreeMap::new(alloc),
+            firsts: BTreeMap::new(alloc),
+            seconds: BTreeMap::new(alloc),
             twins: None,
         }
     }
 
     /// The evidence at the least place with twins.
-    pub fn evidence(&self) -> Option<Evidence>
-        ensures { result ≡ evidence_in self.now self.now.twins }
+    pub fn evidence(&self, certs: &[SharedCert]) -> Option<Evidence>
+        requires { ArePlaces certs.now self.now }
+        ensures { result ≡ evidence_in certs.now self.now self.now.twins }
     {
         let place = self.twins?;
-        let ids = self.ids.get(&place)?;
-        let second = ids.second()?;
+        let ids = self.ids_at(certs, place)?;
+        let second = ids.second?;
         Some(Evidence {
             round: place.round,
             author: place.author,
@@ -66,67 +61,97 @@ impl Places {
             second,
         })
     }
-}
 
-// The two least ids, with one more.
-fn add_id(known: Option<&LeastIds>, id: Digest32) -> LeastIds
-    ensures { result ≡ ids_with (option_copied known.entry) id }
-{
-    let Some(ids) = known else {
-        return LeastIds {
-            least: id,
-            second: id,
-            has_twins: false,
-        };
-    };
-    match id.cmp(&ids.least) {
-        Ordering::Less => LeastIds {
-            least: id,
-            second: ids.least,
-            has_twins: true,
-        },
-        Ordering::Equal => LeastIds {
-            least: ids.least,
-            second: ids.second,
-            has_twins: ids.has_twins,
-        },
-        Ordering::Greater => LeastIds {
-            least: ids.least,
-            second: least_id(ids.second(), id),
-            has_twins: true,
-        },
+    // The least ids of a place, where it has any.
+    fn ids_at(&self, certs: &[SharedCert], place: CertRef) -> Option<LeastIds>
+        requires { ArePlaces certs.now self.now }
+        ensures { result ≡ ids_at certs.now self.now place }
+    {
+        let index = *self.firsts.get(&place)?;
+        Some(LeastIds {
+            least: id_of(certs, index),
+            second: self.seconds.get(&place).copied(),
+        })
     }
 }
 
-// The least of the ids, if there are any.
-fn least_in(known: Option<&LeastIds>) -> Option<Digest32>
-    ensures { result ≡ option_map (λ l. l.least) (option_copied known.entry) }
+// The id of the certificate at an index.
+fn id_of(certs: &[SharedCert], index: usize) -> Digest32
+    requires { index < length certs.now }
+    ensures { result ≡ id_at certs.now index }
 {
-    match known {
-        None => None,
-        Some(ids) => Some(ids.least),
+    *certs[index].id()
+}
+
+// The place of a certificate.
+fn place_at(cert: &SharedCert) -> CertRef
+    ensures { result ≡ place_of cert.now }
+{
+    let header = cert.header();
+    CertRef {
+        round: header.round(),
+        author: header.author(),
     }
 }
 
-/// Notes an id of a place, and answers the least id that the place had before. Where memory runs
-/// out nothing changes.
+/// Notes a certificate that is stored after these, and answers the least id that its place had
+/// before. Where memory runs out nothing changes.
 pub(crate) fn note(
     places: &mut Places,
-    place: CertRef,
-    id: Digest32,
+    certs: &[SharedCert],
+    cert: &SharedCert,
 ) -> Result<Option<Digest32>, AllocError>
-    ensures earlier { IfOk result
-        (λ least. least ≡ option_map (λ l. l.least) (ids_at places.old place)) }
-    ensures noted { OnOk result (IsNoted places.old places.new place id) }
+    requires { ArePlaces certs.now places.old }
+    ensures earlier { IfOk result (IsLeastBy id_cmp (IsIdAt certs.now (place_of cert.now))) }
+    ensures ok { OnOk result (ArePlaces (certs.now ++ cert.now ∷ []) places.new) }
+    ensures err { OnErr result (ArePlaces certs.now places.new) }
+{
+    let place = place_at(cert);
+    match first_of(&mut places.firsts, place, certs.len())? {
+        None => Ok(None),
+        Some(first) => {
+            let least = id_of(certs, first);
+            note_other(places, certs, cert, first)?;
+            Ok(Some(least))
+        }
+    }
+}
+
+// Notes one more certificate of a place whose least id is at this index.
+fn note_other(
+    places: &mut Places,
+    certs: &[SharedCert],
+    cert: &SharedCert,
+    first: usize,
+) -> Result<(), AllocError>
+    requires places { ArePlaces certs.now places.old }
+    requires first { get place_cmp places.old.firsts (place_of cert.now) ≡ Some first }
+    ensures ok { OnOk result (ArePlaces (certs.now ++ cert.now ∷ []) places.new) }
+    ensures err { OnErr result (ArePlaces certs.now places.new) }
+{
+    let place = place_at(cert);
+    let least = id_of(certs, first);
+    let id = *cert.id();
+    match id.cmp(&least) {
+        Ordering::Less => {
+            add_second(places, place, least)?;
+            put_back(&mut places.firsts, place, certs.len());
+        }
+        Ordering::Equal => {}
+        Ordering::Greater => {
+            let second = least_id(places.seconds.get(&place).copied(), id);
+            add_second(places, place, second)?;
+        }
+    }
+    Ok(())
+}
+
+// Gives a place this second id. It has twins then.
+fn add_second(places: &mut Places, place: CertRef, second: Digest32) -> Result<(), AllocError>
+    ensures ok { OnOk result (HasSecond places.old places.new place second) }
     ensures err { OnErr result (AreSamePlaces places.old places.new) }
 {
-    let known = places.ids.get(&place);
-    let earlier = least_in(known);
-    let ids = add_id(known, id);
-    let has_twins = ids.has_twins;
-    places.ids.insert(place, ids)?;
-    if has_twins {
-        places.twins = Some(least_place(places.twins, place));
-    }
-    Ok(earlier)
+    places.seconds.insert(place, second)?;
+    places.twins = Some(least_place(places.twins, place));
+    Ok(())
 }

@@ -1,22 +1,43 @@
-use Rattle.std.proofs.Common.{◌≡◌, Some, cond, ap, ◌∙◌}
+use Rattle.std.proofs.Common.{◌≡◌, ℕ, Some, Option, cond, length, ap, refl, sym, subst, ◌∙◌}
+use Rattle.std.specs.Option.{unwrap_or}
 use Rattle.std.specs.Ordering.{is_eq}
-use Rattle.bk_evidence.specs.declared.places.LeastIds.{LeastIds}
-use Rattle.bk_cert.specs.Place.{place_cmp}
-use Rattle.bk_evidence.specs.private.Places.{ids_at, ids_with}
-use Rattle.bk_evidence.proofs.Placing.{noted_twins, noted_lone}
+use Rattle.bk_cert.specs.Place.{place_of, place_cmp}
+use Rattle.bk_evidence.specs.Collisions.{id_cmp}
+use Rattle.bk_evidence.specs.Twins.{IsIdAt}
+use Rattle.bk_evidence.specs.declared.places.Places.{Places}
+use Rattle.bk_evidence.specs.private.Least.{IsLeastBy}
+use Rattle.bk_evidence.specs.private.Places.{id_at, first_at}
+use Rattle.bk_evidence.proofs.Placing.{noted_first, same_put, places_same, least_kept, none_kept}
 use Rattle.bk_evidence.proofs.places.note.Goals as goal
-use Rattle.bk_evidence.proofs.places.note.Goals.{then-has_twins, else-has_twins}
 
-pub returns-clause-noted : goal.returns-clause-noted
-returns-clause-noted c =
-    let is : c.add_id-ids.result ≡ ids_with (ids_at c.args.places.now c.args.place) c.args.id = c.add_id-ids.ensures ∙ ap (λ o. ids_with o c.args.id) c.get-known.ensures.value in
-    elim c.if-has_twins.branch [
-      | then-has_twins w ↦ rw w.places-is (record {
-        ids = λ b. c.in_ok-insert.ensures.updates.0 b ∙ ap (λ (l : LeastIds). cond (is_eq (place_cmp c.args.place b)) (Some l) (ids_at c.args.places.now b)) is;
-        twins = noted_twins c.add_id-ids.result (ids_with (ids_at c.args.places.now c.args.place) c.args.id) c.args.places.now.twins c.args.place w.least_place.result is w.if-has_twins.true w.least_place.ensures;
-      })
-      | else-has_twins w ↦ rw w.places-is (record {
-        ids = λ b. c.in_ok-insert.ensures.updates.0 b ∙ ap (λ (l : LeastIds). cond (is_eq (place_cmp c.args.place b)) (Some l) (ids_at c.args.places.now b)) is;
-        twins = noted_lone c.add_id-ids.result (ids_with (ids_at c.args.places.now c.args.place) c.args.id) c.args.places.now.twins c.args.place is w.if-has_twins.false;
-      })
-    ]
+pub id_of-least-requires : goal.id_of-least-requires
+id_of-least-requires c = (least_kept c.args.certs.now c.args.places.now c.place_at-place.result c.requires c.in-Some.first (sym c.in_ok-first_of.ensures.found ∙ c.in-Some.is)).0
+
+pub note_other-requires-clause-places : goal.note_other-requires-clause-places
+note_other-requires-clause-places c =
+    let old : Places = c.args.places.now in
+    places_same c.args.certs.now old (record old { firsts = c.first_of.new.firsts }) (record {
+      firsts = same_put old.firsts c.first_of.new.firsts c.place_at-place.result c.in-Some.first (sym c.in_ok-first_of.ensures.found ∙ c.in-Some.is)
+          (λ b. c.in_ok-first_of.ensures.put b ∙ ap (λ (o : Option ℕ). cond (is_eq (place_cmp c.place_at-place.result b)) (Some (unwrap_or o (length c.args.certs.now))) (first_at old b)) c.in-Some.is);
+      seconds = λ b. refl;
+      twins = refl;
+    }) c.requires
+
+pub returns-in-None-clause-earlier : goal.returns-in-None-clause-earlier
+returns-in-None-clause-earlier c = none_kept c.args.certs.now c.args.places.now (place_of c.args.cert.now) c.requires
+    (ap (first_at c.args.places.now) (sym c.place_at-place.ensures) ∙ (sym c.in_ok-first_of.ensures.found ∙ c.in-None.is))
+
+pub returns-in-None-clause-ok : goal.returns-in-None-clause-ok
+returns-in-None-clause-ok c =
+    let old : Places = c.args.places.now in
+    let here : c.place_at-place.result ≡ place_of c.args.cert.now = c.place_at-place.ensures in
+    noted_first c.args.certs.now c.args.cert.now old (record old { firsts = c.first_of.new.firsts }) c.requires
+    (ap (first_at old) (sym here) ∙ (sym c.in_ok-first_of.ensures.found ∙ c.in-None.is))
+    (λ b. c.in_ok-first_of.ensures.put b ∙ (λ i. cond (is_eq (place_cmp (here i) b)) (Some (unwrap_or (c.in-None.is i) (length c.args.certs.now))) (first_at old b)))
+    (λ b. refl) refl
+
+pub returns-in_ok-note_other-in-Some-clause-earlier : goal.returns-in_ok-note_other-in-Some-clause-earlier
+returns-in_ok-note_other-in-Some-clause-earlier c =
+    let kept = least_kept c.args.certs.now c.args.places.now c.place_at-place.result c.requires c.in-Some.first (sym c.in_ok-first_of.ensures.found ∙ c.in-Some.is) in
+    subst (λ id. IsLeastBy id_cmp (IsIdAt c.args.certs.now (place_of c.args.cert.now)) (Some id)) (sym c.id_of-least.ensures)
+    (subst (λ a. IsLeastBy id_cmp (IsIdAt c.args.certs.now a) (Some (id_at c.args.certs.now c.in-Some.first))) c.place_at-place.ensures kept.1)

@@ -6,7 +6,6 @@ use Rattle.bk_evidence.specs.Collisions.{id_cmp, CollidesBy}
 use Rattle.bk_evidence.specs.private.Least.{IsLeastBy, least_of}
 use Rattle.bk_evidence.specs.private.Places.{ArePlaces}
 use Rattle.bk_evidence.proofs.Storing.{keeps_new, keeps_more, absent_new, found_more}
-use Rattle.bk_evidence.proofs.Placing.{places_step}
 use Rattle.bk_evidence.proofs.Judging.{answered}
 use Rattle.bk_evidence.proofs.held.Held.offer.Goals as goal
 
@@ -15,16 +14,15 @@ invariant_of-self-then-not-contains_key c = (
   keeps_new (λ (d : Node). d.id) c.self.inside.certs.items c.self.inside.firsts c.self.inside.collision c.store_first.new.certs.items c.store_first.new.firsts c.args.cert c.self.invariant.0
       (ap (λ q. is_some (get id_cmp c.self.inside.firsts q)) (sym c.id.ensures) ∙ (sym c.contains_key.ensures ∙ c.if-not-contains_key.true))
       c.in_ok-earlier.ensures.indexed c.in_ok-earlier.ensures.ok,
-  subst (λ (zs : List Node). ArePlaces zs c.store_first.new.places) (sym c.in_ok-earlier.ensures.ok)
-      (places_step c.self.inside.certs.items c.args.cert c.self.inside.places c.store_first.new.places c.self.invariant.1 c.in_ok-earlier.ensures.noted),
+  subst (λ (zs : List Node). ArePlaces zs c.store_first.new.places) (sym c.in_ok-earlier.ensures.ok) c.in_ok-earlier.ensures.noted,
 )
 
 pub returns-then-not-contains_key-clause-answer : goal.returns-then-not-contains_key-clause-answer
-returns-then-not-contains_key-clause-answer c = rw (c.offer_after.ensures, c.in_ok-earlier.ensures.earlier, ← c.self.view_is)
-    (answered c.self.inside.certs.items c.args.cert c.self.inside.places
+returns-then-not-contains_key-clause-answer c = rw (c.offer_after.ensures, ← c.self.view_is)
+    (answered c.self.inside.certs.items c.args.cert c.in_ok-earlier.earlier
     (absent_new (λ (d : Node). d.id) c.self.inside.certs.items c.self.inside.firsts c.self.inside.collision c.self.invariant.0 c.args.cert
     (ap (λ q. is_some (get id_cmp c.self.inside.firsts q)) (sym c.id.ensures) ∙ (sym c.contains_key.ensures ∙ c.if-not-contains_key.true)))
-    c.self.invariant.1)
+    c.in_ok-earlier.ensures.earlier)
 
 pub invariant_of-self-2 : goal.invariant_of-self-2
 invariant_of-self-2 c =
@@ -36,8 +34,7 @@ invariant_of-self-2 c =
         subst (λ (id : List ℕ). IsLeastBy id_cmp (CollidesBy (λ (d : Node). d.id) c.store.new.certs.items) (Some id))
             (sym (c.least_id.ensures ∙ ap (least_of id_cmp c.self.inside.collision) c.id.ensures)) kept.1,
       ),
-      subst (λ (zs : List Node). ArePlaces zs c.store.new.places) (sym c.in_ok-store.ensures.ok)
-          (places_step c.self.inside.certs.items c.args.cert c.self.inside.places c.store.new.places c.self.invariant.1 c.in_ok-store.ensures.noted),
+      subst (λ (zs : List Node). ArePlaces zs c.store.new.places) (sym c.in_ok-store.ensures.ok) c.in_ok-store.ensures.noted,
     )
 
 pub returns-clause-answer : goal.returns-clause-answer
