@@ -127,6 +127,20 @@ module _ {E : Type 0} (name : E → List ℕ) (xs : List E) (m : BTreeMap (List 
       some : (q : List ℕ) → (k : ℕ) × (position (is_named name q) xs ≡ Some k) → get id_cmp m q ≡ position (is_named name q) (xs ++ x ∷ [])
       some q (j, e) = indexed.first q ∙ (e ∙ sym (position_push_some (is_named name q) xs x j e))
 
+-- a name that has an index and gets it again
+pub index_put : (m n : BTreeMap (List ℕ) ℕ) (id : List ℕ) (k : ℕ) → get id_cmp m id ≡ Some k
+    → ((q : List ℕ) → get id_cmp n q ≡ cond (is_eq (id_cmp id q)) (Some k) (get id_cmp m q)) → (q : List ℕ) → get id_cmp n q ≡ get id_cmp m q
+index_put m n id k there put q = put q ∙ ⊎_elim here elsewhere (cases_Bool (is_eq (id_cmp id q)))
+  where
+    here : is_eq (id_cmp id q) ≡ true → cond (is_eq (id_cmp id q)) (Some k) (get id_cmp m q) ≡ get id_cmp m q
+    here t = ap (λ (b : Bool). cond b (Some k) (get id_cmp m q)) t ∙ (sym there ∙ ap (get id_cmp m) (named id q (texts_ties id q ∙ t)))
+
+    elsewhere : is_eq (id_cmp id q) ≡ false → cond (is_eq (id_cmp id q)) (Some k) (get id_cmp m q) ≡ get id_cmp m q
+    elsewhere f = ap (λ (b : Bool). cond b (Some k) (get id_cmp m q)) f
+
+pub indexed_same : {E : Type 0} (name : E → List ℕ) (xs : List E) (m n : BTreeMap (List ℕ) ℕ) → ((q : List ℕ) → get id_cmp n q ≡ get id_cmp m q) → IsIndexed name xs m → IsIndexed name xs n
+indexed_same name xs m n e h = record { first = λ q. e q ∙ h.first q }
+
 -- only what the map finds counts
 pub indexed_as : {E : Type 0} (name : E → List ℕ) (xs ys : List E) (m n : BTreeMap (List ℕ) ℕ) → ys ≡ xs → n.entries ≡ m.entries → IsIndexed name xs m → IsIndexed name ys n
 indexed_as name xs ys m n e f h = record { first = λ id. ap (λ (es : List (List ℕ × ℕ)). lookup (λ k. is_eq (id_cmp id k)) es) f ∙ (h.first id ∙ ap (position (is_named name id)) (sym e)) }

@@ -16,11 +16,12 @@ pub struct Evidence {
     pub second: Digest32,
 }
 
-/// What is wrong with what two tables hold together.
+/// The collision and the evidence among the certificates of two tables, as one table of them all
+/// has them.
 #[derive(Clone, Copy, Debug, PartialEq, Eq)]
 pub struct Together {
-    /// The least id under which two headers are held.
+    /// The least id under which there are two headers; `None` where each id has one header.
     pub collision: Option<Digest32>,
-    /// The evidence of the least round and author that has two ids.
+    /// The evidence of the least round and author that has two ids; `None` where each has one.
     pub evidence: Option<Evidence>,
 }

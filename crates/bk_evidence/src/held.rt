@@ -1,19 +1,18 @@
 //! The certificates that are held, by id.
 
 ghost use Rattle.std.specs.Prelude.{◌≡◌, ◌<◌, ◌++◌, ◌∷◌, ◌↔◌, [], length, Contains, IfOk, OnOk, OnErr, None, Some, cond, IsTrue, MatchOption, ℕ, List};
-ghost use Rattle.std.specs.BTreeMap.{get};
 ghost use Rattle.bk_evidence.specs.Collisions.{id_cmp};
 ghost use Rattle.bk_cert.specs.Node.{Node};
 ghost use Rattle.bk_cert.specs.Place.{place_of};
 ghost use Rattle.bk_evidence.specs.Held.{IsCollision, IsOffer, NoCollision, held_after};
 ghost use Rattle.bk_evidence.specs.Twins.{IsEvidence, IsIdAt, NoTwins};
 ghost use Rattle.bk_evidence.specs.Laws.{HaveSame};
-ghost use Rattle.bk_evidence.specs.private.Indexed.{IsIndexed};
 ghost use Rattle.bk_evidence.specs.private.Answers.{offer_of};
 ghost use Rattle.bk_evidence.specs.private.Least.{IsLeastBy};
 ghost use Rattle.bk_evidence.specs.private.Places.{ArePlaces};
 
 use crate::evidence::{Evidence, Together};
+use crate::firsts::first_of;
 use crate::least::least_id;
 use crate::offer::Offer;
 use crate::places::{Places, note};
@@ -27,8 +26,9 @@ use std::marker::Model;
 /// collisions and twins too. Contracts see them in the order in which they were stored.
 ///
 /// A certificate takes 96 bytes, besides the header, which is shared, and its tables have room for
-/// about twice as many at most. A place takes 40 bytes more once it has twins. Where two headers have one
-/// id, a further offer under it goes over all that is held; with SHA-256 no such two are known.
+/// about twice as many at most. A place takes 40 bytes more once it has twins. Where two headers
+/// have one id, a further offer under it goes over all that is held; with SHA-256 no such two are
+/// known.
 #[derive(Drop)]
 pub struct Held {
     alloc: Global,
@@ -81,16 +81,24 @@ impl Held {
         ensures unchanged { OnErr result (self.new ≡ self.old) }
     {
         let id = *cert.id();
-        if !self.firsts.contains_key(&id) {
-            let earlier = store_first(&mut self.certs, &mut self.firsts, &mut self.places, cert)?;
-            return Ok(offer_after(earlier));
+        match first_of(&mut self.firsts, id, self.certs.len())? {
+            None => match store(&mut self.certs, &mut self.places, cert) {
+                Ok(earlier) => Ok(offer_after(earlier)),
+                Err(error) => {
+                    // The id loses its index again: this needs no memory.
+                    let _ = self.firsts.remove(&id);
+                    Err(error)
+                }
+            },
+            Some(first) => {
+                if is_held(&self.certs, first, &cert) {
+                    return Ok(Offer::Repeat);
+                }
+                store(&mut self.certs, &mut self.places, cert)?;
+                self.collision = Some(least_id(self.collision, id));
+                Ok(Offer::Collision)
+            }
         }
-        if is_held(&self.certs, &self.firsts, &cert) {
-            return Ok(Offer::Repeat);
-        }
-        store(&mut self.certs, &mut self.places, cert)?;
-        self.collision = Some(least_id(self.collision, id));
-        Ok(Offer::Collision)
     }
 
     /// The least round and author that has two ids, with its two least ids.
@@ -127,7 +135,8 @@ impl Held {
         Ok(all.collision())
     }
 
-    /// The collision and the evidence over what both hold together, at the cost of one of them.
+    /// The collision and the evidence over what both hold together. One table of both is made for
+    /// them, where `collision_with` and `evidence_with` make one each.
     pub fn together_with(&self, other: &Held) -> Result<Together, AllocError>
         ensures collision { IfOk result (λ t. MatchOption t.collision
             (NoCollision (self.now ++ other.now)) (IsCollision (self.now ++ other.now))) }
@@ -176,21 +185,18 @@ fn offer_after(earlier: Option<Digest32>) -> Offer
 }
 
 // Whether the certificate is held. A repeat of the first one under its id is found at once.
-fn is_held(certs: &[SharedCert], firsts: &BTreeMap<Digest32, usize>, cert: &SharedCert) -> bool
+fn is_held(certs: &[SharedCert], first: usize, cert: &SharedCert) -> bool
     ensures { IsTrue result ↔ Contains certs.now cert.now }
 {
-    is_first(certs, firsts, cert) || is_among(certs, cert)
+    is_first(certs, first, cert) || is_among(certs, cert)
 }
 
-// Whether the certificate is the first one under its id.
-fn is_first(certs: &[SharedCert], firsts: &BTreeMap<Digest32, usize>, cert: &SharedCert) -> bool
+// Whether the certificate is the one at this index.
+fn is_first(certs: &[SharedCert], first: usize, cert: &SharedCert) -> bool
     ensures { IsTrue result → Contains certs.now cert.now }
 {
-    let Some(index) = firsts.get(cert.id()).copied() else {
-        return false;
-    };
-    match certs.get(index) {
-        Some(first) => is_same(first, cert),
+    match certs.get(first) {
+        Some(other) => is_same(other, cert),
         None => false,
     }
 }
@@ -232,33 +238,4 @@ fn store(
     let earlier = note(places, certs, &cert)?;
     certs.push_reserved(cert);
     Ok(earlier)
-}
-
-// Stores the first certificate under an id, as `store` does. The id gets its index first, and
-// loses it again where there is no memory for the certificate: taking it out needs none.
-fn store_first(
-    certs: &mut Vec<SharedCert>,
-    firsts: &mut BTreeMap<Digest32, usize>,
-    places: &mut Places,
-    cert: SharedCert,
-) -> Result<Option<Digest32>, AllocError>
-    requires indexed { IsIndexed (λ (c : Node). c.id) certs.old.items firsts.old }
-    requires new { get id_cmp firsts.old cert.id ≡ None }
-    requires places { ArePlaces certs.old.items places.old }
-    ensures indexed { IsIndexed (λ (c : Node). c.id) certs.new.items firsts.new }
-    ensures earlier { IfOk result (IsLeastBy id_cmp (IsIdAt certs.old.items (place_of cert))) }
-    ensures ok { OnOk result (certs.new.items ≡ certs.old.items ++ cert ∷ []) }
-    ensures noted { OnOk result (ArePlaces (certs.old.items ++ cert ∷ []) places.new) }
-    ensures err { OnErr result (certs.new.items ≡ certs.old.items) }
-    ensures same { OnErr result (ArePlaces certs.old.items places.new) }
-{
-    let id = *cert.id();
-    firsts.insert(id, certs.len())?;
-    match store(certs, places, cert) {
-        Ok(earlier) => Ok(earlier),
-        Err(error) => {
-            let _ = firsts.remove(&id);
-            Err(error)
-        }
-    }
 }
