@@ -1,5 +1,5 @@
 -- One more id gets a number.
-use Rattle.std.proofs.Common.{◌≡◌, ℕ, zero, suc, ◌+◌, ◌<◌, ◌≤◌, Bool, false, cond, not, List, [], ◌∷◌, ◌++◌, length, map, Some, None, refl, sym, ap, ◌∙◌, subst, ⊎_elim, arith, get_or}
+use Rattle.std.proofs.Common.{◌≡◌, ℕ, zero, suc, ◌+◌, ◌<◌, ◌≤◌, Bool, true, false, cond, not, List, [], ◌∷◌, ◌++◌, length, map, Some, None, refl, sym, ap, ◌∙◌, subst, ⊎_elim, arith, get_or}
 use Rattle.std.specs.List.{Contains, All, AllByRecursion}
 use Rattle.std.proofs.lemmas.List.Elements.{recursion_from_All}
 use Rattle.std.specs.Cmp.Lexicographic.{texts_ties}
@@ -81,7 +81,7 @@ names_same a b n s = record {
 }
   where
     known : (q : List ℕ) → known_in b q ≡ known_in a q
-    known q = ap (λ es. lookup (is_same_id q) es) s.numbers
+    known q = s.numbers q
 
 pub grows_on : (a b c : Names) → Grows a b → Grows b c → Grows a c
 grows_on a b c h k = record {
@@ -190,6 +190,17 @@ names_pushed a b id slot row set n new p = record {
         (λ t. absurd (never k (sym new ∙ (ap (known_in a) ((same_id-Decides id (id_of a.slots.items k)).0 t) ∙ n.numbering.complete k lt))))
         (λ f. f)
         (cases_Bool (is_same_id id (id_of a.slots.items k)))
+
+-- an id that has a number and gets it again
+pub known_put : (a b : Names) (id : List ℕ) (k : ℕ) → known_in a id ≡ Some k → ((q : List ℕ) → known_in b q ≡ cond (is_same_id id q) (Some k) (known_in a q))
+    → (q : List ℕ) → known_in b q ≡ known_in a q
+known_put a b id k there put q = put q ∙ ⊎_elim here elsewhere (cases_Bool (is_same_id id q))
+  where
+    here : is_same_id id q ≡ true → cond (is_same_id id q) (Some k) (known_in a q) ≡ known_in a q
+    here t = ap (λ v. cond v (Some k) (known_in a q)) t ∙ (sym there ∙ ap (known_in a) ((same_id-Decides id q).0 t))
+
+    elsewhere : is_same_id id q ≡ false → cond (is_same_id id q) (Some k) (known_in a q) ≡ known_in a q
+    elsewhere f = ap (λ v. cond v (Some k) (known_in a q)) f
 
 -- numbers keep their ids
 pub ids_kept : (a b : Names) (ps : List ℕ) → Grows a b → All (λ p. p < length a.slots.items) ps → map (id_of b.slots.items) ps ≡ map (id_of a.slots.items) ps

@@ -1,8 +1,12 @@
 //! Ids by number.
 
-ghost use Rattle.std.specs.Prelude.{◌≡◌, ◌<◌, [], length, map, All, OnOk, IfOk};
+ghost use Rattle.std.specs.Prelude.{◌≡◌, ◌<◌, ℕ, List, [], Some, cond, length, map, All, OnOk, OnErr, IfOk};
+ghost use Rattle.std.specs.BTreeMap.{IsUnchanged, get};
+ghost use Rattle.std.specs.Cmp.Lexicographic.{slice_cmp};
+ghost use Rattle.std.specs.Option.{unwrap_or};
+ghost use Rattle.std.specs.Ordering.{nat_cmp};
 ghost use Rattle.bk_rounds.specs.private.Numbered.{id_of};
-ghost use Rattle.bk_rounds.specs.private.Names.{AreNames, AreSame, HasRoom, Grows};
+ghost use Rattle.bk_rounds.specs.private.Names.{AreNames, AreSame, HasRoom, Grows, is_same_id};
 
 use crate::members::Members;
 use crate::rows::{has_id, likely, skip};
@@ -88,7 +92,8 @@ fn number_near(
     number_of(alloc, names, id)
 }
 
-/// The number of an id, which it gets where it has none.
+/// The number of an id, which it gets where it has none. It is looked for first: an id of a parent
+/// mostly has one.
 pub(crate) fn number_of(
     alloc: Global,
     names: &mut Names,
@@ -103,9 +108,27 @@ pub(crate) fn number_of(
     if let Some(number) = names.numbers.get(id).copied() {
         return Ok(number);
     }
+    own_number(alloc, names, id)
+}
+
+/// What `number_of` gives, with one search for an id that has no number, as that of a further
+/// certificate mostly has none.
+pub(crate) fn own_number(
+    alloc: Global,
+    names: &mut Names,
+    id: &Digest32,
+) -> Result<usize, AllocError>
+    requires names { AreNames names.old }
+    ensures names { AreNames names.new }
+    ensures grows { Grows names.old names.new }
+    ensures inside { IfOk result (λ k. k < length names.new.slots.items) }
+    ensures id { IfOk result (λ k. id_of names.new.slots.items k ≡ id.now) }
+{
     make_room(names)?;
     let number = names.slots.len();
-    names.numbers.insert(*id, number)?;
+    if let Some(known) = enter(&mut names.numbers, *id, number)? {
+        return Ok(known);
+    }
     names.slots.push_reserved(Slot {
         id: *id,
         round: 0,
@@ -120,6 +143,29 @@ pub(crate) fn number_of(
     names.sets.push_reserved(Members::none());
     names.unmarked += 1;
     Ok(number)
+}
+
+// The number that an id has. Where it has none, it gets this one.
+fn enter(
+    numbers: &mut BTreeMap<Digest32, usize>,
+    id: Digest32,
+    number: usize,
+) -> Result<Option<usize>, AllocError>
+    ensures known { IfOk result (λ known. known ≡ get (slice_cmp nat_cmp) numbers.old id) }
+    ensures put { IfOk result (λ known. (q : List ℕ) → get (slice_cmp nat_cmp) numbers.new q
+        ≡ cond (is_same_id id q) (Some (unwrap_or known number))
+        (get (slice_cmp nat_cmp) numbers.old q)) }
+    ensures err { OnErr result (IsUnchanged numbers.old numbers.new) }
+{
+    let known = numbers.insert(id, number)?;
+    if let Some(known) = known {
+        match numbers.insert(id, known) {
+            Ok(_) => {}
+            // Only a new id can fail.
+            Err(_) => {}
+        }
+    }
+    Ok(known)
 }
 
 // Makes room for one more id in the lists.

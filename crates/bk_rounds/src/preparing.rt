@@ -5,7 +5,7 @@ ghost use Rattle.bk_rounds.specs.private.Names.{AreNames, Grows};
 ghost use Rattle.bk_rounds.specs.private.Prepared.{IsPrepared, AreClearFor};
 
 use crate::buffers::Buffers;
-use crate::names::{Names, number_of, numbers_of};
+use crate::names::{Names, numbers_of, own_number};
 use crate::rows::Rows;
 use crate::waking::register;
 use bk_cert::SharedCert;
@@ -37,7 +37,7 @@ pub(crate) fn prepare(
     ensures clear { OnOk result (AreClearFor buffers.new names.new.unmarked) }
 {
     let parents = numbers_of(alloc, names, rows.before(cert), cert.header().parents())?;
-    let number = number_of(alloc, names, cert.id())?;
+    let number = own_number(alloc, names, cert.id())?;
     buffers.clear_for(names.unmarked)?;
     certs.reserve(1)?;
     rows.open(cert, certs.len())?;

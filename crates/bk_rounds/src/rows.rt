@@ -10,10 +10,11 @@ use bk_cert::{CertRef, SharedCert};
 use bk_digest::Digest32;
 use std::alloc::{AllocError, Global};
 
-// Rows are made while there are at most this many entries for each held certificate.
+// The rows by author have at most this many entries for each certificate, and so have those by id.
 const ENTRIES_FOR_EACH: usize = 16;
 
-// The number of certificates that are counted beyond those held, for the first rounds.
+// The certificates that are counted besides those held. With them a committee of 128 has rows for
+// its first 8 rounds (64 times 16 entries) before it has any certificate.
 const FREE: usize = 64;
 
 /// For each round a row by author and a row by id, with an entry for each member: the number of a
@@ -42,9 +43,9 @@ impl Rows {
         }
     }
 
-    /// Makes the rows up to a certificate's round. Where most members have no certificates, as in a
-    /// feed with one for each round, no further rows are made: their memory stays in proportion to
-    /// what is held.
+    /// Makes the rows of each round up to a certificate's, unless they would have more than 16
+    /// entries for each certificate. So a round far above the others gets no rows, and neither do
+    /// rounds in which few of many members have a certificate: memory follows what is held.
     pub fn open(&mut self, cert: &SharedCert, held: usize) -> Result<(), AllocError> {
         let round = cert.header().round();
         if round == 0 {

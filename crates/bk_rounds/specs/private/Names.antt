@@ -48,7 +48,7 @@ pub record Grows (a b : Names) : Type 0 where
 
 -- nothing but capacities changed
 pub record AreSame (a b : Names) : Type 0 where
-  pub numbers : b.numbers.entries ≡ a.numbers.entries
+  pub numbers : (q : List ℕ) → known_in b q ≡ known_in a q
   pub slots : b.slots.items ≡ a.slots.items
   pub marks : b.marks.items ≡ a.marks.items
   pub pending : b.pending.items ≡ a.pending.items

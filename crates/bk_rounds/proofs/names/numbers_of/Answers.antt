@@ -5,12 +5,12 @@ use Rattle.bk_rounds.proofs.Named.{grows_same, grows_on, map_push, ids_kept, ins
 use Rattle.bk_rounds.proofs.names.numbers_of.Goals as goal
 
 pub returns-in_err-numbers-clause-grows : goal.returns-in_err-numbers-clause-grows
-returns-in_err-numbers-clause-grows c = grows_same _ _ (record { numbers = refl; slots = refl; marks = refl; pending = refl; sets = refl; unmarked = refl })
+returns-in_err-numbers-clause-grows c = grows_same _ _ (record { numbers = λ q. refl; slots = refl; marks = refl; pending = refl; sets = refl; unmarked = refl })
 
 pub loop-id-init : goal.loop-id-init
 loop-id-init c = record {
   names = c.requires.names;
-  grows = grows_same _ _ (record { numbers = refl; slots = refl; marks = refl; pending = refl; sets = refl; unmarked = refl });
+  grows = grows_same _ _ (record { numbers = λ q. refl; slots = refl; marks = refl; pending = refl; sets = refl; unmarked = refl });
   ids = ap (map (id_of c.args.names.now.slots.items)) c.in_ok-numbers.ensures.items;
   inside = rw c.in_ok-numbers.ensures.items (λ k d low. absurd (omega arith));
 }
