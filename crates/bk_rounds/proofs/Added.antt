@@ -1,5 +1,5 @@
 -- What a further certificate changes.
-use Rattle.std.proofs.Common.{◌≡◌, ◌≢◌, ℕ, zero, suc, ◌+◌, ◌-◌, ◌<◌, ◌↔◌, Bool, true, false, List, [], ◌∷◌, ◌++◌, length, map, sym, ap, ◌∙◌, subst, ⊎_elim, arith, get_or, set, sum_by, refl}
+use Rattle.std.proofs.Common.{◌≡◌, ◌≢◌, ℕ, zero, suc, ◌+◌, ◌-◌, ◌<◌, ◌↔◌, Bool, true, false, List, [], ◌∷◌, length, map, sym, ap, ◌∙◌, subst, ⊎_elim, arith, get_or, set, sum_by, refl}
 use Rattle.std.specs.Prelude.{nat_le}
 use Rattle.std.specs.List.{Contains, All}
 use Rattle.std.proofs.lemmas.List.Sums.{sum_by-cons}
@@ -10,7 +10,7 @@ use Rattle.bk_committee.specs.Sizes.{Sizes, quorum, weight}
 use Rattle.bk_cert.proofs.Lists.{contains_cases, contains_first, contains_later}
 use Rattle.bk_rounds.specs.declared.slots.Slot.{Slot}
 use Rattle.bk_rounds.specs.declared.waking.Pending.{Pending}
-use Rattle.bk_rounds.specs.private.Numbered.{IsInside, IsInsideRows, IsRegistered, IsSound, IsAdmittedAt, IsTable, Extends, is_ready_in, parents_of, round_of, author_of, is_heavy_in, row_of, is_marked}
+use Rattle.bk_rounds.specs.private.Numbered.{IsInside, IsInsideRows, IsRegistered, IsEntered, IsSound, IsAdmittedAt, IsTable, Extends, is_ready_in, parents_of, round_of, author_of, is_heavy_in, row_of, is_marked}
 use Rattle.bk_rounds.proofs.Woken.{read_at}
 use Rattle.bk_rounds.proofs.Marks.{ready_known, ready_from, ready_cases, ready_admitted, marked_here, marked_other, admitted_marked}
 
@@ -25,30 +25,23 @@ pub field_here : {X Y : Type 0} (f : X → Y) (xs : List X) (k : ℕ) (s : X) (e
 field_here f xs k s e low = get_or-map f (set xs k s) k s e (simp length-set low) ∙ ap f (get_or-set_same xs k s s low)
 
 -- rows after one was given a further number
-pub row_keeps : (pending : List Pending) (p k : ℕ) (v : Pending) → p < length pending → v.slots.items ≡ row_of pending p ++ k ∷ []
-    → (m i : ℕ) → Contains (row_of pending m) i → Contains (row_of (set pending p v) m) i
-row_keeps pending p k v low is m i h = ⊎_elim
-    (λ e. subst (λ (xs : List ℕ). Contains xs i) (sym is ∙ (sym (field_here (λ (x : Pending). x.slots.items) pending p v [] low) ∙ ap (row_of (set pending p v)) (sym e)))
-    (Contains-append_left (row_of pending p) (k ∷ []) i (subst (λ (n : ℕ). Contains (row_of pending n) i) e h)))
-    (λ n. subst (λ (xs : List ℕ). Contains xs i) (sym (field_other (λ (x : Pending). x.slots.items) pending p v [] m n)) h)
-    (cases_eq m p)
+module _ (pending after : Pending) (p k : ℕ) (entered : IsEntered pending after p k) where
+  pub row_keeps : (m i : ℕ) → Contains (row_of pending m) i → Contains (row_of after m) i
+  row_keeps m i h = ⊎_elim
+      (λ e. subst (λ (xs : List ℕ). Contains xs i) (sym entered.here ∙ ap (row_of after) (sym e))
+      (Contains-append_left (row_of pending p) (k ∷ []) i (subst (λ (n : ℕ). Contains (row_of pending n) i) e h)))
+      (λ n. subst (λ (xs : List ℕ). Contains xs i) (sym (entered.other m n)) h)
+      (cases_eq m p)
 
-pub row_has : (pending : List Pending) (p k : ℕ) (v : Pending) → p < length pending → v.slots.items ≡ row_of pending p ++ k ∷ [] → Contains (row_of (set pending p v) p) k
-row_has pending p k v low is = subst (λ (xs : List ℕ). Contains xs k) (sym is ∙ sym (field_here (λ (x : Pending). x.slots.items) pending p v [] low)) (Contains-push (row_of pending p) k)
+  pub row_has : Contains (row_of after p) k
+  row_has = subst (λ (xs : List ℕ). Contains xs k) (sym entered.here) (Contains-push (row_of pending p) k)
 
-pub rows_inside : (n : ℕ) (pending : List Pending) (p k : ℕ) (v : Pending) → p < length pending → v.slots.items ≡ row_of pending p ++ k ∷ [] → k < n
-    → IsInsideRows n pending → IsInsideRows n (set pending p v)
-rows_inside n pending p k v low is small h m i there = ⊎_elim
-    (λ e. ⊎_elim (λ old. h p i old) (λ new. subst (λ j. j < n) new small)
-    (Contains-push_cases (row_of pending p) k i (subst (λ (xs : List ℕ). Contains xs i) (ap (row_of (set pending p v)) e ∙ (field_here (λ (x : Pending). x.slots.items) pending p v [] low ∙ is)) there)))
-    (λ o. h m i (subst (λ (xs : List ℕ). Contains xs i) (field_other (λ (x : Pending). x.slots.items) pending p v [] m o) there))
-    (cases_eq m p)
-
-pub rows_same : (pending : List Pending) (p : ℕ) (v : Pending) → p < length pending → v.slots.items ≡ row_of pending p → (m : ℕ) → row_of (set pending p v) m ≡ row_of pending m
-rows_same pending p v low is m = ⊎_elim
-    (λ e. ap (row_of (set pending p v)) e ∙ (field_here (λ (x : Pending). x.slots.items) pending p v [] low ∙ (is ∙ ap (row_of pending) (sym e))))
-    (λ n. field_other (λ (x : Pending). x.slots.items) pending p v [] m n)
-    (cases_eq m p)
+  pub rows_inside : (n : ℕ) → k < n → IsInsideRows n pending → IsInsideRows n after
+  rows_inside n small h m i there = ⊎_elim
+      (λ e. ⊎_elim (λ old. h p i old) (λ new. subst (λ j. j < n) new small)
+      (Contains-push_cases (row_of pending p) k i (subst (λ (xs : List ℕ). Contains xs i) (ap (row_of after) e ∙ entered.here) there)))
+      (λ o. h m i (subst (λ (xs : List ℕ). Contains xs i) (entered.other m o) there))
+      (cases_eq m p)
 
 -- a number that had no certificate gets one
 pub record IsFilled (slots after : List Slot) (marks : List Bool) (k : ℕ) : Type 0 where
@@ -62,7 +55,7 @@ none_admitted : (z : Sizes) (slots : List Slot) (k : ℕ) → round_of slots k �
 unfolding IsAdmittedAt
 none_admitted z slots k e h = let there : IsAdmittedAt z slots 0 k = subst (λ r. IsAdmittedAt z slots r k) e h in there
 
-pub filled : (z : Sizes) (slots : List Slot) (marks : List Bool) (pending : List Pending) (k : ℕ) (s : Slot) → IsTable z slots marks pending → round_of slots k ≡ 0 → IsFilled slots (set slots k s) marks k
+pub filled : (z : Sizes) (slots : List Slot) (marks : List Bool) (pending : Pending) (k : ℕ) (s : Slot) → IsTable z slots marks pending → round_of slots k ≡ 0 → IsFilled slots (set slots k s) marks k
 filled z slots marks pending k s t none = record {
   free = false_from_ne_true _ (λ e. none_admitted z slots k none ((t.exact k).0 e));
   none = none;
@@ -121,18 +114,18 @@ ready_before z slots after marks k i f other h =
           (both.0, sym (f.round p (λ q. both_ways _ f.free (ap (is_marked marks) (sym q) ∙ both.0))) ∙ (both.1 ∙ ap (λ n. n - 1) e));
     })
 
-pub sound_after : (z : Sizes) (slots after : List Slot) (marks : List Bool) (pending : List Pending) (k : ℕ) → IsTable z slots marks pending → IsFilled slots after marks k → IsSound z after marks
+pub sound_after : (z : Sizes) (slots after : List Slot) (marks : List Bool) (pending : Pending) (k : ℕ) → IsTable z slots marks pending → IsFilled slots after marks k → IsSound z after marks
 sound_after z slots after marks pending k t f i h =
     let other : i ≢ k = λ q. both_ways _ f.free (ap (is_marked marks) (sym q) ∙ h) in
     subst (λ r. IsAdmittedAt z after r i) (sym (f.round i other)) (admitted_kept z slots after marks k f (round_of slots i) i ((t.exact i).0 h))
 
 -- nothing but k is ready and not marked
-pub closed_after : (z : Sizes) (slots after : List Slot) (marks : List Bool) (pending : List Pending) (k i : ℕ) → IsTable z slots marks pending → IsFilled slots after marks k → i ≢ k
+pub closed_after : (z : Sizes) (slots after : List Slot) (marks : List Bool) (pending : Pending) (k i : ℕ) → IsTable z slots marks pending → IsFilled slots after marks k → i ≢ k
     → is_ready_in z after marks i ≡ true → is_marked marks i ≡ true
 closed_after z slots after marks pending k i t f other h =
     (t.exact i).1 (ready_admitted z slots marks i (λ j e. (t.exact j).0 e) (ready_before z slots after marks k i f other h))
 
-pub registered_after : (z : Sizes) (slots after : List Slot) (marks : List Bool) (pending rows : List Pending) (k : ℕ) → IsTable z slots marks pending → IsFilled slots after marks k
+pub registered_after : (z : Sizes) (slots after : List Slot) (marks : List Bool) (pending rows : Pending) (k : ℕ) → IsTable z slots marks pending → IsFilled slots after marks k
     → ((m i : ℕ) → Contains (row_of pending m) i → Contains (row_of rows m) i)
     → ((p : ℕ) → Contains (parents_of after k) p → is_marked marks p ≡ false → Contains (row_of rows p) k) → IsRegistered after marks rows
 registered_after z slots after marks pending rows k t f kept all i p names fi fp = ⊎_elim
@@ -144,7 +137,7 @@ before_mark : (marks : List Bool) (k i : ℕ) → k < length marks → is_marked
 before_mark marks k i low h = sym (marked_other marks k i (λ e. both_ways _ h (ap (is_marked (set marks k true)) e ∙ marked_here marks k low))) ∙ h
 
 -- once k is marked, whatever is ready waits for k
-pub covered_after : (z : Sizes) (slots after : List Slot) (marks : List Bool) (pending rows : List Pending) (k : ℕ) → IsTable z slots marks pending → IsFilled slots after marks k → k < length marks
+pub covered_after : (z : Sizes) (slots after : List Slot) (marks : List Bool) (pending rows : Pending) (k : ℕ) → IsTable z slots marks pending → IsFilled slots after marks k → k < length marks
     → IsRegistered after marks rows → (i : ℕ) → is_ready_in z after (set marks k true) i ≡ true → is_marked (set marks k true) i ≡ false → Contains (row_of rows k) i
 covered_after z slots after marks pending rows k t f low reg i ready free =
     let here : is_marked marks i ≡ false = before_mark marks k i low free in
@@ -154,11 +147,11 @@ covered_after z slots after marks pending rows k t f low reg i ready free =
     (λ names. reg i k names here f.free)
     (ready_cases z after marks k i ready)
 
-pub registered_mark : (slots : List Slot) (marks : List Bool) (rows : List Pending) (k : ℕ) → k < length marks → IsRegistered slots marks rows → IsRegistered slots (set marks k true) rows
+pub registered_mark : (slots : List Slot) (marks : List Bool) (rows : Pending) (k : ℕ) → k < length marks → IsRegistered slots marks rows → IsRegistered slots (set marks k true) rows
 registered_mark slots marks rows k low reg i p names fi fp = reg i p names (before_mark marks k i low fi) (before_mark marks k p low fp)
 
 -- the table where k has to wait
-pub exact_waiting : (z : Sizes) (slots after : List Slot) (marks : List Bool) (pending : List Pending) (k : ℕ) → IsTable z slots marks pending → IsFilled slots after marks k
+pub exact_waiting : (z : Sizes) (slots after : List Slot) (marks : List Bool) (pending : Pending) (k : ℕ) → IsTable z slots marks pending → IsFilled slots after marks k
     → is_ready_in z after marks k ≡ false → (i : ℕ) → (is_marked marks i ≡ true) ↔ IsAdmittedAt z after (round_of after i) i
 exact_waiting z slots after marks pending k t f waits i = (sound_after z slots after marks pending k t f i, admitted_marked z after marks closed (round_of after i) i)
   where

@@ -192,11 +192,11 @@ pub record IsAdmitting (n m : Names) (out : List ℕ) (top top' : ℕ) : Type 0 
   pub reached : (top' ≡ top) ⊎ ((i : ℕ) × Contains out i × (round_of m.slots.items i ≡ top'))
 
 -- an admitted number has a round
-marked_round : (z : Sizes) (n : Names) → IsTable z n.slots.items n.marks.items n.pending.items → (i : ℕ) → is_marked n.marks.items i ≡ true → 0 < round_of n.slots.items i
+marked_round : (z : Sizes) (n : Names) → IsTable z n.slots.items n.marks.items n.pending → (i : ℕ) → is_marked n.marks.items i ≡ true → 0 < round_of n.slots.items i
 marked_round z n t i m = admitted_some_round z n.slots.items (round_of n.slots.items i) i ((t.exact i).0 m)
 
 -- a parent of an admitted number is admitted
-parent_marked : (z : Sizes) (n : Names) → IsTable z n.slots.items n.marks.items n.pending.items → (i p : ℕ) → is_marked n.marks.items i ≡ true → 1 < round_of n.slots.items i
+parent_marked : (z : Sizes) (n : Names) → IsTable z n.slots.items n.marks.items n.pending → (i p : ℕ) → is_marked n.marks.items i ≡ true → 1 < round_of n.slots.items i
     → Contains (parents_of n.slots.items i) p → is_marked n.marks.items p ≡ true
 unfolding IsAdmittedAt
 parent_marked z n t i p m low among = by_round (round_of n.slots.items i) refl ((t.exact i).0 m)
@@ -208,7 +208,7 @@ parent_marked z n t i p m low among = by_round (round_of n.slots.items i) refl (
         (t.exact p).1 (subst (λ (q : ℕ). IsAdmittedAt z n.slots.items q p) (sym (admitted_at z n.slots.items r p g)) g)
 
 -- so it has a round, and in round 1 there is none
-parent_round : (z : Sizes) (held : List Node) (n : Names) → AreFit z held → IsTied held n.slots.items → IsTable z n.slots.items n.marks.items n.pending.items → (i p : ℕ)
+parent_round : (z : Sizes) (held : List Node) (n : Names) → AreFit z held → IsTied held n.slots.items → IsTable z n.slots.items n.marks.items n.pending → (i p : ℕ)
     → is_marked n.marks.items i ≡ true → Contains (parents_of n.slots.items i) p → is_marked n.marks.items p ≡ true
 parent_round z held n good tied t i p m among = ⊎_elim
     (λ one. absurd (no_parent (tied.cert i some) one))
@@ -226,7 +226,7 @@ parent_round z held n good tied t i p m among = ⊎_elim
         none_in_nil (id_of n.slots.items p) (subst (λ (qs : List (List ℕ)). Contains qs (id_of n.slots.items p)) none there)
 
 -- the author of an admitted one's parent is a member
-pub parent_author : (z : Sizes) (held : List Node) (n : Names) → AreFit z held → IsTied held n.slots.items → IsTable z n.slots.items n.marks.items n.pending.items → (i p : ℕ)
+pub parent_author : (z : Sizes) (held : List Node) (n : Names) → AreFit z held → IsTied held n.slots.items → IsTable z n.slots.items n.marks.items n.pending → (i p : ℕ)
     → is_marked n.marks.items i ≡ true → Contains (parents_of n.slots.items i) p → author_of n.slots.items p < members z
 parent_author z held n good tied t i p m among =
     let (d, at, s) = tied.cert p (marked_round z n t p (parent_round z held n good tied t i p m among)) in
@@ -235,14 +235,13 @@ parent_author z held n good tied t i p m among =
 pub whole_added : (z : Sizes) (held : List Node) (n m : Names) (c : Node) (k : ℕ) (slot : Slot) (placed placed' : CertRef → Option ℕ) (top top' : ℕ) (out : List ℕ)
     → IsWhole z held n placed top → IsAdding held n m c k slot → IsFit z c → ((d : Node) → Contains held d → d.id ≢ c.id) → ((d : Node) → Contains held d → place_of d ≢ place_of c)
     → ((a : CertRef) → (a ≡ place_of c → placed' a ≡ Some k) × (a ≢ place_of c → placed' a ≡ placed a))
-    → IsTable z m.slots.items m.marks.items m.pending.items → IsAdmitting n m out top top' → IsWhole z (held ++ c ∷ []) m placed' top'
+    → IsTable z m.slots.items m.marks.items m.pending → IsAdmitting n m out top top' → IsWhole z (held ++ c ∷ []) m placed' top'
 whole_added z held n m c k slot placed placed' top top' out w h it new free up t a = record {
   few = w.few;
   good = good;
   clear = clear_added held c w.clear new free;
   names = record {
     marks = t.same;
-    pending = t.rows_same;
     sets = a.sets_same ∙ (w.names.sets ∙ sym (length_same held n m c k slot h));
     rows = t.rows;
     waiting = a.waiting;
@@ -346,12 +345,12 @@ number_free z held n placed top w k c e new = ⊎_elim (λ none. none)
     taken : (d : Node) × IsAt held (cert_of n.slots.items k) d × IsSlotOf n.slots.items k d → ⊥
     taken (d, at, s) = new d (held_at held (cert_of n.slots.items k) d at) (s.id ∙ e)
 
-pub table_from : (z : Sizes) (m : Names) (slots : List Slot) (marks : List Bool) (pending : List Pending) → m.slots.items ≡ slots → m.marks.items ≡ marks → m.pending.items ≡ pending
-    → IsTable z slots marks pending → IsTable z m.slots.items m.marks.items m.pending.items
+pub table_from : (z : Sizes) (m : Names) (slots : List Slot) (marks : List Bool) (pending : Pending) → m.slots.items ≡ slots → m.marks.items ≡ marks → m.pending ≡ pending
+    → IsTable z slots marks pending → IsTable z m.slots.items m.marks.items m.pending
 table_from z m slots marks pending e f g t =
-    subst (λ (xs : List Slot). IsTable z xs m.marks.items m.pending.items) (sym e)
-    (subst (λ (xs : List Bool). IsTable z slots xs m.pending.items) (sym f)
-    (subst (λ (xs : List Pending). IsTable z slots marks xs) (sym g) t))
+    subst (λ (xs : List Slot). IsTable z xs m.marks.items m.pending) (sym e)
+    (subst (λ (xs : List Bool). IsTable z slots xs m.pending) (sym f)
+    (subst (λ (xs : Pending). IsTable z slots marks xs) (sym g) t))
 
 pub admitting_from : (n m : Names) (out out' : List ℕ) (top top' : ℕ) (marks marks' : List Bool) (slots' : List Slot) (sets sets' : List ℕ)
     → marks ≡ n.marks.items → m.marks.items ≡ marks' → m.slots.items ≡ slots' → sets ≡ n.sets.items → m.sets.items ≡ sets' → out' ≡ out → length sets' ≡ length sets

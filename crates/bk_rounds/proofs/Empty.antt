@@ -4,9 +4,8 @@ use Rattle.std.proofs.lemmas.Bool.{false≢true}
 use Rattle.bk_committee.specs.Sizes.{Sizes, members}
 use Rattle.bk_cert.specs.declared.place.CertRef.{CertRef}
 use Rattle.bk_rounds.specs.declared.slots.Slot.{Slot}
-use Rattle.bk_rounds.specs.declared.waking.Pending.{Pending}
 use Rattle.bk_rounds.specs.declared.names.Names.{Names}
-use Rattle.bk_rounds.specs.private.Numbered.{round_of, is_marked, IsAdmittedAt, IsTable}
+use Rattle.bk_rounds.specs.private.Numbered.{round_of, is_marked, IsAdmittedAt, IsInsideRows, IsTable}
 use Rattle.bk_rounds.specs.private.Names.{AreNames}
 use Rattle.bk_rounds.specs.private.Tied.{IsWhole, IsTied}
 use Rattle.bk_cert.proofs.Lists.{none_in_nil}
@@ -29,16 +28,14 @@ whole_empty z n placed none names free few = record {
   good = λ c t. absurd (none_in_nil c t);
   clear = record { no_collision = λ c d t. absurd (none_in_nil c t); no_twins = λ c d t. absurd (none_in_nil c t) };
   names = names;
-  table = subst (λ (ss : List Slot). IsTable z ss n.marks.items n.pending.items) (sym none)
-      (subst (λ (ms : List Bool). IsTable z [] ms n.pending.items) (sym marks_none)
-      (subst (λ (ps : List Pending). IsTable z [] [] ps) (sym rows_none) (record {
+  table = subst (λ (ss : List Slot). IsTable z ss n.marks.items n.pending) (sym none)
+      (subst (λ (ms : List Bool). IsTable z [] ms n.pending) (sym marks_none) (record {
         same = refl;
-        rows_same = refl;
         inside = λ i p t. absurd (none_in_nil p t);
-        rows = λ m i t. absurd (none_in_nil i t);
+        rows = subst (λ (ss : List Slot). IsInsideRows (length ss) n.pending) none names.rows;
         exact = λ i. ((λ m. absurd (false≢true m)), (λ h. absurd (none_here z 0 i h)));
         registered = λ i p t. absurd (none_in_nil p t);
-      })));
+      }));
   tied = subst (λ (ss : List Slot). IsTied [] ss) (sym none) (record { cert = λ i some. absurd (omega (arith, some)); slot = λ c t. absurd (none_in_nil c t) });
   placed = record {
     sound = λ a k e. absurd (none_some k (sym (free a) ∙ e));
@@ -52,9 +49,6 @@ whole_empty z n placed none names free few = record {
   where
     marks_none : n.marks.items ≡ []
     marks_none = no_length n.marks.items (names.marks ∙ ap length none)
-
-    rows_none : n.pending.items ≡ []
-    rows_none = no_length n.pending.items (names.pending ∙ ap length none)
 
     unmarked : (i : ℕ) → is_marked n.marks.items i ≡ true → ⊥
     unmarked i m = false≢true (sym (ap (λ (ms : List Bool). is_marked ms i) marks_none) ∙ m)

@@ -61,16 +61,15 @@ grows_same a b s = record {
   parents = λ i. ap (λ xs. parents_of xs i) s.slots;
   marked = λ i. ap (λ xs. is_marked xs i) s.marks;
   set = λ i low. ap (λ xs. set_of xs i) s.sets;
-  kept = λ m i h. subst (λ (xs : List Pending). Contains (row_of xs m) i) (sym s.pending) h;
+  kept = λ m i h. subst (λ (xs : Pending). Contains (row_of xs m) i) (sym s.pending) h;
 }
 
 pub names_same : (a b : Names) → AreNames a → AreSame a b → AreNames b
 names_same a b n s = record {
   marks = ap length s.marks ∙ (n.marks ∙ sym (ap length s.slots));
-  pending = ap length s.pending ∙ (n.pending ∙ sym (ap length s.slots));
   sets = ap length s.sets ∙ (n.sets ∙ sym (ap length s.slots));
-  rows = subst (λ (xs : List Pending). IsInsideRows (length b.slots.items) xs) (sym s.pending)
-      (subst (λ (k : ℕ). IsInsideRows k a.pending.items) (sym (ap length s.slots)) n.rows);
+  rows = subst (λ (xs : Pending). IsInsideRows (length b.slots.items) xs) (sym s.pending)
+      (subst (λ (k : ℕ). IsInsideRows k a.pending) (sym (ap length s.slots)) n.rows);
   waiting = s.unmarked ∙ (n.waiting ∙ ap count_unmarked (sym s.marks));
   numbering = record {
     sound = λ q k e. let h = n.numbering.sound q k (sym (known q) ∙ e) in
@@ -97,59 +96,56 @@ grows_on a b c h k = record {
 }
 
 -- an id was given the next number
-pub record Pushes (a b : Names) (id : List ℕ) (slot : Slot) (row : Pending) (set : ℕ) : Type 0 where
+pub record Pushes (a b : Names) (id : List ℕ) (slot : Slot) (set : ℕ) : Type 0 where
   pub id_is : slot.id ≡ id
   pub round_is : slot.round ≡ 0
   pub author_is : slot.author ≡ 0
   pub cert_is : slot.cert ≡ 0
   pub none : slot.parents.items ≡ []
-  pub empty : row.slots.items ≡ []
   pub slots : b.slots.items ≡ a.slots.items ++ slot ∷ []
   pub marks : b.marks.items ≡ a.marks.items ++ false ∷ []
-  pub pending : b.pending.items ≡ a.pending.items ++ row ∷ []
+  pub pending : b.pending ≡ a.pending
   pub sets : b.sets.items ≡ a.sets.items ++ set ∷ []
   pub unmarked : b.unmarked ≡ a.unmarked + 1
   pub updates : (q : List ℕ) → known_in b q ≡ cond (is_same_id id q) (Some (length a.slots.items)) (known_in a q)
 
-row_same : (a b : Names) (id : List ℕ) (slot : Slot) (row : Pending) (set : ℕ) → Pushes a b id slot row set → (m : ℕ) → row_of b.pending.items m ≡ row_of a.pending.items m
-row_same a b id slot row set p m = ap (λ xs. row_of xs m) p.pending ∙ push_field (λ (x : Pending). x.slots.items) a.pending.items row [] p.empty m
+row_same : (a b : Names) (id : List ℕ) (slot : Slot) (set : ℕ) → Pushes a b id slot set → (m : ℕ) → row_of b.pending m ≡ row_of a.pending m
+row_same a b id slot set p m = ap (λ (xs : Pending). row_of xs m) p.pending
 
-id_before : (a b : Names) (id : List ℕ) (slot : Slot) (row : Pending) (set : ℕ) → Pushes a b id slot row set → (i : ℕ) → i < length a.slots.items
+id_before : (a b : Names) (id : List ℕ) (slot : Slot) (set : ℕ) → Pushes a b id slot set → (i : ℕ) → i < length a.slots.items
     → id_of b.slots.items i ≡ id_of a.slots.items i
-id_before a b id slot row set p i low =
+id_before a b id slot set p i low =
     let few : i < length (map (λ (x : Slot). x.id) a.slots.items) = subst (λ (k : ℕ). i < k) (sym (length_map (λ (x : Slot). x.id) a.slots.items)) low in
     ap (λ xs. id_of xs i) p.slots ∙ (ap (λ ys. get_or ys i []) (map_push (λ (x : Slot). x.id) a.slots.items slot)
     ∙ push_before (map (λ (x : Slot). x.id) a.slots.items) slot.id [] i few)
 
-pub id_at : (a b : Names) (id : List ℕ) (slot : Slot) (row : Pending) (set : ℕ) → Pushes a b id slot row set → id_of b.slots.items (length a.slots.items) ≡ id
-id_at a b id slot row set p =
+pub id_at : (a b : Names) (id : List ℕ) (slot : Slot) (set : ℕ) → Pushes a b id slot set → id_of b.slots.items (length a.slots.items) ≡ id
+id_at a b id slot set p =
     ap (λ xs. id_of xs (length a.slots.items)) p.slots ∙ (ap (λ ys. get_or ys (length a.slots.items) []) (map_push (λ (x : Slot). x.id) a.slots.items slot)
     ∙ (ap (λ k. get_or (map (λ (x : Slot). x.id) a.slots.items ++ slot.id ∷ []) k []) (sym (length_map (λ (x : Slot). x.id) a.slots.items))
     ∙ (push_at (map (λ (x : Slot). x.id) a.slots.items) slot.id [] ∙ p.id_is)))
 
-pub grows_pushed : (a b : Names) (id : List ℕ) (slot : Slot) (row : Pending) (set : ℕ) → AreNames a → Pushes a b id slot row set → Grows a b
-grows_pushed a b id slot row set n p = record {
+pub grows_pushed : (a b : Names) (id : List ℕ) (slot : Slot) (set : ℕ) → AreNames a → Pushes a b id slot set → Grows a b
+grows_pushed a b id slot set n p = record {
   longer = let e = ap length p.slots in omega (arith, e, length-append a.slots.items (slot ∷ []));
-  id = id_before a b id slot row set p;
+  id = id_before a b id slot set p;
   round = λ i. ap (λ xs. round_of xs i) p.slots ∙ push_field (λ (x : Slot). x.round) a.slots.items slot 0 p.round_is i;
   author = λ i. ap (λ xs. author_of xs i) p.slots ∙ push_field (λ (x : Slot). x.author) a.slots.items slot 0 p.author_is i;
   cert = λ i. ap (λ xs. cert_of xs i) p.slots ∙ push_field (λ (x : Slot). x.cert) a.slots.items slot 0 p.cert_is i;
   parents = λ i. ap (λ xs. parents_of xs i) p.slots ∙ push_field (λ (x : Slot). x.parents.items) a.slots.items slot [] p.none i;
   marked = λ i. ap (λ xs. is_marked xs i) p.marks ∙ push_default a.marks.items false i;
   set = λ i low. ap (λ xs. set_of xs i) p.sets ∙ push_before a.sets.items set 0 i (subst (λ (k : ℕ). i < k) (sym n.sets) low);
-  kept = λ m i h. subst (λ (xs : List ℕ). Contains xs i) (sym (row_same a b id slot row set p m)) h;
+  kept = λ m i h. subst (λ (xs : List ℕ). Contains xs i) (sym (row_same a b id slot set p m)) h;
 }
 
-pub names_pushed : (a b : Names) (id : List ℕ) (slot : Slot) (row : Pending) (set : ℕ) → AreNames a → known_in a id ≡ None → Pushes a b id slot row set → AreNames b
-names_pushed a b id slot row set n new p = record {
+pub names_pushed : (a b : Names) (id : List ℕ) (slot : Slot) (set : ℕ) → AreNames a → known_in a id ≡ None → Pushes a b id slot set → AreNames b
+names_pushed a b id slot set n new p = record {
   marks = let e = ap length p.marks in let f = ap length p.slots in
       omega (arith, e, f, n.marks, length-append a.marks.items (false ∷ []), length-append a.slots.items (slot ∷ []));
-  pending = let e = ap length p.pending in let f = ap length p.slots in
-      omega (arith, e, f, n.pending, length-append a.pending.items (row ∷ []), length-append a.slots.items (slot ∷ []));
   sets = let e = ap length p.sets in let f = ap length p.slots in
       omega (arith, e, f, n.sets, length-append a.sets.items (set ∷ []), length-append a.slots.items (slot ∷ []));
   rows = λ m i h.
-      let low = n.rows m i (subst (λ (xs : List ℕ). Contains xs i) (row_same a b id slot row set p m) h) in
+      let low = n.rows m i (subst (λ (xs : List ℕ). Contains xs i) (row_same a b id slot set p m) h) in
       let f = ap length p.slots in omega (arith, low, f, length-append a.slots.items (slot ∷ []));
   waiting = p.unmarked ∙ (ap (λ k. k + 1) n.waiting ∙ (sym (sum_by-append (λ (v : Bool). cond (not v) 1 0) a.marks.items (false ∷ [])) ∙ ap count_unmarked (sym p.marks)));
   numbering = record {
@@ -158,22 +154,22 @@ names_pushed a b id slot row set n new p = record {
         let is : length a.slots.items ≡ k = some_same _ _ (sym (p.updates q ∙ ap (λ v. cond v (Some (length a.slots.items)) (known_in a q)) t) ∙ e) in
         let f = ap length p.slots in (
           omega (arith, is, f, length-append a.slots.items (slot ∷ [])),
-          ap (id_of b.slots.items) (sym is) ∙ (id_at a b id slot row set p ∙ (same_id-Decides id q).0 t),
+          ap (id_of b.slots.items) (sym is) ∙ (id_at a b id slot set p ∙ (same_id-Decides id q).0 t),
         ))
         (λ g.
         let h = n.numbering.sound q k (sym (p.updates q ∙ ap (λ v. cond v (Some (length a.slots.items)) (known_in a q)) g) ∙ e) in
         let f = ap length p.slots in
-        (omega (arith, h.0, f, length-append a.slots.items (slot ∷ [])), id_before a b id slot row set p k h.0 ∙ h.1))
+        (omega (arith, h.0, f, length-append a.slots.items (slot ∷ [])), id_before a b id slot set p k h.0 ∙ h.1))
         (cases_Bool (is_same_id id q));
     complete = λ k low. ⊎_elim
-        (λ lt. ap (known_in b) (id_before a b id slot row set p k lt)
+        (λ lt. ap (known_in b) (id_before a b id slot set p k lt)
         ∙ (p.updates (id_of a.slots.items k)
         ∙ (ap (λ v. cond v (Some (length a.slots.items)) (known_in a (id_of a.slots.items k))) (apart k lt) ∙ n.numbering.complete k lt)))
         (λ ge.
         let f = ap length p.slots in
         let is : length a.slots.items ≡ k = omega (arith, low, ge, f, length-append a.slots.items (slot ∷ [])) in
         ap (λ j. known_in b (id_of b.slots.items j)) (sym is)
-        ∙ (ap (known_in b) (id_at a b id slot row set p)
+        ∙ (ap (known_in b) (id_at a b id slot set p)
         ∙ (p.updates id ∙ (ap (λ v. cond v (Some (length a.slots.items)) (known_in a id)) ((same_id-Decides id id).1 refl) ∙ ap Some is))))
         (cases_lt k (length a.slots.items));
   };
@@ -229,12 +225,11 @@ id_pushed xs ys s n e is =
 
 -- rows have gained
 pub names_rows : (a b : Names) → AreNames a → b.numbers ≡ a.numbers → b.slots ≡ a.slots → b.marks ≡ a.marks → b.sets ≡ a.sets → b.unmarked ≡ a.unmarked
-    → length b.pending.items ≡ length a.pending.items → IsInsideRows (length a.slots.items) b.pending.items → AreNames b
-names_rows a b n numbers slots marks sets unmarked same rows = record {
+    → IsInsideRows (length a.slots.items) b.pending → AreNames b
+names_rows a b n numbers slots marks sets unmarked rows = record {
   marks = ap (λ v. length v.items) marks ∙ (n.marks ∙ sym (ap (λ v. length v.items) slots));
-  pending = same ∙ (n.pending ∙ sym (ap (λ v. length v.items) slots));
   sets = ap (λ v. length v.items) sets ∙ (n.sets ∙ sym (ap (λ v. length v.items) slots));
-  rows = subst (λ (k : ℕ). IsInsideRows k b.pending.items) (sym (ap (λ v. length v.items) slots)) rows;
+  rows = subst (λ (k : ℕ). IsInsideRows k b.pending) (sym (ap (λ v. length v.items) slots)) rows;
   waiting = unmarked ∙ (n.waiting ∙ ap (λ v. count_unmarked v.items) (sym marks));
   numbering = record {
     sound = λ q k e. let h = n.numbering.sound q k (sym (known q) ∙ e) in
@@ -248,7 +243,7 @@ names_rows a b n numbers slots marks sets unmarked same rows = record {
     known q = ap (λ m. lookup (is_same_id q) m.entries) numbers
 
 pub grows_rows : (a b : Names) → b.slots ≡ a.slots → b.marks ≡ a.marks → b.sets ≡ a.sets
-    → ((m i : ℕ) → Contains (row_of a.pending.items m) i → Contains (row_of b.pending.items m) i) → Grows a b
+    → ((m i : ℕ) → Contains (row_of a.pending m) i → Contains (row_of b.pending m) i) → Grows a b
 grows_rows a b slots marks sets kept = record {
   longer = let e = ap (λ v. length v.items) slots in omega arith;
   id = λ i low. ap (λ v. id_of v.items i) slots;

@@ -1,13 +1,13 @@
 -- The loop over those whose marks were set and who are not yet looked after.
-use Rattle.std.proofs.Common.{◌≡◌, ◌≢◌, ℕ, ◌+◌, ◌-◌, ◌<◌, ◌≤◌, ◌↔◌, ◌⊎◌, Bool, true, false, List, [], ◌++◌, length, map, refl, sym, ap, ◌∙◌, subst, ⊎_elim, arith, get_or, set}
+use Rattle.std.proofs.Common.{◌≡◌, ◌≢◌, ℕ, ◌+◌, ◌-◌, ◌<◌, ◌≤◌, ◌↔◌, ◌⊎◌, Bool, true, false, List, [], ◌++◌, length, refl, sym, ap, ◌∙◌, subst, ⊎_elim, arith, get_or}
 use Rattle.std.specs.List.{Contains}
 use Rattle.std.proofs.lemmas.Bool.{cases_eq, cases_lt, cases_Bool, both_ways, false_from_ne_true}
 use Rattle.std.proofs.lemmas.List.Elements.{Contains-append_cases}
-use Rattle.std.proofs.lemmas.List.{length-append, get_or_append_left, get_or-append_right, get_or-map, get_or-set_other, get_or-set_same, get_or_past, length-set, length-map}
+use Rattle.std.proofs.lemmas.List.{length-append, get_or_append_left, get_or-append_right, get_or_past}
 use Rattle.bk_committee.specs.Sizes.{Sizes}
 use Rattle.bk_rounds.specs.declared.slots.Slot.{Slot}
 use Rattle.bk_rounds.specs.declared.waking.Pending.{Pending}
-use Rattle.bk_rounds.specs.private.Numbered.{IsInsideRows, IsRegistered, IsSound, IsAdmittedAt, is_ready_in, parents_of, round_of, row_of, is_marked, Extends}
+use Rattle.bk_rounds.specs.private.Numbered.{IsInsideRows, IsRegistered, IsTaken, IsSound, IsAdmittedAt, is_ready_in, parents_of, round_of, row_of, is_marked, Extends}
 use Rattle.bk_rounds.proofs.Marks.{admitted_marked}
 
 -- in the list from this index on
@@ -15,17 +15,12 @@ abbrev pub IsLeft : List ℕ → ℕ → ℕ → Type 0
 IsLeft out next m = (j : ℕ) × (next ≤ j) × (j < length out) × (get_or out j m ≡ m)
 
 -- What is left to look after is marked, and whatever is ready and not marked waits for one of these.
-pub record IsSettling (z : Sizes) (slots : List Slot) (marks : List Bool) (pending : List Pending) (out : List ℕ) (next : ℕ) : Type 0 where
+pub record IsSettling (z : Sizes) (slots : List Slot) (marks : List Bool) (pending : Pending) (out : List ℕ) (next : ℕ) : Type 0 where
   pub sound : IsSound z slots marks
   pub inside : IsInsideRows (length slots) pending
   pub here : (m : ℕ) → Contains out m → (m < length slots) × (is_marked marks m ≡ true)
   pub registered : IsRegistered slots marks pending
   pub covered : (i : ℕ) → is_ready_in z slots marks i ≡ true → is_marked marks i ≡ false → (m : ℕ) × IsLeft out next m × Contains (row_of pending m) i
-
--- rows other than that of k stay, and that of k is empty
-pub record IsTaken (pending after : List Pending) (k : ℕ) : Type 0 where
-  pub other : (m : ℕ) → m ≢ k → row_of after m ≡ row_of pending m
-  pub taken : row_of after k ≡ []
 
 get_or-append_at : (xs ys : List ℕ) (j d : ℕ) → get_or (xs ++ ys) (length xs + j) d ≡ get_or ys j d
 get_or-append_at xs ys j d = get_or-append_right xs ys (length xs) (length xs + j) d refl (omega arith) ∙ ap (λ i. get_or ys i d) (let e : length xs + j - length xs ≡ j = omega arith in e)
@@ -33,7 +28,7 @@ get_or-append_at xs ys j d = get_or-append_right xs ys (length xs) (length xs + 
 none_in_nil : (x : ℕ) → Contains [] x → ⊥
 none_in_nil x h = omega (arith, h.1)
 
-pub settled_at_end : (z : Sizes) (slots : List Slot) (marks : List Bool) (pending : List Pending) (out : List ℕ) (next : ℕ) → length out ≤ next
+pub settled_at_end : (z : Sizes) (slots : List Slot) (marks : List Bool) (pending : Pending) (out : List ℕ) (next : ℕ) → length out ≤ next
     → IsSettling z slots marks pending out next → (i : ℕ) → (is_marked marks i ≡ true) ↔ IsAdmittedAt z slots (round_of slots i) i
 settled_at_end z slots marks pending out next all s i = (s.sound i, admitted_marked z slots marks closed (round_of slots i) i)
   where
@@ -43,14 +38,14 @@ settled_at_end z slots marks pending out next all s i = (s.sound i, admitted_mar
     closed : (i : ℕ) → is_ready_in z slots marks i ≡ true → is_marked marks i ≡ true
     closed i ready = ⊎_elim (λ t. t) (λ f. absurd (none i ready f)) (cases_Bool (is_marked marks i))
 
-inside_taken : (n k : ℕ) (pending after : List Pending) → IsInsideRows n pending → IsTaken pending after k → IsInsideRows n after
+inside_taken : (n k : ℕ) (pending after : Pending) → IsInsideRows n pending → IsTaken pending after k → IsInsideRows n after
 inside_taken n k pending after h t m i there = ⊎_elim
     (λ e. absurd (none_in_nil i (subst (λ (xs : List ℕ). Contains xs i) (ap (row_of after) e ∙ t.taken) there)))
     (λ o. h m i (subst (λ (xs : List ℕ). Contains xs i) (t.other m o) there))
     (cases_eq m k)
 
 -- Those that waited for the next one are looked after.
-pub settling_next : (z : Sizes) (slots : List Slot) (old new : List Bool) (pending after : List Pending) (out out' woken : List ℕ) (next k : ℕ) → row_of pending k ≡ woken → next < length out → ((d : ℕ) → get_or out next d ≡ k)
+pub settling_next : (z : Sizes) (slots : List Slot) (old new : List Bool) (pending after : Pending) (out out' woken : List ℕ) (next k : ℕ) → row_of pending k ≡ woken → next < length out → ((d : ℕ) → get_or out next d ≡ k)
     → IsSettling z slots old pending out next → IsTaken pending after k → IsSound z slots new → Extends old new out out'
     → ((i : ℕ) → is_ready_in z slots new i ≡ true → is_marked new i ≡ false
     → ((is_ready_in z slots old i ≡ true) × (Contains woken i → ⊥))
@@ -108,28 +103,11 @@ settling_next z slots old new pending after out out' woken next k row low at s t
         let other : m ≢ k = λ e. away (subst (λ (xs : List ℕ). Contains xs i) (ap (row_of pending) e ∙ row) waits) in
         (m, left_on m other left, subst (λ (xs : List ℕ). Contains xs i) (sym (t.other m other)) waits)
 
-pub row_at : (pending : List Pending) (k : ℕ) (d : Pending) → k < length pending → row_of pending k ≡ (get_or pending k d).slots.items
-row_at pending k d low = get_or-map (λ (x : Pending). x.slots.items) pending k d [] low
-
-pub taken_from : (pending : List Pending) (k : ℕ) (s : Pending) → k < length pending → s.slots.items ≡ [] → IsTaken pending (set pending k s) k
-taken_from pending k s low empty = record {
-  other = λ m n. ⊎_elim
-      (λ lt. get_or-map f (set pending k s) m s [] (simp length-set lt)
-      ∙ (ap f (get_or-set_other pending k m s s n) ∙ sym (get_or-map f pending m s [] lt)))
-      (λ ge. get_or_past (map f (set pending k s)) m [] (simp (length-map, length-set) ge)
-      ∙ sym (get_or_past (map f pending) m [] (simp length-map ge)))
-      (cases_lt m (length pending));
-  taken = get_or-map f (set pending k s) k s [] (simp length-set low) ∙ (ap f (get_or-set_same pending k s s low) ∙ empty);
-}
-  where
-    f : Pending → List ℕ
-    f x = x.slots.items
-
 pub marked_low : (marks : List Bool) (p : ℕ) → is_marked marks p ≡ true → p < length marks
 marked_low marks p h = ⊎_elim (λ lt. lt) (λ ge. absurd (both_ways _ (get_or_past marks p false ge) h)) (cases_lt p (length marks))
 
 -- a start: all of the list is left
-pub settling_first : (z : Sizes) (slots : List Slot) (marks : List Bool) (pending : List Pending) (out : List ℕ) → IsSound z slots marks → IsInsideRows (length slots) pending
+pub settling_first : (z : Sizes) (slots : List Slot) (marks : List Bool) (pending : Pending) (out : List ℕ) → IsSound z slots marks → IsInsideRows (length slots) pending
     → ((m : ℕ) → Contains out m → (m < length slots) × (is_marked marks m ≡ true)) → IsRegistered slots marks pending
     → ((i : ℕ) → is_ready_in z slots marks i ≡ true → is_marked marks i ≡ false → (m : ℕ) × Contains out m × Contains (row_of pending m) i)
     → IsSettling z slots marks pending out 0

@@ -26,10 +26,9 @@ admitted_grown z slots after round author parents (suc r) i h = (
   λ low p t. admitted_grown z slots after round author parents r p (h.2 low p (subst (λ (ps : List ℕ). Contains ps p) (parents i) t)),
 )
 
-table_grown : (z : Sizes) (a b : Names) → Grows a b → AreNames b → IsTable z a.slots.items a.marks.items a.pending.items → IsTable z b.slots.items b.marks.items b.pending.items
+table_grown : (z : Sizes) (a b : Names) → Grows a b → AreNames b → IsTable z a.slots.items a.marks.items a.pending → IsTable z b.slots.items b.marks.items b.pending
 table_grown z a b g n t = record {
   same = n.marks;
-  rows_same = n.pending;
   inside = λ i p h. let l = t.inside i p (subst (λ (ps : List ℕ). Contains ps p) (g.parents i) h) in let m = g.longer in omega arith;
   rows = n.rows;
   exact = λ i. (

@@ -22,7 +22,7 @@ pub(crate) fn admit(
     weights: &Weights,
     slots: &mut [Slot],
     marks: &mut [bool],
-    pending: &mut [Pending],
+    pending: &mut Pending,
     k: usize,
     slot: Slot,
     out: &mut Vec<usize>,

@@ -18,14 +18,15 @@ use std::collections::BTreeMap;
 
 /// The ids that were met, those of parents that are not held among them, each with its number.
 ///
-/// What is known of a number is at that index in each of the lists. An id is found in O(log n) of
-/// those that were met, whatever its bytes: they come from a feed.
+/// What is known of a number is at that index in each of the lists, and who waits for it in
+/// `pending`. An id is found in O(log n) of those that were met, whatever its bytes: they come from
+/// a feed.
 #[derive(Drop)]
 pub(crate) struct Names {
     pub numbers: BTreeMap<Digest32, usize>,
     pub slots: Vec<Slot>,
     pub marks: Vec<bool>,
-    pub pending: Vec<Pending>,
+    pub pending: Pending,
     pub sets: Vec<Members>,
     // How many are not admitted.
     pub unmarked: usize,
@@ -41,7 +42,7 @@ impl Names {
             numbers: BTreeMap::new(alloc),
             slots: Vec::new(alloc),
             marks: Vec::new(alloc),
-            pending: Vec::new(alloc),
+            pending: Pending::new(alloc),
             sets: Vec::new(alloc),
             unmarked: 0,
         }
@@ -137,9 +138,6 @@ pub(crate) fn own_number(
         parents: Vec::new(alloc),
     });
     names.marks.push_reserved(false);
-    names.pending.push_reserved(Pending {
-        slots: Vec::new(alloc),
-    });
     names.sets.push_reserved(Members::none());
     names.unmarked += 1;
     Ok(number)
@@ -175,6 +173,5 @@ fn make_room(names: &mut Names) -> Result<(), AllocError>
 {
     names.slots.reserve(1)?;
     names.marks.reserve(1)?;
-    names.pending.reserve(1)?;
     names.sets.reserve(1)
 }

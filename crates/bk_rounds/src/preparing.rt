@@ -41,6 +41,6 @@ pub(crate) fn prepare(
     buffers.clear_for(names.unmarked)?;
     certs.reserve(1)?;
     rows.open(cert, certs.len())?;
-    register(&names.marks, &mut names.pending, number, &parents)?;
+    register(alloc, &names.marks, &mut names.pending, number, &parents)?;
     Ok(Prepared { number, parents })
 }

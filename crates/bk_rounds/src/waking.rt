@@ -1,17 +1,60 @@
 //! Who waits is woken by what is admitted.
 
-ghost use Rattle.std.specs.Prelude.{◌≡◌, ℕ, ◌+◌, ◌<◌, ◌≤◌, length, Contains, true, false, OnOk, All, vec_len, vec_capacity};
-ghost use Rattle.bk_rounds.specs.private.Numbered.{IsInside, IsInsideRows, IsSound, IsExact, Covers, AreCovered, row_of, is_marked, count_unmarked, Extends, IsRegistered};
+ghost use Rattle.std.specs.Prelude.{◌≡◌, ℕ, ◌+◌, ◌<◌, ◌≤◌, [], length, Contains, true, false, OnOk, OnErr, All, vec_len, vec_capacity};
+ghost use Rattle.bk_rounds.specs.private.Numbered.{IsInside, IsInsideRows, IsSound, IsExact, IsTaken, IsEntered, Covers, AreCovered, row_of, is_marked, count_unmarked, Extends, IsRegistered};
 
 use crate::slots::{Slot, is_ready};
 use crate::weights::Weights;
 use std::alloc::{AllocError, Global};
-use std::mem;
+use std::collections::BTreeMap;
 
-/// Those that wait and name this one as a parent.
+/// Who names one that is not admitted as a parent.
+#[derive(Drop)]
+pub(crate) struct Row {
+    pub slots: Vec<usize>,
+}
+
+/// Who waits, in a row for each number that is waited for. Where all come in order nothing is in it.
 #[derive(Drop)]
 pub(crate) struct Pending {
-    pub slots: Vec<usize>,
+    pub rows: BTreeMap<usize, Row>,
+}
+
+impl Pending {
+    /// Nobody.
+    pub fn new(alloc: Global) -> Pending
+        ensures { (m : ℕ) → row_of result m ≡ [] }
+    {
+        Pending {
+            rows: BTreeMap::new(alloc),
+        }
+    }
+
+    // Takes the row of k out.
+    fn take(&mut self, alloc: Global, k: usize) -> Vec<usize>
+        ensures row { result.items ≡ row_of self.old k }
+        ensures taken { IsTaken self.old self.new k }
+    {
+        match self.rows.remove(&k) {
+            Some(row) => row.slots,
+            None => Vec::new(alloc),
+        }
+    }
+
+    // Enters k in the row of p.
+    fn push(&mut self, alloc: Global, p: usize, k: usize) -> Result<(), AllocError>
+        ensures ok { OnOk result (IsEntered self.old self.new p k) }
+        ensures err { OnErr result ((m : ℕ) → row_of self.new m ≡ row_of self.old m) }
+    {
+        if let Some(row) = self.rows.get_mut(&p) {
+            row.slots.push(k)?;
+            return Ok(());
+        }
+        let mut slots = Vec::new(alloc);
+        slots.push(k)?;
+        self.rows.insert(p, Row { slots })?;
+        Ok(())
+    }
 }
 
 // Admits what is ready of these.
@@ -49,12 +92,11 @@ pub(crate) fn settle(
     weights: &Weights,
     slots: &[Slot],
     marks: &mut [bool],
-    pending: &mut [Pending],
+    pending: &mut Pending,
     out: &mut Vec<usize>,
 )
     requires parents { IsInside slots.now }
-    requires same { (length marks.old ≡ length slots.now)
-        × (length pending.old ≡ length slots.now) }
+    requires same { length marks.old ≡ length slots.now }
     requires rows { IsInsideRows (length slots.now) pending.old }
     requires out { (i : ℕ) → Contains out.old.items i → (i < length slots.now)
         × (is_marked marks.old i ≡ true) }
@@ -73,7 +115,7 @@ pub(crate) fn settle(
     while next < out.len() {
         let k = out[next];
         next += 1;
-        let woken = mem::replace(&mut pending[k].slots, Vec::new(alloc));
+        let woken = pending.take(alloc, k);
         wake(weights, slots, marks, &woken, out);
     }
 }
@@ -81,12 +123,12 @@ pub(crate) fn settle(
 /// Writes k into the row of each parent that is not admitted. A row that names k too early harms
 /// nothing.
 pub(crate) fn register(
+    alloc: Global,
     marks: &[bool],
-    pending: &mut [Pending],
+    pending: &mut Pending,
     k: usize,
     parents: &[usize],
 ) -> Result<(), AllocError>
-    requires same { length pending.old ≡ length marks.now }
     requires number { k < length marks.now }
     requires parents { All (λ p. p < length marks.now) parents.now }
     requires rows { IsInsideRows (length marks.now) pending.old }
@@ -99,7 +141,7 @@ pub(crate) fn register(
     for p in parents {
         let p = *p;
         if !marks[p] {
-            pending[p].slots.push(k)?;
+            pending.push(alloc, p, k)?;
         }
     }
     Ok(())

@@ -27,9 +27,8 @@ known_in n q = get (slice_cmp nat_cmp) n.numbers q
 -- the lists are of one length, and each id has its number
 pub record AreNames (n : Names) : Type 0 where
   pub marks : length n.marks.items ≡ length n.slots.items
-  pub pending : length n.pending.items ≡ length n.slots.items
   pub sets : length n.sets.items ≡ length n.slots.items
-  pub rows : IsInsideRows (length n.slots.items) n.pending.items
+  pub rows : IsInsideRows (length n.slots.items) n.pending
   pub waiting : n.unmarked ≡ count_unmarked n.marks.items
   pub numbering : IsNumbering n.slots.items (known_in n)
 
@@ -43,15 +42,14 @@ pub record Grows (a b : Names) : Type 0 where
   pub parents : (i : ℕ) → parents_of b.slots.items i ≡ parents_of a.slots.items i
   pub marked : (i : ℕ) → is_marked b.marks.items i ≡ is_marked a.marks.items i
   pub set : (i : ℕ) → i < length a.slots.items → set_of b.sets.items i ≡ set_of a.sets.items i
-  pub kept : (m i : ℕ) → Contains (row_of a.pending.items m) i
-      → Contains (row_of b.pending.items m) i
+  pub kept : (m i : ℕ) → Contains (row_of a.pending m) i → Contains (row_of b.pending m) i
 
 -- nothing but capacities changed
 pub record AreSame (a b : Names) : Type 0 where
   pub numbers : (q : List ℕ) → known_in b q ≡ known_in a q
   pub slots : b.slots.items ≡ a.slots.items
   pub marks : b.marks.items ≡ a.marks.items
-  pub pending : b.pending.items ≡ a.pending.items
+  pub pending : b.pending ≡ a.pending
   pub sets : b.sets.items ≡ a.sets.items
   pub unmarked : b.unmarked ≡ a.unmarked
 
@@ -59,5 +57,4 @@ pub record AreSame (a b : Names) : Type 0 where
 pub record HasRoom (n : Names) : Type 0 where
   pub slots : vec_len n.slots < vec_capacity n.slots
   pub marks : vec_len n.marks < vec_capacity n.marks
-  pub pending : vec_len n.pending < vec_capacity n.pending
   pub sets : vec_len n.sets < vec_capacity n.sets

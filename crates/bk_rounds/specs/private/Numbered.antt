@@ -1,9 +1,12 @@
 -- Certificates by number: what never changes of them, and the marks and rows that do.
-use Rattle.std.specs.Prelude.{◌≡◌, ℕ, zero, suc, ◌+◌, ◌-◌, ◌<◌, ◌≤◌, ◌^◌, ◌==◌, ◌&&◌, ◌||◌, ◌⊎◌, ◌↔◌, ◌++◌, not, Bool, true, false, List, [], map, length, Contains, count_by, sum_by, nat_le, slice_index_or}
+use Rattle.std.specs.Prelude.{◌≡◌, ◌≢◌, ℕ, zero, suc, ◌+◌, ◌-◌, ◌<◌, ◌≤◌, ◌^◌, ◌==◌, ◌&&◌, ◌||◌, ◌⊎◌, ◌↔◌, ◌++◌, not, Bool, true, false, List, [], ◌∷◌, Option, Some, None, map, length, Contains, count_by, sum_by, nat_le, slice_index_or}
+use Rattle.std.specs.BTreeMap.{get}
 use Rattle.std.specs.List.{list_all}
+use Rattle.std.specs.Ordering.{nat_cmp}
 use Rattle.bk_committee.specs.Sizes.{Sizes, members, total, quorum, weight}
 use Rattle.bk_rounds.specs.declared.slots.Slot.{Slot}
 use Rattle.bk_rounds.specs.declared.waking.Pending.{Pending}
+use Rattle.bk_rounds.specs.declared.waking.Row.{Row}
 
 -- the round, which is 0 where no certificate is held under the id
 abbrev pub round_of : List Slot → ℕ → ℕ
@@ -25,9 +28,14 @@ id_of slots i = slice_index_or (map (λ s. s.id) slots) i []
 abbrev pub parents_of : List Slot → ℕ → List ℕ
 parents_of slots i = slice_index_or (map (λ s. s.parents.items) slots) i []
 
+-- who is in a row; nobody where there is none
+abbrev pub slots_in : Option Row → List ℕ
+slots_in None = []
+slots_in (Some row) = row.slots.items
+
 -- who waits for this one
-abbrev pub row_of : List Pending → ℕ → List ℕ
-row_of pending i = slice_index_or (map (λ s. s.slots.items) pending) i []
+abbrev pub row_of : Pending → ℕ → List ℕ
+row_of pending i = slots_in (get nat_cmp pending.rows i)
 
 -- whether it is admitted
 abbrev pub is_marked : List Bool → ℕ → Bool
@@ -42,7 +50,7 @@ abbrev pub IsInside : List Slot → Type 0
 IsInside slots = (i p : ℕ) → Contains (parents_of slots i) p → p < length slots
 
 -- and so is each that waits
-abbrev pub IsInsideRows : ℕ → List Pending → Type 0
+abbrev pub IsInsideRows : ℕ → Pending → Type 0
 IsInsideRows n pending = (m i : ℕ) → Contains (row_of pending m) i → i < n
 
 -- the authors of these weigh a quorum
@@ -74,10 +82,20 @@ IsSound z slots marks = (i : ℕ) → is_marked marks i ≡ true
     → IsAdmittedAt z slots (round_of slots i) i
 
 -- who waits is in the row of each parent that is not marked
-abbrev pub IsRegistered : List Slot → List Bool → List Pending → Type 0
+abbrev pub IsRegistered : List Slot → List Bool → Pending → Type 0
 IsRegistered slots marks pending =
     (i p : ℕ) → Contains (parents_of slots i) p → is_marked marks i ≡ false
     → is_marked marks p ≡ false → Contains (row_of pending p) i
+
+-- the rows but that of k stay, and nobody is in that of k
+pub record IsTaken (pending after : Pending) (k : ℕ) : Type 0 where
+  pub other : (m : ℕ) → m ≢ k → row_of after m ≡ row_of pending m
+  pub taken : row_of after k ≡ []
+
+-- the rows but that of p stay, and k is in that of p, too
+pub record IsEntered (pending after : Pending) (p k : ℕ) : Type 0 where
+  pub other : (m : ℕ) → m ≢ p → row_of after m ≡ row_of pending m
+  pub here : row_of after p ≡ row_of pending p ++ k ∷ []
 
 -- marks stay, and what is marked anew is what the list gains
 pub record Extends (old new : List Bool) (before after : List ℕ) : Type 0 where
@@ -100,14 +118,13 @@ Covers z slots old new woken = (i : ℕ) → is_ready_in z slots new i ≡ true 
     × (is_marked old p ≡ false))
 
 -- what is ready and not marked waits for one of these
-abbrev pub AreCovered : Sizes → List Slot → List Bool → List Pending → List ℕ → Type 0
+abbrev pub AreCovered : Sizes → List Slot → List Bool → Pending → List ℕ → Type 0
 AreCovered z slots marks pending out = (i : ℕ) → is_ready_in z slots marks i ≡ true
     → is_marked marks i ≡ false → (m : ℕ) × Contains out m × Contains (row_of pending m) i
 
 -- what the table always is: marked is what is admitted, and who waits is registered
-pub record IsTable (z : Sizes) (slots : List Slot) (marks : List Bool) (pending : List Pending) : Type 0 where
+pub record IsTable (z : Sizes) (slots : List Slot) (marks : List Bool) (pending : Pending) : Type 0 where
   pub same : length marks ≡ length slots
-  pub rows_same : length pending ≡ length slots
   pub inside : IsInside slots
   pub rows : IsInsideRows (length slots) pending
   pub exact : IsExact z slots marks

@@ -13,7 +13,7 @@ pub record IsPrepared (n : Names) (c : Node) (p : Prepared) : Type 0 where
   pub parents : map (id_of n.slots.items) p.parents.items ≡ c.header.parents
   pub low : All (λ q. q < length n.slots.items) p.parents.items
   pub waits : (q : ℕ) → Contains p.parents.items q → is_marked n.marks.items q ≡ false
-      → Contains (row_of n.pending.items q) p.number
+      → Contains (row_of n.pending q) p.number
 
 -- nothing is in the buffers, and this many fit in each
 pub record AreClearFor (b : Buffers) (most : ℕ) : Type 0 where

@@ -56,7 +56,7 @@ pub record IsWhole (z : Sizes) (held : List Node) (n : Names) (numbered : CertRe
   pub good : AreFit z held
   pub clear : IsClear held
   pub names : AreNames n
-  pub table : IsTable z n.slots.items n.marks.items n.pending.items
+  pub table : IsTable z n.slots.items n.marks.items n.pending
   pub tied : IsTied held n.slots.items
   pub placed : IsPlaced n.slots.items numbered
   pub sets : AreSets n

@@ -76,7 +76,6 @@ returns-then-is_ready-clause-table c =
     (subst (λ (xs : List ℕ). Contains xs p) (field_here (λ (x : Slot). x.parents.items) c.args.slots.now c.args.k c.args.slot [] c.requires.number.0) t) free) in
     record {
       same = omega (arith, c.settle.ensures.more.length, length-set c.args.marks.now c.args.k true, length-set c.args.slots.now c.args.k c.args.slot, c.requires.table.same);
-      rows_same = omega (arith, c.settle.auto.pending, length-set c.args.slots.now c.args.k c.args.slot, c.requires.table.rows_same);
       inside = inside_after c.args.slots.now c.args.marks.now c.args.k c.args.slot c.requires.number.0 c.requires.table.inside c.requires.parents;
       rows = c.settle.ensures.rows;
       exact = c.settle.ensures.marks;
@@ -94,7 +93,6 @@ returns-else-is_ready-clause-table c =
     (subst (λ (xs : List ℕ). Contains xs p) (field_here (λ (x : Slot). x.parents.items) c.args.slots.now c.args.k c.args.slot [] c.requires.number.0) t) free) in
     record {
       same = simp length-set c.requires.table.same;
-      rows_same = omega (arith, length-set c.args.slots.now c.args.k c.args.slot, c.requires.table.rows_same);
       inside = inside_after c.args.slots.now c.args.marks.now c.args.k c.args.slot c.requires.number.0 c.requires.table.inside c.requires.parents;
       rows = subst (λ n. IsInsideRows n c.args.pending.now) (sym (length-set c.args.slots.now c.args.k c.args.slot)) c.requires.table.rows;
       exact = exact_waiting c.args.weights.now c.args.slots.now after c.args.marks.now c.args.pending.now c.args.k c.requires.table f (sym c.is_ready.ensures ∙ c.if-is_ready.false);

@@ -5,7 +5,6 @@ use Rattle.std.proofs.lemmas.List.{length-append}
 use Rattle.bk_rounds.specs.private.Names.{is_same_id, known_in}
 use Rattle.bk_rounds.specs.declared.names.Names.{Names}
 use Rattle.bk_rounds.specs.declared.slots.Slot.{Slot}
-use Rattle.bk_rounds.specs.declared.waking.Pending.{Pending}
 use Rattle.bk_rounds.proofs.Named.{names_same, grows_same, grows_pushed, names_pushed, Pushes, id_pushed, known_put}
 use Rattle.bk_rounds.proofs.names.own_number.Goals as goal
 
@@ -44,45 +43,41 @@ pub returns-clause-names : goal.returns-clause-names
 returns-clause-names c =
     let s = c.in_ok-make_room.ensures.same in
     let slot : Slot = record { id = c.args.id.now; round = 0; author = 0; cert = 0; parents = c.new.result } in
-    let row : Pending = record { slots = c.new-2.result } in
     let count : c.len-number.result ≡ length c.args.names.now.slots.items = omega (arith, c.len-number.ensures, ap length s.slots) in
-    let p : Pushes c.args.names.now _ c.args.id.now slot row c.none.result = record {
+    let p : Pushes c.args.names.now _ c.args.id.now slot c.none.result = record {
       id_is = refl;
       round_is = refl;
       author_is = refl;
       cert_is = refl;
       none = c.new.ensures.items;
-      empty = c.new-2.ensures.items;
       slots = c.push_reserved.ensures.items ∙ ap (λ xs. xs ++ slot ∷ []) s.slots;
       marks = c.push_reserved-2.ensures.items ∙ ap (λ xs. xs ++ false ∷ []) s.marks;
-      pending = c.push_reserved-3.ensures.items ∙ ap (λ xs. xs ++ row ∷ []) s.pending;
-      sets = c.push_reserved-4.ensures.items ∙ ap (λ xs. xs ++ c.none.result ∷ []) s.sets;
+      pending = s.pending;
+      sets = c.push_reserved-3.ensures.items ∙ ap (λ xs. xs ++ c.none.result ∷ []) s.sets;
       unmarked = ap (λ k. k + 1) s.unmarked;
       updates = λ q. c.in_ok-known.ensures.put q ∙ (λ i. cond (is_same_id c.args.id.now q) (Some (unwrap_or (c.in_default.is i) (count i))) (s.numbers q i));
     } in
-    names_pushed c.args.names.now _ c.args.id.now slot row c.none.result c.requires.names (sym (s.numbers c.args.id.now) ∙ (sym c.in_ok-known.ensures.known ∙ c.in_default.is)) p
+    names_pushed c.args.names.now _ c.args.id.now slot c.none.result c.requires.names (sym (s.numbers c.args.id.now) ∙ (sym c.in_ok-known.ensures.known ∙ c.in_default.is)) p
 
 pub returns-clause-grows : goal.returns-clause-grows
 returns-clause-grows c =
     let s = c.in_ok-make_room.ensures.same in
     let slot : Slot = record { id = c.args.id.now; round = 0; author = 0; cert = 0; parents = c.new.result } in
-    let row : Pending = record { slots = c.new-2.result } in
     let count : c.len-number.result ≡ length c.args.names.now.slots.items = omega (arith, c.len-number.ensures, ap length s.slots) in
-    let p : Pushes c.args.names.now _ c.args.id.now slot row c.none.result = record {
+    let p : Pushes c.args.names.now _ c.args.id.now slot c.none.result = record {
       id_is = refl;
       round_is = refl;
       author_is = refl;
       cert_is = refl;
       none = c.new.ensures.items;
-      empty = c.new-2.ensures.items;
       slots = c.push_reserved.ensures.items ∙ ap (λ xs. xs ++ slot ∷ []) s.slots;
       marks = c.push_reserved-2.ensures.items ∙ ap (λ xs. xs ++ false ∷ []) s.marks;
-      pending = c.push_reserved-3.ensures.items ∙ ap (λ xs. xs ++ row ∷ []) s.pending;
-      sets = c.push_reserved-4.ensures.items ∙ ap (λ xs. xs ++ c.none.result ∷ []) s.sets;
+      pending = s.pending;
+      sets = c.push_reserved-3.ensures.items ∙ ap (λ xs. xs ++ c.none.result ∷ []) s.sets;
       unmarked = ap (λ k. k + 1) s.unmarked;
       updates = λ q. c.in_ok-known.ensures.put q ∙ (λ i. cond (is_same_id c.args.id.now q) (Some (unwrap_or (c.in_default.is i) (count i))) (s.numbers q i));
     } in
-    grows_pushed c.args.names.now _ c.args.id.now slot row c.none.result c.requires.names p
+    grows_pushed c.args.names.now _ c.args.id.now slot c.none.result c.requires.names p
 
 pub returns-clause-inside : goal.returns-clause-inside
 returns-clause-inside c =

@@ -5,7 +5,6 @@ use Rattle.bk_rounds.proofs.waking.register.Given as goal
 
 abbrev pub invariant-loop-p : goal.invariant-loop-p
 invariant-loop-p l = record {
-  same : length l.pending ≡ length l.marks;
   rows : IsInsideRows (length l.marks) l.pending;
   kept : (m i : ℕ) → Contains (row_of l.fn.pending m) i → Contains (row_of l.pending m) i;
   done : (j d : ℕ) → j < l.p-index → j < length l.parents → is_marked l.marks (get_or l.parents j d) ≡ false → Contains (row_of l.pending (get_or l.parents j d)) l.k;

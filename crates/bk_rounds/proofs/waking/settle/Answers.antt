@@ -1,10 +1,10 @@
-use Rattle.std.proofs.Common.{rules, ◌≡◌, ◌<◌, ℕ, List, refl, sym, ap, subst, ◌∙◌, length, get_or, arith}
+use Rattle.std.proofs.Common.{◌≡◌, ◌<◌, ℕ, List, refl, sym, ap, subst, ◌∙◌, length, get_or, arith}
 use Rattle.std.specs.List.{Contains}
-use Rattle.std.proofs.lemmas.List.{length-set, length-append}
+use Rattle.std.proofs.lemmas.List.{length-append}
 use Rattle.std.proofs.lemmas.List.Elements.{Contains-get_or}
 use Rattle.bk_rounds.specs.private.Numbered.{row_of}
 use Rattle.bk_rounds.proofs.Woken.{extends_none, extends_on, read_at}
-use Rattle.bk_rounds.proofs.Settling.{settling_first, settling_next, settled_at_end, row_at, taken_from, marked_low}
+use Rattle.bk_rounds.proofs.Settling.{settling_first, settling_next, settled_at_end, marked_low}
 use Rattle.bk_rounds.proofs.waking.settle.Goals as goal
 
 pub loop-next-init : goal.loop-next-init
@@ -12,57 +12,36 @@ loop-next-init c = record {
   room = c.requires.room;
   steps = refl;
   low = omega arith;
-  rows = c.requires.same.1;
   more = extends_none c.args.marks.now c.args.out.now.items;
   state = settling_first c.args.weights.now c.args.slots.now c.args.marks.now c.args.pending.now c.args.out.now.items c.requires.sound c.requires.rows c.requires.out c.requires.registered c.requires.covered;
 }
-
-pub bounds-pending-k : goal.bounds-pending-k
-bounds-pending-k c =
-    let low : c.loop-next.next < length c.loop-next.out.items = omega (arith, c.len.ensures, c.loop-next-test.true) in
-    let there : c.index-k.result.now < length c.args.slots.now = (c.loop-next.invariant.state.here c.index-k.result.now (c.loop-next.next, low, sym c.index-k.ensures)).0 in
-    omega (arith, there, c.loop-next.invariant.rows)
 
 pub wake-requires-clause-inside : goal.wake-requires-clause-inside
 wake-requires-clause-inside c = λ i d within.
     let k : ℕ = c.index-k.result.now in
     let low : c.loop-next.next < length c.loop-next.out.items = omega (arith, c.len.ensures, c.loop-next-test.true) in
-    let inside = (c.loop-next.invariant.state.here k (c.loop-next.next, low, sym c.index-k.ensures)).0 in
-    let there : k < length c.loop-next.pending = omega (arith, inside, c.loop-next.invariant.rows) in
     let row : row_of c.loop-next.pending k ≡ c.deref.result.now =
-    row_at c.loop-next.pending k c.index-pending-k.result there
-    ∙ (ap (λ v. v.items) (sym c.replace-woken.ensures.value) ∙ sym c.deref.ensures.value) in
+    sym c.take-woken.ensures.row ∙ sym c.deref.ensures.value in
     c.loop-next.invariant.state.inside k (get_or c.deref.result.now i d) (subst (λ (xs : List ℕ). Contains xs (get_or c.deref.result.now i d)) (sym row) (Contains-get_or c.deref.result.now i d within))
 
 pub loop-next-preserved : goal.loop-next-preserved
 loop-next-preserved c =
     let k : ℕ = c.index-k.result.now in
     let low : c.loop-next.next < length c.loop-next.out.items = omega (arith, c.len.ensures, c.loop-next-test.true) in
-    let inside = (c.loop-next.invariant.state.here k (c.loop-next.next, low, sym c.index-k.ensures)).0 in
-    let there : k < length c.loop-next.pending = omega (arith, inside, c.loop-next.invariant.rows) in
     let row : row_of c.loop-next.pending k ≡ c.deref.result.now =
-    row_at c.loop-next.pending k c.index-pending-k.result there
-    ∙ (ap (λ v. v.items) (sym c.replace-woken.ensures.value) ∙ sym c.deref.ensures.value) in
+    sym c.take-woken.ensures.row ∙ sym c.deref.ensures.value in
     record {
       room = c.wake.ensures.room;
       steps = c.wake.ensures.steps ∙ c.loop-next.invariant.steps;
       low = omega (arith, low, ap length c.wake.ensures.more.is, length-append c.loop-next.out.items c.wake.ensures.more.more);
-      rows = simp length-set c.loop-next.invariant.rows;
       more = extends_on c.args.marks.now c.loop-next.marks c.wake.new.marks c.args.out.now.items c.loop-next.out.items c.wake.new.out.items c.loop-next.invariant.more c.wake.ensures.more;
       state = settling_next c.args.weights.now c.args.slots.now c.loop-next.marks c.wake.new.marks c.loop-next.pending _ c.loop-next.out.items c.wake.new.out.items c.deref.result.now c.loop-next.next k row low
           (λ d. read_at c.loop-next.out.items c.loop-next.next k d low ∙ sym c.index-k.ensures)
-          c.loop-next.invariant.state (taken_from c.loop-next.pending k _ there (ap (λ v. v.items) c.replace-woken.ensures.after ∙ c.new.ensures.items)) c.wake.ensures.sound c.wake.ensures.more
+          c.loop-next.invariant.state c.take-woken.ensures.taken c.wake.ensures.sound c.wake.ensures.more
           c.wake.ensures.covers
-          (λ p t. let within = marked_low c.wake.new.marks p t in omega (arith, within, c.wake.ensures.more.length, c.loop-next.invariant.more.length, c.requires.same.0));
+          (λ p t. let within = marked_low c.wake.new.marks p t in omega (arith, within, c.wake.ensures.more.length, c.loop-next.invariant.more.length, c.requires.same));
     }
 
 pub returns-clause-marks : goal.returns-clause-marks
 returns-clause-marks c = settled_at_end c.args.weights.now c.args.slots.now c.loop-next.marks c.loop-next.pending c.loop-next.out.items c.loop-next.next
     (omega (arith, c.len.ensures, c.loop-next-test.false)) c.loop-next.invariant.state
-
-pub offset_bounds-pending-k : goal.offset_bounds-pending-k
-offset_bounds-pending-k c =
-    let low : c.loop-next.next < length c.loop-next.out.items = omega (arith, c.len.ensures, c.loop-next-test.true) in
-    let inside : c.index-k.result.now < length c.args.slots.now = (c.loop-next.invariant.state.here c.index-k.result.now (c.loop-next.next, low, sym c.index-k.ensures)).0 in
-    let there : c.index-k.result.now < length c.loop-next.pending = omega (arith, inside, c.loop-next.invariant.rows) in
-    search rules

@@ -1,4 +1,4 @@
-use Rattle.std.proofs.Common.{◌≡◌, ◌≤◌, ◌+◌, ◌-◌, length, vec_len, vec_capacity}
+use Rattle.std.proofs.Common.{◌≡◌, ◌≤◌, ◌+◌, ◌-◌, vec_len, vec_capacity}
 use Rattle.bk_rounds.specs.private.Numbered.{Extends, count_unmarked}
 use Rattle.bk_rounds.proofs.Settling.{IsSettling}
 use Rattle.bk_rounds.proofs.waking.settle.Given as goal
@@ -8,7 +8,6 @@ invariant-loop-next l = record {
   room : vec_len l.out + count_unmarked l.marks ≤ vec_capacity l.out;
   steps : vec_len l.out + count_unmarked l.marks ≡ vec_len l.fn.out + count_unmarked l.fn.marks;
   low : l.next ≤ vec_len l.out;
-  rows : length l.pending ≡ length l.slots;
   more : Extends l.fn.marks l.marks l.fn.out.items l.out.items;
   state : IsSettling l.weights l.slots l.marks l.pending l.out.items l.next;
 }

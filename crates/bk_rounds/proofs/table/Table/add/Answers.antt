@@ -45,7 +45,7 @@ admit-requires-clause-table c =
     whole_grown z held c.self.inside.names n (number_at c.self.inside.places) (number_at c.self.inside.places) c.self.inside.top c.self.invariant c.in_ok-ready.ensures.grows c.in_ok-ready.ensures.names (λ q. refl) in
     let new : (d : Node) → Contains held d → d.id ≢ cert.id = λ d t. c.requires.new d (subst (λ (v : RoundsValue). Contains v.held d) c.self.view_is t) in
     let none : round_of n.slots.items k ≡ 0 = number_free z held n (number_at c.self.inside.places) c.self.inside.top w k cert p.id new in
-    rw (c.deref_mut.ensures.value, c.deref_mut-2.ensures.value, c.deref_mut-3.ensures.value) w.table
+    rw (c.deref_mut.ensures.value, c.deref_mut-2.ensures.value) w.table
 
 pub admit-requires-clause-number : goal.admit-requires-clause-number
 admit-requires-clause-number c =
@@ -75,7 +75,6 @@ tell-self-inside-requires-clause-inside c =
     let none : round_of n.slots.items k ≡ 0 = number_free z held n (number_at c.self.inside.places) c.self.inside.top w k cert p.id new in
     let e_s : (with_items n.slots c.admit.new.slots).items ≡ c.admit.new.slots = with_items_is n.slots c.admit.new.slots (omega (arith, c.admit.auto.slots, ap length c.deref_mut.ensures.value, n.slots.ok.0)) in
     let e_m : (with_items n.marks c.admit.new.marks).items ≡ c.admit.new.marks = with_items_is n.marks c.admit.new.marks (omega (arith, c.admit.auto.marks, ap length c.deref_mut-2.ensures.value, n.marks.ok.0)) in
-    let e_p : (with_items n.pending c.admit.new.pending).items ≡ c.admit.new.pending = with_items_is n.pending c.admit.new.pending (omega (arith, c.admit.auto.pending, ap length c.deref_mut-3.ensures.value, n.pending.ok.0)) in
     let table : IsTable z c.admit.new.slots c.admit.new.marks c.admit.new.pending = c.admit.ensures.table in
     λ j d low.
     let i : ℕ = get_or c.deref-2.result.now j d in
@@ -97,7 +96,6 @@ tell-self-inside-requires-clause-parents c =
     let none : round_of n.slots.items k ≡ 0 = number_free z held n (number_at c.self.inside.places) c.self.inside.top w k cert p.id new in
     let e_s : (with_items n.slots c.admit.new.slots).items ≡ c.admit.new.slots = with_items_is n.slots c.admit.new.slots (omega (arith, c.admit.auto.slots, ap length c.deref_mut.ensures.value, n.slots.ok.0)) in
     let e_m : (with_items n.marks c.admit.new.marks).items ≡ c.admit.new.marks = with_items_is n.marks c.admit.new.marks (omega (arith, c.admit.auto.marks, ap length c.deref_mut-2.ensures.value, n.marks.ok.0)) in
-    let e_p : (with_items n.pending c.admit.new.pending).items ≡ c.admit.new.pending = with_items_is n.pending c.admit.new.pending (omega (arith, c.admit.auto.pending, ap length c.deref_mut-3.ensures.value, n.pending.ok.0)) in
     let table : IsTable z c.admit.new.slots c.admit.new.marks c.admit.new.pending = c.admit.ensures.table in
     subst IsInside (sym (c.deref.ensures.value ∙ e_s)) table.inside
 
@@ -115,10 +113,9 @@ tell-self-inside-requires-clause-authors c =
     let none : round_of n.slots.items k ≡ 0 = number_free z held n (number_at c.self.inside.places) c.self.inside.top w k cert p.id new in
     let e_s : (with_items n.slots c.admit.new.slots).items ≡ c.admit.new.slots = with_items_is n.slots c.admit.new.slots (omega (arith, c.admit.auto.slots, ap length c.deref_mut.ensures.value, n.slots.ok.0)) in
     let e_m : (with_items n.marks c.admit.new.marks).items ≡ c.admit.new.marks = with_items_is n.marks c.admit.new.marks (omega (arith, c.admit.auto.marks, ap length c.deref_mut-2.ensures.value, n.marks.ok.0)) in
-    let e_p : (with_items n.pending c.admit.new.pending).items ≡ c.admit.new.pending = with_items_is n.pending c.admit.new.pending (omega (arith, c.admit.auto.pending, ap length c.deref_mut-3.ensures.value, n.pending.ok.0)) in
     let table : IsTable z c.admit.new.slots c.admit.new.marks c.admit.new.pending = c.admit.ensures.table in
     let slot : Slot = record { id = c.id.result.now; round = c.round.result; author = c.author.result; cert = c.len.result; parents = c.in_ok-ready.ready.parents } in
-    let m : Names = record n { slots = with_items n.slots c.admit.new.slots; marks = with_items n.marks c.admit.new.marks; pending = with_items n.pending c.admit.new.pending } in
+    let m : Names = record n { slots = with_items n.slots c.admit.new.slots; marks = with_items n.marks c.admit.new.marks; pending = c.admit.new.pending } in
     let added : IsAdding held n m cert k slot = record {
       low = p.inside;
       none = none;
@@ -136,7 +133,7 @@ tell-self-inside-requires-clause-authors c =
     let tied : IsTied (held ++ cert ∷ []) m.slots.items = tied_added held n m cert k slot added from w.tied in
     λ i q there among.
     let mark = ((c.admit.ensures.out i).0 (subst (λ (xs : List ℕ). Contains xs i) c.deref-2.ensures.value there)).0 in
-    let low = parent_author z (held ++ cert ∷ []) m (good_added z held cert w.good good) tied (table_from z m c.admit.new.slots c.admit.new.marks c.admit.new.pending e_s e_m e_p table) i q
+    let low = parent_author z (held ++ cert ∷ []) m (good_added z held cert w.good good) tied (table_from z m c.admit.new.slots c.admit.new.marks c.admit.new.pending e_s e_m refl table) i q
     (ap (λ ms. is_marked ms i) e_m ∙ mark) (subst (λ (ss : List Slot). Contains (parents_of ss i) q) c.deref.ensures.value among) in
     let is : author_of c.deref.result.now q ≡ author_of m.slots.items q = ap (λ (ss : List Slot). author_of ss q) c.deref.ensures.value in
     omega (arith, low, is, w.few)
@@ -155,10 +152,9 @@ invariant_of-self-2 c =
     let none : round_of n.slots.items k ≡ 0 = number_free z held n (number_at c.self.inside.places) c.self.inside.top w k cert p.id new in
     let e_s : (with_items n.slots c.admit.new.slots).items ≡ c.admit.new.slots = with_items_is n.slots c.admit.new.slots (omega (arith, c.admit.auto.slots, ap length c.deref_mut.ensures.value, n.slots.ok.0)) in
     let e_m : (with_items n.marks c.admit.new.marks).items ≡ c.admit.new.marks = with_items_is n.marks c.admit.new.marks (omega (arith, c.admit.auto.marks, ap length c.deref_mut-2.ensures.value, n.marks.ok.0)) in
-    let e_p : (with_items n.pending c.admit.new.pending).items ≡ c.admit.new.pending = with_items_is n.pending c.admit.new.pending (omega (arith, c.admit.auto.pending, ap length c.deref_mut-3.ensures.value, n.pending.ok.0)) in
     let table : IsTable z c.admit.new.slots c.admit.new.marks c.admit.new.pending = c.admit.ensures.table in
     let slot : Slot = record { id = c.id.result.now; round = c.round.result; author = c.author.result; cert = c.len.result; parents = c.in_ok-ready.ready.parents } in
-    let m : Names = record { numbers = n.numbers; slots = with_items n.slots c.admit.new.slots; marks = with_items n.marks c.admit.new.marks; pending = with_items n.pending c.admit.new.pending; sets = with_items n.sets c.tell-self-inside.new.sets; unmarked = n.unmarked - c.len-2.result } in
+    let m : Names = record { numbers = n.numbers; slots = with_items n.slots c.admit.new.slots; marks = with_items n.marks c.admit.new.marks; pending = c.admit.new.pending; sets = with_items n.sets c.tell-self-inside.new.sets; unmarked = n.unmarked - c.len-2.result } in
     let added : IsAdding held n m cert k slot = record {
       low = p.inside;
       none = none;
@@ -174,13 +170,13 @@ invariant_of-self-2 c =
     let good : IsFit z cert = subst (λ (v : RoundsValue). IsFit v.sizes cert) (sym c.self.view_is) c.requires.good in
     let from : (d : Node) → Contains held d → 1 ≤ d.header.round = λ d t. (w.good d t).from_one in
     let tied : IsTied (held ++ cert ∷ []) m.slots.items = tied_added held n m cert k slot added from w.tied in
-    let e_t : (with_items n.sets c.tell-self-inside.new.sets).items ≡ c.tell-self-inside.new.sets = with_items_is n.sets c.tell-self-inside.new.sets (omega (arith, c.tell-self-inside.auto.sets, ap length c.deref_mut-4.ensures.value, n.sets.ok.0)) in
+    let e_t : (with_items n.sets c.tell-self-inside.new.sets).items ≡ c.tell-self-inside.new.sets = with_items_is n.sets c.tell-self-inside.new.sets (omega (arith, c.tell-self-inside.auto.sets, ap length c.deref_mut-3.ensures.value, n.sets.ok.0)) in
     let out : List ℕ = c.admit.new.out.items in
     let waits : n.unmarked - c.len-2.result ≡ count_unmarked (with_items n.marks c.admit.new.marks).items =
     omega (arith, c.admit.ensures.steps, c.len-2.ensures, w.names.waiting, ap count_unmarked e_m, ap count_unmarked c.deref_mut-2.ensures.value) in
     let admitted : IsAdmitting n m out c.self.inside.top c.tell-self-inside.result =
-    admitting_from n m out c.deref-2.result.now c.self.inside.top c.tell-self-inside.result c.deref_mut-2.result.now c.admit.new.marks c.deref.result.now c.deref_mut-4.result.now c.tell-self-inside.new.sets
-    c.deref_mut-2.ensures.value e_m (sym c.deref.ensures.value) c.deref_mut-4.ensures.value e_t c.deref-2.ensures.value c.tell-self-inside.auto.sets
+    admitting_from n m out c.deref-2.result.now c.self.inside.top c.tell-self-inside.result c.deref_mut-2.result.now c.admit.new.marks c.deref.result.now c.deref_mut-3.result.now c.tell-self-inside.new.sets
+    c.deref_mut-2.ensures.value e_m (sym c.deref.ensures.value) c.deref_mut-3.ensures.value e_t c.deref-2.ensures.value c.tell-self-inside.auto.sets
     waits c.admit.ensures.stay c.admit.ensures.out c.tell-self-inside.ensures.here c.tell-self-inside.ensures.other c.tell-self-inside.ensures.highest c.tell-self-inside.ensures.more c.tell-self-inside.ensures.least
     c.tell-self-inside.ensures.reached in
     let free : (d : Node) → Contains held d → place_of d ≢ place_of cert = λ d t. c.requires.free d (subst (λ (v : RoundsValue). Contains v.held d) c.self.view_is t) in
@@ -190,7 +186,7 @@ invariant_of-self-2 c =
     (λ q. c.in_ok-insert.ensures.updates.0 q ∙ ap (λ (a : CertRef). cond (is_eq (place_cmp a q)) (Some k) (number_at c.self.inside.places q)) place) in
     let whole : IsWhole z (held ++ cert ∷ []) m (number_at c.insert.new.self) c.tell-self-inside.result =
     whole_added z held n m cert k slot (number_at c.self.inside.places) (number_at c.insert.new.self) c.self.inside.top c.tell-self-inside.result out w added good new free up
-    (table_from z m c.admit.new.slots c.admit.new.marks c.admit.new.pending e_s e_m e_p table) admitted in
+    (table_from z m c.admit.new.slots c.admit.new.marks c.admit.new.pending e_s e_m refl table) admitted in
     let certs : c.push_reserved.new.self.items ≡ held ++ cert ∷ [] = c.push_reserved.ensures.items ∙ ap (λ (xs : List Node). xs ++ cert ∷ []) c.in_ok-ready.ensures.certs in
     rw certs whole
 
@@ -208,10 +204,9 @@ returns-clause-answer c =
     let none : round_of n.slots.items k ≡ 0 = number_free z held n (number_at c.self.inside.places) c.self.inside.top w k cert p.id new in
     let e_s : (with_items n.slots c.admit.new.slots).items ≡ c.admit.new.slots = with_items_is n.slots c.admit.new.slots (omega (arith, c.admit.auto.slots, ap length c.deref_mut.ensures.value, n.slots.ok.0)) in
     let e_m : (with_items n.marks c.admit.new.marks).items ≡ c.admit.new.marks = with_items_is n.marks c.admit.new.marks (omega (arith, c.admit.auto.marks, ap length c.deref_mut-2.ensures.value, n.marks.ok.0)) in
-    let e_p : (with_items n.pending c.admit.new.pending).items ≡ c.admit.new.pending = with_items_is n.pending c.admit.new.pending (omega (arith, c.admit.auto.pending, ap length c.deref_mut-3.ensures.value, n.pending.ok.0)) in
     let table : IsTable z c.admit.new.slots c.admit.new.marks c.admit.new.pending = c.admit.ensures.table in
     let slot : Slot = record { id = c.id.result.now; round = c.round.result; author = c.author.result; cert = c.len.result; parents = c.in_ok-ready.ready.parents } in
-    let m : Names = record { numbers = n.numbers; slots = with_items n.slots c.admit.new.slots; marks = with_items n.marks c.admit.new.marks; pending = with_items n.pending c.admit.new.pending; sets = with_items n.sets c.tell-self-inside.new.sets; unmarked = n.unmarked - c.len-2.result } in
+    let m : Names = record { numbers = n.numbers; slots = with_items n.slots c.admit.new.slots; marks = with_items n.marks c.admit.new.marks; pending = c.admit.new.pending; sets = with_items n.sets c.tell-self-inside.new.sets; unmarked = n.unmarked - c.len-2.result } in
     let added : IsAdding held n m cert k slot = record {
       low = p.inside;
       none = none;
@@ -227,13 +222,13 @@ returns-clause-answer c =
     let good : IsFit z cert = subst (λ (v : RoundsValue). IsFit v.sizes cert) (sym c.self.view_is) c.requires.good in
     let from : (d : Node) → Contains held d → 1 ≤ d.header.round = λ d t. (w.good d t).from_one in
     let tied : IsTied (held ++ cert ∷ []) m.slots.items = tied_added held n m cert k slot added from w.tied in
-    let e_t : (with_items n.sets c.tell-self-inside.new.sets).items ≡ c.tell-self-inside.new.sets = with_items_is n.sets c.tell-self-inside.new.sets (omega (arith, c.tell-self-inside.auto.sets, ap length c.deref_mut-4.ensures.value, n.sets.ok.0)) in
+    let e_t : (with_items n.sets c.tell-self-inside.new.sets).items ≡ c.tell-self-inside.new.sets = with_items_is n.sets c.tell-self-inside.new.sets (omega (arith, c.tell-self-inside.auto.sets, ap length c.deref_mut-3.ensures.value, n.sets.ok.0)) in
     let out : List ℕ = c.admit.new.out.items in
     let waits : n.unmarked - c.len-2.result ≡ count_unmarked (with_items n.marks c.admit.new.marks).items =
     omega (arith, c.admit.ensures.steps, c.len-2.ensures, w.names.waiting, ap count_unmarked e_m, ap count_unmarked c.deref_mut-2.ensures.value) in
     let admitted : IsAdmitting n m out c.self.inside.top c.tell-self-inside.result =
-    admitting_from n m out c.deref-2.result.now c.self.inside.top c.tell-self-inside.result c.deref_mut-2.result.now c.admit.new.marks c.deref.result.now c.deref_mut-4.result.now c.tell-self-inside.new.sets
-    c.deref_mut-2.ensures.value e_m (sym c.deref.ensures.value) c.deref_mut-4.ensures.value e_t c.deref-2.ensures.value c.tell-self-inside.auto.sets
+    admitting_from n m out c.deref-2.result.now c.self.inside.top c.tell-self-inside.result c.deref_mut-2.result.now c.admit.new.marks c.deref.result.now c.deref_mut-3.result.now c.tell-self-inside.new.sets
+    c.deref_mut-2.ensures.value e_m (sym c.deref.ensures.value) c.deref_mut-3.ensures.value e_t c.deref-2.ensures.value c.tell-self-inside.auto.sets
     waits c.admit.ensures.stay c.admit.ensures.out c.tell-self-inside.ensures.here c.tell-self-inside.ensures.other c.tell-self-inside.ensures.highest c.tell-self-inside.ensures.more c.tell-self-inside.ensures.least
     c.tell-self-inside.ensures.reached in
     let free : (d : Node) → Contains held d → place_of d ≢ place_of cert = λ d t. c.requires.free d (subst (λ (v : RoundsValue). Contains v.held d) c.self.view_is t) in
@@ -243,7 +238,7 @@ returns-clause-answer c =
     (λ q. c.in_ok-insert.ensures.updates.0 q ∙ ap (λ (a : CertRef). cond (is_eq (place_cmp a q)) (Some k) (number_at c.self.inside.places q)) place) in
     let whole : IsWhole z (held ++ cert ∷ []) m (number_at c.insert.new.self) c.tell-self-inside.result =
     whole_added z held n m cert k slot (number_at c.self.inside.places) (number_at c.insert.new.self) c.self.inside.top c.tell-self-inside.result out w added good new free up
-    (table_from z m c.admit.new.slots c.admit.new.marks c.admit.new.pending e_s e_m e_p table) admitted in
+    (table_from z m c.admit.new.slots c.admit.new.marks c.admit.new.pending e_s e_m refl table) admitted in
     let certs : c.push_reserved.new.self.items ≡ held ++ cert ∷ [] = c.push_reserved.ensures.items ∙ ap (λ (xs : List Node). xs ++ cert ∷ []) c.in_ok-ready.ensures.certs in
     let told : List CertRef = c.hand_over.result.items in
     let answer : c.tell-self-inside.new.answer.items ≡ map (place_at m.slots.items) out = c.tell-self-inside.ensures.answer ∙ (λ i. map (place_at (c.deref.ensures.value i)) (c.deref-2.ensures.value i)) in
