@@ -1,13 +1,14 @@
 //! The command line, as `--help` shows it.
 
 ghost use Rattle.std.specs.Prelude.{◌≡◌, true, false, IfOk};
-ghost use Rattle.clap.specs.Words.{app_of, new_app, rule_of, with_subcommand};
+ghost use Rattle.clap.specs.Words.{app_of, rule_of, with_subcommand};
 ghost use Rattle.clap.specs.declared.builder.command.Command.TheViews.{out-Command};
-ghost use Rattle.bk_cli.specs.CommandLine.{program, asking_line, checking_line, viewing_line, command_line, file_line, value_line, schedule_line, working_line};
+ghost use Rattle.bk_cli.specs.CommandLine.{asking_line, checking_line, viewing_line, command_line, file_line, value_line, schedule_line, working_line};
 ghost use Rattle.bk_cli.specs.CommandLine.{flag_rule, noted_line, file_rule, workers_rule, required_rule, root_rule, id_rule, place_rule, from_rule, rounds_rule, dag_line, compare_line};
 
 use crate::help::{self, Help};
 use crate::more_help;
+use crate::shaped::Shaped;
 use clap::{Arg, ArgAction, Command, value_parser};
 use std::alloc::{AllocError, Global};
 
@@ -88,81 +89,6 @@ fn flag_arg<'a>(alloc: Global, name: &'a str, text: &'a str) -> Arg<'a>
         .help(text)
 }
 
-// A command of this name and help, without arguments.
-fn named<'a>(alloc: Global, name: &'a str, text: Help<'a>) -> Command<'a>
-    ensures line { app_of result ≡ new_app name.now }
-    ensures local { (out-Command result).has_globals ≡ false }
-{
-    Command::new(alloc, name)
-        .about(text.about)
-        .after_help(text.after)
-}
-
-// The command with the options that every command has.
-fn noted<'a>(alloc: Global, command: Command<'a>) -> Result<Command<'a>, AllocError>
-    requires { (out-Command command).has_globals ≡ false }
-    ensures line { IfOk result (λ c. app_of c ≡ noted_line (app_of command.entry)) }
-    ensures local { IfOk result (λ c. (out-Command c).has_globals ≡ false) }
-{
-    command
-        .arg(flag_arg(alloc, "progress", help::PROGRESS))?
-        .arg(flag_arg(alloc, "verbose", help::VERBOSE))
-}
-
-// The command `NAME [FILE]`.
-fn file_command<'a>(alloc: Global, name: &'a str, text: Help<'a>) -> Result<Command<'a>, AllocError>
-    ensures line { IfOk result (λ c. app_of c ≡ file_line name.now) }
-    ensures local { IfOk result (λ c. (out-Command c).has_globals ≡ false) }
-{
-    let command = named(alloc, name, text).arg(file_arg(alloc))?;
-    noted(alloc, command)
-}
-
-// The same with one argument more in front.
-fn value_command<'a>(
-    alloc: Global,
-    name: &'a str,
-    value: Arg<'a>,
-    text: Help<'a>,
-) -> Result<Command<'a>, AllocError>
-    requires { value.global ≡ false }
-    ensures line { IfOk result (λ c. app_of c ≡ value_line name.now (rule_of value.entry)) }
-    ensures local { IfOk result (λ c. (out-Command c).has_globals ≡ false) }
-{
-    let command = named(alloc, name, text).arg(value)?.arg(file_arg(alloc))?;
-    noted(alloc, command)
-}
-
-// A command `NAME [--workers W] VALUE [FILE]`.
-fn working_command<'a>(
-    alloc: Global,
-    name: &'a str,
-    value: Arg<'a>,
-    text: Help<'a>,
-) -> Result<Command<'a>, AllocError>
-    requires { value.global ≡ false }
-    ensures line { IfOk result (λ c. app_of c ≡ working_line name.now (rule_of value.entry)) }
-    ensures local { IfOk result (λ c. (out-Command c).has_globals ≡ false) }
-{
-    let command = named(alloc, name, text)
-        .arg(workers_arg(alloc, help::WORKERS))?
-        .arg(value)?
-        .arg(file_arg(alloc))?;
-    noted(alloc, command)
-}
-
-// The command `schedule [--workers W] FEED EVENTS`.
-fn schedule_command<'a>(alloc: Global) -> Result<Command<'a>, AllocError>
-    ensures line { IfOk result (λ c. app_of c ≡ schedule_line) }
-    ensures local { IfOk result (λ c. (out-Command c).has_globals ≡ false) }
-{
-    let command = named(alloc, "schedule", more_help::SCHEDULE)
-        .arg(workers_arg(alloc, help::EVENT_WORKERS))?
-        .arg(required_arg(alloc, "FEED", help::FEED))?
-        .arg(required_arg(alloc, "EVENTS", help::EVENTS))?;
-    noted(alloc, command)
-}
-
 // The option `--from R`.
 fn from_arg<'a>(alloc: Global) -> Arg<'a>
     ensures rule { rule_of result ≡ from_rule }
@@ -189,12 +115,72 @@ fn rounds_arg<'a>(alloc: Global) -> Arg<'a>
         .help(help::ROUNDS)
 }
 
-// The command `dag [--from R] [--rounds N] [FILE]`.
-fn dag_command<'a>(alloc: Global) -> Result<Command<'a>, AllocError>
-    ensures line { IfOk result (λ c. app_of c ≡ dag_line) }
-    ensures local { IfOk result (λ c. (out-Command c).has_globals ≡ false) }
+// The command with the options that every command has.
+fn noted<'a>(alloc: Global, command: Shaped<'a>) -> Result<Shaped<'a>, AllocError>
+    ensures { IfOk result (λ c. c ≡ noted_line command.entry) }
 {
-    let command = named(alloc, "dag", help::DAG)
+    command
+        .arg(flag_arg(alloc, "progress", help::PROGRESS))?
+        .arg(flag_arg(alloc, "verbose", help::VERBOSE))
+}
+
+// The command `NAME [FILE]`.
+fn file_command<'a>(alloc: Global, name: &'a str, text: Help<'a>) -> Result<Shaped<'a>, AllocError>
+    ensures { IfOk result (λ c. c ≡ file_line name.now) }
+{
+    let command = Shaped::new(alloc, name, text).arg(file_arg(alloc))?;
+    noted(alloc, command)
+}
+
+// The same with one argument more in front.
+fn value_command<'a>(
+    alloc: Global,
+    name: &'a str,
+    value: Arg<'a>,
+    text: Help<'a>,
+) -> Result<Shaped<'a>, AllocError>
+    requires { value.global ≡ false }
+    ensures { IfOk result (λ c. c ≡ value_line name.now (rule_of value.entry)) }
+{
+    let command = Shaped::new(alloc, name, text)
+        .arg(value)?
+        .arg(file_arg(alloc))?;
+    noted(alloc, command)
+}
+
+// A command `NAME [--workers W] VALUE [FILE]`.
+fn working_command<'a>(
+    alloc: Global,
+    name: &'a str,
+    value: Arg<'a>,
+    text: Help<'a>,
+) -> Result<Shaped<'a>, AllocError>
+    requires { value.global ≡ false }
+    ensures { IfOk result (λ c. c ≡ working_line name.now (rule_of value.entry)) }
+{
+    let command = Shaped::new(alloc, name, text)
+        .arg(workers_arg(alloc, help::WORKERS))?
+        .arg(value)?
+        .arg(file_arg(alloc))?;
+    noted(alloc, command)
+}
+
+// The command `schedule [--workers W] FEED EVENTS`.
+fn schedule_command<'a>(alloc: Global) -> Result<Shaped<'a>, AllocError>
+    ensures { IfOk result (λ c. c ≡ schedule_line) }
+{
+    let command = Shaped::new(alloc, "schedule", more_help::SCHEDULE)
+        .arg(workers_arg(alloc, help::EVENT_WORKERS))?
+        .arg(required_arg(alloc, "FEED", help::FEED))?
+        .arg(required_arg(alloc, "EVENTS", help::EVENTS))?;
+    noted(alloc, command)
+}
+
+// The command `dag [--from R] [--rounds N] [FILE]`.
+fn dag_command<'a>(alloc: Global) -> Result<Shaped<'a>, AllocError>
+    ensures { IfOk result (λ c. c ≡ dag_line) }
+{
+    let command = Shaped::new(alloc, "dag", help::DAG)
         .arg(from_arg(alloc))?
         .arg(rounds_arg(alloc))?
         .arg(file_arg(alloc))?;
@@ -202,28 +188,23 @@ fn dag_command<'a>(alloc: Global) -> Result<Command<'a>, AllocError>
 }
 
 // The command `compare FEED1 FEED2`.
-fn compare_command<'a>(alloc: Global) -> Result<Command<'a>, AllocError>
-    ensures line { IfOk result (λ c. app_of c ≡ compare_line) }
-    ensures local { IfOk result (λ c. (out-Command c).has_globals ≡ false) }
+fn compare_command<'a>(alloc: Global) -> Result<Shaped<'a>, AllocError>
+    ensures { IfOk result (λ c. c ≡ compare_line) }
 {
-    let command = named(alloc, "compare", more_help::COMPARE)
+    let command = Shaped::new(alloc, "compare", more_help::COMPARE)
         .arg(required_arg(alloc, "FEED1", help::FEED1))?
         .arg(required_arg(alloc, "FEED2", help::FEED2))?;
     noted(alloc, command)
 }
 
-// The program with one command `NAME [FILE]` more. It is handed on from one such call to the next, so that a caller
-// never owns two commands at once.
+// The program with one command `NAME [FILE]` more.
 fn with_file<'a>(
     alloc: Global,
-    program: Command<'a>,
+    program: Shaped<'a>,
     name: &'a str,
     text: Help<'a>,
-) -> Result<Command<'a>, AllocError>
-    requires { (out-Command program).has_globals ≡ false }
-    ensures line { IfOk result (λ c. app_of c
-        ≡ with_subcommand (app_of program.entry) (file_line name.now).top) }
-    ensures local { IfOk result (λ c. (out-Command c).has_globals ≡ false) }
+) -> Result<Shaped<'a>, AllocError>
+    ensures { IfOk result (λ c. c ≡ with_subcommand program.entry (file_line name.now).top) }
 {
     let command = file_command(alloc, name, text)?;
     program.subcommand(command)
@@ -232,16 +213,14 @@ fn with_file<'a>(
 // The same with a command that has one argument more in front.
 fn with_value<'a>(
     alloc: Global,
-    program: Command<'a>,
+    program: Shaped<'a>,
     name: &'a str,
     value: Arg<'a>,
     text: Help<'a>,
-) -> Result<Command<'a>, AllocError>
-    requires program { (out-Command program).has_globals ≡ false }
-    requires value { value.global ≡ false }
-    ensures line { IfOk result (λ c. app_of c
-        ≡ with_subcommand (app_of program.entry) (value_line name.now (rule_of value.entry)).top) }
-    ensures local { IfOk result (λ c. (out-Command c).has_globals ≡ false) }
+) -> Result<Shaped<'a>, AllocError>
+    requires { value.global ≡ false }
+    ensures { IfOk result (λ c. c
+        ≡ with_subcommand program.entry (value_line name.now (rule_of value.entry)).top) }
 {
     let command = value_command(alloc, name, value, text)?;
     program.subcommand(command)
@@ -250,71 +229,49 @@ fn with_value<'a>(
 // The same with `--workers` too.
 fn with_working<'a>(
     alloc: Global,
-    program: Command<'a>,
+    program: Shaped<'a>,
     name: &'a str,
     value: Arg<'a>,
     text: Help<'a>,
-) -> Result<Command<'a>, AllocError>
-    requires program { (out-Command program).has_globals ≡ false }
-    requires value { value.global ≡ false }
-    ensures line { IfOk result (λ c. app_of c
-        ≡ with_subcommand (app_of program.entry) (working_line name.now (rule_of value.entry)).top) }
-    ensures local { IfOk result (λ c. (out-Command c).has_globals ≡ false) }
+) -> Result<Shaped<'a>, AllocError>
+    requires { value.global ≡ false }
+    ensures { IfOk result (λ c. c
+        ≡ with_subcommand program.entry (working_line name.now (rule_of value.entry)).top) }
 {
     let command = working_command(alloc, name, value, text)?;
     program.subcommand(command)
 }
 
 // The program with the command `dag`.
-fn with_dag<'a>(alloc: Global, program: Command<'a>) -> Result<Command<'a>, AllocError>
-    requires { (out-Command program).has_globals ≡ false }
-    ensures line { IfOk result (λ c. app_of c ≡ with_subcommand (app_of program.entry) dag_line.top) }
-    ensures local { IfOk result (λ c. (out-Command c).has_globals ≡ false) }
+fn with_dag<'a>(alloc: Global, program: Shaped<'a>) -> Result<Shaped<'a>, AllocError>
+    ensures { IfOk result (λ c. c ≡ with_subcommand program.entry dag_line.top) }
 {
     let command = dag_command(alloc)?;
     program.subcommand(command)
 }
 
 // The program with the command `schedule`.
-fn with_schedule<'a>(alloc: Global, program: Command<'a>) -> Result<Command<'a>, AllocError>
-    requires { (out-Command program).has_globals ≡ false }
-    ensures line { IfOk result (λ c. app_of c
-        ≡ with_subcommand (app_of program.entry) schedule_line.top) }
-    ensures local { IfOk result (λ c. (out-Command c).has_globals ≡ false) }
+fn with_schedule<'a>(alloc: Global, program: Shaped<'a>) -> Result<Shaped<'a>, AllocError>
+    ensures { IfOk result (λ c. c ≡ with_subcommand program.entry schedule_line.top) }
 {
     let command = schedule_command(alloc)?;
     program.subcommand(command)
 }
 
 // The program with the command `compare`.
-fn with_compare<'a>(alloc: Global, program: Command<'a>) -> Result<Command<'a>, AllocError>
-    requires { (out-Command program).has_globals ≡ false }
-    ensures line { IfOk result (λ c. app_of c
-        ≡ with_subcommand (app_of program.entry) compare_line.top) }
-    ensures local { IfOk result (λ c. (out-Command c).has_globals ≡ false) }
+fn with_compare<'a>(alloc: Global, program: Shaped<'a>) -> Result<Shaped<'a>, AllocError>
+    ensures { IfOk result (λ c. c ≡ with_subcommand program.entry compare_line.top) }
 {
     let command = compare_command(alloc)?;
     program.subcommand(command)
 }
 
-// The program without a command, which it has to be given.
-fn bare<'a>(alloc: Global) -> Command<'a>
-    ensures line { app_of result ≡ program }
-    ensures local { (out-Command result).has_globals ≡ false }
-{
-    named(alloc, "bkreplay", help::PROGRAM)
-        .version("0.1.0")
-        .disable_help_subcommand(true)
-        .subcommand_required(true)
-}
-
 // The program with the commands that write a report, a feed or the reply to a query.
-fn asking_command<'a>(alloc: Global) -> Result<Command<'a>, AllocError>
-    ensures line { IfOk result (λ c. app_of c ≡ asking_line) }
-    ensures local { IfOk result (λ c. (out-Command c).has_globals ≡ false) }
+fn asking_command<'a>(alloc: Global) -> Result<Shaped<'a>, AllocError>
+    ensures { IfOk result (λ c. c ≡ asking_line) }
 {
     let workers = workers_arg(alloc, help::WORKERS);
-    let run = with_value(alloc, bare(alloc), "run", workers, help::RUN)?;
+    let run = with_value(alloc, Shaped::program(alloc), "run", workers, help::RUN)?;
     let make = with_file(alloc, run, "make", help::MAKE)?;
     let order = with_file(alloc, make, "order", help::ORDER)?;
     let account = with_value(alloc, order, "account", id_arg(alloc), help::ACCOUNT)?;
@@ -323,9 +280,8 @@ fn asking_command<'a>(alloc: Global) -> Result<Command<'a>, AllocError>
 }
 
 // And with those that show what is in a feed.
-fn viewing_command<'a>(alloc: Global) -> Result<Command<'a>, AllocError>
-    ensures line { IfOk result (λ c. app_of c ≡ viewing_line) }
-    ensures local { IfOk result (λ c. (out-Command c).has_globals ≡ false) }
+fn viewing_command<'a>(alloc: Global) -> Result<Shaped<'a>, AllocError>
+    ensures { IfOk result (λ c. c ≡ viewing_line) }
 {
     let asking = asking_command(alloc)?;
     let frames = with_file(alloc, asking, "frames", help::FRAMES)?;
@@ -337,9 +293,8 @@ fn viewing_command<'a>(alloc: Global) -> Result<Command<'a>, AllocError>
 }
 
 // And with those that check something.
-fn checking_command<'a>(alloc: Global) -> Result<Command<'a>, AllocError>
-    ensures line { IfOk result (λ c. app_of c ≡ checking_line) }
-    ensures local { IfOk result (λ c. (out-Command c).has_globals ≡ false) }
+fn checking_command<'a>(alloc: Global) -> Result<Shaped<'a>, AllocError>
+    ensures { IfOk result (λ c. c ≡ checking_line) }
 {
     let viewing = viewing_command(alloc)?;
     let proof = with_value(
@@ -365,13 +320,22 @@ fn checking_command<'a>(alloc: Global) -> Result<Command<'a>, AllocError>
     )
 }
 
-/// All commands, in the order in which a user meets them.
-pub(crate) fn command<'a>(alloc: Global) -> Result<Command<'a>, AllocError>
-    ensures line { IfOk result (λ c. app_of c ≡ command_line) }
-    ensures local { IfOk result (λ c. (out-Command c).has_globals ≡ false) }
+// And with those that execute batches as they come, and that take two files: all commands, in the order in which a user meets
+// them.
+fn whole_command<'a>(alloc: Global) -> Result<Shaped<'a>, AllocError>
+    ensures { IfOk result (λ c. c ≡ command_line) }
 {
     let checking = checking_command(alloc)?;
     let apply = with_file(alloc, checking, "apply", more_help::APPLY)?;
     let schedule = with_schedule(alloc, apply)?;
     with_compare(alloc, schedule)
+}
+
+/// All commands.
+pub(crate) fn command<'a>(alloc: Global) -> Result<Command<'a>, AllocError>
+    ensures line { IfOk result (λ c. app_of c ≡ command_line) }
+    ensures local { IfOk result (λ c. (out-Command c).has_globals ≡ false) }
+{
+    let whole = whole_command(alloc)?;
+    Ok(whole.into_command())
 }

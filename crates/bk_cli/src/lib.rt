@@ -20,6 +20,7 @@ mod list_fault;
 mod more_help;
 mod notes;
 mod parsing;
+mod shaped;
 mod telling;
 mod verb;
 mod window;

@@ -5,11 +5,11 @@ use Rattle.bk_cli.specs.CommandLine.{file_line}
 use Rattle.bk_cli.proofs.InTurn.{more, more_by}
 use Rattle.bk_cli.proofs.commands.asking_command.Goals as goal
 
-pub returns-clause-line : goal.returns-clause-line
-returns-clause-line c =
-    let run = more_by _ _ _ (codes "run") _ _ c.in_ok-run.ensures.line c.bare.ensures.line c.workers_arg-workers.ensures.rule in
-    let make = more _ _ _ (file_line (codes "make")) c.in_ok-make.ensures.line run in
-    let order = more _ _ _ (file_line (codes "order")) c.in_ok-order.ensures.line make in
-    let account = more_by _ _ _ (codes "account") _ _ c.in_ok-account.ensures.line order c.id_arg.ensures.rule in
-    let receipt = more_by _ _ _ (codes "receipt") _ _ c.in_ok-receipt.ensures.line account c.place_arg.ensures.rule in
-    IfOk-weaker c.with_value-4.result _ _ (λ r h. more_by _ _ _ (codes "prove") _ _ h receipt c.id_arg-2.ensures.rule) c.with_value-4.ensures.line
+pub returns : goal.returns
+returns c =
+    let run = more_by _ _ _ (codes "run") _ _ c.in_ok-run.ensures c.program.ensures c.workers_arg-workers.ensures.rule in
+    let make = more _ _ _ (file_line (codes "make")) c.in_ok-make.ensures run in
+    let order = more _ _ _ (file_line (codes "order")) c.in_ok-order.ensures make in
+    let account = more_by _ _ _ (codes "account") _ _ c.in_ok-account.ensures order c.id_arg.ensures.rule in
+    let receipt = more_by _ _ _ (codes "receipt") _ _ c.in_ok-receipt.ensures account c.place_arg.ensures.rule in
+    IfOk-weaker c.with_value-4.result _ _ (λ r h. more_by _ _ _ (codes "prove") _ _ h receipt c.id_arg-2.ensures.rule) c.with_value-4.ensures

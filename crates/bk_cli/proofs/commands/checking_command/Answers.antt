@@ -4,8 +4,8 @@ use Rattle.std.proofs.lemmas.Result.{IfOk-weaker}
 use Rattle.bk_cli.proofs.InTurn.{more_by, more_working}
 use Rattle.bk_cli.proofs.commands.checking_command.Goals as goal
 
-pub returns-clause-line : goal.returns-clause-line
-returns-clause-line c =
-    let proof = more_by _ _ _ (codes "check-proof") _ _ c.in_ok-proof.ensures.line c.in_ok-viewing.ensures.line c.root_arg.ensures.rule in
-    let state = more_working _ _ _ (codes "check-state") _ _ c.in_ok-state.ensures.line proof c.root_arg-2.ensures.rule in
-    IfOk-weaker c.with_working-2.result _ _ (λ r h. more_working _ _ _ (codes "check-report") _ _ h state c.required_arg.ensures.rule) c.with_working-2.ensures.line
+pub returns : goal.returns
+returns c =
+    let proof = more_by _ _ _ (codes "check-proof") _ _ c.in_ok-proof.ensures c.in_ok-viewing.ensures c.root_arg.ensures.rule in
+    let state = more_working _ _ _ (codes "check-state") _ _ c.in_ok-state.ensures proof c.root_arg-2.ensures.rule in
+    IfOk-weaker c.with_working-2.result _ _ (λ r h. more_working _ _ _ (codes "check-report") _ _ h state c.required_arg.ensures.rule) c.with_working-2.ensures

@@ -1,7 +1,0 @@
--- The command is what the definition writes: help is no part of it.
-use Rattle.std.proofs.Common.{ap, ◌∙◌}
-use Rattle.clap.specs.Simple.{app_of_fields}
-use Rattle.bk_cli.proofs.commands.named.Goals as goal
-
-pub returns-clause-line : goal.returns-clause-line
-returns-clause-line c = ap app_of_fields c.after_help.ensures ∙ (ap app_of_fields c.about.ensures ∙ c.new.ensures.app)
