@@ -13,5 +13,5 @@ abbrev pub node_with : List ℕ → HeaderValue → Node
 node_with id header = record { id = id; header = header }
 
 -- a header under its own id
-abbrev pub node_of : HeaderValue → Node
-node_of header = record { id = id_of header; header = header }
+abbrev pub with_id : HeaderValue → Node
+with_id header = record { id = id_of header; header = header }

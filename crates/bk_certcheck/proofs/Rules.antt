@@ -4,7 +4,7 @@ use Rattle.std.proofs.lemmas.Bool.{cases_lt}
 use Rattle.bk_committee.specs.Payload.{CommitteeValue}
 use Rattle.bk_cert.specs.Values.{CertValue}
 use Rattle.bk_cert.specs.Reading.{certificate_of}
-use Rattle.bk_cert.specs.Node.{Node, node_of}
+use Rattle.bk_cert.specs.Node.{Node, with_id}
 use Rattle.bk_certcheck.specs.declared.rule.Rule.{Rule}
 use Rattle.bk_certcheck.specs.declared.rule.Rule.TheVariants as rule
 use Rattle.bk_certcheck.specs.declared.verdict.Verdict.{Verdict}
@@ -119,7 +119,7 @@ broken_once k bytes r s (shaped a) (shaped b) = first_once k bytes r s a b
 good_once : (k : CommitteeValue) (bytes : List ℕ) (a b : Node) → IsGood k bytes a → IsGood k bytes b → a ≡ b
 good_once k bytes a b p q =
     let same : p.cert ≡ q.cert = one_cert (certificate_of bytes) p.cert q.cert p.read q.read in
-    p.is ∙ ap (λ (c : CertValue). node_of c.header) same ∙ sym q.is
+    p.is ∙ ap (λ (c : CertValue). with_id c.header) same ∙ sym q.is
 
 not_both : (k : CommitteeValue) (bytes : List ℕ) (a : Node) (r : Rule) → IsGood k bytes a → Cases k bytes r → ⊥
 not_both k bytes a r p (shapeless q none) = no_cert (certificate_of bytes) p.cert p.read none

@@ -3,7 +3,7 @@ use Rattle.std.specs.Prelude.{◌≡◌, ℕ, List, Some, None}
 use Rattle.bk_committee.specs.Payload.{CommitteeValue}
 use Rattle.bk_cert.specs.Values.{CertValue}
 use Rattle.bk_cert.specs.Reading.{certificate_of}
-use Rattle.bk_cert.specs.Node.{Node, node_of}
+use Rattle.bk_cert.specs.Node.{Node, with_id}
 use Rattle.bk_certcheck.specs.declared.rule.Rule.{Rule}
 use Rattle.bk_certcheck.specs.declared.rule.Rule.TheVariants as rule
 use Rattle.bk_certcheck.specs.declared.verdict.Verdict.{Verdict}
@@ -15,7 +15,7 @@ pub record IsGood (k : CommitteeValue) (bytes : List ℕ) (node : Node) : Type 0
   pub cert : CertValue
   pub read : certificate_of bytes ≡ Some cert
   pub breaks_none : (r : Rule) → ¬ Breaks k cert r
-  pub is : node ≡ node_of cert.header
+  pub is : node ≡ with_id cert.header
 
 -- the bytes are a certificate that breaks this rule and none before it
 pub record BreaksFirst (k : CommitteeValue) (bytes : List ℕ) (r : Rule) : Type 0 where

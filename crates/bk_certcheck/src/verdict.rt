@@ -1,7 +1,7 @@
 //! What a check finds.
 
 ghost use Rattle.std.specs.Prelude.{◌≡◌};
-ghost use Rattle.bk_cert.specs.Node.{node_of};
+ghost use Rattle.bk_cert.specs.Node.{with_id};
 ghost use Rattle.bk_cert.specs.Identity.{id_of};
 
 use crate::rule::Rule;
@@ -18,12 +18,12 @@ pub struct Checked {
 
 impl Model for Checked {
     ghost use Rattle.std.specs.Prelude.{◌≡◌};
-    ghost use Rattle.bk_cert.specs.Node.{Node, node_of};
+    ghost use Rattle.bk_cert.specs.Node.{Node, with_id};
     ghost use Rattle.bk_cert.specs.Identity.{id_of};
 
     ghost Value = { Node };
 
-    ghost view = { λ c. node_of c.header };
+    ghost view = { λ c. with_id c.header };
 
     ghost invariant = { λ c. c.id ≡ id_of c.header };
 }
@@ -32,7 +32,7 @@ impl Checked {
     // The header under its id.
     pub(crate) fn new(id: Digest32, header: Header) -> Checked
         requires { id ≡ id_of header }
-        ensures { result ≡ node_of header }
+        ensures { result ≡ with_id header }
     {
         Checked { id, header }
     }

@@ -7,7 +7,7 @@ use Rattle.bk_cert.specs.declared.place.CertRef.{CertRef}
 use Rattle.bk_rounds.specs.Admission.{IsPresent}
 use Rattle.bk_rounds.specs.Members.{Has}
 use Rattle.bk_cert.proofs.Refs.{same_place}
-use Rattle.bk_commit.specs.Ordering.{Walk, InHistory, IsEarlier, IsPrior, IsWayBack}
+use Rattle.bk_commit.specs.Ordering.{Leads, InHistory, IsEarlier, IsPrior, IsWayBack}
 use Rattle.bk_commit.specs.Level.{IsLevel, IsNextLevel}
 use Rattle.bk_commit.specs.private.Way.{IsPath, IsOnTheWay}
 use Rattle.bk_rounds.proofs.Grown.{admitted_low}
@@ -22,7 +22,7 @@ present_low z held a (c, at) = subst (λ m. 0 < m) (ap (λ (q : CertRef). q.roun
 pub earlier_round : (z : Sizes) (held : List Node) (a b : CertRef) → IsEarlier z held a b → b.round < a.round
 earlier_round z held a b h = strictly h.reached.0 h.reached.1
   where
-    strictly : (k : ℕ) → Walk z held k a b → b.round < a.round
+    strictly : (k : ℕ) → Leads z held k a b → b.round < a.round
     strictly zero w = absurd (h.other (sym w))
     strictly (suc k) w = let e = walk_round z held (suc k) a b w in omega arith
 

@@ -8,7 +8,7 @@ use Rattle.bk_cert.specs.Node.{Node}
 use Rattle.bk_cert.specs.Clear.{IsClear}
 use Rattle.bk_rounds.specs.Admission.{IsPresent}
 use Rattle.bk_rounds.specs.Votes.{VotesFor, IsAnchor, IsVoted}
-use Rattle.bk_commit.specs.Ordering.{Walk, InHistory, IsEarlier, IsPrior, IsWayBack, IsCommittedBack}
+use Rattle.bk_commit.specs.Ordering.{Leads, InHistory, IsEarlier, IsPrior, IsWayBack, IsCommittedBack}
 use Rattle.bk_commit.specs.Growth.{IsPartOf}
 use Rattle.bk_cert.proofs.Refs.{same_place}
 use Rattle.bk_rounds.proofs.Counting.{weigh_more}
@@ -16,7 +16,7 @@ use Rattle.bk_rounds.proofs.Grown.{present_more, links_more, links_back}
 use Rattle.bk_commit.proofs.Voted.{voted_in_history}
 use Rattle.bk_committee.specs.Sizes.{Sizes}
 
-pub walk_more : (z : Sizes) (a b : List Node) → IsPartOf a b → (n : ℕ) (x y : CertRef) → Walk z a n x y → Walk z b n x y
+pub walk_more : (z : Sizes) (a b : List Node) → IsPartOf a b → (n : ℕ) (x y : CertRef) → Leads z a n x y → Leads z b n x y
 walk_more z a b part zero x y h = h
 walk_more z a b part (suc n) x y h = (h.0, links_more z a b part x h.0 h.1, walk_more z a b part n h.0 y h.2)
 
@@ -30,14 +30,14 @@ voted_more z a b part x h = record {
       (λ y. links_more z a b part (record { round = x.round + 1; author = y }) x) h.votes;
 }
 
-pub walk_back : (z : Sizes) (a b : List Node) → IsPartOf a b → IsClear b → (n : ℕ) (x y : CertRef) → IsPresent z a x → Walk z b n x y → Walk z a n x y
+pub walk_back : (z : Sizes) (a b : List Node) → IsPartOf a b → IsClear b → (n : ℕ) (x y : CertRef) → IsPresent z a x → Leads z b n x y → Leads z a n x y
 walk_back z a b part clear zero x y here h = h
 walk_back z a b part clear (suc n) x y here h =
     let l = links_back z a b part clear x h.0 here h.1 in
     (h.0, l, walk_back z a b part clear n h.0 y (l.parent, l.parent_at) h.2)
 
 -- what is reached is present
-pub walk_present : (z : Sizes) (held : List Node) (n : ℕ) (x y : CertRef) → IsPresent z held x → Walk z held n x y → IsPresent z held y
+pub walk_present : (z : Sizes) (held : List Node) (n : ℕ) (x y : CertRef) → IsPresent z held x → Leads z held n x y → IsPresent z held y
 walk_present z held zero x y here h = subst (IsPresent z held) h here
 walk_present z held (suc n) x y here h = walk_present z held n h.0 y (h.1.parent, h.1.parent_at) h.2
 

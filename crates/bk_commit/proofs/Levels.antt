@@ -10,19 +10,19 @@ use Rattle.bk_rounds.specs.Members.{Has}
 use Rattle.bk_cert.proofs.Refs.{same_place}
 use Rattle.bk_rounds.proofs.Admitted.{admitted_held}
 use Rattle.bk_rounds.specs.Votes.{VotesFor}
-use Rattle.bk_commit.specs.Ordering.{Walk, InHistory}
+use Rattle.bk_commit.specs.Ordering.{Leads, InHistory}
 use Rattle.bk_commit.specs.Level.{IsLinkedFrom, IsNextLevel, IsLevel}
 
 -- each link goes down one round
-pub walk_round : (z : Sizes) (held : List Node) (k : ℕ) (a b : CertRef) → Walk z held k a b → b.round + k ≡ a.round
+pub walk_round : (z : Sizes) (held : List Node) (k : ℕ) (a b : CertRef) → Leads z held k a b → b.round + k ≡ a.round
 walk_round z held zero a b w = let e : a.round ≡ b.round = ap (λ (p : CertRef). p.round) w in omega arith
 walk_round z held (suc k) a b w = let e = walk_round z held k w.0 b w.2 in let f : w.0.round + 1 ≡ a.round = w.1.before in omega arith
 
-pub walk_snoc : (z : Sizes) (held : List Node) (k : ℕ) (a c b : CertRef) → Walk z held k a c → Links z held c b → Walk z held (suc k) a b
+pub walk_snoc : (z : Sizes) (held : List Node) (k : ℕ) (a c b : CertRef) → Leads z held k a c → Links z held c b → Leads z held (suc k) a b
 walk_snoc z held zero a c b w l = (b, subst (λ (p : CertRef). Links z held p b) (sym w) l, refl)
 walk_snoc z held (suc k) a c b w l = (w.0, w.1, walk_snoc z held k w.0 c b w.2 l)
 
-pub walk_unsnoc : (z : Sizes) (held : List Node) (k : ℕ) (a b : CertRef) → Walk z held (suc k) a b → (c : CertRef) × Walk z held k a c × Links z held c b
+pub walk_unsnoc : (z : Sizes) (held : List Node) (k : ℕ) (a b : CertRef) → Leads z held (suc k) a b → (c : CertRef) × Leads z held k a c × Links z held c b
 walk_unsnoc z held zero a b w = (a, refl, subst (λ (p : CertRef). Links z held a p) w.2 w.1)
 walk_unsnoc z held (suc k) a b w = let rest = walk_unsnoc z held k w.0 b w.2 in (rest.0, (w.0, w.1, rest.1), rest.2)
 
@@ -32,7 +32,7 @@ level_first z held a level marks x = (
   (λ (k, w). (marks x).1 (only k w)),
 )
   where
-    only : (k : ℕ) → Walk z held k a (record { round = a.round; author = x }) → x ≡ a.author
+    only : (k : ℕ) → Leads z held k a (record { round = a.round; author = x }) → x ≡ a.author
     only zero w = sym (ap (λ (p : CertRef). p.author) w)
     only (suc k) w = absurd (let e = walk_round z held (suc k) a (record { round = a.round; author = x }) w in omega arith)
 
@@ -45,7 +45,7 @@ level_next z held a round level next low high now below x = (
   (λ (k, w). up k w),
 )
   where
-    up : (k : ℕ) → Walk z held k a (record { round = round - 1; author = x }) → Has next x
+    up : (k : ℕ) → Leads z held k a (record { round = round - 1; author = x }) → Has next x
     up zero w = absurd (let e = walk_round z held 0 a (record { round = round - 1; author = x }) w in omega arith)
     up (suc k) w =
         let u = walk_unsnoc z held k a (record { round = round - 1; author = x }) w in
@@ -53,7 +53,7 @@ level_next z held a round level next low high now below x = (
         same_place u.0 (record { round = round; author = u.0.author }) (let e : round - 1 + 1 ≡ u.0.round = u.2.before in omega arith) refl in
         (below x).1 (
           u.0.author,
-          (now u.0.author).1 (k, subst (Walk z held k a) here u.1),
+          (now u.0.author).1 (k, subst (Leads z held k a) here u.1),
           subst (λ (p : CertRef). Links z held p (record { round = round - 1; author = x })) here u.2,
         )
 

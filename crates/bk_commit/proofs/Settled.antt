@@ -10,17 +10,17 @@ use Rattle.bk_cert.specs.declared.place.CertRef.{CertRef}
 use Rattle.bk_rounds.specs.Admission.{IsPresent}
 use Rattle.bk_cert.proofs.Lists.{none_in_nil, contains_cases, contains_first}
 use Rattle.bk_commit.specs.Ordering.{IsWayBack, IsCommittedBack}
-use Rattle.bk_commit.specs.Growth.{IsPartOf, Begins}
+use Rattle.bk_commit.specs.Growth.{IsPartOf, IsPrefix}
 use Rattle.bk_commit.proofs.Grown.{committed_more}
 
 pub anchors_begin : (z : Sizes) (a b : List Node) → IsClear b → IsPartOf a b → (xs ys : List CertRef)
-    → IsCommittedBack z a (reverse xs) → IsCommittedBack z b (reverse ys) → Begins xs ys
+    → IsCommittedBack z a (reverse xs) → IsCommittedBack z b (reverse ys) → IsPrefix xs ys
 anchors_begin z a b clear part xs ys h k =
     let longer = committed_more z a b clear part (reverse xs) (reverse ys) h k in
     (reverse longer.0, sym (reverse-reverse ys) ∙ (ap reverse longer.1 ∙ (reverse-append longer.0 (reverse xs) ∙ ap (λ zs. zs ++ reverse longer.0) (reverse-reverse xs))))
 
 -- two lists of which each begins the other are one
-pub begin_each_other : {X : Type 0} (xs ys : List X) → Begins xs ys → Begins ys xs → xs ≡ ys
+pub begin_each_other : {X : Type 0} (xs ys : List X) → IsPrefix xs ys → IsPrefix ys xs → xs ≡ ys
 begin_each_other {X} xs ys (more, e) (rest, f) = ended more e (ap length e) (ap length f)
   where
     ended : (us : List X) → ys ≡ xs ++ us → length ys ≡ length (xs ++ us) → length xs ≡ length (ys ++ rest) → xs ≡ ys

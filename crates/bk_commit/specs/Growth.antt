@@ -10,8 +10,8 @@ abbrev pub IsPartOf : {X : Type 0} → List X → List X → Type 0
 IsPartOf {X} a b = (c : X) → Contains a c → Contains b c
 
 -- ys goes on where xs ends
-abbrev pub Begins : {X : Type 0} → List X → List X → Type 0
-Begins {X} xs ys = (rest : List X) × (ys ≡ xs ++ rest)
+abbrev pub IsPrefix : {X : Type 0} → List X → List X → Type 0
+IsPrefix {X} xs ys = (rest : List X) × (ys ≡ xs ++ rest)
 
 -- these were the committed anchors of a part of what is held, or of all of it
 abbrev pub WereCommitted : Sizes → List Node → List CertRef → Type 0

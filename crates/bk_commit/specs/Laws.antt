@@ -7,7 +7,7 @@ use Rattle.bk_cert.specs.declared.place.CertRef.{CertRef}
 use Rattle.bk_rounds.specs.Admission.{IsPresent}
 use Rattle.bk_rounds.specs.Votes.{IsVoted}
 use Rattle.bk_commit.specs.Ordering.{InHistory, IsWayBack, IsCommitted}
-use Rattle.bk_commit.specs.Growth.{IsPartOf, Begins}
+use Rattle.bk_commit.specs.Growth.{IsPartOf, IsPrefix}
 
 -- an anchor whose voters weigh more than the faulty is in the history of whatever is admitted
 -- two rounds later or more
@@ -18,7 +18,7 @@ VotedIsReached = (z : Sizes) (held : List Node) (a c : CertRef) → IsVoted z he
 -- where the one held set is part of the other, its committed anchors begin the other's
 abbrev pub AnchorsGrow : Type 0
 AnchorsGrow = (z : Sizes) (small large : List Node) (xs ys : List CertRef) → IsClear large
-    → IsPartOf small large → IsCommitted z small xs → IsCommitted z large ys → Begins xs ys
+    → IsPartOf small large → IsCommitted z small xs → IsCommitted z large ys → IsPrefix xs ys
 
 -- an anchor has one way back
 abbrev pub OneWayBack : Type 0

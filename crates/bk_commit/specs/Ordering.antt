@@ -7,13 +7,13 @@ use Rattle.bk_rounds.specs.Links.{Links}
 use Rattle.bk_rounds.specs.Votes.{IsAnchor, IsVoted, IsLast}
 
 -- n links lead from a down to b
-abbrev pub Walk : Sizes → List Node → ℕ → CertRef → CertRef → Type 0
-Walk z held zero a b = a ≡ b
-Walk z held (suc n) a b = (c : CertRef) × Links z held a c × Walk z held n c b
+abbrev pub Leads : Sizes → List Node → ℕ → CertRef → CertRef → Type 0
+Leads z held zero a b = a ≡ b
+Leads z held (suc n) a b = (c : CertRef) × Links z held a c × Leads z held n c b
 
 -- b is in the history of a: some links lead from a to b
 abbrev pub InHistory : Sizes → List Node → CertRef → CertRef → Type 0
-InHistory z held a b = (n : ℕ) × Walk z held n a b
+InHistory z held a b = (n : ℕ) × Leads z held n a b
 
 -- an anchor in the history of a, other than a
 pub record IsEarlier (z : Sizes) (held : List Node) (a b : CertRef) : Type 0 where

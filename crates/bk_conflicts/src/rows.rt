@@ -95,7 +95,7 @@ fn sums(alloc: Global, counts: &[usize]) -> Result<Vec<usize>, AllocError>
     Ok(starts)
 }
 
-// Puts each row's number into the rows that its items name, from where these begin, which is changed.
+// Puts each row's number into the rows that its items name. `cursor` says where these begin, and is written over.
 fn spread(
     alloc: Global,
     start: &[usize],
@@ -128,8 +128,8 @@ fn spread(
     Ok(after)
 }
 
-// The rows turned round: row `p` lists, in ascending order, the rows that name `p`. Of each `p` the items are counted
-// already; the counts are not left.
+// The rows turned round: row `p` lists, in ascending order, the rows that name `p`. `counts` says how often each `p` is in
+// the items; it is written over.
 pub(crate) fn turned_round(
     alloc: Global,
     start: &[usize],

@@ -16,8 +16,7 @@ pub struct Evidence {
     pub second: Digest32,
 }
 
-/// The collision and the evidence among the certificates of two tables, as one table of them all
-/// has them.
+/// The collision and the evidence that one table of all certificates of two tables would have.
 #[derive(Clone, Copy, Debug, PartialEq, Eq)]
 pub struct Together {
     /// The least id under which there are two headers; `None` where each id has one header.

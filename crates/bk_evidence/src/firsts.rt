@@ -8,7 +8,7 @@ ghost use Rattle.std.specs.Ordering.{is_eq};
 use std::alloc::{AllocError, Global};
 use std::collections::BTreeMap;
 
-/// The index under a key, which gets this one where it has none. For a new key it is one search.
+/// The index that a key has. `None`: it had none, and has this one now. A new key costs one search.
 ///
 /// Where memory runs out nothing changes.
 pub(crate) fn first_of<K: Ord + Copy + Drop>(

@@ -10,7 +10,7 @@ use Rattle.bk_cert.proofs.Lists.{none_in_nil, contains_cases, contains_first, co
 use Rattle.bk_cert.proofs.Refs.{same_place}
 use Rattle.bk_cert.specs.Place.{Lists}
 use Rattle.bk_cert.specs.declared.place.CertRef.{CertRef}
-use Rattle.bk_commit.specs.Ordering.{Walk, InHistory, IsWayBack}
+use Rattle.bk_commit.specs.Ordering.{Leads, InHistory, IsWayBack}
 use Rattle.bk_commit.proofs.Grown.{one_way_back}
 use Rattle.bk_commit.proofs.Levels.{walk_snoc}
 use Rattle.bk_flatten.specs.private.Part.{IsClosed}
@@ -29,8 +29,8 @@ listed_or_not (x ∷ xs) c = ⊎_elim
     (λ e. not_first x xs c (listed_or_not xs c) (λ h. e (ap (λ (p : CertRef). p.round) h)))
     (cases_eq x.round c.round)
 
-walk_on : (z : Sizes) (held : List Node) (n m : ℕ) (a b c : CertRef) → Walk z held n a b → Walk z held m b c → InHistory z held a c
-walk_on z held zero m a b c w v = (m, subst (λ (q : CertRef). Walk z held m q c) (sym w) v)
+walk_on : (z : Sizes) (held : List Node) (n m : ℕ) (a b c : CertRef) → Leads z held n a b → Leads z held m b c → InHistory z held a c
+walk_on z held zero m a b c w v = (m, subst (λ (q : CertRef). Leads z held m q c) (sym w) v)
 walk_on z held (suc n) m a b c w v = let rest = walk_on z held n m w.0 b c w.2 v in (suc rest.0, (w.0, w.1, rest.1))
 
 -- the order up to an anchor lists its history

@@ -16,7 +16,7 @@ use Rattle.bk_cert.specs.declared.place.CertRef.{CertRef}
 use Rattle.bk_rounds.specs.Admission.{IsPresent}
 use Rattle.bk_rounds.proofs.Admitted.{admitted_held}
 use Rattle.bk_cert.proofs.Lists.{none_in_nil, contains_cases, contains_first, contains_later}
-use Rattle.bk_commit.specs.Growth.{IsPartOf, Begins}
+use Rattle.bk_commit.specs.Growth.{IsPartOf, IsPrefix}
 use Rattle.bk_evidence.specs.Batches.{Batch, AreApart, payload_of}
 use Rattle.bk_flatten.specs.Batches.{stands, named_at, once, Payloads, cons_payload, before_missing, batches_of}
 use Rattle.bk_flatten.specs.Order.{IsWholeOrder}
@@ -80,7 +80,7 @@ names_same z small large within clear (a ∷ xs) here =
 
 -- the list of batches
 
-once_begins : (xs ys : List (List ℕ)) → Begins (once xs) (once (xs ++ ys))
+once_begins : (xs ys : List (List ℕ)) → IsPrefix (once xs) (once (xs ++ ys))
 once_begins [] ys = (once ys, refl)
 once_begins (x ∷ xs) ys =
     let h = once_begins xs ys in
@@ -98,12 +98,12 @@ payload_same few many within apart d q e = by_first (find (λ (b : Batch). bytes
         let same : other.0 ≡ b = apart other.0 b other.1.inside inside ((bytes_eq-Decides other.0.digest d).0 other.1.passes ∙ sym ((bytes_eq-Decides b.digest d).0 f.passes)) in
         ap (option_map (λ (x : Batch). x.payload)) (other.1.first ∙ ap Some same) ∙ g
 
-pub under_begins : (few many : List Batch) → IsPartOf few many → AreApart many → (ds rest : List (List ℕ)) → Begins (before_missing few ds).list (before_missing many (ds ++ rest)).list
+pub under_begins : (few many : List Batch) → IsPartOf few many → AreApart many → (ds rest : List (List ℕ)) → IsPrefix (before_missing few ds).list (before_missing many (ds ++ rest)).list
 under_begins few many within apart [] rest = ((before_missing many rest).list, refl)
 under_begins few many within apart (d ∷ ds) rest = by_payload (payload_of few d) refl (under_begins few many within apart ds rest)
   where
-    by_payload : (o : Option (List ℕ)) → payload_of few d ≡ o → Begins (before_missing few ds).list (before_missing many (ds ++ rest)).list
-        → Begins (cons_payload o d (before_missing few ds)).list (cons_payload (payload_of many d) d (before_missing many (ds ++ rest))).list
+    by_payload : (o : Option (List ℕ)) → payload_of few d ≡ o → IsPrefix (before_missing few ds).list (before_missing many (ds ++ rest)).list
+        → IsPrefix (cons_payload o d (before_missing few ds)).list (cons_payload (payload_of many d) d (before_missing many (ds ++ rest))).list
     by_payload None t h = ((cons_payload (payload_of many d) d (before_missing many (ds ++ rest))).list, refl)
     by_payload (Some q) t h =
         let there = payload_same few many within apart d q t in
@@ -112,7 +112,7 @@ under_begins few many within apart (d ∷ ds) rest = by_payload (payload_of few 
 -- so the batches of a growing set only grow, in their order
 pub batches_begin : (z : Sizes) (small large : List Node) (few many : List Batch) (xs ys : List CertRef)
     → IsClear large → AreApart many → IsPartOf small large → IsPartOf few many → IsWholeOrder z small xs → IsWholeOrder z large ys
-    → Begins (batches_of small few xs).list (batches_of large many ys).list
+    → IsPrefix (batches_of small few xs).list (batches_of large many ys).list
 batches_begin z small large few many xs ys clear apart within inside a b =
     let orders = whole_begins z small large xs ys clear within a b in
     let names = names_same z small large within clear xs (order_present z small (reverse a.anchors) xs a.committed a.ordered) in
@@ -120,4 +120,4 @@ batches_begin z small large few many xs ys clear apart within inside a b =
     ap (flat_map (named_at large)) orders.1 ∙ flat_map-append (named_at large) xs orders.0 ∙ ap (λ (t : List (List ℕ)). t ++ flat_map (named_at large) orders.0) (sym names) in
     let h = once_begins (flat_map (named_at small) xs) (flat_map (named_at large) orders.0) in
     let digests : once (flat_map (named_at large) ys) ≡ once (flat_map (named_at small) xs) ++ h.0 = ap once all ∙ h.1 in
-    subst (λ (ds : List (List ℕ)). Begins (batches_of small few xs).list (before_missing many ds).list) (sym digests) (under_begins few many inside apart (once (flat_map (named_at small) xs)) h.0)
+    subst (λ (ds : List (List ℕ)). IsPrefix (batches_of small few xs).list (before_missing many ds).list) (sym digests) (under_begins few many inside apart (once (flat_map (named_at small) xs)) h.0)

@@ -12,7 +12,7 @@ use Rattle.bk_cert.proofs.Listed.{one_listing, same_listing}
 use Rattle.bk_cert.proofs.Lists.{none_in_nil}
 use Rattle.bk_cert.specs.Place.{Lists}
 use Rattle.bk_commit.specs.Ordering.{InHistory, IsWayBack, IsCommittedBack}
-use Rattle.bk_commit.specs.Growth.{IsPartOf, Begins}
+use Rattle.bk_commit.specs.Growth.{IsPartOf, IsPrefix}
 use Rattle.bk_commit.proofs.Grown.{history_more, history_back, committed_more, walk_present}
 use Rattle.bk_commit.proofs.Settled.{begin_each_other}
 use Rattle.bk_flatten.specs.Order.{IsOrderBack, IsOrder, IsWholeOrder}
@@ -43,7 +43,7 @@ order_back_more z a b part clear x (p ∷ ps) xs here way (front, listed, before
 
 -- further anchors only add to the order
 pub order_goes_on : (z : Sizes) (held : List Node) (front : List CertRef) (x : CertRef) (ps xs ys : List CertRef)
-    → IsOrder z held (x ∷ ps) xs → IsOrder z held (front ++ x ∷ ps) ys → Begins xs ys
+    → IsOrder z held (x ∷ ps) xs → IsOrder z held (front ++ x ∷ ps) ys → IsPrefix xs ys
 order_goes_on z held [] x ps xs ys h k = ([], one_order_back z held x ps ys xs k h ∙ sym (append-nil xs))
 order_goes_on z held (y ∷ []) x ps xs ys h (front, part, before, lists, e) =
     (part, e ∙ ap (λ zs. zs ++ part) (one_order_back z held x ps front xs before h))
@@ -52,7 +52,7 @@ order_goes_on z held (y ∷ w ∷ ws) x ps xs ys h (front, part, before, lists, 
     (rec.0 ++ part, e ∙ (ap (λ us. us ++ part) rec.1 ∙ append_assoc xs rec.0 part))
 
 pub orders_begin : (z : Sizes) (a b : List Node) → IsClear b → IsPartOf a b → (xs ys os qs : List CertRef)
-    → IsCommittedBack z a xs → IsCommittedBack z b ys → IsOrder z a xs os → IsOrder z b ys qs → Begins os qs
+    → IsCommittedBack z a xs → IsCommittedBack z b ys → IsOrder z a xs os → IsOrder z b ys qs → IsPrefix os qs
 orders_begin z a b clear part [] ys os qs h k o q = (qs, ap (λ zs. zs ++ qs) (sym o))
 orders_begin z a b clear part (x ∷ ps) ys os qs h k o q =
     let longer = committed_more z a b clear part (x ∷ ps) ys h k in
@@ -65,7 +65,7 @@ pub one_order : (z : Sizes) (held : List Node) (back xs ys : List CertRef) → I
 one_order z held [] xs ys h k = h ∙ sym k
 one_order z held (a ∷ ps) xs ys h k = one_order_back z held a ps xs ys h k
 
-pub whole_begins : (z : Sizes) (small large : List Node) (xs ys : List CertRef) → IsClear large → IsPartOf small large → IsWholeOrder z small xs → IsWholeOrder z large ys → Begins xs ys
+pub whole_begins : (z : Sizes) (small large : List Node) (xs ys : List CertRef) → IsClear large → IsPartOf small large → IsWholeOrder z small xs → IsWholeOrder z large ys → IsPrefix xs ys
 whole_begins z small large xs ys clear part h k =
     orders_begin z small large clear part (reverse h.anchors) (reverse k.anchors) xs ys h.committed k.committed h.ordered k.ordered
 

@@ -15,7 +15,7 @@ use Rattle.bk_cert.proofs.Lists.{contains_first, none_in_nil}
 use Rattle.bk_cert.proofs.Refs.{same_place}
 use Rattle.bk_rounds.proofs.Named.{push_at}
 use Rattle.bk_rounds.proofs.Bits.{has_none as has_nobody}
-use Rattle.bk_commit.specs.Ordering.{Walk, InHistory}
+use Rattle.bk_commit.specs.Ordering.{Leads, InHistory}
 use Rattle.bk_commit.specs.Level.{IsNextLevel}
 use Rattle.bk_rounds.proofs.Grown.{admitted_low}
 use Rattle.bk_commit.proofs.Grown.{walk_present}
@@ -131,7 +131,7 @@ fresh_first z held a ordered first marks mark fresh only marked same rest x = (
   (λ ((k, w), new). (rest x).1 ((only x).1 (by_walk k w), λ m. new ((marked x).0 ((same x).0 m)))),
 )
   where
-    by_walk : (k : ℕ) → Walk z held k a (record { round = a.round; author = x }) → x ≡ a.author
+    by_walk : (k : ℕ) → Leads z held k a (record { round = a.round; author = x }) → x ≡ a.author
     by_walk zero w = sym (ap (λ (p : CertRef). p.author) w)
     by_walk (suc k) w = absurd (let e = walk_round z held (suc k) a (record { round = a.round; author = x }) w in omega arith)
 
@@ -149,7 +149,7 @@ fresh_next z held a ordered round fresh next marks mark rest low high closed now
   (λ ((k, w), new). (less x).1 (up k w new, λ m. new ((marked x).0 ((same x).0 m)))),
 )
   where
-    up : (k : ℕ) → Walk z held k a (record { round = round - 1; author = x }) → (Contains ordered (record { round = round - 1; author = x }) → ⊥) → Has next x
+    up : (k : ℕ) → Leads z held k a (record { round = round - 1; author = x }) → (Contains ordered (record { round = round - 1; author = x }) → ⊥) → Has next x
     up zero w new = absurd (let e = walk_round z held 0 a (record { round = round - 1; author = x }) w in omega arith)
     up (suc k) w new =
         let u = walk_unsnoc z held k a (record { round = round - 1; author = x }) w in
@@ -158,17 +158,17 @@ fresh_next z held a ordered round fresh next marks mark rest low high closed now
         let link = subst (λ (p : CertRef). Links z held p (record { round = round - 1; author = x })) here u.2 in
         (below x).1 (
           u.0.author,
-          (now u.0.author).1 ((k, subst (Walk z held k a) here u.1), λ t. new (closed (record { round = round; author = u.0.author }) (record { round = round - 1; author = x }) t link)),
+          (now u.0.author).1 ((k, subst (Leads z held k a) here u.1), λ t. new (closed (record { round = round; author = u.0.author }) (record { round = round - 1; author = x }) t link)),
           link,
         )
 
 -- what is reached from the ordered is ordered
-pub closed_walk : (z : Sizes) (held : List Node) (ordered : List CertRef) → IsClosed z held ordered → (k : ℕ) (a b : CertRef) → Contains ordered a → Walk z held k a b → Contains ordered b
+pub closed_walk : (z : Sizes) (held : List Node) (ordered : List CertRef) → IsClosed z held ordered → (k : ℕ) (a b : CertRef) → Contains ordered a → Leads z held k a b → Contains ordered b
 closed_walk z held ordered closed zero a b t w = subst (Contains ordered) w t
 closed_walk z held ordered closed (suc k) a b t w = closed_walk z held ordered closed k w.0 b (closed a w.0 t w.1) w.2
 
 -- a walk comes by each round on its way
-pub walk_through : (z : Sizes) (held : List Node) (k : ℕ) (a b : CertRef) (round : ℕ) → Walk z held k a b → b.round ≤ round → round ≤ a.round
+pub walk_through : (z : Sizes) (held : List Node) (k : ℕ) (a b : CertRef) (round : ℕ) → Leads z held k a b → b.round ≤ round → round ≤ a.round
     → (u : CertRef) × (u.round ≡ round) × InHistory z held a u × InHistory z held u b
 walk_through z held zero a b round w low high = (a, (let e : a.round ≡ b.round = ap (λ (p : CertRef). p.round) w in omega arith), (0, refl), (0, w))
 walk_through z held (suc k) a b round w low high = ⊎_elim

@@ -6,7 +6,7 @@ use Rattle.bk_cert.specs.Clear.{IsClear}
 use Rattle.bk_cert.specs.declared.place.CertRef.{CertRef}
 use Rattle.bk_rounds.specs.Admission.{IsPresent}
 use Rattle.bk_commit.specs.Ordering.{InHistory, IsWayBack, IsCommitted}
-use Rattle.bk_commit.specs.Growth.{IsPartOf, Begins}
+use Rattle.bk_commit.specs.Growth.{IsPartOf, IsPrefix}
 use Rattle.bk_flatten.specs.Order.{IsOrder, IsOrderBack, IsWholeOrder}
 use Rattle.bk_evidence.specs.Batches.{Batch, AreApart}
 use Rattle.bk_evidence.specs.declared.batches.BatchRef.{BatchRef}
@@ -15,7 +15,7 @@ use Rattle.bk_flatten.specs.Batches.{Listed, AreFound, IsFoundWhole, payloads_of
 -- where the one held set is part of the other, its order begins the other's
 abbrev pub OrderGrows : Type 0
 OrderGrows = (z : Sizes) (small large : List Node) (xs ys : List CertRef) → IsClear large
-    → IsPartOf small large → IsWholeOrder z small xs → IsWholeOrder z large ys → Begins xs ys
+    → IsPartOf small large → IsWholeOrder z small xs → IsWholeOrder z large ys → IsPrefix xs ys
 
 -- anchors have one order
 abbrev pub OneOrder : Type 0
@@ -46,7 +46,7 @@ abbrev pub BatchesGrow : Type 0
 BatchesGrow = (z : Sizes) (small large : List Node) (few many : List Batch) (xs ys : List CertRef)
     → IsClear large → AreApart many → IsPartOf small large → IsPartOf few many
     → IsWholeOrder z small xs → IsWholeOrder z large ys
-    → Begins (batches_of small few xs).list (batches_of large many ys).list
+    → IsPrefix (batches_of small few xs).list (batches_of large many ys).list
 
 -- a list of an order's digests, whose batches are found as far as they are held, has the payloads of
 -- the order

@@ -7,8 +7,8 @@ use crate::batches::Batches;
 use bk_rules::Ids;
 use std::alloc::{AllocError, Global};
 
-/// A slice takes whole batches until it has this many transactions, beside which it costs little to start its threads. A
-/// batch has fewer than 65,536, so a slice has fewer than 73,728.
+/// A slice takes whole batches until it has this many transactions, so many that starting threads for them costs little
+/// beside them. A batch has fewer than 65,536, so a slice has fewer than 73,728.
 pub(crate) const FEWEST: usize = 8_192;
 
 /// For how many transactions slots are made at once: an eighth as many as there are slots, since it costs a pass over all

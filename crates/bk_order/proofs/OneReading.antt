@@ -101,19 +101,19 @@ module _ (k : CommitteeValue) (frames : List Frame) where
   one_stop (stop.Collision x) (stop.Collision y) h g =
       let there = collides_on h.certs g.certs h.batches g.batches (same_certs k frames h.certs g.certs h.are_certs g.are_certs) (same_batches k frames h.batches g.batches h.are_batches g.are_batches) in
       let back = collides_on g.certs h.certs g.batches h.batches (same_certs k frames g.certs h.certs g.are_certs h.are_certs) (same_batches k frames g.batches h.batches g.are_batches h.are_batches) in
-      ap stop.Collision (both_at_most id_order x y (h.stops.least y (back y g.stops.collides)) (g.stops.least x (there x h.stops.collides)))
+      ap stop.Collision (both_at_most id_order x y (h.holds.least y (back y g.holds.collides)) (g.holds.least x (there x h.holds.collides)))
   one_stop (stop.Collision x) (stop.Twins f) h g =
       let there = collides_on h.certs g.certs h.batches g.batches (same_certs k frames h.certs g.certs h.are_certs g.are_certs) (same_batches k frames h.batches g.batches h.are_batches g.are_batches) in
-      absurd (no_collision_in g.certs g.batches g.stops.0 g.stops.1 x (there x h.stops.collides))
+      absurd (no_collision_in g.certs g.batches g.holds.0 g.holds.1 x (there x h.holds.collides))
   one_stop (stop.Twins e) (stop.Collision y) h g =
       let back = collides_on g.certs h.certs g.batches h.batches (same_certs k frames g.certs h.certs g.are_certs h.are_certs) (same_batches k frames g.batches h.batches g.are_batches h.are_batches) in
-      absurd (no_collision_in h.certs h.batches h.stops.0 h.stops.1 y (back y g.stops.collides))
+      absurd (no_collision_in h.certs h.batches h.holds.0 h.holds.1 y (back y g.holds.collides))
   one_stop (stop.Twins e) (stop.Twins f) h g =
-      ap stop.Twins (evidence_is_one g.certs e f (evidence_same h.certs g.certs (same_certs k frames h.certs g.certs h.are_certs g.are_certs) e h.stops.2) g.stops.2)
+      ap stop.Twins (evidence_is_one g.certs e f (evidence_same h.certs g.certs (same_certs k frames h.certs g.certs h.are_certs g.are_certs) e h.holds.2) g.holds.2)
 
   pub no_stop : (s : Stop) → HasNoStop k frames → ¬ IsStop k frames s
-  no_stop (stop.Collision id) none h = no_collision_in h.certs h.batches (clear_of k frames h.certs none h.are_certs).no_collision (apart_of k frames h.batches none h.are_batches) id h.stops.collides
-  no_stop (stop.Twins e) none h = no_evidence h.certs e (clear_of k frames h.certs none h.are_certs).no_twins h.stops.2
+  no_stop (stop.Collision id) none h = no_collision_in h.certs h.batches (clear_of k frames h.certs none h.are_certs).no_collision (apart_of k frames h.batches none h.are_batches) id h.holds.collides
+  no_stop (stop.Twins e) none h = no_evidence h.certs e (clear_of k frames h.certs none h.are_certs).no_twins h.holds.2
 
 -- ---- the order
 
@@ -160,12 +160,12 @@ module _ (k : CommitteeValue) (frames : List Frame) (o p : Ordered) (none : HasN
       let batches = same_batches k frames h.batches g.batches h.are_batches g.are_batches in
       let clear = clear_of k frames g.certs none g.are_certs in
       let apart = apart_of k frames g.batches none g.are_batches in
-      let present = order_present (sizes_of k) h.certs (reverse o.anchors) o.order h.committed h.ordered in
+      let present = order_present (sizes_of k) h.certs (reverse o.anchors) o.order h.holds.committed h.holds.ordered in
       let digests : digests_of h.certs o.order ≡ digests_of g.certs o.order = ap once (names_same (sizes_of k) h.certs g.certs certs.into clear o.order present) in
-      h.payloads_are
+      h.holds.payloads_are
       ∙ ap (before_missing h.batches) (digests ∙ ap (digests_of g.certs) order)
       ∙ one_before_missing h.batches g.batches batches apart (digests_of g.certs p.order)
-      ∙ sym g.payloads_are
+      ∙ sym g.holds.payloads_are
 
   pub one_ordered : o ≡ p
   one_ordered =

@@ -14,7 +14,7 @@ use Rattle.bk_cert.specs.declared.place.CertRef.{CertRef}
 use Rattle.bk_rounds.specs.Admission.{IsPresent}
 use Rattle.bk_evidence.specs.Batches.{Batch}
 use Rattle.bk_evidence.specs.declared.batches.BatchRef.{BatchRef}
-use Rattle.bk_commit.specs.Growth.{IsPartOf, Begins}
+use Rattle.bk_commit.specs.Growth.{IsPartOf, IsPrefix}
 use Rattle.bk_rounds.specs.Votes.{IsVoted}
 use Rattle.bk_commit.specs.Ordering.{IsCommitted, IsCommittedBack, IsWayBack}
 use Rattle.bk_commit.proofs.Grown.{voted_more, walk_present, way_back_more}
@@ -55,7 +55,7 @@ pub digests_stay : (z : Sizes) (small large : List Node) → IsPartOf small larg
     → IsOrder z small back xs → digests_of small xs ≡ digests_of large xs
 digests_stay z small large part clear back xs settled h = ap once (names_same z small large part clear xs (order_present z small back xs settled h))
 
-pub once_begins : (xs ys : List (List ℕ)) → Begins (once xs) (once (xs ++ ys))
+pub once_begins : (xs ys : List (List ℕ)) → IsPrefix (once xs) (once (xs ++ ys))
 once_begins [] ys = (once ys, refl)
 once_begins (x ∷ xs) ys =
     let h = once_begins xs ys in
@@ -177,7 +177,7 @@ module _ (k : CommitteeValue) (frames : List Frame) (held : List Node) (rounds :
   certs_in_rounds : AreCerts k frames rounds.held
   certs_in_rounds = record {
     sound = λ c h. are.sound c (joined.inside c h);
-    complete = λ c s. joined.whole (clear_part held none.certs (λ d h. none.are_certs.complete d (are.sound d h)) none.none.clear) c (are.complete c s);
+    complete = λ c s. joined.whole (clear_part held none.certs (λ d h. none.are_certs.complete d (are.sound d h)) none.holds.clear) c (are.complete c s);
   }
 
   pub order_told : (batches : List Batch) (s : Settled) → AreBatches frames batches → IsSettled rounds.sizes rounds.held batches s → IsOrderOf k frames (order_in batches s)
@@ -186,9 +186,11 @@ module _ (k : CommitteeValue) (frames : List Frame) (held : List Node) (rounds :
     batches = batches;
     are_certs = certs_in_rounds;
     are_batches = are_batches;
-    committed = subst (λ (z : Sizes). IsCommitted z rounds.held s.walk) joined.sizes h.committed;
-    ordered = subst (λ (z : Sizes). IsOrder z rounds.held (reverse s.walk) s.flat) joined.sizes h.ordered;
-    payloads_are = sym (whole_list batches s.list h.whole) ∙ ap (before_missing batches) h.named;
+    holds = record {
+      committed = subst (λ (z : Sizes). IsCommitted z rounds.held s.walk) joined.sizes h.committed;
+      ordered = subst (λ (z : Sizes). IsOrder z rounds.held (reverse s.walk) s.flat) joined.sizes h.ordered;
+      payloads_are = sym (whole_list batches s.list h.whole) ∙ ap (before_missing batches) h.named;
+    };
   }
 
   pub waiting_told : (places : List CertRef) → Lists places (WaitsAt rounds.sizes rounds.held) → AreWaiting k frames places
@@ -205,8 +207,8 @@ module _ (k : CommitteeValue) (frames : List Frame) (held : List Node) (rounds :
   committed_told o h =
       let into : IsPartOf h.certs rounds.held = λ c t. certs_in_rounds.complete c (h.are_certs.sound c t) in
       let from : IsPartOf rounds.held h.certs = λ c t. h.are_certs.complete c (certs_in_rounds.sound c t) in
-      let clear : IsClear rounds.held = clear_part rounds.held none.certs (λ c t. none.are_certs.complete c (certs_in_rounds.sound c t)) none.none.clear in
-      subst (λ (z : Sizes). IsCommitted z rounds.held o.anchors) (sym joined.sizes) (committed_same (sizes_of k) h.certs rounds.held clear into from (reverse o.anchors) h.committed)
+      let clear : IsClear rounds.held = clear_part rounds.held none.certs (λ c t. none.are_certs.complete c (certs_in_rounds.sound c t)) none.holds.clear in
+      subst (λ (z : Sizes). IsCommitted z rounds.held o.anchors) (sym joined.sizes) (committed_same (sizes_of k) h.certs rounds.held clear into from (reverse o.anchors) h.holds.committed)
 
 -- an empty table
 pub joined_none : (k : CommitteeValue) (held : List Node) (rounds : RoundsValue) → AreCerts k [] held → rounds ≡ rounds_with (sizes_of k) [] → IsJoined k held rounds
@@ -242,13 +244,13 @@ payloads_stay batches more (d ∷ ds) (b ∷ found) h =
     λ i. same i ∷ later i
 
 -- what was settled stays while more is held
-pub order_kept : (z : Sizes) (held : List Node) (batches new : List Batch) (s : Settled) → IsFollowed z held batches s → Begins batches new → order_in new s ≡ order_in batches s
+pub order_kept : (z : Sizes) (held : List Node) (batches new : List Batch) (s : Settled) → IsFollowed z held batches s → IsPrefix batches new → order_in new s ≡ order_in batches s
 order_kept z held batches new s f (more, e) =
     let list : map (payload_at new) s.list.found ≡ map (payload_at batches) s.list.found =
     ap (λ (bs : List Batch). map (payload_at bs) s.list.found) e ∙ payloads_stay batches more s.list.digests s.list.found f.found in
     λ i. ordered_with s.walk s.flat (record { list = list i; missing = slice_get s.list.digests (length s.list.found) })
 
-pub followed_on : (z y : Sizes) (held larger : List Node) (batches new : List Batch) (s : Settled) → y ≡ z → IsPartOf held larger → Begins batches new → IsFollowed z held batches s
+pub followed_on : (z y : Sizes) (held larger : List Node) (batches new : List Batch) (s : Settled) → y ≡ z → IsPartOf held larger → IsPrefix batches new → IsFollowed z held batches s
     → IsFollowed y larger new s
 followed_on z y held larger batches new s same part (more, e) f = subst (λ (x : Sizes). IsFollowed x larger new s) (sym same) (record {
   part = f.part;
@@ -267,7 +269,5 @@ none_ordered k = record {
   batches = [];
   are_certs = record { sound = λ c h. absurd (none_in_nil c h); complete = λ c in_it. absurd (none_in_nil (frame_of kind.Certificate in_it.0) in_it.1) };
   are_batches = record { sound = λ b h. absurd (none_in_nil b h); complete = λ b in_it. absurd (none_in_nil (frame_of kind.Batch in_it.0) in_it.1) };
-  committed = none_voted (sizes_of k);
-  ordered = refl;
-  payloads_are = refl;
+  holds = record { committed = none_voted (sizes_of k); ordered = refl; payloads_are = refl };
 }

@@ -7,7 +7,7 @@ use Rattle.bk_frames.specs.declared.kind.Kind.TheVariants as kind
 use Rattle.bk_frames.specs.Feed.{Frame}
 use Rattle.bk_committee.specs.Payload.{CommitteeValue}
 use Rattle.bk_certcheck.specs.declared.verdict.Verdict.{Verdict}
-use Rattle.bk_commit.specs.Growth.{IsPartOf, Begins}
+use Rattle.bk_commit.specs.Growth.{IsPartOf, IsPrefix}
 use Rattle.bk_evidence.specs.Batches.{Batch, batch_with, IsBatchOffer, batches_after}
 use Rattle.bk_evidence.specs.declared.batches.BatchOffer.{BatchOffer}
 use Rattle.bk_evidence.specs.declared.batches.BatchOffer.TheVariants as offer
@@ -57,7 +57,7 @@ cert_keeps k old mid one v e before after next rounds batches certs rejected few
 }
 
 pub batch_keeps : (k : CommitteeValue) (old : Table) (bs : List Batch) (tally : Tally) (one : Judged) (b : Digested) → one ≡ judged.Batch b → IsJoined k old.held old.rounds
-    → HaveSame bs (old.batches ++ batch_with b.digest b.payload.items ∷ []) → Begins old.batches bs → old.next + 1 < 2 ^ 64 → CountsBatch old.batches old.tally tally b.digest
+    → HaveSame bs (old.batches ++ batch_with b.digest b.payload.items ∷ []) → IsPrefix old.batches bs → old.next + 1 < 2 ^ 64 → CountsBatch old.batches old.tally tally b.digest
     → Keeps k old (with_batches old bs tally) one
 batch_keeps k old bs tally one b e before same begins few counts = record {
   joined = before;
@@ -91,7 +91,7 @@ batch_same old new b offer.New h e = subst (HaveSame new) e (same_itself new)
 batch_same old new b offer.Repeat h e = subst (λ (bs : List Batch). HaveSame bs (old ++ b ∷ [])) (sym e) (same_repeat old b h)
 batch_same old new b offer.Collision h e = subst (HaveSame new) e (same_itself new)
 
-pub batch_begins : (old new : List Batch) (b : Batch) (o : BatchOffer) → new ≡ batches_after old b o → Begins old new
+pub batch_begins : (old new : List Batch) (b : Batch) (o : BatchOffer) → new ≡ batches_after old b o → IsPrefix old new
 batch_begins old new b offer.New e = (b ∷ [], e)
 batch_begins old new b offer.Repeat e = ([], e ∙ sym (append-nil old))
 batch_begins old new b offer.Collision e = (b ∷ [], e)
@@ -108,7 +108,7 @@ batch_is_new old b offer.Collision h = h.1
 
 -- ---- all frames
 
-begins_on : {X : Type 0} (xs ys zs : List X) → Begins xs ys → Begins ys zs → Begins xs zs
+begins_on : {X : Type 0} (xs ys zs : List X) → IsPrefix xs ys → IsPrefix ys zs → IsPrefix xs zs
 begins_on xs ys zs (a, e) (b, f) = (a ++ b, f ∙ (ap (λ us. us ++ b) e ∙ append_assoc xs a b))
 
 pub goes_on_on : (a b c : Table) → GoesOn a b → GoesOn b c → GoesOn a c

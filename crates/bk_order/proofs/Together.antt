@@ -10,7 +10,7 @@ use Rattle.bk_cert.specs.Node.{Node}
 use Rattle.bk_evidence.specs.Batches.{Batch}
 use Rattle.bk_order.specs.declared.stop.Stop.{Stop}
 use Rattle.bk_order.specs.Frames.{AreCerts, AreBatches}
-use Rattle.bk_order.specs.Stops.{AreClear, StopsAt, IsStop, HasNoStop}
+use Rattle.bk_order.specs.Stops.{AreClear, IsStopOf, IsStop, HasNoStop}
 use Rattle.bk_order.specs.Intake.{Taken, HasTaken}
 
 module _ (k : CommitteeValue) (one other : List Frame) where
@@ -39,26 +39,26 @@ module _ (k : CommitteeValue) (one other : List Frame) where
   }
 
   module _ (xs ys : List Node) (bs cs : List Batch) (certs : AreCerts k one xs) (more : AreCerts k other ys) (batches : AreBatches one bs) (others : AreBatches other cs) where
-    stop_of_lists : (found : Option Stop) → MatchOption found (AreClear (xs ++ ys) (bs ++ cs)) (StopsAt (xs ++ ys) (bs ++ cs))
+    stop_of_lists : (found : Option Stop) → MatchOption found (AreClear (xs ++ ys) (bs ++ cs)) (IsStopOf (xs ++ ys) (bs ++ cs))
         → MatchOption found (HasNoStop k (one ++ other)) (IsStop k (one ++ other))
     stop_of_lists None h = record {
       certs = xs ++ ys;
       batches = bs ++ cs;
       are_certs = certs_together xs ys certs more;
       are_batches = batches_together bs cs batches others;
-      none = h;
+      holds = h;
     }
     stop_of_lists (Some s) h = record {
       certs = xs ++ ys;
       batches = bs ++ cs;
       are_certs = certs_together xs ys certs more;
       are_batches = batches_together bs cs batches others;
-      stops = h;
+      holds = h;
     }
 
 -- the stop of what was taken of two lists of frames
 pub stop_together : (v w : Taken) → v.committee ≡ w.committee → (found : Option Stop)
-    → MatchOption found (AreClear (v.kept.certs ++ w.kept.certs) (v.kept.batches ++ w.kept.batches)) (StopsAt (v.kept.certs ++ w.kept.certs) (v.kept.batches ++ w.kept.batches))
+    → MatchOption found (AreClear (v.kept.certs ++ w.kept.certs) (v.kept.batches ++ w.kept.batches)) (IsStopOf (v.kept.certs ++ w.kept.certs) (v.kept.batches ++ w.kept.batches))
     → (one other : List Frame) → HasTaken one v → HasTaken other w
     → MatchOption found (HasNoStop v.committee (one ++ other)) (IsStop v.committee (one ++ other))
 stop_together v w same found h one other taken taken' =

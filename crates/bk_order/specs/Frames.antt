@@ -38,6 +38,14 @@ pub record AreBatches (frames : List Frame) (batches : List Batch) : Type 0 wher
   pub sound : (b : Batch) → Contains batches b → IsBatchIn frames b
   pub complete : (b : Batch) → IsBatchIn frames b → Contains batches b
 
+-- this holds of the certificates that break no rule and of the batches of the frames
+pub record OfHeld (k : CommitteeValue) (frames : List Frame) (P : List Node → List Batch → Type 0) : Type 0 where
+  pub certs : List Node
+  pub batches : List Batch
+  pub are_certs : AreCerts k frames certs
+  pub are_batches : AreBatches frames batches
+  pub holds : P certs batches
+
 -- the certificate of a verdict
 abbrev pub certs_by : Verdict → List Node
 certs_by (verdict.Good c) = c ∷ []
@@ -50,11 +58,9 @@ rejects_by number (verdict.Broken r) = record { frame = number; rule = r } ∷ [
 
 -- what is rejected of a frame with this kind, payload and number: certificates alone
 abbrev pub IsRejectOf : CommitteeValue → ℕ → List ℕ → Kind → List Reject → Type 0
-IsRejectOf k number payload kind.Committee found = found ≡ []
-IsRejectOf k number payload kind.Genesis found = found ≡ []
 IsRejectOf k number payload kind.Certificate found =
     (v : Verdict) × IsVerdict k payload v × (found ≡ rejects_by number v)
-IsRejectOf k number payload kind.Batch found = found ≡ []
+IsRejectOf k number payload other found = found ≡ []
 
 -- what is rejected of these frames, in their order; the first has this number
 abbrev pub AreRejects : CommitteeValue → ℕ → List Frame → List Reject → Type 0
@@ -67,17 +73,13 @@ AreRejects k number (f ∷ more) rejects =
 
 -- the payload of a frame of this kind, if it is a certificate
 abbrev pub certificate_in : Kind → List ℕ → List (List ℕ)
-certificate_in kind.Committee payload = []
-certificate_in kind.Genesis payload = []
 certificate_in kind.Certificate payload = payload ∷ []
-certificate_in kind.Batch payload = []
+certificate_in other payload = []
 
 -- the payload of a frame of this kind, if it is a batch
 abbrev pub batch_in : Kind → List ℕ → List (List ℕ)
-batch_in kind.Committee payload = []
-batch_in kind.Genesis payload = []
-batch_in kind.Certificate payload = []
 batch_in kind.Batch payload = payload ∷ []
+batch_in other payload = []
 
 -- the payloads of the certificates of frames
 abbrev pub certificates_in : List Frame → List (List ℕ)

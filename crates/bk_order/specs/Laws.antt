@@ -3,7 +3,7 @@ use Rattle.std.specs.Prelude.{◌≡◌, ℕ, List, []}
 use Rattle.bk_frames.specs.Feed.{Frame}
 use Rattle.bk_committee.specs.Payload.{CommitteeValue}
 use Rattle.bk_cert.specs.declared.place.CertRef.{CertRef}
-use Rattle.bk_commit.specs.Growth.{IsPartOf, Begins}
+use Rattle.bk_commit.specs.Growth.{IsPartOf, IsPrefix}
 use Rattle.bk_order.specs.declared.reject.Reject.{Reject}
 use Rattle.bk_order.specs.declared.stop.Stop.{Stop}
 use Rattle.bk_order.specs.Frames.{AreRejects}
@@ -22,7 +22,7 @@ FramesAreASet = (k : CommitteeValue) (one other : List Frame) → IsPartOf one o
 abbrev pub OrderOfFramesGrows : Type 0
 OrderOfFramesGrows = (k : CommitteeValue) (small large : List Frame) (o p : Ordered) → IsPartOf small large
     → HasNoStop k large → IsOrderOf k small o → IsOrderOf k large p
-    → Begins o.anchors p.anchors × Begins o.order p.order × Begins o.payloads.list p.payloads.list
+    → IsPrefix o.anchors p.anchors × IsPrefix o.order p.order × IsPrefix o.payloads.list p.payloads.list
 
 -- frames without a stop have one order: anchors, certificates, batches, and the missing digest if any
 abbrev pub OneOrderOfFrames : Type 0

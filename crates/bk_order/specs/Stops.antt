@@ -10,7 +10,7 @@ use Rattle.bk_evidence.specs.Held.{Collides, NoCollision}
 use Rattle.bk_evidence.specs.Twins.{IsEvidence}
 use Rattle.bk_order.specs.declared.stop.Stop.{Stop}
 use Rattle.bk_order.specs.declared.stop.Stop.TheVariants as stop
-use Rattle.bk_order.specs.Frames.{AreCerts, AreBatches}
+use Rattle.bk_order.specs.Frames.{OfHeld}
 
 -- an id has two headers, or a digest two payloads
 abbrev pub CollidesIn : List Node → List Batch → List ℕ → Type 0
@@ -27,23 +27,15 @@ pub record AreClear (certs : List Node) (batches : List Batch) : Type 0 where
   pub apart : AreApart batches
 
 -- the least collision; where there is none the evidence of twins
-abbrev pub StopsAt : List Node → List Batch → Stop → Type 0
-StopsAt certs batches (stop.Collision id) = IsLeastCollision certs batches id
-StopsAt certs batches (stop.Twins e) =
+abbrev pub IsStopOf : List Node → List Batch → Stop → Type 0
+IsStopOf certs batches (stop.Collision id) = IsLeastCollision certs batches id
+IsStopOf certs batches (stop.Twins e) =
     NoCollision certs × AreApart batches × IsEvidence certs e
 
 -- the stop of what the frames hold
-pub record IsStop (k : CommitteeValue) (frames : List Frame) (s : Stop) : Type 0 where
-  pub certs : List Node
-  pub batches : List Batch
-  pub are_certs : AreCerts k frames certs
-  pub are_batches : AreBatches frames batches
-  pub stops : StopsAt certs batches s
+abbrev pub IsStop : CommitteeValue → List Frame → Stop → Type 0
+IsStop k frames s = OfHeld k frames (λ certs batches. IsStopOf certs batches s)
 
 -- what the frames hold has neither a collision nor twins
-pub record HasNoStop (k : CommitteeValue) (frames : List Frame) : Type 0 where
-  pub certs : List Node
-  pub batches : List Batch
-  pub are_certs : AreCerts k frames certs
-  pub are_batches : AreBatches frames batches
-  pub none : AreClear certs batches
+abbrev pub HasNoStop : CommitteeValue → List Frame → Type 0
+HasNoStop k frames = OfHeld k frames (λ certs batches. AreClear certs batches)

@@ -1,7 +1,7 @@
 //! Why a feed has no order.
 
 ghost use Rattle.std.specs.Prelude.{◌≡◌, ◌++◌, MatchOption, IfOk, Option, Some, List, ℕ};
-ghost use Rattle.bk_order.specs.Stops.{AreClear, CollidesIn, IsLeastCollision, StopsAt};
+ghost use Rattle.bk_order.specs.Stops.{AreClear, CollidesIn, IsLeastCollision, IsStopOf};
 ghost use Rattle.bk_evidence.specs.Batches.{AreApart, IsBatchCollision};
 ghost use Rattle.bk_evidence.specs.Held.{IsCollision, NoCollision};
 ghost use Rattle.bk_order.specs.private.Lesser.{lesser_of};
@@ -47,7 +47,7 @@ fn least(one: Option<Digest32>, other: Option<Digest32>) -> Option<Digest32>
 
 /// The stop of what is held.
 pub(crate) fn stop_of(held: &Held, batches: &Batches) -> Option<Stop>
-    ensures { MatchOption result (AreClear held.now batches.now) (StopsAt held.now batches.now) }
+    ensures { MatchOption result (AreClear held.now batches.now) (IsStopOf held.now batches.now) }
 {
     match least(held.collision(), batches.collision()) {
         Some(id) => Some(Stop::Collision(id)),
@@ -67,7 +67,7 @@ pub(crate) fn stop_of_both(
 ) -> Result<Option<Stop>, AllocError>
     ensures { IfOk result (λ found. MatchOption found
         (AreClear (held.now ++ more.now) (batches.now ++ others.now))
-        (StopsAt (held.now ++ more.now) (batches.now ++ others.now))) }
+        (IsStopOf (held.now ++ more.now) (batches.now ++ others.now))) }
 {
     let certs = held.together_with(more)?;
     let digest = batches.collision_with(others)?;

@@ -6,7 +6,7 @@ ghost use Rattle.bk_committee.specs.Payload.{sizes_of};
 ghost use Rattle.bk_frames.specs.Feed.{Frame};
 ghost use Rattle.bk_certcheck.specs.Verdicts.{IsGood, IsVerdict};
 ghost use Rattle.bk_rounds.specs.Rounds.{rounds_with};
-ghost use Rattle.bk_commit.specs.Growth.{Begins, IsPartOf};
+ghost use Rattle.bk_commit.specs.Growth.{IsPrefix, IsPartOf};
 ghost use Rattle.bk_evidence.specs.Laws.{HaveSame};
 ghost use Rattle.bk_evidence.specs.Batches.{batch_with};
 ghost use Rattle.bk_order.specs.Frames.{certs_by, rejects_by};
@@ -122,7 +122,7 @@ fn keep_batch(batches: &mut Batches, one: Digested) -> Result<bool, AllocError>
     ensures new { IfOk result (IsNewDigest batches.old one.digest) }
     ensures same { OnOk result (HaveSame batches.new
         (batches.old ++ batch_with one.digest one.payload.items ∷ [])) }
-    ensures begins { OnOk result (Begins batches.old batches.new) }
+    ensures begins { OnOk result (IsPrefix batches.old batches.new) }
 {
     match batches.offer(one.digest, one.payload)? {
         BatchOffer::New => Ok(true),

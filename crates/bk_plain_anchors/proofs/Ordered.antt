@@ -10,7 +10,8 @@ use Rattle.bk_cert.proofs.Listed.{same_listing}
 use Rattle.bk_commit.specs.Ordering.{InHistory}
 use Rattle.bk_flatten.specs.Order.{IsOrder}
 use Rattle.bk_plain_order.specs.Levels.{Among}
-use Rattle.bk_plain_anchors.specs.Histories.{IsHistory, IsFresh, IsInFirst, IsHistoryOfFirst}
+use Rattle.bk_plain_anchors.specs.Histories.{IsHistory}
+use Rattle.bk_plain_anchors.specs.private.Reached.{IsFresh, IsInFirst, IsHistoryOfFirst}
 
 -- what is fresh among a history
 pub part_is : (history before found part : List CertRef) → ((b : CertRef) → Contains found b ↔ Among (IsFresh before) history b)

@@ -7,12 +7,13 @@ use Rattle.bk_cert.specs.Node.{Node}
 use Rattle.bk_cert.specs.declared.place.CertRef.{CertRef}
 use Rattle.bk_cert.proofs.Lists.{none_in_nil, contains_cases, contains_first}
 use Rattle.bk_rounds.specs.Links.{Links}
-use Rattle.bk_commit.specs.Ordering.{Walk}
+use Rattle.bk_commit.specs.Ordering.{Leads}
 use Rattle.bk_commit.proofs.Levels.{walk_round, walk_snoc, walk_unsnoc}
 use Rattle.bk_plain_order.specs.Levels.{Among}
 use Rattle.bk_plain_anchors.specs.declared.link.Link.{Link}
 use Rattle.bk_plain_anchors.specs.Links.{AreLinks, IsStep}
-use Rattle.bk_plain_anchors.specs.Histories.{IsHistory, AreReached, AreWithin}
+use Rattle.bk_plain_anchors.specs.Histories.{IsHistory}
+use Rattle.bk_plain_anchors.specs.private.Reached.{AreReached, AreWithin}
 use Rattle.bk_plain_anchors.proofs.Gathered.{more_at_end}
 
 only_one : (a b : CertRef) (level : List CertRef) → level ≡ a ∷ [] → Contains level b ↔ (a ≡ b)
@@ -32,7 +33,7 @@ within_first z held a n places first is b = (
   (λ (k, low, w). (only_one a b places is).1 (no_link k (omega arith) w)),
 )
   where
-    no_link : (k : ℕ) → k ≡ 0 → Walk z held k a b → a ≡ b
+    no_link : (k : ℕ) → k ≡ 0 → Leads z held k a b → a ≡ b
     no_link zero e w = w
     no_link (suc k) e w = absurd (omega arith)
 
@@ -40,7 +41,7 @@ within_first z held a n places first is b = (
 pub reached_next : (z : Sizes) (held : List Node) (a : CertRef) (n : ℕ) (links : List Link) (level next : List CertRef) → AreLinks z held links → AreReached z held a n level
     → ((b : CertRef) → Contains next b ↔ Among (IsStep level) links b) → AreReached z held a (n + 1) next
 reached_next z held a n links level next are so_far says b =
-    subst (λ (m : ℕ). Contains next b ↔ Walk z held m a b) (sym (add-one n)) (
+    subst (λ (m : ℕ). Contains next b ↔ Leads z held m a b) (sym (add-one n)) (
       (λ h. let (l, k, (there, e)) = (says b).0 h in
           walk_snoc z held n a l.child b ((so_far l.child).0 there) (subst (Links z held l.child) e ((are l).0 k))),
       (λ w. let (c, before, link) = walk_unsnoc z held n a b w in
@@ -51,13 +52,13 @@ reached_next z held a n links level next are so_far says b =
 pub within_next : (z : Sizes) (held : List Node) (a : CertRef) (n : ℕ) (level places all : List CertRef) → AreWithin z held a n places → AreReached z held a (n + 1) level
     → all ≡ places ++ level → AreWithin z held a (n + 1) all
 within_next z held a n level places all so_far reached is b = (
-  (λ h. elim ((more_at_end (Walk z held (n + 1) a) places level all is reached b).0 h) [
+  (λ h. elim ((more_at_end (Leads z held (n + 1) a) places level all is reached b).0 h) [
     | inl o ↦ let (k, low, w) = (so_far b).0 o in (k, omega arith, w)
     | inr w ↦ (n + 1, omega arith, w)
   ]),
-  (λ (k, low, w). (more_at_end (Walk z held (n + 1) a) places level all is reached b).1
+  (λ (k, low, w). (more_at_end (Leads z held (n + 1) a) places level all is reached b).1
       (elim (cases_lt n k) [
-        | inl past ↦ let same : k ≡ n + 1 = omega arith in inr (subst (λ (m : ℕ). Walk z held m a b) same w)
+        | inl past ↦ let same : k ≡ n + 1 = omega arith in inr (subst (λ (m : ℕ). Leads z held m a b) same w)
         | inr under ↦ inl ((so_far b).1 (k, under, w))
       ])),
 )

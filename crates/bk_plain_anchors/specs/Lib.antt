@@ -2,3 +2,4 @@ pub mod Links
 pub mod Histories
 pub mod Anchors
 pub mod Named
+pub mod private

@@ -6,7 +6,7 @@ ghost use Rattle.bk_cert.specs.Place.{Lists};
 ghost use Rattle.bk_cert.specs.declared.place.CertRef.{CertRef};
 ghost use Rattle.bk_flatten.specs.Order.{IsOrder, IsWholeOrder};
 ghost use Rattle.bk_plain_anchors.specs.Links.{AreLinks};
-ghost use Rattle.bk_plain_anchors.specs.Histories.{IsFresh, IsInFirst};
+ghost use Rattle.bk_plain_anchors.specs.private.Reached.{IsFresh, IsInFirst};
 
 use crate::committing::committed;
 use crate::history::history_of;

@@ -2,7 +2,7 @@
 use Rattle.std.specs.Prelude.{◌≢◌, ℕ, List, Option, Some, None}
 use Rattle.bk_committee.specs.Payload.{CommitteeValue}
 use Rattle.bk_cert.specs.Values.{CertValue}
-use Rattle.bk_cert.specs.Node.{node_of}
+use Rattle.bk_cert.specs.Node.{with_id}
 use Rattle.bk_certcheck.specs.declared.rule.Rule.{Rule}
 use Rattle.bk_certcheck.specs.declared.rule.Rule.TheVariants as rule
 use Rattle.bk_certcheck.specs.Rules.{Breaks, BreaksNoneBelow, rule_number}
@@ -17,5 +17,5 @@ IsFirst k c None = (r : Rule) → ¬ Breaks k c r
 
 -- the verdict on the bytes
 abbrev pub IsJudged : CommitteeValue → List ℕ → Judged → Type 0
-IsJudged k bytes (judged.Good header) = IsGood k bytes (node_of header)
+IsJudged k bytes (judged.Good header) = IsGood k bytes (with_id header)
 IsJudged k bytes (judged.Broken r) = IsBroken k bytes r

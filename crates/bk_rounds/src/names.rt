@@ -112,8 +112,8 @@ pub(crate) fn number_of(
     own_number(alloc, names, id)
 }
 
-/// What `number_of` gives, with one search for an id that has no number, as that of a further
-/// certificate mostly has none.
+/// The same as `number_of`, in one search where the id has no number yet, as is usual for the id of
+/// a new certificate.
 pub(crate) fn own_number(
     alloc: Global,
     names: &mut Names,

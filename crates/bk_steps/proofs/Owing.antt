@@ -3,7 +3,7 @@ use Rattle.std.proofs.Common.{◌≡◌, ◌≢◌, ⊎_elim, ℕ, zero, suc, �
 use Rattle.std.proofs.lemmas.Bool.{cases_eq}
 use Rattle.bk_conflicts.specs.Scene.{Scene, times, owed_below, owed, IsEdge, Chain, edge, via, IsSound}
 use Rattle.bk_steps.specs.Course.{put}
-use Rattle.bk_steps.specs.Laws.{IsClosed}
+use Rattle.bk_steps.specs.Laws.{HoldsPredecessors}
 use Rattle.bk_steps.proofs.Tables.{put_here, put_else}
 
 pub times_drop : (x n : ℕ) (xs : List ℕ) → times x (drop n xs) ≤ times x xs
@@ -106,12 +106,12 @@ closed s outer inner go back _ _ (edge p q e) h = go p q e h
 closed s outer inner go back _ _ (via p r q c e) h =
     closed s outer inner go back p r c (back r (go r q e h))
 
-pub chains_closed : (s : Scene) (inner outer : ℕ → Bool) → IsClosed s inner outer → (p q : ℕ)
+pub chains_closed : (s : Scene) (inner outer : ℕ → Bool) → HoldsPredecessors s inner outer → (p q : ℕ)
     → Chain s p q → outer q ≡ true → inner p ≡ true
 chains_closed s inner outer k p q c h =
     closed s (λ r. outer r ≡ true) (λ r. inner r ≡ true) k.edges k.part p q c h
 
-pub conflicts_closed : (s : Scene) → IsSound s → (inner outer : ℕ → Bool) → IsClosed s inner outer
+pub conflicts_closed : (s : Scene) → IsSound s → (inner outer : ℕ → Bool) → HoldsPredecessors s inner outer
     → (p q : ℕ) → p < q → q < s.places → s.clash p q ≡ true → outer q ≡ true → inner p ≡ true
 conflicts_closed s k inner outer c p q l m e h =
     chains_closed s inner outer c p q (k.are_edges.cover p q l m e) h

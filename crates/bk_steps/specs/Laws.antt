@@ -51,18 +51,18 @@ RunsKeep = (s : Scene) → IsSound s → (es : List Event) (d end : Course) → 
     → Runs s d es end → IsKept s end
 
 -- the first set has the direct predecessors of all that the second has, and is a part of it
-pub record IsClosed (s : Scene) (inner outer : ℕ → Bool) : Type 0 where
+pub record HoldsPredecessors (s : Scene) (inner outer : ℕ → Bool) : Type 0 where
   pub edges : (p q : ℕ) → IsEdge s p q → outer q ≡ true → inner p ≡ true
   pub part : (p : ℕ) → inner p ≡ true → outer p ≡ true
 
 -- then it has what chains lead from
 abbrev pub ChainsAreClosed : Type 0
-ChainsAreClosed = (s : Scene) (inner outer : ℕ → Bool) → IsClosed s inner outer → (p q : ℕ)
+ChainsAreClosed = (s : Scene) (inner outer : ℕ → Bool) → HoldsPredecessors s inner outer → (p q : ℕ)
     → Chain s p q → outer q ≡ true → inner p ≡ true
 
 -- and the earlier places in conflict
 abbrev pub ConflictsAreClosed : Type 0
-ConflictsAreClosed = (s : Scene) → IsSound s → (inner outer : ℕ → Bool) → IsClosed s inner outer
+ConflictsAreClosed = (s : Scene) → IsSound s → (inner outer : ℕ → Bool) → HoldsPredecessors s inner outer
     → (p q : ℕ) → p < q → q < s.places → s.clash p q ≡ true → outer q ≡ true → inner p ≡ true
 
 -- edges lead forward, between places in conflict

@@ -61,7 +61,7 @@ IsFault s workers es (Unfinished place) = (end : Course) × RunsAmong s workers 
 IsFault s workers es OutOfMemory = Unit {0}
 
 -- whatever course the machine shows, this is the least place that is not done there
-abbrev pub IsLeft : MachineValue → ScheduleFault → Type 0
-IsLeft m (Refused index why) = ⊥
-IsLeft m (Unfinished place) = (d : Course) → Shows m d → IsLeastLeft (scene_in m) d place
-IsLeft m OutOfMemory = Unit {0}
+abbrev pub IsUndone : MachineValue → ScheduleFault → Type 0
+IsUndone m (Refused index why) = ⊥
+IsUndone m (Unfinished place) = (d : Course) → Shows m d → IsLeastLeft (scene_in m) d place
+IsUndone m OutOfMemory = Unit {0}

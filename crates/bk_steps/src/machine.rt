@@ -4,7 +4,7 @@ ghost use Rattle.std.specs.Prelude.{◌≡◌, ℕ, length, IfOk, IfErr, OnOk, O
 ghost use Rattle.bk_conflicts.specs.SceneOf.{CanRunOn, scene_of, in_words};
 ghost use Rattle.bk_steps.specs.Course.{Course, opened};
 ghost use Rattle.bk_steps.specs.Moves.{AllAreDone};
-ghost use Rattle.bk_steps.specs.Schedule.{IsFoldOf, IsLeft};
+ghost use Rattle.bk_steps.specs.Schedule.{IsFoldOf, IsUndone};
 ghost use Rattle.bk_steps.specs.Machine.{Shows, scene_in, IsMachine};
 ghost use Rattle.bk_steps.specs.Steps.{Steps, IsRefused, word_of, learned};
 ghost use Rattle.bk_steps.specs.declared.event.Event.TheVariants.{Claim, Read, Write, Finish};
@@ -208,7 +208,7 @@ impl Machine {
         ensures done { IfOk result (λ o. (d : Course) → Shows self d
             → AllAreDone (scene_in self) d) }
         ensures fold { IfOk result (λ o. IsFoldOf self.plan self.opening o) }
-        ensures left { IfErr result (λ fault. IsLeft self fault) }
+        ensures left { IfErr result (λ fault. IsUndone self fault) }
     {
         let receipts = receipts_of(alloc, &self.stages)?;
         let mut state = self.opening;

@@ -5,7 +5,7 @@ use Rattle.bk_cert.specs.Values.{CertValue}
 use Rattle.bk_cert.specs.Reading.{certificate_of}
 use Rattle.bk_cert.specs.Identity.{id_of}
 use Rattle.bk_cert.specs.Tagging.{tags_under}
-use Rattle.bk_cert.specs.Node.{node_of}
+use Rattle.bk_cert.specs.Node.{with_id}
 use Rattle.bk_certcheck.specs.Rules.{BreaksNoneBelow}
 use Rattle.bk_certcheck.specs.Verdicts.{IsBroken}
 use Rattle.bk_certcheck.specs.declared.rule.Rule.{Rule}
@@ -41,7 +41,7 @@ own_tags k c = tags_under k.keys (id_of c.header) c.mask
 
 -- the verdict on a certificate whose signers have these tags under its id
 abbrev pub IsByTags : CertValue → List (List ℕ) → Verdict → Type 0
-IsByTags c own (verdict.Good node) = (node ≡ node_of c.header) × (c.tags ≡ own)
+IsByTags c own (verdict.Good node) = (node ≡ with_id c.header) × (c.tags ≡ own)
 IsByTags c own (verdict.Broken r) = (r ≡ rule.Tag) × (c.tags ≢ own)
 
 -- the verdict on a certificate that breaks no rule before the last

@@ -7,7 +7,7 @@ use Rattle.bk_cert.specs.Clear.{IsClear}
 use Rattle.bk_cert.specs.declared.place.CertRef.{CertRef}
 use Rattle.bk_rounds.specs.Rounds.{RoundsValue}
 use Rattle.bk_evidence.specs.Batches.{Batch}
-use Rattle.bk_commit.specs.Growth.{IsPartOf, Begins}
+use Rattle.bk_commit.specs.Growth.{IsPartOf, IsPrefix}
 use Rattle.bk_commit.specs.Ordering.{IsCommitted}
 use Rattle.bk_flatten.specs.Order.{IsOrder}
 use Rattle.bk_flatten.specs.Batches.{AreFound, IsFoundWhole, digests_of, payloads_of}
@@ -40,7 +40,7 @@ kept_in t = record {
 pub record GoesOn (old new : Table) : Type 0 where
   pub rounds : IsPartOf old.rounds.held new.rounds.held
   pub sizes : new.rounds.sizes ≡ old.rounds.sizes
-  pub batches : Begins old.batches new.batches
+  pub batches : IsPrefix old.batches new.batches
 
 -- the order was settled over a part of these certificates, and its batches are found among these
 pub record IsFollowed (z : Sizes) (held : List Node) (batches : List Batch) (s : Settled) : Type 0 where

@@ -1,5 +1,5 @@
 use Rattle.bk_committee.specs.Payload.{sizes_of}
-use Rattle.bk_plain_anchors.specs.Histories.{AreReached, AreWithin}
+use Rattle.bk_plain_anchors.specs.private.Reached.{AreReached, AreWithin}
 use Rattle.bk_plain_anchors.proofs.history.history_of.Given as goal
 
 abbrev pub invariant-loop-step : goal.invariant-loop-step

@@ -4,7 +4,7 @@ use Rattle.bk_committee.specs.Payload.{sizes_of}
 use Rattle.bk_cert.specs.Place.{Lists}
 use Rattle.bk_cert.specs.declared.place.CertRef.{CertRef}
 use Rattle.bk_cert.proofs.Lists.{none_in_nil}
-use Rattle.bk_plain_anchors.specs.Histories.{IsInFirst}
+use Rattle.bk_plain_anchors.specs.private.Reached.{IsInFirst}
 use Rattle.bk_plain_anchors.proofs.Ordered.{so_far_more, so_far_all}
 use Rattle.bk_plain_anchors.proofs.ordering.order_of.Goals as goal
 

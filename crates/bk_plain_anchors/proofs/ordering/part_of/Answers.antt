@@ -1,6 +1,6 @@
 use Rattle.bk_cert.specs.declared.place.CertRef.{CertRef}
 use Rattle.bk_plain_order.proofs.Growing.{among_all}
-use Rattle.bk_plain_anchors.specs.Histories.{IsFresh}
+use Rattle.bk_plain_anchors.specs.private.Reached.{IsFresh}
 use Rattle.bk_plain_anchors.proofs.Gathered.{among_next}
 use Rattle.bk_plain_anchors.proofs.Ordered.{part_is}
 use Rattle.bk_plain_anchors.proofs.ordering.part_of.Goals as goal

@@ -2,7 +2,7 @@ use Rattle.std.proofs.Common.{◌↔◌, take}
 use Rattle.std.specs.List.{Contains}
 use Rattle.bk_cert.specs.declared.place.CertRef.{CertRef}
 use Rattle.bk_plain_order.specs.Levels.{Among}
-use Rattle.bk_plain_anchors.specs.Histories.{IsFresh}
+use Rattle.bk_plain_anchors.specs.private.Reached.{IsFresh}
 use Rattle.bk_plain_anchors.proofs.ordering.part_of.Given as goal
 
 abbrev pub invariant-loop-place : goal.invariant-loop-place
