@@ -12,7 +12,7 @@ use Rattle.bk_rules.proofs.Folding.{length-receipts}
 use Rattle.bk_apply.specs.Answers.{PartIsOut}
 use Rattle.bk_results.specs.Devices.{IsUntouched, AreFeed}
 use Rattle.bk_report.specs.Lines.{text_of}
-use Rattle.bk_report.specs.Pages.{Gathered, blank, Puts, Stops}
+use Rattle.bk_report.specs.Pages.{PageValue, blank, Puts, Stops}
 use Rattle.bk_tx.specs.Batches.{payloads_of, feed_transactions, count_in}
 use Rattle.bk_report.specs.Report.{lines_of, apply_report_of, IsApplyReport}
 use Rattle.bk_report.proofs.Putting.{all_out, part_out, part_size}
@@ -51,7 +51,7 @@ are_feed known feed good spelled = by_bytes known.bytes spelled
     by_bytes (Some bs) spelled = (feed, good, spelled)
 
 -- the front of the report is out where the sink stopped
-pub part_is_out : (known old new : Device) (page : Gathered) (feed : FeedValue) (counts : List (Option ℕ)) (receipts : List Receipt) (rows : List Row) (written : ℕ) → page ≡ blank → IsFeed feed
+pub part_is_out : (known old new : Device) (page : PageValue) (feed : FeedValue) (counts : List (Option ℕ)) (receipts : List Receipt) (rows : List Row) (written : ℕ) → page ≡ blank → IsFeed feed
     → IfKnown known (λ bytes. bytes ≡ spelling feed) → IsLedgerOf feed counts receipts rows → Stops old new page (text_of (lines_of counts receipts rows)) written → IfKnown known (PartIsOut written old new)
 part_is_out known old new page feed counts receipts rows written empty good spelled l stop = by_bytes known.bytes spelled
   where
@@ -59,11 +59,11 @@ part_is_out known old new page feed counts receipts rows written empty good spel
     by_bytes None spelled = tt
     by_bytes (Some bs) spelled =
         let text = text_of (lines_of counts receipts rows) in
-        let at_first : Stops old new blank text written = subst (λ (p : Gathered). Stops old new p text written) empty stop in
+        let at_first : Stops old new blank text written = subst (λ (p : PageValue). Stops old new p text written) empty stop in
         (text, record { feed = feed; good = good; spelled = spelled; report = lines_are feed counts receipts rows l }, part_size old new text written at_first, part_out old new text written at_first)
 
 -- the whole report is out
-pub all_is_out : (known old new : Device) (page after : Gathered) (feed : FeedValue) (counts : List (Option ℕ)) (receipts : List Receipt) (rows : List Row) → page ≡ blank → after.bytes ≡ [] → IsFeed feed
+pub all_is_out : (known old new : Device) (page after : PageValue) (feed : FeedValue) (counts : List (Option ℕ)) (receipts : List Receipt) (rows : List Row) → page ≡ blank → after.bytes ≡ [] → IsFeed feed
     → IfKnown known (λ bytes. bytes ≡ spelling feed) → IsLedgerOf feed counts receipts rows → Puts old new page after (text_of (lines_of counts receipts rows))
     → IfKnown known (λ bytes. (text : List ℕ) × IsApplyReport bytes text × Receives old new text)
 all_is_out known old new page after feed counts receipts rows empty out good spelled l put = by_bytes known.bytes spelled
@@ -72,4 +72,4 @@ all_is_out known old new page after feed counts receipts rows empty out good spe
     by_bytes None spelled = tt
     by_bytes (Some bs) spelled =
         let text = text_of (lines_of counts receipts rows) in
-        (text, record { feed = feed; good = good; spelled = spelled; report = lines_are feed counts receipts rows l }, all_out old new after text (subst (λ (p : Gathered). Puts old new p after text) empty put) out)
+        (text, record { feed = feed; good = good; spelled = spelled; report = lines_are feed counts receipts rows l }, all_out old new after text (subst (λ (p : PageValue). Puts old new p after text) empty put) out)

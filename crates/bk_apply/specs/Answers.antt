@@ -16,9 +16,7 @@ PartIsOut written old new bytes =
 -- exactly the first bytes of the report are out; or memory ran out after a whole feed was read, and nothing is written
 abbrev pub FailsBy : Fault → Devices → Devices → Type 0
 FailsBy (fault.Feed found) old new = Refuses found old.source new.source × IsUntouched old.sink new.sink
-FailsBy (fault.Collision id) old new = ⊥
-FailsBy (fault.Equivocation round author first second) old new = ⊥
-FailsBy (fault.Unfinished place) old new = ⊥
 FailsBy (fault.Write written) old new =
     Works old.source new.source × Fails old.sink new.sink × IfKnown old.source (PartIsOut written old.sink new.sink)
 FailsBy fault.Memory old new = Works old.source new.source × IfKnown old.source AreFeed × IsUntouched old.sink new.sink
+FailsBy other old new = ⊥

@@ -28,7 +28,7 @@ use Rattle.bk_follow.specs.Ordering.{IsOrdered}
 use Rattle.bk_follow.specs.RunReport.{IsOrderIn, committee_in, later_frames}
 use Rattle.bk_follow.proofs.Counting.{few_anchors, few_in_order}
 use Rattle.bk_follow.proofs.Following.{untouched}
-use Rattle.bk_ask.specs.Asking.{Ending, IsEndingOf, Shows}
+use Rattle.bk_ask.specs.Asking.{Ending, IsEndingOf, ShowsFound}
 use Rattle.bk_ask.specs.declared.ordered.View.{View}
 use Rattle.bk_ask.specs.declared.ordered.View.TheVariants as view
 use Rattle.bk_ask.specs.private.Replies.{ShowsView, TextFails, WritesSome, ReplyIsOut, ReplyStops, BookShows, BookShowsNot, FollowerReplies, FollowerReplyFails, IsOfOrdered, asked_by}
@@ -103,17 +103,17 @@ module _ (feed : FeedValue) (b : BookValue) (taken : Taken) (rounds : RoundsValu
     outcome = record { clear = o.clear; ordered = order_is feed b taken same o; receipts = refl; rows = refl };
   }
 
-  shown : (v : View) (text : List ℕ) → ShowsView v rounds taken text → Shows (asked_by v) end text
+  shown : (v : View) (text : List ℕ) → ShowsView v rounds taken text → ShowsFound (asked_by v) end text
   shown view.Order text h = h
   shown view.Anchors text h = (h.0, subst (λ (z : Sizes). AreRows z rounds.held taken.ordered.anchors h.0) rounds_are.sizes h.1, h.2)
 
   out : (v : View) (old new : Device) (text : List ℕ) → ShowsView v rounds taken text → Receives old new text → ReplyIsOut feed (asked_by v) reply.Found old new
-  out view.Order old new text h gave = record { text = text; reply = record { end = end; ending = end_is; it = shown view.Order text h }; gave = gave }
-  out view.Anchors old new text h gave = record { text = text; reply = record { end = end; ending = end_is; it = shown view.Anchors text h }; gave = gave }
+  out view.Order old new text h gave = record { text = text; reply = record { end = end; ending = end_is; replies = shown view.Order text h }; gave = gave }
+  out view.Anchors old new text h gave = record { text = text; reply = record { end = end; ending = end_is; replies = shown view.Anchors text h }; gave = gave }
 
   stops : (v : View) (old new : Device) (written : ℕ) (text : List ℕ) → ShowsView v rounds taken text → written < length text → Receives old new (take written text) → ReplyStops feed (asked_by v) written old new
-  stops view.Order old new written text h some gave = record { answer = reply.Found; text = text; reply = record { end = end; ending = end_is; it = shown view.Order text h }; some = some; gave = gave }
-  stops view.Anchors old new written text h some gave = record { answer = reply.Found; text = text; reply = record { end = end; ending = end_is; it = shown view.Anchors text h }; some = some; gave = gave }
+  stops view.Order old new written text h some gave = record { answer = reply.Found; text = text; reply = record { end = end; ending = end_is; replies = shown view.Order text h }; some = some; gave = gave }
+  stops view.Anchors old new written text h some gave = record { answer = reply.Found; text = text; reply = record { end = end; ending = end_is; replies = shown view.Anchors text h }; some = some; gave = gave }
 
 module _ (v : View) (book : Option BookValue) (b : BookValue) (taken : Taken) (rounds : RoundsValue) (old new : Device) (is : book ≡ Some b) (same : taken ≡ b.taken) (table : HasTable taken rounds) where
   shows : WritesSome (ShowsView v rounds taken) old new → BookShows (asked_by v) b old new
@@ -150,13 +150,13 @@ of_ordered book b (feed, good, c, is, o) same = (feed, good, subst (IsOrdered fe
 pub ordered_now : (old new : Followed) → ClosesOrder old new → IsOfOrdered new.book
 ordered_now old new closed =
     let e = closed.ordered closed.come.0 closed.come.1 closed.come.2 in
-    (_, e.good, e.it.0, e.it.1, e.it.2)
+    (_, e.good, e.holds.0, e.holds.1, e.holds.2)
 
 -- what holds of each feed whose ordered book this is
 on_ordered : (old new : Followed) (b : BookValue) (holds : FeedValue → Type 0) → ClosesOrder old new → new.book ≡ Some b → ((feed : FeedValue) → IsFeed feed → IsOrdered feed b → holds feed) → OfFeed old holds
 on_ordered old new b holds closed is h = λ bytes frames come.
     let e = closed.ordered bytes frames come in
-    record { version = e.version; known = e.known; good = e.good; spelled = e.spelled; it = h _ e.good (subst (IsOrdered _) (same_book e.it.0 b (sym e.it.1 ∙ is)) e.it.2) }
+    record { version = e.version; known = e.known; good = e.good; spelled = e.spelled; holds = h _ e.good (subst (IsOrdered _) (same_book e.holds.0 b (sym e.holds.1 ∙ is)) e.holds.2) }
 
 -- why the order was not closed is why nothing is shown
 pub show_close_fails : (v : View) (f : Fault) (old new : Followed) (sink : Device) → CloseOrderFails old new f → FollowerReplyFails (asked_by v) old sink sink f
@@ -201,7 +201,7 @@ gap_of_book feed book (b, is, o) = record { clear = o.clear; ordered = b.taken.o
 of_feed_too : (old : Followed) (holds too : FeedValue → Type 0) → ((feed : FeedValue) → holds feed → too feed) → OfFeed old holds → OfFeed old too
 of_feed_too old holds too f h = λ bytes frames come.
     let e = h bytes frames come in
-    record { version = e.version; known = e.known; good = e.good; spelled = e.spelled; it = f _ e.it }
+    record { version = e.version; known = e.known; good = e.good; spelled = e.spelled; holds = f _ e.holds }
 
 pub gap_ordered : (old new : Followed) → ClosesOrder old new → OfFeed old (λ feed. IsGapIn feed (missing_in new.book))
 gap_ordered old new closed = of_feed_too old (λ feed. (b : BookValue) × (new.book ≡ Some b) × IsOrdered feed b) (λ feed. IsGapIn feed (missing_in new.book)) (λ feed h. gap_of_book feed new.book h) closed.ordered

@@ -124,7 +124,7 @@ quiet asked end reply.Absent text old new h w = λ is. (w.0, keeps_none old.byte
 module _ (asked : Query) (book : Option BookValue) (b : BookValue) (taken : Taken) (opening : List Row) (l : LedgerValue) (old new : Device) (h : IsBookIn book b taken opening l) where
   book_replies : (answer : Reply) → WritesReply asked (ending_of taken opening l) old new answer → BookReplies asked b old new answer
   book_replies answer w = (
-    λ feed good current. record { text = w.0; reply = record { end = ending_of taken opening l; ending = ending_is feed book b taken opening l h current; it = w.1 }; gave = w.2.1 },
+    λ feed good current. record { text = w.0; reply = record { end = ending_of taken opening l; ending = ending_is feed book b taken opening l h current; replies = w.1 }; gave = w.2.1 },
     w.2.0,
     can asked (ending_of taken opening l) answer w.0 w.1,
     quiet asked (ending_of taken opening l) answer w.0 old new w.1 w.2,
@@ -136,7 +136,7 @@ module _ (asked : Query) (book : Option BookValue) (b : BookValue) (taken : Take
   book_reply_fails (fault.Equivocation round author first second) t = absurd t
   book_reply_fails (fault.Unfinished place) t = absurd t
   book_reply_fails (fault.Write written) t = (
-    λ feed good current. record { answer = t.1.0; text = t.0; reply = record { end = ending_of taken opening l; ending = ending_is feed book b taken opening l h current; it = t.1.1 }; some = t.2; gave = t.3 },
+    λ feed good current. record { answer = t.1.0; text = t.0; reply = record { end = ending_of taken opening l; ending = ending_is feed book b taken opening l h current; replies = t.1.1 }; some = t.2; gave = t.3 },
     t.4,
   )
   book_reply_fails fault.Memory t = t
@@ -210,13 +210,13 @@ follower_replies asked old new before after answer closed h =
 pub call_replies : (asked : Query) (known old new : Device) (v : Followed) (answer : Reply) → IfKnown known (λ bytes. AllHasCome bytes v) → FollowerReplies asked v old new answer → IfKnown known (λ bytes. IsReplied asked answer bytes old new)
 call_replies asked known old new v answer come h =
     of_known_feed known v (λ feed. ReplyIsOut feed asked answer old new) (λ bytes. IsReplied asked answer bytes old new) come h.0
-    (λ bytes feed good spelled out. (out.text, record { feed = feed; good = good; spelled = spelled; reply = out.reply }, out.gave))
+    (λ bytes feed good spelled out. (out.text, record { feed = feed; good = good; spelled = spelled; holds = out.reply }, out.gave))
 
 -- the missing batch of the feed is that of the bytes
 pub call_gap : (known : Device) (v : Followed) (missing : Option (List ℕ)) → IfKnown known (λ bytes. AllHasCome bytes v) → OfFeed v (λ feed. IsGapIn feed missing) → IfKnown known (λ bytes. IsGap bytes missing)
 call_gap known v missing come h =
     of_known_feed known v (λ feed. IsGapIn feed missing) (λ bytes. IsGap bytes missing) come h
-    (λ bytes feed good spelled gap. record { feed = feed; good = good; spelled = spelled; gap = gap })
+    (λ bytes feed good spelled gap. record { feed = feed; good = good; spelled = spelled; holds = gap })
 
 -- why the Follower did not reply is why the call did not
 pub call_fails : (asked : Query) (f : Fault) (known now old new : Device) (v : Followed) → Works known now → IfKnown known (λ bytes. AllHasCome bytes v) → FollowerReplyFails asked v old new f → AskFailsBy asked f (devices known old) (devices now new)
@@ -224,12 +224,12 @@ call_fails asked (fault.Feed found) known now old new v works come h = (cut_shor
 call_fails asked (fault.Collision id) known now old new v works come h = ((works, h.1), stopped known v (fault.Collision id) come h.0)
 call_fails asked (fault.Equivocation round author first second) known now old new v works come h = ((works, h.1), stopped known v (fault.Equivocation round author first second) come h.0)
 call_fails asked (fault.Unfinished place) known now old new v works come h =
-    (h.0, (works, h.2), of_known_feed known v (λ feed. HasPlaceIn feed place) (λ bytes. HasPlace bytes place) come h.1 (λ bytes feed good spelled there. record { feed = feed; good = good; spelled = spelled; there = there }))
+    (h.0, (works, h.2), of_known_feed known v (λ feed. HasPlaceIn feed place) (λ bytes. HasPlace bytes place) come h.1 (λ bytes feed good spelled there. record { feed = feed; good = good; spelled = spelled; holds = there }))
 call_fails asked (fault.Write written) known now old new v works come h = (
   works,
   h.1,
   of_known_feed known v (λ feed. ReplyStops feed asked written old new) (PartOfReplyIsOut asked written old new) come h.0
-      (λ bytes feed good spelled part. (part.answer, part.text, record { feed = feed; good = good; spelled = spelled; reply = part.reply }, part.some, part.gave)),
+      (λ bytes feed good spelled part. (part.answer, part.text, record { feed = feed; good = good; spelled = spelled; holds = part.reply }, part.some, part.gave)),
 )
 call_fails asked fault.Memory known now old new v works come h = (works, h)
 

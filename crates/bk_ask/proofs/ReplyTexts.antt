@@ -10,22 +10,22 @@ use Rattle.bk_report.specs.declared.line.Line.{Line}
 use Rattle.bk_results.specs.declared.query.Query.{Query}
 use Rattle.bk_results.specs.declared.query.Reply.{Reply}
 use Rattle.bk_results.specs.declared.query.Reply.TheVariants as reply
-use Rattle.bk_ask.specs.Asking.{Ending, Shows, Lacks, HasText}
+use Rattle.bk_ask.specs.Asking.{Ending, ShowsFound, Lacks, HasText}
 use Rattle.bk_report.specs.Lines.{line_text, text_of}
-use Rattle.bk_report.specs.Pages.{Gathered, blank, Puts, Stops}
+use Rattle.bk_report.specs.Pages.{PageValue, blank, Puts, Stops}
 use Rattle.bk_ask.specs.private.Replies.{TextFails, IsTextOf, WritesFound, WritesReply}
 use Rattle.std.proofs.lemmas.List.Concat.{flat_map-append}
 use Rattle.bk_report.proofs.LineGroups.{text_one}
 use Rattle.bk_report.proofs.Putting.{all_out, part_out, part_size}
 
 -- a text was put on an empty page, and went out whole
-pub page_out : (old new : Device) (page after : Gathered) (text : List ℕ) → page ≡ blank → after.bytes ≡ [] → Works old new × Puts old new page after text → Writes text old new
-page_out old new page after text empty out put = (put.0, all_out old new after text (subst (λ (p : Gathered). Puts old new p after text) empty put.1) out)
+pub page_out : (old new : Device) (page after : PageValue) (text : List ℕ) → page ≡ blank → after.bytes ≡ [] → Works old new × Puts old new page after text → Writes text old new
+page_out old new page after text empty out put = (put.0, all_out old new after text (subst (λ (p : PageValue). Puts old new p after text) empty put.1) out)
 
 -- and went out in part
-pub page_stops : (old new : Device) (page : Gathered) (text : List ℕ) (written : ℕ) → page ≡ blank → Fails old new × Stops old new page text written → TextFails (λ t. t ≡ text) old new (fault.Write written)
+pub page_stops : (old new : Device) (page : PageValue) (text : List ℕ) (written : ℕ) → page ≡ blank → Fails old new × Stops old new page text written → TextFails (λ t. t ≡ text) old new (fault.Write written)
 page_stops old new page text written empty stop =
-    let at_first : Stops old new blank text written = subst (λ (p : Gathered). Stops old new p text written) empty stop.1 in
+    let at_first : Stops old new blank text written = subst (λ (p : PageValue). Stops old new p text written) empty stop.1 in
     (text, refl, part_size old new text written at_first, part_out old new text written at_first, stop.0)
 
 -- a text of one line
@@ -43,7 +43,7 @@ two_lines none first all l m empty one two =
     ∙ sym (flat_map-append (λ (x : Line). line_text x ++ 10 ∷ []) (l ∷ []) (m ∷ []))
 
 -- what was found is the reply
-pub found_replies : (asked : Query) (end : Ending) (found : Option (Vec ℕ)) (old new : Device) (answer : Reply) → (found ≡ None → Lacks asked end) → ((text : Vec ℕ) → found ≡ Some text → Shows asked end text.items)
+pub found_replies : (asked : Query) (end : Ending) (found : Option (Vec ℕ)) (old new : Device) (answer : Reply) → (found ≡ None → Lacks asked end) → ((text : Vec ℕ) → found ≡ Some text → ShowsFound asked end text.items)
     → WritesFound found old new answer → WritesReply asked end old new answer
 found_replies asked end None old new reply.Found lacks shows w = absurd (let e = w.0 in cc)
 found_replies asked end None old new reply.Absent lacks shows w = ([], (lacks refl, refl), w.1)
@@ -55,14 +55,14 @@ found_replies asked end None old new reply.Wrong lacks shows w = absurd (let e =
 found_replies asked end (Some text) old new reply.Wrong lacks shows w = absurd (let e = w.0 in cc)
 
 -- and why it did not go out
-pub found_fails : (asked : Query) (end : Ending) (found : Option (Vec ℕ)) (old new : Device) (f : Fault) → ((text : Vec ℕ) → found ≡ Some text → Shows asked end text.items)
+pub found_fails : (asked : Query) (end : Ending) (found : Option (Vec ℕ)) (old new : Device) (f : Fault) → ((text : Vec ℕ) → found ≡ Some text → ShowsFound asked end text.items)
     → TextFails (IsTextOf found) old new f → TextFails (HasText asked end) old new f
 found_fails asked end found old new (fault.Feed _) shows h = absurd h
 found_fails asked end found old new (fault.Collision id) shows h = absurd h
 found_fails asked end found old new (fault.Equivocation round author first second) shows h = absurd h
 found_fails asked end found old new (fault.Unfinished place) shows h = absurd h
 found_fails asked end None old new (fault.Write written) shows h = absurd h.1
-found_fails asked end (Some text) old new (fault.Write written) shows h = (h.0, (reply.Found, subst (Shows asked end) (sym h.1) (shows text refl)), h.2, h.3, h.4)
+found_fails asked end (Some text) old new (fault.Write written) shows h = (h.0, (reply.Found, subst (ShowsFound asked end) (sym h.1) (shows text refl)), h.2, h.3, h.4)
 found_fails asked end found old new fault.Memory shows h = h
 
 -- why a text that some reply has did not go out

@@ -3,7 +3,7 @@ use Rattle.std.specs.Prelude.{◌≡◌, ◌≢◌, ℕ, ◌<◌, List, [], ◌�
 use Rattle.bk_frames.specs.declared.genesis.Row.{Row}
 use Rattle.bk_frames.specs.declared.version.Version.{Version}
 use Rattle.bk_frames.specs.Device.{Device, Works, Fails, Receives, IfKnown}
-use Rattle.bk_frames.specs.Feed.{FeedValue, IsFeed, genesis_of, spelling}
+use Rattle.bk_frames.specs.Feed.{FeedValue, genesis_of}
 use Rattle.bk_frames.specs.Pulling.{Refuses}
 use Rattle.bk_committee.specs.Payload.{CommitteeValue, sizes_of}
 use Rattle.bk_cert.specs.Node.{Node}
@@ -19,7 +19,7 @@ use Rattle.bk_results.specs.declared.query.Query.{Query}
 use Rattle.bk_results.specs.declared.query.Query.TheVariants as query
 use Rattle.bk_results.specs.declared.query.Reply.{Reply}
 use Rattle.bk_results.specs.declared.query.Reply.TheVariants as reply
-use Rattle.bk_results.specs.Devices.{Devices, IsUntouched, NothingFailed}
+use Rattle.bk_results.specs.Devices.{AreFeedWith, Devices, IsUntouched, NothingFailed}
 use Rattle.bk_report.specs.Leaves.{state_of}
 use Rattle.bk_report.specs.Lines.{text_of}
 use Rattle.bk_report.specs.Proofs.{ProofValue, proof_text, IsProofOf, IsAbsent}
@@ -101,48 +101,37 @@ IsWhole end = end.outcome.ordered.payloads.missing ≡ None
 
 -- what was asked for is there, and this is its text. Of a digest of the state, which is right, and of a statement no batch
 -- is missing
-abbrev pub Shows : Query → Ending → List ℕ → Type 0
-Shows query.Order end text = text ≡ order_text end.outcome.ordered
-Shows (query.Account id) end text = ShowsAccount end.outcome.rows id text
-Shows (query.Receipt place) end text = ShowsReceipt end.outcome.receipts place text
-Shows (query.Proof id) end text = ShowsProof end.outcome.rows id text
-Shows (query.State root) end text = ShowsGood end.outcome.rows root text × IsWhole end
-Shows query.Anchors end text = ShowsAnchors end text
-Shows (query.Statement id) end text = IsStatement (course_of end) id text × IsWhole end
+abbrev pub ShowsFound : Query → Ending → List ℕ → Type 0
+ShowsFound query.Order end text = text ≡ order_text end.outcome.ordered
+ShowsFound (query.Account id) end text = ShowsAccount end.outcome.rows id text
+ShowsFound (query.Receipt place) end text = ShowsReceipt end.outcome.receipts place text
+ShowsFound (query.Proof id) end text = ShowsProof end.outcome.rows id text
+ShowsFound (query.State root) end text = ShowsGood end.outcome.rows root text × IsWhole end
+ShowsFound query.Anchors end text = ShowsAnchors end text
+ShowsFound (query.Statement id) end text = IsStatement (course_of end) id text × IsWhole end
 
 -- the digest of the state that was asked for is right, or there is a statement, of an order that stops at a missing batch
 abbrev pub ShowsShort : Query → Ending → List ℕ → Type 0
-ShowsShort query.Order end text = ⊥
-ShowsShort (query.Account id) end text = ⊥
-ShowsShort (query.Receipt place) end text = ⊥
-ShowsShort (query.Proof id) end text = ⊥
 ShowsShort (query.State root) end text = ShowsGood end.outcome.rows root text × IsShort end
-ShowsShort query.Anchors end text = ⊥
 ShowsShort (query.Statement id) end text = IsStatement (course_of end) id text × IsShort end
+ShowsShort other end text = ⊥
 
 -- the digest is wrong
 abbrev pub ShowsWrong : Query → Ending → List ℕ → Type 0
-ShowsWrong query.Order end text = ⊥
-ShowsWrong (query.Account id) end text = ⊥
-ShowsWrong (query.Receipt place) end text = ⊥
-ShowsWrong (query.Proof id) end text = ⊥
 ShowsWrong (query.State root) end text = ShowsBad end.outcome.rows root text
-ShowsWrong query.Anchors end text = ⊥
-ShowsWrong (query.Statement id) end text = ⊥
+ShowsWrong other end text = ⊥
 
 -- what was asked for is not there; an order and anchors always are, and a digest is right or wrong
 abbrev pub Lacks : Query → Ending → Type 0
-Lacks query.Order end = ⊥
 Lacks (query.Account id) end = account_at end.outcome.rows id ≡ None
 Lacks (query.Receipt place) end = slice_get end.outcome.receipts place ≡ None
 Lacks (query.Proof id) end = IsAbsent end.outcome.rows id
-Lacks (query.State root) end = ⊥
-Lacks query.Anchors end = ⊥
 Lacks (query.Statement id) end = IsNowhere (course_of end) id
+Lacks other end = ⊥
 
 -- a reply and its text, which is empty where nothing is found
 abbrev pub Replies : Query → Ending → Reply → List ℕ → Type 0
-Replies asked end reply.Found text = Shows asked end text
+Replies asked end reply.Found text = ShowsFound asked end text
 Replies asked end reply.Short text = ShowsShort asked end text
 Replies asked end reply.Wrong text = ShowsWrong asked end text
 Replies asked end reply.Absent text = Lacks asked end × (text ≡ [])
@@ -154,50 +143,33 @@ HasText asked end text = (answer : Reply) × Replies asked end answer text
 -- the replies that a query can have, whatever the feed
 abbrev pub can_reply : Query → Reply → Bool
 can_reply asked reply.Found = true
-can_reply query.Order reply.Short = false
-can_reply (query.Account id) reply.Short = false
-can_reply (query.Receipt place) reply.Short = false
-can_reply (query.Proof id) reply.Short = false
 can_reply (query.State root) reply.Short = true
-can_reply query.Anchors reply.Short = false
 can_reply (query.Statement id) reply.Short = true
-can_reply query.Order reply.Wrong = false
-can_reply (query.Account id) reply.Wrong = false
-can_reply (query.Receipt place) reply.Wrong = false
-can_reply (query.Proof id) reply.Wrong = false
 can_reply (query.State root) reply.Wrong = true
-can_reply query.Anchors reply.Wrong = false
-can_reply (query.Statement id) reply.Wrong = false
-can_reply query.Order reply.Absent = false
 can_reply (query.Account id) reply.Absent = true
 can_reply (query.Receipt place) reply.Absent = true
 can_reply (query.Proof id) reply.Absent = true
-can_reply (query.State root) reply.Absent = false
-can_reply query.Anchors reply.Absent = false
 can_reply (query.Statement id) reply.Absent = true
+can_reply asked other = false
 
 -- a feed that nothing stops replies so
 pub record IsReplyOf (feed : FeedValue) (asked : Query) (answer : Reply) (text : List ℕ) : Type 0 where
   pub end : Ending
   pub ending : IsEndingOf feed end
-  pub it : Replies asked end answer text
+  pub replies : Replies asked end answer text
 
 -- and so do bytes, where they are the encoding of that feed
-pub record IsReply (bytes : List ℕ) (asked : Query) (answer : Reply) (text : List ℕ) : Type 0 where
-  pub feed : FeedValue
-  pub good : IsFeed feed
-  pub spelled : bytes ≡ spelling feed
-  pub reply : IsReplyOf feed asked answer text
+abbrev pub IsReply : List ℕ → Query → Reply → List ℕ → Type 0
+IsReply bytes asked answer text = AreFeedWith bytes (λ feed. IsReplyOf feed asked answer text)
 
 -- a query for which the transactions of the order are executed
 abbrev pub executes : Query → Bool
-executes query.Order = false
 executes (query.Account id) = true
 executes (query.Receipt place) = true
 executes (query.Proof id) = true
 executes (query.State root) = true
-executes query.Anchors = false
 executes (query.Statement id) = true
+executes other = false
 
 -- ---- what a call leaves
 
@@ -222,14 +194,11 @@ PartOfReplyIsOut asked written old new bytes =
 abbrev pub AskFailsBy : Query → Fault → Devices → Devices → Type 0
 AskFailsBy asked (fault.Feed found) old new =
     Refuses found old.source new.source × IsUntouched old.sink new.sink
-AskFailsBy asked (fault.Collision id) old new =
-    NothingFailed old new × IfKnown old.source (λ bytes. IsStopped bytes (fault.Collision id))
-AskFailsBy asked (fault.Equivocation round author first second) old new =
-    NothingFailed old new
-    × IfKnown old.source (λ bytes. IsStopped bytes (fault.Equivocation round author first second))
 AskFailsBy asked (fault.Unfinished place) old new =
     (executes asked ≡ true) × NothingFailed old new × IfKnown old.source (λ bytes. HasPlace bytes place)
 AskFailsBy asked (fault.Write written) old new =
     Works old.source new.source × Fails old.sink new.sink
     × IfKnown old.source (PartOfReplyIsOut asked written old.sink new.sink)
 AskFailsBy asked fault.Memory old new = NothingFailed old new
+AskFailsBy asked stop old new =
+    NothingFailed old new × IfKnown old.source (λ bytes. IsStopped bytes stop)

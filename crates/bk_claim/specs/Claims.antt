@@ -118,12 +118,6 @@ OnlyFeedIsUsed old new = (new.claimed ≡ old.claimed) × IsUntouched old.sink n
 -- ran out. But for the sink's failure nothing is written
 abbrev pub RunFailsBy : Fault → ClaimDevices → ClaimDevices → Type 0
 RunFailsBy (fault.Feed found) old new = Refuses found old.feed new.feed × OnlyFeedIsUsed old new
-RunFailsBy (fault.Collision id) old new =
-    Works old.feed new.feed × OnlyFeedIsUsed old new
-    × IfKnown old.feed (λ bytes. IsStopped bytes (fault.Collision id))
-RunFailsBy (fault.Equivocation round author first second) old new =
-    Works old.feed new.feed × OnlyFeedIsUsed old new
-    × IfKnown old.feed (λ bytes. IsStopped bytes (fault.Equivocation round author first second))
 RunFailsBy (fault.Unfinished place) old new =
     Works old.feed new.feed × OnlyFeedIsUsed old new × IfKnown old.feed (λ bytes. HasPlace bytes place)
 RunFailsBy (fault.Write written) old new =
@@ -131,6 +125,8 @@ RunFailsBy (fault.Write written) old new =
     × IfBothKnown old (PartOfVerdictIsOut written old.sink new.sink)
 RunFailsBy fault.Memory old new =
     Works old.feed new.feed × Works old.claimed new.claimed × IsUntouched old.sink new.sink
+RunFailsBy found old new =
+    Works old.feed new.feed × OnlyFeedIsUsed old new × IfKnown old.feed (λ bytes. IsStopped bytes found)
 
 -- why there is no verdict: so; or a call of the claim failed, after a feed that has a report, and nothing is written
 abbrev pub ClaimFailsBy : ClaimStop → ClaimDevices → ClaimDevices → Type 0

@@ -39,61 +39,36 @@ exit_number exit.Missing = 5
 
 -- a query whose reply is a verdict, which may be no
 abbrev pub gives_state : Query → Bool
-gives_state query.Order = false
-gives_state (query.Account id) = false
-gives_state (query.Receipt place) = false
-gives_state (query.Proof id) = false
 gives_state (query.State root) = true
-gives_state query.Anchors = false
-gives_state (query.Statement id) = false
+gives_state other = false
 
 -- a query whose reply says whether a batch of the order is missing
 abbrev pub tells_missing : Query → Bool
-tells_missing query.Order = false
-tells_missing (query.Account id) = false
-tells_missing (query.Receipt place) = false
-tells_missing (query.Proof id) = false
 tells_missing (query.State root) = true
-tells_missing query.Anchors = false
 tells_missing (query.Statement id) = true
+tells_missing other = false
 
 -- a job whose answer may be no
 abbrev pub gives_verdict : Job → Bool
-gives_verdict (job.Run workers file) = false
-gives_verdict (job.Make file) = false
 gives_verdict (job.CheckProof root file) = true
 gives_verdict (job.Ask workers asked file) = gives_state asked
 gives_verdict (job.CheckReport workers report file) = true
-gives_verdict (job.Frames file) = false
-gives_verdict (job.Summary workers file) = false
-gives_verdict (job.Dag window file) = false
-gives_verdict (job.Apply file) = false
-gives_verdict (job.Schedule workers feed events) = false
-gives_verdict (job.Compare first second) = false
+gives_verdict other = false
 
 -- what a query asks for may be absent; an order and its anchors never are, and a digest is right or wrong
 abbrev pub may_be_absent : Query → Bool
-may_be_absent query.Order = false
 may_be_absent (query.Account id) = true
 may_be_absent (query.Receipt place) = true
 may_be_absent (query.Proof id) = true
-may_be_absent (query.State root) = false
-may_be_absent query.Anchors = false
 may_be_absent (query.Statement id) = true
+may_be_absent other = false
 
 -- a job that may end with no: by its answer, or since what it asks for is absent
 abbrev pub may_say_no : Job → Bool
-may_say_no (job.Run workers file) = false
-may_say_no (job.Make file) = false
 may_say_no (job.CheckProof root file) = true
 may_say_no (job.Ask workers asked file) = gives_state asked || may_be_absent asked
 may_say_no (job.CheckReport workers report file) = true
-may_say_no (job.Frames file) = false
-may_say_no (job.Summary workers file) = false
-may_say_no (job.Dag window file) = false
-may_say_no (job.Apply file) = false
-may_say_no (job.Schedule workers feed events) = false
-may_say_no (job.Compare first second) = false
+may_say_no other = false
 
 -- a job that refuses bytes: those that are no feed, no script, no events of a whole run, or feeds of no one setup
 abbrev pub refuses : Job → Bool
@@ -112,58 +87,32 @@ refuses (job.Compare first second) = true
 -- a job that finds the order of a feed, or compares those of two, which may be stopped
 abbrev pub finds_order : Job → Bool
 finds_order (job.Run workers file) = true
-finds_order (job.Make file) = false
-finds_order (job.CheckProof root file) = false
 finds_order (job.Ask workers asked file) = true
 finds_order (job.CheckReport workers report file) = true
-finds_order (job.Frames file) = false
 finds_order (job.Summary workers file) = true
 finds_order (job.Dag window file) = true
-finds_order (job.Apply file) = false
-finds_order (job.Schedule workers feed events) = false
 finds_order (job.Compare first second) = true
+finds_order other = false
 
 -- a job that says whether a batch is missing
 abbrev pub reports_missing : Job → Bool
 reports_missing (job.Run workers file) = true
-reports_missing (job.Make file) = false
-reports_missing (job.CheckProof root file) = false
 reports_missing (job.Ask workers asked file) = tells_missing asked
 reports_missing (job.CheckReport workers report file) = true
-reports_missing (job.Frames file) = false
 reports_missing (job.Summary workers file) = true
-reports_missing (job.Dag window file) = false
-reports_missing (job.Apply file) = false
-reports_missing (job.Schedule workers feed events) = false
-reports_missing (job.Compare first second) = false
+reports_missing other = false
 
 -- a job that reads its second source
 abbrev pub reads_second : Job → Bool
-reads_second (job.Run workers file) = false
-reads_second (job.Make file) = false
-reads_second (job.CheckProof root file) = false
-reads_second (job.Ask workers asked file) = false
 reads_second (job.CheckReport workers report file) = true
-reads_second (job.Frames file) = false
-reads_second (job.Summary workers file) = false
-reads_second (job.Dag window file) = false
-reads_second (job.Apply file) = false
 reads_second (job.Schedule workers feed events) = true
 reads_second (job.Compare first second) = true
+reads_second other = false
 
 -- a job that writes while it reads: where it refuses the bytes, its first lines are out
 abbrev pub writes_ahead : Job → Bool
-writes_ahead (job.Run workers file) = false
-writes_ahead (job.Make file) = false
-writes_ahead (job.CheckProof root file) = false
-writes_ahead (job.Ask workers asked file) = false
-writes_ahead (job.CheckReport workers report file) = false
 writes_ahead (job.Frames file) = true
-writes_ahead (job.Summary workers file) = false
-writes_ahead (job.Dag window file) = false
-writes_ahead (job.Apply file) = false
-writes_ahead (job.Schedule workers feed events) = false
-writes_ahead (job.Compare first second) = false
+writes_ahead other = false
 
 -- how a job may end
 abbrev pub may_end : Job → Exit → Bool
@@ -178,37 +127,27 @@ may_end j exit.Missing = reports_missing j
 abbrev pub is_answer : Job → Exit → Bool
 is_answer j exit.Whole = true
 is_answer j exit.No = gives_verdict j
-is_answer j exit.WrongInput = false
-is_answer j exit.Stopped = false
-is_answer j exit.Failed = false
 is_answer j exit.Missing = true
+is_answer j other = false
 
 -- the report is written
 abbrev pub is_report : Exit → Bool
 is_report exit.Whole = true
-is_report exit.No = false
-is_report exit.WrongInput = false
-is_report exit.Stopped = false
-is_report exit.Failed = false
 is_report exit.Missing = true
+is_report other = false
 
 -- the bytes are to blame
 abbrev pub is_refusal : Exit → Bool
-is_refusal exit.Whole = false
-is_refusal exit.No = false
 is_refusal exit.WrongInput = true
 is_refusal exit.Stopped = true
-is_refusal exit.Failed = false
-is_refusal exit.Missing = false
+is_refusal other = false
 
 -- a fault is reported
 abbrev pub has_fault : Exit → Bool
-has_fault exit.Whole = false
-has_fault exit.No = false
 has_fault exit.WrongInput = true
 has_fault exit.Stopped = true
 has_fault exit.Failed = true
-has_fault exit.Missing = false
+has_fault other = false
 
 -- ---- the exit after an answer
 

@@ -45,17 +45,8 @@ second_file_of (job.Compare first second) = Some (string_bytes second)
 
 -- a job that reads a report which is checked
 abbrev pub reads_report : Job → Bool
-reads_report (job.Run workers file) = false
-reads_report (job.Make file) = false
-reads_report (job.CheckProof root file) = false
-reads_report (job.Ask workers asked file) = false
 reads_report (job.CheckReport workers report file) = true
-reads_report (job.Frames file) = false
-reads_report (job.Summary workers file) = false
-reads_report (job.Dag window file) = false
-reads_report (job.Apply file) = false
-reads_report (job.Schedule workers feed events) = false
-reads_report (job.Compare first second) = false
+reads_report other = false
 
 -- a feed that was not replayed: a failed write is about the output
 abbrev pub replay_about : Fault → About

@@ -56,7 +56,7 @@ fn report_twice<E: Sink>(name: &str, fault: &JobFault, err: &mut E)
     }
 }
 
-/// Reports a fault that is about a file of this name in its line, and where it has to be in words too, in one more line.
+/// Reports a fault in its line and, where `verbose` asks for words, in one more line that names the file that it is about.
 /// A sink that fails is ignored.
 pub fn tell_of<E: Sink>(name: &str, verbose: bool, fault: &JobFault, err: &mut E)
     requires { CanBeUsed (E.state err.old) }

@@ -63,7 +63,7 @@ ends_closed old new h = λ bytes frames come.
       known = ap (λ c. c.version) h.cut ∙ end.known;
       good = end.good;
       spelled = end.spelled;
-      end = inr (outcome_of_book (feed_of end.version frames) new.book end.it);
+      end = inr (outcome_of_book (feed_of end.version frames) new.book end.holds);
     }
 
 -- and so has one that something stops
@@ -77,7 +77,7 @@ ends_stopped old new f same stopped shown = subst (Ends old) (sym same) (λ byte
       known = end.known;
       good = end.good;
       spelled = end.spelled;
-      end = inl (shown (feed_of end.version frames) end.it);
+      end = inl (shown (feed_of end.version frames) end.holds);
     })
 
 pub ends_by_stop : (f : Fault) (old new : Followed) → stops f ≡ true → CloseFails old new f → Ends old new
@@ -119,7 +119,7 @@ source_not (fault.Feed found) known now v works come h = cut_short known now v f
 source_not (fault.Collision id) known now v works come h = absurd h
 source_not (fault.Equivocation round author first second) known now v works come h = absurd h
 source_not (fault.Unfinished place) known now v works come h =
-    (works, of_feed known v (λ feed. HasPlaceIn feed place) (λ bytes. HasPlace bytes place) come h (λ bytes feed good spelled there. record { feed = feed; good = good; spelled = spelled; there = there }))
+    (works, of_feed known v (λ feed. HasPlaceIn feed place) (λ bytes. HasPlace bytes place) come h (λ bytes feed good spelled there. record { feed = feed; good = good; spelled = spelled; holds = there }))
 source_not (fault.Write written) known now v works come h = absurd h
 source_not fault.Memory known now v works come h = works
 
@@ -161,7 +161,7 @@ module _ (one other : Followed) (bytes more : List ℕ) (x : HasEnded bytes one)
   right = feed_of y.version y.frames
 
   spelled_so : (holds : FeedValue → FeedValue → Type 0) → holds left right → OfTheirFeeds bytes more holds
-  spelled_so holds it = record { one = left; other = right; good = x.good; also_good = y.good; spelled = x.spelled; also_spelled = y.spelled; it = it }
+  spelled_so holds it = record { one = left; other = right; good = x.good; also_good = y.good; spelled = x.spelled; also_spelled = y.spelled; holds = it }
 
   left_clear : HaveNoStop left right → HasStopIn left → ⊥
   left_clear none (s, h) = part_unstopped (committee_in left) (later_frames left) (frames_together left right) s
@@ -258,7 +258,7 @@ pub both_known : (s : Sources) (holds too : FeedValue → FeedValue → Type 0) 
 both_known s holds too f h = by_first s.first.bytes h
   where
     of_feeds : (bytes more : List ℕ) → OfTheirFeeds bytes more holds → OfTheirFeeds bytes more too
-    of_feeds bytes more x = record { one = x.one; other = x.other; good = x.good; also_good = x.also_good; spelled = x.spelled; also_spelled = x.also_spelled; it = f x.one x.other x.it }
+    of_feeds bytes more x = record { one = x.one; other = x.other; good = x.good; also_good = x.also_good; spelled = x.spelled; also_spelled = x.also_spelled; holds = f x.one x.other x.holds }
 
     by_second : (bytes : List ℕ) (o : Option (List ℕ)) → IfSome o (λ more. OfTheirFeeds bytes more holds) → IfSome o (λ more. OfTheirFeeds bytes more too)
     by_second bytes None h = tt
@@ -277,8 +277,8 @@ gaps_too s c h = by_first s.first.bytes h
   where
     of_feeds : (bytes more : List ℕ) → OfTheirFeeds bytes more (λ f g. FeedsCompared f g c) → IsGap bytes c.first × IsGap more c.second
     of_feeds bytes more x = (
-      record { feed = x.one; good = x.good; spelled = x.spelled; gap = x.it.first },
-      record { feed = x.other; good = x.also_good; spelled = x.also_spelled; gap = x.it.second },
+      record { feed = x.one; good = x.good; spelled = x.spelled; holds = x.holds.first },
+      record { feed = x.other; good = x.also_good; spelled = x.also_spelled; holds = x.holds.second },
     )
 
     by_second : (bytes : List ℕ) (o : Option (List ℕ)) → IfSome o (λ more. OfTheirFeeds bytes more (λ f g. FeedsCompared f g c)) → IfSome o (λ more. IsGap bytes c.first × IsGap more c.second)

@@ -61,14 +61,14 @@ abbrev pub BothWork : Sources → Sources → Type 0
 BothWork old new = Works old.first new.first × Works old.second new.second
 
 -- two byte strings encode feeds, and this holds of the feeds
-pub record OfTheirFeeds (bytes more : List ℕ) (holds : FeedValue → FeedValue → Type 0) : Type 0 where
+pub record OfTheirFeeds (bytes more : List ℕ) (P : FeedValue → FeedValue → Type 0) : Type 0 where
   pub one : FeedValue
   pub other : FeedValue
   pub good : IsFeed one
   pub also_good : IsFeed other
   pub spelled : bytes ≡ spelling one
   pub also_spelled : more ≡ spelling other
-  pub it : holds one other
+  pub holds : P one other
 
 -- the bytes of both sources, where they are known, encode feeds, and this holds of the feeds
 abbrev pub IfBothKnown : Sources → (FeedValue → FeedValue → Type 0) → Type 0
@@ -79,11 +79,9 @@ IfBothKnown s holds =
 -- memory ran out. That something stops the feed is no such reason
 abbrev pub FollowFails : Fault → Device → Device → Type 0
 FollowFails (fault.Feed found) old new = Refuses found old new
-FollowFails (fault.Collision id) old new = ⊥
-FollowFails (fault.Equivocation round author first second) old new = ⊥
 FollowFails (fault.Unfinished place) old new = Works old new × IfKnown old (λ bytes. HasPlace bytes place)
-FollowFails (fault.Write written) old new = ⊥
 FollowFails fault.Memory old new = Works old new
+FollowFails other old new = ⊥
 
 -- why the feeds of two sources do not agree: the first was not followed to its end, and nothing is read of the second;
 -- the first was, and the second was not; or both were, and they differ

@@ -23,10 +23,10 @@ use Rattle.bk_follow.specs.Follower.{Executed, BookValue, IsExecuted, IsCurrent}
 use Rattle.bk_report.specs.Lines.{text_of}
 use Rattle.bk_tx.specs.Batches.{transactions_of, count_in}
 use Rattle.bk_report.specs.RunLines.{Reading, head_lines, order_lines, batches_lines, ledger_lines, run_lines}
-use Rattle.bk_follow.specs.RunReport.{committee_in, later_frames, Reads, IsReportOf, status_of}
+use Rattle.bk_follow.specs.RunReport.{committee_in, later_frames, Reads, IsReportOf, reach_of}
 use Rattle.bk_follow.specs.Queries.{executed_of}
 use Rattle.bk_follow.specs.private.Ledgers.{book_with}
-use Rattle.bk_report.specs.Pages.{Gathered, blank, Puts, Stops}
+use Rattle.bk_report.specs.Pages.{PageValue, blank, Puts, Stops}
 use Rattle.bk_follow.proofs.Counting.{few_places, few_named, few_ordered_batches, few_waiting, few_anchors, few_in_order, few_rejects}
 use Rattle.bk_report.proofs.Putting.{all_out, part_out, part_size}
 use Rattle.bk_report.proofs.RunText.{run_text_is}
@@ -90,7 +90,7 @@ text_is feed b e waiting rows good current s =
     ∙ run_text_is (committee_in feed) (length feed.frames) (reading_of b e waiting rows) e.counts b.taken.ordered.payloads.missing (executed_is feed b e s.is_done current).counts refl
 
 report_is : (feed : FeedValue) (b : BookValue) (e : Executed) (waiting : List CertRef) (rows : List Row) (answer : Status) → IsFeed feed → IsCurrent feed b → IsShownOf b e waiting rows
-    → answer ≡ status_of b.taken.ordered.payloads.missing → IsReportOf feed (shown_text b e waiting rows) answer
+    → answer ≡ reach_of b.taken.ordered.payloads.missing → IsReportOf feed (shown_text b e waiting rows) answer
 report_is feed b e waiting rows answer good current s status = record {
   clear = current.clear;
   reading = reading_of b e waiting rows;
@@ -102,27 +102,27 @@ report_is feed b e waiting rows answer good current s status = record {
 -- ---- the sink
 
 -- the whole report is out
-pub report_out : (b : BookValue) (e : Executed) (waiting : List CertRef) (rows : List Row) (answer : Status) (old new : Device) (page after : Gathered) → page ≡ blank → after.bytes ≡ [] → IsShownOf b e waiting rows
-    → answer ≡ status_of b.taken.ordered.payloads.missing → Puts old new page after (shown_text b e waiting rows)
+pub report_out : (b : BookValue) (e : Executed) (waiting : List CertRef) (rows : List Row) (answer : Status) (old new : Device) (page after : PageValue) → page ≡ blank → after.bytes ≡ [] → IsShownOf b e waiting rows
+    → answer ≡ reach_of b.taken.ordered.payloads.missing → Puts old new page after (shown_text b e waiting rows)
     → (feed : FeedValue) → IsFeed feed → IsCurrent feed b → ReportIsOut feed answer old new
 report_out b e waiting rows answer old new page after empty out s status put feed good current =
     let text = shown_text b e waiting rows in
     record {
       text = text;
       report = report_is feed b e waiting rows answer good current s status;
-      gave = all_out old new after text (subst (λ (p : Gathered). Puts old new p after text) empty put) out;
+      gave = all_out old new after text (subst (λ (p : PageValue). Puts old new p after text) empty put) out;
     }
 
 -- the front of the report is out where the sink stopped
-pub report_front : (b : BookValue) (e : Executed) (waiting : List CertRef) (rows : List Row) (written : ℕ) (old new : Device) (page : Gathered) → page ≡ blank → IsShownOf b e waiting rows
+pub report_front : (b : BookValue) (e : Executed) (waiting : List CertRef) (rows : List Row) (written : ℕ) (old new : Device) (page : PageValue) → page ≡ blank → IsShownOf b e waiting rows
     → Stops old new page (shown_text b e waiting rows) written → (feed : FeedValue) → IsFeed feed → IsCurrent feed b → ReportStops feed written old new
 report_front b e waiting rows written old new page empty s stop feed good current =
     let text = shown_text b e waiting rows in
-    let at_first : Stops old new blank text written = subst (λ (p : Gathered). Stops old new p text written) empty stop in
+    let at_first : Stops old new blank text written = subst (λ (p : PageValue). Stops old new p text written) empty stop in
     record {
       text = text;
-      answer = status_of b.taken.ordered.payloads.missing;
-      report = report_is feed b e waiting rows (status_of b.taken.ordered.payloads.missing) good current s refl;
+      answer = reach_of b.taken.ordered.payloads.missing;
+      report = report_is feed b e waiting rows (reach_of b.taken.ordered.payloads.missing) good current s refl;
       some = part_size old new text written at_first;
       gave = part_out old new text written at_first;
     }

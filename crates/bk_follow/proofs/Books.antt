@@ -9,10 +9,12 @@ use Rattle.bk_frames.specs.declared.genesis.Row.{Row}
 use Rattle.bk_frames.specs.Feed.{Frame, FeedValue, IsFeed, feed_of, genesis_of}
 use Rattle.bk_frames.proofs.Accounts.{genesis_accounts, genesis_few}
 use Rattle.bk_committee.specs.Payload.{CommitteeValue, committee_of}
-use Rattle.bk_commit.specs.Growth.{IsPartOf, Begins}
+use Rattle.bk_commit.specs.Growth.{IsPartOf, IsPrefix}
 use Rattle.bk_order.specs.Intake.{Taken, Kept, HasTaken, IsKeptOf, nothing_ordered}
 use Rattle.bk_order.specs.Orders.{Ordered, IsOrderOf}
-use Rattle.bk_order.specs.Stops.{HasNoStop}
+use Rattle.bk_order.specs.Stops.{HasNoStop, IsStop}
+use Rattle.bk_order.specs.declared.stop.Stop.{Stop}
+use Rattle.bk_order.specs.declared.stop.Stop.TheVariants as stop
 use Rattle.bk_order.proofs.Sets.{frames_grow}
 use Rattle.bk_order.proofs.Ordering.{none_ordered}
 use Rattle.bk_rules.specs.Fold.{state_after, receipts_of, HasRoom}
@@ -20,7 +22,7 @@ use Rattle.bk_rules.proofs.Room.{room_left}
 use Rattle.bk_rules.proofs.Folding.{length-receipts, state_append, receipts_append}
 use Rattle.bk_tx.specs.Batches.{transactions_in, transactions_of, count_in}
 use Rattle.bk_ledger.specs.Ledger.{LedgerValue}
-use Rattle.bk_follow.specs.RunReport.{committee_in, later_frames, HasNoStopIn, IsOrderIn, HasPlaceIn}
+use Rattle.bk_follow.specs.RunReport.{committee_in, later_frames, HasNoStopIn, IsOrderIn, IsStopIn, HasPlaceIn, fault_of}
 use Rattle.bk_follow.specs.Follower.{Executed, BookValue, IsExecuted, OrdersPart, IsBookOf, IsCurrent}
 use Rattle.bk_follow.specs.private.Books.{IsGoodBook, BookSettleFails}
 use Rattle.bk_follow.specs.Queries.{executed_of}
@@ -119,7 +121,7 @@ record InTwo (feed : FeedValue) (o : Ordered) (e : Executed) (list : List (List 
   dropped : drop (length e.counts) list ≡ rest
   txs : transactions_of list ≡ transactions_of o.payloads.list ++ transactions_of rest
 
-in_two : (feed : FeedValue) (o : Ordered) (e : Executed) (list : List (List ℕ)) → IsExecuted feed o e → Begins o.payloads.list list → InTwo feed o e list
+in_two : (feed : FeedValue) (o : Ordered) (e : Executed) (list : List (List ℕ)) → IsExecuted feed o e → IsPrefix o.payloads.list list → InTwo feed o e list
 in_two feed o e list x begins =
     let count : length e.counts ≡ length o.payloads.list = ap length x.counts ∙ length-map o.payloads.list count_in in
     record {
@@ -129,7 +131,7 @@ in_two feed o e list x begins =
       txs = ap transactions_of begins.1 ∙ flat_map-append transactions_in o.payloads.list begins.0;
     }
 
-begins_now : (feed : FeedValue) (old : BookValue) (now : Ordered) → (good : IsGoodBook feed old) → HasNoStopIn feed → IsOrderIn feed now → Begins good.book.order.payloads.list now.payloads.list
+begins_now : (feed : FeedValue) (old : BookValue) (now : Ordered) → (good : IsGoodBook feed old) → HasNoStopIn feed → IsOrderIn feed now → IsPrefix good.book.order.payloads.list now.payloads.list
 begins_now feed old now good clear ordered = (frames_grow (committee_in feed) good.book.before.part (later_frames feed) good.book.order now good.book.before.within clear good.book.before.ordered ordered).2
 
 pub goes_on : (feed : FeedValue) (old : BookValue) (now : Ordered) (good : IsGoodBook feed old) → HasNoStopIn feed → IsOrderIn feed now → GoesOn good.book.done now.payloads.list
@@ -164,7 +166,7 @@ pub record Executes (e f : Executed) (list : List (List ℕ)) : Type 0 where
   pub slots : f.slots ≤ e.slots + named_by (transactions_of (drop (length e.counts) list))
 
 -- the fold of a front and then of the rest is the fold of both
-executed_all : (feed : FeedValue) (o now : Ordered) (e f : Executed) → IsExecuted feed o e → Begins o.payloads.list now.payloads.list → Executes e f now.payloads.list → IsExecuted feed now f
+executed_all : (feed : FeedValue) (o now : Ordered) (e f : Executed) → IsExecuted feed o e → IsPrefix o.payloads.list now.payloads.list → Executes e f now.payloads.list → IsExecuted feed now f
 executed_all feed o now e f x begins r =
     let before = o.payloads.list in
     let t = in_two feed o e now.payloads.list x begins in
@@ -208,6 +210,10 @@ settled_book feed old new f good same kept works clear ordered r =
 -- the stop, or that there is none, of what was taken is that of the feed
 pub clear_in : (feed : FeedValue) (b : BookValue) → IsBookOf feed b → HasNoStop b.taken.committee (later_frames feed) → HasNoStopIn feed
 clear_in feed b book h = subst (λ (k : CommitteeValue). HasNoStop k (later_frames feed)) book.committee h
+
+pub stop_in : (feed : FeedValue) (b : BookValue) (s : Stop) → IsBookOf feed b → IsStop b.taken.committee (later_frames feed) s → IsStopIn feed (fault_of s)
+stop_in feed b (stop.Collision id) book h = subst (λ (k : CommitteeValue). IsStop k (later_frames feed) (stop.Collision id)) book.committee h
+stop_in feed b (stop.Twins e) book h = subst (λ (k : CommitteeValue). IsStop k (later_frames feed) (stop.Twins e)) book.committee h
 
 pub order_in_feed : (feed : FeedValue) (b : BookValue) (new : Taken) → IsBookOf feed b → new.committee ≡ b.taken.committee → IsOrderOf new.committee (later_frames feed) new.ordered → IsOrderIn feed new.ordered
 order_in_feed feed b new book same h = subst (λ (k : CommitteeValue). IsOrderOf k (later_frames feed) new.ordered) (same ∙ book.committee) h

@@ -9,7 +9,7 @@ use Rattle.bk_frames.specs.declared.version.Version.{Version}
 use Rattle.bk_frames.specs.declared.genesis.Row.{Row}
 use Rattle.bk_frames.specs.Feed.{Frame, FeedValue, feed_of, genesis_of}
 use Rattle.bk_committee.specs.Payload.{CommitteeValue}
-use Rattle.bk_commit.specs.Growth.{Begins}
+use Rattle.bk_commit.specs.Growth.{IsPrefix}
 use Rattle.bk_order.specs.Agreement.{OneBegins, OrderBegins}
 use Rattle.bk_order.specs.Orders.{Ordered, IsOrderOf}
 use Rattle.bk_order.specs.Stops.{HasNoStop, IsStop}
@@ -84,17 +84,17 @@ lesser_second : (n a b : ℕ) → IsLesser n a b → b ≤ a → n ≡ b
 lesser_second n a b (inl h) le = let e = h.0 in let l = h.1 in omega (arith, e, l, le)
 lesser_second n a b (inr h) le = h.0
 
-begins_short : {X : Type 0} (xs ys : List X) → Begins xs ys → length xs ≤ length ys
+begins_short : {X : Type 0} (xs ys : List X) → IsPrefix xs ys → length xs ≤ length ys
 begins_short {X} xs ys (rest, e) = let l = ap length e in omega (arith, l, length-append xs rest)
 
 -- the lesser of the lengths is that of the list that begins the other
 pub begins_with : {X : Type 0} (n : ℕ) (xs ys : List X) → OneBegins xs ys → IsLesser n (length xs) (length ys) → BeginsWith n xs ys
 begins_with {X} n xs ys h l = ⊎_elim
-    (λ (t : Begins xs ys). inl (t, lesser_first n (length xs) (length ys) l (begins_short xs ys t)))
-    (λ (t : Begins ys xs). inr (t, lesser_second n (length xs) (length ys) l (begins_short ys xs t)))
+    (λ (t : IsPrefix xs ys). inl (t, lesser_first n (length xs) (length ys) l (begins_short xs ys t)))
+    (λ (t : IsPrefix ys xs). inr (t, lesser_second n (length xs) (length ys) l (begins_short ys xs t)))
     h
 
-begins_whole : {X : Type 0} (xs ys : List X) → Begins xs ys → length xs ≡ length ys → xs ≡ ys
+begins_whole : {X : Type 0} (xs ys : List X) → IsPrefix xs ys → length xs ≡ length ys → xs ≡ ys
 begins_whole {X} xs ys (rest, e) same = ended rest e (ap length e)
   where
     ended : (us : List X) → ys ≡ xs ++ us → length ys ≡ length (xs ++ us) → xs ≡ ys
@@ -102,24 +102,24 @@ begins_whole {X} xs ys (rest, e) same = ended rest e (ap length e)
     ended (u ∷ us) g p = absurd (omega (arith, same, p, length-append xs (u ∷ us)))
 
 same_of_length : {X : Type 0} (xs ys : List X) → OneBegins xs ys → length xs ≡ length ys → xs ≡ ys
-same_of_length {X} xs ys h e = ⊎_elim (λ (t : Begins xs ys). begins_whole xs ys t e) (λ (t : Begins ys xs). sym (begins_whole ys xs t (sym e))) h
+same_of_length {X} xs ys h e = ⊎_elim (λ (t : IsPrefix xs ys). begins_whole xs ys t e) (λ (t : IsPrefix ys xs). sym (begins_whole ys xs t (sym e))) h
 
 -- ---- what executing the payloads gives
 
-txs_begin : (ps qs : List (List ℕ)) → Begins ps qs → Begins (transactions_of ps) (transactions_of qs)
+txs_begin : (ps qs : List (List ℕ)) → IsPrefix ps qs → IsPrefix (transactions_of ps) (transactions_of qs)
 txs_begin ps qs (rest, e) = (transactions_of rest, ap transactions_of e ∙ flat_map-append transactions_in ps rest)
 
 one_txs : (ps qs : List (List ℕ)) → OneBegins ps qs → OneBegins (transactions_of ps) (transactions_of qs)
-one_txs ps qs h = ⊎_elim (λ (t : Begins ps qs). inl (txs_begin ps qs t)) (λ (t : Begins qs ps). inr (txs_begin qs ps t)) h
+one_txs ps qs h = ⊎_elim (λ (t : IsPrefix ps qs). inl (txs_begin ps qs t)) (λ (t : IsPrefix qs ps). inr (txs_begin qs ps t)) h
 
 module _ (v : Version) (rows : List Row) where
-  receipts_begin : (ts us : List (Option Transaction)) → Begins ts us → Begins (receipts_of v ts rows) (receipts_of v us rows)
+  receipts_begin : (ts us : List (Option Transaction)) → IsPrefix ts us → IsPrefix (receipts_of v ts rows) (receipts_of v us rows)
   receipts_begin ts us (rest, e) = (receipts_of v rest (state_after v ts rows), ap (λ (xs : List (Option Transaction)). receipts_of v xs rows) e ∙ receipts_append v ts rest rows)
 
   one_receipts : (ps qs : List (List ℕ)) → OneBegins ps qs → OneBegins (receipts_of v (transactions_of ps) rows) (receipts_of v (transactions_of qs) rows)
   one_receipts ps qs h = ⊎_elim
-      (λ (t : Begins (transactions_of ps) (transactions_of qs)). inl (receipts_begin (transactions_of ps) (transactions_of qs) t))
-      (λ (t : Begins (transactions_of qs) (transactions_of ps)). inr (receipts_begin (transactions_of qs) (transactions_of ps) t))
+      (λ (t : IsPrefix (transactions_of ps) (transactions_of qs)). inl (receipts_begin (transactions_of ps) (transactions_of qs) t))
+      (λ (t : IsPrefix (transactions_of qs) (transactions_of ps)). inr (receipts_begin (transactions_of qs) (transactions_of ps) t))
       (one_txs ps qs h)
 
   -- after equally many receipts the accounts are the same

@@ -17,7 +17,7 @@ use Rattle.bk_committee.specs.Sizes.{Sizes}
 use Rattle.bk_committee.specs.Payload.{CommitteeValue, sizes_of}
 use Rattle.bk_cert.specs.Reading.{certificate_of}
 use Rattle.bk_cert.specs.Values.{CertValue}
-use Rattle.bk_cert.specs.Node.{Node, node_of}
+use Rattle.bk_cert.specs.Node.{Node, with_id}
 use Rattle.bk_certcheck.specs.declared.verdict.Verdict.{Verdict}
 use Rattle.bk_certcheck.specs.declared.verdict.Verdict.TheVariants as verdict
 use Rattle.bk_certcheck.specs.Verdicts.{IsGood}
@@ -28,7 +28,7 @@ use Rattle.bk_rounds.proofs.Admitted.{admitted_held}
 use Rattle.bk_cert.proofs.Lists.{none_in_nil, contains_cases, contains_first, contains_later}
 use Rattle.bk_evidence.specs.Batches.{Batch, has_digest, payload_of}
 use Rattle.bk_commit.specs.Growth.{IsPartOf}
-use Rattle.bk_commit.specs.Ordering.{Walk, IsWayBack, IsCommittedBack}
+use Rattle.bk_commit.specs.Ordering.{Leads, IsWayBack, IsCommittedBack}
 use Rattle.bk_commit.proofs.Levels.{walk_round}
 use Rattle.bk_commit.proofs.Settled.{back_present}
 use Rattle.bk_flatten.specs.Batches.{Payloads, once, digests_of, named_at, cons_payload, before_missing}
@@ -214,8 +214,8 @@ module _ (version : Version) (k : CommitteeValue) (frames later : List Frame) (o
       (λ q f e. omega (arith, small q, ap bytes_in e))
       (λ p q f e g. ap (λ (x : Frame). x.payload) (sym e ∙ g))
       o.payloads.list frames
-      (subst (λ (p : Payloads). AreDifferent p.list) (sym is.payloads_are) (payloads_different later is.batches is.are_batches (digests_of is.certs o.order) (once_different (flat_map (named_at is.certs) o.order))))
-      (λ q t. (frame_of kind.Batch q, into (frame_of kind.Batch q) (payloads_held later is.batches is.are_batches (digests_of is.certs o.order) q (subst (λ (p : Payloads). Contains p.list q) is.payloads_are t)).0, refl))
+      (subst (λ (p : Payloads). AreDifferent p.list) (sym is.holds.payloads_are) (payloads_different later is.batches is.are_batches (digests_of is.certs o.order) (once_different (flat_map (named_at is.certs) o.order))))
+      (λ q t. (frame_of kind.Batch q, into (frame_of kind.Batch q) (payloads_held later is.batches is.are_batches (digests_of is.certs o.order) q (subst (λ (p : Payloads). Contains p.list q) is.holds.payloads_are t)).0, refl))
 
   -- an order has fewer than 2^31 places
   pub few_places : length (transactions_of o.payloads.list) < 2 ^ 31
@@ -242,7 +242,7 @@ one_node : (k : CommitteeValue) (p q : List ℕ) (c d : Node) → p ≡ q → Is
 one_node k p q c d same g h =
     let read : Some g.cert ≡ Some h.cert = sym g.read ∙ (ap certificate_of same ∙ h.read) in
     let certs : g.cert ≡ h.cert = cc in
-    g.is ∙ (ap (λ (x : CertValue). node_of x.header) certs ∙ sym h.is)
+    g.is ∙ (ap (λ (x : CertValue). with_id x.header) certs ∙ sym h.is)
 
 one_place : (k : CommitteeValue) (a b : CertRef) (f : Frame) → IsCertOf k a f → IsCertOf k b f → a ≡ b
 one_place k a b f x y = sym x.place ∙ (ap place_of (one_node k x.payload y.payload x.cert y.cert (ap (λ (z : Frame). z.payload) (sym x.framed ∙ y.framed)) x.is_good y.is_good) ∙ y.place)
@@ -274,7 +274,7 @@ present_held : (z : Sizes) (held : List Node) (a : CertRef) → IsPresent z held
 present_held z held a (c, s) = (c, admitted_held z held c.header.round c s.admitted, s.place)
 
 module _ (z : Sizes) (held : List Node) where
-  walk_lower : (n : ℕ) (a b : CertRef) → (b ≡ a → ⊥) → Walk z held n a b → b.round < a.round
+  walk_lower : (n : ℕ) (a b : CertRef) → (b ≡ a → ⊥) → Leads z held n a b → b.round < a.round
   walk_lower zero a b other w = absurd (other (sym w))
   walk_lower (suc n) a b other w = omega (arith, walk_round z held (suc n) a b w)
 
@@ -310,13 +310,13 @@ module _ (z : Sizes) (held : List Node) where
 module _ (version : Version) (k : CommitteeValue) (frames later : List Frame) (o : Ordered) (good : AreGoodFrom version 0 4 frames) (into : IsPartOf later frames) (is : IsOrderOf k later o) where
   pub few_anchors : length o.anchors < 2 ^ 32
   few_anchors =
-      let few = few_certs version k frames later is.certs good into is.are_certs (reverse o.anchors) (back_different (sizes_of k) is.certs (reverse o.anchors) is.committed)
-      (λ a t. present_held (sizes_of k) is.certs a (back_present (sizes_of k) is.certs (reverse o.anchors) is.committed a t)) in
+      let few = few_certs version k frames later is.certs good into is.are_certs (reverse o.anchors) (back_different (sizes_of k) is.certs (reverse o.anchors) is.holds.committed)
+      (λ a t. present_held (sizes_of k) is.certs a (back_present (sizes_of k) is.certs (reverse o.anchors) is.holds.committed a t)) in
       omega (arith, few, length-reverse o.anchors)
 
   pub few_in_order : length o.order < 2 ^ 32
-  few_in_order = few_certs version k frames later is.certs good into is.are_certs o.order (order_different (sizes_of k) is.certs (reverse o.anchors) o.order is.committed is.ordered)
-      (λ a t. present_held (sizes_of k) is.certs a (order_present (sizes_of k) is.certs (reverse o.anchors) o.order is.committed is.ordered a t))
+  few_in_order = few_certs version k frames later is.certs good into is.are_certs o.order (order_different (sizes_of k) is.certs (reverse o.anchors) o.order is.holds.committed is.holds.ordered)
+      (λ a t. present_held (sizes_of k) is.certs a (order_present (sizes_of k) is.certs (reverse o.anchors) o.order is.holds.committed is.holds.ordered a t))
 
 -- ---- rejects
 

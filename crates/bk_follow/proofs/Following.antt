@@ -134,7 +134,7 @@ pub of_feed : (v : Followed) (b : BookValue) (holds : FeedValue → Type 0) → 
 of_feed v b holds is none h = λ bytes frames come.
     let g = good_of bytes frames v b come is in
     let feed = feed_of_book bytes frames v b come g none in
-    record { version = g.version; known = g.known; good = feed.0; spelled = feed.1; it = h (feed_of g.version frames) feed.0 g.good }
+    record { version = g.version; known = g.known; good = feed.0; spelled = feed.1; holds = h (feed_of g.version frames) feed.0 g.good }
 
 pub untouched : (d : Device) → IsUntouched d d
 untouched d = (refl, Keeps-refl d.bytes)
@@ -176,13 +176,13 @@ current_of feed book b is (c, same, current) = subst (IsCurrent feed) (some_book
 pub on_closed : (old new : Followed) (b : BookValue) (holds : FeedValue → Type 0) → Closes old new → new.book ≡ Some b → ((feed : FeedValue) → IsFeed feed → IsCurrent feed b → holds feed) → OfFeed old holds
 on_closed old new b holds closed is h = λ bytes frames come.
     let e = closed.current bytes frames come in
-    record { version = e.version; known = e.known; good = e.good; spelled = e.spelled; it = h (feed_of e.version frames) e.good (current_of (feed_of e.version frames) new.book b is e.it) }
+    record { version = e.version; known = e.known; good = e.good; spelled = e.spelled; holds = h (feed_of e.version frames) e.good (current_of (feed_of e.version frames) new.book b is e.holds) }
 
 -- it is one of a feed
 pub settled_now : (old new : Followed) → Closes old new → (feed : FeedValue) × IsFeed feed × (b : BookValue) × (new.book ≡ Some b) × IsCurrent feed b
 settled_now old new closed =
     let e = closed.current closed.come.0 closed.come.1 closed.come.2 in
-    (feed_of e.version closed.come.1, e.good, e.it.0, e.it.1, e.it.2)
+    (feed_of e.version closed.come.1, e.good, e.holds.0, e.holds.1, e.holds.2)
 
 pub book_of_closed : (old new : Followed) → Closes old new → new.book ≡ None → ⊥
 book_of_closed old new closed none = let s = settled_now old new closed in absurd (let e : None ≡ Some s.2 = sym none ∙ s.3 in cc)

@@ -30,23 +30,23 @@ of_known known v P come f = by_known known.bytes come
 pub of_feed : (known : Device) (v : Followed) (P : FeedValue → Type 0) (Q : List ℕ → Type 0) → IfKnown known (λ bytes. AllHasCome bytes v) → OfFeed v P
     → ((bytes : List ℕ) (feed : FeedValue) → IsFeed feed → bytes ≡ spelling feed → P feed → Q bytes) → IfKnown known Q
 of_feed known v P Q come ends f =
-    of_known known v Q come (λ bytes frames c. let end = ends bytes frames c in f bytes (feed_of end.version frames) end.good end.spelled end.it)
+    of_known known v Q come (λ bytes frames c. let end = ends bytes frames c in f bytes (feed_of end.version frames) end.good end.spelled end.holds)
 
 -- the report of the feed is that of the bytes
 pub run_report : (known old new : Device) (v w : Followed) (answer : Status) → IfKnown known (λ bytes. AllHasCome bytes v) → Finishes v w old new answer
     → IfKnown known (λ bytes. (text : List ℕ) × IsReport bytes text answer × Receives old new text)
 run_report known old new v w answer come finishes =
     of_feed known v (λ feed. ReportIsOut feed answer old new) (λ bytes. (text : List ℕ) × IsReport bytes text answer × Receives old new text) come finishes.report
-    (λ bytes feed good spelled out. (out.text, record { feed = feed; good = good; spelled = spelled; report = out.report }, out.gave))
+    (λ bytes feed good spelled out. (out.text, record { feed = feed; good = good; spelled = spelled; holds = out.report }, out.gave))
 
 pub stopped : (known : Device) (v : Followed) (found : Fault) → IfKnown known (λ bytes. AllHasCome bytes v) → OfFeed v (λ feed. IsStopIn feed found) → IfKnown known (λ bytes. IsStopped bytes found)
 stopped known v found come ends =
-    of_feed known v (λ feed. IsStopIn feed found) (λ bytes. IsStopped bytes found) come ends (λ bytes feed good spelled stop. record { feed = feed; good = good; spelled = spelled; stop = stop })
+    of_feed known v (λ feed. IsStopIn feed found) (λ bytes. IsStopped bytes found) come ends (λ bytes feed good spelled stop. record { feed = feed; good = good; spelled = spelled; holds = stop })
 
 part_is_out : (known old new : Device) (v : Followed) (written : ℕ) → IfKnown known (λ bytes. AllHasCome bytes v) → OfFeed v (λ feed. ReportStops feed written old new) → IfKnown known (PartOfRunIsOut written old new)
 part_is_out known old new v written come ends =
     of_feed known v (λ feed. ReportStops feed written old new) (PartOfRunIsOut written old new) come ends
-    (λ bytes feed good spelled part. (part.text, part.answer, record { feed = feed; good = good; spelled = spelled; report = part.report }, part.some, part.gave))
+    (λ bytes feed good spelled part. (part.text, part.answer, record { feed = feed; good = good; spelled = spelled; holds = part.report }, part.some, part.gave))
 
 -- a feed that ends too early is refused
 pub cut_short : (known now : Device) (v : Followed) (found : FeedFault) → Works known now → IfKnown known (λ bytes. AllHasCome bytes v) → EndsShort v.cut found → Refuses found known now
@@ -61,7 +61,7 @@ finish_fails (fault.Feed found) known now old new v w works come h = (cut_short 
 finish_fails (fault.Collision id) known now old new v w works come h = ((works, h.2), stopped known v (fault.Collision id) come h.0)
 finish_fails (fault.Equivocation round author first second) known now old new v w works come h = ((works, h.2), stopped known v (fault.Equivocation round author first second) come h.0)
 finish_fails (fault.Unfinished place) known now old new v w works come h =
-    ((works, h.2), of_feed known v (λ feed. HasPlaceIn feed place) (λ bytes. HasPlace bytes place) come h.0 (λ bytes feed good spelled there. record { feed = feed; good = good; spelled = spelled; there = there }))
+    ((works, h.2), of_feed known v (λ feed. HasPlaceIn feed place) (λ bytes. HasPlace bytes place) come h.0 (λ bytes feed good spelled there. record { feed = feed; good = good; spelled = spelled; holds = there }))
 finish_fails (fault.Write written) known now old new v w works come h = (works, h.2, part_is_out known old new v written come h.0)
 finish_fails fault.Memory known now old new v w works come h = (works, h.1)
 

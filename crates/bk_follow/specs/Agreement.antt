@@ -2,7 +2,7 @@
 use Rattle.std.specs.Prelude.{◌≡◌, ◌≤◌, ◌⊎◌, ℕ, List, ◌++◌, length, Option, Some, None}
 use Rattle.bk_frames.specs.declared.version.Version.{Version}
 use Rattle.bk_frames.specs.Feed.{Frame, FeedValue, feed_of, genesis_of}
-use Rattle.bk_commit.specs.Growth.{Begins}
+use Rattle.bk_commit.specs.Growth.{IsPrefix}
 use Rattle.bk_order.specs.Agreement.{OneBegins}
 use Rattle.bk_order.specs.Orders.{Ordered}
 use Rattle.bk_order.specs.Stops.{HasNoStop, IsStop}
@@ -21,7 +21,7 @@ use Rattle.bk_follow.specs.RunReport.{IsOrderIn, committee_in, later_frames}
 -- one of two lists begins the other, and this is its length
 abbrev pub BeginsWith : {X : Type 0} → ℕ → List X → List X → Type 0
 BeginsWith {X} count xs ys =
-    (Begins xs ys × (count ≡ length xs)) ⊎ (Begins ys xs × (count ≡ length ys))
+    (IsPrefix xs ys × (count ≡ length xs)) ⊎ (IsPrefix ys xs × (count ≡ length ys))
 
 -- ---- two feeds
 
@@ -47,8 +47,8 @@ abbrev pub HaveStop : FeedValue → FeedValue → Stop → Type 0
 HaveStop one other s =
     HaveOneSetup one other × IsStop (committee_in one) (frames_together one other) s
 
--- the orders of both agree: of anchors and of certificates the shorter one begins the longer, and so many certificates
--- are in the shorter
+-- the orders of both agree: the shorter list of anchors begins the longer one, and so does the shorter list of
+-- certificates, which has this many of them
 pub record AgreeInOrder (one other : FeedValue) (count : ℕ) : Type 0 where
   pub order : Ordered
   pub also : Ordered

@@ -27,16 +27,16 @@ pub record ReportStops (feed : FeedValue) (written : ℕ) (old new : Device) : T
   pub gave : Receives old new (take written text)
 
 -- what has come is a feed, and this holds of it
-pub record EndsAs (bytes : List ℕ) (frames : List Frame) (v : Followed) (holds : FeedValue → Type 0) : Type 0 where
+pub record EndsAs (bytes : List ℕ) (frames : List Frame) (v : Followed) (P : FeedValue → Type 0) : Type 0 where
   pub version : Version
   pub known : v.cut.version ≡ Some version
   pub good : IsFeed (feed_of version frames)
   pub spelled : bytes ≡ spelling (feed_of version frames)
-  pub it : holds (feed_of version frames)
+  pub holds : P (feed_of version frames)
 
 -- of whatever has come: it is a feed, and this holds of it
 abbrev pub OfFeed : Followed → (FeedValue → Type 0) → Type 0
-OfFeed v holds = (bytes : List ℕ) (frames : List Frame) → HasCome bytes frames v → EndsAs bytes frames v holds
+OfFeed v P = (bytes : List ℕ) (frames : List Frame) → HasCome bytes frames v → EndsAs bytes frames v P
 
 -- a feed was closed: what had come is a feed, which its whole order is executed of
 pub record Closes (old new : Followed) : Type 0 where
@@ -50,13 +50,11 @@ pub record Closes (old new : Followed) : Type 0 where
 -- that a worker took and did not finish; or memory ran out. Only a stop is not returned by every later call
 abbrev pub CloseFails : Followed → Followed → Fault → Type 0
 CloseFails old new (fault.Feed found) = EndsShort old.cut found × (new.fault ≡ Some (fault.Feed found))
-CloseFails old new (fault.Collision id) = OfFeed old (λ feed. IsStopIn feed (fault.Collision id)) × (new ≡ old)
-CloseFails old new (fault.Equivocation round author first second) =
-    OfFeed old (λ feed. IsStopIn feed (fault.Equivocation round author first second)) × (new ≡ old)
 CloseFails old new (fault.Unfinished place) =
     OfFeed old (λ feed. HasPlaceIn feed place) × (new.fault ≡ Some (fault.Unfinished place))
 CloseFails old new (fault.Write written) = ⊥
 CloseFails old new fault.Memory = new.fault ≡ Some fault.Memory
+CloseFails old new stop = OfFeed old (λ feed. IsStopIn feed stop) × (new ≡ old)
 
 -- the order of a feed was closed: what had come is a feed, the order of all of it was found, and nothing was executed
 pub record ClosesOrder (old new : Followed) : Type 0 where
@@ -70,12 +68,10 @@ pub record ClosesOrder (old new : Followed) : Type 0 where
 -- ran out. Only a stop is not returned by every later call
 abbrev pub CloseOrderFails : Followed → Followed → Fault → Type 0
 CloseOrderFails old new (fault.Feed found) = EndsShort old.cut found × (new.fault ≡ Some (fault.Feed found))
-CloseOrderFails old new (fault.Collision id) = OfFeed old (λ feed. IsStopIn feed (fault.Collision id)) × (new ≡ old)
-CloseOrderFails old new (fault.Equivocation round author first second) =
-    OfFeed old (λ feed. IsStopIn feed (fault.Equivocation round author first second)) × (new ≡ old)
 CloseOrderFails old new (fault.Unfinished place) = ⊥
 CloseOrderFails old new (fault.Write written) = ⊥
 CloseOrderFails old new fault.Memory = new.fault ≡ Some fault.Memory
+CloseOrderFails old new stop = OfFeed old (λ feed. IsStopIn feed stop) × (new ≡ old)
 
 -- a report was written: what had come is a feed, all of it is settled, and the sink received its report
 pub record Finishes (old new : Followed) (before after : Device) (answer : Status) : Type 0 where
@@ -91,11 +87,6 @@ pub record Finishes (old new : Followed) (before after : Device) (answer : Statu
 abbrev pub FinishFails : Followed → Followed → Device → Device → Fault → Type 0
 FinishFails old new before after (fault.Feed found) =
     EndsShort old.cut found × (new.fault ≡ Some (fault.Feed found)) × IsUntouched before after
-FinishFails old new before after (fault.Collision id) =
-    OfFeed old (λ feed. IsStopIn feed (fault.Collision id)) × (new ≡ old) × IsUntouched before after
-FinishFails old new before after (fault.Equivocation round author first second) =
-    OfFeed old (λ feed. IsStopIn feed (fault.Equivocation round author first second))
-    × (new ≡ old) × IsUntouched before after
 FinishFails old new before after (fault.Unfinished place) =
     OfFeed old (λ feed. HasPlaceIn feed place) × (new.fault ≡ Some (fault.Unfinished place))
     × IsUntouched before after
@@ -103,3 +94,5 @@ FinishFails old new before after (fault.Write written) =
     OfFeed old (λ feed. ReportStops feed written before after) × (new.fault ≡ Some (fault.Write written))
     × Fails before after
 FinishFails old new before after fault.Memory = (new.fault ≡ Some fault.Memory) × IsUntouched before after
+FinishFails old new before after stop =
+    OfFeed old (λ feed. IsStopIn feed stop) × (new ≡ old) × IsUntouched before after

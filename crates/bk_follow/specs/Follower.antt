@@ -131,11 +131,8 @@ receipts_in book = receipts_of_executed (executed_in book)
 -- why a piece was refused: its bytes show a fault of the feed, or memory ran out
 abbrev pub FeedFails : Followed → List ℕ → Fault → Type 0
 FeedFails old piece (fault.Feed found) = RefusesPiece old.cut piece found
-FeedFails old piece (fault.Collision id) = ⊥
-FeedFails old piece (fault.Equivocation round author first second) = ⊥
-FeedFails old piece (fault.Unfinished place) = ⊥
-FeedFails old piece (fault.Write written) = ⊥
 FeedFails old piece fault.Memory = Unit {0}
+FeedFails old piece other = ⊥
 
 -- all of these frames were settled
 abbrev pub IsSettledBy : Option Version → List Frame → Option BookValue → Type 0
@@ -163,11 +160,8 @@ OfFrames v holds =
 -- a worker took and did not finish; or memory ran out. The last two are returned by every later call
 abbrev pub SettleFails : Followed → Followed → Fault → Type 0
 SettleFails old new (fault.Feed found) = ⊥
-SettleFails old new (fault.Collision id) =
-    (new ≡ old) × OfFrames old (λ feed. IsStopIn feed (fault.Collision id))
-SettleFails old new (fault.Equivocation round author first second) =
-    (new ≡ old) × OfFrames old (λ feed. IsStopIn feed (fault.Equivocation round author first second))
 SettleFails old new (fault.Unfinished place) =
     (new.fault ≡ Some (fault.Unfinished place)) × OfFrames old (λ feed. HasPlaceIn feed place)
 SettleFails old new (fault.Write written) = ⊥
 SettleFails old new fault.Memory = new.fault ≡ Some fault.Memory
+SettleFails old new stop = (new ≡ old) × OfFrames old (λ feed. IsStopIn feed stop)

@@ -1,6 +1,7 @@
 -- At which missing batch the order of a feed stops.
 use Rattle.std.specs.Prelude.{◌≡◌, ℕ, List, Option}
-use Rattle.bk_frames.specs.Feed.{FeedValue, IsFeed, spelling}
+use Rattle.bk_frames.specs.Feed.{FeedValue}
+use Rattle.bk_results.specs.Devices.{AreFeedWith}
 use Rattle.bk_order.specs.Orders.{Ordered}
 use Rattle.bk_follow.specs.Follower.{BookValue, ordered_in}
 use Rattle.bk_follow.specs.RunReport.{HasNoStopIn, IsOrderIn}
@@ -13,11 +14,8 @@ pub record IsGapIn (feed : FeedValue) (missing : Option (List ℕ)) : Type 0 whe
   pub missing_is : missing ≡ ordered.payloads.missing
 
 -- the bytes are the encoding of such a feed
-pub record IsGap (bytes : List ℕ) (missing : Option (List ℕ)) : Type 0 where
-  pub feed : FeedValue
-  pub good : IsFeed feed
-  pub spelled : bytes ≡ spelling feed
-  pub gap : IsGapIn feed missing
+abbrev pub IsGap : List ℕ → Option (List ℕ) → Type 0
+IsGap bytes missing = AreFeedWith bytes (λ feed. IsGapIn feed missing)
 
 -- at which missing batch an order stops, as it was settled last
 abbrev pub missing_in : Option BookValue → Option (List ℕ)

@@ -42,13 +42,10 @@ pub record FindsOrder (old new : Followed) (anchors certs : List CertRef) : Type
 -- out, which every later call returns
 abbrev pub OrderFails : Followed → Followed → Fault → Type 0
 OrderFails old new (fault.Feed found) = ⊥
-OrderFails old new (fault.Collision id) =
-    (new ≡ old) × OfFrames old (λ feed. IsStopIn feed (fault.Collision id))
-OrderFails old new (fault.Equivocation round author first second) =
-    (new ≡ old) × OfFrames old (λ feed. IsStopIn feed (fault.Equivocation round author first second))
 OrderFails old new (fault.Unfinished place) = ⊥
 OrderFails old new (fault.Write written) = ⊥
 OrderFails old new fault.Memory = new.fault ≡ Some fault.Memory
+OrderFails old new stop = (new ≡ old) × OfFrames old (λ feed. IsStopIn feed stop)
 
 -- the anchors of the order as it was settled last, none before the genesis is whole
 abbrev pub anchors_in : Option BookValue → List CertRef

@@ -42,19 +42,15 @@ NothingStops v =
 -- why a query that takes no memory was not answered: the stop of the whole frames so far
 abbrev pub IsStopSoFar : Followed → Fault → Type 0
 IsStopSoFar v (fault.Feed found) = ⊥
-IsStopSoFar v (fault.Collision id) = OfFrames v (λ feed. IsStopIn feed (fault.Collision id))
-IsStopSoFar v (fault.Equivocation round author first second) =
-    OfFrames v (λ feed. IsStopIn feed (fault.Equivocation round author first second))
 IsStopSoFar v (fault.Unfinished place) = ⊥
 IsStopSoFar v (fault.Write written) = ⊥
 IsStopSoFar v fault.Memory = ⊥
+IsStopSoFar v stop = OfFrames v (λ feed. IsStopIn feed stop)
 
 -- why another was not: that, or memory ran out
 abbrev pub QueryFails : Followed → Fault → Type 0
 QueryFails v (fault.Feed found) = ⊥
-QueryFails v (fault.Collision id) = OfFrames v (λ feed. IsStopIn feed (fault.Collision id))
-QueryFails v (fault.Equivocation round author first second) =
-    OfFrames v (λ feed. IsStopIn feed (fault.Equivocation round author first second))
 QueryFails v (fault.Unfinished place) = ⊥
 QueryFails v (fault.Write written) = ⊥
 QueryFails v fault.Memory = Unit {0}
+QueryFails v stop = OfFrames v (λ feed. IsStopIn feed stop)

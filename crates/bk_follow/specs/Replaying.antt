@@ -17,11 +17,8 @@ AllHasCome bytes v = (frames : List Frame) × HasCome bytes frames v
 -- why a feed was not read: it was refused, or memory ran out elsewhere
 abbrev pub ReadFails : Fault → Device → Device → Type 0
 ReadFails (fault.Feed found) old new = Refuses found old new
-ReadFails (fault.Collision id) old new = ⊥
-ReadFails (fault.Equivocation round author first second) old new = ⊥
-ReadFails (fault.Unfinished place) old new = ⊥
-ReadFails (fault.Write written) old new = ⊥
 ReadFails fault.Memory old new = Works old new
+ReadFails other old new = ⊥
 
 -- the first bytes of the report of a run are out, and not all
 abbrev pub PartOfRunIsOut : ℕ → Device → Device → List ℕ → Type 0
@@ -35,14 +32,11 @@ PartOfRunIsOut written old new bytes =
 abbrev pub RunFailsBy : Fault → Devices → Devices → Type 0
 RunFailsBy (fault.Feed found) old new =
     Refuses found old.source new.source × IsUntouched old.sink new.sink
-RunFailsBy (fault.Collision id) old new =
-    NothingFailed old new × IfKnown old.source (λ bytes. IsStopped bytes (fault.Collision id))
-RunFailsBy (fault.Equivocation round author first second) old new =
-    NothingFailed old new
-    × IfKnown old.source (λ bytes. IsStopped bytes (fault.Equivocation round author first second))
 RunFailsBy (fault.Unfinished place) old new =
     NothingFailed old new × IfKnown old.source (λ bytes. HasPlace bytes place)
 RunFailsBy (fault.Write written) old new =
     Works old.source new.source × Fails old.sink new.sink
     × IfKnown old.source (PartOfRunIsOut written old.sink new.sink)
 RunFailsBy fault.Memory old new = NothingFailed old new
+RunFailsBy stop old new =
+    NothingFailed old new × IfKnown old.source (λ bytes. IsStopped bytes stop)

@@ -1,6 +1,6 @@
 -- The report of a run: what the rules read off the frames of a feed as a set, and the fold over its batches.
 use Rattle.std.specs.Prelude.{◌≡◌, ℕ, ◌<◌, List, [], length, drop, Option, Some, None, option_map, unwrap_or, slice_get}
-use Rattle.bk_frames.specs.Feed.{Frame, FeedValue, IsFeed, spelling, genesis_of}
+use Rattle.bk_frames.specs.Feed.{Frame, FeedValue, genesis_of}
 use Rattle.bk_committee.specs.Payload.{CommitteeValue, committee_of}
 use Rattle.bk_order.specs.Frames.{AreRejects}
 use Rattle.bk_order.specs.Intake.{first_frame}
@@ -13,6 +13,7 @@ use Rattle.bk_results.specs.declared.fault.Fault.{Fault}
 use Rattle.bk_results.specs.declared.fault.Fault.TheVariants as fault
 use Rattle.bk_results.specs.declared.status.Status.{Status}
 use Rattle.bk_results.specs.declared.status.Status.TheVariants as status
+use Rattle.bk_results.specs.Devices.{AreFeedWith}
 use Rattle.bk_report.specs.Lines.{text_of}
 use Rattle.bk_tx.specs.Batches.{transactions_of}
 use Rattle.bk_report.specs.RunLines.{Reading, run_lines}
@@ -49,9 +50,9 @@ pub record Reads (feed : FeedValue) (r : Reading) : Type 0 where
   pub folded : IsFoldIn feed r
 
 -- how far a report goes: to the end of the order, or to a batch that is missing
-abbrev pub status_of : Option (List ℕ) → Status
-status_of None = status.Whole
-status_of (Some digest) = status.Missing
+abbrev pub reach_of : Option (List ℕ) → Status
+reach_of None = status.Whole
+reach_of (Some digest) = status.Missing
 
 -- a text and a status are the report of a feed: nothing stops it, and the text is that of the lines that the rules read
 -- off its frames
@@ -60,14 +61,11 @@ pub record IsReportOf (feed : FeedValue) (text : List ℕ) (answer : Status) : T
   pub reading : Reading
   pub reads : Reads feed reading
   pub report : text ≡ text_of (run_lines (committee_in feed) (length feed.frames) reading)
-  pub status_is : answer ≡ status_of reading.ordered.payloads.missing
+  pub status_is : answer ≡ reach_of reading.ordered.payloads.missing
 
 -- and of bytes, where they are the encoding of that feed
-pub record IsReport (bytes text : List ℕ) (answer : Status) : Type 0 where
-  pub feed : FeedValue
-  pub good : IsFeed feed
-  pub spelled : bytes ≡ spelling feed
-  pub report : IsReportOf feed text answer
+abbrev pub IsReport : List ℕ → List ℕ → Status → Type 0
+IsReport bytes text answer = AreFeedWith bytes (λ feed. IsReportOf feed text answer)
 
 -- the fault of a stop
 abbrev pub fault_of : Stop → Fault
@@ -80,17 +78,11 @@ IsStopIn feed (fault.Collision id) = IsStop (committee_in feed) (later_frames fe
 IsStopIn feed (fault.Equivocation round author first second) =
     IsStop (committee_in feed) (later_frames feed)
     (stop.Twins (record { round = round; author = author; first = first; second = second }))
-IsStopIn feed (fault.Feed found) = ⊥
-IsStopIn feed (fault.Unfinished place) = ⊥
-IsStopIn feed (fault.Write written) = ⊥
-IsStopIn feed fault.Memory = ⊥
+IsStopIn feed other = ⊥
 
 -- bytes are stopped so, where they are the encoding of a feed that is
-pub record IsStopped (bytes : List ℕ) (found : Fault) : Type 0 where
-  pub feed : FeedValue
-  pub good : IsFeed feed
-  pub spelled : bytes ≡ spelling feed
-  pub stop : IsStopIn feed found
+abbrev pub IsStopped : List ℕ → Fault → Type 0
+IsStopped bytes found = AreFeedWith bytes (λ feed. IsStopIn feed found)
 
 -- nothing stops a feed, and its order has a transaction at this place
 abbrev pub HasPlaceIn : FeedValue → ℕ → Type 0
@@ -99,8 +91,5 @@ HasPlaceIn feed place =
     × ((o : Ordered) × IsOrderIn feed o × (place < length (transactions_of o.payloads.list)))
 
 -- and that of bytes, where they are the encoding of that feed
-pub record HasPlace (bytes : List ℕ) (place : ℕ) : Type 0 where
-  pub feed : FeedValue
-  pub good : IsFeed feed
-  pub spelled : bytes ≡ spelling feed
-  pub there : HasPlaceIn feed place
+abbrev pub HasPlace : List ℕ → ℕ → Type 0
+HasPlace bytes place = AreFeedWith bytes (λ feed. HasPlaceIn feed place)

@@ -92,7 +92,7 @@ stopped_so P bytes more f o = record {
   also_good = o.also_good;
   spelled = o.spelled;
   also_spelled = o.also_spelled;
-  it = f o.one o.other o.it;
+  holds = f o.one o.other o.holds;
 }
 
 stopped_together : (P : FeedValue → FeedValue → Type 0) (bytes more : Option (List ℕ)) → ((f g : FeedValue) → P f g → HaveSomeStop f g)

@@ -59,23 +59,16 @@ pub record AgreeNot (e : CompareStop) (old new : JobDevices) : Type 0 where
 
 -- why the line is not out though the feeds agree: a call of the output failed, and exactly its first bytes are out
 abbrev pub AgreementFailsBy : Fault → JobDevices → JobDevices → Type 0
-AgreementFailsBy (replay.Feed found) old new = ⊥
-AgreementFailsBy (replay.Collision id) old new = ⊥
-AgreementFailsBy (replay.Equivocation round author first second) old new = ⊥
-AgreementFailsBy (replay.Unfinished place) old new = ⊥
 AgreementFailsBy (replay.Write written) old new =
     BothWork (both_sources old) (both_sources new) × Fails old.out new.out
     × PartOfAgreementIsOut written (inputs_of old) old.out new.out
-AgreementFailsBy replay.Memory old new = ⊥
+AgreementFailsBy other old new = ⊥
 
 -- why a comparison has no answer: the feeds do not agree, or the whole line is not out
 abbrev pub CompareFailsBy : JobFault → JobDevices → JobDevices → Type 0
 CompareFailsBy (fault.Replay e) old new = AgreementFailsBy e old new
-CompareFailsBy (fault.Text e) old new = ⊥
-CompareFailsBy (fault.Events e) old new = ⊥
 CompareFailsBy (fault.Compared e) old new = AgreeNot e old new
-CompareFailsBy (fault.AbsentAccount id missing) old new = ⊥
-CompareFailsBy (fault.AbsentPlace place missing) old new = ⊥
+CompareFailsBy other old new = ⊥
 
 -- ---- bytes to blame
 

@@ -140,8 +140,6 @@ CheckFailsBy root text.Memory old new =
 abbrev pub ReplayFailsBy : Job → Fault → JobDevices → JobDevices → Type 0
 ReplayFailsBy (job.Run workers file) e old new =
     RunFailsBy e (first_devices old) (first_devices new)
-ReplayFailsBy (job.Make file) e old new = ⊥
-ReplayFailsBy (job.CheckProof root file) e old new = ⊥
 ReplayFailsBy (job.Ask workers asked file) e old new =
     AskFailsBy asked e (first_devices old) (first_devices new)
 ReplayFailsBy (job.CheckReport workers report file) e old new = ClaimCheckFailsBy (fault.Replay e) old new
@@ -153,50 +151,26 @@ ReplayFailsBy (job.Apply file) e old new = FailsBy e (first_devices old) (first_
 ReplayFailsBy (job.Schedule workers feed events) e old new =
     ScheduleFailsBy workers (fault.Replay e) old new
 ReplayFailsBy (job.Compare first second) e old new = AgreementFailsBy e old new
+ReplayFailsBy other e old new = ⊥
 
 -- why a text was not answered for a job
 abbrev pub TextFailsBy : Job → ScriptFault → JobDevices → JobDevices → Type 0
-TextFailsBy (job.Run workers file) e old new = ⊥
 TextFailsBy (job.Make file) e old new =
     script.FailsBy e (script_devices (first_devices old)) (script_devices (first_devices new))
 TextFailsBy (job.CheckProof root file) e old new =
     CheckFailsBy (string_bytes root) e (first_devices old) (first_devices new)
-TextFailsBy (job.Ask workers asked file) e old new = ⊥
 TextFailsBy (job.CheckReport workers report file) e old new = ClaimIsUnread e old new
-TextFailsBy (job.Frames file) e old new = ⊥
-TextFailsBy (job.Summary workers file) e old new = ⊥
-TextFailsBy (job.Dag window file) e old new = ⊥
-TextFailsBy (job.Apply file) e old new = ⊥
-TextFailsBy (job.Schedule workers feed events) e old new = ⊥
-TextFailsBy (job.Compare first second) e old new = ⊥
+TextFailsBy other e old new = ⊥
 
 -- why a list of events gives no report for a job
 abbrev pub EventsFailBy : Job → ListFault → JobDevices → JobDevices → Type 0
-EventsFailBy (job.Run workers file) e old new = ⊥
-EventsFailBy (job.Make file) e old new = ⊥
-EventsFailBy (job.CheckProof root file) e old new = ⊥
-EventsFailBy (job.Ask workers asked file) e old new = ⊥
-EventsFailBy (job.CheckReport workers report file) e old new = ⊥
-EventsFailBy (job.Frames file) e old new = ⊥
-EventsFailBy (job.Summary workers file) e old new = ⊥
-EventsFailBy (job.Dag window file) e old new = ⊥
-EventsFailBy (job.Apply file) e old new = ⊥
 EventsFailBy (job.Schedule workers feed events) e old new = ListFailsBy workers e old new
-EventsFailBy (job.Compare first second) e old new = ⊥
+EventsFailBy other e old new = ⊥
 
 -- why two feeds that do not agree give no answer for a job
 abbrev pub ComparisonFailsBy : Job → CompareStop → JobDevices → JobDevices → Type 0
-ComparisonFailsBy (job.Run workers file) e old new = ⊥
-ComparisonFailsBy (job.Make file) e old new = ⊥
-ComparisonFailsBy (job.CheckProof root file) e old new = ⊥
-ComparisonFailsBy (job.Ask workers asked file) e old new = ⊥
-ComparisonFailsBy (job.CheckReport workers report file) e old new = ⊥
-ComparisonFailsBy (job.Frames file) e old new = ⊥
-ComparisonFailsBy (job.Summary workers file) e old new = ⊥
-ComparisonFailsBy (job.Dag window file) e old new = ⊥
-ComparisonFailsBy (job.Apply file) e old new = ⊥
-ComparisonFailsBy (job.Schedule workers feed events) e old new = ⊥
 ComparisonFailsBy (job.Compare first second) e old new = AgreeNot e old new
+ComparisonFailsBy other e old new = ⊥
 
 -- what a query asks for is absent, no call failed, and nothing is written; and at this missing batch the order stops
 pub record IsAbsentBy (asked : Query) (e : JobFault) (old new : Devices) : Type 0 where
@@ -209,27 +183,16 @@ pub record IsAbsentBy (asked : Query) (e : JobFault) (old new : Devices) : Type 
 
 -- what a job asks for is absent
 abbrev pub IsAbsentFor : Job → JobFault → JobDevices → JobDevices → Type 0
-IsAbsentFor (job.Run workers file) e old new = ⊥
-IsAbsentFor (job.Make file) e old new = ⊥
-IsAbsentFor (job.CheckProof root file) e old new = ⊥
 IsAbsentFor (job.Ask workers asked file) e old new =
     IsAbsentBy asked e (first_devices old) (first_devices new)
-IsAbsentFor (job.CheckReport workers report file) e old new = ⊥
-IsAbsentFor (job.Frames file) e old new = ⊥
-IsAbsentFor (job.Summary workers file) e old new = ⊥
-IsAbsentFor (job.Dag window file) e old new = ⊥
-IsAbsentFor (job.Apply file) e old new = ⊥
-IsAbsentFor (job.Schedule workers feed events) e old new = ⊥
-IsAbsentFor (job.Compare first second) e old new = ⊥
+IsAbsentFor other e old new = ⊥
 
 -- why a query has no reply
 abbrev pub QueryFailsBy : Query → JobFault → Devices → Devices → Type 0
 QueryFailsBy asked (fault.Replay e) old new = AskFailsBy asked e old new
-QueryFailsBy asked (fault.Text e) old new = ⊥
-QueryFailsBy asked (fault.Events e) old new = ⊥
-QueryFailsBy asked (fault.Compared e) old new = ⊥
 QueryFailsBy asked (fault.AbsentAccount id missing) old new = IsAbsentBy asked (fault.AbsentAccount id missing) old new
 QueryFailsBy asked (fault.AbsentPlace place missing) old new = IsAbsentBy asked (fault.AbsentPlace place missing) old new
+QueryFailsBy asked other old new = ⊥
 
 -- why a job has no answer
 abbrev pub JobFailsBy : Job → JobFault → JobDevices → JobDevices → Type 0
@@ -287,22 +250,15 @@ AreStopped bytes = (found : Fault) × IsStopped bytes found
 -- what the sources give is stopped, for a job that finds an order
 abbrev pub AreStoppedFor : Job → Inputs → Type 0
 AreStoppedFor (job.Run workers file) given = IfSome given.first AreStopped
-AreStoppedFor (job.Make file) given = ⊥
-AreStoppedFor (job.CheckProof root file) given = ⊥
 AreStoppedFor (job.Ask workers asked file) given = IfSome given.first AreStopped
 AreStoppedFor (job.CheckReport workers report file) given = IfSome given.first AreStopped
-AreStoppedFor (job.Frames file) given = ⊥
 AreStoppedFor (job.Summary workers file) given = IfSome given.first AreStopped
 AreStoppedFor (job.Dag window file) given = IfSome given.first AreStopped
-AreStoppedFor (job.Apply file) given = ⊥
-AreStoppedFor (job.Schedule workers feed events) given = ⊥
 AreStoppedFor (job.Compare first second) given = AreStoppedTogether given
+AreStoppedFor other given = ⊥
 
 -- what bytes to blame are like, by the exit
 abbrev pub AreToBlame : Job → Exit → Inputs → Type 0
-AreToBlame j exit.Whole given = ⊥
-AreToBlame j exit.No given = ⊥
 AreToBlame j exit.WrongInput given = AreWrong j given
 AreToBlame j exit.Stopped given = AreStoppedFor j given
-AreToBlame j exit.Failed given = ⊥
-AreToBlame j exit.Missing given = ⊥
+AreToBlame j other given = ⊥

@@ -37,16 +37,11 @@ fault_by_stop stop.Unread = fault.Text text.Read
 
 -- the text was not read
 abbrev pub ClaimIsUnread : ScriptFault → JobDevices → JobDevices → Type 0
-ClaimIsUnread (text.Script line found) old new = ⊥
 ClaimIsUnread text.Read old new = ClaimFailsBy stop.Unread (claim_of old) (claim_of new)
-ClaimIsUnread (text.Write written) old new = ⊥
-ClaimIsUnread text.Memory old new = ⊥
+ClaimIsUnread other old new = ⊥
 
 -- why there is no verdict: the feed has no report, the verdict is not out, or the text was not read
 abbrev pub ClaimCheckFailsBy : JobFault → JobDevices → JobDevices → Type 0
 ClaimCheckFailsBy (fault.Replay e) old new = ClaimFailsBy (stop.Run e) (claim_of old) (claim_of new)
 ClaimCheckFailsBy (fault.Text e) old new = ClaimIsUnread e old new
-ClaimCheckFailsBy (fault.Events e) old new = ⊥
-ClaimCheckFailsBy (fault.Compared e) old new = ⊥
-ClaimCheckFailsBy (fault.AbsentAccount id missing) old new = ⊥
-ClaimCheckFailsBy (fault.AbsentPlace place missing) old new = ⊥
+ClaimCheckFailsBy other old new = ⊥

@@ -73,11 +73,8 @@ abbrev pub ScheduleFailsBy : ℕ → JobFault → JobDevices → JobDevices → 
 ScheduleFailsBy workers (fault.Replay e) old new =
     Works old.second new.second × IfKnown old.second IsList
     × FailsBy e (first_devices old) (first_devices new)
-ScheduleFailsBy workers (fault.Text e) old new = ⊥
 ScheduleFailsBy workers (fault.Events e) old new = ListFailsBy workers e old new
-ScheduleFailsBy workers (fault.Compared e) old new = ⊥
-ScheduleFailsBy workers (fault.AbsentAccount id missing) old new = ⊥
-ScheduleFailsBy workers (fault.AbsentPlace place missing) old new = ⊥
+ScheduleFailsBy workers other old new = ⊥
 
 -- ---- bytes to blame
 

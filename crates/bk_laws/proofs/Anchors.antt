@@ -9,7 +9,7 @@ use Rattle.bk_rounds.specs.Admission.{IsPresent}
 use Rattle.bk_rounds.specs.Links.{Links}
 use Rattle.bk_cert.proofs.Lists.{in_map}
 use Rattle.bk_rounds.specs.Votes.{IsAnchor, VotesFor, IsVoted}
-use Rattle.bk_commit.specs.Ordering.{Walk, InHistory, IsEarlier, IsPrior, IsWayBack, IsCommitted}
+use Rattle.bk_commit.specs.Ordering.{Leads, InHistory, IsEarlier, IsPrior, IsWayBack, IsCommitted}
 use Rattle.bk_commit.proofs.Back.{earlier_round}
 use Rattle.bk_commit.proofs.Last.{committed_from}
 use Rattle.bk_commit.proofs.Levels.{walk_round}
@@ -26,20 +26,20 @@ module _ (z : Sizes) (held : List Node) where
   unfolding places
   linked_place a b l = present_place z held b (l.parent, l.parent_at)
 
-  decided_walk : (n : ℕ) (a b : CertRef) → Decided (Walk z held n a b)
+  decided_walk : (n : ℕ) (a b : CertRef) → Decided (Leads z held n a b)
   decided_walk zero a b = decided_place a b
-  decided_walk (suc n) a b = decided_as (AnyIn (λ (c : CertRef). Links z held a c × Walk z held n c b) places) (Walk z held (suc n) a b)
+  decided_walk (suc n) a b = decided_as (AnyIn (λ (c : CertRef). Links z held a c × Leads z held n c b) places) (Leads z held (suc n) a b)
       (λ h. (h.0, h.2.0, h.2.1))
       (λ h. (h.0, linked_place a h.0 h.1, (h.1, h.2)))
-      (decided_among (λ (c : CertRef). Links z held a c × Walk z held n c b) places
-      (λ c t. decided_both (Links z held a c) (Walk z held n c b) (decided_links z held a c) (decided_walk n c b)))
+      (decided_among (λ (c : CertRef). Links z held a c × Leads z held n c b) places
+      (λ c t. decided_both (Links z held a c) (Leads z held n c b) (decided_links z held a c) (decided_walk n c b)))
 
   -- a walk has as many links as there are rounds between its ends
   pub decided_history : (a b : CertRef) → Decided (InHistory z held a b)
-  decided_history a b = decided_as (Walk z held (a.round - b.round) a b) (InHistory z held a b)
+  decided_history a b = decided_as (Leads z held (a.round - b.round) a b) (InHistory z held a b)
       (λ w. (a.round - b.round, w))
       (λ h. let e : b.round + h.0 ≡ a.round = walk_round z held h.0 a b h.1 in
-      subst (λ (n : ℕ). Walk z held n a b) (between a.round b.round h.0 e) h.1)
+      subst (λ (n : ℕ). Leads z held n a b) (between a.round b.round h.0 e) h.1)
       (decided_walk (a.round - b.round) a b)
     where
       between : (high low n : ℕ) → low + n ≡ high → n ≡ high - low

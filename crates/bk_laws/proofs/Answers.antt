@@ -8,14 +8,14 @@ use Rattle.bk_order.specs.declared.stop.Stop.{Stop}
 use Rattle.bk_order.specs.declared.stop.Stop.TheVariants as stop
 use Rattle.bk_order.specs.Intake.{first_frame}
 use Rattle.bk_order.specs.Orders.{ordered_with}
-use Rattle.bk_order.specs.Stops.{IsStop, StopsAt, AreClear}
+use Rattle.bk_order.specs.Stops.{IsStop, IsStopOf, AreClear}
 use Rattle.bk_flatten.specs.Batches.{batches_of}
 use Rattle.bk_rules.specs.Fold.{state_after, receipts_of}
 use Rattle.bk_report.specs.Lines.{text_of}
 use Rattle.bk_tx.specs.Batches.{transactions_of}
 use Rattle.bk_report.specs.Report.{IsApplyReport, apply_report_of}
 use Rattle.bk_report.specs.RunLines.{Reading, run_lines}
-use Rattle.bk_follow.specs.RunReport.{committee_in, later_frames, HasNoStopIn, Reads, IsStopIn, fault_of, status_of}
+use Rattle.bk_follow.specs.RunReport.{committee_in, later_frames, HasNoStopIn, Reads, IsStopIn, fault_of, reach_of}
 use Rattle.bk_replay.specs.RunLaws.{Answer, ComesTo, faulty, stopped, reported}
 use Rattle.bk_frames.proofs.OneReading.{feed_or_fault}
 use Rattle.bk_replay.proofs.RunLaws.{one_answer}
@@ -51,9 +51,7 @@ reading_exists feed =
           batches = batches.0;
           are_certs = certs.1;
           are_batches = batches.1;
-          committed = anchors.1;
-          ordered = order.1;
-          payloads_are = refl;
+          holds = record { committed = anchors.1; ordered = order.1; payloads_are = refl };
         };
         folded = record { receipts = refl; rows = refl };
       },
@@ -67,12 +65,12 @@ stop_in feed (stop.Twins e) is = is
 report_of : (feed : FeedValue) → IsFeed feed → HasNoStopIn feed → (a : Answer) × ComesTo (spelling feed) a
 report_of feed good clear =
     let r = reading_exists feed in (
-      reported (text_of (run_lines (committee_in feed) (length feed.frames) r.0)) (status_of r.0.ordered.payloads.missing),
+      reported (text_of (run_lines (committee_in feed) (length feed.frames) r.0)) (reach_of r.0.ordered.payloads.missing),
       record {
         feed = feed;
         good = good;
         spelled = refl;
-        report = record { clear = clear; reading = r.0; reads = r.1; report = refl; status_is = refl };
+        holds = record { clear = clear; reading = r.0; reads = r.1; report = refl; status_is = refl };
       },
     )
 
@@ -82,17 +80,17 @@ answer_of_feed feed good =
     let certs = certs_exist k (later_frames feed) in
     let batches = batches_exist (later_frames feed) in
     ⊎_elim
-    (λ (s : (s : Stop) × StopsAt certs.0 batches.0 s). (
+    (λ (s : (s : Stop) × IsStopOf certs.0 batches.0 s). (
       stopped (fault_of s.0),
       record {
         feed = feed;
         good = good;
         spelled = refl;
-        stop = stop_in feed s.0 (record { certs = certs.0; batches = batches.0; are_certs = certs.1; are_batches = batches.1; stops = s.1 });
+        holds = stop_in feed s.0 (record { certs = certs.0; batches = batches.0; are_certs = certs.1; are_batches = batches.1; holds = s.1 });
       },
     ))
     (λ (clear : AreClear certs.0 batches.0).
-    report_of feed good (record { certs = certs.0; batches = batches.0; are_certs = certs.1; are_batches = batches.1; none = clear }))
+    report_of feed good (record { certs = certs.0; batches = batches.0; are_certs = certs.1; are_batches = batches.1; holds = clear }))
     (stop_or_none certs.0 batches.0)
 
 some_answer : (bytes : List ℕ) → IsBytes bytes → (a : Answer) × ComesTo bytes a

@@ -10,11 +10,11 @@ use Rattle.bk_frames.specs.declared.version.Version.TheVariants.{One, Two}
 use Rattle.bk_frames.specs.Feed.{Frame, FeedValue, IsFeed, genesis_of}
 use Rattle.bk_committee.specs.Payload.{CommitteeValue}
 use Rattle.bk_cert.specs.Node.{Node}
-use Rattle.bk_commit.specs.Growth.{Begins, IsPartOf}
+use Rattle.bk_commit.specs.Growth.{IsPrefix, IsPartOf}
 use Rattle.bk_evidence.specs.Batches.{Batch}
 use Rattle.bk_order.specs.Agreement.{OneBegins, OrderBegins}
 use Rattle.bk_order.specs.Orders.{IsOrderOf}
-use Rattle.bk_order.specs.Stops.{AreClear, HasNoStop, StopsAt}
+use Rattle.bk_order.specs.Stops.{AreClear, HasNoStop, IsStopOf}
 use Rattle.bk_order.specs.declared.stop.Stop.{Stop}
 use Rattle.bk_order.proofs.Agreeing.{parts_agree}
 use Rattle.bk_order.proofs.OneReading.{no_stop, one_stop}
@@ -85,8 +85,8 @@ part_is_clear : (k : CommitteeValue) (part whole : List Frame) → IsPartOf part
 part_is_clear k part whole into none =
     let certs = certs_exist k part in
     let batches = batches_exist part in
-    let clear = none.none.clear in
-    let apart = none.none.apart in
+    let clear = none.holds.clear in
+    let apart = none.holds.apart in
     let cert : (c : Node) → Contains certs.0 c → Contains none.certs c = λ c t. let s = certs.1.sound c t in none.are_certs.complete c (s.0, into _ s.1, s.2) in
     let batch : (b : Batch) → Contains batches.0 b → Contains none.batches b = λ b t. let s = batches.1.sound b t in none.are_batches.complete b (s.0, into _ s.1, s.2) in
     record {
@@ -94,7 +94,7 @@ part_is_clear k part whole into none =
       batches = batches.0;
       are_certs = certs.1;
       are_batches = batches.1;
-      none = record {
+      holds = record {
         clear = record {
           no_collision = λ c d t u e. clear.no_collision c d (cert c t) (cert d u) e;
           no_twins = λ c d t u e. clear.no_twins c d (cert c t) (cert d u) e;
@@ -111,10 +111,10 @@ stops_stay small large part clear =
 -- ---- lists of which one begins the other
 
 module _ {X : Type 0} (xs ys : List X) where
-  longer : Begins xs ys → length xs ≤ length ys
+  longer : IsPrefix xs ys → length xs ≤ length ys
   longer (rest, e) = let l = ap length e in omega (arith, l, length-append xs rest)
 
-  whole_begins : Begins xs ys → length xs ≡ length ys → xs ≡ ys
+  whole_begins : IsPrefix xs ys → length xs ≡ length ys → xs ≡ ys
   whole_begins (rest, e) same = ended rest e (ap length e)
     where
       ended : (us : List X) → ys ≡ xs ++ us → length ys ≡ length (xs ++ us) → xs ≡ ys
@@ -236,12 +236,12 @@ comparison_exists one other good also = ⊎_elim
         let certs = certs_exist k frames in
         let batches = batches_exist frames in
         ⊎_elim
-        (λ (s : (s : Stop) × StopsAt certs.0 batches.0 s). (
+        (λ (s : (s : Stop) × IsStopOf certs.0 batches.0 s). (
           stopped s.0,
-          (setup, record { certs = certs.0; batches = batches.0; are_certs = certs.1; are_batches = batches.1; stops = s.1 }),
+          (setup, record { certs = certs.0; batches = batches.0; are_certs = certs.1; are_batches = batches.1; holds = s.1 }),
         ))
         (λ (clear : AreClear certs.0 batches.0).
-        let a = agreement one other setup (record { certs = certs.0; batches = batches.0; are_certs = certs.1; are_batches = batches.1; none = clear }) in
+        let a = agreement one other setup (record { certs = certs.0; batches = batches.0; are_certs = certs.1; are_batches = batches.1; holds = clear }) in
         (agreed a.0, a.1))
         (stop_or_none certs.0 batches.0)
 

@@ -12,7 +12,7 @@ use Rattle.bk_frames.proofs.FrameFaults.{by_code}
 use Rattle.bk_frames.proofs.FrontAndWhole.{fault_stays}
 use Rattle.bk_frames.proofs.OneReading.{magic_and, magic_injective}
 use Rattle.bk_cert.specs.declared.place.CertRef.{CertRef}
-use Rattle.bk_commit.specs.Growth.{Begins, IsPartOf}
+use Rattle.bk_commit.specs.Growth.{IsPrefix, IsPartOf}
 use Rattle.bk_order.specs.Orders.{IsOrderOf, Ordered}
 use Rattle.bk_order.specs.Stops.{HasNoStop}
 use Rattle.bk_order.proofs.Sets.{frames_grow}
@@ -50,10 +50,10 @@ one_version bytes more frames others c d v w cuts then is also =
 
 -- ---- the order goes on
 
-begins_empty : {X : Type 0} (xs ys : List X) → xs ≡ [] → Begins xs ys
+begins_empty : {X : Type 0} (xs ys : List X) → xs ≡ [] → IsPrefix xs ys
 begins_empty xs ys e = (ys, ap (λ t. t ++ ys) (sym e))
 
-begins_as : {X : Type 0} (a b xs ys : List X) → a ≡ xs → b ≡ ys → Begins xs ys → Begins a b
+begins_as : {X : Type 0} (a b xs ys : List X) → a ≡ xs → b ≡ ys → IsPrefix xs ys → IsPrefix a b
 begins_as a b xs ys e f h = (h.0, f ∙ (h.1 ∙ ap (λ t. t ++ h.0) (sym e)))
 
 -- the frames after the genesis, and those after more have come
@@ -64,14 +64,14 @@ pub grows : (version : Version) (first second : Frame) (frames next : List Frame
     → HasNoStop (committee_in (feed_of version (first ∷ second ∷ frames))) (frames ++ next)
     → IsOrderOf (committee_in (feed_of version (first ∷ second ∷ frames))) frames o
     → IsOrderOf (committee_in (feed_of version (first ∷ second ∷ frames))) (frames ++ next) p
-    → Begins o.anchors p.anchors × Begins o.order p.order × Begins o.payloads.list p.payloads.list
+    → IsPrefix o.anchors p.anchors × IsPrefix o.order p.order × IsPrefix o.payloads.list p.payloads.list
 grows version first second frames next o p clear one more =
     frames_grow (committee_in (feed_of version (first ∷ second ∷ frames))) frames (frames ++ next) o p (is_part frames next) clear one more
 
 order_goes_on : (version : Version) (first second : Frame) (frames next : List Frame) (anchors certs later_anchors later_certs : List CertRef)
     → AreOrderedIn (feed_of version (first ∷ second ∷ frames)) anchors certs
     → AreOrderedIn (feed_of version (first ∷ second ∷ (frames ++ next))) later_anchors later_certs
-    → Begins anchors later_anchors × Begins certs later_certs
+    → IsPrefix anchors later_anchors × IsPrefix certs later_certs
 order_goes_on version first second frames next anchors certs later_anchors later_certs a b =
     let g = grows version first second frames next a.order b.order b.clear a.is_order b.is_order in (
       begins_as anchors later_anchors a.order.anchors b.order.anchors a.anchors_are b.anchors_are g.0,
@@ -79,14 +79,14 @@ order_goes_on version first second frames next anchors certs later_anchors later
     )
 
 few_frames : (v : Followed) (bytes : List ℕ) (frames : List Frame) (anchors certs later_anchors later_certs : List CertRef) → HasCome bytes frames v → IsOrderSoFar v anchors certs
-    → length frames < 2 → Begins anchors later_anchors × Begins certs later_certs
+    → length frames < 2 → IsPrefix anchors later_anchors × IsPrefix certs later_certs
 few_frames v bytes frames anchors certs later_anchors later_certs come o few =
     let none = o.none bytes frames come few in
     (begins_empty anchors later_anchors none.0, begins_empty certs later_certs none.1)
 
 pub order_so_far_stays : (v w : Followed) (bytes more : List ℕ) (frames next : List Frame) (anchors certs later_anchors later_certs : List CertRef)
     → HasCome bytes frames v → HasCome (bytes ++ more) (frames ++ next) w → IsOrderSoFar v anchors certs → IsOrderSoFar w later_anchors later_certs
-    → Begins anchors later_anchors × Begins certs later_certs
+    → IsPrefix anchors later_anchors × IsPrefix certs later_certs
 order_so_far_stays v w bytes more [] next anchors certs later_anchors later_certs come then o p =
     few_frames v bytes [] anchors certs later_anchors later_certs come o (omega arith)
 order_so_far_stays v w bytes more (a ∷ []) next anchors certs later_anchors later_certs come then o p =
@@ -105,7 +105,7 @@ receipts_as book done is = ap receipts_of_executed is
 
 receipts_go_on : (version : Version) (first second : Frame) (frames next : List Frame) (b c : BookValue)
     → IsCurrent (feed_of version (first ∷ second ∷ frames)) b → IsCurrent (feed_of version (first ∷ second ∷ (frames ++ next))) c
-    → Begins (receipts_in (Some b)) (receipts_in (Some c))
+    → IsPrefix (receipts_in (Some b)) (receipts_in (Some c))
 receipts_go_on version first second frames next b c x y =
     let g = grows version first second frames next b.taken.ordered c.taken.ordered y.clear x.ordered y.ordered in
     let rows = genesis_of (first ∷ second ∷ frames) in
@@ -127,7 +127,7 @@ not_nothing x xs e = absurd (cc)
 by_books : (ov ow : Option Version) (frames next : List Frame) (k l : _) (book later : Option BookValue)
     → Follows ov frames k book → Follows ow (frames ++ next) l later
     → ((x y : Version) → ov ≡ Some x → ow ≡ Some y → x ≡ y) → (ow ≡ None → frames ++ next ≡ [])
-    → IsSettledBy ov frames book → IsSettledBy ow (frames ++ next) later → Begins (receipts_in book) (receipts_in later)
+    → IsSettledBy ov frames book → IsSettledBy ow (frames ++ next) later → IsPrefix (receipts_in book) (receipts_in later)
 by_books None ow frames next k l book later f g same none s t = begins_empty _ _ (no_receipts book f.1)
 by_books (Some x) ow [] next k l book later f g same none s t = begins_empty _ _ (no_receipts book f.1)
 by_books (Some x) ow (a ∷ []) next k l book later f g same none s t = begins_empty _ _ (no_receipts book f.1)
@@ -139,7 +139,7 @@ by_books (Some x) (Some y) (a ∷ b ∷ frames) next k l book later (one, is, ou
     begins_as _ _ _ _ (ap receipts_in is) (ap receipts_in also) (receipts_go_on y a b frames next one two here there)
 
 pub receipts_stay : (v w : Followed) (bytes more : List ℕ) (frames next : List Frame) → HasCome bytes frames v → HasCome (bytes ++ more) (frames ++ next) w
-    → IsSettled frames v → IsSettled (frames ++ next) w → Begins (receipts_in v.book) (receipts_in w.book)
+    → IsSettled frames v → IsSettled (frames ++ next) w → IsPrefix (receipts_in v.book) (receipts_in w.book)
 receipts_stay v w bytes more frames next come then s t =
     by_books v.cut.version w.cut.version frames next _ _ v.book w.book come.follows then.follows
     (λ x y is also. one_version bytes more frames (frames ++ next) v.cut w.cut x y come.cuts then.cuts is also)

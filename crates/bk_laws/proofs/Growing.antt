@@ -4,11 +4,11 @@ use Rattle.std.proofs.lemmas.List.Concat.{flat_map-append}
 use Rattle.bk_frames.specs.declared.genesis.Row.{Row}
 use Rattle.bk_frames.specs.declared.version.Version.{Version}
 use Rattle.bk_frames.specs.Feed.{Frame, FeedValue, genesis_of}
-use Rattle.bk_committee.specs.Payload.{CommitteeValue}
-use Rattle.bk_commit.specs.Growth.{Begins, IsPartOf}
-use Rattle.bk_order.specs.Frames.{AreBatches, AreCerts}
-use Rattle.bk_order.specs.Orders.{AreWaiting, IsOrderOf, Ordered}
-use Rattle.bk_order.specs.Stops.{HasNoStop}
+use Rattle.bk_committee.specs.Payload.{CommitteeValue, sizes_of}
+use Rattle.bk_commit.specs.Growth.{IsPrefix, IsPartOf}
+use Rattle.bk_order.specs.Frames.{AreBatches, AreCerts, OfHeld}
+use Rattle.bk_order.specs.Orders.{AreOrdered, AreWaiting, IsOrderOf, Ordered}
+use Rattle.bk_order.specs.Stops.{AreClear, HasNoStop}
 use Rattle.bk_order.proofs.OneReading.{one_ordered, one_waiting}
 use Rattle.bk_order.proofs.Sets.{frames_grow}
 use Rattle.bk_cert.specs.declared.place.CertRef.{CertRef}
@@ -23,7 +23,7 @@ use Rattle.bk_follow.specs.RunReport.{HasNoStopIn, Reads, committee_in, later_fr
 use Rattle.bk_laws.specs.Laws.{AreAlike, Continues, IsPartOfFeed}
 
 -- the receipts of a list of batches begin those of a longer one
-pub receipts_begin : (v : Version) (xs ys : List (List ℕ)) (rows : List Row) → Begins xs ys → Begins (receipts_of v (transactions_of xs) rows) (receipts_of v (transactions_of ys) rows)
+pub receipts_begin : (v : Version) (xs ys : List (List ℕ)) (rows : List Row) → IsPrefix xs ys → IsPrefix (receipts_of v (transactions_of xs) rows) (receipts_of v (transactions_of ys) rows)
 receipts_begin v xs ys rows h = (
   receipts_of v (transactions_of h.0) (state_after v (transactions_of xs) rows),
   ap (λ (l : List (List ℕ)). receipts_of v (transactions_of l) rows) h.1
@@ -47,25 +47,20 @@ batches_in one other batches there back h = record {
   complete = λ b t. h.complete b (t.0, back _ t.1, t.2);
 }
 
-order_in : (k : CommitteeValue) (one other : List Frame) (o : Ordered) → IsPartOf one other → IsPartOf other one → IsOrderOf k one o → IsOrderOf k other o
-order_in k one other o there back h = record {
+held_in : (k : CommitteeValue) (one other : List Frame) (P : List Node → List Batch → Type 0) → IsPartOf one other → IsPartOf other one → OfHeld k one P → OfHeld k other P
+held_in k one other P there back h = record {
   certs = h.certs;
   batches = h.batches;
   are_certs = certs_in k one other h.certs there back h.are_certs;
   are_batches = batches_in one other h.batches there back h.are_batches;
-  committed = h.committed;
-  ordered = h.ordered;
-  payloads_are = h.payloads_are;
+  holds = h.holds;
 }
 
+order_in : (k : CommitteeValue) (one other : List Frame) (o : Ordered) → IsPartOf one other → IsPartOf other one → IsOrderOf k one o → IsOrderOf k other o
+order_in k one other o there back h = held_in k one other (λ certs batches. AreOrdered (sizes_of k) certs batches o) there back h
+
 clear_in : (k : CommitteeValue) (one other : List Frame) → IsPartOf one other → IsPartOf other one → HasNoStop k one → HasNoStop k other
-clear_in k one other there back h = record {
-  certs = h.certs;
-  batches = h.batches;
-  are_certs = certs_in k one other h.certs there back h.are_certs;
-  are_batches = batches_in one other h.batches there back h.are_batches;
-  none = h.none;
-}
+clear_in k one other there back h = held_in k one other (λ certs batches. AreClear certs batches) there back h
 
 -- what is read of the larger feed, in the words of the smaller one's setup
 module _ (small large : FeedValue) (s : Reading) (part : IsPartOfFeed small large) (y : Reads large s) where

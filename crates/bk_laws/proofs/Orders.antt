@@ -7,7 +7,7 @@ use Rattle.bk_cert.specs.Place.{place_of, Lists}
 use Rattle.bk_cert.specs.declared.place.CertRef.{CertRef}
 use Rattle.bk_rounds.specs.Admission.{WaitsAt}
 use Rattle.bk_cert.proofs.Lists.{contains_first, contains_later}
-use Rattle.bk_commit.specs.Ordering.{Walk, InHistory}
+use Rattle.bk_commit.specs.Ordering.{Leads, InHistory}
 use Rattle.bk_commit.proofs.Grown.{walk_present}
 use Rattle.bk_flatten.specs.Order.{IsOrder, IsOrderBack}
 use Rattle.bk_laws.proofs.Admitting.{decided_waiting, present_place, waiting_place}
@@ -23,7 +23,7 @@ module _ (z : Sizes) (held : List Node) where
   history_place : (a b : CertRef) → InHistory z held a b → Contains (a ∷ map place_of held) b
   history_place a b (n, w) = by n w
     where
-      by : (n : ℕ) → Walk z held n a b → Contains (a ∷ map place_of held) b
+      by : (n : ℕ) → Leads z held n a b → Contains (a ∷ map place_of held) b
       by zero e = subst (Contains (a ∷ map place_of held)) e (contains_first a (map place_of held))
       by (suc n) w = contains_later a (map place_of held) b (present_place z held b (walk_present z held n w.0 b (w.1.parent, w.1.parent_at) w.2))
 

@@ -19,7 +19,7 @@ use Rattle.bk_results.specs.declared.query.Reply.TheVariants as reply
 use Rattle.bk_results.specs.declared.status.Status.{Status}
 use Rattle.bk_ask.specs.Asking.{IsReply, IsReplyOf}
 use Rattle.bk_follow.specs.Outcomes.{IsOutcomeOf, Outcome}
-use Rattle.bk_follow.specs.RunReport.{HasNoStopIn, IsReport, Reads, committee_in, later_frames, status_of}
+use Rattle.bk_follow.specs.RunReport.{HasNoStopIn, IsReport, Reads, committee_in, later_frames, reach_of}
 use Rattle.bk_replay.proofs.RunLaws.{money_line_is_genesis}
 use Rattle.bk_laws.specs.Laws.{ProvesInReport}
 use Rattle.bk_laws.proofs.Answers.{reading_exists}
@@ -30,12 +30,12 @@ report_exists : (feed : FeedValue) → IsFeed feed → HasNoStopIn feed → (tex
 report_exists feed good clear =
     let r = reading_exists feed in (
       text_of (run_lines (committee_in feed) (length feed.frames) r.0),
-      status_of r.0.ordered.payloads.missing,
+      reach_of r.0.ordered.payloads.missing,
       record {
         feed = feed;
         good = good;
         spelled = refl;
-        report = record { clear = clear; reading = r.0; reads = r.1; report = refl; status_is = refl };
+        holds = record { clear = clear; reading = r.0; reads = r.1; report = refl; status_is = refl };
       },
     )
 
@@ -49,7 +49,7 @@ same_rows feed end r is reads =
 
 proves : (feed : FeedValue) (text : List ℕ) (id : ℕ) → IsBytes (spelling feed) → IsFeed feed → IsReplyOf feed (query.Proof id) reply.Found text → ProvesInReport (spelling feed) text
 proves feed text id are good reply =
-    let p = reply.it in
+    let p = reply.replies in
     let report = report_exists feed good reply.ending.outcome.clear in
     let ends = money_line_is_genesis feed report.0 report.1 good report.2 in
     let rows : ends.0.rows ≡ reply.end.outcome.rows = same_rows feed reply.end.outcome ends.0 reply.ending.outcome ends.1 in
@@ -67,4 +67,4 @@ proves feed text id are good reply =
 
 pub proofs_are_good : (bytes text : List ℕ) (id : ℕ) → IsBytes bytes → IsReply bytes (query.Proof id) reply.Found text → ProvesInReport bytes text
 proofs_are_good bytes text id are h =
-    subst (λ (b : List ℕ). ProvesInReport b text) (sym h.spelled) (proves h.feed text id (subst IsBytes h.spelled are) h.good h.reply)
+    subst (λ (b : List ℕ). ProvesInReport b text) (sym h.spelled) (proves h.feed text id (subst IsBytes h.spelled are) h.good h.holds)

@@ -280,8 +280,8 @@ same_end feed x y h g =
 
 ending_of_report : (bytes text : List ℕ) (status : Status) (h : IsReport bytes text status) → (end : Ending) × IsEndingOf h.feed end × IsCommitted (sizes_of end.committee) end.certs end.outcome.ordered.anchors
 ending_of_report bytes text status h =
-    let r = h.report.reading in
-    let reads = h.report.reads in (
+    let r = h.holds.reading in
+    let reads = h.holds.reads in (
       record {
         version = h.feed.version;
         committee = committee_in h.feed;
@@ -294,9 +294,9 @@ ending_of_report bytes text status h =
         committee = refl;
         opening = refl;
         certs = reads.ordered.are_certs;
-        outcome = record { clear = h.report.clear; ordered = reads.ordered; receipts = reads.folded.receipts; rows = reads.folded.rows };
+        outcome = record { clear = h.holds.clear; ordered = reads.ordered; receipts = reads.folded.receipts; rows = reads.folded.rows };
       },
-      reads.ordered.committed,
+      reads.ordered.holds.committed,
     )
 
 same_reply : (bytes : List ℕ) (asked : Query) (feed : FeedValue) (end : Ending) (a b : Reply) (t u : List ℕ) → IsFeed feed → bytes ≡ spelling feed → IsEndingOf feed end
@@ -304,12 +304,12 @@ same_reply : (bytes : List ℕ) (asked : Query) (feed : FeedValue) (end : Ending
 unfolding IsSame
 same_reply bytes asked feed end a b t u good spelled is h g =
     let one : g.feed ≡ feed = one_feed g.feed feed g.good good (sym g.spelled ∙ spelled) in
-    let other : IsEndingOf feed g.reply.end = subst (λ (f : FeedValue). IsEndingOf f g.reply.end) one g.reply.ending in
-    one_reply asked end g.reply.end.certs a b t u
+    let other : IsEndingOf feed g.holds.end = subst (λ (f : FeedValue). IsEndingOf f g.holds.end) one g.holds.ending in
+    one_reply asked end g.holds.end.certs a b t u
     (λ c there. other.certs.complete c (is.certs.sound c there))
     (λ c there. is.certs.complete c (other.certs.sound c there))
     (ledger_at_end feed end.outcome good is.outcome) h
-    (subst (λ (x : Ending). Replies asked x b u) (same_end feed end g.reply.end is other) g.reply.it)
+    (subst (λ (x : Ending). Replies asked x b u) (same_end feed end g.holds.end is other) g.holds.replies)
 
 pub exactly_one_reply : (bytes text : List ℕ) (status : Status) (asked : Query) → IsReport bytes text status
     → (answer : Reply) × (words : List ℕ) × IsReply bytes asked answer words
@@ -320,6 +320,6 @@ exactly_one_reply bytes text status asked h =
     let it = some_reply asked end.0 end.2 in (
       it.0,
       it.1,
-      record { feed = h.feed; good = h.good; spelled = h.spelled; reply = record { end = end.0; ending = end.1; it = it.2 } },
+      record { feed = h.feed; good = h.good; spelled = h.spelled; holds = record { end = end.0; ending = end.1; replies = it.2 } },
       λ other others g. same_reply bytes asked h.feed end.0 it.0 other it.1 others h.good h.spelled end.1 it.2 g,
     )

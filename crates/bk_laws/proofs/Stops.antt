@@ -21,7 +21,7 @@ use Rattle.bk_evidence.proofs.Colliding.{id_order, told}
 use Rattle.bk_evidence.proofs.Payloads.{same_batch}
 use Rattle.bk_evidence.proofs.Judging.{same_cert}
 use Rattle.bk_evidence.proofs.Placing.{place_order, Others, twins_from, no_twins_from, no_twins_at}
-use Rattle.bk_order.specs.Stops.{StopsAt, AreClear}
+use Rattle.bk_order.specs.Stops.{IsStopOf, AreClear}
 use Rattle.bk_order.specs.declared.stop.Stop.{Stop}
 use Rattle.bk_order.specs.declared.stop.Stop.TheVariants as stop
 use Rattle.bk_order.proofs.Stopping.{least_told}
@@ -193,7 +193,7 @@ module _ (held : List Node) where
 
 module _ (certs : List Node) (batches : List Batch) where
   abbrev pub StopOrNone : Type 0
-  StopOrNone = ((s : Stop) × StopsAt certs batches s) ⊎ AreClear certs batches
+  StopOrNone = ((s : Stop) × IsStopOf certs batches s) ⊎ AreClear certs batches
 
   without : NoCollision certs → AreApart batches → ((e : Evidence) × IsEvidence certs e) ⊎ NoTwins certs → StopOrNone
   without h g (inl (e, is)) = inl (stop.Twins e, (h, g, is))
@@ -212,5 +212,5 @@ module _ (certs : List Node) (batches : List Batch) where
   digest_known = collision_or_none (λ (b : Batch). b.digest) same_batches batches
 
 -- every store of certificates and batches has a stop, or neither a collision nor twins
-pub stop_or_none : (certs : List Node) (batches : List Batch) → ((s : Stop) × StopsAt certs batches s) ⊎ AreClear certs batches
+pub stop_or_none : (certs : List Node) (batches : List Batch) → ((s : Stop) × IsStopOf certs batches s) ⊎ AreClear certs batches
 stop_or_none certs batches = stop_by certs batches (id_known certs batches).0 (digest_known certs batches).0 (id_known certs batches).1 (digest_known certs batches).1

@@ -101,7 +101,7 @@ later_part (a ∷ b ∷ more) f h = contains_later a (b ∷ more) f (contains_la
 
 ordered_bytes : (feed : FeedValue) (o : Ordered) → IsBytes (spelling feed) → IsOrderIn feed o → (q : List ℕ) → Contains o.payloads.list q → IsBytes q
 ordered_bytes feed o are is q h =
-    let b = held_payload is.batches (digests_of is.certs o.order) q (subst (λ (p : Payloads). Contains p.list q) is.payloads_are h) in
+    let b = held_payload is.batches (digests_of is.certs o.order) q (subst (λ (p : Payloads). Contains p.list q) is.holds.payloads_are h) in
     let s = is.are_batches.sound b.0 b.1 in
     let payload : s.0 ≡ q = sym (ap (λ (x : Batch). x.payload) s.2) ∙ b.2 in
     subst IsBytes payload (payload_bytes feed are _ (later_part feed.frames _ s.1))

@@ -17,7 +17,7 @@ use Rattle.bk_cert.specs.Values.{CertValue}
 use Rattle.bk_cert.specs.Reading.{certificate_of}
 use Rattle.bk_cert.specs.Mask.{signers_of}
 use Rattle.bk_cert.specs.Identity.{tags_by}
-use Rattle.bk_cert.specs.Node.{Node, node_of}
+use Rattle.bk_cert.specs.Node.{Node, with_id}
 use Rattle.bk_certcheck.specs.declared.rule.TheConstants.{MOST_ROUND}
 use Rattle.bk_certcheck.specs.declared.rule.Rule.{Rule}
 use Rattle.bk_certcheck.specs.declared.rule.Rule.TheVariants as rule
@@ -109,7 +109,7 @@ pub verdict_exists : (k : CommitteeValue) (bytes : List ℕ) → (v : Verdict) �
 verdict_exists k bytes = by (certificate_of bytes) refl
   where
     of_cert : (c : CertValue) → certificate_of bytes ≡ Some c → Found k c 8 → (v : Verdict) × IsVerdict k bytes v
-    of_cert c e (inl none) = (verdict.Good (node_of c.header), record { cert = c; read = e; breaks_none = λ r. none r (last_number r); is = refl })
+    of_cert c e (inl none) = (verdict.Good (with_id c.header), record { cert = c; read = e; breaks_none = λ r. none r (last_number r); is = refl })
     of_cert c e (inr first) = (verdict.Broken first.0, broken_later k bytes first.0 (not_shape k c first.0 first.1) (record { cert = c; read = e; breaks = first.1; none_before = first.2 }))
 
     by : (o : Option CertValue) → certificate_of bytes ≡ o → (v : Verdict) × IsVerdict k bytes v

@@ -5,7 +5,7 @@ use Rattle.bk_frames.specs.declared.version.Version.{Version}
 use Rattle.bk_frames.specs.Feed.{Frame, HasFault, feed_of}
 use Rattle.bk_frames.specs.Pulling.{ByCode}
 use Rattle.bk_cert.specs.declared.place.CertRef.{CertRef}
-use Rattle.bk_commit.specs.Growth.{Begins}
+use Rattle.bk_commit.specs.Growth.{IsPrefix}
 use Rattle.bk_order.specs.Orders.{Ordered}
 use Rattle.bk_results.specs.declared.fault.Fault.TheVariants as fault
 use Rattle.bk_follow.specs.Follower.{Executed, Followed, HasCome, FeedFails, IsExecuted, IsSettled, OrdersPart, executed_in, receipts_in}
@@ -24,14 +24,14 @@ OrderSoFarStays = (v w : Followed) (bytes more : List ℕ) (frames next : List F
     (anchors certs later_anchors later_certs : List CertRef)
     → HasCome bytes frames v → HasCome (bytes ++ more) (frames ++ next) w
     → IsOrderSoFar v anchors certs → IsOrderSoFar w later_anchors later_certs
-    → Begins anchors later_anchors × Begins certs later_certs
+    → IsPrefix anchors later_anchors × IsPrefix certs later_certs
 
 -- the receipts of a moment at which all whole frames are settled begin those of every later such moment
 abbrev pub ReceiptsStay : Type 0
 ReceiptsStay = (v w : Followed) (bytes more : List ℕ) (frames next : List Frame)
     → HasCome bytes frames v → HasCome (bytes ++ more) (frames ++ next) w
     → IsSettled frames v → IsSettled (frames ++ next) w
-    → Begins (receipts_in v.book) (receipts_in w.book)
+    → IsPrefix (receipts_in v.book) (receipts_in w.book)
 
 -- what is executed is the fold over all places of the order of a part of the whole frames so far: accounts, receipts and
 -- proofs are those of this fold

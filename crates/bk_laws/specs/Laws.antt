@@ -7,7 +7,7 @@ use Rattle.bk_frames.specs.Feed.{FeedValue, IsFeed, HasFault, frame_of, spelling
 use Rattle.bk_frames.specs.Numbers.{IsBytes}
 use Rattle.bk_certcheck.specs.declared.rule.Rule.{Rule}
 use Rattle.bk_certcheck.specs.Verdicts.{IsBroken}
-use Rattle.bk_commit.specs.Growth.{Begins, IsPartOf}
+use Rattle.bk_commit.specs.Growth.{IsPrefix, IsPartOf}
 use Rattle.bk_order.specs.Intake.{first_frame}
 use Rattle.bk_order.specs.declared.stop.Stop.{Stop}
 use Rattle.bk_report.specs.Proofs.{IsRow, IsGoodProof}
@@ -81,10 +81,10 @@ pub record IsPartOfFeed (small large : FeedValue) : Type 0 where
 
 -- what is read of one feed begins what is read of another: anchors, certificates, batches, receipts
 pub record Continues (r s : Reading) : Type 0 where
-  pub anchors : Begins r.ordered.anchors s.ordered.anchors
-  pub order : Begins r.ordered.order s.ordered.order
-  pub batches : Begins r.ordered.payloads.list s.ordered.payloads.list
-  pub receipts : Begins r.receipts s.receipts
+  pub anchors : IsPrefix r.ordered.anchors s.ordered.anchors
+  pub order : IsPrefix r.ordered.order s.ordered.order
+  pub batches : IsPrefix r.ordered.payloads.list s.ordered.payloads.list
+  pub receipts : IsPrefix r.receipts s.receipts
 
 -- what a feed has ordered and executed stays as it is in every larger feed that nothing stops
 abbrev pub OrderedIsFinal : Type 0

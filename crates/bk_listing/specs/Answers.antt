@@ -46,12 +46,10 @@ abbrev pub ListFails : Fault → Devices → Devices → Type 0
 ListFails (fault.Feed found) old new =
     Refuses found old.source new.source × Works old.sink new.sink
     × Gave old.source new.source (IsListedTo found.offset old.sink new.sink)
-ListFails (fault.Collision id) old new = ⊥
-ListFails (fault.Equivocation round author first second) old new = ⊥
-ListFails (fault.Unfinished place) old new = ⊥
 ListFails (fault.Write written) old new =
     FailsOnceAtMost old.source new.source × Fails old.sink new.sink
     × Gave old.source new.source (PartIsListed written old.sink new.sink)
 ListFails fault.Memory old new =
     FailsOnceAtMost old.source new.source × Works old.sink new.sink
     × Gave old.source new.source (FrontIsListed old.sink new.sink)
+ListFails other old new = ⊥

@@ -123,13 +123,13 @@ of_ordered book b (feed, good, c, is, o) same = (feed, good, subst (IsOrdered fe
 pub ordered_now : (old new : Followed) → ClosesOrder old new → IsOfOrdered new.book
 ordered_now old new closed =
     let e = closed.ordered closed.come.0 closed.come.1 closed.come.2 in
-    (_, e.good, e.it.0, e.it.1, e.it.2)
+    (_, e.good, e.holds.0, e.holds.1, e.holds.2)
 
 -- what holds of each feed whose ordered book this is
 on_ordered : (old new : Followed) (b : BookValue) (holds : FeedValue → Type 0) → ClosesOrder old new → new.book ≡ Some b → ((feed : FeedValue) → IsFeed feed → IsOrdered feed b → holds feed) → OfFeed old holds
 on_ordered old new b holds closed is h = λ bytes frames come.
     let e = closed.ordered bytes frames come in
-    record { version = e.version; known = e.known; good = e.good; spelled = e.spelled; it = h _ e.good (subst (IsOrdered _) (same_book e.it.0 b (sym e.it.1 ∙ is)) e.it.2) }
+    record { version = e.version; known = e.known; good = e.good; spelled = e.spelled; holds = h _ e.good (subst (IsOrdered _) (same_book e.holds.0 b (sym e.holds.1 ∙ is)) e.holds.2) }
 
 -- what is said of the book that there is
 of_book : (book : Option BookValue) (b : BookValue) (P : BookValue → Type 0) → book ≡ Some b → IfSome book P → P b
@@ -172,7 +172,7 @@ module _ (from count : ℕ) where
   pub call_draws : (known old new : Device) (v : Followed) → IfKnown known (λ bytes. AllHasCome bytes v) → FollowerDraws from count v old new → IfKnown known (λ bytes. IsDrawn from count bytes old new)
   call_draws known old new v come h =
       of_known_feed known v (λ feed. DrawingIsOut feed from count old new) (λ bytes. IsDrawn from count bytes old new) come h.0
-      (λ bytes feed good spelled out. (out.text, record { feed = feed; good = good; spelled = spelled; drawing = out.drawing }, out.gave))
+      (λ bytes feed good spelled out. (out.text, record { feed = feed; good = good; spelled = spelled; holds = out.drawing }, out.gave))
 
   -- why the Follower did not draw is why the call did not
   pub call_fails : (f : Fault) (known now old new : Device) (v : Followed) → Works known now → IfKnown known (λ bytes. AllHasCome bytes v) → FollowerDrawsNot from count v old new f → DrawFailsBy from count f (devices known old) (devices now new)
@@ -184,7 +184,7 @@ module _ (from count : ℕ) where
     held,
     h.1,
     of_known_feed known v (λ feed. DrawingStops feed from count written old new) (PartOfDrawingIsOut from count written old new) come h.0
-        (λ bytes feed good spelled part. (part.text, record { feed = feed; good = good; spelled = spelled; drawing = part.drawing }, part.some, part.gave)),
+        (λ bytes feed good spelled part. (part.text, record { feed = feed; good = good; spelled = spelled; holds = part.drawing }, part.some, part.gave)),
   )
   call_fails fault.Memory known now old new v held come h = (held, h)
 

@@ -1,14 +1,14 @@
 -- What `draw` writes of a feed, read off its frames alone.
 use Rattle.std.specs.Prelude.{◌≡◌, ℕ, ◌<◌, List, length, take}
 use Rattle.bk_frames.specs.Device.{Device, Works, Fails, Receives, IfKnown}
-use Rattle.bk_frames.specs.Feed.{FeedValue, IsFeed, spelling}
+use Rattle.bk_frames.specs.Feed.{FeedValue}
 use Rattle.bk_frames.specs.Pulling.{Refuses}
 use Rattle.bk_committee.specs.Payload.{sizes_of}
 use Rattle.bk_order.specs.Frames.{AreCerts}
 use Rattle.bk_order.specs.Orders.{Ordered}
 use Rattle.bk_results.specs.declared.fault.Fault.{Fault}
 use Rattle.bk_results.specs.declared.fault.Fault.TheVariants as fault
-use Rattle.bk_results.specs.Devices.{Devices, IsUntouched, NothingFailed}
+use Rattle.bk_results.specs.Devices.{AreFeedWith, Devices, IsUntouched, NothingFailed}
 use Rattle.bk_follow.specs.RunReport.{HasNoStopIn, IsOrderIn, IsStopped, committee_in, later_frames}
 use Rattle.bk_picture.specs.Picture.{Graph, IsPictureOf}
 use Rattle.bk_picture.specs.Svg.{svg_text}
@@ -33,11 +33,8 @@ pub record IsDrawingOf (feed : FeedValue) (from count : ℕ) (text : List ℕ) :
   pub text_is : text ≡ svg_text picture
 
 -- the same of bytes, where they are the encoding of that feed
-pub record IsDrawing (bytes : List ℕ) (from count : ℕ) (text : List ℕ) : Type 0 where
-  pub feed : FeedValue
-  pub good : IsFeed feed
-  pub spelled : bytes ≡ spelling feed
-  pub drawing : IsDrawingOf feed from count text
+abbrev pub IsDrawing : List ℕ → ℕ → ℕ → List ℕ → Type 0
+IsDrawing bytes from count text = AreFeedWith bytes (λ feed. IsDrawingOf feed from count text)
 
 -- ---- what a call leaves
 
@@ -55,13 +52,10 @@ PartOfDrawingIsOut from count written old new bytes =
 abbrev pub DrawFailsBy : ℕ → ℕ → Fault → Devices → Devices → Type 0
 DrawFailsBy from count (fault.Feed found) old new =
     Refuses found old.source new.source × IsUntouched old.sink new.sink
-DrawFailsBy from count (fault.Collision id) old new =
-    NothingFailed old new × IfKnown old.source (λ bytes. IsStopped bytes (fault.Collision id))
-DrawFailsBy from count (fault.Equivocation round author first second) old new =
-    NothingFailed old new
-    × IfKnown old.source (λ bytes. IsStopped bytes (fault.Equivocation round author first second))
 DrawFailsBy from count (fault.Unfinished place) old new = ⊥
 DrawFailsBy from count (fault.Write written) old new =
     Works old.source new.source × Fails old.sink new.sink
     × IfKnown old.source (PartOfDrawingIsOut from count written old.sink new.sink)
 DrawFailsBy from count fault.Memory old new = NothingFailed old new
+DrawFailsBy from count stop old new =
+    NothingFailed old new × IfKnown old.source (λ bytes. IsStopped bytes stop)

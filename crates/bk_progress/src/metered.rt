@@ -7,7 +7,7 @@ use crate::progress::Progress;
 use bk_frames::{Failed, Source};
 use std::time::Clock;
 
-/// A source that counts the bytes that are pulled of it. For who pulls it is the source in it.
+/// A source that counts the bytes that are pulled of it. Its contracts are those of the source in it.
 #[derive(Drop)]
 pub struct Metered<'a, S, R> {
     source: S,

@@ -31,7 +31,7 @@ use Rattle.bk_report.specs.Lines.{text_of}
 use Rattle.bk_tx.specs.Batches.{transactions_of, count_in}
 use Rattle.bk_report.specs.Report.{batch_line, batch_lines, tx_lines, account_lines}
 use Rattle.bk_report.specs.RunLines.{Reading, members_line, head_lines, reject_lines, waiting_lines, anchor_lines, cert_lines, missing_lines, order_lines, batches_lines, ending_lines, run_lines}
-use Rattle.bk_follow.specs.RunReport.{committee_in, later_frames, HasNoStopIn, Reads, fault_of, status_of, IsReportOf, IsReport, IsStopIn}
+use Rattle.bk_follow.specs.RunReport.{committee_in, later_frames, HasNoStopIn, Reads, fault_of, reach_of, IsReportOf, IsReport, IsStopIn}
 use Rattle.bk_replay.specs.RunLaws.{EndsWithMoney, Answer, ComesTo, faulty, stopped, reported}
 
 -- ---- money
@@ -127,7 +127,7 @@ ends_with_money k frames total r text same e = record {
 pub money_line_is_genesis : (feed : FeedValue) (text : List ℕ) (answer : Status) → IsFeed feed → IsReport (spelling feed) text answer
     → (r : Reading) × Reads feed r × EndsWithMoney text (total_of (genesis_of feed.frames)) (state_of r.rows)
 money_line_is_genesis feed text answer good h =
-    let report : IsReportOf feed text answer = subst (λ (f : FeedValue). IsReportOf f text answer) (one_feed h.feed feed h.good good (sym h.spelled)) h.report in
+    let report : IsReportOf feed text answer = subst (λ (f : FeedValue). IsReportOf f text answer) (one_feed h.feed feed h.good good (sym h.spelled)) h.holds in
     let r = report.reading in
     (r, report.reads, ends_with_money (committee_in feed) (length feed.frames) (total_of (genesis_of feed.frames)) r text (run_keeps_money feed r good report.reads) report.report)
 
@@ -150,7 +150,7 @@ one_report_of : (feed : FeedValue) (text other : List ℕ) (a b : Status) → Is
 one_report_of feed text other a b h g =
     let same = one_reading feed h.reading g.reading h.clear h.reads g.reads in
     let texts : text ≡ other = h.report ∙ ap (λ (r : Reading). text_of (run_lines (committee_in feed) (length feed.frames) r)) same ∙ sym g.report in
-    let answers : a ≡ b = h.status_is ∙ ap (λ (r : Reading). status_of r.ordered.payloads.missing) same ∙ sym g.status_is in
+    let answers : a ≡ b = h.status_is ∙ ap (λ (r : Reading). reach_of r.ordered.payloads.missing) same ∙ sym g.status_is in
     λ i. reported (texts i) (answers i)
 
 -- a fault that is a stop of a feed
@@ -186,14 +186,14 @@ one_answer bytes (faulty x) (reported text answer) h g = absurd (no_fault_in byt
 one_answer bytes (stopped x) (faulty y) h g = absurd (no_fault_in bytes h.feed y h.good h.spelled g)
 one_answer bytes (stopped x) (stopped y) h g =
     let same = one_feed h.feed g.feed h.good g.good (sym h.spelled ∙ g.spelled) in
-    ap stopped (one_stop_in g.feed x y (subst (λ (f : FeedValue). IsStopIn f x) same h.stop) g.stop)
+    ap stopped (one_stop_in g.feed x y (subst (λ (f : FeedValue). IsStopIn f x) same h.holds) g.holds)
 one_answer bytes (stopped x) (reported text answer) h g =
     let same = one_feed h.feed g.feed h.good g.good (sym h.spelled ∙ g.spelled) in
-    absurd (no_stop_in g.feed x g.report.clear (subst (λ (f : FeedValue). IsStopIn f x) same h.stop))
+    absurd (no_stop_in g.feed x g.holds.clear (subst (λ (f : FeedValue). IsStopIn f x) same h.holds))
 one_answer bytes (reported text answer) (faulty y) h g = absurd (no_fault_in bytes h.feed y h.good h.spelled g)
 one_answer bytes (reported text answer) (stopped y) h g =
     let same = one_feed h.feed g.feed h.good g.good (sym h.spelled ∙ g.spelled) in
-    absurd (no_stop_in g.feed y (subst HasNoStopIn same h.report.clear) g.stop)
+    absurd (no_stop_in g.feed y (subst HasNoStopIn same h.holds.clear) g.holds)
 one_answer bytes (reported text answer) (reported other status) h g =
     let same = one_feed h.feed g.feed h.good g.good (sym h.spelled ∙ g.spelled) in
-    one_report_of g.feed text other answer status (subst (λ (f : FeedValue). IsReportOf f text answer) same h.report) g.report
+    one_report_of g.feed text other answer status (subst (λ (f : FeedValue). IsReportOf f text answer) same h.holds) g.holds

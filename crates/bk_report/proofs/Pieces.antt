@@ -11,14 +11,14 @@ use Rattle.bk_report.specs.declared.line.Line.TheVariants as line
 use Rattle.bk_report.specs.Lines.{line_text, text_of}
 use Rattle.bk_report.specs.Report.{tx_lines, account_lines}
 use Rattle.bk_report.specs.RunLines.{rows_lines}
-use Rattle.bk_report.specs.Pages.{Gathered, Puts, Stops, Written}
+use Rattle.bk_report.specs.Pages.{PageValue, Puts, Stops, Written}
 use Rattle.bk_report.proofs.Putting.{puts_then, stops_then, stops_more, text_next}
 use Rattle.bk_report.proofs.ReportLines.{length-tx_lines}
 use Rattle.bk_report.proofs.LineGroups.{HasPut, groups_put, group_stops, stops_before, text_two, line_of_item, line_of_tx}
 
 -- ---- a text that goes out where a page is empty
 
-pub pushed_whole : (a b : Device) (p r : Gathered) (text : List ℕ) → p.bytes ≡ [] → Receives a b text → r.bytes ≡ [] → r.out ≡ p.out + length text → Puts a b p r text
+pub pushed_whole : (a b : Device) (p r : PageValue) (text : List ℕ) → p.bytes ≡ [] → Receives a b text → r.bytes ≡ [] → r.out ≡ p.out + length text → Puts a b p r text
 pushed_whole a b p r text empty gave none out = record {
   pushed = text;
   gave = gave;
@@ -26,7 +26,7 @@ pushed_whole a b p r text empty gave none out = record {
   out = out;
 }
 
-pub pushed_part : (a b : Device) (p : Gathered) (text : List ℕ) (n written : ℕ) → p.bytes ≡ [] → Receives a b (take n text) → n < length text → written ≡ p.out + n → Stops a b p text written
+pub pushed_part : (a b : Device) (p : PageValue) (text : List ℕ) (n written : ℕ) → p.bytes ≡ [] → Receives a b (take n text) → n < length text → written ≡ p.out + n → Stops a b p text written
 pushed_part a b p text n written empty gave short out = record {
   pushed = take n text;
   rest = drop n text;
@@ -39,16 +39,16 @@ pushed_part a b p text n written empty gave short out = record {
 -- ---- texts one after another
 
 -- what came of a text, after one that is put
-pub texts_then : {X : Type 0} (result : Result X WriteFault) (a b c : Device) (p q r : Gathered) (xs ys : List ℕ) → Works a b × Puts a b p q xs → Written result b c q r ys → Written result a c p r (xs ++ ys)
+pub texts_then : {X : Type 0} (result : Result X WriteFault) (a b c : Device) (p q r : PageValue) (xs ys : List ℕ) → Works a b × Puts a b p q xs → Written result b c q r ys → Written result a c p r (xs ++ ys)
 texts_then (Ok x) a b c p q r xs ys first last = (last.0 ∙ first.0, puts_then a b c p q r xs ys first.1 last.1)
 texts_then (Err e) a b c p q r xs ys first last = (last.0 ∙ ap (λ (n : ℕ). n + 1) first.0, stops_then a b c p q xs ys e.written first.1 last.1)
 
 -- a text that stops is the front of another
-pub part_stops : (a b : Device) (p : Gathered) (xs ys text : List ℕ) (written : ℕ) → xs ++ ys ≡ text → Fails a b × Stops a b p xs written → Fails a b × Stops a b p text written
+pub part_stops : (a b : Device) (p : PageValue) (xs ys text : List ℕ) (written : ℕ) → xs ++ ys ≡ text → Fails a b × Stops a b p xs written → Fails a b × Stops a b p text written
 part_stops a b p xs ys text written same stop = (stop.0, subst (λ (t : List ℕ). Stops a b p t written) same (stops_more a b p xs ys written stop.1))
 
 -- what was written, as another text
-pub written_same : {X : Type 0} (result : Result X WriteFault) (a b : Device) (p q : Gathered) (xs ys : List ℕ) → xs ≡ ys → Written result a b p q xs → Written result a b p q ys
+pub written_same : {X : Type 0} (result : Result X WriteFault) (a b : Device) (p q : PageValue) (xs ys : List ℕ) → xs ≡ ys → Written result a b p q xs → Written result a b p q ys
 written_same result a b p q xs ys same = subst (λ (t : List ℕ). Written result a b p q t) same
 
 -- ---- the lines by their number
@@ -112,7 +112,7 @@ four_pieces lines start a b c d ea eb ec ed =
     (λ i. front i ++ back i) ∙ two_pieces lines start 32768 32768
 
 -- one piece more
-pub piece_put : (a b c : Device) (p q r : Gathered) (lines : List Line) (n m : ℕ) → HasPut a b p q (text_of (take n lines)) → Works b c × Puts b c q r (text_of (take m (drop n lines))) → HasPut a c p r (text_of (take (n + m) lines))
+pub piece_put : (a b c : Device) (p q r : PageValue) (lines : List Line) (n m : ℕ) → HasPut a b p q (text_of (take n lines)) → Works b c × Puts b c q r (text_of (take m (drop n lines))) → HasPut a c p r (text_of (take (n + m) lines))
 piece_put a b c p q r lines n m before last =
     let both = groups_put a b c p q r (take n lines) (take m (drop n lines)) (before.works, before.puts) last in record {
       works = both.0;
@@ -120,7 +120,7 @@ piece_put a b c p q r lines n m before last =
     }
 
 -- the piece at which it stops
-pub piece_stops : (a b c : Device) (p q : Gathered) (lines : List Line) (n m written : ℕ) → HasPut a b p q (text_of (take n lines)) → Fails b c × Stops b c q (text_of (take m (drop n lines))) written → Fails a c × Stops a c p (text_of lines) written
+pub piece_stops : (a b c : Device) (p q : PageValue) (lines : List Line) (n m written : ℕ) → HasPut a b p q (text_of (take n lines)) → Fails b c × Stops b c q (text_of (take m (drop n lines))) written → Fails a c × Stops a c p (text_of lines) written
 piece_stops a b c p q lines n m written before last =
     let whole : (take n lines ++ take m (drop n lines)) ++ drop m (drop n lines) ≡ lines = append_assoc (take n lines) (take m (drop n lines)) (drop m (drop n lines)) ∙ ap (λ (ls : List Line). take n lines ++ ls) (take-append-drop m (drop n lines)) ∙ take-append-drop n lines in
     let stop = stops_before a c p (take n lines ++ take m (drop n lines)) (drop m (drop n lines)) written (group_stops a b c p q (take n lines) (take m (drop n lines)) written (before.works, before.puts) last) in

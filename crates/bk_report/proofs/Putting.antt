@@ -8,7 +8,7 @@ use Rattle.std.proofs.lemmas.List.Concat.{flat_map-append, flat_map-cons}
 use Rattle.bk_frames.specs.declared.writing.WriteFault.{WriteFault}
 use Rattle.bk_report.specs.declared.line.Line.{Line}
 use Rattle.bk_report.specs.Lines.{line_text, text_of}
-use Rattle.bk_report.specs.Pages.{Gathered, blank, Puts, Stops, Written}
+use Rattle.bk_report.specs.Pages.{PageValue, blank, Puts, Stops, Written}
 
 -- one item more of a list
 pub take_next : {A : Type 0} (xs : List A) (i : ℕ) (a : A) → slice_get xs i ≡ Some a → take (i + 1) xs ≡ take i xs ++ a ∷ []
@@ -17,7 +17,7 @@ take_next (x ∷ xs) zero a e = let same : x ≡ a = cc in ap (λ b. b ∷ []) s
 take_next (x ∷ xs) (suc i) a e = let k : suc i + 1 ≡ suc (i + 1) = omega arith in rw k (ap (λ t. x ∷ t) (take_next xs i a e))
 
 -- a page that goes out in part
-pub flush_stops : (old new : Device) (page : Gathered) (w n : ℕ) (bytes : List ℕ) → bytes ≡ page.bytes → w < length bytes → Receives old new (take w bytes) → n ≡ page.out + w → Stops old new page [] n
+pub flush_stops : (old new : Device) (page : PageValue) (w n : ℕ) (bytes : List ℕ) → bytes ≡ page.bytes → w < length bytes → Receives old new (take w bytes) → n ≡ page.out + w → Stops old new page [] n
 flush_stops old new page w n bytes e within gave out = record {
   pushed = take w bytes;
   rest = drop w bytes;
@@ -28,7 +28,7 @@ flush_stops old new page w n bytes e within gave out = record {
 }
 
 -- what stops a text stops a longer one
-pub stops_more : (old new : Device) (page : Gathered) (xs ys : List ℕ) (written : ℕ) → Stops old new page xs written → Stops old new page (xs ++ ys) written
+pub stops_more : (old new : Device) (page : PageValue) (xs ys : List ℕ) (written : ℕ) → Stops old new page xs written → Stops old new page (xs ++ ys) written
 stops_more old new page xs ys written s = record {
   pushed = s.pushed;
   rest = s.rest ++ ys;
@@ -39,7 +39,7 @@ stops_more old new page xs ys written s = record {
 }
 
 -- two texts that are put in turn are one
-pub puts_then : (a b c : Device) (p q r : Gathered) (xs ys : List ℕ) → Puts a b p q xs → Puts b c q r ys → Puts a c p r (xs ++ ys)
+pub puts_then : (a b c : Device) (p q r : PageValue) (xs ys : List ℕ) → Puts a b p q xs → Puts b c q r ys → Puts a c p r (xs ++ ys)
 puts_then a b c p q r xs ys first second = record {
   pushed = first.pushed ++ second.pushed;
   gave = appends_then a.bytes b.bytes c.bytes first.pushed second.pushed first.gave second.gave;
@@ -48,7 +48,7 @@ puts_then a b c p q r xs ys first second = record {
 }
 
 -- a text that is put in part, after one that is put
-pub stops_then : (a b c : Device) (p q : Gathered) (xs ys : List ℕ) (written : ℕ) → Puts a b p q xs → Stops b c q ys written → Stops a c p (xs ++ ys) written
+pub stops_then : (a b c : Device) (p q : PageValue) (xs ys : List ℕ) (written : ℕ) → Puts a b p q xs → Stops b c q ys written → Stops a c p (xs ++ ys) written
 stops_then a b c p q xs ys written first second = record {
   pushed = first.pushed ++ second.pushed;
   rest = second.rest;
@@ -59,7 +59,7 @@ stops_then a b c p q xs ys written first second = record {
 }
 
 -- a text that was put on an empty page, and went out whole
-pub all_out : (a b : Device) (q : Gathered) (text : List ℕ) → Puts a b blank q text → q.bytes ≡ [] → Receives a b text
+pub all_out : (a b : Device) (q : PageValue) (text : List ℕ) → Puts a b blank q text → q.bytes ≡ [] → Receives a b text
 all_out a b q text put empty = subst (λ (t : List ℕ). Receives a b t) (sym (put.kept ∙ ap (λ (t : List ℕ). put.pushed ++ t) empty ∙ append-nil put.pushed)) put.gave
 
 -- a text that was put on an empty page, and went out in part: the front of it
@@ -86,15 +86,15 @@ text_split lines i l e =
     ap (λ (t : List ℕ). t ++ text_of (drop (i + 1) lines)) (sym (text_next lines i l e)) ∙ sym (flat_map-append (λ (x : Line). line_text x ++ 10 ∷ []) (take (i + 1) lines) (drop (i + 1) lines)) ∙ ap text_of (take-append-drop (i + 1) lines)
 
 -- a line is put after the lines before it
-pub line_put : (a b c : Device) (p q r : Gathered) (lines : List Line) (i : ℕ) (l : Line) → slice_get lines i ≡ Some l → Puts a b p q (text_of (take i lines)) → Puts b c q r (line_text l ++ 10 ∷ []) → Puts a c p r (text_of (take (i + 1) lines))
+pub line_put : (a b c : Device) (p q r : PageValue) (lines : List Line) (i : ℕ) (l : Line) → slice_get lines i ≡ Some l → Puts a b p q (text_of (take i lines)) → Puts b c q r (line_text l ++ 10 ∷ []) → Puts a c p r (text_of (take (i + 1) lines))
 line_put a b c p q r lines i l e before put = subst (λ (t : List ℕ). Puts a c p r t) (sym (text_next lines i l e)) (puts_then a b c p q r (text_of (take i lines)) (line_text l ++ 10 ∷ []) before put)
 
 -- a line that stops stops the report
-pub line_stops : (a b c : Device) (p q : Gathered) (lines : List Line) (i : ℕ) (l : Line) (written : ℕ) → slice_get lines i ≡ Some l → Puts a b p q (text_of (take i lines)) → Stops b c q (line_text l ++ 10 ∷ []) written → Stops a c p (text_of lines) written
+pub line_stops : (a b c : Device) (p q : PageValue) (lines : List Line) (i : ℕ) (l : Line) (written : ℕ) → slice_get lines i ≡ Some l → Puts a b p q (text_of (take i lines)) → Stops b c q (line_text l ++ 10 ∷ []) written → Stops a c p (text_of lines) written
 line_stops a b c p q lines i l written e before stop =
     subst (λ (t : List ℕ). Stops a c p t written) (text_split lines i l e) (stops_more a c p (text_of (take i lines) ++ (line_text l ++ 10 ∷ [])) (text_of (drop (i + 1) lines)) written (stops_then a b c p q (text_of (take i lines)) (line_text l ++ 10 ∷ []) written before stop))
 
 -- the last page after all lines
-pub written_last : {X : Type 0} (result : Result X WriteFault) (a b c : Device) (p q r : Gathered) (text : List ℕ) → Works a b → Puts a b p q text → Written result b c q r [] → Written result a c p r text
+pub written_last : {X : Type 0} (result : Result X WriteFault) (a b c : Device) (p q r : PageValue) (text : List ℕ) → Works a b → Puts a b p q text → Written result b c q r [] → Written result a c p r text
 written_last (Ok x) a b c p q r text same put last = (last.0 ∙ same, subst (λ (t : List ℕ). Puts a c p r t) (append-nil text) (puts_then a b c p q r text [] put last.1))
 written_last (Err e) a b c p q r text same put last = (last.0 ∙ ap (λ (n : ℕ). n + 1) same, subst (λ (t : List ℕ). Stops a c p t e.written) (append-nil text) (stops_then a b c p q text [] e.written put last.1))

@@ -6,7 +6,7 @@ ghost use Rattle.bk_frames.specs.Device.{CanBeUsed};
 ghost use Rattle.bk_report.specs.Lines.{line_text, hashed};
 ghost use Rattle.bk_results.specs.Lines.{spaced};
 ghost use Rattle.bk_report.specs.declared.line.Line.TheVariants.{Members};
-ghost use Rattle.bk_report.specs.Pages.{Gathered, Written, size_of};
+ghost use Rattle.bk_report.specs.Pages.{PageValue, Written, size_of};
 
 use crate::line::Line;
 use bk_digest::Digest32;
@@ -185,9 +185,9 @@ pub struct Page {
 impl Model for Page {
     ghost use Rattle.std.specs.Prelude.{◌≤◌};
     ghost use Rattle.std.specs.Vec.{vec_capacity};
-    ghost use Rattle.bk_report.specs.Pages.{Gathered};
+    ghost use Rattle.bk_report.specs.Pages.{PageValue};
 
-    ghost Value = { Gathered };
+    ghost Value = { PageValue };
 
     ghost view = { λ p. record { out = p.out; bytes = p.bytes.items } };
 

@@ -24,3 +24,10 @@ NothingFailed old new = Works old.source new.source × IsUntouched old.sink new.
 -- the bytes are those of a feed
 abbrev pub AreFeed : List ℕ → Type 0
 AreFeed bytes = (feed : FeedValue) × IsFeed feed × (bytes ≡ spelling feed)
+
+-- the bytes are those of a feed, and this holds of it
+pub record AreFeedWith (bytes : List ℕ) (P : FeedValue → Type 0) : Type 0 where
+  pub feed : FeedValue
+  pub good : IsFeed feed
+  pub spelled : bytes ≡ spelling feed
+  pub holds : P feed

@@ -28,10 +28,9 @@ HasRead most old new text =
 
 -- why a text was not read: a call of the source failed, or memory ran out
 abbrev pub IsNotRead : ScriptFault → Device → Device → Type 0
-IsNotRead (fault.Script line found) old new = ⊥
 IsNotRead fault.Read old new = Fails old new
-IsNotRead (fault.Write written) old new = ⊥
 IsNotRead fault.Memory old new = Works old new
+IsNotRead other old new = ⊥
 
 -- ---- from a source to a sink
 

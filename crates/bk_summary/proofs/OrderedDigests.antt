@@ -78,7 +78,7 @@ pub unordered_counts : (k : CommitteeValue) (frames : List Frame) (o : Ordered) 
     → length (unordered_digests o frames) ≡ length (once (digests_in frames)) - length o.payloads.list
 unordered_counts k frames o is =
     let ds : List (List ℕ) = digests_of is.certs o.order in
-    let list_is : o.payloads.list ≡ (before_missing is.batches ds).list = ap (λ (p : Payloads). p.list) is.payloads_are in
+    let list_is : o.payloads.list ≡ (before_missing is.batches ds).list = ap (λ (p : Payloads). p.list) is.holds.payloads_are in
     let split = front frames is.batches is.are_batches ds in
     let ordered_once : AreOnce (ordered_digests o) = subst (λ (ps : List (List ℕ)). AreOnce (map sha256 ps)) (sym list_is)
     (once_front (map sha256 (before_missing is.batches ds).list) split.0 (subst AreOnce split.1 (once_are_once _))) in

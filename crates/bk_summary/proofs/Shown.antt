@@ -149,7 +149,7 @@ follower_shows old new before after answer closed h =
 pub call_shows : (known old new : Device) (v : Followed) (answer : Status) → IfKnown known (λ bytes. AllHasCome bytes v) → FollowerShows v old new answer → IfKnown known (λ bytes. IsSummarized answer bytes old new)
 call_shows known old new v answer come h =
     of_known_feed known v (λ feed. SummaryIsOut feed answer old new) (λ bytes. IsSummarized answer bytes old new) come h.0
-    (λ bytes feed good spelled out. (out.text, record { feed = feed; good = good; spelled = spelled; summary = out.is_text }, out.gave))
+    (λ bytes feed good spelled out. (out.text, record { feed = feed; good = good; spelled = spelled; holds = out.is_text }, out.gave))
 
 -- why the Follower showed none is why the call did not
 pub call_fails : (f : Fault) (known now old new : Device) (v : Followed) → Works known now → IfKnown known (λ bytes. AllHasCome bytes v) → FollowerShowsNot v old new f → SummaryFailsBy f (devices known old) (devices now new)
@@ -157,12 +157,12 @@ call_fails (fault.Feed found) known now old new v works come h = (cut_short know
 call_fails (fault.Collision id) known now old new v works come h = ((works, h.1), stopped known v (fault.Collision id) come h.0)
 call_fails (fault.Equivocation round author first second) known now old new v works come h = ((works, h.1), stopped known v (fault.Equivocation round author first second) come h.0)
 call_fails (fault.Unfinished place) known now old new v works come h =
-    ((works, h.1), of_known_feed known v (λ feed. HasPlaceIn feed place) (λ bytes. HasPlace bytes place) come h.0 (λ bytes feed good spelled there. record { feed = feed; good = good; spelled = spelled; there = there }))
+    ((works, h.1), of_known_feed known v (λ feed. HasPlaceIn feed place) (λ bytes. HasPlace bytes place) come h.0 (λ bytes feed good spelled there. record { feed = feed; good = good; spelled = spelled; holds = there }))
 call_fails (fault.Write written) known now old new v works come h = (
   works,
   h.1,
   of_known_feed known v (λ feed. SummaryStops feed written old new) (PartOfSummaryIsOut written old new) come h.0
-      (λ bytes feed good spelled part. (part.answer, part.text, record { feed = feed; good = good; spelled = spelled; summary = part.is_text }, part.some, part.gave)),
+      (λ bytes feed good spelled part. (part.answer, part.text, record { feed = feed; good = good; spelled = spelled; holds = part.is_text }, part.some, part.gave)),
 )
 call_fails fault.Memory known now old new v works come h = (works, h)
 

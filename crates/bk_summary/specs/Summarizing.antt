@@ -1,13 +1,13 @@
 -- What `summarize` writes of a feed, read off its frames alone.
 use Rattle.std.specs.Prelude.{◌≡◌, ℕ, ◌<◌, List, length, take}
 use Rattle.bk_frames.specs.Device.{Device, Works, Fails, Receives, IfKnown}
-use Rattle.bk_frames.specs.Feed.{FeedValue, IsFeed, spelling}
+use Rattle.bk_frames.specs.Feed.{FeedValue}
 use Rattle.bk_frames.specs.Pulling.{Refuses}
 use Rattle.bk_results.specs.declared.fault.Fault.{Fault}
 use Rattle.bk_results.specs.declared.fault.Fault.TheVariants as fault
 use Rattle.bk_results.specs.declared.status.Status.{Status}
-use Rattle.bk_results.specs.Devices.{Devices, IsUntouched, NothingFailed}
-use Rattle.bk_follow.specs.RunReport.{HasPlace, IsStopped, status_of}
+use Rattle.bk_results.specs.Devices.{AreFeedWith, Devices, IsUntouched, NothingFailed}
+use Rattle.bk_follow.specs.RunReport.{HasPlace, IsStopped, reach_of}
 use Rattle.bk_summary.specs.Summary.{IsSummaryOf}
 use Rattle.bk_summary.specs.Text.{summary_text}
 use Rattle.bk_summary.specs.declared.summary.Summary.{Summary}
@@ -17,14 +17,11 @@ pub record IsTextOf (feed : FeedValue) (text : List ℕ) (answer : Status) : Typ
   pub summary : Summary
   pub is_summary : IsSummaryOf feed summary
   pub text_is : text ≡ summary_text summary
-  pub answer_is : answer ≡ status_of summary.missing
+  pub answer_is : answer ≡ reach_of summary.missing
 
 -- the same of bytes, where they are the encoding of that feed
-pub record IsSummaryText (bytes text : List ℕ) (answer : Status) : Type 0 where
-  pub feed : FeedValue
-  pub good : IsFeed feed
-  pub spelled : bytes ≡ spelling feed
-  pub summary : IsTextOf feed text answer
+abbrev pub IsSummaryText : List ℕ → List ℕ → Status → Type 0
+IsSummaryText bytes text answer = AreFeedWith bytes (λ feed. IsTextOf feed text answer)
 
 -- ---- what a call leaves
 
@@ -43,14 +40,11 @@ PartOfSummaryIsOut written old new bytes =
 -- sink's failure nothing is written
 abbrev pub SummaryFailsBy : Fault → Devices → Devices → Type 0
 SummaryFailsBy (fault.Feed found) old new = Refuses found old.source new.source × IsUntouched old.sink new.sink
-SummaryFailsBy (fault.Collision id) old new =
-    NothingFailed old new × IfKnown old.source (λ bytes. IsStopped bytes (fault.Collision id))
-SummaryFailsBy (fault.Equivocation round author first second) old new =
-    NothingFailed old new
-    × IfKnown old.source (λ bytes. IsStopped bytes (fault.Equivocation round author first second))
 SummaryFailsBy (fault.Unfinished place) old new =
     NothingFailed old new × IfKnown old.source (λ bytes. HasPlace bytes place)
 SummaryFailsBy (fault.Write written) old new =
     Works old.source new.source × Fails old.sink new.sink
     × IfKnown old.source (PartOfSummaryIsOut written old.sink new.sink)
 SummaryFailsBy fault.Memory old new = NothingFailed old new
+SummaryFailsBy stop old new =
+    NothingFailed old new × IfKnown old.source (λ bytes. IsStopped bytes stop)

@@ -62,20 +62,15 @@ AreCertCounts feed r c =
 abbrev pub is_committed : AnchorState → Bool
 is_committed state.Voted = true
 is_committed state.Linked = true
-is_committed state.Skipped = false
-is_committed state.Open = false
+is_committed other = false
 
 abbrev pub is_skipped : AnchorState → Bool
-is_skipped state.Voted = false
-is_skipped state.Linked = false
 is_skipped state.Skipped = true
-is_skipped state.Open = false
+is_skipped other = false
 
 abbrev pub is_open : AnchorState → Bool
-is_open state.Voted = false
-is_open state.Linked = false
-is_open state.Skipped = false
 is_open state.Open = true
+is_open other = false
 
 -- how many rows are in such a state
 abbrev pub rows_by : (AnchorState → Bool) → List AnchorRow → ℕ

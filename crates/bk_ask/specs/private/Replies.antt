@@ -70,13 +70,10 @@ IsOfClosed book =
 
 -- a text was not written: some of its first bytes are out, and a call of the sink failed; or memory ran out
 abbrev pub TextFails : (List ℕ → Type 0) → Device → Device → Fault → Type 0
-TextFails is_text old new (fault.Feed found) = ⊥
-TextFails is_text old new (fault.Collision id) = ⊥
-TextFails is_text old new (fault.Equivocation round author first second) = ⊥
-TextFails is_text old new (fault.Unfinished place) = ⊥
 TextFails is_text old new (fault.Write written) =
     (text : List ℕ) × is_text text × (written < length text) × Receives old new (take written text) × Fails old new
 TextFails is_text old new fault.Memory = IsUntouched old new
+TextFails is_text old new other = ⊥
 
 -- the text that was found
 abbrev pub IsTextOf : Option (Vec ℕ) → List ℕ → Type 0
@@ -118,13 +115,10 @@ BookReplies asked b old new answer =
 
 -- why it was not, and how much of it is out
 abbrev pub BookReplyFails : Query → BookValue → Device → Device → Fault → Type 0
-BookReplyFails asked b old new (fault.Feed found) = ⊥
-BookReplyFails asked b old new (fault.Collision id) = ⊥
-BookReplyFails asked b old new (fault.Equivocation round author first second) = ⊥
-BookReplyFails asked b old new (fault.Unfinished place) = ⊥
 BookReplyFails asked b old new (fault.Write written) =
     ((feed : FeedValue) → IsFeed feed → IsCurrent feed b → ReplyStops feed asked written old new) × Fails old new
 BookReplyFails asked b old new fault.Memory = IsUntouched old new
+BookReplyFails asked b old new other = ⊥
 
 -- a view of a book that is ordered was written
 abbrev pub BookShows : Query → BookValue → Device → Device → Type 0
@@ -133,13 +127,10 @@ BookShows asked b old new =
 
 -- why it was not, and how much of it is out
 abbrev pub BookShowsNot : Query → BookValue → Device → Device → Fault → Type 0
-BookShowsNot asked b old new (fault.Feed found) = ⊥
-BookShowsNot asked b old new (fault.Collision id) = ⊥
-BookShowsNot asked b old new (fault.Equivocation round author first second) = ⊥
-BookShowsNot asked b old new (fault.Unfinished place) = ⊥
 BookShowsNot asked b old new (fault.Write written) =
     ((feed : FeedValue) → IsFeed feed → IsOrdered feed b → ReplyStops feed asked written old new) × Fails old new
 BookShowsNot asked b old new fault.Memory = IsUntouched old new
+BookShowsNot asked b old new other = ⊥
 
 -- a Follower replied at the end of its feed
 abbrev pub FollowerReplies : Query → Followed → Device → Device → Reply → Type 0
@@ -150,12 +141,10 @@ FollowerReplies asked v old new answer =
 -- why it did not
 abbrev pub FollowerReplyFails : Query → Followed → Device → Device → Fault → Type 0
 FollowerReplyFails asked v old new (fault.Feed found) = EndsShort v.cut found × IsUntouched old new
-FollowerReplyFails asked v old new (fault.Collision id) =
-    OfFeed v (λ feed. IsStopIn feed (fault.Collision id)) × IsUntouched old new
-FollowerReplyFails asked v old new (fault.Equivocation round author first second) =
-    OfFeed v (λ feed. IsStopIn feed (fault.Equivocation round author first second)) × IsUntouched old new
 FollowerReplyFails asked v old new (fault.Unfinished place) =
     (executes asked ≡ true) × OfFeed v (λ feed. HasPlaceIn feed place) × IsUntouched old new
 FollowerReplyFails asked v old new (fault.Write written) =
     OfFeed v (λ feed. ReplyStops feed asked written old new) × Fails old new
 FollowerReplyFails asked v old new fault.Memory = IsUntouched old new
+FollowerReplyFails asked v old new stop =
+    OfFeed v (λ feed. IsStopIn feed stop) × IsUntouched old new

@@ -15,13 +15,10 @@ use Rattle.bk_results.specs.declared.status.Status.{Status}
 -- why a report is not held: the feed is refused or stopped, a worker took a place and did not finish it, or memory ran out
 abbrev pub HoldFailsBy : Fault → Device → Device → Type 0
 HoldFailsBy (fault.Feed found) old new = Refuses found old new
-HoldFailsBy (fault.Collision id) old new =
-    Works old new × IfKnown old (λ bytes. IsStopped bytes (fault.Collision id))
-HoldFailsBy (fault.Equivocation round author first second) old new =
-    Works old new × IfKnown old (λ bytes. IsStopped bytes (fault.Equivocation round author first second))
 HoldFailsBy (fault.Unfinished place) old new = Works old new × IfKnown old (λ bytes. HasPlace bytes place)
 HoldFailsBy (fault.Write written) old new = ⊥
 HoldFailsBy fault.Memory old new = Works old new
+HoldFailsBy found old new = Works old new × IfKnown old (λ bytes. IsStopped bytes found)
 
 -- the sink received the text of the verdict on a claim beside a report
 abbrev pub ShownIsOut : List ℕ → Status → Verdict → Device → Device → List ℕ → Type 0
@@ -36,14 +33,11 @@ PartOfShownIsOut right end written old new claim =
 
 -- why there is no verdict beside a report, by the fault: the sink failed, or memory ran out
 abbrev pub JudgeStops : List ℕ → Status → Fault → Devices → Devices → Type 0
-JudgeStops right end (fault.Feed found) old new = ⊥
-JudgeStops right end (fault.Collision id) old new = ⊥
-JudgeStops right end (fault.Equivocation round author first second) old new = ⊥
-JudgeStops right end (fault.Unfinished place) old new = ⊥
 JudgeStops right end (fault.Write written) old new =
     Works old.source new.source × Fails old.sink new.sink
     × IfKnown old.source (PartOfShownIsOut right end written old.sink new.sink)
 JudgeStops right end fault.Memory old new = NothingFailed old new
+JudgeStops right end other old new = ⊥
 
 -- or a call of the claim failed, and nothing is written
 abbrev pub JudgeFailsBy : List ℕ → Status → ClaimStop → Devices → Devices → Type 0

@@ -41,11 +41,9 @@ Ends old new = (bytes : List ℕ) (frames : List Frame) → HasCome bytes frames
 -- why it has not
 abbrev pub EndsNot : Followed → Fault → Type 0
 EndsNot v (fault.Feed found) = EndsShort v.cut found
-EndsNot v (fault.Collision id) = ⊥
-EndsNot v (fault.Equivocation round author first second) = ⊥
 EndsNot v (fault.Unfinished place) = OfFeed v (λ feed. HasPlaceIn feed place)
-EndsNot v (fault.Write written) = ⊥
 EndsNot v fault.Memory = Unit {0}
+EndsNot v other = ⊥
 
 -- how far two Followers agree, and where their orders stop
 abbrev pub compared_of : Followed → Followed → Agreed → Compared

@@ -21,14 +21,12 @@ pub record IsGoodBook (feed : FeedValue) (b : BookValue) : Type 0 where
 -- why a book was not settled, and what it leaves
 abbrev pub BookSettleFails : BookValue → BookValue → Fault → Type 0
 BookSettleFails old new (fault.Feed found) = ⊥
-BookSettleFails old new (fault.Collision id) =
-    (new ≡ old) × ((feed : FeedValue) → IsGoodBook feed old → IsStopIn feed (fault.Collision id))
-BookSettleFails old new (fault.Equivocation round author first second) =
-    (new ≡ old) × ((feed : FeedValue) → IsGoodBook feed old → IsStopIn feed (fault.Equivocation round author first second))
 BookSettleFails old new (fault.Unfinished place) =
     (feed : FeedValue) → IsGoodBook feed old → HasPlaceIn feed place
 BookSettleFails old new (fault.Write written) = ⊥
 BookSettleFails old new fault.Memory = Unit {0}
+BookSettleFails old new stop =
+    (new ≡ old) × ((feed : FeedValue) → IsGoodBook feed old → IsStopIn feed stop)
 
 -- these frames are followed, and these others make good ones of them all
 pub record HasFollowed (version : Version) (before more : List Frame) (committee : Option CommitteeValue) (book : Option BookValue) : Type 0 where
@@ -42,10 +40,7 @@ WritesBook b before after answer =
 
 -- why it was not, and how much of it is out
 abbrev pub WriteFails : BookValue → Device → Device → Fault → Type 0
-WriteFails b before after (fault.Feed found) = ⊥
-WriteFails b before after (fault.Collision id) = ⊥
-WriteFails b before after (fault.Equivocation round author first second) = ⊥
-WriteFails b before after (fault.Unfinished place) = ⊥
 WriteFails b before after (fault.Write written) =
     ((feed : FeedValue) → IsFeed feed → IsCurrent feed b → ReportStops feed written before after) × Fails before after
 WriteFails b before after fault.Memory = IsUntouched before after
+WriteFails b before after other = ⊥

@@ -10,10 +10,8 @@ use Rattle.bk_follow.specs.private.Books.{IsGoodBook}
 -- why the order of a book was not settled, and what that leaves
 abbrev pub BookOrderFails : BookValue → BookValue → Fault → Type 0
 BookOrderFails old new (fault.Feed found) = ⊥
-BookOrderFails old new (fault.Collision id) =
-    (new ≡ old) × ((feed : FeedValue) → IsGoodBook feed old → IsStopIn feed (fault.Collision id))
-BookOrderFails old new (fault.Equivocation round author first second) =
-    (new ≡ old) × ((feed : FeedValue) → IsGoodBook feed old → IsStopIn feed (fault.Equivocation round author first second))
 BookOrderFails old new (fault.Unfinished place) = ⊥
 BookOrderFails old new (fault.Write written) = ⊥
 BookOrderFails old new fault.Memory = Unit {0}
+BookOrderFails old new stop =
+    (new ≡ old) × ((feed : FeedValue) → IsGoodBook feed old → IsStopIn feed stop)

@@ -17,32 +17,26 @@ followed cut opened = record { cut = cut; committee = opened.committee; book = o
 -- why a feed that is followed was not closed, but for the fault that is kept after it
 abbrev pub ClosesNot : Followed → Followed → Fault → Type 0
 ClosesNot old new (fault.Feed found) = EndsShort old.cut found
-ClosesNot old new (fault.Collision id) = OfFeed old (λ feed. IsStopIn feed (fault.Collision id)) × (new ≡ old)
-ClosesNot old new (fault.Equivocation round author first second) =
-    OfFeed old (λ feed. IsStopIn feed (fault.Equivocation round author first second)) × (new ≡ old)
 ClosesNot old new (fault.Unfinished place) = OfFeed old (λ feed. HasPlaceIn feed place)
 ClosesNot old new (fault.Write written) = ⊥
 ClosesNot old new fault.Memory = Unit {0}
+ClosesNot old new stop = OfFeed old (λ feed. IsStopIn feed stop) × (new ≡ old)
 
 -- why its order was not closed, but for the same
 abbrev pub OrdersNot : Followed → Followed → Fault → Type 0
 OrdersNot old new (fault.Feed found) = EndsShort old.cut found
-OrdersNot old new (fault.Collision id) = OfFeed old (λ feed. IsStopIn feed (fault.Collision id)) × (new ≡ old)
-OrdersNot old new (fault.Equivocation round author first second) =
-    OfFeed old (λ feed. IsStopIn feed (fault.Equivocation round author first second)) × (new ≡ old)
 OrdersNot old new (fault.Unfinished place) = ⊥
 OrdersNot old new (fault.Write written) = ⊥
 OrdersNot old new fault.Memory = Unit {0}
+OrdersNot old new stop = OfFeed old (λ feed. IsStopIn feed stop) × (new ≡ old)
 
 -- why a feed that is followed did not end in a report, but for the fault that is kept after it
 abbrev pub EndFails : Followed → Followed → Device → Device → Fault → Type 0
 EndFails old new before after (fault.Feed found) = EndsShort old.cut found × IsUntouched before after
-EndFails old new before after (fault.Collision id) =
-    OfFeed old (λ feed. IsStopIn feed (fault.Collision id)) × (new ≡ old) × IsUntouched before after
-EndFails old new before after (fault.Equivocation round author first second) =
-    OfFeed old (λ feed. IsStopIn feed (fault.Equivocation round author first second)) × (new ≡ old) × IsUntouched before after
 EndFails old new before after (fault.Unfinished place) =
     OfFeed old (λ feed. HasPlaceIn feed place) × IsUntouched before after
 EndFails old new before after (fault.Write written) =
     OfFeed old (λ feed. ReportStops feed written before after) × Fails before after
 EndFails old new before after fault.Memory = IsUntouched before after
+EndFails old new before after stop =
+    OfFeed old (λ feed. IsStopIn feed stop) × (new ≡ old) × IsUntouched before after

@@ -47,33 +47,26 @@ pub record ListsWaiting (taken : List Frame) (text : List ℕ) (r : FrameReader)
 
 -- why they are not: the sink failed in these lines, or memory ran out and nothing more is out
 abbrev pub WaitingFails : Fault → List Frame → List ℕ → FrameReader → Device → Device → Type 0
-WaitingFails (fault.Feed found) taken text r old new = ⊥
-WaitingFails (fault.Collision id) taken text r old new = ⊥
-WaitingFails (fault.Equivocation round author first second) taken text r old new = ⊥
-WaitingFails (fault.Unfinished place) taken text r old new = ⊥
 WaitingFails (fault.Write written) taken text r old new =
     Fails old new × (v : Version) × (r.version ≡ Some v) × (lines : List ℕ) × IsListing v (taken ++ waiting r) (text ++ lines)
     × (part : ℕ) × (written ≡ length text + part) × (part < length lines) × Receives old new (take part lines)
 WaitingFails fault.Memory taken text r old new = IsUntouched old new
+WaitingFails other taken text r old new = ⊥
 
 -- what is left where a fault of the feed was found: it, with all frames before it listed, or why they are not
 abbrev pub LeavesBy : FeedFault → Fault → List Frame → List ℕ → FrameReader → Lister → Device → Device → Type 0
 LeavesBy found (fault.Feed f) taken text r l old new = (f ≡ found) × ListsWaiting taken text r l old new
-LeavesBy found (fault.Collision id) taken text r l old new = ⊥
-LeavesBy found (fault.Equivocation round author first second) taken text r l old new = ⊥
-LeavesBy found (fault.Unfinished place) taken text r l old new = ⊥
 LeavesBy found (fault.Write written) taken text r l old new = WaitingFails (fault.Write written) taken text r old new
 LeavesBy found fault.Memory taken text r l old new = WaitingFails fault.Memory taken text r old new
+LeavesBy found other taken text r l old new = ⊥
 
 -- why a feed was not listed whole though all its bytes came: it ends too early, after the frames that are listed; or the
 -- last frames are not listed
 abbrev pub EndsBy : Fault → List Frame → List ℕ → FrameReader → Lister → Device → Device → Type 0
 EndsBy (fault.Feed found) taken text r l old new = EndsShort r.cutter found × ListsWaiting taken text r l old new
-EndsBy (fault.Collision id) taken text r l old new = ⊥
-EndsBy (fault.Equivocation round author first second) taken text r l old new = ⊥
-EndsBy (fault.Unfinished place) taken text r l old new = ⊥
 EndsBy (fault.Write written) taken text r l old new = WaitingFails (fault.Write written) taken text r old new
 EndsBy fault.Memory taken text r l old new = WaitingFails fault.Memory taken text r old new
+EndsBy other taken text r l old new = ⊥
 
 -- of what a source gave these frames are listed, and exactly their text went to the sink
 pub record HasShown (old now : Devices) (r : FrameReader) (l : Lister) : Type 0 where

@@ -15,8 +15,7 @@ use Rattle.bk_listing.specs.declared.finding.Found.TheVariants as found
 abbrev pub IsOther : Kind → Type 0
 IsOther kind.Committee = Unit {0}
 IsOther kind.Genesis = Unit {0}
-IsOther kind.Certificate = ⊥
-IsOther kind.Batch = ⊥
+IsOther later = ⊥
 
 -- what is found of a frame
 abbrev pub IsFound : CommitteeValue → Frame → Found → Type 0

@@ -62,13 +62,10 @@ OpensBy version frames None new = IsCommitteeOf version frames new
 -- why lines did not go out whole after this many bytes: the sink failed, and exactly the first of their bytes are out; or
 -- the count of bytes would not fit, and none are
 abbrev pub PushFails : Fault → ℕ → List ℕ → Device → Device → Type 0
-PushFails (fault.Feed found) before lines old new = ⊥
-PushFails (fault.Collision id) before lines old new = ⊥
-PushFails (fault.Equivocation round author first second) before lines old new = ⊥
-PushFails (fault.Unfinished place) before lines old new = ⊥
 PushFails (fault.Write written) before lines old new =
     Fails old new × (part : ℕ) × (written ≡ before + part) × (part < length lines) × Receives old new (take part lines)
 PushFails fault.Memory before lines old new = IsUntouched old new
+PushFails other before lines old new = ⊥
 
 -- these lines are those of the frames that follow those that were listed
 abbrev pub GoesOn : Version → List Frame → Lister → Lister → List ℕ → Type 0
@@ -90,10 +87,7 @@ AreNext version frames l lines =
 
 -- why they were not: the sink failed in the lines that come next, or memory ran out and nothing more is out
 abbrev pub MoreFails : Fault → Version → List Frame → Lister → Device → Device → Type 0
-MoreFails (fault.Feed found) version frames l before after = ⊥
-MoreFails (fault.Collision id) version frames l before after = ⊥
-MoreFails (fault.Equivocation round author first second) version frames l before after = ⊥
-MoreFails (fault.Unfinished place) version frames l before after = ⊥
 MoreFails (fault.Write written) version frames l before after =
     (lines : List ℕ) × AreNext version frames l lines × PushFails (fault.Write written) l.written lines before after
 MoreFails fault.Memory version frames l before after = IsUntouched before after
+MoreFails other version frames l before after = ⊥

@@ -35,13 +35,10 @@ WritesSome is_text old new = (text : List ℕ) × is_text text × Writes text ol
 
 -- it was not: some of its first bytes are out, and a call of the sink failed; or memory ran out
 abbrev pub TextFails : (List ℕ → Type 0) → Device → Device → Fault → Type 0
-TextFails is_text old new (fault.Feed found) = ⊥
-TextFails is_text old new (fault.Collision id) = ⊥
-TextFails is_text old new (fault.Equivocation round author first second) = ⊥
-TextFails is_text old new (fault.Unfinished place) = ⊥
 TextFails is_text old new (fault.Write written) =
     (text : List ℕ) × is_text text × (written < length text) × Receives old new (take written text) × Fails old new
 TextFails is_text old new fault.Memory = IsUntouched old new
+TextFails is_text old new other = ⊥
 
 -- the sink received the drawing of a feed
 pub record DrawingIsOut (feed : FeedValue) (from count : ℕ) (old new : Device) : Type 0 where
@@ -63,13 +60,10 @@ BookShows from count b old new =
 
 -- why it was not, and how much of it is out
 abbrev pub BookShowsNot : ℕ → ℕ → BookValue → Device → Device → Fault → Type 0
-BookShowsNot from count b old new (fault.Feed found) = ⊥
-BookShowsNot from count b old new (fault.Collision id) = ⊥
-BookShowsNot from count b old new (fault.Equivocation round author first second) = ⊥
-BookShowsNot from count b old new (fault.Unfinished place) = ⊥
 BookShowsNot from count b old new (fault.Write written) =
     ((feed : FeedValue) → IsFeed feed → IsOrdered feed b → DrawingStops feed from count written old new) × Fails old new
 BookShowsNot from count b old new fault.Memory = IsUntouched old new
+BookShowsNot from count b old new other = ⊥
 
 -- a Follower drew its feed at its end
 abbrev pub FollowerDraws : ℕ → ℕ → Followed → Device → Device → Type 0
@@ -78,11 +72,9 @@ FollowerDraws from count v old new = OfFeed v (λ feed. DrawingIsOut feed from c
 -- why it did not
 abbrev pub FollowerDrawsNot : ℕ → ℕ → Followed → Device → Device → Fault → Type 0
 FollowerDrawsNot from count v old new (fault.Feed found) = EndsShort v.cut found × IsUntouched old new
-FollowerDrawsNot from count v old new (fault.Collision id) =
-    OfFeed v (λ feed. IsStopIn feed (fault.Collision id)) × IsUntouched old new
-FollowerDrawsNot from count v old new (fault.Equivocation round author first second) =
-    OfFeed v (λ feed. IsStopIn feed (fault.Equivocation round author first second)) × IsUntouched old new
 FollowerDrawsNot from count v old new (fault.Unfinished place) = ⊥
 FollowerDrawsNot from count v old new (fault.Write written) =
     OfFeed v (λ feed. DrawingStops feed from count written old new) × Fails old new
 FollowerDrawsNot from count v old new fault.Memory = IsUntouched old new
+FollowerDrawsNot from count v old new stop =
+    OfFeed v (λ feed. IsStopIn feed stop) × IsUntouched old new

@@ -10,7 +10,7 @@ use Rattle.bk_results.specs.declared.status.Status.{Status}
 use Rattle.bk_results.specs.Devices.{IsUntouched}
 use Rattle.bk_follow.specs.Finishing.{OfFeed}
 use Rattle.bk_follow.specs.Follower.{BookValue, Followed, IsCurrent}
-use Rattle.bk_follow.specs.RunReport.{HasPlaceIn, IsStopIn, status_of}
+use Rattle.bk_follow.specs.RunReport.{HasPlaceIn, IsStopIn, reach_of}
 use Rattle.bk_summary.specs.Summarizing.{IsTextOf}
 use Rattle.bk_summary.specs.Summary.{IsSummaryOf}
 use Rattle.bk_summary.specs.Text.{summary_text}
@@ -27,17 +27,14 @@ IsOfBook b s = (feed : FeedValue) → IsFeed feed → IsCurrent feed b → IsSum
 
 -- the text of a summary was written, and the answer is that of the summary
 abbrev pub WritesSummary : Summary → Device → Device → Status → Type 0
-WritesSummary s old new answer = Writes (summary_text s) old new × (answer ≡ status_of s.missing)
+WritesSummary s old new answer = Writes (summary_text s) old new × (answer ≡ reach_of s.missing)
 
 -- it was not: some of its first bytes are out, and a call of the sink failed; or memory ran out
 abbrev pub TextFails : Summary → Device → Device → Fault → Type 0
-TextFails s old new (fault.Feed found) = ⊥
-TextFails s old new (fault.Collision id) = ⊥
-TextFails s old new (fault.Equivocation round author first second) = ⊥
-TextFails s old new (fault.Unfinished place) = ⊥
 TextFails s old new (fault.Write written) =
     (written < length (summary_text s)) × Receives old new (take written (summary_text s)) × Fails old new
 TextFails s old new fault.Memory = IsUntouched old new
+TextFails s old new other = ⊥
 
 -- the sink received the text of a feed's summary
 pub record SummaryIsOut (feed : FeedValue) (answer : Status) (old new : Device) : Type 0 where
@@ -60,13 +57,10 @@ BookShows b old new answer =
 
 -- why it was not, and how much of it is out
 abbrev pub BookShowsNot : BookValue → Device → Device → Fault → Type 0
-BookShowsNot b old new (fault.Feed found) = ⊥
-BookShowsNot b old new (fault.Collision id) = ⊥
-BookShowsNot b old new (fault.Equivocation round author first second) = ⊥
-BookShowsNot b old new (fault.Unfinished place) = ⊥
 BookShowsNot b old new (fault.Write written) =
     ((feed : FeedValue) → IsFeed feed → IsCurrent feed b → SummaryStops feed written old new) × Fails old new
 BookShowsNot b old new fault.Memory = IsUntouched old new
+BookShowsNot b old new other = ⊥
 
 -- a Follower summed up its feed at its end
 abbrev pub FollowerShows : Followed → Device → Device → Status → Type 0
@@ -75,11 +69,8 @@ FollowerShows v old new answer = OfFeed v (λ feed. SummaryIsOut feed answer old
 -- why it did not
 abbrev pub FollowerShowsNot : Followed → Device → Device → Fault → Type 0
 FollowerShowsNot v old new (fault.Feed found) = EndsShort v.cut found × IsUntouched old new
-FollowerShowsNot v old new (fault.Collision id) =
-    OfFeed v (λ feed. IsStopIn feed (fault.Collision id)) × IsUntouched old new
-FollowerShowsNot v old new (fault.Equivocation round author first second) =
-    OfFeed v (λ feed. IsStopIn feed (fault.Equivocation round author first second)) × IsUntouched old new
 FollowerShowsNot v old new (fault.Unfinished place) = OfFeed v (λ feed. HasPlaceIn feed place) × IsUntouched old new
 FollowerShowsNot v old new (fault.Write written) =
     OfFeed v (λ feed. SummaryStops feed written old new) × Fails old new
 FollowerShowsNot v old new fault.Memory = IsUntouched old new
+FollowerShowsNot v old new stop = OfFeed v (λ feed. IsStopIn feed stop) × IsUntouched old new

@@ -1,7 +1,7 @@
 use Rattle.std.proofs.Common.{subst, sym, ap}
 use Rattle.std.proofs.lemmas.Result.{err_from_is_err_and}
 use Rattle.bk_results.specs.declared.status.Status.TheVariants as status
-use Rattle.bk_follow.specs.RunReport.{status_of}
+use Rattle.bk_follow.specs.RunReport.{reach_of}
 use Rattle.bk_follow.specs.Queries.{executed_of}
 use Rattle.bk_follow.specs.private.Ledgers.{book_with}
 use Rattle.bk_follow.proofs.BookReports.{IsSettledBook, shown_of, few_rejected, few_waits, few_of_anchors, few_of_order, few_counts, few_receipts, few_of_rows, report_out, report_front}
@@ -35,8 +35,8 @@ returns-in_err-write_shown-clause-fault g c =
 
 pub returns-in-Some-missing-clause-report : goal.returns-in-Some-missing-clause-report
 returns-in-Some-missing-clause-report g c =
-    rw (← c.self.view_is) (report_out (book_with c.self.inside.intake c.self.inside.ledger c.self.inside.opening.items) (executed_of c.in-Some.ledger) c.in_ok-shown.shown.waiting.items c.in_ok-shown.shown.rows.items status.Missing _ _ _ _ c.in_ok-page.ensures c.in_ok-write_shown.ensures.empty (shown_of c.self.inside.intake c.self.inside.ledger c.self.inside.opening.items c.in-Some.ledger c.in_ok-shown.shown.waiting.items c.in_ok-shown.shown.rows.items c.in-Some.is c.in_ok-shown.ensures.rows c.in_ok-shown.ensures.waiting) (ap status_of c.in-Some-missing.ensures) c.in_ok-write_shown.ensures.written.1, c.in_ok-write_shown.ensures.written.0)
+    rw (← c.self.view_is) (report_out (book_with c.self.inside.intake c.self.inside.ledger c.self.inside.opening.items) (executed_of c.in-Some.ledger) c.in_ok-shown.shown.waiting.items c.in_ok-shown.shown.rows.items status.Missing _ _ _ _ c.in_ok-page.ensures c.in_ok-write_shown.ensures.empty (shown_of c.self.inside.intake c.self.inside.ledger c.self.inside.opening.items c.in-Some.ledger c.in_ok-shown.shown.waiting.items c.in_ok-shown.shown.rows.items c.in-Some.is c.in_ok-shown.ensures.rows c.in_ok-shown.ensures.waiting) (ap reach_of c.in-Some-missing.ensures) c.in_ok-write_shown.ensures.written.1, c.in_ok-write_shown.ensures.written.0)
 
 pub returns-clause-report : goal.returns-clause-report
 returns-clause-report g c =
-    rw (← c.self.view_is) (report_out (book_with c.self.inside.intake c.self.inside.ledger c.self.inside.opening.items) (executed_of c.in-Some.ledger) c.in_ok-shown.shown.waiting.items c.in_ok-shown.shown.rows.items status.Whole _ _ _ _ c.in_ok-page.ensures c.in_ok-write_shown.ensures.empty (shown_of c.self.inside.intake c.self.inside.ledger c.self.inside.opening.items c.in-Some.ledger c.in_ok-shown.shown.waiting.items c.in_ok-shown.shown.rows.items c.in-Some.is c.in_ok-shown.ensures.rows c.in_ok-shown.ensures.waiting) (ap status_of c.in-None.ensures) c.in_ok-write_shown.ensures.written.1, c.in_ok-write_shown.ensures.written.0)
+    rw (← c.self.view_is) (report_out (book_with c.self.inside.intake c.self.inside.ledger c.self.inside.opening.items) (executed_of c.in-Some.ledger) c.in_ok-shown.shown.waiting.items c.in_ok-shown.shown.rows.items status.Whole _ _ _ _ c.in_ok-page.ensures c.in_ok-write_shown.ensures.empty (shown_of c.self.inside.intake c.self.inside.ledger c.self.inside.opening.items c.in-Some.ledger c.in_ok-shown.shown.waiting.items c.in_ok-shown.shown.rows.items c.in-Some.is c.in_ok-shown.ensures.rows c.in_ok-shown.ensures.waiting) (ap reach_of c.in-None.ensures) c.in_ok-write_shown.ensures.written.1, c.in_ok-write_shown.ensures.written.0)
