@@ -15,7 +15,7 @@ use Rattle.bk_apply.specs.declared.scheduling.ScheduleStop.{ScheduleStop}
 use Rattle.bk_apply.specs.declared.scheduling.ScheduleStop.TheVariants as stop
 use Rattle.bk_results.specs.Devices.{Devices}
 use Rattle.bk_apply.specs.Answers.{FailsBy}
-use Rattle.bk_results.specs.Devices.{NothingFailed}
+use Rattle.bk_results.specs.Devices.{NothingHappened}
 use Rattle.bk_tx.specs.Batches.{feed_transactions}
 
 -- the accounts before the first transaction: those of genesis, each with a slot
@@ -59,4 +59,4 @@ IsOfEvents OutOfMemory = ⊥
 abbrev pub StopsBy : ScheduleStop → ℕ → List Event → Devices → Devices → Type 0
 StopsBy (stop.Fault found) workers events old new = FailsBy found old new
 StopsBy (stop.Schedule found) workers events old new =
-    IsOfEvents found × NothingFailed old new × IfKnown old.source (IsNotWholeFor workers events found)
+    IsOfEvents found × NothingHappened old new × IfKnown old.source (IsNotWholeFor workers events found)

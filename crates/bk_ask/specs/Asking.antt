@@ -19,7 +19,7 @@ use Rattle.bk_results.specs.declared.query.Query.{Query}
 use Rattle.bk_results.specs.declared.query.Query.TheVariants as query
 use Rattle.bk_results.specs.declared.query.Reply.{Reply}
 use Rattle.bk_results.specs.declared.query.Reply.TheVariants as reply
-use Rattle.bk_results.specs.Devices.{AreFeedWith, Devices, IsUntouched, NothingFailed}
+use Rattle.bk_results.specs.Devices.{AreFeedWith, Devices, IsUntouched, NothingHappened}
 use Rattle.bk_report.specs.Leaves.{state_of}
 use Rattle.bk_report.specs.Lines.{text_of}
 use Rattle.bk_report.specs.Proofs.{ProofValue, proof_text, IsProofOf, IsAbsent}
@@ -195,10 +195,10 @@ abbrev pub AskFailsBy : Query → Fault → Devices → Devices → Type 0
 AskFailsBy asked (fault.Feed found) old new =
     Refuses found old.source new.source × IsUntouched old.sink new.sink
 AskFailsBy asked (fault.Unfinished place) old new =
-    (executes asked ≡ true) × NothingFailed old new × IfKnown old.source (λ bytes. HasPlace bytes place)
+    (executes asked ≡ true) × NothingHappened old new × IfKnown old.source (λ bytes. HasPlace bytes place)
 AskFailsBy asked (fault.Write written) old new =
     Works old.source new.source × Fails old.sink new.sink
     × IfKnown old.source (PartOfReplyIsOut asked written old.sink new.sink)
-AskFailsBy asked fault.Memory old new = NothingFailed old new
+AskFailsBy asked fault.Memory old new = NothingHappened old new
 AskFailsBy asked stop old new =
-    NothingFailed old new × IfKnown old.source (λ bytes. IsStopped bytes stop)
+    NothingHappened old new × IfKnown old.source (λ bytes. IsStopped bytes stop)

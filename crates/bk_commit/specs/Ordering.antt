@@ -26,7 +26,7 @@ pub record IsPrior (z : Sizes) (held : List Node) (a p : CertRef) : Type 0 where
   pub earlier : IsEarlier z held a p
   pub greatest : (b : CertRef) → IsEarlier z held a b → b.round ≤ p.round
 
--- The anchors from a back, each the prior of the one before it in the list; the last has none.
+-- The anchors behind a, newest first: the prior of a, the prior of that, and so on; the last has none.
 abbrev pub IsWayBack : Sizes → List Node → CertRef → List CertRef → Type 0
 IsWayBack z held a [] = (b : CertRef) → IsEarlier z held a b → ⊥
 IsWayBack z held a (p ∷ ps) = IsPrior z held a p × IsWayBack z held p ps

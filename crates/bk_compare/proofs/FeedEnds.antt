@@ -21,7 +21,7 @@ use Rattle.bk_results.specs.declared.differ.Differ.{Differ}
 use Rattle.bk_results.specs.declared.differ.Differ.TheVariants as differ
 use Rattle.bk_results.specs.declared.fault.Fault.{Fault}
 use Rattle.bk_results.specs.declared.fault.Fault.TheVariants as fault
-use Rattle.bk_follow.specs.Agreement.{Agree, AgreeInOrder, BeginsWith, HaveOneSetup, frames_together, HaveNoStop, HaveStop, settled_in, OfBoth, FollowersAgree, FollowersDiffer}
+use Rattle.bk_follow.specs.Agreement.{Agree, AgreeInOrder, OneBeginsFor, HaveOneSetup, frames_together, HaveNoStop, HaveStop, settled_in, OfBoth, FollowersAgree, FollowersDiffer}
 use Rattle.bk_results.specs.Devices.{AreFeed}
 use Rattle.bk_follow.specs.Outcomes.{IsOutcomeOf}
 use Rattle.bk_compare.specs.FeedAgreement.{FeedsAgree, FeedsCompared, FeedsDiffer, OfTheirFeeds, IfBothKnown, Sources, BothWork, FollowFails, ComparesNot, sources}
@@ -181,7 +181,7 @@ module _ (one other : Followed) (bytes more : List ℕ) (x : HasEnded bytes one)
       let there : o.also ≡ ordered_in other.book = one_ordered (committee_in right) (later_frames right) o.also (ordered_in other.book) also.clear o.also_is also.ordered in
       record {
         anchors = subst (λ (p : Ordered × Ordered). OneBegins p.0.anchors p.1.anchors) (λ i. (here i, there i)) o.anchors;
-        certs = subst (λ (p : Ordered × Ordered). BeginsWith a.certs p.0.order p.1.order) (λ i. (here i, there i)) o.certs;
+        certs = subst (λ (p : Ordered × Ordered). OneBeginsFor a.certs p.0.order p.1.order) (λ i. (here i, there i)) o.certs;
         places = h.places;
         rows = h.rows;
       }

@@ -30,13 +30,13 @@ pub record FeedsAgree (one other : FeedValue) (a : Agreed) : Type 0 where
   pub also_outcome : IsOutcomeOf other also
   pub agree : Agree end also a
 
--- they agree so far, and these are the missing batches at which their orders stop
+-- they agree so far, and these are the first missing batches of their orders
 pub record FeedsCompared (one other : FeedValue) (c : Compared) : Type 0 where
   pub agree : FeedsAgree one other c.agreed
   pub first : IsGapIn one c.first
   pub second : IsGapIn other c.second
 
--- why they do not: they have no one setup; or the frames of both together are stopped so; or memory ran out
+-- why they do not: they have no one setup; or they have one, and the frames of both together are stopped so, or memory ran out
 abbrev pub FeedsDiffer : Differ → FeedValue → FeedValue → Type 0
 FeedsDiffer differ.Setup one other = HaveOneSetup one other → ⊥
 FeedsDiffer (differ.Collision id) one other = HaveStop one other (stop.Collision id)
@@ -52,7 +52,7 @@ pub record Sources : Type 0 where
   pub first : Device
   pub second : Device
 
--- these two
+-- the sources of a comparison
 abbrev pub sources : Device → Device → Sources
 sources first second = record { first = first; second = second }
 

@@ -1,9 +1,9 @@
-//! The evidence that a member made two certificates for one round.
+//! The evidence that a member made two headers for one round.
 
 use bk_digest::Digest32;
 
-/// Two certificates of one round and author: of all that are held, those of the least round and
-/// author, with the two least ids.
+/// Two headers of one round and author with different ids: of all that are held, those of the least
+/// round and author, with the two least ids.
 #[derive(Clone, Copy, Debug, PartialEq, Eq)]
 pub struct Evidence {
     /// The round, from 1.

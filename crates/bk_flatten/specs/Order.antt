@@ -14,7 +14,7 @@ IsOrderBack z held a (p ∷ ps) xs =
     (front : List CertRef) × (part : List CertRef) × IsOrderBack z held p ps front
     × Lists part (λ b. InHistory z held a b × (InHistory z held p b → ⊥)) × (xs ≡ front ++ part)
 
--- the order of committed anchors, newest first: nothing, or that up to the newest
+-- xs is the order of these anchors, which are given newest first: nothing, or the order up to the newest
 abbrev pub IsOrder : Sizes → List Node → List CertRef → List CertRef → Type 0
 IsOrder z held [] xs = xs ≡ []
 IsOrder z held (a ∷ rest) xs = IsOrderBack z held a rest xs

@@ -10,7 +10,7 @@ use Rattle.bk_committee.specs.Payload.{CommitteeValue}
 use Rattle.bk_commit.specs.Growth.{IsPartOf}
 use Rattle.bk_cert.specs.declared.place.CertRef.{CertRef}
 use Rattle.bk_order.specs.Frames.{AreRejects}
-use Rattle.bk_order.specs.Intake.{first_frame, Taken, HasTaken}
+use Rattle.bk_order.specs.Intake.{first_later_frame, Taken, HasTaken}
 use Rattle.bk_order.specs.Orders.{AreWaiting}
 use Rattle.bk_order.specs.Stops.{HasNoStop}
 use Rattle.bk_frames.proofs.Accounts.{genesis_few}
@@ -60,8 +60,8 @@ waiting_is feed b e waiting rows current s =
     let clear = subst (λ (k : CommitteeValue). HasNoStop k (later_frames feed)) (sym current.book.committee) current.clear in
     subst (λ (k : CommitteeValue). AreWaiting k (later_frames feed) waiting) current.book.committee (s.waits (later_frames feed) current.book.taken current.book.works clear)
 
-rejected_is : (feed : FeedValue) (b : BookValue) → IsCurrent feed b → AreRejects (committee_in feed) first_frame (later_frames feed) b.taken.kept.rejected
-rejected_is feed b current = subst (λ (k : CommitteeValue). AreRejects k first_frame (later_frames feed) b.taken.kept.rejected) current.book.committee current.book.taken.rejected
+rejected_is : (feed : FeedValue) (b : BookValue) → IsCurrent feed b → AreRejects (committee_in feed) first_later_frame (later_frames feed) b.taken.kept.rejected
+rejected_is feed b current = subst (λ (k : CommitteeValue). AreRejects k first_later_frame (later_frames feed) b.taken.kept.rejected) current.book.committee current.book.taken.rejected
 
 frames_are : (frames : List Frame) (next : ℕ) → 2 ≤ length frames → next ≡ 2 + length (drop 2 frames) → next ≡ length frames
 frames_are frames next two e = omega (arith, two, e, length-drop 2 frames)
@@ -140,7 +140,7 @@ abbrev pub IsSettledBook : BookValue → Type 0
 IsSettledBook b = (feed : FeedValue) × IsFeed feed × IsCurrent feed b
 
 pub few_rejected : (b : BookValue) → IsSettledBook b → length b.taken.kept.rejected < 2 ^ 32
-few_rejected b (feed, good, current) = few_rejects feed.version (committee_in feed) first_frame feed.frames (later_frames feed) b.taken.kept.rejected good.good (drop_fewer feed.frames) (rejected_is feed b current)
+few_rejected b (feed, good, current) = few_rejects feed.version (committee_in feed) first_later_frame feed.frames (later_frames feed) b.taken.kept.rejected good.good (drop_fewer feed.frames) (rejected_is feed b current)
 
 pub few_waits : (b : BookValue) (e : Executed) (waiting : List CertRef) (rows : List Row) → IsSettledBook b → IsShownOf b e waiting rows → length waiting < 2 ^ 32
 few_waits b e waiting rows (feed, good, current) s = few_waiting feed.version (committee_in feed) feed.frames (later_frames feed) waiting good.good (later_part feed.frames) (waiting_is feed b e waiting rows current s)

@@ -33,7 +33,7 @@ use Rattle.bk_results.specs.declared.differ.Differ.{Differ}
 use Rattle.bk_results.specs.declared.differ.Differ.TheVariants as differ
 use Rattle.bk_results.specs.declared.fault.Fault.{Fault}
 use Rattle.bk_follow.specs.declared.opening.Opened.{Opened}
-use Rattle.bk_follow.specs.Agreement.{AgreeInOrder, HaveOneSetup, frames_together, HaveNoStop, HaveStop, BeginsWith, OfBoth, FollowersAgree, FollowersDiffer}
+use Rattle.bk_follow.specs.Agreement.{AgreeInOrder, HaveOneSetup, frames_together, HaveNoStop, HaveStop, OneBeginsFor, OfBoth, FollowersAgree, FollowersDiffer}
 use Rattle.bk_follow.specs.private.Books.{IsGoodBook}
 use Rattle.bk_follow.specs.private.Comparing.{differ_of, HasOrderOf, IsLesser, HaveSameSetup, OfTaken, BooksAgree, BooksDiffer}
 use Rattle.bk_follow.specs.private.Parts.{followed}
@@ -88,7 +88,7 @@ begins_short : {X : Type 0} (xs ys : List X) → IsPrefix xs ys → length xs �
 begins_short {X} xs ys (rest, e) = let l = ap length e in omega (arith, l, length-append xs rest)
 
 -- the lesser of the lengths is that of the list that begins the other
-pub begins_with : {X : Type 0} (n : ℕ) (xs ys : List X) → OneBegins xs ys → IsLesser n (length xs) (length ys) → BeginsWith n xs ys
+pub begins_with : {X : Type 0} (n : ℕ) (xs ys : List X) → OneBegins xs ys → IsLesser n (length xs) (length ys) → OneBeginsFor n xs ys
 begins_with {X} n xs ys h l = ⊎_elim
     (λ (t : IsPrefix xs ys). inl (t, lesser_first n (length xs) (length ys) l (begins_short xs ys t)))
     (λ (t : IsPrefix ys xs). inr (t, lesser_second n (length xs) (length ys) l (begins_short ys xs t)))
@@ -220,7 +220,7 @@ module _ (f g : FeedValue) (b c : BookValue) (good : IsGoodBook f b) (also : IsG
         (one_receipts f.version (genesis_of f.frames) good.book.order.payloads.list also.book.order.payloads.list lists)
 
     -- what was executed of both agrees
-    pub places_agree : (count : ℕ) → IsLesser count (length (receipts_in (Some b))) (length (receipts_in (Some c))) → BeginsWith count (receipts_in (Some b)) (receipts_in (Some c))
+    pub places_agree : (count : ℕ) → IsLesser count (length (receipts_in (Some b))) (length (receipts_in (Some c))) → OneBeginsFor count (receipts_in (Some b)) (receipts_in (Some c))
     places_agree count lesser = begins_with count (receipts_in (Some b)) (receipts_in (Some c)) begin_now lesser
 
     pub rows_agree : length (receipts_in (Some b)) ≡ length (receipts_in (Some c)) → rows_in (Some b) ≡ rows_in (Some c)
@@ -274,7 +274,7 @@ followers_agree one other b c bytes more fs gs a come came is also h =
       clear = of_both one other b c HaveNoStop is also (λ f g good fine. (one_setup f g b c good fine h.setup, of_feeds f g b c good fine HasNoStop h.clear));
       orders = of_both one other b c (λ f g. AgreeInOrder f g a.certs) is also (λ f g good fine.
           orders_agree f g b c good fine h.setup (of_feeds f g b c good fine HasNoStop h.clear) a.certs h.first h.second h.first_is h.second_is h.certs);
-      places = subst (λ (p : Option BookValue × Option BookValue). BeginsWith a.places (receipts_in p.0) (receipts_in p.1)) (λ i. (sym is i, sym also i))
+      places = subst (λ (p : Option BookValue × Option BookValue). OneBeginsFor a.places (receipts_in p.0) (receipts_in p.1)) (λ i. (sym is i, sym also i))
           (places_agree (feed_of x.version fs) (feed_of y.version gs) b c x.good y.good h.setup (of_feeds (feed_of x.version fs) (feed_of y.version gs) b c x.good y.good HasNoStop h.clear) a.places h.places);
       rows = subst (λ (p : Option BookValue × Option BookValue). length (receipts_in p.0) ≡ length (receipts_in p.1) → rows_in p.0 ≡ rows_in p.1) (λ i. (sym is i, sym also i))
           (rows_agree (feed_of x.version fs) (feed_of y.version gs) b c x.good y.good h.setup (of_feeds (feed_of x.version fs) (feed_of y.version gs) b c x.good y.good HasNoStop h.clear));

@@ -1,4 +1,4 @@
--- When two Followers agree, and when they differ.
+-- When two feeds agree, and two Followers; and when they differ.
 use Rattle.std.specs.Prelude.{◌≡◌, ◌≤◌, ◌⊎◌, ℕ, List, ◌++◌, length, Option, Some, None}
 use Rattle.bk_frames.specs.declared.version.Version.{Version}
 use Rattle.bk_frames.specs.Feed.{Frame, FeedValue, feed_of, genesis_of}
@@ -19,8 +19,8 @@ use Rattle.bk_follow.specs.RunReport.{IsOrderIn, committee_in, later_frames}
 -- ---- two lists
 
 -- one of two lists begins the other, and this is its length
-abbrev pub BeginsWith : {X : Type 0} → ℕ → List X → List X → Type 0
-BeginsWith {X} count xs ys =
+abbrev pub OneBeginsFor : {X : Type 0} → ℕ → List X → List X → Type 0
+OneBeginsFor {X} count xs ys =
     (IsPrefix xs ys × (count ≡ length xs)) ⊎ (IsPrefix ys xs × (count ≡ length ys))
 
 -- ---- two feeds
@@ -55,7 +55,7 @@ pub record AgreeInOrder (one other : FeedValue) (count : ℕ) : Type 0 where
   pub is_order : IsOrderIn one order
   pub also_is : IsOrderIn other also
   pub anchors : OneBegins order.anchors also.anchors
-  pub certs : BeginsWith count order.order also.order
+  pub certs : OneBeginsFor count order.order also.order
 
 -- ---- what they were settled to
 
@@ -68,8 +68,8 @@ settled_in book =
 -- accounts.
 pub record Agree (one other : Outcome) (a : Agreed) : Type 0 where
   pub anchors : OneBegins one.ordered.anchors other.ordered.anchors
-  pub certs : BeginsWith a.certs one.ordered.order other.ordered.order
-  pub places : BeginsWith a.places one.receipts other.receipts
+  pub certs : OneBeginsFor a.certs one.ordered.order other.ordered.order
+  pub places : OneBeginsFor a.places one.receipts other.receipts
   pub rows : length one.receipts ≡ length other.receipts → one.rows ≡ other.rows
 
 -- ---- two Followers
@@ -89,7 +89,7 @@ OfBothKnown one other holds =
 pub record FollowersAgree (one other : Followed) (a : Agreed) : Type 0 where
   pub clear : OfBoth one other HaveNoStop
   pub orders : OfBoth one other (λ f g. AgreeInOrder f g a.certs)
-  pub places : BeginsWith a.places (receipts_in one.book) (receipts_in other.book)
+  pub places : OneBeginsFor a.places (receipts_in one.book) (receipts_in other.book)
   pub rows : length (receipts_in one.book) ≡ length (receipts_in other.book) → rows_in one.book ≡ rows_in other.book
 
 -- why they do not: they have no one setup; or the frames of both together are stopped so; or memory ran out

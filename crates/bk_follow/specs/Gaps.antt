@@ -6,7 +6,7 @@ use Rattle.bk_order.specs.Orders.{Ordered}
 use Rattle.bk_follow.specs.Follower.{BookValue, ordered_in}
 use Rattle.bk_follow.specs.RunReport.{HasNoStopIn, IsOrderIn}
 
--- nothing stops a feed, and its order stops at this missing batch, or at none
+-- nothing stops a feed, and this is the first missing batch of its order, if one is missing
 pub record IsGapIn (feed : FeedValue) (missing : Option (List ℕ)) : Type 0 where
   pub clear : HasNoStopIn feed
   pub ordered : Ordered

@@ -6,7 +6,7 @@ use Rattle.bk_frames.specs.Pulling.{Refuses}
 use Rattle.bk_results.specs.declared.fault.Fault.{Fault}
 use Rattle.bk_results.specs.declared.fault.Fault.TheVariants as fault
 use Rattle.bk_results.specs.declared.status.Status.{Status}
-use Rattle.bk_results.specs.Devices.{Devices, IsUntouched, NothingFailed}
+use Rattle.bk_results.specs.Devices.{Devices, IsUntouched, NothingHappened}
 use Rattle.bk_follow.specs.RunReport.{IsReport, IsStopped, HasPlace}
 use Rattle.bk_follow.specs.Follower.{Followed, HasCome}
 
@@ -26,17 +26,17 @@ PartOfRunIsOut written old new bytes =
     (text : List ℕ) × (answer : Status) × IsReport bytes text answer × (written < length text)
     × Receives old new (take written text)
 
--- why there is no report of a run, by the fault: the source is refused; the feed is stopped; a worker took a place and did
+-- why there is no report of a run, by the fault: the feed is refused; the feed is stopped; a worker took a place and did
 -- not finish it; a call of the sink failed, and exactly the first bytes of the report are out; or memory ran out. But for
 -- the sink's failure nothing is written
 abbrev pub RunFailsBy : Fault → Devices → Devices → Type 0
 RunFailsBy (fault.Feed found) old new =
     Refuses found old.source new.source × IsUntouched old.sink new.sink
 RunFailsBy (fault.Unfinished place) old new =
-    NothingFailed old new × IfKnown old.source (λ bytes. HasPlace bytes place)
+    NothingHappened old new × IfKnown old.source (λ bytes. HasPlace bytes place)
 RunFailsBy (fault.Write written) old new =
     Works old.source new.source × Fails old.sink new.sink
     × IfKnown old.source (PartOfRunIsOut written old.sink new.sink)
-RunFailsBy fault.Memory old new = NothingFailed old new
+RunFailsBy fault.Memory old new = NothingHappened old new
 RunFailsBy stop old new =
-    NothingFailed old new × IfKnown old.source (λ bytes. IsStopped bytes stop)
+    NothingHappened old new × IfKnown old.source (λ bytes. IsStopped bytes stop)

@@ -1,9 +1,10 @@
--- The report of a run: what the rules read off the frames of a feed as a set, and the fold over its batches.
+-- The report of a run: what the rules read off the frames of a feed, and the fold over its batches. But for the rejected
+-- certificates and the number of frames, all of it is read off the frames as a set.
 use Rattle.std.specs.Prelude.{◌≡◌, ℕ, ◌<◌, List, [], length, drop, Option, Some, None, option_map, unwrap_or, slice_get}
 use Rattle.bk_frames.specs.Feed.{Frame, FeedValue, genesis_of}
 use Rattle.bk_committee.specs.Payload.{CommitteeValue, committee_of}
 use Rattle.bk_order.specs.Frames.{AreRejects}
-use Rattle.bk_order.specs.Intake.{first_frame}
+use Rattle.bk_order.specs.Intake.{first_later_frame}
 use Rattle.bk_order.specs.Orders.{Ordered, AreWaiting, IsOrderOf}
 use Rattle.bk_order.specs.Stops.{IsStop, HasNoStop}
 use Rattle.bk_order.specs.declared.stop.Stop.{Stop}
@@ -44,12 +45,12 @@ pub record IsFoldIn (feed : FeedValue) (r : Reading) : Type 0 where
 
 -- what the rules read off the frames of a feed
 pub record Reads (feed : FeedValue) (r : Reading) : Type 0 where
-  pub rejected : AreRejects (committee_in feed) first_frame (later_frames feed) r.rejected
+  pub rejected : AreRejects (committee_in feed) first_later_frame (later_frames feed) r.rejected
   pub waiting : AreWaiting (committee_in feed) (later_frames feed) r.waiting
   pub ordered : IsOrderIn feed r.ordered
   pub folded : IsFoldIn feed r
 
--- how far a report goes: to the end of the order, or to a batch that is missing
+-- how far the transactions of a report go: to the end of the order, or to its first batch that is missing
 abbrev pub reach_of : Option (List ℕ) → Status
 reach_of None = status.Whole
 reach_of (Some digest) = status.Missing
@@ -63,7 +64,7 @@ pub record IsReportOf (feed : FeedValue) (text : List ℕ) (answer : Status) : T
   pub report : text ≡ text_of (run_lines (committee_in feed) (length feed.frames) reading)
   pub status_is : answer ≡ reach_of reading.ordered.payloads.missing
 
--- and of bytes, where they are the encoding of that feed
+-- a text and a status are the report of bytes, where these are the encoding of a feed that has that report
 abbrev pub IsReport : List ℕ → List ℕ → Status → Type 0
 IsReport bytes text answer = AreFeedWith bytes (λ feed. IsReportOf feed text answer)
 
@@ -90,6 +91,6 @@ HasPlaceIn feed place =
     HasNoStopIn feed
     × ((o : Ordered) × IsOrderIn feed o × (place < length (transactions_of o.payloads.list)))
 
--- and that of bytes, where they are the encoding of that feed
+-- bytes are the encoding of a feed whose order has a transaction at this place
 abbrev pub HasPlace : List ℕ → ℕ → Type 0
 HasPlace bytes place = AreFeedWith bytes (λ feed. HasPlaceIn feed place)

@@ -5,7 +5,7 @@ use Rattle.bk_steps.specs.declared.outcome.ScheduleFault.TheVariants as schedule
 use Rattle.bk_steps.specs.declared.refused.Refused as reason
 use Rattle.bk_apply.specs.Answers.{FailsBy}
 use Rattle.bk_results.specs.Devices.{IsUntouched}
-use Rattle.bk_results.specs.Devices.{NothingFailed}
+use Rattle.bk_results.specs.Devices.{NothingHappened}
 use Rattle.bk_apply.specs.Scheduling.{IsNotWholeFor, IsWholeFor}
 use Rattle.bk_results.specs.declared.fault.Fault.TheVariants as replay
 use Rattle.bk_apply.specs.declared.scheduling.ScheduleStop.{ScheduleStop}
@@ -63,10 +63,10 @@ ListFailsBy workers (list.Unread e) old new =
     HasNoEvents e old.second new.second × (new.first ≡ old.first) × IsUntouched old.out new.out
 ListFailsBy workers (list.Refused line why) old new =
     HasListed (IsRefusedAt workers old.first line why) old new
-    × NothingFailed (first_devices old) (first_devices new)
+    × NothingHappened (first_devices old) (first_devices new)
 ListFailsBy workers (list.Unfinished place) old new =
     HasListed (IsLeftBy workers old.first place) old new
-    × NothingFailed (first_devices old) (first_devices new)
+    × NothingHappened (first_devices old) (first_devices new)
 
 -- why a schedule has no report: the list of events was read, and the feed was not replayed; or it is the list
 abbrev pub ScheduleFailsBy : ℕ → JobFault → JobDevices → JobDevices → Type 0

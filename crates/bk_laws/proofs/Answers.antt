@@ -6,7 +6,7 @@ use Rattle.bk_frames.specs.Numbers.{IsBytes}
 use Rattle.bk_committee.specs.Payload.{sizes_of}
 use Rattle.bk_order.specs.declared.stop.Stop.{Stop}
 use Rattle.bk_order.specs.declared.stop.Stop.TheVariants as stop
-use Rattle.bk_order.specs.Intake.{first_frame}
+use Rattle.bk_order.specs.Intake.{first_later_frame}
 use Rattle.bk_order.specs.Orders.{ordered_with}
 use Rattle.bk_order.specs.Stops.{IsStop, IsStopOf, AreClear}
 use Rattle.bk_flatten.specs.Batches.{batches_of}
@@ -31,7 +31,7 @@ reading_exists feed =
     let frames = later_frames feed in
     let certs = certs_exist k frames in
     let batches = batches_exist frames in
-    let rejected = rejects_exist k first_frame frames in
+    let rejected = rejects_exist k first_later_frame frames in
     let waiting = waiting_exist (sizes_of k) certs.0 in
     let anchors = anchors_exist (sizes_of k) certs.0 in
     let order = order_exists (sizes_of k) certs.0 (reverse anchors.0) in

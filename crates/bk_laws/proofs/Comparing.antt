@@ -25,7 +25,7 @@ use Rattle.bk_rules.proofs.Folding.{length-receipts, receipts_append}
 use Rattle.bk_tx.specs.Transaction.{Transaction}
 use Rattle.bk_tx.specs.Batches.{transactions_in, transactions_of}
 use Rattle.bk_results.specs.declared.differ.Agreed.{Agreed}
-use Rattle.bk_follow.specs.Agreement.{Agree, BeginsWith, HaveOneSetup, frames_together}
+use Rattle.bk_follow.specs.Agreement.{Agree, OneBeginsFor, HaveOneSetup, frames_together}
 use Rattle.bk_follow.specs.Outcomes.{IsOutcomeOf, Outcome}
 use Rattle.bk_compare.specs.FeedAgreement.{FeedsAgree}
 use Rattle.bk_follow.specs.RunReport.{HasNoStopIn, committee_in, later_frames}
@@ -121,11 +121,11 @@ module _ {X : Type 0} (xs ys : List X) where
       ended [] g p = sym (g ∙ append-nil xs)
       ended (u ∷ us) g p = absurd (omega (arith, same, p, length-append xs (u ∷ us)))
 
-counted : {X : Type 0} (xs ys : List X) → OneBegins xs ys → (n : ℕ) × BeginsWith n xs ys
+counted : {X : Type 0} (xs ys : List X) → OneBegins xs ys → (n : ℕ) × OneBeginsFor n xs ys
 counted xs ys (inl h) = (length xs, inl (h, refl))
 counted xs ys (inr h) = (length ys, inr (h, refl))
 
-one_count : {X : Type 0} (m n : ℕ) (xs ys : List X) → BeginsWith m xs ys → BeginsWith n xs ys → m ≡ n
+one_count : {X : Type 0} (m n : ℕ) (xs ys : List X) → OneBeginsFor m xs ys → OneBeginsFor n xs ys → m ≡ n
 one_count m n xs ys (inl h) (inl g) = h.1 ∙ sym g.1
 one_count m n xs ys (inl h) (inr g) = let a = longer xs ys h.0 in let b = longer ys xs g.0 in let e = h.1 in let f = g.1 in omega arith
 one_count m n xs ys (inr h) (inl g) = let a = longer ys xs h.0 in let b = longer xs ys g.0 in let e = h.1 in let f = g.1 in omega arith

@@ -15,7 +15,7 @@ use Rattle.bk_certcheck.proofs.Rules.{one_verdict}
 use Rattle.bk_cert.proofs.Lists.{none_in_nil, contains_cases, contains_first, contains_later}
 use Rattle.bk_order.specs.declared.reject.Reject.{Reject}
 use Rattle.bk_order.specs.Frames.{rejects_by, IsRejectOf, AreRejects}
-use Rattle.bk_order.specs.Intake.{first_frame}
+use Rattle.bk_order.specs.Intake.{first_later_frame}
 use Rattle.bk_report.specs.RunLines.{Reading}
 use Rattle.bk_follow.specs.RunReport.{Reads, committee_in, later_frames}
 use Rattle.bk_laws.specs.Laws.{HoldsCertificate, IsPartOfFeed, Rejects}
@@ -100,10 +100,10 @@ module _ (k : CommitteeValue) where
 pub rejected_are_broken : (feed : FeedValue) (r : Reading) (number : ℕ) (why : Rule) → Reads feed r
     → Contains r.rejected (record { frame = number; rule = why }) ↔ ((bytes : List ℕ) × HoldsCertificate feed number bytes × IsBroken (committee_in feed) bytes why)
 rejected_are_broken feed r number why x = (
-  λ t. let found = are_broken (committee_in feed) first_frame (later_frames feed) r.rejected (reject_with number why) x.rejected t in
+  λ t. let found = are_broken (committee_in feed) first_later_frame (later_frames feed) r.rejected (reject_with number why) x.rejected t in
       (found.1, (found.0, found.2, found.3), found.4),
   λ h. subst (λ (n : ℕ). Contains r.rejected (reject_with n why)) (sym h.1.1)
-      (all_broken (committee_in feed) first_frame (later_frames feed) r.rejected h.1.0 h.0 why x.rejected h.1.2 h.2),
+      (all_broken (committee_in feed) first_later_frame (later_frames feed) r.rejected h.1.0 h.0 why x.rejected h.1.2 h.2),
 )
 
 -- a frame holds one payload
@@ -122,5 +122,5 @@ rejected_stay small large r s bytes why part x y (number, held, t) =
     let broken : IsBroken (committee_in large) bytes why = subst (λ (k : CommitteeValue). IsBroken k bytes why) part.setup.committee is in
     let frame = frame_of kind.Certificate bytes in
     let at = place_in (later_frames large) frame (part.frames frame (there_at (later_frames small) frame held.0 held.2)) in
-    let there : HoldsCertificate large (first_frame + at.0) bytes = (at.0, refl, at.1) in
-    (first_frame + at.0, there, (rejected_are_broken large s (first_frame + at.0) why y).1 (bytes, there, broken))
+    let there : HoldsCertificate large (first_later_frame + at.0) bytes = (at.0, refl, at.1) in
+    (first_later_frame + at.0, there, (rejected_are_broken large s (first_later_frame + at.0) why y).1 (bytes, there, broken))

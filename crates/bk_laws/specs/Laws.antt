@@ -8,7 +8,7 @@ use Rattle.bk_frames.specs.Numbers.{IsBytes}
 use Rattle.bk_certcheck.specs.declared.rule.Rule.{Rule}
 use Rattle.bk_certcheck.specs.Verdicts.{IsBroken}
 use Rattle.bk_commit.specs.Growth.{IsPrefix, IsPartOf}
-use Rattle.bk_order.specs.Intake.{first_frame}
+use Rattle.bk_order.specs.Intake.{first_later_frame}
 use Rattle.bk_order.specs.declared.stop.Stop.{Stop}
 use Rattle.bk_report.specs.Proofs.{IsRow, IsGoodProof}
 use Rattle.bk_tx.specs.Batches.{feed_transactions, transactions_of}
@@ -115,7 +115,7 @@ OrderOfFramesIsNothing = (one other : FeedValue) (r s : Reading) → IsPartOfFee
 -- the frame of this number, one after the genesis, holds a certificate of these bytes
 abbrev pub HoldsCertificate : FeedValue → ℕ → List ℕ → Type 0
 HoldsCertificate feed number bytes =
-    (i : ℕ) × (number ≡ first_frame + i)
+    (i : ℕ) × (number ≡ first_later_frame + i)
     × (slice_get (later_frames feed) i ≡ Some (frame_of kind.Certificate bytes))
 
 -- what is rejected is each certificate that breaks a rule, by the number of its frame and the least

@@ -19,7 +19,7 @@ use Rattle.bk_evidence.proofs.Members.{same_itself}
 use Rattle.bk_cert.proofs.Lists.{none_in_nil, contains_cases, contains_first}
 use Rattle.bk_order.specs.declared.reject.Reject.{Reject}
 use Rattle.bk_order.specs.Frames.{IsCertIn, AreCerts, batch_of, IsBatchIn, AreBatches, certs_by, rejects_by, IsRejectOf, AreRejects}
-use Rattle.bk_order.specs.Intake.{Kept, IsKeptOf, first_frame}
+use Rattle.bk_order.specs.Intake.{Kept, IsKeptOf, first_later_frame}
 use Rattle.bk_order.specs.Tally.{IsTallyOf}
 
 -- the only member of a list of one
@@ -93,7 +93,7 @@ certs_good k p (verdict.Broken r) h c t =
     let e : verdict.Broken r ≡ verdict.Good c = one_verdict k p (verdict.Broken r) (verdict.Good c) h t in
     absurd cc
 
-next_more : (before : List Frame) (f : Frame) (old new : ℕ) → old ≡ first_frame + length before → new ≡ old + 1 → new ≡ first_frame + length (before ++ f ∷ [])
+next_more : (before : List Frame) (f : Frame) (old new : ℕ) → old ≡ first_later_frame + length before → new ≡ old + 1 → new ≡ first_later_frame + length (before ++ f ∷ [])
 next_more before f old new e s = let l = length-append before (f ∷ []) in omega (arith, e, s, l)
 
 module _ (k : CommitteeValue) (before : List Frame) (f : Frame) (old new : Kept) (kept : IsKeptOf k before old) (next : new.next ≡ old.next + 1) (tally : IsTallyOf k (before ++ f ∷ []) new.tally) where
@@ -107,16 +107,16 @@ module _ (k : CommitteeValue) (before : List Frame) (f : Frame) (old new : Kept)
         certs;
     batches = batches_more before f old.batches [] new.batches kept.batches (λ b t. absurd (none_in_nil b t))
         (no_batches f (λ q. let clash : kind.Certificate ≡ kind.Batch = sym e ∙ q in absurd cc)) (same_nothing new.batches old.batches batches);
-    rejected = subst (AreRejects k first_frame (before ++ f ∷ [])) (sym rejected) (rejects_more k first_frame before f old.rejected (rejects_by old.next v) kept.rejected
-        (subst (λ (x : Kind). IsRejectOf k (first_frame + length before) f.payload x (rejects_by old.next v)) (sym e) (v, h, ap (λ (n : ℕ). rejects_by n v) kept.next)));
+    rejected = subst (AreRejects k first_later_frame (before ++ f ∷ [])) (sym rejected) (rejects_more k first_later_frame before f old.rejected (rejects_by old.next v) kept.rejected
+        (subst (λ (x : Kind). IsRejectOf k (first_later_frame + length before) f.payload x (rejects_by old.next v)) (sym e) (v, h, ap (λ (n : ℕ). rejects_by n v) kept.next)));
     tally = tally;
   }
 
-  nothing_rejected : (f.kind ≡ kind.Certificate → ⊥) → new.rejected ≡ old.rejected → AreRejects k first_frame (before ++ f ∷ []) new.rejected
-  nothing_rejected other rejected = subst (AreRejects k first_frame (before ++ f ∷ [])) (append-nil old.rejected ∙ sym rejected)
-      (rejects_more k first_frame before f old.rejected [] kept.rejected (by_kind f.kind refl))
+  nothing_rejected : (f.kind ≡ kind.Certificate → ⊥) → new.rejected ≡ old.rejected → AreRejects k first_later_frame (before ++ f ∷ []) new.rejected
+  nothing_rejected other rejected = subst (AreRejects k first_later_frame (before ++ f ∷ [])) (append-nil old.rejected ∙ sym rejected)
+      (rejects_more k first_later_frame before f old.rejected [] kept.rejected (by_kind f.kind refl))
     where
-      by_kind : (x : Kind) → f.kind ≡ x → IsRejectOf k (first_frame + length before) f.payload x []
+      by_kind : (x : Kind) → f.kind ≡ x → IsRejectOf k (first_later_frame + length before) f.payload x []
       by_kind kind.Committee e = refl
       by_kind kind.Genesis e = refl
       by_kind kind.Certificate e = absurd (other e)

@@ -1,5 +1,5 @@
--- What frames hold: the certificates that break no rule, the batches, and what is rejected. Only
--- what a list of them contains counts, not in which order or how often.
+-- What frames hold: the certificates that break no rule and the batches, of which only counts what a
+-- list contains, not in which order or how often; and what is rejected, in the order of the frames.
 use Rattle.std.specs.Prelude.{◌≡◌, ℕ, ◌+◌, List, [], ◌∷◌, ◌++◌, Contains}
 use Rattle.std.specs.List.{flat_map}
 use Rattle.sha2.specs.Sha256.{sha256}
@@ -38,7 +38,8 @@ pub record AreBatches (frames : List Frame) (batches : List Batch) : Type 0 wher
   pub sound : (b : Batch) → Contains batches b → IsBatchIn frames b
   pub complete : (b : Batch) → IsBatchIn frames b → Contains batches b
 
--- this holds of the certificates that break no rule and of the batches of the frames
+-- this holds of some lists that have exactly the certificates that break no rule and the batches of the frames; it is
+-- meant for what does not depend on their order
 pub record OfHeld (k : CommitteeValue) (frames : List Frame) (P : List Node → List Batch → Type 0) : Type 0 where
   pub certs : List Node
   pub batches : List Batch

@@ -12,8 +12,8 @@ use Rattle.bk_order.specs.Tally.{IsTallyOf}
 use Rattle.bk_order.specs.declared.tally.Tally.{Tally}
 
 -- the number of the first frame that is taken: those of the committee and the genesis are 0 and 1
-abbrev pub first_frame : ℕ
-first_frame = 2
+abbrev pub first_later_frame : ℕ
+first_later_frame = 2
 
 -- the number of the next frame, and what is held, rejected and counted of those before
 pub record Kept : Type 0 where
@@ -32,10 +32,10 @@ pub record Taken : Type 0 where
 
 -- this is what is kept of these frames, in whatever pieces they were taken
 pub record IsKeptOf (k : CommitteeValue) (frames : List Frame) (kept : Kept) : Type 0 where
-  pub next : kept.next ≡ first_frame + length frames
+  pub next : kept.next ≡ first_later_frame + length frames
   pub certs : AreCerts k frames kept.certs
   pub batches : AreBatches frames kept.batches
-  pub rejected : AreRejects k first_frame frames kept.rejected
+  pub rejected : AreRejects k first_later_frame frames kept.rejected
   pub tally : IsTallyOf k frames kept.tally
 
 -- these frames were taken

@@ -1,4 +1,4 @@
--- The order of what the frames hold, where there is no stop.
+-- The order of what the frames hold. It is meant where nothing stops them, which these definitions do not say.
 use Rattle.std.specs.Prelude.{◌≡◌, List, reverse}
 use Rattle.bk_frames.specs.Feed.{Frame}
 use Rattle.bk_committee.specs.Payload.{CommitteeValue, sizes_of}

@@ -1,4 +1,4 @@
--- Where what the frames hold has no order: a collision, or else twins.
+-- What stops the frames of a feed, so that they have no report: a collision, or else twins.
 use Rattle.std.specs.Prelude.{◌⊎◌, ℕ, List}
 use Rattle.bk_frames.specs.Feed.{Frame}
 use Rattle.bk_committee.specs.Payload.{CommitteeValue}

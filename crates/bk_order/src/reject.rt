@@ -2,7 +2,7 @@
 
 use bk_certcheck::Rule;
 
-/// A frame that holds no good certificate, and the least rule that it breaks.
+/// The frame of a certificate that is not good, and the least rule that it breaks.
 #[derive(Clone, Copy, Debug, PartialEq, Eq)]
 pub struct Reject {
     /// The number of the frame: the committee is frame 0 and the genesis frame 1.

@@ -13,12 +13,12 @@ use bk_evidence::{Batches, Evidence, Held};
 use std::alloc::AllocError;
 use std::cmp::Ordering;
 
-/// Why a feed has no order. A collision goes before twins.
+/// Why a feed has no report. A collision goes before twins.
 #[derive(Clone, Copy, Debug, PartialEq, Eq)]
 pub enum Stop {
     /// The least id with two headers or digest with two payloads.
     Collision(Digest32),
-    /// The evidence that a member made two certificates for one round.
+    /// The evidence that a member made two headers for one round.
     Twins(Evidence),
 }
 

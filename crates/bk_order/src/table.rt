@@ -10,7 +10,7 @@ ghost use Rattle.bk_commit.specs.Growth.{IsPrefix, IsPartOf};
 ghost use Rattle.bk_evidence.specs.Laws.{HaveSame};
 ghost use Rattle.bk_evidence.specs.Batches.{batch_with};
 ghost use Rattle.bk_order.specs.Frames.{certs_by, rejects_by};
-ghost use Rattle.bk_order.specs.Intake.{IsKeptOf, first_frame};
+ghost use Rattle.bk_order.specs.Intake.{IsKeptOf, first_later_frame};
 ghost use Rattle.bk_order.specs.private.Judging.{IsJudged};
 ghost use Rattle.bk_order.specs.private.Tallies.{CountsVerdict, IsNewDigest, IsNewId};
 ghost use Rattle.bk_order.specs.private.Joined.{CanKeep, GoesOn, HasKept, IsJoined, kept_in};

@@ -8,7 +8,7 @@ use Rattle.bk_order.specs.Frames.{AreCerts}
 use Rattle.bk_order.specs.Orders.{Ordered}
 use Rattle.bk_results.specs.declared.fault.Fault.{Fault}
 use Rattle.bk_results.specs.declared.fault.Fault.TheVariants as fault
-use Rattle.bk_results.specs.Devices.{AreFeedWith, Devices, IsUntouched, NothingFailed}
+use Rattle.bk_results.specs.Devices.{AreFeedWith, Devices, IsUntouched, NothingHappened}
 use Rattle.bk_follow.specs.RunReport.{HasNoStopIn, IsOrderIn, IsStopped, committee_in, later_frames}
 use Rattle.bk_picture.specs.Picture.{Graph, IsPictureOf}
 use Rattle.bk_picture.specs.Svg.{svg_text}
@@ -56,6 +56,6 @@ DrawFailsBy from count (fault.Unfinished place) old new = ⊥
 DrawFailsBy from count (fault.Write written) old new =
     Works old.source new.source × Fails old.sink new.sink
     × IfKnown old.source (PartOfDrawingIsOut from count written old.sink new.sink)
-DrawFailsBy from count fault.Memory old new = NothingFailed old new
+DrawFailsBy from count fault.Memory old new = NothingHappened old new
 DrawFailsBy from count stop old new =
-    NothingFailed old new × IfKnown old.source (λ bytes. IsStopped bytes stop)
+    NothingHappened old new × IfKnown old.source (λ bytes. IsStopped bytes stop)

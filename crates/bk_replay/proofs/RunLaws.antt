@@ -14,7 +14,7 @@ use Rattle.bk_cert.specs.declared.place.CertRef.{CertRef}
 use Rattle.bk_order.specs.declared.reject.Reject.{Reject}
 use Rattle.bk_order.specs.declared.stop.Stop.{Stop}
 use Rattle.bk_order.specs.declared.stop.Stop.TheVariants as stop
-use Rattle.bk_order.specs.Intake.{first_frame}
+use Rattle.bk_order.specs.Intake.{first_later_frame}
 use Rattle.bk_order.specs.Orders.{Ordered}
 use Rattle.bk_order.specs.Stops.{IsStop}
 use Rattle.bk_order.proofs.OneReading.{one_rejects, one_waiting, one_stop, no_stop, one_ordered}
@@ -138,7 +138,7 @@ one_reading : (feed : FeedValue) (r s : Reading) → HasNoStopIn feed → Reads 
 one_reading feed r s none h g =
     let frames = later_frames feed in
     let k = committee_in feed in
-    let rejected = one_rejects k first_frame frames r.rejected s.rejected h.rejected g.rejected in
+    let rejected = one_rejects k first_later_frame frames r.rejected s.rejected h.rejected g.rejected in
     let waiting = one_waiting k frames r.waiting s.waiting h.waiting g.waiting in
     let ordered = one_ordered k frames r.ordered s.ordered none h.ordered g.ordered in
     let receipts : r.receipts ≡ s.receipts = h.folded.receipts ∙ ap (λ (o : Ordered). receipts_of feed.version (transactions_of o.payloads.list) (genesis_of feed.frames)) ordered ∙ sym g.folded.receipts in

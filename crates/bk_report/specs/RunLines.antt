@@ -70,7 +70,7 @@ ending_lines rows = line.Money (total_of rows) ∷ line.State (state_of rows) �
 abbrev pub rows_lines : List Receipt → List Row → List Line
 rows_lines receipts rows = tx_lines 0 receipts ++ account_lines rows
 
--- and what ends a report
+-- transactions, accounts, the money and the digest of the state, which end a report
 abbrev pub ledger_lines : List Receipt → List Row → List Line
 ledger_lines receipts rows = tx_lines 0 receipts ++ account_lines rows ++ ending_lines rows
 

@@ -26,7 +26,7 @@ pub enum Line {
         frame: u64,
         rule: Rule,
     },
-    /// `waiting ROUND AUTHOR`: a certificate that waits for a parent.
+    /// `waiting ROUND AUTHOR`: a held certificate that is not admitted.
     Waiting {
         round: u32,
         author: u8,
@@ -50,7 +50,7 @@ pub enum Line {
     VoidBatch {
         index: u32,
     },
-    /// `missing HEX`: the digest of the batch at which the order stops.
+    /// `missing HEX`: the digest of the first batch of the order that is not held.
     Missing {
         digest: Digest32,
     },

@@ -9,7 +9,7 @@ pub record Devices : Type 0 where
   pub source : Device
   pub sink : Device
 
--- these two
+-- the devices of a call
 abbrev pub devices : Device → Device → Devices
 devices source sink = record { source = source; sink = sink }
 
@@ -18,8 +18,8 @@ abbrev pub IsUntouched : Device → Device → Type 0
 IsUntouched old new = Works old new × Keeps old.bytes new.bytes
 
 -- no call of either device failed, and nothing was written
-abbrev pub NothingFailed : Devices → Devices → Type 0
-NothingFailed old new = Works old.source new.source × IsUntouched old.sink new.sink
+abbrev pub NothingHappened : Devices → Devices → Type 0
+NothingHappened old new = Works old.source new.source × IsUntouched old.sink new.sink
 
 -- the bytes are those of a feed
 abbrev pub AreFeed : List ℕ → Type 0

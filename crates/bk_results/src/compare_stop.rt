@@ -4,7 +4,8 @@ use crate::differ::Differ;
 use crate::fault::Fault;
 use thiserror::Error;
 
-/// Why two sources do not agree. The text of each is the line that the program prints.
+/// Why two sources do not agree. The text of each is the line that the program prints; it does not say which source a
+/// fault is of.
 #[derive(Clone, Copy, Debug, PartialEq, Eq, Error)]
 pub enum CompareStop {
     /// The feed of the first source was not followed to its end. The second source is not read.

@@ -1,4 +1,4 @@
-//! What comparing two Followers answers.
+//! What comparing two feeds answers.
 
 ghost use Rattle.std.specs.Prelude.{◌≡◌};
 ghost use Rattle.bk_results.specs.declared.differ.Differ.TheVariants as differ;
@@ -7,7 +7,7 @@ use bk_digest::Digest32;
 use std::alloc::AllocError;
 use thiserror::Error;
 
-/// How far two Followers have one order.
+/// How far two feeds have one order, `agree CERTS PLACES`.
 #[derive(Clone, Copy, Debug, PartialEq, Eq)]
 pub struct Agreed {
     /// How many certificates the shorter order has.
@@ -16,18 +16,18 @@ pub struct Agreed {
     pub places: usize,
 }
 
-/// Why two Followers do not agree. The text of each is the line that the program prints.
+/// Why two feeds do not agree. The text of each is the line that the program prints.
 #[derive(Clone, Copy, Debug, PartialEq, Eq, Error)]
 pub enum Differ {
     /// Not both have a genesis, or their versions, committees or opening accounts differ.
     #[error("differ setup")]
     Setup,
-    /// The least id of two certificates or digest of two batches, over both together.
+    /// The least id of two different headers or digest of two different payloads, over both together.
     #[error("collision {id}")]
     Collision {
         id: Digest32,
     },
-    /// A member made two certificates for one round: the evidence over both together, where no id collides.
+    /// A member made two headers for one round: the evidence over both together, where no id and no digest collides.
     #[error("equivocation {round} {author} {first} {second}")]
     Twins {
         round: u32,

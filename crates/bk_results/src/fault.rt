@@ -12,12 +12,12 @@ pub enum Fault {
     /// The feed has this fault, or reading it failed or found no memory. Nothing is written.
     #[error("{0}")]
     Feed(FeedFault),
-    /// The feed is stopped: this is the least id of two certificates or digest of two batches. Nothing is written.
+    /// The feed is stopped: this is the least id of two different headers or digest of two different payloads. Nothing is written.
     #[error("collision {id}")]
     Collision {
         id: Digest32,
     },
-    /// The feed is stopped: a member made two certificates for one round. Nothing is written.
+    /// The feed is stopped: a member made two headers for one round, and nothing collides. Nothing is written.
     #[error("equivocation {round} {author} {first} {second}")]
     Equivocation {
         round: u32,

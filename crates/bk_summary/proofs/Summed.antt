@@ -12,7 +12,7 @@ use Rattle.bk_committee.specs.Payload.{CommitteeValue, committee_bytes, committe
 use Rattle.bk_committee.specs.Sizes.{Sizes}
 use Rattle.bk_cert.specs.declared.place.CertRef.{CertRef}
 use Rattle.bk_order.specs.Frames.{AreCerts, AreRejects}
-use Rattle.bk_order.specs.Intake.{HasTaken, Taken, first_frame}
+use Rattle.bk_order.specs.Intake.{HasTaken, Taken, first_later_frame}
 use Rattle.bk_order.specs.Orders.{AreRoundsOf, AreWaiting, IsOrderOf, Ordered}
 use Rattle.bk_order.specs.Stops.{HasNoStop}
 use Rattle.bk_order.specs.Tally.{IsTallyOf, digests_in, ids_by}
@@ -56,7 +56,7 @@ void_kept (p ∷ more) = by_test (is_void p) (void_kept more)
 void_counted : (payloads : List (List ℕ)) → void_in (map count_in payloads) ≡ count_by is_void payloads
 void_counted payloads = sym (length-filter (λ (c : Option ℕ). not (is_some c)) (map count_in payloads)) ∙ (void_kept payloads ∙ length-filter is_void payloads)
 
-all_frames : (frames : List Frame) (next : ℕ) → 2 ≤ length frames → next ≡ first_frame + length (drop 2 frames) → next ≡ length frames
+all_frames : (frames : List Frame) (next : ℕ) → 2 ≤ length frames → next ≡ first_later_frame + length (drop 2 frames) → next ≡ length frames
 all_frames frames next two e = omega (arith, two, e, length-drop 2 frames)
 
 version_is : (v : Version) (payload : List ℕ) → (committee_of v payload).version ≡ v
@@ -112,7 +112,7 @@ module _ (feed : FeedValue) (b : BookValue) (l : LedgerValue) (rounds : RoundsVa
 
   reads : Reads feed reading
   reads = record {
-    rejected = subst (λ (k : CommitteeValue). AreRejects k first_frame (later_frames feed) b.taken.kept.rejected) current.book.committee current.book.taken.rejected;
+    rejected = subst (λ (k : CommitteeValue). AreRejects k first_later_frame (later_frames feed) b.taken.kept.rejected) current.book.committee current.book.taken.rejected;
     waiting = subst (λ (k : CommitteeValue). AreWaiting k (later_frames feed) waiting) current.book.committee
         (table.waits (later_frames feed) (taken_here feed b current) current.book.works (clear_here feed b current));
     ordered = current.ordered;

@@ -6,7 +6,7 @@ use Rattle.bk_frames.specs.Pulling.{Refuses}
 use Rattle.bk_results.specs.declared.fault.Fault.{Fault}
 use Rattle.bk_results.specs.declared.fault.Fault.TheVariants as fault
 use Rattle.bk_results.specs.declared.status.Status.{Status}
-use Rattle.bk_results.specs.Devices.{AreFeedWith, Devices, IsUntouched, NothingFailed}
+use Rattle.bk_results.specs.Devices.{AreFeedWith, Devices, IsUntouched, NothingHappened}
 use Rattle.bk_follow.specs.RunReport.{HasPlace, IsStopped, reach_of}
 use Rattle.bk_summary.specs.Summary.{IsSummaryOf}
 use Rattle.bk_summary.specs.Text.{summary_text}
@@ -41,10 +41,10 @@ PartOfSummaryIsOut written old new bytes =
 abbrev pub SummaryFailsBy : Fault → Devices → Devices → Type 0
 SummaryFailsBy (fault.Feed found) old new = Refuses found old.source new.source × IsUntouched old.sink new.sink
 SummaryFailsBy (fault.Unfinished place) old new =
-    NothingFailed old new × IfKnown old.source (λ bytes. HasPlace bytes place)
+    NothingHappened old new × IfKnown old.source (λ bytes. HasPlace bytes place)
 SummaryFailsBy (fault.Write written) old new =
     Works old.source new.source × Fails old.sink new.sink
     × IfKnown old.source (PartOfSummaryIsOut written old.sink new.sink)
-SummaryFailsBy fault.Memory old new = NothingFailed old new
+SummaryFailsBy fault.Memory old new = NothingHappened old new
 SummaryFailsBy stop old new =
-    NothingFailed old new × IfKnown old.source (λ bytes. IsStopped bytes stop)
+    NothingHappened old new × IfKnown old.source (λ bytes. IsStopped bytes stop)

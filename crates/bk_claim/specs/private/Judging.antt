@@ -7,7 +7,7 @@ use Rattle.bk_claim.specs.declared.verdict.Verdict.{Verdict}
 use Rattle.bk_follow.specs.RunReport.{IsStopped, HasPlace}
 use Rattle.bk_frames.specs.Device.{Device, Works, Fails, Receives, IfKnown}
 use Rattle.bk_frames.specs.Pulling.{Refuses}
-use Rattle.bk_results.specs.Devices.{Devices, IsUntouched, NothingFailed}
+use Rattle.bk_results.specs.Devices.{Devices, IsUntouched, NothingHappened}
 use Rattle.bk_results.specs.declared.fault.Fault.{Fault}
 use Rattle.bk_results.specs.declared.fault.Fault.TheVariants as fault
 use Rattle.bk_results.specs.declared.status.Status.{Status}
@@ -36,7 +36,7 @@ abbrev pub JudgeStops : List ℕ → Status → Fault → Devices → Devices �
 JudgeStops right end (fault.Write written) old new =
     Works old.source new.source × Fails old.sink new.sink
     × IfKnown old.source (PartOfShownIsOut right end written old.sink new.sink)
-JudgeStops right end fault.Memory old new = NothingFailed old new
+JudgeStops right end fault.Memory old new = NothingHappened old new
 JudgeStops right end other old new = ⊥
 
 -- or a call of the claim failed, and nothing is written
