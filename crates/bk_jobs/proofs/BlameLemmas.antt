@@ -129,8 +129,8 @@ blames : (j : Job) (e : JobFault) (old new : JobDevices) → writes_ahead j ≡ 
     → AreToBlame j (exit_after e) (inputs_of old) × IsUntouched old.out new.out
 blames (job.Run workers file) (fault.Replay (replay.Feed found)) old new w h r =
     (refused (job.Run workers file) (inputs_of old) found.code found.offset _ _ (λ b. b) h.0 r, h.1)
-blames (job.Run workers file) (fault.Replay (replay.Collision id)) old new w h r = (stopped _ old.first.bytes h.1, h.0.1)
-blames (job.Run workers file) (fault.Replay (replay.Equivocation round author first second)) old new w h r = (stopped _ old.first.bytes h.1, h.0.1)
+blames (job.Run workers file) (fault.Replay (replay.Collision id)) old new w h r = (stopped (replay.Collision id) old.first.bytes h.1, h.0.1)
+blames (job.Run workers file) (fault.Replay (replay.Equivocation round author first second)) old new w h r = (stopped (replay.Equivocation round author first second) old.first.bytes h.1, h.0.1)
 blames (job.Run workers file) (fault.Replay (replay.Unfinished place)) old new w h r = absurd (cc)
 blames (job.Run workers file) (fault.Replay (replay.Write written)) old new w h r = absurd (cc)
 blames (job.Run workers file) (fault.Replay replay.Memory) old new w h r = absurd (cc)
@@ -147,16 +147,16 @@ blames (job.CheckProof root file) (fault.Text (text.Write written)) old new w h 
 blames (job.CheckProof root file) (fault.Text text.Memory) old new w h r = absurd (cc)
 blames (job.Ask workers asked file) (fault.Replay (replay.Feed found)) old new w h r =
     (refused (job.Ask workers asked file) (inputs_of old) found.code found.offset _ _ (λ b. b) h.0 r, h.1)
-blames (job.Ask workers asked file) (fault.Replay (replay.Collision id)) old new w h r = (stopped _ old.first.bytes h.1, h.0.1)
-blames (job.Ask workers asked file) (fault.Replay (replay.Equivocation round author first second)) old new w h r = (stopped _ old.first.bytes h.1, h.0.1)
+blames (job.Ask workers asked file) (fault.Replay (replay.Collision id)) old new w h r = (stopped (replay.Collision id) old.first.bytes h.1, h.0.1)
+blames (job.Ask workers asked file) (fault.Replay (replay.Equivocation round author first second)) old new w h r = (stopped (replay.Equivocation round author first second) old.first.bytes h.1, h.0.1)
 blames (job.Ask workers asked file) (fault.Replay (replay.Unfinished place)) old new w h r = absurd (cc)
 blames (job.Ask workers asked file) (fault.Replay (replay.Write written)) old new w h r = absurd (cc)
 blames (job.Ask workers asked file) (fault.Replay replay.Memory) old new w h r = absurd (cc)
 blames (job.Ask workers asked file) (fault.Text e) old new w h r = absurd h
 blames (job.CheckReport workers report file) (fault.Replay (replay.Feed found)) old new w h r =
     (refused (job.CheckReport workers report file) (inputs_of old) found.code found.offset _ _ (λ b. b) h.0 r, h.1.1)
-blames (job.CheckReport workers report file) (fault.Replay (replay.Collision id)) old new w h r = (stopped _ old.first.bytes h.2, h.1.1)
-blames (job.CheckReport workers report file) (fault.Replay (replay.Equivocation round author first second)) old new w h r = (stopped _ old.first.bytes h.2, h.1.1)
+blames (job.CheckReport workers report file) (fault.Replay (replay.Collision id)) old new w h r = (stopped (replay.Collision id) old.first.bytes h.2, h.1.1)
+blames (job.CheckReport workers report file) (fault.Replay (replay.Equivocation round author first second)) old new w h r = (stopped (replay.Equivocation round author first second) old.first.bytes h.2, h.1.1)
 blames (job.CheckReport workers report file) (fault.Replay (replay.Unfinished place)) old new w h r = absurd (cc)
 blames (job.CheckReport workers report file) (fault.Replay (replay.Write written)) old new w h r = absurd (cc)
 blames (job.CheckReport workers report file) (fault.Replay replay.Memory) old new w h r = absurd (cc)
@@ -168,8 +168,8 @@ blames (job.CheckReport workers report file) (fault.Events e) old new w h r = ab
 blames (job.CheckReport workers report file) (fault.Compared e) old new w h r = absurd h
 blames (job.Summary workers file) (fault.Replay (replay.Feed found)) old new w h r =
     (refused (job.Summary workers file) (inputs_of old) found.code found.offset _ _ (λ b. b) h.0 r, h.1)
-blames (job.Summary workers file) (fault.Replay (replay.Collision id)) old new w h r = (stopped _ old.first.bytes h.1, h.0.1)
-blames (job.Summary workers file) (fault.Replay (replay.Equivocation round author first second)) old new w h r = (stopped _ old.first.bytes h.1, h.0.1)
+blames (job.Summary workers file) (fault.Replay (replay.Collision id)) old new w h r = (stopped (replay.Collision id) old.first.bytes h.1, h.0.1)
+blames (job.Summary workers file) (fault.Replay (replay.Equivocation round author first second)) old new w h r = (stopped (replay.Equivocation round author first second) old.first.bytes h.1, h.0.1)
 blames (job.Summary workers file) (fault.Replay (replay.Unfinished place)) old new w h r = absurd (cc)
 blames (job.Summary workers file) (fault.Replay (replay.Write written)) old new w h r = absurd (cc)
 blames (job.Summary workers file) (fault.Replay replay.Memory) old new w h r = absurd (cc)
@@ -178,8 +178,8 @@ blames (job.Summary workers file) (fault.Events e) old new w h r = absurd h
 blames (job.Summary workers file) (fault.Compared e) old new w h r = absurd h
 blames (job.Dag window file) (fault.Replay (replay.Feed found)) old new w h r =
     (refused (job.Dag window file) (inputs_of old) found.code found.offset _ _ (λ b. b) h.0 r, h.1)
-blames (job.Dag window file) (fault.Replay (replay.Collision id)) old new w h r = (stopped _ old.first.bytes h.1, h.0.1)
-blames (job.Dag window file) (fault.Replay (replay.Equivocation round author first second)) old new w h r = (stopped _ old.first.bytes h.1, h.0.1)
+blames (job.Dag window file) (fault.Replay (replay.Collision id)) old new w h r = (stopped (replay.Collision id) old.first.bytes h.1, h.0.1)
+blames (job.Dag window file) (fault.Replay (replay.Equivocation round author first second)) old new w h r = (stopped (replay.Equivocation round author first second) old.first.bytes h.1, h.0.1)
 blames (job.Dag window file) (fault.Replay (replay.Unfinished place)) old new w h r = absurd h
 blames (job.Dag window file) (fault.Replay (replay.Write written)) old new w h r = absurd (cc)
 blames (job.Dag window file) (fault.Replay replay.Memory) old new w h r = absurd (cc)
