@@ -1,0 +1,147 @@
+//! The lines that report faults, and the exit statuses after them.
+
+use crate::tally::Tally;
+use anyhow::Result;
+use bk_cli::{Exit, JobFault, ListFault, report};
+use bk_digest::Digest32;
+use bk_frames::{Counted, FaultCode, FeedFault};
+use bk_results::{EventsFault, Fault, ScriptCode, ScriptFault, Status};
+use bk_steps::Refused;
+use std::alloc::Global;
+
+// Whether a fault is reported by this line, and the program ends with this status.
+fn is_reported(alloc: Global, fault: &JobFault, status: u8, line: &str) -> bool {
+    let mut err = Counted::new(Vec::new(alloc));
+    report(fault, &mut err);
+    let out = err.into_inner();
+    out.as_slice() == line.as_bytes() && Exit::after(fault).number() == status
+}
+
+fn try_all<R: AllocGlobal + Eprint>(
+    rt: &R,
+    rows: &[(JobFault, u8, &str)],
+    tally: &mut Tally,
+) -> Result<()> {
+    for (fault, status, line) in rows {
+        let is_right = is_reported(rt.alloc(), fault, *status, line);
+        tally.note(rt, line, is_right)?;
+    }
+    Ok(())
+}
+
+// A fault of a feed.
+fn found(code: FaultCode, offset: u64) -> JobFault {
+    JobFault::Replay(Fault::Feed(FeedFault { offset, code }))
+}
+
+fn try_feeds<R: AllocGlobal + Eprint>(rt: &R, tally: &mut Tally) -> Result<()> {
+    let rows = [
+        (found(FaultCode::Magic, 0), 2u8, "feed fault 1 at 0\n"),
+        (found(FaultCode::Extra, 51), 2, "feed fault 7 at 51\n"),
+        (found(FaultCode::Read, 4), 4, "feed fault 8 at 4\n"),
+        (
+            found(FaultCode::Memory, u64::MAX),
+            4,
+            "feed fault 9 at 18446744073709551615\n",
+        ),
+    ];
+    try_all(rt, &rows, tally)
+}
+
+// The digests of "abc" and of nothing are those of FIPS 180-4's examples.
+fn try_stops<R: AllocGlobal + Eprint>(rt: &R, tally: &mut Tally) -> Result<()> {
+    let id = Digest32::of(b"abc");
+    let twins = Fault::Equivocation {
+        round: u32::MAX,
+        author: 255,
+        first: id,
+        second: Digest32::of(b""),
+    };
+    let rows = [
+        (
+            JobFault::Replay(Fault::Collision { id }),
+            3u8,
+            "collision ba7816bf8f01cfea414140de5dae2223b00361a396177a9cb410ff61f20015ad\n",
+        ),
+        (
+            JobFault::Replay(twins),
+            3,
+            "equivocation 4294967295 255 ba7816bf8f01cfea414140de5dae2223b00361a396177a9cb410ff61f20015ad e3b0c44298fc1c149afbf4c8996fb92427ae41e4649b934ca495991b7852b855\n",
+        ),
+    ];
+    try_all(rt, &rows, tally)
+}
+
+fn try_failures<R: AllocGlobal + Eprint>(rt: &R, tally: &mut Tally) -> Result<()> {
+    let unfinished = Fault::Unfinished { place: u32::MAX };
+    let rows = [
+        (JobFault::Replay(unfinished), 4u8, "unfinished 4294967295\n"),
+        (
+            JobFault::Replay(Fault::Write { written: 7 }),
+            4,
+            "write failed\n",
+        ),
+        (JobFault::Replay(Fault::Memory), 4, "memory\n"),
+    ];
+    try_all(rt, &rows, tally)
+}
+
+fn try_texts<R: AllocGlobal + Eprint>(rt: &R, tally: &mut Tally) -> Result<()> {
+    let fault = ScriptFault::Script {
+        line: u64::MAX,
+        code: ScriptCode::Range,
+    };
+    let rows = [
+        (
+            JobFault::Text(fault),
+            2u8,
+            "script fault 5 at line 18446744073709551615\n",
+        ),
+        (JobFault::Text(ScriptFault::Read), 4, "read failed\n"),
+        (
+            JobFault::Text(ScriptFault::Write { written: 7 }),
+            4,
+            "write failed\n",
+        ),
+        (JobFault::Text(ScriptFault::Memory), 4, "memory\n"),
+    ];
+    try_all(rt, &rows, tally)
+}
+
+// A list of events that is not read.
+fn unread(fault: EventsFault) -> JobFault {
+    JobFault::Events(ListFault::Unread(fault))
+}
+
+fn try_events<R: AllocGlobal + Eprint>(rt: &R, tally: &mut Tally) -> Result<()> {
+    let line = u32::MAX;
+    let code = Refused::OutOfTurn;
+    let refused = ListFault::Refused { line, code };
+    let unfinished = ListFault::Unfinished { place: u32::MAX };
+    let rows = [
+        (
+            unread(EventsFault::Line { line }),
+            2u8,
+            "events fault at line 4294967295\n",
+        ),
+        (unread(EventsFault::Read), 4, "read failed\n"),
+        (unread(EventsFault::Memory), 4, "memory\n"),
+        (JobFault::Events(refused), 2, "event 4294967295 refused 5\n"),
+        (JobFault::Events(unfinished), 4, "unfinished 4294967295\n"),
+    ];
+    try_all(rt, &rows, tally)
+}
+
+/// All of them.
+pub(crate) fn try_faults<R: AllocGlobal + Eprint>(rt: &R, tally: &mut Tally) -> Result<()> {
+    try_feeds(rt, tally)?;
+    try_stops(rt, tally)?;
+    try_failures(rt, tally)?;
+    try_texts(rt, tally)?;
+    try_events(rt, tally)?;
+    let is_whole = Exit::at(Status::Whole).number() == 0;
+    tally.note(rt, "the status of a whole report", is_whole)?;
+    let is_missing = Exit::at(Status::Missing).number() == 5;
+    tally.note(rt, "the status where a batch is missing", is_missing)?;
+    tally.note(rt, "the status of a no", Exit::No.number() == 1)
+}

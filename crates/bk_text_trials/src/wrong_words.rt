@@ -1,0 +1,105 @@
+//! Command lines that name no job, and what kind of error they give.
+
+use crate::tally::Tally;
+use crate::words::note_words;
+use anyhow::Result;
+use bk_cli::parse;
+use clap::error::ErrorKind;
+use std::alloc::Global;
+
+const WRONG: [(&[&str], ErrorKind); 24] = [
+    (&["bkreplay"], ErrorKind::MissingSubcommand),
+    (&["bkreplay", "replay"], ErrorKind::InvalidSubcommand),
+    (&["bkreplay", "run", "a", "b"], ErrorKind::UnknownArgument),
+    (
+        &["bkreplay", "run", "--workers", "0"],
+        ErrorKind::ValueValidation,
+    ),
+    (
+        &["bkreplay", "run", "--workers", "65"],
+        ErrorKind::ValueValidation,
+    ),
+    (
+        &["bkreplay", "run", "--workers", "two"],
+        ErrorKind::ValueValidation,
+    ),
+    (&["bkreplay", "run", "--workers"], ErrorKind::InvalidValue),
+    (&["bkreplay", "apply", "a", "b"], ErrorKind::UnknownArgument),
+    (
+        &["bkreplay", "apply", "--workers", "2"],
+        ErrorKind::UnknownArgument,
+    ),
+    (&["bkreplay", "make", "a", "b"], ErrorKind::UnknownArgument),
+    (
+        &["bkreplay", "check-proof"],
+        ErrorKind::MissingRequiredArgument,
+    ),
+    (
+        &["bkreplay", "check-proof", "a", "b", "c"],
+        ErrorKind::UnknownArgument,
+    ),
+    (&["bkreplay", "run", "--help"], ErrorKind::DisplayHelp),
+    (&["bkreplay", "--help"], ErrorKind::DisplayHelp),
+    (&["bkreplay", "--version"], ErrorKind::DisplayVersion),
+    (
+        &["bkreplay", "schedule"],
+        ErrorKind::MissingRequiredArgument,
+    ),
+    (
+        &["bkreplay", "schedule", "a"],
+        ErrorKind::MissingRequiredArgument,
+    ),
+    (
+        &["bkreplay", "schedule", "a", "b", "c"],
+        ErrorKind::UnknownArgument,
+    ),
+    (
+        &["bkreplay", "schedule", "--workers", "0", "a", "b"],
+        ErrorKind::ValueValidation,
+    ),
+    (
+        &["bkreplay", "schedule", "--workers", "65", "a", "b"],
+        ErrorKind::ValueValidation,
+    ),
+    (&["bkreplay", "schedule", "--help"], ErrorKind::DisplayHelp),
+    (
+        &["bkreplay", "check-state"],
+        ErrorKind::MissingRequiredArgument,
+    ),
+    (&["bkreplay", "check-state", ""], ErrorKind::ValueValidation),
+    (
+        &[
+            "bkreplay",
+            "check-state",
+            "--workers",
+            "0",
+            "a0f73141eeeda4cb3f115f1ee0468dde8a3de31db5fd987f0eec1df811bce063",
+        ],
+        ErrorKind::ValueValidation,
+    ),
+];
+
+// Whether the words give an error of this kind.
+fn gives(alloc: Global, words: &[&str], kind: ErrorKind) -> bool {
+    match parse(alloc, words) {
+        Ok(_) => false,
+        Err(error) => error.kind() == kind,
+    }
+}
+
+fn try_rows<R: AllocGlobal + Eprint>(
+    rt: &R,
+    rows: &[(&[&str], ErrorKind)],
+    tally: &mut Tally,
+) -> Result<()> {
+    for (words, kind) in rows {
+        let is_right = gives(rt.alloc(), words, *kind);
+        note_words(rt, words, is_right, tally)?;
+    }
+    Ok(())
+}
+
+/// All of them.
+pub(crate) fn try_wrong_words<R: AllocGlobal + Eprint>(rt: &R, tally: &mut Tally) -> Result<()> {
+    try_rows(rt, &WRONG, tally)
+}
