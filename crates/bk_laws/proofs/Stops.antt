@@ -13,9 +13,8 @@ use Rattle.bk_evidence.specs.Collisions.{id_cmp, CollidesBy, IsCollisionBy, NoCo
 use Rattle.bk_evidence.specs.Held.{IsCollision, NoCollision}
 use Rattle.bk_evidence.specs.Twins.{IsIdAt, IsEvidence, NoTwins}
 use Rattle.bk_evidence.specs.declared.evidence.Evidence.{Evidence}
-use Rattle.bk_evidence.specs.declared.places.LeastIds.{LeastIds}
 use Rattle.bk_evidence.specs.private.Least.{least_of, IsLeastBy}
-use Rattle.bk_evidence.specs.private.Places.{lone_id, two_ids, second_in, AreLeastIds, HasTwins, evidence_with}
+use Rattle.bk_evidence.specs.private.Places.{ids_with, AreLeastIds, HasTwins, evidence_with}
 use Rattle.bk_evidence.proofs.Lesser.{IsExactOrder, less_from, same_or_not, least_same, least_step}
 use Rattle.bk_evidence.proofs.Colliding.{id_order, told}
 use Rattle.bk_evidence.proofs.Payloads.{same_batch}
@@ -108,36 +107,35 @@ module _ (held : List Node) where
     id_listed : (id : List ℕ) → IsIdAt held a id → Contains ids id
     id_listed id h = subst (Contains ids) h.id_is (in_map (λ (c : Node). c.id) held h.cert h.is_held)
 
-    with_second : (p : List ℕ) → IsLeastBy id_cmp (IsIdAt held a) (Some p) → (o : Option (List ℕ)) → IsLeastBy id_cmp (Others (IsIdAt held a) p) o
-        → (l : Option LeastIds) × AreLeastIds (IsIdAt held a) l
-    with_second p h None g = (Some (lone_id p), (h, g))
-    with_second p h (Some q) g = (Some (two_ids p q), (h, g))
+    -- there are ids of the place: the least, and the least of the others if there are others
+    abbrev pub HasLeastIds : Type 0
+    HasLeastIds = (p : List ℕ) × (s : Option (List ℕ)) × AreLeastIds (IsIdAt held a) (Some (ids_with p s))
+
+    -- or there is none
+    abbrev pub HasNoIds : Type 0
+    HasNoIds = AreLeastIds (IsIdAt held a) None
 
     others_found : (p : List ℕ) → (o : Option (List ℕ)) × IsLeastBy id_cmp (Others (IsIdAt held a) p) o
     others_found p = least_found id_order (Others (IsIdAt held a) p)
         (λ id. decided_both (IsIdAt held a id) (id ≢ p) (id_decided id) (decided_not (id ≡ p) (same_or_not id_order id p))) ids (λ id h. id_listed id h.0)
 
-    with_first : (o : Option (List ℕ)) → IsLeastBy id_cmp (IsIdAt held a) o → (l : Option LeastIds) × AreLeastIds (IsIdAt held a) l
-    with_first None h = (None, h)
-    with_first (Some p) h = with_second p h (others_found p).0 (others_found p).1
+    with_first : (o : Option (List ℕ)) → IsLeastBy id_cmp (IsIdAt held a) o → HasLeastIds ⊎ HasNoIds
+    with_first None h = inr h
+    with_first (Some p) h = inl (p, (others_found p).0, (h, (others_found p).1))
 
     first_found : (o : Option (List ℕ)) × IsLeastBy id_cmp (IsIdAt held a) o
     first_found = least_found id_order (IsIdAt held a) id_decided ids id_listed
 
     -- the two least ids of the place
-    pub ids_found : (l : Option LeastIds) × AreLeastIds (IsIdAt held a) l
+    pub ids_found : HasLeastIds ⊎ HasNoIds
     ids_found = with_first first_found.0 first_found.1
 
-    twins_at_second : (l : LeastIds) → AreLeastIds (IsIdAt held a) (Some l) → (o : Option (List ℕ)) → second_in l ≡ o → Decided (HasTwins held a)
-    twins_at_second l h None e = inr (no_twins_from held a l e h)
-    twins_at_second l h (Some s) e = inl (l.least, s, twins_from held a l s e h)
-
-    twins_at : (o : Option LeastIds) → AreLeastIds (IsIdAt held a) o → Decided (HasTwins held a)
-    twins_at None h = inr (no_twins_at held a h)
-    twins_at (Some l) h = twins_at_second l h (second_in l) refl
+    twins_by : (p : List ℕ) (s : Option (List ℕ)) → AreLeastIds (IsIdAt held a) (Some (ids_with p s)) → Decided (HasTwins held a)
+    twins_by p None h = inr (no_twins_from held a (ids_with p None) refl h)
+    twins_by p (Some s) h = inl (p, s, twins_from held a (ids_with p (Some s)) s refl h)
 
     pub twins_decided : Decided (HasTwins held a)
-    twins_decided = twins_at ids_found.0 ids_found.1
+    twins_decided = ⊎_elim (λ (l : HasLeastIds). twins_by l.0 l.1 l.2) (λ (h : HasNoIds). inr (no_twins_at held a h)) ids_found
 
   -- the least place with twins
   pub twins_found : (t : Option CertRef) × IsLeastBy place_cmp (HasTwins held) t
@@ -157,33 +155,33 @@ module _ (held : List Node) where
       )))
       (same_or_not id_order c.id d.id)
 
-  evidence_is : (a : CertRef) (l : LeastIds) (s : List ℕ) → IsLeastBy place_cmp (HasTwins held) (Some a) → AreLeastIds (IsIdAt held a) (Some l)
-      → second_in l ≡ Some s → IsEvidence held (evidence_with a l.least s)
-  evidence_is a l s least both e =
-      let second : IsLeastBy id_cmp (Others (IsIdAt held a) l.least) (Some s) = subst (IsLeastBy id_cmp (Others (IsIdAt held a) l.least)) e both.1 in
-      let twins = twins_from held a l s e both in
+  evidence_is : (a : CertRef) (p s : List ℕ) → IsLeastBy place_cmp (HasTwins held) (Some a) → AreLeastIds (IsIdAt held a) (Some (ids_with p (Some s)))
+      → IsEvidence held (evidence_with a p s)
+  evidence_is a p s least both =
+      let second : IsLeastBy id_cmp (Others (IsIdAt held a) p) (Some s) = both.1 in
+      let twins = twins_from held a (ids_with p (Some s)) s refl both in
       record {
         twins = twins;
-        in_order = less_from id_order l.least s (both.0.1 s twins.two) twins.apart;
-        least_place = λ b p q t. ⊎_elim (λ (same : a ≡ b). inl same) (λ (other : a ≢ b). inr (before_from_less a b (less_from place_order a b (least.1 b (p, q, t)) other))) (same_or_not place_order a b);
-        least_ids = λ id h. ⊎_elim (λ (same : id ≡ l.least). inl same) (λ (other : id ≢ l.least). inr (second.1 id (h, other))) (same_or_not id_order id l.least);
+        in_order = less_from id_order p s (both.0.1 s twins.two) twins.apart;
+        least_place = λ b q r t. ⊎_elim (λ (same : a ≡ b). inl same) (λ (other : a ≢ b). inr (before_from_less a b (less_from place_order a b (least.1 b (q, r, t)) other))) (same_or_not place_order a b);
+        least_ids = λ id h. ⊎_elim (λ (same : id ≡ p). inl same) (λ (other : id ≢ p). inr (second.1 id (h, other))) (same_or_not id_order id p);
       }
 
   abbrev pub EvidenceOrNone : Type 0
   EvidenceOrNone = ((e : Evidence) × IsEvidence held e) ⊎ NoTwins held
 
-  evidence_at_second : (a : CertRef) → IsLeastBy place_cmp (HasTwins held) (Some a) → (l : LeastIds) → AreLeastIds (IsIdAt held a) (Some l)
-      → (o : Option (List ℕ)) → second_in l ≡ o → EvidenceOrNone
-  evidence_at_second a least l both None e = absurd (no_twins_from held a l e both least.0)
-  evidence_at_second a least l both (Some s) e = inl (evidence_with a l.least s, evidence_is a l s least both e)
+  evidence_at_second : (a : CertRef) → IsLeastBy place_cmp (HasTwins held) (Some a) → (p : List ℕ) (s : Option (List ℕ))
+      → AreLeastIds (IsIdAt held a) (Some (ids_with p s)) → EvidenceOrNone
+  evidence_at_second a least p None both = absurd (no_twins_from held a (ids_with p None) refl both least.0)
+  evidence_at_second a least p (Some s) both = inl (evidence_with a p s, evidence_is a p s least both)
 
-  evidence_at_place : (a : CertRef) → IsLeastBy place_cmp (HasTwins held) (Some a) → (o : Option LeastIds) → AreLeastIds (IsIdAt held a) o → EvidenceOrNone
-  evidence_at_place a least None none = absurd (no_twins_at held a none least.0)
-  evidence_at_place a least (Some l) both = evidence_at_second a least l both (second_in l) refl
+  evidence_at_place : (a : CertRef) → IsLeastBy place_cmp (HasTwins held) (Some a) → HasLeastIds a ⊎ HasNoIds a → EvidenceOrNone
+  evidence_at_place a least found = ⊎_elim (λ (l : HasLeastIds a). evidence_at_second a least l.0 l.1 l.2)
+      (λ (none : HasNoIds a). absurd (no_twins_at held a none least.0)) found
 
   evidence_by : (t : Option CertRef) → IsLeastBy place_cmp (HasTwins held) t → EvidenceOrNone
   evidence_by None none = inr (no_twins_of none)
-  evidence_by (Some a) least = evidence_at_place a least (ids_found a).0 (ids_found a).1
+  evidence_by (Some a) least = evidence_at_place a least (ids_found a)
 
   -- one place is of one id, or there is the evidence
   pub evidence_or_none : EvidenceOrNone
