@@ -10,7 +10,7 @@ use Rattle.bk_cert.specs.Spelling.{header_text}
 abbrev pub id_of : HeaderValue → List ℕ
 id_of header = tagged_of 0x10 (header_text header)
 
--- the tag of an id under a member's key (RFC 2104)
+-- the tag of an id under a member's key: HMAC-SHA-256 (RFC 2104)
 abbrev pub tag_of : List ℕ → List ℕ → List ℕ
 tag_of key id = hmac_of key id
 

@@ -24,7 +24,7 @@ pub fn want_tags<'a>(
     ensures { OnOk result ((tags : List (List ℕ)) → AreTagsOf wanted.old.items tags
         → AreTagsOf wanted.new.items (tags ++ tags_under committee.now.keys id mask.now)) }
 {
-    // None is marked from the number of members on.
+    // `requires` says that only members are marked.
     for member in 0..committee.n() as u8 {
         if mask.has(member) {
             let key = committee.mac(member as usize);

@@ -25,8 +25,8 @@ rule_number rule.Signer = 5
 rule_number rule.Quorum = 6
 rule_number rule.Tag = 7
 
--- how many parents a certificate of a later round has at least: as many as a quorum of version One has members, and
--- one in version Two, where admission weighs them
+-- how many parents a certificate of a later round has at least: in version One as many as make a quorum, in version
+-- Two one; whether they weigh a quorum, admission asks in both
 abbrev pub least_parents : CommitteeValue → ℕ
 least_parents k = by_version k.version
   where

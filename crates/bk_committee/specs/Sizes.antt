@@ -2,7 +2,7 @@
 use Rattle.std.specs.Prelude.{ℕ, ◌==◌, ◌-◌, ◌/◌, ◌%◌, ◌≤◌, List, length, sum, sum_by, Contains, slice_index_or, Option, Some, None, if◌then◌else◌}
 use Rattle.std.specs.List.{IsDistinct}
 
--- the weight of each member, by its number; in version One each is 1
+-- the weight of each member: place x of the list is that of member x; in version One each is 1
 pub record Sizes : Type 0 where
   pub weights : List ℕ
 
@@ -14,11 +14,11 @@ members z = length z.weights
 abbrev pub total : Sizes → ℕ
 total z = sum z.weights
 
--- the weight that may be faulty: a third of the others, rounded down
+-- the weight that may be faulty: a third of one less than all, rounded down
 abbrev pub faulty : Sizes → ℕ
 faulty z = (total z - 1) / 3
 
--- the weight of a quorum: as much as is surely not faulty
+-- the weight of a quorum: what is left of all without what may be faulty
 abbrev pub quorum : Sizes → ℕ
 quorum z = total z - faulty z
 

@@ -75,7 +75,8 @@ fn meet_places(
         slice_index_or kept.old.stamp.items p 0 ≤ 0 }
     requires many { length kept.old.counts.items ≡ length txs.now }
     requires counted { AreCounts kept.old.counts.items kept.old.earlier.items.items }
-    requires no_rows { (kept.old.earlier.start.items ≡ 0 ∷ []) × (kept.old.earlier.items.items ≡ []) }
+    requires no_rows { (kept.old.earlier.start.items ≡ 0 ∷ [])
+        × (kept.old.earlier.items.items ≡ []) }
     ensures words { IfOk result (λ r.
         IsRows (words_at ids.now txs.now) (length txs.now) r.start.items r.items.items) }
     ensures earlier { OnOk result (

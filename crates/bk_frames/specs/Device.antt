@@ -20,7 +20,7 @@ Counts old new result = new.failures ≡ (if is_ok result then old.failures else
 abbrev pub Works : Device → Device → Type 0
 Works old new = new.failures ≡ old.failures
 
--- from one moment to a later one a call failed
+-- from one moment to a later one exactly one call failed
 abbrev pub Fails : Device → Device → Type 0
 Fails old new = new.failures ≡ old.failures + 1
 

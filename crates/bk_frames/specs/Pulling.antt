@@ -37,7 +37,7 @@ pub data CallsForMemoryAt (bytes : List ℕ) (offset : ℕ) : Type 0 where
   in_part : (front : FeedValue) (part : List ℕ) → Begins bytes front part → IsPartAt (length front.frames) offset part
       → offset ≡ length (spelling front) → CallsForMemoryAt bytes offset
 
--- the same of a front of the bytes: behind it less than a piece was pulled ahead, and nothing at 0
+-- the same of a front of the bytes: behind it at most a piece was pulled ahead, and nothing at 0
 pub record FrontCallsForMemoryAt (bytes : List ℕ) (offset : ℕ) : Type 0 where
   pub front : List ℕ
   pub ahead : List ℕ

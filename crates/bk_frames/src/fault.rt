@@ -7,7 +7,8 @@ use std::fmt;
 /// What is wrong with a feed.
 #[derive(Clone, Copy, Debug, PartialEq, Eq)]
 pub enum FaultCode {
-    /// One of the first four bytes is neither that of `BKF1` nor that of `BKF2`, or not of the one that the others are of.
+    /// The feed begins neither with `BKF1` nor with `BKF2`, nor do its bytes, where they are fewer than four, begin one of
+    /// the two.
     Magic = 1,
     /// The bytes end too early.
     Truncated = 2,
