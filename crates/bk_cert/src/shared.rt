@@ -9,11 +9,17 @@ use std::alloc::{AllocError, Global};
 use std::marker::Model;
 use std::sync::Arc;
 
-/// A header under its id, which its holders share: the header is kept once.
+/// What the holders share: a header and the id that it is held under.
+#[derive(Drop)]
+struct Named {
+    id: Digest32,
+    header: Header,
+}
+
+/// A header under its id, which its holders share: both are kept once.
 #[derive(Drop)]
 pub struct SharedCert {
-    id: Digest32,
-    header: Arc<Header, Global>,
+    named: Arc<Named, Global>,
 }
 
 impl Model for SharedCert {
@@ -22,16 +28,16 @@ impl Model for SharedCert {
 
     ghost Value = { Node };
 
-    ghost view = { λ s. node_with s.id (arc_value s.header) };
+    ghost view = { λ s. node_with (arc_value s.named).id (arc_value s.named).header };
 }
 
 impl SharedCert {
-    /// The header under this id. It takes memory for the header once, and for a count.
+    /// The header under this id. It takes memory for both once, and for a count.
     pub fn new(alloc: Global, id: Digest32, header: Header) -> Result<SharedCert, AllocError>
         ensures { IfOk result (λ s. s ≡ node_with id header) }
     {
-        let header = Arc::new(alloc, header)?;
-        Ok(SharedCert { id, header })
+        let named = Arc::new(alloc, Named { id, header })?;
+        Ok(SharedCert { named })
     }
 
     /// The same certificate, shared: it takes no memory. Only where the count of holders is full, at
@@ -39,12 +45,9 @@ impl SharedCert {
     pub fn share(&self, alloc: Global) -> Result<SharedCert, AllocError>
         ensures { IfOk result (λ s. s ≡ self.now) }
     {
-        match Arc::try_clone(&self.header) {
-            Ok(header) => Ok(SharedCert {
-                id: self.id,
-                header,
-            }),
-            Err(_) => SharedCert::new(alloc, self.id, self.header.try_clone(alloc)?),
+        match Arc::try_clone(&self.named) {
+            Ok(named) => Ok(SharedCert { named }),
+            Err(_) => SharedCert::new(alloc, self.named.id, self.named.header.try_clone(alloc)?),
         }
     }
 
@@ -52,13 +55,13 @@ impl SharedCert {
     pub fn id(&self) -> &Digest32
         ensures { result.now ≡ self.now.id }
     {
-        &self.id
+        &self.named.id
     }
 
     /// Its header.
     pub fn header(&self) -> &Header
         ensures { result.now ≡ self.now.header }
     {
-        &self.header
+        &self.named.header
     }
 }

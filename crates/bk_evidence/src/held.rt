@@ -25,10 +25,10 @@ use std::marker::Model;
 /// The certificates that were offered, each distinct pair of an id and a header once, those of
 /// collisions and twins too. Contracts see them in the order in which they were stored.
 ///
-/// A certificate takes 96 bytes, besides the header, which is shared, and the tables have room for
-/// at most about twice the certificates. A place takes 40 bytes more once it has twins. Where two
-/// headers have one id, a further offer under it goes over all that is held; with SHA-256 no such
-/// two are known.
+/// A certificate takes 64 bytes, besides the header and its id, which are shared, and the tables
+/// have room for at most about twice the certificates. A place takes 40 bytes more once it has
+/// twins. Where two headers have one id, a further offer under it goes over all that is held; with
+/// SHA-256 no such two are known.
 #[derive(Drop)]
 pub struct Held {
     alloc: Global,
