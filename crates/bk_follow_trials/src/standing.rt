@@ -1,0 +1,142 @@
+//! Faults of a feed and of a sink, which every later call gives again.
+
+use crate::ended::{broken, refuses, takes, takes_each};
+use crate::feeds::TWO_COMMITS;
+use crate::made::{made, part};
+use crate::stopped::is_refused;
+use crate::tally::Tally;
+use anyhow::Result;
+use bk_frames::{Counted, FaultCode};
+use bk_pool::Open;
+use bk_replay::{Fault, Follower};
+use std::io::{self, ErrorKind, Write};
+use std::sync::Wait;
+use std::thread::Threads;
+
+// How many bytes of the feed of two commits come, and what comes then. Its last byte is the first that shows the fault,
+// of this frame and this code. A length shows it when its four bytes are there.
+const TAILS: [(usize, &[u8], u64, FaultCode); 20] = [
+    (0, b"X", 0, FaultCode::Magic),
+    (0, b"BKF3", 0, FaultCode::Magic),
+    (3, b"3", 0, FaultCode::Magic),
+    (4, b"\x02", 4, FaultCode::Committee),
+    (4, b"\x03", 4, FaultCode::Committee),
+    (4, b"\x04", 4, FaultCode::Committee),
+    (42, b"\x01", 42, FaultCode::Genesis),
+    (42, b"\x03", 42, FaultCode::Genesis),
+    (99, b"\x02", 99, FaultCode::Extra),
+    (407, b"\x05", 407, FaultCode::Kind),
+    (532, b"\x00", 532, FaultCode::Kind),
+    (532, b"\x01", 532, FaultCode::Extra),
+    (532, b"\x02", 532, FaultCode::Extra),
+    (532, b"\xc8", 532, FaultCode::Kind),
+    (533, b"\x02\x00\x00\x58", 532, FaultCode::Length),
+    (533, b"\xff\x00\x00\x58", 532, FaultCode::Length),
+    (625, b"\x00", 625, FaultCode::Kind),
+    (625, b"\x05", 625, FaultCode::Kind),
+    (625, b"\x03\x01\x00\x00\x01", 625, FaultCode::Length),
+    (625, b"\x04\xff\xff\xff\xff", 625, FaultCode::Length),
+];
+
+// Whether the bytes are taken one by one up to the last of the tail, which is refused, and so is what would have been
+// right.
+fn refuses_tail<R>(
+    rt: &R,
+    follower: &mut Follower,
+    (front, tail, rest): (&[u8], &[u8], &[u8]),
+    fault: &Fault,
+) -> bool
+where
+    R: AllocGlobal + Threads + Wait + Sync,
+{
+    let last = tail.len().saturating_sub(1);
+    takes_each(rt, follower, front)
+        && takes_each(rt, follower, part(tail, 0, last))
+        && takes(rt, follower, b"")
+        && refuses(rt, follower, part(tail, last, tail.len()), fault)
+        && refuses(rt, follower, rest, fault)
+        && is_refused(rt, follower, fault)
+}
+
+fn stands<R>(rt: &R, pieces: (&[u8], &[u8], &[u8]), settles: bool, fault: &Fault) -> bool
+where
+    R: AllocGlobal + Threads + Wait + Sync,
+{
+    let (front, tail, rest) = pieces;
+    let mut follower = Follower::new(rt.alloc(), 2);
+    let is_right = if settles {
+        takes(rt, &mut follower, front)
+            && follower.settle(rt, &Open).is_ok()
+            && refuses_tail(rt, &mut follower, (b"", tail, rest), fault)
+    } else {
+        refuses_tail(rt, &mut follower, (front, tail, rest), fault)
+    };
+    follower.discard();
+    is_right
+}
+
+fn try_tails<R>(rt: &R, feed: &[u8], tally: &mut Tally) -> Result<()>
+where
+    R: AllocGlobal + Eprint + Threads + Wait + Sync,
+{
+    for (kept, tail, offset, code) in TAILS {
+        let (front, rest) = (part(feed, 0, kept), part(feed, kept, feed.len()));
+        for settles in [false, true] {
+            let is_right = stands(rt, (front, tail, rest), settles, &broken(offset, code));
+            let what = format!(in rt.alloc(); "a fault after {kept} bytes")?;
+            tally.note(rt, what.as_str(), is_right)?;
+        }
+    }
+    Ok(())
+}
+
+// ---- sinks
+
+// Takes nothing, and fails.
+#[derive(Clone, Copy)]
+struct Full;
+
+impl Write for Full {
+    fn write(&mut self, _buf: &[u8]) -> io::Result<usize> {
+        Err(io::Error::from(ErrorKind::Other))
+    }
+
+    fn flush(&mut self) -> io::Result<()> {
+        Ok(())
+    }
+}
+
+// Whether a report cannot be written to a sink that fails at once, and every later call gives that again.
+fn fails_to_write<R>(rt: &R, follower: &mut Follower, feed: &[u8]) -> bool
+where
+    R: AllocGlobal + Threads + Wait + Sync,
+{
+    if !takes(rt, follower, feed) {
+        return false;
+    }
+    let mut sink = Counted::new(Full);
+    let fault = Fault::Write { written: 0 };
+    let is_right = follower.finish(rt, &Open, &mut sink).err() == Some(fault);
+    is_right && is_refused(rt, follower, &fault)
+}
+
+fn keeps_failure<R>(rt: &R, feed: &[u8]) -> bool
+where
+    R: AllocGlobal + Threads + Wait + Sync,
+{
+    let mut follower = Follower::new(rt.alloc(), 2);
+    let is_right = fails_to_write(rt, &mut follower, feed);
+    follower.discard();
+    is_right
+}
+
+/// Faults at the beginning of a feed, in the midst of it and at its end, and a sink that fails.
+pub(crate) fn try_standing<R>(rt: &R, tally: &mut Tally) -> Result<()>
+where
+    R: AllocGlobal + Eprint + Threads + Wait + Sync,
+{
+    let feed = made(rt.alloc(), TWO_COMMITS)?;
+    try_tails(rt, &feed, tally)?;
+    let is_right = keeps_failure(rt, &feed);
+    tally.note(rt, "a sink that fails at once", is_right)
+}

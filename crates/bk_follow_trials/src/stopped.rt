@@ -1,0 +1,53 @@
+//! Followers that give a fault.
+
+use crate::ended::{finished, refuses};
+use bk_pool::Open;
+use bk_replay::{Fault, Follower};
+use std::sync::Wait;
+use std::thread::Threads;
+
+// Whether nothing is settled.
+fn settles_nothing<R>(rt: &R, follower: &mut Follower, fault: &Fault) -> bool
+where
+    R: AllocGlobal + Threads + Wait + Sync,
+{
+    follower.settle(rt, &Open).err() == Some(*fault)
+        && follower.settle_order().err() == Some(*fault)
+        && follower.order().err() == Some(*fault)
+}
+
+// Whether nothing is found.
+fn finds_nothing<R>(rt: &R, follower: &mut Follower, fault: &Fault) -> bool
+where
+    R: AllocGlobal + Threads + Wait + Sync,
+{
+    follower.account(1).err() == Some(*fault)
+        && follower.receipt(0).err() == Some(*fault)
+        && follower.prove(rt, 2).err() == Some(*fault)
+}
+
+/// Whether every call but `feed` gives this fault, and nothing is written.
+pub(crate) fn is_stopped<R>(rt: &R, follower: &mut Follower, fault: &Fault) -> bool
+where
+    R: AllocGlobal + Threads + Wait + Sync,
+{
+    finished(rt, follower).is_fault(fault)
+        && settles_nothing(rt, follower, fault)
+        && finds_nothing(rt, follower, fault)
+}
+
+/// Whether every call gives this fault, however often.
+pub(crate) fn is_refused<R>(rt: &R, follower: &mut Follower, fault: &Fault) -> bool
+where
+    R: AllocGlobal + Threads + Wait + Sync,
+{
+    for _ in 0..2u8 {
+        if follower.fault() != Some(*fault) || !refuses(rt, follower, b"", fault) {
+            return false;
+        }
+        if !is_stopped(rt, follower, fault) || !refuses(rt, follower, b"BKF1", fault) {
+            return false;
+        }
+    }
+    true
+}

@@ -1,0 +1,227 @@
+//! What a Follower is asked after each byte of a feed.
+
+use crate::feeds::{ONE_COMMIT, TWO_COMMITS};
+use crate::made::made;
+use crate::tally::Tally;
+use anyhow::Result;
+use bk_cert::CertRef;
+use bk_pool::Open;
+use bk_replay::{Follower, Order};
+use bk_rules::{Account, Receipt, Status};
+use std::alloc::Global;
+use std::sync::Wait;
+use std::thread::Threads;
+
+// Proofs of account 2: of the opening, and of the first payment.
+const PROOF_OPENED: &str =
+    "state 58adcc856b347f0dd4813ad33cdb8253d78a0cd40d3f41ac066bce24d28a8a5d\nsize 2\nindex 1\naccount 2 50 0\npath 5b2d207a8426e99fad298132eb18de130e9a23498b86f98b5f1778476ede759d\n";
+
+const PROOF_FIRST: &str =
+    "state a0f73141eeeda4cb3f115f1ee0468dde8a3de31db5fd987f0eec1df811bce063\nsize 2\nindex 1\naccount 2 80 0\npath f093a6029918f49a04474a0923f5a6b557c6a332840ecb5dc8ea9172a15bde3b\n";
+
+const ANCHORS: [CertRef; 2] = [
+    CertRef {
+        round: 1,
+        author: 0,
+    },
+    CertRef {
+        round: 3,
+        author: 0,
+    },
+];
+
+const CERTS: [CertRef; 3] = [
+    CertRef {
+        round: 1,
+        author: 0,
+    },
+    CertRef {
+        round: 2,
+        author: 0,
+    },
+    CertRef {
+        round: 3,
+        author: 0,
+    },
+];
+
+// What is found of account 2 and of place 0, and how many anchors and certificates are ordered.
+#[derive(Clone, Copy)]
+struct Wanted {
+    balance: Option<u64>,
+    moved: Option<u64>,
+    proof: &'static str,
+    anchors: usize,
+    certs: usize,
+}
+
+const UNOPENED: Wanted = Wanted {
+    balance: None,
+    moved: None,
+    proof: "",
+    anchors: 0,
+    certs: 0,
+};
+
+// What is found after so many bytes of the feed of two commits. It is settled once, with round 2 at 407.
+fn wanted_at(end: usize) -> Wanted {
+    if end < 99 {
+        return UNOPENED;
+    }
+    if end < 407 {
+        return Wanted {
+            balance: Some(50),
+            proof: PROOF_OPENED,
+            ..UNOPENED
+        };
+    }
+    let (anchors, certs) = if end < 625 { (1, 1) } else { (2, 3) };
+    Wanted {
+        balance: Some(80),
+        moved: Some(30),
+        proof: PROOF_FIRST,
+        anchors,
+        certs,
+    }
+}
+
+fn is_order(order: Order<'_>, anchors: usize, certs: usize) -> bool {
+    order.anchors == ANCHORS.get(..anchors).unwrap_or(&[])
+        && order.certs == CERTS.get(..certs).unwrap_or(&[])
+}
+
+// Whether the accounts and receipts are as wanted. There is no account 3 and no place 1.
+fn has_values(follower: &Follower, wanted: Wanted) -> Result<bool> {
+    let account = wanted.balance.map(|balance| Account { balance, seq: 0 });
+    let receipt = wanted.moved.map(|moved| Receipt {
+        status: Status::Ok,
+        moved,
+    });
+    Ok(
+        follower.account(2)? == account
+            && follower.account(3)?.is_none()
+            && follower.receipt(0)? == receipt
+            && follower.receipt(1)?.is_none(),
+    )
+}
+
+// Whether the proof of account 2 is as wanted, none for an empty text. There is none of account 3.
+fn has_proofs<R>(rt: &R, follower: &mut Follower, wanted: &str) -> Result<bool>
+where
+    R: AllocGlobal + Threads + Sync,
+{
+    let alloc: Global = rt.alloc();
+    let is_right = match follower.prove(rt, 2)? {
+        Some(proof) => proof.text(alloc)?.as_slice() == wanted.as_bytes(),
+        None => wanted.is_empty(),
+    };
+    Ok(is_right && follower.prove(rt, 3)?.is_none())
+}
+
+// Whether the order is as wanted, as it is settled and as it was settled last.
+fn has_order(follower: &mut Follower, wanted: Wanted) -> Result<bool> {
+    follower.settle_order()?;
+    let is_last = is_order(follower.last_order(), wanted.anchors, wanted.certs);
+    let order = follower.order()?;
+    Ok(is_last && is_order(order, wanted.anchors, wanted.certs))
+}
+
+fn gives<R>(rt: &R, follower: &mut Follower, wanted: Wanted) -> Result<bool>
+where
+    R: AllocGlobal + Threads + Sync,
+{
+    Ok(
+        has_values(follower, wanted)?
+            && has_proofs(rt, follower, wanted.proof)?
+            && has_order(follower, wanted)?,
+    )
+}
+
+// Whether round 2 is ordered before it is settled, and then brings one place.
+fn settles_round_two<R>(rt: &R, follower: &mut Follower) -> Result<bool>
+where
+    R: AllocGlobal + Threads + Wait + Sync,
+{
+    let ordered = Wanted {
+        anchors: 1,
+        certs: 1,
+        ..wanted_at(406)
+    };
+    Ok(gives(rt, follower, ordered)? && follower.settle(rt, &Open)? == 1)
+}
+
+// Whether all is as wanted after each byte, and account 2 at the end.
+fn gives_after_each<R>(rt: &R, follower: &mut Follower, feed: &[u8]) -> Result<bool>
+where
+    R: AllocGlobal + Threads + Wait + Sync,
+{
+    let mut end = 0usize;
+    for byte in feed.chunks(1) {
+        follower.feed(rt, byte)?;
+        end = end.saturating_add(1);
+        if end == 407 && !settles_round_two(rt, follower)? {
+            return Ok(false);
+        }
+        if !gives(rt, follower, wanted_at(end))? {
+            return Ok(false);
+        }
+    }
+    // What is ordered and not settled is one place, by which account 2 pays 5.
+    let last = Some(Account {
+        balance: 75,
+        seq: 1,
+    });
+    Ok(end == 625 && follower.settle(rt, &Open)? == 1 && follower.account(2)? == last)
+}
+
+fn gives_all<R>(rt: &R, feed: &[u8]) -> Result<bool>
+where
+    R: AllocGlobal + Threads + Wait + Sync,
+{
+    let mut follower = Follower::new(rt.alloc(), 2);
+    let is_right = gives_after_each(rt, &mut follower, feed);
+    follower.discard();
+    is_right
+}
+
+// ---- orders alone
+
+// Whether the order is that of the whole frames so far without any settling, which executes nothing.
+fn orders_alone<R>(rt: &R, follower: &mut Follower, feed: &[u8]) -> Result<bool>
+where
+    R: AllocGlobal + Threads + Wait + Sync,
+{
+    let mut end = 0usize;
+    for byte in feed.chunks(1) {
+        if !is_order(follower.order()?, 0, 0) {
+            return Ok(false);
+        }
+        follower.feed(rt, byte)?;
+        end = end.saturating_add(1);
+    }
+    let is_ordered = end == 346 && is_order(follower.order()?, 1, 1);
+    let is_unexecuted = follower.receipt(0)?.is_none() && follower.account(2)?.is_some();
+    let is_settled = follower.settle(rt, &Open)? == 1 && is_order(follower.order()?, 1, 1);
+    Ok(is_ordered && is_unexecuted && is_settled && follower.receipt(0)?.is_some())
+}
+
+fn orders_without_settling<R>(rt: &R, feed: &[u8]) -> Result<bool>
+where
+    R: AllocGlobal + Threads + Wait + Sync,
+{
+    let mut follower = Follower::new(rt.alloc(), 1);
+    let is_right = orders_alone(rt, &mut follower, feed);
+    follower.discard();
+    is_right
+}
+
+/// Accounts, receipts, proofs and orders after each byte.
+pub(crate) fn try_between<R>(rt: &R, tally: &mut Tally) -> Result<()>
+where
+    R: AllocGlobal + Eprint + Threads + Wait + Sync,
+{
+    let is_right = gives_all(rt, &made(rt.alloc(), TWO_COMMITS)?)?;
+    tally.note(rt, "questions after each byte", is_right)?;
+    let is_right = orders_without_settling(rt, &made(rt.alloc(), ONE_COMMIT)?)?;
+    tally.note(rt, "orders without settling", is_right)
+}

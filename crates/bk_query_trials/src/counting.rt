@@ -1,0 +1,148 @@
+//! Sources that keep count of what they are asked for: at most 65,536 bytes at once, and each byte is given once.
+
+use crate::devices::{MOST_CALLS, Reader};
+use crate::feeds::{NOTHING, ONE_COMMIT};
+use crate::made::{made, part};
+use crate::tally::Tally;
+use anyhow::Result;
+use bk_frames::Counted;
+use bk_pool::Open;
+use bk_replay::{Agreed, Query, Reply, Status, ask, compare, replay};
+use std::alloc::Global;
+use std::sync::Wait;
+use std::thread::Threads;
+
+// No source is asked for more than this at once.
+const MOST: usize = 65_536;
+
+// How many bytes a source gives a call: all that it is asked for, many, and few.
+const STEPS: [usize; 3] = [1_000_000, 60_000, 999];
+
+// The bytes 0xff of the batch, whose digest is named in round 1. It is void: its first transaction would have 65,535
+// bytes, and so would each of 65,534 more.
+const BATCH: usize = 200_000;
+
+const WIDE: &str =
+    "members 1\naccount 1 100\naccount 2 50\ncert a 1 0 2b48f79297030f8a1bbbdfc58f6607b5ce7a8c5c6624cbe0a1a6a8ecb76d0db4 - 0\ncert b 2 0 - a 0\n";
+
+const REPORT: &str =
+    "members 1 faulty 0 quorum 1\nframes 5\nanchor 1 0\ncert 1 0\nbatch 0 void\naccount 1 100 0\naccount 2 50 0\nmoney 150\nstate 58adcc856b347f0dd4813ad33cdb8253d78a0cd40d3f41ac066bce24d28a8a5d\n";
+
+const PROOF: &str =
+    "state 58adcc856b347f0dd4813ad33cdb8253d78a0cd40d3f41ac066bce24d28a8a5d\nsize 2\nindex 1\naccount 2 50 0\npath 5b2d207a8426e99fad298132eb18de130e9a23498b86f98b5f1778476ede759d\n";
+
+// The first certificate, the batch, and the second certificate.
+fn wide(alloc: Global) -> Result<Vec<u8>> {
+    let narrow = made(alloc, WIDE)?;
+    let (front, last) = (part(&narrow, 0, 192), part(&narrow, 192, 285));
+    let mut feed = Vec::from_slice(alloc, front)?;
+    feed.extend_from_slice(b"\x04\x00\x03\x0d\x40")?;
+    let batch = vec![in alloc; 255u8; BATCH]?;
+    feed.extend_from_slice(&batch)?;
+    feed.extend_from_slice(last)?;
+    Ok(feed)
+}
+
+// Whether the source was read once to its end, and little at a time.
+fn is_little(source: Counted<Reader<'_>>, length: usize) -> bool {
+    let reader = source.into_inner();
+    reader.asked <= MOST && reader.rest.is_empty() && reader.given == length
+}
+
+fn replays_little<R>(rt: &R, feed: &[u8], most: usize) -> bool
+where
+    R: AllocGlobal + Threads + Wait + Sync,
+{
+    let alloc: Global = rt.alloc();
+    let mut source = Counted::new(Reader::new(feed, most, MOST_CALLS));
+    let mut sink = Counted::new(Vec::new(alloc));
+    let end = replay(rt, alloc, &mut source, &mut sink, 2, &Open);
+    let text = sink.into_inner();
+    let is_little = is_little(source, feed.len());
+    is_little && end.ok() == Some(Status::Whole) && text.as_slice() == REPORT.as_bytes()
+}
+
+fn asks_little<R>(rt: &R, feed: &[u8], most: usize, query: &Query, wanted: (Reply, &str)) -> bool
+where
+    R: AllocGlobal + Threads + Wait + Sync,
+{
+    let alloc: Global = rt.alloc();
+    let mut source = Counted::new(Reader::new(feed, most, MOST_CALLS));
+    let mut sink = Counted::new(Vec::new(alloc));
+    let replied = ask(rt, alloc, &mut source, &mut sink, *query, 2, &Open);
+    let text = sink.into_inner();
+    let is_little = is_little(source, feed.len());
+    let is_reply = match replied {
+        Ok(replied) => replied.reply == wanted.0,
+        Err(_) => false,
+    };
+    is_little && is_reply && text.as_slice() == wanted.1.as_bytes()
+}
+
+fn compares_little<R>(rt: &R, one: &[u8], other: &[u8], most: usize, wanted: Agreed) -> bool
+where
+    R: AllocGlobal + Threads + Wait + Sync,
+{
+    let mut first = Counted::new(Reader::new(one, most, MOST_CALLS));
+    let mut second = Counted::new(Reader::new(other, most, MOST_CALLS));
+    let agreed = compare(rt, rt.alloc(), &mut first, &mut second, 2, &Open);
+    let first = is_little(first, one.len());
+    let second = is_little(second, other.len());
+    first && second && agreed.ok() == Some(wanted)
+}
+
+fn try_wide<R>(rt: &R, wide: &[u8], tally: &mut Tally) -> Result<()>
+where
+    R: AllocGlobal + Eprint + Threads + Wait + Sync,
+{
+    let queries = [
+        (Query::Order, Reply::Found, "anchor 1 0\ncert 1 0\n"),
+        (Query::Account { id: 1 }, Reply::Found, "account 1 100 0\n"),
+        (Query::Receipt { place: 0 }, Reply::Absent, ""),
+        (Query::Proof { id: 2 }, Reply::Found, PROOF),
+        (Query::Proof { id: 3 }, Reply::Absent, ""),
+    ];
+    for most in STEPS {
+        let is_right = replays_little(rt, wide, most);
+        tally.note(rt, "a replay of a wide batch", is_right)?;
+        for (query, reply, text) in queries.iter() {
+            let is_right = asks_little(rt, wide, most, query, (*reply, text));
+            tally.note(rt, "a query of a wide batch", is_right)?;
+        }
+    }
+    Ok(())
+}
+
+// The void batch holds no place, and a feed of no certificates has an order that begins each other one.
+fn try_pairs<R>(rt: &R, wide: &[u8], tally: &mut Tally) -> Result<()>
+where
+    R: AllocGlobal + Eprint + Threads + Wait + Sync,
+{
+    let none = made(rt.alloc(), NOTHING)?;
+    let one_commit = made(rt.alloc(), ONE_COMMIT)?;
+    let rows: [(&[u8], &[u8], usize, usize); 4] = [
+        (wide, wide, 1, 0),
+        (wide, &none, 0, 0),
+        (&none, wide, 0, 0),
+        (&one_commit, &one_commit, 1, 1),
+    ];
+    for (one, other, certs, places) in rows {
+        for most in STEPS {
+            let is_right = compares_little(rt, one, other, most, Agreed { certs, places });
+            tally.note(rt, "two feeds in pieces", is_right)?;
+        }
+    }
+    Ok(())
+}
+
+/// Replays, queries and comparisons of a feed with a batch of 200,000 bytes.
+pub(crate) fn try_counting<R>(rt: &R, tally: &mut Tally) -> Result<()>
+where
+    R: AllocGlobal + Eprint + Threads + Wait + Sync,
+{
+    let wide = wide(rt.alloc())?;
+    let is_long = wide.len() == 99 + 93 + 200_005 + 93;
+    tally.note(rt, "the length of a wide feed", is_long)?;
+    try_wide(rt, &wide, tally)?;
+    try_pairs(rt, &wide, tally)
+}

@@ -1,0 +1,243 @@
+//! Schedules of two payments in conflict.
+
+use crate::devices::{Reader, Writer};
+use crate::feeds::{broken, cut_at};
+use crate::made::{made, part};
+use crate::tally::Tally;
+use anyhow::Result;
+use bk_frames::{Counted, FaultCode};
+use bk_replay::{Fault, ScheduleStop, apply_schedule};
+use bk_steps::{Event, Refused, ScheduleFault};
+use std::alloc::Global;
+
+// Account 1 pays 10 to account 3 if account 2 has 50, and then account 2 pays 50 to account 1. The batch begins at 123.
+const SCRIPT: &str =
+    "members 1\naccount 1 100\naccount 2 50\naccount 3 10\nbatch b\npayif 1 3 10 0 2 50\npay 2 1 50 0\n";
+
+const REPORT: &str =
+    "batch 0 2\ntx 0 0 10\ntx 1 0 50\naccount 1 140 1\naccount 2 0 1\naccount 3 20 0\nmoney 160\n";
+
+// ---- events
+
+fn claim(worker: u64, place: u64) -> Event {
+    Event::Claim { worker, place }
+}
+
+fn read(worker: u64, word: u64) -> Event {
+    Event::Read { worker, word }
+}
+
+fn write(worker: u64, word: u64) -> Event {
+    Event::Write { worker, word }
+}
+
+fn finish(worker: u64) -> Event {
+    Event::Finish { worker }
+}
+
+// A worker does a place that has these words, of which it may write those.
+fn put_place(
+    events: &mut Vec<Event>,
+    worker: u64,
+    place: u64,
+    words: &[u64],
+    writable: &[u64],
+) -> Result<()> {
+    events.push(claim(worker, place))?;
+    for word in words {
+        events.push(read(worker, *word))?;
+    }
+    for word in writable {
+        events.push(write(worker, *word))?;
+    }
+    events.push(finish(worker))?;
+    Ok(())
+}
+
+// Both places, the first by one worker in 12 events and the second by another in 10.
+fn whole(alloc: Global, first: u64, second: u64) -> Result<Vec<Event>> {
+    let mut events = Vec::new(alloc);
+    put_place(&mut events, first, 0, &[0, 1, 2, 3, 4, 5], &[0, 1, 4, 5])?;
+    put_place(&mut events, second, 1, &[0, 1, 2, 3], &[0, 1, 2, 3])?;
+    Ok(events)
+}
+
+// ---- runs
+
+// Whether a whole run by so many workers gives the report.
+fn gives_report(alloc: Global, feed: &[u8], workers: u32, events: &[Event]) -> bool {
+    let mut sink = Counted::new(Vec::new(alloc));
+    let stop = apply_schedule(alloc, &mut Counted::new(feed), &mut sink, workers, events).err();
+    let text = sink.into_inner();
+    stop.is_none() && text.as_slice() == REPORT.as_bytes()
+}
+
+// Whether these events stop so, and nothing is written.
+fn stops(alloc: Global, feed: &[u8], workers: u32, events: &[Event], wanted: ScheduleStop) -> bool {
+    let mut sink = Counted::new(Vec::new(alloc));
+    let stop = apply_schedule(alloc, &mut Counted::new(feed), &mut sink, workers, events).err();
+    let text = sink.into_inner();
+    stop == Some(wanted) && text.is_empty()
+}
+
+fn try_whole<R>(rt: &R, feed: &[u8], tally: &mut Tally) -> Result<()>
+where
+    R: AllocGlobal + Eprint,
+{
+    for (workers, first, second) in [(1u32, 0u64, 0u64), (2, 1, 0), (64, 63, 17)] {
+        let events = whole(rt.alloc(), first, second)?;
+        let is_right = gives_report(rt.alloc(), feed, workers, &events);
+        tally.note(rt, "a whole run", is_right)?;
+    }
+    Ok(())
+}
+
+// ---- runs that stop
+
+// So many events of the whole run come, and then these. Tells how it stops.
+fn try_stop<R>(
+    rt: &R,
+    feed: &[u8],
+    workers: u32,
+    (kept, last): (usize, &[Event]),
+    wanted: ScheduleFault,
+    tally: &mut Tally,
+) -> Result<()>
+where
+    R: AllocGlobal + Eprint,
+{
+    let run = whole(rt.alloc(), 0, 0)?;
+    let mut events = Vec::from_slice(rt.alloc(), run.get(..kept).unwrap_or(&[]))?;
+    events.extend_from_slice(last)?;
+    let is_right = stops(
+        rt.alloc(),
+        feed,
+        workers,
+        &events,
+        ScheduleStop::Schedule(wanted),
+    );
+    let what = format!(in rt.alloc(); "a run that stops after {kept} events")?;
+    tally.note(rt, what.as_str(), is_right)
+}
+
+fn refused(index: usize, code: Refused) -> ScheduleFault {
+    ScheduleFault::Refused { index, code }
+}
+
+fn try_first<R>(rt: &R, feed: &[u8], tally: &mut Tally) -> Result<()>
+where
+    R: AllocGlobal + Eprint,
+{
+    let holder = refused(0, Refused::NotHolder);
+    try_stop(rt, feed, 2, (0, &[finish(0)]), holder, tally)?;
+    try_stop(rt, feed, 2, (0, &[read(0, 0)]), holder, tally)?;
+    let idle = refused(0, Refused::NotIdle);
+    try_stop(rt, feed, 2, (0, &[claim(2, 0)]), idle, tally)?;
+    let ready = refused(0, Refused::NotReady);
+    try_stop(rt, feed, 2, (0, &[claim(0, 7)]), ready, tally)?;
+    let idle = refused(1, Refused::NotIdle);
+    try_stop(rt, feed, 2, (1, &[claim(0, 1)]), idle, tally)?;
+    let declared = refused(1, Refused::NotDeclared);
+    try_stop(rt, feed, 2, (1, &[read(0, 99)]), declared, tally)?;
+    let turn = refused(1, Refused::OutOfTurn);
+    try_stop(rt, feed, 2, (1, &[write(0, 0)]), turn, tally)
+}
+
+fn try_later<R>(rt: &R, feed: &[u8], tally: &mut Tally) -> Result<()>
+where
+    R: AllocGlobal + Eprint,
+{
+    let declared = refused(7, Refused::NotDeclared);
+    try_stop(rt, feed, 1, (7, &[write(0, 2)]), declared, tally)?;
+    let turn = refused(8, Refused::OutOfTurn);
+    try_stop(rt, feed, 2, (8, &[read(0, 1)]), turn, tally)?;
+    try_stop(rt, feed, 2, (8, &[write(0, 0)]), turn, tally)?;
+    try_stop(rt, feed, 2, (8, &[finish(0)]), turn, tally)?;
+    let early = [claim(1, 1), finish(0)];
+    try_stop(
+        rt,
+        feed,
+        2,
+        (11, &early),
+        refused(11, Refused::NotReady),
+        tally,
+    )?;
+    try_stop(
+        rt,
+        feed,
+        1,
+        (11, &early),
+        refused(11, Refused::NotIdle),
+        tally,
+    )?;
+    let ready = refused(22, Refused::NotReady);
+    try_stop(rt, feed, 2, (22, &[claim(0, 0)]), ready, tally)
+}
+
+fn try_early_ends<R>(rt: &R, feed: &[u8], tally: &mut Tally) -> Result<()>
+where
+    R: AllocGlobal + Eprint,
+{
+    for kept in 0..22usize {
+        let place = if kept < 12 { 0 } else { 1 };
+        try_stop(
+            rt,
+            feed,
+            1,
+            (kept, &[]),
+            ScheduleFault::Unfinished(place),
+            tally,
+        )?;
+    }
+    Ok(())
+}
+
+// ---- devices
+
+// A source that fails at once, and a sink that fails after five bytes.
+fn fails_well(alloc: Global, feed: &[u8], events: &[Event]) -> (bool, bool) {
+    let mut source = Counted::new(Reader::new(feed, 7, 0));
+    let mut sink = Counted::new(Vec::new(alloc));
+    let stop = apply_schedule(alloc, &mut source, &mut sink, 1, events).err();
+    let unread = ScheduleStop::Fault(broken(0, FaultCode::Read));
+    let text = sink.into_inner();
+    let is_unread = stop == Some(unread) && text.is_empty();
+    let mut sink = Counted::new(Writer {
+        held: Vec::new(alloc),
+        calls: 5,
+    });
+    let stop = apply_schedule(alloc, &mut Counted::new(feed), &mut sink, 1, events).err();
+    let unwritten = ScheduleStop::Fault(Fault::Write { written: 5 });
+    let text = sink.into_inner().held;
+    (
+        is_unread,
+        stop == Some(unwritten) && text.as_slice() == b"batch".as_slice(),
+    )
+}
+
+fn try_devices<R>(rt: &R, feed: &[u8], tally: &mut Tally) -> Result<()>
+where
+    R: AllocGlobal + Eprint,
+{
+    let alloc: Global = rt.alloc();
+    let events = whole(alloc, 0, 0)?;
+    let (is_unread, is_unwritten) = fails_well(alloc, feed, &events);
+    tally.note(rt, "a source that fails a schedule", is_unread)?;
+    tally.note(rt, "a sink that fails a schedule", is_unwritten)?;
+    let cut = part(feed, 0, feed.len().saturating_sub(1));
+    let is_right = stops(alloc, cut, 1, &events, ScheduleStop::Fault(cut_at(123)));
+    tally.note(rt, "a schedule of a feed that is cut", is_right)
+}
+
+/// Whole runs, events that are refused, lists that end early, and devices that fail.
+pub(crate) fn try_schedules<R>(rt: &R, tally: &mut Tally) -> Result<()>
+where
+    R: AllocGlobal + Eprint,
+{
+    let feed = made(rt.alloc(), SCRIPT)?;
+    try_whole(rt, &feed, tally)?;
+    try_first(rt, &feed, tally)?;
+    try_later(rt, &feed, tally)?;
+    try_early_ends(rt, &feed, tally)?;
+    try_devices(rt, &feed, tally)
+}
