@@ -24,7 +24,7 @@ use Rattle.bk_results.specs.declared.fault.Fault.TheVariants as fault
 use Rattle.bk_follow.specs.Agreement.{Agree, AgreeInOrder, OneBeginsFor, HaveOneSetup, frames_together, HaveNoStop, HaveStop, settled_in, OfBoth, FollowersAgree, FollowersDiffer}
 use Rattle.bk_results.specs.Devices.{AreFeed}
 use Rattle.bk_follow.specs.Outcomes.{IsOutcomeOf}
-use Rattle.bk_compare.specs.FeedAgreement.{FeedsAgree, FeedsCompared, FeedsDiffer, OfTheirFeeds, IfBothKnown, Sources, BothWork, FollowFails, ComparesNot, sources}
+use Rattle.bk_compare.specs.FeedAgreement.{FeedsAgree, FeedsCompared, FeedsDiffer, OfTheirFeeds, IfBothKnown, Sources, BothWork, FollowFails, ComparisonStops, sources}
 use Rattle.bk_compare.specs.declared.compared.Compared.{Compared}
 use Rattle.bk_follow.specs.Gaps.{IsGap, IsGapIn, missing_in}
 use Rattle.bk_follow.specs.Finishing.{OfFeed, Closes, CloseFails}
@@ -32,7 +32,7 @@ use Rattle.bk_follow.specs.Follower.{BookValue, Followed, IsCurrent, ordered_in,
 use Rattle.bk_follow.specs.Queries.{rows_of_executed}
 use Rattle.bk_follow.specs.Replaying.{AllHasCome, ReadFails}
 use Rattle.bk_follow.specs.RunReport.{committee_in, later_frames, IsStopIn, HasPlaceIn, HasPlace}
-use Rattle.bk_compare.specs.private.Ends.{HasStopIn, HasEnded, Ends, EndsNot, AgreesWith, compared_of, ComparesNotWith, IsDifferOf}
+use Rattle.bk_compare.specs.private.Ends.{HasStopIn, HasEnded, Ends, EndsNot, AgreesWith, compared_of, ComparisonStopsWith, IsDifferOf}
 use Rattle.bk_follow.specs.Stopping.{stops}
 use Rattle.bk_follow.proofs.ComparedBooks.{version_is}
 use Rattle.bk_follow.proofs.RunAnswers.{of_known, of_feed, cut_short}
@@ -161,7 +161,7 @@ module _ (one other : Followed) (bytes more : List ℕ) (x : HasEnded bytes one)
   right = feed_of y.version y.frames
 
   spelled_so : (holds : FeedValue → FeedValue → Type 0) → holds left right → OfTheirFeeds bytes more holds
-  spelled_so holds it = record { one = left; other = right; good = x.good; also_good = y.good; spelled = x.spelled; also_spelled = y.spelled; holds = it }
+  spelled_so holds it = record { one = left; other = right; good = x.good; other_good = y.good; spelled = x.spelled; other_spelled = y.spelled; holds = it }
 
   left_clear : HaveNoStop left right → HasStopIn left → ⊥
   left_clear none (s, h) = part_unstopped (committee_in left) (later_frames left) (frames_together left right) s
@@ -226,7 +226,7 @@ pub agrees_with : (one other : Followed) (source : Device) (a : Agreed) → IfKn
 agrees_with one other source a ended h =
     λ bytes x. of_other source other (λ more. OfTheirFeeds bytes more (λ f g. FeedsCompared f g (compared_of one other a))) ended (λ more y. ended_agree one other bytes more x y a h)
 
-pub differs_with : (one other : Followed) (old new : Device) (d : Differ) → Works old new → IfKnown old (λ more. HasEnded more other) → FollowersDiffer one other d → ComparesNotWith (why.Differ d) one old new
+pub differs_with : (one other : Followed) (old new : Device) (d : Differ) → Works old new → IfKnown old (λ more. HasEnded more other) → FollowersDiffer one other d → ComparisonStopsWith (why.Differ d) one old new
 differs_with one other old new d works ended h = (works, λ bytes x. of_other old other (λ more. OfTheirFeeds bytes more (FeedsDiffer d)) ended (λ more y. ended_differ one other bytes more x y d h))
 
 -- what comparing both says of the source of the other
@@ -238,12 +238,12 @@ pub works_by : (result : Result Agreed CompareStop) (old new : Device) → Works
 works_by (Ok a) old new works = works
 works_by (Err e) old new works = tt
 
-differs_by : (e : CompareStop) (one other : Followed) (old new : Device) → Works old new → IfKnown old (λ more. HasEnded more other) → IsDifferOf one other e → ComparesNotWith e one old new
+differs_by : (e : CompareStop) (one other : Followed) (old new : Device) → Works old new → IfKnown old (λ more. HasEnded more other) → IsDifferOf one other e → ComparisonStopsWith e one old new
 differs_by (why.First found) one other old new works ended h = absurd h
 differs_by (why.Second found) one other old new works ended h = absurd h
 differs_by (why.Differ found) one other old new works ended h = differs_with one other old new found works ended h
 
-pub stops_by : (result : Result Agreed CompareStop) (one other : Followed) (old new : Device) → Works old new → IfKnown old (λ more. HasEnded more other) → IfErr result (IsDifferOf one other) → IfErr result (λ e. ComparesNotWith e one old new)
+pub stops_by : (result : Result Agreed CompareStop) (one other : Followed) (old new : Device) → Works old new → IfKnown old (λ more. HasEnded more other) → IfErr result (IsDifferOf one other) → IfErr result (λ e. ComparisonStopsWith e one old new)
 stops_by (Ok a) one other old new works ended h = tt
 stops_by (Err e) one other old new works ended h = differs_by e one other old new works ended h
 
@@ -258,7 +258,7 @@ pub both_known : (s : Sources) (holds too : FeedValue → FeedValue → Type 0) 
 both_known s holds too f h = by_first s.first.bytes h
   where
     of_feeds : (bytes more : List ℕ) → OfTheirFeeds bytes more holds → OfTheirFeeds bytes more too
-    of_feeds bytes more x = record { one = x.one; other = x.other; good = x.good; also_good = x.also_good; spelled = x.spelled; also_spelled = x.also_spelled; holds = f x.one x.other x.holds }
+    of_feeds bytes more x = record { one = x.one; other = x.other; good = x.good; other_good = x.other_good; spelled = x.spelled; other_spelled = x.other_spelled; holds = f x.one x.other x.holds }
 
     by_second : (bytes : List ℕ) (o : Option (List ℕ)) → IfSome o (λ more. OfTheirFeeds bytes more holds) → IfSome o (λ more. OfTheirFeeds bytes more too)
     by_second bytes None h = tt
@@ -278,7 +278,7 @@ gaps_too s c h = by_first s.first.bytes h
     of_feeds : (bytes more : List ℕ) → OfTheirFeeds bytes more (λ f g. FeedsCompared f g c) → IsGap bytes c.first × IsGap more c.second
     of_feeds bytes more x = (
       record { feed = x.one; good = x.good; spelled = x.spelled; holds = x.holds.first },
-      record { feed = x.other; good = x.also_good; spelled = x.also_spelled; holds = x.holds.second },
+      record { feed = x.other; good = x.other_good; spelled = x.other_spelled; holds = x.holds.second },
     )
 
     by_second : (bytes : List ℕ) (o : Option (List ℕ)) → IfSome o (λ more. OfTheirFeeds bytes more (λ f g. FeedsCompared f g c)) → IfSome o (λ more. IsGap bytes c.first × IsGap more c.second)
@@ -294,8 +294,8 @@ gaps_too s c h = by_first s.first.bytes h
 is_feed : (first : Device) (one : Followed) → IfKnown first (λ bytes. HasEnded bytes one) → IfKnown first AreFeed
 is_feed first one ended = of_other first one AreFeed ended (λ bytes x. (feed_of x.version x.frames, x.good, x.spelled))
 
-pub compares_not : (e : CompareStop) (one : Followed) (first first' second second' : Device) → Works first first' → IfKnown first (λ bytes. HasEnded bytes one) → ComparesNotWith e one second second' → ComparesNot e (sources first second) (sources first' second')
-compares_not (why.First found) one first first' second second' works ended h = absurd h
-compares_not (why.Second found) one first first' second second' works ended h = (works, is_feed first one ended, h)
-compares_not (why.Differ found) one first first' second second' works ended h =
+pub compare_stops : (e : CompareStop) (one : Followed) (first first' second second' : Device) → Works first first' → IfKnown first (λ bytes. HasEnded bytes one) → ComparisonStopsWith e one second second' → ComparisonStops e (sources first second) (sources first' second')
+compare_stops (why.First found) one first first' second second' works ended h = absurd h
+compare_stops (why.Second found) one first first' second second' works ended h = (works, is_feed first one ended, h)
+compare_stops (why.Differ found) one first first' second second' works ended h =
     ((works, h.0), of_other first one (λ bytes. IfKnown second (λ more. OfTheirFeeds bytes more (FeedsDiffer found))) ended (λ bytes x. h.1 bytes x))

@@ -65,9 +65,9 @@ pub record OfTheirFeeds (bytes more : List ℕ) (P : FeedValue → FeedValue →
   pub one : FeedValue
   pub other : FeedValue
   pub good : IsFeed one
-  pub also_good : IsFeed other
+  pub other_good : IsFeed other
   pub spelled : bytes ≡ spelling one
-  pub also_spelled : more ≡ spelling other
+  pub other_spelled : more ≡ spelling other
   pub holds : P one other
 
 -- the bytes of both sources, where they are known, encode feeds, and this holds of the feeds
@@ -85,9 +85,9 @@ FollowFails other old new = ⊥
 
 -- why the feeds of two sources do not agree: the first was not followed to its end, and nothing is read of the second;
 -- the first was, and the second was not; or both were, and they differ
-abbrev pub ComparesNot : CompareStop → Sources → Sources → Type 0
-ComparesNot (why.First found) old new =
+abbrev pub ComparisonStops : CompareStop → Sources → Sources → Type 0
+ComparisonStops (why.First found) old new =
     FollowFails found old.first new.first × (new.second ≡ old.second)
-ComparesNot (why.Second found) old new =
+ComparisonStops (why.Second found) old new =
     Works old.first new.first × IfKnown old.first AreFeed × FollowFails found old.second new.second
-ComparesNot (why.Differ found) old new = BothWork old new × IfBothKnown old (FeedsDiffer found)
+ComparisonStops (why.Differ found) old new = BothWork old new × IfBothKnown old (FeedsDiffer found)

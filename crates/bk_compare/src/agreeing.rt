@@ -5,8 +5,8 @@ ghost use Rattle.std.specs.Prelude.{◌≡◌, ◌<◌, ◌≤◌, None, length,
 ghost use Rattle.bk_frames.specs.Device.{CanBeUsed, Works, IfKnown};
 ghost use Rattle.bk_follow.specs.Agreement.{FollowersAgree};
 ghost use Rattle.bk_follow.specs.Follower.{unfed};
-ghost use Rattle.bk_compare.specs.FeedAgreement.{BothWork, ComparesNot, FeedsAgree, FeedsCompared, FollowFails, IfBothKnown, sources};
-ghost use Rattle.bk_compare.specs.private.Ends.{AgreesWith, ComparesNotWith, Ends, EndsNot, HasEnded, IsDifferOf};
+ghost use Rattle.bk_compare.specs.FeedAgreement.{BothWork, ComparisonStops, FeedsAgree, FeedsCompared, FollowFails, IfBothKnown, sources};
+ghost use Rattle.bk_compare.specs.private.Ends.{AgreesWith, ComparisonStopsWith, Ends, EndsNot, HasEnded, IsDifferOf};
 
 use crate::compared::Compared;
 use bk_follow::{Follower, is_stop};
@@ -105,7 +105,7 @@ fn compare_with<R: Threads + Wait + Sync, S: Source, G: Gate + Sync>(
     requires sound { CanBeUsed (S.state source.old) }
     ensures agree { IfOk result (AgreesWith one.now other.new (S.state source.old)) }
     ensures sound { OnOk result (Works (S.state source.old) (S.state source.new)) }
-    ensures stop { IfErr result (λ e. ComparesNotWith e one.now
+    ensures stop { IfErr result (λ e. ComparisonStopsWith e one.now
         (S.state source.old) (S.state source.new)) }
 {
     match follow_to_end(rt, alloc, source, other, gate) {
@@ -133,7 +133,7 @@ fn compare_both<R: Threads + Wait + Sync, S: Source, T: Source, G: Gate + Sync>(
     ensures sound { OnOk result (BothWork
         (sources (S.state first.old) (T.state second.old))
         (sources (S.state first.new) (T.state second.new))) }
-    ensures stop { IfErr result (λ e. ComparesNot e
+    ensures stop { IfErr result (λ e. ComparisonStops e
         (sources (S.state first.old) (T.state second.old))
         (sources (S.state first.new) (T.state second.new))) }
 {
@@ -174,7 +174,7 @@ pub fn compare_with_gaps<R: Threads + Wait + Sync, S: Source, T: Source, G: Gate
     ensures sound { OnOk result (BothWork
         (sources (S.state first.old) (T.state second.old))
         (sources (S.state first.new) (T.state second.new))) }
-    ensures stop { IfErr result (λ e. ComparesNot e
+    ensures stop { IfErr result (λ e. ComparisonStops e
         (sources (S.state first.old) (T.state second.old))
         (sources (S.state first.new) (T.state second.new))) }
 {
@@ -203,7 +203,7 @@ pub fn compare<R: Threads + Wait + Sync, S: Source, T: Source, G: Gate + Sync>(
     ensures sound { OnOk result (BothWork
         (sources (S.state first.old) (T.state second.old))
         (sources (S.state first.new) (T.state second.new))) }
-    ensures stop { IfErr result (λ e. ComparesNot e
+    ensures stop { IfErr result (λ e. ComparisonStops e
         (sources (S.state first.old) (T.state second.old))
         (sources (S.state first.new) (T.state second.new))) }
 {

@@ -32,7 +32,7 @@ use Rattle.bk_cli.specs.declared.list_fault.ListFault.TheVariants as list
 use Rattle.bk_jobs.specs.Schedules.{AreNoEvents, AreRefused, Lists}
 use Rattle.bk_jobs.specs.Sources.{AreBroken, Inputs, JobDevices, inputs_of}
 use Rattle.bk_cli.specs.Exits.{exit_after, exit_after_compare, exit_by_code, is_refusal, writes_ahead}
-use Rattle.bk_jobs.specs.Comparisons.{AgreeNot, HaveSomeStop}
+use Rattle.bk_jobs.specs.Comparisons.{DoNotAgree, HaveSomeStop}
 use Rattle.bk_jobs.specs.Faults.{AreStopped, AreToBlame, MakeNoFeed, JobFailsBy}
 
 -- ---- bytes to blame
@@ -89,9 +89,9 @@ stopped_so P bytes more f o = record {
   one = o.one;
   other = o.other;
   good = o.good;
-  also_good = o.also_good;
+  other_good = o.other_good;
   spelled = o.spelled;
-  also_spelled = o.also_spelled;
+  other_spelled = o.other_spelled;
   holds = f o.one o.other o.holds;
 }
 
@@ -99,7 +99,7 @@ stopped_together : (P : FeedValue → FeedValue → Type 0) (bytes more : Option
     → IfSome bytes (λ bs. IfSome more (λ ms. OfTheirFeeds bs ms P)) → IfSome bytes (λ bs. IfSome more (λ ms. OfTheirFeeds bs ms HaveSomeStop))
 stopped_together P bytes more f h = weaker bytes (λ bs k. weaker more (λ ms o. stopped_so P bs ms f o) k) h
 
-compare_blames : (first second : _) (e : CompareStop) (old new : JobDevices) → AgreeNot e old new → is_refusal (exit_after_compare e) ≡ true
+compare_blames : (first second : _) (e : CompareStop) (old new : JobDevices) → DoNotAgree e old new → is_refusal (exit_after_compare e) ≡ true
     → AreToBlame (job.Compare first second) (exit_after_compare e) (inputs_of old) × IsUntouched old.out new.out
 compare_blames first second (compared.First (replay.Feed found)) old new h r =
     (refused (job.Compare first second) (inputs_of old) found.code found.offset old.first new.first (λ b. inl b) h.why.0 r, h.untouched)

@@ -5,7 +5,7 @@ use Rattle.bk_frames.specs.Feed.{FeedValue}
 use Rattle.bk_order.specs.declared.stop.Stop.{Stop}
 use Rattle.bk_follow.specs.Agreement.{HaveStop}
 use Rattle.bk_results.specs.Devices.{AreFeed, IsUntouched}
-use Rattle.bk_compare.specs.FeedAgreement.{BothWork, ComparesNot, FeedsAgree, FeedsDiffer, OfTheirFeeds, Sources, sources}
+use Rattle.bk_compare.specs.FeedAgreement.{BothWork, ComparisonStops, FeedsAgree, FeedsDiffer, OfTheirFeeds, Sources, sources}
 use Rattle.bk_results.specs.declared.compare_stop.CompareStop.{CompareStop}
 use Rattle.bk_results.specs.declared.differ.Agreed.{Agreed}
 use Rattle.bk_results.specs.declared.differ.Differ.TheVariants as differ
@@ -53,8 +53,8 @@ pub record PartOfAgreementIsOut (written : ℕ) (given : Inputs) (old new : Devi
   pub gave : Receives old new (take written (agree_text agreed))
 
 -- the feeds do not agree, and nothing is written
-pub record AgreeNot (e : CompareStop) (old new : JobDevices) : Type 0 where
-  pub why : ComparesNot e (both_sources old) (both_sources new)
+pub record DoNotAgree (e : CompareStop) (old new : JobDevices) : Type 0 where
+  pub why : ComparisonStops e (both_sources old) (both_sources new)
   pub untouched : IsUntouched old.out new.out
 
 -- why the line is not out though the feeds agree: a call of the output failed, and exactly its first bytes are out
@@ -67,7 +67,7 @@ AgreementFailsBy other old new = ⊥
 -- why a comparison has no answer: the feeds do not agree, or the whole line is not out
 abbrev pub CompareFailsBy : JobFault → JobDevices → JobDevices → Type 0
 CompareFailsBy (fault.Replay e) old new = AgreementFailsBy e old new
-CompareFailsBy (fault.Compared e) old new = AgreeNot e old new
+CompareFailsBy (fault.Compared e) old new = DoNotAgree e old new
 CompareFailsBy other old new = ⊥
 
 -- ---- bytes to blame

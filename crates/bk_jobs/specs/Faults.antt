@@ -22,7 +22,7 @@ use Rattle.bk_script.specs.Answers as script
 use Rattle.bk_script.specs.Script.{LineFault, feed_of}
 use Rattle.bk_results.specs.declared.script_fault.ScriptFault.{ScriptFault}
 use Rattle.bk_results.specs.declared.script_fault.ScriptFault.TheVariants as text
-use Rattle.bk_jobs.specs.Comparisons.{AgreeNot, AgreementFailsBy, AgreementIsOut, AreStoppedTogether, AreWrongTogether, IfBothGive}
+use Rattle.bk_jobs.specs.Comparisons.{DoNotAgree, AgreementFailsBy, AgreementIsOut, AreStoppedTogether, AreWrongTogether, IfBothGive}
 use Rattle.bk_jobs.specs.Reports.{ClaimCheckFailsBy, ClaimIsOut, ClaimIsUnread}
 use Rattle.bk_cli.specs.Exits.{absence, ending, exit_at, exit_by, exit_after}
 use Rattle.bk_cli.specs.Explanations.{told_of}
@@ -169,7 +169,7 @@ EventsFailBy other e old new = ⊥
 
 -- why two feeds that do not agree give no answer for a job
 abbrev pub ComparisonFailsBy : Job → CompareStop → JobDevices → JobDevices → Type 0
-ComparisonFailsBy (job.Compare first second) e old new = AgreeNot e old new
+ComparisonFailsBy (job.Compare first second) e old new = DoNotAgree e old new
 ComparisonFailsBy other e old new = ⊥
 
 -- what a query asks for is absent, no call failed, and nothing is written; and at this missing batch the order stops

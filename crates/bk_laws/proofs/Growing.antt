@@ -94,8 +94,8 @@ ordered_is_final small large r s part clear x y =
       receipts = (receipts.0, receipts_large small large s part y ∙ (receipts.1 ∙ ap (λ (l : List Receipt). l ++ receipts.0) (sym x.folded.receipts)));
     }
 
-pub order_of_frames_is_nothing : (one other : FeedValue) (r s : Reading) → IsPartOfFeed one other → IsPartOfFeed other one → HasNoStopIn one → Reads one r → Reads other s → AreAlike r s
-order_of_frames_is_nothing one other r s part back clear x y =
+pub report_ignores_frame_order : (one other : FeedValue) (r s : Reading) → IsPartOfFeed one other → IsPartOfFeed other one → HasNoStopIn one → Reads one r → Reads other s → AreAlike r s
+report_ignores_frame_order one other r s part back clear x y =
     let k = committee_in one in
     let ordered : r.ordered ≡ s.ordered = one_ordered k (later_frames other) r.ordered s.ordered
     (clear_in k (later_frames one) (later_frames other) part.frames back.frames clear)

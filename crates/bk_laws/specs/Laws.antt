@@ -106,8 +106,8 @@ pub record AreAlike (r s : Reading) : Type 0 where
 -- where nothing stops a feed, neither the order of its frames after the genesis nor their repeats
 -- change what is read of it, but for what is rejected: each certificate is rejected by the number of
 -- its frame
-abbrev pub OrderOfFramesIsNothing : Type 0
-OrderOfFramesIsNothing = (one other : FeedValue) (r s : Reading) → IsPartOfFeed one other
+abbrev pub ReportIgnoresFrameOrder : Type 0
+ReportIgnoresFrameOrder = (one other : FeedValue) (r s : Reading) → IsPartOfFeed one other
     → IsPartOfFeed other one → HasNoStopIn one → Reads one r → Reads other s → AreAlike r s
 
 -- ---- what is rejected

@@ -2,7 +2,7 @@
 
 ghost use Rattle.bk_laws.specs.Claims.{ExactlyOneVerdict, GoodIsTheReport};
 ghost use Rattle.bk_laws.specs.Following.{ExecutedIsFold, NamesFirstFault, OrderSoFarStays, ReceiptsStay};
-ghost use Rattle.bk_laws.specs.Laws.{AccountsFit, ExactlyOneAnswer, ExactlyOneComparison, ExactlyOneReply, ExactlyOneScheduleAnswer, FaultOrApplyReport, FewPlaces, OrderedIsFinal, OrderOfFramesIsNothing, ProofsOfFeedsAreGood, RejectedAreBroken, RejectedStay, StopsStay};
+ghost use Rattle.bk_laws.specs.Laws.{AccountsFit, ExactlyOneAnswer, ExactlyOneComparison, ExactlyOneReply, ExactlyOneScheduleAnswer, FaultOrApplyReport, FewPlaces, OrderedIsFinal, ReportIgnoresFrameOrder, ProofsOfFeedsAreGood, RejectedAreBroken, RejectedStay, StopsStay};
 
 use bk_steps::one_answer;
 
@@ -49,8 +49,8 @@ pub fn stops_stay()
 /// Where nothing stops a feed, neither the order of its frames after the genesis nor their repeats change what waits,
 /// what is ordered, the receipts and the accounts. What is rejected is named by the numbers of frames: see
 /// [`rejected_stay`].
-pub fn order_of_frames_is_nothing()
-    ensures { OrderOfFramesIsNothing }
+pub fn report_ignores_frame_order()
+    ensures { ReportIgnoresFrameOrder }
 {}
 
 /// What is rejected of a feed is each certificate that breaks a rule, by the number of its frame and the least rule that

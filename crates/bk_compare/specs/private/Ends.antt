@@ -56,10 +56,10 @@ AgreesWith one other source a =
     → IfKnown source (λ more. OfTheirFeeds bytes more (λ f g. FeedsCompared f g (compared_of one other a)))
 
 -- why it does not: the other feed was not followed to its end; or they differ
-abbrev pub ComparesNotWith : CompareStop → Followed → Device → Device → Type 0
-ComparesNotWith (why.First found) v old new = ⊥
-ComparesNotWith (why.Second found) v old new = FollowFails found old new
-ComparesNotWith (why.Differ found) v old new =
+abbrev pub ComparisonStopsWith : CompareStop → Followed → Device → Device → Type 0
+ComparisonStopsWith (why.First found) v old new = ⊥
+ComparisonStopsWith (why.Second found) v old new = FollowFails found old new
+ComparisonStopsWith (why.Differ found) v old new =
     Works old new
     × ((bytes : List ℕ) → HasEnded bytes v → IfKnown old (λ more. OfTheirFeeds bytes more (FeedsDiffer found)))
 
