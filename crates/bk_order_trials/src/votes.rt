@@ -19,7 +19,7 @@ type Place = (u32, u8);
 type Step<'a> = (Place, &'a [u8], &'a [Place]);
 
 // Steps after which `first` vote for the anchor of round 1 and nothing is committed, and one more, after which `all` vote
-// and these anchors and this order are committed.
+// for it and `third` for the anchor of round 3, and these anchors and this order are committed.
 #[derive(Clone, Copy)]
 struct Story<'a> {
     members: Members<'a>,
@@ -27,6 +27,7 @@ struct Story<'a> {
     last: Step<'a>,
     first: &'a [u8],
     all: &'a [u8],
+    third: &'a [u8],
     anchors: &'a [Place],
     order: &'a [Place],
 }
@@ -111,9 +112,9 @@ fn are_weighed(members: Members<'_>, rounds: &Rounds) -> bool {
     true
 }
 
-// Whether these vote for the anchor of round 1.
-fn are_voters(rounds: &Rounds, wanted: &[u8]) -> bool {
-    let voters = votes(rounds, 1);
+// Whether these vote for the anchor of a round.
+fn are_voters(rounds: &Rounds, round: u32, wanted: &[u8]) -> bool {
+    let voters = votes(rounds, round);
     for member in 0..4u8 {
         if voters.has(member) != wanted.contains(&member) {
             return false;
@@ -140,7 +141,7 @@ fn begins(alloc: Global, story: &Story<'_>, rounds: &mut Rounds) -> Result<bool>
             return Ok(false);
         }
     }
-    Ok(are_weighed(story.members, rounds) && are_voters(rounds, story.first))
+    Ok(are_weighed(story.members, rounds) && are_voters(rounds, 1, story.first))
 }
 
 // The last step, and what it commits.
@@ -148,7 +149,8 @@ fn ends(alloc: Global, story: &Story<'_>, rounds: &mut Rounds) -> Result<bool> {
     Ok(
         adds(alloc, rounds, story.last)?
             && are_weighed(story.members, rounds)
-            && are_voters(rounds, story.all)
+            && are_voters(rounds, 1, story.all)
+            && are_voters(rounds, 3, story.third)
             && has_order(alloc, rounds, story.anchors, story.order)?,
     )
 }
@@ -185,6 +187,7 @@ where
         last: ((1, 3), &[], &[(1, 3), (2, 1)]),
         first: &[0],
         all: &[0, 1],
+        third: &[],
         anchors: &[(1, 0)],
         order: &[(1, 0)],
     };
@@ -210,6 +213,7 @@ where
         last: ((1, 0), &[], &[(1, 0), (2, 0), (2, 1)]),
         first: &[],
         all: &[0, 1],
+        third: &[],
         anchors: &[(1, 0)],
         order: &[(1, 0)],
     };
@@ -235,6 +239,7 @@ where
         last: ((1, 3), &[], &[(1, 3), (2, 0)]),
         first: &[1],
         all: &[0, 1],
+        third: &[],
         anchors: &[(1, 0)],
         order: &[(1, 0)],
     };
@@ -260,6 +265,7 @@ where
         last: ((2, 0), &[0, 1], &[(2, 0)]),
         first: &[1, 2],
         all: &[0, 1, 2],
+        third: &[],
         anchors: &[(1, 0)],
         order: &[(1, 0)],
     };
@@ -291,6 +297,7 @@ where
         last: ((4, 1), &[0, 1, 2], &[(4, 1)]),
         first: &[3],
         all: &[3],
+        third: &[0, 1],
         anchors: &[(3, 1)],
         order: &[(1, 1), (1, 2), (1, 3), (2, 0), (2, 1), (2, 2), (3, 1)],
     };
@@ -325,6 +332,7 @@ where
         ),
         first: &[],
         all: &[2],
+        third: &[0, 1],
         anchors: &[(1, 0), (3, 1)],
         order: &[
             (1, 0),
