@@ -5,6 +5,7 @@
 //! `N passed, M failed`.
 #![tactic(auto)]
 
+mod chains;
 mod ended;
 mod feeds;
 mod going_on;
@@ -18,6 +19,7 @@ mod stopped;
 mod tally;
 mod twins;
 
+use crate::chains::try_chains;
 use crate::going_on::try_going_on;
 use crate::many::try_many;
 use crate::meeting::try_meetings;
@@ -42,6 +44,7 @@ where
     try_slices(rt, &mut tally)?;
     try_many(rt, &mut tally)?;
     try_meetings(rt, &mut tally)?;
+    try_chains(rt, &mut tally)?;
     Ok(tally)
 }
 
