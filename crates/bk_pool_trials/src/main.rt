@@ -10,6 +10,7 @@ mod chance;
 mod drawn;
 mod executing;
 mod hostile;
+mod large_slices;
 mod lists;
 mod lost;
 mod making;
@@ -20,6 +21,7 @@ mod slices;
 mod tally;
 
 use crate::hostile::try_hints;
+use crate::large_slices::try_large_slices;
 use crate::lists::try_all_lists;
 use crate::lost::try_lost;
 use crate::meeting::try_meetings;
@@ -41,6 +43,7 @@ where
     try_hints(rt, &mut tally)?;
     try_meetings(rt, &mut tally)?;
     try_all_slices(rt, &mut tally)?;
+    try_large_slices(rt, &mut tally)?;
     try_lost(rt, &mut tally)?;
     try_schedules(rt, &mut tally)?;
     Ok(tally)

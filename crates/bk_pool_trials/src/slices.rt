@@ -7,7 +7,7 @@ use crate::making::{Batch, feed_of, pay};
 use crate::tally::Tally;
 use anyhow::{Result, bail};
 use bk_frames::{Feed, Row, Version};
-use bk_ledger::{ExecFault, Ledger, Open};
+use bk_ledger::{ExecFault, Gate, Ledger, Open};
 use bk_tx::Tx;
 use std::alloc::Global;
 use std::sync::Wait;
@@ -45,19 +45,29 @@ fn feed_of_each(alloc: Global, version: Version, rows: &[Row], txs: &[Option<Tx>
     feed_of(alloc, version, rows, &payloads)
 }
 
-fn in_slices<R>(rt: &R, alloc: Global, feed: &Feed, least: usize, workers: usize) -> Result<Ledger>
+/// What this many workers make of a feed, in slices of at least so many transactions.
+pub(crate) fn in_slices<R, G>(
+    rt: &R,
+    alloc: Global,
+    feed: &Feed,
+    least: usize,
+    workers: usize,
+    gate: &G,
+) -> Result<Ledger>
 where
     R: Threads + Wait + Sync,
+    G: Gate + Sync,
 {
     let least = least.min(8_192);
-    match Ledger::of_slices(rt, alloc, feed, least, workers.clamp(1, 64), &Open) {
+    match Ledger::of_slices(rt, alloc, feed, least, workers.clamp(1, 64), gate) {
         Ok(ledger) => Ok(ledger),
         Err(ExecFault::OutOfMemory) => bail!("out of memory"),
         Err(ExecFault::Unfinished(place)) => bail!("place {place} is not done"),
     }
 }
 
-fn is_same(alloc: Global, ledger: &Ledger, wanted: &Ledger) -> Result<bool> {
+/// Whether both have the same batches, receipts and accounts.
+pub(crate) fn is_same(alloc: Global, ledger: &Ledger, wanted: &Ledger) -> Result<bool> {
     let rows = ledger.state().rows(alloc)?;
     let wanted_rows = wanted.state().rows(alloc)?;
     Ok(
@@ -80,7 +90,7 @@ where
     R: AllocGlobal + Eprint + Threads + Wait + Sync,
 {
     for workers in WORKERS {
-        let ledger = in_slices(rt, rt.alloc(), feed, least, workers)?;
+        let ledger = in_slices(rt, rt.alloc(), feed, least, workers, &Open)?;
         tally.note(rt, what, is_same(rt.alloc(), &ledger, wanted)?)?;
     }
     Ok(())
