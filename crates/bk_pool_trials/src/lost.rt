@@ -15,16 +15,16 @@ use bk_frames::{Feed, Version};
 use bk_pool::{Open, run_place};
 use std::alloc::Global;
 
-// The word of a place that is held.
-const HELD: u64 = 1 << 62;
+/// The word of a place that is held.
+pub(crate) const HELD: u64 = 1 << 62;
 
-// The word of a place that is done with status 0.
-const DONE: u64 = 1 << 63;
+/// The word of a place that is done with status 0.
+pub(crate) const DONE: u64 = 1 << 63;
 
 // ---- steps
 
-// Whether the words of places 0 and 1 are these.
-fn shows(bank: &Bank, pass: &mut Pass, first: u64, second: u64) -> bool
+/// Whether the words of places 0 and 1 are these.
+pub(crate) fn shows(bank: &Bank, pass: &mut Pass, first: u64, second: u64) -> bool
     requires own { IsPassOf bank.now pass.old }
     requires two { 2 ≤ (bank_scene bank.now).places }
     ensures own { IsPassOf bank.now pass.new }
@@ -46,8 +46,8 @@ fn refused(bank: &Bank, pass: Pass, place: u32, word: u64) -> Option<Pass>
     }
 }
 
-// The place, if it can be taken.
-fn taken(bank: &Bank, pass: Pass, place: u32) -> Option<Hold>
+/// The place, if it can be taken.
+pub(crate) fn taken(bank: &Bank, pass: Pass, place: u32) -> Option<Hold>
     requires own { IsPassOf bank.now pass }
     requires place { place < (bank_scene bank.now).places }
     ensures hold { IfSome result (λ h. IsHoldOf bank.now h × IsFresh h) }
@@ -58,16 +58,16 @@ fn taken(bank: &Bank, pass: Pass, place: u32) -> Option<Hold>
     }
 }
 
-// Whether the next step makes this place ready.
-fn makes_ready(bank: &Bank, leaving: &mut Leaving, place: u32) -> bool
+/// Whether the next step makes this place ready.
+pub(crate) fn makes_ready(bank: &Bank, leaving: &mut Leaving, place: u32) -> bool
     requires own { IsLeavingOf bank.now leaving.old }
     ensures own { IsLeavingOf bank.now leaving.new }
 {
     bank.release(leaving) == Step::Became(place)
 }
 
-// The pass again, if no place is left to count down.
-fn left(bank: &Bank, leaving: Leaving) -> Option<Pass>
+/// The pass again, if no place is left to count down.
+pub(crate) fn left(bank: &Bank, leaving: Leaving) -> Option<Pass>
     requires own { IsLeavingOf bank.now leaving }
     ensures own { IfSome result (IsPassOf bank.now) }
 {

@@ -1,8 +1,8 @@
 //! Executes drawn and chosen lists of transactions by threads, and compares each outcome with that of the same
 //! transactions one at a time, or with one that was computed by hand.
 //!
-//! It draws lists, gives wrong hints, loses holds, has workers wait for each other, and cuts batches into slices. It
-//! names on standard error what failed. The last line is `N passed, M failed`.
+//! It draws lists, gives wrong hints, loses holds, has workers wait for each other, cuts batches into slices, and looks at
+//! the words of banks. It names on standard error what failed. The last line is `N passed, M failed`.
 #![tactic(auto)]
 
 mod cases;
@@ -15,20 +15,24 @@ mod lists;
 mod lost;
 mod making;
 mod meeting;
+mod passes;
 mod plans;
 mod schedules;
 mod slices;
 mod tally;
+mod words;
 
 use crate::hostile::try_hints;
 use crate::large_slices::try_large_slices;
 use crate::lists::try_all_lists;
 use crate::lost::try_lost;
 use crate::meeting::try_meetings;
+use crate::passes::try_passes;
 use crate::plans::try_plans;
 use crate::schedules::try_schedules;
 use crate::slices::try_all_slices;
 use crate::tally::Tally;
+use crate::words::try_words;
 use anyhow::{Result, bail};
 use std::sync::Wait;
 use std::thread::Threads;
@@ -45,6 +49,8 @@ where
     try_all_slices(rt, &mut tally)?;
     try_large_slices(rt, &mut tally)?;
     try_lost(rt, &mut tally)?;
+    try_words(rt, &mut tally)?;
+    try_passes(rt, &mut tally)?;
     try_schedules(rt, &mut tally)?;
     Ok(tally)
 }

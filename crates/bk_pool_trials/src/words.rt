@@ -1,0 +1,267 @@
+//! The words of banks that are closed before the first place, and after the last one, against what was worked out by
+//! hand.
+
+ghost use Rattle.std.specs.Prelude.{◌≡◌, ◌*◌, ◌<◌, ◌≤◌, IfSome};
+ghost use Rattle.bk_bank.specs.Bank.{bank_scene, IsPassOf};
+ghost use Rattle.bk_pool.specs.Reads.{IsBankOf};
+
+use crate::cases::{Name, case_of};
+use crate::executing::prepared;
+use crate::lost::{DONE, left, makes_ready, taken};
+use crate::making::feed_with;
+use crate::tally::Tally;
+use anyhow::Result;
+use bk_bank::{Bank, Pass, Words};
+use bk_conflicts::Plan;
+use bk_frames::{Feed, Version};
+use bk_pool::{Open, run_place};
+use std::alloc::Global;
+
+// More accounts and places than any bank here has.
+const MOST: usize = 8;
+
+// The sequence number of an account that is not there.
+const ABSENT: u64 = u64::MAX;
+
+// The word of a place that is done with status 3: an account is unknown.
+const UNKNOWN: u64 = (1 << 63) + 3;
+
+/// The words of a bank: balance and sequence number of each account that has a slot, state and moved amount of each
+/// place.
+#[derive(Clone, Copy)]
+pub(crate) struct Shown<'a> {
+    pub(crate) accounts: &'a [(u64, u64)],
+    pub(crate) places: &'a [(u64, u64)],
+}
+
+// ---- the words
+
+// How many accounts have a slot in the plan of a bank. Each has two words.
+#[tactic(auto, using(bk_bank::proofs::Settings::scene_words))]
+fn slots_of(_bank: &Bank, plan: &Plan) -> usize
+    requires same { plan.now ≡ _bank.now.setting.plan }
+    ensures { (bank_scene _bank.now).words ≡ 2 * result }
+{
+    plan.accounts().len()
+}
+
+// Whether so many accounts have these words.
+fn are_accounts(words: &Words, slots: usize, wanted: &[(u64, u64)]) -> bool
+    requires few { slots ≤ 8 }
+    requires words { words.now.words ≡ 2 * slots }
+{
+    for slot in 0..slots {
+        let Some((balance, seq)) = wanted.get(slot) else {
+            return false;
+        };
+        if words.word(2 * slot) != *balance || words.word(2 * slot + 1) != *seq {
+            return false;
+        }
+    }
+    wanted.len() == slots
+}
+
+// Whether so many places have these words.
+fn are_places(words: &Words, places: usize, wanted: &[(u64, u64)]) -> bool
+    requires few { places ≤ 8 }
+    requires places { words.now.places ≡ places }
+{
+    for place in 0..places {
+        let Some((state, moved)) = wanted.get(place) else {
+            return false;
+        };
+        if words.state_of(place as u32) != *state || words.moved(place as u32) != *moved {
+            return false;
+        }
+    }
+    wanted.len() == places
+}
+
+/// Whether these are all words of a bank that is closed.
+pub(crate) fn closes_as(bank: Bank, plan: &Plan, pass: Pass, shown: &Shown<'_>) -> bool
+    requires own { IsPassOf bank pass }
+    requires plan { IsBankOf plan.now bank }
+{
+    let slots = slots_of(&bank, plan);
+    let places = bank.len();
+    if slots > MOST || places > MOST {
+        return false;
+    }
+    let words = bank.close(pass);
+    let are_right = are_accounts(&words, slots, shown.accounts);
+    are_right && are_places(&words, places, shown.places)
+}
+
+// ---- places
+
+/// The pass again, after a place that only the next one waits for.
+pub(crate) fn done_before(bank: &Bank, plan: &Plan, pass: Pass, place: u32) -> Option<Pass>
+    requires own { IsPassOf bank.now pass }
+    requires plan { IsBankOf plan.now bank.now }
+    requires place { place < (bank_scene bank.now).places }
+    ensures own { IfSome result (IsPassOf bank.now) }
+{
+    let hold = taken(bank, pass, place)?;
+    let mut leaving = run_place(bank, plan, hold, &Open);
+    if makes_ready(bank, &mut leaving, place.saturating_add(1)) {
+        left(bank, leaving)
+    } else {
+        None
+    }
+}
+
+/// The pass again, after a place that none waits for.
+pub(crate) fn done_last(bank: &Bank, plan: &Plan, pass: Pass, place: u32) -> Option<Pass>
+    requires own { IsPassOf bank.now pass }
+    requires plan { IsBankOf plan.now bank.now }
+    requires place { place < (bank_scene bank.now).places }
+    ensures own { IfSome result (IsPassOf bank.now) }
+{
+    let hold = taken(bank, pass, place)?;
+    let leaving = run_place(bank, plan, hold, &Open);
+    left(bank, leaving)
+}
+
+fn two_done(bank: &Bank, plan: &Plan, pass: Pass) -> Option<Pass>
+    requires own { IsPassOf bank.now pass }
+    requires plan { IsBankOf plan.now bank.now }
+    requires two { (bank_scene bank.now).places ≡ 2 }
+    ensures own { IfSome result (IsPassOf bank.now) }
+{
+    let pass = done_before(bank, plan, pass, 0)?;
+    done_last(bank, plan, pass, 1)
+}
+
+fn three_done(bank: &Bank, plan: &Plan, pass: Pass) -> Option<Pass>
+    requires own { IsPassOf bank.now pass }
+    requires plan { IsBankOf plan.now bank.now }
+    requires three { (bank_scene bank.now).places ≡ 3 }
+    ensures own { IfSome result (IsPassOf bank.now) }
+{
+    let pass = done_before(bank, plan, pass, 0)?;
+    let pass = done_before(bank, plan, pass, 1)?;
+    done_last(bank, plan, pass, 2)
+}
+
+// Two places or three, of which each waits for the one before it.
+fn all_done(bank: &Bank, plan: &Plan, pass: Pass) -> Option<Pass>
+    requires own { IsPassOf bank.now pass }
+    requires plan { IsBankOf plan.now bank.now }
+    ensures own { IfSome result (IsPassOf bank.now) }
+{
+    let places = bank.len();
+    if places == 2 {
+        return two_done(bank, plan, pass);
+    }
+    if places == 3 {
+        return three_done(bank, plan, pass);
+    }
+    None
+}
+
+// ---- banks
+
+fn is_opened_as(alloc: Global, feed: &Feed, shown: &Shown<'_>) -> Result<bool> {
+    let (plan, state) = prepared(alloc, feed, &[])?;
+    let (bank, pass) = Bank::new(alloc, &plan, &state)?;
+    Ok(closes_as(bank, &plan, pass, shown))
+}
+
+fn is_done_as(alloc: Global, feed: &Feed, shown: &Shown<'_>) -> Result<bool> {
+    let (plan, state) = prepared(alloc, feed, &[])?;
+    let (bank, pass) = Bank::new(alloc, &plan, &state)?;
+    let Some(pass) = all_done(&bank, &plan, pass) else {
+        return Ok(false);
+    };
+    Ok(closes_as(bank, &plan, pass, shown))
+}
+
+// The bank of a list, as it is opened and as it ends.
+fn try_bank<R>(
+    rt: &R,
+    version: Version,
+    name: Name,
+    opened: Shown<'_>,
+    done: Shown<'_>,
+    tally: &mut Tally,
+) -> Result<()>
+where
+    R: AllocGlobal + Eprint,
+{
+    let alloc: Global = rt.alloc();
+    let case = case_of(alloc, version, name)?;
+    let feed = feed_with(alloc, version, &case.opening, &case.txs)?;
+    let is_right = is_opened_as(alloc, &feed, &opened)?;
+    tally.note(rt, "the words of a bank that is opened", is_right)?;
+    let is_right = is_done_as(alloc, &feed, &done)?;
+    tally.note(rt, "the words of a bank that is done", is_right)
+}
+
+/// Account 1 paid 10 to account 3, and account 2 its 50 to account 1.
+pub(crate) const BOTH_PAID: Shown<'static> = Shown {
+    accounts: &[(140, 1), (0, 1), (20, 0)],
+    places: &[(DONE, 10), (DONE, 50)],
+};
+
+// Two payments in conflict. Both versions give the same words, since each account is there.
+fn try_two<R>(rt: &R, version: Version, tally: &mut Tally) -> Result<()>
+where
+    R: AllocGlobal + Eprint,
+{
+    let opened = Shown {
+        accounts: &[(100, 0), (50, 0), (10, 0)],
+        places: &[(0, 0), (1, 0)],
+    };
+    try_bank(
+        rt,
+        version,
+        Name::GuardThenPayment,
+        opened,
+        BOTH_PAID,
+        tally,
+    )
+}
+
+// In version One the absent accounts 8 and 9 have no slot, and no payment finds its accounts.
+fn try_absent_one<R>(rt: &R, tally: &mut Tally) -> Result<()>
+where
+    R: AllocGlobal + Eprint,
+{
+    let opened = Shown {
+        accounts: &[(100, 0)],
+        places: &[(0, 0), (1, 0), (1, 0)],
+    };
+    let done = Shown {
+        accounts: &[(100, 0)],
+        places: &[(UNKNOWN, 0), (UNKNOWN, 0), (UNKNOWN, 0)],
+    };
+    try_bank(rt, Version::One, Name::Absent, opened, done, tally)
+}
+
+// In version Two they have one each. Account 9 comes to be, and 8 stays absent.
+fn try_absent_two<R>(rt: &R, tally: &mut Tally) -> Result<()>
+where
+    R: AllocGlobal + Eprint,
+{
+    let opened = Shown {
+        accounts: &[(100, 0), (0, ABSENT), (0, ABSENT)],
+        places: &[(0, 0), (1, 0), (1, 0)],
+    };
+    let done = Shown {
+        accounts: &[(80, 1), (0, ABSENT), (20, 1)],
+        places: &[(DONE, 30), (DONE, 10), (UNKNOWN, 0)],
+    };
+    try_bank(rt, Version::Two, Name::Absent, opened, done, tally)
+}
+
+/// Banks of two payments whose accounts are there, and of three some of whose accounts are absent.
+pub(crate) fn try_words<R>(rt: &R, tally: &mut Tally) -> Result<()>
+where
+    R: AllocGlobal + Eprint,
+{
+    for version in [Version::One, Version::Two] {
+        try_two(rt, version, tally)?;
+    }
+    try_absent_one(rt, tally)?;
+    try_absent_two(rt, tally)
+}
