@@ -4,6 +4,7 @@ import collections
 import glob
 import os
 import re
+import shutil
 import subprocess
 import sys
 import time
@@ -42,6 +43,33 @@ def build_bench(cpu=None):
         if cpu:
             os.replace(BENCH, path)
     return path
+
+
+def build_in_copy(room, folder, libraries):
+    """Proves and builds the program in a folder of bench/ in a scratch copy of the repository, and returns its path."""
+    scratch = os.path.join(room, "repository")
+    shutil.copytree(ROOT, scratch, symlinks=True, ignore=shutil.ignore_patterns(".git", "incremental"))
+    crate = os.path.join(scratch, "crates", "bk_bench")
+    shutil.rmtree(crate)
+    shutil.copytree(os.path.join(ROOT, "bench", folder), crate)
+    # The gate reads no source outside a crate, so those of this program are named as texts where they are kept.
+    for path in glob.glob(os.path.join(crate, "**", "*.txt"), recursive=True):
+        os.rename(path, path[: -len(".txt")])
+    path = os.path.join(scratch, "crates.txt")
+    with open(path, encoding="utf-8") as lines:
+        others = [line for line in lines if not line.startswith("bk_bench:")]
+    with open(path, "w", encoding="utf-8") as out:
+        out.writelines([*others, f"bk_bench: {libraries}\n"])
+    program = os.path.join(crate, "out", "bk_bench")
+    # Without a feed the program ends with an error, once it is built.
+    words = ["rt", "run", "--", "1", "1"]
+    ran = subprocess.run(words, cwd=crate, stdin=subprocess.DEVNULL, capture_output=True, text=True, check=False)
+    if not os.path.exists(program):
+        sys.exit(f"the program of bench/{folder} was not built\n{ran.stdout[-3000:]}{ran.stderr[-3000:]}")
+    kept = os.path.join(room, "program")
+    shutil.move(program, kept)
+    shutil.rmtree(scratch)
+    return kept
 
 
 def commands_of(program):
