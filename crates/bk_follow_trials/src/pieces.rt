@@ -89,6 +89,7 @@ where
         && finished(rt, follower).is_fault(fault)
         && refuses(rt, follower, rest, fault)
         && finished(rt, follower).is_fault(fault)
+        && replayed(rt, front, 2).is_fault(fault)
 }
 
 // Whether a feed is reported where it ends, and again after its other bytes.

@@ -58,6 +58,17 @@ where
         && is_refused(rt, follower, fault)
 }
 
+// How many places a settle executes after so many bytes of the feed.
+fn places_at(kept: usize) -> usize {
+    if kept < 407 {
+        return 0;
+    }
+    if kept < 625 {
+        return 1;
+    }
+    2
+}
+
 fn stands<R>(rt: &R, pieces: (&[u8], &[u8], &[u8]), settles: bool, fault: &Fault) -> bool
 where
     R: AllocGlobal + Threads + Wait + Sync,
@@ -66,7 +77,7 @@ where
     let mut follower = Follower::new(rt.alloc(), 2);
     let is_right = if settles {
         takes(rt, &mut follower, front)
-            && follower.settle(rt, &Open).is_ok()
+            && follower.settle(rt, &Open) == Ok(places_at(front.len()))
             && refuses_tail(rt, &mut follower, (b"", tail, rest), fault)
     } else {
         refuses_tail(rt, &mut follower, (front, tail, rest), fault)

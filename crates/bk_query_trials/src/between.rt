@@ -155,6 +155,9 @@ fn gives_after_each<R>(rt: &R, follower: &mut Follower, feed: &[u8]) -> Result<b
 where
     R: AllocGlobal + Threads + Wait + Sync,
 {
+    if !gives(rt, follower, wanted_at(0))? {
+        return Ok(false);
+    }
     let mut end = 0usize;
     for byte in feed.chunks(1) {
         follower.feed(rt, byte)?;
