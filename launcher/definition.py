@@ -1,5 +1,5 @@
-"""Reads the command line of `bkreplay` from its definition in crates/bk_cli/src: commands.rt, help.rt, more_help.rt and
-verb.rt.
+"""Reads the command line of `bkreplay` from its definition in crates/bk_cli/src: commands.rt, shaped.rt, help.rt,
+more_help.rt and verb.rt.
 
 The functions of commands.rt are evaluated as they are written: `let` statements, calls, and the methods in METHODS.
 Whatever else occurs there ends the script with a message.
@@ -69,6 +69,11 @@ class Built(dict):
         return self
 
 
+def shaped(name, text):
+    """What `Shaped::new` makes: a command with its help."""
+    return Built("Command", name).set("about", text["about"]).set("after_help", text["after"])
+
+
 class Body:
     """The body of a function, which is evaluated with the given variables."""
 
@@ -126,6 +131,8 @@ class Body:
         """A value after one of its methods, or a field of it."""
         if self.peek() == "(" and isinstance(found, Built):
             values = self.values()
+            if name == "into_command" and not values:
+                return found
             if len(values) == 1:
                 return found.set(name, values[0])
         elif isinstance(found, dict) and name in found:
@@ -156,8 +163,15 @@ class Body:
             found = Built("Parser", self.next())
             self.next(")")
             return found
-        if token in ("Arg::new", "Command::new"):
-            return Built(token[:-5], self.values()[1])
+        if token == "Arg::new":
+            return Built("Arg", self.values()[1])
+        if token == "Shaped::new":
+            return shaped(*self.values()[1:])
+        if token == "Shaped::program":
+            self.values()
+            return self.source.program()
+        if token == "Ok":
+            return self.values()[0]
         if token not in self.source.functions:
             self.refuse(token)
         return Body(self.source, token, self.values()).result()
@@ -172,6 +186,15 @@ class Source:
                            text, re.DOTALL | re.MULTILINE)
         self.functions = {name: (re.findall(r"(\w+): ", parameters), body) for name, parameters, body in found}
         self.texts = read_texts()
+
+    def program(self):
+        """What `Shaped::program` of shaped.rt makes: the program without a command."""
+        text = read(f"{SOURCE}/shaped.rt")
+        named = re.search(r'Shaped::new\(alloc, "(\w+)", help::(\w+)\)', text)
+        version = re.search(r'\.version\("([\d.]+)"\)', text)
+        if not named or not version:
+            fail(f"{SOURCE}/shaped.rt: the name, the help or the version of the program is not understood")
+        return shaped(named[1], self.texts[named[2]]).set("version", version[1])
 
 
 def kind_of(arg):
