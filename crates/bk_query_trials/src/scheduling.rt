@@ -67,9 +67,10 @@ fn whole(alloc: Global, first: u64, second: u64) -> Result<Vec<Event>> {
 // Whether a whole run by so many workers gives the report.
 fn gives_report(alloc: Global, feed: &[u8], workers: u32, events: &[Event]) -> bool {
     let mut sink = Counted::new(Vec::new(alloc));
-    let stop = apply_schedule(alloc, &mut Counted::new(feed), &mut sink, workers, events).err();
+    let ended = apply_schedule(alloc, &mut Counted::new(feed), &mut sink, workers, events);
+    let is_whole = ended.is_ok();
     let text = sink.into_inner();
-    stop.is_none() && text.as_slice() == REPORT.as_bytes()
+    is_whole && text.as_slice() == REPORT.as_bytes()
 }
 
 // Whether these events stop so, and nothing is written.
