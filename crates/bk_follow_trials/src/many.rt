@@ -14,6 +14,9 @@ use std::thread::Threads;
 
 const BATCHES: u64 = 40;
 
+// The transactions of all of them: eight times 2, 2, 2 and 1, and 4, 9 and so on to 39.
+const PLACES: usize = 8 * 7 + 172;
+
 // Account 1 pays 2 to one that comes to be by that in version Two, and that one pays 1 to account 2.
 fn put_fresh(alloc: Global, text: &mut String, k: u64, seq: u64) -> Result<()> {
     let id = 200u64.saturating_sub(k / 3);
@@ -127,7 +130,7 @@ const LINES_TWO: [&str; 5] = [
 
 // ---- runs
 
-// Whether a Follower that settles each frame comes to this report.
+// Whether a Follower that settles each frame comes to this report, and executes each transaction in one of the settles.
 fn settles_frames<R>(rt: &R, follower: &mut Follower, feed: &[u8], wanted: &[u8]) -> Result<bool>
 where
     R: AllocGlobal + Threads + Wait + Sync,
@@ -136,14 +139,16 @@ where
     if !takes(rt, follower, part(feed, 0, 4)) {
         return Ok(false);
     }
+    let mut places = 0usize;
     for index in 0..ends.len().saturating_sub(1) {
         if !takes(rt, follower, frame(feed, &ends, index)) {
             return Ok(false);
         }
-        let _places = follower.settle(rt, &Open)?;
+        places = places.saturating_add(follower.settle(rt, &Open)?);
     }
     let ended = finished(rt, follower);
-    Ok(ended.status == Some(Status::Whole) && ended.text.as_slice() == wanted)
+    let is_report = ended.status == Some(Status::Whole) && ended.text.as_slice() == wanted;
+    Ok(is_report && places == PLACES)
 }
 
 fn settles<R>(rt: &R, feed: &[u8], workers: usize, wanted: &[u8]) -> Result<bool>

@@ -1,6 +1,9 @@
-//! Feeds that are read whole and cut into pieces: the same version, the same frames and the same faults.
+//! Feeds that are cut into pieces: the frames that their headers say, the fault of a feed that ends too early, and for
+//! broken bytes the fault that reading them has.
 
-use crate::feeds::{ACCOUNT_COMES, EMPTY, ONE_COMMIT, REPEATED, TWO_PAYMENTS, made};
+use crate::feeds::{
+    ACCOUNT_COMES, EMPTY, ONE_COMMIT, REPEATED, TWO_PAYMENTS, ends_of, frame, frame_at, made,
+};
 use crate::tally::Tally;
 use anyhow::Result;
 use bk_frames::{Counted, Cutter, FaultCode, Feed, FeedFault, Kind};
@@ -25,7 +28,7 @@ const SCRIPTS: [&str; 12] = [
 // The bits of a byte.
 const BITS: [u8; 8] = [1, 2, 4, 8, 16, 32, 64, 128];
 
-// ---- one feed, read and cut
+// ---- one feed
 
 // All frames of these bytes in pieces of `size`, or the fault.
 fn cut_into(
@@ -40,33 +43,32 @@ fn cut_into(
     cutter.end()
 }
 
-fn is_frame(kind: Kind, payload: &[u8], found: Option<&(Kind, Vec<u8>)>) -> bool {
-    match found {
-        Some((found, bytes)) => *found == kind && bytes.as_slice() == payload,
-        None => false,
+fn is_frame(bytes: &[u8], found: Option<&(Kind, Vec<u8>)>) -> bool {
+    match (bytes.split_first(), found) {
+        (Some((kind, rest)), Some((found, payload))) => {
+            *found as u8 == *kind && rest.get(4..) == Some(payload.as_slice())
+        }
+        _ => false,
     }
 }
 
 // Whether these are the frames of a feed.
-fn has_frames(feed: &Feed, frames: &[(Kind, Vec<u8>)]) -> bool {
-    for index in 0..feed.len() {
-        let (kind, payload) = feed.frame(index);
-        if !is_frame(kind, payload, frames.get(index)) {
+fn are_frames(feed: &[u8], ends: &[usize], frames: &[(Kind, Vec<u8>)]) -> bool {
+    for index in 0..frames.len() {
+        if !is_frame(frame(feed, ends, index), frames.get(index)) {
             return false;
         }
     }
-    feed.len() == frames.len()
+    frames.len().saturating_add(1) == ends.len()
 }
 
-// Whether a cutter gives the frames of a feed.
-fn gives_frames(alloc: Global, feed: &Feed, bytes: &[u8], size: usize) -> bool {
+// Whether a cutter gives the frames of a feed, which its headers say.
+fn gives_frames(alloc: Global, feed: &[u8], size: usize) -> Result<bool> {
+    let ends = ends_of(alloc, feed)?;
     let mut cutter = Cutter::new(alloc);
     let mut frames = Vec::new(alloc);
-    let is_cut = cut_into(&mut cutter, &mut frames, bytes, size).is_ok();
-    is_cut
-        && cutter.version() == Some(feed.version())
-        && cutter.offset() == bytes.len() as u64
-        && has_frames(feed, &frames)
+    let is_cut = cut_into(&mut cutter, &mut frames, feed, size).is_ok();
+    Ok(is_cut && cutter.offset() == feed.len() as u64 && are_frames(feed, &ends, &frames))
 }
 
 // Whether a cutter gives this fault.
@@ -76,53 +78,64 @@ fn gives_fault(alloc: Global, fault: FeedFault, bytes: &[u8], size: usize) -> bo
     cut_into(&mut cutter, &mut frames, bytes, size).err() == Some(fault)
 }
 
-fn gives_all_frames(alloc: Global, feed: &Feed, bytes: &[u8], sizes: &[usize]) -> bool {
+// Whether a good feed is cut into its frames.
+fn is_cut(alloc: Global, feed: &[u8], sizes: &[usize]) -> Result<bool> {
     for size in sizes {
-        if !gives_frames(alloc, feed, bytes, *size) {
-            return false;
+        if !gives_frames(alloc, feed, *size)? {
+            return Ok(false);
         }
     }
-    true
+    Ok(true)
 }
 
-fn gives_each_fault(alloc: Global, fault: FeedFault, bytes: &[u8], sizes: &[usize]) -> bool {
+// Whether the first bytes of a good feed are cut into frames, or are too short where they end in a frame or before the
+// second one.
+fn is_begun(alloc: Global, feed: &[u8], ends: &[usize], kept: usize, size: usize) -> Result<bool> {
+    let begun = feed.get(..kept).unwrap_or(&[]);
+    if ends.get(2..).unwrap_or(&[]).contains(&kept) {
+        return gives_frames(alloc, begun, size);
+    }
+    let fault = FeedFault {
+        offset: frame_at(ends, kept) as u64,
+        code: FaultCode::Truncated,
+    };
+    Ok(gives_fault(alloc, fault, begun, size))
+}
+
+// Whether bytes are cut into the frames that their headers say, or have the fault that reading them has.
+fn is_same(alloc: Global, bytes: &[u8], sizes: &[usize]) -> Result<bool> {
+    let Err(fault) = Feed::read(alloc, &mut Counted::new(bytes)) else {
+        return is_cut(alloc, bytes, sizes);
+    };
     for size in sizes {
         if !gives_fault(alloc, fault, bytes, *size) {
-            return false;
+            return Ok(false);
         }
     }
-    fault.code != FaultCode::Memory
-}
-
-// Whether reading these bytes and cutting them into pieces gives the same, whatever the size of the pieces.
-fn is_same(alloc: Global, bytes: &[u8], sizes: &[usize]) -> bool {
-    match Feed::read(alloc, &mut Counted::new(bytes)) {
-        Ok(feed) => gives_all_frames(alloc, &feed, bytes, sizes),
-        Err(fault) => gives_each_fault(alloc, fault, bytes, sizes),
-    }
+    Ok(fault.code != FaultCode::Memory)
 }
 
 // ---- all feeds
 
-// Whether a feed that is cut short, at every seventeenth byte, is the same.
-fn is_same_short(alloc: Global, feed: &[u8]) -> bool {
+// Whether a feed that is cut short at every seventeenth byte is cut so.
+fn is_begun_each(alloc: Global, feed: &[u8]) -> Result<bool> {
+    let ends = ends_of(alloc, feed)?;
     for kept in 0..feed.len() {
-        let begun = feed.get(..kept).unwrap_or(&[]);
-        if kept % 17 == 0 && !is_same(alloc, begun, &[7]) {
-            return false;
+        if kept % 17 == 0 && !is_begun(alloc, feed, &ends, kept, 7)? {
+            return Ok(false);
         }
     }
-    true
+    Ok(true)
 }
 
-// Whether a feed with a bit turned, in every thirteenth of its first 208 bytes, is the same.
+// Whether a feed with a bit turned, in every thirteenth of its first 208 bytes, is cut so.
 fn is_same_broken(alloc: Global, feed: &[u8]) -> Result<bool> {
     for turned in 0..16usize {
         let mut broken = Vec::from_slice(alloc, feed)?;
         if let Some(byte) = broken.get_mut(turned.saturating_mul(13)) {
             *byte ^= BITS.get(turned % 8).copied().unwrap_or(1);
         }
-        if !is_same(alloc, &broken, &[1, 4_096]) {
+        if !is_same(alloc, &broken, &[1, 4_096])? {
             return Ok(false);
         }
     }
@@ -138,9 +151,9 @@ where
         let feed = made(alloc, script)?;
         let is_right = Feed::read(alloc, &mut Counted::new(feed.as_slice())).is_ok();
         tally.note(rt, "a feed that is read", is_right)?;
-        let is_right = is_same(alloc, &feed, &[1, 2, 3, 7, 64, 4_096]);
+        let is_right = is_cut(alloc, &feed, &[1, 2, 3, 7, 64, 4_096])?;
         tally.note(rt, "a feed in pieces", is_right)?;
-        let is_right = is_same_short(alloc, &feed);
+        let is_right = is_begun_each(alloc, &feed)?;
         tally.note(rt, "a short feed in pieces", is_right)?;
         let is_right = is_same_broken(alloc, &feed)?;
         tally.note(rt, "a broken feed in pieces", is_right)?;

@@ -77,8 +77,8 @@ pub(crate) fn frame_at(ends: &[usize], count: usize) -> usize {
     begin
 }
 
-// The bytes from one end to the next.
-fn frame<'a>(feed: &'a [u8], ends: &[usize], index: usize) -> &'a [u8] {
+/// The bytes from one end to the next.
+pub(crate) fn frame<'a>(feed: &'a [u8], ends: &[usize], index: usize) -> &'a [u8] {
     let first = ends.get(index).copied().unwrap_or(0);
     let last = ends.get(index.saturating_add(1)).copied().unwrap_or(0);
     feed.get(first..last).unwrap_or(&[])

@@ -49,7 +49,8 @@ const MET: u64 = 1;
 
 const ALONE: u64 = 2;
 
-// A gate that counts the places, and in which workers wait until two are inside at once, or until one waited too long.
+// A gate that counts the places, and notes whether two workers are inside at once. Workers wait until two are, or until one
+// waited too long.
 #[derive(Drop)]
 struct Counting<'a> {
     inside: &'a AtomicU64,
@@ -58,16 +59,26 @@ struct Counting<'a> {
     looks: u64,
 }
 
+impl<'a> Counting<'a> {
+    // Whether two workers are inside, which is noted.
+    fn finds_two(&self) -> bool {
+        let inside = self.inside.load(Ordering::SeqCst);
+        let are_two = inside.saturating_sub(self.left.load(Ordering::SeqCst)) >= 2;
+        if are_two {
+            self.met.store(MET, Ordering::SeqCst);
+        }
+        are_two
+    }
+}
+
 impl<'a> Gate for Counting<'a> {
     fn inside(&self, _place: u32) {
         self.inside.fetch_add(1, Ordering::SeqCst);
-        if self.met.load(Ordering::SeqCst) != 0 {
+        if self.finds_two() || self.met.load(Ordering::SeqCst) != 0 {
             return;
         }
         for _ in 0..self.looks {
-            let inside = self.inside.load(Ordering::SeqCst);
-            if inside.saturating_sub(self.left.load(Ordering::SeqCst)) >= 2 {
-                self.met.store(MET, Ordering::SeqCst);
+            if self.finds_two() {
                 return;
             }
             thread::yield_now();
@@ -85,7 +96,7 @@ impl<'a> Gate for Counting<'a> {
 // ---- trials
 
 // Slices of a feed by a number of workers: what they give, that each place was done once, and that two workers were at
-// it at the same time, if there are two.
+// it at the same time if there are two, and never if there is one.
 fn try_workers<R>(
     rt: &R,
     feed: &Feed,

@@ -1,4 +1,4 @@
-//! Sources that keep count of what they are asked for: at most 65,536 bytes at once, and each byte is given once.
+//! Sources that keep count of what they are asked for: at most 65,536 bytes at once, and all bytes to the end.
 
 use crate::devices::{MOST_CALLS, Reader};
 use crate::feeds::{NOTHING, ONE_COMMIT};
@@ -43,7 +43,7 @@ fn wide(alloc: Global) -> Result<Vec<u8>> {
     Ok(feed)
 }
 
-// Whether the source was read once to its end, and little at a time.
+// Whether the source was read to its end, and little at a time.
 fn is_little(source: Counted<Reader<'_>>, length: usize) -> bool {
     let reader = source.into_inner();
     reader.asked <= MOST && reader.rest.is_empty() && reader.given == length
