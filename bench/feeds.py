@@ -65,10 +65,33 @@ def batch_of(count, kinds, accounts, seqs, draw, sender_of=None):
     return memoryview(payload)[:at]
 
 
-def put_opening(out, keys, accounts):
-    """The magic of version One, the committee of these keys, and the accounts."""
-    out.write(b"BKF1")
-    put_frame(out, 1, bytes([len(keys)]) + b"".join(keys))
+def batch_to_new(count, first, senders, of, every, known):
+    """The payload of a batch of payments of 1, from the first accounts in turn. Of all `of` payments each `every`th is to an
+    account of its own, in no order of their ids, and the others are to the `known` accounts at the front; `every` 0 is none.
+    `first` is how many payments there were before."""
+    payload = bytearray(2 + count * PAY.size)
+    struct.pack_into(">H", payload, 0, count)
+    for place in range(count):
+        number = first + place
+        sender = number % senders
+        if every and number % every == 0:
+            # 7,919 is a prime above 2: each index below a number that it does not divide comes once
+            to = known + number // every * 7_919 % (of // every)
+        else:
+            to = (sender + 1 + number // senders % (known - 1)) % known
+        low, high = (sender, to) if sender < to else (to, sender)
+        PAY.pack_into(
+            payload, 2 + place * PAY.size, PAY.size - 2, 1, 2, 1, account_id(low), 1, account_id(high),
+            number // senders, account_id(sender), account_id(to), 1,
+        )
+    return payload
+
+
+def put_opening(out, keys, accounts, version=1):
+    """The magic of a version, the committee of these keys, each of weight 1, and the accounts."""
+    out.write(b"BKF%d" % version)
+    weights = struct.pack(">I", 1) * len(keys) if version == 2 else b""
+    put_frame(out, 1, bytes([len(keys)]) + b"".join(keys) + weights)
     rows = bytearray(struct.pack(">I", accounts))
     for index in range(accounts):
         rows += struct.pack(">QQQ", account_id(index), MONEY, 0)
@@ -137,6 +160,23 @@ def make_ordered(path, members, kinds, accounts, transactions, sender_of=None, r
                 left -= count
             committee.put_round(out, digests)
         # an anchor above all of them, and its votes
+        for _ in range(3):
+            committee.put_round(out, [])
+    return os.path.getsize(path)
+
+
+def make_growing(path, version, transactions, every, senders=1_000, known=1_000):
+    """A feed of one member whose payments each `every` times are to an account of its own: in version Two it comes to be by
+    that, in version One all of them are there from the start."""
+    committee = Committee(1)
+    of = max(transactions, 1)
+    accounts = known + (of // every if every and version == 1 else 0)
+    with open(path, "wb", buffering=1 << 20) as out:
+        put_opening(out, committee.keys, accounts, version)
+        for first in range(0, transactions, BATCH):
+            payload = batch_to_new(min(BATCH, transactions - first), first, senders, of, every, known)
+            put_frame(out, 4, payload)
+            committee.put_round(out, [sha256(payload).digest()])
         for _ in range(3):
             committee.put_round(out, [])
     return os.path.getsize(path)
