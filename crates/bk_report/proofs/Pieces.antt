@@ -1,7 +1,7 @@
 -- Text that is put in pieces of many lines.
-use Rattle.std.proofs.Common.{◌≡◌, ℕ, zero, suc, ◌+◌, ◌-◌, ◌*◌, ◌<◌, ◌≤◌, List, [], ◌∷◌, ◌++◌, length, get_or, take, drop, min, Option, Some, None, refl, sym, ap, subst, ◌∙◌, append_assoc, length-append, arith, take-add}
+use Rattle.std.proofs.Common.{◌≡◌, ℕ, zero, suc, ◌+◌, ◌-◌, ◌<◌, ◌≤◌, List, [], ◌∷◌, ◌++◌, length, get_or, take, drop, min, Some, refl, sym, ap, subst, ◌∙◌, append_assoc, length-append, arith, take-add}
 use Rattle.std.specs.Prelude.{slice_get, Result, Ok, Err}
-use Rattle.std.proofs.lemmas.List.{append-nil, take-append-drop, length-take, length-drop, length-map, drop-drop, take_min, take_all}
+use Rattle.std.proofs.lemmas.List.{append-nil, take-append-drop, length-take, length-drop, length-map, drop-drop, take_min}
 use Rattle.bk_frames.specs.Device.{Device, Works, Fails, Receives}
 use Rattle.bk_frames.specs.declared.writing.WriteFault.{WriteFault}
 use Rattle.bk_frames.specs.declared.genesis.Row.{Row}
@@ -12,6 +12,7 @@ use Rattle.bk_report.specs.Lines.{line_text, text_of}
 use Rattle.bk_report.specs.Report.{tx_lines, account_lines}
 use Rattle.bk_report.specs.RunLines.{rows_lines}
 use Rattle.bk_report.specs.Pages.{PageValue, Puts, Stops, Written}
+use Rattle.bk_report.specs.Sheets.{IsPiece}
 use Rattle.bk_report.proofs.Putting.{puts_then, stops_then, stops_more, text_next}
 use Rattle.bk_report.proofs.ReportLines.{length-tx_lines}
 use Rattle.bk_report.proofs.LineGroups.{HasPut, groups_put, group_stops, stops_before, text_two, line_of_item, line_of_tx}
@@ -94,6 +95,10 @@ piece_min lines start n total is =
     ap (λ (k : ℕ). text_of (take (min n k) (drop start lines))) left ∙ ap text_of (take_min n (drop start lines))
 
 -- ---- pieces of lines
+
+-- a piece from a line whose number is written in another way
+pub piece_at : (lines : List Line) (m n : ℕ) (text : List ℕ) → m ≡ n → IsPiece lines m text → IsPiece lines n text
+piece_at lines m n text same = subst (λ (k : ℕ). IsPiece lines k text) same
 
 -- two pieces are one
 pub two_pieces : (lines : List Line) (start m n : ℕ) → text_of (take m (drop start lines)) ++ text_of (take n (drop (start + m) lines)) ≡ text_of (take (m + n) (drop start lines))

@@ -14,6 +14,7 @@ use bk_frames::{Row, Sink, WriteFault};
 use bk_rules::Receipt;
 use std::alloc::{AllocError, Global};
 use std::marker::Model;
+use std::mem::swap;
 use std::thread::{Threads, join_mut};
 
 // How many lines a thread makes before they are written: enough to be worth its start. The number is none of the
@@ -74,13 +75,29 @@ impl Sheet {
     }
 }
 
-/// Room for the text of lines that several threads make at once.
+// Room for the text of lines that are made at once, each sheet by a thread.
 #[derive(Drop)]
-pub struct Sheets {
+struct Four {
     a: Sheet,
     b: Sheet,
     c: Sheet,
     d: Sheet,
+}
+
+/// Room for the text of lines that several threads make. While some are put, those after them are made.
+#[derive(Drop)]
+pub struct Sheets {
+    front: Four,
+    back: Four,
+}
+
+// Empty ones.
+fn four_sheets(alloc: Global) -> Result<Four, AllocError> {
+    let a = Sheet::new(alloc)?;
+    let b = Sheet::new(alloc)?;
+    let c = Sheet::new(alloc)?;
+    let d = Sheet::new(alloc)?;
+    Ok(Four { a, b, c, d })
 }
 
 /// Room for the text of this many lines, `None` where they are not worth several threads.
@@ -88,11 +105,9 @@ pub fn sheets_for(alloc: Global, lines: usize) -> Result<Option<Sheets>, AllocEr
     if lines < WORTH_THREADS {
         return Ok(None);
     }
-    let a = Sheet::new(alloc)?;
-    let b = Sheet::new(alloc)?;
-    let c = Sheet::new(alloc)?;
-    let d = Sheet::new(alloc)?;
-    Ok(Some(Sheets { a, b, c, d }))
+    let front = four_sheets(alloc)?;
+    let back = four_sheets(alloc)?;
+    Ok(Some(Sheets { front, back }))
 }
 
 // Makes the text of the lines from one on, in two threads.
@@ -143,7 +158,7 @@ fn put_two<K: Sink>(
     two.put(sink, page)
 }
 
-impl Sheets {
+impl Four {
     // Makes the text of the lines from one on, in four threads.
     fn fill<R: Threads + Sync>(&mut self, rt: &R, receipts: &[Receipt], rows: &[Row], start: usize)
         requires receipts { length receipts.now < 2 ^ 32 }
@@ -154,7 +169,7 @@ impl Sheets {
         ensures c { IsPiece (rows_lines receipts.now rows.now) (start + 32768) self.new.c }
         ensures d { IsPiece (rows_lines receipts.now rows.now) (start + 49152) self.new.d }
     {
-        let Sheets { a, b, c, d } = self;
+        let Four { a, b, c, d } = self;
         join_mut(
             rt,
             &mut ||
@@ -174,30 +189,108 @@ impl Sheets {
             { fill_two(rt, c, d, receipts, rows, start + 2 * LINES) },
         );
     }
+}
 
-    // Makes the text of the lines from one on, and puts it.
-    fn put_round<R: Threads + Sync, K: Sink>(
-        &mut self,
-        rt: &R,
-        sink: &mut K,
-        page: &mut Page,
-        receipts: &[Receipt],
-        rows: &[Row],
-        start: usize,
-    ) -> Result<(), WriteFault>
-        requires sound { CanBeUsed (K.state sink.old) }
-        requires receipts { length receipts.now < 2 ^ 32 }
-        requires rows { length rows.now < 2 ^ 32 }
-        requires start { start < 2 ^ 39 }
-        requires size { size_of page.old < 2 ^ 60 }
-        ensures written { Written result (K.state sink.old) (K.state sink.new) page.old page.new
-            (text_of (take 65536 (drop start (rows_lines receipts.now rows.now)))) }
-        ensures size { OnOk result (size_of page.new ≤ size_of page.old + 96 * 65536) }
-    {
-        self.fill(rt, receipts, rows, start);
-        put_two(sink, page, &self.a, &self.b)?;
-        put_two(sink, page, &self.c, &self.d)
+// Puts four texts.
+fn put_four<K: Sink>(sink: &mut K, page: &mut Page, four: &Four) -> Result<(), WriteFault>
+    requires sound { CanBeUsed (K.state sink.old) }
+    requires size { size_of page.old + (length four.now.a + length four.now.b)
+        + (length four.now.c + length four.now.d) < 2 ^ 62 }
+    ensures written { Written result (K.state sink.old) (K.state sink.new) page.old page.new
+        ((four.now.a ++ four.now.b) ++ (four.now.c ++ four.now.d)) }
+    ensures size { OnOk result (size_of page.new ≡ size_of page.old
+        + (length four.now.a + length four.now.b) + (length four.now.c + length four.now.d)) }
+{
+    put_two(sink, page, &four.a, &four.b)?;
+    put_two(sink, page, &four.c, &four.d)
+}
+
+// Puts the text of the lines from one on, which is made, and makes that of the lines after them.
+fn put_round<R: Threads + Sync, K: Sink>(
+    rt: &R,
+    sink: &mut K,
+    page: &mut Page,
+    front: &Four,
+    back: &mut Four,
+    receipts: &[Receipt],
+    rows: &[Row],
+    start: usize,
+) -> Result<(), WriteFault>
+    requires sound { CanBeUsed (K.state sink.old) }
+    requires receipts { length receipts.now < 2 ^ 32 }
+    requires rows { length rows.now < 2 ^ 32 }
+    requires start { start < 2 ^ 38 }
+    requires a { IsPiece (rows_lines receipts.now rows.now) start front.now.a }
+    requires b { IsPiece (rows_lines receipts.now rows.now) (start + 16384) front.now.b }
+    requires c { IsPiece (rows_lines receipts.now rows.now) (start + 32768) front.now.c }
+    requires d { IsPiece (rows_lines receipts.now rows.now) (start + 49152) front.now.d }
+    requires size { size_of page.old < 2 ^ 60 }
+    ensures written { Written result (K.state sink.old) (K.state sink.new) page.old page.new
+        (text_of (take 65536 (drop start (rows_lines receipts.now rows.now)))) }
+    ensures size { OnOk result (size_of page.new ≤ size_of page.old + 96 * 65536) }
+    ensures a { IsPiece (rows_lines receipts.now rows.now) (start + 65536) back.new.a }
+    ensures b { IsPiece (rows_lines receipts.now rows.now) (start + 81920) back.new.b }
+    ensures c { IsPiece (rows_lines receipts.now rows.now) (start + 98304) back.new.c }
+    ensures d { IsPiece (rows_lines receipts.now rows.now) (start + 114688) back.new.d }
+{
+    let (_, put) = join_mut(
+        rt,
+        &mut ||
+            requires { IsSync R.row × (length receipts.now < 2 ^ 32)
+                × (length rows.now < 2 ^ 32) × (start < 2 ^ 38) }
+            ensures { IsPiece (rows_lines receipts.entry.now rows.entry.now) (start + 65536)
+                back.exit.now.a
+                × IsPiece (rows_lines receipts.entry.now rows.entry.now) (start + 81920)
+                back.exit.now.b
+                × IsPiece (rows_lines receipts.entry.now rows.entry.now) (start + 98304)
+                back.exit.now.c
+                × IsPiece (rows_lines receipts.entry.now rows.entry.now) (start + 114688)
+                back.exit.now.d }
+        { back.fill(rt, receipts, rows, start + ROUND) },
+        &mut || -> Result<(), WriteFault>
+            requires { CanBeUsed (K.state sink.now)
+                × (size_of page.now + (length front.now.a + length front.now.b)
+                + (length front.now.c + length front.now.d) < 2 ^ 62) }
+            ensures { Written result (K.state sink.entry.now) (K.state sink.exit.now)
+                page.entry.now page.exit.now
+                ((front.entry.now.a ++ front.entry.now.b)
+                ++ (front.entry.now.c ++ front.entry.now.d))
+                × OnOk result (size_of page.exit.now ≡ size_of page.entry.now
+                + (length front.entry.now.a + length front.entry.now.b)
+                + (length front.entry.now.c + length front.entry.now.d)) }
+        { put_four(sink, page, front) },
+    );
+    put
+}
+
+// Puts all lines, of which the first are made.
+fn put_rounds<R: Threads + Sync, K: Sink>(
+    rt: &R,
+    sink: &mut K,
+    page: &mut Page,
+    front: &mut Four,
+    back: &mut Four,
+    receipts: &[Receipt],
+    rows: &[Row],
+) -> Result<(), WriteFault>
+    requires sound { CanBeUsed (K.state sink.old) }
+    requires receipts { length receipts.now < 2 ^ 32 }
+    requires rows { length rows.now < 2 ^ 32 }
+    requires a { IsPiece (rows_lines receipts.now rows.now) 0 front.old.a }
+    requires b { IsPiece (rows_lines receipts.now rows.now) 16384 front.old.b }
+    requires c { IsPiece (rows_lines receipts.now rows.now) 32768 front.old.c }
+    requires d { IsPiece (rows_lines receipts.now rows.now) 49152 front.old.d }
+    requires size { size_of page.old < 2 ^ 43 }
+    ensures written { Written result (K.state sink.old) (K.state sink.new) page.old page.new
+        (text_of (rows_lines receipts.now rows.now)) }
+    ensures size { OnOk result (size_of page.new < 2 ^ 44) }
+{
+    let count = receipts.len() + rows.len();
+    for round in 0..count.div_ceil(ROUND) {
+        put_round(rt, sink, page, front, back, receipts, rows, round * ROUND)?;
+        swap(front, back);
     }
+    Ok(())
 }
 
 /// Puts the lines of transactions and of accounts, which several threads make at once.
@@ -217,9 +310,7 @@ pub(crate) fn put_sheets<R: Threads + Sync, K: Sink>(
         (text_of (rows_lines receipts.now rows.now)) }
     ensures size { OnOk result (size_of page.new < 2 ^ 44) }
 {
-    let count = receipts.len() + rows.len();
-    for round in 0..count.div_ceil(ROUND) {
-        sheets.put_round(rt, sink, page, receipts, rows, round * ROUND)?;
-    }
-    Ok(())
+    let Sheets { front, back } = sheets;
+    front.fill(rt, receipts, rows, 0);
+    put_rounds(rt, sink, page, front, back, receipts, rows)
 }
