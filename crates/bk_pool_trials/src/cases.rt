@@ -1,8 +1,8 @@
 //! Lists whose receipts and accounts were computed by hand.
 
-use crate::making::{pay, reading, row, split, tx, writing};
+use crate::making::{feed_with, pay, reading, row, split, tx, writing};
 use anyhow::Result;
-use bk_frames::{Row, Version};
+use bk_frames::{Feed, Row, Version};
 use bk_rules::{Receipt, Status};
 use bk_tx::{Body, Payment, Tx};
 use std::alloc::Global;
@@ -76,18 +76,24 @@ fn watching_five(from: u64, to: u64) -> Result<Option<Tx>> {
     tx(&[writing(from), reading(5), writing(to)], from, 0, body)
 }
 
-// A case of these opening accounts, without transactions.
-fn opened(alloc: Global, version: Version, opening: &[Row]) -> Result<Case> {
-    Ok(Case {
+// A case of no accounts and no transactions.
+fn no_case(alloc: Global, version: Version) -> Case {
+    Case {
         version,
-        opening: Vec::from_slice(alloc, opening)?,
+        opening: Vec::new(alloc),
         txs: Vec::new(alloc),
         receipts: Vec::new(alloc),
         accounts: Vec::new(alloc),
-    })
+    }
 }
 
 impl Case {
+    // These opening accounts too.
+    fn open(&mut self, accounts: &[Row]) -> Result<()> {
+        self.opening.extend_from_slice(accounts)?;
+        Ok(())
+    }
+
     // One more transaction, and its receipt.
     fn push(&mut self, tx: Option<Tx>, status: Status, moved: u64) -> Result<()> {
         self.txs.push(tx)?;
@@ -102,53 +108,35 @@ impl Case {
     }
 }
 
-const THREE: [Row; 3] = [
-    Row {
-        id: 1,
-        balance: 100,
-        seq: 0,
-    },
-    Row {
-        id: 2,
-        balance: 50,
-        seq: 0,
-    },
-    Row {
-        id: 3,
-        balance: 10,
-        seq: 0,
-    },
-];
+// Accounts 1, 2 and 3.
+fn open_three(case: &mut Case) -> Result<()> {
+    case.open(&[row(1, 100, 0), row(2, 50, 0), row(3, 10, 0)])
+}
 
-fn guard_then_payment(alloc: Global, version: Version) -> Result<Case> {
-    let mut case = opened(alloc, version, &THREE)?;
+fn guard_then_payment(case: &mut Case) -> Result<()> {
+    open_three(case)?;
     case.push(guarded()?, Status::Ok, 10)?;
     case.push(pay(2, 1, 50, 0)?, Status::Ok, 50)?;
-    case.end(&[row(1, 140, 1), row(2, 0, 1), row(3, 20, 0)])?;
-    Ok(case)
+    case.end(&[row(1, 140, 1), row(2, 0, 1), row(3, 20, 0)])
 }
 
-fn payment_then_guard(alloc: Global, version: Version) -> Result<Case> {
-    let mut case = opened(alloc, version, &THREE)?;
+fn payment_then_guard(case: &mut Case) -> Result<()> {
+    open_three(case)?;
     case.push(pay(2, 1, 50, 0)?, Status::Ok, 50)?;
     case.push(guarded()?, Status::Guard, 0)?;
-    case.end(&[row(1, 150, 1), row(2, 0, 1), row(3, 10, 0)])?;
-    Ok(case)
+    case.end(&[row(1, 150, 1), row(2, 0, 1), row(3, 10, 0)])
 }
 
-fn four_conflicts(alloc: Global, version: Version) -> Result<Case> {
-    let mut rows = Vec::new(alloc);
+fn four_conflicts(case: &mut Case) -> Result<()> {
     for id in 1..7 {
-        rows.push(row(id, 10, 0))?;
+        case.open(&[row(id, 10, 0)])?;
     }
-    let mut case = opened(alloc, version, &rows)?;
     case.push(pay(1, 5, 1, 0)?, Status::Ok, 1)?;
     case.push(watching_five(2, 3)?, Status::Ok, 1)?;
     case.push(watching_five(4, 6)?, Status::Ok, 1)?;
     case.push(pay(5, 2, 1, 0)?, Status::Ok, 1)?;
     case.end(&[row(1, 9, 1), row(2, 10, 1), row(3, 11, 0)])?;
-    case.end(&[row(4, 9, 1), row(5, 10, 1), row(6, 11, 0)])?;
-    Ok(case)
+    case.end(&[row(4, 9, 1), row(5, 10, 1), row(6, 11, 0)])
 }
 
 // From account 1 to 2 and 3.
@@ -164,78 +152,93 @@ fn split_between(seq: u64, second: u64, third: u64) -> Result<Option<Tx>> {
     split(1, seq, &[second, third])
 }
 
-fn stale_funds_split(alloc: Global, version: Version) -> Result<Case> {
-    let mut case = opened(alloc, version, &THREE)?;
+fn stale_funds_split(case: &mut Case) -> Result<()> {
+    open_three(case)?;
     case.push(pay(1, 2, 30, 0)?, Status::Ok, 30)?;
     case.push(pay(1, 2, 30, 0)?, Status::Stale, 0)?;
     case.push(split_between(1, u64::MAX, 1)?, Status::Funds, 0)?;
     case.push(split_between(2, 5, 7)?, Status::Ok, 12)?;
     case.push(None, Status::Malformed, 0)?;
-    case.end(&[row(1, 58, 3), row(2, 85, 0), row(3, 17, 0)])?;
-    Ok(case)
+    case.end(&[row(1, 58, 3), row(2, 85, 0), row(3, 17, 0)])
 }
 
-// Account 1 pays 9, 9 pays back, and a payment is guarded by 8, which is absent.
-fn absent(alloc: Global, version: Version) -> Result<Case> {
-    let mut case = opened(alloc, version, &[row(1, 100, 0)])?;
-    let (status, there, back) = match version {
-        Version::One => (Status::Unknown, 0, 0),
-        Version::Two => (Status::Ok, 30, 10),
-    };
-    case.push(pay(1, 9, 30, 0)?, status, there)?;
-    case.push(pay(9, 1, 10, 0)?, status, back)?;
+// Account 1 pays with account 8 as its guard, which is absent.
+fn watching_eight() -> Result<Option<Tx>> {
     let body = Body::PayIf {
         to: 9,
         amount: 5,
         guard: 8,
         min: 0,
     };
-    let last = tx(&[writing(1), reading(8), writing(9)], 1, 1, body)?;
-    case.push(last, Status::Unknown, 0)?;
-    match version {
-        Version::One => case.end(&[row(1, 100, 0)])?,
-        Version::Two => case.end(&[row(1, 80, 1), row(9, 20, 1)])?,
+    tx(&[writing(1), reading(8), writing(9)], 1, 1, body)
+}
+
+// Account 1 pays 9, 9 pays back, and a payment is guarded by 8, which is absent.
+fn absent(case: &mut Case) -> Result<()> {
+    let (status, there, back) = match case.version {
+        Version::One => (Status::Unknown, 0, 0),
+        Version::Two => (Status::Ok, 30, 10),
+    };
+    case.open(&[row(1, 100, 0)])?;
+    case.push(pay(1, 9, 30, 0)?, status, there)?;
+    case.push(pay(9, 1, 10, 0)?, status, back)?;
+    case.push(watching_eight()?, Status::Unknown, 0)?;
+    match case.version {
+        Version::One => case.end(&[row(1, 100, 0)]),
+        Version::Two => case.end(&[row(1, 80, 1), row(9, 20, 1)]),
     }
-    Ok(case)
 }
 
-fn zero_amount_one(alloc: Global) -> Result<Case> {
-    let mut case = opened(alloc, Version::One, &[row(1, 100, 0)])?;
+fn zero_amount_one(case: &mut Case) -> Result<()> {
     case.push(pay(1, 9, 0, 0)?, Status::Unknown, 0)?;
-    case.end(&[row(1, 100, 0)])?;
-    Ok(case)
+    case.end(&[row(1, 100, 0)])
 }
 
-fn zero_amount_two(alloc: Global) -> Result<Case> {
-    let mut case = opened(alloc, Version::Two, &[row(1, 100, 0)])?;
+fn zero_amount_two(case: &mut Case) -> Result<()> {
     case.push(pay(1, 9, 200, 0)?, Status::Funds, 0)?;
     case.push(pay(1, 9, 0, 1)?, Status::Ok, 0)?;
-    case.end(&[row(1, 100, 2), row(9, 0, 0)])?;
-    Ok(case)
+    case.end(&[row(1, 100, 2), row(9, 0, 0)])
 }
 
-fn zero_amount(alloc: Global, version: Version) -> Result<Case> {
-    match version {
-        Version::One => zero_amount_one(alloc),
-        Version::Two => zero_amount_two(alloc),
+fn zero_amount(case: &mut Case) -> Result<()> {
+    case.open(&[row(1, 100, 0)])?;
+    match case.version {
+        Version::One => zero_amount_one(case),
+        Version::Two => zero_amount_two(case),
     }
 }
 
-fn nothing(alloc: Global, version: Version) -> Result<Case> {
-    let mut case = opened(alloc, version, &[row(7, 3, 2)])?;
-    case.end(&[row(7, 3, 2)])?;
-    Ok(case)
+fn nothing(case: &mut Case) -> Result<()> {
+    case.open(&[row(7, 3, 2)])?;
+    case.end(&[row(7, 3, 2)])
+}
+
+fn fill(case: &mut Case, name: Name) -> Result<()> {
+    match name {
+        Name::GuardThenPayment => guard_then_payment(case),
+        Name::PaymentThenGuard => payment_then_guard(case),
+        Name::FourConflicts => four_conflicts(case),
+        Name::StaleFundsSplit => stale_funds_split(case),
+        Name::Absent => absent(case),
+        Name::ZeroAmount => zero_amount(case),
+        Name::Nothing => nothing(case),
+    }
 }
 
 /// The list in a version.
 pub(crate) fn case_of(alloc: Global, version: Version, name: Name) -> Result<Case> {
-    match name {
-        Name::GuardThenPayment => guard_then_payment(alloc, version),
-        Name::PaymentThenGuard => payment_then_guard(alloc, version),
-        Name::FourConflicts => four_conflicts(alloc, version),
-        Name::StaleFundsSplit => stale_funds_split(alloc, version),
-        Name::Absent => absent(alloc, version),
-        Name::ZeroAmount => zero_amount(alloc, version),
-        Name::Nothing => nothing(alloc, version),
-    }
+    let mut case = no_case(alloc, version);
+    fill(&mut case, name)?;
+    Ok(case)
+}
+
+/// The feed of a list.
+pub(crate) fn feed_of_case(alloc: Global, case: &Case) -> Result<Feed> {
+    feed_with(alloc, case.version, &case.opening, &case.txs)
+}
+
+/// The feed of the list of this name.
+pub(crate) fn feed_named(alloc: Global, version: Version, name: Name) -> Result<Feed> {
+    let case = case_of(alloc, version, name)?;
+    feed_of_case(alloc, &case)
 }

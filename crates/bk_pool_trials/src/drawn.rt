@@ -165,3 +165,32 @@ pub(crate) fn drawn_opening(alloc: Global) -> Result<Vec<Row>> {
     }
     Ok(rows)
 }
+
+// A payment of 1 that declares up to four accounts, whether or not it uses them; now and then none.
+fn payment(chance: &mut Chance) -> Option<Tx> {
+    if chance.is_one_in(8) {
+        return None;
+    }
+    let mut declared = [reading(0); 4];
+    let mut count = 0;
+    for id in 1..=IDS {
+        if count < 4 && chance.is_one_in(3) {
+            let writable = chance.is_one_in(3);
+            declared[count] = Declared { id, writable };
+            count += 1;
+        }
+    }
+    let from = id(chance);
+    let to = id(chance);
+    let declared = Declarations::new(declared.get(..count)?)?;
+    Tx::new(declared, 0, from, Body::Pay { to, amount: 1 })
+}
+
+/// Twelve payments, of which most are in conflict with some.
+pub(crate) fn drawn_payments(alloc: Global, chance: &mut Chance) -> Result<Vec<Option<Tx>>> {
+    let mut txs = Vec::new(alloc);
+    for _ in 0..12u64 {
+        txs.push(payment(chance))?;
+    }
+    Ok(txs)
+}

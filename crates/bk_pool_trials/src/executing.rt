@@ -5,7 +5,7 @@ ghost use Rattle.std.specs.Arc.{arc_value};
 ghost use Rattle.bk_conflicts.specs.SceneOf.{CanRunOn};
 
 use anyhow::{Result, bail};
-use bk_conflicts::Plan;
+use bk_conflicts::{Plan, Planner};
 use bk_frames::{Feed, Row};
 use bk_ledger::{Batches, Ledger};
 use bk_pool::{ExecFault, Gate, Hints, Open, Outcome, execute, execute_all, execute_with};
@@ -16,9 +16,15 @@ use std::thread::Threads;
 
 const MOST: usize = 1 << 31;
 
-/// The plan of the transactions of a feed, made with these likely slots, and the opening accounts.
-pub(crate) fn prepared(alloc: Global, feed: &Feed, near: &[u32]) -> Result<(Arc<Plan>, State)>
-    ensures { IfOk result (λ r. CanRunOn (arc_value r.0) r.1) }
+/// The plan of the transactions of a feed by a planner that may have made others, with these likely slots, and the opening
+/// accounts.
+pub(crate) fn planned_by(
+    alloc: Global,
+    feed: &Feed,
+    planner: &mut Planner,
+    near: &[u32],
+) -> Result<(Plan, State)>
+    ensures { IfOk result (λ r. CanRunOn r.0 r.1) }
 {
     let Batches { txs, .. } = Batches::of(alloc, feed)?;
     let mut state = State::new(alloc, feed.version(), feed.genesis())?;
@@ -26,7 +32,22 @@ pub(crate) fn prepared(alloc: Global, feed: &Feed, near: &[u32]) -> Result<(Arc<
     if txs.len() >= MOST || state.ids().len() >= MOST {
         bail!("too many");
     }
-    let plan = Plan::make_near(alloc, state.version(), state.ids(), txs, near)?;
+    let plan = planner.plan(alloc, state.version(), state.ids(), txs, near)?;
+    Ok((plan, state))
+}
+
+/// The same by a new planner.
+pub(crate) fn planned(alloc: Global, feed: &Feed, near: &[u32]) -> Result<(Plan, State)>
+    ensures { IfOk result (λ r. CanRunOn r.0 r.1) }
+{
+    planned_by(alloc, feed, &mut Planner::new(alloc), near)
+}
+
+/// The same with a plan that threads can share.
+pub(crate) fn prepared(alloc: Global, feed: &Feed, near: &[u32]) -> Result<(Arc<Plan>, State)>
+    ensures { IfOk result (λ r. CanRunOn (arc_value r.0) r.1) }
+{
+    let (plan, state) = planned(alloc, feed, near)?;
     Ok((Arc::new(alloc, plan)?, state))
 }
 

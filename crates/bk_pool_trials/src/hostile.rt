@@ -1,8 +1,7 @@
 //! Hints of every bad kind. What an execution gives does not change.
 
-use crate::cases::{Case, NAMES, Name, case_of};
+use crate::cases::{Case, NAMES, Name, case_of, feed_of_case};
 use crate::executing::{executed, executed_by, gives};
-use crate::making::feed_with;
 use crate::tally::Tally;
 use anyhow::Result;
 use bk_frames::{Feed, Version};
@@ -219,6 +218,8 @@ where
 // Hints without end: each worker gives up after a million that gave no hold, and one of them had the first place.
 fn try_endless<R>(
     rt: &R,
+    case: &Case,
+    feed: &Feed,
     habits: &[Habit],
     workers: u64,
     wanted: u64,
@@ -227,22 +228,29 @@ fn try_endless<R>(
 where
     R: AllocGlobal + Eprint + Threads + Wait + Sync,
 {
-    let alloc = rt.alloc();
-    let case = case_of(alloc, Version::Two, Name::FourConflicts)?;
-    let feed = feed_with(alloc, case.version, &case.opening, &case.txs)?;
-    let found = taken_by(rt, alloc, &case, &feed, habits, workers)?;
+    let found = taken_by(rt, rt.alloc(), case, feed, habits, workers)?;
     tally.note(rt, "hints without end", found == Some(wanted))
 }
 
 // One worker, two, and one of 64 have hints without end.
-fn try_all_endless<R>(rt: &R, tally: &mut Tally) -> Result<()>
+fn try_all_endless<R>(rt: &R, case: &Case, feed: &Feed, tally: &mut Tally) -> Result<()>
 where
     R: AllocGlobal + Eprint + Threads + Wait + Sync,
 {
+    let all = [Habit::NeverEnds];
     let first = [Habit::NeverEnds, Habit::EndsAtOnce];
-    try_endless(rt, &[Habit::NeverEnds], 1, 1 + IDLE_HINTS, tally)?;
-    try_endless(rt, &[Habit::NeverEnds], 2, 1 + 2 * IDLE_HINTS, tally)?;
-    try_endless(rt, &first, 64, 1 + IDLE_HINTS, tally)
+    try_endless(rt, case, feed, &all, 1, 1 + IDLE_HINTS, tally)?;
+    try_endless(rt, case, feed, &all, 2, 1 + 2 * IDLE_HINTS, tally)?;
+    try_endless(rt, case, feed, &first, 64, 1 + IDLE_HINTS, tally)
+}
+
+fn try_four<R>(rt: &R, tally: &mut Tally) -> Result<()>
+where
+    R: AllocGlobal + Eprint + Threads + Wait + Sync,
+{
+    let case = case_of(rt.alloc(), Version::Two, Name::FourConflicts)?;
+    let feed = feed_of_case(rt.alloc(), &case)?;
+    try_all_endless(rt, &case, &feed, tally)
 }
 
 // A list by all kinds of hints.
@@ -250,7 +258,7 @@ fn try_feed<R>(rt: &R, case: &Case, tally: &mut Tally) -> Result<()>
 where
     R: AllocGlobal + Eprint + Threads + Wait + Sync,
 {
-    let feed = feed_with(rt.alloc(), case.version, &case.opening, &case.txs)?;
+    let feed = feed_of_case(rt.alloc(), case)?;
     try_own(rt, case, &feed, tally)?;
     try_habits(rt, case, &feed, tally)
 }
@@ -273,5 +281,5 @@ where
             try_case(rt, version, name, tally)?;
         }
     }
-    try_all_endless(rt, tally)
+    try_four(rt, tally)
 }

@@ -95,6 +95,58 @@ impl<'a> Gate for Counting<'a> {
 
 // ---- trials
 
+// What workers did: how many places they entered and left, and whether two were inside at once.
+#[derive(Clone, Copy)]
+struct Count {
+    inside: u64,
+    left: u64,
+    has_met: bool,
+}
+
+// Slices of a feed by a number of workers: whether they give what they have to, and what the workers did.
+fn counted<R>(
+    rt: &R,
+    alloc: Global,
+    feed: &Feed,
+    wanted: &Ledger,
+    workers: usize,
+) -> Result<(bool, Count)>
+where
+    R: Threads + Wait + Sync,
+{
+    let inside = AtomicU64::new(0);
+    let left = AtomicU64::new(0);
+    let met = AtomicU64::new(0);
+    let gate = Counting {
+        inside: &inside,
+        left: &left,
+        met: &met,
+        looks: if workers > 1 { LOOKS } else { 0 },
+    };
+    let is_right = gives(rt, alloc, feed, wanted, workers, &gate)?;
+    let count = Count {
+        inside: inside.load(Ordering::SeqCst),
+        left: left.load(Ordering::SeqCst),
+        has_met: met.load(Ordering::SeqCst) == MET,
+    };
+    Ok((is_right, count))
+}
+
+fn gives<R>(
+    rt: &R,
+    alloc: Global,
+    feed: &Feed,
+    wanted: &Ledger,
+    workers: usize,
+    gate: &Counting<'_>,
+) -> Result<bool>
+where
+    R: Threads + Wait + Sync,
+{
+    let ledger = in_slices(rt, alloc, feed, LEAST, workers, gate)?;
+    is_same(alloc, &ledger, wanted)
+}
+
 // Slices of a feed by a number of workers: what they give, that each place was done once, and that two workers were at
 // it at the same time if there are two, and never if there is one.
 fn try_workers<R>(
@@ -108,22 +160,15 @@ fn try_workers<R>(
 where
     R: AllocGlobal + Eprint + Threads + Wait + Sync,
 {
-    let inside = AtomicU64::new(0);
-    let left = AtomicU64::new(0);
-    let met = AtomicU64::new(0);
-    let gate = Counting {
-        inside: &inside,
-        left: &left,
-        met: &met,
-        looks: if workers > 1 { LOOKS } else { 0 },
-    };
-    let ledger = in_slices(rt, rt.alloc(), feed, LEAST, workers, &gate)?;
-    let is_right = is_same(rt.alloc(), &ledger, wanted)?;
+    let (is_right, count) = counted(rt, rt.alloc(), feed, wanted, workers)?;
     tally.note(rt, "a large slice", is_right)?;
-    let are_once = inside.load(Ordering::SeqCst) == places && left.load(Ordering::SeqCst) == places;
+    let are_once = count.inside == places && count.left == places;
     tally.note(rt, "each place of a large slice once", are_once)?;
-    let has_met = met.load(Ordering::SeqCst) == MET;
-    tally.note(rt, "threads for a large slice", has_met == (workers > 1))
+    tally.note(
+        rt,
+        "threads for a large slice",
+        count.has_met == (workers > 1),
+    )
 }
 
 // How many transactions have this status.
@@ -158,35 +203,119 @@ fn push_text(alloc: Global, batch: &mut Batch, txs: &[Option<Tx>], index: u16) -
     }
 }
 
+fn push_texts(alloc: Global, batch: &mut Batch, txs: &[Option<Tx>]) -> Result<()> {
+    for index in 0..u16::MAX {
+        push_text(alloc, batch, txs, index)?;
+    }
+    Ok(())
+}
+
+fn fill(alloc: Global, batch: &mut Batch) -> Result<()> {
+    let txs = payments(alloc, ACCOUNTS, PAYMENTS, false)?;
+    push_texts(alloc, batch, &txs)
+}
+
 // A batch of as many texts as it can have.
 fn full_batch(alloc: Global) -> Result<Vec<u8>> {
-    let txs = payments(alloc, ACCOUNTS, PAYMENTS, false)?;
     let mut batch = Batch::new(alloc);
-    for index in 0..u16::MAX {
-        push_text(alloc, &mut batch, &txs, index)?;
-    }
+    fill(alloc, &mut batch)?;
     batch.payload(alloc)
 }
 
+// What the batches of a feed have to be: their counts, and how many transactions there are and are malformed.
+#[derive(Clone, Copy)]
+struct Batches<'a> {
+    counts: &'a [Option<u16>],
+    places: u64,
+    malformed: u64,
+}
+
+// A feed by each number of workers.
+fn try_ledger<R>(
+    rt: &R,
+    feed: &Feed,
+    wanted: &Ledger,
+    batches: Batches<'_>,
+    numbers: &[usize],
+    tally: &mut Tally,
+) -> Result<()>
+where
+    R: AllocGlobal + Eprint + Threads + Wait + Sync,
+{
+    let is_right = is_of(wanted, batches.counts, batches.places, batches.malformed);
+    tally.note(rt, "the batches of a large slice", is_right)?;
+    for workers in numbers {
+        try_workers(rt, feed, wanted, batches.places, *workers, tally)?;
+    }
+    Ok(())
+}
+
+fn try_feed<R>(
+    rt: &R,
+    feed: &Feed,
+    batches: Batches<'_>,
+    numbers: &[usize],
+    tally: &mut Tally,
+) -> Result<()>
+where
+    R: AllocGlobal + Eprint + Threads + Wait + Sync,
+{
+    let wanted = Ledger::of(rt.alloc(), feed)?;
+    try_ledger(rt, feed, &wanted, batches, numbers, tally)
+}
+
+// The feed of these batches.
+fn feed_of_large(alloc: Global, version: Version, payloads: &[Vec<u8>]) -> Result<Feed> {
+    let rows = opening(alloc, ACCOUNTS)?;
+    feed_of(alloc, version, &rows, payloads)
+}
+
 // A full batch, between two that say that they are as full and have no text: these are void.
+fn push_full(alloc: Global, payloads: &mut Vec<Vec<u8>>) -> Result<()> {
+    payloads.push(Vec::from_slice(alloc, &[255, 255])?)?;
+    payloads.push(full_batch(alloc)?)?;
+    payloads.push(Vec::from_slice(alloc, &[255, 255])?)?;
+    Ok(())
+}
+
+// Three batches of these payments.
+fn push_three(alloc: Global, txs: &[Option<Tx>], payloads: &mut Vec<Vec<u8>>) -> Result<()> {
+    for batch in 0..3usize {
+        let from = batch.saturating_mul(IN_A_BATCH);
+        let texts = txs.get(from..from.saturating_add(IN_A_BATCH));
+        payloads.push(batch_of(alloc, texts.unwrap_or(&[]))?)?;
+    }
+    Ok(())
+}
+
+fn full_feed(alloc: Global, version: Version) -> Result<Feed> {
+    let mut payloads = Vec::new(alloc);
+    push_full(alloc, &mut payloads)?;
+    feed_of_large(alloc, version, &payloads)
+}
+
+fn push_payments(alloc: Global, payloads: &mut Vec<Vec<u8>>) -> Result<()> {
+    let txs = payments(alloc, ACCOUNTS, IN_THREE, false)?;
+    push_three(alloc, &txs, payloads)
+}
+
+fn three_feed(alloc: Global, version: Version) -> Result<Feed> {
+    let mut payloads = Vec::new(alloc);
+    push_payments(alloc, &mut payloads)?;
+    feed_of_large(alloc, version, &payloads)
+}
+
 fn try_full<R>(rt: &R, version: Version, tally: &mut Tally) -> Result<()>
 where
     R: AllocGlobal + Eprint + Threads + Wait + Sync,
 {
-    let alloc: Global = rt.alloc();
-    let mut payloads = Vec::new(alloc);
-    payloads.push(Vec::from_slice(alloc, &[255, 255])?)?;
-    payloads.push(full_batch(alloc)?)?;
-    payloads.push(Vec::from_slice(alloc, &[255, 255])?)?;
-    let feed = feed_of(alloc, version, &opening(alloc, ACCOUNTS)?, &payloads)?;
-    let wanted = Ledger::of(alloc, &feed)?;
-    let counts = [None, Some(u16::MAX), None];
-    let is_right = is_of(&wanted, &counts, FULL, EMPTY);
-    tally.note(rt, "a full batch", is_right)?;
-    for workers in [1usize, 4] {
-        try_workers(rt, &feed, &wanted, FULL, workers, tally)?;
-    }
-    Ok(())
+    let feed = full_feed(rt.alloc(), version)?;
+    let batches = Batches {
+        counts: &[None, Some(u16::MAX), None],
+        places: FULL,
+        malformed: EMPTY,
+    };
+    try_feed(rt, &feed, batches, &[1, 4], tally)
 }
 
 // Payments in three batches: a slice that is exactly as long as it has to be, and one that is shorter.
@@ -194,22 +323,13 @@ fn try_three<R>(rt: &R, version: Version, tally: &mut Tally) -> Result<()>
 where
     R: AllocGlobal + Eprint + Threads + Wait + Sync,
 {
-    let alloc: Global = rt.alloc();
-    let txs = payments(alloc, ACCOUNTS, IN_THREE, false)?;
-    let mut payloads = Vec::new(alloc);
-    for batch in 0..3usize {
-        let from = batch.saturating_mul(IN_A_BATCH);
-        let texts = txs.get(from..from.saturating_add(IN_A_BATCH));
-        payloads.push(batch_of(alloc, texts.unwrap_or(&[]))?)?;
-    }
-    let feed = feed_of(alloc, version, &opening(alloc, ACCOUNTS)?, &payloads)?;
-    let wanted = Ledger::of(alloc, &feed)?;
-    let is_right = is_of(&wanted, &[Some(4_096); 3], IN_THREE, 0);
-    tally.note(rt, "three batches of payments", is_right)?;
-    for workers in [1usize, 3, 64] {
-        try_workers(rt, &feed, &wanted, IN_THREE, workers, tally)?;
-    }
-    Ok(())
+    let feed = three_feed(rt.alloc(), version)?;
+    let batches = Batches {
+        counts: &[Some(4_096); 3],
+        places: IN_THREE,
+        malformed: 0,
+    };
+    try_feed(rt, &feed, batches, &[1, 3, 64], tally)
 }
 
 /// Slices of more than 2,048 transactions, for which threads are started, in both versions.

@@ -56,22 +56,20 @@ fn count(receipts: &[Receipt], counts: &mut [u64; 7]) {
     }
 }
 
-// A drawn list in one version.
-fn try_list<R>(
-    rt: &R,
-    version: Version,
-    txs: &[Option<Tx>],
-    counts: &mut [u64; 7],
-    tally: &mut Tally,
-) -> Result<()>
+fn drawn_feed(alloc: Global, version: Version, chance: &mut Chance) -> Result<Feed> {
+    let rows = drawn_opening(alloc)?;
+    let txs = drawn_list(alloc, chance)?;
+    feed_with(alloc, version, &rows, &txs)
+}
+
+// A drawn list, whose statuses are counted.
+fn try_list<R>(rt: &R, feed: &Feed, counts: &mut [u64; 7], tally: &mut Tally) -> Result<()>
 where
     R: AllocGlobal + Eprint + Threads + Wait + Sync,
 {
-    let alloc: Global = rt.alloc();
-    let feed = feed_with(alloc, version, &drawn_opening(alloc)?, txs)?;
-    let wanted = Ledger::of(alloc, &feed)?;
+    let wanted = Ledger::of(rt.alloc(), feed)?;
     count(wanted.receipts(), counts);
-    try_workers(rt, "a drawn list", &feed, &wanted, tally)
+    try_workers(rt, "a drawn list", feed, &wanted, tally)
 }
 
 // Drawn lists of one version, which have to show every status.
@@ -82,8 +80,8 @@ where
     let mut chance = Chance::new(11);
     let mut counts = [0; 7];
     for _ in 0..LISTS {
-        let txs = drawn_list(rt.alloc(), &mut chance)?;
-        try_list(rt, version, &txs, &mut counts, tally)?;
+        let feed = drawn_feed(rt.alloc(), version, &mut chance)?;
+        try_list(rt, &feed, &mut counts, tally)?;
     }
     for count in counts {
         tally.note(rt, "a status that is drawn too seldom", count > LEAST)?;
@@ -104,6 +102,44 @@ fn next_of(accounts: u64, id: u64, step: u64) -> u64 {
     id.saturating_add(step) % accounts.max(1) + 1
 }
 
+// One more payment from this account to a drawn one.
+fn push_payment(
+    txs: &mut Vec<Option<Tx>>,
+    chance: &mut Chance,
+    seqs: &mut [u64],
+    accounts: u64,
+    from: u64,
+) -> Result<()> {
+    let to = next_of(accounts, from, chance.below(accounts.max(2) - 1));
+    let amount = chance.below(20);
+    let mut seq = 0;
+    if let Some(next) = seqs.get_mut(from as usize) {
+        seq = *next;
+        *next = seq.saturating_add(1);
+    }
+    txs.push(pay(from, to, amount, seq)?)?;
+    Ok(())
+}
+
+fn push_payments(
+    txs: &mut Vec<Option<Tx>>,
+    seqs: &mut [u64],
+    accounts: u64,
+    count: u64,
+    has_one_sender: bool,
+) -> Result<()> {
+    let mut chance = Chance::new(count.wrapping_add(accounts));
+    for _ in 0..count {
+        let from = if has_one_sender {
+            1
+        } else {
+            1 + chance.below(accounts.max(1))
+        };
+        push_payment(txs, &mut chance, seqs, accounts, from)?;
+    }
+    Ok(())
+}
+
 // Payments between drawn accounts, by account 1 or by any.
 pub(crate) fn payments(
     alloc: Global,
@@ -111,25 +147,25 @@ pub(crate) fn payments(
     count: u64,
     has_one_sender: bool,
 ) -> Result<Vec<Option<Tx>>> {
-    let mut chance = Chance::new(count.wrapping_add(accounts));
     let mut seqs = vec![in alloc; 0u64; 1_001]?;
     let mut txs = Vec::new(alloc);
-    for _ in 0..count {
-        let from = if has_one_sender {
-            1
-        } else {
-            1 + chance.below(accounts.max(1))
-        };
-        let to = next_of(accounts, from, chance.below(accounts.max(2) - 1));
-        let amount = chance.below(20);
-        let mut seq = 0;
-        if let Some(next) = seqs.get_mut(from as usize) {
-            seq = *next;
-            *next = seq.saturating_add(1);
-        }
-        txs.push(pay(from, to, amount, seq)?)?;
-    }
+    push_payments(&mut txs, &mut seqs, accounts, count, has_one_sender)?;
     Ok(txs)
+}
+
+// A list of payments, in version Two.
+fn long_feed(alloc: Global, accounts: u64, count: u64, has_one_sender: bool) -> Result<Feed> {
+    let rows = opening(alloc, accounts)?;
+    let txs = payments(alloc, accounts, count, has_one_sender)?;
+    feed_with(alloc, Version::Two, &rows, &txs)
+}
+
+fn try_long<R>(rt: &R, feed: &Feed, tally: &mut Tally) -> Result<()>
+where
+    R: AllocGlobal + Eprint + Threads + Wait + Sync,
+{
+    let wanted = Ledger::of(rt.alloc(), feed)?;
+    try_workers(rt, "a long list", feed, &wanted, tally)
 }
 
 // Lists of each length between this many accounts.
@@ -137,13 +173,9 @@ fn try_lengths<R>(rt: &R, accounts: u64, has_one_sender: bool, tally: &mut Tally
 where
     R: AllocGlobal + Eprint + Threads + Wait + Sync,
 {
-    let alloc: Global = rt.alloc();
-    let rows = opening(alloc, accounts)?;
     for count in LENGTHS {
-        let txs = payments(alloc, accounts, count, has_one_sender)?;
-        let feed = feed_with(alloc, Version::Two, &rows, &txs)?;
-        let wanted = Ledger::of(alloc, &feed)?;
-        try_workers(rt, "a long list", &feed, &wanted, tally)?;
+        let feed = long_feed(rt.alloc(), accounts, count, has_one_sender)?;
+        try_long(rt, &feed, tally)?;
     }
     Ok(())
 }

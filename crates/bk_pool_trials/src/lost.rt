@@ -4,9 +4,8 @@ ghost use Rattle.std.specs.Prelude.{◌≡◌, ◌<◌, ◌≤◌, IfSome};
 ghost use Rattle.bk_bank.specs.Bank.{bank_scene, IsPassOf, IsHoldOf, IsLeavingOf};
 ghost use Rattle.bk_pool.specs.Reads.{IsFresh, IsBankOf};
 
-use crate::cases::{Name, case_of};
+use crate::cases::{Name, feed_named};
 use crate::executing::prepared;
-use crate::making::feed_with;
 use crate::tally::Tally;
 use anyhow::Result;
 use bk_bank::{Bank, Hold, Leaving, Pass, Step};
@@ -94,6 +93,35 @@ fn keeps_lost_hold(bank: Bank, pass: Pass) -> bool
     };
     let words = bank.close(other);
     words.state_of(0) == HELD && words.state_of(1) == 1 && words.first_unfinished() == Some(0)
+}
+
+// Whether place 0 has six words, and reads its balances of accounts 1 and 3 as they were laid.
+fn reads_opening(bank: &Bank, plan: &Plan, pass: Pass) -> bool
+    requires own { IsPassOf bank.now pass }
+    requires same { plan.now ≡ bank.now.setting.plan }
+    requires two { (bank_scene bank.now).places ≡ 2 }
+{
+    if plan.len() != 2 || plan.words_of(0).len() != 6 {
+        return false;
+    }
+    let Ok(mut hold) = bank.claim(pass, 0) else {
+        return false;
+    };
+    let balance = bank.read(&mut hold, 0);
+    let other = bank.read(&mut hold, 4);
+    hold.place() == 0 && balance == 100 && other == 10
+}
+
+// The same when some words of the place were read.
+fn keeps_read_hold(bank: Bank, plan: &Plan, pass: Pass) -> bool
+    requires own { IsPassOf bank pass }
+    requires plan { IsBankOf plan.now bank }
+    requires two { (bank_scene bank).places ≡ 2 }
+{
+    let (pass, mut other) = bank.split(pass);
+    let are_right = reads_opening(&bank, plan, pass) && shows(&bank, &mut other, HELD, 1);
+    let words = bank.close(other);
+    are_right && words.first_unfinished() == Some(0)
 }
 
 // Place 0 is executed, and its leaving is dropped before place 1 is counted down: place 1 waits for good.
@@ -186,9 +214,17 @@ fn shows_steps(bank: Bank, plan: &Plan, pass: Pass) -> bool
 #[derive(Clone, Copy)]
 enum Deed {
     LoseHold,
+    LoseReadHold,
     LoseLeaving,
     DoBoth,
 }
+
+const DEEDS: [(Deed, &str); 4] = [
+    (Deed::LoseHold, "a hold that is lost"),
+    (Deed::LoseReadHold, "a hold that is lost after reads"),
+    (Deed::LoseLeaving, "a leaving that is lost"),
+    (Deed::DoBoth, "the words between steps"),
+];
 
 // Account 1 pays 10 if account 2 has its money, and then account 2 pays its 50.
 fn is_shown(alloc: Global, feed: &Feed, deed: Deed) -> Result<bool> {
@@ -199,24 +235,21 @@ fn is_shown(alloc: Global, feed: &Feed, deed: Deed) -> Result<bool> {
     }
     Ok(match deed {
         Deed::LoseHold => keeps_lost_hold(bank, pass),
+        Deed::LoseReadHold => keeps_read_hold(bank, &plan, pass),
         Deed::LoseLeaving => keeps_lost_leaving(bank, &plan, pass),
         Deed::DoBoth => shows_steps(bank, &plan, pass),
     })
 }
 
-fn try_version<R>(rt: &R, version: Version, tally: &mut Tally) -> Result<()>
+fn try_deeds<R>(rt: &R, feed: &Feed, tally: &mut Tally) -> Result<()>
 where
     R: AllocGlobal + Eprint,
 {
-    let alloc: Global = rt.alloc();
-    let case = case_of(alloc, version, Name::GuardThenPayment)?;
-    let feed = feed_with(alloc, version, &case.opening, &case.txs)?;
-    let is_right = is_shown(alloc, &feed, Deed::LoseHold)?;
-    tally.note(rt, "a hold that is lost", is_right)?;
-    let is_right = is_shown(alloc, &feed, Deed::LoseLeaving)?;
-    tally.note(rt, "a leaving that is lost", is_right)?;
-    let is_right = is_shown(alloc, &feed, Deed::DoBoth)?;
-    tally.note(rt, "the words between steps", is_right)
+    for (deed, what) in DEEDS {
+        let is_right = is_shown(rt.alloc(), feed, deed)?;
+        tally.note(rt, what, is_right)?;
+    }
+    Ok(())
 }
 
 /// A bank of two payments in conflict, in both versions.
@@ -225,7 +258,8 @@ where
     R: AllocGlobal + Eprint,
 {
     for version in [Version::One, Version::Two] {
-        try_version(rt, version, tally)?;
+        let feed = feed_named(rt.alloc(), version, Name::GuardThenPayment)?;
+        try_deeds(rt, &feed, tally)?;
     }
     Ok(())
 }

@@ -1,18 +1,20 @@
 //! Executes drawn and chosen lists of transactions by threads, and compares each outcome with that of the same
 //! transactions one at a time, or with one that was computed by hand.
 //!
-//! It draws lists, gives wrong hints, loses holds, has workers wait for each other, cuts batches into slices, and looks at
-//! the words of banks. It names on standard error what failed. The last line is `N passed, M failed`.
+//! It draws lists, makes plans, gives wrong hints, loses holds, has workers wait for each other, cuts batches into slices,
+//! looks at the words of banks, and takes lists of events. It names on standard error what failed. The last line is `N passed, M failed`.
 #![tactic(auto)]
 
 mod cases;
 mod chance;
 mod drawn;
+mod edges;
 mod executing;
 mod hostile;
 mod large_slices;
 mod lists;
 mod lost;
+mod machines;
 mod making;
 mod meeting;
 mod passes;
@@ -20,12 +22,15 @@ mod plans;
 mod schedules;
 mod slices;
 mod tally;
+mod waits;
 mod words;
 
+use crate::edges::try_edges;
 use crate::hostile::try_hints;
 use crate::large_slices::try_large_slices;
 use crate::lists::try_all_lists;
 use crate::lost::try_lost;
+use crate::machines::try_machines;
 use crate::meeting::try_meetings;
 use crate::passes::try_passes;
 use crate::plans::try_plans;
@@ -44,6 +49,7 @@ where
     let mut tally = Tally::new();
     try_all_lists(rt, &mut tally)?;
     try_plans(rt, &mut tally)?;
+    try_edges(rt, &mut tally)?;
     try_hints(rt, &mut tally)?;
     try_meetings(rt, &mut tally)?;
     try_all_slices(rt, &mut tally)?;
@@ -52,6 +58,7 @@ where
     try_words(rt, &mut tally)?;
     try_passes(rt, &mut tally)?;
     try_schedules(rt, &mut tally)?;
+    try_machines(rt, &mut tally)?;
     Ok(tally)
 }
 

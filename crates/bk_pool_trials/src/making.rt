@@ -145,6 +145,27 @@ fn genesis(alloc: Global, rows: &[Row]) -> Result<Vec<u8>> {
     Ok(payload)
 }
 
+// Puts the frames of these opening accounts and these batches.
+fn put_frames(alloc: Global, feed: &mut Vec<u8>, rows: &[Row], payloads: &[Vec<u8>]) -> Result<()> {
+    let genesis = genesis(alloc, rows)?;
+    put_frame(feed, 2, &genesis)?;
+    put_batches(feed, payloads)
+}
+
+fn put_batches(feed: &mut Vec<u8>, payloads: &[Vec<u8>]) -> Result<()> {
+    for payload in payloads {
+        put_frame(feed, 4, payload)?;
+    }
+    Ok(())
+}
+
+fn read(alloc: Global, bytes: &[u8]) -> Result<Feed> {
+    match Feed::read(alloc, &mut Counted::new(bytes)) {
+        Ok(feed) => Ok(feed),
+        Err(_) => bail!("a bad feed"),
+    }
+}
+
 /// The feed of these opening accounts and these batches.
 pub(crate) fn feed_of(
     alloc: Global,
@@ -153,14 +174,8 @@ pub(crate) fn feed_of(
     payloads: &[Vec<u8>],
 ) -> Result<Feed> {
     let mut bytes = head(alloc, version)?;
-    put_frame(&mut bytes, 2, &genesis(alloc, rows)?)?;
-    for payload in payloads {
-        put_frame(&mut bytes, 4, payload)?;
-    }
-    let Ok(feed) = Feed::read(alloc, &mut Counted::new(bytes.as_slice())) else {
-        bail!("a bad feed");
-    };
-    Ok(feed)
+    put_frames(alloc, &mut bytes, rows, payloads)?;
+    read(alloc, &bytes)
 }
 
 /// The feed of one batch.

@@ -89,6 +89,14 @@ fn has_paid_both(alloc: Global, outcome: &Outcome) -> Result<bool> {
     gives(alloc, outcome, &[receipt, receipt], &accounts)
 }
 
+fn two_ends(alloc: Global) -> Result<Vec<Second>> {
+    let mut ends = Vec::new(alloc);
+    for place in 0..2u32 {
+        ends.push(Second { place, turn: 0 })?;
+    }
+    Ok(ends)
+}
+
 // Executes both with this gate: by the pool's own hints, or by ends whose first hint gives no hold. A worker that
 // stopped at that hint would leave its place to the calling thread, which cannot be inside both.
 fn executed_both<R>(
@@ -101,18 +109,29 @@ fn executed_both<R>(
 where
     R: Threads + Wait + Sync,
 {
-    if !has_bad_hint {
-        return executed(rt, alloc, feed, 2, gate);
+    if has_bad_hint {
+        executed_by(rt, alloc, feed, gate, two_ends(alloc)?)
+    } else {
+        executed(rt, alloc, feed, 2, gate)
     }
-    let mut ends = Vec::new(alloc);
-    for place in 0..2u32 {
-        ends.push(Second { place, turn: 0 })?;
-    }
-    executed_by(rt, alloc, feed, gate, ends)
+}
+
+fn pay_both<R>(
+    rt: &R,
+    alloc: Global,
+    feed: &Feed,
+    gate: &Meeting<'_>,
+    has_bad_hint: bool,
+) -> Result<bool>
+where
+    R: Threads + Wait + Sync,
+{
+    let outcome = executed_both(rt, alloc, feed, gate, has_bad_hint)?;
+    has_paid_both(alloc, &outcome)
 }
 
 // Whether both workers met, and left.
-fn both_meet<R>(rt: &R, alloc: Global, version: Version, has_bad_hint: bool) -> Result<bool>
+fn both_meet<R>(rt: &R, alloc: Global, feed: &Feed, has_bad_hint: bool) -> Result<bool>
 where
     R: Threads + Wait + Sync,
 {
@@ -124,12 +143,26 @@ where
         met: &met,
         left: &left,
     };
-    let feed = two_apart(alloc, version)?;
-    let outcome = executed_both(rt, alloc, &feed, &gate, has_bad_hint)?;
-    let are_right = has_paid_both(alloc, &outcome)?;
+    let are_right = pay_both(rt, alloc, feed, &gate, has_bad_hint)?;
     let have_met = met.load(Ordering::SeqCst) == 2;
     let have_left = left.load(Ordering::SeqCst) == BOTH;
     Ok(are_right && have_met && have_left)
+}
+
+const HINTS: [(bool, &str); 2] = [
+    (false, "workers that overlap"),
+    (true, "workers that go on after a hint that gives none"),
+];
+
+fn try_both<R>(rt: &R, feed: &Feed, tally: &mut Tally) -> Result<()>
+where
+    R: AllocGlobal + Eprint + Threads + Wait + Sync,
+{
+    for (has_bad_hint, what) in HINTS {
+        let is_right = both_meet(rt, rt.alloc(), feed, has_bad_hint)?;
+        tally.note(rt, what, is_right)?;
+    }
+    Ok(())
 }
 
 /// Two workers wait for each other, each inside its place.
@@ -138,15 +171,8 @@ where
     R: AllocGlobal + Eprint + Threads + Wait + Sync,
 {
     for version in [Version::One, Version::Two] {
-        for has_bad_hint in [false, true] {
-            let is_right = both_meet(rt, rt.alloc(), version, has_bad_hint)?;
-            let what = if has_bad_hint {
-                "workers that go on after a hint that gives none"
-            } else {
-                "workers that overlap"
-            };
-            tally.note(rt, what, is_right)?;
-        }
+        let feed = two_apart(rt.alloc(), version)?;
+        try_both(rt, &feed, tally)?;
     }
     Ok(())
 }

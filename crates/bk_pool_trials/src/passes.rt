@@ -4,10 +4,9 @@ ghost use Rattle.std.specs.Prelude.{◌≡◌, ◌<◌, IfSome};
 ghost use Rattle.bk_bank.specs.Bank.{bank_scene, IsPassOf};
 ghost use Rattle.bk_pool.specs.Reads.{IsBankOf};
 
-use crate::cases::{Name, case_of};
+use crate::cases::{Name, feed_named};
 use crate::executing::prepared;
 use crate::lost::{DONE, HELD, shows};
-use crate::making::feed_with;
 use crate::tally::Tally;
 use crate::words::{BOTH_PAID, closes_as, done_before, done_last};
 use anyhow::Result;
@@ -108,8 +107,7 @@ where
 {
     for version in [Version::One, Version::Two] {
         let alloc: Global = rt.alloc();
-        let case = case_of(alloc, version, Name::GuardThenPayment)?;
-        let feed = feed_with(alloc, version, &case.opening, &case.txs)?;
+        let feed = feed_named(alloc, version, Name::GuardThenPayment)?;
         for _ in 0..ROUNDS {
             let is_right = have_paid(rt, alloc, &feed)?;
             tally.note(rt, "places on two threads", is_right)?;

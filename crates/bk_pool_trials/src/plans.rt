@@ -1,20 +1,26 @@
-//! Plans that are made with wrong likely slots, and the waits of a plan against the conflicts of its transactions.
+//! Plans of drawn lists, also with wrong likely slots and by a planner that made others, and their waits and words.
 
 use crate::chance::Chance;
-use crate::drawn::{drawn_list, drawn_opening};
-use crate::executing::{executed_near, is_same, prepared};
+use crate::drawn::{drawn_list, drawn_opening, drawn_payments};
+use crate::edges::plan_by;
+use crate::executing::{executed_near, is_same, planned};
 use crate::making::feed_with;
 use crate::tally::Tally;
+use crate::waits::{count_waits, is_right};
 use anyhow::Result;
-use bk_conflicts::Plan;
-use bk_frames::{Feed, Version};
+use bk_conflicts::{Plan, Planner};
+use bk_frames::{Feed, Row, Version};
 use bk_ledger::Ledger;
-use bk_tx::Tx;
 use std::alloc::Global;
-use std::sync::{Arc, Wait};
+use std::sync::Wait;
 use std::thread::Threads;
 
 const LISTS: u64 = 60;
+
+// Lists of payments, each of 12, and the waits in all their plans are more than so many.
+const PAYMENTS: u64 = 150;
+
+const LEAST: u64 = 1_000;
 
 // More than the accounts that 24 transactions can declare.
 const MANY: u64 = 200;
@@ -70,113 +76,14 @@ fn is_same_plan(plan: &Plan, other: &Plan) -> bool {
     plan.len() == other.len()
 }
 
-// Whether two transactions share an account that has a slot, at least one of them for writing.
-fn are_in_conflict(plan: &Plan, first: &Tx, second: &Tx) -> bool {
-    let (a, b) = (first.declared(), second.declared());
-    for id in 1..9u64 {
-        let is_shared = plan.ids().contains(id) && a.declares(id) && b.declares(id);
-        if is_shared && (a.writes(id) || b.writes(id)) {
-            return true;
-        }
-    }
-    false
-}
-
-fn is_conflict(plan: &Plan, p: u32, q: u32) -> bool {
-    match (plan.tx(p), plan.tx(q)) {
-        (Some(first), Some(second)) => are_in_conflict(plan, first, second),
-        _ => false,
-    }
-}
-
-// The places before a given one that it has to wait for, directly or through others, as bits.
-type Waits = [u64; 32];
-
-// Adds to the waits of place `q` place `p` and its waits.
-fn add_wait(waits: &mut Waits, p: u32, q: u32) {
-    let all = waits.get(p as usize).copied().unwrap_or(0) | 1u64.wrapping_shl(p);
-    if let Some(bits) = waits.get_mut(q as usize) {
-        *bits |= all;
-    }
-}
-
-// The waits by who is in conflict with whom.
-fn waits_by_conflicts(plan: &Plan) -> Waits {
-    let mut waits = [0; 32];
-    for q in 0..32u32 {
-        for p in 0..q {
-            if is_conflict(plan, p, q) {
-                add_wait(&mut waits, p, q);
-            }
-        }
-    }
-    waits
-}
-
-// Adds place `p` and its waits to those of the places that wait for it directly.
-fn add_waits(plan: &Plan, p: u32, waits: &mut Waits) {
-    if p as usize >= plan.len() {
-        return;
-    }
-    for q in plan.after(p) {
-        add_wait(waits, p, *q);
-    }
-}
-
-// The waits by the plan.
-fn waits_by_plan(plan: &Plan) -> Waits {
-    let mut waits = [0; 32];
-    for p in 0..32u32 {
-        add_waits(plan, p, &mut waits);
-    }
-    waits
-}
-
-// Whether each place that waits for `p` directly is later and in conflict, and is listed once.
-fn is_sound(plan: &Plan, p: u32) -> bool {
-    if p as usize >= plan.len() {
-        return true;
-    }
-    let mut last = p;
-    for q in plan.after(p) {
-        if *q <= last || !is_conflict(plan, p, *q) {
-            return false;
-        }
-        last = *q;
-    }
-    true
-}
-
-// How many places have `q` among those that wait for them directly.
-fn waited_for(plan: &Plan, q: u32) -> u32 {
-    let mut count = 0u32;
-    for p in 0..plan.len() {
-        if plan.after(p as u32).contains(&q) {
-            count = count.saturating_add(1);
-        }
-    }
-    count
-}
-
-// Whether each direct wait is for a place in conflict, and is counted once.
-fn are_sound(plan: &Plan) -> bool {
-    for place in 0..plan.len() {
-        let place = place as u32;
-        if !is_sound(plan, place) || plan.before(place) != waited_for(plan, place) {
-            return false;
-        }
-    }
-    true
-}
-
-fn planned(alloc: Global, feed: &Feed, near: &[u32]) -> Result<Arc<Plan>> {
-    let (plan, _) = prepared(alloc, feed, near)?;
+fn plan_near(alloc: Global, feed: &Feed, near: &[u32]) -> Result<Plan> {
+    let (plan, _) = planned(alloc, feed, near)?;
     Ok(plan)
 }
 
 // Whether the plan that is made with these likely slots is this one.
 fn is_planned(alloc: Global, feed: &Feed, plan: &Plan, near: &[u32]) -> Result<bool> {
-    let other = planned(alloc, feed, near)?;
+    let other = plan_near(alloc, feed, near)?;
     Ok(is_same_plan(plan, &other))
 }
 
@@ -189,7 +96,25 @@ where
     is_same(alloc, &outcome, wanted)
 }
 
-// A plan that is made with such likely slots, and what its execution gives.
+// A plan that is made with these likely slots, and what its execution gives.
+fn try_slots<R>(
+    rt: &R,
+    feed: &Feed,
+    plan: &Plan,
+    near: &[u32],
+    wanted: &Ledger,
+    tally: &mut Tally,
+) -> Result<()>
+where
+    R: AllocGlobal + Eprint + Threads + Wait + Sync,
+{
+    let alloc: Global = rt.alloc();
+    let is_plan = is_planned(alloc, feed, plan, near)?;
+    tally.note(rt, "a plan of wrong likely slots", is_plan)?;
+    let is_right = is_executed(rt, alloc, feed, near, wanted)?;
+    tally.note(rt, "an execution of wrong likely slots", is_right)
+}
+
 fn try_near<R>(
     rt: &R,
     chance: &mut Chance,
@@ -202,12 +127,8 @@ fn try_near<R>(
 where
     R: AllocGlobal + Eprint + Threads + Wait + Sync,
 {
-    let alloc: Global = rt.alloc();
-    let near = near_of(alloc, chance, near)?;
-    let is_plan = is_planned(alloc, feed, plan, &near)?;
-    tally.note(rt, "a plan of wrong likely slots", is_plan)?;
-    let is_right = is_executed(rt, alloc, feed, &near, wanted)?;
-    tally.note(rt, "an execution of wrong likely slots", is_right)
+    let near = near_of(rt.alloc(), chance, near)?;
+    try_slots(rt, feed, plan, &near, wanted, tally)
 }
 
 // Plans of a drawn list with wrong likely slots.
@@ -216,16 +137,25 @@ fn try_nears<R>(
     chance: &mut Chance,
     feed: &Feed,
     plan: &Plan,
+    wanted: &Ledger,
     tally: &mut Tally,
 ) -> Result<()>
 where
     R: AllocGlobal + Eprint + Threads + Wait + Sync,
 {
-    let wanted = Ledger::of(rt.alloc(), feed)?;
     for near in NEARS {
-        try_near(rt, chance, feed, plan, near, &wanted, tally)?;
+        try_near(rt, chance, feed, plan, near, wanted, tally)?;
     }
     Ok(())
+}
+
+fn try_by<R>(rt: &R, chance: &mut Chance, feed: &Feed, plan: &Plan, tally: &mut Tally) -> Result<()>
+where
+    R: AllocGlobal + Eprint + Threads + Wait + Sync,
+{
+    tally.note(rt, "the waits and words of a plan", is_right(plan))?;
+    let wanted = Ledger::of(rt.alloc(), feed)?;
+    try_nears(rt, chance, feed, plan, &wanted, tally)
 }
 
 // The plan of a drawn list, and plans of it with wrong likely slots.
@@ -233,10 +163,79 @@ fn try_plan<R>(rt: &R, chance: &mut Chance, feed: &Feed, tally: &mut Tally) -> R
 where
     R: AllocGlobal + Eprint + Threads + Wait + Sync,
 {
-    let plan = planned(rt.alloc(), feed, &[])?;
-    let are_same = waits_by_plan(&plan) == waits_by_conflicts(&plan);
-    tally.note(rt, "the waits of a plan", are_same && are_sound(&plan))?;
-    try_nears(rt, chance, feed, &plan, tally)
+    let plan = plan_near(rt.alloc(), feed, &[])?;
+    try_by(rt, chance, feed, &plan, tally)
+}
+
+fn drawn_feed(alloc: Global, version: Version, rows: &[Row], chance: &mut Chance) -> Result<Feed> {
+    let txs = drawn_list(alloc, chance)?;
+    feed_with(alloc, version, rows, &txs)
+}
+
+fn try_drawn<R>(rt: &R, rows: &[Row], tally: &mut Tally) -> Result<()>
+where
+    R: AllocGlobal + Eprint + Threads + Wait + Sync,
+{
+    let mut chance = Chance::new(13);
+    for version in [Version::One, Version::Two] {
+        for _ in 0..LISTS {
+            let feed = drawn_feed(rt.alloc(), version, rows, &mut chance)?;
+            try_plan(rt, &mut chance, &feed, tally)?;
+        }
+    }
+    Ok(())
+}
+
+fn try_lists<R>(rt: &R, tally: &mut Tally) -> Result<()>
+where
+    R: AllocGlobal + Eprint + Threads + Wait + Sync,
+{
+    let rows = drawn_opening(rt.alloc())?;
+    try_drawn(rt, &rows, tally)
+}
+
+// ---- one planner
+
+fn payments(alloc: Global, chance: &mut Chance, version: Version) -> Result<Feed> {
+    let rows = drawn_opening(alloc)?;
+    let txs = drawn_payments(alloc, chance)?;
+    feed_with(alloc, version, &rows, &txs)
+}
+
+// How many waits are in a plan of twelve payments, if it is right.
+fn waits_of(plan: &Plan) -> Option<u64> {
+    if plan.len() == 12 && is_right(plan) {
+        Some(count_waits(plan))
+    } else {
+        None
+    }
+}
+
+fn waits_in(
+    alloc: Global,
+    planner: &mut Planner,
+    chance: &mut Chance,
+    version: Version,
+) -> Result<Option<u64>> {
+    let feed = payments(alloc, chance, version)?;
+    let plan = plan_by(alloc, planner, &feed)?;
+    Ok(waits_of(&plan))
+}
+
+fn try_payments<R>(rt: &R, planner: &mut Planner, tally: &mut Tally) -> Result<()>
+where
+    R: AllocGlobal + Eprint,
+{
+    let mut chance = Chance::new(7);
+    let mut waits = 0u64;
+    for _ in 0..PAYMENTS {
+        for version in [Version::One, Version::Two] {
+            let found = waits_in(rt.alloc(), planner, &mut chance, version)?;
+            tally.note(rt, "a plan of drawn payments", found.is_some())?;
+            waits = waits.saturating_add(found.unwrap_or(0));
+        }
+    }
+    tally.note(rt, "too few waits in drawn plans", waits > LEAST)
 }
 
 /// Plans of drawn lists of both versions.
@@ -244,15 +243,7 @@ pub(crate) fn try_plans<R>(rt: &R, tally: &mut Tally) -> Result<()>
 where
     R: AllocGlobal + Eprint + Threads + Wait + Sync,
 {
-    let alloc: Global = rt.alloc();
-    let mut chance = Chance::new(13);
-    let rows = drawn_opening(alloc)?;
-    for version in [Version::One, Version::Two] {
-        for _ in 0..LISTS {
-            let txs = drawn_list(alloc, &mut chance)?;
-            let feed = feed_with(alloc, version, &rows, &txs)?;
-            try_plan(rt, &mut chance, &feed, tally)?;
-        }
-    }
-    Ok(())
+    try_lists(rt, tally)?;
+    let mut planner = Planner::new(rt.alloc());
+    try_payments(rt, &mut planner, tally)
 }

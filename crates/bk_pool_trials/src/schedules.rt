@@ -1,40 +1,17 @@
 //! Lists of events of two payments in conflict, against what was worked out by hand.
 
-ghost use Rattle.std.specs.Prelude.{IfOk};
-ghost use Rattle.bk_conflicts.specs.SceneOf.{CanRunOn};
-
-use crate::cases::{Case, Name, case_of};
-use crate::executing::gives;
-use crate::making::feed_with;
+use crate::cases::{Case, Name, case_of, feed_of_case};
+use crate::executing::{gives, planned};
 use crate::tally::Tally;
-use anyhow::{Result, bail};
-use bk_conflicts::Plan;
+use anyhow::Result;
 use bk_frames::{Feed, Version};
-use bk_ledger::Batches;
-use bk_rules::State;
 use bk_steps::{Event, Outcome, Refused, ScheduleFault, run_schedule};
 use std::alloc::Global;
-
-const MOST: usize = 1 << 31;
 
 // How many events do both places, and how many of them the first one.
 const BOTH: usize = 22;
 
 const FIRST: usize = 12;
-
-// The plan of the transactions of a feed, and the opening accounts.
-fn planned(alloc: Global, feed: &Feed) -> Result<(Plan, State)>
-    ensures { IfOk result (λ r. CanRunOn r.0 r.1) }
-{
-    let Batches { txs, .. } = Batches::of(alloc, feed)?;
-    let mut state = State::new(alloc, feed.version(), feed.genesis())?;
-    state.prepare(alloc, &txs)?;
-    if txs.len() >= MOST || state.ids().len() >= MOST {
-        bail!("too many");
-    }
-    let plan = Plan::make_near(alloc, state.version(), state.ids(), txs, &[])?;
-    Ok((plan, state))
-}
 
 // What two workers come to by these events.
 fn scheduled(
@@ -42,7 +19,7 @@ fn scheduled(
     feed: &Feed,
     events: &[Event],
 ) -> Result<Result<Outcome, ScheduleFault>> {
-    let (plan, state) = planned(alloc, feed)?;
+    let (plan, state) = planned(alloc, feed, &[])?;
     Ok(run_schedule(alloc, plan, state, 2, events))
 }
 
@@ -69,18 +46,12 @@ fn push_place(
     words: &[u64],
     writable: &[u64],
 ) -> Result<()> {
-    events.push(Event::Claim { worker, place })?;
+    events.push(claim(worker, place))?;
     for word in words {
-        events.push(Event::Read {
-            worker,
-            word: *word,
-        })?;
+        events.push(read(worker, *word))?;
     }
     for word in writable {
-        events.push(Event::Write {
-            worker,
-            word: *word,
-        })?;
+        events.push(write(worker, *word))?;
     }
     events.push(Event::Finish { worker })?;
     Ok(())
@@ -128,30 +99,43 @@ where
 // The list of one worker with one event more at an index, and why that is refused.
 type Refusal = (usize, Event, Refused);
 
-fn is_refused(alloc: Global, feed: &Feed, refusal: Refusal) -> Result<bool> {
-    let (index, event, code) = refusal;
-    let events = whole(alloc, 0, 0)?;
-    let mut changed = Vec::from_slice(alloc, events.get(..index).unwrap_or(&[]))?;
+// Puts these events with one more at an index.
+fn push_changed(
+    changed: &mut Vec<Event>,
+    events: &[Event],
+    index: usize,
+    event: Event,
+) -> Result<()> {
+    changed.extend_from_slice(events.get(..index).unwrap_or(&[]))?;
     changed.push(event)?;
     changed.extend_from_slice(events.get(index..).unwrap_or(&[]))?;
-    has_fault(
-        alloc,
-        feed,
-        &changed,
-        ScheduleFault::Refused { index, code },
-    )
+    Ok(())
 }
 
-fn claim(worker: u64, place: u64) -> Event {
+// The list of one worker with one event more at an index.
+fn with_one_more(alloc: Global, index: usize, event: Event) -> Result<Vec<Event>> {
+    let events = whole(alloc, 0, 0)?;
+    let mut changed = Vec::new(alloc);
+    push_changed(&mut changed, &events, index, event)?;
+    Ok(changed)
+}
+
+fn is_refused(alloc: Global, feed: &Feed, refusal: Refusal) -> Result<bool> {
+    let (index, event, code) = refusal;
+    let events = with_one_more(alloc, index, event)?;
+    has_fault(alloc, feed, &events, ScheduleFault::Refused { index, code })
+}
+
+pub(crate) fn claim(worker: u64, place: u64) -> Event {
     Event::Claim { worker, place }
 }
 
-fn write(word: u64) -> Event {
-    Event::Write { worker: 0, word }
+pub(crate) fn read(worker: u64, word: u64) -> Event {
+    Event::Read { worker, word }
 }
 
-fn read(word: u64) -> Event {
-    Event::Read { worker: 0, word }
+pub(crate) fn write(worker: u64, word: u64) -> Event {
+    Event::Write { worker, word }
 }
 
 // Of the first place, words 0 to 5 are read by events 1 to 6, and four of them are written by 7 to 10.
@@ -162,19 +146,19 @@ where
     let finish = Event::Finish { worker: 0 };
     let refusals: [Refusal; 17] = [
         (0, finish, Refused::NotHolder),
-        (0, read(0), Refused::NotHolder),
+        (0, read(0, 0), Refused::NotHolder),
         (0, claim(2, 0), Refused::NotIdle),
         (0, claim(0, 7), Refused::NotReady),
         (0, claim(0, 1), Refused::NotReady),
         (1, claim(0, 1), Refused::NotIdle),
         (1, claim(1, 1), Refused::NotReady),
-        (1, read(99), Refused::NotDeclared),
-        (1, write(0), Refused::OutOfTurn),
-        (1, write(2), Refused::NotDeclared),
+        (1, read(0, 99), Refused::NotDeclared),
+        (1, write(0, 0), Refused::OutOfTurn),
+        (1, write(0, 2), Refused::NotDeclared),
         (1, finish, Refused::OutOfTurn),
-        (7, write(2), Refused::NotDeclared),
-        (8, read(1), Refused::OutOfTurn),
-        (8, write(0), Refused::OutOfTurn),
+        (7, write(0, 2), Refused::NotDeclared),
+        (8, read(0, 1), Refused::OutOfTurn),
+        (8, write(0, 0), Refused::OutOfTurn),
         (8, finish, Refused::OutOfTurn),
         (11, claim(1, 1), Refused::NotReady),
         (BOTH, claim(0, 0), Refused::NotReady),
@@ -186,16 +170,37 @@ where
     Ok(())
 }
 
+// The first of two wrong events is reported, also of a worker other than the first.
+fn try_first_refused<R>(rt: &R, feed: &Feed, tally: &mut Tally) -> Result<()>
+where
+    R: AllocGlobal + Eprint,
+{
+    let events = [claim(1, 0), read(1, 99), read(1, 99)];
+    let wanted = ScheduleFault::Refused {
+        index: 1,
+        code: Refused::NotDeclared,
+    };
+    let is_right = has_fault(rt.alloc(), feed, &events, wanted)?;
+    tally.note(rt, "the first of two events that are refused", is_right)
+}
+
+fn try_feed<R>(rt: &R, case: &Case, feed: &Feed, tally: &mut Tally) -> Result<()>
+where
+    R: AllocGlobal + Eprint,
+{
+    try_whole(rt, case, feed, tally)?;
+    try_beginnings(rt, feed, tally)?;
+    try_refused(rt, feed, tally)?;
+    try_first_refused(rt, feed, tally)
+}
+
 fn try_version<R>(rt: &R, version: Version, tally: &mut Tally) -> Result<()>
 where
     R: AllocGlobal + Eprint,
 {
-    let alloc: Global = rt.alloc();
-    let case = case_of(alloc, version, Name::GuardThenPayment)?;
-    let feed = feed_with(alloc, version, &case.opening, &case.txs)?;
-    try_whole(rt, &case, &feed, tally)?;
-    try_beginnings(rt, &feed, tally)?;
-    try_refused(rt, &feed, tally)
+    let case = case_of(rt.alloc(), version, Name::GuardThenPayment)?;
+    let feed = feed_of_case(rt.alloc(), &case)?;
+    try_feed(rt, &case, &feed, tally)
 }
 
 /// Lists of events of two workers, in both versions.

@@ -34,14 +34,24 @@ const BORDERS: [(u64, u64); 7] = [
     (129, 64),
 ];
 
+// The batch of one transaction.
+fn batch_with(alloc: Global, tx: &Option<Tx>) -> Result<Vec<u8>> {
+    let mut batch = Batch::new(alloc);
+    batch.push(alloc, tx)?;
+    batch.payload(alloc)
+}
+
+fn push_each(alloc: Global, txs: &[Option<Tx>], payloads: &mut Vec<Vec<u8>>) -> Result<()> {
+    for tx in txs {
+        payloads.push(batch_with(alloc, tx)?)?;
+    }
+    Ok(())
+}
+
 // The feed of these transactions, each in a batch of its own.
 fn feed_of_each(alloc: Global, version: Version, rows: &[Row], txs: &[Option<Tx>]) -> Result<Feed> {
     let mut payloads = Vec::new(alloc);
-    for tx in txs {
-        let mut batch = Batch::new(alloc);
-        batch.push(alloc, tx)?;
-        payloads.push(batch.payload(alloc)?)?;
-    }
+    push_each(alloc, txs, &mut payloads)?;
     feed_of(alloc, version, rows, &payloads)
 }
 
@@ -66,15 +76,32 @@ where
     }
 }
 
+fn has_rows(alloc: Global, ledger: &Ledger, wanted: &[Row]) -> Result<bool> {
+    let rows = ledger.state().rows(alloc)?;
+    Ok(rows.as_slice() == wanted)
+}
+
 /// Whether both have the same batches, receipts and accounts.
 pub(crate) fn is_same(alloc: Global, ledger: &Ledger, wanted: &Ledger) -> Result<bool> {
-    let rows = ledger.state().rows(alloc)?;
-    let wanted_rows = wanted.state().rows(alloc)?;
-    Ok(
-        ledger.counts() == wanted.counts()
-            && ledger.receipts() == wanted.receipts()
-            && rows.as_slice() == wanted_rows.as_slice(),
-    )
+    let rows = wanted.state().rows(alloc)?;
+    let have_rows = has_rows(alloc, ledger, &rows)?;
+    let is_counted = ledger.counts() == wanted.counts();
+    Ok(have_rows && is_counted && ledger.receipts() == wanted.receipts())
+}
+
+fn agrees<R>(
+    rt: &R,
+    alloc: Global,
+    feed: &Feed,
+    wanted: &Ledger,
+    least: usize,
+    workers: usize,
+) -> Result<bool>
+where
+    R: Threads + Wait + Sync,
+{
+    let ledger = in_slices(rt, alloc, feed, least, workers, &Open)?;
+    is_same(alloc, &ledger, wanted)
 }
 
 // Slices of one length, by each number of workers.
@@ -90,10 +117,29 @@ where
     R: AllocGlobal + Eprint + Threads + Wait + Sync,
 {
     for workers in WORKERS {
-        let ledger = in_slices(rt, rt.alloc(), feed, least, workers, &Open)?;
-        tally.note(rt, what, is_same(rt.alloc(), &ledger, wanted)?)?;
+        let is_right = agrees(rt, rt.alloc(), feed, wanted, least, workers)?;
+        tally.note(rt, what, is_right)?;
     }
     Ok(())
+}
+
+// Slices of each length.
+fn try_leasts<R>(rt: &R, what: &str, feed: &Feed, wanted: &Ledger, tally: &mut Tally) -> Result<()>
+where
+    R: AllocGlobal + Eprint + Threads + Wait + Sync,
+{
+    for least in LEASTS {
+        try_least(rt, what, feed, wanted, least, tally)?;
+    }
+    Ok(())
+}
+
+fn try_feed<R>(rt: &R, what: &str, feed: &Feed, tally: &mut Tally) -> Result<()>
+where
+    R: AllocGlobal + Eprint + Threads + Wait + Sync,
+{
+    let wanted = Ledger::of(rt.alloc(), feed)?;
+    try_leasts(rt, what, feed, &wanted, tally)
 }
 
 // Slices of each length, in both versions.
@@ -109,13 +155,41 @@ where
 {
     for version in [Version::One, Version::Two] {
         let feed = feed_of_each(rt.alloc(), version, rows, txs)?;
-        let wanted = Ledger::of(rt.alloc(), &feed)?;
-        for least in LEASTS {
-            try_least(rt, what, &feed, &wanted, least, tally)?;
-        }
+        try_feed(rt, what, &feed, tally)?;
     }
     Ok(())
 }
+
+// Which transactions of 130 accounts.
+#[derive(Clone, Copy)]
+enum Which {
+    Borders,
+    All,
+    New,
+    Absent,
+    Drawn,
+}
+
+const WHICH: [(Which, &str); 5] = [
+    (Which::Borders, "slices on borders"),
+    (Which::All, "slices on all accounts"),
+    (Which::New, "slices on new accounts"),
+    (Which::Absent, "slices on no account"),
+    (Which::Drawn, "slices of payments"),
+];
+
+// From, to, amount and sequence number of payments. Accounts come to be in version Two and then pay, between payments of
+// others.
+const NEW: [(u64, u64, u64, u64); 8] = [
+    (1, 64, 1, 0),
+    (2, 1_000, 30, 0),
+    (1_000, 500, 20, 0),
+    (64, 65, 5, 0),
+    (500, 65, 5, 0),
+    (700, 500, 5, 0),
+    (500, 700, 5, 1),
+    (700, 130, 5, 0),
+];
 
 fn on_borders(alloc: Global) -> Result<Vec<Option<Tx>>> {
     let mut txs = Vec::new(alloc);
@@ -134,18 +208,53 @@ fn on_all(alloc: Global) -> Result<Vec<Option<Tx>>> {
     Ok(txs)
 }
 
-// Accounts that come to be in version Two and then pay, between payments of others.
 fn on_new(alloc: Global) -> Result<Vec<Option<Tx>>> {
     let mut txs = Vec::new(alloc);
-    txs.push(pay(1, 64, 1, 0)?)?;
-    txs.push(pay(2, 1_000, 30, 0)?)?;
-    txs.push(pay(1_000, 500, 20, 0)?)?;
-    txs.push(pay(64, 65, 5, 0)?)?;
-    txs.push(pay(500, 65, 5, 0)?)?;
-    txs.push(pay(700, 500, 5, 0)?)?;
-    txs.push(pay(500, 700, 5, 1)?)?;
-    txs.push(pay(700, 130, 5, 0)?)?;
+    for (from, to, amount, seq) in NEW {
+        txs.push(pay(from, to, amount, seq)?)?;
+    }
     Ok(txs)
+}
+
+// A payment between accounts that are absent, between two texts that are no transactions.
+fn on_absent(alloc: Global) -> Result<Vec<Option<Tx>>> {
+    let mut txs = Vec::new(alloc);
+    txs.push(None)?;
+    txs.push(pay(900, 901, 1, 0)?)?;
+    txs.push(None)?;
+    Ok(txs)
+}
+
+fn txs_of(alloc: Global, which: Which) -> Result<Vec<Option<Tx>>> {
+    match which {
+        Which::Borders => on_borders(alloc),
+        Which::All => on_all(alloc),
+        Which::New => on_new(alloc),
+        Which::Absent => on_absent(alloc),
+        Which::Drawn => payments(alloc, ACCOUNTS, 100, false),
+    }
+}
+
+fn try_which<R>(rt: &R, rows: &[Row], tally: &mut Tally) -> Result<()>
+where
+    R: AllocGlobal + Eprint + Threads + Wait + Sync,
+{
+    for (which, what) in WHICH {
+        let txs = txs_of(rt.alloc(), which)?;
+        try_slices(rt, what, rows, &txs, tally)?;
+    }
+    Ok(())
+}
+
+fn try_lists<R>(rt: &R, chance: &mut Chance, rows: &[Row], tally: &mut Tally) -> Result<()>
+where
+    R: AllocGlobal + Eprint + Threads + Wait + Sync,
+{
+    for _ in 0..LISTS {
+        let txs = drawn_list(rt.alloc(), chance)?;
+        try_slices(rt, "slices of a drawn list", rows, &txs, tally)?;
+    }
+    Ok(())
 }
 
 fn try_drawn<R>(rt: &R, tally: &mut Tally) -> Result<()>
@@ -154,11 +263,15 @@ where
 {
     let mut chance = Chance::new(17);
     let rows = drawn_opening(rt.alloc())?;
-    for _ in 0..LISTS {
-        let txs = drawn_list(rt.alloc(), &mut chance)?;
-        try_slices(rt, "slices of a drawn list", &rows, &txs, tally)?;
-    }
-    Ok(())
+    try_lists(rt, &mut chance, &rows, tally)
+}
+
+fn try_chosen<R>(rt: &R, tally: &mut Tally) -> Result<()>
+where
+    R: AllocGlobal + Eprint + Threads + Wait + Sync,
+{
+    let rows = opening(rt.alloc(), ACCOUNTS)?;
+    try_which(rt, &rows, tally)
 }
 
 /// Slices that touch some of the accounts, all of them, none, and accounts that come to be.
@@ -166,14 +279,6 @@ pub(crate) fn try_all_slices<R>(rt: &R, tally: &mut Tally) -> Result<()>
 where
     R: AllocGlobal + Eprint + Threads + Wait + Sync,
 {
-    let alloc: Global = rt.alloc();
-    let rows = opening(alloc, ACCOUNTS)?;
-    try_slices(rt, "slices on borders", &rows, &on_borders(alloc)?, tally)?;
-    try_slices(rt, "slices on all accounts", &rows, &on_all(alloc)?, tally)?;
-    try_slices(rt, "slices on new accounts", &rows, &on_new(alloc)?, tally)?;
-    let none = [None, pay(900, 901, 1, 0)?, None];
-    try_slices(rt, "slices on no account", &rows, &none, tally)?;
-    let drawn = payments(alloc, ACCOUNTS, 100, false)?;
-    try_slices(rt, "slices of payments", &rows, &drawn, tally)?;
+    try_chosen(rt, tally)?;
     try_drawn(rt, tally)
 }

@@ -5,10 +5,9 @@ ghost use Rattle.std.specs.Prelude.{◌≡◌, ◌*◌, ◌<◌, ◌≤◌, IfSo
 ghost use Rattle.bk_bank.specs.Bank.{bank_scene, IsPassOf};
 ghost use Rattle.bk_pool.specs.Reads.{IsBankOf};
 
-use crate::cases::{Name, case_of};
+use crate::cases::{Name, feed_named};
 use crate::executing::prepared;
 use crate::lost::{DONE, left, makes_ready, taken};
-use crate::making::feed_with;
 use crate::tally::Tally;
 use anyhow::Result;
 use bk_bank::{Bank, Pass, Words};
@@ -189,8 +188,7 @@ where
     R: AllocGlobal + Eprint,
 {
     let alloc: Global = rt.alloc();
-    let case = case_of(alloc, version, name)?;
-    let feed = feed_with(alloc, version, &case.opening, &case.txs)?;
+    let feed = feed_named(alloc, version, name)?;
     let is_right = is_opened_as(alloc, &feed, &opened)?;
     tally.note(rt, "the words of a bank that is opened", is_right)?;
     let is_right = is_done_as(alloc, &feed, &done)?;
