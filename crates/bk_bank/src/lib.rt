@@ -13,6 +13,3 @@ pub use laws::{holds_are_events, laid_words_show_opening, passes_are_events, rel
 pub use setting::Setting;
 pub use view::{About, Ordered, Stage, View};
 pub use words::Words;
-
-#[cfg(test)]
-mod tests;

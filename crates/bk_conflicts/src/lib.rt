@@ -22,6 +22,3 @@ pub use laws::{
 pub use plan::{Plan, SLOTS_END};
 pub use planner::Planner;
 pub use words::WordRef;
-
-#[cfg(test)]
-mod tests;

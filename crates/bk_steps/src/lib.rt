@@ -26,6 +26,3 @@ pub use schedule::run_schedule;
 pub use seat::Seat;
 pub use settling::settle_words;
 pub use stage::Stage;
-
-#[cfg(test)]
-mod tests;
