@@ -1,7 +1,6 @@
 //! The lines that report faults, and the exit statuses after them.
 
 use crate::tally::Tally;
-use anyhow::Result;
 use bk_cli::{Exit, JobFault, ListFault, report};
 use bk_digest::Digest32;
 use bk_frames::{Counted, FaultCode, FeedFault};
@@ -17,16 +16,11 @@ fn is_reported(alloc: Global, fault: &JobFault, status: u8, line: &str) -> bool 
     out.as_slice() == line.as_bytes() && Exit::after(fault).number() == status
 }
 
-fn try_all<R: AllocGlobal + Eprint>(
-    rt: &R,
-    rows: &[(JobFault, u8, &str)],
-    tally: &mut Tally,
-) -> Result<()> {
+fn try_all<R: AllocGlobal + Eprint>(rt: &R, rows: &[(JobFault, u8, &str)], tally: &mut Tally) {
     for (fault, status, line) in rows {
         let is_right = is_reported(rt.alloc(), fault, *status, line);
-        tally.note(rt, line, is_right)?;
+        tally.note(rt, line, is_right);
     }
-    Ok(())
 }
 
 // A fault of a feed.
@@ -34,7 +28,7 @@ fn found(code: FaultCode, offset: u64) -> JobFault {
     JobFault::Replay(Fault::Feed(FeedFault { offset, code }))
 }
 
-fn try_feeds<R: AllocGlobal + Eprint>(rt: &R, tally: &mut Tally) -> Result<()> {
+fn try_feeds<R: AllocGlobal + Eprint>(rt: &R, tally: &mut Tally) {
     let rows = [
         (found(FaultCode::Magic, 0), 2u8, "feed fault 1 at 0\n"),
         (found(FaultCode::Extra, 51), 2, "feed fault 7 at 51\n"),
@@ -45,11 +39,11 @@ fn try_feeds<R: AllocGlobal + Eprint>(rt: &R, tally: &mut Tally) -> Result<()> {
             "feed fault 9 at 18446744073709551615\n",
         ),
     ];
-    try_all(rt, &rows, tally)
+    try_all(rt, &rows, tally);
 }
 
 // The digests of "abc" and of nothing are those of FIPS 180-4's examples.
-fn try_stops<R: AllocGlobal + Eprint>(rt: &R, tally: &mut Tally) -> Result<()> {
+fn try_stops<R: AllocGlobal + Eprint>(rt: &R, tally: &mut Tally) {
     let id = Digest32::of(b"abc");
     let twins = Fault::Equivocation {
         round: u32::MAX,
@@ -69,10 +63,10 @@ fn try_stops<R: AllocGlobal + Eprint>(rt: &R, tally: &mut Tally) -> Result<()> {
             "equivocation 4294967295 255 ba7816bf8f01cfea414140de5dae2223b00361a396177a9cb410ff61f20015ad e3b0c44298fc1c149afbf4c8996fb92427ae41e4649b934ca495991b7852b855\n",
         ),
     ];
-    try_all(rt, &rows, tally)
+    try_all(rt, &rows, tally);
 }
 
-fn try_failures<R: AllocGlobal + Eprint>(rt: &R, tally: &mut Tally) -> Result<()> {
+fn try_failures<R: AllocGlobal + Eprint>(rt: &R, tally: &mut Tally) {
     let unfinished = Fault::Unfinished { place: u32::MAX };
     let rows = [
         (JobFault::Replay(unfinished), 4u8, "unfinished 4294967295\n"),
@@ -83,10 +77,10 @@ fn try_failures<R: AllocGlobal + Eprint>(rt: &R, tally: &mut Tally) -> Result<()
         ),
         (JobFault::Replay(Fault::Memory), 4, "memory\n"),
     ];
-    try_all(rt, &rows, tally)
+    try_all(rt, &rows, tally);
 }
 
-fn try_texts<R: AllocGlobal + Eprint>(rt: &R, tally: &mut Tally) -> Result<()> {
+fn try_texts<R: AllocGlobal + Eprint>(rt: &R, tally: &mut Tally) {
     let fault = ScriptFault::Script {
         line: u64::MAX,
         code: ScriptCode::Range,
@@ -105,7 +99,7 @@ fn try_texts<R: AllocGlobal + Eprint>(rt: &R, tally: &mut Tally) -> Result<()> {
         ),
         (JobFault::Text(ScriptFault::Memory), 4, "memory\n"),
     ];
-    try_all(rt, &rows, tally)
+    try_all(rt, &rows, tally);
 }
 
 // A list of events that is not read.
@@ -113,7 +107,7 @@ fn unread(fault: EventsFault) -> JobFault {
     JobFault::Events(ListFault::Unread(fault))
 }
 
-fn try_events<R: AllocGlobal + Eprint>(rt: &R, tally: &mut Tally) -> Result<()> {
+fn try_events<R: AllocGlobal + Eprint>(rt: &R, tally: &mut Tally) {
     let line = u32::MAX;
     let code = Refused::OutOfTurn;
     let refused = ListFault::Refused { line, code };
@@ -129,19 +123,19 @@ fn try_events<R: AllocGlobal + Eprint>(rt: &R, tally: &mut Tally) -> Result<()> 
         (JobFault::Events(refused), 2, "event 4294967295 refused 5\n"),
         (JobFault::Events(unfinished), 4, "unfinished 4294967295\n"),
     ];
-    try_all(rt, &rows, tally)
+    try_all(rt, &rows, tally);
 }
 
 /// All of them.
-pub(crate) fn try_faults<R: AllocGlobal + Eprint>(rt: &R, tally: &mut Tally) -> Result<()> {
-    try_feeds(rt, tally)?;
-    try_stops(rt, tally)?;
-    try_failures(rt, tally)?;
-    try_texts(rt, tally)?;
-    try_events(rt, tally)?;
+pub(crate) fn try_faults<R: AllocGlobal + Eprint>(rt: &R, tally: &mut Tally) {
+    try_feeds(rt, tally);
+    try_stops(rt, tally);
+    try_failures(rt, tally);
+    try_texts(rt, tally);
+    try_events(rt, tally);
     let is_whole = Exit::at(Status::Whole).number() == 0;
-    tally.note(rt, "the status of a whole report", is_whole)?;
+    tally.note(rt, "the status of a whole report", is_whole);
     let is_missing = Exit::at(Status::Missing).number() == 5;
-    tally.note(rt, "the status where a batch is missing", is_missing)?;
-    tally.note(rt, "the status of a no", Exit::No.number() == 1)
+    tally.note(rt, "the status where a batch is missing", is_missing);
+    tally.note(rt, "the status of a no", Exit::No.number() == 1);
 }

@@ -104,12 +104,13 @@ fn try_way<R: AllocGlobal + Eprint>(rt: &R, way: Way, again: u64, tally: &mut Ta
     let mut text = String::from_str(alloc, "members 1\n")?;
     put_accounts(alloc, &mut text, way)?;
     let is_right = makes(alloc, text.as_str(), MANY_ACCOUNTS);
-    tally.note(rt, "many accounts", is_right)?;
+    tally.note(rt, "many accounts", is_right);
     let id = id_of(again);
     let last = format!(in alloc; "account {id} 0")?;
     let code = ScriptCode::Range;
     let is_right = is_refused(alloc, text.as_str(), last.as_str(), ACCOUNTS + 2, code)?;
-    tally.note(rt, last.as_str(), is_right)
+    tally.note(rt, last.as_str(), is_right);
+    Ok(())
 }
 
 fn try_names<R: AllocGlobal + Eprint>(rt: &R, tally: &mut Tally) -> Result<()> {
@@ -117,7 +118,8 @@ fn try_names<R: AllocGlobal + Eprint>(rt: &R, tally: &mut Tally) -> Result<()> {
     let mut text = String::from_str(alloc, "members 1\n")?;
     put_batches(alloc, &mut text)?;
     put_certs(alloc, &mut text, CERTS)?;
-    tally.note(rt, "many names", makes(alloc, text.as_str(), MANY_NAMES))
+    tally.note(rt, "many names", makes(alloc, text.as_str(), MANY_NAMES));
+    Ok(())
 }
 
 // Lines after all batches whose names are given twice, or are names of nothing.
@@ -140,7 +142,7 @@ fn try_wrong_names<R: AllocGlobal + Eprint>(
 ) -> Result<()> {
     for last in lasts {
         let is_right = is_refused(rt.alloc(), text, last, line, ScriptCode::Name)?;
-        tally.note(rt, last, is_right)?;
+        tally.note(rt, last, is_right);
     }
     Ok(())
 }

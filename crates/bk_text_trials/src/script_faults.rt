@@ -2,7 +2,6 @@
 
 use crate::made::has_fault;
 use crate::tally::Tally;
-use anyhow::Result;
 use bk_script::ScriptCode;
 
 const WORDS: [(&str, u64); 9] = [
@@ -99,21 +98,20 @@ fn try_code<R: AllocGlobal + Eprint>(
     code: ScriptCode,
     scripts: &[(&str, u64)],
     tally: &mut Tally,
-) -> Result<()> {
+) {
     for (text, line) in scripts {
         let is_right = has_fault(rt.alloc(), text.as_bytes(), *line, code);
-        tally.note(rt, text, is_right)?;
+        tally.note(rt, text, is_right);
     }
-    Ok(())
 }
 
 /// All of them.
-pub(crate) fn try_script_faults<R: AllocGlobal + Eprint>(rt: &R, tally: &mut Tally) -> Result<()> {
-    try_code(rt, ScriptCode::Word, &WORDS, tally)?;
-    try_code(rt, ScriptCode::Place, &PLACES, tally)?;
-    try_code(rt, ScriptCode::Number, &NUMBERS, tally)?;
-    try_code(rt, ScriptCode::Name, &NAMES, tally)?;
-    try_code(rt, ScriptCode::Range, &RANGES, tally)?;
+pub(crate) fn try_script_faults<R: AllocGlobal + Eprint>(rt: &R, tally: &mut Tally) {
+    try_code(rt, ScriptCode::Word, &WORDS, tally);
+    try_code(rt, ScriptCode::Place, &PLACES, tally);
+    try_code(rt, ScriptCode::Number, &NUMBERS, tally);
+    try_code(rt, ScriptCode::Name, &NAMES, tally);
+    try_code(rt, ScriptCode::Range, &RANGES, tally);
     let is_right = has_fault(rt.alloc(), b"members 1\n\xff", 2, ScriptCode::Word);
-    tally.note(rt, "a byte that is not ASCII", is_right)
+    tally.note(rt, "a byte that is not ASCII", is_right);
 }

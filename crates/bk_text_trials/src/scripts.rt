@@ -35,21 +35,21 @@ fn makes(alloc: Global, text: &str, size: usize, digest: &str) -> bool {
     }
 }
 
-fn try_feeds<R: AllocGlobal + Eprint>(rt: &R, tally: &mut Tally) -> Result<()> {
+fn try_feeds<R: AllocGlobal + Eprint>(rt: &R, tally: &mut Tally) {
     let is_right = makes(
         rt.alloc(),
         ONE_COMMIT,
         1_230,
         "3bbec74d5804fb097d3c889a63b7081b5476d3873761f873abdfc777073d85b5",
     );
-    tally.note(rt, "the script of one commit", is_right)?;
+    tally.note(rt, "the script of one commit", is_right);
     let is_right = makes(
         rt.alloc(),
         EVERY_KIND,
         1_063,
         "945b1e3f06f248d4c96fca3fe0fae50b6c1c12c8a4f8411236b31bd2ad2f5661",
     );
-    tally.note(rt, "the script of every kind of line", is_right)
+    tally.note(rt, "the script of every kind of line", is_right);
 }
 
 // Whether a script makes the empty ledger and one payment after it.
@@ -60,13 +60,13 @@ fn makes_payment(alloc: Global, text: &[u8]) -> bool {
     }
 }
 
-fn try_small<R: AllocGlobal + Eprint>(rt: &R, tally: &mut Tally) -> Result<()> {
+fn try_small<R: AllocGlobal + Eprint>(rt: &R, tally: &mut Tally) {
     for text in EMPTY {
         let is_right = makes_empty_ledger(rt.alloc(), text.as_bytes());
-        tally.note(rt, text, is_right)?;
+        tally.note(rt, text, is_right);
     }
     let is_right = makes_payment(rt.alloc(), b"members 1\nbatch b\npay 1 2 30 0");
-    tally.note(rt, "the script of one payment", is_right)
+    tally.note(rt, "the script of one payment", is_right);
 }
 
 // The codes of faults, and their numbers.
@@ -92,15 +92,10 @@ const LINES: [(ScriptFault, &str); 4] = [
     (ScriptFault::Memory, "memory"),
 ];
 
-fn try_codes<R: AllocGlobal + Eprint>(
-    rt: &R,
-    rows: &[(ScriptCode, u8)],
-    tally: &mut Tally,
-) -> Result<()> {
+fn try_codes<R: AllocGlobal + Eprint>(rt: &R, rows: &[(ScriptCode, u8)], tally: &mut Tally) {
     for (code, number) in rows {
-        tally.note(rt, "the number of a code", code.number() == *number)?;
+        tally.note(rt, "the number of a code", code.number() == *number);
     }
-    Ok(())
 }
 
 fn try_lines<R: AllocGlobal + Eprint>(
@@ -110,15 +105,15 @@ fn try_lines<R: AllocGlobal + Eprint>(
 ) -> Result<()> {
     for (fault, line) in rows {
         let found = fault.to_string(rt.alloc())?;
-        tally.note(rt, line, found.as_str() == *line)?;
+        tally.note(rt, line, found.as_str() == *line);
     }
     Ok(())
 }
 
 /// All of them.
 pub(crate) fn try_scripts<R: AllocGlobal + Eprint>(rt: &R, tally: &mut Tally) -> Result<()> {
-    try_small(rt, tally)?;
-    try_feeds(rt, tally)?;
-    try_codes(rt, &CODES, tally)?;
+    try_small(rt, tally);
+    try_feeds(rt, tally);
+    try_codes(rt, &CODES, tally);
     try_lines(rt, &LINES, tally)
 }

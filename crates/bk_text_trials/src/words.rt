@@ -220,7 +220,8 @@ pub(crate) fn note_words<R: AllocGlobal + Eprint>(
     tally: &mut Tally,
 ) -> Result<()> {
     let line = words.join(rt.alloc(), " ")?;
-    tally.note(rt, line.as_str(), is_right)
+    tally.note(rt, line.as_str(), is_right);
+    Ok(())
 }
 
 fn try_rows<R: AllocGlobal + Eprint>(rt: &R, rows: &[Named], tally: &mut Tally) -> Result<()> {
