@@ -12,6 +12,3 @@ mod part;
 pub use batches::{BatchList, batches_of};
 pub use flat::{Flat, whole_order};
 pub use laws::{batches_grow, batches_in_steps, one_order, order_grows, order_of_history};
-
-#[cfg(test)]
-mod tests;

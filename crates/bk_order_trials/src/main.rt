@@ -15,6 +15,7 @@ mod members;
 mod plain;
 mod row;
 mod set;
+mod story;
 mod taking;
 mod tally;
 mod twins;
