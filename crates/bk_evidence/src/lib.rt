@@ -22,6 +22,3 @@ pub use laws::{
     one_collision, one_evidence,
 };
 pub use offer::Offer;
-
-#[cfg(test)]
-mod tests;

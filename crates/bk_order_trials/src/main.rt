@@ -4,6 +4,7 @@
 //! It names on standard error what failed. The last line is `N passed, M failed`.
 #![tactic(auto)]
 
+mod batch_offers;
 mod boundaries;
 mod certs;
 mod chance;
@@ -12,6 +13,7 @@ mod drawn;
 mod feeds;
 mod frames;
 mod members;
+mod offers;
 mod plain;
 mod row;
 mod set;
@@ -21,9 +23,11 @@ mod tally;
 mod twins;
 mod votes;
 
+use crate::batch_offers::try_batch_offers;
 use crate::boundaries::try_boundaries;
 use crate::checks::try_checks;
 use crate::feeds::try_feeds;
+use crate::offers::try_offers;
 use crate::tally::Tally;
 use crate::twins::try_twins;
 use crate::votes::try_votes;
@@ -37,6 +41,8 @@ where
     let mut tally = Tally::new();
     try_checks(rt, &mut tally)?;
     try_boundaries(rt, &mut tally)?;
+    try_offers(rt, &mut tally)?;
+    try_batch_offers(rt, &mut tally)?;
     try_feeds(rt, &mut tally)?;
     try_votes(rt, &mut tally)?;
     try_twins(rt, &mut tally)?;
