@@ -20,6 +20,3 @@ pub use each::check_each;
 pub use laws::one_verdict;
 pub use rule::{MOST_ROUND, Rule};
 pub use verdict::{Checked, Verdict};
-
-#[cfg(test)]
-mod tests;

@@ -1,10 +1,10 @@
-//! Certificates at the boundary of a rule, in committees of 4, 64 and 128 members, by heads and by weights.
+//! Certificates at the boundary of a rule, in committees of 1 to 128 members, by heads and by weights.
 
 use crate::certs::place;
 use crate::checks::{GOOD, WEIGHTS, found, made};
 use crate::members::{EVERYBODY, Members};
 use crate::tally::Tally;
-use anyhow::Result;
+use anyhow::{Result, bail};
 use bk_committee::Committee;
 use bk_frames::Version;
 use std::alloc::Global;
@@ -18,50 +18,178 @@ fn is_found(alloc: Global, committee: &Committee, all: &Committee, case: Case<'_
     Ok(found(alloc, committee, &bytes)? == wanted)
 }
 
-fn try_cases<R>(rt: &R, members: Members<'_>, cases: &[Case<'_>], tally: &mut Tally) -> Result<()>
+fn try_each<R>(
+    rt: &R,
+    committee: &Committee,
+    all: &Committee,
+    cases: &[Case<'_>],
+    tally: &mut Tally,
+) -> Result<()>
 where
     R: AllocGlobal + Eprint,
 {
-    let alloc: Global = rt.alloc();
-    let committee = members.committee(alloc)?;
-    let all = EVERYBODY.committee(alloc)?;
     for case in cases {
-        let is_right = is_found(alloc, &committee, &all, *case)?;
+        let is_right = is_found(rt.alloc(), committee, all, *case)?;
         tally.note(rt, "a certificate at a boundary", is_right)?;
     }
     Ok(())
 }
 
-// Members 0 to 3 weigh 5, 1, 1 and 1, and a quorum weighs 6. A round above 1 wants one parent alone.
-fn try_four<R>(rt: &R, tally: &mut Tally) -> Result<()>
+fn try_cases<R>(rt: &R, members: Members<'_>, cases: &[Case<'_>], tally: &mut Tally) -> Result<()>
 where
     R: AllocGlobal + Eprint,
 {
-    let cases: [Case<'_>; 17] = [
-        (1, 3, &[], &[0, 3], GOOD),
-        (1, 4, &[], &[0, 3], 1),
-        (1, 255, &[], &[0, 3], 1),
-        (0, 0, &[], &[0, 3], 2),
-        (0, 0, &[1], &[0, 3], 2),
-        (1_000_000, 0, &[1], &[0, 3], GOOD),
-        (1_000_001, 0, &[1], &[0, 3], 2),
-        (u32::MAX, 0, &[1], &[0, 3], 2),
-        (1, 0, &[1], &[0, 3], 3),
-        (2, 0, &[], &[0, 3], 3),
-        (2, 0, &[1, 2, 3, 4], &[0, 3], GOOD),
-        (2, 0, &[1, 2, 3, 4, 5], &[0, 3], 3),
-        (2, 0, &[2, 2], &[0, 3], 4),
-        (2, 0, &[2, 1], &[0, 3], 4),
-        (2, 0, &[1], &[0, 3, 4], 5),
-        (2, 0, &[1], &[0], 6),
-        (2, 0, &[1], &[], 6),
-    ];
-    let members = Members {
-        version: Version::Two,
-        weights: &WEIGHTS,
-    };
-    try_cases(rt, members, &cases, tally)
+    let committee = members.committee(rt.alloc())?;
+    let all = EVERYBODY.committee(rt.alloc())?;
+    try_each(rt, &committee, &all, cases, tally)
 }
+
+// ---- few members
+
+// Three of four are a quorum. The last two rows break two rules.
+const FOUR: [Case<'static>; 18] = [
+    (1, 0, &[], &[0, 1, 2], GOOD),
+    (1, 3, &[], &[1, 2, 3], GOOD),
+    (1, 4, &[], &[0, 1, 2], 1),
+    (0, 0, &[], &[0, 1, 2], 2),
+    (1_000_000, 0, &[1, 2, 3], &[0, 1, 2], GOOD),
+    (1_000_001, 0, &[1, 2, 3], &[0, 1, 2], 2),
+    (1, 0, &[1], &[0, 1, 2], 3),
+    (2, 0, &[], &[0, 1, 2], 3),
+    (2, 0, &[1, 2], &[0, 1, 2], 3),
+    (2, 0, &[1, 2, 3, 4], &[0, 1, 2], GOOD),
+    (2, 0, &[1, 2, 3, 4, 5], &[0, 1, 2], 3),
+    (2, 0, &[1, 3, 2], &[0, 1, 2], 4),
+    (2, 0, &[1, 2, 2], &[0, 1, 2], 4),
+    (1, 0, &[], &[0, 1, 2, 4], 5),
+    (1, 0, &[], &[127], 5),
+    (1, 0, &[], &[0, 1], 6),
+    (0, 9, &[], &[0, 1], 1),
+    (2, 0, &[3, 2, 1], &[0, 9], 4),
+];
+
+// One member alone is a quorum.
+const ONE: [Case<'static>; 3] = [
+    (2, 0, &[7], &[0], GOOD),
+    (2, 0, &[7], &[1], 5),
+    (2, 0, &[7], &[], 6),
+];
+
+// Five of seven are a quorum.
+const SEVEN: [Case<'static>; 2] = [
+    (1, 6, &[], &[0, 2, 3, 5, 6], GOOD),
+    (1, 6, &[], &[0, 2, 3, 6], 6),
+];
+
+// Members 0 to 3 weigh 5, 1, 1 and 1, and a quorum weighs 6. A round above 1 wants one parent alone.
+const WEIGHED: [Case<'static>; 23] = [
+    (1, 3, &[], &[0, 3], GOOD),
+    (1, 4, &[], &[0, 3], 1),
+    (1, 255, &[], &[0, 3], 1),
+    (0, 0, &[], &[0, 3], 2),
+    (0, 0, &[1], &[0, 3], 2),
+    (1_000_000, 0, &[1], &[0, 3], GOOD),
+    (1_000_001, 0, &[1], &[0, 3], 2),
+    (u32::MAX, 0, &[1], &[0, 3], 2),
+    (1, 0, &[1], &[0, 3], 3),
+    (2, 0, &[], &[0, 3], 3),
+    (2, 0, &[1, 2, 3, 4], &[0, 3], GOOD),
+    (2, 0, &[1, 2, 3, 4, 5], &[0, 3], 3),
+    (2, 0, &[2, 2], &[0, 3], 4),
+    (2, 0, &[2, 1], &[0, 3], 4),
+    (2, 0, &[1], &[0, 3, 4], 5),
+    (2, 0, &[1], &[0], 6),
+    (2, 0, &[1], &[], 6),
+    (1, 1, &[], &[0, 1], GOOD),
+    (1, 1, &[], &[1, 2, 3], 6),
+    (1, 1, &[], &[0], 6),
+    (2, 1, &[9], &[0, 1], GOOD),
+    (2, 1, &[], &[0, 1], 3),
+    (2, 1, &[1, 2, 3, 4, 5], &[0, 1], 3),
+];
+
+fn heads(weights: &[u32]) -> Members<'_> {
+    Members {
+        version: Version::One,
+        weights,
+    }
+}
+
+fn weighted(weights: &[u32]) -> Members<'_> {
+    Members {
+        version: Version::Two,
+        weights,
+    }
+}
+
+fn try_few<R>(rt: &R, tally: &mut Tally) -> Result<()>
+where
+    R: AllocGlobal + Eprint,
+{
+    try_cases(rt, heads(&[1]), &ONE, tally)?;
+    try_cases(rt, heads(&[1; 4]), &FOUR, tally)?;
+    try_cases(rt, heads(&[1; 7]), &SEVEN, tally)?;
+    try_cases(rt, weighted(&WEIGHTS), &WEIGHED, tally)
+}
+
+// ---- many members
+
+// From where to where numbers count.
+type Range = (usize, usize);
+
+// A round, an author, which numbers are the ids of the parents and which the signers, and what a check finds.
+type Wide = (u32, u8, Range, Range, u8);
+
+const NOBODY: Range = (0, 0);
+
+// Of 64 members 21 may be faulty, and 43 are a quorum.
+const OF_64: [Wide; 9] = [
+    (1, 63, NOBODY, (21, 64), GOOD),
+    (1, 64, NOBODY, (21, 64), 1),
+    (1, 63, NOBODY, (0, 43), GOOD),
+    (1, 63, NOBODY, (22, 64), 6),
+    (1, 63, NOBODY, (21, 65), 5),
+    (2, 63, (1, 44), (21, 64), GOOD),
+    (2, 63, (1, 43), (21, 64), 3),
+    (2, 63, (1, 65), (21, 64), GOOD),
+    (2, 63, (1, 66), (21, 64), 3),
+];
+
+// By weights of 1 each a check asks for one parent, and whether they are a quorum is a question of admission.
+const OF_64_BY_WEIGHTS: [Wide; 6] = [
+    (1, 63, NOBODY, (21, 64), GOOD),
+    (1, 63, NOBODY, (22, 64), 6),
+    (1, 63, NOBODY, (21, 65), 5),
+    (2, 63, (1, 43), (21, 64), GOOD),
+    (2, 63, (1, 65), (21, 64), GOOD),
+    (2, 63, (1, 66), (21, 64), 3),
+];
+
+// Of 128 members 42 may be faulty, and 86 are a quorum.
+const OF_128: [Wide; 7] = [
+    (1, 127, NOBODY, (42, 128), GOOD),
+    (1, 128, NOBODY, (42, 128), 1),
+    (1, 0, NOBODY, (43, 128), 6),
+    (2, 64, (1, 129), (42, 128), GOOD),
+    (2, 64, (1, 87), (42, 128), GOOD),
+    (2, 64, (1, 86), (42, 128), 3),
+    (1_000_000, 64, (1, 129), (43, 128), 6),
+];
+
+// Member 127 weighs 2^32 - 1 and each other one 1: all weigh 2^32 + 126, of which 1,431,655,807 may be faulty. So a
+// quorum, 2,863,311,615, is any set with member 127, and none without it.
+const WITH_127: [Case<'static>; 2] = [(1, 0, &[], &[127], GOOD), (1, 0, &[], &[0, 127], GOOD)];
+
+const WITHOUT_127: [Wide; 2] = [(1, 0, NOBODY, (0, 127), 6), (2, 0, (1, 2), (0, 127), 6)];
+
+// Members 63 and 64 weigh 10 each and 126 others 1: all weigh 146, 48 may be faulty, and 98 are a quorum. The first row
+// has 78 members of weight 1, and the two heavy ones.
+const HEAVY_MIDDLE: [Wide; 4] = [
+    (1, 0, NOBODY, (0, 80), GOOD),
+    (1, 0, NOBODY, (1, 80), 6),
+    (1, 0, NOBODY, (0, 63), 6),
+    (1, 0, NOBODY, (65, 128), 6),
+];
 
 // The bytes 0 to 129.
 fn numbers() -> [u8; 130] {
@@ -72,112 +200,94 @@ fn numbers() -> [u8; 130] {
     numbers
 }
 
-// Of 64 members 21 may be faulty, and 43 are a quorum.
-fn try_64<R>(rt: &R, tally: &mut Tally) -> Result<()>
-where
-    R: AllocGlobal + Eprint,
-{
-    let all = numbers();
-    let cases: [Case<'_>; 9] = [
-        (1, 63, &[], &all[21..64], GOOD),
-        (1, 64, &[], &all[21..64], 1),
-        (1, 63, &[], &all[0..43], GOOD),
-        (1, 63, &[], &all[22..64], 6),
-        (1, 63, &[], &all[21..65], 5),
-        (2, 63, &all[1..44], &all[21..64], GOOD),
-        (2, 63, &all[1..43], &all[21..64], 3),
-        (2, 63, &all[1..65], &all[21..64], GOOD),
-        (2, 63, &all[1..66], &all[21..64], 3),
-    ];
-    let members = Members {
-        version: Version::One,
-        weights: &[1; 64],
-    };
-    try_cases(rt, members, &cases, tally)
+fn part(numbers: &[u8], (begin, end): Range) -> Result<&[u8]> {
+    match numbers.get(begin..end) {
+        Some(part) => Ok(part),
+        None => bail!("no such numbers"),
+    }
 }
 
-// By weights of 1 each a check asks for one parent, and whether they are a quorum is a question of admission.
-fn try_64_by_weights<R>(rt: &R, tally: &mut Tally) -> Result<()>
-where
-    R: AllocGlobal + Eprint,
-{
-    let all = numbers();
-    let cases: [Case<'_>; 6] = [
-        (1, 63, &[], &all[21..64], GOOD),
-        (1, 63, &[], &all[22..64], 6),
-        (1, 63, &[], &all[21..65], 5),
-        (2, 63, &all[1..43], &all[21..64], GOOD),
-        (2, 63, &all[1..65], &all[21..64], GOOD),
-        (2, 63, &all[1..66], &all[21..64], 3),
-    ];
-    let members = Members {
-        version: Version::Two,
-        weights: &[1; 64],
-    };
-    try_cases(rt, members, &cases, tally)
+fn case_of(numbers: &[u8], wide: Wide) -> Result<Case<'_>> {
+    let (round, author, parents, signers, wanted) = wide;
+    let parents = part(numbers, parents)?;
+    let signers = part(numbers, signers)?;
+    Ok((round, author, parents, signers, wanted))
 }
 
-// Of 128 members 42 may be faulty, and 86 are a quorum.
-fn try_128<R>(rt: &R, tally: &mut Tally) -> Result<()>
+fn try_each_wide<R>(
+    rt: &R,
+    committee: &Committee,
+    all: &Committee,
+    wides: &[Wide],
+    tally: &mut Tally,
+) -> Result<()>
 where
     R: AllocGlobal + Eprint,
 {
-    let all = numbers();
-    let cases: [Case<'_>; 7] = [
-        (1, 127, &[], &all[42..128], GOOD),
-        (1, 128, &[], &all[42..128], 1),
-        (1, 0, &[], &all[43..128], 6),
-        (2, 64, &all[1..129], &all[42..128], GOOD),
-        (2, 64, &all[1..87], &all[42..128], GOOD),
-        (2, 64, &all[1..86], &all[42..128], 3),
-        (1_000_000, 64, &all[1..129], &all[43..128], 6),
+    let numbers = numbers();
+    for wide in wides {
+        let case = case_of(&numbers, *wide)?;
+        let is_right = is_found(rt.alloc(), committee, all, case)?;
+        tally.note(rt, "a certificate at a boundary", is_right)?;
+    }
+    Ok(())
+}
+
+fn try_wide<R>(rt: &R, members: Members<'_>, wides: &[Wide], tally: &mut Tally) -> Result<()>
+where
+    R: AllocGlobal + Eprint,
+{
+    let committee = members.committee(rt.alloc())?;
+    let all = EVERYBODY.committee(rt.alloc())?;
+    try_each_wide(rt, &committee, &all, wides, tally)
+}
+
+// The signers come in descending order: members 127 to 42, and 126 to 42.
+fn try_descending<R>(rt: &R, tally: &mut Tally) -> Result<()>
+where
+    R: AllocGlobal + Eprint,
+{
+    let mut signers = [0u8; 86];
+    for number in 0..86u8 {
+        signers[number as usize] = 127 - number;
+    }
+    let cases: [Case<'_>; 2] = [
+        (1, 127, &[], &signers, GOOD),
+        (1, 127, &[], &signers[1..], 6),
     ];
     try_cases(rt, EVERYBODY, &cases, tally)
 }
 
-// Member 127 weighs 2^32 - 1 and each other one 1: all weigh 2^32 + 126, of which 1,431,655,807 may be faulty. So a
-// quorum, 2,863,311,615, is any set with member 127, and none without it.
 fn try_heavy_last<R>(rt: &R, tally: &mut Tally) -> Result<()>
 where
     R: AllocGlobal + Eprint,
 {
-    let all = numbers();
-    let cases: [Case<'_>; 4] = [
-        (1, 0, &[], &[127], GOOD),
-        (1, 0, &[], &[0, 127], GOOD),
-        (1, 0, &[], &all[0..127], 6),
-        (2, 0, &[1], &all[0..127], 6),
-    ];
     let mut weights = [1u32; 128];
     weights[127] = u32::MAX;
-    let members = Members {
-        version: Version::Two,
-        weights: &weights,
-    };
-    try_cases(rt, members, &cases, tally)
+    try_cases(rt, weighted(&weights), &WITH_127, tally)?;
+    try_wide(rt, weighted(&weights), &WITHOUT_127, tally)
 }
 
-// Members 63 and 64 weigh 10 each and 126 others 1: all weigh 146, 48 may be faulty, and 98 are a quorum.
 fn try_heavy_middle<R>(rt: &R, tally: &mut Tally) -> Result<()>
 where
     R: AllocGlobal + Eprint,
 {
-    let all = numbers();
-    let cases: [Case<'_>; 4] = [
-        // 78 members of weight 1, and the two heavy ones
-        (1, 0, &[], &all[0..80], GOOD),
-        (1, 0, &[], &all[1..80], 6),
-        (1, 0, &[], &all[0..63], 6),
-        (1, 0, &[], &all[65..128], 6),
-    ];
     let mut weights = [1u32; 128];
     weights[63] = 10;
     weights[64] = 10;
-    let members = Members {
-        version: Version::Two,
-        weights: &weights,
-    };
-    try_cases(rt, members, &cases, tally)
+    try_wide(rt, weighted(&weights), &HEAVY_MIDDLE, tally)
+}
+
+fn try_many<R>(rt: &R, tally: &mut Tally) -> Result<()>
+where
+    R: AllocGlobal + Eprint,
+{
+    try_wide(rt, heads(&[1; 64]), &OF_64, tally)?;
+    try_wide(rt, weighted(&[1; 64]), &OF_64_BY_WEIGHTS, tally)?;
+    try_wide(rt, EVERYBODY, &OF_128, tally)?;
+    try_descending(rt, tally)?;
+    try_heavy_last(rt, tally)?;
+    try_heavy_middle(rt, tally)
 }
 
 /// Certificates that just break no rule, and those that just break one.
@@ -185,10 +295,6 @@ pub(crate) fn try_boundaries<R>(rt: &R, tally: &mut Tally) -> Result<()>
 where
     R: AllocGlobal + Eprint,
 {
-    try_four(rt, tally)?;
-    try_64(rt, tally)?;
-    try_64_by_weights(rt, tally)?;
-    try_128(rt, tally)?;
-    try_heavy_last(rt, tally)?;
-    try_heavy_middle(rt, tally)
+    try_few(rt, tally)?;
+    try_many(rt, tally)
 }

@@ -18,8 +18,8 @@ pub(crate) const GOOD: u8 = 8;
 /// The weights of four members, of which 6 are a quorum.
 pub(crate) const WEIGHTS: [u32; 4] = [5, 1, 1, 1];
 
-// The number of the rule that is broken.
-fn number(verdict: &Verdict) -> u8 {
+/// The number of the rule that is broken.
+pub(crate) fn number(verdict: &Verdict) -> u8 {
     match verdict {
         Verdict::Good(_) => GOOD,
         Verdict::Broken(rule) => *rule as u8,
@@ -164,20 +164,26 @@ fn are_least_together<R: Threads + Sync>(
     Ok(are_least(&verdicts))
 }
 
+fn try_all<R>(rt: &R, committee: &Committee, certs: &[Vec<u8>], tally: &mut Tally) -> Result<()>
+where
+    R: AllocGlobal + Eprint + Threads + Sync,
+{
+    try_alone(rt, committee, certs, tally)?;
+    let are_right = are_least_together(rt, rt.alloc(), committee, certs)?;
+    tally.note(rt, "the least rules of all sets", are_right)
+}
+
 fn try_sets<R>(rt: &R, version: Version, tally: &mut Tally) -> Result<()>
 where
     R: AllocGlobal + Eprint + Threads + Sync,
 {
-    let alloc: Global = rt.alloc();
     let four = Members {
         version,
         weights: &WEIGHTS,
     };
-    let committee = four.committee(alloc)?;
-    let certs = all_breaking(alloc, version)?;
-    try_alone(rt, &committee, &certs, tally)?;
-    let are_right = are_least_together(rt, alloc, &committee, &certs)?;
-    tally.note(rt, "the least rules of all sets", are_right)
+    let committee = four.committee(rt.alloc())?;
+    let certs = all_breaking(rt.alloc(), version)?;
+    try_all(rt, &committee, &certs, tally)
 }
 
 // ---- turned bytes
@@ -221,20 +227,26 @@ where
     Ok(())
 }
 
+fn try_good<R>(rt: &R, committee: &Committee, good: &[u8], tally: &mut Tally) -> Result<()>
+where
+    R: AllocGlobal + Eprint,
+{
+    let is_good = found(rt.alloc(), committee, good)? == GOOD && good.len() == 152;
+    tally.note(rt, "a good certificate", is_good)?;
+    try_bytes(rt, committee, good, tally)
+}
+
 fn try_turned<R>(rt: &R, tally: &mut Tally) -> Result<()>
 where
     R: AllocGlobal + Eprint,
 {
-    let alloc: Global = rt.alloc();
     let four = Members {
         version: Version::Two,
         weights: &WEIGHTS,
     };
-    let committee = four.committee(alloc)?;
-    let good = made(alloc, &committee, place(2, 3), &[7, 9], &[0, 2])?;
-    let is_good = good.len() == 152 && found(alloc, &committee, &good)? == GOOD;
-    tally.note(rt, "a good certificate", is_good)?;
-    try_bytes(rt, &committee, &good, tally)
+    let committee = four.committee(rt.alloc())?;
+    let good = made(rt.alloc(), &committee, place(2, 3), &[7, 9], &[0, 2])?;
+    try_good(rt, &committee, &good, tally)
 }
 
 /// Certificates that break each set of rules, and one each of whose bytes is turned.
