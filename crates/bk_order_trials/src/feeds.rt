@@ -72,14 +72,18 @@ fn has_places(intake: &Intake, expected: &Expected) -> Result<bool> {
     )
 }
 
+fn has_anchors_at_once(alloc: Global, rounds: &Rounds, expected: &Expected) -> Result<bool> {
+    let anchors = committed(alloc, rounds)?;
+    Ok(anchors.as_slice() == expected.anchors.as_slice())
+}
+
 // Whether the same comes of the table at once.
 fn has_at_once(alloc: Global, rounds: &Rounds, expected: &Expected) -> Result<bool> {
-    let anchors = committed(alloc, rounds)?;
+    if !has_anchors_at_once(alloc, rounds, expected)? {
+        return Ok(false);
+    }
     let order = whole_order(alloc, rounds)?;
-    Ok(
-        anchors.as_slice() == expected.anchors.as_slice()
-            && order.order() == expected.order.as_slice(),
-    )
+    Ok(order.order() == expected.order.as_slice())
 }
 
 fn is_as_expected(alloc: Global, intake: &Intake, expected: &Expected) -> Result<bool> {
@@ -121,6 +125,19 @@ fn is_taken<R: Threads + Sync>(
     found
 }
 
+fn is_way_right<R: AllocGlobal + Threads + Sync>(
+    rt: &R,
+    chance: &mut Chance,
+    members: Members<'_>,
+    frames: &[Frame],
+    expected: &Expected,
+    way: Way,
+    size: usize,
+) -> Result<bool> {
+    let taken = numbers(rt.alloc(), chance, way, frames.len())?;
+    is_taken(rt, rt.alloc(), members, frames, expected, &taken, size)
+}
+
 fn try_ways<R>(
     rt: &R,
     chance: &mut Chance,
@@ -132,13 +149,44 @@ fn try_ways<R>(
 where
     R: AllocGlobal + Eprint + Threads + Sync,
 {
-    let alloc: Global = rt.alloc();
     for (way, size) in WAYS {
-        let taken = numbers(alloc, chance, way, frames.len())?;
-        let is_right = is_taken(rt, alloc, members, frames, expected, &taken, size)?;
+        let is_right = is_way_right(rt, chance, members, frames, expected, way, size)?;
         tally.note(rt, "a drawn feed", is_right)?;
     }
     Ok(())
+}
+
+fn try_expected<R>(
+    rt: &R,
+    chance: &mut Chance,
+    members: Members<'_>,
+    rows: &[Row],
+    held: &[bool],
+    expected: &Expected,
+    tally: &mut Tally,
+) -> Result<()>
+where
+    R: AllocGlobal + Eprint + Threads + Sync,
+{
+    let frames = frames_of(rt.alloc(), chance, members, rows, held)?;
+    try_ways(rt, chance, members, &frames, expected, tally)
+}
+
+fn try_held<R>(
+    rt: &R,
+    chance: &mut Chance,
+    members: Members<'_>,
+    rows: &[Row],
+    held: &[bool],
+    shown: &mut Shown,
+    tally: &mut Tally,
+) -> Result<()>
+where
+    R: AllocGlobal + Eprint + Threads + Sync,
+{
+    let expected = read_plainly(rt.alloc(), members, rows, held)?;
+    shown.add(members, rows, &expected);
+    try_expected(rt, chance, members, rows, held, &expected, tally)
 }
 
 // The frames of a graph in each way.
@@ -153,12 +201,24 @@ fn try_rows<R>(
 where
     R: AllocGlobal + Eprint + Threads + Sync,
 {
-    let alloc: Global = rt.alloc();
-    let held = drawn_held(alloc, chance)?;
-    let expected = read_plainly(alloc, members, rows, &held)?;
-    shown.add(members, rows, &expected);
-    let frames = frames_of(alloc, chance, members, rows, &held)?;
-    try_ways(rt, chance, members, &frames, &expected, tally)
+    let held = drawn_held(rt.alloc(), chance)?;
+    try_held(rt, chance, members, rows, &held, shown, tally)
+}
+
+fn try_graph<R>(
+    rt: &R,
+    chance: &mut Chance,
+    members: Members<'_>,
+    style: Style,
+    last: u32,
+    shown: &mut Shown,
+    tally: &mut Tally,
+) -> Result<()>
+where
+    R: AllocGlobal + Eprint + Threads + Sync,
+{
+    let rows = drawn_rows(rt.alloc(), chance, members, style, last)?;
+    try_rows(rt, chance, members, &rows, shown, tally)
 }
 
 // Some graphs of these members.
@@ -175,40 +235,51 @@ where
 {
     let mut chance = Chance::new(u64::from(last).wrapping_add(graphs));
     for _ in 0..graphs {
-        let rows = drawn_rows(rt.alloc(), &mut chance, members, style, last)?;
-        try_rows(rt, &mut chance, members, &rows, shown, tally)?;
+        try_graph(rt, &mut chance, members, style, last, shown, tally)?;
     }
     Ok(())
 }
 
 // ---- committees
 
-fn weighted(weights: &[u32]) -> Members<'_> {
-    Members {
-        version: Version::Two,
-        weights,
-    }
-}
+// A version, weights, and how many rounds and graphs are drawn.
+type Drawing = (Version, &'static [u32], (u32, u64));
 
-fn heads(weights: &[u32]) -> Members<'_> {
-    Members {
-        version: Version::One,
-        weights,
-    }
-}
+const SMALL: [Drawing; 7] = [
+    (Version::One, &[1; 4], (9, 25)),
+    (Version::One, &[1; 7], (9, 12)),
+    (Version::Two, &[1, 1, 1, 1], (9, 20)),
+    (Version::Two, &[5, 1, 1, 1], (9, 20)),
+    (Version::Two, &[4, 1, 1, 1], (9, 20)),
+    (Version::Two, &[1, 2, 3, 4], (9, 20)),
+    (Version::Two, &[3, 1, 4, 1, 5, 9, 2], (9, 12)),
+];
 
-// Four and seven members.
-fn try_small<R>(rt: &R, style: Style, shown: &mut Shown, tally: &mut Tally) -> Result<()>
+const LARGE: [Drawing; 4] = [
+    (Version::One, &[1; 64], (5, 1)),
+    (Version::One, &[1; 65], (5, 1)),
+    (Version::One, &[1; 128], (5, 1)),
+    (Version::Two, &[1; 128], (5, 1)),
+];
+
+fn try_drawings<R>(
+    rt: &R,
+    drawings: &[Drawing],
+    style: Style,
+    shown: &mut Shown,
+    tally: &mut Tally,
+) -> Result<()>
 where
     R: AllocGlobal + Eprint + Threads + Sync,
 {
-    try_graphs(rt, heads(&[1; 4]), style, (9, 25), shown, tally)?;
-    try_graphs(rt, heads(&[1; 7]), style, (9, 12), shown, tally)?;
-    for weights in [[1, 1, 1, 1], [5, 1, 1, 1], [4, 1, 1, 1], [1, 2, 3, 4]] {
-        try_graphs(rt, weighted(&weights), style, (9, 20), shown, tally)?;
+    for (version, weights, size) in drawings {
+        let members = Members {
+            version: *version,
+            weights: *weights,
+        };
+        try_graphs(rt, members, style, *size, shown, tally)?;
     }
-    let seven = weighted(&[3, 1, 4, 1, 5, 9, 2]);
-    try_graphs(rt, seven, style, (9, 12), shown, tally)
+    Ok(())
 }
 
 // Seven of 128 members weigh 1,000 each. The first 20 lead in turn.
@@ -222,19 +293,11 @@ where
             *weight = 1_000;
         }
     }
-    try_graphs(rt, weighted(&weights), Style::Few, (40, 1), shown, tally)
-}
-
-// 64, 65 and 128 members.
-fn try_large<R>(rt: &R, shown: &mut Shown, tally: &mut Tally) -> Result<()>
-where
-    R: AllocGlobal + Eprint + Threads + Sync,
-{
-    try_graphs(rt, heads(&[1; 64]), Style::Tight, (5, 1), shown, tally)?;
-    try_graphs(rt, heads(&[1; 65]), Style::Tight, (5, 1), shown, tally)?;
-    try_graphs(rt, heads(&[1; 128]), Style::Tight, (5, 1), shown, tally)?;
-    try_graphs(rt, weighted(&[1; 128]), Style::Tight, (5, 1), shown, tally)?;
-    try_heavy(rt, shown, tally)
+    let members = Members {
+        version: Version::Two,
+        weights: &weights,
+    };
+    try_graphs(rt, members, Style::Few, (40, 1), shown, tally)
 }
 
 // Some certificates have to be ordered and some have to wait, a batch has to be missing, and an anchor has to be skipped.
@@ -264,8 +327,9 @@ where
         skipped: 0,
     };
     for style in [Style::Most, Style::Tight, Style::Any] {
-        try_small(rt, style, &mut shown, tally)?;
+        try_drawings(rt, &SMALL, style, &mut shown, tally)?;
     }
-    try_large(rt, &mut shown, tally)?;
+    try_drawings(rt, &LARGE, Style::Tight, &mut shown, tally)?;
+    try_heavy(rt, &mut shown, tally)?;
     note_shown(rt, shown, tally)
 }

@@ -184,6 +184,30 @@ pub(crate) fn drawn_held(alloc: Global, chance: &mut Chance) -> Result<Vec<bool>
     Ok(held)
 }
 
+fn put_all(
+    alloc: Global,
+    chance: &mut Chance,
+    sealing: &Sealing<'_>,
+    rows: &[Row],
+    held: &[bool],
+    frames: &mut Vec<Frame>,
+) -> Result<()> {
+    put_rows(alloc, chance, sealing, rows, frames)?;
+    put_batches(alloc, chance, held, frames)
+}
+
+fn sealed_frames(
+    alloc: Global,
+    chance: &mut Chance,
+    sealing: &Sealing<'_>,
+    rows: &[Row],
+    held: &[bool],
+) -> Result<Vec<Frame>> {
+    let mut frames = Vec::new(alloc);
+    put_all(alloc, chance, sealing, rows, held, &mut frames)?;
+    Ok(frames)
+}
+
 /// The frames of these certificates and of the batches that are held.
 pub(crate) fn frames_of(
     alloc: Global,
@@ -199,8 +223,5 @@ pub(crate) fn frames_of(
         members,
         signers: &signers,
     };
-    let mut frames = Vec::new(alloc);
-    put_rows(alloc, chance, &sealing, rows, &mut frames)?;
-    put_batches(alloc, chance, held, &mut frames)?;
-    Ok(frames)
+    sealed_frames(alloc, chance, &sealing, rows, held)
 }

@@ -209,6 +209,19 @@ fn nothing(alloc: Global) -> Expected {
     }
 }
 
+fn read_into(
+    alloc: Global,
+    members: Members<'_>,
+    rows: &[Row],
+    held: &[bool],
+    expected: &mut Expected,
+) -> Result<()> {
+    let admitted = admitted(alloc, members, rows)?;
+    put_waiting(rows, &admitted, &mut expected.waiting)?;
+    let anchors = anchors_back(alloc, members, rows, &admitted)?;
+    put_anchors(alloc, rows, held, &anchors, expected)
+}
+
 /// What the rules give of these certificates and of the batches that are held.
 pub(crate) fn read_plainly(
     alloc: Global,
@@ -217,10 +230,7 @@ pub(crate) fn read_plainly(
     held: &[bool],
 ) -> Result<Expected> {
     let mut expected = nothing(alloc);
-    let admitted = admitted(alloc, members, rows)?;
-    put_waiting(rows, &admitted, &mut expected.waiting)?;
-    let anchors = anchors_back(alloc, members, rows, &admitted)?;
-    put_anchors(alloc, rows, held, &anchors, &mut expected)?;
+    read_into(alloc, members, rows, held, &mut expected)?;
     Ok(expected)
 }
 

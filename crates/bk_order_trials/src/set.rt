@@ -1,7 +1,7 @@
 //! Sets of members.
 
 /// A set of at most 128 members, by bits.
-#[derive(Clone, Copy, PartialEq, Eq)]
+#[derive(Clone, Copy)]
 pub(crate) struct Set {
     low: u64,
     high: u64,

@@ -194,6 +194,38 @@ fn stops<R: Threads + Sync>(
     Ok(all == *wanted && halves == *wanted)
 }
 
+// Whether the frames stop with this in an order.
+fn stops_in<R: Threads + Sync>(
+    rt: &R,
+    alloc: Global,
+    chance: &mut Chance,
+    committee: &Committee,
+    frames: &[Frame],
+    way: Way,
+    wanted: &Option<Stop>,
+) -> Result<bool> {
+    let taken = numbers(alloc, chance, way, frames.len())?;
+    stops(rt, alloc, committee, frames, &taken, wanted)
+}
+
+fn try_ways<R>(
+    rt: &R,
+    chance: &mut Chance,
+    committee: &Committee,
+    frames: &[Frame],
+    wanted: &Option<Stop>,
+    tally: &mut Tally,
+) -> Result<()>
+where
+    R: AllocGlobal + Eprint + Threads + Sync,
+{
+    for way in [Way::AsDrawn, Way::Reversed, Way::Shuffled] {
+        let is_right = stops_in(rt, rt.alloc(), chance, committee, frames, way, wanted)?;
+        tally.note(rt, "the least twins", is_right)?;
+    }
+    Ok(())
+}
+
 // All frames in each order stop with these twins.
 fn try_orders<R>(
     rt: &R,
@@ -206,14 +238,59 @@ fn try_orders<R>(
 where
     R: AllocGlobal + Eprint + Threads + Sync,
 {
-    let alloc: Global = rt.alloc();
-    let committee = members.committee(alloc)?;
-    for way in [Way::AsDrawn, Way::Reversed, Way::Shuffled] {
-        let taken = numbers(alloc, chance, way, frames.len())?;
-        let is_right = stops(rt, alloc, &committee, frames, &taken, wanted)?;
-        tally.note(rt, "the least twins", is_right)?;
-    }
-    Ok(())
+    let committee = members.committee(rt.alloc())?;
+    try_ways(rt, chance, &committee, frames, wanted, tally)
+}
+
+fn drawn_frames(
+    alloc: Global,
+    chance: &mut Chance,
+    members: Members<'_>,
+    rows: &[Row],
+) -> Result<Vec<Frame>> {
+    let held = drawn_held(alloc, chance)?;
+    frames_of(alloc, chance, members, rows, &held)
+}
+
+// Adds twins to the frames of a graph, and says what all stop with.
+fn wanted_of(
+    alloc: Global,
+    chance: &mut Chance,
+    members: Members<'_>,
+    rows: &[Row],
+    frames: &mut Vec<Frame>,
+) -> Result<Option<Stop>> {
+    let made = put_twins(alloc, chance, members, rows, frames)?;
+    Ok(stop_of(least_twins(&made)))
+}
+
+fn try_frames<R>(
+    rt: &R,
+    chance: &mut Chance,
+    members: Members<'_>,
+    rows: &[Row],
+    frames: &mut Vec<Frame>,
+    tally: &mut Tally,
+) -> Result<()>
+where
+    R: AllocGlobal + Eprint + Threads + Sync,
+{
+    let wanted = wanted_of(rt.alloc(), chance, members, rows, frames)?;
+    try_orders(rt, chance, members, frames, &wanted, tally)
+}
+
+fn try_rows<R>(
+    rt: &R,
+    chance: &mut Chance,
+    members: Members<'_>,
+    rows: &[Row],
+    tally: &mut Tally,
+) -> Result<()>
+where
+    R: AllocGlobal + Eprint + Threads + Sync,
+{
+    let mut frames = drawn_frames(rt.alloc(), chance, members, rows)?;
+    try_frames(rt, chance, members, rows, &mut frames, tally)
 }
 
 // A feed of four members with twins.
@@ -221,13 +298,8 @@ fn try_feed<R>(rt: &R, chance: &mut Chance, members: Members<'_>, tally: &mut Ta
 where
     R: AllocGlobal + Eprint + Threads + Sync,
 {
-    let alloc: Global = rt.alloc();
-    let rows = drawn_rows(alloc, chance, members, Style::Most, 5)?;
-    let held = drawn_held(alloc, chance)?;
-    let mut frames = frames_of(alloc, chance, members, &rows, &held)?;
-    let made = put_twins(alloc, chance, members, &rows, &mut frames)?;
-    let wanted = stop_of(least_twins(&made));
-    try_orders(rt, chance, members, &frames, &wanted, tally)
+    let rows = drawn_rows(rt.alloc(), chance, members, Style::Most, 5)?;
+    try_rows(rt, chance, members, &rows, tally)
 }
 
 /// Drawn feeds with twins, by heads and by weights.
