@@ -22,6 +22,7 @@ const PAGE: usize = 65_536;
 pub(crate) const LINE: usize = 96;
 
 // Puts a text where there is room for it.
+#[inline(always)]
 fn put_text(page: &mut Vec<u8>, text: &[u8])
     requires { vec_len page.old + length text.now ≤ vec_capacity page.old }
     ensures items { page.new.items ≡ page.old.items ++ text.now }
@@ -32,6 +33,7 @@ fn put_text(page: &mut Vec<u8>, text: &[u8])
 }
 
 // Puts a space and a number where there is room for 21 bytes.
+#[inline(always)]
 fn put_number(page: &mut Vec<u8>, number: u64)
     requires { vec_len page.old + 21 ≤ vec_capacity page.old }
     ensures items { page.new.items ≡ page.old.items ++ spaced number }
@@ -43,6 +45,7 @@ fn put_number(page: &mut Vec<u8>, number: u64)
 }
 
 // Puts a word and a number where there is room for 28 bytes.
+#[inline(always)]
 fn put_one(page: &mut Vec<u8>, word: &[u8], one: u64)
     requires short { length word.now ≤ 7 }
     requires room { vec_len page.old + 28 ≤ vec_capacity page.old }
@@ -55,6 +58,7 @@ fn put_one(page: &mut Vec<u8>, word: &[u8], one: u64)
 }
 
 // Puts a word and two numbers where there is room for 49 bytes.
+#[inline(always)]
 fn put_two(page: &mut Vec<u8>, word: &[u8], one: u64, two: u64)
     requires short { length word.now ≤ 7 }
     requires room { vec_len page.old + 49 ≤ vec_capacity page.old }
@@ -67,6 +71,7 @@ fn put_two(page: &mut Vec<u8>, word: &[u8], one: u64, two: u64)
 }
 
 // Puts a word and three numbers where there is room for 70 bytes.
+#[inline(always)]
 fn put_three(page: &mut Vec<u8>, word: &[u8], one: u64, two: u64, three: u64)
     requires short { length word.now ≤ 7 }
     requires room { vec_len page.old + 70 ≤ vec_capacity page.old }
@@ -112,6 +117,10 @@ fn put_members(page: &mut Vec<u8>, members: u8, faulty: u64, quorum: u64)
 }
 
 /// Puts a line and its line feed where there is room for it.
+///
+/// It is a part of each caller: a line that goes by way of memory is read in other widths than it was written, which waits
+/// for all writes before it.
+#[inline(always)]
 pub(crate) fn put_line(page: &mut Vec<u8>, line: Line)
     requires { vec_len page.old + 96 ≤ vec_capacity page.old }
     ensures items { page.new.items ≡ page.old.items ++ (line_text line ++ 10 ∷ []) }
@@ -261,6 +270,7 @@ impl Page {
     }
 
     /// Puts a line, and lets the page go out first where it could get too long.
+    #[inline(always)]
     pub fn put<K: Sink>(&mut self, sink: &mut K, line: Line) -> Result<(), WriteFault>
         requires sound { CanBeUsed (K.state sink.old) }
         requires size { self.old.out + length self.old.bytes < 2 ^ 62 }

@@ -11,6 +11,7 @@ use bk_frames::Row;
 use bk_rules::Receipt;
 
 // One of these lines.
+#[inline(always)]
 fn line_at(receipts: &[Receipt], rows: &[Row], index: usize) -> Line
     requires receipts { length receipts.now < 2 ^ 32 }
     requires inside { index < length receipts.now + length rows.now }
