@@ -11,6 +11,7 @@ import time
 
 ROOT = os.path.dirname(os.path.dirname(os.path.abspath(__file__)))
 LAUNCHER = os.path.join(ROOT, "bkreplay")
+RT = os.path.join(ROOT, "launcher", "rt_once")
 # The processor that the launcher builds for.
 CPU = subprocess.run([os.path.join(ROOT, "launcher", "cpu")], check=True, capture_output=True, text=True).stdout.strip()
 PROGRAM = os.path.join(ROOT, "out", CPU, "bkreplay")
@@ -38,7 +39,7 @@ def build_bench(cpu=None):
     """Builds `bk_bench` where it is not there, for the default processor or for the one that is named: its path."""
     path = f"{BENCH}-{cpu}" if cpu else BENCH
     if not os.path.exists(path):
-        words = ["rt", "run"] + (["--cpu", cpu] if cpu else []) + ["--", "root", "3"]
+        words = [RT, "run"] + (["--cpu", cpu] if cpu else []) + ["--", "root", "3"]
         subprocess.run(words, cwd=BENCH_CRATE, check=True, stdout=sys.stderr)
         if cpu:
             os.replace(BENCH, path)
@@ -46,9 +47,10 @@ def build_bench(cpu=None):
 
 
 def build_in_copy(room, folder, libraries):
-    """Proves and builds the program in a folder of bench/ in a scratch copy of the repository, and returns its path."""
+    """Proves and builds the program in a folder of bench/ for the processor that the launcher builds for, in a scratch
+    copy of the repository, and returns its path."""
     scratch = os.path.join(room, "repository")
-    shutil.copytree(ROOT, scratch, symlinks=True, ignore=shutil.ignore_patterns(".git", "incremental"))
+    shutil.copytree(ROOT, scratch, symlinks=True, ignore=shutil.ignore_patterns(".git", "build", "incremental", "rooms"))
     crate = os.path.join(scratch, "crates", "bk_bench")
     shutil.rmtree(crate)
     shutil.copytree(os.path.join(ROOT, "bench", folder), crate)
@@ -62,7 +64,7 @@ def build_in_copy(room, folder, libraries):
         out.writelines([*others, f"bk_bench: {libraries}\n"])
     program = os.path.join(crate, "out", "bk_bench")
     # Without a feed the program ends with an error, once it is built.
-    words = ["rt", "run", "--", "1", "1"]
+    words = [RT, "run", *([] if CPU == "default" else ["--cpu", CPU]), "--", "1", "1"]
     ran = subprocess.run(words, cwd=crate, stdin=subprocess.DEVNULL, capture_output=True, text=True, check=False)
     if not os.path.exists(program):
         sys.exit(f"the program of bench/{folder} was not built\n{ran.stdout[-3000:]}{ran.stderr[-3000:]}")
