@@ -6,5 +6,6 @@ pub mod ProofTexts
 pub mod ProofReading
 pub mod ProofPaths
 pub mod ProofChecks
+pub mod Numbers
 pub mod MadeProofs
 pub mod Pieces

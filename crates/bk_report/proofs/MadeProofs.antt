@@ -3,7 +3,6 @@ use Rattle.std.proofs.Common.{◌≡◌, ℕ, zero, suc, ◌+◌, ◌-◌, ◌*�
 use Rattle.std.specs.Prelude.{All, slice_get, slice_index, nat_le, nat_lt, decimal, codes}
 use Rattle.std.specs.Int.{w32, byte_at, bytes_high_first, to_be_bytes}
 use Rattle.std.proofs.Math.Nat.{mod-lt}
-use Rattle.std.proofs.lemmas.Fmt.{length-decimal-le}
 use Rattle.std.proofs.lemmas.List.{length-map}
 use Rattle.std.proofs.lemmas.List.Elements.{All-nil, All-push, All-head, All-tail}
 use Rattle.sha2.specs.Sha256.{sha256, digest_bytes, final_hash, initial_hash_256}
@@ -19,6 +18,7 @@ use Rattle.bk_frames.specs.Genesis.{row_text}
 use Rattle.bk_report.specs.Leaves.{leaves_of, state_of}
 use Rattle.bk_report.specs.Lines.{text_of}
 use Rattle.bk_report.specs.Proofs.{ProofValue, IsDigest, IsRow, IsProofOf, IsProofValue, IsGoodProof, path_lines, proof_text, most_proof}
+use Rattle.bk_report.proofs.Numbers.{number_short}
 use Rattle.bk_report.proofs.ProofPaths.{path_text, account_part, index_part, size_part, text_parts}
 
 -- ---- digests are 32 bytes
@@ -123,9 +123,6 @@ leaf_found (r ∷ rows) (suc i) a e = let h = leaf_found rows i a e in (let low 
 
 part_short : (word value rest : List ℕ) (b w v r : ℕ) → length word ≤ w → length value ≤ v → length rest ≤ r → length (word ++ (value ++ b ∷ rest)) ≤ w + v + 1 + r
 part_short word value rest b w v r hw hv hr = omega (arith, length-append word (value ++ b ∷ rest), length-append value (b ∷ rest), hw, hv, hr)
-
-number_short : (n : ℕ) → n < 2 ^ 64 → length (decimal n) ≤ 20
-number_short n fits = length-decimal-le 20 n (omega arith) (omega (arith, fits)) fits
 
 digest_short : (d : List ℕ) → IsDigest d → length (encode_lower d) ≤ 64
 digest_short d is = let sized = is.sized in omega (arith, length-encode_with lower_digits d, sized)

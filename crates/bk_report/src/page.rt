@@ -1,6 +1,6 @@
 //! The text of lines, gathered in a page before it goes to a sink.
 
-ghost use Rattle.std.specs.Prelude.{◌≡◌, ◌+◌, ◌^◌, ◌<◌, ◌≤◌, ◌∷◌, ◌++◌, [], length, vec_len, IfOk, OnOk};
+ghost use Rattle.std.specs.Prelude.{◌≡◌, ◌+◌, ◌*◌, ◌^◌, ◌<◌, ◌≤◌, ◌∷◌, ◌++◌, [], drop, length, vec_len, IfOk, OnOk};
 ghost use Rattle.std.specs.Vec.{vec_capacity};
 ghost use Rattle.bk_frames.specs.Device.{CanBeUsed};
 ghost use Rattle.bk_report.specs.Lines.{line_text, hashed};
@@ -11,7 +11,7 @@ ghost use Rattle.bk_report.specs.Pages.{PageValue, Written, size_of};
 use crate::line::Line;
 use bk_digest::Digest32;
 use bk_frames::{Sink, WriteFault, push_all};
-use itoa::Buffer;
+use itoa::write_digits;
 use std::alloc::{AllocError, Global};
 use std::marker::Model;
 
@@ -32,16 +32,18 @@ fn put_text(page: &mut Vec<u8>, text: &[u8])
     page.extend_from_slice(text).unwrap();
 }
 
-// Puts a space and a number where there is room for 21 bytes.
+// Writes a space and a number before a place of a text, and says where they begin.
 #[inline(always)]
-fn put_number(page: &mut Vec<u8>, number: u64)
-    requires { vec_len page.old + 21 ≤ vec_capacity page.old }
-    ensures items { page.new.items ≡ page.old.items ++ spaced number }
-    ensures len { vec_len page.new ≤ vec_len page.old + 21 }
-    ensures room { vec_capacity page.old ≤ vec_capacity page.new }
+#[tactic(auto, using(crate::proofs::Numbers::number_short, crate::proofs::Numbers::set_before))]
+fn write_before(text: &mut [u8], end: usize, number: u64) -> usize
+    requires { (21 ≤ end) × (end ≤ length text.old) }
+    ensures text { drop result text.new ≡ spaced number ++ drop end text.old }
+    ensures start { (result ≤ end) × (end ≤ result + 21) }
+    ensures length { length text.new ≡ length text.old }
 {
-    put_text(page, b" ");
-    put_text(page, Buffer::new().format(number).as_bytes());
+    let start = write_digits(number, text, end) - 1;
+    text[start] = b' ';
+    start
 }
 
 // Puts a word and a number where there is room for 28 bytes.
@@ -54,7 +56,9 @@ fn put_one(page: &mut Vec<u8>, word: &[u8], one: u64)
     ensures room { vec_capacity page.old ≤ vec_capacity page.new }
 {
     put_text(page, word);
-    put_number(page, one);
+    let mut text = [0; 21];
+    let at = write_before(&mut text, 21, one);
+    put_text(page, &text[at..]);
 }
 
 // Puts a word and two numbers where there is room for 49 bytes.
@@ -66,11 +70,17 @@ fn put_two(page: &mut Vec<u8>, word: &[u8], one: u64, two: u64)
     ensures len { vec_len page.new ≤ vec_len page.old + 49 }
     ensures room { vec_capacity page.old ≤ vec_capacity page.new }
 {
-    put_one(page, word, one);
-    put_number(page, two);
+    put_text(page, word);
+    let mut text = [0; 42];
+    let at = write_before(&mut text, 42, two);
+    let at = write_before(&mut text, at, one);
+    put_text(page, &text[at..]);
 }
 
 // Puts a word and three numbers where there is room for 70 bytes.
+//
+// The numbers are written from the last to the first, and copied once: a copy of digits that were just written waits for
+// them.
 #[inline(always)]
 fn put_three(page: &mut Vec<u8>, word: &[u8], one: u64, two: u64, three: u64)
     requires short { length word.now ≤ 7 }
@@ -80,8 +90,12 @@ fn put_three(page: &mut Vec<u8>, word: &[u8], one: u64, two: u64, three: u64)
     ensures len { vec_len page.new ≤ vec_len page.old + 70 }
     ensures room { vec_capacity page.old ≤ vec_capacity page.new }
 {
-    put_two(page, word, one, two);
-    put_number(page, three);
+    put_text(page, word);
+    let mut text = [0; 63];
+    let at = write_before(&mut text, 63, three);
+    let at = write_before(&mut text, at, two);
+    let at = write_before(&mut text, at, one);
+    put_text(page, &text[at..]);
 }
 
 // Puts a word, a space and a digest where there is room for 72 bytes.
@@ -108,12 +122,9 @@ fn put_members(page: &mut Vec<u8>, members: u8, faulty: u64, quorum: u64)
     ensures len { vec_len page.new ≤ vec_len page.old + 84 }
     ensures room { vec_capacity page.old ≤ vec_capacity page.new }
 {
-    put_text(page, b"members");
-    put_number(page, u64::from(members));
-    put_text(page, b" faulty");
-    put_number(page, faulty);
-    put_text(page, b" quorum");
-    put_number(page, quorum);
+    put_one(page, b"members", u64::from(members));
+    put_one(page, b" faulty", faulty);
+    put_one(page, b" quorum", quorum);
 }
 
 /// Puts a line and its line feed where there is room for it.
