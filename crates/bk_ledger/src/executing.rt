@@ -306,8 +306,12 @@ impl Ledger {
             IfErr result (Leaves first (first + length added)) }
     {
         let mut ledger = self;
-        let workers = workers_at_once(rt, workers);
         let end = payloads.len();
+        let workers = if end > 0 {
+            workers_at_once(rt, workers)
+        } else {
+            1
+        };
         let mut ahead = look_first(alloc, payloads, ledger.state(), fewest)?;
         while ahead.from < end {
             if !ahead.next.is_plannable(ledger.state()) {

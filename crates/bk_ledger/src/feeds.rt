@@ -1,9 +1,10 @@
 //! The batches of a feed, executed in slices.
 
-ghost use Rattle.std.specs.Prelude.{◌≡◌, ◌^◌, ◌<◌, ◌≤◌, ◌∷◌, ◌++◌, [], length, map, IfOk, OnOk};
+ghost use Rattle.std.specs.Prelude.{◌≡◌, ◌^◌, ◌<◌, ◌≤◌, ◌∷◌, ◌++◌, [], length, map, IfOk, IfErr, OnOk};
 ghost use Rattle.bk_frames.specs.Feed.{IsFeed, frame_of, genesis_of};
 ghost use Rattle.bk_rules.specs.Fold.{receipts_of, state_after};
 ghost use Rattle.bk_tx.specs.Batches.{count_in, feed_transactions, payloads_of};
+ghost use Rattle.bk_ledger.specs.Executing.{Leaves};
 
 use crate::ledger::Ledger;
 use bk_frames::{Feed, Kind};
@@ -31,6 +32,7 @@ impl Ledger {
             ≡ receipts_of feed.now.version (feed_transactions feed.now.frames) (genesis_of feed.now.frames)) }
         ensures rows { IfOk result (λ l. l.state.rows
             ≡ state_after feed.now.version (feed_transactions feed.now.frames) (genesis_of feed.now.frames)) }
+        ensures unfinished { IfErr result (Leaves 0 (length (feed_transactions feed.now.frames))) }
     {
         let payloads = batches_in(alloc, feed)?;
         let ledger = Ledger::new(alloc, feed.version(), feed.genesis())?;
