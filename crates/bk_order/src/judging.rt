@@ -9,7 +9,7 @@ ghost use Rattle.bk_frames.specs.Cutting.{frames_in};
 ghost use Rattle.bk_order.specs.private.Judging.{IsFound, IsJudged};
 
 use crate::finding::{Found, find_part};
-use crate::parts::{bytes_in, parts_of};
+use crate::parts::{bytes_in, is_worth, parts_of};
 use bk_certcheck::Verdict;
 use bk_committee::Committee;
 use bk_digest::Digest32;
@@ -81,7 +81,7 @@ fn find_parts(
     found
 }
 
-// What is found of each frame.
+// What is found of each frame. For few frames it is not asked how many processors there are: that costs more than they do.
 fn find_all(
     rt: &(impl Threads + Sync),
     alloc: Global,
@@ -91,6 +91,9 @@ fn find_all(
     ensures { IfOk result
         (λ out. AllZip (IsFound committee.now) (frames_in frames.now) out.items) }
 {
+    if !is_worth(frames) {
+        return find_part(alloc, committee, frames);
+    }
     let parts = parts_of(alloc, frames, part_len(rt, frames))?;
     let found = find_parts(rt, alloc, committee, &parts)?;
     let out = joined(alloc, found)?;

@@ -23,8 +23,8 @@ pub(crate) fn bytes_in(frames: &[(Kind, Vec<u8>)]) -> usize {
     bytes
 }
 
-// Whether the frames are worth a thread.
-fn is_worth(frames: &[(Kind, Vec<u8>)]) -> bool {
+/// Whether the frames are worth a thread.
+pub(crate) fn is_worth(frames: &[(Kind, Vec<u8>)]) -> bool {
     FEWEST_FRAMES <= frames.len() || FEWEST_BYTES <= bytes_in(frames)
 }
 

@@ -1,4 +1,4 @@
-use Rattle.std.proofs.Common.{length, ap, ◌∙◌}
+use Rattle.std.proofs.Common.{length, ap}
 use Rattle.bk_order.specs.private.Joined.{order_in}
 use Rattle.bk_order.proofs.Ordering.{order_told}
 use Rattle.bk_order.proofs.intake.Intake.count_ordered.Goals as goal
