@@ -27,6 +27,7 @@ impl Model for Local {
 
 impl Local {
     /// Eight absent accounts.
+    #[inline(always)]
     pub fn new() -> Local
         ensures { result ≡ None ∷ None ∷ None ∷ None ∷ None ∷ None ∷ None ∷ None ∷ [] }
     {
@@ -38,6 +39,7 @@ impl Local {
     }
 
     /// Puts an account there.
+    #[inline(always)]
     pub fn put(&mut self, k: usize, balance: u64, seq: u64)
         requires { k < 8 }
         ensures { self.new ≡ slice_set self.old k (Some (record { balance = balance; seq = seq })) }
@@ -48,6 +50,7 @@ impl Local {
     }
 
     /// Puts an account, or none, there.
+    #[inline(always)]
     pub fn set(&mut self, k: usize, account: Option<Account>)
         requires { k < 8 }
         ensures after { self.new ≡ slice_set self.old k account }
@@ -60,6 +63,7 @@ impl Local {
     }
 
     /// These accounts.
+    #[inline(always)]
     pub fn of(view: &[Option<Account>; 8]) -> Local
         ensures { result ≡ view.now }
     {
@@ -71,6 +75,7 @@ impl Local {
     }
 
     /// The account at an index.
+    #[inline(always)]
     pub fn account(&self, k: usize) -> Option<Account>
         requires { k < 8 }
         ensures { result ≡ nth self.now k }
@@ -86,6 +91,7 @@ impl Local {
     }
 
     // Whether there is an account at an index.
+    #[inline(always)]
     pub(crate) fn is_there(&self, k: usize) -> bool
         requires { k < 8 }
         ensures { result ≡ is_some (nth self.now k) }
@@ -94,6 +100,7 @@ impl Local {
     }
 
     // The balance at an index, 0 where there is no account.
+    #[inline(always)]
     pub(crate) fn balance(&self, k: usize) -> u64
         requires { k < 8 }
         ensures value { result ≡ balance_of (nth self.now k) }
@@ -103,6 +110,7 @@ impl Local {
     }
 
     // The sequence number at an index, 0 where there is no account.
+    #[inline(always)]
     pub(crate) fn seq(&self, k: usize) -> u64
         requires { k < 8 }
         ensures { result ≡ seq_of (nth self.now k) }
@@ -111,6 +119,7 @@ impl Local {
     }
 
     // The sender pays this much, and its sequence number counts up.
+    #[inline(always)]
     pub(crate) fn send(&mut self, k: usize, paid: u64)
         requires place { k < 8 }
         requires funds { paid ≤ balance_of (nth self.old k) }
@@ -124,6 +133,7 @@ impl Local {
     }
 
     // A receiver gets this much, and comes to be where it is absent.
+    #[inline(always)]
     pub(crate) fn receive(&mut self, k: usize, amount: u64)
         requires place { k < 8 }
         requires room { balance_of (nth self.old k) + amount < 2 ^ 64 }

@@ -33,6 +33,7 @@ pub(crate) struct Roles {
 
 // The payments that a body asks for out of this balance. Those of a split are its own, and that of another body is put
 // into the slot.
+#[inline(always)]
 pub(crate) fn payments_of<'a>(
     body: &'a Body,
     balance: u64,
@@ -50,6 +51,7 @@ pub(crate) fn payments_of<'a>(
 }
 
 // One payment, put into the slot.
+#[inline(always)]
 fn single(slot: &mut [Payment; 1], to: u64, amount: u64) -> &[Payment]
     ensures { result.now ≡ record { to = to; amount = amount } ∷ [] }
 {
@@ -58,6 +60,7 @@ fn single(slot: &mut [Payment; 1], to: u64, amount: u64) -> &[Payment]
 }
 
 // The guard of a body, if it has one.
+#[inline(always)]
 fn guard_of(body: &Body) -> Option<Floor>
     ensures { option_map guard_in result ≡ guard_of body.now }
 {
@@ -71,6 +74,7 @@ fn guard_of(body: &Body) -> Option<Floor>
 }
 
 // The index of an account that is declared for writing.
+#[inline(always)]
 pub(crate) fn writable_at(declared: &Declarations, id: u64) -> Option<usize>
     ensures first { result ≡ position (λ d. d.writable && d.id == id) declared.now }
     ensures found { IfSome result (IsAt declared.now id) }
@@ -79,6 +83,7 @@ pub(crate) fn writable_at(declared: &Declarations, id: u64) -> Option<usize>
 }
 
 // The index of an account that is declared.
+#[inline(always)]
 fn declared_at(declared: &Declarations, id: u64) -> Option<usize>
     ensures first { result ≡ position (λ d. d.id == id) declared.now }
     ensures found { IfSome result (IsAt declared.now id) }
@@ -87,6 +92,7 @@ fn declared_at(declared: &Declarations, id: u64) -> Option<usize>
 }
 
 // The indices of the receivers, in their order, if all are declared for writing.
+#[inline(always)]
 fn receivers_at(declared: &Declarations, payments: &[Payment]) -> Option<[usize; 6]>
     requires few { length payments.now ≤ 6 }
     ensures known { is_some result ≡ list_all (λ p. writes declared.now p.to) payments.now }
@@ -100,6 +106,7 @@ fn receivers_at(declared: &Declarations, payments: &[Payment]) -> Option<[usize;
 }
 
 // The indices of the accounts that a transaction names, if they are declared as they have to be.
+#[inline(always)]
 pub(crate) fn roles_of(tx: &Tx, from: usize, payments: &[Payment]) -> Option<Roles>
     requires sender { IsAt tx.now.declared tx.now.from from }
     requires writable { writes tx.now.declared tx.now.from ≡ true }

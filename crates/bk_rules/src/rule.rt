@@ -28,6 +28,7 @@ pub struct Effect {
 }
 
 // Whether all accounts at these places are there.
+#[inline(always)]
 fn all_there(local: &Local, places: &[usize]) -> bool
     requires { (k : ℕ) → slice_index places.now k < 8 }
     ensures { result ≡ list_all (λ k. is_some (nth local.now k)) places.now }
@@ -41,6 +42,7 @@ fn all_there(local: &Local, places: &[usize]) -> bool
 }
 
 // Whether all accounts at these places can be paid.
+#[inline(always)]
 fn can_receive(version: Version, local: &Local, places: &[usize]) -> bool
     requires { (k : ℕ) → slice_index places.now k < 8 }
     ensures { result ≡ list_all (λ k. can_receive version (nth local.now k)) places.now }
@@ -52,6 +54,7 @@ fn can_receive(version: Version, local: &Local, places: &[usize]) -> bool
 }
 
 // Whether the guard is there, if there is one.
+#[inline(always)]
 fn guard_there(local: &Local, guard: Option<FloorAt>) -> bool
     requires { IfSome guard (λ p. p.at < 8) }
     ensures { result ≡ floor_passes (λ p. is_some (nth local.now p.at)) guard }
@@ -63,6 +66,7 @@ fn guard_there(local: &Local, guard: Option<FloorAt>) -> bool
 }
 
 // Whether the sender and the guard are there, and the receivers can be paid.
+#[inline(always)]
 fn are_there(version: Version, local: &Local, roles: &Roles, to: &[usize]) -> bool
     requires sender { roles.now.from < 8 }
     requires receivers { (k : ℕ) → slice_index to.now k < 8 }
@@ -75,6 +79,7 @@ fn are_there(version: Version, local: &Local, roles: &Roles, to: &[usize]) -> bo
 }
 
 // Whether the guard has enough, if there is one.
+#[inline(always)]
 fn guard_holds(local: &Local, guard: Option<FloorAt>) -> bool
     requires { IfSome guard (λ p. p.at < 8) }
     ensures { result ≡ floor_passes (λ p. nat_le p.least (balance_of (nth local.now p.at))) guard }
@@ -87,6 +92,7 @@ fn guard_holds(local: &Local, guard: Option<FloorAt>) -> bool
 
 // What is left of a balance after all the payments, if it is enough. The sum of the amounts may be too large for a
 // number of eight bytes, so each is taken away in turn.
+#[inline(always)]
 fn left_of(balance: u64, payments: &[Payment]) -> Option<u64>
     ensures enough { IfSome result (λ left. left + sum_by (λ p. p.amount) payments.now ≡ balance) }
     ensures short { IfNone result (balance < sum_by (λ p. p.amount) payments.now) }
@@ -99,6 +105,7 @@ fn left_of(balance: u64, payments: &[Payment]) -> Option<u64>
 }
 
 // Gives each receiver its amount.
+#[inline(always)]
 fn credit(local: &mut Local, payments: &[Payment], places: &[usize])
     requires same { length places.now ≡ length payments.now }
     requires inside { (k : ℕ) → slice_index places.now k < 8 }
@@ -112,6 +119,7 @@ fn credit(local: &mut Local, payments: &[Payment], places: &[usize])
 }
 
 // Finds the status of a transaction that is declared, and does what follows from it.
+#[inline(always)]
 fn settle_at(
     version: Version,
     tx: &Tx,
@@ -156,6 +164,7 @@ fn settle_at(
 }
 
 /// Does a transaction on the accounts that it declares: the i-th of them is the i-th that is declared.
+#[inline(always)]
 pub fn settle(version: Version, tx: &Tx, local: &mut Local) -> Receipt
     requires small { (k : ℕ) → balance_of (nth local.old k) < 2 ^ 63 }
     requires room { (k : ℕ) → seq_of (nth local.old k) + 1 < 2 ^ 64 }

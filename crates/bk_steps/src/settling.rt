@@ -15,6 +15,7 @@ use bk_rules::{Account, Ids, Local, Receipt, Status, settle};
 use bk_tx::{Declarations, Tx};
 
 // The words of a place, if there is such a place.
+#[inline(always)]
 fn words_of(plan: &Plan, place: u32) -> &[WordRef]
     ensures { place < length plan.now.txs →
         result.now ≡ words_at plan.now.ids plan.now.txs place }
@@ -29,6 +30,7 @@ fn words_of(plan: &Plan, place: u32) -> &[WordRef]
 // The slot of the k-th declared account. Its words begin at an index among those of all, if it has any.
 //
 // Where there are two words of each account, the slot is that of its words, and no id is looked at.
+#[inline(always)]
 fn slot_of(
     ids: &Ids,
     declared: &Declarations,
@@ -52,6 +54,7 @@ fn slot_of(
 }
 
 // How many words an account has: none where it has no slot.
+#[inline(always)]
 fn wide(slot: Option<usize>) -> usize
     ensures { result ≡ wide slot }
 {
@@ -62,6 +65,7 @@ fn wide(slot: Option<usize>) -> usize
 }
 
 // The account that two numbers show.
+#[inline(always)]
 fn shown(version: Version, balance: u64, seq: u64) -> Option<Account>
     ensures { result ≡ shown_by version (record { balance = balance; seq = seq }) }
 {
@@ -78,6 +82,7 @@ fn shown(version: Version, balance: u64, seq: u64) -> Option<Account>
 }
 
 // The account that the words at an index say, if it has words.
+#[inline(always)]
 fn said(version: Version, slot: Option<usize>, values: &[u64], at: usize) -> Option<Account>
     requires { at + wide slot ≤ length values.now }
     ensures { result ≡ said_at version slot values.now at }
@@ -89,6 +94,7 @@ fn said(version: Version, slot: Option<usize>, values: &[u64], at: usize) -> Opt
 }
 
 // Sets the words at an index to those of an account, if it has words.
+#[inline(always)]
 fn put(values: &mut [u64], at: usize, slot: Option<usize>, account: Option<Account>)
     requires { at + wide slot ≤ length values.old }
     ensures { values.new ≡ put_at slot account values.old at }
@@ -104,6 +110,7 @@ fn put(values: &mut [u64], at: usize, slot: Option<usize>, account: Option<Accou
 }
 
 // The accounts that the words of a place say, the i-th being the i-th that is declared.
+#[inline(always)]
 fn accounts_in(
     version: Version,
     ids: &Ids,
@@ -130,6 +137,7 @@ fn accounts_in(
 }
 
 // Sets the words of a place to those of its accounts.
+#[inline(always)]
 fn put_accounts(
     ids: &Ids,
     declared: &Declarations,
@@ -151,6 +159,7 @@ fn put_accounts(
 }
 
 // Does a transaction on the words of its place.
+#[inline(always)]
 fn settle_tx(version: Version, ids: &Ids, tx: &Tx, words: &[WordRef], values: &mut [u64]) -> Receipt
     requires words { words.now ≡ words_in ids.now tx.now.declared }
     requires few { length (words_in ids.now tx.now.declared) ≤ length values.old }
