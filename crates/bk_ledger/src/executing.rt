@@ -305,13 +305,12 @@ impl Ledger {
             let added = transactions_of (map (λ p. p.now) payloads.now) in
             IfErr result (Leaves first (first + length added)) }
     {
+        if payloads.is_empty() {
+            return Ok((self, 0));
+        }
         let mut ledger = self;
+        let workers = workers_at_once(rt, workers);
         let end = payloads.len();
-        let workers = if end > 0 {
-            workers_at_once(rt, workers)
-        } else {
-            1
-        };
         let mut ahead = look_first(alloc, payloads, ledger.state(), fewest)?;
         while ahead.from < end {
             if !ahead.next.is_plannable(ledger.state()) {
