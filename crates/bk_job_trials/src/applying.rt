@@ -90,25 +90,41 @@ fn judge(found: &Applied, begin: usize, report: &[u8]) -> Reading {
     Reading::Wrong
 }
 
+// What the reading of a feed comes to of which this call fails.
+fn read_failing(
+    alloc: Global,
+    feed: &[u8],
+    reader: Manner,
+    begin: usize,
+    report: &[u8],
+) -> Reading {
+    let found = read_with(alloc, feed, reader);
+    judge(&found, begin, report)
+}
+
 // A call fails where as many bytes were read as the calls before it gave, at most `size` each. The call that finds the end
 // comes last.
-fn small_reads_fail(alloc: Global, feed: &[u8], report: &[u8], size: usize) -> Result<bool> {
-    let ends = ends_of(alloc, feed)?;
+fn each_read_fails(alloc: Global, feed: &[u8], ends: &[usize], report: &[u8], size: usize) -> bool {
     let mut has_ended = false;
     for calls in 0..MOST_CALLS {
         let count = (calls as usize).saturating_mul(size).min(feed.len());
-        let found = read_with(alloc, feed, fails_once(calls, size));
-        match judge(&found, frame_at(&ends, count), report) {
-            Reading::Whole => return Ok(has_ended),
-            Reading::Wrong => return Ok(false),
+        let begin = frame_at(ends, count);
+        match read_failing(alloc, feed, fails_once(calls, size), begin, report) {
+            Reading::Whole => return has_ended,
+            Reading::Wrong => return false,
             Reading::Unread => {}
         }
         if has_ended {
-            return Ok(false);
+            return false;
         }
         has_ended = count == feed.len();
     }
-    Ok(false)
+    false
+}
+
+fn small_reads_fail(alloc: Global, feed: &[u8], report: &[u8], size: usize) -> Result<bool> {
+    let ends = ends_of(alloc, feed)?;
+    Ok(each_read_fails(alloc, feed, &ends, report, size))
 }
 
 // Whether a source that gives all that is asked for cannot read the frame that begins here, where this call fails.
@@ -117,27 +133,53 @@ fn fails_at(alloc: Global, feed: &[u8], calls: u32, begin: usize) -> bool {
     found.is_unread(begin)
 }
 
+// Whether it reads all where the third call fails.
+fn reads_in_two(alloc: Global, feed: &[u8], report: &[u8]) -> bool {
+    let whole = read_with(alloc, feed, fails_once(2, usize::MAX));
+    whole.is_whole(report)
+}
+
 // Such a source gives a feed of less than 64 KiB at the first call. The second finds the end.
 fn large_reads_fail(alloc: Global, feed: &[u8], report: &[u8]) -> bool {
-    let whole = read_with(alloc, feed, fails_once(2, usize::MAX));
-    whole.is_whole(report) && fails_at(alloc, feed, 0, 0) && fails_at(alloc, feed, 1, feed.len())
+    reads_in_two(alloc, feed, report)
+        && fails_at(alloc, feed, 0, 0)
+        && fails_at(alloc, feed, 1, feed.len())
 }
 
 // ---- writes
+
+// What a writing comes to of which a call fails: its first bytes alone are out, so many of them.
+#[derive(Clone, Copy)]
+enum Writing {
+    Whole,
+    Begun(usize),
+    Wrong,
+}
+
+fn write_failing(alloc: Global, feed: &[u8], writer: Manner, report: &[u8]) -> Writing {
+    let found = apply_with(alloc, feed, good(usize::MAX), writer);
+    if found.is_whole(report) {
+        return Writing::Whole;
+    }
+    if found.is_begun(report) {
+        return Writing::Begun(found.out.len());
+    }
+    Writing::Wrong
+}
 
 // How many calls a report takes of a sink that takes at most `most` bytes a call. Before, each call fails in turn, and the
 // more calls there were, the more bytes are out. None where one of them does not fail well.
 fn calls_of(alloc: Global, feed: &[u8], report: &[u8], most: usize) -> Option<u32> {
     let mut before = 0usize;
     for calls in 0..MOST_CALLS {
-        let found = apply_with(alloc, feed, good(usize::MAX), fails_once(calls, most));
-        if found.is_whole(report) {
-            return Some(calls);
-        }
-        let count = found.out.len();
+        let count = match write_failing(alloc, feed, fails_once(calls, most), report) {
+            Writing::Whole => return Some(calls),
+            Writing::Wrong => return None,
+            Writing::Begun(count) => count,
+        };
         let is_more = calls == 0 || before < count;
         let is_exact = most > 1 || count == calls as usize;
-        if !found.is_begun(report) || !is_more || !is_exact {
+        if !is_more || !is_exact {
             return None;
         }
         before = count;
@@ -165,36 +207,57 @@ fn many_accounts(alloc: Global, first: &str) -> Result<String> {
     Ok(text)
 }
 
-// The report has a line of 26 bytes more. So it takes three writes at least, and five of at most 40,000 bytes.
-fn try_long<R: AllocGlobal + Eprint>(rt: &R, tally: &mut Tally) -> Result<()> {
-    let alloc: Global = rt.alloc();
+fn long_feed(alloc: Global) -> Result<Vec<u8>> {
     let script = many_accounts(alloc, "members 1\n")?;
-    let feed = made(alloc, &script)?;
+    made(alloc, &script)
+}
+
+fn long_report(alloc: Global) -> Result<String> {
     let mut text = many_accounts(alloc, "")?;
     text.push_str("money 2800000000000000000\n")?;
+    Ok(text)
+}
+
+// The report has a line of 26 bytes more. So it takes three writes at least, and five of at most 40,000 bytes.
+fn try_long_feed<R: AllocGlobal + Eprint>(rt: &R, feed: &[u8], tally: &mut Tally) -> Result<()> {
+    let text = long_report(rt.alloc())?;
     let report = text.as_bytes();
-    tally.note(rt, "the size of a long report", report.len() == 184_826)?;
-    let is_right = takes_calls(alloc, &feed, report, usize::MAX, 3);
-    tally.note(rt, "writes of a long report", is_right)?;
-    let is_right = takes_calls(alloc, &feed, report, 40_000, 5);
-    tally.note(rt, "short writes of a long report", is_right)
+    tally.note(rt, "the size of a long report", report.len() == 184_826);
+    let is_right = takes_calls(rt.alloc(), feed, report, usize::MAX, 3);
+    tally.note(rt, "writes of a long report", is_right);
+    let is_right = takes_calls(rt.alloc(), feed, report, 40_000, 5);
+    tally.note(rt, "short writes of a long report", is_right);
+    Ok(())
+}
+
+fn try_long<R: AllocGlobal + Eprint>(rt: &R, tally: &mut Tally) -> Result<()> {
+    let feed = long_feed(rt.alloc())?;
+    try_long_feed(rt, &feed, tally)
 }
 
 // A feed that is read in pieces of this many bytes.
-fn try_script<R>(rt: &R, script: &str, report: &[u8], size: usize, tally: &mut Tally) -> Result<()>
+fn try_feed<R>(rt: &R, feed: &[u8], report: &[u8], size: usize, tally: &mut Tally) -> Result<()>
 where
     R: AllocGlobal + Eprint,
 {
     let alloc: Global = rt.alloc();
-    let feed = made(alloc, script)?;
-    let is_right = small_reads_fail(alloc, &feed, report, size)?;
-    tally.note(rt, "reads of a few bytes", is_right)?;
-    let is_right = large_reads_fail(alloc, &feed, report);
-    tally.note(rt, "reads of all bytes", is_right)?;
-    let is_right = takes_calls(alloc, &feed, report, 1, report.len());
-    tally.note(rt, "writes of one byte", is_right)?;
-    let is_right = takes_calls(alloc, &feed, report, usize::MAX, 1);
-    tally.note(rt, "writes of all bytes", is_right)
+    let is_right = small_reads_fail(alloc, feed, report, size)?;
+    tally.note(rt, "reads of a few bytes", is_right);
+    let is_right = large_reads_fail(alloc, feed, report);
+    tally.note(rt, "reads of all bytes", is_right);
+    let is_right = takes_calls(alloc, feed, report, 1, report.len());
+    tally.note(rt, "writes of one byte", is_right);
+    let is_right = takes_calls(alloc, feed, report, usize::MAX, 1);
+    tally.note(rt, "writes of all bytes", is_right);
+    Ok(())
+}
+
+fn try_script<R>(rt: &R, script: &str, report: &[u8], size: usize, tally: &mut Tally) -> Result<()>
+where
+    R: AllocGlobal + Eprint,
+{
+    let feed = made(rt.alloc(), script)?;
+    try_feed(rt, &feed, report, size, tally)
 }
 
 /// All of them.

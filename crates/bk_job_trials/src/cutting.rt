@@ -62,13 +62,18 @@ fn are_frames(feed: &[u8], ends: &[usize], frames: &[(Kind, Vec<u8>)]) -> bool {
     frames.len().saturating_add(1) == ends.len()
 }
 
-// Whether a cutter gives the frames of a feed, which its headers say.
-fn gives_frames(alloc: Global, feed: &[u8], size: usize) -> Result<bool> {
-    let ends = ends_of(alloc, feed)?;
+// Whether a cutter gives the frames of a feed that end here.
+fn gives_these(alloc: Global, feed: &[u8], ends: &[usize], size: usize) -> bool {
     let mut cutter = Cutter::new(alloc);
     let mut frames = Vec::new(alloc);
     let is_cut = cut_into(&mut cutter, &mut frames, feed, size).is_ok();
-    Ok(is_cut && cutter.offset() == feed.len() as u64 && are_frames(feed, &ends, &frames))
+    is_cut && cutter.offset() == feed.len() as u64 && are_frames(feed, ends, &frames)
+}
+
+// Whether a cutter gives the frames of a feed, which its headers say.
+fn gives_frames(alloc: Global, feed: &[u8], size: usize) -> Result<bool> {
+    let ends = ends_of(alloc, feed)?;
+    Ok(gives_these(alloc, feed, &ends, size))
 }
 
 // Whether a cutter gives this fault.
@@ -102,61 +107,98 @@ fn is_begun(alloc: Global, feed: &[u8], ends: &[usize], kept: usize, size: usize
     Ok(gives_fault(alloc, fault, begun, size))
 }
 
-// Whether bytes are cut into the frames that their headers say, or have the fault that reading them has.
-fn is_same(alloc: Global, bytes: &[u8], sizes: &[usize]) -> Result<bool> {
-    let Err(fault) = Feed::read(alloc, &mut Counted::new(bytes)) else {
-        return is_cut(alloc, bytes, sizes);
-    };
+// The fault that reading bytes has.
+fn fault_of(alloc: Global, bytes: &[u8]) -> Option<FeedFault> {
+    Feed::read(alloc, &mut Counted::new(bytes)).err()
+}
+
+// Whether pieces of each of these sizes give this fault.
+fn has_fault(alloc: Global, fault: FeedFault, bytes: &[u8], sizes: &[usize]) -> bool {
     for size in sizes {
         if !gives_fault(alloc, fault, bytes, *size) {
-            return Ok(false);
+            return false;
         }
     }
-    Ok(fault.code != FaultCode::Memory)
+    fault.code != FaultCode::Memory
+}
+
+// Whether bytes are cut into the frames that their headers say, or have the fault that reading them has.
+fn is_same(alloc: Global, bytes: &[u8], sizes: &[usize]) -> Result<bool> {
+    match fault_of(alloc, bytes) {
+        Some(fault) => Ok(has_fault(alloc, fault, bytes, sizes)),
+        None => is_cut(alloc, bytes, sizes),
+    }
 }
 
 // ---- all feeds
 
 // Whether a feed that is cut short at every seventeenth byte is cut so.
-fn is_begun_each(alloc: Global, feed: &[u8]) -> Result<bool> {
-    let ends = ends_of(alloc, feed)?;
+fn are_begun(alloc: Global, feed: &[u8], ends: &[usize]) -> Result<bool> {
     for kept in 0..feed.len() {
-        if kept % 17 == 0 && !is_begun(alloc, feed, &ends, kept, 7)? {
+        if kept % 17 == 0 && !is_begun(alloc, feed, ends, kept, 7)? {
             return Ok(false);
         }
     }
     Ok(true)
 }
 
-// Whether a feed with a bit turned, in every thirteenth of its first 208 bytes, is cut so.
+fn is_begun_each(alloc: Global, feed: &[u8]) -> Result<bool> {
+    let ends = ends_of(alloc, feed)?;
+    are_begun(alloc, feed, &ends)
+}
+
+// Whether a feed with a bit turned is cut so.
+fn is_same_turned(alloc: Global, feed: &[u8], index: usize, bit: u8) -> Result<bool> {
+    let mut broken = Vec::from_slice(alloc, feed)?;
+    if let Some(byte) = broken.get_mut(index) {
+        *byte ^= bit;
+    }
+    is_same(alloc, &broken, &[1, 4_096])
+}
+
+// The same in every thirteenth of its first 208 bytes.
 fn is_same_broken(alloc: Global, feed: &[u8]) -> Result<bool> {
     for turned in 0..16usize {
-        let mut broken = Vec::from_slice(alloc, feed)?;
-        if let Some(byte) = broken.get_mut(turned.saturating_mul(13)) {
-            *byte ^= BITS.get(turned % 8).copied().unwrap_or(1);
-        }
-        if !is_same(alloc, &broken, &[1, 4_096])? {
+        let bit = BITS.get(turned % 8).copied().unwrap_or(1);
+        if !is_same_turned(alloc, feed, turned.saturating_mul(13), bit)? {
             return Ok(false);
         }
     }
     Ok(true)
+}
+
+const SIZES: [usize; 6] = [1, 2, 3, 7, 64, 4_096];
+
+fn try_feed<R>(rt: &R, feed: &[u8], tally: &mut Tally) -> Result<()>
+where
+    R: AllocGlobal + Eprint,
+{
+    let alloc: Global = rt.alloc();
+    let is_right = fault_of(alloc, feed).is_none();
+    tally.note(rt, "a feed that is read", is_right);
+    let is_right = is_cut(alloc, feed, &SIZES)?;
+    tally.note(rt, "a feed in pieces", is_right);
+    let is_right = is_begun_each(alloc, feed)?;
+    tally.note(rt, "a short feed in pieces", is_right);
+    let is_right = is_same_broken(alloc, feed)?;
+    tally.note(rt, "a broken feed in pieces", is_right);
+    Ok(())
+}
+
+fn try_script<R>(rt: &R, script: &str, tally: &mut Tally) -> Result<()>
+where
+    R: AllocGlobal + Eprint,
+{
+    let feed = made(rt.alloc(), script)?;
+    try_feed(rt, &feed, tally)
 }
 
 fn try_scripts<R>(rt: &R, scripts: &[&str], tally: &mut Tally) -> Result<()>
 where
     R: AllocGlobal + Eprint,
 {
-    let alloc: Global = rt.alloc();
     for script in scripts {
-        let feed = made(alloc, script)?;
-        let is_right = Feed::read(alloc, &mut Counted::new(feed.as_slice())).is_ok();
-        tally.note(rt, "a feed that is read", is_right)?;
-        let is_right = is_cut(alloc, &feed, &[1, 2, 3, 7, 64, 4_096])?;
-        tally.note(rt, "a feed in pieces", is_right)?;
-        let is_right = is_begun_each(alloc, &feed)?;
-        tally.note(rt, "a short feed in pieces", is_right)?;
-        let is_right = is_same_broken(alloc, &feed)?;
-        tally.note(rt, "a broken feed in pieces", is_right)?;
+        try_script(rt, script, tally)?;
     }
     Ok(())
 }

@@ -161,6 +161,32 @@ impl Outcome {
     }
 }
 
+/// What a job has to leave.
+#[derive(Clone, Copy)]
+pub(crate) struct Printed<'a> {
+    pub(crate) status: u8,
+    pub(crate) out: &'a str,
+    pub(crate) err: &'a str,
+}
+
+/// An answer.
+pub(crate) fn answer(status: u8, out: &str) -> Printed<'_> {
+    Printed {
+        status,
+        out,
+        err: "",
+    }
+}
+
+/// A fault.
+pub(crate) fn fault(status: u8, err: &str) -> Printed<'_> {
+    Printed {
+        status,
+        out: "",
+        err,
+    }
+}
+
 /// What a job leaves with these devices.
 pub(crate) fn job_with<R>(rt: &R, job: &Job, given: Given<'_>, devices: Devices) -> Outcome
 where
@@ -179,8 +205,33 @@ where
     }
 }
 
-/// What a job of one file leaves.
-pub(crate) fn job_of_one<R>(rt: &R, job: &Job, bytes: &[u8], devices: Devices) -> Outcome
+/// Whether a job leaves just this.
+pub(crate) fn leaves<R>(
+    rt: &R,
+    job: &Job,
+    given: Given<'_>,
+    devices: Devices,
+    printed: Printed<'_>,
+) -> bool
+where
+    R: AllocGlobal + Threads + Wait + Sync,
+{
+    let found = job_with(rt, job, given, devices);
+    found.is(
+        printed.status,
+        printed.out.as_bytes(),
+        printed.err.as_bytes(),
+    )
+}
+
+/// Whether a job of one file does, over devices that do not fail, and move at most so many bytes a call.
+pub(crate) fn leaves_of_one<R>(
+    rt: &R,
+    job: &Job,
+    bytes: &[u8],
+    most: usize,
+    printed: Printed<'_>,
+) -> bool
 where
     R: AllocGlobal + Threads + Wait + Sync,
 {
@@ -188,5 +239,5 @@ where
         first: bytes,
         second: b"",
     };
-    job_with(rt, job, given, devices)
+    leaves(rt, job, given, all_good(most), printed)
 }

@@ -1,7 +1,8 @@
 //! Each read and each write of a job fails in turn: for good, or once, after which the device works again.
 
 use crate::devices::{
-    Devices, Given, Manner, Outcome, all_good, fails_once, good, job_of_one, job_with, lost_after,
+    Devices, Given, Manner, Outcome, Printed, fails_once, fault, good, job_with, leaves,
+    leaves_of_one, lost_after,
 };
 use crate::feeds::{MISSING, MISSING_REPORT, made};
 use crate::tally::Tally;
@@ -37,17 +38,21 @@ const UNREAD: [&str; 11] = [
     "feed fault 8 at 378\n",
 ];
 
-// What a run leaves whose reader works like this.
-fn run_reading<R>(rt: &R, job: &Job, feed: &[u8], first: Manner) -> Outcome
+// Whether a run leaves just this whose reader works like this.
+fn run_leaves<R>(rt: &R, job: &Job, feed: &[u8], first: Manner, printed: Printed<'_>) -> bool
 where
     R: AllocGlobal + Threads + Wait + Sync,
 {
+    let given = Given {
+        first: feed,
+        second: b"",
+    };
     let devices = Devices {
         first,
         second: good(40),
         out: good(40),
     };
-    job_of_one(rt, job, feed, devices)
+    leaves(rt, job, given, devices, printed)
 }
 
 // Whether a run ends with this fault where a read fails after so many.
@@ -55,29 +60,28 @@ fn is_unread<R>(rt: &R, job: &Job, feed: &[u8], reads: u32, line: &str) -> bool
 where
     R: AllocGlobal + Threads + Wait + Sync,
 {
-    for reader in [lost_after(reads, 40), fails_once(reads, 40)] {
-        let found = run_reading(rt, job, feed, reader);
-        if !found.is(4, b"", line.as_bytes()) {
-            return false;
-        }
-    }
-    true
+    run_leaves(rt, job, feed, lost_after(reads, 40), fault(4, line))
+        && run_leaves(rt, job, feed, fails_once(reads, 40), fault(4, line))
 }
 
 // Whether each read fails well, and the run is whole with one read more.
-fn reads_fail<R>(rt: &R, job: &Job, feed: &[u8]) -> bool
+fn reads_fail<R>(rt: &R, job: &Job, feed: &[u8], unread: &[&str]) -> bool
 where
     R: AllocGlobal + Threads + Wait + Sync,
 {
     let mut reads = 0u32;
-    for line in UNREAD {
+    for line in unread {
         if !is_unread(rt, job, feed, reads, line) {
             return false;
         }
         reads = reads.saturating_add(1);
     }
-    let whole = run_reading(rt, job, feed, lost_after(reads, 40));
-    whole.is(5, MISSING_REPORT.as_bytes(), b"")
+    let whole = Printed {
+        status: 5,
+        out: MISSING_REPORT,
+        err: "",
+    };
+    run_leaves(rt, job, feed, lost_after(reads, 40), whole)
 }
 
 // ---- writes
@@ -90,7 +94,7 @@ pub(crate) struct Answer<'a> {
 }
 
 // What a job has written whose writer fails.
-#[derive(Clone, Copy, PartialEq, Eq)]
+#[derive(Clone, Copy)]
 enum Written {
     Whole,
     Begun,
@@ -127,6 +131,22 @@ where
     job_with(rt, job, given, devices)
 }
 
+// What a job has written where the writer fails like this after so many writes.
+fn written_by<R>(
+    rt: &R,
+    job: &Job,
+    given: Given<'_>,
+    answer: Answer<'_>,
+    writes: u32,
+    out: Manner,
+) -> Written
+where
+    R: AllocGlobal + Threads + Wait + Sync,
+{
+    let found = job_writing(rt, job, given, out);
+    judge(&found, answer, writes, out.most)
+}
+
 // What a job has written where the writer fails after so many writes, for good or once: the same.
 fn written_after<R>(
     rt: &R,
@@ -138,13 +158,13 @@ fn written_after<R>(
 where
     R: AllocGlobal + Threads + Wait + Sync,
 {
-    let lost = job_writing(rt, job, given, lost_after(writes, most));
-    let once = job_writing(rt, job, given, fails_once(writes, most));
-    let written = judge(&lost, answer, writes, most);
-    if judge(&once, answer, writes, most) == written {
-        return written;
+    let lost = written_by(rt, job, given, answer, writes, lost_after(writes, most));
+    let once = written_by(rt, job, given, answer, writes, fails_once(writes, most));
+    match (lost, once) {
+        (Written::Whole, Written::Whole) => Written::Whole,
+        (Written::Begun, Written::Begun) => Written::Begun,
+        _ => Written::Wrong,
     }
-    Written::Wrong
 }
 
 /// Whether a failed write leaves exactly the first bytes of an answer, whichever write it is, for good or once; and one of
@@ -180,7 +200,7 @@ where
 
 // ---- runs
 
-fn try_run<R>(rt: &R, job: &Job, feed: &[u8], tally: &mut Tally) -> Result<()>
+fn try_run<R>(rt: &R, job: &Job, feed: &[u8], taken: &[usize], tally: &mut Tally)
 where
     R: AllocGlobal + Eprint + Threads + Wait + Sync,
 {
@@ -192,30 +212,30 @@ where
         status: 5,
         out: MISSING_REPORT.as_bytes(),
     };
-    let is_right = reads_fail(rt, job, feed);
-    tally.note(rt, "each read of a run fails", is_right)?;
-    for most in TAKEN {
-        let is_right = writes_fail(rt, job, given, answer, most);
-        tally.note(rt, "each write of a run fails", is_right)?;
+    let is_right = reads_fail(rt, job, feed, &UNREAD);
+    tally.note(rt, "each read of a run fails", is_right);
+    for most in taken {
+        let is_right = writes_fail(rt, job, given, answer, *most);
+        tally.note(rt, "each write of a run fails", is_right);
     }
     let is_right = nothing_is_taken(rt, job, given);
-    tally.note(rt, "a run to a writer that takes nothing", is_right)
+    tally.note(rt, "a run to a writer that takes nothing", is_right);
 }
 
 // A run of no byte, of which the source says so or fails.
-fn try_lost<R>(rt: &R, job: &Job, tally: &mut Tally) -> Result<()>
+fn try_lost<R>(rt: &R, job: &Job, tally: &mut Tally)
 where
     R: AllocGlobal + Eprint + Threads + Wait + Sync,
 {
-    let found = job_of_one(rt, job, b"", all_good(40));
-    let is_right = found.is(2, b"", b"feed fault 2 at 0\n");
-    tally.note(rt, "a run of no byte", is_right)?;
-    let found = run_reading(rt, job, b"", lost_after(0, 40));
-    let is_right = found.is(4, b"", b"feed fault 8 at 0\n");
-    tally.note(rt, "a run of a reader that fails", is_right)
+    let is_right = leaves_of_one(rt, job, b"", 40, fault(2, "feed fault 2 at 0\n"));
+    tally.note(rt, "a run of no byte", is_right);
+    let line = fault(4, "feed fault 8 at 0\n");
+    let is_right = run_leaves(rt, job, b"", lost_after(0, 40), line);
+    tally.note(rt, "a run of a reader that fails", is_right);
 }
 
-fn try_workers<R>(rt: &R, feed: &[u8], workers: Workers, tally: &mut Tally) -> Result<()>
+// The job is owned here alone: each way out of the function that owns it lets it go.
+fn try_workers<R>(rt: &R, feed: &[u8], workers: Workers, tally: &mut Tally)
 where
     R: AllocGlobal + Eprint + Threads + Wait + Sync,
 {
@@ -223,8 +243,21 @@ where
         workers,
         file: None,
     };
-    try_run(rt, &job, feed, tally)?;
-    try_lost(rt, &job, tally)
+    try_run(rt, &job, feed, &TAKEN, tally);
+    try_lost(rt, &job, tally);
+}
+
+fn try_each<R>(rt: &R, feed: &[u8], counts: &[u8], tally: &mut Tally) -> Result<()>
+where
+    R: AllocGlobal + Eprint + Threads + Wait + Sync,
+{
+    for count in counts {
+        let Some(workers) = Workers::new(*count) else {
+            bail!("a wrong number of workers");
+        };
+        try_workers(rt, feed, workers, tally);
+    }
+    Ok(())
 }
 
 /// Runs of a feed whose order stops at a missing batch.
@@ -233,12 +266,6 @@ where
     R: AllocGlobal + Eprint + Threads + Wait + Sync,
 {
     let feed = made(rt.alloc(), MISSING)?;
-    tally.note(rt, "the size of a feed", feed.len() == 378)?;
-    for count in WORKERS {
-        let Some(workers) = Workers::new(count) else {
-            bail!("a wrong number of workers");
-        };
-        try_workers(rt, &feed, workers, tally)?;
-    }
-    Ok(())
+    tally.note(rt, "the size of a feed", feed.len() == 378);
+    try_each(rt, &feed, &WORKERS, tally)
 }

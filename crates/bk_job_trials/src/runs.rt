@@ -1,7 +1,7 @@
 //! Runs by several numbers of workers, with devices that move few bytes a call. The reports were worked out by hand, the
 //! digests of accounts and the ids of twins by another program.
 
-use crate::devices::{all_good, job_of_one};
+use crate::devices::{Printed, answer, fault, leaves_of_one};
 use crate::feeds::{
     ACCOUNT_COMES, EMPTY, LINKED, MISSING, MISSING_REPORT, ONE_COMMIT, backwards, made, made_with,
 };
@@ -116,25 +116,47 @@ const STORIES: [Story; 9] = [
     NO_ACCOUNT, COMMITTED, SHORT, TWINS, BATCHES, WAITING, SEALS, LIGHT, HEAVY,
 ];
 
-// Whether a run of a feed leaves just this, in each way.
-fn leaves<R>(rt: &R, feed: &[u8], status: u8, out: &str, err: &str) -> bool
+// Whether a run by these workers leaves just this. The job is owned here alone: each way out of the function that owns it
+// lets it go.
+fn run_leaves<R>(rt: &R, workers: Workers, feed: &[u8], most: usize, printed: Printed<'_>) -> bool
 where
     R: AllocGlobal + Threads + Wait + Sync,
 {
-    for (count, most) in WAYS {
-        let Some(workers) = Workers::new(count) else {
+    let job = Job::Run {
+        workers,
+        file: None,
+    };
+    leaves_of_one(rt, &job, feed, most, printed)
+}
+
+// Whether a run of a feed leaves just this, in each of these ways.
+fn leaves<R>(rt: &R, ways: &[(u8, usize)], feed: &[u8], printed: Printed<'_>) -> bool
+where
+    R: AllocGlobal + Threads + Wait + Sync,
+{
+    for (count, most) in ways {
+        let Some(workers) = Workers::new(*count) else {
             return false;
         };
-        let job = Job::Run {
-            workers,
-            file: None,
-        };
-        let found = job_of_one(rt, &job, feed, all_good(most));
-        if !found.is(status, out.as_bytes(), err.as_bytes()) {
+        if !run_leaves(rt, workers, feed, *most, printed) {
             return false;
         }
     }
     true
+}
+
+// Whether a run of a story's feed leaves what it has to.
+fn is_told<R>(rt: &R, story: &Story) -> Result<bool>
+where
+    R: AllocGlobal + Threads + Wait + Sync,
+{
+    let feed = made(rt.alloc(), story.script)?;
+    let printed = Printed {
+        status: story.status,
+        out: story.out,
+        err: story.err,
+    };
+    Ok(leaves(rt, &WAYS, &feed, printed))
 }
 
 fn try_stories<R>(rt: &R, stories: &[Story], tally: &mut Tally) -> Result<()>
@@ -142,9 +164,8 @@ where
     R: AllocGlobal + Eprint + Threads + Wait + Sync,
 {
     for story in stories {
-        let feed = made(rt.alloc(), story.script)?;
-        let is_right = leaves(rt, &feed, story.status, story.out, story.err);
-        tally.note(rt, story.name, is_right)?;
+        let is_right = is_told(rt, story)?;
+        tally.note(rt, story.name, is_right);
     }
     Ok(())
 }
@@ -159,25 +180,34 @@ where
 {
     let certificates = "cert a 1 0 b - 0\ncert c 2 0 - a 0\n";
     let feed = made_with(rt.alloc(), ACCOUNT_COMES, certificates)?;
-    let is_right = leaves(rt, &feed, 0, COME, "");
-    tally.note(rt, "an account comes to be", is_right)
+    let is_right = leaves(rt, &WAYS, &feed, answer(0, COME));
+    tally.note(rt, "an account comes to be", is_right);
+    Ok(())
 }
 
 // What a run of [`LINKED`] writes, in whatever order its frames come.
 const LINKED_REPORT: &str =
     "members 4 faulty 1 quorum 3\nframes 14\nanchor 1 0\nanchor 3 1\ncert 1 0\ncert 1 1\ncert 1 2\ncert 1 3\ncert 2 0\ncert 2 1\ncert 2 2\ncert 3 1\nmoney 0\nstate e3b0c44298fc1c149afbf4c8996fb92427ae41e4649b934ca495991b7852b855\n";
 
+fn try_turned_feed<R>(rt: &R, feed: &[u8], tally: &mut Tally) -> Result<()>
+where
+    R: AllocGlobal + Eprint + Threads + Wait + Sync,
+{
+    let turned = backwards(rt.alloc(), feed)?;
+    tally.note(rt, "the size of all frames", turned.len() == feed.len());
+    let is_right = leaves(rt, &WAYS, &turned, answer(0, LINKED_REPORT));
+    tally.note(rt, "frames that come backwards", is_right);
+    Ok(())
+}
+
 fn try_backwards<R>(rt: &R, tally: &mut Tally) -> Result<()>
 where
     R: AllocGlobal + Eprint + Threads + Wait + Sync,
 {
     let feed = made(rt.alloc(), LINKED)?;
-    let is_right = leaves(rt, &feed, 0, LINKED_REPORT, "");
-    tally.note(rt, "an anchor that is linked", is_right)?;
-    let turned = backwards(rt.alloc(), &feed)?;
-    tally.note(rt, "the size of all frames", turned.len() == feed.len())?;
-    let is_right = leaves(rt, &turned, 0, LINKED_REPORT, "");
-    tally.note(rt, "frames that come backwards", is_right)
+    let is_right = leaves(rt, &WAYS, &feed, answer(0, LINKED_REPORT));
+    tally.note(rt, "an anchor that is linked", is_right);
+    try_turned_feed(rt, &feed, tally)
 }
 
 // ---- broken bytes
@@ -189,14 +219,19 @@ fn feed_and(alloc: Global, script: &str, more: &[u8]) -> Result<Vec<u8>> {
     Ok(feed)
 }
 
+fn put_numbers(bytes: &mut Vec<u8>, numbers: &[u64]) -> Result<()> {
+    for number in numbers {
+        bytes.extend_from_slice(&number.to_be_bytes())?;
+    }
+    Ok(())
+}
+
 // The committee of one member, and accounts 1 and 2, which have 2^63 - 2 and 2: one more than all money may be.
 fn too_much_money(alloc: Global) -> Result<Vec<u8>> {
     let feed = made(alloc, EMPTY)?;
     let mut much = Vec::from_slice(alloc, feed.get(..42).unwrap_or(&[]))?;
     much.extend_from_slice(b"\x02\x00\x00\x00\x34\x00\x00\x00\x02")?;
-    for number in [1u64, 9_223_372_036_854_775_806, 0, 2, 2, 0] {
-        much.extend_from_slice(&number.to_be_bytes())?;
-    }
+    put_numbers(&mut much, &[1, 9_223_372_036_854_775_806, 0, 2, 2, 0])?;
     Ok(much)
 }
 
@@ -213,33 +248,48 @@ fn turned_tag(alloc: Global) -> Result<Vec<u8>> {
 const TURNED: &str =
     "members 4 faulty 1 quorum 3\nframes 3\nreject 2 7\nmoney 0\nstate e3b0c44298fc1c149afbf4c8996fb92427ae41e4649b934ca495991b7852b855\n";
 
+const BEGUN: [(&[u8], &str); 4] = [
+    (b"", "feed fault 2 at 0\n"),
+    (b"BKF", "feed fault 2 at 0\n"),
+    (b"BKF1", "feed fault 2 at 4\n"),
+    (b"BKF9", "feed fault 1 at 0\n"),
+];
+
 // Bytes that have a fault, and the line of it.
-fn try_rows<R>(rt: &R, rows: &[(&[u8], &str)], tally: &mut Tally) -> Result<()>
+fn try_row<R>(rt: &R, feed: &[u8], line: &str, tally: &mut Tally)
+where
+    R: AllocGlobal + Eprint + Threads + Wait + Sync,
+{
+    let is_right = leaves(rt, &WAYS, feed, fault(2, line));
+    tally.note(rt, line, is_right);
+}
+
+fn try_rows<R>(rt: &R, rows: &[(&[u8], &str)], tally: &mut Tally)
 where
     R: AllocGlobal + Eprint + Threads + Wait + Sync,
 {
     for (feed, line) in rows {
-        let is_right = leaves(rt, feed, 2, "", line);
-        tally.note(rt, line, is_right)?;
+        try_row(rt, feed, line, tally);
     }
-    Ok(())
 }
 
-fn try_broken<R>(rt: &R, tally: &mut Tally) -> Result<()>
+fn try_begun<R>(rt: &R, tally: &mut Tally) -> Result<()>
 where
     R: AllocGlobal + Eprint + Threads + Wait + Sync,
 {
     let begun = feed_and(rt.alloc(), EMPTY, b"\x03\x00\x00")?;
+    try_row(rt, &begun, "feed fault 2 at 51\n", tally);
+    try_rows(rt, &BEGUN, tally);
+    Ok(())
+}
+
+fn try_much<R>(rt: &R, tally: &mut Tally) -> Result<()>
+where
+    R: AllocGlobal + Eprint + Threads + Wait + Sync,
+{
     let much = too_much_money(rt.alloc())?;
-    let rows: [(&[u8], &str); 6] = [
-        (begun.as_slice(), "feed fault 2 at 51\n"),
-        (b"", "feed fault 2 at 0\n"),
-        (b"BKF", "feed fault 2 at 0\n"),
-        (b"BKF1", "feed fault 2 at 4\n"),
-        (b"BKF9", "feed fault 1 at 0\n"),
-        (much.as_slice(), "feed fault 6 at 42\n"),
-    ];
-    try_rows(rt, &rows, tally)
+    try_row(rt, &much, "feed fault 6 at 42\n", tally);
+    Ok(())
 }
 
 fn try_turned<R>(rt: &R, tally: &mut Tally) -> Result<()>
@@ -247,8 +297,9 @@ where
     R: AllocGlobal + Eprint + Threads + Wait + Sync,
 {
     let turned = turned_tag(rt.alloc())?;
-    let is_right = leaves(rt, &turned, 0, TURNED, "");
-    tally.note(rt, "a tag with a bit turned", is_right)
+    let is_right = leaves(rt, &WAYS, &turned, answer(0, TURNED));
+    tally.note(rt, "a tag with a bit turned", is_right);
+    Ok(())
 }
 
 /// All of them.
@@ -259,6 +310,7 @@ where
     try_stories(rt, &STORIES, tally)?;
     try_account_comes(rt, tally)?;
     try_backwards(rt, tally)?;
-    try_broken(rt, tally)?;
+    try_begun(rt, tally)?;
+    try_much(rt, tally)?;
     try_turned(rt, tally)
 }
