@@ -105,17 +105,24 @@ fn has_values(follower: &Follower, wanted: Wanted) -> Result<bool> {
     )
 }
 
-// Whether the proof of account 2 is as wanted, none for an empty text. There is none of account 3.
-fn has_proofs<R>(rt: &R, follower: &mut Follower, wanted: &str) -> Result<bool>
+// Whether the proof of account 2 is as wanted, none for an empty text.
+fn has_proof<R>(rt: &R, follower: &mut Follower, wanted: &str) -> Result<bool>
 where
     R: AllocGlobal + Threads + Sync,
 {
     let alloc: Global = rt.alloc();
-    let is_right = match follower.prove(rt, 2)? {
-        Some(proof) => proof.text(alloc)?.as_slice() == wanted.as_bytes(),
-        None => wanted.is_empty(),
-    };
-    Ok(is_right && follower.prove(rt, 3)?.is_none())
+    match follower.prove(rt, 2)? {
+        Some(proof) => Ok(proof.text(alloc)?.as_slice() == wanted.as_bytes()),
+        None => Ok(wanted.is_empty()),
+    }
+}
+
+// There is none of account 3.
+fn has_proofs<R>(rt: &R, follower: &mut Follower, wanted: &str) -> Result<bool>
+where
+    R: AllocGlobal + Threads + Sync,
+{
+    Ok(has_proof(rt, follower, wanted)? && follower.prove(rt, 3)?.is_none())
 }
 
 // Whether the order is as wanted, as it is settled and as it was settled last.
@@ -150,6 +157,30 @@ where
     Ok(gives(rt, follower, ordered)? && follower.settle(rt, &Open)? == 1)
 }
 
+// Whether all is as wanted after a byte that ends here.
+fn gives_after<R>(rt: &R, follower: &mut Follower, byte: &[u8], end: usize) -> Result<bool>
+where
+    R: AllocGlobal + Threads + Wait + Sync,
+{
+    follower.feed(rt, byte)?;
+    if end == 407 && !settles_round_two(rt, follower)? {
+        return Ok(false);
+    }
+    gives(rt, follower, wanted_at(end))
+}
+
+// Whether what is ordered and not settled is one place, by which account 2 pays 5.
+fn settles_last<R>(rt: &R, follower: &mut Follower) -> Result<bool>
+where
+    R: AllocGlobal + Threads + Wait + Sync,
+{
+    let last = Some(Account {
+        balance: 75,
+        seq: 1,
+    });
+    Ok(follower.settle(rt, &Open)? == 1 && follower.account(2)? == last)
+}
+
 // Whether all is as wanted after each byte, and account 2 at the end.
 fn gives_after_each<R>(rt: &R, follower: &mut Follower, feed: &[u8]) -> Result<bool>
 where
@@ -160,24 +191,15 @@ where
     }
     let mut end = 0usize;
     for byte in feed.chunks(1) {
-        follower.feed(rt, byte)?;
         end = end.saturating_add(1);
-        if end == 407 && !settles_round_two(rt, follower)? {
-            return Ok(false);
-        }
-        if !gives(rt, follower, wanted_at(end))? {
+        if !gives_after(rt, follower, byte, end)? {
             return Ok(false);
         }
     }
-    // What is ordered and not settled is one place, by which account 2 pays 5.
-    let last = Some(Account {
-        balance: 75,
-        seq: 1,
-    });
-    Ok(end == 625 && follower.settle(rt, &Open)? == 1 && follower.account(2)? == last)
+    Ok(end == 625 && settles_last(rt, follower)?)
 }
 
-fn gives_all<R>(rt: &R, feed: &[u8]) -> Result<bool>
+fn follower_gives<R>(rt: &R, feed: &[u8]) -> Result<bool>
 where
     R: AllocGlobal + Threads + Wait + Sync,
 {
@@ -187,28 +209,52 @@ where
     is_right
 }
 
+fn gives_all<R>(rt: &R, script: &str) -> Result<bool>
+where
+    R: AllocGlobal + Threads + Wait + Sync,
+{
+    let feed = made(rt.alloc(), script)?;
+    follower_gives(rt, &feed)
+}
+
 // ---- orders alone
+
+// Whether one certificate is ordered, and its payment is not executed.
+fn is_unexecuted(follower: &mut Follower) -> Result<bool> {
+    Ok(
+        is_order(follower.order()?, 1, 1)
+            && follower.receipt(0)?.is_none()
+            && follower.account(2)?.is_some(),
+    )
+}
+
+// Whether settling executes one payment, and leaves the order as it was.
+fn settles_one<R>(rt: &R, follower: &mut Follower) -> Result<bool>
+where
+    R: AllocGlobal + Threads + Wait + Sync,
+{
+    Ok(
+        follower.settle(rt, &Open)? == 1
+            && is_order(follower.order()?, 1, 1)
+            && follower.receipt(0)?.is_some(),
+    )
+}
 
 // Whether the order is that of the whole frames so far without any settling, which executes nothing.
 fn orders_alone<R>(rt: &R, follower: &mut Follower, feed: &[u8]) -> Result<bool>
 where
     R: AllocGlobal + Threads + Wait + Sync,
 {
-    let mut end = 0usize;
     for byte in feed.chunks(1) {
         if !is_order(follower.order()?, 0, 0) {
             return Ok(false);
         }
         follower.feed(rt, byte)?;
-        end = end.saturating_add(1);
     }
-    let is_ordered = end == 346 && is_order(follower.order()?, 1, 1);
-    let is_unexecuted = follower.receipt(0)?.is_none() && follower.account(2)?.is_some();
-    let is_settled = follower.settle(rt, &Open)? == 1 && is_order(follower.order()?, 1, 1);
-    Ok(is_ordered && is_unexecuted && is_settled && follower.receipt(0)?.is_some())
+    Ok(feed.len() == 346 && is_unexecuted(follower)? && settles_one(rt, follower)?)
 }
 
-fn orders_without_settling<R>(rt: &R, feed: &[u8]) -> Result<bool>
+fn follower_orders<R>(rt: &R, feed: &[u8]) -> Result<bool>
 where
     R: AllocGlobal + Threads + Wait + Sync,
 {
@@ -218,13 +264,22 @@ where
     is_right
 }
 
+fn orders_without_settling<R>(rt: &R, script: &str) -> Result<bool>
+where
+    R: AllocGlobal + Threads + Wait + Sync,
+{
+    let feed = made(rt.alloc(), script)?;
+    follower_orders(rt, &feed)
+}
+
 /// Accounts, receipts, proofs and orders after each byte.
 pub(crate) fn try_between<R>(rt: &R, tally: &mut Tally) -> Result<()>
 where
     R: AllocGlobal + Eprint + Threads + Wait + Sync,
 {
-    let is_right = gives_all(rt, &made(rt.alloc(), TWO_COMMITS)?)?;
-    tally.note(rt, "questions after each byte", is_right)?;
-    let is_right = orders_without_settling(rt, &made(rt.alloc(), ONE_COMMIT)?)?;
-    tally.note(rt, "orders without settling", is_right)
+    let is_right = gives_all(rt, TWO_COMMITS)?;
+    tally.note(rt, "questions after each byte", is_right);
+    let is_right = orders_without_settling(rt, ONE_COMMIT)?;
+    tally.note(rt, "orders without settling", is_right);
+    Ok(())
 }

@@ -31,15 +31,19 @@ const REPORT: &str =
 const PROOF: &str =
     "state 58adcc856b347f0dd4813ad33cdb8253d78a0cd40d3f41ac066bce24d28a8a5d\nsize 2\nindex 1\naccount 2 50 0\npath 5b2d207a8426e99fad298132eb18de130e9a23498b86f98b5f1778476ede759d\n";
 
-// The first certificate, the batch, and the second certificate.
-fn wide(alloc: Global) -> Result<Vec<u8>> {
-    let narrow = made(alloc, WIDE)?;
-    let (front, last) = (part(&narrow, 0, 192), part(&narrow, 192, 285));
-    let mut feed = Vec::from_slice(alloc, front)?;
+fn put_batch(alloc: Global, feed: &mut Vec<u8>) -> Result<()> {
     feed.extend_from_slice(b"\x04\x00\x03\x0d\x40")?;
     let batch = vec![in alloc; 255u8; BATCH]?;
     feed.extend_from_slice(&batch)?;
-    feed.extend_from_slice(last)?;
+    Ok(())
+}
+
+// The first certificate, the batch, and the second certificate.
+fn wide(alloc: Global) -> Result<Vec<u8>> {
+    let narrow = made(alloc, WIDE)?;
+    let mut feed = Vec::from_slice(alloc, part(&narrow, 0, 192))?;
+    put_batch(alloc, &mut feed)?;
+    feed.extend_from_slice(part(&narrow, 192, 285))?;
     Ok(feed)
 }
 
@@ -79,6 +83,10 @@ where
     is_little && is_reply && text.as_slice() == wanted.1.as_bytes()
 }
 
+fn agreed(certs: usize, places: usize) -> Agreed {
+    Agreed { certs, places }
+}
+
 fn compares_little<R>(rt: &R, one: &[u8], other: &[u8], most: usize, wanted: Agreed) -> bool
 where
     R: AllocGlobal + Threads + Wait + Sync,
@@ -91,47 +99,84 @@ where
     first && second && agreed.ok() == Some(wanted)
 }
 
-fn try_wide<R>(rt: &R, wide: &[u8], tally: &mut Tally) -> Result<()>
+const QUERIES: [(Query, Reply, &str); 5] = [
+    (Query::Order, Reply::Found, "anchor 1 0\ncert 1 0\n"),
+    (Query::Account { id: 1 }, Reply::Found, "account 1 100 0\n"),
+    (Query::Receipt { place: 0 }, Reply::Absent, ""),
+    (Query::Proof { id: 2 }, Reply::Found, PROOF),
+    (Query::Proof { id: 3 }, Reply::Absent, ""),
+];
+
+fn try_step<R>(
+    rt: &R,
+    wide: &[u8],
+    most: usize,
+    queries: &[(Query, Reply, &str)],
+    tally: &mut Tally,
+)
 where
     R: AllocGlobal + Eprint + Threads + Wait + Sync,
 {
-    let queries = [
-        (Query::Order, Reply::Found, "anchor 1 0\ncert 1 0\n"),
-        (Query::Account { id: 1 }, Reply::Found, "account 1 100 0\n"),
-        (Query::Receipt { place: 0 }, Reply::Absent, ""),
-        (Query::Proof { id: 2 }, Reply::Found, PROOF),
-        (Query::Proof { id: 3 }, Reply::Absent, ""),
-    ];
-    for most in STEPS {
-        let is_right = replays_little(rt, wide, most);
-        tally.note(rt, "a replay of a wide batch", is_right)?;
-        for (query, reply, text) in queries.iter() {
-            let is_right = asks_little(rt, wide, most, query, (*reply, text));
-            tally.note(rt, "a query of a wide batch", is_right)?;
-        }
+    let is_right = replays_little(rt, wide, most);
+    tally.note(rt, "a replay of a wide batch", is_right);
+    for (query, reply, text) in queries {
+        let is_right = asks_little(rt, wide, most, query, (*reply, text));
+        tally.note(rt, "a query of a wide batch", is_right);
     }
-    Ok(())
+}
+
+fn try_wide<R>(rt: &R, wide: &[u8], steps: &[usize], tally: &mut Tally)
+where
+    R: AllocGlobal + Eprint + Threads + Wait + Sync,
+{
+    for most in steps {
+        try_step(rt, wide, *most, &QUERIES, tally);
+    }
+}
+
+// Two feeds in pieces of each of these sizes.
+fn try_pair<R>(
+    rt: &R,
+    (one, other): (&[u8], &[u8]),
+    agreed: Agreed,
+    steps: &[usize],
+    tally: &mut Tally,
+)
+where
+    R: AllocGlobal + Eprint + Threads + Wait + Sync,
+{
+    for most in steps {
+        let is_right = compares_little(rt, one, other, *most, agreed);
+        tally.note(rt, "two feeds in pieces", is_right);
+    }
 }
 
 // The void batch holds no place, and a feed of no certificates has an order that begins each other one.
-fn try_pairs<R>(rt: &R, wide: &[u8], tally: &mut Tally) -> Result<()>
+fn try_pairs<R>(rt: &R, wide: &[u8], none: &[u8], tally: &mut Tally)
+where
+    R: AllocGlobal + Eprint + Threads + Wait + Sync,
+{
+    let (ordered, nothing) = (agreed(1, 0), agreed(0, 0));
+    try_pair(rt, (wide, wide), ordered, &STEPS, tally);
+    try_pair(rt, (wide, none), nothing, &STEPS, tally);
+    try_pair(rt, (none, wide), nothing, &STEPS, tally);
+}
+
+fn try_nothing<R>(rt: &R, wide: &[u8], tally: &mut Tally) -> Result<()>
 where
     R: AllocGlobal + Eprint + Threads + Wait + Sync,
 {
     let none = made(rt.alloc(), NOTHING)?;
-    let one_commit = made(rt.alloc(), ONE_COMMIT)?;
-    let rows: [(&[u8], &[u8], usize, usize); 4] = [
-        (wide, wide, 1, 0),
-        (wide, &none, 0, 0),
-        (&none, wide, 0, 0),
-        (&one_commit, &one_commit, 1, 1),
-    ];
-    for (one, other, certs, places) in rows {
-        for most in STEPS {
-            let is_right = compares_little(rt, one, other, most, Agreed { certs, places });
-            tally.note(rt, "two feeds in pieces", is_right)?;
-        }
-    }
+    try_pairs(rt, wide, &none, tally);
+    Ok(())
+}
+
+fn try_one_commit<R>(rt: &R, tally: &mut Tally) -> Result<()>
+where
+    R: AllocGlobal + Eprint + Threads + Wait + Sync,
+{
+    let feed = made(rt.alloc(), ONE_COMMIT)?;
+    try_pair(rt, (&feed, &feed), agreed(1, 1), &STEPS, tally);
     Ok(())
 }
 
@@ -142,7 +187,8 @@ where
 {
     let wide = wide(rt.alloc())?;
     let is_long = wide.len() == 99 + 93 + 200_005 + 93;
-    tally.note(rt, "the length of a wide feed", is_long)?;
-    try_wide(rt, &wide, tally)?;
-    try_pairs(rt, &wide, tally)
+    tally.note(rt, "the length of a wide feed", is_long);
+    try_wide(rt, &wide, &STEPS, tally);
+    try_nothing(rt, &wide, tally)?;
+    try_one_commit(rt, tally)
 }

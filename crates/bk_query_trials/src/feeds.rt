@@ -23,6 +23,14 @@ pub(crate) const ENDS: [usize; 6] = [4, 42, 99, 160, 253, 346];
 pub(crate) const TWO_COMMITS: &str =
     "members 1\naccount 1 100\naccount 2 50\nbatch b\npay 1 2 30 0\nbatch c\npay 2 1 5 0\ncert a 1 0 b - 0\ncert b 2 0 - a 0\ncert c 3 0 c b 0\ncert d 4 0 - c 0\n";
 
+/// Each odd round has an anchor, which the round after it votes for.
+pub(crate) const THREE_ROUNDS: &str =
+    "members 1\naccount 1 100\naccount 2 50\nbatch b\npay 1 2 30 0\ncert a 1 0 b - 0\ncert b 2 0 - a 0\ncert c 3 0 - b 0\n";
+
+/// One round more, which commits the anchor of round 3 too.
+pub(crate) const FOUR_ROUNDS: &str =
+    "members 1\naccount 1 100\naccount 2 50\nbatch b\npay 1 2 30 0\ncert a 1 0 b - 0\ncert b 2 0 - a 0\ncert c 3 0 - b 0\ncert d 4 0 - c 0\n";
+
 /// Round 1 names the payment, and then a batch that does not come: that of "abc".
 pub(crate) const MISSING: &str =
     "members 1\naccount 1 100\naccount 2 50\nbatch b\npay 1 2 30 0\ncert a 1 0 b,ba7816bf8f01cfea414140de5dae2223b00361a396177a9cb410ff61f20015ad - 0\ncert b 2 0 - a 0\n";

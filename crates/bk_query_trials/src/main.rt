@@ -5,6 +5,7 @@
 //! `N passed, M failed`.
 #![tactic(auto)]
 
+mod agreeing;
 mod between;
 mod comparing;
 mod counting;
@@ -15,6 +16,7 @@ mod queries;
 mod scheduling;
 mod tally;
 
+use crate::agreeing::try_agreeing;
 use crate::between::try_between;
 use crate::comparing::try_comparing;
 use crate::counting::try_counting;
@@ -33,6 +35,7 @@ where
     try_queries(rt, &mut tally)?;
     try_between(rt, &mut tally)?;
     try_comparing(rt, &mut tally)?;
+    try_agreeing(rt, &mut tally)?;
     try_schedules(rt, &mut tally)?;
     try_counting(rt, &mut tally)?;
     Ok(tally)

@@ -11,7 +11,7 @@ use anyhow::Result;
 use bk_digest::Digest32;
 use bk_frames::{Counted, FaultCode};
 use bk_pool::Open;
-use bk_replay::{Fault, Query, Reply, ask};
+use bk_replay::{Fault, Query, Replied, Reply, ask};
 use std::alloc::Global;
 use std::sync::Wait;
 use std::thread::Threads;
@@ -51,6 +51,23 @@ struct Left {
 }
 
 impl Left {
+    fn new(replied: Result<Replied, Fault>, text: Vec<u8>) -> Left {
+        match replied {
+            Ok(replied) => Left {
+                reply: Some(replied.reply),
+                missing: replied.missing,
+                fault: None,
+                text,
+            },
+            Err(fault) => Left {
+                reply: None,
+                missing: None,
+                fault: Some(fault),
+                text,
+            },
+        }
+    }
+
     fn is_reply(&self, reply: Reply, text: &str) -> bool {
         self.reply == Some(reply) && self.text.as_slice() == text.as_bytes()
     }
@@ -58,6 +75,14 @@ impl Left {
     fn is_fault(&self, fault: &Fault) -> bool {
         self.fault == Some(*fault) && self.text.is_empty()
     }
+}
+
+// What a query has to leave, and the batch that is missing.
+#[derive(Clone, Copy)]
+struct Wanted<'a> {
+    reply: Reply,
+    text: &'a str,
+    missing: &'a Option<Digest32>,
 }
 
 // Asks, with so many good reads of 7 bytes and so many good writes of one.
@@ -79,74 +104,140 @@ where
     });
     let workers = workers.clamp(1, 64);
     let replied = ask(rt, alloc, &mut source, &mut sink, *query, workers, &Open);
-    let text = sink.into_inner().held;
-    match replied {
-        Ok(replied) => Left {
-            reply: Some(replied.reply),
-            missing: replied.missing,
-            fault: None,
-            text,
-        },
-        Err(fault) => Left {
-            reply: None,
-            missing: None,
-            fault: Some(fault),
-            text,
-        },
-    }
+    Left::new(replied, sink.into_inner().held)
+}
+
+// Whether a query with devices that do not fail leaves just this.
+fn replies<R>(rt: &R, feed: &[u8], query: &Query, workers: usize, wanted: &Wanted<'_>) -> bool
+where
+    R: AllocGlobal + Threads + Wait + Sync,
+{
+    let left = asked(rt, feed, query, workers, ALL);
+    left.is_reply(wanted.reply, wanted.text) && left.missing == *wanted.missing
+}
+
+// Whether it leaves this with so many good calls, whatever batch is missing.
+fn is_replied<R>(
+    rt: &R,
+    feed: &[u8],
+    query: &Query,
+    workers: usize,
+    calls: (usize, usize),
+    (reply, text): (Reply, &str),
+) -> bool
+where
+    R: AllocGlobal + Threads + Wait + Sync,
+{
+    let left = asked(rt, feed, query, workers, calls);
+    left.is_reply(reply, text)
+}
+
+// Whether it has this fault with so many good reads, and writes nothing.
+fn fails<R>(rt: &R, feed: &[u8], query: &Query, reads: usize, fault: &Fault) -> bool
+where
+    R: AllocGlobal + Threads + Wait + Sync,
+{
+    let left = asked(rt, feed, query, 2, (reads, MOST_CALLS));
+    left.is_fault(fault)
 }
 
 const ALL: (usize, usize) = (MOST_CALLS, MOST_CALLS);
 
 // ---- replies
 
-fn try_found<R>(rt: &R, feed: &[u8], missing: &Option<Digest32>, tally: &mut Tally) -> Result<()>
+fn try_present<R>(
+    rt: &R,
+    feed: &[u8],
+    workers: usize,
+    missing: &Option<Digest32>,
+    tally: &mut Tally,
+)
 where
     R: AllocGlobal + Eprint + Threads + Wait + Sync,
 {
-    for workers in [1usize, 2, 64] {
-        for (query, text) in FOUND.iter() {
-            let left = asked(rt, feed, query, workers, ALL);
-            let is_right = left.is_reply(Reply::Found, text) && left.missing == *missing;
-            tally.note(rt, text, is_right)?;
-        }
+    for (query, text) in FOUND.iter() {
+        let wanted = Wanted {
+            reply: Reply::Found,
+            text,
+            missing,
+        };
+        let is_right = replies(rt, feed, query, workers, &wanted);
+        tally.note(rt, text, is_right);
     }
+}
+
+fn try_absent<R>(rt: &R, feed: &[u8], missing: &Option<Digest32>, tally: &mut Tally)
+where
+    R: AllocGlobal + Eprint + Threads + Wait + Sync,
+{
     for query in ABSENT.iter() {
-        let left = asked(rt, feed, query, 2, ALL);
-        let is_right = left.is_reply(Reply::Absent, "") && left.missing == *missing;
-        tally.note(rt, "what is absent", is_right)?;
+        let wanted = Wanted {
+            reply: Reply::Absent,
+            text: "",
+            missing,
+        };
+        let is_right = replies(rt, feed, query, 2, &wanted);
+        tally.note(rt, "what is absent", is_right);
     }
+}
+
+fn try_found<R>(rt: &R, script: &str, missing: &Option<Digest32>, tally: &mut Tally) -> Result<()>
+where
+    R: AllocGlobal + Eprint + Threads + Wait + Sync,
+{
+    let feed = made(rt.alloc(), script)?;
+    try_present(rt, &feed, 1, missing, tally);
+    try_present(rt, &feed, 2, missing, tally);
+    try_present(rt, &feed, 64, missing, tally);
+    try_absent(rt, &feed, missing, tally);
     Ok(())
 }
 
 // A feed without certificates has an order of no lines.
+const UNORDERED: [(Query, Reply, &str); 3] = [
+    (Query::Order, Reply::Found, ""),
+    (Query::Account { id: 1 }, Reply::Found, "account 1 100 0\n"),
+    (Query::Receipt { place: 0 }, Reply::Absent, ""),
+];
+
+fn try_unordered<R>(rt: &R, feed: &[u8], rows: &[(Query, Reply, &str)], tally: &mut Tally)
+where
+    R: AllocGlobal + Eprint + Threads + Wait + Sync,
+{
+    for (query, reply, text) in rows {
+        let is_right = is_replied(rt, feed, query, 1, ALL, (*reply, text));
+        tally.note(rt, "a query where nothing is ordered", is_right);
+    }
+}
+
 fn try_nothing<R>(rt: &R, tally: &mut Tally) -> Result<()>
 where
     R: AllocGlobal + Eprint + Threads + Wait + Sync,
 {
     let feed = made(rt.alloc(), NOTHING)?;
-    let rows = [
-        (Query::Order, Reply::Found, ""),
-        (Query::Account { id: 1 }, Reply::Found, "account 1 100 0\n"),
-        (Query::Receipt { place: 0 }, Reply::Absent, ""),
-    ];
-    for (query, reply, text) in rows.iter() {
-        let is_right = asked(rt, &feed, query, 1, ALL).is_reply(*reply, text);
-        tally.note(rt, "a query where nothing is ordered", is_right)?;
-    }
+    try_unordered(rt, &feed, &UNORDERED, tally);
     Ok(())
 }
 
 // ---- faults
 
-fn try_fault<R>(rt: &R, feed: &[u8], fault: &Fault, tally: &mut Tally) -> Result<()>
+fn try_fault<R>(rt: &R, feed: &[u8], fault: &Fault, tally: &mut Tally)
 where
     R: AllocGlobal + Eprint + Threads + Wait + Sync,
 {
     for (query, text) in FOUND.iter() {
-        let is_right = asked(rt, feed, query, 2, ALL).is_fault(fault);
-        tally.note(rt, text, is_right)?;
+        let is_right = fails(rt, feed, query, MOST_CALLS, fault);
+        tally.note(rt, text, is_right);
     }
+}
+
+fn try_twins<R>(rt: &R, tally: &mut Tally) -> Result<()>
+where
+    R: AllocGlobal + Eprint + Threads + Wait + Sync,
+{
+    let fault = twins_of_round_one()?;
+    let feed = made(rt.alloc(), ROUND_ONE)?;
+    try_fault(rt, &feed, &fault, tally);
     Ok(())
 }
 
@@ -163,39 +254,64 @@ fn begin_of(offset: usize) -> usize {
 
 // The feed has 346 bytes: 50 reads, and one that finds its end. Each of them fails in turn, in the frame that begins
 // last among what was read.
-fn try_reads<R>(rt: &R, feed: &[u8], tally: &mut Tally) -> Result<()>
+fn try_reads_of<R>(rt: &R, feed: &[u8], query: &Query, text: &str, tally: &mut Tally)
 where
     R: AllocGlobal + Eprint + Threads + Wait + Sync,
 {
-    for (query, text) in FOUND.iter() {
-        for reads in 0..51usize {
-            let read = feed.len().min(reads.saturating_mul(7));
-            let fault = broken(begin_of(read) as u64, FaultCode::Read);
-            let left = asked(rt, feed, query, 2, (reads, MOST_CALLS));
-            tally.note(rt, "a read that fails", left.is_fault(&fault))?;
-        }
-        let left = asked(rt, feed, query, 2, (51, MOST_CALLS));
-        tally.note(rt, "just enough reads", left.is_reply(Reply::Found, text))?;
+    for reads in 0..51usize {
+        let read = feed.len().min(reads.saturating_mul(7));
+        let fault = broken(begin_of(read) as u64, FaultCode::Read);
+        let is_right = fails(rt, feed, query, reads, &fault);
+        tally.note(rt, "a read that fails", is_right);
     }
-    Ok(())
+    let is_right = is_replied(rt, feed, query, 2, (51, MOST_CALLS), (Reply::Found, text));
+    tally.note(rt, "just enough reads", is_right);
 }
 
-// Each write fails in turn, and what comes before it is written.
-fn try_writes<R>(rt: &R, feed: &[u8], tally: &mut Tally) -> Result<()>
+// Whether the write after so many fails, and what comes before it is written.
+fn is_begun<R>(rt: &R, feed: &[u8], query: &Query, writes: usize, text: &str) -> bool
+where
+    R: AllocGlobal + Threads + Wait + Sync,
+{
+    let left = asked(rt, feed, query, 1, (MOST_CALLS, writes));
+    let written = writes as u64;
+    left.fault == Some(Fault::Write { written })
+        && left.text.as_slice() == part(text.as_bytes(), 0, writes)
+}
+
+// Each write fails in turn.
+fn try_writes_of<R>(rt: &R, feed: &[u8], query: &Query, text: &str, tally: &mut Tally)
+where
+    R: AllocGlobal + Eprint + Threads + Wait + Sync,
+{
+    for writes in 0..text.len() {
+        let is_right = is_begun(rt, feed, query, writes, text);
+        tally.note(rt, "a write that fails", is_right);
+    }
+    let calls = (MOST_CALLS, text.len());
+    let is_right = is_replied(rt, feed, query, 1, calls, (Reply::Found, text));
+    tally.note(rt, "just enough writes", is_right);
+}
+
+fn try_calls<R>(rt: &R, feed: &[u8], tally: &mut Tally)
 where
     R: AllocGlobal + Eprint + Threads + Wait + Sync,
 {
     for (query, text) in FOUND.iter() {
-        for writes in 0..text.len() {
-            let left = asked(rt, feed, query, 1, (MOST_CALLS, writes));
-            let written = writes as u64;
-            let is_fault = left.fault == Some(Fault::Write { written });
-            let is_front = left.text.as_slice() == part(text.as_bytes(), 0, writes);
-            tally.note(rt, "a write that fails", is_fault && is_front)?;
-        }
-        let left = asked(rt, feed, query, 1, (MOST_CALLS, text.len()));
-        tally.note(rt, "just enough writes", left.is_reply(Reply::Found, text))?;
+        try_reads_of(rt, feed, query, text, tally);
+        try_writes_of(rt, feed, query, text, tally);
     }
+}
+
+fn try_one_commit<R>(rt: &R, tally: &mut Tally) -> Result<()>
+where
+    R: AllocGlobal + Eprint + Threads + Wait + Sync,
+{
+    let feed = made(rt.alloc(), ONE_COMMIT)?;
+    let is_right = has_digest(&feed, ONE_COMMIT_DIGEST);
+    tally.note(rt, "the feed of one commit", is_right);
+    try_fault(rt, part(&feed, 0, 345), &cut_at(253), tally);
+    try_calls(rt, &feed, tally);
     Ok(())
 }
 
@@ -204,23 +320,10 @@ pub(crate) fn try_queries<R>(rt: &R, tally: &mut Tally) -> Result<()>
 where
     R: AllocGlobal + Eprint + Threads + Wait + Sync,
 {
-    let alloc: Global = rt.alloc();
-    let feed = made(alloc, ONE_COMMIT)?;
-    tally.note(
-        rt,
-        "the feed of one commit",
-        has_digest(&feed, ONE_COMMIT_DIGEST),
-    )?;
-    try_found(rt, &feed, &None, tally)?;
-    try_found(
-        rt,
-        &made(alloc, MISSING)?,
-        &Some(Digest32::of(b"abc")),
-        tally,
-    )?;
+    try_one_commit(rt, tally)?;
+    try_found(rt, ONE_COMMIT, &None, tally)?;
+    let missing = Some(Digest32::of(b"abc"));
+    try_found(rt, MISSING, &missing, tally)?;
     try_nothing(rt, tally)?;
-    try_fault(rt, &made(alloc, ROUND_ONE)?, &twins_of_round_one()?, tally)?;
-    try_fault(rt, part(&feed, 0, 345), &cut_at(253), tally)?;
-    try_reads(rt, &feed, tally)?;
-    try_writes(rt, &feed, tally)
+    try_twins(rt, tally)
 }

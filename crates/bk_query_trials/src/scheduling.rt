@@ -81,21 +81,55 @@ fn stops(alloc: Global, feed: &[u8], workers: u32, events: &[Event], wanted: Sch
     stop == Some(wanted) && text.is_empty()
 }
 
-fn try_whole<R>(rt: &R, feed: &[u8], tally: &mut Tally) -> Result<()>
+fn try_whole<R>(
+    rt: &R,
+    feed: &[u8],
+    workers: u32,
+    (first, second): (u64, u64),
+    tally: &mut Tally,
+) -> Result<()>
 where
     R: AllocGlobal + Eprint,
 {
-    for (workers, first, second) in [(1u32, 0u64, 0u64), (2, 1, 0), (64, 63, 17)] {
-        let events = whole(rt.alloc(), first, second)?;
-        let is_right = gives_report(rt.alloc(), feed, workers, &events);
-        tally.note(rt, "a whole run", is_right)?;
-    }
+    let events = whole(rt.alloc(), first, second)?;
+    let is_right = gives_report(rt.alloc(), feed, workers, &events);
+    tally.note(rt, "a whole run", is_right);
     Ok(())
 }
 
 // ---- runs that stop
 
-// So many events of the whole run come, and then these. Tells how it stops.
+// So many events of the whole run, and then these.
+fn events_of(alloc: Global, kept: usize, last: &[Event]) -> Result<Vec<Event>> {
+    let mut events = whole(alloc, 0, 0)?;
+    events.truncate(kept);
+    events.extend_from_slice(last)?;
+    Ok(events)
+}
+
+// Whether they stop so.
+fn is_stop(
+    alloc: Global,
+    feed: &[u8],
+    workers: u32,
+    (kept, last): (usize, &[Event]),
+    wanted: ScheduleFault,
+) -> Result<bool> {
+    let events = events_of(alloc, kept, last)?;
+    let stop = ScheduleStop::Schedule(wanted);
+    Ok(stops(alloc, feed, workers, &events, stop))
+}
+
+fn note_stop<R>(rt: &R, kept: usize, is_right: bool, tally: &mut Tally) -> Result<()>
+where
+    R: AllocGlobal + Eprint,
+{
+    let what = format!(in rt.alloc(); "a run that stops after {kept} events")?;
+    tally.note(rt, what.as_str(), is_right);
+    Ok(())
+}
+
+// Tells how they stop.
 fn try_stop<R>(
     rt: &R,
     feed: &[u8],
@@ -107,18 +141,33 @@ fn try_stop<R>(
 where
     R: AllocGlobal + Eprint,
 {
-    let run = whole(rt.alloc(), 0, 0)?;
-    let mut events = Vec::from_slice(rt.alloc(), run.get(..kept).unwrap_or(&[]))?;
-    events.extend_from_slice(last)?;
-    let is_right = stops(
-        rt.alloc(),
-        feed,
-        workers,
-        &events,
-        ScheduleStop::Schedule(wanted),
-    );
-    let what = format!(in rt.alloc(); "a run that stops after {kept} events")?;
-    tally.note(rt, what.as_str(), is_right)
+    let is_right = is_stop(rt.alloc(), feed, workers, (kept, last), wanted)?;
+    note_stop(rt, kept, is_right, tally)
+}
+
+// One event after so many is refused.
+fn try_refused<R>(
+    rt: &R,
+    feed: &[u8],
+    (workers, kept): (u32, usize),
+    last: Event,
+    code: Refused,
+    tally: &mut Tally,
+) -> Result<()>
+where
+    R: AllocGlobal + Eprint,
+{
+    let wanted = refused(kept, code);
+    try_stop(rt, feed, workers, (kept, &[last]), wanted, tally)
+}
+
+// The first place cannot end before another worker, or the same one, claims the second.
+fn try_early<R>(rt: &R, feed: &[u8], workers: u32, code: Refused, tally: &mut Tally) -> Result<()>
+where
+    R: AllocGlobal + Eprint,
+{
+    let early = [claim(1, 1), finish(0)];
+    try_stop(rt, feed, workers, (11, &early), refused(11, code), tally)
 }
 
 fn refused(index: usize, code: Refused) -> ScheduleFault {
@@ -129,50 +178,26 @@ fn try_first<R>(rt: &R, feed: &[u8], tally: &mut Tally) -> Result<()>
 where
     R: AllocGlobal + Eprint,
 {
-    let holder = refused(0, Refused::NotHolder);
-    try_stop(rt, feed, 2, (0, &[finish(0)]), holder, tally)?;
-    try_stop(rt, feed, 2, (0, &[read(0, 0)]), holder, tally)?;
-    let idle = refused(0, Refused::NotIdle);
-    try_stop(rt, feed, 2, (0, &[claim(2, 0)]), idle, tally)?;
-    let ready = refused(0, Refused::NotReady);
-    try_stop(rt, feed, 2, (0, &[claim(0, 7)]), ready, tally)?;
-    let idle = refused(1, Refused::NotIdle);
-    try_stop(rt, feed, 2, (1, &[claim(0, 1)]), idle, tally)?;
-    let declared = refused(1, Refused::NotDeclared);
-    try_stop(rt, feed, 2, (1, &[read(0, 99)]), declared, tally)?;
-    let turn = refused(1, Refused::OutOfTurn);
-    try_stop(rt, feed, 2, (1, &[write(0, 0)]), turn, tally)
+    try_refused(rt, feed, (2, 0), finish(0), Refused::NotHolder, tally)?;
+    try_refused(rt, feed, (2, 0), read(0, 0), Refused::NotHolder, tally)?;
+    try_refused(rt, feed, (2, 0), claim(2, 0), Refused::NotIdle, tally)?;
+    try_refused(rt, feed, (2, 0), claim(0, 7), Refused::NotReady, tally)?;
+    try_refused(rt, feed, (2, 1), claim(0, 1), Refused::NotIdle, tally)?;
+    try_refused(rt, feed, (2, 1), read(0, 99), Refused::NotDeclared, tally)?;
+    try_refused(rt, feed, (2, 1), write(0, 0), Refused::OutOfTurn, tally)
 }
 
 fn try_later<R>(rt: &R, feed: &[u8], tally: &mut Tally) -> Result<()>
 where
     R: AllocGlobal + Eprint,
 {
-    let declared = refused(7, Refused::NotDeclared);
-    try_stop(rt, feed, 1, (7, &[write(0, 2)]), declared, tally)?;
-    let turn = refused(8, Refused::OutOfTurn);
-    try_stop(rt, feed, 2, (8, &[read(0, 1)]), turn, tally)?;
-    try_stop(rt, feed, 2, (8, &[write(0, 0)]), turn, tally)?;
-    try_stop(rt, feed, 2, (8, &[finish(0)]), turn, tally)?;
-    let early = [claim(1, 1), finish(0)];
-    try_stop(
-        rt,
-        feed,
-        2,
-        (11, &early),
-        refused(11, Refused::NotReady),
-        tally,
-    )?;
-    try_stop(
-        rt,
-        feed,
-        1,
-        (11, &early),
-        refused(11, Refused::NotIdle),
-        tally,
-    )?;
-    let ready = refused(22, Refused::NotReady);
-    try_stop(rt, feed, 2, (22, &[claim(0, 0)]), ready, tally)
+    try_refused(rt, feed, (1, 7), write(0, 2), Refused::NotDeclared, tally)?;
+    try_refused(rt, feed, (2, 8), read(0, 1), Refused::OutOfTurn, tally)?;
+    try_refused(rt, feed, (2, 8), write(0, 0), Refused::OutOfTurn, tally)?;
+    try_refused(rt, feed, (2, 8), finish(0), Refused::OutOfTurn, tally)?;
+    try_early(rt, feed, 2, Refused::NotReady, tally)?;
+    try_early(rt, feed, 1, Refused::NotIdle, tally)?;
+    try_refused(rt, feed, (2, 22), claim(0, 0), Refused::NotReady, tally)
 }
 
 fn try_early_ends<R>(rt: &R, feed: &[u8], tally: &mut Tally) -> Result<()>
@@ -181,28 +206,26 @@ where
 {
     for kept in 0..22usize {
         let place = if kept < 12 { 0 } else { 1 };
-        try_stop(
-            rt,
-            feed,
-            1,
-            (kept, &[]),
-            ScheduleFault::Unfinished(place),
-            tally,
-        )?;
+        let wanted = ScheduleFault::Unfinished(place);
+        try_stop(rt, feed, 1, (kept, &[]), wanted, tally)?;
     }
     Ok(())
 }
 
 // ---- devices
 
-// A source that fails at once, and a sink that fails after five bytes.
-fn fails_well(alloc: Global, feed: &[u8], events: &[Event]) -> (bool, bool) {
+// A source that fails at once.
+fn is_unread(alloc: Global, feed: &[u8], events: &[Event]) -> bool {
     let mut source = Counted::new(Reader::new(feed, 7, 0));
     let mut sink = Counted::new(Vec::new(alloc));
     let stop = apply_schedule(alloc, &mut source, &mut sink, 1, events).err();
     let unread = ScheduleStop::Fault(broken(0, FaultCode::Read));
     let text = sink.into_inner();
-    let is_unread = stop == Some(unread) && text.is_empty();
+    stop == Some(unread) && text.is_empty()
+}
+
+// A sink that fails after five bytes.
+fn is_unwritten(alloc: Global, feed: &[u8], events: &[Event]) -> bool {
     let mut sink = Counted::new(Writer {
         held: Vec::new(alloc),
         calls: 5,
@@ -210,10 +233,7 @@ fn fails_well(alloc: Global, feed: &[u8], events: &[Event]) -> (bool, bool) {
     let stop = apply_schedule(alloc, &mut Counted::new(feed), &mut sink, 1, events).err();
     let unwritten = ScheduleStop::Fault(Fault::Write { written: 5 });
     let text = sink.into_inner().held;
-    (
-        is_unread,
-        stop == Some(unwritten) && text.as_slice() == b"batch".as_slice(),
-    )
+    stop == Some(unwritten) && text.as_slice() == b"batch".as_slice()
 }
 
 fn try_devices<R>(rt: &R, feed: &[u8], tally: &mut Tally) -> Result<()>
@@ -222,12 +242,27 @@ where
 {
     let alloc: Global = rt.alloc();
     let events = whole(alloc, 0, 0)?;
-    let (is_unread, is_unwritten) = fails_well(alloc, feed, &events);
-    tally.note(rt, "a source that fails a schedule", is_unread)?;
-    tally.note(rt, "a sink that fails a schedule", is_unwritten)?;
+    let is_right = is_unread(alloc, feed, &events);
+    tally.note(rt, "a source that fails a schedule", is_right);
+    let is_right = is_unwritten(alloc, feed, &events);
+    tally.note(rt, "a sink that fails a schedule", is_right);
     let cut = part(feed, 0, feed.len().saturating_sub(1));
     let is_right = stops(alloc, cut, 1, &events, ScheduleStop::Fault(cut_at(123)));
-    tally.note(rt, "a schedule of a feed that is cut", is_right)
+    tally.note(rt, "a schedule of a feed that is cut", is_right);
+    Ok(())
+}
+
+fn try_all<R>(rt: &R, feed: &[u8], tally: &mut Tally) -> Result<()>
+where
+    R: AllocGlobal + Eprint,
+{
+    try_whole(rt, feed, 1, (0, 0), tally)?;
+    try_whole(rt, feed, 2, (1, 0), tally)?;
+    try_whole(rt, feed, 64, (63, 17), tally)?;
+    try_first(rt, feed, tally)?;
+    try_later(rt, feed, tally)?;
+    try_early_ends(rt, feed, tally)?;
+    try_devices(rt, feed, tally)
 }
 
 /// Whole runs, events that are refused, lists that end early, and devices that fail.
@@ -236,9 +271,5 @@ where
     R: AllocGlobal + Eprint,
 {
     let feed = made(rt.alloc(), SCRIPT)?;
-    try_whole(rt, &feed, tally)?;
-    try_first(rt, &feed, tally)?;
-    try_later(rt, &feed, tally)?;
-    try_early_ends(rt, &feed, tally)?;
-    try_devices(rt, &feed, tally)
+    try_all(rt, &feed, tally)
 }
