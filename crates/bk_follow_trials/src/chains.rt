@@ -1,12 +1,13 @@
 //! Chains of rounds of which nothing is committed for long, settled after each frame.
 
-use crate::ended::{replayed, reports, takes};
+use crate::ended::{replays, reports, takes};
 use crate::made::{ends_of, frame, made, part};
 use crate::tally::Tally;
 use anyhow::Result;
 use bk_pool::Open;
 use bk_replay::Follower;
 use std::alloc::Global;
+use std::fmt::Write;
 use std::sync::Wait;
 use std::thread::Threads;
 
@@ -36,57 +37,93 @@ fn unnamed(round: u64) -> u64 {
     if round % 2 == 1 { round / 2 % 4 } else { 4 }
 }
 
-// The names of a round's certificates but one author's.
-fn names(alloc: Global, round: u64, but: u64) -> Result<String> {
-    let mut list = String::new(alloc);
+// The names of a round's certificates but one author's. A text is lent wherever it is written to: a function that owns it
+// drops it at each of its exits.
+fn put_names(text: &mut String, round: u64, but: u64) -> Result<()> {
+    let mut comma = "";
     for author in 0..4u64 {
         if author != but {
-            let comma = if list.is_empty() { "" } else { "," };
-            list.push_str(&format!(in alloc; "{comma}r{round}a{author}")?)?;
+            write!(text, "{comma}r{round}a{author}")?;
+            comma = ",";
         }
-    }
-    Ok(list)
-}
-
-// The four certificates of a round. Their parents are those of the round before without the unnamed one.
-fn put_round(alloc: Global, text: &mut String, round: u64) -> Result<()> {
-    let before = round.saturating_sub(1);
-    let named = names(alloc, before, unnamed(before))?;
-    let parents = if round == 1 { "-" } else { named.as_str() };
-    for author in 0..4u64 {
-        let batch = if round == 1 && author == 1 { "b" } else { "-" };
-        text.push_str(&format!(in alloc;
-            "cert r{round}a{author} {round} {author} {batch} {parents} 0,1,2\n"
-        )?)?;
     }
     Ok(())
 }
 
-// Nobody votes for an anchor but at the end: two members for that of the last round.
-fn unvoted_script(alloc: Global) -> Result<String> {
-    let mut text = format!(in alloc; "members 4\n{OPENING}")?;
-    for round in 0..ROUNDS {
-        put_round(alloc, &mut text, round.saturating_add(1))?;
+// The parents of a round: the certificates of the round before without the unnamed one.
+fn put_parents(text: &mut String, round: u64) -> Result<()> {
+    if round == 1 {
+        text.push_str("-")?;
+        return Ok(());
     }
-    let parents = names(alloc, ROUNDS, 3)?;
+    let before = round.saturating_sub(1);
+    put_names(text, before, unnamed(before))
+}
+
+fn put_cert(text: &mut String, round: u64, author: u64) -> Result<()> {
+    let batch = if round == 1 && author == 1 { "b" } else { "-" };
+    write!(text, "cert r{round}a{author} {round} {author} {batch} ")?;
+    put_parents(text, round)?;
+    text.push_str(" 0,1,2\n")?;
+    Ok(())
+}
+
+// The four certificates of a round.
+fn put_round(text: &mut String, round: u64) -> Result<()> {
+    for author in 0..4u64 {
+        put_cert(text, round, author)?;
+    }
+    Ok(())
+}
+
+fn put_vote(text: &mut String, author: u64) -> Result<()> {
     let votes = ROUNDS.saturating_add(1);
-    for author in 0..2u64 {
-        text.push_str(&format!(in alloc; "cert v{author} {votes} {author} - {parents} 0,1,2\n")?)?;
+    write!(text, "cert v{author} {votes} {author} - ")?;
+    put_names(text, ROUNDS, 3)?;
+    text.push_str(" 0,1,2\n")?;
+    Ok(())
+}
+
+// Nobody votes for an anchor but at the end: two members for that of the last round.
+fn put_unvoted(text: &mut String) -> Result<()> {
+    text.push_str("members 4\n")?;
+    text.push_str(OPENING)?;
+    for round in 0..ROUNDS {
+        put_round(text, round.saturating_add(1))?;
     }
+    put_vote(text, 0)?;
+    put_vote(text, 1)
+}
+
+fn unvoted_script(alloc: Global) -> Result<String> {
+    let mut text = String::new(alloc);
+    put_unvoted(&mut text)?;
     Ok(text)
 }
 
-// What the second vote commits: the anchor of the last round and all that is named.
-fn unvoted_lines(alloc: Global) -> Result<String> {
-    let mut lines = format!(in alloc; "anchor {ROUNDS} 0\n")?;
-    for round in 1..ROUNDS {
-        for author in 0..4u64 {
-            if author != unnamed(round) {
-                lines.push_str(&format!(in alloc; "cert {round} {author}\n")?)?;
-            }
+fn put_named(lines: &mut String, round: u64) -> Result<()> {
+    for author in 0..4u64 {
+        if author != unnamed(round) {
+            write!(lines, "cert {round} {author}\n")?;
         }
     }
-    lines.push_str(&format!(in alloc; "cert {ROUNDS} 0\n{PAID}")?)?;
+    Ok(())
+}
+
+// What the second vote commits: the anchor of the last round and all that is named.
+fn put_unvoted_lines(lines: &mut String) -> Result<()> {
+    write!(lines, "anchor {ROUNDS} 0\n")?;
+    for round in 1..ROUNDS {
+        put_named(lines, round)?;
+    }
+    write!(lines, "cert {ROUNDS} 0\n")?;
+    lines.push_str(PAID)?;
+    Ok(())
+}
+
+fn unvoted_lines(alloc: Global) -> Result<String> {
+    let mut lines = String::new(alloc);
+    put_unvoted_lines(&mut lines)?;
     Ok(lines)
 }
 
@@ -95,27 +132,46 @@ fn unvoted_lines(alloc: Global) -> Result<String> {
 // The last member weighs 1,000 of 1,127, and leads round 255 as its first.
 const HEAVY: &str = "members 128 faulty 375 quorum 752";
 
-// Rounds 1 to 256, each of one certificate, by the last member.
-fn led_late_script(alloc: Global) -> Result<String> {
-    let mut text = String::from_str(alloc, "version 2\nmembers 128 ")?;
+fn put_members(text: &mut String) -> Result<()> {
+    text.push_str("version 2\nmembers 128 ")?;
     for _ in 0..127u8 {
         text.push_str("1,")?;
     }
-    text.push_str(&format!(in alloc; "1000\n{OPENING}cert r1 1 127 b - 127\n")?)?;
+    text.push_str("1000\n")?;
+    Ok(())
+}
+
+// Rounds 1 to 256, each of one certificate, by the last member.
+fn put_led_late(text: &mut String) -> Result<()> {
+    put_members(text)?;
+    text.push_str(OPENING)?;
+    text.push_str("cert r1 1 127 b - 127\n")?;
     for before in 1..256u64 {
         let round = before.saturating_add(1);
-        text.push_str(&format!(in alloc; "cert r{round} {round} 127 - r{before} 127\n")?)?;
+        write!(text, "cert r{round} {round} 127 - r{before} 127\n")?;
     }
+    Ok(())
+}
+
+fn led_late_script(alloc: Global) -> Result<String> {
+    let mut text = String::new(alloc);
+    put_led_late(&mut text)?;
     Ok(text)
 }
 
 // Round 256 commits all before it.
-fn led_late_lines(alloc: Global) -> Result<String> {
-    let mut lines = String::from_str(alloc, "anchor 255 127\n")?;
+fn put_led_late_lines(lines: &mut String) -> Result<()> {
+    lines.push_str("anchor 255 127\n")?;
     for round in 1..256u64 {
-        lines.push_str(&format!(in alloc; "cert {round} 127\n")?)?;
+        write!(lines, "cert {round} 127\n")?;
     }
     lines.push_str(PAID)?;
+    Ok(())
+}
+
+fn led_late_lines(alloc: Global) -> Result<String> {
+    let mut lines = String::new(alloc);
+    put_led_late_lines(&mut lines)?;
     Ok(lines)
 }
 
@@ -170,19 +226,98 @@ where
 }
 
 // A chain, with its reports before its last frame and after it.
-fn try_chain<R>(rt: &R, script: &str, texts: (&str, &str), tally: &mut Tally) -> Result<()>
+fn try_followed<R>(rt: &R, feed: &[u8], ends: &[usize], texts: (&str, &str), tally: &mut Tally)
+where
+    R: AllocGlobal + Eprint + Threads + Wait + Sync,
+{
+    let is_right = is_followed(rt, feed, ends, texts);
+    tally.note(rt, "a long chain, frame by frame", is_right);
+    let last = ends.get(ends.len().saturating_sub(2)).copied().unwrap_or(0);
+    let is_right = replays(rt, part(feed, 0, last), 2, texts.0);
+    tally.note(rt, "a long chain that commits nothing", is_right);
+    let is_right = replays(rt, feed, 2, texts.1);
+    tally.note(rt, "a long chain, replayed", is_right);
+}
+
+fn try_feed<R>(rt: &R, feed: &[u8], texts: (&str, &str), tally: &mut Tally) -> Result<()>
+where
+    R: AllocGlobal + Eprint + Threads + Wait + Sync,
+{
+    let ends = ends_of(rt.alloc(), feed)?;
+    try_followed(rt, feed, &ends, texts, tally);
+    Ok(())
+}
+
+fn try_script<R>(rt: &R, script: &str, texts: (&str, &str), tally: &mut Tally) -> Result<()>
 where
     R: AllocGlobal + Eprint + Threads + Wait + Sync,
 {
     let feed = made(rt.alloc(), script)?;
-    let ends = ends_of(rt.alloc(), &feed)?;
-    let is_right = is_followed(rt, &feed, &ends, texts);
-    tally.note(rt, "a long chain, frame by frame", is_right)?;
-    let last = ends.get(ends.len().saturating_sub(2)).copied().unwrap_or(0);
-    let is_right = replayed(rt, part(&feed, 0, last), 2).is_report(texts.0);
-    tally.note(rt, "a long chain that commits nothing", is_right)?;
-    let is_right = replayed(rt, &feed, 2).is_report(texts.1);
-    tally.note(rt, "a long chain, replayed", is_right)
+    try_feed(rt, &feed, texts, tally)
+}
+
+// The lines of the report after so many frames, of which the last one commits all that came.
+fn try_after<R>(
+    rt: &R,
+    script: &str,
+    (committee, before): (&str, &str),
+    (frames, lines): (u64, &str),
+    tally: &mut Tally,
+) -> Result<()>
+where
+    R: AllocGlobal + Eprint + Threads + Wait + Sync,
+{
+    let after = report(rt.alloc(), committee, frames, lines)?;
+    try_script(rt, script, (before, after.as_str()), tally)
+}
+
+fn try_chain<R>(
+    rt: &R,
+    script: &str,
+    committee: &str,
+    (frames, lines): (u64, &str),
+    tally: &mut Tally,
+) -> Result<()>
+where
+    R: AllocGlobal + Eprint + Threads + Wait + Sync,
+{
+    let before = report(rt.alloc(), committee, frames.saturating_sub(1), UNPAID)?;
+    let texts = (committee, before.as_str());
+    try_after(rt, script, texts, (frames, lines), tally)
+}
+
+// The committee, the genesis, the batch, 804 certificates and two votes.
+fn try_four<R>(rt: &R, script: &str, tally: &mut Tally) -> Result<()>
+where
+    R: AllocGlobal + Eprint + Threads + Wait + Sync,
+{
+    let lines = unvoted_lines(rt.alloc())?;
+    try_chain(rt, script, FOUR, (809, lines.as_str()), tally)
+}
+
+// The committee, the genesis, the batch and 256 certificates.
+fn try_heavy<R>(rt: &R, script: &str, tally: &mut Tally) -> Result<()>
+where
+    R: AllocGlobal + Eprint + Threads + Wait + Sync,
+{
+    let lines = led_late_lines(rt.alloc())?;
+    try_chain(rt, script, HEAVY, (259, lines.as_str()), tally)
+}
+
+fn try_unvoted<R>(rt: &R, tally: &mut Tally) -> Result<()>
+where
+    R: AllocGlobal + Eprint + Threads + Wait + Sync,
+{
+    let script = unvoted_script(rt.alloc())?;
+    try_four(rt, script.as_str(), tally)
+}
+
+fn try_led_late<R>(rt: &R, tally: &mut Tally) -> Result<()>
+where
+    R: AllocGlobal + Eprint + Threads + Wait + Sync,
+{
+    let script = led_late_script(rt.alloc())?;
+    try_heavy(rt, script.as_str(), tally)
 }
 
 /// Rounds without votes and rounds without a leader's certificate, of which the last frame commits all that came.
@@ -190,25 +325,6 @@ pub(crate) fn try_chains<R>(rt: &R, tally: &mut Tally) -> Result<()>
 where
     R: AllocGlobal + Eprint + Threads + Wait + Sync,
 {
-    let alloc: Global = rt.alloc();
-    // The committee, the genesis, the batch, 804 certificates and two votes.
-    let before = report(alloc, FOUR, 808, UNPAID)?;
-    let after = report(alloc, FOUR, 809, unvoted_lines(alloc)?.as_str())?;
-    let script = unvoted_script(alloc)?;
-    try_chain(
-        rt,
-        script.as_str(),
-        (before.as_str(), after.as_str()),
-        tally,
-    )?;
-    // The committee, the genesis, the batch and 256 certificates.
-    let before = report(alloc, HEAVY, 258, UNPAID)?;
-    let after = report(alloc, HEAVY, 259, led_late_lines(alloc)?.as_str())?;
-    let script = led_late_script(alloc)?;
-    try_chain(
-        rt,
-        script.as_str(),
-        (before.as_str(), after.as_str()),
-        tally,
-    )
+    try_unvoted(rt, tally)?;
+    try_led_late(rt, tally)
 }

@@ -66,12 +66,39 @@ where
     Ended::new(end, sink.into_inner())
 }
 
+/// Whether a replay of a feed has just this report.
+pub(crate) fn replays<R>(rt: &R, feed: &[u8], workers: usize, wanted: &str) -> bool
+where
+    R: AllocGlobal + Threads + Wait + Sync,
+{
+    let ended = replayed(rt, feed, workers);
+    ended.is_report(wanted)
+}
+
+/// Whether a Follower reports just this once.
+fn reports_once<R>(rt: &R, follower: &mut Follower, wanted: &str) -> bool
+where
+    R: AllocGlobal + Threads + Wait + Sync,
+{
+    let ended = finished(rt, follower);
+    ended.is_report(wanted)
+}
+
+/// Whether a Follower that is ended here has this fault.
+pub(crate) fn ends_in_fault<R>(rt: &R, follower: &mut Follower, fault: &Fault) -> bool
+where
+    R: AllocGlobal + Threads + Wait + Sync,
+{
+    let ended = finished(rt, follower);
+    ended.is_fault(fault)
+}
+
 /// Whether a Follower reports just this, however often its feed is ended here.
 pub(crate) fn reports<R>(rt: &R, follower: &mut Follower, wanted: &str) -> bool
 where
     R: AllocGlobal + Threads + Wait + Sync,
 {
-    finished(rt, follower).is_report(wanted) && finished(rt, follower).is_report(wanted)
+    reports_once(rt, follower, wanted) && reports_once(rt, follower, wanted)
 }
 
 /// Whether a Follower takes a piece.

@@ -13,21 +13,36 @@ use std::thread::Threads;
 
 // ---- ends
 
-// Whether the feed is reported after each frame from the genesis on, of which it takes the bytes one by one.
-fn reports_frames<R>(rt: &R, follower: &mut Follower, feed: &[u8]) -> Result<bool>
+// Whether a report of so many frames is written after these bytes, which come one by one.
+fn reports_after_each<R>(
+    rt: &R,
+    follower: &mut Follower,
+    bytes: &[u8],
+    (frames, lines): (u64, &str),
+) -> Result<bool>
+where
+    R: AllocGlobal + Threads + Wait + Sync,
+{
+    let wanted = report(rt.alloc(), frames, lines)?;
+    Ok(takes_each(rt, follower, bytes) && reports(rt, follower, wanted.as_str()))
+}
+
+// Whether the feed is reported after each frame from the genesis on.
+fn reports_frames<R>(
+    rt: &R,
+    follower: &mut Follower,
+    feed: &[u8],
+    rows: &[(usize, u64, &str)],
+) -> Result<bool>
 where
     R: AllocGlobal + Threads + Wait + Sync,
 {
     let mut start = 0usize;
-    for (end, frames, lines) in REPORTS {
-        let wanted = report(rt.alloc(), frames, lines)?;
-        if !takes_each(rt, follower, part(feed, start, end)) {
+    for (end, frames, lines) in rows {
+        if !reports_after_each(rt, follower, part(feed, start, *end), (*frames, lines))? {
             return Ok(false);
         }
-        if !reports(rt, follower, wanted.as_str()) {
-            return Ok(false);
-        }
-        start = end;
+        start = *end;
     }
     Ok(true)
 }
@@ -37,9 +52,23 @@ where
     R: AllocGlobal + Threads + Wait + Sync,
 {
     let mut follower = Follower::new(rt.alloc(), 2);
-    let is_right = reports_frames(rt, &mut follower, feed);
+    let is_right = reports_frames(rt, &mut follower, feed, &REPORTS);
     follower.discard();
     is_right
+}
+
+// Whether a report of so many frames is written after these bytes, which come at once.
+fn reports_after<R>(
+    rt: &R,
+    follower: &mut Follower,
+    bytes: &[u8],
+    (frames, lines): (u64, &str),
+) -> Result<bool>
+where
+    R: AllocGlobal + Threads + Wait + Sync,
+{
+    let wanted = report(rt.alloc(), frames, lines)?;
+    Ok(takes(rt, follower, bytes) && reports(rt, follower, wanted.as_str()))
 }
 
 // Whether the feed is reported before its last frame, and after it.
@@ -47,12 +76,9 @@ fn reports_both<R>(rt: &R, follower: &mut Follower, feed: &[u8]) -> Result<bool>
 where
     R: AllocGlobal + Threads + Wait + Sync,
 {
-    let (first, both) = (report(rt.alloc(), 7, FIRST)?, report(rt.alloc(), 8, BOTH)?);
     Ok(
-        takes(rt, follower, part(feed, 0, 532))
-            && reports(rt, follower, first.as_str())
-            && takes(rt, follower, part(feed, 532, 625))
-            && reports(rt, follower, both.as_str()),
+        reports_after(rt, follower, part(feed, 0, 532), (7, FIRST))?
+            && reports_after(rt, follower, part(feed, 532, 625), (8, BOTH))?,
     )
 }
 
@@ -92,6 +118,16 @@ fn has_receipts(follower: &Follower, places: u32) -> bool {
     has_last && has_no_more
 }
 
+// Whether a byte settles so many places, and so many are settled with them.
+fn settles_byte<R>(rt: &R, follower: &mut Follower, byte: &[u8], (step, places): (u32, u32)) -> bool
+where
+    R: AllocGlobal + Threads + Wait + Sync,
+{
+    takes(rt, follower, byte)
+        && follower.settle(rt, &Open).ok() == Some(step as usize)
+        && has_receipts(follower, places)
+}
+
 // Whether these steps are settled, where it settles after each byte, and this report is written.
 fn settles_steps<R>(
     rt: &R,
@@ -108,10 +144,7 @@ where
         end = end.saturating_add(1);
         let step = settled_at(steps, end);
         places = places.saturating_add(step);
-        if !takes(rt, follower, byte) || follower.settle(rt, &Open).ok() != Some(step as usize) {
-            return false;
-        }
-        if !has_receipts(follower, places) {
+        if !settles_byte(rt, follower, byte, (step, places)) {
             return false;
         }
     }
@@ -128,36 +161,97 @@ where
     is_right
 }
 
+// The same with the frames in another order.
+fn settles_turned<R>(
+    rt: &R,
+    feed: &[u8],
+    order: &[usize],
+    steps: &[(usize, u32)],
+    wanted: &str,
+) -> Result<bool>
+where
+    R: AllocGlobal + Threads + Wait + Sync,
+{
+    let turned = with_frames(rt.alloc(), feed, order)?;
+    Ok(turned.len() == 625 && settles(rt, &turned, steps, wanted))
+}
+
 // Round 2 makes the first payment a part of the order, and round 4 the second.
+const IN_ORDER: [(usize, u32); 2] = [(407, 1), (625, 1)];
+
+// The certificates and then the second batch: the order stops at the first, which comes last.
+const REVERSED: [usize; 6] = [7, 6, 5, 4, 3, 2];
+
+// The second batch last.
+const LATE: [usize; 6] = [7, 2, 6, 5, 4, 3];
+
+fn try_orders<R>(rt: &R, feed: &[u8], wanted: &str, tally: &mut Tally) -> Result<()>
+where
+    R: AllocGlobal + Eprint + Threads + Wait + Sync,
+{
+    let is_right = settles(rt, feed, &IN_ORDER, wanted);
+    tally.note(rt, "settling after each byte", is_right);
+    let is_right = settles_turned(rt, feed, &REVERSED, &[(625, 2)], wanted)?;
+    tally.note(rt, "settling frames in reverse", is_right);
+    let is_right = settles_turned(rt, feed, &LATE, &[(564, 1), (625, 1)], wanted)?;
+    tally.note(rt, "settling before the last batch", is_right);
+    Ok(())
+}
+
 fn try_two_commits<R>(rt: &R, feed: &[u8], tally: &mut Tally) -> Result<()>
 where
     R: AllocGlobal + Eprint + Threads + Wait + Sync,
 {
-    let alloc: Global = rt.alloc();
-    let wanted = report(alloc, 8, BOTH)?;
-    let is_right = settles(rt, feed, &[(407, 1), (625, 1)], wanted.as_str());
-    tally.note(rt, "settling after each byte", is_right)?;
-    // The certificates and then the second batch: the order stops at the first, which comes last.
-    let turned = with_frames(alloc, feed, &[7, 6, 5, 4, 3, 2])?;
-    let is_right = turned.len() == 625 && settles(rt, &turned, &[(625, 2)], wanted.as_str());
-    tally.note(rt, "settling frames in reverse", is_right)?;
-    // The second batch last.
-    let turned = with_frames(alloc, feed, &[7, 2, 6, 5, 4, 3])?;
-    let steps = [(564usize, 1u32), (625, 1)];
-    let is_right = turned.len() == 625 && settles(rt, &turned, &steps, wanted.as_str());
-    tally.note(rt, "settling before the last batch", is_right)
+    let wanted = report(rt.alloc(), 8, BOTH)?;
+    try_orders(rt, feed, wanted.as_str(), tally)
 }
 
 // The frames end at 42, 99, 160, 253, 346, 471 and 564. Round 2 commits round 1 with its payment.
+fn settles_once<R>(rt: &R, feed: &[u8]) -> Result<bool>
+where
+    R: AllocGlobal + Threads + Wait + Sync,
+{
+    let wanted = report(rt.alloc(), 7, REPEATED_LINES)?;
+    Ok(feed.len() == 564 && settles(rt, feed, &[(346, 1)], wanted.as_str()))
+}
+
 fn try_repeated<R>(rt: &R, tally: &mut Tally) -> Result<()>
 where
     R: AllocGlobal + Eprint + Threads + Wait + Sync,
 {
-    let alloc: Global = rt.alloc();
-    let feed = made(alloc, REPEATED)?;
-    let wanted = report(alloc, 7, REPEATED_LINES)?;
-    let is_right = feed.len() == 564 && settles(rt, &feed, &[(346, 1)], wanted.as_str());
-    tally.note(rt, "a batch that is named twice", is_right)
+    let feed = made(rt.alloc(), REPEATED)?;
+    let is_right = settles_once(rt, &feed)?;
+    tally.note(rt, "a batch that is named twice", is_right);
+    Ok(())
+}
+
+fn try_workers<R>(rt: &R, feed: &[u8], workers: &[usize], tally: &mut Tally) -> Result<()>
+where
+    R: AllocGlobal + Eprint + Threads + Wait + Sync,
+{
+    for count in workers {
+        let is_right = goes_on_after_end(rt, feed, *count)?;
+        tally.note(rt, "a feed that goes on after its end", is_right);
+    }
+    Ok(())
+}
+
+fn try_ends<R>(rt: &R, feed: &[u8], tally: &mut Tally) -> Result<()>
+where
+    R: AllocGlobal + Eprint + Threads + Wait + Sync,
+{
+    let is_right = reports_each_frame(rt, feed)?;
+    tally.note(rt, "an end after each frame", is_right);
+    try_workers(rt, feed, &[1, 2, 64], tally)?;
+    try_two_commits(rt, feed, tally)
+}
+
+fn try_made<R>(rt: &R, tally: &mut Tally) -> Result<()>
+where
+    R: AllocGlobal + Eprint + Threads + Wait + Sync,
+{
+    let feed = made(rt.alloc(), TWO_COMMITS)?;
+    try_ends(rt, &feed, tally)
 }
 
 /// Ends after each frame, and settling after each byte.
@@ -165,13 +259,6 @@ pub(crate) fn try_going_on<R>(rt: &R, tally: &mut Tally) -> Result<()>
 where
     R: AllocGlobal + Eprint + Threads + Wait + Sync,
 {
-    let feed = made(rt.alloc(), TWO_COMMITS)?;
-    let is_right = reports_each_frame(rt, &feed)?;
-    tally.note(rt, "an end after each frame", is_right)?;
-    for workers in [1usize, 2, 64] {
-        let is_right = goes_on_after_end(rt, &feed, workers)?;
-        tally.note(rt, "a feed that goes on after its end", is_right)?;
-    }
-    try_two_commits(rt, &feed, tally)?;
+    try_made(rt, tally)?;
     try_repeated(rt, tally)
 }

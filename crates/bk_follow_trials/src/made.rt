@@ -25,18 +25,31 @@ pub(crate) fn has_digest(bytes: &[u8], digest: &str) -> bool {
     Digest32::parse_hex(digest.as_bytes()) == Some(Digest32::of(bytes))
 }
 
-/// Where the magic, and each frame after it, ends.
-pub(crate) fn ends_of(alloc: Global, feed: &[u8]) -> Result<Vec<usize>> {
-    let mut ends = vec![in alloc; 4usize]?;
+// Where the frame that begins here ends, if it begins in the feed.
+fn end_of(feed: &[u8], begin: usize) -> Option<usize> {
+    let [_, a, b, c, d] = feed.get(begin..)?.first_chunk::<5>()?;
+    let length = u32::from_be_bytes([*a, *b, *c, *d]) as usize;
+    Some(begin.saturating_add(5).saturating_add(length))
+}
+
+// The list is lent: a function that owns it drops it at each of its exits.
+fn put_ends(ends: &mut Vec<usize>, feed: &[u8]) -> Result<()> {
     let mut end = 4usize;
+    ends.push(end)?;
     for _ in 0..feed.len() {
-        let Some([_, a, b, c, d]) = feed.get(end..).and_then(|rest| rest.first_chunk::<5>()) else {
-            break;
-        };
-        let length = u32::from_be_bytes([*a, *b, *c, *d]) as usize;
-        end = end.saturating_add(5).saturating_add(length);
+        match end_of(feed, end) {
+            Some(next) => end = next,
+            None => break,
+        }
         ends.push(end)?;
     }
+    Ok(())
+}
+
+/// Where the magic, and each frame after it, ends.
+pub(crate) fn ends_of(alloc: Global, feed: &[u8]) -> Result<Vec<usize>> {
+    let mut ends = Vec::new(alloc);
+    put_ends(&mut ends, feed)?;
     Ok(ends)
 }
 
@@ -47,13 +60,18 @@ pub(crate) fn frame<'a>(feed: &'a [u8], ends: &[usize], index: usize) -> &'a [u8
     part(feed, first, last)
 }
 
+fn put_frames(made: &mut Vec<u8>, feed: &[u8], ends: &[usize], order: &[usize]) -> Result<()> {
+    for index in order {
+        made.extend_from_slice(frame(feed, ends, *index))?;
+    }
+    Ok(())
+}
+
 /// The magic, the committee and the genesis, and then these frames.
 pub(crate) fn with_frames(alloc: Global, feed: &[u8], order: &[usize]) -> Result<Vec<u8>> {
     let ends = ends_of(alloc, feed)?;
     let head = ends.get(2).copied().unwrap_or(0);
     let mut made = Vec::from_slice(alloc, part(feed, 0, head))?;
-    for index in order {
-        made.extend_from_slice(frame(feed, &ends, *index))?;
-    }
+    put_frames(&mut made, feed, &ends, order)?;
     Ok(made)
 }

@@ -1,6 +1,6 @@
 //! Forty batches, settled as they come and replayed, against the same batches one transaction at a time.
 
-use crate::ended::{finished, replayed, takes};
+use crate::ended::{Ended, finished, replayed, takes};
 use crate::made::{ends_of, frame, made, part};
 use crate::tally::Tally;
 use anyhow::Result;
@@ -8,6 +8,7 @@ use bk_frames::Counted;
 use bk_pool::Open;
 use bk_replay::{Follower, Status, apply};
 use std::alloc::Global;
+use std::fmt::Write;
 use std::str;
 use std::sync::Wait;
 use std::thread::Threads;
@@ -18,71 +19,102 @@ const BATCHES: u64 = 40;
 const PLACES: usize = 8 * 7 + 172;
 
 // Account 1 pays 2 to one that comes to be by that in version Two, and that one pays 1 to account 2.
-fn put_fresh(alloc: Global, text: &mut String, k: u64, seq: u64) -> Result<()> {
+fn put_fresh(text: &mut String, k: u64, seq: u64) -> Result<()> {
     let id = 200u64.saturating_sub(k / 3);
-    text.push_str(&format!(in alloc; "pay 1 {id} 2 {seq}\npay {id} 2 1 0\n")?)?;
+    write!(text, "pay 1 {id} 2 {seq}\npay {id} 2 1 0\n")?;
     Ok(())
 }
 
 // Account 2 pays 3 to account 3, twice with the same number.
-fn put_known(alloc: Global, text: &mut String, seq: u64) -> Result<()> {
-    text.push_str(&format!(in alloc; "pay 2 3 3 {seq}\npay 2 3 3 {seq}\n")?)?;
+fn put_known(text: &mut String, seq: u64) -> Result<()> {
+    write!(text, "pay 2 3 3 {seq}\npay 2 3 3 {seq}\n")?;
+    Ok(())
+}
+
+// One malformed transaction. No batch has the bytes of another one: it would be executed once.
+fn put_raw(text: &mut String, k: u64) -> Result<()> {
+    let byte = k.saturating_add(10);
+    write!(text, "raw {byte}\n")?;
+    Ok(())
+}
+
+fn put_many_raw(text: &mut String, count: u64) -> Result<()> {
+    for _ in 0..count {
+        text.push_str("raw -\n")?;
+    }
     Ok(())
 }
 
 // Batches of five kinds: with a new account, the same account again, accounts of the opening, one malformed transaction
-// and so many of them.
-fn put_batches(alloc: Global, text: &mut String) -> Result<()> {
+// and so many of them. So many batches before this one have a new account or the same again.
+fn put_batch(text: &mut String, k: u64, paid: u64) -> Result<()> {
+    write!(text, "batch b{k}\n")?;
+    match k % 5 {
+        0 | 1 => put_fresh(text, k, paid),
+        2 => put_known(text, k / 5),
+        3 => put_raw(text, k),
+        _ => put_many_raw(text, k),
+    }
+}
+
+fn put_batches(text: &mut String) -> Result<()> {
     let mut paid = 0u64;
     for k in 0..BATCHES {
-        text.push_str(&format!(in alloc; "batch b{k}\n")?)?;
-        match k % 5 {
-            0 | 1 => {
-                put_fresh(alloc, text, k, paid)?;
-                paid = paid.saturating_add(1);
-            }
-            2 => put_known(alloc, text, k / 5)?,
-            3 => {
-                // No batch has the bytes of another one: it would be executed once.
-                let byte = k.saturating_add(10);
-                text.push_str(&format!(in alloc; "raw {byte}\n")?)?;
-            }
-            _ => {
-                for _ in 0..k {
-                    text.push_str("raw -\n")?;
-                }
-            }
+        put_batch(text, k, paid)?;
+        if k % 5 < 2 {
+            paid = paid.saturating_add(1);
         }
     }
     Ok(())
 }
 
-// Round 1 names all batches. There are so many accounts beside the three that pay.
-fn script_of(alloc: Global, version: u64, others: u64) -> Result<String> {
-    let mut text = format!(in alloc;
-        "version {version}\nmembers 1\naccount 1 100\naccount 2 50\naccount 3 10\n"
-    )?;
+// There are so many accounts beside the three that pay.
+fn put_opening(text: &mut String, version: u64, others: u64) -> Result<()> {
+    write!(text, "version {version}\n")?;
+    text.push_str("members 1\naccount 1 100\naccount 2 50\naccount 3 10\n")?;
     for other in 0..others {
         let id = other.saturating_add(1_000);
-        text.push_str(&format!(in alloc; "account {id} 1\n")?)?;
+        write!(text, "account {id} 1\n")?;
     }
-    put_batches(alloc, &mut text)?;
+    Ok(())
+}
+
+// Round 1 names all batches.
+fn put_rounds(text: &mut String) -> Result<()> {
     text.push_str("cert a 1 0 b0")?;
     for k in 1..BATCHES {
-        text.push_str(&format!(in alloc; ",b{k}")?)?;
+        write!(text, ",b{k}")?;
     }
     text.push_str(" - 0\ncert b 2 0 - a 0\n")?;
-    Ok(text)
+    Ok(())
+}
+
+// The text is lent wherever it is written to: a function that owns it drops it at each of its exits.
+fn put_script(text: &mut String, version: u64, others: u64) -> Result<()> {
+    put_opening(text, version, others)?;
+    put_batches(text)?;
+    put_rounds(text)
+}
+
+fn feed_of(alloc: Global, version: u64, others: u64) -> Result<Vec<u8>> {
+    let mut script = String::new(alloc);
+    put_script(&mut script, version, others)?;
+    made(alloc, script.as_str())
 }
 
 // The certificates first, so that each batch is executed when it comes.
-fn turned(alloc: Global, feed: &[u8]) -> Result<Vec<u8>> {
-    let ends = ends_of(alloc, feed)?;
+fn put_turned(made: &mut Vec<u8>, feed: &[u8], ends: &[usize]) -> Result<()> {
     let head = ends.get(2).copied().unwrap_or(0);
     let batches = ends.get(42).copied().unwrap_or(0);
-    let mut made = Vec::from_slice(alloc, part(feed, 0, head))?;
+    made.extend_from_slice(part(feed, 0, head))?;
     made.extend_from_slice(part(feed, batches, feed.len()))?;
     made.extend_from_slice(part(feed, head, batches))?;
+    Ok(())
+}
+
+fn turned(alloc: Global, feed: &[u8], ends: &[usize]) -> Result<Vec<u8>> {
+    let mut made = Vec::new(alloc);
+    put_turned(&mut made, feed, ends)?;
     Ok(made)
 }
 
@@ -101,15 +133,20 @@ fn ends_in(run: &[u8], apply: &[u8]) -> bool {
     part(run, 0, run.len().saturating_sub(state)).ends_with(apply)
 }
 
+fn has_line(text: &str, line: &str) -> bool {
+    for found in text.lines() {
+        if found == line {
+            return true;
+        }
+    }
+    false
+}
+
 // Whether a report has these lines.
 fn has_lines(report: &[u8], wanted: &[&str]) -> Result<bool> {
     let text = str::from_utf8(report)?;
     for line in wanted {
-        let mut is_there = false;
-        for found in text.lines() {
-            is_there = is_there || found == *line;
-        }
-        if !is_there {
+        if !has_line(text, line) {
             return Ok(false);
         }
     }
@@ -130,28 +167,52 @@ const LINES_TWO: [&str; 5] = [
 
 // ---- runs
 
-// Whether a Follower that settles each frame comes to this report, and executes each transaction in one of the settles.
-fn settles_frames<R>(rt: &R, follower: &mut Follower, feed: &[u8], wanted: &[u8]) -> Result<bool>
+// How many places all frames settle, one after the other. None where a frame is not taken.
+fn settled<R>(rt: &R, follower: &mut Follower, feed: &[u8], ends: &[usize]) -> Result<Option<usize>>
 where
     R: AllocGlobal + Threads + Wait + Sync,
 {
-    let ends = ends_of(rt.alloc(), feed)?;
     if !takes(rt, follower, part(feed, 0, 4)) {
-        return Ok(false);
+        return Ok(None);
     }
     let mut places = 0usize;
     for index in 0..ends.len().saturating_sub(1) {
-        if !takes(rt, follower, frame(feed, &ends, index)) {
-            return Ok(false);
+        if !takes(rt, follower, frame(feed, ends, index)) {
+            return Ok(None);
         }
         places = places.saturating_add(follower.settle(rt, &Open)?);
     }
-    let ended = finished(rt, follower);
-    let is_report = ended.status == Some(Status::Whole) && ended.text.as_slice() == wanted;
-    Ok(is_report && places == PLACES)
+    Ok(Some(places))
 }
 
-fn settles<R>(rt: &R, feed: &[u8], workers: usize, wanted: &[u8]) -> Result<bool>
+fn is_whole(ended: &Ended, wanted: &[u8]) -> bool {
+    ended.status == Some(Status::Whole) && ended.text.as_slice() == wanted
+}
+
+fn ends_whole<R>(rt: &R, follower: &mut Follower, wanted: &[u8]) -> bool
+where
+    R: AllocGlobal + Threads + Wait + Sync,
+{
+    let ended = finished(rt, follower);
+    is_whole(&ended, wanted)
+}
+
+// Whether a Follower that settles each frame comes to this report, and executes each transaction in one of the settles.
+fn settles_frames<R>(
+    rt: &R,
+    follower: &mut Follower,
+    (feed, ends): (&[u8], &[usize]),
+    wanted: &[u8],
+) -> Result<bool>
+where
+    R: AllocGlobal + Threads + Wait + Sync,
+{
+    let places = settled(rt, follower, feed, ends)?;
+    Ok(places == Some(PLACES) && ends_whole(rt, follower, wanted))
+}
+
+// The Follower is owned here alone.
+fn is_settled<R>(rt: &R, feed: (&[u8], &[usize]), workers: usize, wanted: &[u8]) -> Result<bool>
 where
     R: AllocGlobal + Threads + Wait + Sync,
 {
@@ -161,23 +222,85 @@ where
     is_right
 }
 
+fn settles<R>(rt: &R, feed: &[u8], workers: usize, wanted: &[u8]) -> Result<bool>
+where
+    R: AllocGlobal + Threads + Wait + Sync,
+{
+    let ends = ends_of(rt.alloc(), feed)?;
+    is_settled(rt, (feed, &ends), workers, wanted)
+}
+
+// A feed, the same with its certificates first, and the report of its batches one transaction at a time.
+#[derive(Clone, Copy)]
+struct Case<'a> {
+    feed: &'a [u8],
+    turned: &'a [u8],
+    apply: &'a [u8],
+}
+
+fn try_run<R>(rt: &R, case: Case<'_>, workers: usize, tally: &mut Tally) -> Result<()>
+where
+    R: AllocGlobal + Eprint + Threads + Wait + Sync,
+{
+    let run = replayed(rt, case.feed, workers);
+    let is_right = run.status == Some(Status::Whole) && ends_in(&run.text, case.apply);
+    tally.note(rt, "forty batches replayed", is_right);
+    let is_right = settles(rt, case.turned, workers, &run.text)?;
+    tally.note(rt, "forty batches as they come", is_right);
+    Ok(())
+}
+
+fn try_case<R>(rt: &R, case: Case<'_>, lines: &[&str], tally: &mut Tally) -> Result<()>
+where
+    R: AllocGlobal + Eprint + Threads + Wait + Sync,
+{
+    let is_right = has_lines(case.apply, lines)?;
+    tally.note(rt, "forty batches one at a time", is_right);
+    try_run(rt, case, 1, tally)?;
+    try_run(rt, case, 8, tally)
+}
+
+fn try_turned<R>(
+    rt: &R,
+    feed: &[u8],
+    turned: &[u8],
+    lines: &[&str],
+    tally: &mut Tally,
+) -> Result<()>
+where
+    R: AllocGlobal + Eprint + Threads + Wait + Sync,
+{
+    let apply = applied(rt.alloc(), feed)?;
+    let case = Case {
+        feed,
+        turned,
+        apply: &apply,
+    };
+    try_case(rt, case, lines, tally)
+}
+
+fn try_ends<R>(rt: &R, feed: &[u8], ends: &[usize], lines: &[&str], tally: &mut Tally) -> Result<()>
+where
+    R: AllocGlobal + Eprint + Threads + Wait + Sync,
+{
+    let turned = turned(rt.alloc(), feed, ends)?;
+    try_turned(rt, feed, &turned, lines, tally)
+}
+
+fn try_made<R>(rt: &R, feed: &[u8], lines: &[&str], tally: &mut Tally) -> Result<()>
+where
+    R: AllocGlobal + Eprint + Threads + Wait + Sync,
+{
+    let ends = ends_of(rt.alloc(), feed)?;
+    try_ends(rt, feed, &ends, lines, tally)
+}
+
 fn try_feed<R>(rt: &R, version: u64, others: u64, lines: &[&str], tally: &mut Tally) -> Result<()>
 where
     R: AllocGlobal + Eprint + Threads + Wait + Sync,
 {
-    let alloc: Global = rt.alloc();
-    let feed = made(alloc, script_of(alloc, version, others)?.as_str())?;
-    let turned = turned(alloc, &feed)?;
-    let apply = applied(alloc, &feed)?;
-    tally.note(rt, "forty batches one at a time", has_lines(&apply, lines)?)?;
-    for workers in [1usize, 8] {
-        let run = replayed(rt, &feed, workers);
-        let is_right = run.status == Some(Status::Whole) && ends_in(&run.text, &apply);
-        tally.note(rt, "forty batches replayed", is_right)?;
-        let is_right = settles(rt, &turned, workers, &run.text)?;
-        tally.note(rt, "forty batches as they come", is_right)?;
-    }
-    Ok(())
+    let feed = feed_of(rt.alloc(), version, others)?;
+    try_made(rt, &feed, lines, tally)
 }
 
 /// Both versions, with three accounts and with some hundred.

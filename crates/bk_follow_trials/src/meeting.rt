@@ -7,6 +7,7 @@ use bk_frames::Counted;
 use bk_pool::Gate;
 use bk_replay::{Follower, Status, replay};
 use std::alloc::Global;
+use std::fmt::Write;
 use std::sync::Wait;
 use std::sync::atomic::{AtomicU64, Ordering};
 use std::thread;
@@ -53,36 +54,66 @@ fn pair(k: u64) -> (u64, u64) {
     (to.saturating_sub(1), to)
 }
 
-// Each odd account pays all that it has to the next one.
-fn apart(alloc: Global) -> Result<Vec<u8>> {
-    let mut script = String::from_str(alloc, "members 1\n")?;
+fn put_accounts(script: &mut String) -> Result<()> {
     for id in 1..=ACCOUNTS {
-        script.push_str(&format!(in alloc; "account {id} 10\n")?)?;
+        write!(script, "account {id} 10\n")?;
     }
-    script.push_str("batch b\n")?;
+    Ok(())
+}
+
+fn put_payments(script: &mut String) -> Result<()> {
     for k in 0..PAYMENTS {
         let (from, to) = pair(k);
-        script.push_str(&format!(in alloc; "pay {from} {to} 10 0\n")?)?;
+        write!(script, "pay {from} {to} 10 0\n")?;
     }
+    Ok(())
+}
+
+// Each odd account pays all that it has to the next one. The script is lent wherever it is written to: a function that owns
+// it drops it at each of its exits.
+fn put_script(script: &mut String) -> Result<()> {
+    script.push_str("members 1\n")?;
+    put_accounts(script)?;
+    script.push_str("batch b\n")?;
+    put_payments(script)?;
     script.push_str("cert a 1 0 b - 0\ncert b 2 0 - a 0\n")?;
+    Ok(())
+}
+
+fn apart(alloc: Global) -> Result<Vec<u8>> {
+    let mut script = String::new(alloc);
+    put_script(&mut script)?;
     made(alloc, script.as_str())
 }
 
-fn report_of(alloc: Global) -> Result<String> {
-    let mut text = String::from_str(
-        alloc,
-        "members 1 faulty 0 quorum 1\nframes 5\nanchor 1 0\ncert 1 0\nbatch 0 2048\n",
-    )?;
+fn put_receipts(text: &mut String) -> Result<()> {
     for k in 0..PAYMENTS {
-        text.push_str(&format!(in alloc; "tx {k} 0 10\n")?)?;
+        write!(text, "tx {k} 0 10\n")?;
     }
+    Ok(())
+}
+
+fn put_balances(text: &mut String) -> Result<()> {
     for k in 0..PAYMENTS {
         let (from, to) = pair(k);
-        text.push_str(&format!(in alloc; "account {from} 0 1\naccount {to} 20 0\n")?)?;
+        write!(text, "account {from} 0 1\naccount {to} 20 0\n")?;
     }
+    Ok(())
+}
+
+fn put_report(text: &mut String) -> Result<()> {
+    text.push_str("members 1 faulty 0 quorum 1\nframes 5\nanchor 1 0\ncert 1 0\nbatch 0 2048\n")?;
+    put_receipts(text)?;
+    put_balances(text)?;
     text.push_str(
         "money 40960\nstate 2954e5391f078a2a8c4d4b3063061a8a4b1313c6ce097a28a7d7c08107166923\n",
     )?;
+    Ok(())
+}
+
+fn report_of(alloc: Global) -> Result<String> {
+    let mut text = String::new(alloc);
+    put_report(&mut text)?;
     Ok(text)
 }
 
@@ -136,19 +167,27 @@ where
     }
 }
 
+fn try_feed<R>(rt: &R, feed: &[u8], tally: &mut Tally) -> Result<()>
+where
+    R: AllocGlobal + Eprint + Threads + Wait + Sync,
+{
+    let wanted = report_of(rt.alloc())?;
+    let is_right = meets(rt, feed, Some(wanted.as_str()));
+    tally.note(rt, "workers that overlap in a replay", is_right);
+    let is_right = meets(rt, feed, None);
+    tally.note(
+        rt,
+        "workers that overlap where a Follower settles",
+        is_right,
+    );
+    Ok(())
+}
+
 /// Two workers inside their places at once, in a replay and where a Follower settles.
 pub(crate) fn try_meetings<R>(rt: &R, tally: &mut Tally) -> Result<()>
 where
     R: AllocGlobal + Eprint + Threads + Wait + Sync,
 {
     let feed = apart(rt.alloc())?;
-    let wanted = report_of(rt.alloc())?;
-    let is_right = meets(rt, &feed, Some(wanted.as_str()));
-    tally.note(rt, "workers that overlap in a replay", is_right)?;
-    let is_right = meets(rt, &feed, None);
-    tally.note(
-        rt,
-        "workers that overlap where a Follower settles",
-        is_right,
-    )
+    try_feed(rt, &feed, tally)
 }

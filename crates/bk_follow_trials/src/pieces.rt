@@ -1,12 +1,11 @@
 //! A feed in pieces of several sizes, among them empty ones, and a feed that ends at each of its bytes.
 
-use crate::ended::{cut_at, finished, refuses, replayed, reports, takes};
+use crate::ended::{cut_at, ends_in_fault, refuses, replayed, replays, reports, takes};
 use crate::feeds::{BOTH, ENDS, REPORTS, TWO_COMMITS, TWO_COMMITS_DIGEST, report};
 use crate::made::{has_digest, made, part};
 use crate::tally::Tally;
 use anyhow::Result;
 use bk_replay::{Fault, Follower};
-use std::alloc::Global;
 use std::sync::Wait;
 use std::thread::Threads;
 
@@ -45,39 +44,48 @@ where
     is_right
 }
 
-fn try_sizes<R>(rt: &R, feed: &[u8], tally: &mut Tally) -> Result<()>
+const SIZES: [usize; 5] = [1, 2, 7, 64, 4_096];
+
+fn try_sizes<R>(rt: &R, feed: &[u8], sizes: &[usize], wanted: &str, tally: &mut Tally)
 where
     R: AllocGlobal + Eprint + Threads + Wait + Sync,
 {
-    let wanted = report(rt.alloc(), 8, BOTH)?;
-    for size in [1usize, 2, 7, 64, 4_096] {
-        let is_right = empty_pieces_are_nothing(rt, feed, size, wanted.as_str());
-        tally.note(rt, "empty pieces between others", is_right)?;
+    for size in sizes {
+        let is_right = empty_pieces_are_nothing(rt, feed, *size, wanted);
+        tally.note(rt, "empty pieces between others", is_right);
     }
-    Ok(())
 }
 
 // ---- feeds that are cut
 
-// The report of the feed that ends here, if there is one.
-fn report_at(alloc: Global, kept: usize) -> Result<Option<String>> {
-    for (end, frames, lines) in REPORTS {
-        if end == kept {
-            return Ok(Some(report(alloc, frames, lines)?));
+// The report of the feed that ends here, if there is one: how many frames it has, and its other lines.
+fn lines_at(rows: &[(usize, u64, &'static str)], kept: usize) -> Option<(u64, &'static str)> {
+    for (end, frames, lines) in rows {
+        if *end == kept {
+            return Some((*frames, *lines));
         }
     }
-    Ok(None)
+    None
 }
 
 // The fault of the feed that ends here: it names the frame that is not whole, or where the genesis is not there.
-fn fault_at(kept: usize) -> Fault {
+fn fault_at(ends: &[usize], kept: usize) -> Fault {
     let mut begun = 0usize;
-    for end in ENDS {
-        if end <= kept {
-            begun = end;
+    for end in ends {
+        if *end <= kept {
+            begun = *end;
         }
     }
     cut_at(begun as u64)
+}
+
+// Whether a replay of a feed has this fault.
+fn replay_fails<R>(rt: &R, feed: &[u8], fault: &Fault) -> bool
+where
+    R: AllocGlobal + Threads + Wait + Sync,
+{
+    let ended = replayed(rt, feed, 2);
+    ended.is_fault(fault)
 }
 
 // Whether a feed that ends early has this fault, which its other bytes do not mend.
@@ -86,10 +94,10 @@ where
     R: AllocGlobal + Threads + Wait + Sync,
 {
     takes(rt, follower, front)
-        && finished(rt, follower).is_fault(fault)
+        && ends_in_fault(rt, follower, fault)
         && refuses(rt, follower, rest, fault)
-        && finished(rt, follower).is_fault(fault)
-        && replayed(rt, front, 2).is_fault(fault)
+        && ends_in_fault(rt, follower, fault)
+        && replay_fails(rt, front, fault)
 }
 
 // Whether a feed is reported where it ends, and again after its other bytes.
@@ -99,40 +107,75 @@ where
 {
     takes(rt, follower, pieces.0)
         && reports(rt, follower, texts.0)
-        && replayed(rt, pieces.0, 2).is_report(texts.0)
+        && replays(rt, pieces.0, 2, texts.0)
         && takes(rt, follower, pieces.1)
         && reports(rt, follower, texts.1)
 }
 
-fn ends_well<R>(rt: &R, feed: &[u8], kept: usize, here: Option<&str>, whole: &str) -> bool
+// The Follower is owned by these two alone.
+fn is_cut_well<R>(rt: &R, front: &[u8], rest: &[u8], fault: &Fault) -> bool
 where
     R: AllocGlobal + Threads + Wait + Sync,
 {
-    let (front, rest) = (part(feed, 0, kept), part(feed, kept, feed.len()));
     let mut follower = Follower::new(rt.alloc(), 2);
-    let is_right = match here {
-        Some(text) => goes_on(rt, &mut follower, (front, rest), (text, whole)),
-        None => stays_cut(rt, &mut follower, front, rest, &fault_at(kept)),
-    };
+    let is_right = stays_cut(rt, &mut follower, front, rest, fault);
     follower.discard();
     is_right
 }
 
+fn is_whole_twice<R>(rt: &R, pieces: (&[u8], &[u8]), texts: (&str, &str)) -> bool
+where
+    R: AllocGlobal + Threads + Wait + Sync,
+{
+    let mut follower = Follower::new(rt.alloc(), 2);
+    let is_right = goes_on(rt, &mut follower, pieces, texts);
+    follower.discard();
+    is_right
+}
+
+fn is_reported<R>(
+    rt: &R,
+    pieces: (&[u8], &[u8]),
+    (frames, lines): (u64, &str),
+    whole: &str,
+) -> Result<bool>
+where
+    R: AllocGlobal + Threads + Wait + Sync,
+{
+    let text = report(rt.alloc(), frames, lines)?;
+    Ok(is_whole_twice(rt, pieces, (text.as_str(), whole)))
+}
+
+fn ends_well<R>(rt: &R, feed: &[u8], kept: usize, whole: &str) -> Result<bool>
+where
+    R: AllocGlobal + Threads + Wait + Sync,
+{
+    let (front, rest) = (part(feed, 0, kept), part(feed, kept, feed.len()));
+    match lines_at(&REPORTS, kept) {
+        Some(row) => is_reported(rt, (front, rest), row, whole),
+        None => Ok(is_cut_well(rt, front, rest, &fault_at(&ENDS, kept))),
+    }
+}
+
 // Each length of the feed, from none of its bytes to all.
-fn try_cuts<R>(rt: &R, feed: &[u8], tally: &mut Tally) -> Result<()>
+fn try_cuts<R>(rt: &R, feed: &[u8], whole: &str, tally: &mut Tally) -> Result<()>
 where
     R: AllocGlobal + Eprint + Threads + Wait + Sync,
 {
-    let alloc: Global = rt.alloc();
-    let whole = report(alloc, 8, BOTH)?;
     for kept in 0..feed.len().saturating_add(1) {
-        let is_right = match report_at(alloc, kept)? {
-            Some(text) => ends_well(rt, feed, kept, Some(text.as_str()), whole.as_str()),
-            None => ends_well(rt, feed, kept, None, whole.as_str()),
-        };
-        tally.note(rt, "a feed that ends early", is_right)?;
+        let is_right = ends_well(rt, feed, kept, whole)?;
+        tally.note(rt, "a feed that ends early", is_right);
     }
     Ok(())
+}
+
+fn try_feed<R>(rt: &R, feed: &[u8], tally: &mut Tally) -> Result<()>
+where
+    R: AllocGlobal + Eprint + Threads + Wait + Sync,
+{
+    let whole = report(rt.alloc(), 8, BOTH)?;
+    try_sizes(rt, feed, &SIZES, whole.as_str(), tally);
+    try_cuts(rt, feed, whole.as_str(), tally)
 }
 
 /// Pieces of several sizes, and each length of the feed of two commits.
@@ -142,7 +185,6 @@ where
 {
     let feed = made(rt.alloc(), TWO_COMMITS)?;
     let is_right = has_digest(&feed, TWO_COMMITS_DIGEST);
-    tally.note(rt, "the feed of two commits", is_right)?;
-    try_sizes(rt, &feed, tally)?;
-    try_cuts(rt, &feed, tally)
+    tally.note(rt, "the feed of two commits", is_right);
+    try_feed(rt, &feed, tally)
 }

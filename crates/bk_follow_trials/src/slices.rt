@@ -1,12 +1,13 @@
 //! Orders of batches that grow while they are executed, and that have more transactions than a slice.
 
-use crate::ended::{replayed, reports, takes};
+use crate::ended::{replays, reports, takes};
 use crate::made::{ends_of, frame, made, part, with_frames};
 use crate::tally::Tally;
 use anyhow::Result;
 use bk_pool::Open;
 use bk_replay::Follower;
 use std::alloc::Global;
+use std::fmt::Write;
 use std::sync::Wait;
 use std::thread::Threads;
 
@@ -19,6 +20,17 @@ const NAMES: [&str; 4] = [
     "r",
 ];
 
+// A script up to the malformed transactions.
+const HEAD: &str =
+    "members 1\naccount 1 100\naccount 2 50\naccount 3 10\nbatch b\npayif 1 3 10 0 2 50\npay 2 1 50 0\nbatch m\n";
+
+// The report of its feed up to their batch, and after all places.
+const ORDERED: &str =
+    "members 1 faulty 0 quorum 1\nframes 10\nanchor 1 0\nanchor 3 0\ncert 1 0\ncert 2 0\ncert 3 0\nbatch 0 2\nbatch 1 void\n";
+
+const SETTLED: &str =
+    "account 1 110 2\naccount 2 30 1\naccount 3 20 0\nmoney 160\nstate 13ba51f40a7fc785ec43f6292d511774b6bd07768a0ab5cdfc4d9a3e8e5219a9\n";
+
 // The frame of the void batch.
 const VOID: &[u8] = b"\x04\x00\x00\x00\x01\x00";
 
@@ -29,85 +41,117 @@ const CERTS_FIRST: [usize; 8] = [5, 6, 7, 8, 2, 9, 3, 4];
 
 // ---- feeds
 
-// Some of the names as a list.
-fn names(alloc: Global, from: usize, to: usize) -> Result<String> {
-    let mut list = String::new(alloc);
+// Some of the names as a list. A text is lent wherever it is written to: a function that owns it drops it at each of its exits.
+fn put_names(text: &mut String, from: usize, to: usize) -> Result<()> {
+    let mut comma = "";
     for name in NAMES.get(from..to).unwrap_or(&[]) {
-        let comma = if list.is_empty() { "" } else { "," };
-        list.push_str(&format!(in alloc; "{comma}{name}")?)?;
+        text.push_str(comma)?;
+        text.push_str(name)?;
+        comma = ",";
     }
-    if list.is_empty() {
-        list.push_str("-")?;
+    if comma.is_empty() {
+        text.push_str("-")?;
     }
-    Ok(list)
+    Ok(())
 }
 
-// Round 1 names the first batches, and round 3 the others. The void batch comes last.
-fn feed_of(alloc: Global, first: usize, malformed: usize) -> Result<Vec<u8>> {
-    let mut script = String::from_str(
-        alloc,
-        "members 1\naccount 1 100\naccount 2 50\naccount 3 10\nbatch b\npayif 1 3 10 0 2 50\npay 2 1 50 0\nbatch m\n",
-    )?;
+// Round 1 names the first batches, and round 3 the others.
+fn put_rounds(text: &mut String, first: usize) -> Result<()> {
+    text.push_str("cert a 1 0 ")?;
+    put_names(text, 0, first)?;
+    text.push_str(" - 0\ncert b 2 0 - a 0\ncert c 3 0 ")?;
+    put_names(text, first, 4)?;
+    text.push_str(" b 0\ncert d 4 0 - c 0\n")?;
+    Ok(())
+}
+
+fn put_script(text: &mut String, first: usize, malformed: usize) -> Result<()> {
+    text.push_str(HEAD)?;
     for _ in 0..malformed {
-        script.push_str("raw -\n")?;
+        text.push_str("raw -\n")?;
     }
-    script.push_str("batch r\npay 1 2 30 1\npay 1 2 30 1\n")?;
-    let (front, back) = (names(alloc, 0, first)?, names(alloc, first, 4)?);
-    script.push_str(&format!(in alloc;
-        "cert a 1 0 {front} - 0\ncert b 2 0 - a 0\ncert c 3 0 {back} b 0\ncert d 4 0 - c 0\n"
-    )?)?;
-    let mut feed = made(alloc, script.as_str())?;
+    text.push_str("batch r\npay 1 2 30 1\npay 1 2 30 1\n")?;
+    put_rounds(text, first)
+}
+
+fn without_void(alloc: Global, first: usize, malformed: usize) -> Result<Vec<u8>> {
+    let mut script = String::new(alloc);
+    put_script(&mut script, first, malformed)?;
+    made(alloc, script.as_str())
+}
+
+// The void batch comes last.
+fn feed_of(alloc: Global, first: usize, malformed: usize) -> Result<Vec<u8>> {
+    let mut feed = without_void(alloc, first, malformed)?;
     feed.extend_from_slice(VOID)?;
     Ok(feed)
 }
 
-// The report of the feed, however it comes.
-fn report_of(alloc: Global, malformed: usize) -> Result<String> {
-    let mut text = format!(in alloc;
-        "members 1 faulty 0 quorum 1\nframes 10\nanchor 1 0\nanchor 3 0\ncert 1 0\ncert 2 0\ncert 3 0\nbatch 0 2\nbatch 1 void\nbatch 2 {malformed}\nbatch 3 2\ntx 0 0 10\ntx 1 0 50\n"
-    )?;
+// The malformed transactions, and the payment that comes twice.
+fn put_places(text: &mut String, malformed: usize) -> Result<()> {
     let mut place = 2usize;
     for _ in 0..malformed {
-        text.push_str(&format!(in alloc; "tx {place} 1 0\n")?)?;
+        write!(text, "tx {place} 1 0\n")?;
         place = place.saturating_add(1);
     }
     let last = place.saturating_add(1);
-    text.push_str(&format!(in alloc;
-        "tx {place} 0 30\ntx {last} 4 0\naccount 1 110 2\naccount 2 30 1\naccount 3 20 0\nmoney 160\nstate 13ba51f40a7fc785ec43f6292d511774b6bd07768a0ab5cdfc4d9a3e8e5219a9\n"
-    )?)?;
+    write!(text, "tx {place} 0 30\ntx {last} 4 0\n")?;
+    Ok(())
+}
+
+fn put_report(text: &mut String, malformed: usize) -> Result<()> {
+    text.push_str(ORDERED)?;
+    write!(text, "batch 2 {malformed}\n")?;
+    text.push_str("batch 3 2\ntx 0 0 10\ntx 1 0 50\n")?;
+    put_places(text, malformed)?;
+    text.push_str(SETTLED)?;
+    Ok(())
+}
+
+// The report of the feed, however it comes.
+fn report_of(alloc: Global, malformed: usize) -> Result<String> {
+    let mut text = String::new(alloc);
+    put_report(&mut text, malformed)?;
     Ok(text)
 }
 
 // ---- growing orders
 
+// Whether a frame settles so many places.
+fn settles_frame<R>(rt: &R, follower: &mut Follower, bytes: &[u8], places: usize) -> bool
+where
+    R: AllocGlobal + Threads + Wait + Sync,
+{
+    takes(rt, follower, bytes) && follower.settle(rt, &Open).ok() == Some(places)
+}
+
 // Whether each frame after the genesis settles so many places, and this report is written.
 fn settles_frames<R>(
     rt: &R,
     follower: &mut Follower,
-    feed: &[u8],
+    (feed, ends): (&[u8], &[usize]),
     places: &[usize],
     wanted: &str,
-) -> Result<bool>
+) -> bool
 where
     R: AllocGlobal + Threads + Wait + Sync,
 {
-    let ends = ends_of(rt.alloc(), feed)?;
     let head = ends.get(2).copied().unwrap_or(0);
     let mut index = 2usize;
     if !takes(rt, follower, part(feed, 0, head)) {
-        return Ok(false);
+        return false;
     }
     for settled in places {
-        let bytes = frame(feed, &ends, index);
-        if !takes(rt, follower, bytes) || follower.settle(rt, &Open).ok() != Some(*settled) {
-            return Ok(false);
+        if !settles_frame(rt, follower, frame(feed, ends, index), *settled) {
+            return false;
         }
         index = index.saturating_add(1);
     }
-    Ok(reports(rt, follower, wanted))
+    reports(rt, follower, wanted)
 }
 
-fn settles<R>(rt: &R, feed: &[u8], places: &[usize], wanted: &str) -> Result<bool>
+// The Follower is owned here alone.
+fn is_settled<R>(rt: &R, feed: (&[u8], &[usize]), places: &[usize], wanted: &str) -> bool
 where
     R: AllocGlobal + Threads + Wait + Sync,
 {
@@ -115,6 +159,29 @@ where
     let is_right = settles_frames(rt, &mut follower, feed, places, wanted);
     follower.discard();
     is_right
+}
+
+fn settles<R>(rt: &R, feed: &[u8], places: &[usize], wanted: &str) -> Result<bool>
+where
+    R: AllocGlobal + Threads + Wait + Sync,
+{
+    let ends = ends_of(rt.alloc(), feed)?;
+    Ok(is_settled(rt, (feed, &ends), places, wanted))
+}
+
+// The same with the frames in another order.
+fn settles_turned<R>(
+    rt: &R,
+    feed: &[u8],
+    order: &[usize],
+    places: &[usize],
+    wanted: &str,
+) -> Result<bool>
+where
+    R: AllocGlobal + Threads + Wait + Sync,
+{
+    let turned = with_frames(rt.alloc(), feed, order)?;
+    settles(rt, &turned, places, wanted)
 }
 
 // How many places the first batches have.
@@ -127,45 +194,96 @@ fn places_of(first: usize, malformed: usize) -> usize {
     }
 }
 
-// Batches that come before the certificates are settled with rounds 2 and 4, and those that come after them at once.
+// Batches that come before the certificates are settled with rounds 2 and 4.
+fn settles_late<R>(
+    rt: &R,
+    feed: &[u8],
+    (first, malformed): (usize, usize),
+    wanted: &str,
+) -> Result<bool>
+where
+    R: AllocGlobal + Threads + Wait + Sync,
+{
+    let front = places_of(first, malformed);
+    let back = places_of(4, malformed).saturating_sub(front);
+    let places = [0, 0, 0, 0, 0, front, 0, back];
+    settles_turned(rt, feed, &BATCHES_FIRST, &places, wanted)
+}
+
+// Those that come after them are settled at once.
+fn settles_at_once<R>(rt: &R, feed: &[u8], malformed: usize, wanted: &str) -> Result<bool>
+where
+    R: AllocGlobal + Threads + Wait + Sync,
+{
+    let places = [0, 0, 0, 0, 2, 0, malformed, 2];
+    settles_turned(rt, feed, &CERTS_FIRST, &places, wanted)
+}
+
+fn try_both<R>(
+    rt: &R,
+    feed: &[u8],
+    (first, malformed): (usize, usize),
+    wanted: &str,
+    tally: &mut Tally,
+) -> Result<()>
+where
+    R: AllocGlobal + Eprint + Threads + Wait + Sync,
+{
+    let is_right = settles_late(rt, feed, (first, malformed), wanted)?;
+    tally.note(rt, "batches before certificates", is_right);
+    let is_right = settles_at_once(rt, feed, malformed, wanted)?;
+    tally.note(rt, "batches after certificates", is_right);
+    Ok(())
+}
+
+fn try_feed<R>(
+    rt: &R,
+    feed: &[u8],
+    (first, malformed): (usize, usize),
+    tally: &mut Tally,
+) -> Result<()>
+where
+    R: AllocGlobal + Eprint + Threads + Wait + Sync,
+{
+    let wanted = report_of(rt.alloc(), malformed)?;
+    try_both(rt, feed, (first, malformed), wanted.as_str(), tally)
+}
+
 fn try_growing<R>(rt: &R, first: usize, malformed: usize, tally: &mut Tally) -> Result<()>
 where
     R: AllocGlobal + Eprint + Threads + Wait + Sync,
 {
-    let alloc: Global = rt.alloc();
-    let (feed, wanted) = (
-        feed_of(alloc, first, malformed)?,
-        report_of(alloc, malformed)?,
-    );
-    let all = places_of(4, malformed);
-    let front = places_of(first, malformed);
-    let turned = with_frames(alloc, &feed, &BATCHES_FIRST)?;
-    let places = [0, 0, 0, 0, 0, front, 0, all.saturating_sub(front)];
-    let is_right = settles(rt, &turned, &places, wanted.as_str())?;
-    tally.note(rt, "batches before certificates", is_right)?;
-    let turned = with_frames(alloc, &feed, &CERTS_FIRST)?;
-    let is_right = settles(
-        rt,
-        &turned,
-        &[0, 0, 0, 0, 2, 0, malformed, 2],
-        wanted.as_str(),
-    )?;
-    tally.note(rt, "batches after certificates", is_right)
+    let feed = feed_of(rt.alloc(), first, malformed)?;
+    try_feed(rt, &feed, (first, malformed), tally)
 }
 
 // ---- whole orders
+
+fn try_workers<R>(rt: &R, feed: &[u8], wanted: &str, workers: &[usize], tally: &mut Tally)
+where
+    R: AllocGlobal + Eprint + Threads + Wait + Sync,
+{
+    for count in workers {
+        let is_right = replays(rt, feed, *count, wanted);
+        tally.note(rt, "a replay of four batches", is_right);
+    }
+}
+
+fn try_whole_feed<R>(rt: &R, feed: &[u8], malformed: usize, tally: &mut Tally) -> Result<()>
+where
+    R: AllocGlobal + Eprint + Threads + Wait + Sync,
+{
+    let wanted = report_of(rt.alloc(), malformed)?;
+    try_workers(rt, feed, wanted.as_str(), &[1, 2, 8], tally);
+    Ok(())
+}
 
 fn try_whole<R>(rt: &R, malformed: usize, tally: &mut Tally) -> Result<()>
 where
     R: AllocGlobal + Eprint + Threads + Wait + Sync,
 {
     let feed = feed_of(rt.alloc(), 4, malformed)?;
-    let wanted = report_of(rt.alloc(), malformed)?;
-    for workers in [1usize, 2, 8] {
-        let is_right = replayed(rt, &feed, workers).is_report(wanted.as_str());
-        tally.note(rt, "a replay of four batches", is_right)?;
-    }
-    Ok(())
+    try_whole_feed(rt, &feed, malformed, tally)
 }
 
 /// Few malformed transactions, and so many that they fill a slice.

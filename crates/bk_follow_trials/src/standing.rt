@@ -38,24 +38,25 @@ const TAILS: [(usize, &[u8], u64, FaultCode); 20] = [
     (625, b"\x04\xff\xff\xff\xff", 625, FaultCode::Length),
 ];
 
-// Whether the bytes are taken one by one up to the last of the tail, which is refused, and so is what would have been
-// right.
-fn refuses_tail<R>(
-    rt: &R,
-    follower: &mut Follower,
-    (front, tail, rest): (&[u8], &[u8], &[u8]),
-    fault: &Fault,
-) -> bool
+// Whether these bytes are refused, and so are those that would have been right.
+fn refuses_both<R>(rt: &R, follower: &mut Follower, last: &[u8], rest: &[u8], fault: &Fault) -> bool
+where
+    R: AllocGlobal + Threads + Wait + Sync,
+{
+    refuses(rt, follower, last, fault)
+        && refuses(rt, follower, rest, fault)
+        && is_refused(rt, follower, fault)
+}
+
+// Whether the bytes of a tail are taken one by one up to the last one, which is refused.
+fn refuses_tail<R>(rt: &R, follower: &mut Follower, tail: &[u8], rest: &[u8], fault: &Fault) -> bool
 where
     R: AllocGlobal + Threads + Wait + Sync,
 {
     let last = tail.len().saturating_sub(1);
-    takes_each(rt, follower, front)
-        && takes_each(rt, follower, part(tail, 0, last))
+    takes_each(rt, follower, part(tail, 0, last))
         && takes(rt, follower, b"")
-        && refuses(rt, follower, part(tail, last, tail.len()), fault)
-        && refuses(rt, follower, rest, fault)
-        && is_refused(rt, follower, fault)
+        && refuses_both(rt, follower, part(tail, last, tail.len()), rest, fault)
 }
 
 // How many places a settle executes after so many bytes of the feed.
@@ -69,34 +70,80 @@ fn places_at(kept: usize) -> usize {
     2
 }
 
+// Whether the bytes before a tail are taken at once and settled, or one by one.
+fn takes_front<R>(rt: &R, follower: &mut Follower, front: &[u8], settles: bool) -> bool
+where
+    R: AllocGlobal + Threads + Wait + Sync,
+{
+    if settles {
+        return takes(rt, follower, front)
+            && follower.settle(rt, &Open).ok() == Some(places_at(front.len()));
+    }
+    takes_each(rt, follower, front)
+}
+
+fn is_standing<R>(
+    rt: &R,
+    follower: &mut Follower,
+    (front, tail, rest): (&[u8], &[u8], &[u8]),
+    settles: bool,
+    fault: &Fault,
+) -> bool
+where
+    R: AllocGlobal + Threads + Wait + Sync,
+{
+    takes_front(rt, follower, front, settles) && refuses_tail(rt, follower, tail, rest, fault)
+}
+
+// The Follower is owned here alone.
 fn stands<R>(rt: &R, pieces: (&[u8], &[u8], &[u8]), settles: bool, fault: &Fault) -> bool
 where
     R: AllocGlobal + Threads + Wait + Sync,
 {
-    let (front, tail, rest) = pieces;
     let mut follower = Follower::new(rt.alloc(), 2);
-    let is_right = if settles {
-        takes(rt, &mut follower, front)
-            && follower.settle(rt, &Open) == Ok(places_at(front.len()))
-            && refuses_tail(rt, &mut follower, (b"", tail, rest), fault)
-    } else {
-        refuses_tail(rt, &mut follower, (front, tail, rest), fault)
-    };
+    let is_right = is_standing(rt, &mut follower, pieces, settles, fault);
     follower.discard();
     is_right
 }
 
-fn try_tails<R>(rt: &R, feed: &[u8], tally: &mut Tally) -> Result<()>
+fn note_tail<R>(rt: &R, kept: usize, is_right: bool, tally: &mut Tally) -> Result<()>
+where
+    R: AllocGlobal + Eprint,
+{
+    let what = format!(in rt.alloc(); "a fault after {kept} bytes")?;
+    tally.note(rt, what.as_str(), is_right);
+    Ok(())
+}
+
+fn try_tail<R>(
+    rt: &R,
+    feed: &[u8],
+    (kept, tail): (usize, &[u8]),
+    fault: &Fault,
+    tally: &mut Tally,
+) -> Result<()>
 where
     R: AllocGlobal + Eprint + Threads + Wait + Sync,
 {
-    for (kept, tail, offset, code) in TAILS {
-        let (front, rest) = (part(feed, 0, kept), part(feed, kept, feed.len()));
-        for settles in [false, true] {
-            let is_right = stands(rt, (front, tail, rest), settles, &broken(offset, code));
-            let what = format!(in rt.alloc(); "a fault after {kept} bytes")?;
-            tally.note(rt, what.as_str(), is_right)?;
-        }
+    let pieces = (part(feed, 0, kept), tail, part(feed, kept, feed.len()));
+    let is_right = stands(rt, pieces, false, fault);
+    note_tail(rt, kept, is_right, tally)?;
+    let is_right = stands(rt, pieces, true, fault);
+    note_tail(rt, kept, is_right, tally)
+}
+
+fn try_tails<R>(
+    rt: &R,
+    feed: &[u8],
+    tails: &[(usize, &[u8], u64, FaultCode)],
+    tally: &mut Tally,
+) -> Result<()>
+where
+    R: AllocGlobal + Eprint + Threads + Wait + Sync,
+{
+    for (kept, tail, offset, code) in tails {
+        let fault = broken(*offset, *code);
+        try_tail(rt, feed, (*kept, tail), &fault, tally)?;
     }
     Ok(())
 }
@@ -127,8 +174,7 @@ where
     }
     let mut sink = Counted::new(Full);
     let fault = Fault::Write { written: 0 };
-    let is_right = follower.finish(rt, &Open, &mut sink).err() == Some(fault);
-    is_right && is_refused(rt, follower, &fault)
+    follower.finish(rt, &Open, &mut sink).err() == Some(fault) && is_refused(rt, follower, &fault)
 }
 
 fn keeps_failure<R>(rt: &R, feed: &[u8]) -> bool
@@ -147,7 +193,7 @@ where
     R: AllocGlobal + Eprint + Threads + Wait + Sync,
 {
     let feed = made(rt.alloc(), TWO_COMMITS)?;
-    try_tails(rt, &feed, tally)?;
     let is_right = keeps_failure(rt, &feed);
-    tally.note(rt, "a sink that fails at once", is_right)
+    tally.note(rt, "a sink that fails at once", is_right);
+    try_tails(rt, &feed, &TAILS, tally)
 }

@@ -1,6 +1,6 @@
 //! Followers that give a fault.
 
-use crate::ended::{finished, refuses};
+use crate::ended::{ends_in_fault, refuses};
 use bk_pool::Open;
 use bk_replay::{Fault, Follower};
 use std::sync::Wait;
@@ -31,9 +31,20 @@ pub(crate) fn is_stopped<R>(rt: &R, follower: &mut Follower, fault: &Fault) -> b
 where
     R: AllocGlobal + Threads + Wait + Sync,
 {
-    finished(rt, follower).is_fault(fault)
+    ends_in_fault(rt, follower, fault)
         && settles_nothing(rt, follower, fault)
         && finds_nothing(rt, follower, fault)
+}
+
+// Whether every call gives this fault.
+fn is_refused_once<R>(rt: &R, follower: &mut Follower, fault: &Fault) -> bool
+where
+    R: AllocGlobal + Threads + Wait + Sync,
+{
+    follower.fault() == Some(*fault)
+        && refuses(rt, follower, b"", fault)
+        && is_stopped(rt, follower, fault)
+        && refuses(rt, follower, b"BKF1", fault)
 }
 
 /// Whether every call gives this fault, however often.
@@ -41,13 +52,5 @@ pub(crate) fn is_refused<R>(rt: &R, follower: &mut Follower, fault: &Fault) -> b
 where
     R: AllocGlobal + Threads + Wait + Sync,
 {
-    for _ in 0..2u8 {
-        if follower.fault() != Some(*fault) || !refuses(rt, follower, b"", fault) {
-            return false;
-        }
-        if !is_stopped(rt, follower, fault) || !refuses(rt, follower, b"BKF1", fault) {
-            return false;
-        }
-    }
-    true
+    is_refused_once(rt, follower, fault) && is_refused_once(rt, follower, fault)
 }

@@ -1,6 +1,6 @@
 //! Twins, after which a feed may go on. Their ids were worked out by another program.
 
-use crate::ended::{broken, cut_at, finished, refuses, takes, takes_each};
+use crate::ended::{broken, cut_at, ends_in_fault, refuses, takes, takes_each};
 use crate::made::{ends_of, frame, has_digest, made, part, with_frames};
 use crate::stopped::{is_refused, is_stopped};
 use crate::tally::Tally;
@@ -81,38 +81,60 @@ where
     }
 }
 
-// Whether each frame, which comes byte by byte, shows the twins that are wanted; and then a frame of no kind is a fault.
-fn shows_each<R>(
+// Whether a frame, which comes byte by byte, shows the twins that are wanted.
+fn shows_after<R>(
     rt: &R,
     follower: &mut Follower,
-    feed: &[u8],
-    steps: &[Step],
+    bytes: &[u8],
+    twins: Option<usize>,
     all: &[Fault],
-) -> Result<bool>
+) -> bool
 where
     R: AllocGlobal + Threads + Wait + Sync,
 {
-    let ends = ends_of(rt.alloc(), feed)?;
+    let twins = match twins {
+        Some(index) => all.get(index),
+        None => None,
+    };
+    takes_each(rt, follower, bytes) && shows(rt, follower, twins)
+}
+
+// Whether a frame of no kind is a fault here.
+fn refuses_kind<R>(rt: &R, follower: &mut Follower, end: usize) -> bool
+where
+    R: AllocGlobal + Threads + Wait + Sync,
+{
+    let fault = broken(end as u64, FaultCode::Kind);
+    refuses(rt, follower, b"\x09", &fault) && is_refused(rt, follower, &fault)
+}
+
+// Whether each frame shows the twins that are wanted; and then a frame of no kind is a fault.
+fn shows_each<R>(
+    rt: &R,
+    follower: &mut Follower,
+    (feed, ends): (&[u8], &[usize]),
+    steps: &[Step],
+    all: &[Fault],
+) -> bool
+where
+    R: AllocGlobal + Threads + Wait + Sync,
+{
     let mut end = ends.get(2).copied().unwrap_or(0);
     if !takes(rt, follower, part(feed, 0, end)) {
-        return Ok(false);
+        return false;
     }
     for (index, twins) in steps {
-        let bytes = frame(feed, &ends, *index);
-        let twins = match twins {
-            Some(index) => all.get(*index),
-            None => None,
-        };
-        if !takes_each(rt, follower, bytes) || !shows(rt, follower, twins) {
-            return Ok(false);
+        let bytes = frame(feed, ends, *index);
+        if !shows_after(rt, follower, bytes, *twins, all) {
+            return false;
         }
         end = end.saturating_add(bytes.len());
     }
-    let fault = broken(end as u64, FaultCode::Kind);
-    Ok(refuses(rt, follower, b"\x09", &fault) && is_refused(rt, follower, &fault))
+    refuses_kind(rt, follower, end)
 }
 
-fn shows_twins<R>(rt: &R, feed: &[u8], steps: &[Step], all: &[Fault]) -> Result<bool>
+// The Follower is owned here alone.
+fn is_shown<R>(rt: &R, feed: (&[u8], &[usize]), steps: &[Step], all: &[Fault]) -> bool
 where
     R: AllocGlobal + Threads + Wait + Sync,
 {
@@ -122,30 +144,57 @@ where
     is_right
 }
 
-// The pairs, with the batch at the end.
-fn pairs(alloc: Global) -> Result<Vec<u8>> {
-    with_frames(alloc, &made(alloc, PAIRS)?, &[3, 4, 5, 6, 2])
+fn shows_twins<R>(rt: &R, feed: &[u8], steps: &[Step], all: &[Fault]) -> Result<bool>
+where
+    R: AllocGlobal + Threads + Wait + Sync,
+{
+    let ends = ends_of(rt.alloc(), feed)?;
+    Ok(is_shown(rt, (feed, &ends), steps, all))
 }
 
-fn try_pairs<R>(rt: &R, tally: &mut Tally) -> Result<()>
+// The pairs, with the batch at the end.
+fn pairs(alloc: Global) -> Result<Vec<u8>> {
+    let feed = made(alloc, PAIRS)?;
+    with_frames(alloc, &feed, &[3, 4, 5, 6, 2])
+}
+
+const PAIRS_STEPS: [Step; 5] = [
+    (2, None),
+    (3, Some(0)),
+    (4, Some(0)),
+    (5, Some(1)),
+    (6, Some(1)),
+];
+
+fn shows_pairs<R>(rt: &R, feed: &[u8]) -> Result<bool>
+where
+    R: AllocGlobal + Threads + Wait + Sync,
+{
+    let last = twins(2, 0, ON_EMPTY, ON_PAYING)?;
+    let least = twins(1, 0, PAYING, EMPTY)?;
+    shows_twins(rt, feed, &PAIRS_STEPS, &[last, least])
+}
+
+fn try_pairs<R>(rt: &R, feed: &[u8], tally: &mut Tally) -> Result<()>
 where
     R: AllocGlobal + Eprint + Threads + Wait + Sync,
 {
-    let feed = pairs(rt.alloc())?;
-    tally.note(rt, "the feed of two pairs", has_digest(&feed, PAIRS_DIGEST))?;
-    let all = [
-        twins(2, 0, ON_EMPTY, ON_PAYING)?,
-        twins(1, 0, PAYING, EMPTY)?,
-    ];
-    let steps = [
-        (2, None),
-        (3, Some(0)),
-        (4, Some(0)),
-        (5, Some(1)),
-        (6, Some(1)),
-    ];
-    let is_right = shows_twins(rt, &feed, &steps, &all)?;
-    tally.note(rt, "twins of one member", is_right)
+    let is_right = has_digest(feed, PAIRS_DIGEST);
+    tally.note(rt, "the feed of two pairs", is_right);
+    let is_right = shows_pairs(rt, feed)?;
+    tally.note(rt, "twins of one member", is_right);
+    Ok(())
+}
+
+const OF_FOUR_STEPS: [Step; 4] = [(6, None), (7, Some(0)), (5, Some(0)), (8, Some(1))];
+
+fn shows_of_four<R>(rt: &R, feed: &[u8]) -> Result<bool>
+where
+    R: AllocGlobal + Threads + Wait + Sync,
+{
+    let last = twins(2, 1, ROUND_TWO.0, ROUND_TWO.1)?;
+    let least = twins(1, 3, MEMBER_THREE.0, MEMBER_THREE.1)?;
+    shows_twins(rt, feed, &OF_FOUR_STEPS, &[last, least])
 }
 
 fn try_of_four<R>(rt: &R, tally: &mut Tally) -> Result<()>
@@ -153,13 +202,9 @@ where
     R: AllocGlobal + Eprint + Threads + Wait + Sync,
 {
     let feed = made(rt.alloc(), OF_FOUR)?;
-    let all = [
-        twins(2, 1, ROUND_TWO.0, ROUND_TWO.1)?,
-        twins(1, 3, MEMBER_THREE.0, MEMBER_THREE.1)?,
-    ];
-    let steps = [(6, None), (7, Some(0)), (5, Some(0)), (8, Some(1))];
-    let is_right = shows_twins(rt, &feed, &steps, &all)?;
-    tally.note(rt, "twins of four members", is_right)
+    let is_right = shows_of_four(rt, &feed)?;
+    tally.note(rt, "twins of four members", is_right);
+    Ok(())
 }
 
 // ---- an end within a frame
@@ -172,7 +217,7 @@ where
     let fault = cut_at(285);
     takes(rt, follower, part(feed, 0, 286))
         && follower.settle(rt, &Open).err() == Some(*twins)
-        && finished(rt, follower).is_fault(&fault)
+        && ends_in_fault(rt, follower, &fault)
         && is_refused(rt, follower, &fault)
 }
 
@@ -186,14 +231,30 @@ where
     is_right
 }
 
+fn try_cut<R>(rt: &R, feed: &[u8], tally: &mut Tally) -> Result<()>
+where
+    R: AllocGlobal + Eprint + Threads + Wait + Sync,
+{
+    let twins = twins(2, 0, ON_EMPTY, ON_PAYING)?;
+    let is_right = is_cut_first(rt, feed, &twins);
+    tally.note(rt, "a feed that ends in a frame after twins", is_right);
+    Ok(())
+}
+
+fn try_two_pairs<R>(rt: &R, tally: &mut Tally) -> Result<()>
+where
+    R: AllocGlobal + Eprint + Threads + Wait + Sync,
+{
+    let feed = pairs(rt.alloc())?;
+    try_pairs(rt, &feed, tally)?;
+    try_cut(rt, &feed, tally)
+}
+
 /// The least twins are shown however often, and more frames may come, up to a fault of the feed.
 pub(crate) fn try_twins<R>(rt: &R, tally: &mut Tally) -> Result<()>
 where
     R: AllocGlobal + Eprint + Threads + Wait + Sync,
 {
-    try_pairs(rt, tally)?;
-    try_of_four(rt, tally)?;
-    let feed = pairs(rt.alloc())?;
-    let is_right = is_cut_first(rt, &feed, &twins(2, 0, ON_EMPTY, ON_PAYING)?);
-    tally.note(rt, "a feed that ends in a frame after twins", is_right)
+    try_two_pairs(rt, tally)?;
+    try_of_four(rt, tally)
 }
