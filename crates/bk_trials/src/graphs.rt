@@ -4,6 +4,7 @@ use crate::chance::Chance;
 use anyhow::Result;
 use bk_frames::Version;
 use std::alloc::Global;
+use std::fmt::Write;
 
 const ROUNDS: u64 = 8;
 
@@ -12,75 +13,138 @@ const ACCOUNTS: u64 = 5;
 // The authors that have a certificate in a round.
 type Round = [bool; 7];
 
-// The head of a script: its version and members, in version Two with weights, and the accounts.
-fn head(alloc: Global, chance: &mut Chance, version: Version, members: u64) -> Result<String> {
-    let mut text = match version {
-        Version::One => format!(in alloc; "version 1\nmembers {members}\n")?,
-        Version::Two => {
-            let mut text = format!(in alloc; "version 2\nmembers {members} 1")?;
-            for _ in 1..members {
-                let weight = 1 + chance.below(4);
-                text.push_str(&format!(in alloc; ",{weight}")?)?;
-            }
-            text.push_str("\n")?;
-            text
-        }
-    };
-    for account in 1..=ACCOUNTS {
-        text.push_str(&format!(in alloc; "account {account} 100\n")?)?;
+// The weight of each member but the first.
+fn put_weights(text: &mut String, chance: &mut Chance, members: u64) -> Result<()> {
+    for _ in 1..members {
+        let weight = 1 + chance.below(4);
+        write!(text, ",{weight}")?;
     }
-    Ok(text)
+    Ok(())
+}
+
+// The version and the members, in version Two with weights. A text is lent wherever it is written to: a function that owns
+// it drops it at each of its exits.
+fn put_members(
+    text: &mut String,
+    chance: &mut Chance,
+    version: Version,
+    members: u64,
+) -> Result<()> {
+    match version {
+        Version::One => write!(text, "version 1\nmembers {members}\n")?,
+        Version::Two => {
+            write!(text, "version 2\nmembers {members} 1")?;
+            put_weights(text, chance, members)?;
+            text.push_str("\n")?;
+        }
+    }
+    Ok(())
+}
+
+fn put_accounts(text: &mut String) -> Result<()> {
+    for account in 1..=ACCOUNTS {
+        write!(text, "account {account} 100\n")?;
+    }
+    Ok(())
 }
 
 // Some of the certificates of the round before, mostly all, as a list.
-fn parents(alloc: Global, chance: &mut Chance, round: u64, before: &Round) -> Result<String> {
-    let mut text = String::new(alloc);
+fn put_parents(text: &mut String, chance: &mut Chance, round: u64, before: &Round) -> Result<()> {
+    let mut comma = "";
     for author in 0..before.len() {
         if before[author] && !chance.is_one_in(6) {
-            let comma = if text.is_empty() { "" } else { "," };
-            text.push_str(&format!(in alloc; "{comma}r{round}a{author}")?)?;
+            write!(text, "{comma}r{round}a{author}")?;
+            comma = ",";
         }
     }
-    if text.is_empty() {
+    if comma.is_empty() {
         text.push_str("-")?;
     }
-    Ok(text)
+    Ok(())
 }
 
-// The lines of a certificate, which has a batch of one payment or none.
-fn certificate(
-    alloc: Global,
-    chance: &mut Chance,
-    place: (u64, u64),
-    before: &Round,
-    signers: &str,
-    text: &mut String,
-) -> Result<()> {
-    let (round, author) = place;
-    let mut named = String::from_str(alloc, "-")?;
+// A batch of one payment.
+fn put_batch(text: &mut String, chance: &mut Chance, round: u64, author: u64) -> Result<()> {
+    let from = 1 + chance.below(ACCOUNTS);
+    let to = from % ACCOUNTS + 1;
+    let amount = chance.below(50);
+    let seq = chance.below(3);
+    write!(
+        text,
+        "batch b{round}a{author}\npay {from} {to} {amount} {seq}\n"
+    )?;
+    Ok(())
+}
+
+// A batch or none, and the line of its certificate up to the parents.
+fn put_named(text: &mut String, chance: &mut Chance, round: u64, author: u64) -> Result<()> {
     if chance.is_one_in(2) {
-        let from = 1 + chance.below(ACCOUNTS);
-        let to = from % ACCOUNTS + 1;
-        let amount = chance.below(50);
-        let seq = chance.below(3);
-        named = format!(in alloc; "b{round}a{author}")?;
-        text.push_str(&format!(in alloc; "batch {named}\npay {from} {to} {amount} {seq}\n")?)?;
+        put_batch(text, chance, round, author)?;
+        write!(
+            text,
+            "cert r{round}a{author} {round} {author} b{round}a{author} "
+        )?;
+    } else {
+        write!(text, "cert r{round}a{author} {round} {author} - ")?;
     }
-    let earlier = round.saturating_sub(1);
-    let linked = parents(alloc, chance, earlier, before)?;
-    text.push_str(&format!(in alloc;
-        "cert r{round}a{author} {round} {author} {named} {linked} {signers}\n"
-    )?)?;
     Ok(())
 }
 
 // All members, as the list of those who sign.
-fn all_of(alloc: Global, members: u64) -> Result<String> {
-    let mut text = String::from_str(alloc, "0")?;
+fn put_signers(text: &mut String, members: u64) -> Result<()> {
+    text.push_str(" 0")?;
     for member in 1..members {
-        text.push_str(&format!(in alloc; ",{member}")?)?;
+        write!(text, ",{member}")?;
     }
-    Ok(text)
+    text.push_str("\n")?;
+    Ok(())
+}
+
+// The lines of a certificate, which has a batch of one payment or none.
+fn put_certificate(
+    text: &mut String,
+    chance: &mut Chance,
+    (round, author): (u64, u64),
+    before: &Round,
+    members: u64,
+) -> Result<()> {
+    put_named(text, chance, round, author)?;
+    put_parents(text, chance, round.saturating_sub(1), before)?;
+    put_signers(text, members)
+}
+
+// The certificates of a round, some of which are absent. Says whose are there.
+fn put_round(
+    text: &mut String,
+    chance: &mut Chance,
+    round: u64,
+    before: &Round,
+    members: u64,
+) -> Result<Round> {
+    let mut now: Round = [false; 7];
+    for author in 0..members {
+        if !chance.is_one_in(8) {
+            put_certificate(text, chance, (round, author), before, members)?;
+            if let Some(is_there) = now.get_mut(author as usize) {
+                *is_there = true;
+            }
+        }
+    }
+    Ok(now)
+}
+
+fn put_rounds(text: &mut String, chance: &mut Chance, members: u64) -> Result<()> {
+    let mut before: Round = [false; 7];
+    for round in 1..=ROUNDS {
+        before = put_round(text, chance, round, &before, members)?;
+    }
+    Ok(())
+}
+
+fn put_graph(text: &mut String, chance: &mut Chance, version: Version, members: u64) -> Result<()> {
+    put_members(text, chance, version, members)?;
+    put_accounts(text)?;
+    put_rounds(text, chance, members)
 }
 
 /// A script of this version for up to seven members, in which some certificates are absent, and some have too few parents
@@ -91,20 +155,7 @@ pub(crate) fn graph(
     version: Version,
     members: u64,
 ) -> Result<String> {
-    let mut text = head(alloc, chance, version, members)?;
-    let signers = all_of(alloc, members)?;
-    let mut before: Round = [false; 7];
-    for round in 1..=ROUNDS {
-        let mut now: Round = [false; 7];
-        for author in 0..members {
-            if !chance.is_one_in(8) {
-                certificate(alloc, chance, (round, author), &before, &signers, &mut text)?;
-                if let Some(is_there) = now.get_mut(author as usize) {
-                    *is_there = true;
-                }
-            }
-        }
-        before = now;
-    }
+    let mut text = String::new(alloc);
+    put_graph(&mut text, chance, version, members)?;
     Ok(text)
 }

@@ -8,7 +8,7 @@ use std::sync::Wait;
 use std::thread::Threads;
 
 // What a job over these bytes prints, where it ends with status 0.
-fn printed<R>(rt: &R, job: &Job, bytes: &[u8]) -> Option<Vec<u8>>
+fn printed_by<R>(rt: &R, job: &Job, bytes: &[u8]) -> Option<Vec<u8>>
 where
     R: AllocGlobal + Threads + Wait + Sync,
 {
@@ -31,12 +31,20 @@ where
     }
 }
 
+// The job is owned here alone: each way out of a function that owns it drops it, with a step for each of its forms.
+fn printed<R>(rt: &R, job: Job, bytes: &[u8]) -> Option<Vec<u8>>
+where
+    R: AllocGlobal + Threads + Wait + Sync,
+{
+    printed_by(rt, &job, bytes)
+}
+
 /// The feed that a script makes.
 pub(crate) fn made<R>(rt: &R, script: &str) -> Option<Vec<u8>>
 where
     R: AllocGlobal + Threads + Wait + Sync,
 {
-    printed(rt, &Job::Make { file: None }, script.as_bytes())
+    printed(rt, Job::Make { file: None }, script.as_bytes())
 }
 
 /// The report of `apply`.
@@ -44,7 +52,7 @@ pub(crate) fn applied<R>(rt: &R, feed: &[u8]) -> Option<Vec<u8>>
 where
     R: AllocGlobal + Threads + Wait + Sync,
 {
-    printed(rt, &Job::Apply { file: None }, feed)
+    printed(rt, Job::Apply { file: None }, feed)
 }
 
 /// The report of a run by this many workers.
@@ -55,7 +63,7 @@ where
     let workers = Workers::new(count)?;
     printed(
         rt,
-        &Job::Run {
+        Job::Run {
             workers,
             file: None,
         },

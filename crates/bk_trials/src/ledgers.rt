@@ -6,6 +6,7 @@ use crate::chance::Chance;
 use anyhow::Result;
 use bk_frames::Version;
 use std::alloc::Global;
+use std::fmt::Write;
 
 // Accounts 1 to 6 are in the genesis. In version Two the others come to be with their first payment.
 const THERE: u64 = 6;
@@ -54,63 +55,138 @@ fn seq_of(chance: &mut Chance, seqs: &mut Seqs, from: u64) -> u64 {
     seq
 }
 
-// The line of a payment to two receivers, or to one where both are the same.
-fn split(alloc: Global, chance: &mut Chance, from: u64, seq: u64) -> Result<String> {
+// The line of a payment to two receivers, or to one where both are the same. A text is lent wherever it is written to: a
+// function that owns it drops it at each of its exits.
+fn put_split(text: &mut String, chance: &mut Chance, from: u64, seq: u64) -> Result<()> {
     let (one, two) = (other_than(chance, from), other_than(chance, from));
     let (first, second) = (amount(chance), amount(chance));
     if one == two {
-        return Ok(format!(in alloc; "split {from} {seq} {one} {first}\n")?);
+        write!(text, "split {from} {seq} {one} {first}\n")?;
+        return Ok(());
     }
     let (low, high) = (one.min(two), one.max(two));
-    Ok(format!(in alloc; "split {from} {seq} {low} {first} {high} {second}\n")?)
+    write!(text, "split {from} {seq} {low} {first} {high} {second}\n")?;
+    Ok(())
 }
 
-// The line of a transaction.
-fn transaction(alloc: Global, chance: &mut Chance, seqs: &mut Seqs) -> Result<String> {
-    if chance.is_one_in(20) {
-        return Ok(String::from_str(alloc, "raw 00\n")?);
-    }
+// The accounts of a payment, its sequence number, what it pays, and what has to be there.
+#[derive(Clone, Copy)]
+struct Payment {
+    from: u64,
+    to: u64,
+    seq: u64,
+    amount: u64,
+    least: u64,
+}
+
+fn drawn(chance: &mut Chance, seqs: &mut Seqs) -> Payment {
     let from = id(chance);
     let to = other_than(chance, from);
     let seq = seq_of(chance, seqs, from);
     let amount = amount(chance);
     let least = chance.below(60);
-    let line = match chance.below(5) {
-        0 => {
-            let guard = id(chance);
-            format!(in alloc; "payif {from} {to} {amount} {seq} {guard} {least}\n")?
-        }
-        1 => format!(in alloc; "sweep {from} {to} {least} {seq}\n")?,
-        2 => split(alloc, chance, from, seq)?,
-        _ => format!(in alloc; "pay {from} {to} {amount} {seq}\n")?,
-    };
-    Ok(line)
+    Payment {
+        from,
+        to,
+        seq,
+        amount,
+        least,
+    }
+}
+
+fn put_guarded(text: &mut String, chance: &mut Chance, payment: Payment) -> Result<()> {
+    let guard = id(chance);
+    let Payment {
+        from,
+        to,
+        seq,
+        amount,
+        least,
+    } = payment;
+    write!(text, "payif {from} {to} {amount} {seq} {guard} {least}\n")?;
+    Ok(())
+}
+
+fn put_sweep(text: &mut String, payment: Payment) -> Result<()> {
+    let (from, to) = (payment.from, payment.to);
+    let (seq, least) = (payment.seq, payment.least);
+    write!(text, "sweep {from} {to} {least} {seq}\n")?;
+    Ok(())
+}
+
+fn put_pay(text: &mut String, payment: Payment) -> Result<()> {
+    let (from, to) = (payment.from, payment.to);
+    let (seq, amount) = (payment.seq, payment.amount);
+    write!(text, "pay {from} {to} {amount} {seq}\n")?;
+    Ok(())
+}
+
+// The line of a transaction.
+fn put_transaction(text: &mut String, chance: &mut Chance, seqs: &mut Seqs) -> Result<()> {
+    if chance.is_one_in(20) {
+        text.push_str("raw 00\n")?;
+        return Ok(());
+    }
+    let payment = drawn(chance, seqs);
+    match chance.below(5) {
+        0 => put_guarded(text, chance, payment),
+        1 => put_sweep(text, payment),
+        2 => put_split(text, chance, payment.from, payment.seq),
+        _ => put_pay(text, payment),
+    }
 }
 
 // The certificate of the round before this one, as a list.
-fn parents(alloc: Global, round: u64) -> Result<String> {
+fn put_parents(text: &mut String, round: u64) -> Result<()> {
     if round <= 1 {
-        return Ok(String::from_str(alloc, "-")?);
+        text.push_str("-")?;
+        return Ok(());
     }
     let before = round - 1;
-    Ok(format!(in alloc; "c{before}")?)
+    write!(text, "c{before}")?;
+    Ok(())
+}
+
+fn put_batch(text: &mut String, chance: &mut Chance, seqs: &mut Seqs, round: u64) -> Result<()> {
+    write!(text, "batch b{round}\n")?;
+    for _ in 0..1 + chance.below(24) {
+        put_transaction(text, chance, seqs)?;
+    }
+    Ok(())
 }
 
 // The lines of a batch and of the certificate of this round, which names it.
-fn put_round(
-    alloc: Global,
-    chance: &mut Chance,
-    seqs: &mut Seqs,
-    round: u64,
-    text: &mut String,
-) -> Result<()> {
-    text.push_str(&format!(in alloc; "batch b{round}\n")?)?;
-    for _ in 0..1 + chance.below(24) {
-        text.push_str(&transaction(alloc, chance, seqs)?)?;
-    }
-    let linked = parents(alloc, round)?;
-    text.push_str(&format!(in alloc; "cert c{round} {round} 0 b{round} {linked} 0\n")?)?;
+fn put_round(text: &mut String, chance: &mut Chance, seqs: &mut Seqs, round: u64) -> Result<()> {
+    put_batch(text, chance, seqs, round)?;
+    write!(text, "cert c{round} {round} 0 b{round} ")?;
+    put_parents(text, round)?;
+    text.push_str(" 0\n")?;
     Ok(())
+}
+
+fn put_accounts(text: &mut String) -> Result<()> {
+    for account in 1..=THERE {
+        write!(text, "account {account} 50\n")?;
+    }
+    Ok(())
+}
+
+// The certificate of the last round, which names no batch.
+fn put_last(text: &mut String) -> Result<()> {
+    write!(text, "cert c{ROUNDS} {ROUNDS} 0 - ")?;
+    put_parents(text, ROUNDS)?;
+    text.push_str(" 0\n")?;
+    Ok(())
+}
+
+fn put_ledger(text: &mut String, chance: &mut Chance, head: &str) -> Result<()> {
+    text.push_str(head)?;
+    put_accounts(text)?;
+    let mut seqs = [0; 9];
+    for round in 1..ROUNDS {
+        put_round(text, chance, &mut seqs, round)?;
+    }
+    put_last(text)
 }
 
 /// A script of this version, whose batches are executed in the order of the feed.
@@ -119,15 +195,7 @@ pub(crate) fn ledger(alloc: Global, chance: &mut Chance, version: Version) -> Re
         Version::One => "version 1\nmembers 1\n",
         Version::Two => "version 2\nmembers 1 1\n",
     };
-    let mut text = String::from_str(alloc, head)?;
-    for account in 1..=THERE {
-        text.push_str(&format!(in alloc; "account {account} 50\n")?)?;
-    }
-    let mut seqs = [0; 9];
-    for round in 1..ROUNDS {
-        put_round(alloc, chance, &mut seqs, round, &mut text)?;
-    }
-    let linked = parents(alloc, ROUNDS)?;
-    text.push_str(&format!(in alloc; "cert c{ROUNDS} {ROUNDS} 0 - {linked} 0\n")?)?;
+    let mut text = String::new(alloc);
+    put_ledger(&mut text, chance, head)?;
     Ok(text)
 }
