@@ -1,20 +1,26 @@
 //! Lists whose receipts and accounts were computed by hand.
 
-use crate::making::{feed_with, pay, reading, row, split, tx, writing};
+use crate::deeds::{Deed, tx_of};
+use crate::making::{feed_with, row};
 use anyhow::Result;
 use bk_frames::{Feed, Row, Version};
+use bk_pool::Outcome;
 use bk_rules::{Receipt, Status};
-use bk_tx::{Body, Payment, Tx};
+use bk_tx::Tx;
 use std::alloc::Global;
 
+/// An account: its number, what it holds, and its sequence number.
+pub(crate) type Account = (u64, u64, u64);
+
+/// A transaction, what becomes of it, and what it moves.
+pub(crate) type Line = (Deed, Status, u64);
+
 /// A list of transactions with its opening accounts, and what they give.
-#[derive(Drop)]
+#[derive(Clone, Copy)]
 pub(crate) struct Case {
-    pub(crate) version: Version,
-    pub(crate) opening: Vec<Row>,
-    pub(crate) txs: Vec<Option<Tx>>,
-    pub(crate) receipts: Vec<Receipt>,
-    pub(crate) accounts: Vec<Row>,
+    pub(crate) opening: &'static [Account],
+    pub(crate) lines: &'static [Line],
+    pub(crate) accounts: &'static [Account],
 }
 
 /// Which list.
@@ -36,8 +42,11 @@ pub(crate) enum Name {
     Nothing,
 }
 
+/// Both versions.
+pub(crate) const VERSIONS: &[Version] = &[Version::One, Version::Two];
+
 /// All of them.
-pub(crate) const NAMES: [Name; 7] = [
+pub(crate) const NAMES: &[Name] = &[
     Name::GuardThenPayment,
     Name::PaymentThenGuard,
     Name::FourConflicts,
@@ -47,198 +56,176 @@ pub(crate) const NAMES: [Name; 7] = [
     Name::Nothing,
 ];
 
-fn receipt(status: Status, moved: u64) -> Receipt {
-    Receipt { status, moved }
-}
+// ---- lists
 
-/// From account 1 to 3, if account 2 has 50.
-pub(crate) fn guarded() -> Result<Option<Tx>> {
-    let body = Body::PayIf {
-        to: 3,
-        amount: 10,
-        guard: 2,
-        min: 50,
-    };
-    tx(&[writing(1), reading(2), writing(3)], 1, 0, body)
-}
+const THREE: &[Account] = &[(1, 100, 0), (2, 50, 0), (3, 10, 0)];
 
-// With account 5 as its guard, whatever that has.
-fn watching_five(from: u64, to: u64) -> Result<Option<Tx>> {
-    let body = Body::PayIf {
-        to,
-        amount: 1,
-        guard: 5,
-        min: 0,
-    };
-    if to < 5 {
-        return tx(&[writing(from), writing(to), reading(5)], from, 0, body);
-    }
-    tx(&[writing(from), reading(5), writing(to)], from, 0, body)
-}
+const HUNDRED: &[Account] = &[(1, 100, 0)];
 
-// A case of no accounts and no transactions.
-fn no_case(alloc: Global, version: Version) -> Case {
-    Case {
-        version,
-        opening: Vec::new(alloc),
-        txs: Vec::new(alloc),
-        receipts: Vec::new(alloc),
-        accounts: Vec::new(alloc),
-    }
-}
+const GUARD_THEN_PAYMENT: Case = Case {
+    opening: THREE,
+    lines: &[
+        (Deed::Guarded, Status::Ok, 10),
+        (Deed::Pay(2, 1, 50, 0), Status::Ok, 50),
+    ],
+    accounts: &[(1, 140, 1), (2, 0, 1), (3, 20, 0)],
+};
 
-impl Case {
-    // These opening accounts too.
-    fn open(&mut self, accounts: &[Row]) -> Result<()> {
-        self.opening.extend_from_slice(accounts)?;
-        Ok(())
-    }
+const PAYMENT_THEN_GUARD: Case = Case {
+    opening: THREE,
+    lines: &[
+        (Deed::Pay(2, 1, 50, 0), Status::Ok, 50),
+        (Deed::Guarded, Status::Guard, 0),
+    ],
+    accounts: &[(1, 150, 1), (2, 0, 1), (3, 10, 0)],
+};
 
-    // One more transaction, and its receipt.
-    fn push(&mut self, tx: Option<Tx>, status: Status, moved: u64) -> Result<()> {
-        self.txs.push(tx)?;
-        self.receipts.push(receipt(status, moved))?;
-        Ok(())
-    }
+const FOUR_CONFLICTS: Case = Case {
+    opening: &[
+        (1, 10, 0),
+        (2, 10, 0),
+        (3, 10, 0),
+        (4, 10, 0),
+        (5, 10, 0),
+        (6, 10, 0),
+    ],
+    lines: &[
+        (Deed::Pay(1, 5, 1, 0), Status::Ok, 1),
+        (Deed::WatchingFive(2, 3), Status::Ok, 1),
+        (Deed::WatchingFive(4, 6), Status::Ok, 1),
+        (Deed::Pay(5, 2, 1, 0), Status::Ok, 1),
+    ],
+    accounts: &[
+        (1, 9, 1),
+        (2, 10, 1),
+        (3, 11, 0),
+        (4, 9, 1),
+        (5, 10, 1),
+        (6, 11, 0),
+    ],
+};
 
-    // The accounts after all of them.
-    fn end(&mut self, accounts: &[Row]) -> Result<()> {
-        self.accounts.extend_from_slice(accounts)?;
-        Ok(())
-    }
-}
-
-// Accounts 1, 2 and 3.
-fn open_three(case: &mut Case) -> Result<()> {
-    case.open(&[row(1, 100, 0), row(2, 50, 0), row(3, 10, 0)])
-}
-
-fn guard_then_payment(case: &mut Case) -> Result<()> {
-    open_three(case)?;
-    case.push(guarded()?, Status::Ok, 10)?;
-    case.push(pay(2, 1, 50, 0)?, Status::Ok, 50)?;
-    case.end(&[row(1, 140, 1), row(2, 0, 1), row(3, 20, 0)])
-}
-
-fn payment_then_guard(case: &mut Case) -> Result<()> {
-    open_three(case)?;
-    case.push(pay(2, 1, 50, 0)?, Status::Ok, 50)?;
-    case.push(guarded()?, Status::Guard, 0)?;
-    case.end(&[row(1, 150, 1), row(2, 0, 1), row(3, 10, 0)])
-}
-
-fn four_conflicts(case: &mut Case) -> Result<()> {
-    for id in 1..7 {
-        case.open(&[row(id, 10, 0)])?;
-    }
-    case.push(pay(1, 5, 1, 0)?, Status::Ok, 1)?;
-    case.push(watching_five(2, 3)?, Status::Ok, 1)?;
-    case.push(watching_five(4, 6)?, Status::Ok, 1)?;
-    case.push(pay(5, 2, 1, 0)?, Status::Ok, 1)?;
-    case.end(&[row(1, 9, 1), row(2, 10, 1), row(3, 11, 0)])?;
-    case.end(&[row(4, 9, 1), row(5, 10, 1), row(6, 11, 0)])
-}
-
-// From account 1 to 2 and 3.
-fn split_between(seq: u64, second: u64, third: u64) -> Result<Option<Tx>> {
-    let second = Payment {
-        to: 2,
-        amount: second,
-    };
-    let third = Payment {
-        to: 3,
-        amount: third,
-    };
-    split(1, seq, &[second, third])
-}
-
-fn stale_funds_split(case: &mut Case) -> Result<()> {
-    open_three(case)?;
-    case.push(pay(1, 2, 30, 0)?, Status::Ok, 30)?;
-    case.push(pay(1, 2, 30, 0)?, Status::Stale, 0)?;
-    case.push(split_between(1, u64::MAX, 1)?, Status::Funds, 0)?;
-    case.push(split_between(2, 5, 7)?, Status::Ok, 12)?;
-    case.push(None, Status::Malformed, 0)?;
-    case.end(&[row(1, 58, 3), row(2, 85, 0), row(3, 17, 0)])
-}
-
-// Account 1 pays with account 8 as its guard, which is absent.
-fn watching_eight() -> Result<Option<Tx>> {
-    let body = Body::PayIf {
-        to: 9,
-        amount: 5,
-        guard: 8,
-        min: 0,
-    };
-    tx(&[writing(1), reading(8), writing(9)], 1, 1, body)
-}
+const STALE_FUNDS_SPLIT: Case = Case {
+    opening: THREE,
+    lines: &[
+        (Deed::Pay(1, 2, 30, 0), Status::Ok, 30),
+        (Deed::Pay(1, 2, 30, 0), Status::Stale, 0),
+        (Deed::Split(1, u64::MAX, 1), Status::Funds, 0),
+        (Deed::Split(2, 5, 7), Status::Ok, 12),
+        (Deed::Malformed, Status::Malformed, 0),
+    ],
+    accounts: &[(1, 58, 3), (2, 85, 0), (3, 17, 0)],
+};
 
 // Account 1 pays 9, 9 pays back, and a payment is guarded by 8, which is absent.
-fn absent(case: &mut Case) -> Result<()> {
-    let (status, there, back) = match case.version {
-        Version::One => (Status::Unknown, 0, 0),
-        Version::Two => (Status::Ok, 30, 10),
-    };
-    case.open(&[row(1, 100, 0)])?;
-    case.push(pay(1, 9, 30, 0)?, status, there)?;
-    case.push(pay(9, 1, 10, 0)?, status, back)?;
-    case.push(watching_eight()?, Status::Unknown, 0)?;
-    match case.version {
-        Version::One => case.end(&[row(1, 100, 0)]),
-        Version::Two => case.end(&[row(1, 80, 1), row(9, 20, 1)]),
-    }
-}
+const ABSENT_ONE: Case = Case {
+    opening: HUNDRED,
+    lines: &[
+        (Deed::Pay(1, 9, 30, 0), Status::Unknown, 0),
+        (Deed::Pay(9, 1, 10, 0), Status::Unknown, 0),
+        (Deed::WatchingEight, Status::Unknown, 0),
+    ],
+    accounts: HUNDRED,
+};
 
-fn zero_amount_one(case: &mut Case) -> Result<()> {
-    case.push(pay(1, 9, 0, 0)?, Status::Unknown, 0)?;
-    case.end(&[row(1, 100, 0)])
-}
+const ABSENT_TWO: Case = Case {
+    opening: HUNDRED,
+    lines: &[
+        (Deed::Pay(1, 9, 30, 0), Status::Ok, 30),
+        (Deed::Pay(9, 1, 10, 0), Status::Ok, 10),
+        (Deed::WatchingEight, Status::Unknown, 0),
+    ],
+    accounts: &[(1, 80, 1), (9, 20, 1)],
+};
 
-fn zero_amount_two(case: &mut Case) -> Result<()> {
-    case.push(pay(1, 9, 200, 0)?, Status::Funds, 0)?;
-    case.push(pay(1, 9, 0, 1)?, Status::Ok, 0)?;
-    case.end(&[row(1, 100, 2), row(9, 0, 0)])
-}
+const ZERO_AMOUNT_ONE: Case = Case {
+    opening: HUNDRED,
+    lines: &[(Deed::Pay(1, 9, 0, 0), Status::Unknown, 0)],
+    accounts: HUNDRED,
+};
 
-fn zero_amount(case: &mut Case) -> Result<()> {
-    case.open(&[row(1, 100, 0)])?;
-    match case.version {
-        Version::One => zero_amount_one(case),
-        Version::Two => zero_amount_two(case),
-    }
-}
+const ZERO_AMOUNT_TWO: Case = Case {
+    opening: HUNDRED,
+    lines: &[
+        (Deed::Pay(1, 9, 200, 0), Status::Funds, 0),
+        (Deed::Pay(1, 9, 0, 1), Status::Ok, 0),
+    ],
+    accounts: &[(1, 100, 2), (9, 0, 0)],
+};
 
-fn nothing(case: &mut Case) -> Result<()> {
-    case.open(&[row(7, 3, 2)])?;
-    case.end(&[row(7, 3, 2)])
-}
-
-fn fill(case: &mut Case, name: Name) -> Result<()> {
-    match name {
-        Name::GuardThenPayment => guard_then_payment(case),
-        Name::PaymentThenGuard => payment_then_guard(case),
-        Name::FourConflicts => four_conflicts(case),
-        Name::StaleFundsSplit => stale_funds_split(case),
-        Name::Absent => absent(case),
-        Name::ZeroAmount => zero_amount(case),
-        Name::Nothing => nothing(case),
-    }
-}
+const NOTHING: Case = Case {
+    opening: &[(7, 3, 2)],
+    lines: &[],
+    accounts: &[(7, 3, 2)],
+};
 
 /// The list in a version.
-pub(crate) fn case_of(alloc: Global, version: Version, name: Name) -> Result<Case> {
-    let mut case = no_case(alloc, version);
-    fill(&mut case, name)?;
-    Ok(case)
+pub(crate) fn case_of(version: Version, name: Name) -> Case {
+    match (name, version) {
+        (Name::GuardThenPayment, _) => GUARD_THEN_PAYMENT,
+        (Name::PaymentThenGuard, _) => PAYMENT_THEN_GUARD,
+        (Name::FourConflicts, _) => FOUR_CONFLICTS,
+        (Name::StaleFundsSplit, _) => STALE_FUNDS_SPLIT,
+        (Name::Absent, Version::One) => ABSENT_ONE,
+        (Name::Absent, Version::Two) => ABSENT_TWO,
+        (Name::ZeroAmount, Version::One) => ZERO_AMOUNT_ONE,
+        (Name::ZeroAmount, Version::Two) => ZERO_AMOUNT_TWO,
+        (Name::Nothing, _) => NOTHING,
+    }
+}
+
+// ---- feeds
+
+fn rows_of(alloc: Global, accounts: &[Account]) -> Result<Vec<Row>> {
+    let mut rows = Vec::new(alloc);
+    for (id, balance, seq) in accounts {
+        rows.push(row(*id, *balance, *seq))?;
+    }
+    Ok(rows)
+}
+
+fn txs_of(alloc: Global, lines: &[Line]) -> Result<Vec<Option<Tx>>> {
+    let mut txs = Vec::new(alloc);
+    for (deed, _, _) in lines {
+        txs.push(tx_of(*deed)?)?;
+    }
+    Ok(txs)
 }
 
 /// The feed of a list.
-pub(crate) fn feed_of_case(alloc: Global, case: &Case) -> Result<Feed> {
-    feed_with(alloc, case.version, &case.opening, &case.txs)
+pub(crate) fn feed_of_case(alloc: Global, version: Version, case: &Case) -> Result<Feed> {
+    let rows = rows_of(alloc, case.opening)?;
+    let txs = txs_of(alloc, case.lines)?;
+    feed_with(alloc, version, &rows, &txs)
 }
 
 /// The feed of the list of this name.
 pub(crate) fn feed_named(alloc: Global, version: Version, name: Name) -> Result<Feed> {
-    let case = case_of(alloc, version, name)?;
-    feed_of_case(alloc, &case)
+    feed_of_case(alloc, version, &case_of(version, name))
+}
+
+// ---- outcomes
+
+fn are_receipts(found: &[Receipt], lines: &[Line]) -> bool {
+    for (receipt, (_, status, moved)) in found.iter().zip(lines) {
+        if receipt.status != *status || receipt.moved != *moved {
+            return false;
+        }
+    }
+    found.len() == lines.len()
+}
+
+fn are_accounts(found: &[Row], accounts: &[Account]) -> bool {
+    for (row, (id, balance, seq)) in found.iter().zip(accounts) {
+        if row.id != *id || row.balance != *balance || row.seq != *seq {
+            return false;
+        }
+    }
+    found.len() == accounts.len()
+}
+
+/// Whether the outcome has the receipts and the accounts of a list.
+pub(crate) fn gives_case(alloc: Global, outcome: &Outcome, case: &Case) -> Result<bool> {
+    let rows = outcome.state.rows(alloc)?;
+    Ok(are_receipts(&outcome.receipts, case.lines) && are_accounts(&rows, case.accounts))
 }

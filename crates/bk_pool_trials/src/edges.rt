@@ -1,14 +1,14 @@
 //! Plans of chosen transactions, against waits and words that were worked out by hand.
 
 use crate::cases::{Name, feed_named};
+use crate::deeds::{Deed, txs_of};
 use crate::drawn::drawn_opening;
 use crate::executing::planned_by;
-use crate::making::{feed_with, pay, reading, tx, writing};
+use crate::making::feed_with;
 use crate::tally::Tally;
 use anyhow::Result;
 use bk_conflicts::{Plan, Planner, WordRef};
 use bk_frames::{Feed, Version};
-use bk_tx::{Body, Declared, Tx};
 use std::alloc::Global;
 
 // Which transactions, on accounts 1 to 6.
@@ -25,7 +25,7 @@ enum Chosen {
     Nothing,
 }
 
-const LISTS: [Chosen; 5] = [
+const LISTS: &[Chosen] = &[
     Chosen::Four,
     Chosen::Six,
     Chosen::Twice,
@@ -74,45 +74,25 @@ fn slots_of(version: Version, list: Chosen) -> usize {
 
 // ---- transactions
 
-// It looks at account 1 alone, so it is undeclared, and waits for who writes it.
-fn look(declared: Declared) -> Result<Option<Tx>> {
-    tx(&[declared], 9, 0, Body::Pay { to: 10, amount: 1 })
-}
+const SIX_DEEDS: &[Deed] = &[
+    Deed::Look(true),
+    Deed::Look(false),
+    Deed::Malformed,
+    Deed::Look(false),
+    Deed::Look(true),
+    Deed::Look(true),
+];
 
-fn six(alloc: Global) -> Result<Vec<Option<Tx>>> {
-    let mut txs = Vec::new(alloc);
-    for place in 0..6u32 {
-        txs.push(match place {
-            1 | 3 => look(reading(1))?,
-            2 => None,
-            _ => look(writing(1))?,
-        })?;
-    }
-    Ok(txs)
-}
+const TWICE_DEEDS: &[Deed] = &[Deed::Pay(1, 2, 1, 0), Deed::Pay(2, 1, 1, 0)];
 
-fn twice(alloc: Global) -> Result<Vec<Option<Tx>>> {
-    let mut txs = Vec::new(alloc);
-    for (from, to) in [(1, 2), (2, 1)] {
-        txs.push(pay(from, to, 1, 0)?)?;
-    }
-    Ok(txs)
-}
+const ABSENT_DEEDS: &[Deed] = &[Deed::Pay(6, 8, 1, 0), Deed::FromEight];
 
-fn absent(alloc: Global) -> Result<Vec<Option<Tx>>> {
-    let mut txs = Vec::new(alloc);
-    let other = Body::Pay { to: 3, amount: 1 };
-    txs.push(pay(6, 8, 1, 0)?)?;
-    txs.push(tx(&[reading(3), writing(8)], 8, 0, other)?)?;
-    Ok(txs)
-}
-
-fn txs_of(alloc: Global, list: Chosen) -> Result<Vec<Option<Tx>>> {
+fn deeds_of(list: Chosen) -> &'static [Deed] {
     match list {
-        Chosen::Six => six(alloc),
-        Chosen::Twice => twice(alloc),
-        Chosen::Absent => absent(alloc),
-        Chosen::Four | Chosen::Nothing => Ok(Vec::new(alloc)),
+        Chosen::Six => SIX_DEEDS,
+        Chosen::Twice => TWICE_DEEDS,
+        Chosen::Absent => ABSENT_DEEDS,
+        Chosen::Four | Chosen::Nothing => &[],
     }
 }
 
@@ -121,7 +101,7 @@ fn feed_of_list(alloc: Global, version: Version, list: Chosen) -> Result<Feed> {
         return feed_named(alloc, version, Name::FourConflicts);
     }
     let rows = drawn_opening(alloc)?;
-    let txs = txs_of(alloc, list)?;
+    let txs = txs_of(alloc, deeds_of(list))?;
     feed_with(alloc, version, &rows, &txs)
 }
 
@@ -188,23 +168,17 @@ fn is_special(plan: &Plan, version: Version, list: Chosen) -> bool {
 
 // ---- trials
 
-fn try_plan<R: Eprint>(
-    rt: &R,
-    plan: &Plan,
-    version: Version,
-    list: Chosen,
-    tally: &mut Tally,
-) -> Result<()> {
+fn try_plan<R: Eprint>(rt: &R, plan: &Plan, version: Version, list: Chosen, tally: &mut Tally) {
     let has_all = has_edges(plan, edges_of(version, list));
-    tally.note(rt, "the waits of a chosen list", has_all)?;
+    tally.note(rt, "the waits of a chosen list", has_all);
     let has_slots = plan.accounts().len() == slots_of(version, list);
     let is_of = has_slots && plan.version() == version;
-    tally.note(rt, "the accounts of a chosen list", is_of)?;
+    tally.note(rt, "the accounts of a chosen list", is_of);
     tally.note(
         rt,
         "the plan of a chosen list",
         is_special(plan, version, list),
-    )
+    );
 }
 
 /// The plan of a feed by a planner that may have made others.
@@ -221,54 +195,52 @@ fn try_by<R>(
     version: Version,
     list: Chosen,
     tally: &mut Tally,
-) -> Result<()>
+)
 where
     R: AllocGlobal + Eprint,
 {
-    let plan = plan_by(rt.alloc(), planner, feed)?;
-    try_plan(rt, &plan, version, list, tally)
+    match plan_by(rt.alloc(), planner, feed) {
+        Ok(plan) => try_plan(rt, &plan, version, list, tally),
+        Err(_) => tally.miss(rt),
+    }
 }
 
-// A list by this planner, and by a new one.
-fn try_list<R>(
+// A feed by this planner, and by a new one.
+fn try_feed<R>(
     rt: &R,
     planner: &mut Planner,
+    feed: &Feed,
     version: Version,
     list: Chosen,
     tally: &mut Tally,
-) -> Result<()>
+)
 where
     R: AllocGlobal + Eprint,
 {
-    let feed = feed_of_list(rt.alloc(), version, list)?;
-    try_by(rt, planner, &feed, version, list, tally)?;
-    try_by(
-        rt,
-        &mut Planner::new(rt.alloc()),
-        &feed,
-        version,
-        list,
-        tally,
-    )
+    try_by(rt, planner, feed, version, list, tally);
+    let mut new = Planner::new(rt.alloc());
+    try_by(rt, &mut new, feed, version, list, tally);
 }
 
-fn try_lists<R>(rt: &R, planner: &mut Planner, tally: &mut Tally) -> Result<()>
+fn try_lists<R>(rt: &R, planner: &mut Planner, version: Version, tally: &mut Tally)
 where
     R: AllocGlobal + Eprint,
 {
-    for version in [Version::One, Version::Two, Version::One] {
-        for list in LISTS {
-            try_list(rt, planner, version, list, tally)?;
+    for list in LISTS {
+        match feed_of_list(rt.alloc(), version, *list) {
+            Ok(feed) => try_feed(rt, planner, &feed, version, *list, tally),
+            Err(_) => tally.miss(rt),
         }
     }
-    Ok(())
 }
 
 /// Plans of chosen lists: no plan depends on those that its planner made before.
-pub(crate) fn try_edges<R>(rt: &R, tally: &mut Tally) -> Result<()>
+pub(crate) fn try_edges<R>(rt: &R, tally: &mut Tally)
 where
     R: AllocGlobal + Eprint,
 {
     let mut planner = Planner::new(rt.alloc());
-    try_lists(rt, &mut planner, tally)
+    try_lists(rt, &mut planner, Version::One, tally);
+    try_lists(rt, &mut planner, Version::Two, tally);
+    try_lists(rt, &mut planner, Version::One, tally);
 }

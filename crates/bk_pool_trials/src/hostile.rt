@@ -1,7 +1,7 @@
 //! Hints of every bad kind. What an execution gives does not change.
 
-use crate::cases::{Case, NAMES, Name, case_of, feed_of_case};
-use crate::executing::{executed, executed_by, gives};
+use crate::cases::{Case, NAMES, Name, case_of, feed_of_case, gives_case};
+use crate::executing::{executed, executed_by};
 use crate::tally::Tally;
 use anyhow::Result;
 use bk_frames::{Feed, Version};
@@ -11,7 +11,7 @@ use std::sync::Wait;
 use std::sync::atomic::{AtomicU64, Ordering};
 use std::thread::Threads;
 
-const WORKERS: [u64; 3] = [1, 2, 64];
+const WORKERS: &[u64] = &[1, 2, 64];
 
 // How many hints in a row may give no hold.
 const IDLE_HINTS: u64 = 1_000_000;
@@ -32,7 +32,7 @@ enum Habit {
     NeverEnds,
 }
 
-const HABITS: [Habit; 7] = [
+const HABITS: &[Habit] = &[
     Habit::LosesAll,
     Habit::LosesEverySecond,
     Habit::GivesTwice,
@@ -154,7 +154,7 @@ where
     R: Threads + Wait + Sync,
 {
     let outcome = executed_by(rt, alloc, feed, &Open, ends)?;
-    gives(alloc, &outcome, &case.receipts, &case.accounts)
+    gives_case(alloc, &outcome, case)
 }
 
 // How many hints were taken by ends of these habits, the last of which is that of all further ends, if the execution
@@ -181,18 +181,24 @@ where
     Ok(None)
 }
 
+fn try_habit<R>(rt: &R, case: &Case, feed: &Feed, habit: Habit, workers: u64, tally: &mut Tally)
+where
+    R: AllocGlobal + Eprint + Threads + Wait + Sync,
+{
+    let found = taken_by(rt, rt.alloc(), case, feed, &[habit], workers).unwrap_or(None);
+    tally.note(rt, "bad hints", found.is_some());
+}
+
 // Executes a list with each number of ends of each habit.
-fn try_habits<R>(rt: &R, case: &Case, feed: &Feed, tally: &mut Tally) -> Result<()>
+fn try_habits<R>(rt: &R, case: &Case, feed: &Feed, tally: &mut Tally)
 where
     R: AllocGlobal + Eprint + Threads + Wait + Sync,
 {
     for habit in HABITS {
         for workers in WORKERS {
-            let found = taken_by(rt, rt.alloc(), case, feed, &[habit], workers)?;
-            tally.note(rt, "bad hints", found.is_some())?;
+            try_habit(rt, case, feed, *habit, *workers, tally);
         }
     }
-    Ok(())
 }
 
 fn is_given<R>(rt: &R, alloc: Global, case: &Case, feed: &Feed, workers: usize) -> Result<bool>
@@ -200,19 +206,18 @@ where
     R: Threads + Wait + Sync,
 {
     let outcome = executed(rt, alloc, feed, workers.clamp(1, 64), &Open)?;
-    gives(alloc, &outcome, &case.receipts, &case.accounts)
+    gives_case(alloc, &outcome, case)
 }
 
 // Executes a list with the pool's own hints.
-fn try_own<R>(rt: &R, case: &Case, feed: &Feed, tally: &mut Tally) -> Result<()>
+fn try_own<R>(rt: &R, case: &Case, feed: &Feed, tally: &mut Tally)
 where
     R: AllocGlobal + Eprint + Threads + Wait + Sync,
 {
     for workers in [1usize, 2, 64] {
-        let is_right = is_given(rt, rt.alloc(), case, feed, workers)?;
-        tally.note(rt, "a list with a known outcome", is_right)?;
+        let is_right = is_given(rt, rt.alloc(), case, feed, workers);
+        tally.judge(rt, "a list with a known outcome", is_right);
     }
-    Ok(())
 }
 
 // Hints without end: each worker gives up after a million that gave no hold, and one of them had the first place.
@@ -224,62 +229,63 @@ fn try_endless<R>(
     workers: u64,
     wanted: u64,
     tally: &mut Tally,
-) -> Result<()>
+)
 where
     R: AllocGlobal + Eprint + Threads + Wait + Sync,
 {
-    let found = taken_by(rt, rt.alloc(), case, feed, habits, workers)?;
-    tally.note(rt, "hints without end", found == Some(wanted))
+    let found = taken_by(rt, rt.alloc(), case, feed, habits, workers).unwrap_or(None);
+    tally.note(rt, "hints without end", found == Some(wanted));
 }
 
 // One worker, two, and one of 64 have hints without end.
-fn try_all_endless<R>(rt: &R, case: &Case, feed: &Feed, tally: &mut Tally) -> Result<()>
+fn try_all_endless<R>(rt: &R, case: &Case, feed: &Feed, tally: &mut Tally)
 where
     R: AllocGlobal + Eprint + Threads + Wait + Sync,
 {
     let all = [Habit::NeverEnds];
     let first = [Habit::NeverEnds, Habit::EndsAtOnce];
-    try_endless(rt, case, feed, &all, 1, 1 + IDLE_HINTS, tally)?;
-    try_endless(rt, case, feed, &all, 2, 1 + 2 * IDLE_HINTS, tally)?;
-    try_endless(rt, case, feed, &first, 64, 1 + IDLE_HINTS, tally)
-}
-
-fn try_four<R>(rt: &R, tally: &mut Tally) -> Result<()>
-where
-    R: AllocGlobal + Eprint + Threads + Wait + Sync,
-{
-    let case = case_of(rt.alloc(), Version::Two, Name::FourConflicts)?;
-    let feed = feed_of_case(rt.alloc(), &case)?;
-    try_all_endless(rt, &case, &feed, tally)
+    try_endless(rt, case, feed, &all, 1, 1 + IDLE_HINTS, tally);
+    try_endless(rt, case, feed, &all, 2, 1 + 2 * IDLE_HINTS, tally);
+    try_endless(rt, case, feed, &first, 64, 1 + IDLE_HINTS, tally);
 }
 
 // A list by all kinds of hints.
-fn try_feed<R>(rt: &R, case: &Case, tally: &mut Tally) -> Result<()>
+fn try_feed<R>(rt: &R, case: &Case, feed: &Feed, tally: &mut Tally)
 where
     R: AllocGlobal + Eprint + Threads + Wait + Sync,
 {
-    let feed = feed_of_case(rt.alloc(), case)?;
-    try_own(rt, case, &feed, tally)?;
-    try_habits(rt, case, &feed, tally)
+    try_own(rt, case, feed, tally);
+    try_habits(rt, case, feed, tally);
 }
 
-fn try_case<R>(rt: &R, version: Version, name: Name, tally: &mut Tally) -> Result<()>
+// A list by all kinds of hints, or by hints without end.
+fn try_case<R>(rt: &R, version: Version, case: &Case, is_endless: bool, tally: &mut Tally)
 where
     R: AllocGlobal + Eprint + Threads + Wait + Sync,
 {
-    let case = case_of(rt.alloc(), version, name)?;
-    try_feed(rt, &case, tally)
+    match feed_of_case(rt.alloc(), version, case) {
+        Ok(feed) if is_endless => try_all_endless(rt, case, &feed, tally),
+        Ok(feed) => try_feed(rt, case, &feed, tally),
+        Err(_) => tally.miss(rt),
+    }
+}
+
+fn try_cases<R>(rt: &R, version: Version, tally: &mut Tally)
+where
+    R: AllocGlobal + Eprint + Threads + Wait + Sync,
+{
+    for name in NAMES {
+        try_case(rt, version, &case_of(version, *name), false, tally);
+    }
 }
 
 /// Lists with known outcomes, by the pool's own hints and by bad ones.
-pub(crate) fn try_hints<R>(rt: &R, tally: &mut Tally) -> Result<()>
+pub(crate) fn try_hints<R>(rt: &R, tally: &mut Tally)
 where
     R: AllocGlobal + Eprint + Threads + Wait + Sync,
 {
-    for version in [Version::One, Version::Two] {
-        for name in NAMES {
-            try_case(rt, version, name, tally)?;
-        }
-    }
-    try_four(rt, tally)
+    try_cases(rt, Version::One, tally);
+    try_cases(rt, Version::Two, tally);
+    let four = case_of(Version::Two, Name::FourConflicts);
+    try_case(rt, Version::Two, &four, true, tally);
 }

@@ -110,7 +110,7 @@ fn counted<R>(
     feed: &Feed,
     wanted: &Ledger,
     workers: usize,
-) -> Result<(bool, Count)>
+) -> (Result<bool>, Count)
 where
     R: Threads + Wait + Sync,
 {
@@ -123,13 +123,13 @@ where
         met: &met,
         looks: if workers > 1 { LOOKS } else { 0 },
     };
-    let is_right = gives(rt, alloc, feed, wanted, workers, &gate)?;
+    let is_right = gives(rt, alloc, feed, wanted, workers, &gate);
     let count = Count {
         inside: inside.load(Ordering::SeqCst),
         left: left.load(Ordering::SeqCst),
         has_met: met.load(Ordering::SeqCst) == MET,
     };
-    Ok((is_right, count))
+    (is_right, count)
 }
 
 fn gives<R>(
@@ -156,19 +156,16 @@ fn try_workers<R>(
     places: u64,
     workers: usize,
     tally: &mut Tally,
-) -> Result<()>
+)
 where
     R: AllocGlobal + Eprint + Threads + Wait + Sync,
 {
-    let (is_right, count) = counted(rt, rt.alloc(), feed, wanted, workers)?;
-    tally.note(rt, "a large slice", is_right)?;
+    let (is_right, count) = counted(rt, rt.alloc(), feed, wanted, workers);
+    tally.judge(rt, "a large slice", is_right);
     let are_once = count.inside == places && count.left == places;
-    tally.note(rt, "each place of a large slice once", are_once)?;
-    tally.note(
-        rt,
-        "threads for a large slice",
-        count.has_met == (workers > 1),
-    )
+    tally.note(rt, "each place of a large slice once", are_once);
+    let has_met = count.has_met == (workers > 1);
+    tally.note(rt, "threads for a large slice", has_met);
 }
 
 // How many transactions have this status.
@@ -235,33 +232,28 @@ fn try_ledger<R>(
     rt: &R,
     feed: &Feed,
     wanted: &Ledger,
-    batches: Batches<'_>,
+    batches: &Batches<'_>,
     numbers: &[usize],
     tally: &mut Tally,
-) -> Result<()>
+)
 where
     R: AllocGlobal + Eprint + Threads + Wait + Sync,
 {
     let is_right = is_of(wanted, batches.counts, batches.places, batches.malformed);
-    tally.note(rt, "the batches of a large slice", is_right)?;
+    tally.note(rt, "the batches of a large slice", is_right);
     for workers in numbers {
-        try_workers(rt, feed, wanted, batches.places, *workers, tally)?;
+        try_workers(rt, feed, wanted, batches.places, *workers, tally);
     }
-    Ok(())
 }
 
-fn try_feed<R>(
-    rt: &R,
-    feed: &Feed,
-    batches: Batches<'_>,
-    numbers: &[usize],
-    tally: &mut Tally,
-) -> Result<()>
+fn try_feed<R>(rt: &R, feed: &Feed, batches: &Batches<'_>, numbers: &[usize], tally: &mut Tally)
 where
     R: AllocGlobal + Eprint + Threads + Wait + Sync,
 {
-    let wanted = Ledger::of(rt.alloc(), feed)?;
-    try_ledger(rt, feed, &wanted, batches, numbers, tally)
+    match Ledger::of(rt.alloc(), feed) {
+        Ok(wanted) => try_ledger(rt, feed, &wanted, batches, numbers, tally),
+        Err(_) => tally.miss(rt),
+    }
 }
 
 // The feed of these batches.
@@ -270,11 +262,20 @@ fn feed_of_large(alloc: Global, version: Version, payloads: &[Vec<u8>]) -> Resul
     feed_of(alloc, version, &rows, payloads)
 }
 
-// A full batch, between two that say that they are as full and have no text: these are void.
+// The batches: a full one, and those that say that they are as full and have no text, which are void.
+fn full_or_void(alloc: Global, is_full: bool) -> Result<Vec<u8>> {
+    if is_full {
+        full_batch(alloc)
+    } else {
+        Ok(Vec::from_slice(alloc, &[255, 255])?)
+    }
+}
+
+// A full batch, between two that are void.
 fn push_full(alloc: Global, payloads: &mut Vec<Vec<u8>>) -> Result<()> {
-    payloads.push(Vec::from_slice(alloc, &[255, 255])?)?;
-    payloads.push(full_batch(alloc)?)?;
-    payloads.push(Vec::from_slice(alloc, &[255, 255])?)?;
+    for batch in 0..3u32 {
+        payloads.push(full_or_void(alloc, batch == 1)?)?;
+    }
     Ok(())
 }
 
@@ -305,41 +306,46 @@ fn three_feed(alloc: Global, version: Version) -> Result<Feed> {
     feed_of_large(alloc, version, &payloads)
 }
 
-fn try_full<R>(rt: &R, version: Version, tally: &mut Tally) -> Result<()>
+const FULL_BATCHES: Batches<'static> = Batches {
+    counts: &[None, Some(u16::MAX), None],
+    places: FULL,
+    malformed: EMPTY,
+};
+
+fn try_full<R>(rt: &R, version: Version, tally: &mut Tally)
 where
     R: AllocGlobal + Eprint + Threads + Wait + Sync,
 {
-    let feed = full_feed(rt.alloc(), version)?;
-    let batches = Batches {
-        counts: &[None, Some(u16::MAX), None],
-        places: FULL,
-        malformed: EMPTY,
-    };
-    try_feed(rt, &feed, batches, &[1, 4], tally)
+    match full_feed(rt.alloc(), version) {
+        Ok(feed) => try_feed(rt, &feed, &FULL_BATCHES, &[1, 4], tally),
+        Err(_) => tally.miss(rt),
+    }
 }
 
+const THREE_BATCHES: Batches<'static> = Batches {
+    counts: &[Some(4_096); 3],
+    places: IN_THREE,
+    malformed: 0,
+};
+
 // Payments in three batches: a slice that is exactly as long as it has to be, and one that is shorter.
-fn try_three<R>(rt: &R, version: Version, tally: &mut Tally) -> Result<()>
+fn try_three<R>(rt: &R, version: Version, tally: &mut Tally)
 where
     R: AllocGlobal + Eprint + Threads + Wait + Sync,
 {
-    let feed = three_feed(rt.alloc(), version)?;
-    let batches = Batches {
-        counts: &[Some(4_096); 3],
-        places: IN_THREE,
-        malformed: 0,
-    };
-    try_feed(rt, &feed, batches, &[1, 3, 64], tally)
+    match three_feed(rt.alloc(), version) {
+        Ok(feed) => try_feed(rt, &feed, &THREE_BATCHES, &[1, 3, 64], tally),
+        Err(_) => tally.miss(rt),
+    }
 }
 
 /// Slices of more than 2,048 transactions, for which threads are started, in both versions.
-pub(crate) fn try_large_slices<R>(rt: &R, tally: &mut Tally) -> Result<()>
+pub(crate) fn try_large_slices<R>(rt: &R, tally: &mut Tally)
 where
     R: AllocGlobal + Eprint + Threads + Wait + Sync,
 {
-    for version in [Version::One, Version::Two] {
-        try_full(rt, version, tally)?;
-        try_three(rt, version, tally)?;
-    }
-    Ok(())
+    try_full(rt, Version::One, tally);
+    try_three(rt, Version::One, tally);
+    try_full(rt, Version::Two, tally);
+    try_three(rt, Version::Two, tally);
 }

@@ -15,7 +15,7 @@ use std::alloc::Global;
 use std::sync::Wait;
 use std::thread::Threads;
 
-const WORKERS: [usize; 5] = [1, 2, 3, 8, 64];
+const WORKERS: &[usize] = &[1, 2, 3, 8, 64];
 
 const LISTS: u64 = 100;
 
@@ -23,7 +23,7 @@ const LISTS: u64 = 100;
 const LEAST: u64 = 5;
 
 // Workers take ranges of places: a list is shorter than one, as long, or longer.
-const LENGTHS: [u64; 5] = [1, 127, 128, 129, 1_000];
+const LENGTHS: &[u64] = &[1, 127, 128, 129, 1_000];
 
 // Whether this many workers give what the transactions of the feed give one at a time.
 fn agrees<R>(rt: &R, alloc: Global, feed: &Feed, wanted: &Ledger, workers: usize) -> Result<bool>
@@ -35,16 +35,14 @@ where
 }
 
 // The transactions of a feed by each number of workers, against the same one at a time.
-fn try_workers<R>(rt: &R, what: &str, feed: &Feed, wanted: &Ledger, tally: &mut Tally) -> Result<()>
+fn try_workers<R>(rt: &R, what: &str, feed: &Feed, wanted: &Ledger, tally: &mut Tally)
 where
     R: AllocGlobal + Eprint + Threads + Wait + Sync,
 {
-    let alloc = rt.alloc();
     for workers in WORKERS {
-        let is_right = agrees(rt, alloc, feed, wanted, workers)?;
-        tally.note(rt, what, is_right)?;
+        let is_right = agrees(rt, rt.alloc(), feed, wanted, *workers);
+        tally.judge(rt, what, is_right);
     }
-    Ok(())
 }
 
 // Counts each status.
@@ -56,37 +54,68 @@ fn count(receipts: &[Receipt], counts: &mut [u64; 7]) {
     }
 }
 
-fn drawn_feed(alloc: Global, version: Version, chance: &mut Chance) -> Result<Feed> {
+/// The feed of a drawn list.
+pub(crate) fn drawn_feed(alloc: Global, version: Version, chance: &mut Chance) -> Result<Feed> {
     let rows = drawn_opening(alloc)?;
     let txs = drawn_list(alloc, chance)?;
     feed_with(alloc, version, &rows, &txs)
 }
 
-// A drawn list, whose statuses are counted.
-fn try_list<R>(rt: &R, feed: &Feed, counts: &mut [u64; 7], tally: &mut Tally) -> Result<()>
+// A list, whose statuses are counted.
+fn try_ledger<R>(
+    rt: &R,
+    what: &str,
+    feed: &Feed,
+    wanted: &Ledger,
+    counts: &mut [u64; 7],
+    tally: &mut Tally,
+)
 where
     R: AllocGlobal + Eprint + Threads + Wait + Sync,
 {
-    let wanted = Ledger::of(rt.alloc(), feed)?;
     count(wanted.receipts(), counts);
-    try_workers(rt, "a drawn list", feed, &wanted, tally)
+    try_workers(rt, what, feed, wanted, tally);
+}
+
+fn try_list<R>(rt: &R, what: &str, feed: &Feed, counts: &mut [u64; 7], tally: &mut Tally)
+where
+    R: AllocGlobal + Eprint + Threads + Wait + Sync,
+{
+    match Ledger::of(rt.alloc(), feed) {
+        Ok(wanted) => try_ledger(rt, what, feed, &wanted, counts, tally),
+        Err(_) => tally.miss(rt),
+    }
+}
+
+fn try_drawn<R>(
+    rt: &R,
+    version: Version,
+    chance: &mut Chance,
+    counts: &mut [u64; 7],
+    tally: &mut Tally,
+)
+where
+    R: AllocGlobal + Eprint + Threads + Wait + Sync,
+{
+    for _ in 0..LISTS {
+        match drawn_feed(rt.alloc(), version, chance) {
+            Ok(feed) => try_list(rt, "a drawn list", &feed, counts, tally),
+            Err(_) => tally.miss(rt),
+        }
+    }
 }
 
 // Drawn lists of one version, which have to show every status.
-fn try_lists<R>(rt: &R, version: Version, tally: &mut Tally) -> Result<()>
+fn try_lists<R>(rt: &R, version: Version, tally: &mut Tally)
 where
     R: AllocGlobal + Eprint + Threads + Wait + Sync,
 {
     let mut chance = Chance::new(11);
     let mut counts = [0; 7];
-    for _ in 0..LISTS {
-        let feed = drawn_feed(rt.alloc(), version, &mut chance)?;
-        try_list(rt, &feed, &mut counts, tally)?;
+    try_drawn(rt, version, &mut chance, &mut counts, tally);
+    for count in &counts {
+        tally.note(rt, "a status that is drawn too seldom", *count > LEAST);
     }
-    for count in counts {
-        tally.note(rt, "a status that is drawn too seldom", count > LEAST)?;
-    }
-    Ok(())
 }
 
 pub(crate) fn opening(alloc: Global, accounts: u64) -> Result<Vec<Row>> {
@@ -160,36 +189,29 @@ fn long_feed(alloc: Global, accounts: u64, count: u64, has_one_sender: bool) -> 
     feed_with(alloc, Version::Two, &rows, &txs)
 }
 
-fn try_long<R>(rt: &R, feed: &Feed, tally: &mut Tally) -> Result<()>
-where
-    R: AllocGlobal + Eprint + Threads + Wait + Sync,
-{
-    let wanted = Ledger::of(rt.alloc(), feed)?;
-    try_workers(rt, "a long list", feed, &wanted, tally)
-}
-
 // Lists of each length between this many accounts.
-fn try_lengths<R>(rt: &R, accounts: u64, has_one_sender: bool, tally: &mut Tally) -> Result<()>
+fn try_lengths<R>(rt: &R, accounts: u64, has_one_sender: bool, tally: &mut Tally)
 where
     R: AllocGlobal + Eprint + Threads + Wait + Sync,
 {
+    let mut counts = [0; 7];
     for count in LENGTHS {
-        let feed = long_feed(rt.alloc(), accounts, count, has_one_sender)?;
-        try_long(rt, &feed, tally)?;
+        match long_feed(rt.alloc(), accounts, *count, has_one_sender) {
+            Ok(feed) => try_list(rt, "a long list", &feed, &mut counts, tally),
+            Err(_) => tally.miss(rt),
+        }
     }
-    Ok(())
 }
 
 /// Drawn lists of both versions, and lists longer than what a worker takes at once.
-pub(crate) fn try_all_lists<R>(rt: &R, tally: &mut Tally) -> Result<()>
+pub(crate) fn try_all_lists<R>(rt: &R, tally: &mut Tally)
 where
     R: AllocGlobal + Eprint + Threads + Wait + Sync,
 {
-    for version in [Version::One, Version::Two] {
-        try_lists(rt, version, tally)?;
-    }
-    for accounts in [4, 40, 1_000] {
-        try_lengths(rt, accounts, false, tally)?;
-    }
-    try_lengths(rt, 1_000, true, tally)
+    try_lists(rt, Version::One, tally);
+    try_lists(rt, Version::Two, tally);
+    try_lengths(rt, 4, false, tally);
+    try_lengths(rt, 40, false, tally);
+    try_lengths(rt, 1_000, false, tally);
+    try_lengths(rt, 1_000, true, tally);
 }

@@ -4,13 +4,13 @@ ghost use Rattle.std.specs.Prelude.{◌≡◌, ◌<◌, ◌≤◌, IfSome};
 ghost use Rattle.bk_bank.specs.Bank.{bank_scene, IsPassOf, IsHoldOf, IsLeavingOf};
 ghost use Rattle.bk_pool.specs.Reads.{IsFresh, IsBankOf};
 
-use crate::cases::{Name, feed_named};
+use crate::cases::{Name, VERSIONS, feed_named};
 use crate::executing::prepared;
 use crate::tally::Tally;
 use anyhow::Result;
 use bk_bank::{Bank, Hold, Leaving, Pass, Step};
 use bk_conflicts::Plan;
-use bk_frames::{Feed, Version};
+use bk_frames::Feed;
 use bk_pool::{Open, run_place};
 use std::alloc::Global;
 
@@ -219,7 +219,7 @@ enum Deed {
     DoBoth,
 }
 
-const DEEDS: [(Deed, &str); 4] = [
+const DEEDS: &[(Deed, &str)] = &[
     (Deed::LoseHold, "a hold that is lost"),
     (Deed::LoseReadHold, "a hold that is lost after reads"),
     (Deed::LoseLeaving, "a leaving that is lost"),
@@ -241,25 +241,24 @@ fn is_shown(alloc: Global, feed: &Feed, deed: Deed) -> Result<bool> {
     })
 }
 
-fn try_deeds<R>(rt: &R, feed: &Feed, tally: &mut Tally) -> Result<()>
+fn try_deeds<R>(rt: &R, feed: &Feed, tally: &mut Tally)
 where
     R: AllocGlobal + Eprint,
 {
     for (deed, what) in DEEDS {
-        let is_right = is_shown(rt.alloc(), feed, deed)?;
-        tally.note(rt, what, is_right)?;
+        tally.judge(rt, what, is_shown(rt.alloc(), feed, *deed));
     }
-    Ok(())
 }
 
 /// A bank of two payments in conflict, in both versions.
-pub(crate) fn try_lost<R>(rt: &R, tally: &mut Tally) -> Result<()>
+pub(crate) fn try_lost<R>(rt: &R, tally: &mut Tally)
 where
     R: AllocGlobal + Eprint,
 {
-    for version in [Version::One, Version::Two] {
-        let feed = feed_named(rt.alloc(), version, Name::GuardThenPayment)?;
-        try_deeds(rt, &feed, tally)?;
+    for version in VERSIONS {
+        match feed_named(rt.alloc(), *version, Name::GuardThenPayment) {
+            Ok(feed) => try_deeds(rt, &feed, tally),
+            Err(_) => tally.miss(rt),
+        }
     }
-    Ok(())
 }

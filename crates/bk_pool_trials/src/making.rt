@@ -115,20 +115,30 @@ fn put_frame(feed: &mut Vec<u8>, kind: u8, payload: &[u8]) -> Result<()> {
     Ok(())
 }
 
-// The magic, and a committee of one member of weight 1.
-fn head(alloc: Global, version: Version) -> Result<Vec<u8>> {
-    let mut committee = Vec::from_slice(alloc, &[1])?;
-    committee.extend_from_slice(&[1; 32])?;
-    let magic: &[u8; 4] = match version {
-        Version::One => b"BKF1",
-        Version::Two => {
-            committee.extend_from_slice(&[0, 0, 0, 1])?;
-            b"BKF2"
-        }
+// One member, and its key of 32 bytes.
+const COMMITTEE: &[u8] = &[1; 33];
+
+// The same, and its weight, which is 1.
+const WEIGHED: &[u8] = &[
+    1, 1, 1, 1, 1, 1, 1, 1, 1, 1, 1, 1, 1, 1, 1, 1, 1, 1, 1, 1, 1, 1, 1, 1, 1, 1, 1, 1, 1, 1, 1, 1,
+    1, 0, 0, 0, 1,
+];
+
+// Puts the magic, and a committee of one member of weight 1.
+fn put_head(feed: &mut Vec<u8>, version: Version) -> Result<()> {
+    let (magic, committee) = match version {
+        Version::One => (b"BKF1", COMMITTEE),
+        Version::Two => (b"BKF2", WEIGHED),
     };
-    let mut feed = Vec::from_slice(alloc, magic)?;
-    put_frame(&mut feed, 1, &committee)?;
-    Ok(feed)
+    feed.extend_from_slice(magic)?;
+    put_frame(feed, 1, committee)
+}
+
+fn put_row(payload: &mut Vec<u8>, row: &Row) -> Result<()> {
+    payload.extend_from_slice(&row.id.to_be_bytes())?;
+    payload.extend_from_slice(&row.balance.to_be_bytes())?;
+    payload.extend_from_slice(&row.seq.to_be_bytes())?;
+    Ok(())
 }
 
 // The payload of a genesis.
@@ -138,18 +148,9 @@ fn genesis(alloc: Global, rows: &[Row]) -> Result<Vec<u8>> {
     };
     let mut payload = Vec::from_slice(alloc, &count.to_be_bytes())?;
     for row in rows {
-        payload.extend_from_slice(&row.id.to_be_bytes())?;
-        payload.extend_from_slice(&row.balance.to_be_bytes())?;
-        payload.extend_from_slice(&row.seq.to_be_bytes())?;
+        put_row(&mut payload, row)?;
     }
     Ok(payload)
-}
-
-// Puts the frames of these opening accounts and these batches.
-fn put_frames(alloc: Global, feed: &mut Vec<u8>, rows: &[Row], payloads: &[Vec<u8>]) -> Result<()> {
-    let genesis = genesis(alloc, rows)?;
-    put_frame(feed, 2, &genesis)?;
-    put_batches(feed, payloads)
 }
 
 fn put_batches(feed: &mut Vec<u8>, payloads: &[Vec<u8>]) -> Result<()> {
@@ -166,6 +167,17 @@ fn read(alloc: Global, bytes: &[u8]) -> Result<Feed> {
     }
 }
 
+fn put_all(
+    feed: &mut Vec<u8>,
+    version: Version,
+    genesis: &[u8],
+    payloads: &[Vec<u8>],
+) -> Result<()> {
+    put_head(feed, version)?;
+    put_frame(feed, 2, genesis)?;
+    put_batches(feed, payloads)
+}
+
 /// The feed of these opening accounts and these batches.
 pub(crate) fn feed_of(
     alloc: Global,
@@ -173,8 +185,9 @@ pub(crate) fn feed_of(
     rows: &[Row],
     payloads: &[Vec<u8>],
 ) -> Result<Feed> {
-    let mut bytes = head(alloc, version)?;
-    put_frames(alloc, &mut bytes, rows, payloads)?;
+    let mut bytes = Vec::new(alloc);
+    let genesis = genesis(alloc, rows)?;
+    put_all(&mut bytes, version, &genesis, payloads)?;
     read(alloc, &bytes)
 }
 

@@ -1,7 +1,9 @@
 //! Workers that are inside two places at once.
 
+use crate::cases::VERSIONS;
+use crate::deeds::{Deed, txs_of};
 use crate::executing::{executed, executed_by, gives};
-use crate::making::{feed_with, pay, row};
+use crate::making::{feed_with, row};
 use crate::tally::Tally;
 use anyhow::Result;
 use bk_frames::{Feed, Version};
@@ -74,9 +76,7 @@ impl Hints for Second {
 // Two payments that have no account in common.
 fn two_apart(alloc: Global, version: Version) -> Result<Feed> {
     let rows = [row(1, 10, 0), row(2, 10, 0), row(3, 10, 0), row(4, 10, 0)];
-    let mut txs = Vec::new(alloc);
-    txs.push(pay(1, 2, 10, 0)?)?;
-    txs.push(pay(3, 4, 10, 0)?)?;
+    let txs = txs_of(alloc, &[Deed::Pay(1, 2, 10, 0), Deed::Pay(3, 4, 10, 0)])?;
     feed_with(alloc, version, &rows, &txs)
 }
 
@@ -149,30 +149,30 @@ where
     Ok(are_right && have_met && have_left)
 }
 
-const HINTS: [(bool, &str); 2] = [
+const HINTS: &[(bool, &str)] = &[
     (false, "workers that overlap"),
     (true, "workers that go on after a hint that gives none"),
 ];
 
-fn try_both<R>(rt: &R, feed: &Feed, tally: &mut Tally) -> Result<()>
+fn try_both<R>(rt: &R, feed: &Feed, tally: &mut Tally)
 where
     R: AllocGlobal + Eprint + Threads + Wait + Sync,
 {
     for (has_bad_hint, what) in HINTS {
-        let is_right = both_meet(rt, rt.alloc(), feed, has_bad_hint)?;
-        tally.note(rt, what, is_right)?;
+        let is_right = both_meet(rt, rt.alloc(), feed, *has_bad_hint);
+        tally.judge(rt, what, is_right);
     }
-    Ok(())
 }
 
 /// Two workers wait for each other, each inside its place.
-pub(crate) fn try_meetings<R>(rt: &R, tally: &mut Tally) -> Result<()>
+pub(crate) fn try_meetings<R>(rt: &R, tally: &mut Tally)
 where
     R: AllocGlobal + Eprint + Threads + Wait + Sync,
 {
-    for version in [Version::One, Version::Two] {
-        let feed = two_apart(rt.alloc(), version)?;
-        try_both(rt, &feed, tally)?;
+    for version in VERSIONS {
+        match two_apart(rt.alloc(), *version) {
+            Ok(feed) => try_both(rt, &feed, tally),
+            Err(_) => tally.miss(rt),
+        }
     }
-    Ok(())
 }

@@ -4,7 +4,7 @@ ghost use Rattle.std.specs.Prelude.{◌≡◌, ◌<◌, IfSome};
 ghost use Rattle.bk_bank.specs.Bank.{bank_scene, IsPassOf};
 ghost use Rattle.bk_pool.specs.Reads.{IsBankOf};
 
-use crate::cases::{Name, feed_named};
+use crate::cases::{Name, VERSIONS, feed_named};
 use crate::executing::prepared;
 use crate::lost::{DONE, HELD, shows};
 use crate::tally::Tally;
@@ -12,7 +12,7 @@ use crate::words::{BOTH_PAID, closes_as, done_before, done_last};
 use anyhow::Result;
 use bk_bank::{Bank, Pass};
 use bk_conflicts::Plan;
-use bk_frames::{Feed, Version};
+use bk_frames::Feed;
 use std::alloc::Global;
 use std::thread;
 use std::thread::{Threads, join};
@@ -100,22 +100,29 @@ fn have_paid<R: Threads>(rt: &R, alloc: Global, feed: &Feed) -> Result<bool> {
     Ok(closes_as(bank, &plan, pass, &BOTH_PAID))
 }
 
-/// Two payments in conflict, each by a thread of its own, in both versions.
-pub(crate) fn try_passes<R>(rt: &R, tally: &mut Tally) -> Result<()>
+fn try_rounds<R>(rt: &R, feed: &Feed, tally: &mut Tally)
 where
     R: AllocGlobal + Eprint + Threads,
 {
-    for version in [Version::One, Version::Two] {
-        let alloc: Global = rt.alloc();
-        let feed = feed_named(alloc, version, Name::GuardThenPayment)?;
-        for _ in 0..ROUNDS {
-            let is_right = have_paid(rt, alloc, &feed)?;
-            tally.note(rt, "places on two threads", is_right)?;
-            // Each that fails may have looked for as long as it can.
-            if !is_right {
-                return Ok(());
-            }
+    for _ in 0..ROUNDS {
+        let is_right = have_paid(rt, rt.alloc(), feed).unwrap_or(false);
+        tally.note(rt, "places on two threads", is_right);
+        // Each that fails may have looked for as long as it can.
+        if !is_right {
+            return;
         }
     }
-    Ok(())
+}
+
+/// Two payments in conflict, each by a thread of its own, in both versions.
+pub(crate) fn try_passes<R>(rt: &R, tally: &mut Tally)
+where
+    R: AllocGlobal + Eprint + Threads,
+{
+    for version in VERSIONS {
+        match feed_named(rt.alloc(), *version, Name::GuardThenPayment) {
+            Ok(feed) => try_rounds(rt, &feed, tally),
+            Err(_) => tally.miss(rt),
+        }
+    }
 }

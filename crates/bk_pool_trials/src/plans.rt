@@ -1,15 +1,16 @@
 //! Plans of drawn lists, also with wrong likely slots and by a planner that made others, and their waits and words.
 
 use crate::chance::Chance;
-use crate::drawn::{drawn_list, drawn_opening, drawn_payments};
+use crate::drawn::{drawn_opening, drawn_payments};
 use crate::edges::plan_by;
 use crate::executing::{executed_near, is_same, planned};
+use crate::lists::drawn_feed;
 use crate::making::feed_with;
 use crate::tally::Tally;
 use crate::waits::{count_waits, is_right};
 use anyhow::Result;
 use bk_conflicts::{Plan, Planner};
-use bk_frames::{Feed, Row, Version};
+use bk_frames::{Feed, Version};
 use bk_ledger::Ledger;
 use std::alloc::Global;
 use std::sync::Wait;
@@ -35,7 +36,7 @@ enum Near {
     TooFew,
 }
 
-const NEARS: [Near; 5] = [
+const NEARS: &[Near] = &[
     Near::First,
     Near::PastTheLast,
     Near::Greatest,
@@ -97,22 +98,14 @@ where
 }
 
 // A plan that is made with these likely slots, and what its execution gives.
-fn try_slots<R>(
-    rt: &R,
-    feed: &Feed,
-    plan: &Plan,
-    near: &[u32],
-    wanted: &Ledger,
-    tally: &mut Tally,
-) -> Result<()>
+fn try_slots<R>(rt: &R, feed: &Feed, plan: &Plan, near: &[u32], wanted: &Ledger, tally: &mut Tally)
 where
     R: AllocGlobal + Eprint + Threads + Wait + Sync,
 {
-    let alloc: Global = rt.alloc();
-    let is_plan = is_planned(alloc, feed, plan, near)?;
-    tally.note(rt, "a plan of wrong likely slots", is_plan)?;
-    let is_right = is_executed(rt, alloc, feed, near, wanted)?;
-    tally.note(rt, "an execution of wrong likely slots", is_right)
+    let is_plan = is_planned(rt.alloc(), feed, plan, near);
+    tally.judge(rt, "a plan of wrong likely slots", is_plan);
+    let is_right = is_executed(rt, rt.alloc(), feed, near, wanted);
+    tally.judge(rt, "an execution of wrong likely slots", is_right);
 }
 
 fn try_near<R>(
@@ -123,12 +116,14 @@ fn try_near<R>(
     near: Near,
     wanted: &Ledger,
     tally: &mut Tally,
-) -> Result<()>
+)
 where
     R: AllocGlobal + Eprint + Threads + Wait + Sync,
 {
-    let near = near_of(rt.alloc(), chance, near)?;
-    try_slots(rt, feed, plan, &near, wanted, tally)
+    match near_of(rt.alloc(), chance, near) {
+        Ok(near) => try_slots(rt, feed, plan, &near, wanted, tally),
+        Err(_) => tally.miss(rt),
+    }
 }
 
 // Plans of a drawn list with wrong likely slots.
@@ -139,59 +134,47 @@ fn try_nears<R>(
     plan: &Plan,
     wanted: &Ledger,
     tally: &mut Tally,
-) -> Result<()>
+)
 where
     R: AllocGlobal + Eprint + Threads + Wait + Sync,
 {
     for near in NEARS {
-        try_near(rt, chance, feed, plan, near, wanted, tally)?;
+        try_near(rt, chance, feed, plan, *near, wanted, tally);
     }
-    Ok(())
 }
 
-fn try_by<R>(rt: &R, chance: &mut Chance, feed: &Feed, plan: &Plan, tally: &mut Tally) -> Result<()>
+fn try_by<R>(rt: &R, chance: &mut Chance, feed: &Feed, plan: &Plan, tally: &mut Tally)
 where
     R: AllocGlobal + Eprint + Threads + Wait + Sync,
 {
-    tally.note(rt, "the waits and words of a plan", is_right(plan))?;
-    let wanted = Ledger::of(rt.alloc(), feed)?;
-    try_nears(rt, chance, feed, plan, &wanted, tally)
+    tally.note(rt, "the waits and words of a plan", is_right(plan));
+    match Ledger::of(rt.alloc(), feed) {
+        Ok(wanted) => try_nears(rt, chance, feed, plan, &wanted, tally),
+        Err(_) => tally.miss(rt),
+    }
 }
 
 // The plan of a drawn list, and plans of it with wrong likely slots.
-fn try_plan<R>(rt: &R, chance: &mut Chance, feed: &Feed, tally: &mut Tally) -> Result<()>
+fn try_plan<R>(rt: &R, chance: &mut Chance, feed: &Feed, tally: &mut Tally)
 where
     R: AllocGlobal + Eprint + Threads + Wait + Sync,
 {
-    let plan = plan_near(rt.alloc(), feed, &[])?;
-    try_by(rt, chance, feed, &plan, tally)
+    match plan_near(rt.alloc(), feed, &[]) {
+        Ok(plan) => try_by(rt, chance, feed, &plan, tally),
+        Err(_) => tally.miss(rt),
+    }
 }
 
-fn drawn_feed(alloc: Global, version: Version, rows: &[Row], chance: &mut Chance) -> Result<Feed> {
-    let txs = drawn_list(alloc, chance)?;
-    feed_with(alloc, version, rows, &txs)
-}
-
-fn try_drawn<R>(rt: &R, rows: &[Row], tally: &mut Tally) -> Result<()>
+fn try_lists<R>(rt: &R, version: Version, chance: &mut Chance, tally: &mut Tally)
 where
     R: AllocGlobal + Eprint + Threads + Wait + Sync,
 {
-    let mut chance = Chance::new(13);
-    for version in [Version::One, Version::Two] {
-        for _ in 0..LISTS {
-            let feed = drawn_feed(rt.alloc(), version, rows, &mut chance)?;
-            try_plan(rt, &mut chance, &feed, tally)?;
+    for _ in 0..LISTS {
+        match drawn_feed(rt.alloc(), version, chance) {
+            Ok(feed) => try_plan(rt, chance, &feed, tally),
+            Err(_) => tally.miss(rt),
         }
     }
-    Ok(())
-}
-
-fn try_lists<R>(rt: &R, tally: &mut Tally) -> Result<()>
-where
-    R: AllocGlobal + Eprint + Threads + Wait + Sync,
-{
-    let rows = drawn_opening(rt.alloc())?;
-    try_drawn(rt, &rows, tally)
 }
 
 // ---- one planner
@@ -222,28 +205,44 @@ fn waits_in(
     Ok(waits_of(&plan))
 }
 
-fn try_payments<R>(rt: &R, planner: &mut Planner, tally: &mut Tally) -> Result<()>
+// How many waits are in the plan of drawn payments, which has to be right.
+fn try_payment<R>(
+    rt: &R,
+    planner: &mut Planner,
+    chance: &mut Chance,
+    version: Version,
+    tally: &mut Tally,
+) -> u64
+where
+    R: AllocGlobal + Eprint,
+{
+    let found = waits_in(rt.alloc(), planner, chance, version).unwrap_or(None);
+    tally.note(rt, "a plan of drawn payments", found.is_some());
+    found.unwrap_or(0)
+}
+
+fn try_payments<R>(rt: &R, planner: &mut Planner, tally: &mut Tally)
 where
     R: AllocGlobal + Eprint,
 {
     let mut chance = Chance::new(7);
     let mut waits = 0u64;
     for _ in 0..PAYMENTS {
-        for version in [Version::One, Version::Two] {
-            let found = waits_in(rt.alloc(), planner, &mut chance, version)?;
-            tally.note(rt, "a plan of drawn payments", found.is_some())?;
-            waits = waits.saturating_add(found.unwrap_or(0));
-        }
+        let one = try_payment(rt, planner, &mut chance, Version::One, tally);
+        let two = try_payment(rt, planner, &mut chance, Version::Two, tally);
+        waits = waits.saturating_add(one).saturating_add(two);
     }
-    tally.note(rt, "too few waits in drawn plans", waits > LEAST)
+    tally.note(rt, "too few waits in drawn plans", waits > LEAST);
 }
 
 /// Plans of drawn lists of both versions.
-pub(crate) fn try_plans<R>(rt: &R, tally: &mut Tally) -> Result<()>
+pub(crate) fn try_plans<R>(rt: &R, tally: &mut Tally)
 where
     R: AllocGlobal + Eprint + Threads + Wait + Sync,
 {
-    try_lists(rt, tally)?;
+    let mut chance = Chance::new(13);
+    try_lists(rt, Version::One, &mut chance, tally);
+    try_lists(rt, Version::Two, &mut chance, tally);
     let mut planner = Planner::new(rt.alloc());
-    try_payments(rt, &mut planner, tally)
+    try_payments(rt, &mut planner, tally);
 }

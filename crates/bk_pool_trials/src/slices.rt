@@ -1,6 +1,8 @@
 //! Feeds of many batches, executed in slices of several lengths, against the same transactions one at a time.
 
+use crate::cases::VERSIONS;
 use crate::chance::Chance;
+use crate::deeds::{Deed, txs_of};
 use crate::drawn::{drawn_list, drawn_opening};
 use crate::lists::{opening, payments};
 use crate::making::{Batch, feed_of, pay};
@@ -14,9 +16,9 @@ use std::sync::Wait;
 use std::thread::Threads;
 
 // A slice has at least so many transactions: one, some, or all of a feed.
-const LEASTS: [usize; 4] = [1, 2, 7, 8_192];
+const LEASTS: &[usize] = &[1, 2, 7, 8_192];
 
-const WORKERS: [usize; 3] = [1, 2, 4];
+const WORKERS: &[usize] = &[1, 2, 4];
 
 const LISTS: u64 = 20;
 
@@ -24,14 +26,14 @@ const LISTS: u64 = 20;
 const ACCOUNTS: u64 = 130;
 
 // Payments on both sides of the borders of words, each by a sender of its own.
-const BORDERS: [(u64, u64); 7] = [
-    (64, 65),
-    (65, 64),
-    (63, 66),
-    (1, 130),
-    (130, 128),
-    (128, 129),
-    (129, 64),
+const BORDERS: &[Deed] = &[
+    Deed::Pay(64, 65, 7, 0),
+    Deed::Pay(65, 64, 7, 0),
+    Deed::Pay(63, 66, 7, 0),
+    Deed::Pay(1, 130, 7, 0),
+    Deed::Pay(130, 128, 7, 0),
+    Deed::Pay(128, 129, 7, 0),
+    Deed::Pay(129, 64, 7, 0),
 ];
 
 // The batch of one transaction.
@@ -105,59 +107,47 @@ where
 }
 
 // Slices of one length, by each number of workers.
-fn try_least<R>(
-    rt: &R,
-    what: &str,
-    feed: &Feed,
-    wanted: &Ledger,
-    least: usize,
-    tally: &mut Tally,
-) -> Result<()>
+fn try_least<R>(rt: &R, what: &str, feed: &Feed, wanted: &Ledger, least: usize, tally: &mut Tally)
 where
     R: AllocGlobal + Eprint + Threads + Wait + Sync,
 {
     for workers in WORKERS {
-        let is_right = agrees(rt, rt.alloc(), feed, wanted, least, workers)?;
-        tally.note(rt, what, is_right)?;
+        let is_right = agrees(rt, rt.alloc(), feed, wanted, least, *workers);
+        tally.judge(rt, what, is_right);
     }
-    Ok(())
 }
 
 // Slices of each length.
-fn try_leasts<R>(rt: &R, what: &str, feed: &Feed, wanted: &Ledger, tally: &mut Tally) -> Result<()>
+fn try_leasts<R>(rt: &R, what: &str, feed: &Feed, wanted: &Ledger, tally: &mut Tally)
 where
     R: AllocGlobal + Eprint + Threads + Wait + Sync,
 {
     for least in LEASTS {
-        try_least(rt, what, feed, wanted, least, tally)?;
+        try_least(rt, what, feed, wanted, *least, tally);
     }
-    Ok(())
 }
 
-fn try_feed<R>(rt: &R, what: &str, feed: &Feed, tally: &mut Tally) -> Result<()>
+fn try_feed<R>(rt: &R, what: &str, feed: &Feed, tally: &mut Tally)
 where
     R: AllocGlobal + Eprint + Threads + Wait + Sync,
 {
-    let wanted = Ledger::of(rt.alloc(), feed)?;
-    try_leasts(rt, what, feed, &wanted, tally)
+    match Ledger::of(rt.alloc(), feed) {
+        Ok(wanted) => try_leasts(rt, what, feed, &wanted, tally),
+        Err(_) => tally.miss(rt),
+    }
 }
 
 // Slices of each length, in both versions.
-fn try_slices<R>(
-    rt: &R,
-    what: &str,
-    rows: &[Row],
-    txs: &[Option<Tx>],
-    tally: &mut Tally,
-) -> Result<()>
+fn try_slices<R>(rt: &R, what: &str, rows: &[Row], txs: &[Option<Tx>], tally: &mut Tally)
 where
     R: AllocGlobal + Eprint + Threads + Wait + Sync,
 {
-    for version in [Version::One, Version::Two] {
-        let feed = feed_of_each(rt.alloc(), version, rows, txs)?;
-        try_feed(rt, what, &feed, tally)?;
+    for version in VERSIONS {
+        match feed_of_each(rt.alloc(), *version, rows, txs) {
+            Ok(feed) => try_feed(rt, what, &feed, tally),
+            Err(_) => tally.miss(rt),
+        }
     }
-    Ok(())
 }
 
 // Which transactions of 130 accounts.
@@ -170,7 +160,7 @@ enum Which {
     Drawn,
 }
 
-const WHICH: [(Which, &str); 5] = [
+const WHICH: &[(Which, &str)] = &[
     (Which::Borders, "slices on borders"),
     (Which::All, "slices on all accounts"),
     (Which::New, "slices on new accounts"),
@@ -178,26 +168,20 @@ const WHICH: [(Which, &str); 5] = [
     (Which::Drawn, "slices of payments"),
 ];
 
-// From, to, amount and sequence number of payments. Accounts come to be in version Two and then pay, between payments of
-// others.
-const NEW: [(u64, u64, u64, u64); 8] = [
-    (1, 64, 1, 0),
-    (2, 1_000, 30, 0),
-    (1_000, 500, 20, 0),
-    (64, 65, 5, 0),
-    (500, 65, 5, 0),
-    (700, 500, 5, 0),
-    (500, 700, 5, 1),
-    (700, 130, 5, 0),
+// Accounts come to be in version Two and then pay, between payments of others.
+const NEW: &[Deed] = &[
+    Deed::Pay(1, 64, 1, 0),
+    Deed::Pay(2, 1_000, 30, 0),
+    Deed::Pay(1_000, 500, 20, 0),
+    Deed::Pay(64, 65, 5, 0),
+    Deed::Pay(500, 65, 5, 0),
+    Deed::Pay(700, 500, 5, 0),
+    Deed::Pay(500, 700, 5, 1),
+    Deed::Pay(700, 130, 5, 0),
 ];
 
-fn on_borders(alloc: Global) -> Result<Vec<Option<Tx>>> {
-    let mut txs = Vec::new(alloc);
-    for (from, to) in BORDERS {
-        txs.push(pay(from, to, 7, 0)?)?;
-    }
-    Ok(txs)
-}
+// A payment between accounts that are absent, between two texts that are no transactions.
+const NO_ACCOUNT: &[Deed] = &[Deed::Malformed, Deed::Pay(900, 901, 1, 0), Deed::Malformed];
 
 // Each account pays the next one.
 fn on_all(alloc: Global) -> Result<Vec<Option<Tx>>> {
@@ -208,77 +192,52 @@ fn on_all(alloc: Global) -> Result<Vec<Option<Tx>>> {
     Ok(txs)
 }
 
-fn on_new(alloc: Global) -> Result<Vec<Option<Tx>>> {
-    let mut txs = Vec::new(alloc);
-    for (from, to, amount, seq) in NEW {
-        txs.push(pay(from, to, amount, seq)?)?;
-    }
-    Ok(txs)
-}
-
-// A payment between accounts that are absent, between two texts that are no transactions.
-fn on_absent(alloc: Global) -> Result<Vec<Option<Tx>>> {
-    let mut txs = Vec::new(alloc);
-    txs.push(None)?;
-    txs.push(pay(900, 901, 1, 0)?)?;
-    txs.push(None)?;
-    Ok(txs)
-}
-
-fn txs_of(alloc: Global, which: Which) -> Result<Vec<Option<Tx>>> {
+fn txs_on(alloc: Global, which: Which) -> Result<Vec<Option<Tx>>> {
     match which {
-        Which::Borders => on_borders(alloc),
+        Which::Borders => txs_of(alloc, BORDERS),
         Which::All => on_all(alloc),
-        Which::New => on_new(alloc),
-        Which::Absent => on_absent(alloc),
+        Which::New => txs_of(alloc, NEW),
+        Which::Absent => txs_of(alloc, NO_ACCOUNT),
         Which::Drawn => payments(alloc, ACCOUNTS, 100, false),
     }
 }
 
-fn try_which<R>(rt: &R, rows: &[Row], tally: &mut Tally) -> Result<()>
+fn try_chosen<R>(rt: &R, rows: &[Row], tally: &mut Tally)
 where
     R: AllocGlobal + Eprint + Threads + Wait + Sync,
 {
     for (which, what) in WHICH {
-        let txs = txs_of(rt.alloc(), which)?;
-        try_slices(rt, what, rows, &txs, tally)?;
+        match txs_on(rt.alloc(), *which) {
+            Ok(txs) => try_slices(rt, what, rows, &txs, tally),
+            Err(_) => tally.miss(rt),
+        }
     }
-    Ok(())
 }
 
-fn try_lists<R>(rt: &R, chance: &mut Chance, rows: &[Row], tally: &mut Tally) -> Result<()>
-where
-    R: AllocGlobal + Eprint + Threads + Wait + Sync,
-{
-    for _ in 0..LISTS {
-        let txs = drawn_list(rt.alloc(), chance)?;
-        try_slices(rt, "slices of a drawn list", rows, &txs, tally)?;
-    }
-    Ok(())
-}
-
-fn try_drawn<R>(rt: &R, tally: &mut Tally) -> Result<()>
+fn try_drawn<R>(rt: &R, rows: &[Row], tally: &mut Tally)
 where
     R: AllocGlobal + Eprint + Threads + Wait + Sync,
 {
     let mut chance = Chance::new(17);
-    let rows = drawn_opening(rt.alloc())?;
-    try_lists(rt, &mut chance, &rows, tally)
-}
-
-fn try_chosen<R>(rt: &R, tally: &mut Tally) -> Result<()>
-where
-    R: AllocGlobal + Eprint + Threads + Wait + Sync,
-{
-    let rows = opening(rt.alloc(), ACCOUNTS)?;
-    try_which(rt, &rows, tally)
+    for _ in 0..LISTS {
+        match drawn_list(rt.alloc(), &mut chance) {
+            Ok(txs) => try_slices(rt, "slices of a drawn list", rows, &txs, tally),
+            Err(_) => tally.miss(rt),
+        }
+    }
 }
 
 /// Slices that touch some of the accounts, all of them, none, and accounts that come to be.
-pub(crate) fn try_all_slices<R>(rt: &R, tally: &mut Tally) -> Result<()>
+pub(crate) fn try_all_slices<R>(rt: &R, tally: &mut Tally)
 where
     R: AllocGlobal + Eprint + Threads + Wait + Sync,
 {
-    try_chosen(rt, tally)?;
-    try_drawn(rt, tally)
+    match opening(rt.alloc(), ACCOUNTS) {
+        Ok(rows) => try_chosen(rt, &rows, tally),
+        Err(_) => tally.miss(rt),
+    }
+    match drawn_opening(rt.alloc()) {
+        Ok(rows) => try_drawn(rt, &rows, tally),
+        Err(_) => tally.miss(rt),
+    }
 }

@@ -175,25 +175,38 @@ fn is_done_as(alloc: Global, feed: &Feed, shown: &Shown<'_>) -> Result<bool> {
     Ok(closes_as(bank, &plan, pass, shown))
 }
 
+fn try_feed<R>(rt: &R, feed: &Feed, opened: &Shown<'_>, done: &Shown<'_>, tally: &mut Tally)
+where
+    R: AllocGlobal + Eprint,
+{
+    let is_right = is_opened_as(rt.alloc(), feed, opened);
+    tally.judge(rt, "the words of a bank that is opened", is_right);
+    let is_right = is_done_as(rt.alloc(), feed, done);
+    tally.judge(rt, "the words of a bank that is done", is_right);
+}
+
 // The bank of a list, as it is opened and as it ends.
 fn try_bank<R>(
     rt: &R,
     version: Version,
     name: Name,
-    opened: Shown<'_>,
-    done: Shown<'_>,
+    opened: &Shown<'_>,
+    done: &Shown<'_>,
     tally: &mut Tally,
-) -> Result<()>
+)
 where
     R: AllocGlobal + Eprint,
 {
-    let alloc: Global = rt.alloc();
-    let feed = feed_named(alloc, version, name)?;
-    let is_right = is_opened_as(alloc, &feed, &opened)?;
-    tally.note(rt, "the words of a bank that is opened", is_right)?;
-    let is_right = is_done_as(alloc, &feed, &done)?;
-    tally.note(rt, "the words of a bank that is done", is_right)
+    match feed_named(rt.alloc(), version, name) {
+        Ok(feed) => try_feed(rt, &feed, opened, done, tally),
+        Err(_) => tally.miss(rt),
+    }
 }
+
+const BOTH_OPENED: Shown<'static> = Shown {
+    accounts: &[(100, 0), (50, 0), (10, 0)],
+    places: &[(0, 0), (1, 0)],
+};
 
 /// Account 1 paid 10 to account 3, and account 2 its 50 to account 1.
 pub(crate) const BOTH_PAID: Shown<'static> = Shown {
@@ -202,64 +215,65 @@ pub(crate) const BOTH_PAID: Shown<'static> = Shown {
 };
 
 // Two payments in conflict. Both versions give the same words, since each account is there.
-fn try_two<R>(rt: &R, version: Version, tally: &mut Tally) -> Result<()>
+fn try_two<R>(rt: &R, version: Version, tally: &mut Tally)
 where
     R: AllocGlobal + Eprint,
 {
-    let opened = Shown {
-        accounts: &[(100, 0), (50, 0), (10, 0)],
-        places: &[(0, 0), (1, 0)],
-    };
     try_bank(
         rt,
         version,
         Name::GuardThenPayment,
-        opened,
-        BOTH_PAID,
+        &BOTH_OPENED,
+        &BOTH_PAID,
         tally,
-    )
+    );
 }
+
+const ABSENT_OPENED: Shown<'static> = Shown {
+    accounts: &[(100, 0)],
+    places: &[(0, 0), (1, 0), (1, 0)],
+};
+
+const ABSENT_REFUSED: Shown<'static> = Shown {
+    accounts: &[(100, 0)],
+    places: &[(UNKNOWN, 0), (UNKNOWN, 0), (UNKNOWN, 0)],
+};
 
 // In version One the absent accounts 8 and 9 have no slot, and no payment finds its accounts.
-fn try_absent_one<R>(rt: &R, tally: &mut Tally) -> Result<()>
+fn try_absent_one<R>(rt: &R, tally: &mut Tally)
 where
     R: AllocGlobal + Eprint,
 {
-    let opened = Shown {
-        accounts: &[(100, 0)],
-        places: &[(0, 0), (1, 0), (1, 0)],
-    };
-    let done = Shown {
-        accounts: &[(100, 0)],
-        places: &[(UNKNOWN, 0), (UNKNOWN, 0), (UNKNOWN, 0)],
-    };
-    try_bank(rt, Version::One, Name::Absent, opened, done, tally)
+    let (opened, done) = (&ABSENT_OPENED, &ABSENT_REFUSED);
+    try_bank(rt, Version::One, Name::Absent, opened, done, tally);
 }
 
+const MADE_OPENED: Shown<'static> = Shown {
+    accounts: &[(100, 0), (0, ABSENT), (0, ABSENT)],
+    places: &[(0, 0), (1, 0), (1, 0)],
+};
+
+const MADE_PAID: Shown<'static> = Shown {
+    accounts: &[(80, 1), (0, ABSENT), (20, 1)],
+    places: &[(DONE, 30), (DONE, 10), (UNKNOWN, 0)],
+};
+
 // In version Two they have one each. Account 9 comes to be, and 8 stays absent.
-fn try_absent_two<R>(rt: &R, tally: &mut Tally) -> Result<()>
+fn try_absent_two<R>(rt: &R, tally: &mut Tally)
 where
     R: AllocGlobal + Eprint,
 {
-    let opened = Shown {
-        accounts: &[(100, 0), (0, ABSENT), (0, ABSENT)],
-        places: &[(0, 0), (1, 0), (1, 0)],
-    };
-    let done = Shown {
-        accounts: &[(80, 1), (0, ABSENT), (20, 1)],
-        places: &[(DONE, 30), (DONE, 10), (UNKNOWN, 0)],
-    };
-    try_bank(rt, Version::Two, Name::Absent, opened, done, tally)
+    let (opened, done) = (&MADE_OPENED, &MADE_PAID);
+    try_bank(rt, Version::Two, Name::Absent, opened, done, tally);
 }
 
 /// Banks of two payments whose accounts are there, and of three some of whose accounts are absent.
-pub(crate) fn try_words<R>(rt: &R, tally: &mut Tally) -> Result<()>
+pub(crate) fn try_words<R>(rt: &R, tally: &mut Tally)
 where
     R: AllocGlobal + Eprint,
 {
-    for version in [Version::One, Version::Two] {
-        try_two(rt, version, tally)?;
-    }
-    try_absent_one(rt, tally)?;
-    try_absent_two(rt, tally)
+    try_two(rt, Version::One, tally);
+    try_two(rt, Version::Two, tally);
+    try_absent_one(rt, tally);
+    try_absent_two(rt, tally);
 }
