@@ -15,7 +15,7 @@ fn put(alloc: Global, batches: &mut Batches, name: u8, byte: u8) -> Result<Batch
 // ---- by hand
 
 // A digest, the byte of a payload, and what the offer returns.
-const OFFERS: [(u8, u8, BatchOffer); 5] = [
+const OFFERS: &[(u8, u8, BatchOffer)] = &[
     (7, 1, BatchOffer::New),
     (7, 1, BatchOffer::Repeat),
     (3, 1, BatchOffer::New),
@@ -29,23 +29,31 @@ fn are_found(batches: &Batches) -> bool {
         && batches.index_of(&id_of(3)) == Some(BatchRef { index: 1 })
 }
 
-fn try_list<R>(rt: &R, batches: &mut Batches, tally: &mut Tally) -> Result<()>
+fn answers(
+    alloc: Global,
+    batches: &mut Batches,
+    (name, byte, answer): &(u8, u8, BatchOffer),
+) -> Result<bool> {
+    Ok(put(alloc, batches, *name, *byte)? == *answer)
+}
+
+fn try_list<R>(rt: &R, batches: &mut Batches, tally: &mut Tally)
 where
     R: AllocGlobal + Eprint,
 {
-    for (name, byte, answer) in &OFFERS {
-        let found = put(rt.alloc(), batches, *name, *byte)?;
-        tally.note(rt, "an offer of a batch", found == *answer)?;
+    for offer in OFFERS {
+        let is_right = answers(rt.alloc(), batches, offer);
+        tally.judge(rt, "an offer of a batch", is_right);
     }
-    tally.note(rt, "two payloads under a digest", are_found(batches))
+    tally.note(rt, "two payloads under a digest", are_found(batches));
 }
 
-fn try_by_hand<R>(rt: &R, tally: &mut Tally) -> Result<()>
+fn try_by_hand<R>(rt: &R, tally: &mut Tally)
 where
     R: AllocGlobal + Eprint,
 {
     let mut batches = Batches::new(rt.alloc());
-    try_list(rt, &mut batches, tally)
+    try_list(rt, &mut batches, tally);
 }
 
 // ---- drawn batches
@@ -97,15 +105,14 @@ fn are_eight_right(alloc: Global, seed: &mut u32) -> Result<bool> {
 }
 
 /// Offers of batches.
-pub(crate) fn try_batch_offers<R>(rt: &R, tally: &mut Tally) -> Result<()>
+pub(crate) fn try_batch_offers<R>(rt: &R, tally: &mut Tally)
 where
     R: AllocGlobal + Eprint,
 {
-    try_by_hand(rt, tally)?;
+    try_by_hand(rt, tally);
     let mut seed = 1;
     for _ in 0..300u32 {
-        let are_right = are_eight_right(rt.alloc(), &mut seed)?;
-        tally.note(rt, "eight batches", are_right)?;
+        let are_right = are_eight_right(rt.alloc(), &mut seed);
+        tally.judge(rt, "eight batches", are_right);
     }
-    Ok(())
 }

@@ -24,30 +24,37 @@ fn try_each<R>(
     all: &Committee,
     cases: &[Case<'_>],
     tally: &mut Tally,
-) -> Result<()>
+)
 where
     R: AllocGlobal + Eprint,
 {
     for case in cases {
-        let is_right = is_found(rt.alloc(), committee, all, *case)?;
-        tally.note(rt, "a certificate at a boundary", is_right)?;
+        let is_right = is_found(rt.alloc(), committee, all, *case);
+        tally.judge(rt, "a certificate at a boundary", is_right);
     }
-    Ok(())
 }
 
-fn try_cases<R>(rt: &R, members: Members<'_>, cases: &[Case<'_>], tally: &mut Tally) -> Result<()>
+// Certificates that are sealed with the keys of all, and checked by the committee of these members.
+fn try_cases<R>(
+    rt: &R,
+    all: &Committee,
+    members: Members<'_>,
+    cases: &[Case<'_>],
+    tally: &mut Tally,
+)
 where
     R: AllocGlobal + Eprint,
 {
-    let committee = members.committee(rt.alloc())?;
-    let all = EVERYBODY.committee(rt.alloc())?;
-    try_each(rt, &committee, &all, cases, tally)
+    match members.committee(rt.alloc()) {
+        Ok(committee) => try_each(rt, &committee, all, cases, tally),
+        Err(_) => tally.miss(rt),
+    }
 }
 
 // ---- few members
 
 // Three of four are a quorum. The last two rows break two rules.
-const FOUR: [Case<'static>; 18] = [
+const FOUR: &[Case<'static>] = &[
     (1, 0, &[], &[0, 1, 2], GOOD),
     (1, 3, &[], &[1, 2, 3], GOOD),
     (1, 4, &[], &[0, 1, 2], 1),
@@ -69,20 +76,20 @@ const FOUR: [Case<'static>; 18] = [
 ];
 
 // One member alone is a quorum.
-const ONE: [Case<'static>; 3] = [
+const ONE: &[Case<'static>] = &[
     (2, 0, &[7], &[0], GOOD),
     (2, 0, &[7], &[1], 5),
     (2, 0, &[7], &[], 6),
 ];
 
 // Five of seven are a quorum.
-const SEVEN: [Case<'static>; 2] = [
+const SEVEN: &[Case<'static>] = &[
     (1, 6, &[], &[0, 2, 3, 5, 6], GOOD),
     (1, 6, &[], &[0, 2, 3, 6], 6),
 ];
 
 // Members 0 to 3 weigh 5, 1, 1 and 1, and a quorum weighs 6. A round above 1 wants one parent alone.
-const WEIGHED: [Case<'static>; 23] = [
+const WEIGHED: &[Case<'static>] = &[
     (1, 3, &[], &[0, 3], GOOD),
     (1, 4, &[], &[0, 3], 1),
     (1, 255, &[], &[0, 3], 1),
@@ -122,14 +129,14 @@ fn weighted(weights: &[u32]) -> Members<'_> {
     }
 }
 
-fn try_few<R>(rt: &R, tally: &mut Tally) -> Result<()>
+fn try_few<R>(rt: &R, all: &Committee, tally: &mut Tally)
 where
     R: AllocGlobal + Eprint,
 {
-    try_cases(rt, heads(&[1]), &ONE, tally)?;
-    try_cases(rt, heads(&[1; 4]), &FOUR, tally)?;
-    try_cases(rt, heads(&[1; 7]), &SEVEN, tally)?;
-    try_cases(rt, weighted(&WEIGHTS), &WEIGHED, tally)
+    try_cases(rt, all, heads(&[1]), ONE, tally);
+    try_cases(rt, all, heads(&[1; 4]), FOUR, tally);
+    try_cases(rt, all, heads(&[1; 7]), SEVEN, tally);
+    try_cases(rt, all, weighted(&WEIGHTS), WEIGHED, tally);
 }
 
 // ---- many members
@@ -143,7 +150,7 @@ type Wide = (u32, u8, Range, Range, u8);
 const NOBODY: Range = (0, 0);
 
 // Of 64 members 21 may be faulty, and 43 are a quorum.
-const OF_64: [Wide; 9] = [
+const OF_64: &[Wide] = &[
     (1, 63, NOBODY, (21, 64), GOOD),
     (1, 64, NOBODY, (21, 64), 1),
     (1, 63, NOBODY, (0, 43), GOOD),
@@ -156,7 +163,7 @@ const OF_64: [Wide; 9] = [
 ];
 
 // By weights of 1 each a check asks for one parent, and whether they are a quorum is a question of admission.
-const OF_64_BY_WEIGHTS: [Wide; 6] = [
+const OF_64_BY_WEIGHTS: &[Wide] = &[
     (1, 63, NOBODY, (21, 64), GOOD),
     (1, 63, NOBODY, (22, 64), 6),
     (1, 63, NOBODY, (21, 65), 5),
@@ -166,7 +173,7 @@ const OF_64_BY_WEIGHTS: [Wide; 6] = [
 ];
 
 // Of 128 members 42 may be faulty, and 86 are a quorum.
-const OF_128: [Wide; 7] = [
+const OF_128: &[Wide] = &[
     (1, 127, NOBODY, (42, 128), GOOD),
     (1, 128, NOBODY, (42, 128), 1),
     (1, 0, NOBODY, (43, 128), 6),
@@ -178,13 +185,13 @@ const OF_128: [Wide; 7] = [
 
 // Member 127 weighs 2^32 - 1 and each other one 1: all weigh 2^32 + 126, of which 1,431,655,807 may be faulty. So a
 // quorum, 2,863,311,615, is any set with member 127, and none without it.
-const WITH_127: [Case<'static>; 2] = [(1, 0, &[], &[127], GOOD), (1, 0, &[], &[0, 127], GOOD)];
+const WITH_127: &[Case<'static>] = &[(1, 0, &[], &[127], GOOD), (1, 0, &[], &[0, 127], GOOD)];
 
-const WITHOUT_127: [Wide; 2] = [(1, 0, NOBODY, (0, 127), 6), (2, 0, (1, 2), (0, 127), 6)];
+const WITHOUT_127: &[Wide] = &[(1, 0, NOBODY, (0, 127), 6), (2, 0, (1, 2), (0, 127), 6)];
 
 // Members 63 and 64 weigh 10 each and 126 others 1: all weigh 146, 48 may be faulty, and 98 are a quorum. The first row
 // has 78 members of weight 1, and the two heavy ones.
-const HEAVY_MIDDLE: [Wide; 4] = [
+const HEAVY_MIDDLE: &[Wide] = &[
     (1, 0, NOBODY, (0, 80), GOOD),
     (1, 0, NOBODY, (1, 80), 6),
     (1, 0, NOBODY, (0, 63), 6),
@@ -214,36 +221,45 @@ fn case_of(numbers: &[u8], wide: Wide) -> Result<Case<'_>> {
     Ok((round, author, parents, signers, wanted))
 }
 
+fn is_wide_found(
+    alloc: Global,
+    committee: &Committee,
+    all: &Committee,
+    wide: Wide,
+) -> Result<bool> {
+    let numbers = numbers();
+    let case = case_of(&numbers, wide)?;
+    is_found(alloc, committee, all, case)
+}
+
 fn try_each_wide<R>(
     rt: &R,
     committee: &Committee,
     all: &Committee,
     wides: &[Wide],
     tally: &mut Tally,
-) -> Result<()>
+)
 where
     R: AllocGlobal + Eprint,
 {
-    let numbers = numbers();
     for wide in wides {
-        let case = case_of(&numbers, *wide)?;
-        let is_right = is_found(rt.alloc(), committee, all, case)?;
-        tally.note(rt, "a certificate at a boundary", is_right)?;
+        let is_right = is_wide_found(rt.alloc(), committee, all, *wide);
+        tally.judge(rt, "a certificate at a boundary", is_right);
     }
-    Ok(())
 }
 
-fn try_wide<R>(rt: &R, members: Members<'_>, wides: &[Wide], tally: &mut Tally) -> Result<()>
+fn try_wide<R>(rt: &R, all: &Committee, members: Members<'_>, wides: &[Wide], tally: &mut Tally)
 where
     R: AllocGlobal + Eprint,
 {
-    let committee = members.committee(rt.alloc())?;
-    let all = EVERYBODY.committee(rt.alloc())?;
-    try_each_wide(rt, &committee, &all, wides, tally)
+    match members.committee(rt.alloc()) {
+        Ok(committee) => try_each_wide(rt, &committee, all, wides, tally),
+        Err(_) => tally.miss(rt),
+    }
 }
 
 // The signers come in descending order: members 127 to 42, and 126 to 42.
-fn try_descending<R>(rt: &R, tally: &mut Tally) -> Result<()>
+fn try_descending<R>(rt: &R, all: &Committee, tally: &mut Tally)
 where
     R: AllocGlobal + Eprint,
 {
@@ -255,46 +271,56 @@ where
         (1, 127, &[], &signers, GOOD),
         (1, 127, &[], &signers[1..], 6),
     ];
-    try_cases(rt, EVERYBODY, &cases, tally)
+    try_cases(rt, all, EVERYBODY, &cases, tally);
 }
 
-fn try_heavy_last<R>(rt: &R, tally: &mut Tally) -> Result<()>
+fn try_heavy_last<R>(rt: &R, all: &Committee, tally: &mut Tally)
 where
     R: AllocGlobal + Eprint,
 {
     let mut weights = [1u32; 128];
     weights[127] = u32::MAX;
-    try_cases(rt, weighted(&weights), &WITH_127, tally)?;
-    try_wide(rt, weighted(&weights), &WITHOUT_127, tally)
+    try_cases(rt, all, weighted(&weights), WITH_127, tally);
+    try_wide(rt, all, weighted(&weights), WITHOUT_127, tally);
 }
 
-fn try_heavy_middle<R>(rt: &R, tally: &mut Tally) -> Result<()>
+fn try_heavy_middle<R>(rt: &R, all: &Committee, tally: &mut Tally)
 where
     R: AllocGlobal + Eprint,
 {
     let mut weights = [1u32; 128];
     weights[63] = 10;
     weights[64] = 10;
-    try_wide(rt, weighted(&weights), &HEAVY_MIDDLE, tally)
+    try_wide(rt, all, weighted(&weights), HEAVY_MIDDLE, tally);
 }
 
-fn try_many<R>(rt: &R, tally: &mut Tally) -> Result<()>
+fn try_many<R>(rt: &R, all: &Committee, tally: &mut Tally)
 where
     R: AllocGlobal + Eprint,
 {
-    try_wide(rt, heads(&[1; 64]), &OF_64, tally)?;
-    try_wide(rt, weighted(&[1; 64]), &OF_64_BY_WEIGHTS, tally)?;
-    try_wide(rt, EVERYBODY, &OF_128, tally)?;
-    try_descending(rt, tally)?;
-    try_heavy_last(rt, tally)?;
-    try_heavy_middle(rt, tally)
+    try_wide(rt, all, heads(&[1; 64]), OF_64, tally);
+    try_wide(rt, all, weighted(&[1; 64]), OF_64_BY_WEIGHTS, tally);
+    try_wide(rt, all, EVERYBODY, OF_128, tally);
+    try_descending(rt, all, tally);
+    try_heavy_last(rt, all, tally);
+    try_heavy_middle(rt, all, tally);
+}
+
+fn try_all<R>(rt: &R, all: &Committee, tally: &mut Tally)
+where
+    R: AllocGlobal + Eprint,
+{
+    try_few(rt, all, tally);
+    try_many(rt, all, tally);
 }
 
 /// Certificates that just break no rule, and those that just break one.
-pub(crate) fn try_boundaries<R>(rt: &R, tally: &mut Tally) -> Result<()>
+pub(crate) fn try_boundaries<R>(rt: &R, tally: &mut Tally)
 where
     R: AllocGlobal + Eprint,
 {
-    try_few(rt, tally)?;
-    try_many(rt, tally)
+    match EVERYBODY.committee(rt.alloc()) {
+        Ok(all) => try_all(rt, &all, tally),
+        Err(_) => tally.miss(rt),
+    }
 }

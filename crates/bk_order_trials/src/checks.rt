@@ -124,18 +124,21 @@ pub(crate) fn found(alloc: Global, committee: &Committee, bytes: &[u8]) -> Resul
     Ok(number(&verdict))
 }
 
+fn finds(alloc: Global, committee: &Committee, bytes: &[u8], wanted: u8) -> Result<bool> {
+    Ok(found(alloc, committee, bytes)? == wanted)
+}
+
 // Each certificate alone.
-fn try_alone<R>(rt: &R, committee: &Committee, certs: &[Vec<u8>], tally: &mut Tally) -> Result<()>
+fn try_alone<R>(rt: &R, committee: &Committee, certs: &[Vec<u8>], tally: &mut Tally)
 where
     R: AllocGlobal + Eprint,
 {
     let mut rules = 0u32;
     for bytes in certs {
-        let found = found(rt.alloc(), committee, bytes)?;
-        tally.note(rt, "the least rule of a set", found == least(rules))?;
+        let is_right = finds(rt.alloc(), committee, bytes, least(rules));
+        tally.judge(rt, "the least rule of a set", is_right);
         rules = rules.saturating_add(1);
     }
-    Ok(())
 }
 
 fn are_least(verdicts: &[Verdict]) -> bool {
@@ -164,16 +167,26 @@ fn are_least_together<R: Threads + Sync>(
     Ok(are_least(&verdicts))
 }
 
-fn try_all<R>(rt: &R, committee: &Committee, certs: &[Vec<u8>], tally: &mut Tally) -> Result<()>
+fn try_all<R>(rt: &R, committee: &Committee, certs: &[Vec<u8>], tally: &mut Tally)
 where
     R: AllocGlobal + Eprint + Threads + Sync,
 {
-    try_alone(rt, committee, certs, tally)?;
-    let are_right = are_least_together(rt, rt.alloc(), committee, certs)?;
-    tally.note(rt, "the least rules of all sets", are_right)
+    try_alone(rt, committee, certs, tally);
+    let are_right = are_least_together(rt, rt.alloc(), committee, certs);
+    tally.judge(rt, "the least rules of all sets", are_right);
 }
 
-fn try_sets<R>(rt: &R, version: Version, tally: &mut Tally) -> Result<()>
+fn try_certs<R>(rt: &R, committee: &Committee, version: Version, tally: &mut Tally)
+where
+    R: AllocGlobal + Eprint + Threads + Sync,
+{
+    match all_breaking(rt.alloc(), version) {
+        Ok(certs) => try_all(rt, committee, &certs, tally),
+        Err(_) => tally.miss(rt),
+    }
+}
+
+fn try_sets<R>(rt: &R, version: Version, tally: &mut Tally)
 where
     R: AllocGlobal + Eprint + Threads + Sync,
 {
@@ -181,16 +194,17 @@ where
         version,
         weights: &WEIGHTS,
     };
-    let committee = four.committee(rt.alloc())?;
-    let certs = all_breaking(rt.alloc(), version)?;
-    try_all(rt, &committee, &certs, tally)
+    match four.committee(rt.alloc()) {
+        Ok(committee) => try_certs(rt, &committee, version, tally),
+        Err(_) => tally.miss(rt),
+    }
 }
 
 // ---- turned bytes
 
 // Where the author, the round, the counts, the parents, the mask and the tags of the certificate of `try_turned` begin
 // and end, and the least and the greatest rule that a turned byte can break there.
-const FIELDS: [(usize, usize, u8, u8); 6] = [
+const FIELDS: &[(usize, usize, u8, u8)] = &[
     (0, 1, 1, 7),
     (1, 5, 2, 7),
     (5, 8, 0, 0),
@@ -207,36 +221,52 @@ fn turned(alloc: Global, good: &[u8], index: usize) -> Result<Vec<u8>> {
     Ok(bytes)
 }
 
-fn found_turned(alloc: Global, committee: &Committee, good: &[u8], index: usize) -> Result<u8> {
+// Whether a check finds a rule from `least` to `most` broken where this byte is turned.
+fn finds_turned(
+    alloc: Global,
+    committee: &Committee,
+    good: &[u8],
+    index: usize,
+    (least, most): (u8, u8),
+) -> Result<bool> {
     let bytes = turned(alloc, good, index)?;
-    found(alloc, committee, &bytes)
+    let found = found(alloc, committee, &bytes)?;
+    Ok(found >= least && found <= most)
 }
 
 // Of a good certificate each byte is turned in turn: no byte can be changed, though not each is covered by a tag.
-fn try_bytes<R>(rt: &R, committee: &Committee, good: &[u8], tally: &mut Tally) -> Result<()>
+fn try_bytes<R>(rt: &R, committee: &Committee, good: &[u8], tally: &mut Tally)
 where
     R: AllocGlobal + Eprint,
 {
     for (begin, end, least, most) in FIELDS {
-        for index in begin..end {
-            let found = found_turned(rt.alloc(), committee, good, index)?;
-            let is_right = found >= least && found <= most;
-            tally.note(rt, "a turned byte", is_right)?;
+        for index in *begin..*end {
+            let is_right = finds_turned(rt.alloc(), committee, good, index, (*least, *most));
+            tally.judge(rt, "a turned byte", is_right);
         }
     }
-    Ok(())
 }
 
-fn try_good<R>(rt: &R, committee: &Committee, good: &[u8], tally: &mut Tally) -> Result<()>
+fn try_good<R>(rt: &R, committee: &Committee, good: &[u8], tally: &mut Tally)
 where
     R: AllocGlobal + Eprint,
 {
-    let is_good = found(rt.alloc(), committee, good)? == GOOD && good.len() == 152;
-    tally.note(rt, "a good certificate", is_good)?;
-    try_bytes(rt, committee, good, tally)
+    let is_found = finds(rt.alloc(), committee, good, GOOD).unwrap_or(false);
+    tally.note(rt, "a good certificate", is_found && good.len() == 152);
+    try_bytes(rt, committee, good, tally);
 }
 
-fn try_turned<R>(rt: &R, tally: &mut Tally) -> Result<()>
+fn try_one<R>(rt: &R, committee: &Committee, tally: &mut Tally)
+where
+    R: AllocGlobal + Eprint,
+{
+    match made(rt.alloc(), committee, place(2, 3), &[7, 9], &[0, 2]) {
+        Ok(good) => try_good(rt, committee, &good, tally),
+        Err(_) => tally.miss(rt),
+    }
+}
+
+fn try_turned<R>(rt: &R, tally: &mut Tally)
 where
     R: AllocGlobal + Eprint,
 {
@@ -244,18 +274,18 @@ where
         version: Version::Two,
         weights: &WEIGHTS,
     };
-    let committee = four.committee(rt.alloc())?;
-    let good = made(rt.alloc(), &committee, place(2, 3), &[7, 9], &[0, 2])?;
-    try_good(rt, &committee, &good, tally)
+    match four.committee(rt.alloc()) {
+        Ok(committee) => try_one(rt, &committee, tally),
+        Err(_) => tally.miss(rt),
+    }
 }
 
 /// Certificates that break each set of rules, and one each of whose bytes is turned.
-pub(crate) fn try_checks<R>(rt: &R, tally: &mut Tally) -> Result<()>
+pub(crate) fn try_checks<R>(rt: &R, tally: &mut Tally)
 where
     R: AllocGlobal + Eprint + Threads + Sync,
 {
-    for version in [Version::One, Version::Two] {
-        try_sets(rt, version, tally)?;
-    }
-    try_turned(rt, tally)
+    try_sets(rt, Version::One, tally);
+    try_sets(rt, Version::Two, tally);
+    try_turned(rt, tally);
 }

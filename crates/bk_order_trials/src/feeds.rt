@@ -18,7 +18,7 @@ use std::alloc::Global;
 use std::thread::Threads;
 
 // In which order frames come, and how many are taken at once.
-const WAYS: [(Way, usize); 4] = [
+const WAYS: &[(Way, usize)] = &[
     (Way::AsDrawn, 1_000_000),
     (Way::Reversed, 7),
     (Way::Shuffled, 1),
@@ -145,15 +145,14 @@ fn try_ways<R>(
     frames: &[Frame],
     expected: &Expected,
     tally: &mut Tally,
-) -> Result<()>
+)
 where
     R: AllocGlobal + Eprint + Threads + Sync,
 {
     for (way, size) in WAYS {
-        let is_right = is_way_right(rt, chance, members, frames, expected, way, size)?;
-        tally.note(rt, "a drawn feed", is_right)?;
+        let is_right = is_way_right(rt, chance, members, frames, expected, *way, *size);
+        tally.judge(rt, "a drawn feed", is_right);
     }
-    Ok(())
 }
 
 fn try_expected<R>(
@@ -163,13 +162,17 @@ fn try_expected<R>(
     rows: &[Row],
     held: &[bool],
     expected: &Expected,
+    shown: &mut Shown,
     tally: &mut Tally,
-) -> Result<()>
+)
 where
     R: AllocGlobal + Eprint + Threads + Sync,
 {
-    let frames = frames_of(rt.alloc(), chance, members, rows, held)?;
-    try_ways(rt, chance, members, &frames, expected, tally)
+    shown.add(members, rows, expected);
+    match frames_of(rt.alloc(), chance, members, rows, held) {
+        Ok(frames) => try_ways(rt, chance, members, &frames, expected, tally),
+        Err(_) => tally.miss(rt),
+    }
 }
 
 fn try_held<R>(
@@ -180,13 +183,14 @@ fn try_held<R>(
     held: &[bool],
     shown: &mut Shown,
     tally: &mut Tally,
-) -> Result<()>
+)
 where
     R: AllocGlobal + Eprint + Threads + Sync,
 {
-    let expected = read_plainly(rt.alloc(), members, rows, held)?;
-    shown.add(members, rows, &expected);
-    try_expected(rt, chance, members, rows, held, &expected, tally)
+    match read_plainly(rt.alloc(), members, rows, held) {
+        Ok(expected) => try_expected(rt, chance, members, rows, held, &expected, shown, tally),
+        Err(_) => tally.miss(rt),
+    }
 }
 
 // The frames of a graph in each way.
@@ -197,12 +201,14 @@ fn try_rows<R>(
     rows: &[Row],
     shown: &mut Shown,
     tally: &mut Tally,
-) -> Result<()>
+)
 where
     R: AllocGlobal + Eprint + Threads + Sync,
 {
-    let held = drawn_held(rt.alloc(), chance)?;
-    try_held(rt, chance, members, rows, &held, shown, tally)
+    match drawn_held(rt.alloc(), chance) {
+        Ok(held) => try_held(rt, chance, members, rows, &held, shown, tally),
+        Err(_) => tally.miss(rt),
+    }
 }
 
 fn try_graph<R>(
@@ -213,12 +219,14 @@ fn try_graph<R>(
     last: u32,
     shown: &mut Shown,
     tally: &mut Tally,
-) -> Result<()>
+)
 where
     R: AllocGlobal + Eprint + Threads + Sync,
 {
-    let rows = drawn_rows(rt.alloc(), chance, members, style, last)?;
-    try_rows(rt, chance, members, &rows, shown, tally)
+    match drawn_rows(rt.alloc(), chance, members, style, last) {
+        Ok(rows) => try_rows(rt, chance, members, &rows, shown, tally),
+        Err(_) => tally.miss(rt),
+    }
 }
 
 // Some graphs of these members.
@@ -229,15 +237,14 @@ fn try_graphs<R>(
     (last, graphs): (u32, u64),
     shown: &mut Shown,
     tally: &mut Tally,
-) -> Result<()>
+)
 where
     R: AllocGlobal + Eprint + Threads + Sync,
 {
     let mut chance = Chance::new(u64::from(last).wrapping_add(graphs));
     for _ in 0..graphs {
-        try_graph(rt, &mut chance, members, style, last, shown, tally)?;
+        try_graph(rt, &mut chance, members, style, last, shown, tally);
     }
-    Ok(())
 }
 
 // ---- committees
@@ -245,7 +252,7 @@ where
 // A version, weights, and how many rounds and graphs are drawn.
 type Drawing = (Version, &'static [u32], (u32, u64));
 
-const SMALL: [Drawing; 7] = [
+const SMALL: &[Drawing] = &[
     (Version::One, &[1; 4], (9, 25)),
     (Version::One, &[1; 7], (9, 12)),
     (Version::Two, &[1, 1, 1, 1], (9, 20)),
@@ -255,20 +262,14 @@ const SMALL: [Drawing; 7] = [
     (Version::Two, &[3, 1, 4, 1, 5, 9, 2], (9, 12)),
 ];
 
-const LARGE: [Drawing; 4] = [
+const LARGE: &[Drawing] = &[
     (Version::One, &[1; 64], (5, 1)),
     (Version::One, &[1; 65], (5, 1)),
     (Version::One, &[1; 128], (5, 1)),
     (Version::Two, &[1; 128], (5, 1)),
 ];
 
-fn try_drawings<R>(
-    rt: &R,
-    drawings: &[Drawing],
-    style: Style,
-    shown: &mut Shown,
-    tally: &mut Tally,
-) -> Result<()>
+fn try_drawings<R>(rt: &R, drawings: &[Drawing], style: Style, shown: &mut Shown, tally: &mut Tally)
 where
     R: AllocGlobal + Eprint + Threads + Sync,
 {
@@ -277,13 +278,12 @@ where
             version: *version,
             weights: *weights,
         };
-        try_graphs(rt, members, style, *size, shown, tally)?;
+        try_graphs(rt, members, style, *size, shown, tally);
     }
-    Ok(())
 }
 
 // Seven of 128 members weigh 1,000 each. The first 20 lead in turn.
-fn try_heavy<R>(rt: &R, shown: &mut Shown, tally: &mut Tally) -> Result<()>
+fn try_heavy<R>(rt: &R, shown: &mut Shown, tally: &mut Tally)
 where
     R: AllocGlobal + Eprint + Threads + Sync,
 {
@@ -297,26 +297,26 @@ where
         version: Version::Two,
         weights: &weights,
     };
-    try_graphs(rt, members, Style::Few, (40, 1), shown, tally)
+    try_graphs(rt, members, Style::Few, (40, 1), shown, tally);
 }
 
 // Some certificates have to be ordered and some have to wait, a batch has to be missing, and an anchor has to be skipped.
-fn note_shown<R>(rt: &R, shown: Shown, tally: &mut Tally) -> Result<()>
+fn note_shown<R>(rt: &R, shown: Shown, tally: &mut Tally)
 where
     R: Eprint,
 {
-    tally.note(rt, "feeds that order little", shown.ordered > 500)?;
-    tally.note(rt, "feeds in which little waits", shown.waiting > 50)?;
-    tally.note(rt, "feeds in which little is missing", shown.missing > 10)?;
+    tally.note(rt, "feeds that order little", shown.ordered > 500);
+    tally.note(rt, "feeds in which little waits", shown.waiting > 50);
+    tally.note(rt, "feeds in which little is missing", shown.missing > 10);
     tally.note(
         rt,
         "feeds in which few anchors are skipped",
         shown.skipped > 10,
-    )
+    );
 }
 
 /// Drawn feeds of small and of large committees, by heads and by weights.
-pub(crate) fn try_feeds<R>(rt: &R, tally: &mut Tally) -> Result<()>
+pub(crate) fn try_feeds<R>(rt: &R, tally: &mut Tally)
 where
     R: AllocGlobal + Eprint + Threads + Sync,
 {
@@ -326,10 +326,10 @@ where
         missing: 0,
         skipped: 0,
     };
-    for style in [Style::Most, Style::Tight, Style::Any] {
-        try_drawings(rt, &SMALL, style, &mut shown, tally)?;
-    }
-    try_drawings(rt, &LARGE, Style::Tight, &mut shown, tally)?;
-    try_heavy(rt, &mut shown, tally)?;
-    note_shown(rt, shown, tally)
+    try_drawings(rt, SMALL, Style::Most, &mut shown, tally);
+    try_drawings(rt, SMALL, Style::Tight, &mut shown, tally);
+    try_drawings(rt, SMALL, Style::Any, &mut shown, tally);
+    try_drawings(rt, LARGE, Style::Tight, &mut shown, tally);
+    try_heavy(rt, &mut shown, tally);
+    note_shown(rt, shown, tally);
 }

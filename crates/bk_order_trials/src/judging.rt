@@ -16,7 +16,7 @@ use std::thread::Threads;
 type Row<'a> = (u32, u8, &'a [u8], &'a [u8]);
 
 // Each breaks the rule of its place, from rule 1 on.
-const BROKEN: [Row<'static>; 6] = [
+const BROKEN: &[Row<'static>] = &[
     (1, 4, &[], &[0, 1, 2]),
     (0, 0, &[], &[0, 1, 2]),
     (1, 0, &[1], &[0, 1, 2]),
@@ -51,7 +51,7 @@ fn turned(alloc: Global, all: &Committee) -> Result<Vec<u8>> {
 
 fn put_broken(alloc: Global, all: &Committee, certs: &mut Vec<Vec<u8>>) -> Result<()> {
     certs.push(Vec::new(alloc))?;
-    for (round, author, parents, signers) in &BROKEN {
+    for (round, author, parents, signers) in BROKEN {
         let at = place(*round, *author);
         certs.push(made(alloc, all, at, *parents, *signers)?)?;
     }
@@ -69,18 +69,21 @@ fn fill(alloc: Global, all: &Committee, certs: &mut Certs) -> Result<()> {
 // ---- one at a time
 
 // What a check finds in as many zero bytes: 24 are a certificate of round 0.
-const ZEROS: [(usize, u8); 3] = [(0, 0), (24, 2), (25, 0)];
+const ZEROS: &[(usize, u8)] = &[(0, 0), (24, 2), (25, 0)];
 
-fn try_zeros<R>(rt: &R, four: &Committee, tally: &mut Tally) -> Result<()>
+fn is_found(alloc: Global, four: &Committee, count: usize, rule: u8) -> Result<bool> {
+    let zeros = vec![in alloc; 0u8; count]?;
+    Ok(found(alloc, four, &zeros)? == rule)
+}
+
+fn try_zeros<R>(rt: &R, four: &Committee, tally: &mut Tally)
 where
     R: AllocGlobal + Eprint,
 {
     for (count, rule) in ZEROS {
-        let zeros = vec![in rt.alloc(); 0u8; count]?;
-        let found = found(rt.alloc(), four, &zeros)?;
-        tally.note(rt, "zero bytes", found == rule)?;
+        let is_right = is_found(rt.alloc(), four, *count, *rule);
+        tally.judge(rt, "zero bytes", is_right);
     }
-    Ok(())
 }
 
 // The id of the good one.
@@ -162,19 +165,22 @@ fn is_as_alone(alloc: Global, four: &Committee, payloads: &[&[u8]]) -> Result<bo
 }
 
 // None, one and twenty, those of two signers and good ones in turn.
-fn try_groups<R>(rt: &R, four: &Committee, certs: &Certs, tally: &mut Tally) -> Result<()>
+fn is_group_as_alone(alloc: Global, four: &Committee, certs: &Certs, count: usize) -> Result<bool> {
+    let payloads = in_turn(alloc, &certs.light, &certs.good, 10)?;
+    match payloads.get(..count) {
+        Some(part) => is_as_alone(alloc, four, part),
+        None => Ok(false),
+    }
+}
+
+fn try_groups<R>(rt: &R, four: &Committee, certs: &Certs, tally: &mut Tally)
 where
     R: AllocGlobal + Eprint,
 {
-    let payloads = in_turn(rt.alloc(), &certs.light, &certs.good, 10)?;
     for count in [0usize, 1, 20] {
-        let is_right = match payloads.get(..count) {
-            Some(part) => is_as_alone(rt.alloc(), four, part)?,
-            None => false,
-        };
-        tally.note(rt, "certificates together and alone", is_right)?;
+        let is_right = is_group_as_alone(rt.alloc(), four, certs, count);
+        tally.judge(rt, "certificates together and alone", is_right);
     }
-    Ok(())
 }
 
 // Whether rules 6 and 7 are broken in turn.
@@ -202,44 +208,62 @@ fn are_many_right<R: Threads + Sync>(
 
 // ---- all
 
-fn try_certs<R>(rt: &R, four: &Committee, certs: &Certs, tally: &mut Tally) -> Result<()>
-where
-    R: AllocGlobal + Eprint + Threads + Sync,
-{
-    let is_right = is_checked(check(rt.alloc(), four, &certs.good)?);
-    tally.note(rt, "a checked certificate", is_right)?;
-    let are_right = are_between(rt.alloc(), four, certs)?;
-    tally.note(rt, "each rule between good certificates", are_right)?;
-    try_groups(rt, four, certs, tally)?;
-    let are_right = are_many_right(rt, rt.alloc(), four, certs)?;
-    tally.note(rt, "many certificates in their order", are_right)
+fn is_good_checked(alloc: Global, four: &Committee, good: &[u8]) -> Result<bool> {
+    Ok(is_checked(check(alloc, four, good)?))
 }
 
-fn try_filled<R>(rt: &R, four: &Committee, certs: &mut Certs, tally: &mut Tally) -> Result<()>
+fn try_certs<R>(rt: &R, four: &Committee, certs: &Certs, tally: &mut Tally)
 where
     R: AllocGlobal + Eprint + Threads + Sync,
 {
-    let all = EVERYBODY.committee(rt.alloc())?;
-    fill(rt.alloc(), &all, certs)?;
-    try_certs(rt, four, certs, tally)
+    let is_right = is_good_checked(rt.alloc(), four, &certs.good);
+    tally.judge(rt, "a checked certificate", is_right);
+    let are_right = are_between(rt.alloc(), four, certs);
+    tally.judge(rt, "each rule between good certificates", are_right);
+    try_groups(rt, four, certs, tally);
+    let are_right = are_many_right(rt, rt.alloc(), four, certs);
+    tally.judge(rt, "many certificates in their order", are_right);
 }
 
-fn try_made<R>(rt: &R, four: &Committee, tally: &mut Tally) -> Result<()>
+fn fill_all(alloc: Global, certs: &mut Certs) -> Result<()> {
+    let all = EVERYBODY.committee(alloc)?;
+    fill(alloc, &all, certs)
+}
+
+fn try_filled<R>(rt: &R, four: &Committee, certs: &mut Certs, tally: &mut Tally)
 where
     R: AllocGlobal + Eprint + Threads + Sync,
 {
-    let alloc: Global = rt.alloc();
+    if fill_all(rt.alloc(), certs).is_ok() {
+        try_certs(rt, four, certs, tally);
+    } else {
+        tally.miss(rt);
+    }
+}
+
+fn try_made<R>(rt: &R, four: &Committee, tally: &mut Tally)
+where
+    R: AllocGlobal + Eprint + Threads + Sync,
+{
     let mut certs = Certs {
-        good: Vec::new(alloc),
-        light: Vec::new(alloc),
-        turned: Vec::new(alloc),
-        broken: Vec::new(alloc),
+        good: Vec::new(rt.alloc()),
+        light: Vec::new(rt.alloc()),
+        turned: Vec::new(rt.alloc()),
+        broken: Vec::new(rt.alloc()),
     };
-    try_filled(rt, four, &mut certs, tally)
+    try_filled(rt, four, &mut certs, tally);
+}
+
+fn try_four<R>(rt: &R, four: &Committee, tally: &mut Tally)
+where
+    R: AllocGlobal + Eprint + Threads + Sync,
+{
+    try_zeros(rt, four, tally);
+    try_made(rt, four, tally);
 }
 
 /// Certificates of a committee of four, of whom three are a quorum.
-pub(crate) fn try_judging<R>(rt: &R, tally: &mut Tally) -> Result<()>
+pub(crate) fn try_judging<R>(rt: &R, tally: &mut Tally)
 where
     R: AllocGlobal + Eprint + Threads + Sync,
 {
@@ -247,8 +271,9 @@ where
         version: Version::One,
         weights: &[1; 4],
     };
-    let four = members.committee(rt.alloc())?;
     one_verdict();
-    try_zeros(rt, &four, tally)?;
-    try_made(rt, &four, tally)
+    match members.committee(rt.alloc()) {
+        Ok(four) => try_four(rt, &four, tally),
+        Err(_) => tally.miss(rt),
+    }
 }

@@ -36,24 +36,23 @@ use crate::votes::try_votes;
 use anyhow::{Result, bail};
 use std::thread::Threads;
 
-fn run_all<R>(rt: &R) -> Result<Tally>
+fn run_all<R>(rt: &R, tally: &mut Tally)
 where
     R: AllocGlobal + Eprint + Threads + Sync,
 {
-    let mut tally = Tally::new();
-    try_checks(rt, &mut tally)?;
-    try_boundaries(rt, &mut tally)?;
-    try_judging(rt, &mut tally)?;
-    try_offers(rt, &mut tally)?;
-    try_batch_offers(rt, &mut tally)?;
-    try_feeds(rt, &mut tally)?;
-    try_votes(rt, &mut tally)?;
-    try_twins(rt, &mut tally)?;
-    Ok(tally)
+    try_checks(rt, tally);
+    try_boundaries(rt, tally);
+    try_judging(rt, tally);
+    try_offers(rt, tally);
+    try_batch_offers(rt, tally);
+    try_feeds(rt, tally);
+    try_votes(rt, tally);
+    try_twins(rt, tally);
 }
 
 fn main(rt: HostRuntime) -> Result<()> {
-    let tally = run_all(&rt)?;
+    let mut tally = Tally::new();
+    run_all(&rt, &mut tally);
     println!(rt; "{} passed, {} failed", tally.passed, tally.failed)?;
     if tally.failed > 0 {
         bail!("trials failed");

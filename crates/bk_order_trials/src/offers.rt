@@ -75,7 +75,7 @@ fn put(alloc: Global, held: &mut Held, offered: Offered) -> Result<Offer> {
 
 // ---- by hand
 
-const TWO_EQUIVOCATIONS: [Step; 5] = [
+const TWO_EQUIVOCATIONS: &[Step] = &[
     ((2, 1, 0, 7), Answer::New, None, None),
     ((2, 1, 1, 5), Answer::Twin(7), Some((2, 1, 5, 7)), None),
     ((1, 3, 0, 8), Answer::New, Some((2, 1, 5, 7)), None),
@@ -83,7 +83,7 @@ const TWO_EQUIVOCATIONS: [Step; 5] = [
     ((2, 1, 1, 5), Answer::Repeat, Some((1, 3, 8, 9)), None),
 ];
 
-const THREE_HEADERS_UNDER_ONE_ID: [Step; 6] = [
+const THREE_HEADERS_UNDER_ONE_ID: &[Step] = &[
     ((2, 1, 0, 7), Answer::New, None, None),
     ((3, 1, 0, 7), Answer::Collision, None, Some(7)),
     ((4, 1, 0, 7), Answer::Collision, None, Some(7)),
@@ -108,29 +108,21 @@ fn is_answered(alloc: Global, held: &mut Held, step: Step) -> Result<bool> {
     )
 }
 
-fn try_steps<R>(
-    rt: &R,
-    what: &str,
-    held: &mut Held,
-    steps: &[Step],
-    tally: &mut Tally,
-) -> Result<()>
+fn try_steps<R>(rt: &R, what: &str, held: &mut Held, steps: &[Step], tally: &mut Tally)
 where
     R: AllocGlobal + Eprint,
 {
     for step in steps {
-        let is_right = is_answered(rt.alloc(), held, *step)?;
-        tally.note(rt, what, is_right)?;
+        tally.judge(rt, what, is_answered(rt.alloc(), held, *step));
     }
-    Ok(())
 }
 
-fn try_list<R>(rt: &R, what: &str, steps: &[Step], tally: &mut Tally) -> Result<()>
+fn try_list<R>(rt: &R, what: &str, steps: &[Step], tally: &mut Tally)
 where
     R: AllocGlobal + Eprint,
 {
     let mut held = Held::new(rt.alloc());
-    try_steps(rt, what, &mut held, steps, tally)
+    try_steps(rt, what, &mut held, steps, tally);
 }
 
 // ---- plain slow bodies
@@ -290,21 +282,20 @@ fn are_twelve_right(alloc: Global, seed: &mut u32) -> Result<bool> {
 }
 
 /// Offers of certificates.
-pub(crate) fn try_offers<R>(rt: &R, tally: &mut Tally) -> Result<()>
+pub(crate) fn try_offers<R>(rt: &R, tally: &mut Tally)
 where
     R: AllocGlobal + Eprint,
 {
-    try_list(rt, "two equivocations", &TWO_EQUIVOCATIONS, tally)?;
+    try_list(rt, "two equivocations", TWO_EQUIVOCATIONS, tally);
     try_list(
         rt,
         "three headers under one id",
-        &THREE_HEADERS_UNDER_ONE_ID,
+        THREE_HEADERS_UNDER_ONE_ID,
         tally,
-    )?;
+    );
     let mut seed = 1;
     for _ in 0..300u32 {
-        let are_right = are_twelve_right(rt.alloc(), &mut seed)?;
-        tally.note(rt, "twelve certificates", are_right)?;
+        let are_right = are_twelve_right(rt.alloc(), &mut seed);
+        tally.judge(rt, "twelve certificates", are_right);
     }
-    Ok(())
 }

@@ -18,14 +18,24 @@ impl Tally {
         }
     }
 
-    /// Counts a comparison, and says on standard error which one failed.
-    pub(crate) fn note<R: Eprint>(&mut self, rt: &R, what: &str, is_right: bool) -> Result<()> {
+    /// Counts a comparison, and prints on standard error which one failed. It returns no error: with a `?` each call
+    /// would be one more exit at which all values of the caller are dropped, and the proof lists each of these steps.
+    pub(crate) fn note<R: Eprint>(&mut self, rt: &R, what: &str, is_right: bool) {
         if is_right {
             self.passed = self.passed.saturating_add(1);
-            return Ok(());
+        } else {
+            self.failed = self.failed.saturating_add(1);
+            let _ = eprintln!(rt; "failed: {what}");
         }
-        self.failed = self.failed.saturating_add(1);
-        eprintln!(rt; "failed: {what}")?;
-        Ok(())
+    }
+
+    /// Counts as failed what could not be made, for want of memory.
+    pub(crate) fn miss<R: Eprint>(&mut self, rt: &R) {
+        self.note(rt, "something could not be made", false);
+    }
+
+    /// Counts a comparison that failed too if it ended in an error. So its caller has no exit for that.
+    pub(crate) fn judge<R: Eprint>(&mut self, rt: &R, what: &str, judged: Result<bool>) {
+        self.note(rt, what, judged.unwrap_or(false));
     }
 }

@@ -22,6 +22,8 @@ use std::thread::Threads;
 
 const FEEDS: u64 = 6;
 
+const WAYS: &[Way] = &[Way::AsDrawn, Way::Reversed, Way::Shuffled];
+
 // How many frames are taken at once.
 const PIECE: usize = 16;
 
@@ -215,15 +217,14 @@ fn try_ways<R>(
     frames: &[Frame],
     wanted: &Option<Stop>,
     tally: &mut Tally,
-) -> Result<()>
+)
 where
     R: AllocGlobal + Eprint + Threads + Sync,
 {
-    for way in [Way::AsDrawn, Way::Reversed, Way::Shuffled] {
-        let is_right = stops_in(rt, rt.alloc(), chance, committee, frames, way, wanted)?;
-        tally.note(rt, "the least twins", is_right)?;
+    for way in WAYS {
+        let is_right = stops_in(rt, rt.alloc(), chance, committee, frames, *way, wanted);
+        tally.judge(rt, "the least twins", is_right);
     }
-    Ok(())
 }
 
 // All frames in each order stop with these twins.
@@ -234,12 +235,14 @@ fn try_orders<R>(
     frames: &[Frame],
     wanted: &Option<Stop>,
     tally: &mut Tally,
-) -> Result<()>
+)
 where
     R: AllocGlobal + Eprint + Threads + Sync,
 {
-    let committee = members.committee(rt.alloc())?;
-    try_ways(rt, chance, &committee, frames, wanted, tally)
+    match members.committee(rt.alloc()) {
+        Ok(committee) => try_ways(rt, chance, &committee, frames, wanted, tally),
+        Err(_) => tally.miss(rt),
+    }
 }
 
 fn drawn_frames(
@@ -271,39 +274,39 @@ fn try_frames<R>(
     rows: &[Row],
     frames: &mut Vec<Frame>,
     tally: &mut Tally,
-) -> Result<()>
+)
 where
     R: AllocGlobal + Eprint + Threads + Sync,
 {
-    let wanted = wanted_of(rt.alloc(), chance, members, rows, frames)?;
-    try_orders(rt, chance, members, frames, &wanted, tally)
+    match wanted_of(rt.alloc(), chance, members, rows, frames) {
+        Ok(wanted) => try_orders(rt, chance, members, frames, &wanted, tally),
+        Err(_) => tally.miss(rt),
+    }
 }
 
-fn try_rows<R>(
-    rt: &R,
-    chance: &mut Chance,
-    members: Members<'_>,
-    rows: &[Row],
-    tally: &mut Tally,
-) -> Result<()>
+fn try_rows<R>(rt: &R, chance: &mut Chance, members: Members<'_>, rows: &[Row], tally: &mut Tally)
 where
     R: AllocGlobal + Eprint + Threads + Sync,
 {
-    let mut frames = drawn_frames(rt.alloc(), chance, members, rows)?;
-    try_frames(rt, chance, members, rows, &mut frames, tally)
+    match drawn_frames(rt.alloc(), chance, members, rows) {
+        Ok(mut frames) => try_frames(rt, chance, members, rows, &mut frames, tally),
+        Err(_) => tally.miss(rt),
+    }
 }
 
 // A feed of four members with twins.
-fn try_feed<R>(rt: &R, chance: &mut Chance, members: Members<'_>, tally: &mut Tally) -> Result<()>
+fn try_feed<R>(rt: &R, chance: &mut Chance, members: Members<'_>, tally: &mut Tally)
 where
     R: AllocGlobal + Eprint + Threads + Sync,
 {
-    let rows = drawn_rows(rt.alloc(), chance, members, Style::Most, 5)?;
-    try_rows(rt, chance, members, &rows, tally)
+    match drawn_rows(rt.alloc(), chance, members, Style::Most, 5) {
+        Ok(rows) => try_rows(rt, chance, members, &rows, tally),
+        Err(_) => tally.miss(rt),
+    }
 }
 
 /// Drawn feeds with twins, by heads and by weights.
-pub(crate) fn try_twins<R>(rt: &R, tally: &mut Tally) -> Result<()>
+pub(crate) fn try_twins<R>(rt: &R, tally: &mut Tally)
 where
     R: AllocGlobal + Eprint + Threads + Sync,
 {
@@ -317,8 +320,7 @@ where
         weights: &[5, 1, 1, 1],
     };
     for _ in 0..FEEDS {
-        try_feed(rt, &mut chance, heads, tally)?;
-        try_feed(rt, &mut chance, heavy, tally)?;
+        try_feed(rt, &mut chance, heads, tally);
+        try_feed(rt, &mut chance, heavy, tally);
     }
-    Ok(())
 }

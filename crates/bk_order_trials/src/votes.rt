@@ -3,7 +3,6 @@
 use crate::members::Members;
 use crate::story::{Story, is_told};
 use crate::tally::Tally;
-use anyhow::Result;
 use bk_frames::Version;
 
 const FOUR: Members<'static> = Members {
@@ -227,7 +226,7 @@ const REVERSED_BY_WEIGHTS: Story<'static> = Story {
     ..REVERSED
 };
 
-const STORIES: [(&'static str, Story<'static>); 10] = [
+const STORIES: &[(&'static str, Story<'static>)] = &[
     ("a waiting certificate that votes later", WAITING),
     ("an anchor that comes last", ANCHOR_LAST),
     ("a heavy vote that comes later", LIGHT),
@@ -241,13 +240,11 @@ const STORIES: [(&'static str, Story<'static>); 10] = [
 ];
 
 /// Graphs of four members.
-pub(crate) fn try_votes<R>(rt: &R, tally: &mut Tally) -> Result<()>
+pub(crate) fn try_votes<R>(rt: &R, tally: &mut Tally)
 where
     R: AllocGlobal + Eprint,
 {
-    for (what, story) in &STORIES {
-        let is_right = is_told(rt.alloc(), story)?;
-        tally.note(rt, *what, is_right)?;
+    for (what, story) in STORIES {
+        tally.judge(rt, what, is_told(rt.alloc(), story));
     }
-    Ok(())
 }
