@@ -1,4 +1,3 @@
-mod InTurn
 mod LineLemmas
 mod ReportLemmas
 mod WordLemmas

@@ -1,7 +1,7 @@
 //! The command line, as `--help` shows it.
 
-ghost use Rattle.std.specs.Prelude.{◌≡◌, true, false, IfOk};
-ghost use Rattle.clap.specs.Words.{app_of, rule_of, with_subcommand};
+ghost use Rattle.std.specs.Prelude.{◌≡◌, true, false, IfOk, IfSome};
+ghost use Rattle.clap.specs.Words.{App, Rule, app_of, rule_of};
 ghost use Rattle.clap.specs.declared.builder.command.Command.TheViews.{out-Command};
 ghost use Rattle.bk_cli.specs.CommandLine.{asking_line, checking_line, viewing_line, command_line, file_line, value_line, schedule_line, working_line};
 ghost use Rattle.bk_cli.specs.CommandLine.{flag_rule, noted_line, file_rule, workers_rule, required_rule, root_rule, id_rule, place_rule, from_rule, rounds_rule, dag_line, compare_line};
@@ -116,219 +116,130 @@ fn rounds_arg<'a>(alloc: Global) -> Arg<'a>
 }
 
 // The command with the options that every command has.
-fn noted<'a>(alloc: Global, command: Shaped<'a>) -> Result<Shaped<'a>, AllocError>
-    ensures { IfOk result (λ c. c ≡ noted_line command.entry) }
+fn noted<'a>(alloc: Global, command: Shaped<'a>) -> Shaped<'a>
+    ensures { (a : App) → IfSome command.entry (λ c. c ≡ a) → IfSome result (λ c. c ≡ noted_line a) }
 {
     command
-        .arg(flag_arg(alloc, "progress", help::PROGRESS))?
+        .arg(flag_arg(alloc, "progress", help::PROGRESS))
         .arg(flag_arg(alloc, "verbose", help::VERBOSE))
 }
 
 // The command `NAME [FILE]`.
-fn file_command<'a>(alloc: Global, name: &'a str, text: Help<'a>) -> Result<Shaped<'a>, AllocError>
-    ensures { IfOk result (λ c. c ≡ file_line name.now) }
+fn file_command<'a>(alloc: Global, name: &'a str, text: Help<'a>) -> Shaped<'a>
+    ensures { IfSome result (λ c. c ≡ file_line name.now) }
 {
-    let command = Shaped::new(alloc, name, text).arg(file_arg(alloc))?;
-    noted(alloc, command)
+    noted(alloc, Shaped::new(alloc, name, text).arg(file_arg(alloc)))
 }
 
 // The same with one argument more in front.
-fn value_command<'a>(
-    alloc: Global,
-    name: &'a str,
-    value: Arg<'a>,
-    text: Help<'a>,
-) -> Result<Shaped<'a>, AllocError>
+fn value_command<'a>(alloc: Global, name: &'a str, value: Arg<'a>, text: Help<'a>) -> Shaped<'a>
     requires { value.global ≡ false }
-    ensures { IfOk result (λ c. c ≡ value_line name.now (rule_of value.entry)) }
+    ensures { (r : Rule) → rule_of value.entry ≡ r → IfSome result (λ c. c ≡ value_line name.now r) }
 {
-    let command = Shaped::new(alloc, name, text)
-        .arg(value)?
-        .arg(file_arg(alloc))?;
-    noted(alloc, command)
+    let named = Shaped::new(alloc, name, text).arg(value);
+    noted(alloc, named.arg(file_arg(alloc)))
 }
 
 // A command `NAME [--workers W] VALUE [FILE]`.
-fn working_command<'a>(
-    alloc: Global,
-    name: &'a str,
-    value: Arg<'a>,
-    text: Help<'a>,
-) -> Result<Shaped<'a>, AllocError>
+fn working_command<'a>(alloc: Global, name: &'a str, value: Arg<'a>, text: Help<'a>) -> Shaped<'a>
     requires { value.global ≡ false }
-    ensures { IfOk result (λ c. c ≡ working_line name.now (rule_of value.entry)) }
+    ensures { (r : Rule) → rule_of value.entry ≡ r → IfSome result (λ c. c ≡ working_line name.now r) }
 {
-    let command = Shaped::new(alloc, name, text)
-        .arg(workers_arg(alloc, help::WORKERS))?
-        .arg(value)?
-        .arg(file_arg(alloc))?;
-    noted(alloc, command)
+    let named = Shaped::new(alloc, name, text)
+        .arg(workers_arg(alloc, help::WORKERS))
+        .arg(value);
+    noted(alloc, named.arg(file_arg(alloc)))
 }
 
 // The command `schedule [--workers W] FEED EVENTS`.
-fn schedule_command<'a>(alloc: Global) -> Result<Shaped<'a>, AllocError>
-    ensures { IfOk result (λ c. c ≡ schedule_line) }
+fn schedule_command<'a>(alloc: Global) -> Shaped<'a>
+    ensures { IfSome result (λ c. c ≡ schedule_line) }
 {
     let command = Shaped::new(alloc, "schedule", more_help::SCHEDULE)
-        .arg(workers_arg(alloc, help::EVENT_WORKERS))?
-        .arg(required_arg(alloc, "FEED", help::FEED))?
-        .arg(required_arg(alloc, "EVENTS", help::EVENTS))?;
+        .arg(workers_arg(alloc, help::EVENT_WORKERS))
+        .arg(required_arg(alloc, "FEED", help::FEED))
+        .arg(required_arg(alloc, "EVENTS", help::EVENTS));
     noted(alloc, command)
 }
 
 // The command `dag [--from R] [--rounds N] [FILE]`.
-fn dag_command<'a>(alloc: Global) -> Result<Shaped<'a>, AllocError>
-    ensures { IfOk result (λ c. c ≡ dag_line) }
+fn dag_command<'a>(alloc: Global) -> Shaped<'a>
+    ensures { IfSome result (λ c. c ≡ dag_line) }
 {
     let command = Shaped::new(alloc, "dag", help::DAG)
-        .arg(from_arg(alloc))?
-        .arg(rounds_arg(alloc))?
-        .arg(file_arg(alloc))?;
+        .arg(from_arg(alloc))
+        .arg(rounds_arg(alloc))
+        .arg(file_arg(alloc));
     noted(alloc, command)
 }
 
 // The command `compare FEED1 FEED2`.
-fn compare_command<'a>(alloc: Global) -> Result<Shaped<'a>, AllocError>
-    ensures { IfOk result (λ c. c ≡ compare_line) }
+fn compare_command<'a>(alloc: Global) -> Shaped<'a>
+    ensures { IfSome result (λ c. c ≡ compare_line) }
 {
     let command = Shaped::new(alloc, "compare", more_help::COMPARE)
-        .arg(required_arg(alloc, "FEED1", help::FEED1))?
-        .arg(required_arg(alloc, "FEED2", help::FEED2))?;
+        .arg(required_arg(alloc, "FEED1", help::FEED1))
+        .arg(required_arg(alloc, "FEED2", help::FEED2));
     noted(alloc, command)
 }
 
-// The program with one command `NAME [FILE]` more.
-fn with_file<'a>(
-    alloc: Global,
-    program: Shaped<'a>,
-    name: &'a str,
-    text: Help<'a>,
-) -> Result<Shaped<'a>, AllocError>
-    ensures { IfOk result (λ c. c ≡ with_subcommand program.entry (file_line name.now).top) }
-{
-    let command = file_command(alloc, name, text)?;
-    program.subcommand(command)
-}
-
-// The same with a command that has one argument more in front.
-fn with_value<'a>(
-    alloc: Global,
-    program: Shaped<'a>,
-    name: &'a str,
-    value: Arg<'a>,
-    text: Help<'a>,
-) -> Result<Shaped<'a>, AllocError>
-    requires { value.global ≡ false }
-    ensures { IfOk result (λ c. c
-        ≡ with_subcommand program.entry (value_line name.now (rule_of value.entry)).top) }
-{
-    let command = value_command(alloc, name, value, text)?;
-    program.subcommand(command)
-}
-
-// The same with `--workers` too.
-fn with_working<'a>(
-    alloc: Global,
-    program: Shaped<'a>,
-    name: &'a str,
-    value: Arg<'a>,
-    text: Help<'a>,
-) -> Result<Shaped<'a>, AllocError>
-    requires { value.global ≡ false }
-    ensures { IfOk result (λ c. c
-        ≡ with_subcommand program.entry (working_line name.now (rule_of value.entry)).top) }
-{
-    let command = working_command(alloc, name, value, text)?;
-    program.subcommand(command)
-}
-
-// The program with the command `dag`.
-fn with_dag<'a>(alloc: Global, program: Shaped<'a>) -> Result<Shaped<'a>, AllocError>
-    ensures { IfOk result (λ c. c ≡ with_subcommand program.entry dag_line.top) }
-{
-    let command = dag_command(alloc)?;
-    program.subcommand(command)
-}
-
-// The program with the command `schedule`.
-fn with_schedule<'a>(alloc: Global, program: Shaped<'a>) -> Result<Shaped<'a>, AllocError>
-    ensures { IfOk result (λ c. c ≡ with_subcommand program.entry schedule_line.top) }
-{
-    let command = schedule_command(alloc)?;
-    program.subcommand(command)
-}
-
-// The program with the command `compare`.
-fn with_compare<'a>(alloc: Global, program: Shaped<'a>) -> Result<Shaped<'a>, AllocError>
-    ensures { IfOk result (λ c. c ≡ with_subcommand program.entry compare_line.top) }
-{
-    let command = compare_command(alloc)?;
-    program.subcommand(command)
-}
-
 // The program with the commands that write a report, a feed or the reply to a query.
-fn asking_command<'a>(alloc: Global) -> Result<Shaped<'a>, AllocError>
-    ensures { IfOk result (λ c. c ≡ asking_line) }
+fn asking_command<'a>(alloc: Global) -> Shaped<'a>
+    ensures { IfSome result (λ c. c ≡ asking_line) }
 {
     let workers = workers_arg(alloc, help::WORKERS);
-    let run = with_value(alloc, Shaped::program(alloc), "run", workers, help::RUN)?;
-    let make = with_file(alloc, run, "make", help::MAKE)?;
-    let order = with_file(alloc, make, "order", help::ORDER)?;
-    let account = with_value(alloc, order, "account", id_arg(alloc), help::ACCOUNT)?;
-    let receipt = with_value(alloc, account, "receipt", place_arg(alloc), help::RECEIPT)?;
-    with_value(alloc, receipt, "prove", id_arg(alloc), help::PROVE)
+    Shaped::program(alloc)
+        .subcommand(value_command(alloc, "run", workers, help::RUN))
+        .subcommand(file_command(alloc, "make", help::MAKE))
+        .subcommand(file_command(alloc, "order", help::ORDER))
+        .subcommand(value_command(alloc, "account", id_arg(alloc), help::ACCOUNT))
+        .subcommand(value_command(alloc, "receipt", place_arg(alloc), help::RECEIPT))
+        .subcommand(value_command(alloc, "prove", id_arg(alloc), help::PROVE))
 }
 
 // And with those that show what is in a feed.
-fn viewing_command<'a>(alloc: Global) -> Result<Shaped<'a>, AllocError>
-    ensures { IfOk result (λ c. c ≡ viewing_line) }
+fn viewing_command<'a>(alloc: Global) -> Shaped<'a>
+    ensures { IfSome result (λ c. c ≡ viewing_line) }
 {
-    let asking = asking_command(alloc)?;
-    let frames = with_file(alloc, asking, "frames", help::FRAMES)?;
     let workers = workers_arg(alloc, help::WORKERS);
-    let summary = with_value(alloc, frames, "summary", workers, help::SUMMARY)?;
-    let anchors = with_file(alloc, summary, "anchors", help::ANCHORS)?;
-    let dag = with_dag(alloc, anchors)?;
-    with_working(alloc, dag, "statement", id_arg(alloc), help::STATEMENT)
+    asking_command(alloc)
+        .subcommand(file_command(alloc, "frames", help::FRAMES))
+        .subcommand(value_command(alloc, "summary", workers, help::SUMMARY))
+        .subcommand(file_command(alloc, "anchors", help::ANCHORS))
+        .subcommand(dag_command(alloc))
+        .subcommand(working_command(alloc, "statement", id_arg(alloc), help::STATEMENT))
 }
 
 // And with those that check something.
-fn checking_command<'a>(alloc: Global) -> Result<Shaped<'a>, AllocError>
-    ensures { IfOk result (λ c. c ≡ checking_line) }
+fn checking_command<'a>(alloc: Global) -> Shaped<'a>
+    ensures { IfSome result (λ c. c ≡ checking_line) }
 {
-    let viewing = viewing_command(alloc)?;
-    let proof = with_value(
-        alloc,
-        viewing,
-        "check-proof",
-        root_arg(alloc),
-        more_help::CHECK_PROOF,
-    )?;
-    let state = with_working(
-        alloc,
-        proof,
-        "check-state",
-        root_arg(alloc),
-        more_help::CHECK_STATE,
-    )?;
-    with_working(
-        alloc,
-        state,
-        "check-report",
-        required_arg(alloc, "REPORT", help::REPORT),
-        more_help::CHECK_REPORT,
-    )
+    let report = required_arg(alloc, "REPORT", help::REPORT);
+    viewing_command(alloc)
+        .subcommand(value_command(
+            alloc,
+            "check-proof",
+            root_arg(alloc),
+            more_help::CHECK_PROOF,
+        ))
+        .subcommand(working_command(
+            alloc,
+            "check-state",
+            root_arg(alloc),
+            more_help::CHECK_STATE,
+        ))
+        .subcommand(working_command(alloc, "check-report", report, more_help::CHECK_REPORT))
 }
 
 // And with those that execute batches as they come, and that take two files: all commands, in the order in which a user meets
 // them.
-fn whole_command<'a>(alloc: Global) -> Result<Shaped<'a>, AllocError>
-    ensures { IfOk result (λ c. c ≡ command_line) }
+fn whole_command<'a>(alloc: Global) -> Shaped<'a>
+    ensures { IfSome result (λ c. c ≡ command_line) }
 {
-    let checking = checking_command(alloc)?;
-    let apply = with_file(alloc, checking, "apply", more_help::APPLY)?;
-    let schedule = with_schedule(alloc, apply)?;
-    with_compare(alloc, schedule)
+    checking_command(alloc)
+        .subcommand(file_command(alloc, "apply", more_help::APPLY))
+        .subcommand(schedule_command(alloc))
+        .subcommand(compare_command(alloc))
 }
 
 /// All commands.
@@ -336,6 +247,5 @@ pub(crate) fn command<'a>(alloc: Global) -> Result<Command<'a>, AllocError>
     ensures line { IfOk result (λ c. app_of c ≡ command_line) }
     ensures local { IfOk result (λ c. (out-Command c).has_globals ≡ false) }
 {
-    let whole = whole_command(alloc)?;
-    Ok(whole.into_command())
+    whole_command(alloc).into_command()
 }

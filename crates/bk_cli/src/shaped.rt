@@ -1,10 +1,11 @@
 //! A command of which a contract knows its shape alone: its arguments and its subcommands.
 //!
 //! A function that owns a `Command` owns each of its fields, and all of them are in every step of its proof. Of a `Shaped` it
-//! owns one value.
+//! owns one value. No method fails: a `?` would be a way out at which all of them are let go. Where memory runs out the command
+//! is lost, and only `into_command` tells it.
 
-ghost use Rattle.std.specs.Prelude.{◌≡◌, false, IfOk};
-ghost use Rattle.clap.specs.Words.{app_of, new_app, rule_of, with_rule, with_subcommand};
+ghost use Rattle.std.specs.Prelude.{◌≡◌, false, IfOk, IfSome};
+ghost use Rattle.clap.specs.Words.{App, Rule, app_of, new_app, rule_of, with_rule, with_subcommand};
 ghost use Rattle.clap.specs.declared.builder.command.Command.TheViews.{out-Command};
 ghost use Rattle.bk_cli.specs.CommandLine.{program};
 
@@ -13,70 +14,84 @@ use clap::{Arg, Command};
 use std::alloc::{AllocError, Global};
 use std::marker::Model;
 
-/// A command without a global argument. Contracts see its shape.
+/// A command without a global argument, or none where memory ran out. Contracts see its shape.
 #[derive(Drop)]
 pub(crate) struct Shaped<'a> {
-    command: Command<'a>,
+    command: Option<Command<'a>>,
 }
 
 impl<'a> Model for Shaped<'a> {
-    ghost use Rattle.std.specs.Prelude.{◌≡◌, false};
+    ghost use Rattle.std.specs.Prelude.{◌≡◌, Option, option_map, unwrap_or, false};
     ghost use Rattle.clap.specs.Words.{App, app_of};
     ghost use Rattle.clap.specs.declared.builder.command.Command.TheViews.{out-Command};
 
-    ghost Value = { App };
+    ghost Value = { Option App };
 
-    ghost view = { λ s. app_of s.command };
+    ghost view = { λ s. option_map app_of s.command };
 
-    ghost invariant = { λ s. (out-Command s.command).has_globals ≡ false };
+    ghost invariant = { λ s. unwrap_or (option_map (λ c. (out-Command c).has_globals) s.command) false ≡ false };
 }
 
 impl<'a> Shaped<'a> {
     /// A command of this name and help, without arguments.
     pub fn new(alloc: Global, name: &'a str, text: Help<'a>) -> Shaped<'a>
-        ensures { result ≡ new_app name.now }
+        ensures { IfSome result (λ c. c ≡ new_app name.now) }
     {
         let command = Command::new(alloc, name)
             .about(text.about)
             .after_help(text.after);
-        Shaped { command }
+        Shaped {
+            command: Some(command),
+        }
     }
 
     /// The program without a command, which it has to be given.
     pub fn program(alloc: Global) -> Shaped<'a>
-        ensures { result ≡ program }
+        ensures { IfSome result (λ c. c ≡ program) }
     {
-        let named = Shaped::new(alloc, "bkreplay", help::PROGRAM);
-        let command = named
-            .command
+        let command = Command::new(alloc, "bkreplay")
+            .about(help::PROGRAM.about)
+            .after_help(help::PROGRAM.after)
             .version("0.1.0")
             .disable_help_subcommand(true)
             .subcommand_required(true);
-        Shaped { command }
+        Shaped {
+            command: Some(command),
+        }
     }
 
     /// The command with one argument more.
-    pub fn arg(self, arg: Arg<'a>) -> Result<Shaped<'a>, AllocError>
+    pub fn arg(self, arg: Arg<'a>) -> Shaped<'a>
         requires { arg.global ≡ false }
-        ensures { IfOk result (λ c. c ≡ with_rule self.entry (rule_of arg.entry)) }
+        ensures { (a : App) (r : Rule) → IfSome self.entry (λ c. c ≡ a) → rule_of arg.entry ≡ r
+            → IfSome result (λ c. c ≡ with_rule a r) }
     {
-        let command = self.command.arg(arg)?;
-        Ok(Shaped { command })
+        match self.command {
+            Some(command) => Shaped {
+                command: command.arg(arg).ok(),
+            },
+            None => Shaped { command: None },
+        }
     }
 
     /// The command with one subcommand more.
-    pub fn subcommand(self, added: Shaped<'a>) -> Result<Shaped<'a>, AllocError>
-        ensures { IfOk result (λ c. c ≡ with_subcommand self.entry added.entry.top) }
+    pub fn subcommand(self, added: Shaped<'a>) -> Shaped<'a>
+        ensures { (a b : App) → IfSome self.entry (λ c. c ≡ a) → IfSome added.entry (λ c. c ≡ b)
+            → IfSome result (λ c. c ≡ with_subcommand a b.top) }
     {
-        let command = self.command.subcommand(added.command)?;
-        Ok(Shaped { command })
+        match (self.command, added.command) {
+            (Some(command), Some(added)) => Shaped {
+                command: command.subcommand(added).ok(),
+            },
+            _ => Shaped { command: None },
+        }
     }
 
     /// The command itself.
-    pub fn into_command(self) -> Command<'a>
-        ensures line { app_of result ≡ self.entry }
-        ensures local { (out-Command result).has_globals ≡ false }
+    pub fn into_command(self) -> Result<Command<'a>, AllocError>
+        ensures line { (a : App) → IfSome self.entry (λ c. c ≡ a) → IfOk result (λ r. app_of r ≡ a) }
+        ensures local { IfOk result (λ r. (out-Command r).has_globals ≡ false) }
     {
-        self.command
+        self.command.ok_or(AllocError)
     }
 }

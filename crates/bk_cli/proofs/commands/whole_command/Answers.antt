@@ -1,12 +1,8 @@
 -- Each command is added to those before it.
-use Rattle.std.proofs.Common.{codes}
-use Rattle.std.proofs.lemmas.Result.{IfOk-weaker}
-use Rattle.bk_cli.specs.CommandLine.{file_line, schedule_line, compare_line}
-use Rattle.bk_cli.proofs.InTurn.{more}
 use Rattle.bk_cli.proofs.commands.whole_command.Goals as goal
 
 pub returns : goal.returns
 returns c =
-    let apply = more _ _ _ (file_line (codes "apply")) c.in_ok-apply.ensures c.in_ok-checking.ensures in
-    let schedule = more _ _ _ schedule_line c.in_ok-schedule.ensures apply in
-    IfOk-weaker c.with_compare.result _ _ (λ r h. more _ _ _ compare_line h schedule) c.with_compare.ensures
+    let apply = c.subcommand.ensures _ _ c.checking_command.ensures c.file_command.ensures in
+    let schedule = c.subcommand-2.ensures _ _ apply c.schedule_command.ensures in
+    c.subcommand-3.ensures _ _ schedule c.compare_command.ensures

@@ -1,0 +1,8 @@
+-- Each argument is added to those before it.
+use Rattle.bk_cli.proofs.commands.dag_command.Goals as goal
+
+pub returns : goal.returns
+returns c =
+    let from = c.arg.ensures _ _ c.new.ensures c.from_arg.ensures.rule in
+    let rounds = c.arg-2.ensures _ _ from c.rounds_arg.ensures.rule in
+    c.noted.ensures _ (c.arg-command.ensures _ _ rounds c.file_arg.ensures.rule)
