@@ -1,6 +1,7 @@
 //! The commands by name.
 
 ghost use Rattle.std.specs.Prelude.{◌≡◌};
+ghost use Rattle.std.specs.Str.{bytes_eq};
 ghost use Rattle.bk_cli.specs.CommandLine.{IsOneOf, all_words, word_of};
 
 /// The name of a command.
@@ -25,58 +26,65 @@ pub(crate) enum Verb {
     Compare,
 }
 
+// Whether the word is the other.
+fn is(word: &str, other: &str) -> bool
+    ensures { bytes_eq word.now other.now ≡ result }
+{
+    word == other
+}
+
 impl Verb {
     /// The command of this word, which is that of one.
     pub(crate) fn of(word: &str) -> Verb
         requires known { IsOneOf all_words word.now }
         ensures { word.now ≡ word_of result }
     {
-        if word == "run" {
+        if is(word, "run") {
             return Verb::Run;
         }
-        if word == "make" {
+        if is(word, "make") {
             return Verb::Make;
         }
-        if word == "order" {
+        if is(word, "order") {
             return Verb::Order;
         }
-        if word == "account" {
+        if is(word, "account") {
             return Verb::Account;
         }
-        if word == "receipt" {
+        if is(word, "receipt") {
             return Verb::Receipt;
         }
-        if word == "prove" {
+        if is(word, "prove") {
             return Verb::Prove;
         }
-        if word == "frames" {
+        if is(word, "frames") {
             return Verb::Frames;
         }
-        if word == "summary" {
+        if is(word, "summary") {
             return Verb::Summary;
         }
-        if word == "anchors" {
+        if is(word, "anchors") {
             return Verb::Anchors;
         }
-        if word == "dag" {
+        if is(word, "dag") {
             return Verb::Dag;
         }
-        if word == "statement" {
+        if is(word, "statement") {
             return Verb::Statement;
         }
-        if word == "check-proof" {
+        if is(word, "check-proof") {
             return Verb::CheckProof;
         }
-        if word == "check-state" {
+        if is(word, "check-state") {
             return Verb::CheckState;
         }
-        if word == "check-report" {
+        if is(word, "check-report") {
             return Verb::CheckReport;
         }
-        if word == "apply" {
+        if is(word, "apply") {
             return Verb::Apply;
         }
-        if word == "schedule" {
+        if is(word, "schedule") {
             return Verb::Schedule;
         }
         Verb::Compare
