@@ -1,118 +1,77 @@
 //! The command line, as `--help` shows it.
 
 ghost use Rattle.std.specs.Prelude.{◌≡◌, true, false, IfOk, IfSome};
-ghost use Rattle.clap.specs.Words.{App, Rule, app_of, rule_of};
+ghost use Rattle.clap.specs.Words.{App, Rule, app_of};
 ghost use Rattle.clap.specs.declared.builder.command.Command.TheViews.{out-Command};
 ghost use Rattle.bk_cli.specs.CommandLine.{asking_line, checking_line, viewing_line, command_line, file_line, value_line, schedule_line, working_line};
-ghost use Rattle.bk_cli.specs.CommandLine.{flag_rule, noted_line, file_rule, workers_rule, required_rule, root_rule, id_rule, place_rule, from_rule, rounds_rule, dag_line, compare_line};
+ghost use Rattle.bk_cli.specs.CommandLine.{noted_line, file_rule, workers_rule, required_rule, root_rule, id_rule, place_rule, from_rule, rounds_rule, dag_line, compare_line};
 
 use crate::help::{self, Help};
 use crate::more_help;
-use crate::shaped::Shaped;
-use clap::{Arg, ArgAction, Command, value_parser};
+use crate::shaped::{Plain, Shaped};
+use clap::{Command, value_parser};
 use std::alloc::{AllocError, Global};
 
 // The argument FILE.
-fn file_arg<'a>(alloc: Global) -> Arg<'a>
-    ensures rule { rule_of result ≡ file_rule }
-    ensures local { result.global ≡ false }
+fn file_arg<'a>(alloc: Global) -> Plain<'a>
+    ensures { result ≡ file_rule }
 {
-    Arg::new(alloc, "FILE")
-        .action(ArgAction::Set)
-        .help(help::FILE)
+    Plain::valued(alloc, "FILE", help::FILE)
 }
 
 // The option `--workers W`.
-fn workers_arg<'a>(alloc: Global, text: &'a str) -> Arg<'a>
-    ensures rule { rule_of result ≡ workers_rule }
-    ensures local { result.global ≡ false }
+fn workers_arg<'a>(alloc: Global, text: &'a str) -> Plain<'a>
+    ensures { result ≡ workers_rule }
 {
-    Arg::new(alloc, "workers")
-        .long("workers")
-        .action(ArgAction::Set)
-        .value_name("W")
-        .value_parser(value_parser!(u8).range(1..=64))
-        .help(text)
+    Plain::valued(alloc, "workers", text)
+        .option("workers", "W")
+        .read_by(value_parser!(u8).range(1..=64))
 }
 
 // An argument that is required, any text.
-fn required_arg<'a>(alloc: Global, name: &'a str, text: &'a str) -> Arg<'a>
-    ensures rule { rule_of result ≡ required_rule name.now }
-    ensures local { result.global ≡ false }
+fn required_arg<'a>(alloc: Global, name: &'a str, text: &'a str) -> Plain<'a>
+    ensures { result ≡ required_rule name.now }
 {
-    Arg::new(alloc, name)
-        .action(ArgAction::Set)
-        .required(true)
-        .help(text)
+    Plain::valued(alloc, name, text).required()
 }
 
 // The argument ROOT.
-fn root_arg<'a>(alloc: Global) -> Arg<'a>
-    ensures rule { rule_of result ≡ root_rule }
-    ensures local { result.global ≡ false }
+fn root_arg<'a>(alloc: Global) -> Plain<'a>
+    ensures { result ≡ root_rule }
 {
     required_arg(alloc, "ROOT", help::ROOT)
 }
 
 // The argument ID.
-fn id_arg<'a>(alloc: Global) -> Arg<'a>
-    ensures rule { rule_of result ≡ id_rule }
-    ensures local { result.global ≡ false }
+fn id_arg<'a>(alloc: Global) -> Plain<'a>
+    ensures { result ≡ id_rule }
 {
-    Arg::new(alloc, "ID")
-        .action(ArgAction::Set)
-        .required(true)
-        .value_parser(value_parser!(u64))
-        .help(help::ID)
+    required_arg(alloc, "ID", help::ID).read_by(value_parser!(u64))
 }
 
 // The argument PLACE.
-fn place_arg<'a>(alloc: Global) -> Arg<'a>
-    ensures rule { rule_of result ≡ place_rule }
-    ensures local { result.global ≡ false }
+fn place_arg<'a>(alloc: Global) -> Plain<'a>
+    ensures { result ≡ place_rule }
 {
-    Arg::new(alloc, "PLACE")
-        .action(ArgAction::Set)
-        .required(true)
-        .value_parser(value_parser!(u32))
-        .help(help::PLACE)
-}
-
-// An option without a value.
-fn flag_arg<'a>(alloc: Global, name: &'a str, text: &'a str) -> Arg<'a>
-    ensures rule { rule_of result ≡ flag_rule name.now }
-    ensures local { result.global ≡ false }
-{
-    Arg::new(alloc, name)
-        .long(name)
-        .action(ArgAction::SetTrue)
-        .help(text)
+    required_arg(alloc, "PLACE", help::PLACE).read_by(value_parser!(u32))
 }
 
 // The option `--from R`.
-fn from_arg<'a>(alloc: Global) -> Arg<'a>
-    ensures rule { rule_of result ≡ from_rule }
-    ensures local { result.global ≡ false }
+fn from_arg<'a>(alloc: Global) -> Plain<'a>
+    ensures { result ≡ from_rule }
 {
-    Arg::new(alloc, "from")
-        .long("from")
-        .action(ArgAction::Set)
-        .value_name("R")
-        .value_parser(value_parser!(u32).range(1..=1_000_000))
-        .help(help::FROM)
+    Plain::valued(alloc, "from", help::FROM)
+        .option("from", "R")
+        .read_by(value_parser!(u32).range(1..=1_000_000))
 }
 
 // The option `--rounds N`.
-fn rounds_arg<'a>(alloc: Global) -> Arg<'a>
-    ensures rule { rule_of result ≡ rounds_rule }
-    ensures local { result.global ≡ false }
+fn rounds_arg<'a>(alloc: Global) -> Plain<'a>
+    ensures { result ≡ rounds_rule }
 {
-    Arg::new(alloc, "rounds")
-        .long("rounds")
-        .action(ArgAction::Set)
-        .value_name("N")
-        .value_parser(value_parser!(u32).range(1..=1_000))
-        .help(help::ROUNDS)
+    Plain::valued(alloc, "rounds", help::ROUNDS)
+        .option("rounds", "N")
+        .read_by(value_parser!(u32).range(1..=1_000))
 }
 
 // The command with the options that every command has.
@@ -120,8 +79,8 @@ fn noted<'a>(alloc: Global, command: Shaped<'a>) -> Shaped<'a>
     ensures { (a : App) → IfSome command.entry (λ c. c ≡ a) → IfSome result (λ c. c ≡ noted_line a) }
 {
     command
-        .arg(flag_arg(alloc, "progress", help::PROGRESS))
-        .arg(flag_arg(alloc, "verbose", help::VERBOSE))
+        .arg(Plain::flag(alloc, "progress", help::PROGRESS))
+        .arg(Plain::flag(alloc, "verbose", help::VERBOSE))
 }
 
 // The command `NAME [FILE]`.
@@ -132,18 +91,16 @@ fn file_command<'a>(alloc: Global, name: &'a str, text: Help<'a>) -> Shaped<'a>
 }
 
 // The same with one argument more in front.
-fn value_command<'a>(alloc: Global, name: &'a str, value: Arg<'a>, text: Help<'a>) -> Shaped<'a>
-    requires { value.global ≡ false }
-    ensures { (r : Rule) → rule_of value.entry ≡ r → IfSome result (λ c. c ≡ value_line name.now r) }
+fn value_command<'a>(alloc: Global, name: &'a str, value: Plain<'a>, text: Help<'a>) -> Shaped<'a>
+    ensures { (r : Rule) → value.entry ≡ r → IfSome result (λ c. c ≡ value_line name.now r) }
 {
     let named = Shaped::new(alloc, name, text).arg(value);
     noted(alloc, named.arg(file_arg(alloc)))
 }
 
 // A command `NAME [--workers W] VALUE [FILE]`.
-fn working_command<'a>(alloc: Global, name: &'a str, value: Arg<'a>, text: Help<'a>) -> Shaped<'a>
-    requires { value.global ≡ false }
-    ensures { (r : Rule) → rule_of value.entry ≡ r → IfSome result (λ c. c ≡ working_line name.now r) }
+fn working_command<'a>(alloc: Global, name: &'a str, value: Plain<'a>, text: Help<'a>) -> Shaped<'a>
+    ensures { (r : Rule) → value.entry ≡ r → IfSome result (λ c. c ≡ working_line name.now r) }
 {
     let named = Shaped::new(alloc, name, text)
         .arg(workers_arg(alloc, help::WORKERS))

@@ -1,18 +1,82 @@
 //! A command of which a contract knows its shape alone: its arguments and its subcommands.
 //!
-//! A function that owns a `Command` owns each of its fields, and all of them are in every step of its proof. Of a `Shaped` it
-//! owns one value. No method fails: a `?` would be a way out at which all of them are let go. Where memory runs out the command
-//! is lost, and only `into_command` tells it.
+//! A function that owns a `Command` or an `Arg` owns each of its fields, and all of them are in every step of its proof. Of a
+//! `Shaped` or a `Plain` it owns one value. No method fails: a `?` would be a way out at which all that is owned is let go.
+//! Where memory runs out the command is lost, and only `into_command` tells it.
 
-ghost use Rattle.std.specs.Prelude.{◌≡◌, false, IfOk, IfSome};
-ghost use Rattle.clap.specs.Words.{App, Rule, app_of, new_app, rule_of, with_rule, with_subcommand};
+ghost use Rattle.std.specs.Prelude.{◌≡◌, Some, true, false, IfOk, IfSome};
+ghost use Rattle.clap.specs.Words.{App, Rule, app_of, new_app, new_rule, with_rule, with_subcommand};
+ghost use Rattle.clap.specs.declared.builder.action.ArgAction.TheVariants.{Set};
 ghost use Rattle.clap.specs.declared.builder.command.Command.TheViews.{out-Command};
-ghost use Rattle.bk_cli.specs.CommandLine.{program};
+ghost use Rattle.bk_cli.specs.CommandLine.{flag_rule, program};
 
 use crate::help::{self, Help};
-use clap::{Arg, Command};
+use clap::builder::ValueParser;
+use clap::{Arg, ArgAction, Command};
 use std::alloc::{AllocError, Global};
 use std::marker::Model;
+
+/// An argument that is not global. Contracts see its rule.
+#[derive(Drop)]
+pub(crate) struct Plain<'a> {
+    arg: Arg<'a>,
+}
+
+impl<'a> Model for Plain<'a> {
+    ghost use Rattle.std.specs.Prelude.{◌≡◌, false};
+    ghost use Rattle.clap.specs.Words.{Rule, rule_of};
+
+    ghost Value = { Rule };
+
+    ghost view = { λ p. rule_of p.arg };
+
+    ghost invariant = { λ p. p.arg.global ≡ false };
+}
+
+impl<'a> Plain<'a> {
+    /// An argument that takes a value.
+    pub fn valued(alloc: Global, name: &'a str, text: &'a str) -> Plain<'a>
+        ensures { result ≡ record (new_rule name.now) { action = Some Set } }
+    {
+        let arg = Arg::new(alloc, name).action(ArgAction::Set).help(text);
+        Plain { arg }
+    }
+
+    /// The option `--name`, without a value.
+    pub fn flag(alloc: Global, name: &'a str, text: &'a str) -> Plain<'a>
+        ensures { result ≡ flag_rule name.now }
+    {
+        let arg = Arg::new(alloc, name)
+            .long(name)
+            .action(ArgAction::SetTrue)
+            .help(text);
+        Plain { arg }
+    }
+
+    /// The same as the option `--name`, of which help calls the value by this letter.
+    pub fn option(self, name: &'a str, letter: &'a str) -> Plain<'a>
+        ensures { result ≡ record self.entry { long = Some name.now; value_names = 1 } }
+    {
+        let arg = self.arg.long(name).value_name(letter);
+        Plain { arg }
+    }
+
+    /// The same as one that is required.
+    pub fn required(self) -> Plain<'a>
+        ensures { result ≡ record self.entry { required = true } }
+    {
+        let arg = self.arg.required(true);
+        Plain { arg }
+    }
+
+    /// The same with what its value has to be.
+    pub fn read_by(self, parser: ValueParser<'a>) -> Plain<'a>
+        ensures { result ≡ record self.entry { parser = Some parser.entry } }
+    {
+        let arg = self.arg.value_parser(parser);
+        Plain { arg }
+    }
+}
 
 /// A command without a global argument, or none where memory ran out. Contracts see its shape.
 #[derive(Drop)]
@@ -61,14 +125,13 @@ impl<'a> Shaped<'a> {
     }
 
     /// The command with one argument more.
-    pub fn arg(self, arg: Arg<'a>) -> Shaped<'a>
-        requires { arg.global ≡ false }
-        ensures { (a : App) (r : Rule) → IfSome self.entry (λ c. c ≡ a) → rule_of arg.entry ≡ r
+    pub fn arg(self, added: Plain<'a>) -> Shaped<'a>
+        ensures { (a : App) (r : Rule) → IfSome self.entry (λ c. c ≡ a) → added.entry ≡ r
             → IfSome result (λ c. c ≡ with_rule a r) }
     {
         match self.command {
             Some(command) => Shaped {
-                command: command.arg(arg).ok(),
+                command: command.arg(added.arg).ok(),
             },
             None => Shaped { command: None },
         }

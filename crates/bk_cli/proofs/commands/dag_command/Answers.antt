@@ -3,6 +3,6 @@ use Rattle.bk_cli.proofs.commands.dag_command.Goals as goal
 
 pub returns : goal.returns
 returns c =
-    let from = c.arg.ensures _ _ c.new.ensures c.from_arg.ensures.rule in
-    let rounds = c.arg-2.ensures _ _ from c.rounds_arg.ensures.rule in
-    c.noted.ensures _ (c.arg-command.ensures _ _ rounds c.file_arg.ensures.rule)
+    let from = c.arg.ensures _ _ c.new.ensures c.from_arg.ensures in
+    let rounds = c.arg-2.ensures _ _ from c.rounds_arg.ensures in
+    c.noted.ensures _ (c.arg-command.ensures _ _ rounds c.file_arg.ensures)

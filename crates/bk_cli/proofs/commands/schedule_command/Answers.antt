@@ -3,6 +3,6 @@ use Rattle.bk_cli.proofs.commands.schedule_command.Goals as goal
 
 pub returns : goal.returns
 returns c =
-    let workers = c.arg.ensures _ _ c.new.ensures c.workers_arg.ensures.rule in
-    let feed = c.arg-2.ensures _ _ workers c.required_arg.ensures.rule in
-    c.noted.ensures _ (c.arg-command.ensures _ _ feed c.required_arg-2.ensures.rule)
+    let workers = c.arg.ensures _ _ c.new.ensures c.workers_arg.ensures in
+    let feed = c.arg-2.ensures _ _ workers c.required_arg.ensures in
+    c.noted.ensures _ (c.arg-command.ensures _ _ feed c.required_arg-2.ensures)
