@@ -8,7 +8,7 @@ use crate::job_fault::JobFault;
 use bk_results::{CompareStop, Fault, ScriptFault};
 
 /// What a fault is about.
-#[derive(Clone, Copy, Debug, PartialEq, Eq)]
+#[derive(Clone, Copy)]
 pub(crate) enum About {
     /// The first file of the job, or standard input.
     First,

@@ -16,7 +16,7 @@ use clap::ArgMatches;
 use std::alloc::{AllocError, Global};
 
 /// What the program is to do. A `file` is a path; standard input is read where there is none.
-#[derive(Debug, Drop)]
+#[derive(Drop)]
 pub enum Job {
     /// Finds the committed order of a feed, executes its batches and writes the report of the run.
     Run {
@@ -175,26 +175,45 @@ fn place_in(found: &ArgMatches<'_>) -> u32
 }
 
 // The job of `schedule`, with the values of its arguments.
-fn schedule_of(alloc: Global, found: &ArgMatches<'_>) -> Result<Job, AllocError>
-    ensures { IfOk result (IsJobAt (codes "schedule") (rows_of (found_of found.now))) }
+fn schedule_of(alloc: Global, found: &ArgMatches<'_>) -> Result<Option<Job>, AllocError>
+    ensures { IfOk result (λ made. MatchOption made
+        (NamesNoDigest (Some (codes "schedule", rows_of (found_of found.now))))
+        (IsJobAt (codes "schedule") (rows_of (found_of found.now)))) }
 {
     let workers = workers_in(found, Workers::two());
     let feed = text_in(alloc, found, "FEED")?;
     let events = text_in(alloc, found, "EVENTS")?;
-    Ok(Job::Schedule {
+    Ok(Some(Job::Schedule {
         workers,
         feed,
         events,
-    })
+    }))
 }
 
 // The job of `compare`, with the values of its arguments.
-fn compare_of(alloc: Global, found: &ArgMatches<'_>) -> Result<Job, AllocError>
-    ensures { IfOk result (IsJobAt (codes "compare") (rows_of (found_of found.now))) }
+fn compare_of(alloc: Global, found: &ArgMatches<'_>) -> Result<Option<Job>, AllocError>
+    ensures { IfOk result (λ made. MatchOption made
+        (NamesNoDigest (Some (codes "compare", rows_of (found_of found.now))))
+        (IsJobAt (codes "compare") (rows_of (found_of found.now)))) }
 {
     let first = text_in(alloc, found, "FEED1")?;
     let second = text_in(alloc, found, "FEED2")?;
-    Ok(Job::Compare { first, second })
+    Ok(Some(Job::Compare { first, second }))
+}
+
+// The job of `check-proof` of this file, with the value of its other argument.
+fn proof_of(
+    alloc: Global,
+    found: &ArgMatches<'_>,
+    file: Option<String>,
+) -> Result<Option<Job>, AllocError>
+    requires { IsFileIn (rows_of (found_of found.now)) (option_map string_bytes file) }
+    ensures { IfOk result (λ made. MatchOption made
+        (NamesNoDigest (Some (codes "check-proof", rows_of (found_of found.now))))
+        (IsJobAt (codes "check-proof") (rows_of (found_of found.now)))) }
+{
+    let root = text_in(alloc, found, "ROOT")?;
+    Ok(Some(Job::CheckProof { root, file }))
 }
 
 // The job of `check-state` of this file, with the values of its other arguments. There is none where ROOT is not a digest.
@@ -237,17 +256,23 @@ fn statement_of(found: &ArgMatches<'_>, file: Option<String>) -> Job
 }
 
 // The job of `check-report` of this file, with the values of its other arguments.
-fn report_of(alloc: Global, found: &ArgMatches<'_>, file: Option<String>) -> Result<Job, AllocError>
+fn report_of(
+    alloc: Global,
+    found: &ArgMatches<'_>,
+    file: Option<String>,
+) -> Result<Option<Job>, AllocError>
     requires { IsFileIn (rows_of (found_of found.now)) (option_map string_bytes file) }
-    ensures { IfOk result (IsJobAt (codes "check-report") (rows_of (found_of found.now))) }
+    ensures { IfOk result (λ made. MatchOption made
+        (NamesNoDigest (Some (codes "check-report", rows_of (found_of found.now))))
+        (IsJobAt (codes "check-report") (rows_of (found_of found.now)))) }
 {
     let report = text_in(alloc, found, "REPORT")?;
     let workers = workers_in(found, Workers::one());
-    Ok(Job::CheckReport {
+    Ok(Some(Job::CheckReport {
         workers,
         report,
         file,
-    })
+    }))
 }
 
 // The value of an option, a number from 1 to `most`, and the usual one where it is left out. The parser has refused what
@@ -318,26 +343,11 @@ pub(crate) fn job_of(
         Verb::Anchors => Ok(Some(ask_one(Query::Anchors, file))),
         Verb::Dag => Ok(Some(dag_of(found, file))),
         Verb::Statement => Ok(Some(statement_of(found, file))),
-        Verb::CheckProof => {
-            let root = text_in(alloc, found, "ROOT")?;
-            Ok(Some(Job::CheckProof { root, file }))
-        }
-        Verb::CheckState => {
-            let job = state_of(alloc, found, file)?;
-            Ok(job)
-        }
-        Verb::CheckReport => {
-            let job = report_of(alloc, found, file)?;
-            Ok(Some(job))
-        }
+        Verb::CheckProof => proof_of(alloc, found, file),
+        Verb::CheckState => state_of(alloc, found, file),
+        Verb::CheckReport => report_of(alloc, found, file),
         Verb::Apply => Ok(Some(Job::Apply { file })),
-        Verb::Schedule => {
-            let job = schedule_of(alloc, found)?;
-            Ok(Some(job))
-        }
-        Verb::Compare => {
-            let job = compare_of(alloc, found)?;
-            Ok(Some(job))
-        }
+        Verb::Schedule => schedule_of(alloc, found),
+        Verb::Compare => compare_of(alloc, found),
     }
 }

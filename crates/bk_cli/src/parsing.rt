@@ -15,7 +15,7 @@ use std::alloc::{AllocError, Global};
 use std::convert::AsStr;
 
 /// What a command line says.
-#[derive(Debug, Drop)]
+#[derive(Drop)]
 pub struct Line {
     /// What the program is to do.
     pub job: Job,

@@ -1,5 +1,5 @@
 -- The values of the arguments are those of the rows.
-use Rattle.std.proofs.Common.{◌∙◌, ◌^◌, ap, sym, subst, codes, Option, unwrap_or, [], refl}
+use Rattle.std.proofs.Common.{◌∙◌, ◌^◌, ap, sym, subst, codes, Option, refl}
 use Rattle.clap.proofs.WalkLemmas.{first_value-rows, one_text-rows}
 use Rattle.clap.specs.Words.{Text, found_of}
 use Rattle.bk_cli.specs.CommandLine.{AreNamedBy, IsNumberBy, word_of}
@@ -19,14 +19,6 @@ pub returns-in-Make : goal.returns-in-Make
 returns-in-Make c =
     let found = found_of c.args.found.now in
     (ap word_of c.in-Make.is, sym (first_value-rows found (codes "FILE")) ∙ (sym c.get_str.ensures ∙ sym c.in_ok-file.ensures))
-
-pub returns-in_ok-root-in-CheckProof : goal.returns-in_ok-root-in-CheckProof
-returns-in_ok-root-in-CheckProof c =
-    let found = found_of c.args.found.now in (
-      ap word_of c.in-CheckProof.is,
-      c.in_ok-root-in-CheckProof.ensures ∙ ap (λ (t : Option Text). unwrap_or t []) (first_value-rows found (codes "ROOT")),
-      sym (first_value-rows found (codes "FILE")) ∙ (sym c.get_str.ensures ∙ sym c.in_ok-file.ensures),
-    )
 
 pub returns-in-Apply : goal.returns-in-Apply
 returns-in-Apply c =
@@ -96,20 +88,26 @@ statement_of-requires c = let found = found_of c.args.found.now in sym (first_va
 pub returns-in-Statement : goal.returns-in-Statement
 returns-in-Statement c = rw c.in-Statement.is c.statement_of.ensures
 
+pub proof_of-requires : goal.proof_of-requires
+proof_of-requires c = let found = found_of c.args.found.now in sym (first_value-rows found (codes "FILE")) ∙ (sym c.get_str.ensures ∙ sym c.in_ok-file.ensures)
+
+pub returns-in-CheckProof : goal.returns-in-CheckProof
+returns-in-CheckProof c = rw c.in-CheckProof.is c.proof_of.ensures
+
 pub state_of-requires : goal.state_of-requires
 state_of-requires c = let found = found_of c.args.found.now in sym (first_value-rows found (codes "FILE")) ∙ (sym c.get_str.ensures ∙ sym c.in_ok-file.ensures)
 
-pub returns-in_ok-job-in-CheckState : goal.returns-in_ok-job-in-CheckState
-returns-in_ok-job-in-CheckState c = rw c.in-CheckState.is c.in_ok-job-in-CheckState.ensures
+pub returns-in-CheckState : goal.returns-in-CheckState
+returns-in-CheckState c = rw c.in-CheckState.is c.state_of.ensures
 
 pub report_of-requires : goal.report_of-requires
 report_of-requires c = let found = found_of c.args.found.now in sym (first_value-rows found (codes "FILE")) ∙ (sym c.get_str.ensures ∙ sym c.in_ok-file.ensures)
 
-pub returns-in_ok-job-in-CheckReport : goal.returns-in_ok-job-in-CheckReport
-returns-in_ok-job-in-CheckReport c = rw c.in-CheckReport.is c.in_ok-job-in-CheckReport.ensures
+pub returns-in-CheckReport : goal.returns-in-CheckReport
+returns-in-CheckReport c = rw c.in-CheckReport.is c.report_of.ensures
 
-pub returns-in_ok-job-in-Schedule : goal.returns-in_ok-job-in-Schedule
-returns-in_ok-job-in-Schedule c = rw c.in-Schedule.is c.in_ok-job-in-Schedule.ensures
+pub returns-in-Schedule : goal.returns-in-Schedule
+returns-in-Schedule c = rw c.in-Schedule.is c.schedule_of.ensures
 
-pub returns-in_ok-job-in-Compare : goal.returns-in_ok-job-in-Compare
-returns-in_ok-job-in-Compare c = rw c.in-Compare.is c.in_ok-job-in-Compare.ensures
+pub returns-in-Compare : goal.returns-in-Compare
+returns-in-Compare c = rw c.in-Compare.is c.compare_of.ensures
