@@ -1,3 +1,4 @@
 mod LineLemmas
 mod ReportLemmas
 mod WordLemmas
+mod ZipLemmas

@@ -96,16 +96,23 @@ impl<'a> Model for Shaped<'a> {
     ghost invariant = { λ s. unwrap_or (option_map (λ c. (out-Command c).has_globals) s.command) false ≡ false };
 }
 
+// A command of this name and help, without arguments.
+fn named<'a>(alloc: Global, name: &'a str, text: Help<'a>) -> Command<'a>
+    ensures shape { app_of result ≡ new_app name.now }
+    ensures local { (out-Command result).has_globals ≡ false }
+{
+    Command::new(alloc, name)
+        .about(text.about)
+        .after_help(text.after)
+}
+
 impl<'a> Shaped<'a> {
     /// A command of this name and help, without arguments.
     pub fn new(alloc: Global, name: &'a str, text: Help<'a>) -> Shaped<'a>
         ensures { IfSome result (λ c. c ≡ new_app name.now) }
     {
-        let command = Command::new(alloc, name)
-            .about(text.about)
-            .after_help(text.after);
         Shaped {
-            command: Some(command),
+            command: Some(named(alloc, name, text)),
         }
     }
 
@@ -113,9 +120,7 @@ impl<'a> Shaped<'a> {
     pub fn program(alloc: Global) -> Shaped<'a>
         ensures { IfSome result (λ c. c ≡ program) }
     {
-        let command = Command::new(alloc, "bkreplay")
-            .about(help::PROGRAM.about)
-            .after_help(help::PROGRAM.after)
+        let command = named(alloc, "bkreplay", help::PROGRAM)
             .version("0.1.0")
             .disable_help_subcommand(true)
             .subcommand_required(true);
@@ -142,11 +147,11 @@ impl<'a> Shaped<'a> {
         ensures { (a b : App) → IfSome self.entry (λ c. c ≡ a) → IfSome added.entry (λ c. c ≡ b)
             → IfSome result (λ c. c ≡ with_subcommand a b.top) }
     {
-        match (self.command, added.command) {
-            (Some(command), Some(added)) => Shaped {
+        match self.command.zip(added.command) {
+            Some((command, added)) => Shaped {
                 command: command.subcommand(added).ok(),
             },
-            _ => Shaped { command: None },
+            None => Shaped { command: None },
         }
     }
 
