@@ -1,7 +1,8 @@
 """Reads the command line of `bkreplay` from its definition in crates/bk_cli/src: commands.rt, shaped.rt, help.rt,
 more_help.rt and verb.rt.
 
-The functions of commands.rt are evaluated as they are written: `let` statements, calls, and the methods in METHODS.
+The functions of commands.rt are evaluated as they are written: `let` statements, calls, and the methods of Body.member
+and in METHODS.
 Whatever else occurs there ends the script with a message.
 """
 import os
@@ -74,6 +75,14 @@ def shaped(name, text):
     return Built("Command", name).set("about", text["about"]).set("after_help", text["after"])
 
 
+def plain(made, name, text):
+    """What `Plain::valued` and `Plain::flag` make: an argument that takes a value, and an option that takes none."""
+    arg = Built("Arg", name).set("help", text)
+    if made == "Plain::valued":
+        return arg.set("action", "ArgAction::Set")
+    return arg.set("long", name).set("action", "ArgAction::SetTrue")
+
+
 class Body:
     """The body of a function, which is evaluated with the given variables."""
 
@@ -133,6 +142,12 @@ class Body:
             values = self.values()
             if name == "into_command" and not values:
                 return found
+            if name == "required" and not values:
+                return found.set(name, "true")
+            if name == "option" and len(values) == 2:
+                return found.set("long", values[0]).set("value_name", values[1])
+            if name == "read_by" and len(values) == 1:
+                return found.set("value_parser", values[0])
             if len(values) == 1:
                 return found.set(name, values[0])
         elif isinstance(found, dict) and name in found:
@@ -151,8 +166,6 @@ class Body:
             return int(token)
         if token in self.variables:
             return self.variables[token]
-        if token in ("true", "ArgAction::Set", "ArgAction::SetTrue"):
-            return token
         if token.startswith(("help::", "more_help::")):
             name = token.split("::")[1]
             if name not in self.source.texts:
@@ -163,8 +176,8 @@ class Body:
             found = Built("Parser", self.next())
             self.next(")")
             return found
-        if token == "Arg::new":
-            return Built("Arg", self.values()[1])
+        if token in ("Plain::valued", "Plain::flag"):
+            return plain(token, *self.values()[1:])
         if token == "Shaped::new":
             return shaped(*self.values()[1:])
         if token == "Shaped::program":
@@ -190,7 +203,7 @@ class Source:
     def program(self):
         """What `Shaped::program` of shaped.rt makes: the program without a command."""
         text = read(f"{SOURCE}/shaped.rt")
-        named = re.search(r'Shaped::new\(alloc, "(\w+)", help::(\w+)\)', text)
+        named = re.search(r'named\(alloc, "(\w+)", help::(\w+)\)', text)
         version = re.search(r'\.version\("([\d.]+)"\)', text)
         if not named or not version:
             fail(f"{SOURCE}/shaped.rt: the name, the help or the version of the program is not understood")
@@ -240,7 +253,7 @@ def read_program():
     """The program as a command: its commands are in `subcommand`."""
     program = Body(Source(), "command", [None]).result()
     names = [it.name for it in program["subcommand"]]
-    verbs = re.findall(r'word == "(.*?)"', read(f"{SOURCE}/verb.rt"))
+    verbs = re.findall(r'is\(word, "(.*?)"\)', read(f"{SOURCE}/verb.rt"))
     last = re.findall(r"^        Verb::(\w+)$", read(f"{SOURCE}/verb.rt"), re.MULTILINE)
     verbs += [re.sub(r"\B(?=[A-Z])", "-", it).lower() for it in last]
     for name in sorted({*names} ^ {*verbs}):
