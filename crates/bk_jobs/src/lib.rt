@@ -4,6 +4,7 @@
 //! program ends. [`open_and_run`] opens the files that the job names first.
 #![tactic(auto)]
 
+mod answering;
 mod claiming;
 mod comparing;
 mod drawing;

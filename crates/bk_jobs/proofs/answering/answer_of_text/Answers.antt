@@ -1,0 +1,18 @@
+-- How each of these jobs may end with an answer.
+use Rattle.std.proofs.Common.{refl, inl, inr}
+use Rattle.bk_jobs.proofs.answering.answer_of_text.Goals as goal
+
+pub returns-in_ok-end-in-Make-clause-answer : goal.returns-in_ok-end-in-Make-clause-answer
+returns-in_ok-end-in-Make-clause-answer g c = rw (c.in-Make.is, c.in_ok-end-in-Make.ensures.answer) (refl, refl)
+
+pub returns-in_ok-end-in-CheckProof-clause-answer : goal.returns-in_ok-end-in-CheckProof-clause-answer
+returns-in_ok-end-in-CheckProof-clause-answer g c = elim c.in_ok-end-in-CheckProof.ensures.answer [
+  | inl e ↦ rw (c.in-CheckProof.is, e) (refl, refl)
+  | inr e ↦ rw (c.in-CheckProof.is, e) (refl, refl)
+]
+
+pub returns-in_ok-end-in-Make-clause-gaps : goal.returns-in_ok-end-in-Make-clause-gaps
+returns-in_ok-end-in-Make-clause-gaps g c = rw c.in-Make.is refl
+
+pub returns-in_ok-end-in-CheckProof-clause-gaps : goal.returns-in_ok-end-in-CheckProof-clause-gaps
+returns-in_ok-end-in-CheckProof-clause-gaps g c = rw c.in-CheckProof.is refl

@@ -1,0 +1,290 @@
+//! Writes the answer of a job.
+//!
+//! The jobs are in three groups, by what they read: a function that has an arm for each takes a minute to be proved.
+
+ghost use Rattle.std.specs.Prelude.{◌≡◌, true, false, OnOk, IfOk, IfErr};
+ghost use Rattle.bk_frames.specs.Device.{CanBeUsed};
+ghost use Rattle.bk_cli.specs.Exits.{is_answer, may_end, reads_second};
+ghost use Rattle.bk_jobs.specs.Faults.{JobFailsBy, AnswerIsOut};
+ghost use Rattle.bk_jobs.specs.Gaps.{AreGapsOf};
+ghost use Rattle.bk_jobs.specs.Sources.{AllWork, inputs, job_devices};
+ghost use Rattle.bk_jobs.specs.private.Groups.{reads_feed, reads_text};
+
+use crate::claiming::check_claim;
+use crate::comparing::compare_feeds;
+use crate::drawing::draw_rounds;
+use crate::end::End;
+use crate::listing::list;
+use crate::queries::reply;
+use crate::replaying::{apply_all, run, sum_up};
+use crate::scheduling::schedule;
+use crate::texts::{check, make_feed};
+use bk_cli::{Gaps, Job, JobFault};
+use bk_frames::{Sink, Source};
+use bk_pool::Gate;
+use std::sync::Wait;
+use std::thread::Threads;
+
+// Writes the answer of a job whose answer is read off one feed.
+fn answer_of_feed<R, G: Gate + Sync, S1: Source, S2: Source, O: Sink>(
+    rt: &R,
+    job: &Job,
+    gate: &G,
+    first: &mut S1,
+    second: &mut S2,
+    out: &mut O,
+) -> Result<End, JobFault>
+where
+    R: Threads + Wait + Sync + AllocGlobal,
+    requires group { reads_feed job.now ≡ true }
+    requires first { CanBeUsed (S1.state first.old) }
+    requires second { reads_second job.now ≡ true → CanBeUsed (S2.state second.old) }
+    requires out { CanBeUsed (O.state out.old) }
+    ensures report { IfOk result (λ end. AnswerIsOut job.now end.exit
+        (inputs (S1.state first.old).bytes (S2.state second.old).bytes)
+        (O.state out.old) (O.state out.new)) }
+    ensures gaps { IfOk result (λ end. AreGapsOf job.now
+        (inputs (S1.state first.old).bytes (S2.state second.old).bytes) end.gaps) }
+    ensures answer { IfOk result (λ end. (is_answer job.now end.exit ≡ true)
+        × (may_end job.now end.exit ≡ true)) }
+    ensures sound { OnOk result (AllWork
+        (job_devices (S1.state first.old) (S2.state second.old) (O.state out.old))
+        (job_devices (S1.state first.new) (S2.state second.new) (O.state out.new))) }
+    ensures fault { IfErr result (λ e. JobFailsBy job.now e
+        (job_devices (S1.state first.old) (S2.state second.old) (O.state out.old))
+        (job_devices (S1.state first.new) (S2.state second.new) (O.state out.new))) }
+    ensures second { reads_second job.now ≡ false → second.new ≡ second.old }
+{
+    match job {
+        Job::Run { workers, .. } => {
+            let end = run(rt, gate, *workers, first, out)?;
+            Ok(End {
+                exit: end,
+                gaps: Gaps {
+                    first: None,
+                    second: None,
+                },
+            })
+        }
+        Job::Ask { workers, asked, .. } => {
+            let end = reply(rt, gate, asked, *workers, first, out)?;
+            Ok(end)
+        }
+        Job::Frames { .. } => {
+            let end = list(rt, first, out)?;
+            Ok(End {
+                exit: end,
+                gaps: Gaps {
+                    first: None,
+                    second: None,
+                },
+            })
+        }
+        Job::Summary { workers, .. } => {
+            let end = sum_up(rt, gate, *workers, first, out)?;
+            Ok(End {
+                exit: end,
+                gaps: Gaps {
+                    first: None,
+                    second: None,
+                },
+            })
+        }
+        Job::Dag { window, .. } => {
+            let end = draw_rounds(rt, *window, first, out)?;
+            Ok(End {
+                exit: end,
+                gaps: Gaps {
+                    first: None,
+                    second: None,
+                },
+            })
+        }
+        Job::Apply { .. } => {
+            let end = apply_all(rt, first, out)?;
+            Ok(End {
+                exit: end,
+                gaps: Gaps {
+                    first: None,
+                    second: None,
+                },
+            })
+        }
+        Job::Make { .. }
+        | Job::CheckProof { .. }
+        | Job::CheckReport { .. }
+        | Job::Schedule { .. }
+        | Job::Compare { .. } => unreachable!(),
+    }
+}
+
+// Writes the answer of a job whose answer is read off a script or a proof.
+fn answer_of_text<R, S1: Source, S2: Source, O: Sink>(
+    rt: &R,
+    job: &Job,
+    first: &mut S1,
+    second: &mut S2,
+    out: &mut O,
+) -> Result<End, JobFault>
+where
+    R: Threads + Wait + Sync + AllocGlobal,
+    requires group { reads_text job.now ≡ true }
+    requires first { CanBeUsed (S1.state first.old) }
+    requires second { reads_second job.now ≡ true → CanBeUsed (S2.state second.old) }
+    requires out { CanBeUsed (O.state out.old) }
+    ensures report { IfOk result (λ end. AnswerIsOut job.now end.exit
+        (inputs (S1.state first.old).bytes (S2.state second.old).bytes)
+        (O.state out.old) (O.state out.new)) }
+    ensures gaps { IfOk result (λ end. AreGapsOf job.now
+        (inputs (S1.state first.old).bytes (S2.state second.old).bytes) end.gaps) }
+    ensures answer { IfOk result (λ end. (is_answer job.now end.exit ≡ true)
+        × (may_end job.now end.exit ≡ true)) }
+    ensures sound { OnOk result (AllWork
+        (job_devices (S1.state first.old) (S2.state second.old) (O.state out.old))
+        (job_devices (S1.state first.new) (S2.state second.new) (O.state out.new))) }
+    ensures fault { IfErr result (λ e. JobFailsBy job.now e
+        (job_devices (S1.state first.old) (S2.state second.old) (O.state out.old))
+        (job_devices (S1.state first.new) (S2.state second.new) (O.state out.new))) }
+    ensures second { reads_second job.now ≡ false → second.new ≡ second.old }
+{
+    match job {
+        Job::Make { .. } => {
+            let end = make_feed(rt, first, out)?;
+            Ok(End {
+                exit: end,
+                gaps: Gaps {
+                    first: None,
+                    second: None,
+                },
+            })
+        }
+        Job::CheckProof { root, .. } => {
+            let end = check(rt, root.as_bytes(), first, out)?;
+            Ok(End {
+                exit: end,
+                gaps: Gaps {
+                    first: None,
+                    second: None,
+                },
+            })
+        }
+        Job::Run { .. }
+        | Job::CheckReport { .. }
+        | Job::Ask { .. }
+        | Job::Frames { .. }
+        | Job::Summary { .. }
+        | Job::Dag { .. }
+        | Job::Apply { .. }
+        | Job::Schedule { .. }
+        | Job::Compare { .. } => unreachable!(),
+    }
+}
+
+// Writes the answer of a job that has two inputs.
+fn answer_of_two<R, G: Gate + Sync, S1: Source, S2: Source, O: Sink>(
+    rt: &R,
+    job: &Job,
+    gate: &G,
+    first: &mut S1,
+    second: &mut S2,
+    out: &mut O,
+) -> Result<End, JobFault>
+where
+    R: Threads + Wait + Sync + AllocGlobal,
+    requires group { reads_second job.now ≡ true }
+    requires first { CanBeUsed (S1.state first.old) }
+    requires second { reads_second job.now ≡ true → CanBeUsed (S2.state second.old) }
+    requires out { CanBeUsed (O.state out.old) }
+    ensures report { IfOk result (λ end. AnswerIsOut job.now end.exit
+        (inputs (S1.state first.old).bytes (S2.state second.old).bytes)
+        (O.state out.old) (O.state out.new)) }
+    ensures gaps { IfOk result (λ end. AreGapsOf job.now
+        (inputs (S1.state first.old).bytes (S2.state second.old).bytes) end.gaps) }
+    ensures answer { IfOk result (λ end. (is_answer job.now end.exit ≡ true)
+        × (may_end job.now end.exit ≡ true)) }
+    ensures sound { OnOk result (AllWork
+        (job_devices (S1.state first.old) (S2.state second.old) (O.state out.old))
+        (job_devices (S1.state first.new) (S2.state second.new) (O.state out.new))) }
+    ensures fault { IfErr result (λ e. JobFailsBy job.now e
+        (job_devices (S1.state first.old) (S2.state second.old) (O.state out.old))
+        (job_devices (S1.state first.new) (S2.state second.new) (O.state out.new))) }
+    ensures second { reads_second job.now ≡ false → second.new ≡ second.old }
+{
+    match job {
+        Job::CheckReport { workers, .. } => {
+            let end = check_claim(rt, gate, *workers, first, second, out)?;
+            Ok(End {
+                exit: end,
+                gaps: Gaps {
+                    first: None,
+                    second: None,
+                },
+            })
+        }
+        Job::Schedule { workers, .. } => {
+            let end = schedule(rt, *workers, first, second, out)?;
+            Ok(End {
+                exit: end,
+                gaps: Gaps {
+                    first: None,
+                    second: None,
+                },
+            })
+        }
+        Job::Compare { .. } => {
+            let end = compare_feeds(rt, gate, first, second, out)?;
+            Ok(end)
+        }
+        Job::Run { .. }
+        | Job::Make { .. }
+        | Job::CheckProof { .. }
+        | Job::Ask { .. }
+        | Job::Frames { .. }
+        | Job::Summary { .. }
+        | Job::Dag { .. }
+        | Job::Apply { .. } => unreachable!(),
+    }
+}
+
+/// Writes the answer of a job.
+pub(crate) fn answer<R, G: Gate + Sync, S1: Source, S2: Source, O: Sink>(
+    rt: &R,
+    job: &Job,
+    gate: &G,
+    first: &mut S1,
+    second: &mut S2,
+    out: &mut O,
+) -> Result<End, JobFault>
+where
+    R: Threads + Wait + Sync + AllocGlobal,
+    requires first { CanBeUsed (S1.state first.old) }
+    requires second { reads_second job.now ≡ true → CanBeUsed (S2.state second.old) }
+    requires out { CanBeUsed (O.state out.old) }
+    ensures report { IfOk result (λ end. AnswerIsOut job.now end.exit
+        (inputs (S1.state first.old).bytes (S2.state second.old).bytes)
+        (O.state out.old) (O.state out.new)) }
+    ensures gaps { IfOk result (λ end. AreGapsOf job.now
+        (inputs (S1.state first.old).bytes (S2.state second.old).bytes) end.gaps) }
+    ensures answer { IfOk result (λ end. (is_answer job.now end.exit ≡ true)
+        × (may_end job.now end.exit ≡ true)) }
+    ensures sound { OnOk result (AllWork
+        (job_devices (S1.state first.old) (S2.state second.old) (O.state out.old))
+        (job_devices (S1.state first.new) (S2.state second.new) (O.state out.new))) }
+    ensures fault { IfErr result (λ e. JobFailsBy job.now e
+        (job_devices (S1.state first.old) (S2.state second.old) (O.state out.old))
+        (job_devices (S1.state first.new) (S2.state second.new) (O.state out.new))) }
+    ensures second { reads_second job.now ≡ false → second.new ≡ second.old }
+{
+    match job {
+        Job::Run { .. }
+        | Job::Ask { .. }
+        | Job::Frames { .. }
+        | Job::Summary { .. }
+        | Job::Dag { .. }
+        | Job::Apply { .. } => answer_of_feed(rt, job, gate, first, second, out),
+        Job::Make { .. } | Job::CheckProof { .. } => answer_of_text(rt, job, first, second, out),
+        Job::CheckReport { .. } | Job::Schedule { .. } | Job::Compare { .. } => answer_of_two(
+            rt, job, gate, first, second, out,
+        ),
+    }
+}
