@@ -50,7 +50,7 @@ def build_in_copy(room, folder, libraries):
     """Proves and builds the program in a folder of bench/ for the processor that the launcher builds for, in a scratch
     copy of the repository, and returns its path."""
     scratch = os.path.join(room, "repository")
-    shutil.copytree(ROOT, scratch, symlinks=True, ignore=shutil.ignore_patterns(".git", "build", "incremental", "rooms"))
+    shutil.copytree(ROOT, scratch, symlinks=True, ignore=shutil.ignore_patterns(".git", "build", "incremental"))
     crate = os.path.join(scratch, "crates", "bk_bench")
     shutil.rmtree(crate)
     shutil.copytree(os.path.join(ROOT, "bench", folder), crate)
