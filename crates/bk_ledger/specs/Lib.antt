@@ -2,3 +2,4 @@ pub mod Ledger
 pub mod Executing
 pub mod private
 pub mod Naming
+pub mod Touched

@@ -1,3 +1,2 @@
 pub mod Slices
-pub mod Touched
 pub mod Widened

@@ -21,6 +21,4 @@ pub use batches::Batches;
 pub use bk_pool::{ExecFault, Gate, Open};
 pub use ledger::Ledger;
 pub use summary::Summary;
-
-#[cfg(test)]
-mod tests;
+pub use touched::Touched;

@@ -5,7 +5,7 @@ ghost use Rattle.bk_frames.specs.declared.version.Version.TheVariants.{One, Two}
 ghost use Rattle.bk_rules.specs.Ledger.{are_covered};
 ghost use Rattle.bk_rules.specs.Part.{are_held};
 ghost use Rattle.bk_ledger.specs.private.Slices.{IsAheadOf, IsNextFrom, IsNoneAhead, IsPlannedOn, IsReadOf, IsReady, counts_of, is_plannable, txs_of};
-ghost use Rattle.bk_ledger.specs.private.Touched.{AreTouched};
+ghost use Rattle.bk_ledger.specs.Touched.{AreTouched};
 
 use crate::batches::Batches;
 use crate::held::holds_all;

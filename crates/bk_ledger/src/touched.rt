@@ -4,19 +4,19 @@ ghost use Rattle.std.specs.Prelude.{◌≡◌, ◌^◌, ◌<◌, true, ℕ, List
 ghost use Rattle.std.specs.List.{list_all};
 ghost use Rattle.bk_frames.specs.Numbers.{is_ascending};
 ghost use Rattle.bk_rules.specs.Part.{AreIndexes, ids_at};
-ghost use Rattle.bk_ledger.specs.private.Touched.{AreTouched};
+ghost use Rattle.bk_ledger.specs.Touched.{AreTouched};
 
 use bk_conflicts::SLOTS_END;
 use bk_rules::Ids;
 use std::alloc::{AllocError, Global};
 
-/// Some slots of a ledger.
+/// Some slots of a ledger: those over which a slice of its batches is executed.
 #[derive(Drop)]
-pub(crate) struct Touched {
+pub struct Touched {
     /// Their indexes among all, in ascending order.
-    pub(crate) list: Vec<u32>,
+    pub list: Vec<u32>,
     /// Their ids.
-    pub(crate) ids: Ids,
+    pub ids: Ids,
 }
 
 // Slots by their marks: one bit for each slot of a ledger, 64 in a word.
@@ -29,10 +29,10 @@ struct Marks {
 
 impl Touched {
     /// The slots at these indexes, which come in any order and more than once. Each is replaced by the index of its slot
-    /// among those that are found; a number that is no index stays none.
+    /// among those that are found; a number that is no index stays none. `AllocError` where memory runs out.
     ///
-    /// Nothing here is believed: `Ids::hold` says whether the slots that are found are enough.
-    pub(crate) fn near(alloc: Global, ids: &Ids, near: &mut [u32]) -> Result<Touched, AllocError>
+    /// Nothing here is believed: `Ids::hold` says whether the slots that are found are enough. O(slots / 64 + indexes).
+    pub fn near(alloc: Global, ids: &Ids, near: &mut [u32]) -> Result<Touched, AllocError>
         ensures { IfOk result (AreTouched ids.now) }
     {
         let mut marks = Marks {
@@ -45,8 +45,8 @@ impl Touched {
         Touched::of(alloc, ids, list)
     }
 
-    /// All slots.
-    pub(crate) fn all(alloc: Global, ids: &Ids) -> Result<Touched, AllocError>
+    /// All slots. `AllocError` where memory runs out. O(slots).
+    pub fn all(alloc: Global, ids: &Ids) -> Result<Touched, AllocError>
         requires { length ids.now < 2 ^ 31 }
         ensures touched { IfOk result (AreTouched ids.now) }
         ensures all { IfOk result (λ t. t.ids ≡ ids.now) }
