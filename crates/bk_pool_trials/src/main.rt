@@ -2,7 +2,8 @@
 //! transactions one at a time, or with one that was computed by hand.
 //!
 //! It draws lists, makes plans, gives wrong hints, loses holds, has workers wait for each other, cuts batches into slices,
-//! looks at the words of banks, and takes lists of events. It names on standard error what failed. The last line is `N passed, M failed`.
+//! looks at the words of banks, takes lists of events, and finds which slots are touched. It names on standard error what
+//! failed. The last line is `N passed, M failed`.
 #![tactic(auto)]
 
 mod cases;
@@ -23,6 +24,7 @@ mod plans;
 mod schedules;
 mod slices;
 mod tally;
+mod touching;
 mod waits;
 mod words;
 
@@ -38,6 +40,7 @@ use crate::plans::try_plans;
 use crate::schedules::try_schedules;
 use crate::slices::try_all_slices;
 use crate::tally::Tally;
+use crate::touching::try_touching;
 use crate::words::try_words;
 use anyhow::{Result, bail};
 use std::sync::Wait;
@@ -59,6 +62,7 @@ where
     try_passes(rt, tally);
     try_schedules(rt, tally);
     try_machines(rt, tally);
+    try_touching(rt, tally);
 }
 
 fn main(rt: HostRuntime) -> Result<()> {
