@@ -27,4 +27,4 @@ pub use line::Line;
 pub use page::{Page, push_line};
 pub use proof::{Proof, proof_of};
 pub use report::{Parts, write_run};
-pub use sheets::{Sheets, sheets_for};
+pub use sheets::{Sheets, WORTH_THREADS, sheets_for};

@@ -1,12 +1,13 @@
 //! Text that several threads make at once.
 
-ghost use Rattle.std.specs.Prelude.{◌≡◌, ◌+◌, ◌*◌, ◌^◌, ◌<◌, ◌≤◌, ◌++◌, drop, length, take, OnOk};
+ghost use Rattle.std.specs.Prelude.{◌≡◌, ◌+◌, ◌*◌, ◌^◌, ◌<◌, ◌≤◌, ◌++◌, drop, length, take, OnOk, IfOk, MatchOption};
 ghost use Rattle.std.specs.Thread.{IsSync};
 ghost use Rattle.bk_frames.specs.Device.{CanBeUsed};
 ghost use Rattle.bk_report.specs.Lines.{text_of};
 ghost use Rattle.bk_report.specs.Pages.{Written, size_of};
 ghost use Rattle.bk_report.specs.RunLines.{rows_lines};
 ghost use Rattle.bk_report.specs.Sheets.{IsPiece};
+ghost use Rattle.bk_report.specs.declared.sheets.TheConstants.{WORTH_THREADS};
 
 use crate::page::{LINE, Page};
 use crate::rows::put_lines;
@@ -24,8 +25,8 @@ const LINES: usize = 16_384;
 // How many lines are made at once.
 const ROUND: usize = 4 * LINES;
 
-// Fewer lines are not worth the start of threads.
-const WORTH_THREADS: usize = 4_096;
+/// Fewer lines are not worth the start of threads.
+pub const WORTH_THREADS: usize = 4_096;
 
 // The text of some lines.
 #[derive(Drop)]
@@ -100,8 +101,12 @@ fn four_sheets(alloc: Global) -> Result<Four, AllocError> {
     Ok(Four { a, b, c, d })
 }
 
-/// Room for the text of this many lines, `None` where they are not worth several threads.
-pub fn sheets_for(alloc: Global, lines: usize) -> Result<Option<Sheets>, AllocError> {
+/// Room for the text of this many lines, `None` where they are not worth several threads: fewer than [`WORTH_THREADS`].
+/// `AllocError` where memory runs out.
+pub fn sheets_for(alloc: Global, lines: usize) -> Result<Option<Sheets>, AllocError>
+    ensures { IfOk result (λ found. MatchOption found (lines < WORTH_THREADS)
+        (λ _. WORTH_THREADS ≤ lines)) }
+{
     if lines < WORTH_THREADS {
         return Ok(None);
     }
