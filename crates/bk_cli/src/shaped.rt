@@ -1,8 +1,8 @@
 //! A command of which a contract knows its shape alone: its arguments and its subcommands.
 //!
 //! A function that owns a `Command` or an `Arg` owns each of its fields, and all of them are in every step of its proof. Of a
-//! `Shaped` or a `Plain` it owns one value. No method fails: a `?` would be a way out at which all that is owned is let go.
-//! Where memory runs out the command is lost, and only `into_command` tells it.
+//! `Shaped` or a `Plain` it owns one value. No method fails: a `?` would be one more exit, at which all that is owned is dropped.
+//! If memory runs out, the command is lost, and `into_command` reports it.
 
 ghost use Rattle.std.specs.Prelude.{◌≡◌, Some, true, false, IfOk, IfSome};
 ghost use Rattle.clap.specs.Words.{App, Rule, app_of, new_app, new_rule, with_rule, with_subcommand};
