@@ -76,7 +76,8 @@ fn rounds_arg<'a>(alloc: Global) -> Plain<'a>
 
 // The command with the options that every command has.
 fn noted<'a>(alloc: Global, command: Shaped<'a>) -> Shaped<'a>
-    ensures { (a : App) → IfSome command.entry (λ c. c ≡ a) → IfSome result (λ c. c ≡ noted_line a) }
+    ensures { (a : App) → IfSome command.entry (λ c. c ≡ a)
+        → IfSome result (λ c. c ≡ noted_line a) }
 {
     command
         .arg(Plain::flag(alloc, "progress", help::PROGRESS))

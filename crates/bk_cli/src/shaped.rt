@@ -93,7 +93,8 @@ impl<'a> Model for Shaped<'a> {
 
     ghost view = { λ s. option_map app_of s.command };
 
-    ghost invariant = { λ s. unwrap_or (option_map (λ c. (out-Command c).has_globals) s.command) false ≡ false };
+    ghost invariant = { λ s. unwrap_or (option_map (λ c. (out-Command c).has_globals) s.command) false
+        ≡ false };
 }
 
 // A command of this name and help, without arguments.
@@ -157,7 +158,8 @@ impl<'a> Shaped<'a> {
 
     /// The command itself.
     pub fn into_command(self) -> Result<Command<'a>, AllocError>
-        ensures line { (a : App) → IfSome self.entry (λ c. c ≡ a) → IfOk result (λ r. app_of r ≡ a) }
+        ensures line { (a : App) → IfSome self.entry (λ c. c ≡ a)
+            → IfOk result (λ r. app_of r ≡ a) }
         ensures local { IfOk result (λ r. (out-Command r).has_globals ≡ false) }
     {
         self.command.ok_or(AllocError)
