@@ -135,7 +135,7 @@ pub(crate) struct Devices {
     pub(crate) out: Manner,
 }
 
-/// Devices that do not fail, and move at most so many bytes a call.
+/// Devices that do not fail, and move at most this many bytes a call.
 pub(crate) fn all_good(most: usize) -> Devices {
     Devices {
         first: good(most),
@@ -224,7 +224,7 @@ where
     )
 }
 
-/// Whether a job of one file does, over devices that do not fail, and move at most so many bytes a call.
+/// Whether a job of one file does, over devices that do not fail, and move at most this many bytes a call.
 pub(crate) fn leaves_of_one<R>(
     rt: &R,
     job: &Job,
