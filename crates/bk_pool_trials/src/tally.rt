@@ -29,7 +29,7 @@ impl Tally {
         }
     }
 
-    /// Counts as failed what could not be made, for want of memory.
+    /// Counts as failed what could not be made, as where memory ran out.
     pub(crate) fn miss<R: Eprint>(&mut self, rt: &R) {
         self.note(rt, "something could not be made", false);
     }

@@ -1,7 +1,10 @@
 //! Which slots of a ledger are touched, against what was worked out by hand.
 
+ghost use Rattle.std.specs.Prelude.{◌≡◌};
+ghost use Rattle.bk_frames.specs.Numbers.{is_ascending};
+
 use crate::tally::Tally;
-use anyhow::Result;
+use anyhow::{Result, bail};
 use bk_ledger::Touched;
 use bk_rules::Ids;
 use std::alloc::Global;
@@ -20,11 +23,21 @@ const IDS: [u64; 7] = [0, 5, 63, 64, 127, 128, 199];
 // The index of each among those.
 const RANKS: [u32; 9] = [5, 1, 3, u32::MAX, 2, 1, 4, 6, 0];
 
+// Whether each id is below the one after it.
+fn ascends(list: &[u64]) -> bool
+    ensures { result ≡ is_ascending list.now }
+{
+    list.is_sorted_by(|a, b| a < b)
+}
+
 // The ids of all slots: 0 to 199.
 fn ids_of_slots(alloc: Global) -> Result<Ids> {
     let mut list = Vec::new(alloc);
     for id in 0..SLOTS as u64 {
         list.push(id)?;
+    }
+    if !ascends(&list) {
+        bail!("the ids do not ascend");
     }
     Ok(Ids::new(alloc, list)?)
 }
