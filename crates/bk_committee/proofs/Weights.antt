@@ -1,20 +1,19 @@
 -- Weights: those of version One are 1 each, those of version Two are read of four bytes each, and how much they add up to.
-use Rattle.std.proofs.Common.{◌≡◌, ℕ, zero, suc, ◌+◌, ◌*◌, ◌^◌, ◌<◌, ◌≤◌, Bool, true, ltb, ◌&&◌, List, [], ◌∷◌, ◌++◌, length, take, drop, map, sum, refl, sym, ap, ◌∙◌, arith}
+use Rattle.std.proofs.Common.{◌≡◌, ℕ, zero, suc, ◌+◌, ◌*◌, ◌^◌, ◌<◌, ◌≤◌, true, ltb, List, [], ◌∷◌, ◌++◌, length, take, drop, map, sum, refl, sym, ap, ◌∙◌, arith}
 use Rattle.std.specs.Prelude.{replicate}
 use Rattle.std.specs.List.{AllByRecursion, flat_map, list_all}
 use Rattle.std.specs.Int.{w32, to_be_bytes, from_be_bytes}
 use Rattle.std.specs.Simd.{first_chunks}
 use Rattle.std.proofs.lemmas.Bool.{and_parts, and_from, lt-ltb, ltb-true}
-use Rattle.std.proofs.lemmas.List.{length-map, length-append, length-take-le, length-drop, take-append-drop, take_at, drop_at, nil_from_length}
+use Rattle.std.proofs.lemmas.List.{length-append, length-take-le, length-drop, take-append-drop, take_at, drop_at, nil_from_length}
 use Rattle.std.proofs.lemmas.List.Concat.{flat_map-cons}
 use Rattle.std.proofs.lemmas.List.Sums.{sum_by-cons}
 use Rattle.bk_frames.specs.Numbers.{IsBytes}
-use Rattle.bk_frames.proofs.FieldLemmas.{IsWide, wide32}
+use Rattle.bk_frames.proofs.FieldLemmas.{wide32}
 use Rattle.bk_frames.proofs.FieldLemmas.{IsBytes-take, IsBytes-drop}
 use Rattle.bk_frames.specs.declared.version.Version.{Version}
 use Rattle.bk_frames.specs.declared.version.Version.TheVariants as version
-use Rattle.bk_committee.specs.Payload.{IsWeight, weights_of, bad_weights}
-use Rattle.bk_committee.proofs.Chunks.{Sized, length-pieces, sized-pieces}
+use Rattle.bk_committee.specs.Payload.{IsWeight}
 
 -- the number that four bytes are
 abbrev pub number : List ℕ → ℕ

@@ -24,7 +24,7 @@ use Rattle.bk_results.specs.declared.fault.Fault.TheVariants as fault
 use Rattle.bk_follow.specs.Agreement.{Agree, AgreeInOrder, OneBeginsFor, HaveOneSetup, frames_together, HaveNoStop, HaveStop, settled_in, OfBoth, FollowersAgree, FollowersDiffer}
 use Rattle.bk_results.specs.Devices.{AreFeed}
 use Rattle.bk_follow.specs.Outcomes.{IsOutcomeOf}
-use Rattle.bk_compare.specs.FeedAgreement.{FeedsAgree, FeedsCompared, FeedsDiffer, OfTheirFeeds, IfBothKnown, Sources, BothWork, FollowFails, ComparisonStops, sources}
+use Rattle.bk_compare.specs.FeedAgreement.{FeedsAgree, FeedsCompared, FeedsDiffer, OfTheirFeeds, IfBothKnown, Sources, FollowFails, ComparisonStops, sources}
 use Rattle.bk_compare.specs.declared.compared.Compared.{Compared}
 use Rattle.bk_follow.specs.Gaps.{IsGap, IsGapIn, missing_in}
 use Rattle.bk_follow.specs.Finishing.{OfFeed, Closes, CloseFails}

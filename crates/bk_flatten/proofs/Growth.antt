@@ -1,12 +1,12 @@
 -- Where one held set is part of another, its batches begin the other's.
-use Rattle.std.proofs.Common.{◌≡◌, ◌≢◌, ℕ, zero, suc, ◌+◌, ◌<◌, ◌≤◌, Bool, true, false, cond, eqb, List, [], ◌∷◌, ◌++◌, length, Option, Some, None, refl, sym, ap, subst, ◌∙◌, ◌⊎◌, inl, inr, ⊎_elim, arith, length-append, append_assoc}
-use Rattle.std.specs.Prelude.{reverse, not, ◌&&◌, filter, option_map, unwrap_or}
+use Rattle.std.proofs.Common.{◌≡◌, ℕ, ◌+◌, Bool, true, false, cond, eqb, List, [], ◌∷◌, ◌++◌, Option, Some, None, refl, sym, ap, subst, ◌∙◌, ◌⊎◌, ⊎_elim}
+use Rattle.std.specs.Prelude.{reverse, not, filter, option_map, unwrap_or}
 use Rattle.std.specs.Str.{bytes_eq}
 use Rattle.std.specs.List.{Contains, flat_map, find}
 use Rattle.std.proofs.lemmas.Slice.Eq.{bytes_eq-Decides}
-use Rattle.std.proofs.lemmas.Bool.{and_parts, and_from, eqb-true}
+use Rattle.std.proofs.lemmas.Bool.{and_parts, and_from}
 use Rattle.std.proofs.lemmas.Bool.Decides.{Decides-eqb}
-use Rattle.std.proofs.lemmas.List.Elements.{filter-append, Contains-append_cases}
+use Rattle.std.proofs.lemmas.List.Elements.{filter-append}
 use Rattle.std.proofs.lemmas.List.Concat.{flat_map-append, flat_map-cons}
 use Rattle.bk_committee.specs.Sizes.{Sizes}
 use Rattle.bk_cert.specs.Node.{Node}
@@ -18,7 +18,7 @@ use Rattle.bk_rounds.proofs.Admitted.{admitted_held}
 use Rattle.bk_cert.proofs.Lists.{none_in_nil, contains_cases, contains_first, contains_later}
 use Rattle.bk_commit.specs.Growth.{IsPartOf, IsPrefix}
 use Rattle.bk_evidence.specs.Batches.{Batch, AreApart, payload_of}
-use Rattle.bk_flatten.specs.Batches.{stands, named_at, once, Payloads, cons_payload, before_missing, batches_of}
+use Rattle.bk_flatten.specs.Batches.{stands, named_at, once, cons_payload, before_missing, batches_of}
 use Rattle.bk_flatten.specs.Order.{IsWholeOrder}
 use Rattle.bk_flatten.proofs.Orders.{order_present, whole_begins}
 

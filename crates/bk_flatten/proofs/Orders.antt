@@ -1,5 +1,5 @@
 -- The order of a larger held set goes on where that of a smaller one ends.
-use Rattle.std.proofs.Common.{◌≡◌, ℕ, zero, suc, ◌⊎◌, inl, inr, List, [], ◌∷◌, ◌++◌, ◌↔◌, refl, sym, ap, ◌∙◌, subst, ⊎_elim, arith, append_assoc, reverse}
+use Rattle.std.proofs.Common.{◌≡◌, ◌⊎◌, List, [], ◌∷◌, ◌++◌, sym, ap, ◌∙◌, subst, ⊎_elim, append_assoc, reverse}
 use Rattle.std.specs.List.{Contains}
 use Rattle.std.proofs.lemmas.List.{append-nil}
 use Rattle.std.proofs.lemmas.List.Elements.{Contains-append_cases}
@@ -10,11 +10,9 @@ use Rattle.bk_cert.specs.declared.place.CertRef.{CertRef}
 use Rattle.bk_rounds.specs.Admission.{IsPresent}
 use Rattle.bk_cert.proofs.Listed.{one_listing, same_listing}
 use Rattle.bk_cert.proofs.Lists.{none_in_nil}
-use Rattle.bk_cert.specs.Place.{Lists}
 use Rattle.bk_commit.specs.Ordering.{InHistory, IsWayBack, IsCommittedBack}
 use Rattle.bk_commit.specs.Growth.{IsPartOf, IsPrefix}
 use Rattle.bk_commit.proofs.Grown.{history_more, history_back, committed_more, walk_present}
-use Rattle.bk_commit.proofs.Settled.{begin_each_other}
 use Rattle.bk_flatten.specs.Order.{IsOrderBack, IsOrder, IsWholeOrder}
 
 -- the order of a way back is one

@@ -1,10 +1,9 @@
 -- The list of batches, step by step.
-use Rattle.std.proofs.Common.{◌≡◌, ◌≢◌, ℕ, zero, suc, ◌+◌, ◌<◌, ◌≤◌, Bool, true, false, cond, List, [], ◌∷◌, ◌++◌, length, drop, take, get_or, map, Option, Some, None, refl, sym, ap, subst, ◌∙◌, ◌⊎◌, inl, inr, ⊎_elim, arith}
-use Rattle.std.specs.Prelude.{not, ◌||◌, filter, fold, slice_get, slice_index_or, option_map, unwrap_or, IfSome}
+use Rattle.std.proofs.Common.{◌≡◌, ℕ, zero, suc, ◌+◌, ◌<◌, ◌≤◌, Bool, true, false, cond, List, [], ◌∷◌, ◌++◌, length, drop, take, get_or, Option, Some, None, refl, sym, ap, subst, ◌∙◌, arith}
+use Rattle.std.specs.Prelude.{not, ◌||◌, filter, fold, slice_get, option_map, unwrap_or, IfSome}
 use Rattle.std.specs.Str.{bytes_eq}
-use Rattle.std.specs.List.{Contains, flat_map, find, position, list_any}
+use Rattle.std.specs.List.{flat_map, position, list_any}
 use Rattle.std.proofs.lemmas.Slice.Eq.{bytes_eq-Decides}
-use Rattle.std.proofs.lemmas.Bool.{both_ways}
 use Rattle.std.proofs.lemmas.List.{append-nil, append_assoc, take_more, length-append}
 use Rattle.std.proofs.lemmas.List.Sums.{fold-append}
 use Rattle.std.proofs.lemmas.List.Concat.{flat_map-append, flat_map-cons}
@@ -12,7 +11,6 @@ use Rattle.std.proofs.lemmas.Option.{slice_get_past, slice_get-get_or}
 use Rattle.std.proofs.lemmas.List.Elements.{filter-append}
 use Rattle.bk_committee.specs.Sizes.{Sizes}
 use Rattle.bk_cert.specs.Node.{Node}
-use Rattle.bk_cert.specs.Place.{place_of}
 use Rattle.bk_cert.specs.Clear.{IsClear}
 use Rattle.bk_cert.specs.declared.place.CertRef.{CertRef}
 use Rattle.bk_rounds.specs.Admission.{StandsAt}
@@ -20,7 +18,7 @@ use Rattle.bk_rounds.proofs.Admitted.{admitted_held}
 use Rattle.bk_evidence.specs.declared.batches.BatchRef.{BatchRef}
 use Rattle.bk_evidence.specs.Batches.{Batch, batch_with, has_digest, payload_of}
 use Rattle.bk_evidence.proofs.Indexing.{find_none, find_position, position_push_some}
-use Rattle.bk_flatten.specs.Batches.{named_at, stands, once, Listed, listed_with, AreFound, IsFoundWhole, payload_at, payloads_of, Payloads, cons_payload, before_missing, batches_of, digests_of}
+use Rattle.bk_flatten.specs.Batches.{named_at, stands, once, Listed, listed_with, AreFound, IsFoundWhole, payload_at, payloads_of, cons_payload, before_missing}
 use Rattle.bk_flatten.specs.private.Listing.{with_digest, with_digests}
 use Rattle.bk_flatten.proofs.Listing.{same_back}
 use Rattle.bk_flatten.proofs.Growth.{finds, stands_there, place_is}

@@ -1,5 +1,5 @@
 -- The batches of an order of certificates.
-use Rattle.std.specs.Prelude.{◌≡◌, ℕ, Bool, List, [], ◌∷◌, length, map, slice_get, slice_index_or, Option, Some, None, IfSome, option_map, unwrap_or, filter, not, ◌==◌, ◌&&◌, if◌then◌else◌}
+use Rattle.std.specs.Prelude.{◌≡◌, ℕ, Bool, List, [], ◌∷◌, length, map, slice_get, slice_index_or, Option, Some, None, IfSome, option_map, unwrap_or, filter, not, ◌==◌, ◌&&◌}
 use Rattle.std.specs.List.{flat_map, find, position}
 use Rattle.std.specs.Str.{bytes_eq}
 use Rattle.bk_cert.specs.Node.{Node}

@@ -1,11 +1,11 @@
 -- What the definitions of the order and of its batches say together.
-use Rattle.std.specs.Prelude.{◌≡◌, ℕ, List, [], ◌∷◌, ◌++◌, Contains, ◌↔◌, reverse}
+use Rattle.std.specs.Prelude.{◌≡◌, ℕ, List, ◌++◌, Contains, ◌↔◌}
 use Rattle.bk_committee.specs.Sizes.{Sizes}
 use Rattle.bk_cert.specs.Node.{Node}
 use Rattle.bk_cert.specs.Clear.{IsClear}
 use Rattle.bk_cert.specs.declared.place.CertRef.{CertRef}
 use Rattle.bk_rounds.specs.Admission.{IsPresent}
-use Rattle.bk_commit.specs.Ordering.{InHistory, IsWayBack, IsCommitted}
+use Rattle.bk_commit.specs.Ordering.{InHistory, IsWayBack}
 use Rattle.bk_commit.specs.Growth.{IsPartOf, IsPrefix}
 use Rattle.bk_flatten.specs.Order.{IsOrder, IsOrderBack, IsWholeOrder}
 use Rattle.bk_evidence.specs.Batches.{Batch, AreApart}

@@ -17,7 +17,6 @@ use Rattle.bk_order.specs.Frames.{AreCerts}
 use Rattle.bk_order.specs.Intake.{HasAsOrder, IsKeptOf, Taken, HasTaken}
 use Rattle.bk_order.specs.declared.stop.Stop.{Stop}
 use Rattle.bk_order.specs.declared.stop.Stop.TheVariants as stop
-use Rattle.bk_cert.specs.declared.place.CertRef.{CertRef}
 use Rattle.bk_order.proofs.Agreeing.{parts_agree}
 use Rattle.bk_order.proofs.Sets.{none_in_part}
 use Rattle.bk_rules.specs.declared.receipt.Receipt.{Receipt}

@@ -1,5 +1,5 @@
 -- When two feeds agree, and two Followers; and when they differ.
-use Rattle.std.specs.Prelude.{◌≡◌, ◌≤◌, ◌⊎◌, ℕ, List, ◌++◌, length, Option, Some, None}
+use Rattle.std.specs.Prelude.{◌≡◌, ◌≤◌, ◌⊎◌, ℕ, List, ◌++◌, length, Option, Some}
 use Rattle.bk_frames.specs.declared.version.Version.{Version}
 use Rattle.bk_frames.specs.Feed.{Frame, FeedValue, feed_of, genesis_of}
 use Rattle.bk_commit.specs.Growth.{IsPrefix}

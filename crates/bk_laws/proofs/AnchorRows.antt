@@ -1,5 +1,5 @@
 -- There are rows of the anchors.
-use Rattle.std.proofs.Common.{◌≡◌, ℕ, zero, suc, ◌+◌, ◌*◌, ◌/◌, ◌%◌, ◌<◌, ◌≤◌, List, [], ◌∷◌, ◌++◌, map, Option, Some, None, refl, sym, ap, subst, ◌∙◌, inl, inr, ⊎_elim, arith, add-one}
+use Rattle.std.proofs.Common.{◌≡◌, ℕ, zero, suc, ◌+◌, ◌*◌, ◌/◌, ◌%◌, ◌<◌, List, [], ◌∷◌, ◌++◌, map, Option, Some, None, refl, subst, ⊎_elim, arith, add-one}
 use Rattle.std.specs.List.{Contains}
 use Rattle.std.proofs.lemmas.Bool.{cases_lt}
 use Rattle.bk_committee.specs.Sizes.{Sizes, faulty, leader}
@@ -9,7 +9,7 @@ use Rattle.bk_cert.specs.declared.place.CertRef.{CertRef}
 use Rattle.bk_cert.proofs.Lists.{in_map}
 use Rattle.bk_rounds.specs.Admission.{IsPresent}
 use Rattle.bk_rounds.specs.Links.{Links}
-use Rattle.bk_rounds.specs.Votes.{IsAnchor, IsAnchorOf, VotesIn}
+use Rattle.bk_rounds.specs.Votes.{IsAnchor, VotesIn}
 use Rattle.bk_rounds.proofs.Tallied.{anchor_place, led_in, link_vote, next_of, vote_link, voter_present}
 use Rattle.bk_commit.specs.Ordering.{IsCommitted}
 use Rattle.bk_views.specs.Anchors.{AreRows, AreVotesIn, IsCommittedIn, IsPassed, IsRowOf, IsState}

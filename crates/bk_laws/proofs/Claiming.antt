@@ -1,11 +1,11 @@
 -- Each claim has one verdict, and it is good exactly where the claim is the report.
-use Rattle.std.proofs.Common.{◌≡◌, ◌≢◌, ℕ, zero, suc, ◌<◌, List, [], ◌∷◌, take, Option, Some, None, refl, sym, ap, subst, ◌∙◌, ◌⊎◌, inl, inr, ⊎_elim, slice_get, arith}
+use Rattle.std.proofs.Common.{◌≡◌, ℕ, zero, suc, ◌<◌, List, [], ◌∷◌, take, Some, refl, sym, ap, subst, ◌∙◌, ◌⊎◌, inl, inr, ⊎_elim, slice_get, arith}
 use mathlib.Core.Logic.{dite}
 use native.Mathlib.Decide.{ℕ_discrete}
 use Rattle.bk_results.specs.declared.status.Status.{Status}
 use Rattle.bk_results.specs.declared.status.Status.TheVariants as status
 use Rattle.bk_follow.specs.RunReport.{IsReport}
-use Rattle.bk_replay.specs.RunLaws.{Answer, reported}
+use Rattle.bk_replay.specs.RunLaws.{reported}
 use Rattle.bk_replay.proofs.RunLaws.{one_answer}
 use Rattle.bk_claim.specs.Claims.{FirstDiffer, IsVerdict, ShowsVerdict, difference, good}
 use Rattle.bk_claim.specs.declared.verdict.Verdict.{Verdict}

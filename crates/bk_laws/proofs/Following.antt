@@ -1,11 +1,10 @@
 -- What a Follower finds at one moment and at a later one.
-use Rattle.std.proofs.Common.{◌≡◌, ◌∙◌, ℕ, List, [], ◌∷◌, ◌++◌, sym, ap, subst, refl, Option, Some, None, ◌<◌, ◌≤◌, length, arith, append_assoc}
-use Rattle.std.specs.Prelude.{Contains}
+use Rattle.std.proofs.Common.{◌≡◌, ◌∙◌, ℕ, List, [], ◌∷◌, ◌++◌, sym, ap, subst, refl, Option, Some, None, ◌<◌, length, arith, append_assoc}
 use Rattle.std.proofs.lemmas.List.Elements.{Contains-append_left}
 use Rattle.bk_frames.specs.declared.fault.FeedFault.{FeedFault}
 use Rattle.bk_frames.specs.declared.version.Version.{Version}
 use Rattle.bk_frames.specs.Cutting.{Cut, Cuts, Reaches, RefusesPiece, ShowsFault, fresh}
-use Rattle.bk_frames.specs.Feed.{Frame, FeedValue, HasFault, feed_of, frame_text, genesis_of, magic, spelling}
+use Rattle.bk_frames.specs.Feed.{Frame, HasFault, feed_of, genesis_of, magic}
 use Rattle.bk_frames.specs.Pulling.{ByCode}
 use Rattle.bk_frames.proofs.CutJoining.{bytes_so_far, fault_is_the_feeds, none_before_magic}
 use Rattle.bk_frames.proofs.FrameFaults.{by_code}
@@ -16,12 +15,11 @@ use Rattle.bk_commit.specs.Growth.{IsPrefix, IsPartOf}
 use Rattle.bk_order.specs.Orders.{IsOrderOf, Ordered}
 use Rattle.bk_order.specs.Stops.{HasNoStop}
 use Rattle.bk_order.proofs.Sets.{frames_grow}
-use Rattle.bk_rules.specs.declared.receipt.Receipt.{Receipt}
 use Rattle.bk_rules.specs.Fold.{receipts_of}
 use Rattle.bk_tx.specs.Batches.{transactions_of}
-use Rattle.bk_follow.specs.Follower.{BookValue, Executed, Followed, Follows, FollowsBy, HasCome, IsBookOf, IsCurrent, IsExecuted, IsSettled, IsSettledBy, OrdersPart, executed_in, receipts_in, receipts_of_executed}
+use Rattle.bk_follow.specs.Follower.{BookValue, Executed, Followed, Follows, FollowsBy, HasCome, IsCurrent, IsExecuted, IsSettled, IsSettledBy, OrdersPart, executed_in, receipts_in, receipts_of_executed}
 use Rattle.bk_follow.specs.Ordering.{AreOrderedIn, IsOrderSoFar}
-use Rattle.bk_follow.specs.RunReport.{committee_in, later_frames}
+use Rattle.bk_follow.specs.RunReport.{committee_in}
 use Rattle.bk_laws.proofs.Growing.{receipts_begin}
 
 -- ---- the first fault

@@ -4,7 +4,7 @@ use Rattle.std.specs.Prelude.{IsTrue, is_some, unwrap_or}
 use Rattle.sha2.specs.Sha256.{sha256}
 use Rattle.bk_frames.specs.declared.version.Version.{Version}
 use Rattle.bk_frames.specs.declared.genesis.Row.{Row}
-use Rattle.bk_frames.specs.Feed.{Frame, FeedValue, IsFeed, feed_of, genesis_of}
+use Rattle.bk_frames.specs.Feed.{Frame, IsFeed, feed_of, genesis_of}
 use Rattle.bk_frames.specs.Genesis.{genesis_text, rows_of}
 use Rattle.bk_frames.specs.Numbers.{IsBytes}
 use Rattle.bk_frames.proofs.GenesisGrammar.{genesis_spelled}

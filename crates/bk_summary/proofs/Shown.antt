@@ -1,5 +1,5 @@
 -- What a book, a Follower and a call show, from the summary of what was taken and executed.
-use Rattle.std.proofs.Common.{◌≡◌, ℕ, ◌<◌, ◌^◌, List, length, Option, Some, None, refl, sym, ap, subst, ◌∙◌, arith}
+use Rattle.std.proofs.Common.{◌≡◌, ◌<◌, ◌^◌, List, length, Option, Some, None, refl, sym, ap, subst, ◌∙◌, arith}
 use Rattle.std.specs.Prelude.{IfSome}
 use Rattle.bk_frames.specs.Device.{Device, Works, IfKnown}
 use Rattle.bk_frames.specs.declared.genesis.Row.{Row}
@@ -15,8 +15,8 @@ use Rattle.bk_results.specs.declared.fault.Fault.TheVariants as fault
 use Rattle.bk_results.specs.declared.status.Status.{Status}
 use Rattle.bk_results.specs.Devices.{devices}
 use Rattle.bk_follow.specs.Finishing.{Closes, CloseFails}
-use Rattle.bk_follow.specs.Follower.{BookValue, Followed, IsCurrent, executed_in}
-use Rattle.bk_follow.specs.Queries.{executed_of, opening_in}
+use Rattle.bk_follow.specs.Follower.{BookValue, Followed, IsCurrent}
+use Rattle.bk_follow.specs.Queries.{opening_in}
 use Rattle.bk_follow.specs.Replaying.{AllHasCome, ReadFails}
 use Rattle.bk_follow.specs.RunReport.{HasPlace, HasPlaceIn}
 use Rattle.bk_follow.proofs.Following.{on_closed, settled_now}

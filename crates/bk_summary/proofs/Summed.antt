@@ -1,11 +1,11 @@
 -- The summary of what a settled book holds is that of its feed.
-use Rattle.std.proofs.Common.{◌≡◌, ℕ, suc, ◌+◌, ◌-◌, ◌≤◌, Bool, true, false, cond, List, [], ◌∷◌, length, drop, map, Option, Some, None, refl, sym, ap, subst, ◌∙◌, arith}
+use Rattle.std.proofs.Common.{◌≡◌, ℕ, suc, ◌+◌, ◌-◌, ◌≤◌, Bool, true, false, cond, List, [], ◌∷◌, length, drop, map, Option, Some, refl, sym, ap, subst, ◌∙◌, arith}
 use Rattle.std.specs.Prelude.{count_by, filter, is_some, not}
 use Rattle.std.proofs.lemmas.List.{length-drop}
 use Rattle.std.proofs.lemmas.List.Sums.{length-filter}
 use Rattle.bk_frames.specs.declared.genesis.Row.{Row}
-use Rattle.bk_frames.specs.Feed.{Frame, FeedValue, IsFeed, genesis_of}
-use Rattle.bk_frames.specs.Genesis.{genesis_text, total_of}
+use Rattle.bk_frames.specs.Feed.{Frame, FeedValue, IsFeed}
+use Rattle.bk_frames.specs.Genesis.{genesis_text}
 use Rattle.sha2.specs.Sha256.{sha256}
 use Rattle.bk_frames.specs.declared.version.Version.{Version}
 use Rattle.bk_committee.specs.Payload.{CommitteeValue, committee_bytes, committee_of, sizes_of}
@@ -13,21 +13,19 @@ use Rattle.bk_committee.specs.Sizes.{Sizes}
 use Rattle.bk_cert.specs.declared.place.CertRef.{CertRef}
 use Rattle.bk_order.specs.Frames.{AreCerts, AreRejects}
 use Rattle.bk_order.specs.Intake.{HasTaken, Taken, first_later_frame}
-use Rattle.bk_order.specs.Orders.{AreRoundsOf, AreWaiting, IsOrderOf, Ordered}
+use Rattle.bk_order.specs.Orders.{AreRoundsOf, AreWaiting, IsOrderOf}
 use Rattle.bk_order.specs.Stops.{HasNoStop}
-use Rattle.bk_order.specs.Tally.{IsTallyOf, digests_in, ids_by}
-use Rattle.bk_order.specs.declared.tally.Tally.{Tally}
+use Rattle.bk_order.specs.Tally.{IsTallyOf, digests_in}
 use Rattle.bk_commit.specs.Ordering.{IsCommitted}
 use Rattle.bk_rounds.specs.Rounds.{RoundsValue}
 use Rattle.bk_ledger.specs.Ledger.{LedgerValue}
-use Rattle.bk_tx.specs.Batches.{count_in, transactions_of}
+use Rattle.bk_tx.specs.Batches.{count_in}
 use Rattle.bk_report.specs.RunLines.{Reading}
-use Rattle.bk_report.specs.Leaves.{state_of}
 use Rattle.bk_views.specs.Anchors.{AreRows}
 use Rattle.bk_follow.specs.Follower.{BookValue, Executed, IsCurrent, IsExecuted, executed_in}
 use Rattle.bk_follow.specs.Queries.{executed_of, opening_in}
 use Rattle.bk_follow.specs.RunReport.{Reads, committee_in, later_frames}
-use Rattle.bk_summary.specs.Summary.{IsSummaryOf, AreAnchorCounts, AreCertCounts, anchor_counts, batch_counts, cert_counts, is_void, member_counts, tx_counts, unordered_digests}
+use Rattle.bk_summary.specs.Summary.{IsSummaryOf, AreAnchorCounts, AreCertCounts, batch_counts, is_void, member_counts, unordered_digests}
 use Rattle.bk_summary.specs.declared.summary.AnchorCounts.{AnchorCounts}
 use Rattle.bk_summary.specs.declared.summary.BatchCounts.{BatchCounts}
 use Rattle.bk_summary.specs.declared.summary.CertCounts.{CertCounts}

@@ -1,6 +1,6 @@
 -- The amounts of a statement lead from the opening to the closing balance.
-use Rattle.std.proofs.Common.{◌≡◌, ℕ, zero, suc, ◌+◌, ◌<◌, ◌≤◌, List, [], ◌∷◌, ◌++◌, length, take, get_or, Bool, true, false, cond, eqb, Option, Some, None, refl, sym, ap, subst, ◌∙◌, arith, add-one}
-use Rattle.std.specs.Prelude.{IfSome, unwrap_or}
+use Rattle.std.proofs.Common.{◌≡◌, ℕ, zero, suc, ◌+◌, ◌<◌, ◌≤◌, List, [], ◌∷◌, length, take, get_or, Bool, true, false, cond, eqb, Option, Some, None, refl, sym, ap, subst, ◌∙◌, arith, add-one}
+use Rattle.std.specs.Prelude.{IfSome}
 use Rattle.std.specs.List.{AllByRecursion, sum_by}
 use Rattle.std.proofs.lemmas.Bool.{eqb-true}
 use Rattle.std.proofs.lemmas.List.Sums.{sum_by-append, sum_by-cons}
@@ -14,12 +14,12 @@ use Rattle.bk_rules.specs.declared.receipt.Receipt.{Receipt}
 use Rattle.bk_rules.specs.declared.receipt.Status.{Status}
 use Rattle.bk_rules.specs.declared.receipt.Status.TheVariants as status
 use Rattle.bk_rules.specs.Fold.{outcome_at, rows_before, state_after}
-use Rattle.bk_rules.specs.Rows.{IsLedger, Outcome, account_at, outcome_of}
-use Rattle.bk_rules.specs.Rule.{Accounts, account_after, balance_at, balance_of, changes_of, moved_by, new_account, payments_on, status_of, sum_of}
+use Rattle.bk_rules.specs.Rows.{IsLedger, account_at, outcome_of}
+use Rattle.bk_rules.specs.Rule.{Accounts, balance_at, balance_of, moved_by, payments_on, status_of, sum_of}
 use Rattle.bk_rules.proofs.Folding.{ledger_kept_by_fold, rows_of_place}
 use Rattle.bk_rules.proofs.Kept.{funds_where_ok, rule_of_rows}
 use Rattle.bk_views.specs.Laws.{AmountsAddUp, added_by, adds, taken_by, takes}
-use Rattle.bk_views.specs.Statement.{Course, account_at_end, account_before, amount_by, credited_by, entries, entries_below, entries_by, entries_of, entry_with, guards, role_in}
+use Rattle.bk_views.specs.Statement.{Course, account_before, amount_by, credited_by, entries, entries_below, entries_by, entries_of, entry_with, guards, role_in}
 use Rattle.bk_views.specs.private.Accounts.{after_part}
 use Rattle.bk_views.specs.declared.entry.Entry.{Entry}
 use Rattle.bk_views.specs.declared.entry.Role.{Role}

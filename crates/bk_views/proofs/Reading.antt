@@ -1,22 +1,18 @@
 -- A statement, one batch more at a time, and at its end.
-use Rattle.std.proofs.Common.{◌≡◌, ◌≢◌, ℕ, zero, suc, ◌+◌, ◌<◌, ◌≤◌, ⊎_elim, List, [], ◌∷◌, ◌++◌, length, map, take, get_or, Bool, true, false, Option, Some, None, refl, sym, ap, subst, ◌∙◌, arith, length-append}
-use Rattle.std.specs.Prelude.{◌&&◌, slice_get}
-use Rattle.std.proofs.lemmas.Bool.{false≢true}
+use Rattle.std.proofs.Common.{◌≡◌, ℕ, zero, suc, ◌+◌, ◌<◌, List, [], ◌∷◌, ◌++◌, length, map, get_or, Bool, true, Option, Some, None, refl, sym, ap, subst, ◌∙◌, arith, length-append}
+use Rattle.std.specs.Prelude.{slice_get}
 use Rattle.std.proofs.lemmas.List.{append-nil, get_or_append_left}
-use Rattle.std.proofs.lemmas.Option.{slice_get_within}
 use Rattle.std.proofs.Math.Seq.{take-length}
-use Rattle.bk_frames.specs.declared.genesis.Row.{Row}
 use Rattle.bk_tx.specs.Batch.{cut, cuts}
 use Rattle.bk_tx.specs.Reading.{transaction_of}
 use Rattle.bk_tx.specs.Transaction.{Transaction}
 use Rattle.bk_tx.specs.declared.batch.Slice.{Slice}
-use Rattle.bk_rules.specs.declared.account.Account.{Account}
 use Rattle.bk_rules.specs.declared.receipt.Receipt.{Receipt}
-use Rattle.bk_rules.specs.Fold.{outcome_at, receipts_of, state_after}
+use Rattle.bk_rules.specs.Fold.{outcome_at, state_after}
 use Rattle.bk_rules.specs.Rows.{account_at}
 use Rattle.bk_rules.proofs.Folding.{receipt_of_place}
-use Rattle.bk_views.specs.Statement.{Course, IsNowhere, IsStatement, account_at_end, account_before, closing_text, entries, entries_below, entries_text, opening_text, statement_text}
-use Rattle.bk_views.specs.Told.{AreNext, IsBlank, IsRun, IsToldOf, IsToldTo, Told}
+use Rattle.bk_views.specs.Statement.{Course, IsNowhere, account_at_end, account_before, closing_text, entries_below, entries_text, opening_text, statement_text}
+use Rattle.bk_views.specs.Told.{AreNext, IsRun, IsToldOf, IsToldTo, Told}
 use Rattle.bk_views.specs.private.Accounts.{IsPlaceOf}
 
 -- ---- the next transactions

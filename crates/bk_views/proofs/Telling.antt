@@ -1,5 +1,5 @@
 -- A statement, one place more at a time.
-use Rattle.std.proofs.Common.{◌≡◌, ◌↔◌, ℕ, ◌+◌, ◌^◌, ◌<◌, ◌≤◌, List, [], ◌∷◌, ◌++◌, length, take, get_or, Bool, true, false, Option, Some, None, refl, sym, ap, subst, ◌∙◌, arith, add-one}
+use Rattle.std.proofs.Common.{◌≡◌, ℕ, ◌+◌, ◌^◌, ◌<◌, ◌≤◌, List, [], ◌∷◌, ◌++◌, length, take, get_or, true, false, Option, Some, None, refl, sym, ap, subst, ◌∙◌, arith, add-one}
 use Rattle.std.specs.Prelude.{unwrap_or}
 use Rattle.std.proofs.lemmas.Bool.{false≢true}
 use Rattle.std.proofs.lemmas.List.{append-nil, flat_map_more, length-take}
@@ -13,15 +13,15 @@ use Rattle.bk_rules.specs.declared.account.Account.{Account}
 use Rattle.bk_rules.specs.declared.receipt.Receipt.{Receipt}
 use Rattle.bk_rules.specs.declared.receipt.Status.{Status}
 use Rattle.bk_rules.specs.declared.receipt.Status.TheVariants as status
-use Rattle.bk_rules.specs.Fold.{outcome_at, rows_before, seq_end, state_after}
+use Rattle.bk_rules.specs.Fold.{outcome_at, rows_before, seq_end}
 use Rattle.bk_rules.specs.Rows.{Outcome, IsLedger, account_at, outcome_of}
-use Rattle.bk_rules.specs.Rule.{Accounts, account_after, balance_of, changes_of, moved_by, new_account, received, seq_of, status_of}
+use Rattle.bk_rules.specs.Rule.{Accounts, account_after, balance_of, changes_of, moved_by, new_account, seq_of, status_of}
 use Rattle.bk_rules.proofs.Folding.{ledger_kept_by_fold, ledger_of_accounts, rows_of_place, total_below}
 use Rattle.bk_rules.proofs.Kept.{rule_of_rows}
 use Rattle.bk_rules.proofs.Room.{room_left}
 use Rattle.bk_rules.proofs.Stores.{balance_below, seq_below}
 use Rattle.bk_views.specs.Statement.{Course, account_before, amount_by, credited_by, entries_below, entries_by, entries_of, entries_text, entry_text, entry_with, opening_text, role_in}
-use Rattle.bk_views.specs.Told.{IsBlank, IsToldOf, IsToldTo, Told}
+use Rattle.bk_views.specs.Told.{IsToldOf, IsToldTo, Told}
 use Rattle.bk_views.specs.private.Accounts.{IsPlaceOf, after_part, after_receiving}
 use Rattle.bk_views.specs.declared.entry.Entry.{Entry}
 use Rattle.bk_views.specs.declared.entry.Role.{Role}

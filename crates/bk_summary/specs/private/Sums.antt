@@ -1,5 +1,5 @@
 -- A summary of what was taken and executed.
-use Rattle.std.specs.Prelude.{◌≡◌, ℕ, ◌-◌, ◌+◌, List, Option, None, is_some, not, length, count_by}
+use Rattle.std.specs.Prelude.{◌≡◌, ℕ, ◌-◌, List, Option, is_some, not, length, count_by}
 use Rattle.sha2.specs.Sha256.{sha256}
 use Rattle.bk_frames.specs.declared.genesis.Row.{Row}
 use Rattle.bk_frames.specs.Genesis.{genesis_text, total_of}
@@ -8,7 +8,6 @@ use Rattle.bk_cert.specs.declared.place.CertRef.{CertRef}
 use Rattle.bk_order.specs.Intake.{Taken}
 use Rattle.bk_order.specs.declared.tally.Tally.{Tally}
 use Rattle.bk_rounds.specs.Rounds.{RoundsValue}
-use Rattle.bk_rounds.specs.Admission.{WaitsAt}
 use Rattle.bk_ledger.specs.Ledger.{LedgerValue}
 use Rattle.bk_views.specs.Anchors.{AreRows}
 use Rattle.bk_views.specs.declared.anchors.AnchorRow.{AnchorRow}

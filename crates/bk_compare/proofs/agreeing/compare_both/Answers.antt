@@ -1,5 +1,4 @@
 use Rattle.std.proofs.lemmas.Result.{err_from_is_err_and}
-use Rattle.bk_compare.specs.private.Ends.{compared_of}
 use Rattle.bk_compare.proofs.FeedEnds.{both_agree, compare_stops}
 use Rattle.bk_compare.proofs.agreeing.compare_both.Goals as goal
 

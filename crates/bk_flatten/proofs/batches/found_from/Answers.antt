@@ -1,4 +1,4 @@
-use Rattle.std.proofs.Common.{◌≡◌, ◌+◌, arith}
+use Rattle.std.proofs.Common.{arith}
 use Rattle.bk_flatten.proofs.Taken.{found_more, found_ends, missing_there, none_left, read_there}
 use Rattle.bk_flatten.proofs.batches.found_from.Goals as goal
 

@@ -1,4 +1,4 @@
-use Rattle.std.proofs.Common.{◌≡◌, ◌∙◌, ap, take}
+use Rattle.std.proofs.Common.{◌∙◌, ap, take}
 use Rattle.bk_flatten.proofs.Listing.{cut_back}
 use Rattle.bk_flatten.proofs.digests.add_all.Goals as goal
 

@@ -1,4 +1,4 @@
-use Rattle.std.proofs.Common.{◌≡◌, ◌+◌, ◌++◌, ◌∷◌, ◌∙◌, [], ℕ, List, refl, sym, ap, subst, arith, get_or, take, reverse}
+use Rattle.std.proofs.Common.{◌≡◌, ◌+◌, ◌∷◌, ◌∙◌, List, sym, ap, subst, arith, get_or, take, reverse}
 use Rattle.std.proofs.lemmas.List.{take_more, take_all}
 use Rattle.bk_cert.specs.declared.place.CertRef.{CertRef}
 use Rattle.bk_commit.specs.Ordering.{IsCommitted}

@@ -1,4 +1,4 @@
-use Rattle.std.proofs.Common.{◌≡◌, ◌+◌, ◌-◌, ◌↔◌, ℕ, vec_len}
+use Rattle.std.proofs.Common.{◌+◌, ◌-◌, ◌↔◌, ℕ, vec_len}
 use Rattle.bk_rounds.specs.Members.{Has}
 use Rattle.bk_flatten.specs.private.Part.{marks_of}
 use Rattle.bk_flatten.proofs.part.make_rows.Given as goal

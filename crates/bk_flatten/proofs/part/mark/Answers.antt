@@ -1,4 +1,4 @@
-use Rattle.std.proofs.Common.{◌≡◌, ◌<◌, ◌⊎◌, ◌↔◌, ◌∙◌, ℕ, List, refl, sym, ap, subst, arith, length, get_or, take}
+use Rattle.std.proofs.Common.{◌≡◌, ◌<◌, ◌⊎◌, ◌↔◌, ◌∙◌, ℕ, List, refl, subst, arith, length, get_or, take}
 use Rattle.std.proofs.lemmas.List.{take_more, take_all, length-set}
 use Rattle.std.proofs.lemmas.List.Elements.{Contains-get_or}
 use Rattle.bk_cert.specs.declared.place.CertRef.{CertRef}

@@ -1,8 +1,4 @@
-use Rattle.std.proofs.Common.{◌≡◌, ◌⊎◌, ◌↔◌, ℕ, length, take}
-use Rattle.std.specs.List.{Contains}
-use Rattle.bk_cert.specs.declared.place.CertRef.{CertRef}
-use Rattle.bk_rounds.specs.Members.{Has}
-use Rattle.bk_flatten.specs.private.Part.{marks_of}
+use Rattle.std.proofs.Common.{◌≡◌, length, take}
 use Rattle.bk_flatten.proofs.Parts.{IsMarked}
 use Rattle.bk_flatten.proofs.part.mark.Given as goal
 

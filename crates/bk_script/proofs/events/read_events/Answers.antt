@@ -1,4 +1,3 @@
-use Rattle.std.proofs.Common.{◌≡◌}
 use Rattle.std.proofs.lemmas.Result.{err_from_is_err_and}
 use Rattle.bk_script.specs.Events.{event_list}
 use Rattle.bk_script.specs.declared.making.TheConstants.{MOST_SCRIPT}

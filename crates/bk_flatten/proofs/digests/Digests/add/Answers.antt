@@ -1,4 +1,4 @@
-use Rattle.std.proofs.Common.{◌≡◌, sym, ◌∙◌}
+use Rattle.std.proofs.Common.{sym, ◌∙◌}
 use Rattle.std.proofs.lemmas.Bool.{not-true}
 use Rattle.bk_flatten.proofs.Listing.{known_same, known_again, known_more}
 use Rattle.bk_flatten.proofs.digests.Digests.add.Goals as goal

@@ -1,4 +1,4 @@
-use Rattle.std.proofs.Common.{◌≡◌, ℕ, List, subst}
+use Rattle.std.proofs.Common.{ℕ, List, subst}
 use Rattle.bk_flatten.specs.private.Listing.{AreKnown}
 use Rattle.bk_flatten.proofs.Listing.{known_less}
 use Rattle.bk_flatten.proofs.digests.Digests.drop_last.Goals as goal

@@ -1,15 +1,14 @@
-use Rattle.std.proofs.Common.{◌≡◌, ◌<◌, ◌∙◌, ◌++◌, ◌∷◌, ◌⊎◌, ◌↔◌, ℕ, List, sym, ap, subst, arith, length}
+use Rattle.std.proofs.Common.{◌≡◌, ◌∙◌, ◌++◌, ◌∷◌, ℕ, List, sym, ap, subst, arith, length}
 use Rattle.std.specs.List.{Contains}
 use Rattle.std.proofs.lemmas.List.{with_items_is}
 use Rattle.bk_cert.specs.Place.{Lists}
 use Rattle.bk_cert.specs.declared.place.CertRef.{CertRef}
-use Rattle.bk_rounds.specs.Members.{Has}
 use Rattle.bk_commit.specs.Ordering.{InHistory}
 use Rattle.bk_commit.proofs.Grown.{walk_present}
 use Rattle.bk_commit.proofs.Last.{present_member}
 use Rattle.bk_commit.proofs.Levels.{reached_round}
 use Rattle.bk_flatten.specs.Order.{IsOrder, IsKept}
-use Rattle.bk_flatten.specs.private.Part.{AreMarks, IsNew, marks_of}
+use Rattle.bk_flatten.specs.private.Part.{AreMarks, IsNew}
 use Rattle.bk_flatten.proofs.Extended.{extended, kept_closed}
 use Rattle.bk_flatten.proofs.Parts.{IsMarked, marks_added}
 use Rattle.bk_flatten.proofs.flat.Flat.extend.Goals as goal

@@ -1,4 +1,4 @@
-use Rattle.std.proofs.Common.{◌≡◌, ◌≤◌, reverse}
+use Rattle.std.proofs.Common.{◌≤◌, reverse}
 use Rattle.bk_cert.specs.Place.{IsListed}
 use Rattle.bk_flatten.specs.private.Part.{HasAbove, IsFresh}
 use Rattle.bk_flatten.proofs.flat.Flat.part_of.Given as goal
