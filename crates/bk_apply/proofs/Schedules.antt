@@ -1,11 +1,11 @@
 -- The transactions of a feed by a list of events.
 use Rattle.std.proofs.Common.{◌≡◌, ℕ, ◌+◌, ◌^◌, ◌<◌, List, [], length, Option, Some, None, sym, ap, subst, ◌∙◌, arith}
 use Rattle.std.specs.Prelude.{IfSome}
-use Rattle.bk_frames.specs.declared.genesis.Row.{Row}
-use Rattle.bk_frames.specs.declared.version.Version.{Version}
+use Rattle.bk_base.specs.declared.genesis.Row.{Row}
+use Rattle.bk_base.specs.declared.version.Version.{Version}
 use Rattle.bk_frames.specs.Device.{Device, Works, IfKnown}
-use Rattle.bk_frames.specs.Feed.{FeedValue, IsFeed, spelling, genesis_of}
-use Rattle.bk_frames.specs.Genesis.{AreAccounts, ids_of}
+use Rattle.bk_base.specs.Feed.{FeedValue, IsFeed, spelling, genesis_of}
+use Rattle.bk_base.specs.Genesis.{AreAccounts, ids_of}
 use Rattle.bk_tx.specs.Transaction.{Transaction}
 use Rattle.bk_rules.specs.Fold.{state_after, receipts_of, HasRoom}
 use Rattle.bk_rules.specs.Ledger.{Ledger, ledger_of, IsPrepared, rows_shown, slot_numbers}
@@ -28,7 +28,7 @@ use Rattle.bk_tx.specs.Batches.{feed_transactions}
 use Rattle.bk_apply.specs.Scheduling.{opening_of, IsPlanOfFeed, InExecution, InExecutionOf, StopsBy}
 use Rattle.bk_apply.specs.private.Schedules.{stop_of, Unscheduled, IsScheduled}
 use Rattle.std.proofs.lemmas.List.{length-map}
-use Rattle.bk_frames.proofs.Accounts.{genesis_few}
+use Rattle.bk_base.proofs.Accounts.{genesis_few}
 use Rattle.bk_ledger.specs.Naming.{named_by}
 use Rattle.bk_ledger.proofs.Growth.{slots_long, few_named}
 use Rattle.bk_ledger.proofs.Runs.{few_feed_transactions}

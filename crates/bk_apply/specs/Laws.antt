@@ -1,7 +1,7 @@
 -- What the definition of the apply report says as a whole.
 use Rattle.std.specs.Prelude.{◌≡◌, ℕ, List}
-use Rattle.bk_frames.specs.Genesis.{total_of}
-use Rattle.bk_frames.specs.Feed.{FeedValue, IsFeed, genesis_of}
+use Rattle.bk_base.specs.Genesis.{total_of}
+use Rattle.bk_base.specs.Feed.{FeedValue, IsFeed, genesis_of}
 use Rattle.bk_rules.specs.Fold.{state_after}
 use Rattle.bk_tx.specs.Batches.{feed_transactions}
 use Rattle.bk_report.specs.Report.{IsApplyReport}

@@ -1,8 +1,8 @@
 -- The schedules of a feed: its transactions, in feed order, by a given list of events.
 use Rattle.std.specs.Prelude.{◌≡◌, ℕ, List}
 use Rattle.bk_frames.specs.Device.{IfKnown}
-use Rattle.bk_frames.specs.Feed.{FeedValue, IsFeed, spelling, genesis_of}
-use Rattle.bk_frames.specs.Genesis.{ids_of}
+use Rattle.bk_base.specs.Feed.{FeedValue, IsFeed, spelling, genesis_of}
+use Rattle.bk_base.specs.Genesis.{ids_of}
 use Rattle.bk_rules.specs.Ledger.{Ledger, ledger_of, IsPrepared}
 use Rattle.bk_conflicts.specs.Plan.{PlanValue, IsPlan}
 use Rattle.bk_conflicts.specs.Scene.{Scene}

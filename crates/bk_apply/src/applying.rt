@@ -1,6 +1,6 @@
 ghost use Rattle.std.specs.Prelude.{◌≡◌, ℕ, ◌^◌, ◌<◌, List, [], length, vec_len, OnOk, IfErr};
 ghost use Rattle.bk_frames.specs.Device.{CanBeUsed, Works, Receives, IfKnown};
-ghost use Rattle.bk_frames.specs.Genesis.{total_of};
+ghost use Rattle.bk_base.specs.Genesis.{total_of};
 ghost use Rattle.bk_apply.specs.Answers.{FailsBy};
 ghost use Rattle.bk_results.specs.Devices.{devices};
 ghost use Rattle.bk_report.specs.Report.{IsApplyReport, lines_of};

@@ -2,7 +2,7 @@
 
 ghost use Rattle.std.specs.Prelude.{◌≡◌, ℕ, List, map, IfOk, OnOk, IfErr};
 ghost use Rattle.bk_frames.specs.Device.{CanBeUsed, Works, Receives, IfKnown};
-ghost use Rattle.bk_frames.specs.Feed.{IsFeed, genesis_of};
+ghost use Rattle.bk_base.specs.Feed.{IsFeed, genesis_of};
 ghost use Rattle.bk_rules.specs.Fold.{state_after, receipts_of};
 ghost use Rattle.bk_steps.specs.Schedule.{IsWholeAmong};
 ghost use Rattle.bk_results.specs.declared.fault.Fault.TheVariants as fault;

@@ -5,7 +5,7 @@ use Rattle.std.specs.List.{Contains}
 use Rattle.std.proofs.lemmas.List.{take-append-drop}
 use Rattle.std.proofs.lemmas.List.Elements.{Contains-append_right}
 use Rattle.bk_frames.specs.Device.{Device, Receives}
-use Rattle.bk_frames.specs.Feed.{FeedValue, Frame, IsFeed, genesis_of}
+use Rattle.bk_base.specs.Feed.{FeedValue, Frame, IsFeed, genesis_of}
 use Rattle.bk_committee.specs.Payload.{CommitteeValue}
 use Rattle.bk_committee.specs.Sizes.{Sizes}
 use Rattle.bk_rounds.specs.Rounds.{RoundsValue}

@@ -3,11 +3,11 @@ use Rattle.std.proofs.Common.{◌≡◌, ℕ, ◌<◌, ◌^◌, List, [], length
 use Rattle.std.specs.Prelude.{IfSome}
 use Rattle.std.specs.Io.KnownBytes.{Appends, Keeps}
 use Rattle.bk_frames.specs.Device.{Device, Works, Receives, IfKnown}
-use Rattle.bk_frames.specs.declared.genesis.Row.{Row}
-use Rattle.bk_frames.specs.Feed.{FeedValue, IsFeed}
-use Rattle.bk_frames.specs.Genesis.{AreAccounts}
+use Rattle.bk_base.specs.declared.genesis.Row.{Row}
+use Rattle.bk_base.specs.Feed.{FeedValue, IsFeed}
+use Rattle.bk_base.specs.Genesis.{AreAccounts}
 use Rattle.bk_frames.specs.Writing.{Writes}
-use Rattle.bk_frames.proofs.Accounts.{genesis_accounts}
+use Rattle.bk_base.proofs.Accounts.{genesis_accounts}
 use Rattle.bk_committee.specs.Payload.{CommitteeValue}
 use Rattle.bk_order.specs.Frames.{AreCerts}
 use Rattle.bk_order.specs.Intake.{Taken}

@@ -1,9 +1,9 @@
 -- What a feed replies to a query, read off its frames alone.
 use Rattle.std.specs.Prelude.{◌≡◌, ◌≢◌, ℕ, ◌<◌, List, [], ◌∷◌, ◌++◌, length, take, slice_get, Bool, true, false, Some, None}
-use Rattle.bk_frames.specs.declared.genesis.Row.{Row}
-use Rattle.bk_frames.specs.declared.version.Version.{Version}
+use Rattle.bk_base.specs.declared.genesis.Row.{Row}
+use Rattle.bk_base.specs.declared.version.Version.{Version}
 use Rattle.bk_frames.specs.Device.{Device, Works, Fails, Receives, IfKnown}
-use Rattle.bk_frames.specs.Feed.{FeedValue, genesis_of}
+use Rattle.bk_base.specs.Feed.{FeedValue, genesis_of}
 use Rattle.bk_frames.specs.Pulling.{Refuses}
 use Rattle.bk_committee.specs.Payload.{CommitteeValue, sizes_of}
 use Rattle.bk_cert.specs.Node.{Node}

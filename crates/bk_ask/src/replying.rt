@@ -2,7 +2,7 @@
 
 ghost use Rattle.std.specs.Prelude.{◌≡◌, ◌∷◌, [], List, true, false, None, IfOk, IfErr, IfSome, MatchOption, slice_get, string_bytes};
 ghost use Rattle.bk_frames.specs.Device.{CanBeUsed};
-ghost use Rattle.bk_frames.specs.declared.genesis.Row.{Row};
+ghost use Rattle.bk_base.specs.declared.genesis.Row.{Row};
 ghost use Rattle.bk_rules.specs.Rows.{account_at};
 ghost use Rattle.bk_views.specs.Statement.{IsNowhere, IsStatement};
 ghost use Rattle.bk_views.specs.Told.{IsRun};
@@ -17,7 +17,8 @@ ghost use Rattle.bk_ask.specs.private.Replies.{IsOfClosed, WritesFound, WritesRe
 
 use bk_digest::{Digest32, tree_root_with};
 use bk_follow::Follower;
-use bk_frames::{Row, Sink, push_all};
+use bk_base::Row;
+use bk_frames::{Sink, push_all};
 use bk_ledger::Ledger;
 use bk_order::Intake;
 use bk_report::{Line, leaves_of, proof_of, push_line};

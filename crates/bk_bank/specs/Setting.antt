@@ -1,6 +1,6 @@
 -- What an execution is about, and its scene.
 use Rattle.std.specs.Prelude.{ℕ, List, [], Bool, false, slice_index_or}
-use Rattle.bk_frames.specs.declared.version.Version.TheVariants.{One}
+use Rattle.bk_base.specs.declared.version.Version.TheVariants.{One}
 use Rattle.bk_rules.specs.Ledger.{Ledger, ledger_of}
 use Rattle.bk_conflicts.specs.Scene.{Scene}
 use Rattle.bk_conflicts.specs.SceneOf as executions

@@ -4,7 +4,7 @@ use anyhow::{Context, Result, bail};
 use bk_cert::{Cert, Header};
 use bk_committee::Committee;
 use bk_digest::Digest32;
-use bk_frames::Version;
+use bk_base::Version;
 use std::alloc::{AllocError, Global};
 
 /// What a certificate is made of: a committee, whose first members sign, and the digests that its header names.

@@ -6,14 +6,14 @@ use Rattle.std.specs.Int.{w8, w16, w32, to_be_bytes}
 use Rattle.std.proofs.lemmas.Bool.{eqb-true, leb-true, le-leb}
 use Rattle.std.proofs.lemmas.List.{append-nil, nil_from_length, take_at, drop_at}
 use Rattle.std.proofs.lemmas.Option.{cond_some, none-some}
-use Rattle.bk_frames.specs.Numbers.{IsBytes}
-use Rattle.bk_frames.specs.Numbers.{◌>>=◌, number_at, bytes_at}
+use Rattle.bk_base.specs.Numbers.{IsBytes}
+use Rattle.bk_base.specs.Numbers.{◌>>=◌, number_at, bytes_at}
 use Rattle.bk_committee.proofs.Chunks.{length-pieces, sized-pieces, concat-pieces, length-concat-sized, pieces-concat}
 use Rattle.bk_cert.specs.Values.{HeaderValue, CertValue, header_with, cert_with}
 use Rattle.bk_cert.specs.Mask.{signer_count}
 use Rattle.bk_cert.specs.Spelling.{AreDigests, IsHeader, header_text, IsCertificate, seal_text, certificate_text}
 use Rattle.bk_cert.specs.Reading.{digests_at, header_at, certificate_of}
-use Rattle.bk_frames.proofs.FieldLemmas.{bind_some, some_is, Takes, Takes-then, wide16, wide32, number_takes, number_again, byte_takes, byte_again, bytes_take, bytes_again}
+use Rattle.bk_base.proofs.FieldLemmas.{bind_some, some_is, Takes, Takes-then, wide16, wide32, number_takes, number_again, byte_takes, byte_again, bytes_take, bytes_again}
 
 -- ---- digests
 

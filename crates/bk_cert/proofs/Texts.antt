@@ -8,13 +8,13 @@ use Rattle.sha2.specs.Sha256.{sha256}
 use Rattle.sha2.proofs.Facts256.{length-sha256}
 use Rattle.bk_digest.specs.Digest.{tagged_of}
 use Rattle.bk_digest.specs.Mac.{hmac_of}
-use Rattle.bk_frames.specs.Numbers.{bytes_at}
+use Rattle.bk_base.specs.Numbers.{bytes_at}
 use Rattle.bk_committee.proofs.Chunks.{length-concat-sized}
 use Rattle.bk_cert.specs.Values.{HeaderValue, CertValue, cert_with}
 use Rattle.bk_cert.specs.Spelling.{AreDigests, IsHeader, header_text}
 use Rattle.bk_cert.specs.Reading.{digests_at}
 use Rattle.bk_cert.specs.Identity.{id_of, tag_of}
-use Rattle.bk_frames.proofs.FieldLemmas.{bytes_rest}
+use Rattle.bk_base.proofs.FieldLemmas.{bytes_rest}
 use Rattle.bk_cert.proofs.Grammar.{digests_steps}
 
 -- ---- cut from bytes

@@ -1,6 +1,6 @@
 -- What the definitions of a certificate say together.
 use Rattle.std.specs.Prelude.{◌≡◌, ℕ, List, Some, Decides, length, take, drop}
-use Rattle.bk_frames.specs.Numbers.{IsBytes}
+use Rattle.bk_base.specs.Numbers.{IsBytes}
 use Rattle.bk_cert.specs.Values.{HeaderValue, CertValue}
 use Rattle.bk_cert.specs.Spelling.{IsHeader, IsCertificate, header_text, seal_text, certificate_text}
 use Rattle.bk_cert.specs.Reading.{certificate_of}

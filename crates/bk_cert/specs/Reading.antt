@@ -2,7 +2,7 @@
 use Rattle.std.specs.Prelude.{ℕ, ◌*◌, List, length, Option, Some, None, nat_le, ◌==◌, if◌then◌else◌}
 use Rattle.std.specs.Simd.{first_chunks}
 use Rattle.std.specs.Int.{w8, w16, w32}
-use Rattle.bk_frames.specs.Numbers.{◌>>=◌, number_at, bytes_at}
+use Rattle.bk_base.specs.Numbers.{◌>>=◌, number_at, bytes_at}
 use Rattle.bk_cert.specs.Values.{HeaderValue, CertValue, header_with, cert_with}
 use Rattle.bk_cert.specs.Mask.{signer_count}
 

@@ -1,14 +1,14 @@
 //! The fields of a certificate, cut from its bytes. Nothing here takes memory.
 
 ghost use Rattle.std.specs.Prelude.{◌≡◌, ◌≤◌, ℕ, length, option_map};
-ghost use Rattle.bk_frames.specs.Numbers.{bytes_at};
+ghost use Rattle.bk_base.specs.Numbers.{bytes_at};
 ghost use Rattle.bk_cert.specs.Values.{HeaderValue, CertValue, header_with, cert_with};
 ghost use Rattle.bk_cert.specs.Spelling.{IsHeader, header_text};
 ghost use Rattle.bk_cert.specs.Reading.{digests_at, header_at, certificate_of};
 
 use crate::header::{MOST_BATCHES, MOST_PARENTS};
 use crate::mask::Mask;
-use bk_frames::Fields;
+use bk_base::Fields;
 use std::marker::Model;
 
 /// The fields of a header, as they are in the bytes. Contracts see them as the header.

@@ -3,7 +3,7 @@
 use crate::*;
 use bk_committee::{Bad, Committee};
 use bk_digest::{Digest32, hmac};
-use bk_frames::Version;
+use bk_base::Version;
 use std::alloc::{AllocError, Global};
 use std::process::Abort;
 use std::test::Fail;

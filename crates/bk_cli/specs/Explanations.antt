@@ -15,8 +15,8 @@ use Rattle.bk_results.specs.declared.script_fault.ScriptCode.TheVariants as scri
 use Rattle.bk_results.specs.declared.script_fault.ScriptFault.{ScriptFault}
 use Rattle.bk_results.specs.declared.script_fault.ScriptFault.TheVariants as text
 use Rattle.bk_results.specs.Lines.{spaced}
-use Rattle.bk_steps.specs.declared.refused.Refused as refused
-use Rattle.bk_steps.specs.declared.refused.Refused.TheVariants as reason
+use Rattle.bk_base.specs.declared.refused.Refused as refused
+use Rattle.bk_base.specs.declared.refused.Refused.TheVariants as reason
 use Rattle.bk_cli.specs.FaultLines.{digits_of, line_of}
 use Rattle.bk_cli.specs.Files.{about_of, name_of}
 use Rattle.bk_cli.specs.declared.about.About.TheVariants as about

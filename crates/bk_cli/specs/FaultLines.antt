@@ -10,7 +10,7 @@ use Rattle.bk_results.specs.declared.differ.Differ.TheVariants as differ
 use Rattle.bk_results.specs.declared.fault.Fault.{Fault}
 use Rattle.bk_results.specs.declared.fault.Fault.TheVariants as replay
 use Rattle.bk_results.specs.Lines.{spaced}
-use Rattle.bk_steps.specs.Refusals.{code_of}
+use Rattle.bk_base.specs.Refusals.{code_of}
 use Rattle.bk_results.specs.Codes.{code_number}
 use Rattle.bk_results.specs.declared.events_fault.EventsFault.{EventsFault}
 use Rattle.bk_results.specs.declared.events_fault.EventsFault.TheVariants as events

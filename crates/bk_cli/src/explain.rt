@@ -14,7 +14,7 @@ use crate::list_fault::ListFault;
 use bk_digest::Digest32;
 use bk_frames::{FaultCode, FeedFault};
 use bk_results::{CompareStop, Differ, EventsFault, Fault, ScriptCode, ScriptFault};
-use bk_steps::Refused;
+use bk_base::Refused;
 
 // What is in front of the byte at which the fault of a feed is.
 fn front(code: FaultCode) -> &'static [u8]

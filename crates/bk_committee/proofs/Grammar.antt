@@ -6,11 +6,11 @@ use Rattle.std.specs.Int.{w32, to_be_bytes}
 use Rattle.std.specs.Simd.{first_chunks}
 use Rattle.std.proofs.lemmas.Bool.{and_parts, and_from, le-leb, leb-true, eq-eqb, eqb-true, eqb-false, ltb-false, le-ltb, or_from, or_parts, ne_eqb}
 use Rattle.std.proofs.lemmas.List.{append-nil, length-append, length-map, length-drop, take-append-drop, length-take-le, drop_at}
-use Rattle.bk_frames.specs.Numbers.{IsBytes}
-use Rattle.bk_frames.specs.Committee.{is_committee, weights_at}
-use Rattle.bk_frames.proofs.FieldLemmas.{IsBytes-drop}
-use Rattle.bk_frames.specs.declared.version.Version.{Version}
-use Rattle.bk_frames.specs.declared.version.Version.TheVariants as version
+use Rattle.bk_base.specs.Numbers.{IsBytes}
+use Rattle.bk_base.specs.Committee.{is_committee, weights_at}
+use Rattle.bk_base.proofs.FieldLemmas.{IsBytes-drop}
+use Rattle.bk_base.specs.declared.version.Version.{Version}
+use Rattle.bk_base.specs.declared.version.Version.TheVariants as version
 use Rattle.bk_committee.specs.Payload.{CommitteeValue, IsCommittee, committee_with, committee_bytes, committee_of, weights_of, bad_of, member_size}
 use Rattle.bk_committee.specs.declared.bad.Bad.TheVariants as bad
 use Rattle.bk_committee.proofs.Chunks.{Sized, length-pieces, sized-pieces, concat-pieces, length-concat-sized, pieces-front, pieces-take}

@@ -8,11 +8,11 @@ use Rattle.std.proofs.lemmas.Bool.{and_parts, and_from, lt-ltb, ltb-true}
 use Rattle.std.proofs.lemmas.List.{length-append, length-take-le, length-drop, take-append-drop, take_at, drop_at, nil_from_length}
 use Rattle.std.proofs.lemmas.List.Concat.{flat_map-cons}
 use Rattle.std.proofs.lemmas.List.Sums.{sum_by-cons}
-use Rattle.bk_frames.specs.Numbers.{IsBytes}
-use Rattle.bk_frames.proofs.FieldLemmas.{wide32}
-use Rattle.bk_frames.proofs.FieldLemmas.{IsBytes-take, IsBytes-drop}
-use Rattle.bk_frames.specs.declared.version.Version.{Version}
-use Rattle.bk_frames.specs.declared.version.Version.TheVariants as version
+use Rattle.bk_base.specs.Numbers.{IsBytes}
+use Rattle.bk_base.proofs.FieldLemmas.{wide32}
+use Rattle.bk_base.proofs.FieldLemmas.{IsBytes-take, IsBytes-drop}
+use Rattle.bk_base.specs.declared.version.Version.{Version}
+use Rattle.bk_base.specs.declared.version.Version.TheVariants as version
 use Rattle.bk_committee.specs.Payload.{IsWeight}
 
 -- the number that four bytes are

@@ -1,9 +1,9 @@
 -- What the definitions of a committee say together.
 use Rattle.std.specs.Prelude.{◌≡◌, ℕ, ◌+◌, ◌*◌, ◌%◌, ◌<◌, ◌≤◌, ◌↔◌, List, Some, None, IsTrue}
 use Rattle.std.specs.List.{AllByRecursion}
-use Rattle.bk_frames.specs.Numbers.{IsBytes}
-use Rattle.bk_frames.specs.Committee.{is_committee}
-use Rattle.bk_frames.specs.declared.version.Version.{Version}
+use Rattle.bk_base.specs.Numbers.{IsBytes}
+use Rattle.bk_base.specs.Committee.{is_committee}
+use Rattle.bk_base.specs.declared.version.Version.{Version}
 use Rattle.bk_committee.specs.Payload.{CommitteeValue, IsCommittee, committee_bytes, committee_of, bad_of}
 use Rattle.bk_committee.specs.Sizes.{Sizes, members, total, faulty, quorum, leader, leader_of}
 

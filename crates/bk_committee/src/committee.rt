@@ -2,14 +2,14 @@
 
 ghost use Rattle.std.specs.Prelude.{◌≡◌, ℕ, ◌<◌, ◌≤◌, ◌^◌, List, ◌∷◌, Some, None, length, sum, IfOk, OnOk, IfErr, IsTrue, slice_get, slice_index_or, []};
 ghost use Rattle.bk_digest.specs.Prepared.{IsPrepared};
-ghost use Rattle.bk_frames.specs.Committee.{is_committee};
+ghost use Rattle.bk_base.specs.Committee.{is_committee};
 ghost use Rattle.bk_committee.specs.Payload.{committee_of, bad_of, blamed, sizes_of, IsCommittee};
 ghost use Rattle.bk_committee.specs.Sizes.{members, total, faulty, quorum, weight, leader_of};
 
 use crate::bad::Bad;
 use crate::reading::{first_bad, read_members, read_weights};
 use bk_digest::MacKey;
-use bk_frames::Version;
+use bk_base::Version;
 use std::alloc::{AllocError, Global};
 use std::marker::Model;
 

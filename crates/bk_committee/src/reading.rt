@@ -4,12 +4,12 @@ ghost use Rattle.std.specs.Prelude.{◌≡◌, ◌*◌, ◌≤◌, ◌∷◌, le
 ghost use Rattle.std.specs.Int.{w32, from_be_bytes};
 ghost use Rattle.std.specs.List.{list_all};
 ghost use Rattle.std.specs.Simd.{first_chunks};
-ghost use Rattle.bk_frames.specs.Committee.{weights_at};
+ghost use Rattle.bk_base.specs.Committee.{weights_at};
 ghost use Rattle.bk_committee.specs.Payload.{bad_of, bad_weights, member_size, weights_of};
 
 use crate::bad::Bad;
 use crate::committee::Member;
-use bk_frames::Version;
+use bk_base::Version;
 use std::alloc::{AllocError, Global};
 
 // How many bytes a payload has for each member.

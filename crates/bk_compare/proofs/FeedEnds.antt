@@ -2,9 +2,9 @@
 use Rattle.std.proofs.Common.{◌≡◌, ℕ, true, false, List, Option, Some, None, refl, sym, ap, subst, ◌∙◌, ◌⊎◌, inl, inr, ⊎_elim}
 use Rattle.std.specs.Prelude.{IfSome, IfOk, IfErr, OnOk, Result, Ok, Err}
 use Rattle.std.proofs.lemmas.List.Elements.{Contains-append_left, Contains-append_right}
-use Rattle.bk_frames.specs.declared.version.Version.{Version}
+use Rattle.bk_base.specs.declared.version.Version.{Version}
 use Rattle.bk_frames.specs.Device.{Device, Works, IfKnown}
-use Rattle.bk_frames.specs.Feed.{Frame, FeedValue, feed_of}
+use Rattle.bk_base.specs.Feed.{Frame, FeedValue, feed_of}
 use Rattle.bk_committee.specs.Payload.{CommitteeValue}
 use Rattle.bk_commit.specs.Growth.{IsPartOf}
 use Rattle.bk_order.specs.Agreement.{OneBegins}

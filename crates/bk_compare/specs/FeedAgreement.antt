@@ -1,7 +1,7 @@
 -- When the feeds of two sources agree, and why they do not.
 use Rattle.std.specs.Prelude.{◌≡◌, List, ℕ}
 use Rattle.bk_frames.specs.Device.{Device, Works, IfKnown}
-use Rattle.bk_frames.specs.Feed.{FeedValue, IsFeed, spelling}
+use Rattle.bk_base.specs.Feed.{FeedValue, IsFeed, spelling}
 use Rattle.bk_frames.specs.Pulling.{Refuses}
 use Rattle.bk_order.specs.declared.stop.Stop.TheVariants as stop
 use Rattle.bk_results.specs.declared.compare_stop.CompareStop.{CompareStop}

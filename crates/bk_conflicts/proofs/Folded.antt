@@ -1,10 +1,10 @@
 -- A place changes what it writes alone, by what it reads alone.
 use Rattle.std.proofs.Common.{◌≡◌, ◌⊎◌, inl, inr, ℕ, suc, ◌+◌, ◌*◌, ◌<◌, List, length, get_or, true, false, Option, None, Some, refl, sym, ap, ◌∙◌, subst, arith}
 use Rattle.std.proofs.lemmas.Bool.{false_from_ne_true}
-use Rattle.bk_frames.specs.declared.version.Version.{Version}
-use Rattle.bk_frames.specs.declared.version.Version.TheVariants.{One}
-use Rattle.bk_frames.specs.Genesis.{ids_of}
-use Rattle.bk_frames.specs.declared.genesis.Row.{Row}
+use Rattle.bk_base.specs.declared.version.Version.{Version}
+use Rattle.bk_base.specs.declared.version.Version.TheVariants.{One}
+use Rattle.bk_base.specs.Genesis.{ids_of}
+use Rattle.bk_base.specs.declared.genesis.Row.{Row}
 use Rattle.bk_tx.specs.Transaction.{Transaction}
 use Rattle.bk_tx.specs.Access.{declares, writes}
 use Rattle.bk_rules.specs.declared.receipt.Status.{Status}

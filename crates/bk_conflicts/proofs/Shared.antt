@@ -1,7 +1,7 @@
 -- Where each declared account has a slot, each shared account counts.
 use Rattle.std.proofs.Common.{◌≡◌, ℕ, ◌&&◌, List, get_or, Bool, true, false, Option, None, Some, refl, sym, ap, ◌∙◌}
 use Rattle.std.proofs.lemmas.Bool.{and_parts, both_ways, false_from_ne_true}
-use Rattle.bk_frames.specs.declared.version.Version.TheVariants.{Two}
+use Rattle.bk_base.specs.declared.version.Version.TheVariants.{Two}
 use Rattle.bk_tx.specs.Transaction.{Transaction}
 use Rattle.bk_tx.specs.Access.{declares}
 use Rattle.bk_rules.specs.Ledger.{has_slot, are_covered}

@@ -1,6 +1,6 @@
 -- The laws of conflicts and edges.
 use Rattle.std.specs.Prelude.{◌≡◌, ◌≢◌, ◌↔◌, ℕ, ◌*◌, ◌<◌, List, length, slice_index_or, true, Option}
-use Rattle.bk_frames.specs.declared.version.Version.TheVariants.{Two}
+use Rattle.bk_base.specs.declared.version.Version.TheVariants.{Two}
 use Rattle.bk_tx.specs.Transaction.{Transaction}
 use Rattle.bk_rules.specs.Fold.{rows_before}
 use Rattle.bk_rules.specs.Ledger.{Ledger, are_covered, rows_shown, in_pairs}

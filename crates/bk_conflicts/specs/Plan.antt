@@ -1,8 +1,8 @@
 -- What contracts see of a plan, and what it promises.
 use Rattle.std.specs.Prelude.{◌≡◌, ◌↔◌, ◌==◌, ℕ, zero, suc, ◌+◌, ◌^◌, ◌<◌, ◌≤◌, List, [], length, true, IsTrue, AllPairs, Option, slice_index_or}
 use Rattle.std.specs.List.{list_any}
-use Rattle.bk_frames.specs.declared.version.Version.{Version}
-use Rattle.bk_frames.specs.Numbers.{is_ascending}
+use Rattle.bk_base.specs.declared.version.Version.{Version}
+use Rattle.bk_base.specs.Numbers.{is_ascending}
 use Rattle.bk_tx.specs.declared.declared.Declared.{Declared}
 use Rattle.bk_tx.specs.Access.{declared_ids}
 use Rattle.bk_tx.specs.Transaction.{Transaction}

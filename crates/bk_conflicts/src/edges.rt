@@ -2,7 +2,7 @@
 //! directly.
 
 ghost use Rattle.std.specs.Prelude.{◌≡◌, ℕ, ◌^◌, ◌<◌, ◌≤◌, true, IsTrue, List, [], ◌∷◌, length, OnOk, IfOk, slice_index_or};
-ghost use Rattle.bk_frames.specs.Numbers.{is_ascending};
+ghost use Rattle.bk_base.specs.Numbers.{is_ascending};
 ghost use Rattle.bk_rules.specs.Ledger.{are_covered};
 ghost use Rattle.bk_conflicts.specs.Conflicts.{declared_at};
 ghost use Rattle.bk_conflicts.specs.Words.{words_at};
@@ -17,7 +17,7 @@ use crate::rows::{
 };
 use crate::trail::{Trail, clear_trail, meet_all, new_trail};
 use crate::words::{Access, WordRows, likely_after, list_accesses, no_words, push_word_row};
-use bk_frames::Version;
+use bk_base::Version;
 use bk_rules::Ids;
 use bk_tx::Tx;
 use std::alloc::{AllocError, Global};

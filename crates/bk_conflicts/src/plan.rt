@@ -11,7 +11,7 @@ ghost use Rattle.bk_conflicts.specs.private.Rows.{row_at};
 use crate::edges::Lists;
 use crate::planner::Planner;
 use crate::words::WordRef;
-use bk_frames::Version;
+use bk_base::Version;
 use bk_rules::Ids;
 use bk_tx::Tx;
 use std::alloc::{AllocError, Global};

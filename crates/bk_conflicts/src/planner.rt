@@ -6,7 +6,7 @@ ghost use Rattle.bk_conflicts.specs.Plan.{IsPlan};
 
 use crate::edges::{Kept, lists_of, new_kept};
 use crate::plan::Plan;
-use bk_frames::Version;
+use bk_base::Version;
 use bk_rules::Ids;
 use bk_tx::Tx;
 use std::alloc::{AllocError, Global};

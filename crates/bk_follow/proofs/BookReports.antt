@@ -4,8 +4,8 @@ use Rattle.std.specs.Prelude.{Contains, option_map}
 use Rattle.std.proofs.lemmas.List.{length-map, length-drop, take-append-drop}
 use Rattle.std.proofs.lemmas.List.Elements.{Contains-append_right}
 use Rattle.bk_frames.specs.Device.{Device}
-use Rattle.bk_frames.specs.declared.genesis.Row.{Row}
-use Rattle.bk_frames.specs.Feed.{Frame, FeedValue, IsFeed, genesis_of}
+use Rattle.bk_base.specs.declared.genesis.Row.{Row}
+use Rattle.bk_base.specs.Feed.{Frame, FeedValue, IsFeed, genesis_of}
 use Rattle.bk_committee.specs.Payload.{CommitteeValue}
 use Rattle.bk_commit.specs.Growth.{IsPartOf}
 use Rattle.bk_cert.specs.declared.place.CertRef.{CertRef}
@@ -13,7 +13,7 @@ use Rattle.bk_order.specs.Frames.{AreRejects}
 use Rattle.bk_order.specs.Intake.{first_later_frame, Taken, HasTaken}
 use Rattle.bk_order.specs.Orders.{AreWaiting}
 use Rattle.bk_order.specs.Stops.{HasNoStop}
-use Rattle.bk_frames.proofs.Accounts.{genesis_few}
+use Rattle.bk_base.proofs.Accounts.{genesis_few}
 use Rattle.bk_rules.proofs.Folding.{length-receipts}
 use Rattle.bk_ledger.proofs.Growth.{state_long}
 use Rattle.bk_ledger.specs.Ledger.{LedgerValue}

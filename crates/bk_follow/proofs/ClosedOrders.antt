@@ -1,7 +1,7 @@
 -- The order of a feed that is closed.
 use Rattle.std.proofs.Common.{◌≡◌, ℕ, List, [], Option, Some, None, refl, sym, ap, ◌∙◌}
 use Rattle.bk_frames.specs.Cutting.{Cut}
-use Rattle.bk_frames.specs.Feed.{Frame, FeedValue}
+use Rattle.bk_base.specs.Feed.{Frame, FeedValue}
 use Rattle.bk_committee.specs.Payload.{CommitteeValue}
 use Rattle.bk_results.specs.declared.fault.Fault.{Fault}
 use Rattle.bk_results.specs.declared.fault.Fault.TheVariants as fault

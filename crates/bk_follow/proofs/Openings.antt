@@ -4,13 +4,13 @@ use Rattle.std.specs.Prelude.{◌==◌, IfSome, IsSome, IsTrue, is_some, slice_i
 use Rattle.std.proofs.lemmas.List.{length-map, append-nil, length-drop}
 use Rattle.std.proofs.lemmas.Bool.{eqb-true}
 use Rattle.std.specs.Global.{Vec}
-use Rattle.bk_frames.specs.declared.version.Version.{Version}
-use Rattle.bk_frames.specs.declared.kind.Kind.{Kind}
-use Rattle.bk_frames.specs.declared.limits.TheConstants.{MOST_FEED}
-use Rattle.bk_frames.specs.Feed.{Frame, FeedValue, frame_of, frame_text, AreGoodFrom, feed_of, genesis_of}
-use Rattle.bk_frames.specs.declared.genesis.Row.{Row}
-use Rattle.bk_frames.specs.Committee.{is_committee}
-use Rattle.bk_frames.specs.Genesis.{is_genesis, rows_of}
+use Rattle.bk_base.specs.declared.version.Version.{Version}
+use Rattle.bk_base.specs.declared.kind.Kind.{Kind}
+use Rattle.bk_base.specs.declared.limits.TheConstants.{MOST_FEED}
+use Rattle.bk_base.specs.Feed.{Frame, FeedValue, frame_of, frame_text, AreGoodFrom, feed_of, genesis_of}
+use Rattle.bk_base.specs.declared.genesis.Row.{Row}
+use Rattle.bk_base.specs.Committee.{is_committee}
+use Rattle.bk_base.specs.Genesis.{is_genesis, rows_of}
 use Rattle.bk_frames.specs.Cutting.{Cut, Cuts, in_magic, past_magic, in_frames, fresh, IsOpen, frames_in}
 use Rattle.bk_frames.proofs.CutJoining.{cuts_then, bytes_so_far, none_before_magic}
 use Rattle.bk_committee.specs.Payload.{CommitteeValue, committee_of}

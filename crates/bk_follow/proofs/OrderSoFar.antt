@@ -1,9 +1,9 @@
 -- The order of what a Follower has so far.
 use Rattle.std.proofs.Common.{◌≡◌, ℕ, ◌<◌, ◌≤◌, List, [], ◌∷◌, length, Option, Some, None, refl, sym, ap, subst, ◌∙◌, arith}
-use Rattle.bk_frames.specs.declared.version.Version.{Version}
-use Rattle.bk_frames.specs.declared.genesis.Row.{Row}
+use Rattle.bk_base.specs.declared.version.Version.{Version}
+use Rattle.bk_base.specs.declared.genesis.Row.{Row}
 use Rattle.bk_frames.specs.Cutting.{Cut}
-use Rattle.bk_frames.specs.Feed.{Frame, FeedValue, feed_of}
+use Rattle.bk_base.specs.Feed.{Frame, FeedValue, feed_of}
 use Rattle.bk_frames.proofs.CutJoining.{none_before_magic}
 use Rattle.bk_committee.specs.Payload.{CommitteeValue}
 use Rattle.bk_order.specs.Intake.{Taken, Kept, IsKeptOf, HasTaken}

@@ -3,7 +3,7 @@ use Rattle.std.proofs.Common.{◌≡◌, ℕ, List, [], ◌++◌, Option, Some, 
 use Rattle.std.specs.Prelude.{IfSome}
 use Rattle.std.proofs.KnownBytes.{Consumes-nil}
 use Rattle.bk_frames.specs.Device.{Device, IfKnown}
-use Rattle.bk_frames.specs.Feed.{Frame}
+use Rattle.bk_base.specs.Feed.{Frame}
 use Rattle.bk_frames.specs.Cutting.{CutsInto, frames_in}
 use Rattle.bk_frames.specs.Reading.{IsPulled, Pulls}
 use Rattle.bk_frames.proofs.Pulls.{at_end}

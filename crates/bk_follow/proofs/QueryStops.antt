@@ -1,7 +1,7 @@
 -- What stops a Follower's queries.
 use Rattle.std.proofs.Common.{◌≡◌, ◌≤◌, List, [], ◌∷◌, length, Option, Some, None, sym, subst, ◌∙◌, arith}
-use Rattle.bk_frames.specs.declared.version.Version.{Version}
-use Rattle.bk_frames.specs.Feed.{Frame, FeedValue, feed_of}
+use Rattle.bk_base.specs.declared.version.Version.{Version}
+use Rattle.bk_base.specs.Feed.{Frame, FeedValue, feed_of}
 use Rattle.bk_results.specs.declared.fault.Fault.{Fault}
 use Rattle.bk_results.specs.declared.fault.Fault.TheVariants as fault
 use Rattle.bk_follow.specs.RunReport.{HasNoStopIn, IsStopIn}

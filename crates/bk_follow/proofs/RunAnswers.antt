@@ -5,7 +5,8 @@ use Rattle.std.proofs.KnownBytes.{Keeps-refl}
 use Rattle.bk_frames.specs.declared.fault.FaultCode.TheVariants as code
 use Rattle.bk_frames.specs.declared.fault.FeedFault.{FeedFault}
 use Rattle.bk_frames.specs.Device.{Device, Works, Receives, IfKnown}
-use Rattle.bk_frames.specs.Feed.{Frame, FeedValue, IsFeed, feed_of, spelling, HasFault}
+use Rattle.bk_base.specs.Feed.{Frame, FeedValue, IsFeed, feed_of, spelling}
+use Rattle.bk_frames.specs.FirstFault.{HasFault}
 use Rattle.bk_frames.specs.Pulling.{Refuses}
 use Rattle.bk_frames.specs.Cutting.{EndsShort}
 use Rattle.bk_frames.proofs.CutJoining.{ends_cut_short}

@@ -2,9 +2,9 @@
 use Rattle.std.proofs.Common.{◌≡◌, ℕ, ◌⊎◌, inl, inr, List, [], ◌∷◌, ◌++◌, Option, Some, None, refl, sym, ap, subst, ◌∙◌, arith}
 use Rattle.std.proofs.lemmas.List.{append-nil}
 use Rattle.std.specs.Global.{Vec}
-use Rattle.bk_frames.specs.declared.version.Version.{Version}
-use Rattle.bk_frames.specs.declared.kind.Kind.{Kind}
-use Rattle.bk_frames.specs.Feed.{Frame, frame_of}
+use Rattle.bk_base.specs.declared.version.Version.{Version}
+use Rattle.bk_base.specs.declared.kind.Kind.{Kind}
+use Rattle.bk_base.specs.Feed.{Frame, frame_of}
 use Rattle.bk_frames.specs.Cutting.{Cut, Cuts, in_magic, fresh, IsOpen, frames_in}
 use Rattle.bk_frames.proofs.CutJoining.{bytes_so_far, none_before_magic}
 use Rattle.bk_committee.specs.Payload.{CommitteeValue}

@@ -1,7 +1,7 @@
 -- When two feeds agree, and two Followers; and when they differ.
 use Rattle.std.specs.Prelude.{◌≡◌, ◌≤◌, ◌⊎◌, ℕ, List, ◌++◌, length, Option, Some}
-use Rattle.bk_frames.specs.declared.version.Version.{Version}
-use Rattle.bk_frames.specs.Feed.{Frame, FeedValue, feed_of, genesis_of}
+use Rattle.bk_base.specs.declared.version.Version.{Version}
+use Rattle.bk_base.specs.Feed.{Frame, FeedValue, feed_of, genesis_of}
 use Rattle.bk_commit.specs.Growth.{IsPrefix}
 use Rattle.bk_order.specs.Agreement.{OneBegins}
 use Rattle.bk_order.specs.Orders.{Ordered}

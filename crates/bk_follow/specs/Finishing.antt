@@ -1,8 +1,8 @@
 -- What the end of a feed that is followed gives.
 use Rattle.std.specs.Prelude.{◌≡◌, ℕ, ◌<◌, List, length, take, Some}
 use Rattle.bk_frames.specs.Device.{Device, Works, Fails, Receives}
-use Rattle.bk_frames.specs.Feed.{Frame, FeedValue, IsFeed, feed_of, spelling}
-use Rattle.bk_frames.specs.declared.version.Version.{Version}
+use Rattle.bk_base.specs.Feed.{Frame, FeedValue, IsFeed, feed_of, spelling}
+use Rattle.bk_base.specs.declared.version.Version.{Version}
 use Rattle.bk_frames.specs.Cutting.{EndsShort}
 use Rattle.bk_results.specs.declared.fault.Fault.{Fault}
 use Rattle.bk_results.specs.declared.fault.Fault.TheVariants as fault

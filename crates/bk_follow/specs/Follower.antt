@@ -1,8 +1,8 @@
 -- What a Follower is to its callers.
 use Rattle.std.specs.Prelude.{◌≡◌, ◌≤◌, ℕ, ◌+◌, false, List, [], ◌∷◌, ◌++◌, length, map, Option, Some, None, IfSome}
-use Rattle.bk_frames.specs.declared.version.Version.{Version}
-use Rattle.bk_frames.specs.declared.genesis.Row.{Row}
-use Rattle.bk_frames.specs.Feed.{Frame, FeedValue, feed_of, genesis_of}
+use Rattle.bk_base.specs.declared.version.Version.{Version}
+use Rattle.bk_base.specs.declared.genesis.Row.{Row}
+use Rattle.bk_base.specs.Feed.{Frame, FeedValue, feed_of, genesis_of}
 use Rattle.bk_frames.specs.Cutting.{Cut, fresh, Cuts, IsOpen, RefusesPiece}
 use Rattle.bk_committee.specs.Payload.{CommitteeValue, committee_of}
 use Rattle.bk_commit.specs.Growth.{IsPartOf}

@@ -1,6 +1,6 @@
 -- At which missing batch the order of a feed stops.
 use Rattle.std.specs.Prelude.{◌≡◌, ℕ, List, Option}
-use Rattle.bk_frames.specs.Feed.{FeedValue}
+use Rattle.bk_base.specs.Feed.{FeedValue}
 use Rattle.bk_results.specs.Devices.{AreFeedWith}
 use Rattle.bk_order.specs.Orders.{Ordered}
 use Rattle.bk_follow.specs.Follower.{BookValue, ordered_in}

@@ -1,7 +1,7 @@
 -- What a Follower's order is between its pieces.
 use Rattle.std.specs.Prelude.{◌≡◌, ℕ, ◌<◌, ◌≤◌, List, [], length, Option, Some, None}
-use Rattle.bk_frames.specs.declared.version.Version.{Version}
-use Rattle.bk_frames.specs.Feed.{Frame, FeedValue, feed_of}
+use Rattle.bk_base.specs.declared.version.Version.{Version}
+use Rattle.bk_base.specs.Feed.{Frame, FeedValue, feed_of}
 use Rattle.bk_order.specs.Orders.{Ordered}
 use Rattle.bk_cert.specs.declared.place.CertRef.{CertRef}
 use Rattle.bk_results.specs.declared.fault.Fault.{Fault}

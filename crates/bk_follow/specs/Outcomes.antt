@@ -1,7 +1,7 @@
 -- What a feed comes to, read off its frames alone.
 use Rattle.std.specs.Prelude.{◌≡◌, List}
-use Rattle.bk_frames.specs.declared.genesis.Row.{Row}
-use Rattle.bk_frames.specs.Feed.{FeedValue, genesis_of}
+use Rattle.bk_base.specs.declared.genesis.Row.{Row}
+use Rattle.bk_base.specs.Feed.{FeedValue, genesis_of}
 use Rattle.bk_order.specs.Orders.{Ordered}
 use Rattle.bk_rules.specs.declared.receipt.Receipt.{Receipt}
 use Rattle.bk_rules.specs.Fold.{state_after, receipts_of}

@@ -1,7 +1,7 @@
 -- The report of a run: what the rules read off the frames of a feed, and the fold over its batches. But for the rejected
 -- certificates and the number of frames, all of it is read off the frames as a set.
 use Rattle.std.specs.Prelude.{◌≡◌, ℕ, ◌<◌, List, [], length, drop, Option, Some, None, option_map, unwrap_or, slice_get}
-use Rattle.bk_frames.specs.Feed.{Frame, FeedValue, genesis_of}
+use Rattle.bk_base.specs.Feed.{Frame, FeedValue, genesis_of}
 use Rattle.bk_committee.specs.Payload.{CommitteeValue, committee_of}
 use Rattle.bk_order.specs.Frames.{AreRejects}
 use Rattle.bk_order.specs.Intake.{first_later_frame}

@@ -1,10 +1,10 @@
 //! What is made of the frames of a feed: their order, and what executing its batches gave.
 
 ghost use Rattle.std.specs.Prelude.{◌≡◌, ◌+◌, ◌^◌, ◌<◌, ◌≤◌, ◌++◌, [], ℕ, List, false, drop, length, map, Some, OnOk, IfOk, IfErr};
-ghost use Rattle.bk_frames.specs.declared.version.Version.{Version};
+ghost use Rattle.bk_base.specs.declared.version.Version.{Version};
 ghost use Rattle.bk_frames.specs.Cutting.{frames_in};
-ghost use Rattle.bk_frames.specs.Feed.{Frame, FeedValue, feed_of, genesis_of};
-ghost use Rattle.bk_frames.specs.Genesis.{AreAccounts};
+ghost use Rattle.bk_base.specs.Feed.{Frame, FeedValue, feed_of, genesis_of};
+ghost use Rattle.bk_base.specs.Genesis.{AreAccounts};
 ghost use Rattle.bk_order.specs.Intake.{nothing_ordered};
 ghost use Rattle.bk_follow.specs.RunReport.{committee_in, later_frames, HasNoStopIn, IsStopIn};
 ghost use Rattle.bk_follow.specs.Follower.{IsBookOf, IsCurrent, receipts_of_executed};
@@ -16,7 +16,7 @@ ghost use Rattle.bk_follow.specs.private.Ledgers.{LeavesBy, left_after};
 
 use crate::fault::{Fault, stopped, unexecuted};
 use bk_committee::Committee;
-use bk_frames::{Kind, Row};
+use bk_base::{Kind, Row};
 use bk_ledger::Ledger;
 use bk_order::Intake;
 use bk_pool::Gate;

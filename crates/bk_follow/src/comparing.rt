@@ -9,7 +9,7 @@ use crate::book::Book;
 use crate::differ::{Agreed, Differ, differing};
 use crate::follower::Follower;
 use bk_committee::Committee;
-use bk_frames::{Row, Version};
+use bk_base::{Row, Version};
 
 // The lesser of two numbers.
 fn lesser(one: usize, other: usize) -> usize

@@ -2,7 +2,7 @@
 
 ghost use Rattle.std.specs.Prelude.{◌≡◌, ◌≤◌, ℕ, List, None, Some, Err, OnOk, IfOk, IfErr, IfSome};
 ghost use Rattle.bk_frames.specs.Device.{CanBeUsed};
-ghost use Rattle.bk_frames.specs.Feed.{Frame};
+ghost use Rattle.bk_base.specs.Feed.{Frame};
 ghost use Rattle.bk_follow.specs.Follower.{unfed, HasCome, Takes, FeedFails, Settles, SettleFails, ordered_in, receipts_in, executed_in};
 ghost use Rattle.bk_follow.specs.Finishing.{Closes, CloseFails, Finishes, FinishFails};
 ghost use Rattle.bk_results.specs.Devices.{IsUntouched};
@@ -35,7 +35,7 @@ pub struct Follower {
 
 impl Model for Follower {
     ghost use Rattle.std.specs.Prelude.{◌≡◌, ◌≤◌, ℕ, List, [], None};
-    ghost use Rattle.bk_frames.specs.Feed.{Frame};
+    ghost use Rattle.bk_base.specs.Feed.{Frame};
     ghost use Rattle.bk_follow.specs.Follower.{Followed, HasCome};
     ghost use Rattle.bk_follow.specs.private.Parts.{followed};
 

@@ -1,11 +1,11 @@
 //! The first two frames of a feed, and what follows them.
 
 ghost use Rattle.std.specs.Prelude.{◌≡◌, ◌++◌, [], ℕ, List, None, Some, Option, OnOk, IfOk, IfErr, IfSome, IsSome, IsTrue, MatchOption};
-ghost use Rattle.bk_frames.specs.declared.version.Version.{Version};
+ghost use Rattle.bk_base.specs.declared.version.Version.{Version};
 ghost use Rattle.bk_frames.specs.Cutting.{frames_in};
-ghost use Rattle.bk_frames.specs.Feed.{Frame};
-ghost use Rattle.bk_frames.specs.Committee.{is_committee};
-ghost use Rattle.bk_frames.specs.Genesis.{AreAccounts, is_genesis, rows_of};
+ghost use Rattle.bk_base.specs.Feed.{Frame};
+ghost use Rattle.bk_base.specs.Committee.{is_committee};
+ghost use Rattle.bk_base.specs.Genesis.{AreAccounts, is_genesis, rows_of};
 ghost use Rattle.bk_committee.specs.Payload.{blamed, committee_of};
 ghost use Rattle.bk_follow.specs.Follower.{HasCome, Takes, FollowsBy, FeedFails, ordered_in, receipts_in, executed_in};
 ghost use Rattle.bk_follow.specs.private.Books.{HasFollowed};
@@ -15,7 +15,8 @@ ghost use Rattle.bk_follow.specs.private.Parts.{followed};
 use crate::book::Book;
 use crate::fault::Fault;
 use bk_committee::{Bad, Committee};
-use bk_frames::{Cutter, Kind, Row, Version, read_genesis};
+use bk_base::{Kind, Row, Version, read_genesis};
+use bk_frames::Cutter;
 use std::alloc::{AllocError, Global};
 use std::thread::Threads;
 

@@ -1,7 +1,7 @@
 //! The order of what a Follower has so far.
 
 ghost use Rattle.std.specs.Prelude.{◌≡◌, ℕ, List, None, Err, OnOk, IfOk, IfErr, IfSome};
-ghost use Rattle.bk_frames.specs.Feed.{Frame, FeedValue};
+ghost use Rattle.bk_base.specs.Feed.{Frame, FeedValue};
 ghost use Rattle.bk_follow.specs.Finishing.{ClosesOrder, CloseOrderFails};
 ghost use Rattle.bk_follow.specs.Follower.{HasCome};
 ghost use Rattle.bk_follow.specs.Ordering.{IsOrderSoFar, IsOrdered, FindsOrder, OrderFails, anchors_in, certs_in};

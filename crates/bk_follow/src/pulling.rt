@@ -5,7 +5,8 @@ ghost use Rattle.bk_frames.specs.Device.{CanBeUsed};
 ghost use Rattle.bk_frames.specs.declared.pulling.TheConstants.{PIECE};
 ghost use Rattle.bk_follow.specs.private.Gathering.{CanPull, HasPulledGroup};
 
-use bk_frames::{Cutter, FeedFault, Kind, Source, pull_frames};
+use bk_base::Kind;
+use bk_frames::{Cutter, FeedFault, Source, pull_frames};
 
 // How many bytes a group has at least and at most, and how many frames at least: enough to share among processors.
 const LEAST: usize = 1 << 22;

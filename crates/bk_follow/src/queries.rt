@@ -11,7 +11,7 @@ ghost use Rattle.bk_follow.specs.Ordering.{OrderFails};
 use crate::fault::Fault;
 use crate::follower::{Follower, stand};
 use bk_digest::Digest32;
-use bk_frames::Row;
+use bk_base::Row;
 use bk_ledger::Ledger;
 use bk_order::Intake;
 use bk_report::{Proof, proof_of};

@@ -1,6 +1,6 @@
 ghost use Rattle.std.specs.Prelude.{◌≡◌, ℕ, ◌<◌, ◌≤◌, [], List, length, None, Some, OnOk, IfOk, IfErr};
 ghost use Rattle.bk_frames.specs.Device.{CanBeUsed, Works, Receives, IfKnown};
-ghost use Rattle.bk_frames.specs.Feed.{Frame};
+ghost use Rattle.bk_base.specs.Feed.{Frame};
 ghost use Rattle.bk_follow.specs.Follower.{unfed};
 ghost use Rattle.bk_follow.specs.RunReport.{IsReport};
 ghost use Rattle.bk_results.specs.Devices.{devices};

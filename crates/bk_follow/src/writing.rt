@@ -2,8 +2,8 @@
 
 ghost use Rattle.std.specs.Prelude.{◌≡◌, ◌^◌, ◌<◌, ◌≤◌, ◌++◌, [], ℕ, List, false, length, OnOk, IfOk, IfErr};
 ghost use Rattle.bk_frames.specs.Device.{CanBeUsed};
-ghost use Rattle.bk_frames.specs.Feed.{Frame, FeedValue, IsFeed};
-ghost use Rattle.bk_frames.specs.Genesis.{total_of};
+ghost use Rattle.bk_base.specs.Feed.{Frame, FeedValue, IsFeed};
+ghost use Rattle.bk_base.specs.Genesis.{total_of};
 ghost use Rattle.bk_order.specs.Intake.{HasTaken};
 ghost use Rattle.bk_order.specs.Orders.{AreWaiting};
 ghost use Rattle.bk_order.specs.Stops.{HasNoStop};
@@ -17,7 +17,8 @@ ghost use Rattle.bk_report.specs.Pages.{Written, blank};
 use crate::book::Book;
 use crate::fault::Fault;
 use bk_cert::CertRef;
-use bk_frames::{Row, Sink, WriteFault};
+use bk_base::Row;
+use bk_frames::{Sink, WriteFault};
 use bk_ledger::Ledger;
 use bk_order::Intake;
 use bk_report::{Page, Parts, Sheets, leaves_of, sheets_for, write_run};

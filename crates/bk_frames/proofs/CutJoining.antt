@@ -3,14 +3,15 @@ use Rattle.std.proofs.Common.{◌≡◌, ℕ, zero, suc, ◌+◌, ◌≤◌, Lis
 use Rattle.std.specs.List.{flat_map}
 use Rattle.std.proofs.lemmas.List.{append-nil}
 use Rattle.std.proofs.lemmas.List.Concat.{flat_map-append, flat_map-cons}
-use Rattle.bk_frames.specs.declared.version.Version.{Version}
+use Rattle.bk_base.specs.declared.version.Version.{Version}
 use Rattle.bk_frames.specs.declared.fault.FaultCode.TheVariants as code
 use Rattle.bk_frames.specs.declared.fault.FeedFault.{FeedFault}
 use Rattle.bk_frames.specs.declared.pulling.TheConstants.{PIECE}
-use Rattle.bk_frames.specs.Feed.{Frame, feed_of, frame_text, spelling, magic, start_fault, frame_fault, AreGoodFrom, IsFeed, Begins, HasFault, at_start, in_frame}
+use Rattle.bk_base.specs.Feed.{Frame, feed_of, frame_text, spelling, magic, AreGoodFrom, IsFeed}
+use Rattle.bk_frames.specs.FirstFault.{start_fault, frame_fault, Begins, HasFault, at_start, in_frame}
 use Rattle.bk_frames.specs.Pulling.{StopsAt, cut_short, feed_ends, IsPartAt, in_part, FrontCallsForMemoryAt}
 use Rattle.bk_frames.specs.Cutting.{Cut, fresh, Cuts, in_magic, past_magic, in_frames, IsOpen, ShowsFault, Reaches, EndsShort, fault_at}
-use Rattle.bk_frames.proofs.FramesInTurn.{length-magic}
+use Rattle.bk_base.proofs.FramesInTurn.{length-magic}
 
 -- ---- versions
 

@@ -8,15 +8,16 @@ use Rattle.std.proofs.lemmas.Bool.{le-ltb, lt-ltb, cases_lt}
 use Rattle.std.proofs.lemmas.List.{append-nil, map-append, take_all, take-append-drop, length-take}
 use Rattle.std.proofs.lemmas.List.Concat.{flat_map-cons}
 use Rattle.std.proofs.lemmas.Nat.{be_bytes_4}
-use Rattle.bk_frames.specs.declared.kind.Kind.{Kind}
+use Rattle.bk_base.specs.declared.kind.Kind.{Kind}
 use Rattle.bk_frames.specs.declared.fault.FaultCode.{FaultCode}
 use Rattle.bk_frames.specs.declared.fault.FaultCode.TheVariants as code
 use Rattle.bk_frames.specs.declared.fault.FeedFault.{FeedFault}
-use Rattle.bk_frames.specs.Numbers.{IsBytes}
-use Rattle.bk_frames.specs.declared.version.Version.{Version}
-use Rattle.bk_frames.specs.declared.version.Version.TheVariants.{One}
+use Rattle.bk_base.specs.Numbers.{IsBytes}
+use Rattle.bk_base.specs.declared.version.Version.{Version}
+use Rattle.bk_base.specs.declared.version.Version.TheVariants.{One}
 use Rattle.bk_frames.specs.declared.part.Part.{Part}
-use Rattle.bk_frames.specs.Feed.{Frame, IsFramedAt, feed_of, frame_text, kind_number, spelling, stands_at, magic, start_fault, kind_fault, length_fault, payload_fault, frame_fault}
+use Rattle.bk_base.specs.Feed.{Frame, IsFramedAt, feed_of, frame_text, kind_number, spelling, stands_at, magic}
+use Rattle.bk_frames.specs.FirstFault.{start_fault, kind_fault, length_fault, payload_fault, frame_fault}
 use Rattle.bk_frames.specs.Pulling.{ByCode, IsPartAt}
 use Rattle.bk_frames.specs.Cutting.{Cut, CutsInto, Cuts, in_magic, past_magic, in_frames, IsOpen, IsBegun, ShowsFault, Reaches, RefusesPiece, fault_at, frames_in}
 use Rattle.bk_frames.specs.private.Parts.{IsPart, IsShort, IsInFrame, FailsSoon, kept_of, cut_of, len_of}

@@ -4,12 +4,13 @@ use Rattle.std.specs.List.{flat_map}
 use Rattle.std.specs.Global.{Vec}
 use Rattle.std.proofs.lemmas.List.{append-nil, take_more, take-append-drop, take_all}
 use Rattle.std.proofs.lemmas.List.Concat.{flat_map-append, flat_map-cons}
-use Rattle.bk_frames.specs.declared.kind.Kind.{Kind}
+use Rattle.bk_base.specs.declared.kind.Kind.{Kind}
 use Rattle.bk_frames.specs.declared.fault.FaultCode.TheVariants as code
 use Rattle.bk_frames.specs.declared.fault.FeedFault.{FeedFault}
-use Rattle.bk_frames.specs.declared.version.Version.{Version}
+use Rattle.bk_base.specs.declared.version.Version.{Version}
 use Rattle.bk_frames.specs.declared.fault.FaultCode.{FaultCode}
-use Rattle.bk_frames.specs.Feed.{Frame, feed_of, spelling, IsFeed, HasFault}
+use Rattle.bk_base.specs.Feed.{Frame, feed_of, spelling, IsFeed}
+use Rattle.bk_frames.specs.FirstFault.{HasFault}
 use Rattle.bk_frames.specs.Pulling.{ByCode}
 use Rattle.bk_frames.proofs.FrameFaults.{by_code}
 use Rattle.bk_frames.specs.Cutting.{Cut, fresh, Cuts, ShowsFault, Reaches, RefusesPiece, EndsShort, bytes_in, frames_in}

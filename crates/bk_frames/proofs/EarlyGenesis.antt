@@ -10,19 +10,20 @@ use Rattle.bk_frames.specs.declared.fault.FaultCode.{FaultCode}
 use Rattle.bk_frames.specs.declared.fault.FaultCode.TheVariants as code
 use Rattle.bk_frames.specs.declared.fault.FeedFault.{FeedFault}
 use Rattle.bk_frames.specs.declared.pulling.TheConstants.{PIECE}
-use Rattle.bk_frames.specs.declared.genesis.Row.{Row}
-use Rattle.bk_frames.specs.declared.kind.Kind.{Kind}
-use Rattle.bk_frames.specs.declared.version.Version.{Version}
-use Rattle.bk_frames.specs.declared.version.Version.TheVariants.{One}
+use Rattle.bk_base.specs.declared.genesis.Row.{Row}
+use Rattle.bk_base.specs.declared.kind.Kind.{Kind}
+use Rattle.bk_base.specs.declared.version.Version.{Version}
+use Rattle.bk_base.specs.declared.version.Version.TheVariants.{One}
 use Rattle.bk_frames.specs.Device.{Device}
-use Rattle.bk_frames.specs.Feed.{Frame, feed_of, genesis_of, frame_text, frame_fault, magic, spelling, start_fault, AreGoodFrom, Begins, IsFramedAt, IsGoodAt}
+use Rattle.bk_base.specs.Feed.{Frame, feed_of, genesis_of, frame_text, magic, spelling, AreGoodFrom, IsFramedAt, IsGoodAt}
+use Rattle.bk_frames.specs.FirstFault.{frame_fault, start_fault, Begins}
 use Rattle.bk_frames.specs.Cutting.{Cut, Cuts, in_magic, past_magic, in_frames, IsOpen, fault_at, fresh, frames_in}
 use Rattle.bk_frames.specs.Pulling.{FrontCallsForMemoryAt, in_part, Refuses}
 use Rattle.bk_frames.specs.Reading.{IsPulled, Pulls}
 use Rattle.bk_frames.specs.private.Openings.{IsOpening, CallsForAccounts}
 use Rattle.bk_frames.proofs.FrameFaults.{whole_part}
 use Rattle.bk_frames.proofs.CutJoining.{spelling_then}
-use Rattle.bk_frames.proofs.FramesInTurn.{length-magic, spelling_more}
+use Rattle.bk_base.proofs.FramesInTurn.{length-magic, spelling_more}
 use Rattle.bk_frames.proofs.OneReading.{frame_injective, no_fault, magic_injective, magic_and, start_of}
 
 no_code : (e : FaultCode) → ¬ (None ≡ Some e)

@@ -4,17 +4,18 @@ use Rattle.std.proofs.lemmas.Bool.{le-ltb, ltb-false}
 use Rattle.std.proofs.lemmas.List.{take_at, append-nil, length-replicate}
 use Rattle.std.proofs.lemmas.Nat.{from_be_bytes-to_be_bytes_4}
 use Rattle.std.proofs.lemmas.Bool.Decides.{nat_tests}
-use Rattle.bk_frames.specs.declared.limits.TheConstants.{MOST_FEED, MOST_PAYLOAD}
+use Rattle.bk_base.specs.declared.limits.TheConstants.{MOST_FEED, MOST_PAYLOAD}
 use Rattle.bk_frames.specs.declared.fault.FaultCode.{FaultCode}
 use Rattle.bk_frames.specs.declared.fault.FaultCode.TheVariants as code
 use Rattle.std.specs.Prelude.{IsTrue, not}
 use Rattle.std.specs.Int.{w32, to_be_bytes, from_be_bytes}
-use Rattle.bk_frames.specs.declared.version.Version.{Version}
-use Rattle.bk_frames.specs.declared.kind.Kind.{Kind}
-use Rattle.bk_frames.specs.declared.kind.Kind.TheVariants as kind
-use Rattle.bk_frames.specs.Committee.{is_committee}
-use Rattle.bk_frames.specs.Genesis.{is_genesis}
-use Rattle.bk_frames.specs.Feed.{Frame, frame_text, kind_number, stands_at, IsFramedAt, IsGoodAt, kind_fault, length_fault, payload_fault, content_fault, frame_fault, fault_if}
+use Rattle.bk_base.specs.declared.version.Version.{Version}
+use Rattle.bk_base.specs.declared.kind.Kind.{Kind}
+use Rattle.bk_base.specs.declared.kind.Kind.TheVariants as kind
+use Rattle.bk_base.specs.Committee.{is_committee}
+use Rattle.bk_base.specs.Genesis.{is_genesis}
+use Rattle.bk_base.specs.Feed.{Frame, frame_text, kind_number, stands_at, IsFramedAt, IsGoodAt}
+use Rattle.bk_frames.specs.FirstFault.{kind_fault, length_fault, payload_fault, content_fault, frame_fault, fault_if}
 use Rattle.bk_frames.specs.Pulling.{ByCode, IsPartAt}
 
 -- one reason becomes another, case by case

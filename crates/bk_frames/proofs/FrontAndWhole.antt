@@ -6,9 +6,10 @@ use Rattle.std.specs.Int.{w32, from_be_bytes}
 use Rattle.std.proofs.lemmas.Bool.{le-ltb, ltb-false}
 use Rattle.bk_frames.specs.declared.fault.FaultCode.{FaultCode}
 use Rattle.bk_frames.specs.declared.fault.FaultCode.TheVariants as code
-use Rattle.bk_frames.specs.declared.version.Version.{Version}
-use Rattle.bk_frames.specs.declared.version.Version.TheVariants.{One, Two}
-use Rattle.bk_frames.specs.Feed.{FeedValue, magic, begins_magic, start_fault, kind_fault, length_fault, payload_fault, content_fault, frame_fault, fault_if, or_else, spelling, Begins, HasFault, at_start, in_frame}
+use Rattle.bk_base.specs.declared.version.Version.{Version}
+use Rattle.bk_base.specs.declared.version.Version.TheVariants.{One, Two}
+use Rattle.bk_base.specs.Feed.{FeedValue, magic, spelling}
+use Rattle.bk_frames.specs.FirstFault.{begins_magic, start_fault, kind_fault, length_fault, payload_fault, content_fault, frame_fault, fault_if, or_else, Begins, HasFault, at_start, in_frame}
 use Rattle.bk_frames.specs.declared.fault.FeedFault.{FeedFault}
 use Rattle.bk_frames.specs.Cutting.{fault_at}
 

@@ -8,24 +8,25 @@ use Rattle.std.proofs.lemmas.Bool.Decides.{nat_tests}
 use Rattle.std.proofs.lemmas.List.{append-nil, take-append-le, take_at, drop_at, take-append-drop, length-take}
 use Rattle.std.proofs.lemmas.List.Concat.{flat_map-cons}
 use Rattle.std.proofs.lemmas.Nat.{be_bytes_4, from_be_bytes-to_be_bytes_4}
-use Rattle.bk_frames.specs.declared.limits.TheConstants.{MOST_FEED, MOST_PAYLOAD}
-use Rattle.bk_frames.specs.declared.version.Version.{Version}
-use Rattle.bk_frames.specs.declared.version.Version.TheVariants.{One, Two}
-use Rattle.bk_frames.specs.declared.kind.Kind.{Kind}
-use Rattle.bk_frames.specs.declared.kind.Kind.TheVariants as kind
+use Rattle.bk_base.specs.declared.limits.TheConstants.{MOST_FEED, MOST_PAYLOAD}
+use Rattle.bk_base.specs.declared.version.Version.{Version}
+use Rattle.bk_base.specs.declared.version.Version.TheVariants.{One, Two}
+use Rattle.bk_base.specs.declared.kind.Kind.{Kind}
+use Rattle.bk_base.specs.declared.kind.Kind.TheVariants as kind
 use Rattle.bk_frames.specs.declared.fault.FaultCode.{FaultCode}
 use Rattle.bk_frames.specs.declared.fault.FaultCode.TheVariants as code
 use Rattle.bk_frames.specs.declared.fault.FeedFault.{FeedFault}
-use Rattle.bk_frames.specs.Feed.{Frame, FeedValue, feed_of, frame_text, spelling, magic, begins_magic, kind_number, stands_at, start_fault, kind_fault, length_fault, payload_fault, content_fault, frame_fault, fault_if, or_else, IsFramedAt, IsGoodAt, AreGoodFrom, IsFeed, Begins, HasFault, at_start, in_frame}
-use Rattle.bk_frames.specs.Committee.{is_committee}
-use Rattle.bk_frames.specs.Genesis.{is_genesis}
+use Rattle.bk_base.specs.Feed.{Frame, FeedValue, feed_of, frame_text, spelling, magic, kind_number, stands_at, IsFramedAt, IsGoodAt, AreGoodFrom, IsFeed}
+use Rattle.bk_frames.specs.FirstFault.{begins_magic, start_fault, kind_fault, length_fault, payload_fault, content_fault, frame_fault, fault_if, or_else, Begins, HasFault, at_start, in_frame}
+use Rattle.bk_base.specs.Committee.{is_committee}
+use Rattle.bk_base.specs.Genesis.{is_genesis}
 use Rattle.bk_frames.specs.Pulling.{StopsAt, cut_short, feed_ends, IsPartAt, CallsForMemoryAt, at_first, in_part}
 use Rattle.bk_frames.specs.Laws.{IsFeedOrHasFault}
-use Rattle.bk_frames.specs.Numbers.{IsBytes}
-use Rattle.bk_frames.proofs.FieldLemmas.{IsBytes-take, IsBytes-drop}
-use Rattle.bk_frames.proofs.Accounts.{and_true}
+use Rattle.bk_base.specs.Numbers.{IsBytes}
+use Rattle.bk_base.proofs.FieldLemmas.{IsBytes-take, IsBytes-drop}
+use Rattle.bk_base.proofs.Accounts.{and_true}
 use Rattle.bk_frames.proofs.FrameFaults.{judged, good}
-use Rattle.bk_frames.proofs.FramesInTurn.{good_more, spelling_more, length-magic}
+use Rattle.bk_base.proofs.FramesInTurn.{good_more, spelling_more, length-magic}
 
 -- ---- one frame
 

@@ -5,15 +5,16 @@ use Rattle.std.specs.List.{flat_map}
 use Rattle.std.specs.Int.{w32, from_be_bytes}
 use Rattle.std.proofs.lemmas.Bool.{ltb-true, ltb-false}
 use Rattle.std.proofs.lemmas.List.Concat.{flat_map-cons}
-use Rattle.bk_frames.specs.declared.limits.TheConstants.{MOST_FEED, MOST_PAYLOAD}
-use Rattle.bk_frames.specs.declared.version.Version.{Version}
+use Rattle.bk_base.specs.declared.limits.TheConstants.{MOST_FEED, MOST_PAYLOAD}
+use Rattle.bk_base.specs.declared.version.Version.{Version}
 use Rattle.bk_frames.specs.declared.fault.FaultCode.{FaultCode}
 use Rattle.bk_frames.specs.declared.fault.FaultCode.TheVariants as code
-use Rattle.bk_frames.specs.Committee.{is_committee}
-use Rattle.bk_frames.specs.Genesis.{is_genesis}
-use Rattle.bk_frames.specs.Feed.{Frame, feed_of, frame_text, spelling, magic, begins_magic, start_fault, kind_fault, payload_fault, content_fault, frame_fault, fault_if, or_else, AreGoodFrom}
+use Rattle.bk_base.specs.Committee.{is_committee}
+use Rattle.bk_base.specs.Genesis.{is_genesis}
+use Rattle.bk_base.specs.Feed.{Frame, feed_of, frame_text, spelling, magic, AreGoodFrom}
+use Rattle.bk_frames.specs.FirstFault.{begins_magic, start_fault, kind_fault, payload_fault, content_fault, frame_fault, fault_if, or_else}
 use Rattle.bk_frames.specs.Cutting.{Cut, fresh, Cuts, in_magic, past_magic, in_frames, IsOpen, fault_at}
-use Rattle.bk_frames.proofs.FramesInTurn.{length-magic}
+use Rattle.bk_base.proofs.FramesInTurn.{length-magic}
 use Rattle.bk_frames.proofs.CutJoining.{none_before_magic}
 
 no_version : (v : Version) → ¬ (None ≡ Some v)

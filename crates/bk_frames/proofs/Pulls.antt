@@ -5,12 +5,13 @@ use Rattle.std.specs.Global.{Vec}
 use Rattle.std.specs.Io.KnownBytes.{Consumes, Keeps, IsAtEnd}
 use Rattle.std.proofs.KnownBytes.{Consumes-nil, Consumes-kept}
 use Rattle.std.proofs.lemmas.List.{append-nil, map-append}
-use Rattle.bk_frames.specs.declared.kind.Kind.{Kind}
+use Rattle.bk_base.specs.declared.kind.Kind.{Kind}
 use Rattle.bk_frames.specs.declared.pulling.TheConstants.{PIECE}
 use Rattle.bk_frames.specs.declared.fault.FaultCode.TheVariants as code
 use Rattle.bk_frames.specs.declared.fault.FeedFault.{FeedFault}
 use Rattle.bk_frames.specs.Device.{Device, Works, Fails, Gives, IfKnown}
-use Rattle.bk_frames.specs.Feed.{Frame, HasFault, spelling, FeedValue}
+use Rattle.bk_base.specs.Feed.{Frame, spelling, FeedValue}
+use Rattle.bk_frames.specs.FirstFault.{HasFault}
 use Rattle.bk_frames.specs.Pulling.{Gave, StopsAt, FrontCallsForMemoryAt, Refuses}
 use Rattle.bk_frames.specs.Cutting.{Cut, Cuts, CutsInto, IsOpen, ShowsFault, Reaches, RefusesPiece, EndsShort, fresh, in_magic, frames_in}
 use Rattle.bk_frames.specs.Reading.{IsPulled, room_of}

@@ -2,12 +2,13 @@
 use Rattle.std.specs.Prelude.{◌≡◌, ◌≢◌, ℕ, ◌+◌, ◌<◌, List, [], ◌++◌, length, map, Option, Some, None}
 use Rattle.std.specs.List.{flat_map}
 use Rattle.std.specs.Global.{Vec}
-use Rattle.bk_frames.specs.declared.version.Version.{Version}
-use Rattle.bk_frames.specs.declared.kind.Kind.{Kind}
+use Rattle.bk_base.specs.declared.version.Version.{Version}
+use Rattle.bk_base.specs.declared.kind.Kind.{Kind}
 use Rattle.bk_frames.specs.declared.fault.FaultCode.{FaultCode}
 use Rattle.bk_frames.specs.declared.fault.FaultCode.TheVariants as code
 use Rattle.bk_frames.specs.declared.fault.FeedFault.{FeedFault}
-use Rattle.bk_frames.specs.Feed.{Frame, feed_of, frame_text, spelling, start_fault, frame_fault, AreGoodFrom}
+use Rattle.bk_base.specs.Feed.{Frame, feed_of, frame_text, spelling, AreGoodFrom}
+use Rattle.bk_frames.specs.FirstFault.{start_fault, frame_fault}
 use Rattle.bk_frames.specs.Pulling.{ByCode, IsPartAt}
 
 -- what a cutter keeps between two pieces: the version, once the magic is whole; the index and the offset of the frame

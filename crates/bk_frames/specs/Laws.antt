@@ -1,13 +1,12 @@
 -- What the definitions of a feed say together.
 use Rattle.std.specs.Prelude.{◌≡◌, ◌≢◌, ℕ, ◌≤◌, List, [], ◌++◌, length, take, Some, None, ◌⊎◌}
-use Rattle.bk_frames.specs.declared.version.Version.{Version}
+use Rattle.bk_base.specs.declared.version.Version.{Version}
 use Rattle.bk_frames.specs.declared.fault.FaultCode.TheVariants as code
 use Rattle.bk_frames.specs.declared.fault.FeedFault.{FeedFault}
-use Rattle.bk_frames.specs.declared.genesis.Row.{Row}
 use Rattle.bk_frames.specs.declared.pulling.TheConstants.{PIECE}
-use Rattle.bk_frames.specs.Genesis.{IsGenesis, genesis_text, rows_of}
-use Rattle.bk_frames.specs.Feed.{Frame, FeedValue, frame_text, feed_of, IsFeed, spelling, Begins, HasFault}
-use Rattle.bk_frames.specs.Numbers.{IsBytes}
+use Rattle.bk_base.specs.Feed.{Frame, FeedValue, frame_text, feed_of, IsFeed, spelling}
+use Rattle.bk_frames.specs.FirstFault.{Begins, HasFault}
+use Rattle.bk_base.specs.Numbers.{IsBytes}
 use Rattle.bk_frames.specs.Pulling.{StopsAt, IsPartAt, CallsForMemoryAt, FrontCallsForMemoryAt}
 use Rattle.bk_frames.specs.Cutting.{Cut, fresh, Cuts, IsOpen, ShowsFault, Reaches, EndsShort}
 
@@ -42,14 +41,6 @@ OneCallForMemory = (bytes : List ℕ) (one other : ℕ) → CallsForMemoryAt byt
 -- a part of a frame has the frame's kind and length
 abbrev pub PartIsMeasured : Type 0
 PartIsMeasured = (index offset : ℕ) (part : List ℕ) (p : IsPartAt index offset part) → take 5 part ≡ take 5 (frame_text p.frame)
-
--- what is read of a genesis encodes to the same bytes
-abbrev pub GenesisIsSpelled : Type 0
-GenesisIsSpelled = (payload : List ℕ) (rows : List Row) → IsBytes payload → rows_of payload ≡ Some rows → IsGenesis rows × (payload ≡ genesis_text rows)
-
--- the encoding of opening accounts is read as these
-abbrev pub GenesisIsRead : Type 0
-GenesisIsRead = (rows : List Row) → IsGenesis rows → rows_of (genesis_text rows) ≡ Some rows
 
 -- ---- pieces
 

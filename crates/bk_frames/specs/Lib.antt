@@ -1,9 +1,6 @@
-pub mod Numbers
-pub mod Genesis
-pub mod Committee
 pub mod Device
 pub mod Counting
-pub mod Feed
+pub mod FirstFault
 pub mod Faults
 pub mod Pulling
 pub mod Writing

@@ -5,7 +5,8 @@ use Rattle.bk_frames.specs.declared.fault.FaultCode.TheVariants as code
 use Rattle.bk_frames.specs.declared.fault.FeedFault.{FeedFault}
 use Rattle.bk_frames.specs.declared.pulling.TheConstants.{PIECE}
 use Rattle.bk_frames.specs.Device.{Device, Works, Fails, Gives, IfKnown}
-use Rattle.bk_frames.specs.Feed.{HasFault, Begins, Frame, FeedValue, frame_text, spelling, IsFramedAt, IsFeed}
+use Rattle.bk_base.specs.Feed.{Frame, FeedValue, frame_text, spelling, IsFramedAt, IsFeed}
+use Rattle.bk_frames.specs.FirstFault.{HasFault, Begins}
 
 -- one fact where the source failed, one where memory ran out, and one for what is wrong with the bytes
 abbrev pub ByCode : FaultCode → Type 0 → Type 0 → Type 0 → Type 0

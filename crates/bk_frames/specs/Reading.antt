@@ -1,8 +1,8 @@
 -- Pulling a feed from a source.
 use Rattle.std.specs.Prelude.{◌≡◌, ℕ, ◌+◌, ◌-◌, List, ◌++◌, length, None}
-use Rattle.bk_frames.specs.declared.limits.TheConstants.{MOST_FEED}
+use Rattle.bk_base.specs.declared.limits.TheConstants.{MOST_FEED}
 use Rattle.bk_frames.specs.Device.{Device, Works, Gives}
-use Rattle.bk_frames.specs.Feed.{Frame}
+use Rattle.bk_base.specs.Feed.{Frame}
 use Rattle.bk_frames.specs.Cutting.{Cut, Cuts, IsOpen, fresh}
 
 -- since `start` a source gave these bytes, no call of it failed, and a cutter made these frames of them

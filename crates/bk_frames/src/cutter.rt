@@ -1,14 +1,14 @@
 ghost use Rattle.std.specs.Prelude.{◌≡◌, ◌≢◌, ℕ, ◌+◌, ◌<◌, ◌≤◌, [], ◌∷◌, ◌++◌, length, take, IfOk, IfErr, IfSome, OnOk, OnErr, Some, None, Err, map};
-ghost use Rattle.bk_frames.specs.declared.version.Version.{Version};
-ghost use Rattle.bk_frames.specs.Feed.{feed_of, spelling, IsFeed, HasFault};
+ghost use Rattle.bk_base.specs.declared.version.Version.{Version};
+ghost use Rattle.bk_base.specs.Feed.{feed_of, spelling, IsFeed};
+ghost use Rattle.bk_frames.specs.FirstFault.{HasFault};
 ghost use Rattle.bk_frames.specs.Pulling.{ByCode};
 ghost use Rattle.bk_frames.specs.Cutting.{Cut, fresh, Cuts, CutsInto, IsOpen, RefusesPiece, EndsShort, bytes_in, frames_in};
 ghost use Rattle.bk_frames.specs.private.Parts.{IsPart, IsShort, FailsSoon, cut_of};
 
 use crate::fault::{FaultCode, FeedFault};
-use crate::kind::Kind;
 use crate::part::{Part, take_frame, take_head, take_magic, take_payload, whole_frame};
-use crate::version::Version;
+use bk_base::{Kind, Version};
 use std::alloc::Global;
 use std::marker::Model;
 

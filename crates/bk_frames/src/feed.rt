@@ -1,22 +1,19 @@
 //! A feed that is read whole.
 
 ghost use Rattle.std.specs.Prelude.{◌≡◌, ℕ, ◌<◌, ◌≤◌, List, Some, None, length, IfOk, OnOk, IfErr, IfSome, slice_get};
-ghost use Rattle.bk_frames.specs.declared.version.Version.{Version};
+ghost use Rattle.bk_base.specs.declared.version.Version.{Version};
 ghost use Rattle.bk_frames.specs.Cutting.{Cuts, EndsShort, fresh, frames_in};
 ghost use Rattle.bk_frames.specs.Device.{CanBeUsed, Works, IfKnown};
-ghost use Rattle.bk_frames.specs.Feed.{spelling, genesis_of, IsFeed, AreGoodFrom};
-ghost use Rattle.bk_frames.specs.Genesis.{AreAccounts};
+ghost use Rattle.bk_base.specs.Feed.{spelling, genesis_of, IsFeed, AreGoodFrom};
+ghost use Rattle.bk_base.specs.Genesis.{AreAccounts};
 ghost use Rattle.bk_frames.specs.Pulling.{Refuses};
 ghost use Rattle.bk_frames.specs.private.Openings.{IsOpening, CallsForAccounts};
 
 use crate::cutter::Cutter;
 use crate::device::Source;
 use crate::fault::{FaultCode, FeedFault};
-use crate::genesis::{Row, read_genesis};
-use crate::kind::Kind;
-use crate::limits::MOST_ACCOUNTS;
 use crate::pulling::{PIECE, pull_frames};
-use crate::version::Version;
+use bk_base::{Kind, MOST_ACCOUNTS, Row, Version, read_genesis};
 use std::alloc::Global;
 use std::marker::Model;
 
@@ -31,7 +28,7 @@ pub struct Feed {
 impl Model for Feed {
     ghost use Rattle.std.specs.Prelude.{◌≡◌};
     ghost use Rattle.bk_frames.specs.Cutting.{frames_in};
-    ghost use Rattle.bk_frames.specs.Feed.{FeedValue, IsFeed, feed_of, genesis_of};
+    ghost use Rattle.bk_base.specs.Feed.{FeedValue, IsFeed, feed_of, genesis_of};
 
     ghost Value = { FeedValue };
 

@@ -2,16 +2,13 @@
 
 ghost use Rattle.std.specs.Prelude.{◌≡◌, ◌≢◌, ℕ, ◌+◌, ◌≤◌, Some, None, OnOk, IfOk, IfErr, IsTrue, false};
 ghost use Rattle.bk_frames.specs.declared.fault.FaultCode.TheVariants as code;
-ghost use Rattle.bk_frames.specs.Genesis.{rows_of};
-ghost use Rattle.bk_frames.specs.Feed.{kind_fault, length_fault, payload_fault, stands_at, kind_number};
+ghost use Rattle.bk_base.specs.Genesis.{rows_of};
+ghost use Rattle.bk_base.specs.Feed.{stands_at, kind_number};
+ghost use Rattle.bk_frames.specs.FirstFault.{kind_fault, length_fault, payload_fault};
 ghost use Rattle.bk_frames.specs.Pulling.{ByCode};
 
-use crate::committee::is_committee_payload;
 use crate::fault::FaultCode;
-use crate::genesis::{Row, read_genesis};
-use crate::kind::Kind;
-use crate::limits::{MOST_FEED, MOST_PAYLOAD};
-use crate::version::Version;
+use bk_base::{Kind, MOST_FEED, MOST_PAYLOAD, Row, Version, is_committee_payload, read_genesis};
 use std::alloc::Global;
 
 // The kind of this number, where a frame of it may be at this place.

@@ -2,7 +2,7 @@
 
 ghost use Rattle.std.specs.Prelude.{◌≡◌};
 ghost use Rattle.bk_frames.specs.Counting.{inner_of, failures_of, fused_of, left_of, fused};
-ghost use Rattle.bk_frames.specs.Laws.{IsFeedOrFault, OneFeed, NoFaultInFeed, OneFault, OneStop, OneCallForMemory, PartIsMeasured, GenesisIsSpelled, GenesisIsRead};
+ghost use Rattle.bk_frames.specs.Laws.{IsFeedOrFault, OneFeed, NoFaultInFeed, OneFault, OneStop, OneCallForMemory, PartIsMeasured};
 ghost use Rattle.bk_frames.specs.Laws.{PiecesJoin, BytesSoFar, NoneBeforeMagic, FaultIsTheFeeds, MemoryIsTheFeeds, EndsAsFeed, EndsCutShort, StopsInWhatIsRead, FaultStays, FramesStay};
 
 use crate::counted::Counted;
@@ -24,12 +24,6 @@ pub fn one_frame_was_read()
     ensures failed { OneStop }
     ensures refused { OneCallForMemory }
     ensures measured { PartIsMeasured }
-{}
-
-/// A genesis payload and its rows are two forms of one thing.
-pub fn genesis_grammar()
-    ensures spelled { GenesisIsSpelled }
-    ensures read { GenesisIsRead }
 {}
 
 /// Pieces that came in turn are one piece: it does not matter how a feed was cut into pieces.

@@ -3,16 +3,15 @@
 ghost use Rattle.std.specs.Prelude.{◌≡◌, ◌≢◌, ℕ, ◌+◌, ◌<◌, ◌≤◌, [], ◌∷◌, ◌++◌, length, take, drop, vec_len, IfOk, IfErr, IfSome, OnOk, OnErr, MatchOption, Some, None};
 ghost use Rattle.std.specs.Int.{w32, from_be_bytes};
 ghost use Rattle.bk_frames.specs.declared.fault.FaultCode.TheVariants as code;
-ghost use Rattle.bk_frames.specs.Feed.{frame_of};
-ghost use Rattle.bk_frames.specs.Numbers.{IsBytes};
+ghost use Rattle.bk_base.specs.Feed.{frame_of};
+ghost use Rattle.bk_base.specs.Numbers.{IsBytes};
 ghost use Rattle.bk_frames.specs.Pulling.{ByCode};
 ghost use Rattle.bk_frames.specs.Cutting.{Cuts, IsBegun, fault_at};
 ghost use Rattle.bk_frames.specs.private.Parts.{IsPart, IsShort, IsInFrame, kept_of, cut_of, len_of};
 
 use crate::fault::FaultCode;
 use crate::judging::{judge, kind_at, length_fits};
-use crate::kind::Kind;
-use crate::version::{MAGIC, Version, version_of};
+use bk_base::{Kind, MAGIC, Version, version_of};
 use std::alloc::{AllocError, Global};
 use std::mem;
 

@@ -3,7 +3,7 @@
 ghost use Rattle.std.specs.Prelude.{◌≡◌, ℕ, ◌<◌, ◌≤◌, ◌++◌, List, length, IfOk, IfErr, OnOk};
 ghost use Rattle.bk_frames.specs.declared.fault.FaultCode.TheVariants as code;
 ghost use Rattle.bk_frames.specs.Device.{Device, CanBeUsed, IfKnown};
-ghost use Rattle.bk_frames.specs.Feed.{Frame};
+ghost use Rattle.bk_base.specs.Feed.{Frame};
 ghost use Rattle.bk_frames.specs.Cutting.{CutsInto, frames_in};
 ghost use Rattle.bk_frames.specs.Pulling.{Refuses};
 ghost use Rattle.bk_frames.specs.Reading.{IsPulled, Pulls, room_of};
@@ -11,7 +11,7 @@ ghost use Rattle.bk_frames.specs.Reading.{IsPulled, Pulls, room_of};
 use crate::cutter::Cutter;
 use crate::device::Source;
 use crate::fault::{FaultCode, FeedFault};
-use crate::kind::Kind;
+use bk_base::Kind;
 use std::alloc::{AllocError, AllocFailed};
 
 /// A source is asked for at most this many bytes at once. The number is none of the format's.

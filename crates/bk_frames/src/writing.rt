@@ -1,12 +1,11 @@
 ghost use Rattle.std.specs.Prelude.{◌≡◌, ◌+◌, ◌^◌, ◌<◌, ◌≤◌, ◌∷◌, length, take, IfErr, OnErr, OnOk};
 ghost use Rattle.bk_frames.specs.Device.{CanBeUsed};
-ghost use Rattle.bk_frames.specs.Feed.{frame_of, frame_text, kind_number};
+ghost use Rattle.bk_base.specs.Feed.{frame_of, frame_text, kind_number};
 ghost use Rattle.bk_frames.specs.Writing.{Writes, StopsWriting};
 ghost use Rattle.std.specs.Int.{w32, to_be_bytes};
 
 use crate::device::Sink;
-use crate::kind::Kind;
-use crate::limits::MOST_PAYLOAD;
+use bk_base::{Kind, MOST_PAYLOAD};
 use thiserror::Error;
 
 /// The sink failed after it had taken some bytes.

@@ -6,7 +6,8 @@ use crate::feeds::{
 };
 use crate::tally::Tally;
 use anyhow::Result;
-use bk_frames::{Counted, Cutter, FaultCode, Feed, FeedFault, Kind};
+use bk_base::Kind;
+use bk_frames::{Counted, Cutter, FaultCode, Feed, FeedFault};
 use std::alloc::Global;
 
 // One member or four, of both versions, with certificates, batches, and neither.

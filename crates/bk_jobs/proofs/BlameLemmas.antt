@@ -1,7 +1,8 @@
 -- Where the bytes are to blame for the exit.
 use Rattle.std.proofs.Common.{◌≡◌, ℕ, List, Option, Some, None, IfSome, true, false, inl, inr, refl}
 use Rattle.bk_frames.specs.Device.{Device, IfKnown}
-use Rattle.bk_frames.specs.Feed.{FeedValue, HasFault}
+use Rattle.bk_base.specs.Feed.{FeedValue}
+use Rattle.bk_frames.specs.FirstFault.{HasFault}
 use Rattle.bk_frames.specs.Pulling.{Refuses}
 use Rattle.bk_frames.specs.declared.fault.FaultCode.{FaultCode}
 use Rattle.bk_frames.specs.declared.fault.FaultCode.TheVariants as code
@@ -19,7 +20,7 @@ use Rattle.bk_script.specs.Script.{LineFault, feed_of}
 use Rattle.bk_results.specs.declared.script_fault.ScriptFault.TheVariants as text
 use Rattle.bk_script.specs.Events.{events_of}
 use Rattle.bk_steps.specs.declared.outcome.ScheduleFault.TheVariants as schedule
-use Rattle.bk_steps.specs.declared.refused.Refused as reason
+use Rattle.bk_base.specs.declared.refused.Refused as reason
 use Rattle.bk_apply.specs.Scheduling.{IsNotWholeFor}
 use Rattle.std.specs.Prelude.{Err, slice_index_or}
 use Rattle.bk_cli.specs.declared.exit.Exit.TheVariants as exit

@@ -1,7 +1,7 @@
 -- The job that compares two feeds: its first source, and its second, which is read after it.
 use Rattle.std.specs.Prelude.{◌≡◌, ◌⊎◌, ℕ, ◌<◌, List, ◌++◌, IfSome, codes, length, take}
 use Rattle.bk_frames.specs.Device.{Device, Fails, Receives}
-use Rattle.bk_frames.specs.Feed.{FeedValue}
+use Rattle.bk_base.specs.Feed.{FeedValue}
 use Rattle.bk_order.specs.declared.stop.Stop.{Stop}
 use Rattle.bk_follow.specs.Agreement.{HaveStop}
 use Rattle.bk_results.specs.Devices.{AreFeed, IsUntouched}

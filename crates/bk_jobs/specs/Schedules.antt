@@ -2,7 +2,7 @@
 use Rattle.std.specs.Prelude.{◌≡◌, ℕ, List, slice_index_or, Ok, Err}
 use Rattle.bk_frames.specs.Device.{Device, Works, IfKnown}
 use Rattle.bk_steps.specs.declared.outcome.ScheduleFault.TheVariants as schedule
-use Rattle.bk_steps.specs.declared.refused.Refused as reason
+use Rattle.bk_base.specs.declared.refused.Refused as reason
 use Rattle.bk_apply.specs.Answers.{FailsBy}
 use Rattle.bk_results.specs.Devices.{IsUntouched}
 use Rattle.bk_results.specs.Devices.{NothingHappened}

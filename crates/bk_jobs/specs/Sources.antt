@@ -1,7 +1,7 @@
 -- The sources and the sink of a job.
 use Rattle.std.specs.Prelude.{ℕ, List, Option}
 use Rattle.bk_frames.specs.Device.{Device, Works}
-use Rattle.bk_frames.specs.Feed.{HasFault}
+use Rattle.bk_frames.specs.FirstFault.{HasFault}
 use Rattle.bk_frames.specs.declared.fault.FeedFault.{FeedFault}
 use Rattle.bk_results.specs.Devices.{Devices, devices}
 

@@ -1,8 +1,9 @@
 -- Every byte string has an answer.
 use Rattle.std.proofs.Common.{◌≡◌, ◌⊎◌, ℕ, List, length, reverse, refl, sym, subst, inl, inr, ⊎_elim}
 use Rattle.bk_frames.specs.declared.fault.FeedFault.{FeedFault}
-use Rattle.bk_frames.specs.Feed.{FeedValue, IsFeed, HasFault, spelling, genesis_of}
-use Rattle.bk_frames.specs.Numbers.{IsBytes}
+use Rattle.bk_base.specs.Feed.{FeedValue, IsFeed, spelling, genesis_of}
+use Rattle.bk_frames.specs.FirstFault.{HasFault}
+use Rattle.bk_base.specs.Numbers.{IsBytes}
 use Rattle.bk_committee.specs.Payload.{sizes_of}
 use Rattle.bk_order.specs.declared.stop.Stop.{Stop}
 use Rattle.bk_order.specs.declared.stop.Stop.TheVariants as stop

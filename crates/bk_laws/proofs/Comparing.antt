@@ -4,10 +4,10 @@ use Rattle.std.specs.List.{Contains}
 use Rattle.std.proofs.lemmas.List.{append-nil}
 use Rattle.std.proofs.lemmas.List.Concat.{flat_map-append}
 use Rattle.std.proofs.lemmas.List.Elements.{Contains-append_left, Contains-append_right}
-use Rattle.bk_frames.specs.declared.genesis.Row.{Row}
-use Rattle.bk_frames.specs.declared.version.Version.{Version}
-use Rattle.bk_frames.specs.declared.version.Version.TheVariants.{One, Two}
-use Rattle.bk_frames.specs.Feed.{Frame, FeedValue, IsFeed, genesis_of}
+use Rattle.bk_base.specs.declared.genesis.Row.{Row}
+use Rattle.bk_base.specs.declared.version.Version.{Version}
+use Rattle.bk_base.specs.declared.version.Version.TheVariants.{One, Two}
+use Rattle.bk_base.specs.Feed.{Frame, FeedValue, IsFeed, genesis_of}
 use Rattle.bk_committee.specs.Payload.{CommitteeValue}
 use Rattle.bk_cert.specs.Node.{Node}
 use Rattle.bk_commit.specs.Growth.{IsPrefix, IsPartOf}

@@ -4,15 +4,15 @@ use Rattle.std.specs.Prelude.{All, unwrap_or}
 use Rattle.std.specs.List.{AllByRecursion, Contains}
 use Rattle.std.proofs.lemmas.List.Elements.{All-from_recursion}
 use Rattle.std.proofs.lemmas.List.Sums.{sum_by-cons}
-use Rattle.bk_frames.specs.declared.genesis.Row.{Row}
-use Rattle.bk_frames.specs.declared.limits.TheConstants.{MOST_ACCOUNTS}
-use Rattle.bk_frames.specs.declared.version.Version.{Version}
-use Rattle.bk_frames.specs.declared.version.Version.TheVariants.{One, Two}
-use Rattle.bk_frames.specs.Numbers.{IsBytes}
-use Rattle.bk_frames.specs.Genesis.{IsGenesis, rows_of, total_of}
-use Rattle.bk_frames.specs.Feed.{Frame, FeedValue, IsFeed, genesis_of, spelling}
-use Rattle.bk_frames.proofs.Accounts.{genesis_accounts}
-use Rattle.bk_frames.proofs.GenesisGrammar.{genesis_spelled}
+use Rattle.bk_base.specs.declared.genesis.Row.{Row}
+use Rattle.bk_base.specs.declared.limits.TheConstants.{MOST_ACCOUNTS}
+use Rattle.bk_base.specs.declared.version.Version.{Version}
+use Rattle.bk_base.specs.declared.version.Version.TheVariants.{One, Two}
+use Rattle.bk_base.specs.Numbers.{IsBytes}
+use Rattle.bk_base.specs.Genesis.{IsGenesis, rows_of, total_of}
+use Rattle.bk_base.specs.Feed.{Frame, FeedValue, IsFeed, genesis_of, spelling}
+use Rattle.bk_base.proofs.Accounts.{genesis_accounts}
+use Rattle.bk_base.proofs.GenesisGrammar.{genesis_spelled}
 use Rattle.bk_tx.specs.Access.{PaymentsFit}
 use Rattle.bk_tx.specs.Spelling.{payments_of, BodyFits, IsTransaction}
 use Rattle.bk_tx.specs.Transaction.{Transaction}

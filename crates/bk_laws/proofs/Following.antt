@@ -2,9 +2,10 @@
 use Rattle.std.proofs.Common.{◌≡◌, ◌∙◌, ℕ, List, [], ◌∷◌, ◌++◌, sym, ap, subst, refl, Option, Some, None, ◌<◌, length, arith, append_assoc}
 use Rattle.std.proofs.lemmas.List.Elements.{Contains-append_left}
 use Rattle.bk_frames.specs.declared.fault.FeedFault.{FeedFault}
-use Rattle.bk_frames.specs.declared.version.Version.{Version}
+use Rattle.bk_base.specs.declared.version.Version.{Version}
 use Rattle.bk_frames.specs.Cutting.{Cut, Cuts, Reaches, RefusesPiece, ShowsFault, fresh}
-use Rattle.bk_frames.specs.Feed.{Frame, HasFault, feed_of, genesis_of, magic}
+use Rattle.bk_base.specs.Feed.{Frame, feed_of, genesis_of, magic}
+use Rattle.bk_frames.specs.FirstFault.{HasFault}
 use Rattle.bk_frames.specs.Pulling.{ByCode}
 use Rattle.bk_frames.proofs.CutJoining.{bytes_so_far, fault_is_the_feeds, none_before_magic}
 use Rattle.bk_frames.proofs.FrameFaults.{by_code}

@@ -1,9 +1,9 @@
 -- What a feed comes to where its frames are part of another's.
 use Rattle.std.proofs.Common.{◌≡◌, ℕ, List, ◌++◌, sym, ap, subst, ◌∙◌}
 use Rattle.std.proofs.lemmas.List.Concat.{flat_map-append}
-use Rattle.bk_frames.specs.declared.genesis.Row.{Row}
-use Rattle.bk_frames.specs.declared.version.Version.{Version}
-use Rattle.bk_frames.specs.Feed.{Frame, FeedValue, genesis_of}
+use Rattle.bk_base.specs.declared.genesis.Row.{Row}
+use Rattle.bk_base.specs.declared.version.Version.{Version}
+use Rattle.bk_base.specs.Feed.{Frame, FeedValue, genesis_of}
 use Rattle.bk_committee.specs.Payload.{CommitteeValue, sizes_of}
 use Rattle.bk_commit.specs.Growth.{IsPrefix, IsPartOf}
 use Rattle.bk_order.specs.Frames.{AreBatches, AreCerts, OfHeld}

@@ -1,10 +1,10 @@
 -- The proof of an account of a feed is good for the state in the feed's report.
 use Rattle.std.proofs.Common.{◌≡◌, ℕ, List, length, sym, subst, ap, ◌∙◌, refl}
 use Rattle.hex.specs.Hex.{encode_lower}
-use Rattle.bk_frames.specs.Feed.{FeedValue, IsFeed, genesis_of, spelling}
-use Rattle.bk_frames.specs.Genesis.{total_of}
-use Rattle.bk_frames.specs.Numbers.{IsBytes}
-use Rattle.bk_frames.specs.declared.genesis.Row.{Row}
+use Rattle.bk_base.specs.Feed.{FeedValue, IsFeed, genesis_of, spelling}
+use Rattle.bk_base.specs.Genesis.{total_of}
+use Rattle.bk_base.specs.Numbers.{IsBytes}
+use Rattle.bk_base.specs.declared.genesis.Row.{Row}
 use Rattle.bk_order.specs.Orders.{Ordered}
 use Rattle.bk_order.proofs.OneReading.{one_ordered}
 use Rattle.bk_rules.specs.Fold.{state_after}

@@ -3,9 +3,9 @@ use Rattle.std.proofs.Common.{◌≡◌, ◌↔◌, ℕ, zero, suc, ◌+◌, Lis
 use Rattle.std.specs.Prelude.{slice_get}
 use Rattle.std.specs.List.{Contains}
 use Rattle.std.proofs.lemmas.List.Elements.{Contains-append_left, Contains-append_right, Contains-append_cases}
-use Rattle.bk_frames.specs.declared.kind.Kind.{Kind}
-use Rattle.bk_frames.specs.declared.kind.Kind.TheVariants as kind
-use Rattle.bk_frames.specs.Feed.{Frame, FeedValue, frame_of}
+use Rattle.bk_base.specs.declared.kind.Kind.{Kind}
+use Rattle.bk_base.specs.declared.kind.Kind.TheVariants as kind
+use Rattle.bk_base.specs.Feed.{Frame, FeedValue, frame_of}
 use Rattle.bk_committee.specs.Payload.{CommitteeValue}
 use Rattle.bk_certcheck.specs.declared.rule.Rule.{Rule}
 use Rattle.bk_certcheck.specs.declared.verdict.Verdict.{Verdict}

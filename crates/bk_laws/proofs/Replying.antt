@@ -7,10 +7,10 @@ use Rattle.std.specs.List.{Contains}
 use Rattle.std.proofs.lemmas.Bool.{cases_eq, cases_lt}
 use Rattle.std.proofs.lemmas.Option.{slice_get_within}
 use Rattle.bk_digest.specs.Tree.{path_of}
-use Rattle.bk_frames.specs.declared.genesis.Row.{Row}
-use Rattle.bk_frames.specs.Feed.{FeedValue, IsFeed, genesis_of, spelling}
-use Rattle.bk_frames.specs.Genesis.{ids_of}
-use Rattle.bk_frames.proofs.Accounts.{genesis_accounts}
+use Rattle.bk_base.specs.declared.genesis.Row.{Row}
+use Rattle.bk_base.specs.Feed.{FeedValue, IsFeed, genesis_of, spelling}
+use Rattle.bk_base.specs.Genesis.{ids_of}
+use Rattle.bk_base.proofs.Accounts.{genesis_accounts}
 use Rattle.bk_frames.proofs.OneReading.{one_feed}
 use Rattle.bk_order.proofs.OneReading.{one_ordered}
 use Rattle.bk_order.specs.Orders.{Ordered}

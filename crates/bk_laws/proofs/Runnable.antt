@@ -2,11 +2,11 @@
 use Rattle.std.proofs.Common.{◌≡◌, ◌⊎◌, ℕ, zero, suc, ◌+◌, ◌<◌, ◌≤◌, List, [], ◌∷◌, map, length, Bool, true, false, ◌||◌, cond, not, eqb, Option, None, Some, refl, sym, ap, subst, ◌∙◌, inl, inr, ⊎_elim, arith}
 use Rattle.std.proofs.lemmas.Bool.{both_ways, eqb-true, cases_lt}
 use Rattle.std.proofs.lemmas.List.{length-map}
-use Rattle.bk_frames.specs.declared.version.Version.{Version}
-use Rattle.bk_frames.specs.declared.version.Version.TheVariants.{One, Two}
-use Rattle.bk_frames.specs.Feed.{FeedValue, IsFeed, genesis_of}
-use Rattle.bk_frames.specs.Genesis.{AreAccounts, ids_of}
-use Rattle.bk_frames.proofs.Accounts.{genesis_accounts}
+use Rattle.bk_base.specs.declared.version.Version.{Version}
+use Rattle.bk_base.specs.declared.version.Version.TheVariants.{One, Two}
+use Rattle.bk_base.specs.Feed.{FeedValue, IsFeed, genesis_of}
+use Rattle.bk_base.specs.Genesis.{AreAccounts, ids_of}
+use Rattle.bk_base.proofs.Accounts.{genesis_accounts}
 use Rattle.bk_tx.specs.Transaction.{Transaction}
 use Rattle.bk_rules.specs.declared.account.Account.{Account}
 use Rattle.bk_rules.specs.Fold.{HasRoom}
@@ -28,7 +28,7 @@ use Rattle.bk_steps.specs.Laws.{OneFault, WholeRunsHaveNoFault}
 use Rattle.bk_steps.specs.Refusals.{Allows, Refuses}
 use Rattle.bk_steps.specs.Schedule.{RunsAmong, IsFirstRefused}
 use Rattle.bk_steps.specs.declared.event.Event.{Event}
-use Rattle.bk_steps.specs.declared.refused.Refused as reason
+use Rattle.bk_base.specs.declared.refused.Refused as reason
 use Rattle.bk_steps.specs.declared.outcome.ScheduleFault.TheVariants.{Refused, Unfinished}
 use Rattle.bk_steps.proofs.Judging.{events_judged}
 use Rattle.bk_tx.specs.Batches.{feed_transactions}

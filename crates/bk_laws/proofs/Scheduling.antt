@@ -2,8 +2,8 @@
 use Rattle.std.proofs.Common.{◌≡◌, ◌≢◌, ℕ, ◌<◌, List, [], ◌∷◌, Bool, true, false, ◌||◌, refl, sym, ap, subst, ◌∙◌, ⊎_elim, arith}
 use Rattle.std.proofs.lemmas.Bool.{and_parts, both_ways, cases_order, eq-eqb, eqb-true, ltb-true, or_cases}
 use Rattle.std.specs.Prelude.{eqb, nat_lt, take, slice_index_or}
-use Rattle.bk_frames.specs.Feed.{FeedValue, IsFeed, spelling}
-use Rattle.bk_frames.specs.Numbers.{is_ascending}
+use Rattle.bk_base.specs.Feed.{FeedValue, IsFeed, spelling}
+use Rattle.bk_base.specs.Numbers.{is_ascending}
 use Rattle.bk_frames.proofs.OneReading.{one_feed}
 use Rattle.bk_rules.specs.Ledger.{Ledger, has_slot, ledger_of, IsPrepared}
 use Rattle.bk_conflicts.specs.Plan.{PlanValue, before_of, after_of}
@@ -15,7 +15,7 @@ use Rattle.bk_steps.specs.Moves.{Moves, claims, reads_one, writes_one, finishes}
 use Rattle.bk_steps.specs.Refusals.{Refuses, not_idle, not_ready, no_reader, not_read, read_late, no_writer, not_written, write_early, no_finisher, finish_early}
 use Rattle.bk_steps.specs.Schedule.{RunsAmong, IsWholeAmong, IsFault, no_event}
 use Rattle.bk_steps.specs.declared.event.Event.{Event}
-use Rattle.bk_steps.specs.declared.refused.Refused as reason
+use Rattle.bk_base.specs.declared.refused.Refused as reason
 use Rattle.bk_steps.specs.declared.outcome.ScheduleFault.{ScheduleFault}
 use Rattle.bk_steps.specs.declared.outcome.ScheduleFault.TheVariants.{Refused, Unfinished, OutOfMemory}
 use Rattle.bk_tx.specs.Batches.{feed_transactions}

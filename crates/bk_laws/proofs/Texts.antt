@@ -6,9 +6,9 @@ use Rattle.std.specs.List.{Contains, find, flat_map}
 use Rattle.std.proofs.Math.Seq.{take-append_seam, drop-append_seam}
 use Rattle.std.proofs.lemmas.List.Concat.{flat_map-cons}
 use Rattle.std.proofs.lemmas.List.Elements.{Contains-append_cases}
-use Rattle.bk_frames.specs.Numbers.{IsBytes}
-use Rattle.bk_frames.specs.Feed.{Frame, FeedValue, frame_text, kind_number, magic, spelling}
-use Rattle.bk_frames.proofs.FieldLemmas.{IsBytes-drop, IsBytes-take}
+use Rattle.bk_base.specs.Numbers.{IsBytes}
+use Rattle.bk_base.specs.Feed.{Frame, FeedValue, frame_text, kind_number, magic, spelling}
+use Rattle.bk_base.proofs.FieldLemmas.{IsBytes-drop, IsBytes-take}
 use Rattle.bk_tx.specs.Reading.{texts_of, transaction_of}
 use Rattle.bk_tx.specs.Spelling.{IsTransaction, batch_text, text_in_batch}
 use Rattle.bk_tx.specs.Transaction.{Transaction}

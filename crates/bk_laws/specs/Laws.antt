@@ -2,9 +2,10 @@
 use Rattle.std.specs.Prelude.{◌≡◌, ◌⊎◌, ◌↔◌, ℕ, ◌+◌, ◌^◌, ◌<◌, List, All, Contains, length, Some, slice_get}
 use Rattle.hex.specs.Hex.{encode_lower}
 use Rattle.bk_frames.specs.declared.fault.FeedFault.{FeedFault}
-use Rattle.bk_frames.specs.declared.kind.Kind.TheVariants as kind
-use Rattle.bk_frames.specs.Feed.{FeedValue, IsFeed, HasFault, frame_of, spelling}
-use Rattle.bk_frames.specs.Numbers.{IsBytes}
+use Rattle.bk_base.specs.declared.kind.Kind.TheVariants as kind
+use Rattle.bk_base.specs.Feed.{FeedValue, IsFeed, frame_of, spelling}
+use Rattle.bk_frames.specs.FirstFault.{HasFault}
+use Rattle.bk_base.specs.Numbers.{IsBytes}
 use Rattle.bk_certcheck.specs.declared.rule.Rule.{Rule}
 use Rattle.bk_certcheck.specs.Verdicts.{IsBroken}
 use Rattle.bk_commit.specs.Growth.{IsPrefix, IsPartOf}

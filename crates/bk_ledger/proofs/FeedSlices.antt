@@ -1,10 +1,10 @@
 -- The batches of a feed, executed in slices.
 use Rattle.std.proofs.Common.{◌≡◌, ℕ, ◌+◌, ◌^◌, ◌<◌, List, [], ◌++◌, length, map, sym, ap, subst, ◌∙◌, arith}
-use Rattle.bk_frames.specs.declared.genesis.Row.{Row}
-use Rattle.bk_frames.specs.Feed.{FeedValue, IsFeed, genesis_of}
+use Rattle.bk_base.specs.declared.genesis.Row.{Row}
+use Rattle.bk_base.specs.Feed.{FeedValue, IsFeed, genesis_of}
 use Rattle.std.proofs.lemmas.List.{length-map}
-use Rattle.bk_frames.specs.Genesis.{AreAccounts, ids_of}
-use Rattle.bk_frames.proofs.Accounts.{genesis_few}
+use Rattle.bk_base.specs.Genesis.{AreAccounts, ids_of}
+use Rattle.bk_base.proofs.Accounts.{genesis_few}
 use Rattle.bk_tx.specs.Batches.{count_in, payloads_of, transactions_of, feed_transactions}
 use Rattle.bk_rules.specs.Fold.{state_after, receipts_of, HasRoom}
 use Rattle.bk_rules.proofs.Room.{room_left}

@@ -7,13 +7,13 @@ use Rattle.std.proofs.lemmas.Bool.{eqb-true, ltb-false, ltb-true}
 use Rattle.std.proofs.lemmas.Bool.Decides.{nat_tests}
 use Rattle.std.proofs.lemmas.List.{length-map}
 use Rattle.std.proofs.lemmas.List.Concat.{flat_map-cons}
-use Rattle.bk_frames.specs.declared.genesis.Row.{Row}
-use Rattle.bk_frames.specs.declared.version.Version.{Version}
-use Rattle.bk_frames.specs.Feed.{Frame, FeedValue, IsFeed, frame_text, genesis_of}
-use Rattle.bk_frames.specs.Numbers.{◌>>=◌, number_at, list_at, bytes_at, is_ascending}
-use Rattle.bk_frames.proofs.FieldLemmas.{bind_some, guard_some, if_some, enough}
-use Rattle.bk_frames.proofs.Accounts.{and_true, genesis_few}
-use Rattle.bk_frames.specs.declared.version.Version.TheVariants.{One, Two}
+use Rattle.bk_base.specs.declared.genesis.Row.{Row}
+use Rattle.bk_base.specs.declared.version.Version.{Version}
+use Rattle.bk_base.specs.Feed.{Frame, FeedValue, IsFeed, frame_text, genesis_of}
+use Rattle.bk_base.specs.Numbers.{◌>>=◌, number_at, list_at, bytes_at, is_ascending}
+use Rattle.bk_base.proofs.FieldLemmas.{bind_some, guard_some, if_some, enough}
+use Rattle.bk_base.proofs.Accounts.{and_true, genesis_few}
+use Rattle.bk_base.specs.declared.version.Version.TheVariants.{One, Two}
 use Rattle.bk_tx.specs.Access.{declared_ids, declares, receivers_in}
 use Rattle.bk_tx.specs.declared.body.Body.{Body}
 use Rattle.bk_tx.specs.declared.body.Body.TheVariants.{Pay, PayIf, Sweep, Split}

@@ -6,11 +6,11 @@ use Rattle.std.specs.Int.{w16, from_be_bytes}
 use Rattle.std.proofs.lemmas.Bool.{ltb-false}
 use Rattle.std.proofs.lemmas.List.{length-map, map-append}
 use Rattle.std.proofs.lemmas.List.Concat.{flat_map-append, flat_map-cons}
-use Rattle.bk_frames.specs.declared.limits.TheConstants.{MOST_FEED}
-use Rattle.bk_frames.specs.declared.version.Version.{Version}
-use Rattle.bk_frames.specs.Feed.{Frame, FeedValue, frame_text, AreGoodFrom, IsFeed}
-use Rattle.bk_frames.specs.Numbers.{◌>>=◌, number_at, list_at, bytes_at}
-use Rattle.bk_frames.proofs.FieldLemmas.{bind_some, guard_some}
+use Rattle.bk_base.specs.declared.limits.TheConstants.{MOST_FEED}
+use Rattle.bk_base.specs.declared.version.Version.{Version}
+use Rattle.bk_base.specs.Feed.{Frame, FeedValue, frame_text, AreGoodFrom, IsFeed}
+use Rattle.bk_base.specs.Numbers.{◌>>=◌, number_at, list_at, bytes_at}
+use Rattle.bk_base.proofs.FieldLemmas.{bind_some, guard_some}
 use Rattle.bk_tx.specs.Reading.{transaction_of, text_at, texts_of}
 use Rattle.bk_tx.specs.Batches.{is_batch, payloads_of, transactions_in, transactions_of, feed_transactions, count_in}
 

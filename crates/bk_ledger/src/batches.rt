@@ -1,12 +1,13 @@
 //! Batches that were read and not executed.
 
 ghost use Rattle.std.specs.Prelude.{◌≡◌, ◌+◌, ◌^◌, ◌<◌, ◌∷◌, ◌++◌, [], length, map, All, IfOk, OnOk};
-ghost use Rattle.bk_frames.specs.Feed.{frame_of};
+ghost use Rattle.bk_base.specs.Feed.{frame_of};
 ghost use Rattle.bk_tx.specs.Batch.{IsWithin, cuts};
 ghost use Rattle.bk_tx.specs.Reading.{transaction_of};
 ghost use Rattle.bk_tx.specs.Batches.{count_in, feed_transactions, payloads_of, transactions_in};
 
-use bk_frames::{Feed, Kind};
+use bk_base::Kind;
+use bk_frames::Feed;
 use bk_tx::{Slice, Tx, read_batch};
 use std::alloc::{AllocError, Global};
 

@@ -1,13 +1,14 @@
 //! The batches of a feed, executed in slices.
 
 ghost use Rattle.std.specs.Prelude.{◌≡◌, ◌^◌, ◌<◌, ◌≤◌, ◌∷◌, ◌++◌, [], length, map, IfOk, IfErr, OnOk};
-ghost use Rattle.bk_frames.specs.Feed.{IsFeed, frame_of, genesis_of};
+ghost use Rattle.bk_base.specs.Feed.{IsFeed, frame_of, genesis_of};
 ghost use Rattle.bk_rules.specs.Fold.{receipts_of, state_after};
 ghost use Rattle.bk_tx.specs.Batches.{count_in, feed_transactions, payloads_of};
 ghost use Rattle.bk_ledger.specs.Executing.{Leaves};
 
 use crate::ledger::Ledger;
-use bk_frames::{Feed, Kind};
+use bk_base::Kind;
+use bk_frames::Feed;
 use bk_pool::{ExecFault, Gate};
 use std::alloc::{AllocError, Global};
 use std::sync::Wait;

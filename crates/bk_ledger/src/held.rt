@@ -2,7 +2,7 @@
 
 ghost use Rattle.std.specs.Prelude.{◌≡◌, ◌<◌, None, length, true, slice_index_or};
 ghost use Rattle.std.specs.List.{list_all};
-ghost use Rattle.bk_frames.specs.declared.version.Version.TheVariants.{One};
+ghost use Rattle.bk_base.specs.declared.version.Version.TheVariants.{One};
 ghost use Rattle.bk_rules.specs.Part.{are_held, is_held, is_held_id};
 
 use bk_conflicts::Plan;

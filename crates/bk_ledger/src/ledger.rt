@@ -1,15 +1,16 @@
 //! What executing batches gave so far.
 
 ghost use Rattle.std.specs.Prelude.{◌≡◌, [], length, map, IfOk, OnOk, slice_get};
-ghost use Rattle.bk_frames.specs.Feed.{genesis_of};
-ghost use Rattle.bk_frames.specs.Genesis.{AreAccounts, ids_of, total_of};
+ghost use Rattle.bk_base.specs.Feed.{genesis_of};
+ghost use Rattle.bk_base.specs.Genesis.{AreAccounts, ids_of, total_of};
 ghost use Rattle.bk_rules.specs.Fold.{receipts_of, state_after, HasRoom};
 ghost use Rattle.bk_tx.specs.Batches.{count_in, payloads_of, feed_transactions};
 ghost use Rattle.bk_ledger.specs.Executing.{HasRun};
 
 use crate::batches::Batches;
 use crate::summary::Summary;
-use bk_frames::{Feed, Row, Version};
+use bk_base::{Row, Version};
+use bk_frames::Feed;
 use bk_rules::{Receipt, State, run_in_order};
 use bk_steps::Outcome;
 use std::alloc::{AllocError, Global};

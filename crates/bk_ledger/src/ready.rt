@@ -1,7 +1,7 @@
 //! Slices that are planned before it is their turn.
 
 ghost use Rattle.std.specs.Prelude.{◌≡◌, ◌^◌, ◌<◌, ◌≤◌, true, map, length, IfOk};
-ghost use Rattle.bk_frames.specs.declared.version.Version.TheVariants.{One, Two};
+ghost use Rattle.bk_base.specs.declared.version.Version.TheVariants.{One, Two};
 ghost use Rattle.bk_rules.specs.Ledger.{are_covered};
 ghost use Rattle.bk_rules.specs.Part.{are_held};
 ghost use Rattle.bk_ledger.specs.private.Slices.{IsAheadOf, IsNextFrom, IsNoneAhead, IsPlannedOn, IsReadOf, IsReady, counts_of, is_plannable, txs_of};
@@ -12,7 +12,7 @@ use crate::held::holds_all;
 use crate::slice::gather_near;
 use crate::touched::Touched;
 use bk_conflicts::{Plan, Planner};
-use bk_frames::Version;
+use bk_base::Version;
 use bk_rules::{Ids, State};
 use bk_tx::Tx;
 use std::alloc::{AllocError, Global};

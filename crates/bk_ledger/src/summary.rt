@@ -1,6 +1,6 @@
 //! What a report says of a ledger.
 
-use bk_frames::Row;
+use bk_base::Row;
 use bk_rules::Receipt;
 
 /// What batches gave, with the accounts as rows.

@@ -2,7 +2,7 @@
 
 ghost use Rattle.std.specs.Prelude.{◌≡◌, ◌^◌, ◌<◌, true, ℕ, List, length, nat_lt, IfOk};
 ghost use Rattle.std.specs.List.{list_all};
-ghost use Rattle.bk_frames.specs.Numbers.{is_ascending};
+ghost use Rattle.bk_base.specs.Numbers.{is_ascending};
 ghost use Rattle.bk_rules.specs.Part.{AreIndexes, ids_at};
 ghost use Rattle.bk_ledger.specs.Touched.{AreTouched};
 

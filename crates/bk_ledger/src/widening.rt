@@ -11,7 +11,7 @@ ghost use Rattle.bk_ledger.specs.private.Widened.{IsWidened};
 
 use crate::ledger::Ledger;
 use crate::slice::{gather, least_of};
-use bk_frames::Version;
+use bk_base::Version;
 use bk_pool::{ExecFault, Gate};
 use bk_rules::State;
 use std::alloc::{AllocError, Global};

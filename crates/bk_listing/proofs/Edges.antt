@@ -4,14 +4,15 @@ use Rattle.std.specs.List.{flat_map}
 use Rattle.std.specs.Int.{w32, from_be_bytes}
 use Rattle.std.proofs.lemmas.List.Concat.{flat_map-cons}
 use Rattle.std.proofs.lemmas.Nat.{from_be_bytes-to_be_bytes_4}
-use Rattle.bk_frames.specs.declared.version.Version.{Version}
+use Rattle.bk_base.specs.declared.version.Version.{Version}
 use Rattle.bk_frames.specs.declared.fault.FaultCode.{FaultCode}
 use Rattle.bk_frames.specs.declared.fault.FaultCode.TheVariants as code
 use Rattle.bk_frames.specs.declared.fault.FeedFault.{FeedFault}
-use Rattle.bk_frames.specs.Feed.{Frame, feed_of, frame_text, spelling, magic, fault_if}
+use Rattle.bk_base.specs.Feed.{Frame, feed_of, frame_text, spelling, magic}
+use Rattle.bk_frames.specs.FirstFault.{fault_if}
 use Rattle.bk_frames.specs.Pulling.{ByCode}
 use Rattle.bk_frames.specs.Cutting.{Cut, Cuts, in_magic, past_magic, in_frames, ShowsFault, Reaches, RefusesPiece, fault_at}
-use Rattle.bk_frames.proofs.FramesInTurn.{length-magic}
+use Rattle.bk_base.proofs.FramesInTurn.{length-magic}
 use Rattle.bk_listing.specs.private.Reading.{end_of}
 
 pub none_long : (xs : List ℕ) → length xs ≡ 0 → xs ≡ []

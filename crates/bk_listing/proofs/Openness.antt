@@ -3,13 +3,13 @@ use Rattle.std.proofs.Common.{◌≡◌, ◌≢◌, ℕ, ◌+◌, ◌<◌, Bool,
 use Rattle.std.specs.Prelude.{not}
 use Rattle.std.specs.Int.{w32, from_be_bytes}
 use Rattle.std.proofs.lemmas.Bool.{ltb-true}
-use Rattle.bk_frames.specs.declared.limits.TheConstants.{MOST_FEED, MOST_PAYLOAD}
-use Rattle.bk_frames.specs.declared.version.Version.{Version}
+use Rattle.bk_base.specs.declared.limits.TheConstants.{MOST_FEED, MOST_PAYLOAD}
+use Rattle.bk_base.specs.declared.version.Version.{Version}
 use Rattle.bk_frames.specs.declared.fault.FaultCode.{FaultCode}
 use Rattle.bk_frames.specs.declared.fault.FaultCode.TheVariants as code
-use Rattle.bk_frames.specs.Committee.{is_committee}
-use Rattle.bk_frames.specs.Genesis.{is_genesis}
-use Rattle.bk_frames.specs.Feed.{begins_magic, start_fault, kind_fault, payload_fault, content_fault, frame_fault, fault_if, or_else}
+use Rattle.bk_base.specs.Committee.{is_committee}
+use Rattle.bk_base.specs.Genesis.{is_genesis}
+use Rattle.bk_frames.specs.FirstFault.{begins_magic, start_fault, kind_fault, payload_fault, content_fault, frame_fault, fault_if, or_else}
 use Rattle.bk_frames.specs.Cutting.{Cut, IsOpen, fault_at}
 use Rattle.bk_listing.specs.private.Reading.{end_of}
 

@@ -5,13 +5,14 @@ use Rattle.std.specs.Global.{Vec}
 use Rattle.std.specs.Io.KnownBytes.{Consumes, Keeps, IsAtEnd}
 use Rattle.std.proofs.KnownBytes.{Consumes-nil, Consumes-kept}
 use Rattle.std.proofs.lemmas.List.{append-nil, take-append-drop, take_all}
-use Rattle.bk_frames.specs.declared.kind.Kind.{Kind}
-use Rattle.bk_frames.specs.declared.version.Version.{Version}
+use Rattle.bk_base.specs.declared.kind.Kind.{Kind}
+use Rattle.bk_base.specs.declared.version.Version.{Version}
 use Rattle.bk_frames.specs.declared.pulling.TheConstants.{PIECE}
 use Rattle.bk_frames.specs.declared.fault.FaultCode.TheVariants as code
 use Rattle.bk_frames.specs.declared.fault.FeedFault.{FeedFault}
 use Rattle.bk_frames.specs.Device.{Device, Works, Fails, Gives, IfKnown}
-use Rattle.bk_frames.specs.Feed.{Frame, HasFault, feed_of}
+use Rattle.bk_base.specs.Feed.{Frame, feed_of}
+use Rattle.bk_frames.specs.FirstFault.{HasFault}
 use Rattle.bk_frames.specs.Pulling.{FrontCallsForMemoryAt, Gave, Refuses, StopsAt}
 use Rattle.bk_frames.specs.Cutting.{Cut, Cuts, in_magic, past_magic, in_frames, IsOpen, ShowsFault, Reaches, RefusesPiece, fresh, frames_in}
 use Rattle.bk_frames.specs.Reading.{room_of}

@@ -7,15 +7,16 @@ use Rattle.std.specs.Global.{Vec}
 use Rattle.std.proofs.KnownBytes.{Consumes-nil, Appends-nil, Appends-kept, Keeps-refl}
 use Rattle.std.proofs.lemmas.List.{append-nil}
 use Rattle.std.proofs.lemmas.List.Concat.{flat_map-append, flat_map-cons}
-use Rattle.bk_frames.specs.declared.kind.Kind.{Kind}
-use Rattle.bk_frames.specs.declared.version.Version.{Version}
-use Rattle.bk_frames.specs.declared.limits.TheConstants.{MOST_FEED}
-use Rattle.bk_frames.specs.declared.version.Version.TheVariants as version
+use Rattle.bk_base.specs.declared.kind.Kind.{Kind}
+use Rattle.bk_base.specs.declared.version.Version.{Version}
+use Rattle.bk_base.specs.declared.limits.TheConstants.{MOST_FEED}
+use Rattle.bk_base.specs.declared.version.Version.TheVariants as version
 use Rattle.bk_frames.specs.declared.fault.FaultCode.{FaultCode}
 use Rattle.bk_frames.specs.declared.fault.FaultCode.TheVariants as code
 use Rattle.bk_frames.specs.declared.fault.FeedFault.{FeedFault}
 use Rattle.bk_frames.specs.Device.{Device, Works, Fails, Gives, Receives, IfKnown}
-use Rattle.bk_frames.specs.Feed.{Frame, HasFault, feed_of, spelling, frame_text, AreGoodFrom}
+use Rattle.bk_base.specs.Feed.{Frame, feed_of, spelling, frame_text, AreGoodFrom}
+use Rattle.bk_frames.specs.FirstFault.{HasFault}
 use Rattle.bk_frames.specs.Pulling.{ByCode, FrontCallsForMemoryAt, Gave, Refuses, StopsAt}
 use Rattle.bk_frames.specs.Cutting.{Cut, EndsShort, frames_in}
 use Rattle.bk_frames.proofs.Devices.{appends_then, take_past}

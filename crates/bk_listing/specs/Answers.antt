@@ -1,7 +1,8 @@
 -- What a call that lists the frames of a source leaves.
 use Rattle.std.specs.Prelude.{◌≡◌, ◌⊎◌, ℕ, ◌<◌, List, [], length, take}
 use Rattle.bk_frames.specs.Device.{Device, Works, Fails, Receives}
-use Rattle.bk_frames.specs.Feed.{FeedValue, IsFeed, Begins, spelling}
+use Rattle.bk_base.specs.Feed.{FeedValue, IsFeed, spelling}
+use Rattle.bk_frames.specs.FirstFault.{Begins}
 use Rattle.bk_frames.specs.Pulling.{Refuses, Gave}
 use Rattle.bk_results.specs.declared.fault.Fault.{Fault}
 use Rattle.bk_results.specs.declared.fault.Fault.TheVariants as fault

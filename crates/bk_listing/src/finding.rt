@@ -13,7 +13,7 @@ ghost use Rattle.bk_listing.specs.private.Rows.{IsFound, CanTakeNext, TakesNext,
 use bk_certcheck::{Verdict, check_each};
 use bk_committee::Committee;
 use bk_digest::Digest32;
-use bk_frames::Kind;
+use bk_base::Kind;
 use bk_lanes::digest_each;
 use sha2::{Digest, Sha256};
 use std::alloc::{AllocError, Global};

@@ -9,7 +9,7 @@ use crate::finding::find_part;
 use crate::parts::{bytes_in, parts_of};
 use crate::rows::{Shown, rows_of};
 use bk_committee::Committee;
-use bk_frames::Kind;
+use bk_base::Kind;
 use rayon::current_num_threads;
 use rayon::prelude::*;
 use std::alloc::{AllocError, Global};

@@ -4,7 +4,7 @@ ghost use Rattle.std.specs.Prelude.{◌≡◌, ◌+◌, ◌<◌, ◌^◌, ◌++�
 ghost use Rattle.std.specs.List.{AllZip, flat_map};
 ghost use Rattle.hex.specs.Hex.{encode_lower};
 ghost use Rattle.bk_frames.specs.Cutting.{frames_in};
-ghost use Rattle.bk_frames.specs.Feed.{frame_text};
+ghost use Rattle.bk_base.specs.Feed.{frame_text};
 ghost use Rattle.bk_results.specs.Lines.{spaced};
 ghost use Rattle.bk_listing.specs.Listing.{cert_words, committee_words, genesis_words, rule_words, batch_words, line_with};
 ghost use Rattle.bk_listing.specs.private.Shown.{IsRow, PutsLines, row_words};
@@ -13,7 +13,7 @@ use crate::rows::{CertRow, Shown};
 use bk_certcheck::Rule;
 use bk_committee::Committee;
 use bk_digest::Digest32;
-use bk_frames::{Kind, Version};
+use bk_base::{Kind, Version};
 use itoa::Buffer;
 use std::alloc::AllocError;
 

@@ -4,7 +4,7 @@ ghost use Rattle.std.specs.Prelude.{◌≡◌, ◌+◌, ◌<◌, ◌^◌, ◌++�
 ghost use Rattle.std.specs.List.{flat_map};
 ghost use Rattle.bk_frames.specs.Cutting.{frames_in};
 ghost use Rattle.bk_frames.specs.Device.{CanBeUsed, Works, Fails, Receives};
-ghost use Rattle.bk_frames.specs.Feed.{Frame, frame_text};
+ghost use Rattle.bk_base.specs.Feed.{Frame, frame_text};
 ghost use Rattle.bk_frames.specs.Writing.{Writes};
 ghost use Rattle.bk_committee.specs.Payload.{committee_of};
 ghost use Rattle.bk_listing.specs.private.Shown.{GoesOn, HasListed, ListsMore, MoreFails, OpensBy, PushFails};
@@ -12,7 +12,8 @@ ghost use Rattle.bk_listing.specs.private.Shown.{GoesOn, HasListed, ListsMore, M
 use crate::judging::all_rows;
 use crate::lines::{Place, put_lines};
 use bk_committee::Committee;
-use bk_frames::{Kind, Sink, Version, push_all};
+use bk_base::{Kind, Version};
+use bk_frames::{Sink, push_all};
 use bk_results::Fault;
 use std::alloc::{AllocError, Global};
 use std::thread::Threads;

@@ -3,7 +3,7 @@
 ghost use Rattle.std.specs.Prelude.{◌≡◌, ◌<◌, ◌≤◌, IfOk, length};
 ghost use Rattle.std.specs.List.{flat_map};
 
-use bk_frames::Kind;
+use bk_base::Kind;
 use std::alloc::{AllocError, Global};
 
 // A part with fewer bytes and fewer frames is not worth a thread.

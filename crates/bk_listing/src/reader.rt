@@ -2,15 +2,16 @@
 
 ghost use Rattle.std.specs.Prelude.{◌≡◌, ◌+◌, ◌<◌, ◌≤◌, ◌++◌, [], ℕ, List, length, take, OnOk, OnErr, IfOk, IfErr, None};
 ghost use Rattle.bk_frames.specs.declared.pulling.TheConstants.{PIECE};
-ghost use Rattle.bk_frames.specs.declared.version.Version.{Version};
+ghost use Rattle.bk_base.specs.declared.version.Version.{Version};
 ghost use Rattle.bk_frames.specs.Cutting.{Cuts, IsOpen, EndsShort, frames_in};
 ghost use Rattle.bk_frames.specs.Device.{Device, CanBeUsed, IfKnown};
-ghost use Rattle.bk_frames.specs.Feed.{Frame};
+ghost use Rattle.bk_base.specs.Feed.{Frame};
 ghost use Rattle.bk_frames.specs.Reading.{room_of};
 ghost use Rattle.bk_listing.specs.declared.reader.Unread.TheVariants as unread;
 ghost use Rattle.bk_listing.specs.private.Reading.{CanBe, Fits, FeedFails, HasCut, HasRead, PieceFails, ReadFails, end_of};
 
-use bk_frames::{Cutter, FaultCode, FeedFault, Kind, Source, Version};
+use bk_base::{Kind, Version};
+use bk_frames::{Cutter, FaultCode, FeedFault, Source};
 use std::alloc::{AllocError, AllocFailed, Global};
 
 /// Why no more of a feed is read.

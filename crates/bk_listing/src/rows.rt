@@ -4,9 +4,9 @@ ghost use Rattle.std.specs.Prelude.{◌≡◌, ◌<◌, ◌^◌, List, ℕ, IfOk
 ghost use Rattle.std.specs.List.{AllZip};
 ghost use Rattle.sha2.specs.Sha256.{sha256};
 ghost use Rattle.bk_frames.specs.Cutting.{frames_in};
-ghost use Rattle.bk_frames.specs.Feed.{frame_of};
-ghost use Rattle.bk_frames.specs.Genesis.{total_of};
-ghost use Rattle.bk_frames.specs.declared.kind.Kind.{Kind};
+ghost use Rattle.bk_base.specs.Feed.{frame_of};
+ghost use Rattle.bk_base.specs.Genesis.{total_of};
+ghost use Rattle.bk_base.specs.declared.kind.Kind.{Kind};
 ghost use Rattle.bk_committee.specs.Payload.{CommitteeValue};
 ghost use Rattle.bk_cert.specs.Identity.{id_of};
 ghost use Rattle.bk_certcheck.specs.Verdicts.{IsVerdict};
@@ -21,7 +21,7 @@ use bk_cert::{CertView, id_of_bytes};
 use bk_certcheck::{Rule, Verdict};
 use bk_committee::Committee;
 use bk_digest::Digest32;
-use bk_frames::{Kind, Row, read_genesis};
+use bk_base::{Kind, Row, read_genesis};
 use bk_tx::read_batch;
 use std::alloc::{AllocError, Global};
 

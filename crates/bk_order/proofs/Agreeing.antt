@@ -4,8 +4,8 @@ use Rattle.std.specs.List.{flat_map}
 use Rattle.std.proofs.lemmas.Bool.{cases_lt}
 use Rattle.std.proofs.lemmas.List.{append-nil, reverse-append, reverse-reverse}
 use Rattle.std.proofs.lemmas.List.Concat.{flat_map-append}
-use Rattle.bk_frames.specs.declared.kind.Kind.TheVariants as kind
-use Rattle.bk_frames.specs.Feed.{Frame, frame_of}
+use Rattle.bk_base.specs.declared.kind.Kind.TheVariants as kind
+use Rattle.bk_base.specs.Feed.{Frame, frame_of}
 use Rattle.bk_committee.specs.Payload.{CommitteeValue, sizes_of}
 use Rattle.bk_committee.specs.Sizes.{Sizes}
 use Rattle.bk_cert.specs.Node.{Node}

@@ -6,8 +6,8 @@ use Rattle.std.specs.declared.result.Result.{Result}
 use Rattle.std.specs.List.{AllZip}
 use Rattle.std.specs.Global.{Vec}
 use Rattle.std.proofs.lemmas.List.{append-nil}
-use Rattle.bk_frames.specs.declared.kind.Kind.{Kind}
-use Rattle.bk_frames.specs.Feed.{Frame}
+use Rattle.bk_base.specs.declared.kind.Kind.{Kind}
+use Rattle.bk_base.specs.Feed.{Frame}
 use Rattle.bk_frames.specs.Cutting.{frames_in}
 use Rattle.bk_committee.specs.Payload.{CommitteeValue}
 use Rattle.bk_order.specs.declared.table.Table.{Table}

@@ -29,8 +29,8 @@ use Rattle.bk_rounds.proofs.Admitted.{admitted_held}
 use Rattle.bk_cert.proofs.Lists.{none_in_nil}
 use Rattle.std.specs.Prelude.{slice_get, map}
 use Rattle.std.specs.List.{position}
-use Rattle.bk_frames.specs.declared.kind.Kind.TheVariants as kind
-use Rattle.bk_frames.specs.Feed.{Frame, frame_of}
+use Rattle.bk_base.specs.declared.kind.Kind.TheVariants as kind
+use Rattle.bk_base.specs.Feed.{Frame, frame_of}
 use Rattle.bk_committee.specs.Payload.{CommitteeValue, sizes_of}
 use Rattle.bk_rounds.specs.Admission.{WaitsAt}
 use Rattle.bk_cert.specs.Place.{Lists}

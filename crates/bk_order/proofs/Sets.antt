@@ -1,7 +1,7 @@
 -- Frames as a set, and more of them.
 use Rattle.std.proofs.Common.{List, sym, subst}
-use Rattle.bk_frames.specs.declared.kind.Kind.TheVariants as kind
-use Rattle.bk_frames.specs.Feed.{Frame, frame_of}
+use Rattle.bk_base.specs.declared.kind.Kind.TheVariants as kind
+use Rattle.bk_base.specs.Feed.{Frame, frame_of}
 use Rattle.bk_committee.specs.Payload.{CommitteeValue, sizes_of}
 use Rattle.bk_cert.specs.Node.{Node}
 use Rattle.bk_cert.specs.Clear.{IsClear}

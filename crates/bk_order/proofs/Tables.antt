@@ -2,9 +2,9 @@
 use Rattle.std.proofs.Common.{◌≡◌, ℕ, ◌+◌, ◌<◌, ◌^◌, Bool, true, false, List, [], ◌∷◌, ◌++◌, length, refl, sym, ap, subst, ◌∙◌, arith, append_assoc}
 use Rattle.std.specs.List.{AllZip}
 use Rattle.std.proofs.lemmas.List.{append-nil}
-use Rattle.bk_frames.specs.declared.kind.Kind.{Kind}
-use Rattle.bk_frames.specs.declared.kind.Kind.TheVariants as kind
-use Rattle.bk_frames.specs.Feed.{Frame}
+use Rattle.bk_base.specs.declared.kind.Kind.{Kind}
+use Rattle.bk_base.specs.declared.kind.Kind.TheVariants as kind
+use Rattle.bk_base.specs.Feed.{Frame}
 use Rattle.bk_committee.specs.Payload.{CommitteeValue}
 use Rattle.bk_certcheck.specs.declared.verdict.Verdict.{Verdict}
 use Rattle.bk_commit.specs.Growth.{IsPartOf, IsPrefix}

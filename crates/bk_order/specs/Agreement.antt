@@ -1,6 +1,6 @@
 -- When the orders of two parts of the same frames agree.
 use Rattle.std.specs.Prelude.{◌⊎◌, List}
-use Rattle.bk_frames.specs.Feed.{Frame}
+use Rattle.bk_base.specs.Feed.{Frame}
 use Rattle.bk_committee.specs.Payload.{CommitteeValue}
 use Rattle.bk_commit.specs.Growth.{IsPartOf, IsPrefix}
 use Rattle.bk_order.specs.Stops.{HasNoStop}

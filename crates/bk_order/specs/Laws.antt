@@ -1,6 +1,6 @@
 -- What the definitions of stops and orders say together.
 use Rattle.std.specs.Prelude.{◌≡◌, ℕ, List, []}
-use Rattle.bk_frames.specs.Feed.{Frame}
+use Rattle.bk_base.specs.Feed.{Frame}
 use Rattle.bk_committee.specs.Payload.{CommitteeValue}
 use Rattle.bk_cert.specs.declared.place.CertRef.{CertRef}
 use Rattle.bk_commit.specs.Growth.{IsPartOf, IsPrefix}

@@ -1,6 +1,6 @@
 -- The order of what the frames hold. It is meant where nothing stops them, which these definitions do not say.
 use Rattle.std.specs.Prelude.{◌≡◌, List, reverse}
-use Rattle.bk_frames.specs.Feed.{Frame}
+use Rattle.bk_base.specs.Feed.{Frame}
 use Rattle.bk_committee.specs.Payload.{CommitteeValue, sizes_of}
 use Rattle.bk_committee.specs.Sizes.{Sizes}
 use Rattle.bk_cert.specs.Node.{Node}

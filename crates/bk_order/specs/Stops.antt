@@ -1,6 +1,6 @@
 -- What stops the frames of a feed, so that they have no report: a collision, or else twins.
 use Rattle.std.specs.Prelude.{◌⊎◌, ℕ, List}
-use Rattle.bk_frames.specs.Feed.{Frame}
+use Rattle.bk_base.specs.Feed.{Frame}
 use Rattle.bk_committee.specs.Payload.{CommitteeValue}
 use Rattle.bk_cert.specs.Node.{Node}
 use Rattle.bk_cert.specs.Clear.{IsClear}

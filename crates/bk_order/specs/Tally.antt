@@ -2,7 +2,7 @@
 use Rattle.std.specs.Prelude.{◌≡◌, ℕ, List, length, map}
 use Rattle.std.specs.List.{AllZip, flat_map}
 use Rattle.sha2.specs.Sha256.{sha256}
-use Rattle.bk_frames.specs.Feed.{Frame}
+use Rattle.bk_base.specs.Feed.{Frame}
 use Rattle.bk_committee.specs.Payload.{CommitteeValue}
 use Rattle.bk_cert.specs.Node.{Node}
 use Rattle.bk_certcheck.specs.declared.verdict.Verdict.{Verdict}

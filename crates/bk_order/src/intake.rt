@@ -2,7 +2,7 @@
 
 ghost use Rattle.std.specs.Prelude.{◌≡◌, ◌++◌, ℕ, ◌+◌, ◌<◌, ◌^◌, [], List, Bool, true, false, OnOk, OnErr, IfOk, MatchOption, Some, length, slice_get};
 ghost use Rattle.std.specs.Option.{option_copied};
-ghost use Rattle.bk_frames.specs.Feed.{Frame};
+ghost use Rattle.bk_base.specs.Feed.{Frame};
 ghost use Rattle.bk_commit.specs.Ordering.{IsCommitted};
 ghost use Rattle.bk_frames.specs.Cutting.{frames_in};
 ghost use Rattle.bk_order.specs.Stops.{HasNoStop, IsStop};
@@ -20,7 +20,7 @@ use crate::tally::Tally;
 use bk_cert::CertRef;
 use bk_committee::Committee;
 use bk_digest::Digest32;
-use bk_frames::Kind;
+use bk_base::Kind;
 use bk_rounds::Rounds;
 use std::alloc::{AllocError, Global};
 use std::marker::Model;

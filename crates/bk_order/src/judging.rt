@@ -3,8 +3,8 @@
 ghost use Rattle.std.specs.Prelude.{◌≡◌, IfOk};
 ghost use Rattle.std.specs.List.{AllZip, flat_map};
 ghost use Rattle.bk_committee.specs.Payload.{CommitteeValue};
-ghost use Rattle.bk_frames.specs.declared.kind.Kind.{Kind};
-ghost use Rattle.bk_frames.specs.Feed.{frame_of};
+ghost use Rattle.bk_base.specs.declared.kind.Kind.{Kind};
+ghost use Rattle.bk_base.specs.Feed.{frame_of};
 ghost use Rattle.bk_frames.specs.Cutting.{frames_in};
 ghost use Rattle.bk_order.specs.private.Judging.{IsFound, IsJudged};
 
@@ -13,7 +13,7 @@ use crate::parts::{bytes_in, is_worth, parts_of};
 use bk_certcheck::Verdict;
 use bk_committee::Committee;
 use bk_digest::Digest32;
-use bk_frames::Kind;
+use bk_base::Kind;
 use rayon::current_num_threads;
 use rayon::prelude::*;
 use std::alloc::{AllocError, Global};

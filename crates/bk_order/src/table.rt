@@ -3,7 +3,7 @@
 ghost use Rattle.std.specs.Prelude.{◌≡◌, ◌++◌, ◌∷◌, ℕ, ◌+◌, ◌<◌, ◌^◌, [], List, OnOk, IfOk, length, true};
 ghost use Rattle.std.specs.List.{AllZip};
 ghost use Rattle.bk_committee.specs.Payload.{sizes_of};
-ghost use Rattle.bk_frames.specs.Feed.{Frame};
+ghost use Rattle.bk_base.specs.Feed.{Frame};
 ghost use Rattle.bk_certcheck.specs.Verdicts.{IsGood, IsVerdict};
 ghost use Rattle.bk_rounds.specs.Rounds.{rounds_with};
 ghost use Rattle.bk_commit.specs.Growth.{IsPrefix, IsPartOf};

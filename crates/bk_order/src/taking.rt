@@ -4,7 +4,7 @@ ghost use Rattle.std.specs.Prelude.{◌≡◌, ◌++◌, ℕ, ◌+◌, ◌<◌, 
 ghost use Rattle.std.specs.List.{AllZip};
 ghost use Rattle.std.specs.Vec.Iter.{into_iter_items};
 ghost use denote.Param.Send.{IsSync};
-ghost use Rattle.bk_frames.specs.Feed.{Frame};
+ghost use Rattle.bk_base.specs.Feed.{Frame};
 ghost use Rattle.bk_frames.specs.Cutting.{frames_in};
 ghost use Rattle.bk_order.specs.Intake.{IsKeptOf};
 ghost use Rattle.bk_order.specs.private.Judging.{IsJudged};
@@ -13,7 +13,7 @@ ghost use Rattle.bk_order.specs.private.Joined.{CanKeep, GoesOn, HasKept, IsJoin
 use crate::judging::{Judged, judge_all};
 use crate::table::{Table, keep_all};
 use bk_committee::Committee;
-use bk_frames::Kind;
+use bk_base::Kind;
 use std::alloc::{AllocError, Global};
 use std::mem::replace;
 use std::thread::{Threads, join_mut};

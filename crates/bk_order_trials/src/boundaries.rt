@@ -6,7 +6,7 @@ use crate::members::{EVERYBODY, Members};
 use crate::tally::Tally;
 use anyhow::{Result, bail};
 use bk_committee::Committee;
-use bk_frames::Version;
+use bk_base::Version;
 use std::alloc::Global;
 
 // A certificate by its round and author, its parents and its signers, and what a check finds.

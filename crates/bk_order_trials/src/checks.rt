@@ -8,7 +8,7 @@ use bk_cert::CertRef;
 use bk_certcheck::{Verdict, check, check_all};
 use bk_committee::Committee;
 use bk_digest::Digest32;
-use bk_frames::Version;
+use bk_base::Version;
 use std::alloc::Global;
 use std::thread::Threads;
 

@@ -8,7 +8,7 @@ use crate::set::Set;
 use anyhow::Result;
 use bk_cert::CertRef;
 use bk_digest::Digest32;
-use bk_frames::Version;
+use bk_base::Version;
 use std::alloc::Global;
 
 /// How many batches there are.

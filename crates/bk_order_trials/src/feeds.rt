@@ -11,7 +11,7 @@ use crate::tally::Tally;
 use anyhow::Result;
 use bk_commit::committed;
 use bk_flatten::whole_order;
-use bk_frames::Version;
+use bk_base::Version;
 use bk_order::Intake;
 use bk_rounds::Rounds;
 use std::alloc::Global;

@@ -8,7 +8,7 @@ use crate::row::{Row, payload, sealed_row};
 use anyhow::Result;
 use bk_committee::Committee;
 use bk_digest::Digest32;
-use bk_frames::Kind;
+use bk_base::Kind;
 use std::alloc::Global;
 
 /// A frame that breaks no rule.

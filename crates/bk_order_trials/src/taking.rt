@@ -5,7 +5,7 @@ ghost use Rattle.std.specs.Prelude.{◌≡◌};
 use crate::chance::Chance;
 use crate::frames::{Frame, GOOD};
 use anyhow::{Result, bail};
-use bk_frames::Kind;
+use bk_base::Kind;
 use bk_order::Intake;
 use std::alloc::Global;
 use std::thread::Threads;

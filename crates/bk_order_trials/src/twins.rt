@@ -15,7 +15,7 @@ use bk_cert::CertRef;
 use bk_committee::Committee;
 use bk_digest::Digest32;
 use bk_evidence::Evidence;
-use bk_frames::Version;
+use bk_base::Version;
 use bk_order::{Intake, Stop};
 use std::alloc::Global;
 use std::thread::Threads;

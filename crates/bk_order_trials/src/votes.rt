@@ -3,7 +3,7 @@
 use crate::members::Members;
 use crate::story::{Story, is_told};
 use crate::tally::Tally;
-use bk_frames::Version;
+use bk_base::Version;
 
 const FOUR: Members<'static> = Members {
     version: Version::One,

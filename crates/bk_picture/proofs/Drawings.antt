@@ -2,7 +2,7 @@
 use Rattle.std.proofs.Common.{◌≡◌, ℕ, List, Option, Some, None, false, refl, sym, ap, subst, ◌∙◌}
 use Rattle.std.specs.Prelude.{IfSome}
 use Rattle.bk_frames.specs.Device.{Device, Works, IfKnown}
-use Rattle.bk_frames.specs.Feed.{FeedValue, Frame, IsFeed}
+use Rattle.bk_base.specs.Feed.{FeedValue, Frame, IsFeed}
 use Rattle.bk_committee.specs.Payload.{CommitteeValue, sizes_of}
 use Rattle.bk_rounds.specs.Rounds.{RoundsValue}
 use Rattle.bk_commit.specs.Ordering.{IsCommitted}

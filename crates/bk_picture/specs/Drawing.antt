@@ -1,7 +1,7 @@
 -- What `draw` writes of a feed, read off its frames alone.
 use Rattle.std.specs.Prelude.{◌≡◌, ℕ, ◌<◌, List, length, take}
 use Rattle.bk_frames.specs.Device.{Device, Works, Fails, Receives, IfKnown}
-use Rattle.bk_frames.specs.Feed.{FeedValue}
+use Rattle.bk_base.specs.Feed.{FeedValue}
 use Rattle.bk_frames.specs.Pulling.{Refuses}
 use Rattle.bk_committee.specs.Payload.{sizes_of}
 use Rattle.bk_order.specs.Frames.{AreCerts}

@@ -4,7 +4,7 @@ ghost use Rattle.std.specs.Prelude.{◌≡◌};
 ghost use Rattle.bk_rules.specs.Rule.{balance_of, seq_of};
 ghost use Rattle.bk_rules.specs.Rows.{account_at};
 
-use bk_frames::Row;
+use bk_base::Row;
 use bk_rules::Account;
 
 /// The account of the first row with this id, if there is one. O(n).

@@ -6,7 +6,7 @@ ghost use Rattle.bk_rules.specs.Rows.{changed, row_of, rows_after};
 ghost use Rattle.bk_plain.specs.Changes.{meant};
 
 use crate::unfit::Unfit;
-use bk_frames::Row;
+use bk_base::Row;
 use bk_rules::Account;
 use bk_tx::Payment;
 use std::alloc::Global;

@@ -2,12 +2,12 @@
 
 ghost use Rattle.std.specs.Prelude.{◌≡◌, ◌^◌, ◌<◌, [], false, map, nat_le, IfOk};
 ghost use Rattle.sha2.specs.Sha256.{sha256};
-ghost use Rattle.bk_frames.specs.Genesis.{row_text};
+ghost use Rattle.bk_base.specs.Genesis.{row_text};
 ghost use Rattle.bk_digest.specs.Digest.{tagged_of};
 ghost use Rattle.bk_digest.specs.Tree.{node_of, root_of, root_within};
 
 use bk_digest::Digest32;
-use bk_frames::Row;
+use bk_base::Row;
 use sha2::{Digest, Sha256};
 use std::alloc::{AllocError, Global};
 

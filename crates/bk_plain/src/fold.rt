@@ -5,7 +5,7 @@ ghost use Rattle.bk_rules.specs.Fold.{state_after, receipts_of};
 
 use crate::outcome::{Outcome, outcome_of};
 use crate::unfit::Unfit;
-use bk_frames::{Row, Version};
+use bk_base::{Row, Version};
 use bk_rules::Receipt;
 use bk_tx::Tx;
 use std::alloc::Global;

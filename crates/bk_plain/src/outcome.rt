@@ -10,7 +10,7 @@ use crate::asked::sum_of;
 use crate::change::{Change, rows_after};
 use crate::status::{payments_on, status_of};
 use crate::unfit::Unfit;
-use bk_frames::{Row, Version};
+use bk_base::{Row, Version};
 use bk_rules::{Receipt, Status};
 use bk_tx::{Payment, Tx};
 use std::alloc::Global;

@@ -9,7 +9,7 @@ ghost use Rattle.bk_rules.specs.Rows.{account_at};
 
 use crate::accounts::{account_at, balance_of, seq_of};
 use crate::asked::{is_short, payments_of, receivers_of};
-use bk_frames::{Row, Version};
+use bk_base::{Row, Version};
 use bk_rules::Status;
 use bk_tx::{Body, Declarations, Declared, Payment, Tx};
 use std::alloc::{AllocError, Global};

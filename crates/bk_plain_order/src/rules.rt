@@ -12,7 +12,7 @@ use crate::tags::tags_by;
 use bk_cert::{Cert, Header};
 use bk_committee::Committee;
 use bk_digest::Digest32;
-use bk_frames::Version;
+use bk_base::Version;
 use std::alloc::{AllocError, Global};
 use std::cmp::Ordering;
 

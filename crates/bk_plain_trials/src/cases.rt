@@ -6,7 +6,7 @@ use crate::plain::given_alone;
 use crate::product::given_applied;
 use crate::tally::Tally;
 use anyhow::Result;
-use bk_frames::{Row, Version};
+use bk_base::{Row, Version};
 use bk_rules::Receipt;
 use bk_tx::Tx;
 use std::alloc::Global;

@@ -2,7 +2,7 @@
 
 use crate::chance::Chance;
 use anyhow::Result;
-use bk_frames::Row;
+use bk_base::Row;
 use bk_plain::account_at;
 use bk_rules::Account;
 use bk_tx::{Body, Declarations, Declared, Payment, Payments, Tx};

@@ -1,7 +1,8 @@
 //! Feeds of opening accounts and batches of one text each, made in memory.
 
 use anyhow::{Result, bail};
-use bk_frames::{Counted, Feed, Row, Version};
+use bk_base::{Row, Version};
+use bk_frames::{Counted, Feed};
 use std::alloc::Global;
 
 // Puts a frame of this kind.

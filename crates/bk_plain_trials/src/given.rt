@@ -3,7 +3,7 @@
 use crate::tally::Tally;
 use anyhow::Result;
 use bk_digest::Digest32;
-use bk_frames::Row;
+use bk_base::Row;
 use bk_rules::Receipt;
 
 /// The receipt of each transaction, the rows after all of them, and the digest of these rows.

@@ -2,7 +2,7 @@
 
 use crate::given::Given;
 use anyhow::{Result, bail};
-use bk_frames::{Row, Version};
+use bk_base::{Row, Version};
 use bk_plain::{Folded, Outcome, Unfit, fold_of, outcome_of, state_of};
 use bk_tx::Tx;
 use std::alloc::Global;

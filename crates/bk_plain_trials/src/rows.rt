@@ -4,7 +4,7 @@ use crate::cases::{Case, try_case};
 use crate::tally::Tally;
 use crate::texts::{name_twice, text_of};
 use anyhow::{Result, bail};
-use bk_frames::{Row, Version};
+use bk_base::{Row, Version};
 use bk_rules::{Receipt, Status};
 use bk_tx::{Body, Declared, Payment, Payments};
 use std::alloc::Global;

@@ -3,7 +3,7 @@
 use crate::given::Given;
 use crate::tally::Tally;
 use anyhow::Result;
-use bk_frames::{Row, Version};
+use bk_base::{Row, Version};
 use bk_rules::{Receipt, Status};
 use bk_tx::{Body, Tx};
 

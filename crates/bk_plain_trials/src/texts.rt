@@ -4,7 +4,7 @@ use crate::chance::Chance;
 use crate::drawn::drawn_tx;
 use crate::plain::rows_after;
 use anyhow::{Result, bail};
-use bk_frames::{Row, Version};
+use bk_base::{Row, Version};
 use bk_tx::{Body, Declarations, Declared, Tx};
 use std::alloc::Global;
 

@@ -1,6 +1,6 @@
 -- A plan of transactions, on a ledger with slots for them.
 use Rattle.std.proofs.Common.{◌≡◌, ℕ, List, length, Option, sym, ap, ◌∙◌, subst}
-use Rattle.bk_frames.specs.declared.version.Version.{Version}
+use Rattle.bk_base.specs.declared.version.Version.{Version}
 use Rattle.bk_tx.specs.Transaction.{Transaction}
 use Rattle.bk_rules.specs.Fold.{state_after, receipts_of, HasRoom}
 use Rattle.bk_rules.specs.Ledger.{Ledger, rows_shown, slot_numbers}

@@ -3,7 +3,8 @@
 use crate::deeds::{Deed, tx_of};
 use crate::making::{feed_with, row};
 use anyhow::Result;
-use bk_frames::{Feed, Row, Version};
+use bk_base::{Row, Version};
+use bk_frames::Feed;
 use bk_pool::Outcome;
 use bk_rules::{Receipt, Status};
 use bk_tx::Tx;

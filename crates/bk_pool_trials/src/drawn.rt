@@ -5,7 +5,7 @@ ghost use Rattle.std.specs.Prelude.{◌≡◌, ◌<◌, ◌≤◌};
 use crate::chance::Chance;
 use crate::making::{reading, row, writing};
 use anyhow::Result;
-use bk_frames::Row;
+use bk_base::Row;
 use bk_tx::{Body, Declarations, Declared, Payment, Payments, Tx};
 use std::alloc::Global;
 

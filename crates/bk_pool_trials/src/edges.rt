@@ -8,7 +8,8 @@ use crate::making::feed_with;
 use crate::tally::Tally;
 use anyhow::Result;
 use bk_conflicts::{Plan, Planner, WordRef};
-use bk_frames::{Feed, Version};
+use bk_base::Version;
+use bk_frames::Feed;
 use std::alloc::Global;
 
 // Which transactions, on accounts 1 to 6.

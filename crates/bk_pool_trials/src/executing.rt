@@ -6,7 +6,8 @@ ghost use Rattle.bk_conflicts.specs.SceneOf.{CanRunOn};
 
 use anyhow::{Result, bail};
 use bk_conflicts::{Plan, Planner};
-use bk_frames::{Feed, Row};
+use bk_base::Row;
+use bk_frames::Feed;
 use bk_ledger::{Batches, Ledger};
 use bk_pool::{ExecFault, Gate, Hints, Open, Outcome, execute, execute_all, execute_with};
 use bk_rules::{Receipt, State};

@@ -6,7 +6,8 @@ use crate::schedules::{claim, read, write};
 use crate::tally::Tally;
 use anyhow::Result;
 use bk_frames::Feed;
-use bk_steps::{Event, Machine, Refused};
+use bk_base::Refused;
+use bk_steps::{Event, Machine};
 use std::alloc::Global;
 
 // An event, and the value that is read or written, or why the event is refused. Then nothing has changed.

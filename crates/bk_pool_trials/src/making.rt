@@ -1,7 +1,8 @@
 //! Transactions, batches of them, and feeds of batches, made in memory.
 
 use anyhow::{Result, bail};
-use bk_frames::{Counted, Feed, Row, Version};
+use bk_base::{Row, Version};
+use bk_frames::{Counted, Feed};
 use bk_tx::{Body, Declarations, Declared, Payment, Payments, Tx};
 use std::alloc::Global;
 

@@ -1,7 +1,7 @@
 //! Which slots of a ledger are touched, against what was worked out by hand.
 
 ghost use Rattle.std.specs.Prelude.{◌≡◌};
-ghost use Rattle.bk_frames.specs.Numbers.{is_ascending};
+ghost use Rattle.bk_base.specs.Numbers.{is_ascending};
 
 use crate::tally::Tally;
 use anyhow::{Result, bail};

@@ -12,7 +12,8 @@ use crate::tally::Tally;
 use anyhow::Result;
 use bk_bank::{Bank, Pass, Words};
 use bk_conflicts::Plan;
-use bk_frames::{Feed, Version};
+use bk_base::Version;
+use bk_frames::Feed;
 use bk_pool::{Open, run_place};
 use std::alloc::Global;
 

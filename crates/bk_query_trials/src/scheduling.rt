@@ -7,7 +7,8 @@ use crate::tally::Tally;
 use anyhow::Result;
 use bk_frames::{Counted, FaultCode};
 use bk_replay::{Fault, ScheduleStop, apply_schedule};
-use bk_steps::{Event, Refused, ScheduleFault};
+use bk_base::Refused;
+use bk_steps::{Event, ScheduleFault};
 use std::alloc::Global;
 
 // Account 1 pays 10 to account 3 if account 2 has 50, and then account 2 pays 50 to account 1. The batch begins at 123.

@@ -4,9 +4,10 @@ use Rattle.std.specs.Prelude.{map}
 use Rattle.std.specs.List.{Contains}
 use Rattle.std.proofs.lemmas.List.Elements.{Contains-append_cases}
 use Rattle.bk_frames.specs.declared.fault.FeedFault.{FeedFault}
-use Rattle.bk_frames.specs.Genesis.{total_of}
-use Rattle.bk_frames.specs.Feed.{FeedValue, IsFeed, HasFault, spelling, genesis_of}
-use Rattle.bk_frames.proofs.Accounts.{genesis_accounts}
+use Rattle.bk_base.specs.Genesis.{total_of}
+use Rattle.bk_base.specs.Feed.{FeedValue, IsFeed, spelling, genesis_of}
+use Rattle.bk_frames.specs.FirstFault.{HasFault}
+use Rattle.bk_base.proofs.Accounts.{genesis_accounts}
 use Rattle.bk_frames.proofs.OneReading.{one_feed, one_fault, not_both}
 use Rattle.bk_committee.specs.Payload.{CommitteeValue}
 use Rattle.bk_cert.proofs.Lists.{none_in_nil, contains_cases, from_map}

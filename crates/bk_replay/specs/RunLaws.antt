@@ -1,8 +1,9 @@
 -- What the definition of the report of a run says as a whole.
 use Rattle.std.specs.Prelude.{◌≡◌, ℕ, List, [], ◌∷◌, ◌++◌, Contains}
 use Rattle.bk_frames.specs.declared.fault.FeedFault.{FeedFault}
-use Rattle.bk_frames.specs.Genesis.{total_of}
-use Rattle.bk_frames.specs.Feed.{FeedValue, IsFeed, HasFault, spelling, genesis_of}
+use Rattle.bk_base.specs.Genesis.{total_of}
+use Rattle.bk_base.specs.Feed.{FeedValue, IsFeed, spelling, genesis_of}
+use Rattle.bk_frames.specs.FirstFault.{HasFault}
 use Rattle.bk_results.specs.declared.fault.Fault.{Fault}
 use Rattle.bk_report.specs.declared.line.Line.{Line}
 use Rattle.bk_report.specs.declared.line.Line.TheVariants as line

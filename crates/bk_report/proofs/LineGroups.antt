@@ -6,8 +6,8 @@ use Rattle.std.proofs.lemmas.Option.{slice_get-get_or, slice_get-map}
 use Rattle.std.proofs.lemmas.List.Concat.{flat_map-append, flat_map-cons}
 use Rattle.bk_frames.specs.Device.{Device, Works, Fails}
 use Rattle.bk_frames.specs.declared.writing.WriteFault.{WriteFault}
-use Rattle.bk_frames.specs.declared.genesis.Row.{Row}
-use Rattle.bk_frames.specs.Genesis.{total_of}
+use Rattle.bk_base.specs.declared.genesis.Row.{Row}
+use Rattle.bk_base.specs.Genesis.{total_of}
 use Rattle.bk_rules.specs.declared.receipt.Receipt.{Receipt}
 use Rattle.bk_report.specs.declared.line.Line.{Line}
 use Rattle.bk_report.specs.declared.line.Line.TheVariants as line

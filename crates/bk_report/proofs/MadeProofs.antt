@@ -13,8 +13,8 @@ use Rattle.bk_digest.specs.Digest.{tagged_of}
 use Rattle.bk_digest.specs.Tree.{node_of, root_within, root_of, path_within, path_of, climb}
 use Rattle.bk_digest.proofs.Paths.{path_at}
 use Rattle.bk_digest.proofs.Climbs.{own_path}
-use Rattle.bk_frames.specs.declared.genesis.Row.{Row}
-use Rattle.bk_frames.specs.Genesis.{row_text}
+use Rattle.bk_base.specs.declared.genesis.Row.{Row}
+use Rattle.bk_base.specs.Genesis.{row_text}
 use Rattle.bk_report.specs.Leaves.{leaves_of, state_of}
 use Rattle.bk_report.specs.Lines.{text_of}
 use Rattle.bk_report.specs.Proofs.{ProofValue, IsDigest, IsRow, IsProofOf, IsProofValue, IsGoodProof, path_lines, proof_text, most_proof}

@@ -4,7 +4,7 @@ use Rattle.std.specs.Prelude.{IsTrue, ◌↔◌}
 use Rattle.hex.specs.Hex.{encode_lower}
 use Rattle.bk_digest.specs.Digest.{tagged_of}
 use Rattle.bk_digest.specs.Tree.{climb}
-use Rattle.bk_frames.specs.Genesis.{row_text}
+use Rattle.bk_base.specs.Genesis.{row_text}
 use Rattle.bk_report.specs.Proofs.{ProofValue, IsProofValue, IsGoodProof, proof_text, most_proof}
 
 -- a path leads from a proof's account to its digest

@@ -1,7 +1,7 @@
 -- What the definition of proofs says as a whole.
 use Rattle.std.specs.Prelude.{ℕ, ◌^◌, ◌<◌, List, All, length}
 use Rattle.hex.specs.Hex.{encode_lower}
-use Rattle.bk_frames.specs.declared.genesis.Row.{Row}
+use Rattle.bk_base.specs.declared.genesis.Row.{Row}
 use Rattle.bk_report.specs.Leaves.{state_of}
 use Rattle.bk_report.specs.Proofs.{ProofValue, IsRow, IsProofOf, IsGoodProof, proof_text}
 

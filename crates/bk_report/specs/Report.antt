@@ -1,8 +1,8 @@
 -- The report of a feed whose batches are executed in feed order.
 use Rattle.std.specs.Prelude.{◌≡◌, ℕ, ◌+◌, List, [], ◌∷◌, ◌++◌, map, Option, Some, None}
-use Rattle.bk_frames.specs.declared.genesis.Row.{Row}
-use Rattle.bk_frames.specs.Genesis.{total_of}
-use Rattle.bk_frames.specs.Feed.{FeedValue, IsFeed, spelling, genesis_of}
+use Rattle.bk_base.specs.declared.genesis.Row.{Row}
+use Rattle.bk_base.specs.Genesis.{total_of}
+use Rattle.bk_base.specs.Feed.{FeedValue, IsFeed, spelling, genesis_of}
 use Rattle.bk_tx.specs.Batches.{payloads_of, count_in, feed_transactions}
 use Rattle.bk_rules.specs.declared.receipt.Receipt.{Receipt}
 use Rattle.bk_rules.specs.Fold.{state_after, receipts_of}

@@ -1,7 +1,7 @@
 -- The lines of the report of a run.
 use Rattle.std.specs.Prelude.{ℕ, List, [], ◌∷◌, ◌++◌, map, Option, Some, None}
-use Rattle.bk_frames.specs.declared.genesis.Row.{Row}
-use Rattle.bk_frames.specs.Genesis.{total_of}
+use Rattle.bk_base.specs.declared.genesis.Row.{Row}
+use Rattle.bk_base.specs.Genesis.{total_of}
 use Rattle.bk_committee.specs.Payload.{CommitteeValue, sizes_of}
 use Rattle.bk_committee.specs.Sizes.{members, faulty, quorum}
 use Rattle.bk_cert.specs.declared.place.CertRef.{CertRef}

@@ -3,13 +3,13 @@
 ghost use Rattle.std.specs.Prelude.{◌≡◌, ◌<◌, ◌↔◌, Some, IfOk, IsTrue};
 ghost use Rattle.bk_digest.specs.Digest.{tagged_of};
 ghost use Rattle.bk_digest.specs.Tree.{climb};
-ghost use Rattle.bk_frames.specs.Genesis.{row_text};
+ghost use Rattle.bk_base.specs.Genesis.{row_text};
 ghost use Rattle.bk_report.specs.Proofs.{IsGoodProof};
 
 use crate::proof::Proof;
 use crate::reading::read_proof;
 use bk_digest::check_path;
-use bk_frames::Row;
+use bk_base::Row;
 use bk_rules::{Account, account_leaf};
 use std::alloc::{AllocError, Global};
 

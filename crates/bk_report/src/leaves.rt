@@ -3,7 +3,7 @@
 ghost use Rattle.std.specs.Prelude.{◌≡◌, IfOk};
 ghost use Rattle.bk_report.specs.Leaves.{leaves_of};
 
-use bk_frames::Row;
+use bk_base::Row;
 use bk_rules::{Account, account_leaf};
 use std::alloc::{AllocError, Global};
 

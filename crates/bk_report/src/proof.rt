@@ -2,7 +2,7 @@
 
 ghost use Rattle.std.specs.Prelude.{◌≡◌, ◌==◌, ◌++◌, IfOk, OnOk, MatchOption};
 ghost use Rattle.std.specs.List.{position};
-ghost use Rattle.bk_frames.specs.declared.genesis.Row.{Row};
+ghost use Rattle.bk_base.specs.declared.genesis.Row.{Row};
 ghost use Rattle.bk_report.specs.Lines.{text_of};
 ghost use Rattle.bk_report.specs.Proofs.{proof_text, path_lines, IsProofOf, IsAbsent};
 
@@ -10,7 +10,7 @@ use crate::leaves::leaves_of;
 use crate::line::Line;
 use crate::page::push_line;
 use bk_digest::{Digest32, audit_path, tree_root_with};
-use bk_frames::Row;
+use bk_base::Row;
 use std::alloc::{AllocError, Global};
 use std::marker::Model;
 use std::thread::Threads;

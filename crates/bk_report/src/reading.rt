@@ -5,14 +5,14 @@ ghost use Rattle.std.specs.Prelude.{◌≡◌, ℕ, ◌==◌, ◌^◌, ◌<◌, 
 ghost use Rattle.std.specs.Prelude.{All, false, IfOk, length, decimal, codes, IsSomeAnd};
 ghost use Rattle.std.specs.List.{list_any, position};
 ghost use Rattle.hex.specs.Hex.{encode_lower};
-ghost use Rattle.bk_frames.specs.declared.genesis.Row.{Row};
+ghost use Rattle.bk_base.specs.declared.genesis.Row.{Row};
 ghost use Rattle.bk_report.specs.Proofs.{ProofValue, IsProofValue, IsDigest, IsRow};
 ghost use Rattle.bk_report.specs.Proofs.{path_lines, proof_text};
 ghost use Rattle.bk_report.specs.Lines.{text_of};
 
 use crate::proof::Proof;
 use bk_digest::Digest32;
-use bk_frames::Row;
+use bk_base::Row;
 use std::alloc::{AllocError, Global};
 use std::str;
 

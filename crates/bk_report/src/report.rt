@@ -3,7 +3,7 @@
 ghost use Rattle.std.specs.Prelude.{◌≡◌, ◌+◌, ◌*◌, ◌^◌, ◌<◌, ◌≤◌, ◌++◌, ◌∷◌, [], length, OnOk};
 ghost use Rattle.std.specs.Option.{option_copied};
 ghost use Rattle.bk_frames.specs.Device.{CanBeUsed};
-ghost use Rattle.bk_frames.specs.Genesis.{total_of};
+ghost use Rattle.bk_base.specs.Genesis.{total_of};
 ghost use Rattle.bk_digest.specs.Tree.{root_of};
 ghost use Rattle.bk_report.specs.Leaves.{leaves_of};
 ghost use Rattle.bk_report.specs.Lines.{text_of};
@@ -22,7 +22,8 @@ use crate::sheets::{Sheets, put_sheets};
 use bk_cert::CertRef;
 use bk_committee::Committee;
 use bk_digest::{Digest32, tree_root_with};
-use bk_frames::{Row, Sink, WriteFault};
+use bk_base::Row;
+use bk_frames::{Sink, WriteFault};
 use bk_order::Reject;
 use bk_rules::Receipt;
 use std::thread::{Threads, join_mut};

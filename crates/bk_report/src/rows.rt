@@ -7,7 +7,7 @@ ghost use Rattle.bk_report.specs.RunLines.{rows_lines};
 
 use crate::line::Line;
 use crate::page::put_line;
-use bk_frames::Row;
+use bk_base::Row;
 use bk_rules::Receipt;
 
 // One of these lines.

@@ -11,7 +11,8 @@ ghost use Rattle.bk_report.specs.declared.sheets.TheConstants.{WORTH_THREADS};
 
 use crate::page::{LINE, Page};
 use crate::rows::put_lines;
-use bk_frames::{Row, Sink, WriteFault};
+use bk_base::Row;
+use bk_frames::{Sink, WriteFault};
 use bk_rules::Receipt;
 use std::alloc::{AllocError, Global};
 use std::marker::Model;

@@ -2,7 +2,7 @@
 use Rattle.std.specs.Prelude.{◌≡◌, ℕ, List}
 use Rattle.std.specs.Io.KnownBytes.{Keeps}
 use Rattle.bk_frames.specs.Device.{Device, Works}
-use Rattle.bk_frames.specs.Feed.{FeedValue, IsFeed, spelling}
+use Rattle.bk_base.specs.Feed.{FeedValue, IsFeed, spelling}
 
 -- the source and the sink of a replay
 pub record Devices : Type 0 where

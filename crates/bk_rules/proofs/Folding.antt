@@ -4,10 +4,10 @@ use Rattle.std.specs.Prelude.{slice_get}
 use Rattle.std.specs.List.{list_all}
 use Rattle.bk_rules.proofs.RowLemmas.{and_left, and_right}
 use Rattle.std.proofs.lemmas.List.{take_more, length-take-le, get_or_default}
-use Rattle.bk_frames.specs.declared.genesis.Row.{Row}
-use Rattle.bk_frames.specs.declared.version.Version.{Version}
-use Rattle.bk_frames.specs.declared.version.Version.TheVariants.{One}
-use Rattle.bk_frames.specs.Genesis.{AreAccounts, ids_of, total_of}
+use Rattle.bk_base.specs.declared.genesis.Row.{Row}
+use Rattle.bk_base.specs.declared.version.Version.{Version}
+use Rattle.bk_base.specs.declared.version.Version.TheVariants.{One}
+use Rattle.bk_base.specs.Genesis.{AreAccounts, ids_of, total_of}
 use Rattle.bk_tx.specs.Transaction.{Transaction}
 use Rattle.bk_rules.specs.declared.receipt.Receipt.{Receipt}
 use Rattle.bk_rules.specs.Rows.{IsLedger, outcome_of}

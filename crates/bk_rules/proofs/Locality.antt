@@ -10,8 +10,8 @@ use Rattle.bk_tx.specs.declared.body.Body.TheVariants.{Pay, PayIf, Sweep, Split}
 use Rattle.bk_tx.specs.Access.{writes, declares}
 use Rattle.bk_tx.specs.Spelling.{payments_of, receivers_of}
 use Rattle.bk_rules.specs.declared.account.Account.{Account}
-use Rattle.bk_frames.specs.declared.version.Version.{Version}
-use Rattle.bk_frames.specs.declared.version.Version.TheVariants.{One, Two}
+use Rattle.bk_base.specs.declared.version.Version.{Version}
+use Rattle.bk_base.specs.declared.version.Version.TheVariants.{One, Two}
 use Rattle.bk_rules.specs.declared.receipt.Status.{Status}
 use Rattle.bk_rules.specs.declared.receipt.Status.TheVariants as status
 use Rattle.bk_rules.specs.Rule.{Accounts, Change, Guard, new_account, is_known, balance_at, seq_at, payments_on, sum_of, guard_of, guard_passes, is_declared, can_receive, are_known, status_of, moved_by, send, receive, changes_of, account_after}

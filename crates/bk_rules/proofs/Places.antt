@@ -5,12 +5,12 @@ use Rattle.std.proofs.lemmas.Bool.Decides.{nat_tests}
 use Rattle.std.proofs.lemmas.List.Quantifiers.{position-Some}
 use Rattle.std.proofs.Math.ListN.{length-set}
 use Rattle.std.proofs.lemmas.List.{get_or-take}
-use Rattle.bk_frames.specs.Numbers.{is_ascending}
+use Rattle.bk_base.specs.Numbers.{is_ascending}
 use Rattle.bk_tx.specs.Access.{declared_ids, receivers_in, no_declared}
 use Rattle.bk_tx.specs.declared.declared.Declared.{Declared}
 use Rattle.bk_tx.specs.declared.payments.Payment.{Payment}
 use Rattle.bk_rules.specs.declared.account.Account.{Account}
-use Rattle.bk_frames.specs.declared.version.Version.{Version}
+use Rattle.bk_base.specs.declared.version.Version.{Version}
 use Rattle.bk_rules.specs.declared.roles.FloorAt.{FloorAt}
 use Rattle.bk_rules.specs.Rule.{Change, Guard, new_account, can_receive, received, receive, account_after}
 use Rattle.bk_rules.specs.View.{nth, nth_or_new, seen, nth_id}

@@ -3,9 +3,9 @@ use Rattle.std.proofs.Common.{◌≡◌, ℕ, ◌+◌, ◌<◌, ◌≤◌, ◌�
 use Rattle.std.proofs.lemmas.List.Sums.{sum_by-cons}
 use Rattle.std.proofs.lemmas.Bool.{lt-ltb}
 use Rattle.std.proofs.lemmas.Bool.Decides.{nat_tests}
-use Rattle.bk_frames.specs.declared.genesis.Row.{Row}
-use Rattle.bk_frames.specs.Numbers.{is_ascending}
-use Rattle.bk_frames.specs.Genesis.{ids_of, total_of}
+use Rattle.bk_base.specs.declared.genesis.Row.{Row}
+use Rattle.bk_base.specs.Numbers.{is_ascending}
+use Rattle.bk_base.specs.Genesis.{ids_of, total_of}
 use Rattle.bk_tx.specs.declared.payments.Payment.{Payment}
 use Rattle.bk_rules.specs.declared.account.Account.{Account}
 use Rattle.bk_rules.specs.Rule.{Change, new_account, is_known, balance_at, send, receive, account_after}

@@ -1,12 +1,12 @@
 -- The effect on a view, stored, is the rule on the rows.
 use Rattle.std.proofs.Common.{◌≡◌, ℕ, suc, ◌<◌, Bool, true, false, cond, ◌&&◌, ◌||◌, eqb, ltb, List, [], ◌∷◌, Option, Some, None, refl, sym, ap, ap₂, ◌∙◌, inl, inr, ◌⊎◌, arith}
 use Rattle.std.proofs.lemmas.Bool.Decides.{nat_tests}
-use Rattle.bk_frames.specs.declared.genesis.Row.{Row}
+use Rattle.bk_base.specs.declared.genesis.Row.{Row}
 use Rattle.bk_tx.specs.declared.declared.Declared.{Declared}
 use Rattle.bk_tx.specs.Transaction.{Transaction}
 use Rattle.bk_tx.specs.Access.{writes, declares}
 use Rattle.bk_rules.specs.declared.account.Account.{Account}
-use Rattle.bk_frames.specs.declared.version.Version.{Version}
+use Rattle.bk_base.specs.declared.version.Version.{Version}
 use Rattle.bk_rules.specs.declared.receipt.Status.{Status}
 use Rattle.bk_rules.specs.declared.rule.Effect.{Effect}
 use Rattle.bk_rules.specs.Rule.{Change, status_of, changes_of, account_after}

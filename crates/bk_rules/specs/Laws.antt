@@ -1,14 +1,14 @@
 -- The laws of the rule and of the fold.
 use Rattle.std.specs.Prelude.{◌≡◌, ℕ, ◌+◌, ◌<◌, ◌^◌, length, List, ◌++◌, slice_get, true, false, IsTrue, Option, Some}
 use Rattle.std.specs.List.{AllByRecursion}
-use Rattle.bk_frames.specs.declared.genesis.Row.{Row}
-use Rattle.bk_frames.specs.Numbers.{is_ascending}
-use Rattle.bk_frames.specs.Genesis.{AreAccounts, ids_of, total_of}
+use Rattle.bk_base.specs.declared.genesis.Row.{Row}
+use Rattle.bk_base.specs.Numbers.{is_ascending}
+use Rattle.bk_base.specs.Genesis.{AreAccounts, ids_of, total_of}
 use Rattle.bk_tx.specs.Transaction.{Transaction}
 use Rattle.bk_tx.specs.Access.{writes, declares}
 use Rattle.bk_rules.specs.declared.account.Account.{Account}
-use Rattle.bk_frames.specs.declared.version.Version.{Version}
-use Rattle.bk_frames.specs.declared.version.Version.TheVariants.{One}
+use Rattle.bk_base.specs.declared.version.Version.{Version}
+use Rattle.bk_base.specs.declared.version.Version.TheVariants.{One}
 use Rattle.bk_rules.specs.Rule.{Accounts, status_of, moved_by, changes_of, account_after}
 use Rattle.bk_rules.specs.Rows.{IsLedger, account_at, outcome_of}
 use Rattle.bk_rules.specs.Fold.{state_after, receipts_of, rows_before, outcome_at, HasRoom}

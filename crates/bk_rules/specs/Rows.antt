@@ -1,11 +1,11 @@
 -- The rule on the rows of a ledger.
 use Rattle.std.specs.Prelude.{ℕ, ◌^◌, ◌<◌, List, [], ◌∷◌, find, Option, Some, None, IsTrue, option_map, nat_lt, ◌==◌, if◌then◌else◌}
-use Rattle.bk_frames.specs.declared.genesis.Row.{Row}
-use Rattle.bk_frames.specs.Numbers.{is_ascending}
-use Rattle.bk_frames.specs.Genesis.{ids_of, total_of}
+use Rattle.bk_base.specs.declared.genesis.Row.{Row}
+use Rattle.bk_base.specs.Numbers.{is_ascending}
+use Rattle.bk_base.specs.Genesis.{ids_of, total_of}
 use Rattle.bk_tx.specs.Transaction.{Transaction}
 use Rattle.bk_rules.specs.declared.account.Account.{Account}
-use Rattle.bk_frames.specs.declared.version.Version.{Version}
+use Rattle.bk_base.specs.declared.version.Version.{Version}
 use Rattle.bk_rules.specs.declared.receipt.Status.{Status}
 use Rattle.bk_rules.specs.declared.receipt.Status.TheVariants as status
 use Rattle.bk_rules.specs.declared.receipt.Receipt.{Receipt}

@@ -1,13 +1,13 @@
 -- From a view of the declared accounts back to the rows.
 use Rattle.std.specs.Prelude.{◌≡◌, ℕ, ◌<◌, true, false, IsTrue, List, length, Option, Some}
-use Rattle.bk_frames.specs.declared.genesis.Row.{Row}
-use Rattle.bk_frames.specs.Numbers.{is_ascending}
-use Rattle.bk_frames.specs.Genesis.{ids_of}
+use Rattle.bk_base.specs.declared.genesis.Row.{Row}
+use Rattle.bk_base.specs.Numbers.{is_ascending}
+use Rattle.bk_base.specs.Genesis.{ids_of}
 use Rattle.bk_tx.specs.declared.declared.Declared.{Declared}
 use Rattle.bk_tx.specs.Transaction.{Transaction}
 use Rattle.bk_tx.specs.Access.{writes, declared_ids}
 use Rattle.bk_rules.specs.declared.account.Account.{Account}
-use Rattle.bk_frames.specs.declared.version.Version.{Version}
+use Rattle.bk_base.specs.declared.version.Version.{Version}
 use Rattle.bk_rules.specs.declared.rule.Effect.{Effect}
 use Rattle.bk_rules.specs.Rows.{IsLedger, account_at, outcome_of}
 use Rattle.bk_rules.specs.View.{nth, nth_id, is_writable, IsEffect}

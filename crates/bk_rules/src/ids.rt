@@ -2,7 +2,7 @@
 
 ghost use Rattle.std.specs.Prelude.{◌≡◌, ◌==◌, ◌<◌, ℕ, IsTrue, IfOk, length, true};
 ghost use Rattle.std.specs.List.{position, list_any};
-ghost use Rattle.bk_frames.specs.Numbers.{is_ascending};
+ghost use Rattle.bk_base.specs.Numbers.{is_ascending};
 ghost use Rattle.bk_rules.specs.private.Slots.{index_or_len};
 
 use crate::hints::Hints;
@@ -32,7 +32,7 @@ pub struct Ids {
 impl Model for Ids {
     ghost use Rattle.std.specs.Prelude.{ℕ, List, IsTrue};
     ghost use Rattle.std.specs.Arc.{arc_value};
-    ghost use Rattle.bk_frames.specs.Numbers.{is_ascending};
+    ghost use Rattle.bk_base.specs.Numbers.{is_ascending};
 
     ghost Value = { List ℕ };
 

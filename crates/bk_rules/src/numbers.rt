@@ -1,15 +1,15 @@
 //! The numbers of all slots, set at once where they lie.
 
 ghost use Rattle.std.specs.Prelude.{◌≡◌, ◌^◌, ◌<◌, length, map};
-ghost use Rattle.bk_frames.specs.declared.version.Version.TheVariants.{Two};
-ghost use Rattle.bk_frames.specs.Genesis.{total_of};
+ghost use Rattle.bk_base.specs.declared.version.Version.TheVariants.{Two};
+ghost use Rattle.bk_base.specs.Genesis.{total_of};
 ghost use Rattle.bk_rules.specs.Ledger.{ledger_of, rows_shown, slot_numbers};
 ghost use Rattle.bk_rules.specs.private.Slots.{tidied};
 
 use crate::account::Account;
 use crate::ids::Ids;
 use crate::state::{State, numbers_of, shown};
-use bk_frames::Version;
+use bk_base::Version;
 
 impl State {
     /// The ids that have a slot, and the list of the slots' numbers. Others can be written over these: `of_numbers`

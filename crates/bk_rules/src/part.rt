@@ -3,8 +3,8 @@
 ghost use Rattle.std.specs.Prelude.{◌≡◌, ◌==◌, ◌^◌, ◌<◌, ℕ, List, length, map, IfOk, slice_index};
 ghost use Rattle.std.specs.List.{list_all, list_any};
 ghost use Rattle.std.specs.Option.{option_copied};
-ghost use Rattle.bk_frames.specs.declared.genesis.Row.{Row};
-ghost use Rattle.bk_frames.specs.Genesis.{total_of};
+ghost use Rattle.bk_base.specs.declared.genesis.Row.{Row};
+ghost use Rattle.bk_base.specs.Genesis.{total_of};
 ghost use Rattle.bk_rules.specs.Rows.{IsLedger};
 ghost use Rattle.bk_rules.specs.Fold.{HasRoom};
 ghost use Rattle.bk_rules.specs.Ledger.{rows_shown, slot_numbers};
@@ -16,7 +16,7 @@ use crate::ids::Ids;
 use crate::run::{count_of, near_from};
 use crate::state::{State, likely_at, put};
 use crate::widen::numbers_at;
-use bk_frames::Version;
+use bk_base::Version;
 use bk_tx::{Declarations, Tx};
 use std::alloc::{AllocError, Global};
 

@@ -2,7 +2,7 @@
 
 ghost use Rattle.std.specs.Prelude.{◌≡◌, ◌&&◌, ◌+◌, ◌^◌, ◌<◌, ◌≤◌, ℕ, true, None, IsTrue, IfSome, IfNone, is_some, if◌then◌else◌, nat_le, length, slice_index};
 ghost use Rattle.std.specs.List.{list_all, sum_by};
-ghost use Rattle.bk_frames.specs.Numbers.{is_ascending};
+ghost use Rattle.bk_base.specs.Numbers.{is_ascending};
 ghost use Rattle.bk_tx.specs.Access.{declared_ids};
 ghost use Rattle.bk_tx.specs.Spelling.{payments_of};
 ghost use Rattle.bk_rules.specs.Rule.{balance_of, seq_of, is_declared, can_receive};
@@ -13,7 +13,7 @@ use crate::account::Account;
 use crate::local::Local;
 use crate::receipt::{Receipt, Status, unmoved};
 use crate::roles::{FloorAt, Roles, payments_of, roles_of, writable_at};
-use bk_frames::Version;
+use bk_base::Version;
 use bk_tx::{Declarations, Payment, Tx};
 
 /// What a transaction does on the accounts that it declares.

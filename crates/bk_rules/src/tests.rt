@@ -6,7 +6,7 @@ use crate::ids::Ids;
 use crate::receipt::Status;
 use crate::rule::apply_local;
 use crate::state::State;
-use bk_frames::{Row, Version};
+use bk_base::{Row, Version};
 use bk_tx::{Body, Declarations, Declared, Tx};
 use std::test::Fail;
 

@@ -2,7 +2,7 @@
 
 ghost use Rattle.std.specs.Prelude.{◌≡◌, ◌==◌, ◌||◌, ℕ, map, IfOk, OnOk, IsTrue};
 ghost use Rattle.std.specs.Option.{option_copied};
-ghost use Rattle.bk_frames.specs.Numbers.{is_ascending};
+ghost use Rattle.bk_base.specs.Numbers.{is_ascending};
 ghost use Rattle.bk_tx.specs.Access.{declares};
 ghost use Rattle.bk_rules.specs.Ledger.{has_slot, declares_in, is_declared_by};
 ghost use Rattle.bk_rules.specs.private.Slots.{index_or_len, numbers_or_absent, is_grown};

@@ -5,7 +5,7 @@ use Rattle.std.specs.List.{range_with_len, sum_by, list_any, AllByRecursion}
 use Rattle.std.specs.Int.{bit_at}
 use Rattle.std.proofs.lemmas.Bool.{and_parts, cases_lt, eqb-true, eq-eqb}
 use Rattle.std.proofs.Common.{inl, inr}
-use Rattle.bk_frames.specs.declared.version.Version.TheVariants as version
+use Rattle.bk_base.specs.declared.version.Version.TheVariants as version
 use Rattle.bk_committee.specs.Payload.{CommitteeValue, committee_with, committee_of, IsCommittee}
 use Rattle.bk_cert.specs.Mask.{is_signer, signers_of}
 use Rattle.bk_cert.specs.Values.{HeaderValue, CertValue, cert_with}

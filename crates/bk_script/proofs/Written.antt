@@ -2,12 +2,12 @@
 use Rattle.std.proofs.Common.{◌≡◌, ℕ, zero, suc, ◌+◌, ◌*◌, ◌/◌, ◌-◌, ◌<◌, ◌≤◌, List, [], ◌∷◌, ◌++◌, length, get_or, take, drop, map, refl, sym, ap, ◌∙◌, arith, append_assoc, length-drop, length-append, set, ◌^◌}
 use Rattle.std.specs.List.{flat_map, concat, range_with_len}
 use Rattle.std.proofs.lemmas.List.{at_drop_more, at_drop_all, append-nil, take_more_set, drop_more}
-use Rattle.bk_frames.specs.declared.genesis.Row.{Row}
+use Rattle.bk_base.specs.declared.genesis.Row.{Row}
 use Rattle.bk_tx.specs.declared.payments.Payment.{Payment}
 use Rattle.std.specs.Int.{w32, w64, to_be_bytes}
-use Rattle.bk_frames.specs.Genesis.{genesis_text, row_text}
-use Rattle.bk_frames.specs.declared.version.Version.{Version}
-use Rattle.bk_frames.specs.declared.version.Version.TheVariants as version
+use Rattle.bk_base.specs.Genesis.{genesis_text, row_text}
+use Rattle.bk_base.specs.declared.version.Version.{Version}
+use Rattle.bk_base.specs.declared.version.Version.TheVariants as version
 use Rattle.bk_committee.specs.Payload.{weights_bytes}
 use Rattle.bk_script.specs.Sealing.{member_key, member_keys, members_text}
 use Rattle.bk_script.specs.Transactions.{payments_in}

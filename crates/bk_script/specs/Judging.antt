@@ -5,11 +5,11 @@ use Rattle.std.specs.Cmp.Lexicographic.{slice_cmp}
 use Rattle.std.specs.Ordering.{nat_cmp}
 use Rattle.std.specs.declared.cmp.Ordering.{Ordering}
 use Rattle.std.specs.declared.cmp.Ordering.TheVariants.{Less, Equal, Greater}
-use Rattle.bk_frames.specs.declared.limits.TheConstants.{MOST_ACCOUNTS}
-use Rattle.bk_frames.specs.declared.version.Version.TheVariants as version
-use Rattle.bk_frames.specs.declared.kind.Kind.TheVariants as kind
-use Rattle.bk_frames.specs.declared.genesis.Row.{Row}
-use Rattle.bk_frames.specs.Genesis.{total_of}
+use Rattle.bk_base.specs.declared.limits.TheConstants.{MOST_ACCOUNTS}
+use Rattle.bk_base.specs.declared.version.Version.TheVariants as version
+use Rattle.bk_base.specs.declared.kind.Kind.TheVariants as kind
+use Rattle.bk_base.specs.declared.genesis.Row.{Row}
+use Rattle.bk_base.specs.Genesis.{total_of}
 use Rattle.bk_committee.specs.Payload.{member_size}
 use Rattle.bk_cert.specs.Values.{HeaderValue, header_with}
 use Rattle.bk_cert.specs.Identity.{id_of}

@@ -3,13 +3,13 @@ use Rattle.std.specs.Prelude.{ℕ, ◌+◌, Bool, false, List, [], ◌∷◌, �
 use Rattle.std.specs.List.{position}
 use Rattle.std.specs.Str.{bytes_eq}
 use Rattle.sha2.specs.Sha256.{sha256}
-use Rattle.bk_frames.specs.declared.limits.TheConstants.{MOST_FEED}
-use Rattle.bk_frames.specs.declared.version.Version.{Version}
-use Rattle.bk_frames.specs.declared.version.Version.TheVariants as version
-use Rattle.bk_frames.specs.declared.kind.Kind.{Kind}
-use Rattle.bk_frames.specs.declared.kind.Kind.TheVariants as kind
-use Rattle.bk_frames.specs.declared.genesis.Row.{Row}
-use Rattle.bk_frames.specs.Feed.{frame_of, frame_text}
+use Rattle.bk_base.specs.declared.limits.TheConstants.{MOST_FEED}
+use Rattle.bk_base.specs.declared.version.Version.{Version}
+use Rattle.bk_base.specs.declared.version.Version.TheVariants as version
+use Rattle.bk_base.specs.declared.kind.Kind.{Kind}
+use Rattle.bk_base.specs.declared.kind.Kind.TheVariants as kind
+use Rattle.bk_base.specs.declared.genesis.Row.{Row}
+use Rattle.bk_base.specs.Feed.{frame_of, frame_text}
 use Rattle.bk_tx.specs.Spelling.{batch_text}
 use Rattle.bk_cert.specs.Values.{HeaderValue}
 use Rattle.bk_results.specs.declared.script_fault.ScriptCode.{ScriptCode}

@@ -2,8 +2,8 @@
 use Rattle.std.specs.Prelude.{ℕ, Bool, true, false, List, [], ◌∷◌, length, nat_le, nat_lt, ◌==◌, ◌&&◌, ◌||◌, ◌%◌, if◌then◌else◌, Option, Some, None, codes, slice_index_or}
 use Rattle.std.specs.List.{list_all}
 use Rattle.std.specs.Str.{bytes_eq}
-use Rattle.bk_frames.specs.declared.version.Version.{Version}
-use Rattle.bk_frames.specs.declared.version.Version.TheVariants as version
+use Rattle.bk_base.specs.declared.version.Version.{Version}
+use Rattle.bk_base.specs.declared.version.Version.TheVariants as version
 use Rattle.bk_script.specs.declared.line.Keyword.{Keyword}
 use Rattle.bk_script.specs.declared.line.Keyword.TheVariants as keyword
 use Rattle.bk_script.specs.Words.{pieces, are_filled}

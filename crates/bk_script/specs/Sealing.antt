@@ -1,7 +1,7 @@
 -- The key rule of a script, and the certificates that are sealed by it.
 use Rattle.std.specs.Prelude.{ℕ, ◌+◌, ◌*◌, ◌^◌, Bool, List, length, map, replicate, ◌==◌, if◌then◌else◌}
 use Rattle.std.specs.List.{range_with_len, sum_by, list_any}
-use Rattle.bk_frames.specs.declared.version.Version.{Version}
+use Rattle.bk_base.specs.declared.version.Version.{Version}
 use Rattle.bk_committee.specs.Payload.{committee_with, committee_bytes}
 use Rattle.bk_cert.specs.Values.{HeaderValue, cert_with}
 use Rattle.bk_cert.specs.Mask.{signers_of}

@@ -1,8 +1,8 @@
 -- The transaction lines: what text each adds to the open batch.
 use Rattle.std.specs.Prelude.{ℕ, ◌+◌, Bool, true, false, List, [], ◌∷◌, ◌++◌, length, nat_le, nat_lt, ◌==◌, ◌&&◌, not, drop, if◌then◌else◌, Option, Some, None, Result, Ok, Err, slice_index_or}
 use Rattle.std.specs.List.{fold}
-use Rattle.bk_frames.specs.declared.limits.TheConstants.{MOST_PAYLOAD}
-use Rattle.bk_frames.specs.Numbers.{is_ascending}
+use Rattle.bk_base.specs.declared.limits.TheConstants.{MOST_PAYLOAD}
+use Rattle.bk_base.specs.Numbers.{is_ascending}
 use Rattle.bk_tx.specs.declared.declared.Declared.{Declared}
 use Rattle.bk_tx.specs.declared.payments.Payment.{Payment}
 use Rattle.bk_tx.specs.declared.body.Body.{Body}

@@ -3,13 +3,13 @@
 ghost use Rattle.std.specs.Prelude.{◌≡◌, ◌==◌, ◌++◌, [], false, OnOk, OnErr, nat_lt, ◌≤◌, length};
 ghost use Rattle.std.specs.BTreeMap.{IsUnchanged};
 ghost use Rattle.std.specs.List.{flat_map, insert, list_any, position_or_len};
-ghost use Rattle.bk_frames.specs.Genesis.{row_text};
+ghost use Rattle.bk_base.specs.Genesis.{row_text};
 ghost use Rattle.bk_script.specs.Judging.{with_account};
 ghost use Rattle.bk_script.specs.Answers.{Answers};
 ghost use Rattle.bk_script.specs.private.Held.{rows_in};
 
 use crate::fault::{ScriptCode, Stop};
-use bk_frames::{MOST_ACCOUNTS, Row};
+use bk_base::{MOST_ACCOUNTS, Row};
 use std::alloc::{AllocError, Global};
 use std::collections::BTreeMap;
 use std::marker::Model;
@@ -32,9 +32,9 @@ pub(crate) struct Accounts {
 
 impl Model for Accounts {
     ghost use Rattle.std.specs.Prelude.{◌≡◌, ◌^◌, ◌<◌, ◌≤◌, List, length};
-    ghost use Rattle.bk_frames.specs.declared.limits.TheConstants.{MOST_ACCOUNTS};
-    ghost use Rattle.bk_frames.specs.declared.genesis.Row.{Row};
-    ghost use Rattle.bk_frames.specs.Genesis.{total_of};
+    ghost use Rattle.bk_base.specs.declared.limits.TheConstants.{MOST_ACCOUNTS};
+    ghost use Rattle.bk_base.specs.declared.genesis.Row.{Row};
+    ghost use Rattle.bk_base.specs.Genesis.{total_of};
     ghost use Rattle.bk_script.specs.private.Held.{rows_in};
 
     ghost Value = { List Row };

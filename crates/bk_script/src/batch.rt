@@ -4,7 +4,7 @@ ghost use Rattle.std.specs.Prelude.{◌≡◌, ◌++◌, ◌∷◌, [], ◌+◌,
 ghost use Rattle.bk_tx.specs.Spelling.{batch_text};
 ghost use Rattle.bk_script.specs.Transactions.{has_room};
 
-use bk_frames::MOST_PAYLOAD;
+use bk_base::MOST_PAYLOAD;
 use bk_tx::write_batch;
 use std::alloc::{AllocError, Global};
 use std::marker::Model;
@@ -20,7 +20,7 @@ pub(crate) struct OpenBatch {
 impl Model for OpenBatch {
     ghost use Rattle.std.specs.Prelude.{◌≡◌, ◌≤◌, ℕ, length, map};
     ghost use Rattle.std.specs.Global.{Vec};
-    ghost use Rattle.bk_frames.specs.declared.limits.TheConstants.{MOST_PAYLOAD};
+    ghost use Rattle.bk_base.specs.declared.limits.TheConstants.{MOST_PAYLOAD};
     ghost use Rattle.bk_tx.specs.Spelling.{IsBatch, batch_text};
     ghost use Rattle.bk_script.specs.Known.{OpenValue};
 

@@ -14,7 +14,7 @@ use crate::sealing::sealed;
 use crate::words::{list, number, numbers};
 use bk_cert::Header;
 use bk_digest::Digest32;
-use bk_frames::Kind;
+use bk_base::Kind;
 
 impl Script {
     // Writes the frame of a certificate that these members sign.

@@ -1,13 +1,13 @@
 //! The bytes of a feed, put together.
 
 ghost use Rattle.std.specs.Prelude.{◌≡◌, ◌++◌, ◌<◌, ◌≤◌, ◌^◌, length, OnOk, IfOk};
-ghost use Rattle.bk_frames.specs.Genesis.{genesis_text};
-ghost use Rattle.bk_frames.specs.Feed.{frame_of, frame_text};
+ghost use Rattle.bk_base.specs.Genesis.{genesis_text};
+ghost use Rattle.bk_base.specs.Feed.{frame_of, frame_text};
 ghost use Rattle.bk_script.specs.Feeds.{feed_text};
 
 use crate::accounts::Accounts;
 use crate::sealing::members_payload;
-use bk_frames::{Kind, Version};
+use bk_base::{Kind, Version};
 use std::alloc::{AllocError, Global};
 
 /// Writes a frame at the end.

@@ -6,7 +6,7 @@ ghost use Rattle.bk_script.specs.Lines.{is_skipped, is_ascii, keyword_of, takes,
 ghost use Rattle.bk_script.specs.private.Keywords.{in_batch_or_after, raw_or_certificate};
 
 use crate::words::are_filled;
-use bk_frames::Version;
+use bk_base::Version;
 
 /// What a line of a script is of.
 #[derive(Clone, Copy, Debug, PartialEq, Eq)]

@@ -9,7 +9,7 @@ use crate::fault::{ScriptCode, Stop};
 use crate::words::{list, numbers};
 use bk_cert::Header;
 use bk_digest::Digest32;
-use bk_frames::Version;
+use bk_base::Version;
 use std::alloc::{AllocError, Global};
 use std::cmp::Ordering;
 

@@ -1,7 +1,7 @@
 //! What the lines of a script say so far, and what a line adds to it.
 
 ghost use Rattle.std.specs.Prelude.{◌≡◌, ◌++◌, ◌≤◌, ◌<◌, ◌-◌, ◌^◌, Ok, Err, MatchResult, IfOk, OnOk, IsTrue, length, map, Some, option_map};
-ghost use Rattle.bk_frames.specs.Feed.{frame_of, frame_text};
+ghost use Rattle.bk_base.specs.Feed.{frame_of, frame_text};
 ghost use Rattle.bk_script.specs.Known.{nothing_known, closed, grown, with_frame};
 ghost use Rattle.bk_script.specs.Judging.{is_in_place, meaning, judged, version_line, members_line, account_line, batch_line, transaction_line, raw_line};
 ghost use Rattle.bk_script.specs.Transactions.{with_text};
@@ -22,7 +22,7 @@ use crate::words::{hex_bytes, number, pieces};
 use bk_cert::Header;
 use bk_committee::Committee;
 use bk_digest::Digest32;
-use bk_frames::{Kind, MOST_FEED, Row, Version};
+use bk_base::{Kind, MOST_FEED, Row, Version};
 use std::alloc::{AllocError, Global};
 use std::marker::Model;
 

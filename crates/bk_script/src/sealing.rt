@@ -7,7 +7,7 @@ ghost use Rattle.bk_script.specs.Sealing.{members_text, member_keys, sealed};
 
 use bk_cert::{Cert, Header};
 use bk_committee::Committee;
-use bk_frames::Version;
+use bk_base::Version;
 use std::alloc::{AllocError, Global};
 
 // Writes the keys of this many members at the end.

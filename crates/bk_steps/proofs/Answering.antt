@@ -9,7 +9,7 @@ use Rattle.bk_steps.specs.Laws.{RunsAmongAreRuns, WholeRunsHaveNoFault, OneFault
 use Rattle.bk_steps.specs.Refusals.{Allows, Refuses}
 use Rattle.bk_steps.specs.Schedule.{RunsAmong, IsFirstRefused, IsLeastLeft, no_event}
 use Rattle.bk_steps.specs.declared.event.Event.{Event}
-use Rattle.bk_steps.specs.declared.refused.Refused as reason
+use Rattle.bk_base.specs.declared.refused.Refused as reason
 use Rattle.bk_steps.specs.declared.outcome.ScheduleFault.TheVariants.{Refused, Unfinished, OutOfMemory}
 use Rattle.bk_steps.proofs.Judging.{allowed_not_refused, one_refusal}
 

@@ -8,8 +8,8 @@ use Rattle.bk_steps.specs.Refusals.{worker_of, Allows, Refuses, IsIdle, IsHolder
 use Rattle.bk_steps.specs.Laws.{EventsAreJudged, AllowedIsNotRefused, OneRefusal}
 use Rattle.bk_steps.specs.declared.event.Event.{Event}
 use Rattle.bk_steps.specs.declared.event.Event.TheVariants.{Claim, Read, Write, Finish}
-use Rattle.bk_steps.specs.declared.refused.Refused.{Refused}
-use Rattle.bk_steps.specs.declared.refused.Refused.TheVariants.{NotReady, NotIdle, NotHolder, NotDeclared, OutOfTurn}
+use Rattle.bk_base.specs.declared.refused.Refused.{Refused}
+use Rattle.bk_base.specs.declared.refused.Refused.TheVariants.{NotReady, NotIdle, NotHolder, NotDeclared, OutOfTurn}
 
 -- ---- what can be decided
 

@@ -14,7 +14,7 @@ use Rattle.bk_steps.specs.Machine.{MachineValue, scene_in, no_seat, no_word, sea
 use Rattle.bk_steps.specs.Refusals.{no_writer, not_written, write_early}
 use Rattle.bk_steps.specs.Steps.{Steps, IsRefused}
 use Rattle.bk_steps.specs.declared.event.Event.TheVariants.{Write}
-use Rattle.bk_steps.specs.declared.refused.Refused.TheVariants.{NotHolder, NotDeclared, OutOfTurn}
+use Rattle.bk_base.specs.declared.refused.Refused.TheVariants.{NotHolder, NotDeclared, OutOfTurn}
 use Rattle.bk_steps.specs.declared.seat.Seat.{Seat}
 use Rattle.bk_steps.proofs.Hands.{set_put, seat_inside, busy_shown, nobody}
 use Rattle.bk_steps.proofs.Reached.{with_lists}

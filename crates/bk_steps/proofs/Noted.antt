@@ -14,7 +14,7 @@ use Rattle.bk_steps.specs.Machine.{MachineValue, no_seat, no_word, seat_at, Seat
 use Rattle.bk_steps.specs.Refusals.{no_reader, not_read, read_late}
 use Rattle.bk_steps.specs.Steps.{Steps, IsRefused}
 use Rattle.bk_steps.specs.declared.event.Event.TheVariants.{Read}
-use Rattle.bk_steps.specs.declared.refused.Refused.TheVariants.{NotHolder, NotDeclared, OutOfTurn}
+use Rattle.bk_base.specs.declared.refused.Refused.TheVariants.{NotHolder, NotDeclared, OutOfTurn}
 use Rattle.bk_steps.specs.declared.seat.Seat.{Seat}
 use Rattle.bk_steps.proofs.Hands.{set_put, seat_inside, busy_shown, nobody}
 use Rattle.bk_steps.proofs.Reached.{with_lists}

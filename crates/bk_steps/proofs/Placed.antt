@@ -3,7 +3,7 @@ use Rattle.std.proofs.Common.{◌≡◌, ℕ, zero, suc, ◌+◌, ◌*◌, ◌/�
 use mathlib.Core.Logic.{dite}
 use Rattle.std.proofs.Math.Nat.{mul-div_cancel_left}
 use native.Mathlib.Decide.{ℕ_discrete}
-use Rattle.bk_frames.specs.declared.version.Version.{Version}
+use Rattle.bk_base.specs.declared.version.Version.{Version}
 use Rattle.bk_tx.specs.declared.declared.Declared.{Declared}
 use Rattle.bk_rules.specs.declared.account.Account.{Account}
 use Rattle.bk_rules.specs.Rule.{Accounts}

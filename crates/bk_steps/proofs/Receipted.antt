@@ -11,7 +11,7 @@ use Rattle.bk_steps.specs.Machine.{MachineValue, phase_of, no_seat, seat_at, Sea
 use Rattle.bk_steps.specs.Refusals.{no_finisher, finish_early}
 use Rattle.bk_steps.specs.Steps.{Steps, IsRefused}
 use Rattle.bk_steps.specs.declared.event.Event.TheVariants.{Finish}
-use Rattle.bk_steps.specs.declared.refused.Refused.TheVariants.{NotHolder, OutOfTurn}
+use Rattle.bk_base.specs.declared.refused.Refused.TheVariants.{NotHolder, OutOfTurn}
 use Rattle.bk_steps.specs.declared.stage.Stage.{Stage}
 use Rattle.bk_steps.specs.declared.stage.Stage.TheVariants.{Waiting, Done}
 use Rattle.bk_steps.specs.declared.seat.Seat.{Seat}

@@ -12,7 +12,7 @@ use Rattle.bk_steps.specs.Steps.{Steps, IsRefused}
 use Rattle.bk_steps.specs.Schedule.{RunsAmong, IsFirstRefused, no_event}
 use Rattle.bk_steps.specs.private.Schedule.{HasRun}
 use Rattle.bk_steps.specs.declared.event.Event.{Event}
-use Rattle.bk_steps.specs.declared.refused.Refused.{Refused}
+use Rattle.bk_base.specs.declared.refused.Refused.{Refused}
 
 runs_more : (s : Scene) (n : ℕ) (es : List Event) (d mid end : Course) (e : Event) → RunsAmong s n d es mid → Allows s n mid e end
     → RunsAmong s n d (es ++ e ∷ []) end

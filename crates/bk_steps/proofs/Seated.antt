@@ -10,7 +10,7 @@ use Rattle.bk_steps.specs.Refusals.{IsReady, not_idle, not_ready}
 use Rattle.bk_steps.specs.Steps.{Steps, IsRefused}
 use Rattle.bk_steps.specs.private.Machine.{is_done, is_waiting, IsFree}
 use Rattle.bk_steps.specs.declared.event.Event.TheVariants.{Claim}
-use Rattle.bk_steps.specs.declared.refused.Refused.TheVariants.{NotReady, NotIdle}
+use Rattle.bk_base.specs.declared.refused.Refused.TheVariants.{NotReady, NotIdle}
 use Rattle.bk_steps.specs.declared.stage.Stage.{Stage}
 use Rattle.bk_steps.specs.declared.stage.Stage.TheVariants.{Waiting, Held, Done}
 use Rattle.bk_steps.specs.declared.seat.Seat.{Seat}

@@ -3,9 +3,9 @@ use Rattle.std.proofs.Common.{◌≡◌, ℕ, zero, suc, ◌+◌, ◌^◌, ◌<�
 use Rattle.std.proofs.lemmas.Bool.{or_left, or_right}
 use mathlib.Core.Logic.{dite}
 use native.Mathlib.Decide.{dec_le}
-use Rattle.bk_frames.specs.declared.genesis.Row.{Row}
-use Rattle.bk_frames.specs.declared.version.Version.{Version}
-use Rattle.bk_frames.specs.declared.version.Version.TheVariants.{One, Two}
+use Rattle.bk_base.specs.declared.genesis.Row.{Row}
+use Rattle.bk_base.specs.declared.version.Version.{Version}
+use Rattle.bk_base.specs.declared.version.Version.TheVariants.{One, Two}
 use Rattle.bk_tx.specs.declared.declared.Declared.{Declared}
 use Rattle.bk_tx.specs.Transaction.{Transaction}
 use Rattle.bk_tx.specs.Access.{declares}

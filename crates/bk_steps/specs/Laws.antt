@@ -9,7 +9,7 @@ use Rattle.bk_steps.specs.Schedule.{RunsAmong, IsWholeAmong, IsFault}
 use Rattle.bk_steps.specs.declared.event.Event.{Event}
 use Rattle.bk_steps.specs.declared.outcome.ScheduleFault.{ScheduleFault}
 use Rattle.bk_steps.specs.declared.outcome.ScheduleFault.TheVariants.{OutOfMemory}
-use Rattle.bk_steps.specs.declared.refused.Refused.{Refused}
+use Rattle.bk_base.specs.declared.refused.Refused.{Refused}
 
 -- the opening course is kept
 abbrev pub OpeningIsKept : Type 0

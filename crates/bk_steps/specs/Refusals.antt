@@ -6,16 +6,8 @@ use Rattle.bk_steps.specs.Course.{Course, waiting, free, busy, Has}
 use Rattle.bk_steps.specs.Moves.{HasReadAll, HasWrittenAll, EarlierAreDone, Moves}
 use Rattle.bk_steps.specs.declared.event.Event.{Event}
 use Rattle.bk_steps.specs.declared.event.Event.TheVariants.{Claim, Read, Write, Finish}
-use Rattle.bk_steps.specs.declared.refused.Refused.{Refused}
-use Rattle.bk_steps.specs.declared.refused.Refused.TheVariants.{NotReady, NotIdle, NotHolder, NotDeclared, OutOfTurn}
-
--- the number of a refusal
-abbrev pub code_of : Refused → ℕ
-code_of NotReady = 1
-code_of NotIdle = 2
-code_of NotHolder = 3
-code_of NotDeclared = 4
-code_of OutOfTurn = 5
+use Rattle.bk_base.specs.declared.refused.Refused.{Refused}
+use Rattle.bk_base.specs.declared.refused.Refused.TheVariants.{NotReady, NotIdle, NotHolder, NotDeclared, OutOfTurn}
 
 -- the worker of an event
 abbrev pub worker_of : Event → ℕ

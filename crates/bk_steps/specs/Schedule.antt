@@ -10,7 +10,7 @@ use Rattle.bk_steps.specs.Refusals.{Allows, Refuses}
 use Rattle.bk_steps.specs.Machine.{MachineValue, scene_in, Shows}
 use Rattle.bk_steps.specs.declared.event.Event.{Event}
 use Rattle.bk_steps.specs.declared.event.Event.TheVariants.{Claim}
-use Rattle.bk_steps.specs.declared.refused.Refused as reason
+use Rattle.bk_base.specs.declared.refused.Refused as reason
 use Rattle.bk_steps.specs.declared.outcome.Outcome.{Outcome}
 use Rattle.bk_steps.specs.declared.outcome.ScheduleFault.{ScheduleFault}
 use Rattle.bk_steps.specs.declared.outcome.ScheduleFault.TheVariants.{Refused, Unfinished, OutOfMemory}

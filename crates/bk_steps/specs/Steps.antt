@@ -6,7 +6,7 @@ use Rattle.bk_steps.specs.Refusals.{Allows, Refuses}
 use Rattle.bk_steps.specs.Machine.{MachineValue, scene_in, Shows}
 use Rattle.bk_steps.specs.declared.event.Event.{Event}
 use Rattle.bk_steps.specs.declared.event.Event.TheVariants.{Claim, Read, Write, Finish}
-use Rattle.bk_steps.specs.declared.refused.Refused.{Refused}
+use Rattle.bk_base.specs.declared.refused.Refused.{Refused}
 
 -- the event is allowed at the course, and the machine shows the one that it makes of it
 pub record Follows (s : Scene) (workers : ℕ) (d : Course) (e : Event) (new : MachineValue)

@@ -7,7 +7,6 @@ mod event;
 mod laws;
 mod machine;
 mod outcome;
-mod refused;
 mod schedule;
 mod seat;
 mod settling;
@@ -21,7 +20,6 @@ pub use laws::{
 };
 pub use machine::Machine;
 pub use outcome::{Outcome, ScheduleFault};
-pub use refused::Refused;
 pub use schedule::run_schedule;
 pub use seat::Seat;
 pub use settling::settle_words;

@@ -11,7 +11,6 @@ ghost use Rattle.bk_steps.specs.declared.event.Event.TheVariants.{Claim, Read, W
 
 use crate::event::Event;
 use crate::outcome::{Outcome, ScheduleFault, receipts_of};
-use crate::refused::Refused;
 use crate::seat::{
     Seat, at_rest, has_read_all, has_written, has_written_all, index_in, is_idle, marked, noted,
     place_held, seated, seats_of, values_of, writable_in,
@@ -19,6 +18,7 @@ use crate::seat::{
 use crate::settling::settle_words;
 use crate::stage::{Stage, is_ready, stages_of};
 use crate::waits::{release, waits_of};
+use bk_base::Refused;
 use bk_conflicts::Plan;
 use bk_rules::{Account, State};
 use std::alloc::{AllocError, Global};

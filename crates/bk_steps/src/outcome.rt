@@ -5,8 +5,8 @@ ghost use Rattle.bk_steps.specs.private.Schedule.{IsFirstLeft};
 ghost use Rattle.bk_steps.specs.declared.stage.Stage.TheVariants.{Done};
 ghost use Rattle.bk_steps.specs.declared.outcome.ScheduleFault.TheVariants.{OutOfMemory};
 
-use crate::refused::Refused;
 use crate::stage::Stage;
+use bk_base::Refused;
 use bk_rules::{Receipt, State};
 use std::alloc::{AllocError, Global};
 

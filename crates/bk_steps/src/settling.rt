@@ -9,8 +9,8 @@ ghost use Rattle.bk_conflicts.specs.Words.{slot_of, words_at};
 ghost use Rattle.bk_conflicts.specs.SceneOf.{accounts_by, word_by, tx_at};
 ghost use Rattle.bk_steps.specs.Settling.{wide, said_at, put_at, words_before, words_in, Say, AreOf, AreLow, Does};
 
+use bk_base::Version;
 use bk_conflicts::{Plan, WordRef};
-use bk_frames::Version;
 use bk_rules::{Account, Ids, Local, Receipt, Status, settle};
 use bk_tx::{Declarations, Tx};
 

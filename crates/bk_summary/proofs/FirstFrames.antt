@@ -2,12 +2,12 @@
 use Rattle.std.proofs.Common.{◌≡◌, List, [], ◌∷◌, Option, Some, None, refl, sym, ap, ◌∙◌, arith}
 use Rattle.std.specs.Prelude.{IsTrue, is_some, unwrap_or}
 use Rattle.sha2.specs.Sha256.{sha256}
-use Rattle.bk_frames.specs.declared.version.Version.{Version}
-use Rattle.bk_frames.specs.declared.genesis.Row.{Row}
-use Rattle.bk_frames.specs.Feed.{Frame, IsFeed, feed_of, genesis_of}
-use Rattle.bk_frames.specs.Genesis.{genesis_text, rows_of}
-use Rattle.bk_frames.specs.Numbers.{IsBytes}
-use Rattle.bk_frames.proofs.GenesisGrammar.{genesis_spelled}
+use Rattle.bk_base.specs.declared.version.Version.{Version}
+use Rattle.bk_base.specs.declared.genesis.Row.{Row}
+use Rattle.bk_base.specs.Feed.{Frame, IsFeed, feed_of, genesis_of}
+use Rattle.bk_base.specs.Genesis.{genesis_text, rows_of}
+use Rattle.bk_base.specs.Numbers.{IsBytes}
+use Rattle.bk_base.proofs.GenesisGrammar.{genesis_spelled}
 use Rattle.bk_committee.specs.Payload.{committee_bytes}
 use Rattle.bk_committee.proofs.Grammar.{encoded}
 use Rattle.bk_follow.specs.RunReport.{committee_in}

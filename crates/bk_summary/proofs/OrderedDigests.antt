@@ -5,7 +5,7 @@ use Rattle.std.specs.Str.{bytes_eq}
 use Rattle.std.specs.List.{Contains, find, list_any}
 use Rattle.std.proofs.lemmas.Slice.Eq.{bytes_eq-Decides}
 use Rattle.sha2.specs.Sha256.{sha256}
-use Rattle.bk_frames.specs.Feed.{Frame}
+use Rattle.bk_base.specs.Feed.{Frame}
 use Rattle.bk_cert.proofs.Lists.{none_in_nil, contains_cases, contains_first, contains_later, in_map}
 use Rattle.bk_committee.specs.Payload.{CommitteeValue}
 use Rattle.bk_evidence.specs.Batches.{Batch, has_digest, payload_of}

@@ -1,8 +1,8 @@
 -- What the definition of a summary says of a feed's first frames.
 use Rattle.std.specs.Prelude.{◌≡◌, ℕ, List, [], option_map, slice_get, unwrap_or}
 use Rattle.sha2.specs.Sha256.{sha256}
-use Rattle.bk_frames.specs.Feed.{Frame, FeedValue, IsFeed}
-use Rattle.bk_frames.specs.Numbers.{IsBytes}
+use Rattle.bk_base.specs.Feed.{Frame, FeedValue, IsFeed}
+use Rattle.bk_base.specs.Numbers.{IsBytes}
 use Rattle.bk_summary.specs.Summary.{IsSummaryOf}
 use Rattle.bk_summary.specs.declared.summary.Summary.{Summary}
 

@@ -3,8 +3,8 @@ use Rattle.std.specs.Prelude.{◌≡◌, ℕ, ◌-◌, ◌==◌, Bool, true, fal
 use Rattle.std.specs.List.{list_any}
 use Rattle.std.specs.Str.{bytes_eq}
 use Rattle.sha2.specs.Sha256.{sha256}
-use Rattle.bk_frames.specs.Feed.{Frame, FeedValue, genesis_of}
-use Rattle.bk_frames.specs.Genesis.{genesis_text, total_of}
+use Rattle.bk_base.specs.Feed.{Frame, FeedValue, genesis_of}
+use Rattle.bk_base.specs.Genesis.{genesis_text, total_of}
 use Rattle.bk_committee.specs.Payload.{committee_bytes, sizes_of}
 use Rattle.bk_committee.specs.Sizes.{Sizes, faulty, members, quorum}
 use Rattle.bk_cert.specs.Node.{Node}

@@ -1,8 +1,8 @@
 -- The text of a summary: its lines, each with its line feed.
 use Rattle.std.specs.Prelude.{ℕ, List, [], ◌++◌, codes, decimal, Option, Some, None}
 use Rattle.hex.specs.Hex.{encode_lower}
-use Rattle.bk_frames.specs.declared.version.Version.{Version}
-use Rattle.bk_frames.specs.declared.version.Version.TheVariants as version
+use Rattle.bk_base.specs.declared.version.Version.{Version}
+use Rattle.bk_base.specs.declared.version.Version.TheVariants as version
 use Rattle.bk_summary.specs.declared.summary.AnchorCounts.{AnchorCounts}
 use Rattle.bk_summary.specs.declared.summary.BatchCounts.{BatchCounts}
 use Rattle.bk_summary.specs.declared.summary.CertCounts.{CertCounts}

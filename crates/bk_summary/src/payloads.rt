@@ -4,12 +4,12 @@
 ghost use Rattle.std.specs.Prelude.{◌≡◌, ◌++◌, ◌<◌, ◌^◌, length, OnOk, IfOk};
 ghost use Rattle.std.specs.List.{concat, flat_map};
 ghost use Rattle.sha2.specs.Sha256.{sha256};
-ghost use Rattle.bk_frames.specs.Genesis.{genesis_text, row_text};
+ghost use Rattle.bk_base.specs.Genesis.{genesis_text, row_text};
 ghost use Rattle.bk_committee.specs.Payload.{committee_bytes, weights_bytes};
 
 use bk_committee::Committee;
 use bk_digest::Digest32;
-use bk_frames::{Row, Version};
+use bk_base::{Row, Version};
 use std::alloc::{AllocError, Global};
 
 // Adds the key of each member.

@@ -1,7 +1,7 @@
 //! What a summary says.
 
 use bk_digest::Digest32;
-use bk_frames::Version;
+use bk_base::Version;
 
 /// A summary of a feed that nothing stops.
 #[derive(Clone, Copy, Debug, PartialEq, Eq)]

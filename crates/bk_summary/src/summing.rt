@@ -2,7 +2,7 @@
 
 ghost use Rattle.std.specs.Prelude.{◌≡◌, ◌<◌, ◌^◌, length, IfOk};
 ghost use Rattle.bk_commit.specs.Ordering.{IsCommitted};
-ghost use Rattle.bk_frames.specs.Genesis.{total_of};
+ghost use Rattle.bk_base.specs.Genesis.{total_of};
 ghost use Rattle.bk_report.specs.Leaves.{state_of};
 ghost use Rattle.bk_summary.specs.private.Sums.{Sums};
 
@@ -14,7 +14,7 @@ use crate::summary::Summary;
 use crate::txs::tx_counts;
 use bk_cert::CertRef;
 use bk_digest::{Digest32, tree_root_with};
-use bk_frames::Row;
+use bk_base::Row;
 use bk_ledger::Ledger;
 use bk_order::Intake;
 use bk_report::leaves_of;

@@ -6,7 +6,7 @@ ghost use Rattle.bk_summary.specs.Text.{end_text, feed_text, ledger_text, order_
 
 use crate::summary::{AnchorCounts, BatchCounts, CertCounts, MemberCounts, Summary, TxCounts};
 use bk_digest::Digest32;
-use bk_frames::Version;
+use bk_base::Version;
 use std::alloc::AllocError;
 use std::fmt;
 

@@ -3,7 +3,8 @@
 use crate::made::EMPTY_LEDGER;
 use crate::tally::Tally;
 use anyhow::Result;
-use bk_frames::{Cutter, Kind};
+use bk_base::Kind;
+use bk_frames::Cutter;
 use std::alloc::Global;
 
 // A cutter that got an empty ledger and the head of a batch frame of this length.

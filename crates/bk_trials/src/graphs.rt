@@ -2,7 +2,7 @@
 
 use crate::chance::Chance;
 use anyhow::Result;
-use bk_frames::Version;
+use bk_base::Version;
 use std::alloc::Global;
 use std::fmt::Write;
 

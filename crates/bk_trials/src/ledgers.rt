@@ -4,7 +4,7 @@ ghost use Rattle.std.specs.Prelude.{◌<◌, ◌≤◌};
 
 use crate::chance::Chance;
 use anyhow::Result;
-use bk_frames::Version;
+use bk_base::Version;
 use std::alloc::Global;
 use std::fmt::Write;
 

@@ -16,7 +16,7 @@ use crate::graphs::graph;
 use crate::jobs::{applied, made, replayed};
 use crate::ledgers::ledger;
 use anyhow::{Result, bail};
-use bk_frames::Version;
+use bk_base::Version;
 use std::alloc::Global;
 use std::str;
 use std::sync::Wait;

@@ -2,7 +2,7 @@
 use Rattle.std.proofs.Common.{◌≡◌, ℕ, zero, suc, ◌<◌, Bool, true, false, ltb, List, [], ◌∷◌, length, get_or, map, refl, sym, subst, add-one, arith}
 use Rattle.std.specs.List.{IsAllAdjacentAnswer}
 use Rattle.std.proofs.lemmas.Bool.{and_from, and_left, and_right}
-use Rattle.bk_frames.specs.Numbers.{is_ascending}
+use Rattle.bk_base.specs.Numbers.{is_ascending}
 
 ascends : {A : Type 0} (key : A → ℕ) (xs : List A) → ((k : ℕ) (d : A) → suc k < length xs → true ≡ ltb (key (get_or xs k d)) (key (get_or xs (suc k) d))) → true ≡ is_ascending (map key xs)
 ascends key [] h = refl

@@ -7,12 +7,12 @@ use Rattle.std.specs.Int.{w16, to_be_bytes}
 use Rattle.std.proofs.lemmas.Bool.{eqb-true, eq-eqb, ne_eqb}
 use Rattle.std.proofs.lemmas.List.{append-nil, nil_from_length, drop-drop, length-drop}
 use Rattle.std.proofs.lemmas.Option.{cond_some, none-some}
-use Rattle.bk_frames.specs.Numbers.{IsBytes, ◌>>=◌, number_at, list_at, bytes_at}
+use Rattle.bk_base.specs.Numbers.{IsBytes, ◌>>=◌, number_at, list_at, bytes_at}
 use Rattle.bk_tx.specs.declared.batch.Slice.{Slice}
 use Rattle.bk_tx.specs.Batch.{cuts, FollowFrom}
 use Rattle.bk_tx.specs.Spelling.{text_in_batch, batch_text, IsBatch}
 use Rattle.bk_tx.specs.Reading.{text_at, texts_of}
-use Rattle.bk_frames.proofs.FieldLemmas.{list_takes, list_again, bind_some, Takes, Takes-then, wide16, number_rest, number_takes, number_again, bytes_rest, bytes_take, bytes_again}
+use Rattle.bk_base.proofs.FieldLemmas.{list_takes, list_again, bind_some, Takes, Takes-then, wide16, number_rest, number_takes, number_again, bytes_rest, bytes_take, bytes_again}
 
 abbrev IsShort : List ℕ → Type 0
 IsShort text = length text < 2 ^ 16

@@ -1,9 +1,9 @@
 -- The transactions of the batches of a feed.
 use Rattle.std.specs.Prelude.{ℕ, Bool, true, false, List, [], length, map, filter, Option, option_map, unwrap_or}
 use Rattle.std.specs.List.{flat_map}
-use Rattle.bk_frames.specs.declared.kind.Kind.{Kind}
-use Rattle.bk_frames.specs.declared.kind.Kind.TheVariants as kind
-use Rattle.bk_frames.specs.Feed.{Frame}
+use Rattle.bk_base.specs.declared.kind.Kind.{Kind}
+use Rattle.bk_base.specs.declared.kind.Kind.TheVariants as kind
+use Rattle.bk_base.specs.Feed.{Frame}
 use Rattle.bk_tx.specs.Transaction.{Transaction}
 use Rattle.bk_tx.specs.Reading.{transaction_of, texts_of}
 

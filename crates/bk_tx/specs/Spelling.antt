@@ -2,7 +2,7 @@
 use Rattle.std.specs.Prelude.{◌≢◌, ℕ, ◌-◌, ◌^◌, ◌<◌, ◌≤◌, List, [], ◌∷◌, ◌++◌, length, map, IsTrue, if◌then◌else◌}
 use Rattle.std.specs.List.{flat_map, AllByRecursion}
 use Rattle.std.specs.Int.{w16, w64, to_be_bytes}
-use Rattle.bk_frames.specs.Numbers.{is_ascending}
+use Rattle.bk_base.specs.Numbers.{is_ascending}
 use Rattle.bk_tx.specs.declared.declared.Declared.{Declared}
 use Rattle.bk_tx.specs.declared.payments.Payment.{Payment}
 use Rattle.bk_tx.specs.Transaction.{Transaction}

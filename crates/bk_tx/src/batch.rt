@@ -4,7 +4,7 @@ ghost use Rattle.bk_tx.specs.Spelling.{IsBatch, batch_text, text_in_batch};
 ghost use Rattle.bk_tx.specs.Batch.{IsWithin, cut, cuts, FollowFrom};
 ghost use Rattle.bk_tx.specs.Reading.{text_at, texts_of};
 
-use bk_frames::Fields;
+use bk_base::Fields;
 use std::alloc::{AllocError, Global};
 
 /// A part of a payload, as a batch's text: `len` bytes from offset `start` on.

@@ -1,6 +1,6 @@
 ghost use Rattle.std.specs.Prelude.{◌≡◌, ◌==◌, ◌&&◌, ◌^◌, ◌<◌, ◌≤◌, ℕ, [], ◌∷◌, ◌++◌, length, IfSome, IsSome, ◌↔◌, slice_index, slice_index_or};
 ghost use Rattle.std.specs.List.{position};
-ghost use Rattle.bk_frames.specs.Numbers.{is_ascending};
+ghost use Rattle.bk_base.specs.Numbers.{is_ascending};
 ghost use Rattle.bk_tx.specs.Access.{writes, declares, declared_ids, no_declared, IdsFit};
 
 use std::marker::Model;

@@ -1,7 +1,7 @@
 //! That each value has one encoding, as laws for callers. A caller has `IsBytes` of each slice of bytes.
 
 ghost use Rattle.std.specs.Prelude.{◌≡◌, ℕ, List, Some};
-ghost use Rattle.bk_frames.specs.Numbers.{IsBytes};
+ghost use Rattle.bk_base.specs.Numbers.{IsBytes};
 ghost use Rattle.bk_tx.specs.Transaction.{Transaction};
 ghost use Rattle.bk_tx.specs.Spelling.{transaction_text, IsTransaction, batch_text, IsBatch};
 ghost use Rattle.bk_tx.specs.Reading.{transaction_of, texts_of};

@@ -1,6 +1,6 @@
 ghost use Rattle.std.specs.Prelude.{◌≡◌, ◌==◌, ◌<◌, ◌≤◌, [], ◌∷◌, ◌++◌, length, IfSome, IsSome, ◌↔◌};
 ghost use Rattle.std.specs.List.{list_any};
-ghost use Rattle.bk_frames.specs.Numbers.{is_ascending};
+ghost use Rattle.bk_base.specs.Numbers.{is_ascending};
 ghost use Rattle.bk_tx.specs.Access.{receivers_in, PaymentsFit};
 
 use std::marker::Model;

@@ -1,14 +1,14 @@
 //! A transaction from its bytes, field by field.
 
 ghost use Rattle.std.specs.Prelude.{◌≡◌, ◌≤◌, [], option_map};
-ghost use Rattle.bk_frames.specs.Numbers.{list_at};
+ghost use Rattle.bk_base.specs.Numbers.{list_at};
 ghost use Rattle.bk_tx.specs.Reading.{writable_of, declared_at, declarations_at, pay_at, pay_if_at, sweep_at, payment_at, split_at, body_at, transaction_of};
 
 use crate::body::Body;
 use crate::declared::{Declarations, Declared, MOST_DECLARED};
 use crate::payments::{MOST_PAYMENTS, Payment, Payments};
 use crate::tx::Tx;
-use bk_frames::Fields;
+use bk_base::Fields;
 
 #[tactic(auto, unfolding(crate::specs::Reading::writable_of))]
 fn writable(mode: u8) -> Option<bool>

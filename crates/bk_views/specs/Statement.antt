@@ -1,8 +1,8 @@
 -- What the transactions of an order do to one account, and how a text says it.
 use Rattle.std.specs.Prelude.{◌≡◌, ℕ, zero, suc, ◌+◌, List, [], ◌∷◌, ◌++◌, length, slice_index_or, codes, Bool, false, Option, Some, None, option_map, unwrap_or, ◌==◌, if◌then◌else◌}
 use Rattle.std.specs.List.{flat_map, sum_by}
-use Rattle.bk_frames.specs.declared.version.Version.{Version}
-use Rattle.bk_frames.specs.declared.genesis.Row.{Row}
+use Rattle.bk_base.specs.declared.version.Version.{Version}
+use Rattle.bk_base.specs.declared.genesis.Row.{Row}
 use Rattle.bk_results.specs.Lines.{spaced}
 use Rattle.bk_tx.specs.declared.body.Body.{Body}
 use Rattle.bk_tx.specs.declared.payments.Payment.{Payment}

@@ -1,6 +1,6 @@
 -- A statement that is read place by place.
 use Rattle.std.specs.Prelude.{◌≡◌, ◌↔◌, ℕ, ◌+◌, ◌^◌, ◌<◌, List, [], ◌++◌, length, Bool, IsTrue, Option, None}
-use Rattle.bk_frames.specs.Genesis.{AreAccounts}
+use Rattle.bk_base.specs.Genesis.{AreAccounts}
 use Rattle.bk_tx.specs.Transaction.{Transaction}
 use Rattle.bk_rules.specs.declared.account.Account.{Account}
 use Rattle.bk_rules.specs.declared.receipt.Receipt.{Receipt}

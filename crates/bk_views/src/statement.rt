@@ -12,7 +12,7 @@ ghost use Rattle.bk_views.specs.private.Accounts.{IsPlaceOf};
 
 use crate::entry::{Entry, Numbers, Role};
 use crate::parts::{after_part, amount_of, role_in};
-use bk_frames::Row;
+use bk_base::Row;
 use bk_rules::{Account, Receipt};
 use bk_tx::{Slice, Tx, read_batch};
 use std::alloc::{AllocError, Global};

@@ -1,6 +1,6 @@
 -- What the private functions of a schedule say.
 use Rattle.std.specs.Prelude.{◌≡◌, ℕ, List}
-use Rattle.bk_frames.specs.Feed.{FeedValue, genesis_of}
+use Rattle.bk_base.specs.Feed.{FeedValue, genesis_of}
 use Rattle.bk_rules.specs.Fold.{state_after, receipts_of}
 use Rattle.bk_steps.specs.Schedule.{IsWholeAmong, IsFault}
 use Rattle.bk_steps.specs.declared.event.Event.{Event}

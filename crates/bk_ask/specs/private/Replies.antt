@@ -3,8 +3,8 @@ use Rattle.std.specs.Prelude.{◌≡◌, ℕ, ◌<◌, List, [], length, take, t
 use Rattle.std.specs.Global.{Vec}
 use Rattle.bk_frames.specs.Cutting.{EndsShort}
 use Rattle.bk_frames.specs.Device.{Device, Works, Fails, Receives}
-use Rattle.bk_frames.specs.declared.genesis.Row.{Row}
-use Rattle.bk_frames.specs.Feed.{FeedValue, IsFeed}
+use Rattle.bk_base.specs.declared.genesis.Row.{Row}
+use Rattle.bk_base.specs.Feed.{FeedValue, IsFeed}
 use Rattle.bk_frames.specs.Writing.{Writes}
 use Rattle.bk_order.specs.Intake.{Taken}
 use Rattle.bk_results.specs.declared.fault.Fault.{Fault}

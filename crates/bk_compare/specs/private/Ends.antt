@@ -1,9 +1,9 @@
 -- Where a feed ends that is followed.
 use Rattle.std.specs.Prelude.{◌≡◌, ◌⊎◌, List, ℕ, Some}
-use Rattle.bk_frames.specs.declared.version.Version.{Version}
+use Rattle.bk_base.specs.declared.version.Version.{Version}
 use Rattle.bk_frames.specs.Cutting.{EndsShort}
 use Rattle.bk_frames.specs.Device.{Device, Works, IfKnown}
-use Rattle.bk_frames.specs.Feed.{Frame, FeedValue, IsFeed, feed_of, spelling}
+use Rattle.bk_base.specs.Feed.{Frame, FeedValue, IsFeed, feed_of, spelling}
 use Rattle.bk_order.specs.Stops.{IsStop}
 use Rattle.bk_order.specs.declared.stop.Stop.{Stop}
 use Rattle.bk_results.specs.declared.compare_stop.CompareStop.{CompareStop}

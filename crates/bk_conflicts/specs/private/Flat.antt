@@ -1,7 +1,7 @@
 -- A plan in flat lists, and what contracts see of it.
 use Rattle.std.specs.Prelude.{◌≡◌, ℕ, List, length, map, Option}
 use Rattle.std.specs.List.{range_with_len}
-use Rattle.bk_frames.specs.declared.version.Version.{Version}
+use Rattle.bk_base.specs.declared.version.Version.{Version}
 use Rattle.bk_tx.specs.Transaction.{Transaction}
 use Rattle.bk_conflicts.specs.declared.words.WordRef.{WordRef}
 use Rattle.bk_conflicts.specs.Words.{words_at}

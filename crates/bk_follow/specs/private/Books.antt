@@ -1,8 +1,8 @@
 -- What is known of a book.
 use Rattle.std.specs.Prelude.{◌≡◌, ◌≤◌, ◌++◌, length, List, Option}
-use Rattle.bk_frames.specs.declared.version.Version.{Version}
+use Rattle.bk_base.specs.declared.version.Version.{Version}
 use Rattle.bk_frames.specs.Device.{Device, Works, Fails}
-use Rattle.bk_frames.specs.Feed.{Frame, FeedValue, IsFeed, AreGoodFrom}
+use Rattle.bk_base.specs.Feed.{Frame, FeedValue, IsFeed, AreGoodFrom}
 use Rattle.bk_committee.specs.Payload.{CommitteeValue}
 use Rattle.bk_results.specs.declared.fault.Fault.{Fault}
 use Rattle.bk_results.specs.declared.fault.Fault.TheVariants as fault

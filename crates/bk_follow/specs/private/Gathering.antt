@@ -1,13 +1,13 @@
 -- A feed whose frames are gathered before they are taken.
 use Rattle.std.specs.Prelude.{◌≡◌, ◌<◌, ℕ, List, [], ◌++◌, Option, None, Some, Bool, true, false, Result, Ok, Err}
 use Rattle.bk_frames.specs.Device.{Device, Works, Gives, IfKnown}
-use Rattle.bk_frames.specs.Feed.{Frame}
+use Rattle.bk_base.specs.Feed.{Frame}
 use Rattle.bk_frames.specs.Cutting.{Cut, Cuts, CutsInto, IsOpen, fresh, frames_in}
 use Rattle.bk_frames.specs.Pulling.{Refuses}
 use Rattle.bk_frames.specs.Reading.{IsPulled, Pulls, room_of}
 use Rattle.bk_frames.specs.declared.fault.FeedFault.{FeedFault}
-use Rattle.bk_frames.specs.declared.kind.Kind.{Kind}
-use Rattle.bk_frames.specs.declared.version.Version.{Version}
+use Rattle.bk_base.specs.declared.kind.Kind.{Kind}
+use Rattle.bk_base.specs.declared.version.Version.{Version}
 use Rattle.std.specs.Global.{Vec}
 use Rattle.bk_follow.specs.declared.gathering.Gathered.{Gathered}
 use Rattle.bk_follow.specs.declared.opening.Opened.{Opened}

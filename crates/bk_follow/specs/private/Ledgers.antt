@@ -1,6 +1,6 @@
 -- What a book's ledger says of what was executed.
 use Rattle.std.specs.Prelude.{◌≡◌, ℕ, List, Option, drop, length, option_map}
-use Rattle.bk_frames.specs.declared.genesis.Row.{Row}
+use Rattle.bk_base.specs.declared.genesis.Row.{Row}
 use Rattle.bk_order.specs.Intake.{Taken}
 use Rattle.bk_pool.specs.declared.outcome.ExecFault.{ExecFault}
 use Rattle.bk_pool.specs.declared.outcome.ExecFault.TheVariants.{OutOfMemory, Unfinished}

@@ -1,9 +1,9 @@
 -- What the first two frames of a feed open.
 use Rattle.std.specs.Prelude.{◌≡◌, ℕ, List, [], ◌∷◌, ◌++◌, Option, Some, None, IsTrue}
-use Rattle.bk_frames.specs.declared.version.Version.{Version}
-use Rattle.bk_frames.specs.Committee.{is_committee}
-use Rattle.bk_frames.specs.Feed.{Frame, feed_of}
-use Rattle.bk_frames.specs.Genesis.{is_genesis}
+use Rattle.bk_base.specs.declared.version.Version.{Version}
+use Rattle.bk_base.specs.Committee.{is_committee}
+use Rattle.bk_base.specs.Feed.{Frame, feed_of}
+use Rattle.bk_base.specs.Genesis.{is_genesis}
 use Rattle.bk_committee.specs.Payload.{CommitteeValue, committee_of}
 use Rattle.bk_order.specs.Intake.{nothing_ordered}
 use Rattle.bk_follow.specs.Follower.{BookValue, IsBookOf, FollowsBy, receipts_of_executed}

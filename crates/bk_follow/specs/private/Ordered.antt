@@ -1,6 +1,6 @@
 -- What a book's order is, as it was settled last.
 use Rattle.std.specs.Prelude.{◌≡◌}
-use Rattle.bk_frames.specs.Feed.{FeedValue}
+use Rattle.bk_base.specs.Feed.{FeedValue}
 use Rattle.bk_results.specs.declared.fault.Fault.{Fault}
 use Rattle.bk_results.specs.declared.fault.Fault.TheVariants as fault
 use Rattle.bk_follow.specs.Follower.{BookValue}

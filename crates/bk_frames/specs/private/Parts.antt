@@ -1,12 +1,13 @@
 -- What the private functions that cut a feed say of what is being read.
 use Rattle.std.specs.Prelude.{◌≡◌, ◌≢◌, ℕ, ◌<◌, ◌≤◌, List, [], ◌∷◌, ◌++◌, length, take, drop, slice_index, Some, None, IsTrue, is_some}
 use Rattle.std.specs.Int.{w32, from_be_bytes}
-use Rattle.bk_frames.specs.declared.limits.TheConstants.{MOST_FEED}
-use Rattle.bk_frames.specs.declared.version.Version.TheVariants.{One}
+use Rattle.bk_base.specs.declared.limits.TheConstants.{MOST_FEED}
+use Rattle.bk_base.specs.declared.version.Version.TheVariants.{One}
 use Rattle.bk_frames.specs.declared.fault.FaultCode.{FaultCode}
 use Rattle.bk_frames.specs.declared.fault.FaultCode.TheVariants as code
 use Rattle.bk_frames.specs.declared.part.Part.{Part}
-use Rattle.bk_frames.specs.Feed.{magic, kind_fault, length_fault}
+use Rattle.bk_base.specs.Feed.{magic}
+use Rattle.bk_frames.specs.FirstFault.{kind_fault, length_fault}
 use Rattle.bk_frames.specs.Pulling.{ByCode}
 use Rattle.bk_frames.specs.Cutting.{Cut, IsBegun, fault_at}
 

@@ -1,5 +1,6 @@
 use super::{EMPTY_LEDGER, offset_of_cut, read};
-use crate::{Cutter, FaultCode, Feed, FeedFault, Kind, Version, frames_of_pieces};
+use crate::{Cutter, FaultCode, Feed, FeedFault, frames_of_pieces};
+use bk_base::{Kind, Version};
 use std::alloc::{AllocError, Global};
 use std::process::Abort;
 use std::test::Fail;

@@ -1,8 +1,8 @@
 use super::{EMPTY_LEDGER, Reader, offset_of_cut, read};
 use crate::{
-    Counted, FaultCode, Feed, FeedFault, Fuse, Kind, Sink, Source, WriteFault, push_all,
-    write_frame,
+    Counted, FaultCode, Feed, FeedFault, Fuse, Sink, Source, WriteFault, push_all, write_frame,
 };
+use bk_base::Kind;
 use std::alloc::{AllocError, Global};
 use std::io;
 use std::io::{Read, Write};

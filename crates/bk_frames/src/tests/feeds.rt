@@ -1,5 +1,6 @@
 use super::{EMPTY_LEDGER, expect_fault, offset_of_cut, read};
-use crate::{FaultCode, Kind, Version, read_genesis};
+use crate::FaultCode;
+use bk_base::{Kind, Version, read_genesis};
 use std::alloc::{AllocError, Global};
 use std::process::Abort;
 use std::test::Fail;

@@ -1,4 +1,4 @@
-use crate::Fields;
+use bk_base::Fields;
 
 #[test]
 fn reads_numbers(rt: HostRuntime) {

@@ -1,9 +1,9 @@
 -- Batches that were read, and slices of batches.
 use Rattle.std.specs.Prelude.{◌≡◌, Bool, true, ℕ, ◌+◌, ◌^◌, ◌<◌, ◌≤◌, List, [], ◌++◌, length, map, drop, Option}
 use Rattle.std.specs.Arc.{arc_value}
-use Rattle.bk_frames.specs.declared.genesis.Row.{Row}
-use Rattle.bk_frames.specs.declared.version.Version.{Version}
-use Rattle.bk_frames.specs.Feed.{Frame}
+use Rattle.bk_base.specs.declared.genesis.Row.{Row}
+use Rattle.bk_base.specs.declared.version.Version.{Version}
+use Rattle.bk_base.specs.Feed.{Frame}
 use Rattle.bk_tx.specs.Transaction.{Transaction}
 use Rattle.bk_tx.specs.Batches.{count_in, feed_transactions, payloads_of, transactions_of}
 use Rattle.bk_rules.specs.declared.receipt.Receipt.{Receipt}

@@ -1,10 +1,10 @@
 -- What was read of a source and listed to a sink.
 use Rattle.std.specs.Prelude.{◌≡◌, ℕ, ◌+◌, ◌<◌, List, [], ◌++◌, length, take, Some, None}
-use Rattle.bk_frames.specs.declared.version.Version.{Version}
+use Rattle.bk_base.specs.declared.version.Version.{Version}
 use Rattle.bk_frames.specs.declared.fault.FeedFault.{FeedFault}
 use Rattle.bk_frames.specs.Device.{Device, Works, Fails, Receives}
 use Rattle.bk_frames.specs.Writing.{Writes}
-use Rattle.bk_frames.specs.Feed.{Frame, AreGoodFrom}
+use Rattle.bk_base.specs.Feed.{Frame, AreGoodFrom}
 use Rattle.bk_frames.specs.Cutting.{EndsShort, frames_in}
 use Rattle.bk_results.specs.declared.fault.Fault.{Fault}
 use Rattle.bk_results.specs.declared.fault.Fault.TheVariants as fault

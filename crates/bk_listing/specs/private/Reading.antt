@@ -1,11 +1,12 @@
 -- The frames of a feed as it comes, and why no more of it comes.
 use Rattle.std.specs.Prelude.{◌≡◌, ◌≢◌, ℕ, ◌+◌, ◌≤◌, List, [], ◌++◌, length, take, drop, Option, Some, None, nat_lt, if◌then◌else◌}
 use Rattle.std.specs.Int.{w32, from_be_bytes}
-use Rattle.bk_frames.specs.declared.version.Version.{Version}
+use Rattle.bk_base.specs.declared.version.Version.{Version}
 use Rattle.bk_frames.specs.declared.fault.FaultCode.TheVariants as code
 use Rattle.bk_frames.specs.declared.fault.FeedFault.{FeedFault}
 use Rattle.bk_frames.specs.Device.{Device, Works, Gives}
-use Rattle.bk_frames.specs.Feed.{Frame, Begins, HasFault, feed_of, spelling}
+use Rattle.bk_base.specs.Feed.{Frame, feed_of, spelling}
+use Rattle.bk_frames.specs.FirstFault.{Begins, HasFault}
 use Rattle.bk_frames.specs.Pulling.{ByCode, FrontCallsForMemoryAt, Gave, Refuses}
 use Rattle.bk_frames.specs.Cutting.{Cuts, IsOpen, RefusesPiece, fresh, frames_in}
 use Rattle.bk_listing.specs.declared.reader.FrameReader.{FrameReader}

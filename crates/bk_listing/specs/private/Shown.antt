@@ -1,13 +1,13 @@
 -- What the line of a frame says, and what is listed so far.
 use Rattle.std.specs.Prelude.{◌≡◌, ℕ, ◌+◌, ◌<◌, List, [], ◌∷◌, ◌++◌, length, take, codes, Option, Some, None}
 use Rattle.std.specs.List.{flat_map}
-use Rattle.bk_frames.specs.declared.version.Version.{Version}
+use Rattle.bk_base.specs.declared.version.Version.{Version}
 use Rattle.bk_frames.specs.Device.{Device, Fails, Receives}
 use Rattle.bk_frames.specs.Writing.{Writes}
 use Rattle.bk_results.specs.declared.fault.Fault.{Fault}
 use Rattle.bk_results.specs.declared.fault.Fault.TheVariants as fault
 use Rattle.bk_results.specs.Devices.{IsUntouched}
-use Rattle.bk_frames.specs.Feed.{Frame, frame_text}
+use Rattle.bk_base.specs.Feed.{Frame, frame_text}
 use Rattle.bk_committee.specs.Payload.{CommitteeValue, committee_of}
 use Rattle.bk_certcheck.specs.declared.rule.Rule.TheVariants as rule
 use Rattle.bk_listing.specs.Listing.{AreWords, AreLinesFrom, IsListing, committee_words, genesis_words, cert_words, rule_words, batch_words}

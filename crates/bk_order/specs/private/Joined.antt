@@ -14,7 +14,7 @@ use Rattle.bk_flatten.specs.Batches.{AreFound, IsFoundWhole, digests_of, payload
 use Rattle.bk_order.specs.declared.table.Table.{Table}
 use Rattle.bk_order.specs.declared.settling.Settled.{Settled}
 use Rattle.std.specs.List.{AllZip}
-use Rattle.bk_frames.specs.Feed.{Frame}
+use Rattle.bk_base.specs.Feed.{Frame}
 use Rattle.bk_order.specs.declared.judging.Judged.{Judged}
 use Rattle.bk_order.specs.private.Judging.{IsJudged}
 use Rattle.bk_order.specs.Intake.{Kept, IsKeptOf}

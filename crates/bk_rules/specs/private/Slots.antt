@@ -1,9 +1,9 @@
 -- Accounts as a state holds them: numbers in the order of the ids.
 use Rattle.std.specs.Prelude.{◌≡◌, ◌≢◌, ◌⊎◌, ℕ, ◌<◌, true, IsTrue, List, length, map, slice_index, slice_index_or, slice_get, Bool, ◌||◌, Option, Some, None, option_and_then, ◌==◌}
 use Rattle.std.specs.List.{position_or_len}
-use Rattle.bk_frames.specs.declared.genesis.Row.{Row}
-use Rattle.bk_frames.specs.declared.version.Version.{Version}
-use Rattle.bk_frames.specs.Numbers.{is_ascending}
+use Rattle.bk_base.specs.declared.genesis.Row.{Row}
+use Rattle.bk_base.specs.declared.version.Version.{Version}
+use Rattle.bk_base.specs.Numbers.{is_ascending}
 use Rattle.bk_tx.specs.declared.declared.Declared.{Declared}
 use Rattle.bk_rules.specs.declared.account.Account.{Account}
 use Rattle.bk_rules.specs.Rows.{IsLedger, account_of}

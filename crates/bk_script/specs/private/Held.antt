@@ -1,7 +1,7 @@
 -- What the private functions of accounts say.
 use Rattle.std.specs.Prelude.{ℕ, List, map}
 use Rattle.std.specs.BTreeMap.{BTreeMap}
-use Rattle.bk_frames.specs.declared.genesis.Row.{Row}
+use Rattle.bk_base.specs.declared.genesis.Row.{Row}
 use Rattle.bk_script.specs.declared.accounts.Held.{Held}
 
 -- the account of this id

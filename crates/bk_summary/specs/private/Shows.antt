@@ -2,7 +2,7 @@
 use Rattle.std.specs.Prelude.{◌≡◌, ℕ, ◌<◌, List, length, take, Option, Some}
 use Rattle.bk_frames.specs.Cutting.{EndsShort}
 use Rattle.bk_frames.specs.Device.{Device, Works, Fails, Receives}
-use Rattle.bk_frames.specs.Feed.{FeedValue, IsFeed}
+use Rattle.bk_base.specs.Feed.{FeedValue, IsFeed}
 use Rattle.bk_frames.specs.Writing.{Writes}
 use Rattle.bk_results.specs.declared.fault.Fault.{Fault}
 use Rattle.bk_results.specs.declared.fault.Fault.TheVariants as fault

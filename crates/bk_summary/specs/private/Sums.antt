@@ -1,8 +1,8 @@
 -- A summary of what was taken and executed.
 use Rattle.std.specs.Prelude.{◌≡◌, ℕ, ◌-◌, List, Option, is_some, not, length, count_by}
 use Rattle.sha2.specs.Sha256.{sha256}
-use Rattle.bk_frames.specs.declared.genesis.Row.{Row}
-use Rattle.bk_frames.specs.Genesis.{genesis_text, total_of}
+use Rattle.bk_base.specs.declared.genesis.Row.{Row}
+use Rattle.bk_base.specs.Genesis.{genesis_text, total_of}
 use Rattle.bk_committee.specs.Payload.{committee_bytes, sizes_of}
 use Rattle.bk_cert.specs.declared.place.CertRef.{CertRef}
 use Rattle.bk_order.specs.Intake.{Taken}

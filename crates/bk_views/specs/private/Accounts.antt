@@ -1,6 +1,6 @@
 -- How an account is followed.
 use Rattle.std.specs.Prelude.{◌≡◌, ℕ, ◌<◌, ◌^◌, length, slice_index_or, Option, Some, None, unwrap_or}
-use Rattle.bk_frames.specs.Genesis.{AreAccounts}
+use Rattle.bk_base.specs.Genesis.{AreAccounts}
 use Rattle.bk_tx.specs.Transaction.{Transaction}
 use Rattle.bk_rules.specs.declared.account.Account.{Account}
 use Rattle.bk_rules.specs.declared.receipt.Receipt.{Receipt}

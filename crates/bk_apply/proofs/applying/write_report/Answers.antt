@@ -1,6 +1,6 @@
 use Rattle.std.proofs.Common.{◌++◌, ◌∷◌, [], sym, ap, ◌∙◌}
 use Rattle.std.proofs.lemmas.Result.{err_from_is_err_and}
-use Rattle.bk_frames.specs.Genesis.{total_of}
+use Rattle.bk_base.specs.Genesis.{total_of}
 use Rattle.bk_report.specs.declared.line.Line.TheVariants as line
 use Rattle.bk_report.specs.Lines.{text_of}
 use Rattle.bk_report.specs.Report.{batch_lines, tx_lines, account_lines}

@@ -1,5 +1,5 @@
 use Rattle.std.proofs.Common.{◌∙◌, ap, sym}
-use Rattle.bk_frames.specs.Feed.{FeedValue}
+use Rattle.bk_base.specs.Feed.{FeedValue}
 use Rattle.bk_frames.proofs.OneReading.{one_feed}
 use Rattle.bk_report.specs.Lines.{text_of}
 use Rattle.bk_report.specs.Report.{apply_report_of}

@@ -1,6 +1,6 @@
 use Rattle.std.proofs.Common.{◌∙◌, subst}
 use Rattle.std.proofs.lemmas.Result.{err_from_is_err_and}
-use Rattle.bk_frames.specs.Genesis.{AreAccounts}
+use Rattle.bk_base.specs.Genesis.{AreAccounts}
 use Rattle.bk_apply.proofs.Schedules.{opens, plan_of_feed, feed_room, runs_on, few_places, few_slots, is_scheduled, unscheduled}
 use Rattle.bk_apply.proofs.scheduling.run_events.Goals as goal
 

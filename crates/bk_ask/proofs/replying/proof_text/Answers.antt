@@ -1,6 +1,6 @@
 use Rattle.std.proofs.Common.{◌≡◌, List, Option, ap, subst, ◌∙◌}
 use Rattle.std.specs.Prelude.{MatchOption}
-use Rattle.bk_frames.specs.declared.genesis.Row.{Row}
+use Rattle.bk_base.specs.declared.genesis.Row.{Row}
 use Rattle.bk_rules.specs.Ledger as rules
 use Rattle.bk_report.specs.Proofs.{ProofValue, IsProofOf, IsAbsent}
 use Rattle.bk_ask.proofs.replying.proof_text.Goals as goal

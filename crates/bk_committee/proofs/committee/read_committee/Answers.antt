@@ -1,7 +1,7 @@
 use Rattle.std.proofs.Common.{◌≡◌, ℕ, ◌≤◌, ◌<◌, ◌^◌, List, ◌∷◌, None, length, sum, ap, ◌∙◌, arith}
 use Rattle.std.specs.Simd.{first_chunks}
-use Rattle.bk_frames.specs.Numbers.{IsBytes}
-use Rattle.bk_frames.specs.declared.version.Version.{Version}
+use Rattle.bk_base.specs.Numbers.{IsBytes}
+use Rattle.bk_base.specs.declared.version.Version.{Version}
 use Rattle.bk_committee.specs.Payload.{IsCommittee, committee_with, committee_of, weights_of, bad_of}
 use Rattle.bk_committee.proofs.Grammar.{good_committee, total_some, total_few}
 use Rattle.bk_committee.proofs.committee.read_committee.Goals as goal

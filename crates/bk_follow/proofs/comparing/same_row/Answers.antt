@@ -1,5 +1,5 @@
 use Rattle.std.proofs.Common.{[], ◌∷◌, sym, ap, ◌∙◌}
-use Rattle.bk_frames.specs.declared.genesis.Row.{Row}
+use Rattle.bk_base.specs.declared.genesis.Row.{Row}
 use Rattle.bk_follow.proofs.ComparedBooks.{row_of_fields}
 use Rattle.bk_follow.proofs.comparing.same_row.Goals as goal
 

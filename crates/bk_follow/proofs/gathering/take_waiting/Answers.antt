@@ -1,5 +1,5 @@
 use Rattle.std.proofs.Common.{Option, subst}
-use Rattle.bk_frames.specs.declared.version.Version.{Version}
+use Rattle.bk_base.specs.declared.version.Version.{Version}
 use Rattle.bk_frames.specs.Cutting.{frames_in}
 use Rattle.bk_follow.specs.private.Gathering.{CanTake}
 use Rattle.bk_follow.proofs.gathering.take_waiting.Goals as goal

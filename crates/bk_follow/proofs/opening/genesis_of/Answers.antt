@@ -1,8 +1,8 @@
 use Rattle.std.proofs.Common.{sym, ap, ◌∙◌}
 use Rattle.std.specs.Global.{Vec}
 use Rattle.std.specs.Option.{option_map}
-use Rattle.bk_frames.specs.declared.genesis.Row.{Row}
-use Rattle.bk_frames.proofs.Accounts.{rows_are_accounts}
+use Rattle.bk_base.specs.declared.genesis.Row.{Row}
+use Rattle.bk_base.proofs.Accounts.{rows_are_accounts}
 use Rattle.bk_follow.proofs.opening.genesis_of.Goals as goal
 
 pub returns-clause-accounts : goal.returns-clause-accounts

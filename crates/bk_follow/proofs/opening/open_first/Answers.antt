@@ -1,5 +1,5 @@
 use Rattle.std.proofs.Common.{sym, ap, ◌∙◌, subst, List, ℕ, IsTrue}
-use Rattle.bk_frames.specs.Committee.{is_committee}
+use Rattle.bk_base.specs.Committee.{is_committee}
 use Rattle.bk_frames.specs.Cutting.{frames_in}
 use Rattle.bk_committee.specs.Payload.{committee_of}
 use Rattle.bk_follow.proofs.Openings.{first_stands, first_waits, first_opens, none_there, taken_committee}

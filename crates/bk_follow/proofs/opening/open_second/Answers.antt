@@ -1,5 +1,5 @@
 use Rattle.std.proofs.Common.{sym, ◌∙◌, subst, List, ℕ, IsTrue}
-use Rattle.bk_frames.specs.Genesis.{is_genesis}
+use Rattle.bk_base.specs.Genesis.{is_genesis}
 use Rattle.bk_frames.specs.Cutting.{frames_in}
 use Rattle.bk_follow.proofs.Openings.{is_there, none_is_none, second_early, second_waits, second_opens, taken_genesis}
 use Rattle.bk_follow.proofs.opening.open_second.Goals as goal

@@ -2,7 +2,7 @@ use Rattle.std.proofs.Common.{◌+◌, ◌∙◌, List, ℕ, [], ◌∷◌, ◌+
 use Rattle.std.proofs.lemmas.List.{append-nil}
 use Rattle.std.proofs.lemmas.Result.{err_from_is_err_and}
 use Rattle.std.specs.Global.{Vec}
-use Rattle.bk_frames.specs.declared.kind.Kind.{Kind}
+use Rattle.bk_base.specs.declared.kind.Kind.{Kind}
 use Rattle.bk_frames.specs.Cutting.{frames_in}
 use Rattle.bk_frames.specs.private.Parts.{cut_of}
 use Rattle.bk_frames.proofs.CutParts.{nothing_came, step_of, fails_of, taken, pushed_more, refused, fails_soon, fails_here, all_cut, memory_is_no_cut}

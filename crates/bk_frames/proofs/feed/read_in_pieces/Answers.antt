@@ -3,11 +3,11 @@ use Rattle.std.specs.Prelude.{IfOk, IfErr, OnOk}
 use Rattle.std.specs.declared.result.Result.{Result}
 use Rattle.std.specs.Global.{Vec}
 use Rattle.std.proofs.lemmas.Result.{err_from_is_err_and}
-use Rattle.bk_frames.specs.declared.kind.Kind.{Kind}
-use Rattle.bk_frames.specs.declared.version.Version.{Version}
+use Rattle.bk_base.specs.declared.kind.Kind.{Kind}
+use Rattle.bk_base.specs.declared.version.Version.{Version}
 use Rattle.bk_frames.specs.Cutting.{frames_in}
 use Rattle.bk_frames.specs.Device.{Works}
-use Rattle.bk_frames.specs.Feed.{AreGoodFrom}
+use Rattle.bk_base.specs.Feed.{AreGoodFrom}
 use Rattle.bk_frames.specs.Reading.{IsPulled}
 use Rattle.bk_frames.specs.private.Openings.{IsOpening, CallsForAccounts}
 use Rattle.bk_frames.proofs.EarlyGenesis.{accounts_refused, good_frames, opening_stays, none_yet}

@@ -1,7 +1,7 @@
 use Rattle.std.proofs.Common.{◌≡◌, ◌∙◌, ◌+◌, ℕ, [], None, Some, length, refl, sym, ap}
 use Rattle.std.proofs.lemmas.Result.{err_from_is_err_and}
 use Rattle.std.specs.Global.{Vec}
-use Rattle.bk_frames.specs.Feed.{payload_fault}
+use Rattle.bk_frames.specs.FirstFault.{payload_fault}
 use Rattle.bk_frames.specs.Cutting.{IsBegun, fault_at}
 use Rattle.bk_frames.specs.private.Parts.{kept_of, cut_of}
 use Rattle.bk_frames.proofs.FrameFaults.{by_code}

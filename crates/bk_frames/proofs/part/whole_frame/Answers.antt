@@ -1,5 +1,5 @@
 use Rattle.std.proofs.Common.{rules, ◌≡◌}
-use Rattle.bk_frames.specs.Numbers.{IsBytes}
+use Rattle.bk_base.specs.Numbers.{IsBytes}
 use Rattle.bk_frames.proofs.CutParts.{begun_if}
 use Rattle.bk_frames.proofs.part.whole_frame.Goals as goal
 

@@ -1,7 +1,7 @@
 use Rattle.std.proofs.Common.{arith, length, refl, List, ℕ, subst, ap, ◌∙◌, ◌+◌, ◌∷◌}
 use Rattle.std.specs.Int.{w32, to_be_bytes}
 use Rattle.bk_frames.specs.Device.{Receives}
-use Rattle.bk_frames.specs.Feed.{kind_number}
+use Rattle.bk_base.specs.Feed.{kind_number}
 use Rattle.bk_frames.proofs.Devices.{took_header}
 use Rattle.bk_frames.proofs.writing.write_frame.Goals as goal
 

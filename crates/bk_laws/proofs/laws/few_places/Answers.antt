@@ -2,7 +2,7 @@ use Rattle.std.proofs.Common.{List, drop, subst, take}
 use Rattle.std.specs.List.{Contains}
 use Rattle.std.proofs.lemmas.List.{take-append-drop}
 use Rattle.std.proofs.lemmas.List.Elements.{Contains-append_right}
-use Rattle.bk_frames.specs.Feed.{Frame}
+use Rattle.bk_base.specs.Feed.{Frame}
 use Rattle.bk_commit.specs.Growth.{IsPartOf}
 use Rattle.bk_ledger.proofs.Runs.{few_feed_transactions}
 use Rattle.bk_follow.specs.RunReport.{committee_in, later_frames}

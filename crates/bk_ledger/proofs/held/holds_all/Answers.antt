@@ -1,7 +1,7 @@
 use Rattle.std.proofs.Common.{◌≡◌, ℕ, true, None, get_or, sym, subst, arith}
 use mathlib.Core.Logic.{dite}
 use native.Mathlib.Decide.{ℕ_discrete}
-use Rattle.bk_frames.specs.declared.version.Version.TheVariants.{One}
+use Rattle.bk_base.specs.declared.version.Version.TheVariants.{One}
 use Rattle.bk_rules.specs.Part.{is_held}
 use Rattle.bk_ledger.proofs.Enough.{places_held}
 use Rattle.bk_ledger.proofs.held.holds_all.Goals as goal

@@ -1,6 +1,6 @@
 use Rattle.std.proofs.Common.{◌≡◌, true, take}
 use Rattle.std.specs.List.{list_all}
-use Rattle.bk_frames.specs.declared.version.Version.TheVariants.{One}
+use Rattle.bk_base.specs.declared.version.Version.TheVariants.{One}
 use Rattle.bk_tx.specs.declared.declared.Declared.{Declared}
 use Rattle.bk_rules.specs.Part.{is_held_id}
 use Rattle.bk_ledger.proofs.held.holds_declared.Given as goal

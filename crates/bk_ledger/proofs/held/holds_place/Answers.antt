@@ -1,5 +1,5 @@
 use Rattle.std.proofs.Common.{◌≡◌, true, Option, length, refl, ap, subst, arith}
-use Rattle.bk_frames.specs.declared.version.Version.TheVariants.{One}
+use Rattle.bk_base.specs.declared.version.Version.TheVariants.{One}
 use Rattle.bk_tx.specs.Transaction.{Transaction}
 use Rattle.bk_rules.specs.Part.{is_held}
 use Rattle.bk_ledger.proofs.Enough.{place_held}

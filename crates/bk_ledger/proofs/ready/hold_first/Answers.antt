@@ -1,5 +1,5 @@
 use Rattle.std.proofs.Common.{refl}
-use Rattle.bk_frames.specs.declared.version.Version.TheVariants.{Two}
+use Rattle.bk_base.specs.declared.version.Version.TheVariants.{Two}
 use Rattle.bk_ledger.proofs.NextLemmas.{ready_from, read_from}
 use Rattle.bk_ledger.proofs.ready.hold_first.Goals as goal
 

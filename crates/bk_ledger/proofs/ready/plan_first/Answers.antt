@@ -1,5 +1,5 @@
 use Rattle.std.proofs.Common.{refl, ◌∙◌}
-use Rattle.bk_frames.specs.declared.version.Version.TheVariants.{One}
+use Rattle.bk_base.specs.declared.version.Version.TheVariants.{One}
 use Rattle.bk_ledger.proofs.Enough.{covered_in_one}
 use Rattle.bk_ledger.proofs.NextLemmas.{read_from}
 use Rattle.bk_ledger.proofs.ready.plan_first.Goals as goal

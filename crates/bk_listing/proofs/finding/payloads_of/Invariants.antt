@@ -1,7 +1,7 @@
 use Rattle.std.proofs.Common.{◌≡◌, ℕ, map, take}
 use Rattle.std.specs.List.{flat_map}
 use Rattle.std.specs.Global.{Vec}
-use Rattle.bk_frames.specs.declared.kind.Kind.{Kind}
+use Rattle.bk_base.specs.declared.kind.Kind.{Kind}
 use Rattle.bk_listing.specs.private.Rows.{certificate_in, batch_in}
 use Rattle.bk_listing.proofs.finding.payloads_of.Given as goal
 

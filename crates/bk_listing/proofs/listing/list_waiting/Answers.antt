@@ -2,9 +2,9 @@ use Rattle.std.proofs.Common.{â„•, List, length, Option, refl, sym, ap, subst, â
 use Rattle.std.specs.List.{flat_map}
 use Rattle.std.specs.Global.{Vec}
 use Rattle.std.proofs.lemmas.Result.{err_from_is_err_and}
-use Rattle.bk_frames.specs.declared.version.Version.{Version}
-use Rattle.bk_frames.specs.declared.kind.Kind.{Kind}
-use Rattle.bk_frames.specs.Feed.{frame_text}
+use Rattle.bk_base.specs.declared.version.Version.{Version}
+use Rattle.bk_base.specs.declared.kind.Kind.{Kind}
+use Rattle.bk_base.specs.Feed.{frame_text}
 use Rattle.bk_frames.specs.Cutting.{frames_in}
 use Rattle.bk_listing.specs.private.Reading.{CanBe}
 use Rattle.bk_listing.specs.private.Shown.{ListsMore, MoreFails}

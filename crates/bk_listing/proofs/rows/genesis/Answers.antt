@@ -1,9 +1,9 @@
 use Rattle.std.proofs.Common.{List, ◌^◌, ◌<◌, sym, ap, subst, ◌∙◌}
 use Rattle.std.specs.Global.{Vec}
 use Rattle.std.specs.Option.{option_map}
-use Rattle.bk_frames.specs.declared.genesis.Row.{Row}
-use Rattle.bk_frames.specs.Genesis.{total_of}
-use Rattle.bk_frames.proofs.Accounts.{rows_are_accounts}
+use Rattle.bk_base.specs.declared.genesis.Row.{Row}
+use Rattle.bk_base.specs.Genesis.{total_of}
+use Rattle.bk_base.proofs.Accounts.{rows_are_accounts}
 use Rattle.bk_listing.proofs.rows.genesis.Goals as goal
 
 pub money_of-requires : goal.money_of-requires

@@ -1,5 +1,5 @@
 use Rattle.std.proofs.Common.{ℕ, List, ◌<◌, length, sym, subst, arith, rules}
-use Rattle.bk_frames.specs.Feed.{frame_of}
+use Rattle.bk_base.specs.Feed.{frame_of}
 use Rattle.bk_frames.specs.Cutting.{frames_in}
 use Rattle.bk_listing.specs.private.Rows.{IsFound}
 use Rattle.bk_listing.specs.private.Shown.{IsRow}

@@ -1,7 +1,7 @@
 use Rattle.std.proofs.Common.{◌≡◌, ℕ, map, take}
 use Rattle.std.specs.List.{flat_map}
 use Rattle.std.specs.Global.{Vec}
-use Rattle.bk_frames.specs.declared.kind.Kind.{Kind}
+use Rattle.bk_base.specs.declared.kind.Kind.{Kind}
 use Rattle.bk_order.specs.Frames.{certificate_in, batch_in}
 use Rattle.bk_order.proofs.finding.payloads_of.Given as goal
 

@@ -1,7 +1,7 @@
 use Rattle.std.proofs.Common.{◌∙◌, sym, arith, length}
 use Rattle.std.specs.Prelude.{vec_len}
 use Rattle.std.specs.Vec.Iter.{into_iter_items}
-use Rattle.bk_frames.specs.Feed.{frame_of}
+use Rattle.bk_base.specs.Feed.{frame_of}
 use Rattle.bk_frames.specs.Cutting.{frames_in}
 use Rattle.bk_order.proofs.Frames.{length_mapped}
 use Rattle.bk_order.proofs.Groups.{groups_split, taking_starts, taking_can, taking_on, taking_done, none_in, smaller, not_none, is_none}

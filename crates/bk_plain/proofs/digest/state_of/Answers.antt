@@ -1,4 +1,4 @@
-use Rattle.bk_frames.specs.Genesis.{row_text}
+use Rattle.bk_base.specs.Genesis.{row_text}
 use Rattle.bk_plain.proofs.Depths.{one_more}
 use Rattle.bk_plain.proofs.digest.state_of.Goals as goal
 

@@ -1,5 +1,5 @@
 use Rattle.std.proofs.Common.{◌≡◌, map, take}
-use Rattle.bk_frames.specs.Genesis.{row_text}
+use Rattle.bk_base.specs.Genesis.{row_text}
 use Rattle.bk_plain.proofs.digest.state_of.Given as goal
 
 abbrev pub invariant-loop-row : goal.invariant-loop-row

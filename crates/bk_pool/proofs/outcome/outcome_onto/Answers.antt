@@ -2,7 +2,7 @@ use Rattle.std.proofs.Common.{◌^◌, ◌<◌, ◌≡◌, ℕ, List, length, �
 use Rattle.std.proofs.lemmas.List.{length-map}
 use Rattle.bk_rules.specs.declared.account.Account.{Account}
 use Rattle.bk_rules.specs.declared.receipt.Receipt.{Receipt}
-use Rattle.bk_frames.specs.Genesis.{total_of}
+use Rattle.bk_base.specs.Genesis.{total_of}
 use Rattle.bk_rules.specs.Ledger.{ledger_of, rows_shown}
 use Rattle.bk_pool.specs.private.Receipts.{AreAdded, AreNumbers}
 use Rattle.bk_pool.proofs.Ended.{statuses_shown, last_words, numbers_long}

@@ -1,6 +1,6 @@
 use Rattle.std.proofs.Common.{arith}
 use Rattle.std.proofs.lemmas.Result.{err_from_is_err_and}
-use Rattle.bk_frames.specs.declared.genesis.Row.{Row}
+use Rattle.bk_base.specs.declared.genesis.Row.{Row}
 use Rattle.bk_report.specs.declared.line.Line.TheVariants as line
 use Rattle.bk_report.specs.Report.{account_lines}
 use Rattle.bk_report.proofs.LineGroups.{next_put, next_stops, all_put, line_of_item, all_items}

@@ -6,7 +6,7 @@ use Rattle.bk_rules.proofs.Places.{position_is}
 use Rattle.std.proofs.lemmas.List.Quantifiers.{position-Some}
 use Rattle.std.proofs.lemmas.Option.{slice_get-get_or}
 use Rattle.bk_digest.specs.Tree.{path_of, root_of}
-use Rattle.bk_frames.specs.declared.genesis.Row.{Row}
+use Rattle.bk_base.specs.declared.genesis.Row.{Row}
 use Rattle.bk_report.specs.Proofs.{IsAbsent}
 use Rattle.bk_report.proofs.proof.proof_of.Goals as goal
 

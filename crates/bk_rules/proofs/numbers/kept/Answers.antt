@@ -1,5 +1,5 @@
 use Rattle.std.proofs.Common.{map, sym, ap, ◌∙◌}
-use Rattle.bk_frames.specs.declared.version.Version.{Version}
+use Rattle.bk_base.specs.declared.version.Version.{Version}
 use Rattle.bk_rules.specs.private.Slots.{tidied}
 use Rattle.bk_rules.proofs.Words.{tidied_one}
 use Rattle.bk_rules.proofs.numbers.kept.Goals as goal

@@ -1,5 +1,5 @@
 use Rattle.std.proofs.Common.{length-set, refl, ap, ◌∙◌, arith}
-use Rattle.bk_frames.specs.declared.version.Version.TheVariants.{Two}
+use Rattle.bk_base.specs.declared.version.Version.TheVariants.{Two}
 use Rattle.bk_rules.specs.Ledger.{numbers_of}
 use Rattle.bk_rules.specs.private.Slots.{tidied}
 use Rattle.bk_rules.proofs.Words.{tidied_more, tidied_rest, tidied_all}

@@ -1,5 +1,5 @@
 use Rattle.std.proofs.Common.{◌≡◌, ℕ, ◌<◌, ◌≤◌, length, get_or}
-use Rattle.bk_frames.specs.declared.version.Version.TheVariants.{Two}
+use Rattle.bk_base.specs.declared.version.Version.TheVariants.{Two}
 use Rattle.bk_rules.specs.private.Slots.{tidied}
 use Rattle.bk_rules.proofs.Words.{blank}
 use Rattle.bk_rules.proofs.numbers.tidy_all.Given as goal

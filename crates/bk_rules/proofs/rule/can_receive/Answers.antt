@@ -1,6 +1,6 @@
 use Rattle.std.proofs.Common.{ℕ, sym, ap, ◌∙◌}
 use Rattle.std.specs.List.{list_all}
-use Rattle.bk_frames.specs.declared.version.Version.{Version}
+use Rattle.bk_base.specs.declared.version.Version.{Version}
 use Rattle.bk_rules.specs.Rule.{can_receive}
 use Rattle.bk_rules.specs.View.{nth}
 use Rattle.bk_rules.proofs.Settling.{list_all-always}

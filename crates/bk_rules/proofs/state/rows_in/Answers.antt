@@ -1,5 +1,5 @@
 use Rattle.std.proofs.Common.{◌++◌, [], List, Option, get_or, sym, ap₂, ◌∙◌, arith}
-use Rattle.bk_frames.specs.declared.genesis.Row.{Row}
+use Rattle.bk_base.specs.declared.genesis.Row.{Row}
 use Rattle.bk_rules.specs.declared.account.Account.{Account}
 use Rattle.bk_rules.specs.Ledger.{row_before}
 use Rattle.bk_rules.proofs.Words.{rows_more}

@@ -1,6 +1,6 @@
 use Rattle.std.proofs.Common.{◌≡◌, ◌++◌, take}
 use Rattle.std.specs.List.{flat_map}
-use Rattle.bk_frames.specs.Genesis.{row_text}
+use Rattle.bk_base.specs.Genesis.{row_text}
 use Rattle.bk_summary.proofs.payloads.push_rows.Given as goal
 
 abbrev pub invariant-loop-row : goal.invariant-loop-row

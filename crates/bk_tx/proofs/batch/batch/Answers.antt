@@ -2,10 +2,10 @@ use Rattle.std.proofs.Common.{◌≡◌, ◌+◌, ◌++◌, ◌∷◌, [], drop,
 use Rattle.std.proofs.lemmas.List.{map_push}
 use Rattle.std.proofs.lemmas.List.Elements.{All-push}
 use Rattle.bk_tx.specs.Batch.{IsWithin, cut, cuts}
-use Rattle.bk_frames.specs.Numbers.{list_at}
+use Rattle.bk_base.specs.Numbers.{list_at}
 use Rattle.bk_tx.specs.Reading.{text_at}
 use Rattle.bk_tx.proofs.Batches.{end-push, FollowFrom-push, count_missing, no_room, text_void, bytes_left, all_read}
-use Rattle.bk_frames.proofs.Lists.{list_goes_on, list_ends, list_done}
+use Rattle.bk_base.proofs.Lists.{list_goes_on, list_ends, list_done}
 use Rattle.bk_tx.proofs.batch.batch.Goals as goal
 
 pub returns-in_default-clause-exact : goal.returns-in_default-clause-exact

@@ -1,9 +1,9 @@
 use Rattle.std.proofs.Common.{◌≡◌, ◌+◌, ◌*◌, ◌-◌, ◌≤◌, length, drop, All}
 use Rattle.bk_tx.specs.Batch.{IsWithin, cuts, FollowFrom}
 use Rattle.bk_tx.proofs.Batches.{end_of}
-use Rattle.bk_frames.specs.Numbers.{list_at}
+use Rattle.bk_base.specs.Numbers.{list_at}
 use Rattle.bk_tx.specs.Reading.{text_at}
-use Rattle.bk_frames.proofs.Lists.{with_front}
+use Rattle.bk_base.proofs.Lists.{with_front}
 use Rattle.bk_tx.proofs.batch.batch.Given as goal
 
 abbrev pub invariant-loop : goal.invariant-loop

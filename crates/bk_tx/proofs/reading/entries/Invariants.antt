@@ -1,7 +1,7 @@
 use Rattle.std.proofs.Common.{◌≡◌, ◌-◌, length}
-use Rattle.bk_frames.specs.Numbers.{list_at}
+use Rattle.bk_base.specs.Numbers.{list_at}
 use Rattle.bk_tx.specs.Reading.{declared_at}
-use Rattle.bk_frames.proofs.Lists.{with_front}
+use Rattle.bk_base.proofs.Lists.{with_front}
 use Rattle.bk_tx.proofs.reading.entries.Given as goal
 
 abbrev pub invariant-loop : goal.invariant-loop

@@ -1,7 +1,7 @@
 use Rattle.std.proofs.Common.{◌∷◌, [], length, ap, length-append, arith}
-use Rattle.bk_frames.specs.Numbers.{list_at}
+use Rattle.bk_base.specs.Numbers.{list_at}
 use Rattle.bk_tx.specs.Reading.{payment_at}
-use Rattle.bk_frames.proofs.Lists.{list_goes_on, list_ends, list_done}
+use Rattle.bk_base.proofs.Lists.{list_goes_on, list_ends, list_done}
 use Rattle.bk_tx.proofs.reading.payments.Goals as goal
 
 pub push-requires : goal.push-requires

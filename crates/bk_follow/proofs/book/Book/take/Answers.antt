@@ -1,6 +1,6 @@
 use Rattle.std.proofs.Common.{sym, subst}
 use Rattle.bk_frames.specs.Cutting.{frames_in}
-use Rattle.bk_frames.specs.Feed.{feed_of}
+use Rattle.bk_base.specs.Feed.{feed_of}
 use Rattle.bk_follow.specs.Follower.{IsBookOf}
 use Rattle.bk_follow.specs.private.Ledgers.{book_with}
 use Rattle.bk_follow.proofs.Books.{book_more}

@@ -1,6 +1,6 @@
 use Rattle.std.proofs.Common.{◌≡◌, Option, List, sym, ap, subst, ◌∙◌, arith}
 use Rattle.std.specs.Prelude.{Contains, MatchOption}
-use Rattle.bk_frames.specs.declared.genesis.Row.{Row}
+use Rattle.bk_base.specs.declared.genesis.Row.{Row}
 use Rattle.bk_rules.specs.Ledger as rules
 use Rattle.bk_follow.specs.Follower.{Executed}
 use Rattle.bk_follow.specs.Queries.{rows_of_executed, rows_in}

@@ -1,6 +1,6 @@
 use Rattle.std.proofs.Common.{sym, ap, ◌∙◌}
 use Rattle.std.proofs.lemmas.Result.{err_from_is_err_and}
-use Rattle.bk_frames.specs.Feed.{feed_of}
+use Rattle.bk_base.specs.Feed.{feed_of}
 use Rattle.bk_follow.specs.Follower.{Followed}
 use Rattle.bk_follow.specs.private.Parts.{followed}
 use Rattle.bk_follow.proofs.Following.{good_of}

@@ -1,6 +1,6 @@
 use Rattle.std.proofs.Common.{◌++◌, List, ℕ, sym, ap, subst, ◌∙◌}
 use Rattle.std.specs.Global.{Vec}
-use Rattle.bk_frames.specs.declared.kind.Kind.{Kind}
+use Rattle.bk_base.specs.declared.kind.Kind.{Kind}
 use Rattle.bk_frames.specs.Cutting.{Cuts, frames_in}
 use Rattle.bk_frames.proofs.cutter.Cutter.feed.Goals as goal
 

@@ -1,9 +1,9 @@
 use Rattle.std.proofs.Common.{sym, subst, ◌∙◌, List, length, ◌≤◌}
-use Rattle.bk_frames.specs.declared.limits.TheConstants.{MOST_ACCOUNTS}
-use Rattle.bk_frames.specs.declared.genesis.Row.{Row}
+use Rattle.bk_base.specs.declared.limits.TheConstants.{MOST_ACCOUNTS}
+use Rattle.bk_base.specs.declared.genesis.Row.{Row}
 use Rattle.bk_frames.specs.Cutting.{frames_in}
-use Rattle.bk_frames.specs.Genesis.{AreAccounts}
-use Rattle.bk_frames.proofs.Accounts.{genesis_accounts, genesis_few}
+use Rattle.bk_base.specs.Genesis.{AreAccounts}
+use Rattle.bk_base.proofs.Accounts.{genesis_accounts, genesis_few}
 use Rattle.bk_frames.proofs.feed.Feed.genesis.Goals as goal
 
 pub returns-clause-accounts : goal.returns-clause-accounts

@@ -1,5 +1,5 @@
 use Rattle.std.proofs.Common.{◌+◌, List, subst, take_all, arith}
-use Rattle.bk_frames.specs.Feed.{Frame, genesis_of}
+use Rattle.bk_base.specs.Feed.{Frame, genesis_of}
 use Rattle.bk_ledger.specs.private.Slices.{HasRead}
 use Rattle.bk_ledger.proofs.BatchReading.{frame_read, all_run, room_to_run, read_receipts, read_rows}
 use Rattle.bk_ledger.proofs.ledger.Ledger.run_feed.Goals as goal

@@ -1,5 +1,5 @@
 use Rattle.std.proofs.Common.{take}
-use Rattle.bk_frames.specs.Feed.{genesis_of}
+use Rattle.bk_base.specs.Feed.{genesis_of}
 use Rattle.bk_ledger.specs.private.Slices.{HasRead}
 use Rattle.bk_ledger.proofs.ledger.Ledger.run_feed.Given as goal
 

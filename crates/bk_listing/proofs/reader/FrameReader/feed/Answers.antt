@@ -1,6 +1,6 @@
 use Rattle.std.proofs.Common.{ℕ, ◌∙◌, refl, sym, ap, arith, length, length-take}
 use Rattle.std.specs.Global.{Vec}
-use Rattle.bk_frames.specs.declared.kind.Kind.{Kind}
+use Rattle.bk_base.specs.declared.kind.Kind.{Kind}
 use Rattle.bk_frames.specs.Cutting.{Cut}
 use Rattle.std.proofs.lemmas.Result.{err_from_is_err_and}
 use Rattle.bk_listing.proofs.Refusals.{part_refused, seen_fits, fed_whole, fed_part}

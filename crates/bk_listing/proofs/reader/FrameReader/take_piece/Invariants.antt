@@ -1,7 +1,7 @@
 use Rattle.std.proofs.Common.{ℕ, ◌-◌, ◌≤◌, List, ◌++◌, length, take}
-use Rattle.bk_frames.specs.declared.version.Version.{Version}
+use Rattle.bk_base.specs.declared.version.Version.{Version}
 use Rattle.bk_frames.specs.declared.pulling.TheConstants.{PIECE}
-use Rattle.bk_frames.specs.Feed.{Frame}
+use Rattle.bk_base.specs.Feed.{Frame}
 use Rattle.bk_listing.specs.private.Reading.{CanBe, HasCut}
 use Rattle.bk_listing.proofs.reader.FrameReader.take_piece.Given as goal
 

@@ -1,5 +1,5 @@
 use Rattle.std.proofs.Common.{ap}
-use Rattle.bk_frames.specs.Genesis.{ids_of}
+use Rattle.bk_base.specs.Genesis.{ids_of}
 use Rattle.bk_rules.specs.Ledger.{ledger_of}
 use Rattle.bk_rules.proofs.Slots.{slots_of_rows, shows_rows}
 use Rattle.bk_rules.proofs.state.State.new.Goals as goal

@@ -1,7 +1,7 @@
 use Rattle.std.proofs.Common.{IsTrue, sym, ap, subst, ◌∙◌}
 use Rattle.std.specs.Vec.{vec_len}
 use Rattle.std.proofs.lemmas.Bool.{eqb-true}
-use Rattle.bk_frames.specs.Numbers.{is_ascending}
+use Rattle.bk_base.specs.Numbers.{is_ascending}
 use Rattle.bk_rules.specs.Ledger.{Ledger}
 use Rattle.bk_rules.proofs.Widening.{nothing_lacks_prepared, nothing_lacks_covered, prepared_one, covered_one, wider_slots, wider_prepared, wider_covers}
 use Rattle.bk_rules.proofs.state.State.prepare.Goals as goal

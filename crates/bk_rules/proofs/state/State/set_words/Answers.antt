@@ -1,5 +1,5 @@
 use Rattle.std.proofs.Common.{◌≡◌, ◌^◌, ◌<◌, length, sym, ap, subst, take_at, ◌∙◌, arith}
-use Rattle.bk_frames.specs.Genesis.{total_of}
+use Rattle.bk_base.specs.Genesis.{total_of}
 use Rattle.bk_rules.specs.Ledger.{Ledger, ledger_of, rows_shown, in_pairs}
 use Rattle.bk_rules.proofs.Words.{length-pairs, slots_set, shows_set}
 use Rattle.bk_rules.proofs.state.State.set_words.Goals as goal

@@ -2,7 +2,7 @@ use Rattle.std.proofs.Common.{◌≡◌, ◌∷◌, ◌++◌, ◌∙◌, ap, sym
 use Rattle.std.specs.List.{flat_map}
 use Rattle.std.specs.Map.Iter.{deref_pair}
 use Rattle.std.proofs.lemmas.Map.Iter.{rest_more}
-use Rattle.bk_frames.specs.Genesis.{row_text}
+use Rattle.bk_base.specs.Genesis.{row_text}
 use Rattle.bk_script.specs.private.Held.{row_with}
 use Rattle.bk_script.proofs.Held.{row_more}
 use Rattle.bk_script.proofs.accounts.Accounts.put_rows.Goals as goal

@@ -1,5 +1,5 @@
 use Rattle.std.proofs.Common.{ℕ, List, ◌^◌, ◌<◌, sym, ap, ◌∙◌, subst}
-use Rattle.bk_frames.specs.Genesis.{total_of}
+use Rattle.bk_base.specs.Genesis.{total_of}
 use Rattle.bk_rules.specs.Ledger.{rows_shown, in_pairs, ledger_of}
 use Rattle.bk_steps.specs.Machine.{MachineValue}
 use Rattle.bk_steps.specs.private.Machine.{machine_value}

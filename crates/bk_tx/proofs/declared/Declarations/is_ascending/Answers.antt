@@ -1,5 +1,5 @@
 use Rattle.std.proofs.Common.{ℕ, ◌^◌, ◌<◌, List, get_or, ap, subst, ◌∙◌}
-use Rattle.bk_frames.specs.Numbers.{is_ascending}
+use Rattle.bk_base.specs.Numbers.{is_ascending}
 use Rattle.bk_tx.proofs.Pairs.{ids_fit}
 use Rattle.bk_tx.proofs.declared.Declarations.is_ascending.Goals as goal
 

@@ -1,6 +1,6 @@
 use Rattle.std.proofs.Common.{◌≡◌, ltb, List, subst, rules}
 use Rattle.std.proofs.lemmas.List.Sorted.{answers_always}
-use Rattle.bk_frames.specs.Numbers.{is_ascending}
+use Rattle.bk_base.specs.Numbers.{is_ascending}
 use Rattle.bk_tx.specs.declared.payments.Payment.{Payment}
 use Rattle.bk_tx.specs.Access.{receivers_in}
 use Rattle.bk_tx.proofs.Ascending.{ascending_answer}

@@ -1,6 +1,0 @@
-use Rattle.std.proofs.Common.{sym, ◌∙◌, arith}
-use Rattle.bk_frames.proofs.Accounts.{ascending_end}
-use Rattle.bk_frames.proofs.genesis.ids_ascend.Goals as goal
-
-pub returns : goal.returns
-returns c = sym (c.loop-i.invariant ∙ ascending_end c.args.rows.now c.loop-i.i c.loop-i-test.false (omega arith))
