@@ -1,10 +1,8 @@
 -- What a feed replies to a query, read off its frames alone.
-use Rattle.std.specs.Prelude.{◌≡◌, ◌≢◌, ℕ, ◌<◌, List, [], ◌∷◌, ◌++◌, length, take, slice_get, Bool, true, false, Some, None}
+use Rattle.std.specs.Prelude.{◌≡◌, ◌≢◌, ℕ, List, [], ◌∷◌, ◌++◌, slice_get, Bool, true, false, Some, None}
 use Rattle.bk_base.specs.declared.genesis.Row.{Row}
 use Rattle.bk_base.specs.declared.version.Version.{Version}
-use Rattle.bk_frames.specs.Device.{Device, Works, Fails, Receives, IfKnown}
 use Rattle.bk_base.specs.Feed.{FeedValue, genesis_of}
-use Rattle.bk_frames.specs.Pulling.{Refuses}
 use Rattle.bk_committee.specs.Payload.{CommitteeValue, sizes_of}
 use Rattle.bk_cert.specs.Node.{Node}
 use Rattle.bk_order.specs.Frames.{AreCerts}
@@ -12,21 +10,21 @@ use Rattle.bk_order.specs.Orders.{Ordered}
 use Rattle.bk_rules.specs.declared.account.Account.{Account}
 use Rattle.bk_rules.specs.declared.receipt.Receipt.{Receipt}
 use Rattle.bk_rules.specs.Rows.{account_at}
-use Rattle.bk_results.specs.declared.fault.Fault.{Fault}
-use Rattle.bk_results.specs.declared.fault.Fault.TheVariants as fault
 use Rattle.bk_report.specs.declared.line.Line.TheVariants as line
 use Rattle.bk_results.specs.declared.query.Query.{Query}
 use Rattle.bk_results.specs.declared.query.Query.TheVariants as query
 use Rattle.bk_results.specs.declared.query.Reply.{Reply}
 use Rattle.bk_results.specs.declared.query.Reply.TheVariants as reply
-use Rattle.bk_results.specs.Devices.{AreFeedWith, Devices, IsUntouched, NothingHappened}
+use Rattle.bk_results.specs.Devices.{AreFeedWith}
 use Rattle.bk_report.specs.Leaves.{state_of}
 use Rattle.bk_report.specs.Lines.{text_of}
 use Rattle.bk_report.specs.Proofs.{ProofValue, proof_text, IsProofOf, IsAbsent}
 use Rattle.bk_report.specs.RunLines.{anchor_lines, cert_lines}
 use Rattle.bk_tx.specs.Batches.{transactions_of}
-use Rattle.bk_follow.specs.RunReport.{IsStopped, HasPlace, committee_in, later_frames}
-use Rattle.bk_follow.specs.Outcomes.{Outcome, IsOutcomeOf}
+use Rattle.bk_answer.specs.Gaps.{IsGapIn}
+use Rattle.bk_answer.specs.RunReport.{committee_in, later_frames}
+use Rattle.bk_ask.specs.declared.replied.Replied.{Replied}
+use Rattle.bk_answer.specs.Outcomes.{Outcome, IsOutcomeOf}
 use Rattle.bk_views.specs.Anchors.{AreRows, rows_text}
 use Rattle.bk_views.specs.declared.anchors.AnchorRow.{AnchorRow}
 use Rattle.bk_views.specs.Statement.{Course, IsNowhere, IsStatement}
@@ -171,34 +169,7 @@ executes (query.State root) = true
 executes (query.Statement id) = true
 executes other = false
 
--- ---- what a call leaves
-
--- the sink received exactly the text of the reply of bytes
-abbrev pub IsReplied : Query → Reply → List ℕ → Device → Device → Type 0
-IsReplied asked answer bytes old new =
-    (text : List ℕ) × IsReply bytes asked answer text × Receives old new text
-
--- where nothing is found nothing is written, whatever is known of the source
-abbrev pub IsQuiet : Reply → Device → Device → Type 0
-IsQuiet answer old new = answer ≡ reply.Absent → IsUntouched old new
-
--- the first bytes of the text of the reply are out, and not all
-abbrev pub PartOfReplyIsOut : Query → ℕ → Device → Device → List ℕ → Type 0
-PartOfReplyIsOut asked written old new bytes =
-    (answer : Reply) × (text : List ℕ) × IsReply bytes asked answer text × (written < length text)
-    × Receives old new (take written text)
-
--- why there is no reply, by the fault: the source is refused; the feed is stopped; a worker took a place and did not
--- finish it, where places are executed; a call of the sink failed, and exactly the first bytes of the text are out; or memory
--- ran out. But for the sink's failure nothing is written
-abbrev pub AskFailsBy : Query → Fault → Devices → Devices → Type 0
-AskFailsBy asked (fault.Feed found) old new =
-    Refuses found old.source new.source × IsUntouched old.sink new.sink
-AskFailsBy asked (fault.Unfinished place) old new =
-    (executes asked ≡ true) × NothingHappened old new × IfKnown old.source (λ bytes. HasPlace bytes place)
-AskFailsBy asked (fault.Write written) old new =
-    Works old.source new.source × Fails old.sink new.sink
-    × IfKnown old.source (PartOfReplyIsOut asked written old.sink new.sink)
-AskFailsBy asked fault.Memory old new = NothingHappened old new
-AskFailsBy asked stop old new =
-    NothingHappened old new × IfKnown old.source (λ bytes. IsStopped bytes stop)
+-- a feed replies so, and at this missing batch its order stops
+pub record IsRepliedOf (asked : Query) (feed : FeedValue) (end : Replied) (text : List ℕ) : Type 0 where
+  pub reply : IsReplyOf feed asked end.reply text
+  pub gap : IsGapIn feed end.missing

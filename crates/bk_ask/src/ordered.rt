@@ -1,26 +1,30 @@
 //! What a feed whose order was closed replies to a query of its order alone.
 
-ghost use Rattle.std.specs.Prelude.{◌≡◌, ◌^◌, ◌<◌, ◌++◌, [], true, length, OnOk, IfOk, IfErr, IfSome, MatchOption, string_bytes};
+ghost use Rattle.std.specs.Prelude.{◌≡◌, ◌^◌, ◌<◌, ◌++◌, [], true, length, OnOk, IfOk, IfErr, MatchOption, string_bytes};
 ghost use Rattle.bk_frames.specs.Device.{CanBeUsed};
 ghost use Rattle.bk_commit.specs.Ordering.{IsCommitted};
 ghost use Rattle.bk_report.specs.Lines.{text_of};
 ghost use Rattle.bk_report.specs.Pages.{Written, blank};
 ghost use Rattle.bk_report.specs.RunLines.{anchor_lines, cert_lines};
-ghost use Rattle.bk_ask.specs.Asking.{executes, order_text};
+ghost use Rattle.bk_base.specs.Feed.{FeedValue};
+ghost use Rattle.bk_answer.specs.Values.{order_value};
+ghost use Rattle.bk_answer.specs.Answers.{IsOrderMadeOf, WritesAnswer, WritesNot};
+ghost use Rattle.bk_ask.specs.Asking.{IsRepliedOf, executes, order_text};
 ghost use Rattle.bk_ask.specs.private.Replies.{ShowsRows, ShowsView, TextFails, WritesSome};
-ghost use Rattle.bk_ask.specs.private.Replies.{BookShows, BookShowsNot, IsOfOrdered, asked_by};
+ghost use Rattle.bk_ask.specs.private.Replies.{asked_by};
 
+use crate::replied::Replied;
+use bk_answer::{ClosedOrder, OrderAnswer};
 use bk_cert::CertRef;
-use bk_follow::Follower;
 use bk_frames::{Sink, WriteFault, push_all};
 use bk_order::Intake;
 use bk_report::{Page, put_anchors, put_certs};
-use bk_results::{Fault, Query};
+use bk_results::{Fault, Query, Reply};
 use bk_rounds::Rounds;
 use bk_views::{anchor_rows, push_rows};
 use std::alloc::{AllocError, Global};
 
-/// What is read off the order alone.
+/// What is read off the order alone, as what a feed answers.
 #[derive(Clone, Copy)]
 pub(crate) enum View {
     /// The anchors and the certificates in order.
@@ -133,24 +137,42 @@ fn write_view<K: Sink>(
     }
 }
 
-/// Writes a view of a feed that was followed to its end, and whose order was closed.
-pub(crate) fn show_ordered<K: Sink>(
+// Writes a view of a feed whose order was closed. Returns at which missing batch the order stops.
+fn show_view<K: Sink>(
     alloc: Global,
     sink: &mut K,
-    follower: &Follower,
+    order: &ClosedOrder<'_>,
     view: View,
-) -> Result<(), Fault>
+) -> Result<Replied, Fault>
     requires sound { CanBeUsed (K.state sink.old) }
-    requires ordered { IsOfOrdered follower.now.book }
-    ensures shown { OnOk result (IfSome follower.now.book (λ b.
-        BookShows (asked_by view) b (K.state sink.old) (K.state sink.new))) }
-    ensures fault { IfErr result (λ f. IfSome follower.now.book (λ b.
-        BookShowsNot (asked_by view) b (K.state sink.old) (K.state sink.new) f)) }
+    requires closed { (feed : FeedValue) × IsOrderMadeOf (order_value order.now) feed }
+    ensures out { IfOk result (λ end. WritesAnswer (IsOrderMadeOf (order_value order.now))
+        (IsRepliedOf (asked_by view)) end (K.state sink.old) (K.state sink.new)) }
+    ensures fault { IfErr result (λ f. WritesNot (IsOrderMadeOf (order_value order.now))
+        (IsRepliedOf (asked_by view)) f (K.state sink.old) (K.state sink.new)) }
 {
-    let Some(intake) = follower.intake() else {
-        unreachable!()
-    };
-    let rounds = intake.rounds();
-    write_view(alloc, sink, intake, rounds, view)?;
-    Ok(())
+    let rounds = order.rounds();
+    write_view(alloc, sink, order.intake, rounds, view)?;
+    let missing = order.intake.missing().copied();
+    Ok(Replied {
+        reply: Reply::Found,
+        missing,
+    })
+}
+
+impl OrderAnswer for View {
+    type End = Replied;
+
+    ghost can_ask = { λ _. Unit {0} };
+
+    ghost text = { λ v. IsRepliedOf (asked_by v) };
+
+    fn write<K: Sink>(
+        &self,
+        alloc: Global,
+        order: &ClosedOrder<'_>,
+        sink: &mut K,
+    ) -> Result<Replied, Fault> {
+        show_view(alloc, sink, order, *self)
+    }
 }

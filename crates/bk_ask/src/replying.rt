@@ -1,23 +1,27 @@
 //! What a feed that was closed replies to a query for which its batches are executed.
 
-ghost use Rattle.std.specs.Prelude.{◌≡◌, ◌∷◌, [], List, true, false, None, IfOk, IfErr, IfSome, MatchOption, slice_get, string_bytes};
+ghost use Rattle.std.specs.Prelude.{◌≡◌, ◌∷◌, [], List, true, false, None, IfOk, IfErr, MatchOption, slice_get, string_bytes};
 ghost use Rattle.bk_frames.specs.Device.{CanBeUsed};
 ghost use Rattle.bk_base.specs.declared.genesis.Row.{Row};
 ghost use Rattle.bk_rules.specs.Rows.{account_at};
 ghost use Rattle.bk_views.specs.Statement.{IsNowhere, IsStatement};
 ghost use Rattle.bk_views.specs.Told.{IsRun};
-ghost use Rattle.bk_ask.specs.Asking.{Replies, HasText, ShowsAccount, ShowsReceipt, ShowsProof, executes};
+ghost use Rattle.bk_base.specs.Feed.{FeedValue};
+ghost use Rattle.bk_answer.specs.Values.{closed_value};
+ghost use Rattle.bk_answer.specs.Answers.{IsMadeOf, WritesAnswer, WritesNot};
+ghost use Rattle.bk_ask.specs.Asking.{IsRepliedOf, Replies, HasText, ShowsAccount, ShowsReceipt, ShowsProof, executes};
 ghost use Rattle.bk_report.specs.Leaves.{state_of};
 ghost use Rattle.bk_report.specs.Lines.{text_of};
 ghost use Rattle.bk_report.specs.declared.line.Line.TheVariants as line;
 ghost use Rattle.bk_results.specs.declared.query.Query.TheVariants as asked;
 ghost use Rattle.bk_report.specs.Proofs.{IsAbsent};
 ghost use Rattle.bk_ask.specs.private.Replies.{TextFails, IsTextOf, course_in, ending_of};
-ghost use Rattle.bk_ask.specs.private.Replies.{IsOfClosed, WritesFound, WritesReply, BookReplies, BookReplyFails};
+ghost use Rattle.bk_ask.specs.private.Replies.{WritesFound, WritesReply};
 
-use bk_digest::{Digest32, tree_root_with};
-use bk_follow::Follower;
+use crate::replied::Replied;
+use bk_answer::{Answer, Closed};
 use bk_base::Row;
+use bk_digest::{Digest32, tree_root_with};
 use bk_frames::{Sink, push_all};
 use bk_ledger::Ledger;
 use bk_order::Intake;
@@ -274,29 +278,56 @@ fn write_reply<R: Threads + Sync, K: Sink>(
     }
 }
 
-/// Writes the reply of a feed that was followed to its end, and closed.
-pub(crate) fn reply_closed<R: Threads + Sync, K: Sink>(
+// Writes the reply of a feed that was closed. Returns at which missing batch its order stops, too.
+fn reply_closed<R: Threads + Sync, K: Sink>(
     rt: &R,
     alloc: Global,
     sink: &mut K,
-    follower: &Follower,
+    closed: &Closed<'_>,
     query: &Query,
-) -> Result<Reply, Fault>
+) -> Result<Replied, Fault>
     requires sound { CanBeUsed (K.state sink.old) }
     requires executes { executes query.now ≡ true }
-    requires current { IsOfClosed follower.now.book }
-    ensures reply { IfOk result (λ r. IfSome follower.now.book (λ b.
-        BookReplies query.now b (K.state sink.old) (K.state sink.new) r)) }
-    ensures fault { IfErr result (λ f. IfSome follower.now.book (λ b.
-        BookReplyFails query.now b (K.state sink.old) (K.state sink.new) f)) }
+    requires closed { (feed : FeedValue) × IsMadeOf (closed_value closed.now) feed }
+    ensures out { IfOk result (λ end. WritesAnswer (IsMadeOf (closed_value closed.now)) (IsRepliedOf query.now) end
+        (K.state sink.old) (K.state sink.new)) }
+    ensures fault { IfErr result (λ f. WritesNot (IsMadeOf (closed_value closed.now)) (IsRepliedOf query.now) f
+        (K.state sink.old) (K.state sink.new)) }
 {
-    let Some(intake) = follower.intake() else {
-        unreachable!()
-    };
-    let Some(ledger) = follower.ledger() else {
-        unreachable!()
-    };
-    let opening = follower.opening();
-    let reply = write_reply(rt, alloc, sink, intake, opening, ledger, query)?;
-    Ok(reply)
+    let order = &closed.order;
+    let reply = write_reply(
+        rt,
+        alloc,
+        sink,
+        order.intake,
+        order.opening,
+        closed.ledger,
+        query,
+    )?;
+    let missing = order.intake.missing().copied();
+    Ok(Replied { reply, missing })
+}
+
+/// A query for which the batches of the order are executed, as what a feed answers.
+#[derive(Clone, Copy)]
+pub(crate) struct Executed {
+    pub(crate) query: Query,
+}
+
+impl Answer for Executed {
+    type End = Replied;
+
+    ghost can_ask = { λ asked. executes asked.query ≡ true };
+
+    ghost text = { λ asked. IsRepliedOf asked.query };
+
+    fn write<R: Threads + Sync, K: Sink>(
+        &self,
+        rt: &R,
+        alloc: Global,
+        closed: &Closed<'_>,
+        sink: &mut K,
+    ) -> Result<Replied, Fault> {
+        reply_closed(rt, alloc, sink, closed, &self.query)
+    }
 }

@@ -3,7 +3,7 @@
 ghost use Rattle.std.specs.Prelude.{◌≡◌, ◌≤◌, ℕ, List, IfOk, IfErr, OnOk};
 ghost use Rattle.bk_claim.specs.Claims.{AllWork, ClaimFailsBy, IfBothKnown, ShowsVerdict, VerdictIsOut, claim_devices, good};
 ghost use Rattle.bk_claim.specs.private.Judging.{HoldFailsBy, JudgeFailsBy, ShownIsOut};
-ghost use Rattle.bk_follow.specs.RunReport.{IsReport};
+ghost use Rattle.bk_answer.specs.RunReport.{IsReport};
 ghost use Rattle.bk_frames.specs.Device.{CanBeUsed, Works, IfKnown};
 ghost use Rattle.bk_results.specs.Devices.{devices};
 

@@ -23,19 +23,21 @@ use Rattle.bk_results.specs.declared.fault.Fault.{Fault}
 use Rattle.bk_results.specs.declared.fault.Fault.TheVariants as fault
 use Rattle.bk_follow.specs.Agreement.{Agree, AgreeInOrder, OneBeginsFor, HaveOneSetup, frames_together, HaveNoStop, HaveStop, settled_in, OfBoth, FollowersAgree, FollowersDiffer}
 use Rattle.bk_results.specs.Devices.{AreFeed}
-use Rattle.bk_follow.specs.Outcomes.{IsOutcomeOf}
+use Rattle.bk_answer.specs.Outcomes.{IsOutcomeOf}
 use Rattle.bk_compare.specs.FeedAgreement.{FeedsAgree, FeedsCompared, FeedsDiffer, OfTheirFeeds, IfBothKnown, Sources, FollowFails, ComparisonStops, sources}
 use Rattle.bk_compare.specs.declared.compared.Compared.{Compared}
-use Rattle.bk_follow.specs.Gaps.{IsGap, IsGapIn, missing_in}
+use Rattle.bk_answer.specs.Gaps.{IsGap, IsGapIn}
+use Rattle.bk_follow.specs.Queries.{missing_in}
 use Rattle.bk_follow.specs.Finishing.{OfFeed, Closes, CloseFails}
 use Rattle.bk_follow.specs.Follower.{BookValue, Followed, IsCurrent, ordered_in, receipts_of_executed}
 use Rattle.bk_follow.specs.Queries.{rows_of_executed}
 use Rattle.bk_follow.specs.Replaying.{AllHasCome, ReadFails}
-use Rattle.bk_follow.specs.RunReport.{committee_in, later_frames, IsStopIn, HasPlaceIn, HasPlace}
+use Rattle.bk_answer.specs.RunReport.{committee_in, later_frames, IsStopIn, HasPlaceIn, HasPlace}
 use Rattle.bk_compare.specs.private.Ends.{HasStopIn, HasEnded, Ends, EndsNot, AgreesWith, compared_of, ComparisonStopsWith, IsDifferOf}
 use Rattle.bk_follow.specs.Stopping.{stops}
 use Rattle.bk_follow.proofs.ComparedBooks.{version_is}
-use Rattle.bk_follow.proofs.RunAnswers.{of_known, of_feed, cut_short}
+use Rattle.bk_follow.proofs.RunAnswers.{of_known, of_feed, known_of, cut_short}
+use Rattle.bk_answer.specs.Given.{GaveAll}
 
 -- ---- one feed
 
@@ -110,16 +112,16 @@ ends_not fault.Memory old new e h = tt
 -- ---- one source
 
 -- what a source has has ended
-pub source_ended : (known : Device) (v w : Followed) → IfKnown known (λ bytes. AllHasCome bytes v) → Ends v w → IfKnown known (λ bytes. HasEnded bytes w)
-source_ended known v w come ends = of_known known v (λ bytes. HasEnded bytes w) come (λ bytes frames c. ends bytes frames c)
+pub source_ended : (known now : Device) (v w : Followed) → GaveAll known now (λ bytes. AllHasCome bytes v) → Ends v w → IfKnown known (λ bytes. HasEnded bytes w)
+source_ended known now v w come ends = of_known known v (λ bytes. HasEnded bytes w) (known_of known now (λ bytes. AllHasCome bytes v) come) (λ bytes frames c. ends bytes frames c)
 
 -- why it has not
-pub source_not : (f : Fault) (known now : Device) (v : Followed) → Works known now → IfKnown known (λ bytes. AllHasCome bytes v) → EndsNot v f → FollowFails f known now
-source_not (fault.Feed found) known now v works come h = cut_short known now v found works come h
+pub source_not : (f : Fault) (known now : Device) (v : Followed) → Works known now → GaveAll known now (λ bytes. AllHasCome bytes v) → EndsNot v f → FollowFails f known now
+source_not (fault.Feed found) known now v works come h = cut_short known now v found works (known_of known now (λ bytes. AllHasCome bytes v) come) h
 source_not (fault.Collision id) known now v works come h = absurd h
 source_not (fault.Equivocation round author first second) known now v works come h = absurd h
 source_not (fault.Unfinished place) known now v works come h =
-    (works, of_feed known v (λ feed. HasPlaceIn feed place) (λ bytes. HasPlace bytes place) come h (λ bytes feed good spelled there. record { feed = feed; good = good; spelled = spelled; holds = there }))
+    (works, of_feed known v (λ feed. HasPlaceIn feed place) (λ bytes. HasPlace bytes place) (known_of known now (λ bytes. AllHasCome bytes v) come) h (λ bytes feed good spelled there. record { feed = feed; good = good; spelled = spelled; holds = there }))
 source_not (fault.Write written) known now v works come h = absurd h
 source_not fault.Memory known now v works come h = works
 

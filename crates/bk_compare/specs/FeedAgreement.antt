@@ -12,11 +12,11 @@ use Rattle.bk_results.specs.declared.differ.Differ.TheVariants as differ
 use Rattle.bk_results.specs.declared.fault.Fault.{Fault}
 use Rattle.bk_results.specs.declared.fault.Fault.TheVariants as fault
 use Rattle.bk_compare.specs.declared.compared.Compared.{Compared}
-use Rattle.bk_follow.specs.Gaps.{IsGapIn}
+use Rattle.bk_answer.specs.Gaps.{IsGapIn}
 use Rattle.bk_follow.specs.Agreement.{HaveOneSetup, HaveNoStop, HaveStop, Agree}
 use Rattle.bk_results.specs.Devices.{AreFeed}
-use Rattle.bk_follow.specs.Outcomes.{Outcome, IsOutcomeOf}
-use Rattle.bk_follow.specs.RunReport.{HasPlace}
+use Rattle.bk_answer.specs.Outcomes.{Outcome, IsOutcomeOf}
+use Rattle.bk_answer.specs.RunReport.{HasPlace}
 
 -- ---- two feeds
 

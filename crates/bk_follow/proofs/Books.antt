@@ -22,10 +22,11 @@ use Rattle.bk_rules.proofs.Room.{room_left}
 use Rattle.bk_rules.proofs.Folding.{length-receipts, state_append, receipts_append}
 use Rattle.bk_tx.specs.Batches.{transactions_in, transactions_of, count_in}
 use Rattle.bk_ledger.specs.Ledger.{LedgerValue}
-use Rattle.bk_follow.specs.RunReport.{committee_in, later_frames, HasNoStopIn, IsOrderIn, IsStopIn, HasPlaceIn, fault_of}
-use Rattle.bk_follow.specs.Follower.{Executed, BookValue, IsExecuted, OrdersPart, IsBookOf, IsCurrent}
+use Rattle.bk_answer.specs.RunReport.{committee_in, later_frames, HasNoStopIn, IsOrderIn, IsStopIn, HasPlaceIn, fault_of}
+use Rattle.bk_answer.specs.Closed.{Executed, IsExecuted}
+use Rattle.bk_follow.specs.Follower.{BookValue, OrdersPart, IsBookOf, IsCurrent}
 use Rattle.bk_follow.specs.private.Books.{IsGoodBook, BookSettleFails}
-use Rattle.bk_follow.specs.Queries.{executed_of}
+use Rattle.bk_answer.specs.Closed.{executed_of}
 use Rattle.bk_follow.specs.private.Ledgers.{book_with}
 use Rattle.bk_pool.specs.declared.outcome.ExecFault.{ExecFault}
 use Rattle.bk_pool.specs.declared.outcome.ExecFault.TheVariants.{OutOfMemory, Unfinished}
@@ -33,7 +34,7 @@ use Rattle.bk_ledger.specs.Executing.{Leaves}
 use Rattle.bk_follow.specs.private.Ledgers.{fault_of_execution}
 use Rattle.bk_ledger.specs.Naming.{named_by}
 use Rattle.bk_ledger.proofs.Growth.{named-append}
-use Rattle.bk_follow.proofs.Counting.{few_places, few_named}
+use Rattle.bk_answer.proofs.Counting.{few_places, few_named}
 
 -- ---- the opening
 

@@ -8,7 +8,7 @@ use Rattle.bk_results.specs.declared.fault.Fault.TheVariants as fault
 use Rattle.bk_follow.specs.Finishing.{ClosesOrder, CloseOrderFails}
 use Rattle.bk_follow.specs.Follower.{BookValue, Followed, HasCome, executed_in}
 use Rattle.bk_follow.specs.Ordering.{IsOrdered}
-use Rattle.bk_follow.specs.RunReport.{IsStopIn}
+use Rattle.bk_answer.specs.RunReport.{IsStopIn}
 use Rattle.bk_follow.specs.Stopping.{kept_fault}
 use Rattle.bk_follow.specs.private.Books.{IsGoodBook}
 use Rattle.bk_follow.specs.private.Ordered.{BookOrderFails}

@@ -24,7 +24,7 @@ use Rattle.bk_rules.specs.Fold.{state_after, receipts_of}
 use Rattle.bk_rules.proofs.Folding.{length-receipts, receipts_append}
 use Rattle.bk_tx.specs.Transaction.{Transaction}
 use Rattle.bk_tx.specs.Batches.{transactions_in, transactions_of}
-use Rattle.bk_follow.specs.RunReport.{IsOrderIn, committee_in, later_frames}
+use Rattle.bk_answer.specs.RunReport.{IsOrderIn, committee_in, later_frames}
 use Rattle.bk_follow.specs.Follower.{BookValue, Followed, OrdersPart, FollowsBy, Follows, HasCome, OfFrames, receipts_of_executed, receipts_in}
 use Rattle.bk_follow.specs.Queries.{rows_of_executed, rows_in}
 use Rattle.bk_results.specs.declared.differ.Agreed.{Agreed}

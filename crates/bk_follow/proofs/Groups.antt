@@ -13,6 +13,7 @@ use Rattle.bk_frames.specs.Pulling.{Refuses}
 use Rattle.bk_frames.specs.Reading.{IsPulled, Pulls, room_of}
 use Rattle.bk_frames.proofs.CutJoining.{cuts_then}
 use Rattle.bk_frames.proofs.Pulls.{at_end}
+use Rattle.bk_answer.specs.Given.{GaveAll}
 use Rattle.bk_follow.specs.declared.gathering.Gathered.{Gathered}
 use Rattle.bk_follow.specs.private.Gathering.{HasGathered, HasPulled, CanTake, TakesWaiting, CanPull, OfPulled, PullsGroup, HasPulledGroup}
 use Rattle.bk_follow.proofs.Waiting.{can_take, took_all, took_none}
@@ -95,10 +96,6 @@ module _ (a b d : Device) (before mid after : List (Kind × Vec ℕ)) (c0 c1 c2 
     nearer = λ _. omega (arith, less, s.nearer);
   }
 
-  known_pulled : (start : Device) (o : Option (List ℕ)) (frames : List Frame) (bytes : List ℕ) → IsPulled start d bytes frames c2 → IfSome o (λ whole. whole ≡ bytes) → IfSome o (λ whole. IsPulled start d whole frames c2)
-  known_pulled start None frames bytes p h = tt
-  known_pulled start (Some whole) frames bytes p h = subst (λ (t : List ℕ). IsPulled start d t frames c2) (sym h) p
-
   -- the source is at its end
   pub source_ends : n ≡ 0 → ((start : Device) (bytes : List ℕ) (frames : List Frame) → IsPulled start b bytes frames c1 → IfKnown start (λ whole. whole ≡ bytes)) → PullsGroup a d before after c0 c2 true
   source_ends none all = record {
@@ -107,7 +104,7 @@ module _ (a b d : Device) (before mid after : List (Kind × Vec ℕ)) (c0 c1 c2 
     all = λ _ start bytes taken p.
         let q = s.pulls start bytes taken p in
         let r = pulls start (bytes ++ q.1.came) taken q.1.pulled in
-        known_pulled start start.bytes (taken ++ frames_in after) ((bytes ++ q.1.came) ++ r.came) r.pulled (at_end start (bytes ++ q.1.came) r.came (r.counted ∙ none) (all start (bytes ++ q.1.came) (taken ++ frames_in mid) q.1.pulled));
+        ((bytes ++ q.1.came) ++ r.came, at_end start (bytes ++ q.1.came) r.came (r.counted ∙ none) (all start (bytes ++ q.1.came) (taken ++ frames_in mid) q.1.pulled), r.pulled);
     nearer = λ going. absurd cc;
   }
 
@@ -170,15 +167,13 @@ module _ (now later : Device) (g new : Gathered) (empty : Vec (Kind × Vec ℕ))
         let q = group.pulls start w.bytes w.taken (cut_so_far start now between w) in
         piece_came start now later between new group.cuts.0 q.0 w q.1 group.cuts.1 refl
 
-    known_whole : (start : Device) (o : Option (List ℕ)) (bytes : List ℕ) (taken : List Frame) → HasGathered bytes taken new → IfSome o (λ whole. IsPulled start later whole (taken ++ frames_in new.frames.items) new.cutter) → IfSome o (λ whole. (more : List Frame) × HasGathered whole more new)
-    known_whole start None bytes taken come h = tt
-    known_whole start (Some whole) bytes taken come h = (taken, record { cuts = h.cuts; is_open = h.is_open; reads = h.reads; follows = come.follows })
-
-    pub all_gathered : end ≡ true → (start : Device) → HasPulled start now g → IfKnown start (λ bytes. (taken : List Frame) × HasGathered bytes taken new)
+    pub all_gathered : end ≡ true → (start : Device) → HasPulled start now g → GaveAll start later (λ bytes. (taken : List Frame) × HasGathered bytes taken new)
     all_gathered ended start p =
         let w = taken_now start now g between p (takes_them version known takes) in
         let q = group.pulls start w.bytes w.taken (cut_so_far start now between w) in
-        known_whole start start.bytes (w.bytes ++ q.1.came) w.taken (gathered_more start later w.bytes w.taken between new group.cuts.0 q.0 w.come q.1 group.cuts.1 refl) (group.all ended start w.bytes w.taken (cut_so_far start now between w))
+        let come = gathered_more start later w.bytes w.taken between new group.cuts.0 q.0 w.come q.1 group.cuts.1 refl in
+        let e = group.all ended start w.bytes w.taken (cut_so_far start now between w) in
+        (e.0, e.2.gave, e.1, (w.taken, record { cuts = e.2.cuts; is_open = e.2.is_open; reads = e.2.reads; follows = come.follows }))
 
   pub group_works : (start : Device) → HasPulled start now g → Works start later
   group_works start p = (group.pulls start p.bytes (p.taken ++ frames_in g.frames.items) (taken_out start now g empty.items p none)).1.pulled.works

@@ -1,10 +1,9 @@
-pub mod Counting
 pub mod Books
 pub mod Openings
 pub mod Waiting
 pub mod Pulled
 pub mod RunAnswers
-pub mod BookReports
+pub mod ClosedBooks
 pub mod Following
 pub mod QueryStops
 pub mod OrderSoFar

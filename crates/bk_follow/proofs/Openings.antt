@@ -15,7 +15,7 @@ use Rattle.bk_frames.specs.Cutting.{Cut, Cuts, in_magic, past_magic, in_frames, 
 use Rattle.bk_frames.proofs.CutJoining.{cuts_then, bytes_so_far, none_before_magic}
 use Rattle.bk_committee.specs.Payload.{CommitteeValue, committee_of}
 use Rattle.bk_order.specs.Intake.{nothing_ordered}
-use Rattle.bk_follow.specs.RunReport.{committee_in, later_frames}
+use Rattle.bk_answer.specs.RunReport.{committee_in, later_frames}
 use Rattle.bk_follow.specs.Follower.{BookValue, IsBookOf, FollowsBy, Follows, HasCome, Followed, receipts_of_executed, ordered_in, receipts_in, executed_in}
 use Rattle.bk_follow.specs.private.Books.{HasFollowed}
 use Rattle.bk_follow.specs.private.Openings.{HeadIsCommittee, HeadIsGenesis, IsFirstOf, IsOpening, OpensFirst, OpensSecond, IsOpened}

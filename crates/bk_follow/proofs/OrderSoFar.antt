@@ -12,7 +12,7 @@ use Rattle.bk_results.specs.declared.fault.Fault.{Fault}
 use Rattle.bk_results.specs.declared.fault.Fault.TheVariants as fault
 use Rattle.bk_ledger.specs.Ledger.{LedgerValue}
 use Rattle.bk_follow.specs.Follower.{BookValue, Followed, FollowsBy, Follows, HasCome, executed_in}
-use Rattle.bk_follow.specs.RunReport.{later_frames}
+use Rattle.bk_answer.specs.RunReport.{later_frames}
 use Rattle.bk_follow.specs.Ordering.{FindsOrder, IsOrdered, OrderFails, anchors_in, certs_in}
 use Rattle.bk_follow.specs.Queries.{QueryFails}
 use Rattle.bk_follow.specs.private.Books.{IsGoodBook, BookSettleFails}

@@ -7,6 +7,7 @@ use Rattle.bk_base.specs.Feed.{Frame}
 use Rattle.bk_frames.specs.Cutting.{CutsInto, frames_in}
 use Rattle.bk_frames.specs.Reading.{IsPulled, Pulls}
 use Rattle.bk_frames.proofs.Pulls.{at_end}
+use Rattle.bk_answer.specs.Given.{GaveAll}
 use Rattle.bk_follow.specs.Follower.{Followed, HasCome}
 use Rattle.bk_follow.specs.private.Gathering.{HasGathered, HasPulled, IsAllOf}
 use Rattle.bk_follow.specs.declared.gathering.Gathered.{Gathered}
@@ -50,28 +51,12 @@ taken_now start now g w p takes = record {
   come = takes p.bytes p.taken p.come;
 }
 
-known_come : (a : Option (List ℕ)) (bytes : List ℕ) (taken : List Frame) (w : Gathered) → HasGathered bytes taken w → IfSome a (λ whole. whole ≡ bytes) → IfSome a (λ whole. (more : List Frame) × HasGathered whole more w)
-known_come None bytes taken w come all = tt
-known_come (Some whole) bytes taken w come all = (taken, subst (λ (t : List ℕ). HasGathered t taken w) (sym all) come)
-
--- nothing came: the source is at its end
-pub all_come_here : (start later : Device) (bytes : List ℕ) (taken : List Frame) (w : Gathered) (n : ℕ) → (q : Pulls start later bytes (taken ++ frames_in w.frames.items) w.cutter n) → n ≡ 0 → IfKnown start (λ whole. whole ≡ bytes) → HasGathered (bytes ++ q.came) taken w
-    → IfKnown start (λ all. (more : List Frame) × HasGathered all more w)
-all_come_here start later bytes taken w n q none all come = known_come start.bytes (bytes ++ q.came) taken w come (at_end start bytes q.came (q.counted ∙ none) all)
-
-take_known : (a : Option (List ℕ)) (g w : Gathered) → ((bytes : List ℕ) (taken : List Frame) → HasGathered bytes taken g → HasGathered bytes (taken ++ frames_in g.frames.items) w) → IfSome a (λ bytes. (taken : List Frame) × HasGathered bytes taken g)
-    → IfSome a (λ bytes. (taken : List Frame) × HasGathered bytes taken w)
-take_known None g w takes all = tt
-take_known (Some bytes) g w takes all = (all.0 ++ frames_in g.frames.items, takes bytes all.0 all.1)
-
-pub all_taken : (start : Device) (g w : Gathered) → ((bytes : List ℕ) (taken : List Frame) → HasGathered bytes taken g → HasGathered bytes (taken ++ frames_in g.frames.items) w) → w.frames.items ≡ [] → IfKnown start (λ bytes. (taken : List Frame) × HasGathered bytes taken g) → IsAllOf start w
-all_taken start g w takes none all = record { none_waits = none; all = take_known start.bytes g w takes all }
+pub all_taken : (start now : Device) (g w : Gathered) → ((bytes : List ℕ) (taken : List Frame) → HasGathered bytes taken g → HasGathered bytes (taken ++ frames_in g.frames.items) w) → w.frames.items ≡ []
+    → GaveAll start now (λ bytes. (taken : List Frame) × HasGathered bytes taken g) → IsAllOf start now w
+all_taken start now g w takes none (given, gives, whole, (taken, come)) =
+    record { none_waits = none; all = (given, gives, whole, (taken ++ frames_in g.frames.items, takes given taken come)) }
 
 -- what was gathered has come
-pub all_come : (start : Device) (v : Gathered) (done : Followed) → IfKnown start (λ bytes. (taken : List Frame) × HasGathered bytes taken v) → ((bytes : List ℕ) (taken : List Frame) → HasGathered bytes taken v → HasCome bytes taken done)
-    → IfKnown start (λ bytes. AllHasCome bytes done)
-all_come start v done all come = by_known start.bytes all
-  where
-    by_known : (a : Option (List ℕ)) → IfSome a (λ bytes. (taken : List Frame) × HasGathered bytes taken v) → IfSome a (λ bytes. AllHasCome bytes done)
-    by_known None h = tt
-    by_known (Some bytes) h = (h.0, come bytes h.0 h.1)
+pub all_come : (start now : Device) (v : Gathered) (done : Followed) → GaveAll start now (λ bytes. (taken : List Frame) × HasGathered bytes taken v) → ((bytes : List ℕ) (taken : List Frame) → HasGathered bytes taken v → HasCome bytes taken done)
+    → GaveAll start now (λ bytes. AllHasCome bytes done)
+all_come start now v done (given, gives, whole, (taken, h)) come = (given, gives, whole, (taken, come given taken h))

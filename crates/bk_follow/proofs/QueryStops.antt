@@ -4,7 +4,7 @@ use Rattle.bk_base.specs.declared.version.Version.{Version}
 use Rattle.bk_base.specs.Feed.{Frame, FeedValue, feed_of}
 use Rattle.bk_results.specs.declared.fault.Fault.{Fault}
 use Rattle.bk_results.specs.declared.fault.Fault.TheVariants as fault
-use Rattle.bk_follow.specs.RunReport.{HasNoStopIn, IsStopIn}
+use Rattle.bk_answer.specs.RunReport.{HasNoStopIn, IsStopIn}
 use Rattle.bk_follow.specs.Follower.{BookValue, Followed, FollowsBy, Follows}
 use Rattle.bk_follow.specs.Queries.{NothingStops, IsStopSoFar}
 use Rattle.bk_follow.specs.Ordering.{OrderFails}

@@ -8,13 +8,13 @@ use Rattle.bk_order.specs.Orders.{Ordered}
 use Rattle.bk_order.specs.Stops.{HasNoStop, IsStop}
 use Rattle.bk_order.specs.declared.stop.Stop.{Stop}
 use Rattle.bk_order.specs.declared.stop.Stop.TheVariants as stop
-use Rattle.bk_follow.specs.Outcomes.{Outcome}
+use Rattle.bk_answer.specs.Outcomes.{Outcome}
 use Rattle.bk_results.specs.declared.differ.Agreed.{Agreed}
 use Rattle.bk_results.specs.declared.differ.Differ.{Differ}
 use Rattle.bk_results.specs.declared.differ.Differ.TheVariants as differ
 use Rattle.bk_follow.specs.Follower.{BookValue, Followed, HasCome, OfFrames, ordered_in, receipts_in}
 use Rattle.bk_follow.specs.Queries.{rows_in}
-use Rattle.bk_follow.specs.RunReport.{IsOrderIn, committee_in, later_frames}
+use Rattle.bk_answer.specs.RunReport.{IsOrderIn, committee_in, later_frames}
 
 -- ---- two lists
 

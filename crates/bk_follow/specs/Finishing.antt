@@ -1,6 +1,6 @@
 -- What the end of a feed that is followed gives.
-use Rattle.std.specs.Prelude.{◌≡◌, ℕ, ◌<◌, List, length, take, Some}
-use Rattle.bk_frames.specs.Device.{Device, Works, Fails, Receives}
+use Rattle.std.specs.Prelude.{◌≡◌, ℕ, List, Some}
+use Rattle.bk_frames.specs.Device.{Device, Works, Fails}
 use Rattle.bk_base.specs.Feed.{Frame, FeedValue, IsFeed, feed_of, spelling}
 use Rattle.bk_base.specs.declared.version.Version.{Version}
 use Rattle.bk_frames.specs.Cutting.{EndsShort}
@@ -8,23 +8,10 @@ use Rattle.bk_results.specs.declared.fault.Fault.{Fault}
 use Rattle.bk_results.specs.declared.fault.Fault.TheVariants as fault
 use Rattle.bk_results.specs.declared.status.Status.{Status}
 use Rattle.bk_results.specs.Devices.{IsUntouched}
-use Rattle.bk_follow.specs.RunReport.{IsReportOf, IsStopIn, HasPlaceIn}
+use Rattle.bk_answer.specs.Answers.{TextIsOut, TextStops}
+use Rattle.bk_answer.specs.RunReport.{report_text, IsStopIn, HasPlaceIn}
 use Rattle.bk_follow.specs.Follower.{BookValue, Followed, HasCome, IsCurrent, IsSettled, executed_in}
 use Rattle.bk_follow.specs.Ordering.{IsOrdered}
-
--- the sink received the whole report of a feed
-pub record ReportIsOut (feed : FeedValue) (answer : Status) (old new : Device) : Type 0 where
-  pub text : List ℕ
-  pub report : IsReportOf feed text answer
-  pub gave : Receives old new text
-
--- the sink received the first bytes of it, and not all
-pub record ReportStops (feed : FeedValue) (written : ℕ) (old new : Device) : Type 0 where
-  pub text : List ℕ
-  pub answer : Status
-  pub report : IsReportOf feed text answer
-  pub some : written < length text
-  pub gave : Receives old new (take written text)
 
 -- what has come is a feed, and this holds of it
 pub record EndsAs (bytes : List ℕ) (frames : List Frame) (v : Followed) (P : FeedValue → Type 0) : Type 0 where
@@ -78,7 +65,7 @@ pub record Finishes (old new : Followed) (before after : Device) (answer : Statu
   pub settled : (bytes : List ℕ) (frames : List Frame) → HasCome bytes frames old
       → HasCome bytes frames new × IsSettled frames new
   pub cut : new.cut ≡ old.cut
-  pub report : OfFeed old (λ feed. ReportIsOut feed answer before after)
+  pub report : OfFeed old (λ feed. TextIsOut (report_text feed answer) before after)
   pub works : Works before after
 
 -- why there is no report, and what it leaves: the bytes end too early; the stop of the feed, and then all is as it was; a
@@ -91,7 +78,7 @@ FinishFails old new before after (fault.Unfinished place) =
     OfFeed old (λ feed. HasPlaceIn feed place) × (new.fault ≡ Some (fault.Unfinished place))
     × IsUntouched before after
 FinishFails old new before after (fault.Write written) =
-    OfFeed old (λ feed. ReportStops feed written before after) × (new.fault ≡ Some (fault.Write written))
+    OfFeed old (λ feed. (answer : Status) × TextStops (report_text feed answer) written before after) × (new.fault ≡ Some (fault.Write written))
     × Fails before after
 FinishFails old new before after fault.Memory = (new.fault ≡ Some fault.Memory) × IsUntouched before after
 FinishFails old new before after stop =

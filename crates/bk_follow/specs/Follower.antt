@@ -14,16 +14,8 @@ use Rattle.bk_results.specs.declared.fault.Fault.{Fault}
 use Rattle.bk_results.specs.declared.fault.Fault.TheVariants as fault
 use Rattle.bk_ledger.specs.Naming.{named_by}
 use Rattle.bk_tx.specs.Batches.{count_in, transactions_of}
-use Rattle.bk_follow.specs.RunReport.{committee_in, later_frames, HasNoStopIn, IsOrderIn, IsStopIn, HasPlaceIn}
-
--- what executing batches gave: how many transactions each holds, None where it is void; what became of each
--- transaction; the accounts after them; and how many accounts have a slot
-pub record Executed : Type 0 where
-  pub version : Version
-  pub counts : List (Option ℕ)
-  pub receipts : List Receipt
-  pub rows : List Row
-  pub slots : ℕ
+use Rattle.bk_answer.specs.Closed.{Executed, IsExecuted}
+use Rattle.bk_answer.specs.RunReport.{committee_in, later_frames, HasNoStopIn, IsOrderIn, IsStopIn, HasPlaceIn}
 
 -- what is made of the frames of a feed: the opening accounts; what was taken of the frames after the genesis, with their
 -- order as it was settled last; and what executing its batches gave, None once that failed
@@ -43,14 +35,6 @@ pub record Followed : Type 0 where
 -- before the first byte
 abbrev pub unfed : Followed
 unfed = record { cut = fresh; committee = None; book = None; fault = None }
-
--- executing the batches of an order, from the opening accounts of a feed, gives this
-pub record IsExecuted (feed : FeedValue) (o : Ordered) (e : Executed) : Type 0 where
-  pub version : e.version ≡ feed.version
-  pub counts : e.counts ≡ map count_in o.payloads.list
-  pub receipts : e.receipts ≡ receipts_of feed.version (transactions_of o.payloads.list) (genesis_of feed.frames)
-  pub rows : e.rows ≡ state_after feed.version (transactions_of o.payloads.list) (genesis_of feed.frames)
-  pub slots : e.slots ≤ length (genesis_of feed.frames) + named_by (transactions_of o.payloads.list)
 
 -- the order of a part of the frames of a feed
 pub record OrdersPart (feed : FeedValue) (o : Ordered) : Type 0 where

@@ -1,11 +1,8 @@
-pub mod RunReport
 pub mod Follower
 pub mod Finishing
-pub mod Gaps
 pub mod Stopping
 pub mod Queries
 pub mod Ordering
 pub mod Replaying
-pub mod Outcomes
 pub mod Agreement
 pub mod private

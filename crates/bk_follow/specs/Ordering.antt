@@ -6,7 +6,7 @@ use Rattle.bk_order.specs.Orders.{Ordered}
 use Rattle.bk_cert.specs.declared.place.CertRef.{CertRef}
 use Rattle.bk_results.specs.declared.fault.Fault.{Fault}
 use Rattle.bk_results.specs.declared.fault.Fault.TheVariants as fault
-use Rattle.bk_follow.specs.RunReport.{HasNoStopIn, IsOrderIn, IsStopIn}
+use Rattle.bk_answer.specs.RunReport.{HasNoStopIn, IsOrderIn, IsStopIn}
 use Rattle.bk_follow.specs.Follower.{BookValue, Followed, HasCome, IsBookOf, OfFrames, executed_in}
 
 -- this is made of the frames of a feed that nothing stops, and has the order of all of them

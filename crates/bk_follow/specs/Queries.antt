@@ -5,19 +5,10 @@ use Rattle.bk_base.specs.declared.genesis.Row.{Row}
 use Rattle.bk_base.specs.Feed.{Frame, feed_of}
 use Rattle.bk_results.specs.declared.fault.Fault.{Fault}
 use Rattle.bk_results.specs.declared.fault.Fault.TheVariants as fault
-use Rattle.bk_ledger.specs.Ledger.{LedgerValue}
-use Rattle.bk_follow.specs.RunReport.{HasNoStopIn, IsStopIn}
-use Rattle.bk_follow.specs.Follower.{Executed, BookValue, Followed, HasCome, OfFrames, executed_in}
-
--- what a ledger has executed
-abbrev pub executed_of : LedgerValue → Executed
-executed_of l = record {
-  version = l.state.version;
-  counts = l.counts;
-  receipts = l.receipts;
-  rows = l.state.rows;
-  slots = length l.state.slots;
-}
+use Rattle.bk_answer.specs.Closed.{ClosedValue, OrderValue, executed_of}
+use Rattle.bk_answer.specs.RunReport.{HasNoStopIn, IsStopIn}
+use Rattle.bk_answer.specs.Closed.{Executed}
+use Rattle.bk_follow.specs.Follower.{BookValue, Followed, HasCome, OfFrames, executed_in, ordered_in}
 
 -- the accounts after what was executed
 abbrev pub rows_of_executed : Option Executed → List Row
@@ -32,6 +23,14 @@ rows_in book = rows_of_executed (executed_in book)
 abbrev pub opening_in : Option BookValue → List Row
 opening_in None = []
 opening_in (Some b) = b.opening
+
+-- at which missing batch an order stops, as it was settled last
+abbrev pub missing_in : Option BookValue → Option (List ℕ)
+missing_in book = (ordered_in book).payloads.missing
+
+-- the order of a book: its opening accounts and what was taken
+abbrev pub order_of : BookValue → OrderValue
+order_of b = record { opening = b.opening; taken = b.taken }
 
 -- nothing stops the whole frames so far, once the genesis is one of them
 abbrev pub NothingStops : Followed → Type 0
@@ -54,3 +53,8 @@ QueryFails v (fault.Unfinished place) = ⊥
 QueryFails v (fault.Write written) = ⊥
 QueryFails v fault.Memory = Unit {0}
 QueryFails v stop = OfFrames v (λ feed. IsStopIn feed stop)
+
+-- this is the order of a book, and what it has executed
+pub record IsClosedBook (b : BookValue) (c : ClosedValue) : Type 0 where
+  pub order : c.order ≡ order_of b
+  pub executed : b.executed ≡ Some (executed_of c.ledger)

@@ -1,5 +1,6 @@
 pub mod Ledgers
 pub mod Books
+pub mod Answering
 pub mod Parts
 pub mod Openings
 pub mod Ordered

@@ -1,25 +1,31 @@
 //! What is made of the frames of a feed: their order, and what executing its batches gave.
 
-ghost use Rattle.std.specs.Prelude.{◌≡◌, ◌+◌, ◌^◌, ◌<◌, ◌≤◌, ◌++◌, [], ℕ, List, false, drop, length, map, Some, OnOk, IfOk, IfErr};
+ghost use Rattle.std.specs.Prelude.{◌≡◌, ◌+◌, ◌^◌, ◌<◌, ◌≤◌, ◌++◌, [], ℕ, List, false, drop, length, map, None, Some, OnOk, IfOk, IfErr, MatchOption};
 ghost use Rattle.bk_base.specs.declared.version.Version.{Version};
 ghost use Rattle.bk_frames.specs.Cutting.{frames_in};
-ghost use Rattle.bk_base.specs.Feed.{Frame, FeedValue, feed_of, genesis_of};
+ghost use Rattle.bk_base.specs.Feed.{Frame, FeedValue, IsFeed, feed_of, genesis_of};
+ghost use Rattle.bk_frames.specs.Device.{CanBeUsed};
 ghost use Rattle.bk_base.specs.Genesis.{AreAccounts};
 ghost use Rattle.bk_order.specs.Intake.{nothing_ordered};
-ghost use Rattle.bk_follow.specs.RunReport.{committee_in, later_frames, HasNoStopIn, IsStopIn};
+ghost use Rattle.bk_answer.specs.RunReport.{committee_in, later_frames, HasNoStopIn, IsStopIn};
 ghost use Rattle.bk_follow.specs.Follower.{IsBookOf, IsCurrent, receipts_of_executed};
 ghost use Rattle.bk_rules.specs.Fold.{HasRoom};
 ghost use Rattle.bk_ledger.specs.Executing.{HasExecuted};
 ghost use Rattle.bk_ledger.specs.Naming.{named_by};
-ghost use Rattle.bk_follow.specs.private.Books.{IsGoodBook, BookSettleFails};
+ghost use Rattle.bk_follow.specs.private.Books.{IsGoodBook, BookSettleFails, WritesBook, WriteFails};
+ghost use Rattle.bk_answer.specs.Values.{closed_value, order_value};
+ghost use Rattle.bk_follow.specs.Queries.{IsClosedBook, order_of};
 ghost use Rattle.bk_follow.specs.private.Ledgers.{LeavesBy, left_after};
 
 use crate::fault::{Fault, stopped, unexecuted};
-use bk_committee::Committee;
+use bk_answer::{Answer, Closed, ClosedOrder, Report};
 use bk_base::{Kind, Row};
+use bk_committee::Committee;
+use bk_frames::Sink;
 use bk_ledger::Ledger;
 use bk_order::Intake;
 use bk_pool::Gate;
+use bk_results::Status;
 use std::alloc::{AllocError, Global};
 use std::marker::Model;
 use std::sync::Wait;
@@ -139,6 +145,49 @@ impl Book {
             Some(stop) => Err(stopped(stop)),
             None => Ok(()),
         }
+    }
+
+    /// The order, as it was settled last.
+    pub(crate) fn order(&self) -> ClosedOrder<'_>
+        ensures { order_value result ≡ order_of self.now }
+    {
+        ClosedOrder {
+            intake: &self.intake,
+            opening: &self.opening,
+        }
+    }
+
+    /// The order and what was executed; `None` once an execution failed.
+    pub(crate) fn closed(&self) -> Option<Closed<'_>>
+        ensures { MatchOption result (self.now.executed ≡ None)
+            (λ c. IsClosedBook self.now (closed_value c)) }
+    {
+        match &self.ledger {
+            Some(ledger) => Some(Closed {
+                order: self.order(),
+                ledger,
+            }),
+            None => None,
+        }
+    }
+
+    /// Writes the report of the feed whose frames these are, all of them settled.
+    pub(crate) fn write<R: Threads + Sync, K: Sink>(
+        &self,
+        rt: &R,
+        sink: &mut K,
+    ) -> Result<Status, Fault>
+        requires sound { CanBeUsed (K.state sink.old) }
+        requires current { (feed : FeedValue) × IsFeed feed × IsCurrent feed self.now }
+        ensures report { IfOk result (WritesBook self.now
+            (K.state sink.old) (K.state sink.new)) }
+        ensures fault { IfErr result (WriteFails self.now
+            (K.state sink.old) (K.state sink.new)) }
+    {
+        let Some(closed) = self.closed() else {
+            unreachable!()
+        };
+        Report.write(rt, self.alloc, &closed, sink)
     }
 
     /// Settles the order of the frames so far, and executes the batches that it adds. Returns how many places that is.

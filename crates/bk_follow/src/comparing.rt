@@ -8,8 +8,8 @@ ghost use Rattle.bk_follow.specs.private.Comparing.{BooksAgree, BooksDiffer, Hav
 use crate::book::Book;
 use crate::differ::{Agreed, Differ, differing};
 use crate::follower::Follower;
-use bk_committee::Committee;
 use bk_base::{Row, Version};
+use bk_committee::Committee;
 
 // The lesser of two numbers.
 fn lesser(one: usize, other: usize) -> usize

@@ -1,7 +1,7 @@
 //! The fault that a stop is.
 
 ghost use Rattle.std.specs.Prelude.{◌≡◌};
-ghost use Rattle.bk_follow.specs.RunReport.{fault_of};
+ghost use Rattle.bk_answer.specs.RunReport.{fault_of};
 ghost use Rattle.bk_follow.specs.private.Ledgers.{fault_of_execution};
 
 use bk_evidence::Evidence;

@@ -2,7 +2,8 @@
 
 ghost use Rattle.std.specs.Prelude.{◌≡◌, ◌++◌, ◌<◌, ◌≤◌, [], ℕ, List, length, None, OnOk, IfOk, IfErr, IsTrue, false};
 ghost use Rattle.bk_frames.specs.Cutting.{fresh, frames_in};
-ghost use Rattle.bk_frames.specs.Device.{Device, CanBeUsed, IfKnown};
+ghost use Rattle.bk_frames.specs.Device.{Device, CanBeUsed};
+ghost use Rattle.bk_answer.specs.Given.{GaveAll};
 ghost use Rattle.bk_frames.specs.Reading.{room_of};
 ghost use Rattle.bk_frames.specs.declared.pulling.TheConstants.{PIECE};
 ghost use Rattle.bk_base.specs.Feed.{Frame};
@@ -151,7 +152,8 @@ impl Gathered {
             → HasPulled start (S.state source.new) self.new) }
         ensures all { IfOk result (λ end. IsTrue end → (start : Device)
             → HasPulled start (S.state source.old) self.old
-            → IfKnown start (λ bytes. (taken : List Frame) × HasGathered bytes taken self.new)) }
+            → GaveAll start (S.state source.new)
+            (λ bytes. (taken : List Frame) × HasGathered bytes taken self.new)) }
         ensures nearer { IfOk result (λ end. end ≡ false
             → room_of self.new.cutter < room_of self.old.cutter) }
         ensures fault { IfErr result (λ f. (start : Device)

@@ -4,6 +4,7 @@
 //! a source to its end and writes the report: exactly the text that the definitions read off the feed.
 #![tactic(auto)]
 
+mod answering;
 mod book;
 mod comparing;
 mod differ;
@@ -15,8 +16,8 @@ mod order;
 mod pulling;
 mod queries;
 mod replaying;
-mod writing;
 
+pub use answering::{answer_by_ledger, answer_by_order};
 pub use follower::{Follower, is_stop};
 pub use order::Order;
 pub use replaying::replay;

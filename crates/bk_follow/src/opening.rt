@@ -14,8 +14,8 @@ ghost use Rattle.bk_follow.specs.private.Parts.{followed};
 
 use crate::book::Book;
 use crate::fault::Fault;
-use bk_committee::{Bad, Committee};
 use bk_base::{Kind, Row, Version, read_genesis};
+use bk_committee::{Bad, Committee};
 use bk_frames::Cutter;
 use std::alloc::{AllocError, Global};
 use std::thread::Threads;

@@ -4,14 +4,17 @@ ghost use Rattle.std.specs.Prelude.{◌≡◌, Some, None, Err, OnOk, IfOk, IfEr
 ghost use Rattle.bk_rules.specs.Rows.{account_at};
 ghost use Rattle.bk_follow.specs.Follower.{BookValue, receipts_in, executed_in};
 ghost use Rattle.bk_report.specs.Proofs.{IsProofOf, IsAbsent};
-ghost use Rattle.bk_follow.specs.Queries.{executed_of, opening_in, rows_in, NothingStops, IsStopSoFar};
-ghost use Rattle.bk_follow.specs.Gaps.{missing_in};
+ghost use Rattle.bk_answer.specs.Closed.{executed_of};
+ghost use Rattle.bk_follow.specs.Queries.{IsClosedBook, order_of, opening_in, rows_in, NothingStops, IsStopSoFar};
+ghost use Rattle.bk_follow.specs.Queries.{IsClosedBook, order_of, missing_in};
+ghost use Rattle.bk_answer.specs.Values.{closed_value, order_value};
 ghost use Rattle.bk_follow.specs.Ordering.{OrderFails};
 
 use crate::fault::Fault;
 use crate::follower::{Follower, stand};
-use bk_digest::Digest32;
+use bk_answer::{Closed, ClosedOrder};
 use bk_base::Row;
+use bk_digest::Digest32;
 use bk_ledger::Ledger;
 use bk_order::Intake;
 use bk_report::{Proof, proof_of};
@@ -80,6 +83,29 @@ impl Follower {
                 Some(ledger) => Some(ledger),
                 None => None,
             },
+            None => None,
+        }
+    }
+
+    /// The order of the feed, as it was settled last; `None` before the genesis is whole.
+    pub fn closed_order(&self) -> Option<ClosedOrder<'_>>
+        ensures { MatchOption result (self.now.book ≡ None)
+            (λ o. (b : BookValue) × (self.now.book ≡ Some b) × (order_value o ≡ order_of b)) }
+    {
+        match &self.gathered.opened.book {
+            Some(book) => Some(book.order()),
+            None => None,
+        }
+    }
+
+    /// The order of the feed and what was executed, as of the last settle; `None` before the genesis is whole.
+    pub fn closed(&self) -> Option<Closed<'_>>
+        ensures { MatchOption result (executed_in self.now.book ≡ None)
+            (λ c. (b : BookValue) × (self.now.book ≡ Some b)
+            × IsClosedBook b (closed_value c)) }
+    {
+        match &self.gathered.opened.book {
+            Some(book) => book.closed(),
             None => None,
         }
     }

@@ -1,17 +1,21 @@
-ghost use Rattle.std.specs.Prelude.{◌≡◌, ℕ, ◌<◌, ◌≤◌, [], List, length, None, Some, OnOk, IfOk, IfErr};
-ghost use Rattle.bk_frames.specs.Device.{CanBeUsed, Works, Receives, IfKnown};
+ghost use Rattle.std.specs.Prelude.{◌≡◌, ℕ, ◌<◌, ◌≤◌, [], List, length, true, None, Some, OnOk, IfOk, IfErr};
+ghost use Rattle.bk_answer.specs.Answers.{AnswerFailsBy, IsAnswered};
+ghost use Rattle.bk_answer.specs.RunReport.{report_text};
+ghost use Rattle.bk_frames.specs.Device.{CanBeUsed, Works};
 ghost use Rattle.bk_base.specs.Feed.{Frame};
 ghost use Rattle.bk_follow.specs.Follower.{unfed};
-ghost use Rattle.bk_follow.specs.RunReport.{IsReport};
 ghost use Rattle.bk_results.specs.Devices.{devices};
-ghost use Rattle.bk_follow.specs.Replaying.{RunFailsBy, ReadFails, AllHasCome};
+ghost use Rattle.bk_answer.specs.Given.{GaveAll};
+ghost use Rattle.bk_follow.specs.Replaying.{ReadFails, AllHasCome};
 ghost use Rattle.bk_follow.specs.private.Gathering.{HasGathered, IsAllOf};
 ghost use Rattle.bk_frames.specs.declared.pulling.TheConstants.{PIECE};
 
+use crate::answering::answer_by_ledger;
 use crate::fault::Fault;
 use crate::follower::{Follower, stand};
 use crate::gathering::Gathered;
-use bk_frames::{PIECE, Sink, Source};
+use bk_answer::Report;
+use bk_frames::{Sink, Source};
 use bk_pool::Gate;
 use bk_results::Status;
 use std::alloc::Global;
@@ -33,7 +37,7 @@ fn pull_all<R: Threads + Sync, S: Source>(
     ensures works { OnOk result (Works (S.state source.old) (S.state source.new)) }
     ensures come { OnOk result ((bytes : List ℕ) × (taken : List Frame)
         × HasGathered bytes taken gathered.new) }
-    ensures all { OnOk result (IsAllOf (S.state source.old) gathered.new) }
+    ensures all { OnOk result (IsAllOf (S.state source.old) (S.state source.new) gathered.new) }
     ensures fault { IfErr result (λ f. ReadFails f (S.state source.old) (S.state source.new)) }
 {
     // The label names the loop for its proof.
@@ -61,7 +65,7 @@ impl Follower {
         requires first { self.old ≡ unfed }
         ensures works { OnOk result (Works (S.state source.old) (S.state source.new)
             × (self.new.fault ≡ None)) }
-        ensures come { OnOk result (IfKnown (S.state source.old)
+        ensures come { OnOk result (GaveAll (S.state source.old) (S.state source.new)
             (λ bytes. AllHasCome bytes self.new)) }
         ensures stays { IfErr result (λ f. self.new.fault ≡ Some f) }
         ensures fault { IfErr result (λ f. ReadFails f (S.state source.old) (S.state source.new)) }
@@ -71,33 +75,6 @@ impl Follower {
             Err(fault) => Err(stand(&mut self.fault, fault)),
         }
     }
-}
-
-// Follows all that a source has, and finishes.
-fn follow_to_end<R: Threads + Wait + Sync, S: Source, K: Sink, G: Gate + Sync>(
-    rt: &R,
-    source: &mut S,
-    sink: &mut K,
-    piece: &mut [u8],
-    follower: &mut Follower,
-    gate: &G,
-) -> Result<Status, Fault>
-    requires some { 0 < length piece.old }
-    requires few { length piece.old ≤ PIECE }
-    requires first { follower.old ≡ unfed }
-    requires source { CanBeUsed (S.state source.old) }
-    requires sink { CanBeUsed (K.state sink.old) }
-    ensures report { IfOk result (λ s. IfKnown (S.state source.old) (λ bytes. (text : List ℕ)
-        × IsReport bytes text s × Receives (K.state sink.old) (K.state sink.new) text)) }
-    ensures sound { OnOk result (Works (S.state source.old) (S.state source.new)
-        × Works (K.state sink.old) (K.state sink.new)) }
-    ensures fault { IfErr result (λ f. RunFailsBy f
-        (devices (S.state source.old) (K.state sink.old))
-        (devices (S.state source.new) (K.state sink.new))) }
-{
-    follower.follow(rt, source, piece)?;
-    let status = follower.finish(rt, gate, sink)?;
-    Ok(status)
 }
 
 /// Reads a feed, finds its committed order, executes the order's batches on this many workers, 1 to 64, and writes the
@@ -117,17 +94,12 @@ pub fn replay<R: Threads + Wait + Sync, S: Source, K: Sink, G: Gate + Sync>(
     requires source { CanBeUsed (S.state source.old) }
     requires sink { CanBeUsed (K.state sink.old) }
     requires workers { (1 ≤ workers) × (workers ≤ 64) }
-    ensures report { IfOk result (λ s. IfKnown (S.state source.old) (λ bytes. (text : List ℕ)
-        × IsReport bytes text s × Receives (K.state sink.old) (K.state sink.new) text)) }
-    ensures sound { OnOk result (Works (S.state source.old) (S.state source.new)
-        × Works (K.state sink.old) (K.state sink.new)) }
-    ensures fault { IfErr result (λ f. RunFailsBy f
+    ensures report { IfOk result (λ status. IsAnswered report_text status
+        (devices (S.state source.old) (K.state sink.old))
+        (devices (S.state source.new) (K.state sink.new))) }
+    ensures fault { IfErr result (λ f. AnswerFailsBy report_text true f
         (devices (S.state source.old) (K.state sink.old))
         (devices (S.state source.new) (K.state sink.new))) }
 {
-    let mut piece = vec![in alloc; 0u8; PIECE]?;
-    let mut follower = Follower::new(alloc, workers);
-    let end = follow_to_end(rt, source, sink, piece.as_mut_slice(), &mut follower, gate);
-    follower.discard();
-    end
+    answer_by_ledger(rt, alloc, source, sink, workers, gate, &Report)
 }

@@ -9,11 +9,12 @@ use Rattle.bk_frames.specs.declared.fault.FaultCode.TheVariants as code
 use Rattle.bk_frames.specs.declared.fault.FeedFault.{FeedFault}
 use Rattle.bk_order.specs.declared.stop.Stop.TheVariants as stop
 use Rattle.bk_results.specs.Devices.{IsUntouched}
+use Rattle.bk_follow.proofs.RunAnswers.{known_of}
 use Rattle.bk_compare.specs.FeedAgreement.{FeedsDiffer, OfTheirFeeds}
 use Rattle.bk_results.specs.declared.compare_stop.CompareStop.{CompareStop}
 use Rattle.bk_results.specs.declared.compare_stop.CompareStop.TheVariants as compared
 use Rattle.bk_results.specs.declared.differ.Differ.TheVariants as differ
-use Rattle.bk_follow.specs.RunReport.{IsStopped}
+use Rattle.bk_answer.specs.RunReport.{IsStopped}
 use Rattle.bk_results.specs.declared.fault.Fault.{Fault}
 use Rattle.bk_results.specs.declared.fault.Fault.TheVariants as replay
 use Rattle.bk_script.specs.Script.{LineFault, feed_of}
@@ -130,8 +131,8 @@ blames : (j : Job) (e : JobFault) (old new : JobDevices) → writes_ahead j ≡ 
     → AreToBlame j (exit_after e) (inputs_of old) × IsUntouched old.out new.out
 blames (job.Run workers file) (fault.Replay (replay.Feed found)) old new w h r =
     (refused (job.Run workers file) (inputs_of old) found.code found.offset _ _ (λ b. b) h.0 r, h.1)
-blames (job.Run workers file) (fault.Replay (replay.Collision id)) old new w h r = (stopped (replay.Collision id) old.first.bytes h.1, h.0.1)
-blames (job.Run workers file) (fault.Replay (replay.Equivocation round author first second)) old new w h r = (stopped (replay.Equivocation round author first second) old.first.bytes h.1, h.0.1)
+blames (job.Run workers file) (fault.Replay (replay.Collision id)) old new w h r = (stopped (replay.Collision id) old.first.bytes (known_of old.first new.first _ h.1), h.0.1)
+blames (job.Run workers file) (fault.Replay (replay.Equivocation round author first second)) old new w h r = (stopped (replay.Equivocation round author first second) old.first.bytes (known_of old.first new.first _ h.1), h.0.1)
 blames (job.Run workers file) (fault.Replay (replay.Unfinished place)) old new w h r = absurd (cc)
 blames (job.Run workers file) (fault.Replay (replay.Write written)) old new w h r = absurd (cc)
 blames (job.Run workers file) (fault.Replay replay.Memory) old new w h r = absurd (cc)
@@ -148,8 +149,8 @@ blames (job.CheckProof root file) (fault.Text (text.Write written)) old new w h 
 blames (job.CheckProof root file) (fault.Text text.Memory) old new w h r = absurd (cc)
 blames (job.Ask workers asked file) (fault.Replay (replay.Feed found)) old new w h r =
     (refused (job.Ask workers asked file) (inputs_of old) found.code found.offset _ _ (λ b. b) h.0 r, h.1)
-blames (job.Ask workers asked file) (fault.Replay (replay.Collision id)) old new w h r = (stopped (replay.Collision id) old.first.bytes h.1, h.0.1)
-blames (job.Ask workers asked file) (fault.Replay (replay.Equivocation round author first second)) old new w h r = (stopped (replay.Equivocation round author first second) old.first.bytes h.1, h.0.1)
+blames (job.Ask workers asked file) (fault.Replay (replay.Collision id)) old new w h r = (stopped (replay.Collision id) old.first.bytes (known_of old.first new.first _ h.1), h.0.1)
+blames (job.Ask workers asked file) (fault.Replay (replay.Equivocation round author first second)) old new w h r = (stopped (replay.Equivocation round author first second) old.first.bytes (known_of old.first new.first _ h.1), h.0.1)
 blames (job.Ask workers asked file) (fault.Replay (replay.Unfinished place)) old new w h r = absurd (cc)
 blames (job.Ask workers asked file) (fault.Replay (replay.Write written)) old new w h r = absurd (cc)
 blames (job.Ask workers asked file) (fault.Replay replay.Memory) old new w h r = absurd (cc)
@@ -169,8 +170,8 @@ blames (job.CheckReport workers report file) (fault.Events e) old new w h r = ab
 blames (job.CheckReport workers report file) (fault.Compared e) old new w h r = absurd h
 blames (job.Summary workers file) (fault.Replay (replay.Feed found)) old new w h r =
     (refused (job.Summary workers file) (inputs_of old) found.code found.offset _ _ (λ b. b) h.0 r, h.1)
-blames (job.Summary workers file) (fault.Replay (replay.Collision id)) old new w h r = (stopped (replay.Collision id) old.first.bytes h.1, h.0.1)
-blames (job.Summary workers file) (fault.Replay (replay.Equivocation round author first second)) old new w h r = (stopped (replay.Equivocation round author first second) old.first.bytes h.1, h.0.1)
+blames (job.Summary workers file) (fault.Replay (replay.Collision id)) old new w h r = (stopped (replay.Collision id) old.first.bytes (known_of old.first new.first _ h.1), h.0.1)
+blames (job.Summary workers file) (fault.Replay (replay.Equivocation round author first second)) old new w h r = (stopped (replay.Equivocation round author first second) old.first.bytes (known_of old.first new.first _ h.1), h.0.1)
 blames (job.Summary workers file) (fault.Replay (replay.Unfinished place)) old new w h r = absurd (cc)
 blames (job.Summary workers file) (fault.Replay (replay.Write written)) old new w h r = absurd (cc)
 blames (job.Summary workers file) (fault.Replay replay.Memory) old new w h r = absurd (cc)
@@ -179,9 +180,9 @@ blames (job.Summary workers file) (fault.Events e) old new w h r = absurd h
 blames (job.Summary workers file) (fault.Compared e) old new w h r = absurd h
 blames (job.Dag window file) (fault.Replay (replay.Feed found)) old new w h r =
     (refused (job.Dag window file) (inputs_of old) found.code found.offset _ _ (λ b. b) h.0 r, h.1)
-blames (job.Dag window file) (fault.Replay (replay.Collision id)) old new w h r = (stopped (replay.Collision id) old.first.bytes h.1, h.0.1)
-blames (job.Dag window file) (fault.Replay (replay.Equivocation round author first second)) old new w h r = (stopped (replay.Equivocation round author first second) old.first.bytes h.1, h.0.1)
-blames (job.Dag window file) (fault.Replay (replay.Unfinished place)) old new w h r = absurd h
+blames (job.Dag window file) (fault.Replay (replay.Collision id)) old new w h r = (stopped (replay.Collision id) old.first.bytes (known_of old.first new.first _ h.1), h.0.1)
+blames (job.Dag window file) (fault.Replay (replay.Equivocation round author first second)) old new w h r = (stopped (replay.Equivocation round author first second) old.first.bytes (known_of old.first new.first _ h.1), h.0.1)
+blames (job.Dag window file) (fault.Replay (replay.Unfinished place)) old new w h r = absurd (cc)
 blames (job.Dag window file) (fault.Replay (replay.Write written)) old new w h r = absurd (cc)
 blames (job.Dag window file) (fault.Replay replay.Memory) old new w h r = absurd (cc)
 blames (job.Dag window file) (fault.Text e) old new w h r = absurd h

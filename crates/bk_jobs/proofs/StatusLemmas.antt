@@ -108,8 +108,8 @@ ends_by_fault (job.Ask workers asked file) (fault.Replay (replay.Unfinished plac
 ends_by_fault (job.Ask workers asked file) (fault.Replay (replay.Write written)) old new h = refl
 ends_by_fault (job.Ask workers asked file) (fault.Replay replay.Memory) old new h = refl
 ends_by_fault (job.Ask workers asked file) (fault.Text e) old new h = absurd h
-ends_by_fault (job.Ask workers asked file) (fault.AbsentAccount id missing) old new h = absent_may_say_no asked h.missing _ h.fault_is
-ends_by_fault (job.Ask workers asked file) (fault.AbsentPlace place missing) old new h = absent_may_say_no asked h.missing _ h.fault_is
+ends_by_fault (job.Ask workers asked file) (fault.AbsentAccount id missing) old new h = absent_may_say_no asked h.answer.missing _ h.fault_is
+ends_by_fault (job.Ask workers asked file) (fault.AbsentPlace place missing) old new h = absent_may_say_no asked h.answer.missing _ h.fault_is
 ends_by_fault (job.Run workers file) (fault.AbsentAccount id missing) old new h = absurd h
 ends_by_fault (job.Run workers file) (fault.AbsentPlace place missing) old new h = absurd h
 ends_by_fault (job.Make file) (fault.AbsentAccount id missing) old new h = absurd h
@@ -155,7 +155,7 @@ ends_by_fault (job.Summary workers file) (fault.AbsentPlace place missing) old n
 ends_by_fault (job.Dag window file) (fault.Replay (replay.Feed found)) old new h = feed_may_end (job.Dag window file) refl found.code
 ends_by_fault (job.Dag window file) (fault.Replay (replay.Collision id)) old new h = refl
 ends_by_fault (job.Dag window file) (fault.Replay (replay.Equivocation round author first second)) old new h = refl
-ends_by_fault (job.Dag window file) (fault.Replay (replay.Unfinished place)) old new h = absurd h
+ends_by_fault (job.Dag window file) (fault.Replay (replay.Unfinished place)) old new h = absurd (let e = h.0 in cc)
 ends_by_fault (job.Dag window file) (fault.Replay (replay.Write written)) old new h = refl
 ends_by_fault (job.Dag window file) (fault.Replay replay.Memory) old new h = refl
 ends_by_fault (job.Dag window file) (fault.Text e) old new h = absurd h
@@ -244,7 +244,7 @@ fault_is_none j (fault.Events (list.Unfinished place)) old new h = refl
 fault_is_none (job.Run workers file) (fault.AbsentAccount id missing) old new h = absurd h
 fault_is_none (job.Make file) (fault.AbsentAccount id missing) old new h = absurd h
 fault_is_none (job.CheckProof root file) (fault.AbsentAccount id missing) old new h = absurd h
-fault_is_none (job.Ask workers asked file) (fault.AbsentAccount id missing) old new h = absent_is_none asked h.missing _ h.fault_is
+fault_is_none (job.Ask workers asked file) (fault.AbsentAccount id missing) old new h = absent_is_none asked h.answer.missing _ h.fault_is
 fault_is_none (job.CheckReport workers report file) (fault.AbsentAccount id missing) old new h = absurd h
 fault_is_none (job.CheckReport workers report file) (fault.AbsentPlace place missing) old new h = absurd h
 fault_is_none (job.Frames file) (fault.AbsentAccount id missing) old new h = absurd h
@@ -257,7 +257,7 @@ fault_is_none (job.Apply file) (fault.AbsentAccount id missing) old new h = absu
 fault_is_none (job.Run workers file) (fault.AbsentPlace place missing) old new h = absurd h
 fault_is_none (job.Make file) (fault.AbsentPlace place missing) old new h = absurd h
 fault_is_none (job.CheckProof root file) (fault.AbsentPlace place missing) old new h = absurd h
-fault_is_none (job.Ask workers asked file) (fault.AbsentPlace place missing) old new h = absent_is_none asked h.missing _ h.fault_is
+fault_is_none (job.Ask workers asked file) (fault.AbsentPlace place missing) old new h = absent_is_none asked h.answer.missing _ h.fault_is
 fault_is_none (job.Apply file) (fault.AbsentPlace place missing) old new h = absurd h
 fault_is_none (job.Schedule workers feed events) (fault.AbsentAccount id missing) old new h = absurd h
 fault_is_none (job.Schedule workers feed events) (fault.AbsentPlace place missing) old new h = absurd h

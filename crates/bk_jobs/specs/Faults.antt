@@ -1,23 +1,22 @@
 -- What a job leaves: its answer, or the fault that kept it from one.
-use Rattle.std.specs.Prelude.{◌≡◌, ◌↔◌, ◌⊎◌, ℕ, ◌<◌, Bool, List, Option, IfSome, codes, if◌then◌else◌, length, take, string_bytes, IsTrue, Ok, Err}
+use Rattle.std.specs.Prelude.{◌≡◌, ◌↔◌, ◌⊎◌, ℕ, ◌<◌, Bool, true, false, List, IfSome, codes, if◌then◌else◌, length, take, string_bytes, IsTrue, Ok, Err}
 use Rattle.bk_frames.specs.Device.{Device, Works, Fails, Receives, IfKnown}
 use Rattle.bk_results.specs.declared.compare_stop.CompareStop.{CompareStop}
 use Rattle.bk_results.specs.declared.fault.Fault.{Fault}
 use Rattle.bk_results.specs.declared.status.Status.{Status}
 use Rattle.bk_results.specs.Devices.{Devices, IsUntouched}
 use Rattle.bk_apply.specs.Answers.{FailsBy}
-use Rattle.bk_ask.specs.Asking.{AskFailsBy, IsReplied}
+use Rattle.bk_answer.specs.Answers.{AnswerFailsBy, IsAnswered}
+use Rattle.bk_ask.specs.Asking.{IsRepliedOf, executes}
+use Rattle.bk_ask.specs.declared.replied.Replied.{Replied}
 use Rattle.bk_listing.specs.Answers.{AllIsListed, ListFails}
-use Rattle.bk_picture.specs.Drawing.{DrawFailsBy, IsDrawn}
-use Rattle.bk_summary.specs.Summarizing.{IsSummaryText, SummaryFailsBy}
+use Rattle.bk_picture.specs.Drawing.{drawing_text}
+use Rattle.bk_summary.specs.Summarizing.{IsSummaryText}
 use Rattle.bk_report.specs.Proofs.{IsGoodProof}
 use Rattle.bk_results.specs.declared.query.Query.{Query}
-use Rattle.bk_results.specs.declared.query.Reply.{Reply}
 use Rattle.bk_results.specs.declared.query.Reply.TheVariants as reply
-use Rattle.bk_follow.specs.Gaps.{IsGap}
-use Rattle.bk_follow.specs.Replaying.{RunFailsBy}
 use Rattle.bk_report.specs.Report.{IsApplyReport}
-use Rattle.bk_follow.specs.RunReport.{IsReport, IsStopped}
+use Rattle.bk_answer.specs.RunReport.{IsStopped, report_text}
 use Rattle.bk_script.specs.Answers as script
 use Rattle.bk_script.specs.Script.{LineFault, feed_of}
 use Rattle.bk_results.specs.declared.script_fault.ScriptFault.{ScriptFault}
@@ -29,7 +28,7 @@ use Rattle.bk_cli.specs.Explanations.{told_of}
 use Rattle.bk_cli.specs.FaultLines.{Reports}
 use Rattle.bk_cli.specs.Windows.{WindowValue}
 use Rattle.bk_jobs.specs.Schedules.{AreNoEvents, AreRefused, IsWholeRun, ListFailsBy, ScheduleFailsBy}
-use Rattle.bk_jobs.specs.Sources.{AreBroken, Inputs, JobDevices, first_devices}
+use Rattle.bk_jobs.specs.Sources.{AreBroken, Inputs, JobDevices, first_devices, inputs_of}
 use Rattle.bk_cli.specs.declared.exit.Exit.{Exit}
 use Rattle.bk_cli.specs.declared.exit.Exit.TheVariants as exit
 use Rattle.bk_cli.specs.declared.job.Job.{Job}
@@ -40,11 +39,9 @@ use Rattle.bk_cli.specs.declared.list_fault.ListFault.{ListFault}
 
 -- ---- the answer of a job
 
--- the output got the whole report of a run over the bytes, and the exit is the report's
-abbrev pub RunIsOut : Exit → Device → Device → List ℕ → Type 0
-RunIsOut end old new bytes =
-    (text : List ℕ) × (answer : Status) × IsReport bytes text answer × (end ≡ exit_at answer)
-    × Receives old new text
+-- the output got the whole report of a run over the bytes that the source gave, and the exit is the report's
+abbrev pub RunIsOut : Exit → Devices → Devices → Type 0
+RunIsOut end old new = (answer : Status) × (end ≡ exit_at answer) × IsAnswered report_text answer old new
 
 -- the output got the whole apply report of the bytes
 abbrev pub ReportIsOut : Exit → Device → Device → List ℕ → Type 0
@@ -69,25 +66,24 @@ VerdictIsOut root end old new bytes =
     (good : Bool) × IsVerdict root bytes good × (end ≡ exit_by good)
     × Receives old new (verdict_text good)
 
--- the output got the whole reply of the bytes to a query, and the exit is the reply's
-abbrev pub ReplyIsOut : Query → Exit → Device → Device → List ℕ → Type 0
-ReplyIsOut asked end old new bytes =
-    (answer : Reply) × (missing : Option (List ℕ)) × (Ok end ≡ ending asked missing answer) × IsReplied asked answer bytes old new
+-- the output got the whole reply to a query of the bytes that the source gave, and the exit is the reply's
+abbrev pub ReplyIsOut : Query → Exit → Devices → Devices → Type 0
+ReplyIsOut asked end old new =
+    (answer : Replied) × (Ok end ≡ ending asked answer.missing answer.reply)
+    × IsAnswered (IsRepliedOf asked) answer old new
 
 -- the output got the lines of all frames of the bytes
 abbrev pub FramesAreOut : Exit → Device → Device → List ℕ → Type 0
 FramesAreOut end old new bytes = (end ≡ exit.Whole) × AllIsListed old new bytes
 
--- the output got the whole summary of the bytes, and the exit says whether a batch is missing
-abbrev pub SummaryIsOut : Exit → Device → Device → List ℕ → Type 0
-SummaryIsOut end old new bytes =
-    (text : List ℕ) × (answer : Status) × IsSummaryText bytes text answer × (end ≡ exit_at answer)
-    × Receives old new text
+-- the output got the whole summary of the bytes that the source gave, and the exit says whether a batch is missing
+abbrev pub SummaryIsOut : Exit → Devices → Devices → Type 0
+SummaryIsOut end old new = (answer : Status) × (end ≡ exit_at answer) × IsAnswered IsSummaryText answer old new
 
--- the output got the whole picture of the bytes, of the rounds of this window
-abbrev pub PictureIsOut : WindowValue → Exit → Device → Device → List ℕ → Type 0
-PictureIsOut window end old new bytes =
-    (end ≡ exit.Whole) × IsDrawn window.from window.rounds bytes old new
+-- the output got the whole picture of the bytes that the source gave, of the rounds of this window
+abbrev pub PictureIsOut : WindowValue → Exit → Devices → Devices → Type 0
+PictureIsOut window end old new =
+    (end ≡ exit.Whole) × IsAnswered (drawing_text window.from window.rounds) tt old new
 
 -- the output got the whole apply report of the first source, and the exit is the report's; and the second source lists
 -- events that are a whole run of its transactions
@@ -97,21 +93,22 @@ ScheduleIsOut workers end given old new =
     × IfSome given.second (λ text. IfSome given.first (λ bytes. IsWholeRun workers bytes text))
 
 -- the output got the whole answer of a job over what its sources give, and the exit is the answer's
-abbrev pub AnswerIsOut : Job → Exit → Inputs → Device → Device → Type 0
-AnswerIsOut (job.Run workers file) end given old new = IfSome given.first (RunIsOut end old new)
-AnswerIsOut (job.Make file) end given old new = IfSome given.first (FeedIsOut end old new)
-AnswerIsOut (job.CheckProof root file) end given old new =
-    IfSome given.first (VerdictIsOut (string_bytes root) end old new)
-AnswerIsOut (job.Ask workers asked file) end given old new =
-    IfSome given.first (ReplyIsOut asked end old new)
-AnswerIsOut (job.CheckReport workers report file) end given old new = IfBothGive given (ClaimIsOut end old new)
-AnswerIsOut (job.Frames file) end given old new = IfSome given.first (FramesAreOut end old new)
-AnswerIsOut (job.Summary workers file) end given old new = IfSome given.first (SummaryIsOut end old new)
-AnswerIsOut (job.Dag window file) end given old new = IfSome given.first (PictureIsOut window end old new)
-AnswerIsOut (job.Apply file) end given old new = IfSome given.first (ReportIsOut end old new)
-AnswerIsOut (job.Schedule workers feed events) end given old new =
-    ScheduleIsOut workers end given old new
-AnswerIsOut (job.Compare first second) end given old new = AgreementIsOut end given old new
+abbrev pub AnswerIsOut : Job → Exit → JobDevices → JobDevices → Type 0
+AnswerIsOut (job.Run workers file) end old new = RunIsOut end (first_devices old) (first_devices new)
+AnswerIsOut (job.Make file) end old new = IfKnown old.first (FeedIsOut end old.out new.out)
+AnswerIsOut (job.CheckProof root file) end old new =
+    IfKnown old.first (VerdictIsOut (string_bytes root) end old.out new.out)
+AnswerIsOut (job.Ask workers asked file) end old new =
+    ReplyIsOut asked end (first_devices old) (first_devices new)
+AnswerIsOut (job.CheckReport workers report file) end old new =
+    IfBothGive (inputs_of old) (ClaimIsOut end old.out new.out)
+AnswerIsOut (job.Frames file) end old new = IfKnown old.first (FramesAreOut end old.out new.out)
+AnswerIsOut (job.Summary workers file) end old new = SummaryIsOut end (first_devices old) (first_devices new)
+AnswerIsOut (job.Dag window file) end old new = PictureIsOut window end (first_devices old) (first_devices new)
+AnswerIsOut (job.Apply file) end old new = IfKnown old.first (ReportIsOut end old.out new.out)
+AnswerIsOut (job.Schedule workers feed events) end old new =
+    ScheduleIsOut workers end (inputs_of old) old.out new.out
+AnswerIsOut (job.Compare first second) end old new = AgreementIsOut end (inputs_of old) old.out new.out
 
 -- ---- why a job has no answer
 
@@ -139,14 +136,15 @@ CheckFailsBy root text.Memory old new =
 -- why a feed was not replayed for a job
 abbrev pub ReplayFailsBy : Job → Fault → JobDevices → JobDevices → Type 0
 ReplayFailsBy (job.Run workers file) e old new =
-    RunFailsBy e (first_devices old) (first_devices new)
+    AnswerFailsBy report_text true e (first_devices old) (first_devices new)
 ReplayFailsBy (job.Ask workers asked file) e old new =
-    AskFailsBy asked e (first_devices old) (first_devices new)
+    AnswerFailsBy (IsRepliedOf asked) (executes asked) e (first_devices old) (first_devices new)
 ReplayFailsBy (job.CheckReport workers report file) e old new = ClaimCheckFailsBy (fault.Replay e) old new
 ReplayFailsBy (job.Frames file) e old new = ListFails e (first_devices old) (first_devices new)
-ReplayFailsBy (job.Summary workers file) e old new = SummaryFailsBy e (first_devices old) (first_devices new)
+ReplayFailsBy (job.Summary workers file) e old new =
+    AnswerFailsBy IsSummaryText true e (first_devices old) (first_devices new)
 ReplayFailsBy (job.Dag window file) e old new =
-    DrawFailsBy window.from window.rounds e (first_devices old) (first_devices new)
+    AnswerFailsBy (drawing_text window.from window.rounds) false e (first_devices old) (first_devices new)
 ReplayFailsBy (job.Apply file) e old new = FailsBy e (first_devices old) (first_devices new)
 ReplayFailsBy (job.Schedule workers feed events) e old new =
     ScheduleFailsBy workers (fault.Replay e) old new
@@ -172,14 +170,13 @@ abbrev pub ComparisonFailsBy : Job → CompareStop → JobDevices → JobDevices
 ComparisonFailsBy (job.Compare first second) e old new = DoNotAgree e old new
 ComparisonFailsBy other e old new = ⊥
 
--- what a query asks for is absent, no call failed, and nothing is written; and at this missing batch the order stops
+-- what a query asks for is absent of the bytes that the source gave, and nothing is written
 pub record IsAbsentBy (asked : Query) (e : JobFault) (old new : Devices) : Type 0 where
-  pub missing : Option (List ℕ)
-  pub fault_is : absence asked missing ≡ Err e
-  pub works : Works old.source new.source
+  pub answer : Replied
+  pub absent : answer.reply ≡ reply.Absent
+  pub fault_is : absence asked answer.missing ≡ Err e
+  pub answered : IsAnswered (IsRepliedOf asked) answer old new
   pub untouched : IsUntouched old.sink new.sink
-  pub reply : IfKnown old.source (λ bytes. IsReplied asked reply.Absent bytes old.sink new.sink)
-  pub gap : IfKnown old.source (λ bytes. IsGap bytes missing)
 
 -- what a job asks for is absent
 abbrev pub IsAbsentFor : Job → JobFault → JobDevices → JobDevices → Type 0
@@ -189,7 +186,8 @@ IsAbsentFor other e old new = ⊥
 
 -- why a query has no reply
 abbrev pub QueryFailsBy : Query → JobFault → Devices → Devices → Type 0
-QueryFailsBy asked (fault.Replay e) old new = AskFailsBy asked e old new
+QueryFailsBy asked (fault.Replay e) old new =
+    AnswerFailsBy (IsRepliedOf asked) (executes asked) e old new
 QueryFailsBy asked (fault.AbsentAccount id missing) old new = IsAbsentBy asked (fault.AbsentAccount id missing) old new
 QueryFailsBy asked (fault.AbsentPlace place missing) old new = IsAbsentBy asked (fault.AbsentPlace place missing) old new
 QueryFailsBy asked other old new = ⊥

@@ -1,7 +1,7 @@
 -- At which missing batches the orders of a job's feeds stop, and the lines that report them.
 use Rattle.std.specs.Prelude.{◌≡◌, None, IfSome}
 use Rattle.bk_frames.specs.Device.{Device}
-use Rattle.bk_follow.specs.Gaps.{IsGap}
+use Rattle.bk_answer.specs.Gaps.{IsGap}
 use Rattle.bk_cli.specs.Explanations.{gaps_told, no_gaps}
 use Rattle.bk_cli.specs.FaultLines.{Reports}
 use Rattle.bk_cli.specs.declared.gaps.Gaps.{Gaps}

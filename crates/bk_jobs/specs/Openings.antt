@@ -17,7 +17,7 @@ pub record RanOver (j : Job) (verbose : Bool) (end : Exit) (out out' err err' : 
   pub new : JobDevices
   pub begins : old.out ≡ out
   pub ends : new.out ≡ out'
-  pub answer : is_answer j end ≡ true → AnswerIsOut j end (inputs_of old) out out' × AllWork old new
+  pub answer : is_answer j end ≡ true → AnswerIsOut j end old new × AllWork old new
   pub quiet : is_answer j end ≡ true → verbose ≡ false → err' ≡ err
   pub gaps : is_answer j end ≡ true → verbose ≡ true → GapsAreTold j (inputs_of old) err err'
   pub fault : is_answer j end ≡ false → (e : JobFault) × EndsBy j (told verbose j) e end old new err err'

@@ -41,8 +41,8 @@ where
     requires second { reads_second job.now ≡ true → CanBeUsed (S2.state second.old) }
     requires out { CanBeUsed (O.state out.old) }
     ensures report { IfOk result (λ end. AnswerIsOut job.now end.exit
-        (inputs (S1.state first.old).bytes (S2.state second.old).bytes)
-        (O.state out.old) (O.state out.new)) }
+        (job_devices (S1.state first.old) (S2.state second.old) (O.state out.old))
+        (job_devices (S1.state first.new) (S2.state second.new) (O.state out.new))) }
     ensures gaps { IfOk result (λ end. AreGapsOf job.now
         (inputs (S1.state first.old).bytes (S2.state second.old).bytes) end.gaps) }
     ensures answer { IfOk result (λ end. (is_answer job.now end.exit ≡ true)
@@ -133,8 +133,8 @@ where
     requires second { reads_second job.now ≡ true → CanBeUsed (S2.state second.old) }
     requires out { CanBeUsed (O.state out.old) }
     ensures report { IfOk result (λ end. AnswerIsOut job.now end.exit
-        (inputs (S1.state first.old).bytes (S2.state second.old).bytes)
-        (O.state out.old) (O.state out.new)) }
+        (job_devices (S1.state first.old) (S2.state second.old) (O.state out.old))
+        (job_devices (S1.state first.new) (S2.state second.new) (O.state out.new))) }
     ensures gaps { IfOk result (λ end. AreGapsOf job.now
         (inputs (S1.state first.old).bytes (S2.state second.old).bytes) end.gaps) }
     ensures answer { IfOk result (λ end. (is_answer job.now end.exit ≡ true)
@@ -196,8 +196,8 @@ where
     requires second { reads_second job.now ≡ true → CanBeUsed (S2.state second.old) }
     requires out { CanBeUsed (O.state out.old) }
     ensures report { IfOk result (λ end. AnswerIsOut job.now end.exit
-        (inputs (S1.state first.old).bytes (S2.state second.old).bytes)
-        (O.state out.old) (O.state out.new)) }
+        (job_devices (S1.state first.old) (S2.state second.old) (O.state out.old))
+        (job_devices (S1.state first.new) (S2.state second.new) (O.state out.new))) }
     ensures gaps { IfOk result (λ end. AreGapsOf job.now
         (inputs (S1.state first.old).bytes (S2.state second.old).bytes) end.gaps) }
     ensures answer { IfOk result (λ end. (is_answer job.now end.exit ≡ true)
@@ -261,8 +261,8 @@ where
     requires second { reads_second job.now ≡ true → CanBeUsed (S2.state second.old) }
     requires out { CanBeUsed (O.state out.old) }
     ensures report { IfOk result (λ end. AnswerIsOut job.now end.exit
-        (inputs (S1.state first.old).bytes (S2.state second.old).bytes)
-        (O.state out.old) (O.state out.new)) }
+        (job_devices (S1.state first.old) (S2.state second.old) (O.state out.old))
+        (job_devices (S1.state first.new) (S2.state second.new) (O.state out.new))) }
     ensures gaps { IfOk result (λ end. AreGapsOf job.now
         (inputs (S1.state first.old).bytes (S2.state second.old).bytes) end.gaps) }
     ensures answer { IfOk result (λ end. (is_answer job.now end.exit ≡ true)

@@ -2,7 +2,7 @@
 
 ghost use Rattle.std.specs.Prelude.{◌≡◌, OnOk, IfOk, IfErr};
 ghost use Rattle.bk_frames.specs.Device.{CanBeUsed};
-ghost use Rattle.bk_follow.specs.Gaps.{IsGap};
+ghost use Rattle.bk_answer.specs.Gaps.{IsGap};
 ghost use Rattle.bk_jobs.specs.Comparisons.{AgreementIsOut, CompareFailsBy, IfBothGive, agree_text};
 ghost use Rattle.bk_jobs.specs.Sources.{AllWork, inputs, job_devices};
 

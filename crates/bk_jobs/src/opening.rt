@@ -4,7 +4,7 @@ ghost use Rattle.std.specs.Prelude.{◌≡◌, true, false};
 ghost use Rattle.bk_frames.specs.Device.{CanBeUsed};
 ghost use Rattle.bk_results.specs.Devices.{IsUntouched};
 ghost use Rattle.bk_cli.specs.Exits.{is_answer, is_refusal, may_end, writes_ahead};
-ghost use Rattle.bk_jobs.specs.Faults.{AnswerIsOut, EndsWithLine};
+ghost use Rattle.bk_jobs.specs.Faults.{EndsWithLine};
 ghost use Rattle.bk_jobs.specs.Gaps.{GapsAreTold};
 ghost use Rattle.bk_jobs.specs.Openings.{Ran};
 ghost use Rattle.bk_jobs.specs.Sources.{inputs};
@@ -247,8 +247,6 @@ where
     R: Eprint + Clock + AllocGlobal + Threads + Wait + Sync,
     requires out { CanBeUsed (O.state out.old) }
     requires err { CanBeUsed (E.state err.old) }
-    ensures whole { is_answer line.now.job result ≡ true → AnswerIsOut line.now.job result
-        (inputs (I.remaining first) (J.remaining second)) (O.state out.old) (O.state out.new) }
     ensures quiet { is_answer line.now.job result ≡ true → line.now.notes.verbose ≡ false
         → err.new ≡ err.old }
     ensures gaps { is_answer line.now.job result ≡ true → line.now.notes.verbose ≡ true

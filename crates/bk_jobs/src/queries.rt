@@ -5,7 +5,7 @@ ghost use Rattle.bk_frames.specs.Device.{CanBeUsed, Works, IfKnown};
 ghost use Rattle.bk_results.specs.Devices.{devices};
 ghost use Rattle.bk_results.specs.declared.query.Reply.{Reply as AnyReply};
 ghost use Rattle.bk_ask.specs.Asking.{can_reply};
-ghost use Rattle.bk_follow.specs.Gaps.{IsGap};
+ghost use Rattle.bk_answer.specs.Gaps.{IsGap};
 ghost use Rattle.bk_cli.specs.Exits.{absence, ending};
 ghost use Rattle.bk_jobs.specs.Faults.{QueryFailsBy, ReplyIsOut};
 
@@ -74,8 +74,9 @@ where
     R: Threads + Wait + Sync + AllocGlobal,
     requires source { CanBeUsed (S.state source.old) }
     requires out { CanBeUsed (O.state out.old) }
-    ensures reply { IfOk result (λ end. IfKnown (S.state source.old)
-        (ReplyIsOut asked.now end.exit (O.state out.old) (O.state out.new))) }
+    ensures reply { IfOk result (λ end. ReplyIsOut asked.now end.exit
+        (devices (S.state source.old) (O.state out.old))
+        (devices (S.state source.new) (O.state out.new))) }
     ensures gap { IfOk result (λ end. IfKnown (S.state source.old)
         (λ bytes. IsGap bytes end.gaps.first)) }
     ensures one { IfOk result (λ end. end.gaps.second ≡ None) }

@@ -4,18 +4,19 @@ ghost use Rattle.std.specs.Prelude.{◌≡◌, true, OnOk, IfOk, IfErr};
 ghost use Rattle.bk_frames.specs.Device.{CanBeUsed, Works, IfKnown};
 ghost use Rattle.bk_results.specs.Devices.{devices};
 ghost use Rattle.bk_apply.specs.Answers.{FailsBy};
-ghost use Rattle.bk_follow.specs.Replaying.{RunFailsBy};
+ghost use Rattle.bk_answer.specs.Answers.{AnswerFailsBy};
+ghost use Rattle.bk_answer.specs.RunReport.{report_text};
 ghost use Rattle.bk_cli.specs.Exits.{is_report};
-ghost use Rattle.bk_summary.specs.Summarizing.{SummaryFailsBy};
+ghost use Rattle.bk_summary.specs.Summarizing.{IsSummaryText};
 ghost use Rattle.bk_jobs.specs.Faults.{RunIsOut, ReportIsOut, SummaryIsOut};
 
 use bk_apply::apply;
 use bk_cli::{Exit, Workers};
-use bk_follow::replay;
+use bk_follow::{answer_by_ledger, replay};
 use bk_frames::{Sink, Source};
 use bk_pool::Gate;
 use bk_results::Fault;
-use bk_summary::summarize;
+use bk_summary::Summarize;
 use std::sync::Wait;
 use std::thread::Threads;
 
@@ -31,12 +32,14 @@ where
     R: Threads + Wait + Sync + AllocGlobal,
     requires source { CanBeUsed (S.state source.old) }
     requires out { CanBeUsed (O.state out.old) }
-    ensures report { IfOk result (λ end. IfKnown (S.state source.old)
-        (RunIsOut end (O.state out.old) (O.state out.new))) }
+    ensures report { IfOk result (λ end. RunIsOut end
+        (devices (S.state source.old) (O.state out.old))
+        (devices (S.state source.new) (O.state out.new))) }
     ensures answer { IfOk result (λ end. is_report end ≡ true) }
     ensures sound { OnOk result (Works (S.state source.old) (S.state source.new)
         × Works (O.state out.old) (O.state out.new)) }
-    ensures fault { IfErr result (λ e. RunFailsBy e (devices (S.state source.old) (O.state out.old))
+    ensures fault { IfErr result (λ e. AnswerFailsBy report_text true e
+        (devices (S.state source.old) (O.state out.old))
         (devices (S.state source.new) (O.state out.new))) }
 {
     let status = replay(rt, rt.alloc(), source, out, workers.count(), gate)?;
@@ -55,16 +58,25 @@ where
     R: Threads + Wait + Sync + AllocGlobal,
     requires source { CanBeUsed (S.state source.old) }
     requires out { CanBeUsed (O.state out.old) }
-    ensures report { IfOk result (λ end. IfKnown (S.state source.old)
-        (SummaryIsOut end (O.state out.old) (O.state out.new))) }
+    ensures report { IfOk result (λ end. SummaryIsOut end
+        (devices (S.state source.old) (O.state out.old))
+        (devices (S.state source.new) (O.state out.new))) }
     ensures answer { IfOk result (λ end. is_report end ≡ true) }
     ensures sound { OnOk result (Works (S.state source.old) (S.state source.new)
         × Works (O.state out.old) (O.state out.new)) }
-    ensures fault { IfErr result (λ e. SummaryFailsBy e
+    ensures fault { IfErr result (λ e. AnswerFailsBy IsSummaryText true e
         (devices (S.state source.old) (O.state out.old))
         (devices (S.state source.new) (O.state out.new))) }
 {
-    let status = summarize(rt, rt.alloc(), source, out, workers.count(), gate)?;
+    let status = answer_by_ledger(
+        rt,
+        rt.alloc(),
+        source,
+        out,
+        workers.count(),
+        gate,
+        &Summarize,
+    )?;
     Ok(Exit::at(status))
 }
 

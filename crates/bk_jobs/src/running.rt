@@ -47,8 +47,8 @@ where
     requires out { CanBeUsed (O.state out.old) }
     requires err { CanBeUsed (E.state err.old) }
     ensures whole { is_answer job.now result ≡ true → AnswerIsOut job.now result
-        (inputs (S1.state first.old).bytes (S2.state second.old).bytes)
-        (O.state out.old) (O.state out.new) }
+        (job_devices (S1.state first.old) (S2.state second.old) (O.state out.old))
+        (job_devices (S1.state first.new) (S2.state second.new) (O.state out.new)) }
     ensures sound { is_answer job.now result ≡ true → AllWork
         (job_devices (S1.state first.old) (S2.state second.old) (O.state out.old))
         (job_devices (S1.state first.new) (S2.state second.new) (O.state out.new)) }
@@ -111,8 +111,8 @@ pub fn run_job<R: Threads + Wait + Sync + AllocGlobal, S1: Source, S2: Source, O
     requires out { CanBeUsed (O.state out.old) }
     requires err { CanBeUsed (E.state err.old) }
     ensures whole { is_answer job.now result ≡ true → AnswerIsOut job.now result
-        (inputs (S1.state first.old).bytes (S2.state second.old).bytes)
-        (O.state out.old) (O.state out.new) }
+        (job_devices (S1.state first.old) (S2.state second.old) (O.state out.old))
+        (job_devices (S1.state first.new) (S2.state second.new) (O.state out.new)) }
     ensures sound { is_answer job.now result ≡ true → AllWork
         (job_devices (S1.state first.old) (S2.state second.old) (O.state out.old))
         (job_devices (S1.state first.new) (S2.state second.new) (O.state out.new))

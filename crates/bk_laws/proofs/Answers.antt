@@ -16,7 +16,7 @@ use Rattle.bk_report.specs.Lines.{text_of}
 use Rattle.bk_tx.specs.Batches.{transactions_of}
 use Rattle.bk_report.specs.Report.{IsApplyReport, apply_report_of}
 use Rattle.bk_report.specs.RunLines.{Reading, run_lines}
-use Rattle.bk_follow.specs.RunReport.{committee_in, later_frames, HasNoStopIn, Reads, IsStopIn, fault_of, reach_of}
+use Rattle.bk_answer.specs.RunReport.{committee_in, later_frames, HasNoStopIn, Reads, IsStopIn, fault_of, reach_of}
 use Rattle.bk_replay.specs.RunLaws.{Answer, ComesTo, faulty, stopped, reported}
 use Rattle.bk_frames.proofs.OneReading.{feed_or_fault}
 use Rattle.bk_replay.proofs.RunLaws.{one_answer}

@@ -26,9 +26,9 @@ use Rattle.bk_tx.specs.Transaction.{Transaction}
 use Rattle.bk_tx.specs.Batches.{transactions_in, transactions_of}
 use Rattle.bk_results.specs.declared.differ.Agreed.{Agreed}
 use Rattle.bk_follow.specs.Agreement.{Agree, OneBeginsFor, HaveOneSetup, frames_together}
-use Rattle.bk_follow.specs.Outcomes.{IsOutcomeOf, Outcome}
+use Rattle.bk_answer.specs.Outcomes.{IsOutcomeOf, Outcome}
 use Rattle.bk_compare.specs.FeedAgreement.{FeedsAgree}
-use Rattle.bk_follow.specs.RunReport.{HasNoStopIn, committee_in, later_frames}
+use Rattle.bk_answer.specs.RunReport.{HasNoStopIn, committee_in, later_frames}
 use Rattle.bk_follow.proofs.ComparedBooks.{committee_same, row_of_fields}
 use Rattle.bk_laws.specs.Laws.{Comparison, ComparesTo, IsPartOfFeed, agreed, differing, stopped}
 use Rattle.bk_laws.proofs.Answers.{reading_exists}

@@ -30,7 +30,7 @@ use Rattle.bk_rules.proofs.Room.{room_left}
 use Rattle.bk_report.specs.Proofs.{IsRow}
 use Rattle.bk_tx.specs.Batches.{transactions_of}
 use Rattle.bk_report.specs.RunLines.{Reading}
-use Rattle.bk_follow.specs.RunReport.{Reads, committee_in, later_frames}
+use Rattle.bk_answer.specs.RunReport.{Reads, committee_in, later_frames}
 use Rattle.bk_follow.proofs.Counting.{few_places}
 use Rattle.bk_laws.proofs.Texts.{later_part, ordered_transactions, payload_bytes}
 

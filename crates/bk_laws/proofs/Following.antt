@@ -18,9 +18,10 @@ use Rattle.bk_order.specs.Stops.{HasNoStop}
 use Rattle.bk_order.proofs.Sets.{frames_grow}
 use Rattle.bk_rules.specs.Fold.{receipts_of}
 use Rattle.bk_tx.specs.Batches.{transactions_of}
-use Rattle.bk_follow.specs.Follower.{BookValue, Executed, Followed, Follows, FollowsBy, HasCome, IsCurrent, IsExecuted, IsSettled, IsSettledBy, OrdersPart, executed_in, receipts_in, receipts_of_executed}
+use Rattle.bk_follow.specs.Follower.{BookValue, Followed, Follows, FollowsBy, HasCome, IsCurrent, IsSettled, IsSettledBy, OrdersPart, executed_in, receipts_in, receipts_of_executed}
+use Rattle.bk_answer.specs.Closed.{Executed, IsExecuted}
 use Rattle.bk_follow.specs.Ordering.{AreOrderedIn, IsOrderSoFar}
-use Rattle.bk_follow.specs.RunReport.{committee_in}
+use Rattle.bk_answer.specs.RunReport.{committee_in}
 use Rattle.bk_laws.proofs.Growing.{receipts_begin}
 
 -- ---- the first fault

@@ -19,7 +19,7 @@ use Rattle.bk_rules.specs.Fold.{receipts_of, state_after}
 use Rattle.bk_rules.proofs.Folding.{receipts_append}
 use Rattle.bk_tx.specs.Batches.{transactions_in, transactions_of}
 use Rattle.bk_report.specs.RunLines.{Reading}
-use Rattle.bk_follow.specs.RunReport.{HasNoStopIn, Reads, committee_in, later_frames}
+use Rattle.bk_answer.specs.RunReport.{HasNoStopIn, Reads, committee_in, later_frames}
 use Rattle.bk_laws.specs.Laws.{AreAlike, Continues, IsPartOfFeed}
 
 -- the receipts of a list of batches begin those of a longer one

@@ -17,7 +17,7 @@ use Rattle.bk_order.specs.declared.reject.Reject.{Reject}
 use Rattle.bk_order.specs.Frames.{rejects_by, IsRejectOf, AreRejects}
 use Rattle.bk_order.specs.Intake.{first_later_frame}
 use Rattle.bk_report.specs.RunLines.{Reading}
-use Rattle.bk_follow.specs.RunReport.{Reads, committee_in, later_frames}
+use Rattle.bk_answer.specs.RunReport.{Reads, committee_in, later_frames}
 use Rattle.bk_laws.specs.Laws.{HoldsCertificate, IsPartOfFeed, Rejects}
 use Rattle.bk_laws.proofs.Verdicts.{lone}
 

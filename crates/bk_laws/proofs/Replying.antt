@@ -35,14 +35,14 @@ use Rattle.bk_results.specs.declared.query.Query.TheVariants as query
 use Rattle.bk_results.specs.declared.query.Reply.{Reply}
 use Rattle.bk_results.specs.declared.query.Reply.TheVariants as reply
 use Rattle.bk_results.specs.declared.status.Status.{Status}
-use Rattle.bk_follow.specs.Outcomes.{IsOutcomeOf, Outcome}
+use Rattle.bk_answer.specs.Outcomes.{IsOutcomeOf, Outcome}
 use Rattle.bk_ask.specs.Asking.{Ending, IsEndingOf, IsReply, IsShort, IsWhole, Replies, course_of, order_text}
 use Rattle.bk_views.specs.Anchors.{rows_text}
 use Rattle.bk_views.specs.Statement.{IsNowhere, account_at_end, entries, statement_text}
 use Rattle.bk_views.specs.declared.entry.Entry.{Entry}
 use Rattle.bk_views.proofs.OneRows.{one_rows}
 use Rattle.bk_laws.proofs.AnchorRows.{rows_exist}
-use Rattle.bk_follow.specs.RunReport.{IsReport, committee_in, later_frames}
+use Rattle.bk_answer.specs.RunReport.{IsReport, committee_in, later_frames}
 
 -- ---- the one account of an id
 

@@ -19,7 +19,7 @@ use Rattle.bk_evidence.specs.Batches.{Batch, has_digest, payload_of}
 use Rattle.bk_flatten.specs.Batches.{Payloads, before_missing, cons_payload, digests_of}
 use Rattle.bk_order.specs.Orders.{Ordered}
 use Rattle.bk_tx.specs.Batches.{transactions_in, transactions_of}
-use Rattle.bk_follow.specs.RunReport.{IsOrderIn}
+use Rattle.bk_answer.specs.RunReport.{IsOrderIn}
 
 -- ---- parts of bytes
 

@@ -1,7 +1,7 @@
 -- What the definition of a verdict on a claimed report says.
 use Rattle.std.specs.Prelude.{◌≡◌, ◌↔◌, List, ℕ}
 use Rattle.bk_results.specs.declared.status.Status.{Status}
-use Rattle.bk_follow.specs.RunReport.{IsReport}
+use Rattle.bk_answer.specs.RunReport.{IsReport}
 use Rattle.bk_claim.specs.Claims.{IsVerdict}
 use Rattle.bk_claim.specs.declared.verdict.Verdict.{Verdict}
 use Rattle.bk_claim.specs.declared.verdict.Verdict.TheVariants as verdict

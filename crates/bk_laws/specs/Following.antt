@@ -9,7 +9,8 @@ use Rattle.bk_cert.specs.declared.place.CertRef.{CertRef}
 use Rattle.bk_commit.specs.Growth.{IsPrefix}
 use Rattle.bk_order.specs.Orders.{Ordered}
 use Rattle.bk_results.specs.declared.fault.Fault.TheVariants as fault
-use Rattle.bk_follow.specs.Follower.{Executed, Followed, HasCome, FeedFails, IsExecuted, IsSettled, OrdersPart, executed_in, receipts_in}
+use Rattle.bk_answer.specs.Closed.{Executed, IsExecuted}
+use Rattle.bk_follow.specs.Follower.{Followed, HasCome, FeedFails, IsSettled, OrdersPart, executed_in, receipts_in}
 use Rattle.bk_follow.specs.Ordering.{IsOrderSoFar}
 
 -- a fault of the feed that a piece is refused with is the first fault of all bytes so far, however they go on. Where memory

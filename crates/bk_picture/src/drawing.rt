@@ -1,23 +1,19 @@
 //! The picture of a feed.
 
-ghost use Rattle.bk_frames.specs.declared.pulling.TheConstants.{PIECE};
-ghost use Rattle.std.specs.Prelude.{◌≡◌, ◌<◌, ◌≤◌, length, None, OnOk, IfOk, IfErr, IfSome, string_bytes};
-ghost use Rattle.bk_frames.specs.Device.{CanBeUsed, Works, IfKnown};
+ghost use Rattle.std.specs.Prelude.{◌≤◌, OnOk, IfOk, IfErr, string_bytes};
+ghost use Rattle.bk_frames.specs.Device.{CanBeUsed};
 ghost use Rattle.bk_commit.specs.Ordering.{IsCommitted};
-ghost use Rattle.bk_results.specs.Devices.{devices};
-ghost use Rattle.bk_follow.specs.Follower.{unfed};
-ghost use Rattle.bk_picture.specs.Drawing.{DrawFailsBy, IsDrawn};
-ghost use Rattle.bk_picture.specs.private.Shows.{BookShows, BookShowsNot, FollowerDraws, FollowerDrawsNot, IsOfOrdered, ShowsPicture, TextFails, WritesSome};
+ghost use Rattle.bk_picture.specs.Drawing.{drawing_text};
+ghost use Rattle.bk_picture.specs.private.Shows.{ShowsPicture, TextFails, WritesSome};
 
 use crate::picture::picture_of;
 use crate::svg::svg_of;
-use bk_follow::Follower;
-use bk_frames::{PIECE, Sink, Source, push_all};
+use bk_answer::{ClosedOrder, OrderAnswer};
+use bk_frames::{Sink, push_all};
 use bk_order::Intake;
 use bk_results::Fault;
 use bk_rounds::Rounds;
 use std::alloc::{AllocError, Global};
-use std::thread::Threads;
 
 // The text of the picture of what was taken.
 fn text_of(
@@ -61,121 +57,28 @@ fn write_picture<K: Sink>(
     Ok(())
 }
 
-// Writes the picture of a feed that was followed to its end, and whose order was closed.
-fn show_picture<K: Sink>(
-    alloc: Global,
-    sink: &mut K,
-    follower: &Follower,
-    from: u32,
-    count: u32,
-) -> Result<(), Fault>
-    requires sound { CanBeUsed (K.state sink.old) }
-    requires ordered { IsOfOrdered follower.now.book }
-    requires first { (1 ≤ from) × (from ≤ 1000000) }
-    requires few { count ≤ 1000 }
-    ensures shown { OnOk result (IfSome follower.now.book (λ b.
-        BookShows from count b (K.state sink.old) (K.state sink.new))) }
-    ensures fault { IfErr result (λ f. IfSome follower.now.book (λ b.
-        BookShowsNot from count b (K.state sink.old) (K.state sink.new) f)) }
-{
-    let Some(intake) = follower.intake() else {
-        unreachable!()
-    };
-    let rounds = intake.rounds();
-    write_picture(alloc, sink, intake, rounds, from, count)?;
-    Ok(())
+/// The picture of `count` rounds, 1 to 1,000, from the round `from` on, 1 to 1,000,000, as what a feed answers: SVG 1.1.
+#[derive(Clone, Copy)]
+pub struct Draw {
+    pub from: u32,
+    pub count: u32,
 }
 
-// Settles the order of the feed that ends here, and writes its picture.
-fn close_and_draw<K: Sink>(
-    alloc: Global,
-    follower: &mut Follower,
-    sink: &mut K,
-    from: u32,
-    count: u32,
-) -> Result<(), Fault>
-    requires sound { CanBeUsed (K.state sink.old) }
-    requires works { follower.old.fault ≡ None }
-    requires first { (1 ≤ from) × (from ≤ 1000000) }
-    requires few { count ≤ 1000 }
-    ensures drawn { OnOk result (FollowerDraws from count follower.old
-        (K.state sink.old) (K.state sink.new)) }
-    ensures fault { IfErr result (FollowerDrawsNot from count follower.old
-        (K.state sink.old) (K.state sink.new)) }
-{
-    follower.close_order()?;
-    show_picture(alloc, sink, follower, from, count)?;
-    Ok(())
-}
+impl OrderAnswer for Draw {
+    type End = ();
 
-// Follows all that a source has, and draws it.
-fn follow_and_draw<R: Threads + Sync, S: Source, K: Sink>(
-    rt: &R,
-    alloc: Global,
-    source: &mut S,
-    sink: &mut K,
-    piece: &mut [u8],
-    follower: &mut Follower,
-    from: u32,
-    count: u32,
-) -> Result<(), Fault>
-    requires some { 0 < length piece.old }
-    requires small { length piece.old ≤ PIECE }
-    requires fresh { follower.old ≡ unfed }
-    requires source { CanBeUsed (S.state source.old) }
-    requires sink { CanBeUsed (K.state sink.old) }
-    requires first { (1 ≤ from) × (from ≤ 1000000) }
-    requires few { count ≤ 1000 }
-    ensures drawn { OnOk result (IfKnown (S.state source.old) (λ bytes.
-        IsDrawn from count bytes (K.state sink.old) (K.state sink.new))) }
-    ensures sound { OnOk result (Works (S.state source.old) (S.state source.new)
-        × Works (K.state sink.old) (K.state sink.new)) }
-    ensures fault { IfErr result (λ f. DrawFailsBy from count f
-        (devices (S.state source.old) (K.state sink.old))
-        (devices (S.state source.new) (K.state sink.new))) }
-{
-    follower.follow(rt, source, piece)?;
-    close_and_draw(alloc, follower, sink, from, count)?;
-    Ok(())
-}
+    ghost can_ask = { λ d. (1 ≤ d.from) × (d.from ≤ 1000000) × (1 ≤ d.count) × (d.count ≤ 1000) };
 
-/// Reads a feed and writes the picture of `count` rounds, 1 to 1,000, from the round `from` on, 1 to 1,000,000: SVG 1.1.
-/// Only the order is settled, and nothing is executed.
-///
-/// The whole feed is read before anything is written. With every fault but `Write` nothing is written, and `Unfinished`
-/// does not come.
-pub fn draw<R: Threads + Sync, S: Source, K: Sink>(
-    rt: &R,
-    alloc: Global,
-    source: &mut S,
-    sink: &mut K,
-    from: u32,
-    count: u32,
-) -> Result<(), Fault>
-    requires source { CanBeUsed (S.state source.old) }
-    requires sink { CanBeUsed (K.state sink.old) }
-    requires first { (1 ≤ from) × (from ≤ 1000000) }
-    requires few { (1 ≤ count) × (count ≤ 1000) }
-    ensures drawn { OnOk result (IfKnown (S.state source.old) (λ bytes.
-        IsDrawn from count bytes (K.state sink.old) (K.state sink.new))) }
-    ensures sound { OnOk result (Works (S.state source.old) (S.state source.new)
-        × Works (K.state sink.old) (K.state sink.new)) }
-    ensures fault { IfErr result (λ f. DrawFailsBy from count f
-        (devices (S.state source.old) (K.state sink.old))
-        (devices (S.state source.new) (K.state sink.new))) }
-{
-    let mut piece = vec![in alloc; 0u8; PIECE]?;
-    let mut follower = Follower::new(alloc, 1);
-    let drawn = follow_and_draw(
-        rt,
-        alloc,
-        source,
-        sink,
-        piece.as_mut_slice(),
-        &mut follower,
-        from,
-        count,
-    );
-    follower.discard();
-    drawn
+    ghost text = { λ d. drawing_text d.from d.count };
+
+    fn write<K: Sink>(
+        &self,
+        alloc: Global,
+        order: &ClosedOrder<'_>,
+        sink: &mut K,
+    ) -> Result<(), Fault> {
+        let rounds = order.rounds();
+        let Draw { from, count } = *self;
+        write_picture(alloc, sink, order.intake, rounds, from, count)
+    }
 }

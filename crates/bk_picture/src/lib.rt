@@ -1,7 +1,7 @@
 //! A picture of some rounds of a feed: its certificates, the links to their parents, and what became of the anchors.
 //!
 //! [`picture_of`] finds what is drawn, a column for each round and in it a cell for each member. [`svg_of`] makes the
-//! text of a picture. [`draw`] reads a feed and writes the text of its picture.
+//! text of a picture. [`Draw`] is the answer of a feed that writes it.
 #![tactic(auto)]
 
 mod cells;
@@ -13,6 +13,6 @@ mod picture;
 mod svg;
 mod words;
 
-pub use drawing::draw;
+pub use drawing::Draw;
 pub use picture::{Cell, Class, Column, Picture, picture_of};
 pub use svg::svg_of;

@@ -32,7 +32,7 @@ use Rattle.bk_report.specs.Lines.{text_of}
 use Rattle.bk_tx.specs.Batches.{transactions_of, count_in}
 use Rattle.bk_report.specs.Report.{batch_line, batch_lines, tx_lines, account_lines}
 use Rattle.bk_report.specs.RunLines.{Reading, members_line, head_lines, reject_lines, waiting_lines, anchor_lines, cert_lines, missing_lines, order_lines, batches_lines, ending_lines, run_lines}
-use Rattle.bk_follow.specs.RunReport.{committee_in, later_frames, HasNoStopIn, Reads, fault_of, reach_of, IsReportOf, IsReport, IsStopIn}
+use Rattle.bk_answer.specs.RunReport.{committee_in, later_frames, HasNoStopIn, Reads, fault_of, reach_of, IsReportOf, IsReport, IsStopIn}
 use Rattle.bk_replay.specs.RunLaws.{EndsWithMoney, Answer, ComesTo, faulty, stopped, reported}
 
 -- ---- money

@@ -11,7 +11,7 @@ use Rattle.bk_results.specs.declared.status.Status.{Status}
 use Rattle.bk_report.specs.Leaves.{state_of}
 use Rattle.bk_report.specs.Lines.{text_of}
 use Rattle.bk_report.specs.RunLines.{Reading}
-use Rattle.bk_follow.specs.RunReport.{Reads, IsReport, IsStopped}
+use Rattle.bk_answer.specs.RunReport.{Reads, IsReport, IsStopped}
 
 -- ---- money
 

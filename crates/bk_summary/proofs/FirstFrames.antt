@@ -10,7 +10,7 @@ use Rattle.bk_base.specs.Numbers.{IsBytes}
 use Rattle.bk_base.proofs.GenesisGrammar.{genesis_spelled}
 use Rattle.bk_committee.specs.Payload.{committee_bytes}
 use Rattle.bk_committee.proofs.Grammar.{encoded}
-use Rattle.bk_follow.specs.RunReport.{committee_in}
+use Rattle.bk_answer.specs.RunReport.{committee_in}
 use Rattle.bk_summary.specs.Laws.{payload_in, DigestsAreOfPayloads}
 
 committee_spelled : (version : Version) (frames : List Frame) → IsFeed (feed_of version frames) → IsBytes (payload_in (feed_of version frames) 0)

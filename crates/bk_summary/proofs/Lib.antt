@@ -2,4 +2,3 @@ pub mod FirstFrames
 pub mod Unordered
 pub mod OrderedDigests
 pub mod Summed
-pub mod Shown

@@ -1,5 +1,5 @@
--- The summary of what a settled book holds is that of its feed.
-use Rattle.std.proofs.Common.{◌≡◌, ℕ, suc, ◌+◌, ◌-◌, ◌≤◌, Bool, true, false, cond, List, [], ◌∷◌, length, drop, map, Option, Some, refl, sym, ap, subst, ◌∙◌, arith}
+-- The summary of what was made of a feed is that of the feed.
+use Rattle.std.proofs.Common.{◌≡◌, ℕ, suc, ◌+◌, ◌-◌, ◌^◌, ◌<◌, ◌≤◌, Bool, true, false, cond, List, [], ◌∷◌, length, drop, map, Option, Some, refl, sym, ap, subst, ◌∙◌, arith}
 use Rattle.std.specs.Prelude.{count_by, filter, is_some, not}
 use Rattle.std.proofs.lemmas.List.{length-drop}
 use Rattle.std.proofs.lemmas.List.Sums.{length-filter}
@@ -18,13 +18,21 @@ use Rattle.bk_order.specs.Stops.{HasNoStop}
 use Rattle.bk_order.specs.Tally.{IsTallyOf, digests_in}
 use Rattle.bk_commit.specs.Ordering.{IsCommitted}
 use Rattle.bk_rounds.specs.Rounds.{RoundsValue}
-use Rattle.bk_ledger.specs.Ledger.{LedgerValue}
 use Rattle.bk_tx.specs.Batches.{count_in}
 use Rattle.bk_report.specs.RunLines.{Reading}
 use Rattle.bk_views.specs.Anchors.{AreRows}
-use Rattle.bk_follow.specs.Follower.{BookValue, Executed, IsCurrent, IsExecuted, executed_in}
-use Rattle.bk_follow.specs.Queries.{executed_of, opening_in}
-use Rattle.bk_follow.specs.RunReport.{Reads, committee_in, later_frames}
+use Rattle.bk_answer.specs.Answers.{WritesAnswer, WritesNot}
+use Rattle.bk_answer.specs.Closed.{ClosedValue, OrderValue, IsClosedFor, IsOrderedFor}
+use Rattle.bk_answer.specs.RunReport.{Reads, committee_in, later_frames, reach_of}
+use Rattle.bk_base.proofs.Accounts.{genesis_few}
+use Rattle.bk_frames.specs.Device.{Device}
+use Rattle.bk_frames.specs.Writing.{Writes}
+use Rattle.bk_results.specs.declared.fault.Fault.{Fault}
+use Rattle.bk_results.specs.declared.fault.Fault.TheVariants as fault
+use Rattle.bk_results.specs.declared.status.Status.{Status}
+use Rattle.bk_summary.specs.Summarizing.{IsSummaryText}
+use Rattle.bk_summary.specs.Text.{summary_text}
+use Rattle.bk_summary.specs.private.Shows.{TextFails}
 use Rattle.bk_summary.specs.Summary.{IsSummaryOf, AreAnchorCounts, AreCertCounts, batch_counts, is_void, member_counts, unordered_digests}
 use Rattle.bk_summary.specs.declared.summary.AnchorCounts.{AnchorCounts}
 use Rattle.bk_summary.specs.declared.summary.BatchCounts.{BatchCounts}
@@ -33,12 +41,6 @@ use Rattle.bk_summary.specs.declared.summary.Summary.{Summary}
 use Rattle.bk_summary.specs.private.Sums.{CountsAnchors, Sums, batches_of, certs_of, void_in}
 use Rattle.bk_order.proofs.Frames.{length_mapped}
 use Rattle.bk_summary.proofs.OrderedDigests.{unordered_counts}
-
-same_done : (d e : Executed) → Some d ≡ Some e → d ≡ e
-same_done d e same = cc
-
-same_book : (b c : BookValue) → Some b ≡ Some c → b ≡ c
-same_book b c same = cc
 
 -- a batch is void where its count is none
 void_kept : (payloads : List (List ℕ)) → length (filter (λ (c : Option ℕ). not (is_some c)) (map count_in payloads)) ≡ length (filter is_void payloads)
@@ -61,95 +63,57 @@ version_is : (v : Version) (payload : List ℕ) → (committee_of v payload).ver
 version_is v [] = refl
 version_is v (n ∷ bytes) = refl
 
--- ---- what was opened, taken and executed is that of a book
+-- ---- the summary of what was made of a feed
 
-pub record IsBookIn (book : Option BookValue) (b : BookValue) (taken : Taken) (opening : List Row) (l : LedgerValue) : Type 0 where
-  pub is : book ≡ Some b
-  pub taken_is : taken ≡ b.taken
-  pub opening_is : opening ≡ b.opening
-  pub executed : b.executed ≡ Some (executed_of l)
-
-pub book_in : (book : Option BookValue) (b : BookValue) (taken : Taken) (opening : List Row) (l : LedgerValue) → book ≡ Some b → taken ≡ b.taken → opening ≡ opening_in book
-    → executed_in book ≡ Some (executed_of l) → IsBookIn book b taken opening l
-book_in book b taken opening l is same opened done = record {
-  is = is;
-  taken_is = same;
-  opening_is = opened ∙ ap opening_in is;
-  executed = sym (ap executed_in is) ∙ done;
-}
-
--- the table of its rounds and what waits, as its intake lends them
-pub record HasTable (taken : Taken) (rounds : RoundsValue) (waiting : List CertRef) : Type 0 where
-  pub rounds_are : (frames : List Frame) → HasTaken frames taken → taken.failed ≡ false → HasNoStop taken.committee frames → AreRoundsOf taken.committee frames rounds
-  pub committed : (frames : List Frame) → HasTaken frames taken → taken.failed ≡ false → HasNoStop taken.committee frames → IsOrderOf taken.committee frames taken.ordered → IsCommitted rounds.sizes rounds.held taken.ordered.anchors
-  pub waits : (frames : List Frame) → HasTaken frames taken → taken.failed ≡ false → HasNoStop taken.committee frames → AreWaiting taken.committee frames waiting
-
-module _ (feed : FeedValue) (b : BookValue) (current : IsCurrent feed b) where
-  taken_here : HasTaken (later_frames feed) b.taken
-  taken_here = current.book.taken
-
-  clear_here : HasNoStop b.taken.committee (later_frames feed)
-  clear_here = subst (λ (k : CommitteeValue). HasNoStop k (later_frames feed)) (sym current.book.committee) current.clear
-
-  order_here : IsOrderOf b.taken.committee (later_frames feed) b.taken.ordered
-  order_here = subst (λ (k : CommitteeValue). IsOrderOf k (later_frames feed) b.taken.ordered) (sym current.book.committee) current.ordered
-
-  pub table_committed : (rounds : RoundsValue) (waiting : List CertRef) → HasTable b.taken rounds waiting → IsCommitted rounds.sizes rounds.held b.taken.ordered.anchors
-  table_committed rounds waiting table = table.committed (later_frames feed) taken_here current.book.works clear_here order_here
-
-module _ (feed : FeedValue) (b : BookValue) (l : LedgerValue) (rounds : RoundsValue) (waiting : List CertRef) (current : IsCurrent feed b) (good : IsFeed feed) (done : b.executed ≡ Some (executed_of l))
-    (table : HasTable b.taken rounds waiting) where
-  executed_is : IsExecuted feed b.taken.ordered (executed_of l)
-  executed_is = subst (λ (e : Executed). IsExecuted feed b.taken.ordered e) (same_done current.done (executed_of l) (sym current.is_done ∙ done)) current.executed
-
-  rounds_here : AreRoundsOf b.taken.committee (later_frames feed) rounds
-  rounds_here = table.rounds_are (later_frames feed) (taken_here feed b current) current.book.works (clear_here feed b current)
+module _ (feed : FeedValue) (x : ClosedValue) (rounds : RoundsValue) (waiting : List CertRef) (good : IsFeed feed) (closed : IsClosedFor feed x)
+    (rounds_here : AreRoundsOf (committee_in feed) (later_frames feed) rounds) (waits : AreWaiting (committee_in feed) (later_frames feed) waiting) where
+  abbrev taken : Taken
+  taken = x.order.taken
 
   abbrev reading : Reading
-  reading = record { rejected = b.taken.kept.rejected; waiting = waiting; ordered = b.taken.ordered; receipts = l.receipts; rows = l.state.rows }
+  reading = record { rejected = taken.kept.rejected; waiting = waiting; ordered = taken.ordered; receipts = x.ledger.receipts; rows = x.ledger.state.rows }
 
   reads : Reads feed reading
   reads = record {
-    rejected = subst (λ (k : CommitteeValue). AreRejects k first_later_frame (later_frames feed) b.taken.kept.rejected) current.book.committee current.book.taken.rejected;
-    waiting = subst (λ (k : CommitteeValue). AreWaiting k (later_frames feed) waiting) current.book.committee
-        (table.waits (later_frames feed) (taken_here feed b current) current.book.works (clear_here feed b current));
-    ordered = current.ordered;
-    folded = record { receipts = executed_is.receipts; rows = executed_is.rows };
+    rejected = subst (λ (k : CommitteeValue). AreRejects k first_later_frame (later_frames feed) taken.kept.rejected) closed.order.committee closed.order.taken.rejected;
+    waiting = waits;
+    ordered = closed.order.ordered;
+    folded = record { receipts = closed.executed.receipts; rows = closed.executed.rows };
   }
 
-  tally : IsTallyOf (committee_in feed) (later_frames feed) b.taken.kept.tally
-  tally = subst (λ (k : CommitteeValue). IsTallyOf k (later_frames feed) b.taken.kept.tally) current.book.committee current.book.taken.tally
+  tally : IsTallyOf (committee_in feed) (later_frames feed) taken.kept.tally
+  tally = subst (λ (k : CommitteeValue). IsTallyOf k (later_frames feed) taken.kept.tally) closed.order.committee closed.order.taken.tally
 
-  certs_are : (c : CertCounts) → c ≡ certs_of b.taken.kept.tally (length b.taken.kept.rejected) (length waiting) (length b.taken.ordered.order) → AreCertCounts feed reading c
+  certs_are : (c : CertCounts) → c ≡ certs_of taken.kept.tally (length taken.kept.rejected) (length waiting) (length taken.ordered.order) → AreCertCounts feed reading c
   certs_are c e = (
     tally.verdicts,
     tally.are_verdicts,
     e ∙ (λ i. record {
       all = tally.certs i;
-      rejected = length b.taken.kept.rejected;
+      rejected = length taken.kept.rejected;
       repeated = tally.good i - tally.ids i;
       waiting = length waiting;
-      ordered = length b.taken.ordered.order;
+      ordered = length taken.ordered.order;
     }),
   )
 
-  anchors_are : (c : AnchorCounts) → CountsAnchors rounds b.taken c → AreAnchorCounts feed reading c
+  anchors_are : (c : AnchorCounts) → CountsAnchors rounds taken c → AreAnchorCounts feed reading c
   anchors_are c h = (
     rounds.held,
     h.0,
-    subst (λ (k : CommitteeValue). AreCerts k (later_frames feed) rounds.held) current.book.committee rounds_here.certs,
-    subst (λ (z : Sizes). AreRows z rounds.held b.taken.ordered.anchors h.0) (rounds_here.sizes ∙ ap sizes_of current.book.committee) h.1,
+    rounds_here.certs,
+    subst (λ (z : Sizes). AreRows z rounds.held taken.ordered.anchors h.0) rounds_here.sizes h.1,
     h.2,
   )
 
-  batches_are : (c : BatchCounts) → c ≡ batches_of b.taken.kept.tally l.counts → c ≡ batch_counts (later_frames feed) b.taken.ordered
+  batches_are : (c : BatchCounts) → c ≡ batches_of taken.kept.tally x.ledger.counts → c ≡ batch_counts (later_frames feed) taken.ordered
   batches_are c e =
-      let counts : l.counts ≡ map count_in b.taken.ordered.payloads.list = executed_is.counts in
-      let ordered : length l.counts ≡ length b.taken.ordered.payloads.list = ap length counts ∙ length_mapped count_in b.taken.ordered.payloads.list in
-      let void : void_in l.counts ≡ count_by is_void b.taken.ordered.payloads.list = ap void_in counts ∙ void_counted b.taken.ordered.payloads.list in
-      let lacks : length (unordered_digests b.taken.ordered (later_frames feed)) ≡ b.taken.kept.tally.digests - length l.counts =
-      unordered_counts (committee_in feed) (later_frames feed) b.taken.ordered current.ordered ∙ (λ i. sym tally.digests i - sym ordered i) in
-      let all : b.taken.kept.tally.batches ≡ length (digests_in (later_frames feed)) = tally.batches ∙ sym (length_mapped sha256 _) in
+      let counts : x.ledger.counts ≡ map count_in taken.ordered.payloads.list = closed.executed.counts in
+      let ordered : length x.ledger.counts ≡ length taken.ordered.payloads.list = ap length counts ∙ length_mapped count_in taken.ordered.payloads.list in
+      let void : void_in x.ledger.counts ≡ count_by is_void taken.ordered.payloads.list = ap void_in counts ∙ void_counted taken.ordered.payloads.list in
+      let lacks : length (unordered_digests taken.ordered (later_frames feed)) ≡ taken.kept.tally.digests - length x.ledger.counts =
+      unordered_counts (committee_in feed) (later_frames feed) taken.ordered closed.order.ordered ∙ (λ i. sym tally.digests i - sym ordered i) in
+      let all : taken.kept.tally.batches ≡ length (digests_in (later_frames feed)) = tally.batches ∙ sym (length_mapped sha256 _) in
       e ∙ (λ i. record {
         all = tally.batches i;
         repeated = all i - tally.digests i;
@@ -158,16 +122,16 @@ module _ (feed : FeedValue) (b : BookValue) (l : LedgerValue) (rounds : RoundsVa
         unordered = sym lacks i;
       })
 
-  pub summary_is : (opening : List Row) (s : Summary) → opening ≡ b.opening → Sums b.taken rounds waiting opening l s → IsSummaryOf feed s
-  summary_is opening s opened sums = record {
-    clear = current.clear;
+  pub summary_is : (s : Summary) → Sums taken rounds waiting x.order.opening x.ledger s → IsSummaryOf feed s
+  summary_is s sums = record {
+    clear = closed.order.clear;
     reading = reading;
     reads = reads;
-    version = sums.version ∙ (ap (λ (k : CommitteeValue). k.version) current.book.committee ∙ version_is feed.version _);
-    committee = sums.committee ∙ ap (λ (k : CommitteeValue). sha256 (committee_bytes k)) current.book.committee;
-    genesis = sums.genesis ∙ ap (λ (rows : List Row). sha256 (genesis_text rows)) (opened ∙ current.book.opening);
-    members = sums.members ∙ ap (λ (k : CommitteeValue). member_counts (sizes_of k)) current.book.committee;
-    frames = sums.frames ∙ all_frames feed.frames b.taken.kept.next good.opened current.book.taken.next;
+    version = sums.version ∙ (ap (λ (k : CommitteeValue). k.version) closed.order.committee ∙ version_is feed.version _);
+    committee = sums.committee ∙ ap (λ (k : CommitteeValue). sha256 (committee_bytes k)) closed.order.committee;
+    genesis = sums.genesis ∙ ap (λ (rows : List Row). sha256 (genesis_text rows)) closed.order.opening;
+    members = sums.members ∙ ap (λ (k : CommitteeValue). member_counts (sizes_of k)) closed.order.committee;
+    frames = sums.frames ∙ all_frames feed.frames taken.kept.next good.opened closed.order.taken.next;
     certs = certs_are s.certs sums.certs;
     anchors = anchors_are s.anchors sums.anchors;
     batches = batches_are s.batches sums.batches;
@@ -177,3 +141,25 @@ module _ (feed : FeedValue) (b : BookValue) (l : LedgerValue) (rounds : RoundsVa
     money = sums.money;
     state = sums.state;
   }
+
+-- the opening accounts of a feed are few
+pub few_opening : (feed : FeedValue) (o : OrderValue) → IsOrderedFor feed o → length o.opening < 2 ^ 32
+few_opening feed o ordered =
+    let n = ap length ordered.opening in
+    let few = genesis_few feed.frames in
+    omega (arith, n, few)
+
+module _ (of : FeedValue → Type 0) (s : Summary) (is : (feed : FeedValue) → of feed → IsSummaryOf feed s) (old new : Device) where
+  -- what was written is its text
+  pub writes : (end : Status) → Writes (summary_text s) old new → end ≡ reach_of s.missing → WritesAnswer of IsSummaryText end old new
+  writes end w e = (λ feed h. (summary_text s, record { summary = s; is_summary = is feed h; text_is = refl; end_is = e }, w.1), w.0)
+
+  -- or the front of it
+  pub writes_not : (f : Fault) → TextFails s old new f → WritesNot of IsSummaryText f old new
+  writes_not (fault.Feed found) t = absurd t
+  writes_not (fault.Collision id) t = absurd t
+  writes_not (fault.Equivocation round author first second) t = absurd t
+  writes_not (fault.Unfinished place) t = absurd t
+  writes_not (fault.Write written) t =
+      (λ feed h. (reach_of s.missing, (summary_text s, record { summary = s; is_summary = is feed h; text_is = refl; end_is = refl }, t.0, t.1)), t.2)
+  writes_not fault.Memory t = t

@@ -24,7 +24,7 @@ use Rattle.bk_views.specs.declared.anchors.AnchorState.{AnchorState}
 use Rattle.bk_views.specs.declared.anchors.AnchorState.TheVariants as state
 use Rattle.bk_report.specs.Leaves.{state_of}
 use Rattle.bk_report.specs.RunLines.{Reading}
-use Rattle.bk_follow.specs.RunReport.{HasNoStopIn, Reads, committee_in, later_frames}
+use Rattle.bk_answer.specs.RunReport.{HasNoStopIn, Reads, committee_in, later_frames}
 use Rattle.bk_summary.specs.declared.summary.AnchorCounts.{AnchorCounts}
 use Rattle.bk_summary.specs.declared.summary.BatchCounts.{BatchCounts}
 use Rattle.bk_summary.specs.declared.summary.CertCounts.{CertCounts}

@@ -1,7 +1,7 @@
 //! A summary of a feed: what it begins with, how much it holds, how much of that is ordered, what became of its
 //! transactions, and what its accounts hold in the end.
 //!
-//! [`summarize`] reads a feed and writes the text of its [`Summary`].
+//! [`Summarize`] is the answer of a feed that writes the text of its [`Summary`].
 #![tactic(auto)]
 
 mod anchors;
@@ -18,4 +18,4 @@ mod writing;
 pub use laws::digests_are_of_payloads;
 pub use summary::{AnchorCounts, BatchCounts, CertCounts, MemberCounts, Summary, TxCounts};
 pub use text::push_summary;
-pub use writing::summarize;
+pub use writing::Summarize;

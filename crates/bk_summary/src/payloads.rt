@@ -7,9 +7,9 @@ ghost use Rattle.sha2.specs.Sha256.{sha256};
 ghost use Rattle.bk_base.specs.Genesis.{genesis_text, row_text};
 ghost use Rattle.bk_committee.specs.Payload.{committee_bytes, weights_bytes};
 
+use bk_base::{Row, Version};
 use bk_committee::Committee;
 use bk_digest::Digest32;
-use bk_base::{Row, Version};
 use std::alloc::{AllocError, Global};
 
 // Adds the key of each member.

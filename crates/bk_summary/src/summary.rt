@@ -1,7 +1,7 @@
 //! What a summary says.
 
-use bk_digest::Digest32;
 use bk_base::Version;
+use bk_digest::Digest32;
 
 /// A summary of a feed that nothing stops.
 #[derive(Clone, Copy, Debug, PartialEq, Eq)]

@@ -5,8 +5,8 @@ ghost use Rattle.bk_summary.specs.Text.{anchor_words, batch_words, cert_words, l
 ghost use Rattle.bk_summary.specs.Text.{end_text, feed_text, ledger_text, order_text, outcome_text, run_text, setup_text, size_text, summary_text};
 
 use crate::summary::{AnchorCounts, BatchCounts, CertCounts, MemberCounts, Summary, TxCounts};
-use bk_digest::Digest32;
 use bk_base::Version;
+use bk_digest::Digest32;
 use std::alloc::AllocError;
 use std::fmt;
 

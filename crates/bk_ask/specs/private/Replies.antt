@@ -1,10 +1,8 @@
--- What a book replies to a query, and what its reply leaves.
-use Rattle.std.specs.Prelude.{◌≡◌, ℕ, ◌<◌, List, [], length, take, true, Option, Some, None}
+-- What was made of a feed replies to a query, and what writing the reply leaves.
+use Rattle.std.specs.Prelude.{◌≡◌, ℕ, ◌<◌, List, [], length, take, Option, Some, None}
 use Rattle.std.specs.Global.{Vec}
-use Rattle.bk_frames.specs.Cutting.{EndsShort}
-use Rattle.bk_frames.specs.Device.{Device, Works, Fails, Receives}
+use Rattle.bk_frames.specs.Device.{Device, Fails, Receives}
 use Rattle.bk_base.specs.declared.genesis.Row.{Row}
-use Rattle.bk_base.specs.Feed.{FeedValue, IsFeed}
 use Rattle.bk_frames.specs.Writing.{Writes}
 use Rattle.bk_order.specs.Intake.{Taken}
 use Rattle.bk_results.specs.declared.fault.Fault.{Fault}
@@ -20,13 +18,9 @@ use Rattle.bk_tx.specs.Batches.{transactions_of}
 use Rattle.bk_views.specs.Anchors.{AreRows, rows_text}
 use Rattle.bk_views.specs.Statement.{Course}
 use Rattle.bk_views.specs.declared.anchors.AnchorRow.{AnchorRow}
-use Rattle.bk_ask.specs.Asking.{Ending, Replies, IsReplyOf, IsQuiet, can_reply, executes, order_text}
+use Rattle.bk_ask.specs.Asking.{Ending, Replies, order_text}
 use Rattle.bk_ask.specs.declared.ordered.View.{View}
 use Rattle.bk_ask.specs.declared.ordered.View.TheVariants as view
-use Rattle.bk_follow.specs.Finishing.{OfFeed}
-use Rattle.bk_follow.specs.Follower.{BookValue, Followed, IsCurrent}
-use Rattle.bk_follow.specs.Ordering.{IsOrdered}
-use Rattle.bk_follow.specs.RunReport.{IsStopIn, HasPlaceIn}
 
 -- what was taken, executed and opened
 abbrev pub ending_of : Taken → List Row → LedgerValue → Ending
@@ -58,16 +52,6 @@ abbrev pub ShowsView : View → RoundsValue → Taken → List ℕ → Type 0
 ShowsView view.Order rounds taken text = text ≡ order_text taken.ordered
 ShowsView view.Anchors rounds taken text = ShowsRows rounds taken text
 
--- the order of a feed was closed, and this is made of its frames
-abbrev pub IsOfOrdered : Option BookValue → Type 0
-IsOfOrdered book =
-    (feed : FeedValue) × IsFeed feed × (b : BookValue) × (book ≡ Some b) × IsOrdered feed b
-
--- a feed was closed, and this is made of its frames
-abbrev pub IsOfClosed : Option BookValue → Type 0
-IsOfClosed book =
-    (feed : FeedValue) × IsFeed feed × (b : BookValue) × (book ≡ Some b) × IsCurrent feed b
-
 -- a text was not written: some of its first bytes are out, and a call of the sink failed; or memory ran out
 abbrev pub TextFails : (List ℕ → Type 0) → Device → Device → Fault → Type 0
 TextFails is_text old new (fault.Write written) =
@@ -92,59 +76,3 @@ WritesSome is_text old new = (text : List ℕ) × is_text text × Writes text ol
 -- a reply was written
 abbrev pub WritesReply : Query → Ending → Device → Device → Reply → Type 0
 WritesReply asked end old new answer = (text : List ℕ) × Replies asked end answer text × Writes text old new
-
--- the sink received the reply of a feed
-pub record ReplyIsOut (feed : FeedValue) (asked : Query) (answer : Reply) (old new : Device) : Type 0 where
-  pub text : List ℕ
-  pub reply : IsReplyOf feed asked answer text
-  pub gave : Receives old new text
-
--- the sink received the first bytes of it, and not all
-pub record ReplyStops (feed : FeedValue) (asked : Query) (written : ℕ) (old new : Device) : Type 0 where
-  pub answer : Reply
-  pub text : List ℕ
-  pub reply : IsReplyOf feed asked answer text
-  pub some : written < length text
-  pub gave : Receives old new (take written text)
-
--- a reply was written of a book that is settled
-abbrev pub BookReplies : Query → BookValue → Device → Device → Reply → Type 0
-BookReplies asked b old new answer =
-    ((feed : FeedValue) → IsFeed feed → IsCurrent feed b → ReplyIsOut feed asked answer old new) × Works old new
-    × (can_reply asked answer ≡ true) × IsQuiet answer old new
-
--- why it was not, and how much of it is out
-abbrev pub BookReplyFails : Query → BookValue → Device → Device → Fault → Type 0
-BookReplyFails asked b old new (fault.Write written) =
-    ((feed : FeedValue) → IsFeed feed → IsCurrent feed b → ReplyStops feed asked written old new) × Fails old new
-BookReplyFails asked b old new fault.Memory = IsUntouched old new
-BookReplyFails asked b old new other = ⊥
-
--- a view of a book that is ordered was written
-abbrev pub BookShows : Query → BookValue → Device → Device → Type 0
-BookShows asked b old new =
-    ((feed : FeedValue) → IsFeed feed → IsOrdered feed b → ReplyIsOut feed asked reply.Found old new) × Works old new
-
--- why it was not, and how much of it is out
-abbrev pub BookShowsNot : Query → BookValue → Device → Device → Fault → Type 0
-BookShowsNot asked b old new (fault.Write written) =
-    ((feed : FeedValue) → IsFeed feed → IsOrdered feed b → ReplyStops feed asked written old new) × Fails old new
-BookShowsNot asked b old new fault.Memory = IsUntouched old new
-BookShowsNot asked b old new other = ⊥
-
--- a Follower replied at the end of its feed
-abbrev pub FollowerReplies : Query → Followed → Device → Device → Reply → Type 0
-FollowerReplies asked v old new answer =
-    OfFeed v (λ feed. ReplyIsOut feed asked answer old new) × Works old new × (can_reply asked answer ≡ true)
-    × IsQuiet answer old new
-
--- why it did not
-abbrev pub FollowerReplyFails : Query → Followed → Device → Device → Fault → Type 0
-FollowerReplyFails asked v old new (fault.Feed found) = EndsShort v.cut found × IsUntouched old new
-FollowerReplyFails asked v old new (fault.Unfinished place) =
-    (executes asked ≡ true) × OfFeed v (λ feed. HasPlaceIn feed place) × IsUntouched old new
-FollowerReplyFails asked v old new (fault.Write written) =
-    OfFeed v (λ feed. ReplyStops feed asked written old new) × Fails old new
-FollowerReplyFails asked v old new fault.Memory = IsUntouched old new
-FollowerReplyFails asked v old new stop =
-    OfFeed v (λ feed. IsStopIn feed stop) × IsUntouched old new

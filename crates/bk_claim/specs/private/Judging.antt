@@ -4,7 +4,7 @@ use Rattle.bk_claim.specs.Claims.{ShowsVerdict}
 use Rattle.bk_claim.specs.declared.verdict.ClaimStop.{ClaimStop}
 use Rattle.bk_claim.specs.declared.verdict.ClaimStop.TheVariants as stop
 use Rattle.bk_claim.specs.declared.verdict.Verdict.{Verdict}
-use Rattle.bk_follow.specs.RunReport.{IsStopped, HasPlace}
+use Rattle.bk_answer.specs.RunReport.{IsStopped, HasPlace}
 use Rattle.bk_frames.specs.Device.{Device, Works, Fails, Receives, IfKnown}
 use Rattle.bk_frames.specs.Pulling.{Refuses}
 use Rattle.bk_results.specs.Devices.{Devices, IsUntouched, NothingHappened}

@@ -12,13 +12,13 @@ use Rattle.bk_results.specs.declared.differ.Agreed.{Agreed}
 use Rattle.bk_results.specs.declared.fault.Fault.{Fault}
 use Rattle.bk_results.specs.declared.fault.Fault.TheVariants as fault
 use Rattle.bk_follow.specs.Agreement.{settled_in, FollowersDiffer}
-use Rattle.bk_follow.specs.Outcomes.{IsOutcomeOf}
+use Rattle.bk_answer.specs.Outcomes.{IsOutcomeOf}
 use Rattle.bk_compare.specs.declared.compared.Compared.{Compared}
 use Rattle.bk_compare.specs.FeedAgreement.{FeedsCompared, FeedsDiffer, OfTheirFeeds, FollowFails}
-use Rattle.bk_follow.specs.Gaps.{missing_in}
+use Rattle.bk_follow.specs.Queries.{missing_in}
 use Rattle.bk_follow.specs.Finishing.{OfFeed}
 use Rattle.bk_follow.specs.Follower.{Followed, HasCome}
-use Rattle.bk_follow.specs.RunReport.{committee_in, later_frames, HasPlaceIn}
+use Rattle.bk_answer.specs.RunReport.{committee_in, later_frames, HasPlaceIn}
 
 -- something stops a feed
 abbrev pub HasStopIn : FeedValue → Type 0

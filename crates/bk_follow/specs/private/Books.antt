@@ -1,16 +1,15 @@
 -- What is known of a book.
 use Rattle.std.specs.Prelude.{◌≡◌, ◌≤◌, ◌++◌, length, List, Option}
 use Rattle.bk_base.specs.declared.version.Version.{Version}
-use Rattle.bk_frames.specs.Device.{Device, Works, Fails}
+use Rattle.bk_frames.specs.Device.{Device}
 use Rattle.bk_base.specs.Feed.{Frame, FeedValue, IsFeed, AreGoodFrom}
 use Rattle.bk_committee.specs.Payload.{CommitteeValue}
 use Rattle.bk_results.specs.declared.fault.Fault.{Fault}
 use Rattle.bk_results.specs.declared.fault.Fault.TheVariants as fault
 use Rattle.bk_results.specs.declared.status.Status.{Status}
-use Rattle.bk_results.specs.Devices.{IsUntouched}
-use Rattle.bk_follow.specs.Finishing.{ReportStops, ReportIsOut}
+use Rattle.bk_answer.specs.Answers.{WritesAnswer, WritesNot}
 use Rattle.bk_follow.specs.Follower.{BookValue, FollowsBy, IsBookOf, IsCurrent}
-use Rattle.bk_follow.specs.RunReport.{IsStopIn, HasPlaceIn}
+use Rattle.bk_answer.specs.RunReport.{report_text, IsStopIn, HasPlaceIn}
 
 -- this is made of the good frames of a feed
 pub record IsGoodBook (feed : FeedValue) (b : BookValue) : Type 0 where
@@ -33,14 +32,14 @@ pub record HasFollowed (version : Version) (before more : List Frame) (committee
   pub follows : FollowsBy version before committee book
   pub good : AreGoodFrom version 0 4 (before ++ more)
 
+-- the feeds whose settled book this is
+abbrev pub IsCurrentOf : BookValue → FeedValue → Type 0
+IsCurrentOf b feed = IsFeed feed × IsCurrent feed b
+
 -- a report was written of a book that is settled
 abbrev pub WritesBook : BookValue → Device → Device → Status → Type 0
-WritesBook b before after answer =
-    ((feed : FeedValue) → IsFeed feed → IsCurrent feed b → ReportIsOut feed answer before after) × Works before after
+WritesBook b before after answer = WritesAnswer (IsCurrentOf b) report_text answer before after
 
 -- why it was not, and how much of it is out
 abbrev pub WriteFails : BookValue → Device → Device → Fault → Type 0
-WriteFails b before after (fault.Write written) =
-    ((feed : FeedValue) → IsFeed feed → IsCurrent feed b → ReportStops feed written before after) × Fails before after
-WriteFails b before after fault.Memory = IsUntouched before after
-WriteFails b before after other = ⊥
+WriteFails b before after f = WritesNot (IsCurrentOf b) report_text f before after

@@ -11,6 +11,7 @@ use Rattle.bk_base.specs.declared.version.Version.{Version}
 use Rattle.std.specs.Global.{Vec}
 use Rattle.bk_follow.specs.declared.gathering.Gathered.{Gathered}
 use Rattle.bk_follow.specs.declared.opening.Opened.{Opened}
+use Rattle.bk_answer.specs.Given.{GaveAll}
 use Rattle.bk_follow.specs.Follower.{Follows, FollowsBy}
 use Rattle.bk_follow.specs.private.Books.{HasFollowed}
 
@@ -30,9 +31,9 @@ pub record HasPulled (start now : Device) (g : Gathered) : Type 0 where
   pub come : HasGathered bytes taken g
 
 -- all bytes of the source have come, and all of their frames are taken
-pub record IsAllOf (start : Device) (g : Gathered) : Type 0 where
+pub record IsAllOf (start now : Device) (g : Gathered) : Type 0 where
   pub none_waits : g.frames.items ≡ []
-  pub all : IfKnown start (λ bytes. (taken : List Frame) × HasGathered bytes taken g)
+  pub all : GaveAll start now (λ bytes. (taken : List Frame) × HasGathered bytes taken g)
 
 -- frames that wait can be taken, in a version once it is known
 abbrev pub CanTake : Option Version → List Frame → Opened → Type 0
@@ -63,7 +64,8 @@ OfPulled now waiting c holds =
 pub record PullsGroup (old new : Device) (before after : List (Kind × Vec ℕ)) (c d : Cut) (end : Bool) : Type 0 where
   pub cuts : (came : List ℕ) × CutsInto c came before after d
   pub pulls : OfPulled old before c (λ start bytes taken. (count : ℕ) × Pulls start new bytes (taken ++ frames_in after) d count)
-  pub all : end ≡ true → OfPulled old before c (λ start bytes taken. IfKnown start (λ whole. IsPulled start new whole (taken ++ frames_in after) d))
+  pub all : end ≡ true → OfPulled old before c (λ start bytes taken.
+      (given : List ℕ) × IfKnown start (λ whole. whole ≡ given) × IsPulled start new given (taken ++ frames_in after) d)
   pub nearer : end ≡ false → room_of d < room_of c
 
 -- what came of pulling a group

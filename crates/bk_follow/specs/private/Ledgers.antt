@@ -11,7 +11,7 @@ use Rattle.bk_ledger.specs.Executing.{Leaves}
 use Rattle.bk_results.specs.declared.fault.Fault.{Fault}
 use Rattle.bk_results.specs.declared.fault.Fault.TheVariants as fault
 use Rattle.bk_follow.specs.Follower.{BookValue}
-use Rattle.bk_follow.specs.Queries.{executed_of}
+use Rattle.bk_answer.specs.Closed.{executed_of}
 
 -- the book of what was taken, of a ledger and of opening accounts
 abbrev pub book_with : Taken → Option LedgerValue → List Row → BookValue

@@ -4,7 +4,7 @@ use Rattle.bk_base.specs.Feed.{FeedValue}
 use Rattle.bk_results.specs.declared.fault.Fault.{Fault}
 use Rattle.bk_results.specs.declared.fault.Fault.TheVariants as fault
 use Rattle.bk_follow.specs.Follower.{BookValue}
-use Rattle.bk_follow.specs.RunReport.{IsStopIn}
+use Rattle.bk_answer.specs.RunReport.{IsStopIn}
 use Rattle.bk_follow.specs.private.Books.{IsGoodBook}
 
 -- why the order of a book was not settled, and what that leaves

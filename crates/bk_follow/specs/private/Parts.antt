@@ -5,10 +5,12 @@ use Rattle.bk_frames.specs.Cutting.{Cut, EndsShort}
 use Rattle.bk_results.specs.declared.fault.Fault.{Fault}
 use Rattle.bk_results.specs.declared.fault.Fault.TheVariants as fault
 use Rattle.bk_follow.specs.declared.opening.Opened.{Opened}
+use Rattle.bk_results.specs.declared.status.Status.{Status}
 use Rattle.bk_results.specs.Devices.{IsUntouched}
-use Rattle.bk_follow.specs.Finishing.{OfFeed, ReportStops}
+use Rattle.bk_follow.specs.Finishing.{OfFeed}
 use Rattle.bk_follow.specs.Follower.{Followed}
-use Rattle.bk_follow.specs.RunReport.{IsStopIn, HasPlaceIn}
+use Rattle.bk_answer.specs.Answers.{TextStops}
+use Rattle.bk_answer.specs.RunReport.{report_text, IsStopIn, HasPlaceIn}
 
 -- a Follower of these parts, in which no fault is kept
 abbrev pub followed : Cut → Opened → Followed
@@ -36,7 +38,7 @@ EndFails old new before after (fault.Feed found) = EndsShort old.cut found × Is
 EndFails old new before after (fault.Unfinished place) =
     OfFeed old (λ feed. HasPlaceIn feed place) × IsUntouched before after
 EndFails old new before after (fault.Write written) =
-    OfFeed old (λ feed. ReportStops feed written before after) × Fails before after
+    OfFeed old (λ feed. (answer : Status) × TextStops (report_text feed answer) written before after) × Fails before after
 EndFails old new before after fault.Memory = IsUntouched before after
 EndFails old new before after stop =
     OfFeed old (λ feed. IsStopIn feed stop) × (new ≡ old) × IsUntouched before after

@@ -25,4 +25,4 @@ returns-then-branch-clause-come g c =
 
 pub returns-then-branch-clause-all : goal.returns-then-branch-clause-all
 returns-then-branch-clause-all g c =
-    all_taken (g.S.Source.state c.args.source.now) c.pull.new.self c.take.new.self c.in_ok-take.ensures.takes c.in_ok-take.ensures.all (c.in_ok-pull.ensures.all c.if-branch.true (g.S.Source.state c.args.source.now) c.groups.invariant.pulled)
+    all_taken (g.S.Source.state c.args.source.now) (g.S.Source.state c.pull.new.source) c.pull.new.self c.take.new.self c.in_ok-take.ensures.takes c.in_ok-take.ensures.all (c.in_ok-pull.ensures.all c.if-branch.true (g.S.Source.state c.args.source.now) c.groups.invariant.pulled)

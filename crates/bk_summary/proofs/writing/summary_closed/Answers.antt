@@ -1,23 +1,24 @@
-use Rattle.std.proofs.Common.{◌≡◌, List, subst}
+use Rattle.std.proofs.Common.{List, subst}
 use Rattle.std.proofs.lemmas.Result.{IfOk-weaker}
 use Rattle.bk_cert.specs.declared.place.CertRef.{CertRef}
+use Rattle.bk_answer.specs.Values.{closed_value, order_value}
 use Rattle.bk_summary.specs.private.Sums.{Sums}
-use Rattle.bk_summary.proofs.Shown.{few_opening, some_book, summary_of_book}
-use Rattle.bk_summary.proofs.Summed.{book_in}
+use Rattle.bk_summary.proofs.Summed.{few_opening, summary_is}
 use Rattle.bk_summary.proofs.writing.summary_closed.Goals as goal
 
-pub unreachable-unreachable : goal.unreachable-unreachable
-unreachable-unreachable g c = some_book c.args.follower.now.book c.requires.closed c.in_default.ensures
+pub rounds-rounds-requires : goal.rounds-rounds-requires
+rounds-rounds-requires g c = (c.requires.closed.0, (c.requires.closed.1.0, c.requires.closed.1.1.order))
+
+pub summary_of-requires-clause-committed : goal.summary_of-requires-clause-committed
+summary_of-requires-clause-committed g c κs within = c.rounds-rounds.ensures.committed
 
 pub summary_of-requires-clause-few : goal.summary_of-requires-clause-few
-summary_of-requires-clause-few g c κs within = few_opening c.args.follower.now.book c.opening.result.now c.requires.closed c.opening.ensures
+summary_of-requires-clause-few g c κs within = few_opening c.requires.closed.0 (order_value c.args.closed.now.order) c.requires.closed.1.1.order
 
 pub returns : goal.returns
 returns g c =
-    let same : c.deref.result.now ≡ c.in_ok-waiting.waiting.items = c.deref.ensures.value in
     IfOk-weaker c.summary_of.result _ _
-    (λ s h. summary_of_book c.args.follower.now.book c.in-Some.ensures.0 c.in-Some.intake.now c.rounds-rounds.result.now c.in_ok-waiting.waiting.items c.opening.result.now c.in-Some-ledger.ledger.now s
-    (book_in c.args.follower.now.book c.in-Some.ensures.0 c.in-Some.intake.now c.opening.result.now c.in-Some-ledger.ledger.now c.in-Some.ensures.1 c.in-Some.ensures.2 c.opening.ensures c.in-Some-ledger.ensures)
-    (record { rounds_are = c.rounds-rounds.ensures.table; committed = c.rounds-rounds.ensures.committed; waits = c.in_ok-waiting.ensures })
-    (subst (λ (w : List CertRef). Sums c.in-Some.intake.now c.rounds-rounds.result.now w c.opening.result.now c.in-Some-ledger.ledger.now s) same h))
+    (λ s h feed made.
+    summary_is feed (closed_value c.args.closed.now) c.rounds-rounds.result.now c.in_ok-waiting.waiting.items made.0 made.1 (c.rounds-rounds.ensures.rounds feed (made.0, made.1.order)) (c.in_ok-waiting.ensures feed (made.0, made.1.order)) s
+    (subst (λ (w : List CertRef). Sums c.args.closed.now.order.intake.now c.rounds-rounds.result.now w c.args.closed.now.order.opening.now c.args.closed.now.ledger.now s) c.deref.ensures.value h))
     c.summary_of.ensures

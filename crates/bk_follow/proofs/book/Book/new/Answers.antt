@@ -2,7 +2,7 @@ use Rattle.std.proofs.Common.{sym, ap, ◌∙◌, length}
 use Rattle.std.proofs.lemmas.List.{length-map}
 use Rattle.bk_base.specs.Genesis.{ids_of}
 use Rattle.bk_committee.specs.Payload.{CommitteeValue}
-use Rattle.bk_follow.specs.Queries.{executed_of}
+use Rattle.bk_answer.specs.Closed.{executed_of}
 use Rattle.bk_follow.proofs.Books.{opened_book}
 use Rattle.bk_follow.proofs.book.Book.new.Goals as goal
 

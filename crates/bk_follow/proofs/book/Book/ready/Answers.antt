@@ -1,6 +1,6 @@
 -- The stop of what was taken is that of the feed.
 use Rattle.std.proofs.Common.{sym, subst}
-use Rattle.bk_follow.specs.RunReport.{later_frames, IsStopIn}
+use Rattle.bk_answer.specs.RunReport.{later_frames, IsStopIn}
 use Rattle.bk_follow.specs.private.Books.{IsGoodBook}
 use Rattle.bk_follow.proofs.Books.{stop_in}
 use Rattle.bk_follow.proofs.book.Book.ready.Goals as goal

@@ -2,7 +2,7 @@ use Rattle.bk_order.specs.declared.stop.Stop.{Stop}
 use Rattle.bk_order.specs.declared.stop.Stop.TheVariants as stop
 use Rattle.bk_follow.specs.Follower.{BookValue}
 use Rattle.bk_base.specs.Feed.{FeedValue}
-use Rattle.bk_follow.specs.RunReport.{later_frames, IsStopIn, fault_of}
+use Rattle.bk_answer.specs.RunReport.{later_frames, IsStopIn, fault_of}
 use Rattle.bk_follow.specs.private.Books.{IsGoodBook}
 use Rattle.bk_follow.specs.private.Ordered.{BookOrderFails}
 use Rattle.std.proofs.Common.{refl, sym, subst}

@@ -1,7 +1,7 @@
 use Rattle.std.proofs.Common.{Option, sym, ap, ◌∙◌}
 use Rattle.bk_rules.specs.Ledger as rules
 use Rattle.bk_rules.specs.Rows.{account_at}
-use Rattle.bk_follow.specs.Follower.{Executed}
+use Rattle.bk_answer.specs.Closed.{Executed}
 use Rattle.bk_follow.specs.Queries.{rows_of_executed}
 use Rattle.bk_follow.proofs.follower.Follower.account.Goals as goal
 

@@ -2,7 +2,7 @@ use Rattle.std.proofs.Common.{◌≡◌, Option, List, sym, ap, subst, ◌∙◌
 use Rattle.std.specs.Prelude.{Contains, MatchOption}
 use Rattle.bk_base.specs.declared.genesis.Row.{Row}
 use Rattle.bk_rules.specs.Ledger as rules
-use Rattle.bk_follow.specs.Follower.{Executed}
+use Rattle.bk_answer.specs.Closed.{Executed}
 use Rattle.bk_follow.specs.Queries.{rows_of_executed, rows_in}
 use Rattle.bk_report.specs.Proofs.{IsAbsent, IsProofOf}
 use Rattle.bk_follow.proofs.follower.Follower.find_proof.Goals as goal

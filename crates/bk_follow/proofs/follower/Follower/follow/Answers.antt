@@ -34,5 +34,5 @@ returns-in-Ok-clause-come g c =
     let none : c.self.inside.fault ≡ None = ap (λ (v : Followed). v.fault) (c.self.view_is ∙ c.requires.first) in
     let new = c.pull_all.new.gathered in
     let done = follower_of new.cutter new.opened.committee new.opened.book c.self.inside.fault in
-    source_come (g.S.Source.state c.args.source.now) new done c.in-Ok.ensures.all.all
+    source_come (g.S.Source.state c.args.source.now) (g.S.Source.state c.pull_all.new.source) new done c.in-Ok.ensures.all.all
     (λ bytes taken h. all_come bytes taken new h done (λ i. follower_of new.cutter new.opened.committee new.opened.book (none i)) c.in-Ok.ensures.all.none_waits)

@@ -1,6 +1,7 @@
 use Rattle.std.proofs.Common.{Option, sym, ap, ◌∙◌}
 use Rattle.std.specs.Prelude.{slice_get}
-use Rattle.bk_follow.specs.Follower.{Executed, receipts_of_executed}
+use Rattle.bk_answer.specs.Closed.{Executed}
+use Rattle.bk_follow.specs.Follower.{receipts_of_executed}
 use Rattle.bk_follow.proofs.follower.Follower.receipt.Goals as goal
 
 pub returns-in-Some-clause-receipt : goal.returns-in-Some-clause-receipt

@@ -1,0 +1,232 @@
+//! A feed that is read to its end, and what is asked of it.
+
+ghost use Rattle.std.specs.Prelude.{◌≡◌, ◌<◌, ◌≤◌, length, true, false, None, IfOk, IfErr, IfSome};
+ghost use Rattle.bk_answer.specs.Answers.{AnswerFailsBy, IsAnswered, WritesAnswer, WritesNot};
+ghost use Rattle.bk_frames.specs.Device.{CanBeUsed};
+ghost use Rattle.bk_frames.specs.declared.pulling.TheConstants.{PIECE};
+ghost use Rattle.bk_results.specs.Devices.{devices};
+ghost use Rattle.bk_follow.specs.Follower.{unfed};
+ghost use Rattle.bk_follow.specs.private.Answering.{FollowerAnswers, FollowerAnswersNot, IsOfClosed, IsOfOrdered, IsOrderedOf};
+ghost use Rattle.bk_follow.specs.private.Books.{IsCurrentOf};
+
+use crate::fault::Fault;
+use crate::follower::Follower;
+use bk_answer::{Answer, OrderAnswer};
+use bk_frames::{PIECE, Sink, Source};
+use bk_pool::Gate;
+use std::alloc::Global;
+use std::sync::Wait;
+use std::thread::Threads;
+
+// ---- with the batches of the order executed
+
+// Writes the answer of a feed that was followed to its end, and closed.
+fn write_closed<R: Threads + Sync, K: Sink, A: Answer>(
+    rt: &R,
+    follower: &Follower,
+    asked: &A,
+    sink: &mut K,
+) -> Result<A::End, Fault>
+    requires ask { A.can_ask asked.now }
+    requires sound { CanBeUsed (K.state sink.old) }
+    requires closed { IsOfClosed follower.now.book }
+    ensures out { IfOk result (λ end. IfSome follower.now.book (λ b.
+        WritesAnswer (IsCurrentOf b) (A.text asked.now) end (K.state sink.old) (K.state sink.new))) }
+    ensures fault { IfErr result (λ f. IfSome follower.now.book (λ b.
+        WritesNot (IsCurrentOf b) (A.text asked.now) f (K.state sink.old) (K.state sink.new))) }
+{
+    let Some(closed) = follower.closed() else {
+        unreachable!()
+    };
+    asked.write(rt, follower.alloc, &closed, sink)
+}
+
+// Settles the feed that ends here, and writes its answer.
+fn close_and_answer<R: Threads + Wait + Sync, G: Gate + Sync, K: Sink, A: Answer>(
+    rt: &R,
+    follower: &mut Follower,
+    gate: &G,
+    asked: &A,
+    sink: &mut K,
+) -> Result<A::End, Fault>
+    requires ask { A.can_ask asked.now }
+    requires sound { CanBeUsed (K.state sink.old) }
+    requires works { follower.old.fault ≡ None }
+    ensures out { IfOk result (λ end. FollowerAnswers (A.text asked.now) follower.old end
+        (K.state sink.old) (K.state sink.new)) }
+    ensures fault { IfErr result (λ f. FollowerAnswersNot (A.text asked.now) true follower.old f
+        (K.state sink.old) (K.state sink.new)) }
+{
+    follower.close(rt, gate)?;
+    let end = write_closed(rt, follower, asked, sink)?;
+    Ok(end)
+}
+
+// Follows all that a source has, and writes its answer. The piece is room for its bytes.
+fn follow_and_answer<R, S: Source, K: Sink, G: Gate + Sync, A: Answer>(
+    rt: &R,
+    source: &mut S,
+    sink: &mut K,
+    piece: &mut [u8],
+    follower: &mut Follower,
+    gate: &G,
+    asked: &A,
+) -> Result<A::End, Fault>
+where
+    R: Threads + Wait + Sync,
+    requires ask { A.can_ask asked.now }
+    requires some { 0 < length piece.old }
+    requires few { length piece.old ≤ PIECE }
+    requires first { follower.old ≡ unfed }
+    requires source { CanBeUsed (S.state source.old) }
+    requires sink { CanBeUsed (K.state sink.old) }
+    ensures answer { IfOk result (λ end. IsAnswered (A.text asked.now) end
+        (devices (S.state source.old) (K.state sink.old))
+        (devices (S.state source.new) (K.state sink.new))) }
+    ensures fault { IfErr result (λ f. AnswerFailsBy (A.text asked.now) true f
+        (devices (S.state source.old) (K.state sink.old))
+        (devices (S.state source.new) (K.state sink.new))) }
+{
+    follower.follow(rt, source, piece)?;
+    let end = close_and_answer(rt, follower, gate, asked, sink)?;
+    Ok(end)
+}
+
+/// Reads a feed, finds its committed order, executes the order's batches on this many workers, 1 to 64, and writes what
+/// is asked of it.
+///
+/// However many workers there are, and however they run, it is what the definitions read off the feed's frames as a set
+/// and the transactions one at a time. The whole feed is read before anything is written, and with every fault but
+/// `Write` nothing is written.
+pub fn answer_by_ledger<R, S: Source, K: Sink, G: Gate + Sync, A: Answer>(
+    rt: &R,
+    alloc: Global,
+    source: &mut S,
+    sink: &mut K,
+    workers: usize,
+    gate: &G,
+    asked: &A,
+) -> Result<A::End, Fault>
+where
+    R: Threads + Wait + Sync,
+    requires ask { A.can_ask asked.now }
+    requires source { CanBeUsed (S.state source.old) }
+    requires sink { CanBeUsed (K.state sink.old) }
+    requires workers { (1 ≤ workers) × (workers ≤ 64) }
+    ensures answer { IfOk result (λ end. IsAnswered (A.text asked.now) end
+        (devices (S.state source.old) (K.state sink.old))
+        (devices (S.state source.new) (K.state sink.new))) }
+    ensures fault { IfErr result (λ f. AnswerFailsBy (A.text asked.now) true f
+        (devices (S.state source.old) (K.state sink.old))
+        (devices (S.state source.new) (K.state sink.new))) }
+{
+    let mut piece = vec![in alloc; 0u8; PIECE]?;
+    let mut follower = Follower::new(alloc, workers);
+    let end = follow_and_answer(
+        rt,
+        source,
+        sink,
+        piece.as_mut_slice(),
+        &mut follower,
+        gate,
+        asked,
+    );
+    follower.discard();
+    end
+}
+
+// ---- by the order alone
+
+// Writes the answer of a feed that was followed to its end, and whose order was closed.
+fn write_ordered<K: Sink, A: OrderAnswer>(
+    follower: &Follower,
+    asked: &A,
+    sink: &mut K,
+) -> Result<A::End, Fault>
+    requires ask { A.can_ask asked.now }
+    requires sound { CanBeUsed (K.state sink.old) }
+    requires ordered { IsOfOrdered follower.now.book }
+    ensures out { IfOk result (λ end. IfSome follower.now.book (λ b.
+        WritesAnswer (IsOrderedOf b) (A.text asked.now) end (K.state sink.old) (K.state sink.new))) }
+    ensures fault { IfErr result (λ f. IfSome follower.now.book (λ b.
+        WritesNot (IsOrderedOf b) (A.text asked.now) f (K.state sink.old) (K.state sink.new))) }
+{
+    let Some(order) = follower.closed_order() else {
+        unreachable!()
+    };
+    asked.write(follower.alloc, &order, sink)
+}
+
+// Settles the order of the feed that ends here, and writes its answer.
+fn close_order_and_answer<K: Sink, A: OrderAnswer>(
+    follower: &mut Follower,
+    asked: &A,
+    sink: &mut K,
+) -> Result<A::End, Fault>
+    requires ask { A.can_ask asked.now }
+    requires sound { CanBeUsed (K.state sink.old) }
+    requires works { follower.old.fault ≡ None }
+    ensures out { IfOk result (λ end. FollowerAnswers (A.text asked.now) follower.old end
+        (K.state sink.old) (K.state sink.new)) }
+    ensures fault { IfErr result (λ f. FollowerAnswersNot (A.text asked.now) false follower.old f
+        (K.state sink.old) (K.state sink.new)) }
+{
+    follower.close_order()?;
+    let end = write_ordered(follower, asked, sink)?;
+    Ok(end)
+}
+
+// Follows all that a source has, and writes its answer. The piece is room for its bytes.
+fn follow_order_and_answer<R: Threads + Sync, S: Source, K: Sink, A: OrderAnswer>(
+    rt: &R,
+    source: &mut S,
+    sink: &mut K,
+    piece: &mut [u8],
+    follower: &mut Follower,
+    asked: &A,
+) -> Result<A::End, Fault>
+    requires ask { A.can_ask asked.now }
+    requires some { 0 < length piece.old }
+    requires few { length piece.old ≤ PIECE }
+    requires first { follower.old ≡ unfed }
+    requires source { CanBeUsed (S.state source.old) }
+    requires sink { CanBeUsed (K.state sink.old) }
+    ensures answer { IfOk result (λ end. IsAnswered (A.text asked.now) end
+        (devices (S.state source.old) (K.state sink.old))
+        (devices (S.state source.new) (K.state sink.new))) }
+    ensures fault { IfErr result (λ f. AnswerFailsBy (A.text asked.now) false f
+        (devices (S.state source.old) (K.state sink.old))
+        (devices (S.state source.new) (K.state sink.new))) }
+{
+    follower.follow(rt, source, piece)?;
+    let end = close_order_and_answer(follower, asked, sink)?;
+    Ok(end)
+}
+
+/// Reads a feed, finds its committed order, and writes what is asked of the order. Nothing is executed, and nothing waits.
+///
+/// The whole feed is read before anything is written, and with every fault but `Write` nothing is written. `Unfinished`
+/// does not come.
+pub fn answer_by_order<R: Threads + Sync, S: Source, K: Sink, A: OrderAnswer>(
+    rt: &R,
+    alloc: Global,
+    source: &mut S,
+    sink: &mut K,
+    asked: &A,
+) -> Result<A::End, Fault>
+    requires ask { A.can_ask asked.now }
+    requires source { CanBeUsed (S.state source.old) }
+    requires sink { CanBeUsed (K.state sink.old) }
+    ensures answer { IfOk result (λ end. IsAnswered (A.text asked.now) end
+        (devices (S.state source.old) (K.state sink.old))
+        (devices (S.state source.new) (K.state sink.new))) }
+    ensures fault { IfErr result (λ f. AnswerFailsBy (A.text asked.now) false f
+        (devices (S.state source.old) (K.state sink.old))
+        (devices (S.state source.new) (K.state sink.new))) }
+{
+    let mut piece = vec![in alloc; 0u8; PIECE]?;
+    let mut follower = Follower::new(alloc, 1);
+    let end = follow_order_and_answer(rt, source, sink, piece.as_mut_slice(), &mut follower, asked);
+    follower.discard();
+    end
+}

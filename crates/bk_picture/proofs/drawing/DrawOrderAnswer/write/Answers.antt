@@ -1,0 +1,13 @@
+use Rattle.std.proofs.lemmas.Result.{IfErr-weaker}
+use Rattle.bk_answer.specs.Values.{order_value}
+use Rattle.bk_picture.proofs.Drawings.{draws_all, draws_not}
+use Rattle.bk_picture.proofs.drawing.DrawOrderAnswer.write.Goals as goal
+
+pub returns-clause-out : goal.returns-clause-out
+returns-clause-out g c = draws_all c.args.self.now.from c.args.self.now.count (order_value c.args.order.now) c.rounds-rounds.result.now c.rounds-rounds.ensures.rounds _ _ c.write_picture.result c.write_picture.ensures.out
+
+pub returns-clause-fault : goal.returns-clause-fault
+returns-clause-fault g c =
+    IfErr-weaker c.write_picture.result _ _
+    (λ f t. draws_not c.args.self.now.from c.args.self.now.count (order_value c.args.order.now) c.rounds-rounds.result.now c.rounds-rounds.ensures.rounds _ _ f t)
+    c.write_picture.ensures.fault
