@@ -234,6 +234,12 @@ def limits_of(option):
     return numbers
 
 
+def changed_on():
+    """The day of the last change that CHANGELOG.md has. A page is dated by it, and not by a clock."""
+    found = re.search(r"^#+ .*\b(\d{4}-\d\d-\d\d)\b", read("CHANGELOG.md"), re.MULTILINE)
+    return found[1] if found else fail("CHANGELOG.md has no heading with a day, as 2026-11-27")
+
+
 def checked(command):
     """Fails if the man page or a completion lacks something of a command."""
     for part in ("about", "after_help"):

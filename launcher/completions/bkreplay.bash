@@ -98,8 +98,8 @@ _bkreplay() {
     case "$command $value" in
     'run --workers') COMPREPLY=($(compgen -W '{1..64}' -- "$current")) ;;
     'summary --workers') COMPREPLY=($(compgen -W '{1..64}' -- "$current")) ;;
-    'dag --from') COMPREPLY=($(compgen -W '{1..1000000}' -- "$current")) ;;
-    'dag --rounds') COMPREPLY=($(compgen -W '{1..1000}' -- "$current")) ;;
+    'dag --from') ;;
+    'dag --rounds') ;;
     'statement --workers') COMPREPLY=($(compgen -W '{1..64}' -- "$current")) ;;
     'check-state --workers') COMPREPLY=($(compgen -W '{1..64}' -- "$current")) ;;
     'check-report --workers') COMPREPLY=($(compgen -W '{1..64}' -- "$current")) ;;

@@ -72,8 +72,8 @@ complete -c bkreplay -n '__bkreplay_at summary 0' -F
 complete -c bkreplay -n '__bkreplay_at anchors' -l progress -d 'Show on standard error how many bytes are read, and how many transactions are executed'
 complete -c bkreplay -n '__bkreplay_at anchors' -l verbose -d 'Say in one more line what a fault is, in words, or at which missing batch an order stops, and name the file'
 complete -c bkreplay -n '__bkreplay_at anchors 0' -F
-complete -c bkreplay -n '__bkreplay_at dag' -l from -x -a '(seq 1 1000000)' -d 'The first round that is drawn, 1 to 1,000,000; 1 by default'
-complete -c bkreplay -n '__bkreplay_at dag' -l rounds -x -a '(seq 1 1000)' -d 'How many rounds are drawn, 1 to 1,000; 40 by default'
+complete -c bkreplay -n '__bkreplay_at dag' -l from -x -d 'The first round that is drawn, 1 to 1,000,000; 1 by default'
+complete -c bkreplay -n '__bkreplay_at dag' -l rounds -x -d 'How many rounds are drawn, 1 to 1,000; 40 by default'
 complete -c bkreplay -n '__bkreplay_at dag' -l progress -d 'Show on standard error how many bytes are read, and how many transactions are executed'
 complete -c bkreplay -n '__bkreplay_at dag' -l verbose -d 'Say in one more line what a fault is, in words, or at which missing batch an order stops, and name the file'
 complete -c bkreplay -n '__bkreplay_at dag 0' -F
