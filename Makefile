@@ -6,7 +6,7 @@ CPU := $(shell ./launcher/cpu)
 BUILT =
 
 # Recipes take these from the environment, so they may have spaces in them.
-export PREFIX DESTDIR CPU BUILT
+export PREFIX DESTDIR CPU BUILT SUMS
 
 build: ## prove and build the program into out/CPU (20 minutes on four cores, once)
 	@for it in $$CPU; do ./launcher/build "$$it" || exit; done
@@ -14,12 +14,12 @@ build: ## prove and build the program into out/CPU (20 minutes on four cores, on
 help: ## print this list
 	@echo 'make [TARGET] [PREFIX=/usr/local] [DESTDIR=] [CPU=default|x86-64-v2|x86-64-v3, or several in quotes]'
 	@sed -n 's/^\([a-z]*\):.*## \(.*\)/\1|\2/p' Makefile | while IFS='|' read -r target text; do \
-		printf '  %-10s %s\n' "$$target" "$$text"; done
+		printf '  %-9s  %s\n' "$$target" "$$text"; done
 	@echo 'CPU is the processor to build for; without it, x86-64-v3 if this machine has all that it needs, and else default,'
 	@echo 'which every x86-64 processor runs. BUILT names a folder with built programs, which are taken in place of those in out.'
 
-check: ## run the gate, .ci/run: bench/edits and rt ci (an hour and more on four cores)
-	bash .ci/run
+check: ## run the gate, .ci/run: bench/edits and rt ci (an hour and more on four cores); out/gate has what it said
+	./dev gate
 
 test: check ## the same
 
@@ -30,7 +30,18 @@ install: ## copy the program, man page, completions, documents and examples belo
 uninstall: ## remove what install has copied
 	./launcher/install --remove "$$DESTDIR$$PREFIX"
 
+dist: ## archives of the sources and of the program, their sums, and a page on where they come from, in out/dist
+	./launcher/package dist $${BUILT:+--built "$$BUILT"}
+
+deb: ## a Debian package with the builds for default and x86-64-v3, in out/dist
+	./launcher/package deb $${BUILT:+--built "$$BUILT"}
+
+reproduce: ## with SUMS=FILE, the SHA256SUMS of a release: prove, build and pack, and compare with these sums
+	./launcher/package reproduce $${BUILT:+--built "$$BUILT"} $${SUMS:+"$$SUMS"}
+
 clean: ## remove all that was built, and what was proved for it
 	rm -rf out crates/*/out
 
-.PHONY: build help check test install uninstall clean
+# dist and deb write the same file of sums.
+.NOTPARALLEL:
+.PHONY: build help check test install uninstall dist deb reproduce clean
