@@ -19,3 +19,8 @@ pub mod Comparing
 pub mod Rejecting
 pub mod Scheduling
 pub mod Runnable
+pub mod BindingHashes
+pub mod BindingTrees
+pub mod BindingRoots
+pub mod BindingRows
+pub mod BindingFeeds

@@ -40,7 +40,7 @@ report_exists feed good clear =
     )
 
 -- there is one list of accounts at its end
-same_rows : (feed : FeedValue) (end : Outcome) (r : Reading) → IsOutcomeOf feed end → Reads feed r → r.rows ≡ end.rows
+pub same_rows : (feed : FeedValue) (end : Outcome) (r : Reading) → IsOutcomeOf feed end → Reads feed r → r.rows ≡ end.rows
 same_rows feed end r is reads =
     let same : r.ordered ≡ end.ordered = one_ordered (committee_in feed) (later_frames feed) r.ordered end.ordered is.clear reads.ordered is.ordered in
     reads.folded.rows

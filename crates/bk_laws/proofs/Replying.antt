@@ -55,7 +55,7 @@ length-ids : (rows : List Row) → length (ids_of rows) ≡ length rows
 length-ids [] = refl
 length-ids (r ∷ rows) = omega (arith, length-ids rows)
 
-one_index : (rows : List Row) (i j : ℕ) (a b : Row) → IsLedger rows → slice_get rows i ≡ Some a → slice_get rows j ≡ Some b → a.id ≡ b.id → i ≡ j
+pub one_index : (rows : List Row) (i j : ℕ) (a b : Row) → IsLedger rows → slice_get rows i ≡ Some a → slice_get rows j ≡ Some b → a.id ≡ b.id → i ≡ j
 one_index rows i j a b ledger e f same =
     let at_i = id_at rows i a e in
     let at_j = id_at rows j b f in

@@ -1,3 +1,5 @@
 pub mod Claims
 pub mod Laws
 pub mod Following
+pub mod Hashed
+pub mod Binding

@@ -3,11 +3,14 @@
 //! Every byte string comes to exactly one thing, every query of a feed that has a report to one reply, and every two feeds
 //! to one comparison. What a feed has ordered, executed and rejected stays so as it grows, in whatever order its frames
 //! come, and so it is of a Follower between its pieces. Every list of events comes to one thing. The proof of an account
-//! is good for the state in the report. Nothing else stands on this crate.
+//! is good for the state in the report. A digest binds the accounts that it is the digest of, but for a collision of
+//! SHA-256. Nothing else stands on this crate.
 #![tactic(auto)]
 
+mod binding;
 mod laws;
 
+pub use binding::{good_paths_hold, good_proofs_hold, one_proof, roots_bind, states_bind};
 pub use laws::{
     accounts_fit, claims_have_one_verdict, exactly_one_answer, exactly_one_comparison,
     exactly_one_reply, exactly_one_schedule_answer, executed_is_fold, fault_or_apply_report,

@@ -1,0 +1,39 @@
+//! What a digest binds: laws, each the contract of a function that does nothing.
+//!
+//! `check-proof` and `check-state` compare digests, and so does a reader of two reports. Equal digests are those of the
+//! same accounts, or SHA-256 has a collision among the byte strings that were hashed. Nothing is supposed of SHA-256.
+
+ghost use Rattle.bk_laws.specs.Binding.{AccountsBind, GoodPathsHold, GoodProofsHold, GoodStatesHold, OneProof, ReportsEndInState, RootsBind, StatesBind};
+
+/// Where the climb from the hash of a leaf, with any index, size and path, gives the root of a list of leaves, the leaf
+/// is in the list, or there is a hash collision.
+pub fn good_paths_hold()
+    ensures { GoodPathsHold }
+{}
+
+/// Two lists of leaves with one root are the same, lengths too, or there is a hash collision.
+pub fn roots_bind()
+    ensures { RootsBind }
+{}
+
+/// A text that is a good proof for the digest in the last line of a feed's report shows one of the accounts at the end
+/// of that feed, with balance and sequence number, or there is a hash collision.
+pub fn good_proofs_hold()
+    ensures { GoodProofsHold }
+{}
+
+/// Two feeds whose reports end in one `state` line have the same accounts at the end, or there is a hash collision. So
+/// have two lists of accounts with one digest, and a feed that does not reply `state bad` to the digest of claimed
+/// accounts has these at its end. Every report ends in a `state` line.
+pub fn states_bind()
+    ensures feeds { StatesBind }
+    ensures accounts { AccountsBind }
+    ensures good { GoodStatesHold }
+    ensures ends { ReportsEndInState }
+{}
+
+/// Two texts that are good proofs for one such digest and show one id show the same balance and sequence number, or
+/// there is a hash collision.
+pub fn one_proof()
+    ensures { OneProof }
+{}
