@@ -2,3 +2,4 @@ mod BlameLemmas
 mod ScheduleLemmas
 mod StatusLemmas
 mod VerdictLemmas
+pub mod QueryLemmas
