@@ -31,7 +31,7 @@ use Rattle.bk_report.specs.Proofs.{IsRow}
 use Rattle.bk_tx.specs.Batches.{transactions_of}
 use Rattle.bk_report.specs.RunLines.{Reading}
 use Rattle.bk_answer.specs.RunReport.{Reads, committee_in, later_frames}
-use Rattle.bk_follow.proofs.Counting.{few_places}
+use Rattle.bk_answer.proofs.Counting.{few_places}
 use Rattle.bk_laws.proofs.Texts.{later_part, ordered_transactions, payload_bytes}
 
 -- ---- ids, and how many accounts there are

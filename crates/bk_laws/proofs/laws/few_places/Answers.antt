@@ -6,7 +6,7 @@ use Rattle.bk_base.specs.Feed.{Frame}
 use Rattle.bk_commit.specs.Growth.{IsPartOf}
 use Rattle.bk_ledger.proofs.Runs.{few_feed_transactions}
 use Rattle.bk_answer.specs.RunReport.{committee_in, later_frames}
-use Rattle.bk_follow.proofs.Counting.{few_places}
+use Rattle.bk_answer.proofs.Counting.{few_places}
 use Rattle.bk_laws.proofs.laws.few_places.Goals as goal
 
 later_part : (frames : List Frame) → IsPartOf (drop 2 frames) frames
