@@ -1,10 +1,10 @@
 //! Certificates of two sizes, and the work on them that `bench/certs` times.
 
 use anyhow::{Context, Result, bail};
+use bk_base::Version;
 use bk_cert::{Cert, Header};
 use bk_committee::Committee;
 use bk_digest::Digest32;
-use bk_base::Version;
 use std::alloc::{AllocError, Global};
 
 /// What a certificate is made of: a committee, whose first members sign, and the digests that its header names.

@@ -1,9 +1,9 @@
 //! The expected digests are of Python's `hashlib` and `hmac`.
 
 use crate::*;
+use bk_base::Version;
 use bk_committee::{Bad, Committee};
 use bk_digest::{Digest32, hmac};
-use bk_base::Version;
 use std::alloc::{AllocError, Global};
 use std::process::Abort;
 use std::test::Fail;

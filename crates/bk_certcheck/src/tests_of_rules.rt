@@ -11,9 +11,9 @@ ghost use Rattle.bk_certcheck.specs.Rules.{Breaks, BreaksNoneBelow, rule_number,
 ghost use Rattle.bk_certcheck.specs.declared.rule.Rule.TheVariants as rule;
 
 use crate::rule::{MOST_ROUND, Rule};
+use bk_base::Version;
 use bk_cert::{CertView, Mask};
 use bk_committee::Committee;
-use bk_base::Version;
 use std::cmp::Ordering;
 
 // How many parents a certificate of a later round has at least.

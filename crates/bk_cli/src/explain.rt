@@ -11,10 +11,10 @@ use crate::fault_line::put_digest;
 use crate::job_fault::JobFault;
 use crate::line::{ShortLine, put_number, put_text};
 use crate::list_fault::ListFault;
+use bk_base::Refused;
 use bk_digest::Digest32;
 use bk_frames::{FaultCode, FeedFault};
 use bk_results::{CompareStop, Differ, EventsFault, Fault, ScriptCode, ScriptFault};
-use bk_base::Refused;
 
 // What is in front of the byte at which the fault of a feed is.
 fn front(code: FaultCode) -> &'static [u8]

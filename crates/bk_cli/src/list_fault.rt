@@ -1,7 +1,7 @@
 //! Why a list of events gives no report.
 
-use bk_results::EventsFault;
 use bk_base::Refused;
+use bk_results::EventsFault;
 
 /// Why a list of events gives no report. With each of these nothing is written.
 #[derive(Clone, Copy)]

@@ -8,8 +8,8 @@ ghost use Rattle.bk_committee.specs.Sizes.{members, total, faulty, quorum, weigh
 
 use crate::bad::Bad;
 use crate::reading::{first_bad, read_members, read_weights};
-use bk_digest::MacKey;
 use bk_base::Version;
+use bk_digest::MacKey;
 use std::alloc::{AllocError, Global};
 use std::marker::Model;
 

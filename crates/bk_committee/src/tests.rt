@@ -1,6 +1,6 @@
 use crate::{Bad, Committee, committee_grammar, leaders_in_turn, quorums_meet};
-use bk_digest::{Digest32, hmac};
 use bk_base::Version;
+use bk_digest::{Digest32, hmac};
 use std::alloc::{AllocError, Global};
 use std::process::Abort;
 use std::test::Fail;

@@ -10,10 +10,10 @@ ghost use Rattle.bk_listing.specs.Listing.{cert_words, committee_words, genesis_
 ghost use Rattle.bk_listing.specs.private.Shown.{IsRow, PutsLines, row_words};
 
 use crate::rows::{CertRow, Shown};
+use bk_base::{Kind, Version};
 use bk_certcheck::Rule;
 use bk_committee::Committee;
 use bk_digest::Digest32;
-use bk_base::{Kind, Version};
 use itoa::Buffer;
 use std::alloc::AllocError;
 

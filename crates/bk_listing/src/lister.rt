@@ -11,8 +11,8 @@ ghost use Rattle.bk_listing.specs.private.Shown.{GoesOn, HasListed, ListsMore, M
 
 use crate::judging::all_rows;
 use crate::lines::{Place, put_lines};
-use bk_committee::Committee;
 use bk_base::{Kind, Version};
+use bk_committee::Committee;
 use bk_frames::{Sink, push_all};
 use bk_results::Fault;
 use std::alloc::{AllocError, Global};

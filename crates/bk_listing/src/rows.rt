@@ -17,11 +17,11 @@ ghost use Rattle.bk_listing.specs.declared.rows.Shown.TheVariants as shown;
 ghost use Rattle.bk_tx.specs.Batches.{count_in};
 
 use crate::finding::Found;
+use bk_base::{Kind, Row, read_genesis};
 use bk_cert::{CertView, id_of_bytes};
 use bk_certcheck::{Rule, Verdict};
 use bk_committee::Committee;
 use bk_digest::Digest32;
-use bk_base::{Kind, Row, read_genesis};
 use bk_tx::read_batch;
 use std::alloc::{AllocError, Global};
 

@@ -11,10 +11,10 @@ ghost use Rattle.bk_certcheck.specs.Verdicts.{IsVerdict};
 ghost use Rattle.bk_order.specs.Frames.{certificate_in, batch_in, certificates_in, batches_in};
 ghost use Rattle.bk_order.specs.private.Judging.{IsFound, CanTakeNext, TakesNext};
 
+use bk_base::Kind;
 use bk_certcheck::{Verdict, check_each};
 use bk_committee::Committee;
 use bk_digest::Digest32;
-use bk_base::Kind;
 use bk_lanes::digest_each;
 use sha2::{Digest, Sha256};
 use std::alloc::{AllocError, Global};

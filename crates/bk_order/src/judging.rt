@@ -10,10 +10,10 @@ ghost use Rattle.bk_order.specs.private.Judging.{IsFound, IsJudged};
 
 use crate::finding::{Found, find_part};
 use crate::parts::{bytes_in, is_worth, parts_of};
+use bk_base::Kind;
 use bk_certcheck::Verdict;
 use bk_committee::Committee;
 use bk_digest::Digest32;
-use bk_base::Kind;
 use rayon::current_num_threads;
 use rayon::prelude::*;
 use std::alloc::{AllocError, Global};

@@ -12,8 +12,8 @@ ghost use Rattle.bk_order.specs.private.Joined.{CanKeep, GoesOn, HasKept, IsJoin
 
 use crate::judging::{Judged, judge_all};
 use crate::table::{Table, keep_all};
-use bk_committee::Committee;
 use bk_base::Kind;
+use bk_committee::Committee;
 use std::alloc::{AllocError, Global};
 use std::mem::replace;
 use std::thread::{Threads, join_mut};

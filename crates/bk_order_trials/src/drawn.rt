@@ -6,9 +6,9 @@ use crate::members::Members;
 use crate::row::{Row, row_id};
 use crate::set::Set;
 use anyhow::Result;
+use bk_base::Version;
 use bk_cert::CertRef;
 use bk_digest::Digest32;
-use bk_base::Version;
 use std::alloc::Global;
 
 /// How many batches there are.

@@ -6,9 +6,9 @@ use crate::drawn::BATCHES;
 use crate::members::{EVERYBODY, Members};
 use crate::row::{Row, payload, sealed_row};
 use anyhow::Result;
+use bk_base::Kind;
 use bk_committee::Committee;
 use bk_digest::Digest32;
-use bk_base::Kind;
 use std::alloc::Global;
 
 /// A frame that breaks no rule.

@@ -2,8 +2,8 @@
 
 use crate::set::Set;
 use anyhow::{Result, bail};
-use bk_committee::Committee;
 use bk_base::Version;
+use bk_committee::Committee;
 use std::alloc::Global;
 
 /// A committee by its weights. Member j has 32 bytes j + 1 as its key. In version One each member weighs 1.

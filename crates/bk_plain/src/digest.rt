@@ -6,8 +6,8 @@ ghost use Rattle.bk_base.specs.Genesis.{row_text};
 ghost use Rattle.bk_digest.specs.Digest.{tagged_of};
 ghost use Rattle.bk_digest.specs.Tree.{node_of, root_of, root_within};
 
-use bk_digest::Digest32;
 use bk_base::Row;
+use bk_digest::Digest32;
 use sha2::{Digest, Sha256};
 use std::alloc::{AllocError, Global};
 

@@ -9,10 +9,10 @@ ghost use Rattle.bk_certcheck.specs.Rules.{wrong_parents, least_parents};
 
 use crate::members::quorum_of;
 use crate::tags::tags_by;
+use bk_base::Version;
 use bk_cert::{Cert, Header};
 use bk_committee::Committee;
 use bk_digest::Digest32;
-use bk_base::Version;
 use std::alloc::{AllocError, Global};
 use std::cmp::Ordering;
 

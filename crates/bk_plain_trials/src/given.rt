@@ -2,8 +2,8 @@
 
 use crate::tally::Tally;
 use anyhow::Result;
-use bk_digest::Digest32;
 use bk_base::Row;
+use bk_digest::Digest32;
 use bk_rules::Receipt;
 
 /// The receipt of each transaction, the rows after all of them, and the digest of these rows.

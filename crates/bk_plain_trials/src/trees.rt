@@ -3,8 +3,8 @@
 use crate::chance::Chance;
 use crate::tally::Tally;
 use anyhow::Result;
-use bk_digest::tree_root_with;
 use bk_base::Row;
+use bk_digest::tree_root_with;
 use bk_plain::{root_of, row_text, state_of};
 use bk_report::leaves_of;
 use std::alloc::Global;

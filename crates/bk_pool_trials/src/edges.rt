@@ -7,8 +7,8 @@ use crate::executing::planned_by;
 use crate::making::feed_with;
 use crate::tally::Tally;
 use anyhow::Result;
-use bk_conflicts::{Plan, Planner, WordRef};
 use bk_base::Version;
+use bk_conflicts::{Plan, Planner, WordRef};
 use bk_frames::Feed;
 use std::alloc::Global;
 

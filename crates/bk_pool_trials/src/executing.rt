@@ -5,8 +5,8 @@ ghost use Rattle.std.specs.Arc.{arc_value};
 ghost use Rattle.bk_conflicts.specs.SceneOf.{CanRunOn};
 
 use anyhow::{Result, bail};
-use bk_conflicts::{Plan, Planner};
 use bk_base::Row;
+use bk_conflicts::{Plan, Planner};
 use bk_frames::Feed;
 use bk_ledger::{Batches, Ledger};
 use bk_pool::{ExecFault, Gate, Hints, Open, Outcome, execute, execute_all, execute_with};

@@ -5,8 +5,8 @@ use crate::executing::planned;
 use crate::schedules::{claim, read, write};
 use crate::tally::Tally;
 use anyhow::Result;
-use bk_frames::Feed;
 use bk_base::Refused;
+use bk_frames::Feed;
 use bk_steps::{Event, Machine};
 use std::alloc::Global;
 

@@ -5,9 +5,9 @@ use crate::feeds::{broken, cut_at};
 use crate::made::{made, part};
 use crate::tally::Tally;
 use anyhow::Result;
+use bk_base::Refused;
 use bk_frames::{Counted, FaultCode};
 use bk_replay::{Fault, ScheduleStop, apply_schedule};
-use bk_base::Refused;
 use bk_steps::{Event, ScheduleFault};
 use std::alloc::Global;
 

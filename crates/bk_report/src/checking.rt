@@ -8,8 +8,8 @@ ghost use Rattle.bk_report.specs.Proofs.{IsGoodProof};
 
 use crate::proof::Proof;
 use crate::reading::read_proof;
-use bk_digest::check_path;
 use bk_base::Row;
+use bk_digest::check_path;
 use bk_rules::{Account, account_leaf};
 use std::alloc::{AllocError, Global};
 

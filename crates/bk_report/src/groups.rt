@@ -9,8 +9,8 @@ ghost use Rattle.bk_report.specs.Pages.{Written, size_of};
 
 use crate::line::Line;
 use crate::page::Page;
-use bk_cert::CertRef;
 use bk_base::Row;
+use bk_cert::CertRef;
 use bk_frames::{Sink, WriteFault};
 use bk_order::Reject;
 use bk_rules::Receipt;

@@ -9,8 +9,8 @@ ghost use Rattle.bk_report.specs.Proofs.{proof_text, path_lines, IsProofOf, IsAb
 use crate::leaves::leaves_of;
 use crate::line::Line;
 use crate::page::push_line;
-use bk_digest::{Digest32, audit_path, tree_root_with};
 use bk_base::Row;
+use bk_digest::{Digest32, audit_path, tree_root_with};
 use std::alloc::{AllocError, Global};
 use std::marker::Model;
 use std::thread::Threads;

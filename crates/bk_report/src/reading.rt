@@ -11,8 +11,8 @@ ghost use Rattle.bk_report.specs.Proofs.{path_lines, proof_text};
 ghost use Rattle.bk_report.specs.Lines.{text_of};
 
 use crate::proof::Proof;
-use bk_digest::Digest32;
 use bk_base::Row;
+use bk_digest::Digest32;
 use std::alloc::{AllocError, Global};
 use std::str;
 

@@ -19,10 +19,10 @@ use crate::groups::{
 use crate::line::Line;
 use crate::page::Page;
 use crate::sheets::{Sheets, put_sheets};
+use bk_base::Row;
 use bk_cert::CertRef;
 use bk_committee::Committee;
 use bk_digest::{Digest32, tree_root_with};
-use bk_base::Row;
 use bk_frames::{Sink, WriteFault};
 use bk_order::Reject;
 use bk_rules::Receipt;

@@ -12,9 +12,9 @@ use crate::parts::{header_in, parents_of, signers_in, word};
 use crate::script::Script;
 use crate::sealing::sealed;
 use crate::words::{list, number, numbers};
+use bk_base::Kind;
 use bk_cert::Header;
 use bk_digest::Digest32;
-use bk_base::Kind;
 
 impl Script {
     // Writes the frame of a certificate that these members sign.

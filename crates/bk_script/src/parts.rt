@@ -7,9 +7,9 @@ ghost use Rattle.bk_script.specs.Answers.{Answers};
 
 use crate::fault::{ScriptCode, Stop};
 use crate::words::{list, numbers};
+use bk_base::Version;
 use bk_cert::Header;
 use bk_digest::Digest32;
-use bk_base::Version;
 use std::alloc::{AllocError, Global};
 use std::cmp::Ordering;
 

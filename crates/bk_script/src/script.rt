@@ -19,10 +19,10 @@ use crate::parts::{members_size, weights_for, weights_listed, word};
 use crate::sealing::sealer;
 use crate::transactions::line_text;
 use crate::words::{hex_bytes, number, pieces};
+use bk_base::{Kind, MOST_FEED, Row, Version};
 use bk_cert::Header;
 use bk_committee::Committee;
 use bk_digest::Digest32;
-use bk_base::{Kind, MOST_FEED, Row, Version};
 use std::alloc::{AllocError, Global};
 use std::marker::Model;
 

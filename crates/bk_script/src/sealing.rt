@@ -5,9 +5,9 @@ ghost use Rattle.std.specs.List.{concat, flat_map};
 ghost use Rattle.std.specs.Int.{w32, to_be_bytes};
 ghost use Rattle.bk_script.specs.Sealing.{members_text, member_keys, sealed};
 
+use bk_base::Version;
 use bk_cert::{Cert, Header};
 use bk_committee::Committee;
-use bk_base::Version;
 use std::alloc::{AllocError, Global};
 
 // Writes the keys of this many members at the end.
