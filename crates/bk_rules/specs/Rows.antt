@@ -6,7 +6,6 @@ use Rattle.bk_base.specs.Genesis.{ids_of, total_of}
 use Rattle.bk_tx.specs.Transaction.{Transaction}
 use Rattle.bk_rules.specs.declared.account.Account.{Account}
 use Rattle.bk_base.specs.declared.version.Version.{Version}
-use Rattle.bk_rules.specs.declared.receipt.Status.{Status}
 use Rattle.bk_rules.specs.declared.receipt.Status.TheVariants as status
 use Rattle.bk_rules.specs.declared.receipt.Receipt.{Receipt}
 use Rattle.bk_rules.specs.Rule.{Accounts, Change, new_account, status_of, moved_by, changes_of}

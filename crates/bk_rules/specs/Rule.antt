@@ -4,7 +4,7 @@ use Rattle.std.specs.List.{list_all, sum_by}
 use Rattle.bk_tx.specs.declared.payments.Payment.{Payment}
 use Rattle.bk_tx.specs.Transaction.{Transaction}
 use Rattle.bk_tx.specs.declared.body.Body.{Body}
-use Rattle.bk_tx.specs.declared.body.Body.TheVariants.{Pay, PayIf, Sweep, Split}
+use Rattle.bk_tx.specs.declared.body.Body.TheVariants.{PayIf}
 use Rattle.bk_tx.specs.Access.{writes, declares}
 use Rattle.bk_tx.specs.Spelling.{payments_of, receivers_of}
 use Rattle.bk_rules.specs.declared.account.Account.{Account}

@@ -91,38 +91,43 @@ fn declared_at(declared: &Declarations, id: u64) -> Option<usize>
     declared.declared_at(id)
 }
 
-// The indices of the receivers, in their order, if all are declared for writing.
+// Finds the indices of the receivers, in their order, if all are declared for writing. The array is filled where it
+// lies: one that is returned would be copied right after its words were written, and the copy would wait for them.
 #[inline(always)]
-fn receivers_at(declared: &Declarations, payments: &[Payment]) -> Option<[usize; 6]>
+fn find_receivers(
+    declared: &Declarations,
+    payments: &[Payment],
+    places: &mut [usize; 6],
+) -> Option<()>
     requires few { length payments.now ≤ 6 }
     ensures known { is_some result ≡ list_all (λ p. writes declared.now p.to) payments.now }
-    ensures found { IfSome result (AllAt declared.now payments.now) }
+    ensures found { IfSome result (λ _. AllAt declared.now payments.now places.new) }
 {
-    let mut places = [0; 6];
     for i in 0..payments.len() {
         places[i] = writable_at(declared, payments[i].to)?;
     }
-    Some(places)
+    Some(())
 }
 
-// The indices of the accounts that a transaction names, if they are declared as they have to be.
+// Finds the indices of the accounts that a transaction names, if they are declared as they have to be. That of the
+// sender is there already.
 #[inline(always)]
-pub(crate) fn roles_of(tx: &Tx, from: usize, payments: &[Payment]) -> Option<Roles>
-    requires sender { IsAt tx.now.declared tx.now.from from }
+pub(crate) fn find_roles(tx: &Tx, payments: &[Payment], roles: &mut Roles) -> Option<()>
+    requires sender { IsAt tx.now.declared tx.now.from roles.old.from }
     requires writable { writes tx.now.declared tx.now.from ≡ true }
     requires receivers { receivers_in payments.now ≡ receivers_of tx.now.body }
     requires few { length payments.now ≤ 6 }
     ensures declared { is_some result ≡ is_declared tx.now }
-    ensures found { IfSome result (AreAt tx.now payments.now) }
-    ensures sender { IfSome result (λ r. r.from ≡ from) }
+    ensures found { IfSome result (λ _. AreAt tx.now payments.now roles.new) }
+    ensures sender { roles.new.from ≡ roles.old.from }
 {
-    let to = receivers_at(tx.declared(), payments)?;
-    let guard = match guard_of(tx.body()) {
+    find_receivers(tx.declared(), payments, &mut roles.to)?;
+    roles.guard = match guard_of(tx.body()) {
         None => None,
         Some(floor) => Some(FloorAt {
             at: declared_at(tx.declared(), floor.id)?,
             least: floor.least,
         }),
     };
-    Some(Roles { from, to, guard })
+    Some(())
 }

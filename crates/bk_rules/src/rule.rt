@@ -12,7 +12,7 @@ ghost use Rattle.bk_rules.specs.private.Roles.{AreAt, floor_passes, credited};
 use crate::account::Account;
 use crate::local::Local;
 use crate::receipt::{Receipt, Status, unmoved};
-use crate::roles::{FloorAt, Roles, payments_of, roles_of, writable_at};
+use crate::roles::{FloorAt, Roles, find_roles, payments_of, writable_at};
 use bk_base::Version;
 use bk_tx::{Declarations, Payment, Tx};
 
@@ -176,9 +176,14 @@ pub fn settle(version: Version, tx: &Tx, local: &mut Local) -> Receipt
     };
     let mut slot = [Payment { to: 0, amount: 0 }];
     let payments = payments_of(tx.body(), local.balance(from), &mut slot);
-    match roles_of(tx, from, payments) {
+    let mut roles = Roles {
+        from,
+        to: [0; 6],
+        guard: None,
+    };
+    match find_roles(tx, payments, &mut roles) {
         None => unmoved(Status::Undeclared),
-        Some(roles) => settle_at(version, tx, payments, &roles, local),
+        Some(()) => settle_at(version, tx, payments, &roles, local),
     }
 }
 

@@ -189,7 +189,8 @@ impl State {
         match tx {
             None => unmoved(Status::Malformed),
             Some(tx) => {
-                let places = places_near(&self.ids, tx.declared(), near);
+                let mut places = [0; 8];
+                find_places(&self.ids, tx.declared(), near, &mut places);
                 self.apply_at(tx, &places)
             }
         }
@@ -205,7 +206,8 @@ impl State {
         ensures after { self.new ≡ after_of self.old (Some tx.now) }
     {
         let declared = tx.declared();
-        let mut local = gather(self.version, &self.numbers, declared, places);
+        let mut local = Local::new();
+        gather(self.version, &self.numbers, declared, places, &mut local);
         let receipt = settle(self.version, tx, &mut local);
         store(&mut self.numbers, declared, places, &local);
         receipt
@@ -337,15 +339,13 @@ fn likely_places(ids: &Ids, declared: &Declarations) -> [u32; 8] {
     places
 }
 
-// The index of each declared account, or the number of ids where it has no slot, by likely ones.
-fn places_near(ids: &Ids, declared: &Declarations, near: &[u32]) -> [usize; 8]
-    ensures { ArePlaces ids.now declared.now result }
+// Finds the index of each declared account, or the number of ids where it has no slot, by likely ones.
+fn find_places(ids: &Ids, declared: &Declarations, near: &[u32], places: &mut [usize; 8])
+    ensures { ArePlaces ids.now declared.now places.new }
 {
-    let mut places = [0; 8];
     for k in 0..declared.len() {
         places[k] = ids.index_near(declared.get(k).id, likely_at(near, k));
     }
-    places
 }
 
 // The likely index of a declared account, or a number that is none.
@@ -356,23 +356,24 @@ pub(crate) fn likely_at(near: &[u32], k: usize) -> usize {
     }
 }
 
-// The declared accounts.
+// Puts the declared accounts into a list of none.
 fn gather(
     version: Version,
     numbers: &[Account],
     declared: &Declarations,
     places: &[usize; 8],
-) -> Local
+    local: &mut Local,
+)
+    requires wide { length local.old ≡ 8 }
+    requires none { (k : ℕ) → nth local.old k ≡ None }
     ensures found { (k : ℕ) → k < length declared.now →
-        nth result k ≡ shown_at version numbers.now (slice_index places.now k) }
-    ensures rest { (k : ℕ) → length declared.now ≤ k → nth result k ≡ None }
+        nth local.new k ≡ shown_at version numbers.now (slice_index places.now k) }
+    ensures rest { (k : ℕ) → length declared.now ≤ k → nth local.new k ≡ None }
 {
-    let mut local = Local::new();
     for k in 0..declared.len() {
         let account = account_in(version, numbers, places[k]);
         local.set(k, account);
     }
-    local
 }
 
 // Puts the accounts that are declared for writing back at their indexes.

@@ -3,7 +3,7 @@ use Rattle.std.specs.List.{list_all}
 use Rattle.bk_tx.specs.Access.{writes}
 use Rattle.bk_tx.specs.declared.payments.Payment.{Payment}
 use Rattle.bk_rules.specs.private.Roles.{IsAt, no_payment}
-use Rattle.bk_rules.proofs.roles.receivers_at.Given as goal
+use Rattle.bk_rules.proofs.roles.find_receivers.Given as goal
 
 abbrev pub invariant-loop-i : goal.invariant-loop-i
 invariant-loop-i l = record {

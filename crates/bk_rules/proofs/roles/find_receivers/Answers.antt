@@ -6,7 +6,7 @@ use Rattle.bk_tx.specs.declared.payments.Payment.{Payment}
 use Rattle.bk_rules.specs.private.Roles.{no_payment}
 use Rattle.bk_rules.proofs.Places.{position_is}
 use Rattle.bk_rules.proofs.Settling.{none_at}
-use Rattle.bk_rules.proofs.roles.receivers_at.Goals as goal
+use Rattle.bk_rules.proofs.roles.find_receivers.Goals as goal
 
 pub returns-in_err-places-clause-known : goal.returns-in_err-places-clause-known
 returns-in_err-places-clause-known c =
