@@ -109,23 +109,27 @@ fn put(values: &mut [u64], at: usize, slot: Option<usize>, account: Option<Accou
     }
 }
 
-// The accounts that the words of a place say, the i-th being the i-th that is declared.
+// Puts the accounts that the words of a place say into a list of none, the i-th being the i-th that is declared. The
+// list is filled where it lies: one that is returned would be copied right after its numbers were written, and the copy
+// would wait for them.
 #[inline(always)]
-fn accounts_in(
+fn put_local(
     version: Version,
     ids: &Ids,
     declared: &Declarations,
     words: &[WordRef],
     values: &[u64],
-) -> Local
+    local: &mut Local,
+)
     requires words { words.now ≡ words_in ids.now declared.now }
     requires few { length (words_in ids.now declared.now) ≤ length values.now }
+    requires wide { length local.old ≡ 8 }
+    requires none { (k : ℕ) → nth local.old k ≡ None }
     ensures found { (f : ℕ → ℕ) → Say f ids.now declared.now values.now
         → (k : ℕ) → k < length declared.now
-        → nth result k ≡ accounts_by version ids.now f (nth_id declared.now k) }
-    ensures rest { (k : ℕ) → length declared.now ≤ k → nth result k ≡ None }
+        → nth local.new k ≡ accounts_by version ids.now f (nth_id declared.now k) }
+    ensures rest { (k : ℕ) → length declared.now ≤ k → nth local.new k ≡ None }
 {
-    let mut local = Local::new();
     let mut at = 0;
     for k in 0..declared.len() {
         let slot = slot_of(ids, declared, words, k, at);
@@ -133,7 +137,6 @@ fn accounts_in(
         local.set(k, account);
         at += wide(slot);
     }
-    local
 }
 
 // Sets the words of a place to those of its accounts.
@@ -168,7 +171,8 @@ fn settle_tx(version: Version, ids: &Ids, tx: &Tx, words: &[WordRef], values: &m
         → Does version ids.now (Some tx.now) f result values.new }
 {
     let declared = tx.declared();
-    let mut local = accounts_in(version, ids, declared, words, values);
+    let mut local = Local::new();
+    put_local(version, ids, declared, words, values, &mut local);
     let receipt = settle(version, tx, &mut local);
     put_accounts(ids, declared, words, &local, values);
     receipt

@@ -1,15 +1,15 @@
-use Rattle.std.proofs.Common.{◌≡◌, ◌<◌, length, get_or, None, refl, ap, ◌∙◌, arith, length-set}
+use Rattle.std.proofs.Common.{◌≡◌, ◌<◌, length, get_or, refl, ap, ◌∙◌, arith, length-set}
 use Rattle.bk_conflicts.specs.Words.{slot_of}
-use Rattle.bk_steps.proofs.Placed.{wide_most, no_account, room_at, next_at, found_more, rest_more}
-use Rattle.bk_steps.proofs.settling.accounts_in.Goals as goal
+use Rattle.bk_steps.proofs.Placed.{wide_most, room_at, next_at, found_more, rest_more}
+use Rattle.bk_steps.proofs.settling.put_local.Goals as goal
 
 pub loop-k-init : goal.loop-k-init
 loop-k-init c = record {
   at_is = refl;
   at_low = omega arith;
-  long = ap length c.new-local.ensures;
+  long = c.requires.wide;
   found = λ f says j l. absurd (omega arith);
-  rest = λ j l. ap (λ z. get_or z j None) c.new-local.ensures ∙ no_account j;
+  rest = λ j l. c.requires.none j;
 }
 
 pub said-account-requires : goal.said-account-requires

@@ -2,7 +2,7 @@ use Rattle.std.proofs.Common.{◌≡◌, ◌<◌, ◌≤◌, ◌*◌, ℕ, None,
 use Rattle.bk_rules.specs.View.{nth, nth_id}
 use Rattle.bk_conflicts.specs.SceneOf.{accounts_by}
 use Rattle.bk_steps.specs.Settling.{words_before, Say}
-use Rattle.bk_steps.proofs.settling.accounts_in.Given as goal
+use Rattle.bk_steps.proofs.settling.put_local.Given as goal
 
 abbrev pub invariant-loop-k : goal.invariant-loop-k
 invariant-loop-k l = record {
