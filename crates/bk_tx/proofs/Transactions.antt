@@ -1,5 +1,5 @@
 -- The two laws of a transaction: what is read encodes to the same bytes, and what is encoded is read again.
-use Rattle.std.proofs.Common.{◌≡◌, ◌≢◌, ℕ, zero, suc, ◌^◌, ◌<◌, ◌≤◌, Bool, true, false, cond, eqb, leb, not, ◌&&◌, IsTrue, List, [], ◌∷◌, ◌++◌, length, Option, Some, None, refl, sym, ap, subst, ◌∙◌, append_assoc, ◌⊎◌, inl, inr, arith}
+use Rattle.std.proofs.Common.{◌≡◌, ◌≢◌, ℕ, zero, suc, ◌^◌, ◌<◌, ◌≤◌, Bool, true, false, cond, eqb, leb, not, ◌&&◌, IsTrue, List, [], ◌∷◌, ◌++◌, length, Option, Some, None, option_map, is_some, refl, sym, ap, subst, ◌∙◌, append_assoc, ◌⊎◌, inl, inr, arith}
 use Rattle.std.specs.Prelude.{IfSome, IfNone}
 use Rattle.std.specs.List.{flat_map, AllByRecursion, list_any}
 use Rattle.std.specs.Int.{w8, w64}
@@ -297,3 +297,8 @@ is_read bytes r0 r1 r2 r3 r4 kind seq from ds body e0 e1 e2 e3 e4 e5 apart =
 -- what is read is a transaction
 pub read_is_sound : (bytes : List ℕ) (t : Transaction) → IsBytes bytes → Some t ≡ transaction_of bytes → IsTransaction t
 read_is_sound bytes t fits e = (transaction_takes bytes t fits (sym e)).0
+
+-- what was filled is a transaction, where all of it was read
+pub filled_is_sound : {U : Type 0} (bytes : List ℕ) (t : Transaction) (o : Option U) → IsBytes bytes → option_map (λ (u : U). t) o ≡ transaction_of bytes → is_some o ≡ true → IsTransaction t
+filled_is_sound bytes t (Some u) fits e some = read_is_sound bytes t fits e
+filled_is_sound bytes t None fits e some = absurd cc

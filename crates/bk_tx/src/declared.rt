@@ -1,4 +1,4 @@
-ghost use Rattle.std.specs.Prelude.{◌≡◌, ◌==◌, ◌&&◌, ◌^◌, ◌<◌, ◌≤◌, ℕ, [], ◌∷◌, ◌++◌, length, IfSome, IsSome, ◌↔◌, slice_index, slice_index_or};
+ghost use Rattle.std.specs.Prelude.{◌≡◌, ◌==◌, ◌&&◌, ◌^◌, ◌<◌, ◌≤◌, ℕ, false, [], ◌∷◌, ◌++◌, length, IfSome, IsSome, ◌↔◌, slice_index, slice_index_or};
 ghost use Rattle.std.specs.List.{position};
 ghost use Rattle.bk_base.specs.Numbers.{is_ascending};
 ghost use Rattle.bk_tx.specs.Access.{writes, declares, declared_ids, no_declared, IdsFit};
@@ -62,6 +62,24 @@ impl Declarations {
             writable: [false; 8],
             count: 0,
         }
+    }
+
+    // Account 0 alone, for reading.
+    pub(crate) fn first() -> Declarations
+        ensures { result ≡ record { id = 0; writable = false } ∷ [] }
+    {
+        Declarations {
+            ids: [0; 8],
+            writable: [false; 8],
+            count: 1,
+        }
+    }
+
+    // Takes all accounts away.
+    pub(crate) fn clear(&mut self)
+        ensures { self.new ≡ [] }
+    {
+        self.count = 0;
     }
 
     // Puts one more account at the end.

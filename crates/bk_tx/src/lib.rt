@@ -10,6 +10,7 @@ mod body;
 mod declared;
 mod laws;
 mod payments;
+mod pushing;
 mod reading;
 mod tx;
 mod writing;
@@ -19,6 +20,7 @@ pub use body::Body;
 pub use declared::{Declarations, Declared, MOST_DECLARED};
 pub use laws::{one_spelling_of_a_batch, one_spelling_of_a_transaction};
 pub use payments::{MOST_PAYMENTS, Payment, Payments};
+pub use pushing::push_transactions;
 pub use tx::Tx;
 
 #[cfg(test)]

@@ -2,12 +2,12 @@
 
 ghost use Rattle.std.specs.Prelude.{◌≡◌, ◌≤◌, [], option_map};
 ghost use Rattle.bk_base.specs.Numbers.{list_at};
+ghost use Rattle.bk_tx.specs.Transaction.{transaction};
 ghost use Rattle.bk_tx.specs.Reading.{writable_of, declared_at, declarations_at, pay_at, pay_if_at, sweep_at, payment_at, split_at, body_at, transaction_of};
 
 use crate::body::Body;
 use crate::declared::{Declarations, Declared, MOST_DECLARED};
 use crate::payments::{MOST_PAYMENTS, Payment, Payments};
-use crate::tx::Tx;
 use bk_base::Fields;
 
 #[tactic(auto, unfolding(crate::specs::Reading::writable_of))]
@@ -60,37 +60,40 @@ fn declarations(fields: &mut Fields, read: &mut Declarations) -> Option<()>
 }
 
 #[tactic(auto, unfolding(crate::specs::Reading::pay_at))]
-fn pay(fields: &mut Fields) -> Option<Body>
-    ensures { option_map (λ b. (b, fields.new)) result ≡ pay_at fields.old }
+fn pay(fields: &mut Fields, read: &mut Body) -> Option<()>
+    ensures { option_map (λ _. (read.new, fields.new)) result ≡ pay_at fields.old }
 {
     let to = fields.u64()?;
     let amount = fields.u64()?;
-    Some(Body::Pay { to, amount })
+    *read = Body::Pay { to, amount };
+    Some(())
 }
 
 #[tactic(auto, unfolding(crate::specs::Reading::pay_if_at))]
-fn pay_if(fields: &mut Fields) -> Option<Body>
-    ensures { option_map (λ b. (b, fields.new)) result ≡ pay_if_at fields.old }
+fn pay_if(fields: &mut Fields, read: &mut Body) -> Option<()>
+    ensures { option_map (λ _. (read.new, fields.new)) result ≡ pay_if_at fields.old }
 {
     let to = fields.u64()?;
     let amount = fields.u64()?;
     let guard = fields.u64()?;
     let min = fields.u64()?;
-    Some(Body::PayIf {
+    *read = Body::PayIf {
         to,
         amount,
         guard,
         min,
-    })
+    };
+    Some(())
 }
 
 #[tactic(auto, unfolding(crate::specs::Reading::sweep_at))]
-fn sweep(fields: &mut Fields) -> Option<Body>
-    ensures { option_map (λ b. (b, fields.new)) result ≡ sweep_at fields.old }
+fn sweep(fields: &mut Fields, read: &mut Body) -> Option<()>
+    ensures { option_map (λ _. (read.new, fields.new)) result ≡ sweep_at fields.old }
 {
     let to = fields.u64()?;
     let keep = fields.u64()?;
-    Some(Body::Sweep { to, keep })
+    *read = Body::Sweep { to, keep };
+    Some(())
 }
 
 #[tactic(auto, unfolding(crate::specs::Reading::payment_at))]
@@ -102,70 +105,76 @@ fn payment(fields: &mut Fields) -> Option<Payment>
     Some(Payment { to, amount })
 }
 
-fn payments(count: usize, fields: &mut Fields) -> Option<Payments>
-    requires { count ≤ 6 }
-    ensures { option_map (λ read. (read, fields.new)) result ≡ list_at payment_at count fields.old }
+// Puts so many payments into a list of none.
+fn payments(count: usize, fields: &mut Fields, read: &mut Payments) -> Option<()>
+    requires few { count ≤ 6 }
+    requires none { read.old ≡ [] }
+    ensures { option_map (λ _. (read.new, fields.new)) result ≡ list_at payment_at count fields.old }
 {
-    let mut read = Payments::none();
     for _ in 0..count {
         let entry = payment(fields)?;
         read.push(entry.to, entry.amount);
     }
-    Some(read)
+    Some(())
 }
 
 #[tactic(auto, unfolding(crate::specs::Reading::split_at))]
-fn split(fields: &mut Fields) -> Option<Body>
-    ensures { option_map (λ b. (b, fields.new)) result ≡ split_at fields.old }
+fn split(fields: &mut Fields, read: &mut Body) -> Option<()>
+    ensures { option_map (λ _. (read.new, fields.new)) result ≡ split_at fields.old }
 {
     let count = fields.u8()? as usize;
     if count == 0 || count > MOST_PAYMENTS {
         return None;
     }
-    let payments = payments(count, fields)?;
-    if !payments.is_ascending() {
+    let mut paid = Payments::none();
+    payments(count, fields, &mut paid)?;
+    if !paid.is_ascending() {
         return None;
     }
-    Some(Body::Split { payments })
+    *read = Body::Split { payments: paid };
+    Some(())
 }
 
 #[inline(always)]
 #[tactic(auto, unfolding(crate::specs::Reading::body_at))]
-fn body(kind: u8, fields: &mut Fields) -> Option<Body>
-    ensures { option_map (λ b. (b, fields.new)) result ≡ body_at kind fields.old }
+fn body(kind: u8, fields: &mut Fields, read: &mut Body) -> Option<()>
+    ensures { option_map (λ _. (read.new, fields.new)) result ≡ body_at kind fields.old }
 {
     match kind {
-        1 => pay(fields),
-        2 => pay_if(fields),
-        3 => sweep(fields),
-        4 => split(fields),
+        1 => pay(fields, read),
+        2 => pay_if(fields, read),
+        3 => sweep(fields, read),
+        4 => split(fields, read),
         _ => None,
     }
 }
 
-// The transaction that the bytes encode, all of the bytes.
+// Reads the parts of the transaction that the bytes encode, all of the bytes. They are filled where they lie: a
+// transaction that is returned would be copied right after its words were written, and the copy would wait for them.
 #[tactic(auto, unfolding(crate::specs::Reading::transaction_of))]
-pub fn read_transaction(bytes: &[u8]) -> Option<Tx>
-    ensures { result ≡ transaction_of bytes.now }
+pub(crate) fn read_parts(
+    bytes: &[u8],
+    declared: &mut Declarations,
+    seq: &mut u64,
+    from: &mut u64,
+    read: &mut Body,
+) -> Option<()>
+    requires { declared.old ≡ [] }
+    ensures { option_map (λ _. transaction declared.new seq.new from.new read.new) result
+        ≡ transaction_of bytes.now }
 {
     let mut fields = Fields::new(bytes);
     let kind = fields.u8()?;
-    let mut declared = Declarations::none();
-    declarations(&mut fields, &mut declared)?;
-    let seq = fields.u64()?;
-    let from = fields.u64()?;
-    let body = body(kind, &mut fields)?;
+    declarations(&mut fields, declared)?;
+    *seq = fields.u64()?;
+    *from = fields.u64()?;
+    body(kind, &mut fields, read)?;
     if !fields.rest().is_empty() {
         return None;
     }
-    if body.pays(from) {
+    // What was read has been judged: `Tx::new` would do it again.
+    if read.pays(*from) {
         return None;
     }
-    // What was read has been judged: `Tx::new` would do it again.
-    Some(Tx {
-        declared,
-        seq,
-        from,
-        body,
-    })
+    Some(())
 }

@@ -372,3 +372,24 @@ fn a_batch_is_written(rt: HostRuntime) -> Result<(), Fail> {
     assert!(rt; slices_of(rt.alloc(), &bytes)?.as_slice() == wanted.as_slice());
     Ok(())
 }
+
+// The bytes of a batch of `PAY` and a text that is no transaction.
+fn pay_and_none(alloc: Global) -> Result<Vec<u8>, AllocError> {
+    let mut texts = Vec::new(alloc);
+    texts.push(Vec::from_slice(alloc, &PAY)?)?;
+    texts.push(Vec::from_slice(alloc, &[9])?)?;
+    write_batch(alloc, &texts)
+}
+
+// The transactions of a batch are put behind those of a list, and those of a void batch are not.
+#[test]
+fn transactions_are_pushed(rt: HostRuntime) -> Result<(), Fail> {
+    let mut bytes = pay_and_none(rt.alloc())?;
+    let mut txs = Vec::new(rt.alloc());
+    txs.push(None)?;
+    assert!(rt; push_transactions(&mut txs, &bytes)? == Some(2));
+    assert!(rt; txs[1].as_ref().is_some_and(|tx| tx.from() == 1) && txs[2].is_none());
+    let _ = bytes.pop();
+    assert!(rt; push_transactions(&mut txs, &bytes)?.is_none() && txs.len() == 3);
+    Ok(())
+}

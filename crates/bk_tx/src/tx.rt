@@ -1,11 +1,11 @@
-ghost use Rattle.std.specs.Prelude.{◌≡◌, ◌≢◌, IfSome, IfNone, IfOk, IsSome, ◌↔◌};
+ghost use Rattle.std.specs.Prelude.{◌≡◌, ◌≢◌, Some, None, if◌then◌else◌, IfSome, IfNone, IfOk, IsSome, ◌↔◌};
 ghost use Rattle.bk_tx.specs.Transaction.{Transaction, transaction};
 ghost use Rattle.bk_tx.specs.Spelling.{transaction_text, IsTransaction};
 ghost use Rattle.bk_tx.specs.Reading.{transaction_of};
 
 use crate::body::Body;
 use crate::declared::Declarations;
-use crate::reading::read_transaction;
+use crate::reading::read_parts;
 use crate::writing::{put_body, put_declared, put_u64};
 use std::alloc::{AllocError, Global};
 use std::marker::Model;
@@ -64,7 +64,37 @@ impl Tx {
         ensures none { IfNone result ((t : Transaction) → IsTransaction t
             → bytes.now ≢ transaction_text t) }
     {
-        read_transaction(bytes)
+        let mut tx = Tx::blank();
+        if tx.read(bytes) { Some(tx) } else { None }
+    }
+
+    // A transaction of which nothing is asked but that it is one.
+    pub(crate) fn blank() -> Tx {
+        Tx {
+            declared: Declarations::first(),
+            seq: 0,
+            from: 0,
+            body: Body::Sweep { to: 1, keep: 0 },
+        }
+    }
+
+    // Becomes the transaction that the bytes encode, all of the bytes, if they encode one, and returns whether they do.
+    pub(crate) fn read(&mut self, bytes: &[u8]) -> bool
+        ensures { (if result then Some self.new else None) ≡ transaction_of bytes.now }
+    {
+        self.declared.clear();
+        let is_read = read_parts(
+            bytes,
+            &mut self.declared,
+            &mut self.seq,
+            &mut self.from,
+            &mut self.body,
+        )
+        .is_some();
+        if !is_read {
+            *self = Tx::blank();
+        }
+        is_read
     }
 
     /// The same transaction again.
