@@ -2,13 +2,11 @@
 
 ghost use Rattle.std.specs.Prelude.{◌≡◌, ◌+◌, ◌^◌, ◌<◌, ◌∷◌, ◌++◌, [], length, map, All, IfOk, OnOk};
 ghost use Rattle.bk_base.specs.Feed.{frame_of};
-ghost use Rattle.bk_tx.specs.Batch.{IsWithin, cuts};
-ghost use Rattle.bk_tx.specs.Reading.{transaction_of};
 ghost use Rattle.bk_tx.specs.Batches.{count_in, feed_transactions, payloads_of, transactions_in};
 
 use bk_base::Kind;
 use bk_frames::Feed;
-use bk_tx::{Slice, Tx, read_batch};
+use bk_tx::{Tx, push_transactions};
 use std::alloc::{AllocError, Global};
 
 /// Batches that follow each other, read and not executed.
@@ -20,23 +18,6 @@ pub struct Batches {
     pub txs: Vec<Option<Tx>>,
     /// Likely slots of the accounts that these declare, in their order, for as many as were looked up.
     pub(crate) near: Vec<u32>,
-}
-
-// Puts the transactions of a batch at the end, from where its texts lie.
-fn decode_all(txs: &mut Vec<Option<Tx>>, payload: &[u8], slices: &[Slice]) -> Result<(), AllocError>
-    requires { All (IsWithin payload.now) slices.now }
-    ensures { OnOk result (txs.new.items
-        ≡ txs.old.items ++ map transaction_of (cuts payload.now slices.now)) }
-{
-    txs.reserve(slices.len())?;
-    for slice in slices {
-        // Each arm puts its own value there: one that both share would be moved once more.
-        match Tx::decode(slice.of(payload)) {
-            Some(tx) => txs.push(Some(tx))?,
-            None => txs.push(None)?,
-        }
-    }
-    Ok(())
 }
 
 impl Batches {
@@ -61,42 +42,33 @@ impl Batches {
         let mut batches = Batches::new(alloc);
         for index in 0..feed.len() {
             let (kind, payload) = feed.frame(index);
-            batches.push_frame(alloc, kind, payload)?;
+            batches.push_frame(kind, payload)?;
         }
         Ok(batches)
     }
 
     /// Reads one more batch.
-    pub(crate) fn push(&mut self, alloc: Global, payload: &[u8]) -> Result<(), AllocError>
+    pub(crate) fn push(&mut self, payload: &[u8]) -> Result<(), AllocError>
         ensures counts { OnOk result (self.new.counts.items
             ≡ self.old.counts.items ++ count_in payload.now ∷ []) }
         ensures txs { OnOk result (self.new.txs.items
             ≡ self.old.txs.items ++ transactions_in payload.now) }
         ensures few { OnOk result (length self.new.txs.items < length self.old.txs.items + 2 ^ 16) }
     {
-        let Some(slices) = read_batch(alloc, payload)? else {
-            self.counts.push(None)?;
-            return Ok(());
-        };
-        decode_all(&mut self.txs, payload, &slices)?;
-        self.counts.push(Some(slices.len() as u16))?;
+        let count = push_transactions(&mut self.txs, payload)?;
+        self.counts.push(count)?;
         Ok(())
     }
 
     /// Reads one more frame: a batch, or nothing.
-    pub(crate) fn push_frame(
-        &mut self,
-        alloc: Global,
-        kind: Kind,
-        payload: &[u8],
-    ) -> Result<(), AllocError>
+    pub(crate) fn push_frame(&mut self, kind: Kind, payload: &[u8]) -> Result<(), AllocError>
         ensures counts { OnOk result (self.new.counts.items ≡ self.old.counts.items
             ++ map count_in (payloads_of (frame_of kind payload.now ∷ []))) }
         ensures txs { OnOk result (self.new.txs.items ≡ self.old.txs.items
             ++ feed_transactions (frame_of kind payload.now ∷ [])) }
     {
         match kind {
-            Kind::Batch => self.push(alloc, payload),
+            Kind::Batch => self.push(payload),
             Kind::Committee | Kind::Genesis | Kind::Certificate => Ok(()),
         }
     }

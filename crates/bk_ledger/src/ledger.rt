@@ -102,7 +102,7 @@ impl Ledger {
         let mut batches = Batches::new(alloc);
         for index in 0..feed.len() {
             let (kind, payload) = feed.frame(index);
-            batches.push_frame(alloc, kind, payload)?;
+            batches.push_frame(kind, payload)?;
             if self.are_enough(&batches) {
                 self.run(alloc, &mut batches)?;
             }

@@ -60,7 +60,7 @@ pub(crate) fn gather(
     // Once for all of them: a list that grows is moved each time.
     batches.txs.reserve(room_for(payloads, from, least))?;
     for index in from..payloads.len() {
-        batches.push(alloc, payloads[index])?;
+        batches.push(payloads[index])?;
         if batches.txs.len() >= least {
             return Ok(batches);
         }
