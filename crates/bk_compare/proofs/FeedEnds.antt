@@ -1,6 +1,6 @@
 -- Where feeds end that are followed, and whether two of them agree.
 use Rattle.std.proofs.Common.{◌≡◌, ℕ, true, false, List, Option, Some, None, refl, sym, ap, subst, ◌∙◌, ◌⊎◌, inl, inr, ⊎_elim}
-use Rattle.std.specs.Prelude.{IfSome, IfOk, IfErr, OnOk, Result, Ok, Err}
+use Rattle.std.specs.Prelude.{IfOk, IfErr, OnOk, Result, Ok, Err}
 use Rattle.std.proofs.lemmas.List.Elements.{Contains-append_left, Contains-append_right}
 use Rattle.bk_base.specs.declared.version.Version.{Version}
 use Rattle.bk_frames.specs.Device.{Device, Works, IfKnown}
@@ -24,7 +24,7 @@ use Rattle.bk_results.specs.declared.fault.Fault.TheVariants as fault
 use Rattle.bk_follow.specs.Agreement.{Agree, AgreeInOrder, OneBeginsFor, HaveOneSetup, frames_together, HaveNoStop, HaveStop, settled_in, OfBoth, FollowersAgree, FollowersDiffer}
 use Rattle.bk_results.specs.Devices.{AreFeed}
 use Rattle.bk_answer.specs.Outcomes.{IsOutcomeOf}
-use Rattle.bk_compare.specs.FeedAgreement.{FeedsAgree, FeedsCompared, FeedsDiffer, OfTheirFeeds, IfBothKnown, Sources, FollowFails, ComparisonStops, sources}
+use Rattle.bk_compare.specs.FeedAgreement.{FeedsAgree, FeedsCompared, FeedsDiffer, OfTheirFeeds, BothGave, Sources, FollowFails, ComparisonStops, sources}
 use Rattle.bk_compare.specs.declared.compared.Compared.{Compared}
 use Rattle.bk_answer.specs.Gaps.{IsGap, IsGapIn}
 use Rattle.bk_follow.specs.Queries.{missing_in}
@@ -36,7 +36,7 @@ use Rattle.bk_answer.specs.RunReport.{committee_in, later_frames, IsStopIn, HasP
 use Rattle.bk_compare.specs.private.Ends.{HasStopIn, HasEnded, Ends, EndsNot, AgreesWith, compared_of, ComparisonStopsWith, IsDifferOf}
 use Rattle.bk_follow.specs.Stopping.{stops}
 use Rattle.bk_follow.proofs.ComparedBooks.{version_is}
-use Rattle.bk_follow.proofs.RunAnswers.{of_known, of_feed, known_of, cut_short}
+use Rattle.bk_follow.proofs.RunAnswers.{of_given, known_of, cut_short}
 use Rattle.bk_answer.specs.Given.{GaveAll}
 
 -- ---- one feed
@@ -112,8 +112,8 @@ ends_not fault.Memory old new e h = tt
 -- ---- one source
 
 -- what a source has has ended
-pub source_ended : (known now : Device) (v w : Followed) → GaveAll known now (λ bytes. AllHasCome bytes v) → Ends v w → IfKnown known (λ bytes. HasEnded bytes w)
-source_ended known now v w come ends = of_known known v (λ bytes. HasEnded bytes w) (known_of known now (λ bytes. AllHasCome bytes v) come) (λ bytes frames c. ends bytes frames c)
+pub source_ended : (known now : Device) (v w : Followed) → GaveAll known now (λ bytes. AllHasCome bytes v) → Ends v w → GaveAll known now (λ bytes. HasEnded bytes w)
+source_ended known now v w (given, gives, whole, (frames, come)) ends = (given, gives, whole, ends given frames come)
 
 -- why it has not
 pub source_not : (f : Fault) (known now : Device) (v : Followed) → Works known now → GaveAll known now (λ bytes. AllHasCome bytes v) → EndsNot v f → FollowFails f known now
@@ -121,7 +121,7 @@ source_not (fault.Feed found) known now v works come h = cut_short known now v f
 source_not (fault.Collision id) known now v works come h = absurd h
 source_not (fault.Equivocation round author first second) known now v works come h = absurd h
 source_not (fault.Unfinished place) known now v works come h =
-    (works, of_feed known v (λ feed. HasPlaceIn feed place) (λ bytes. HasPlace bytes place) (known_of known now (λ bytes. AllHasCome bytes v) come) h (λ bytes feed good spelled there. record { feed = feed; good = good; spelled = spelled; holds = there }))
+    (works, of_given known now v (λ feed. HasPlaceIn feed place) (λ bytes. HasPlace bytes place) come h (λ bytes feed good spelled there. record { feed = feed; good = good; spelled = spelled; holds = there }))
 source_not (fault.Write written) known now v works come h = absurd h
 source_not fault.Memory known now v works come h = works
 
@@ -216,88 +216,80 @@ module _ (one other : Followed) (bytes more : List ℕ) (x : HasEnded bytes one)
 
 -- ---- two sources
 
--- of the other source, where its bytes are known
-of_other : (source : Device) (other : Followed) (P : List ℕ → Type 0) → IfKnown source (λ more. HasEnded more other) → ((more : List ℕ) → HasEnded more other → P more) → IfKnown source P
-of_other source other P ended f = by_known source.bytes ended
-  where
-    by_known : (o : Option (List ℕ)) → IfSome o (λ more. HasEnded more other) → IfSome o P
-    by_known None h = tt
-    by_known (Some more) h = f more h
+-- of what a source gave
+of_gave : (old new : Device) (P Q : List ℕ → Type 0) → GaveAll old new P → ((bytes : List ℕ) → P bytes → Q bytes) → GaveAll old new Q
+of_gave old new P Q (given, gives, whole, holds) f = (given, gives, whole, f given holds)
 
-pub agrees_with : (one other : Followed) (source : Device) (a : Agreed) → IfKnown source (λ more. HasEnded more other) → FollowersAgree one other a → AgreesWith one other source a
-agrees_with one other source a ended h =
-    λ bytes x. of_other source other (λ more. OfTheirFeeds bytes more (λ f g. FeedsCompared f g (compared_of one other a))) ended (λ more y. ended_agree one other bytes more x y a h)
+pub agrees_with : (one other : Followed) (old new : Device) (a : Agreed) → GaveAll old new (λ more. HasEnded more other) → FollowersAgree one other a → AgreesWith one other old new a
+agrees_with one other old new a ended h =
+    λ bytes x. of_gave old new (λ more. HasEnded more other) (λ more. OfTheirFeeds bytes more (λ f g. FeedsCompared f g (compared_of one other a))) ended (λ more y. ended_agree one other bytes more x y a h)
 
-pub differs_with : (one other : Followed) (old new : Device) (d : Differ) → Works old new → IfKnown old (λ more. HasEnded more other) → FollowersDiffer one other d → ComparisonStopsWith (why.Differ d) one old new
-differs_with one other old new d works ended h = (works, λ bytes x. of_other old other (λ more. OfTheirFeeds bytes more (FeedsDiffer d)) ended (λ more y. ended_differ one other bytes more x y d h))
+pub differs_with : (one other : Followed) (old new : Device) (d : Differ) → Works old new → GaveAll old new (λ more. HasEnded more other) → FollowersDiffer one other d → ComparisonStopsWith (why.Differ d) one old new
+differs_with one other old new d works ended h = (works, λ bytes x. of_gave old new (λ more. HasEnded more other) (λ more. OfTheirFeeds bytes more (FeedsDiffer d)) ended (λ more y. ended_differ one other bytes more x y d h))
 
 -- what comparing both says of the source of the other
-pub agrees_by : (result : Result Agreed CompareStop) (one other : Followed) (source : Device) → IfKnown source (λ more. HasEnded more other) → IfOk result (FollowersAgree one other) → IfOk result (AgreesWith one other source)
-agrees_by (Ok a) one other source ended h = agrees_with one other source a ended h
-agrees_by (Err e) one other source ended h = tt
+pub agrees_by : (result : Result Agreed CompareStop) (one other : Followed) (old new : Device) → GaveAll old new (λ more. HasEnded more other) → IfOk result (FollowersAgree one other) → IfOk result (AgreesWith one other old new)
+agrees_by (Ok a) one other old new ended h = agrees_with one other old new a ended h
+agrees_by (Err e) one other old new ended h = tt
 
 pub works_by : (result : Result Agreed CompareStop) (old new : Device) → Works old new → OnOk result (Works old new)
 works_by (Ok a) old new works = works
 works_by (Err e) old new works = tt
 
-differs_by : (e : CompareStop) (one other : Followed) (old new : Device) → Works old new → IfKnown old (λ more. HasEnded more other) → IsDifferOf one other e → ComparisonStopsWith e one old new
+differs_by : (e : CompareStop) (one other : Followed) (old new : Device) → Works old new → GaveAll old new (λ more. HasEnded more other) → IsDifferOf one other e → ComparisonStopsWith e one old new
 differs_by (why.First found) one other old new works ended h = absurd h
 differs_by (why.Second found) one other old new works ended h = absurd h
 differs_by (why.Differ found) one other old new works ended h = differs_with one other old new found works ended h
 
-pub stops_by : (result : Result Agreed CompareStop) (one other : Followed) (old new : Device) → Works old new → IfKnown old (λ more. HasEnded more other) → IfErr result (IsDifferOf one other) → IfErr result (λ e. ComparisonStopsWith e one old new)
+pub stops_by : (result : Result Agreed CompareStop) (one other : Followed) (old new : Device) → Works old new → GaveAll old new (λ more. HasEnded more other) → IfErr result (IsDifferOf one other) → IfErr result (λ e. ComparisonStopsWith e one old new)
 stops_by (Ok a) one other old new works ended h = tt
 stops_by (Err e) one other old new works ended h = differs_by e one other old new works ended h
 
 -- and of both sources
-pub both_agree : (a : Agreed) (one other : Followed) (first second : Device) → IfKnown first (λ bytes. HasEnded bytes one) → AgreesWith one other second a
-    → IfBothKnown (sources first second) (λ f g. FeedsCompared f g (compared_of one other a))
-both_agree a one other first second ended h =
-    of_other first one (λ bytes. IfKnown second (λ more. OfTheirFeeds bytes more (λ f g. FeedsCompared f g (compared_of one other a)))) ended (λ bytes x. h bytes x)
+pub both_agree : (a : Agreed) (one other : Followed) (first first' second second' : Device) → GaveAll first first' (λ bytes. HasEnded bytes one) → AgreesWith one other second second' a
+    → BothGave (sources first second) (sources first' second') (λ f g. FeedsCompared f g (compared_of one other a))
+both_agree a one other first first' second second' ended h =
+    of_gave first first' (λ bytes. HasEnded bytes one) (λ bytes. GaveAll second second' (λ more. OfTheirFeeds bytes more (λ f g. FeedsCompared f g (compared_of one other a)))) ended (λ bytes x. h bytes x)
 
 -- what follows from what holds of both feeds holds of them
-pub both_known : (s : Sources) (holds too : FeedValue → FeedValue → Type 0) → ((f g : FeedValue) → holds f g → too f g) → IfBothKnown s holds → IfBothKnown s too
-both_known s holds too f h = by_first s.first.bytes h
-  where
-    of_feeds : (bytes more : List ℕ) → OfTheirFeeds bytes more holds → OfTheirFeeds bytes more too
-    of_feeds bytes more x = record { one = x.one; other = x.other; good = x.good; other_good = x.other_good; spelled = x.spelled; other_spelled = x.other_spelled; holds = f x.one x.other x.holds }
+pub of_theirs : (holds too : FeedValue → FeedValue → Type 0) (bytes more : List ℕ) → ((f g : FeedValue) → holds f g → too f g) → OfTheirFeeds bytes more holds → OfTheirFeeds bytes more too
+of_theirs holds too bytes more f x = record { one = x.one; other = x.other; good = x.good; other_good = x.other_good; spelled = x.spelled; other_spelled = x.other_spelled; holds = f x.one x.other x.holds }
 
-    by_second : (bytes : List ℕ) (o : Option (List ℕ)) → IfSome o (λ more. OfTheirFeeds bytes more holds) → IfSome o (λ more. OfTheirFeeds bytes more too)
-    by_second bytes None h = tt
-    by_second bytes (Some more) h = of_feeds bytes more h
+both_so : (old new : Sources) (holds too : FeedValue → FeedValue → Type 0) → ((f g : FeedValue) → holds f g → too f g) → BothGave old new holds → BothGave old new too
+both_so old new holds too f h =
+    of_gave old.first new.first (λ bytes. GaveAll old.second new.second (λ more. OfTheirFeeds bytes more holds)) (λ bytes. GaveAll old.second new.second (λ more. OfTheirFeeds bytes more too)) h
+    (λ bytes k. of_gave old.second new.second (λ more. OfTheirFeeds bytes more holds) (λ more. OfTheirFeeds bytes more too) k (λ more x. of_theirs holds too bytes more f x))
 
-    by_first : (o : Option (List ℕ)) → IfSome o (λ bytes. IfKnown s.second (λ more. OfTheirFeeds bytes more holds)) → IfSome o (λ bytes. IfKnown s.second (λ more. OfTheirFeeds bytes more too))
-    by_first None h = tt
-    by_first (Some bytes) h = by_second bytes s.second.bytes h
+pub agree_too : (old new : Sources) (c : Compared) → BothGave old new (λ f g. FeedsCompared f g c) → BothGave old new (λ f g. FeedsAgree f g c.agreed)
+agree_too old new c h = both_so old new (λ f g. FeedsCompared f g c) (λ f g. FeedsAgree f g c.agreed) (λ f g x. x.agree) h
 
-pub agree_too : (s : Sources) (c : Compared) → IfBothKnown s (λ f g. FeedsCompared f g c) → IfBothKnown s (λ f g. FeedsAgree f g c.agreed)
-agree_too s c h = both_known s (λ f g. FeedsCompared f g c) (λ f g. FeedsAgree f g c.agreed) (λ f g x. x.agree) h
+-- what holds of the bytes that both gave holds of those that are known
+pub both_known : (old new : Sources) (holds : FeedValue → FeedValue → Type 0) → BothGave old new holds → IfKnown old.first (λ bytes. IfKnown old.second (λ more. OfTheirFeeds bytes more holds))
+both_known old new holds h =
+    known_of old.first new.first (λ bytes. IfKnown old.second (λ more. OfTheirFeeds bytes more holds))
+    (of_gave old.first new.first (λ bytes. GaveAll old.second new.second (λ more. OfTheirFeeds bytes more holds)) (λ bytes. IfKnown old.second (λ more. OfTheirFeeds bytes more holds)) h
+    (λ bytes k. known_of old.second new.second (λ more. OfTheirFeeds bytes more holds) k))
 
 -- and the bytes of both stop at the missing batches of both
-pub gaps_too : (s : Sources) (c : Compared) → IfBothKnown s (λ f g. FeedsCompared f g c) → IfKnown s.first (λ bytes. IfKnown s.second (λ more. IsGap bytes c.first × IsGap more c.second))
-gaps_too s c h = by_first s.first.bytes h
+pub gaps_too : (old new : Sources) (c : Compared) → BothGave old new (λ f g. FeedsCompared f g c) → IfKnown old.first (λ bytes. IfKnown old.second (λ more. IsGap bytes c.first × IsGap more c.second))
+gaps_too old new c h =
+    known_of old.first new.first (λ bytes. IfKnown old.second (λ more. IsGap bytes c.first × IsGap more c.second))
+    (of_gave old.first new.first (λ bytes. GaveAll old.second new.second (λ more. OfTheirFeeds bytes more (λ f g. FeedsCompared f g c))) (λ bytes. IfKnown old.second (λ more. IsGap bytes c.first × IsGap more c.second)) h
+    (λ bytes k. known_of old.second new.second (λ more. IsGap bytes c.first × IsGap more c.second)
+    (of_gave old.second new.second (λ more. OfTheirFeeds bytes more (λ f g. FeedsCompared f g c)) (λ more. IsGap bytes c.first × IsGap more c.second) k (λ more x. gaps_of bytes more x))))
   where
-    of_feeds : (bytes more : List ℕ) → OfTheirFeeds bytes more (λ f g. FeedsCompared f g c) → IsGap bytes c.first × IsGap more c.second
-    of_feeds bytes more x = (
+    gaps_of : (bytes more : List ℕ) → OfTheirFeeds bytes more (λ f g. FeedsCompared f g c) → IsGap bytes c.first × IsGap more c.second
+    gaps_of bytes more x = (
       record { feed = x.one; good = x.good; spelled = x.spelled; holds = x.holds.first },
       record { feed = x.other; good = x.other_good; spelled = x.other_spelled; holds = x.holds.second },
     )
 
-    by_second : (bytes : List ℕ) (o : Option (List ℕ)) → IfSome o (λ more. OfTheirFeeds bytes more (λ f g. FeedsCompared f g c)) → IfSome o (λ more. IsGap bytes c.first × IsGap more c.second)
-    by_second bytes None h = tt
-    by_second bytes (Some more) h = of_feeds bytes more h
-
-    by_first : (o : Option (List ℕ)) → IfSome o (λ bytes. IfKnown s.second (λ more. OfTheirFeeds bytes more (λ f g. FeedsCompared f g c)))
-        → IfSome o (λ bytes. IfKnown s.second (λ more. IsGap bytes c.first × IsGap more c.second))
-    by_first None h = tt
-    by_first (Some bytes) h = by_second bytes s.second.bytes h
-
 -- a feed that has ended is a feed
-is_feed : (first : Device) (one : Followed) → IfKnown first (λ bytes. HasEnded bytes one) → IfKnown first AreFeed
-is_feed first one ended = of_other first one AreFeed ended (λ bytes x. (feed_of x.version x.frames, x.good, x.spelled))
+is_feed : (old new : Device) (one : Followed) → GaveAll old new (λ bytes. HasEnded bytes one) → GaveAll old new AreFeed
+is_feed old new one ended = of_gave old new (λ bytes. HasEnded bytes one) AreFeed ended (λ bytes x. (feed_of x.version x.frames, x.good, x.spelled))
 
-pub compare_stops : (e : CompareStop) (one : Followed) (first first' second second' : Device) → Works first first' → IfKnown first (λ bytes. HasEnded bytes one) → ComparisonStopsWith e one second second' → ComparisonStops e (sources first second) (sources first' second')
+pub compare_stops : (e : CompareStop) (one : Followed) (first first' second second' : Device) → Works first first' → GaveAll first first' (λ bytes. HasEnded bytes one) → ComparisonStopsWith e one second second' → ComparisonStops e (sources first second) (sources first' second')
 compare_stops (why.First found) one first first' second second' works ended h = absurd h
-compare_stops (why.Second found) one first first' second second' works ended h = (works, is_feed first one ended, h)
+compare_stops (why.Second found) one first first' second second' works ended h = (works, is_feed first first' one ended, h)
 compare_stops (why.Differ found) one first first' second second' works ended h =
-    ((works, h.0), of_other first one (λ bytes. IfKnown second (λ more. OfTheirFeeds bytes more (FeedsDiffer found))) ended (λ bytes x. h.1 bytes x))
+    ((works, h.0), of_gave first first' (λ bytes. HasEnded bytes one) (λ bytes. GaveAll second second' (λ more. OfTheirFeeds bytes more (FeedsDiffer found))) ended (λ bytes x. h.1 bytes x))

@@ -1,6 +1,6 @@
 -- When the feeds of two sources agree, and why they do not.
 use Rattle.std.specs.Prelude.{◌≡◌, List, ℕ}
-use Rattle.bk_frames.specs.Device.{Device, Works, IfKnown}
+use Rattle.bk_frames.specs.Device.{Device, Works}
 use Rattle.bk_base.specs.Feed.{FeedValue, IsFeed, spelling}
 use Rattle.bk_frames.specs.Pulling.{Refuses}
 use Rattle.bk_order.specs.declared.stop.Stop.TheVariants as stop
@@ -13,6 +13,7 @@ use Rattle.bk_results.specs.declared.fault.Fault.{Fault}
 use Rattle.bk_results.specs.declared.fault.Fault.TheVariants as fault
 use Rattle.bk_compare.specs.declared.compared.Compared.{Compared}
 use Rattle.bk_answer.specs.Gaps.{IsGapIn}
+use Rattle.bk_answer.specs.Given.{GaveAll}
 use Rattle.bk_follow.specs.Agreement.{HaveOneSetup, HaveNoStop, HaveStop, Agree}
 use Rattle.bk_results.specs.Devices.{AreFeed}
 use Rattle.bk_answer.specs.Outcomes.{Outcome, IsOutcomeOf}
@@ -70,16 +71,16 @@ pub record OfTheirFeeds (bytes more : List ℕ) (P : FeedValue → FeedValue →
   pub other_spelled : more ≡ spelling other
   pub holds : P one other
 
--- the bytes of both sources, where they are known, encode feeds, and this holds of the feeds
-abbrev pub IfBothKnown : Sources → (FeedValue → FeedValue → Type 0) → Type 0
-IfBothKnown s holds =
-    IfKnown s.first (λ bytes. IfKnown s.second (λ more. OfTheirFeeds bytes more holds))
+-- both sources gave bytes, all that each had where that is known, which encode feeds, and this holds of the feeds
+abbrev pub BothGave : Sources → Sources → (FeedValue → FeedValue → Type 0) → Type 0
+BothGave old new holds =
+    GaveAll old.first new.first (λ bytes. GaveAll old.second new.second (λ more. OfTheirFeeds bytes more holds))
 
 -- why the feed of a source was not followed to its end: it was refused; a worker took a place and did not finish it; or
 -- memory ran out. That something stops the feed is no such reason
 abbrev pub FollowFails : Fault → Device → Device → Type 0
 FollowFails (fault.Feed found) old new = Refuses found old new
-FollowFails (fault.Unfinished place) old new = Works old new × IfKnown old (λ bytes. HasPlace bytes place)
+FollowFails (fault.Unfinished place) old new = Works old new × GaveAll old new (λ bytes. HasPlace bytes place)
 FollowFails fault.Memory old new = Works old new
 FollowFails other old new = ⊥
 
@@ -89,5 +90,5 @@ abbrev pub ComparisonStops : CompareStop → Sources → Sources → Type 0
 ComparisonStops (why.First found) old new =
     FollowFails found old.first new.first × (new.second ≡ old.second)
 ComparisonStops (why.Second found) old new =
-    Works old.first new.first × IfKnown old.first AreFeed × FollowFails found old.second new.second
-ComparisonStops (why.Differ found) old new = BothWork old new × IfBothKnown old (FeedsDiffer found)
+    Works old.first new.first × GaveAll old.first new.first AreFeed × FollowFails found old.second new.second
+ComparisonStops (why.Differ found) old new = BothWork old new × BothGave old new (FeedsDiffer found)

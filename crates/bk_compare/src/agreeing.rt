@@ -2,10 +2,11 @@
 
 ghost use Rattle.bk_frames.specs.declared.pulling.TheConstants.{PIECE};
 ghost use Rattle.std.specs.Prelude.{◌≡◌, ◌<◌, ◌≤◌, None, length, OnOk, IfOk, IfErr};
-ghost use Rattle.bk_frames.specs.Device.{CanBeUsed, Works, IfKnown};
+ghost use Rattle.bk_frames.specs.Device.{CanBeUsed, Works};
+ghost use Rattle.bk_answer.specs.Given.{GaveAll};
 ghost use Rattle.bk_follow.specs.Agreement.{FollowersAgree};
 ghost use Rattle.bk_follow.specs.Follower.{unfed};
-ghost use Rattle.bk_compare.specs.FeedAgreement.{BothWork, ComparisonStops, FeedsAgree, FeedsCompared, FollowFails, IfBothKnown, sources};
+ghost use Rattle.bk_compare.specs.FeedAgreement.{BothGave, BothWork, ComparisonStops, FeedsAgree, FeedsCompared, FollowFails, sources};
 ghost use Rattle.bk_compare.specs.private.Ends.{AgreesWith, ComparisonStopsWith, Ends, EndsNot, HasEnded, IsDifferOf};
 
 use crate::compared::Compared;
@@ -49,7 +50,7 @@ fn follow_in_pieces<R: Threads + Wait + Sync, S: Source, G: Gate + Sync>(
     requires sound { CanBeUsed (S.state source.old) }
     ensures works { OnOk result (Works (S.state source.old) (S.state source.new)
         × (follower.new.fault ≡ None)) }
-    ensures ended { OnOk result (IfKnown (S.state source.old)
+    ensures ended { OnOk result (GaveAll (S.state source.old) (S.state source.new)
         (λ bytes. HasEnded bytes follower.new)) }
     ensures fault { IfErr result (λ f. FollowFails f (S.state source.old) (S.state source.new)) }
 {
@@ -70,7 +71,7 @@ fn follow_to_end<R: Threads + Wait + Sync, S: Source, G: Gate + Sync>(
     requires sound { CanBeUsed (S.state source.old) }
     ensures works { OnOk result (Works (S.state source.old) (S.state source.new)
         × (follower.new.fault ≡ None)) }
-    ensures ended { OnOk result (IfKnown (S.state source.old)
+    ensures ended { OnOk result (GaveAll (S.state source.old) (S.state source.new)
         (λ bytes. HasEnded bytes follower.new)) }
     ensures fault { IfErr result (λ f. FollowFails f (S.state source.old) (S.state source.new)) }
 {
@@ -103,7 +104,7 @@ fn compare_with<R: Threads + Wait + Sync, S: Source, G: Gate + Sync>(
     requires works { one.now.fault ≡ None }
     requires other { other.old ≡ unfed }
     requires sound { CanBeUsed (S.state source.old) }
-    ensures agree { IfOk result (AgreesWith one.now other.new (S.state source.old)) }
+    ensures agree { IfOk result (AgreesWith one.now other.new (S.state source.old) (S.state source.new)) }
     ensures sound { OnOk result (Works (S.state source.old) (S.state source.new)) }
     ensures stop { IfErr result (λ e. ComparisonStopsWith e one.now
         (S.state source.old) (S.state source.new)) }
@@ -128,8 +129,9 @@ fn compare_both<R: Threads + Wait + Sync, S: Source, T: Source, G: Gate + Sync>(
     requires second { CanBeUsed (T.state second.old) }
     requires one { one.old ≡ unfed }
     requires other { other.old ≡ unfed }
-    ensures agree { IfOk result (λ c. IfBothKnown
-        (sources (S.state first.old) (T.state second.old)) (λ f g. FeedsCompared f g c)) }
+    ensures agree { IfOk result (λ c. BothGave
+        (sources (S.state first.old) (T.state second.old))
+        (sources (S.state first.new) (T.state second.new)) (λ f g. FeedsCompared f g c)) }
     ensures sound { OnOk result (BothWork
         (sources (S.state first.old) (T.state second.old))
         (sources (S.state first.new) (T.state second.new))) }
@@ -169,8 +171,9 @@ pub fn compare_with_gaps<R: Threads + Wait + Sync, S: Source, T: Source, G: Gate
     requires first { CanBeUsed (S.state first.old) }
     requires second { CanBeUsed (T.state second.old) }
     requires workers { (1 ≤ workers) × (workers ≤ 64) }
-    ensures agree { IfOk result (λ c. IfBothKnown
-        (sources (S.state first.old) (T.state second.old)) (λ f g. FeedsCompared f g c)) }
+    ensures agree { IfOk result (λ c. BothGave
+        (sources (S.state first.old) (T.state second.old))
+        (sources (S.state first.new) (T.state second.new)) (λ f g. FeedsCompared f g c)) }
     ensures sound { OnOk result (BothWork
         (sources (S.state first.old) (T.state second.old))
         (sources (S.state first.new) (T.state second.new))) }
@@ -198,8 +201,9 @@ pub fn compare<R: Threads + Wait + Sync, S: Source, T: Source, G: Gate + Sync>(
     requires first { CanBeUsed (S.state first.old) }
     requires second { CanBeUsed (T.state second.old) }
     requires workers { (1 ≤ workers) × (workers ≤ 64) }
-    ensures agree { IfOk result (λ a. IfBothKnown
-        (sources (S.state first.old) (T.state second.old)) (λ f g. FeedsAgree f g a)) }
+    ensures agree { IfOk result (λ a. BothGave
+        (sources (S.state first.old) (T.state second.old))
+        (sources (S.state first.new) (T.state second.new)) (λ f g. FeedsAgree f g a)) }
     ensures sound { OnOk result (BothWork
         (sources (S.state first.old) (T.state second.old))
         (sources (S.state first.new) (T.state second.new))) }

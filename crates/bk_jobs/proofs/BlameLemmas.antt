@@ -11,6 +11,7 @@ use Rattle.bk_order.specs.declared.stop.Stop.TheVariants as stop
 use Rattle.bk_results.specs.Devices.{IsUntouched}
 use Rattle.bk_follow.proofs.RunAnswers.{known_of}
 use Rattle.bk_compare.specs.FeedAgreement.{FeedsDiffer, OfTheirFeeds}
+use Rattle.bk_compare.proofs.FeedEnds.{both_known}
 use Rattle.bk_results.specs.declared.compare_stop.CompareStop.{CompareStop}
 use Rattle.bk_results.specs.declared.compare_stop.CompareStop.TheVariants as compared
 use Rattle.bk_results.specs.declared.differ.Differ.TheVariants as differ
@@ -34,7 +35,7 @@ use Rattle.bk_cli.specs.declared.list_fault.ListFault.TheVariants as list
 use Rattle.bk_jobs.specs.Schedules.{AreNoEvents, AreRefused, Lists}
 use Rattle.bk_jobs.specs.Sources.{AreBroken, Inputs, JobDevices, inputs_of}
 use Rattle.bk_cli.specs.Exits.{exit_after, exit_after_compare, exit_by_code, is_refusal, writes_ahead}
-use Rattle.bk_jobs.specs.Comparisons.{DoNotAgree, HaveSomeStop}
+use Rattle.bk_jobs.specs.Comparisons.{DoNotAgree, HaveSomeStop, both_sources}
 use Rattle.bk_jobs.specs.Faults.{AreStopped, AreToBlame, MakeNoFeed, JobFailsBy}
 
 -- ---- bytes to blame
@@ -111,18 +112,23 @@ compare_blames first second (compared.First (replay.Unfinished place)) old new h
 compare_blames first second (compared.First (replay.Write written)) old new h r = absurd (cc)
 compare_blames first second (compared.First replay.Memory) old new h r = absurd (cc)
 compare_blames first second (compared.Second (replay.Feed found)) old new h r =
-    (refused (job.Compare first second) (inputs_of old) found.code found.offset old.second new.second (λ b. inr (inl (h.why.1, b))) h.why.2 r, h.untouched)
+    (refused (job.Compare first second) (inputs_of old) found.code found.offset old.second new.second (λ b. inr (inl (known_of old.first new.first _ h.why.1, b))) h.why.2 r, h.untouched)
 compare_blames first second (compared.Second (replay.Collision id)) old new h r = absurd h.why.2
 compare_blames first second (compared.Second (replay.Equivocation round author one other)) old new h r = absurd h.why.2
 compare_blames first second (compared.Second (replay.Unfinished place)) old new h r = absurd (cc)
 compare_blames first second (compared.Second (replay.Write written)) old new h r = absurd (cc)
 compare_blames first second (compared.Second replay.Memory) old new h r = absurd (cc)
-compare_blames first second (compared.Differ differ.Setup) old new h r = (inr (inr h.why.1), h.untouched)
-compare_blames first second (compared.Differ (differ.Collision id)) old new h r =
-    (stopped_together (FeedsDiffer (differ.Collision id)) old.first.bytes old.second.bytes (λ f g k. (stop.Collision id, k)) h.why.1, h.untouched)
+compare_blames first second (compared.Differ differ.Setup) old new h r =
+    (inr (inr (both_known (both_sources old) (both_sources new) (FeedsDiffer differ.Setup) h.why.1)), h.untouched)
+compare_blames first second (compared.Differ (differ.Collision id)) old new h r = (
+  stopped_together (FeedsDiffer (differ.Collision id)) old.first.bytes old.second.bytes (λ f g k. (stop.Collision id, k))
+      (both_known (both_sources old) (both_sources new) (FeedsDiffer (differ.Collision id)) h.why.1),
+  h.untouched,
+)
 compare_blames first second (compared.Differ (differ.Twins round author one other)) old new h r = (
   stopped_together (FeedsDiffer (differ.Twins round author one other)) old.first.bytes old.second.bytes
-      (λ f g k. (stop.Twins (record { round = round; author = author; first = one; second = other }), k)) h.why.1,
+      (λ f g k. (stop.Twins (record { round = round; author = author; first = one; second = other }), k))
+      (both_known (both_sources old) (both_sources new) (FeedsDiffer (differ.Twins round author one other)) h.why.1),
   h.untouched,
 )
 compare_blames first second (compared.Differ differ.Memory) old new h r = absurd (cc)

@@ -1,6 +1,6 @@
 -- Why a query whose reply came has no answer.
-use Rattle.std.proofs.Common.{◌≡◌, ℕ, List, Option, refl, sym, subst, ◌∙◌}
-use Rattle.std.specs.Prelude.{Result, Ok, Err}
+use Rattle.std.proofs.Common.{◌≡◌, ℕ, List, Option, refl, subst}
+use Rattle.std.specs.Prelude.{Result, Err}
 use Rattle.bk_answer.specs.Answers.{IsAnswered}
 use Rattle.bk_ask.specs.Asking.{IsRepliedOf}
 use Rattle.bk_ask.specs.declared.replied.Replied.{Replied}

@@ -1,18 +1,18 @@
 -- The job that compares two feeds: its first source, and its second, which is read after it.
 use Rattle.std.specs.Prelude.{◌≡◌, ◌⊎◌, ℕ, ◌<◌, List, ◌++◌, IfSome, codes, length, take}
-use Rattle.bk_frames.specs.Device.{Device, Fails, Receives}
+use Rattle.bk_frames.specs.Device.{Fails, Receives}
 use Rattle.bk_base.specs.Feed.{FeedValue}
 use Rattle.bk_order.specs.declared.stop.Stop.{Stop}
 use Rattle.bk_follow.specs.Agreement.{HaveStop}
 use Rattle.bk_results.specs.Devices.{AreFeed, IsUntouched}
-use Rattle.bk_compare.specs.FeedAgreement.{BothWork, ComparisonStops, FeedsAgree, FeedsDiffer, OfTheirFeeds, Sources, sources}
+use Rattle.bk_compare.specs.FeedAgreement.{BothGave, BothWork, ComparisonStops, FeedsAgree, FeedsDiffer, OfTheirFeeds, Sources, sources}
 use Rattle.bk_results.specs.declared.compare_stop.CompareStop.{CompareStop}
 use Rattle.bk_results.specs.declared.differ.Agreed.{Agreed}
 use Rattle.bk_results.specs.declared.differ.Differ.TheVariants as differ
 use Rattle.bk_results.specs.declared.fault.Fault.{Fault}
 use Rattle.bk_results.specs.declared.fault.Fault.TheVariants as replay
 use Rattle.bk_results.specs.Lines.{spaced}
-use Rattle.bk_jobs.specs.Sources.{AreBroken, Inputs, JobDevices, inputs_of}
+use Rattle.bk_jobs.specs.Sources.{AreBroken, Inputs, JobDevices}
 use Rattle.bk_cli.specs.declared.exit.Exit.{Exit}
 use Rattle.bk_cli.specs.declared.exit.Exit.TheVariants as exit
 use Rattle.bk_cli.specs.declared.job_fault.JobFault.{JobFault}
@@ -32,25 +32,25 @@ both_sources d = sources d.first d.second
 abbrev pub agree_text : Agreed → List ℕ
 agree_text a = codes "agree" ++ spaced a.certs ++ spaced a.places ++ codes "\n"
 
--- both byte strings encode feeds, and these agree so far
-abbrev pub SpellAgreed : Agreed → List ℕ → List ℕ → Type 0
-SpellAgreed a bytes more = OfTheirFeeds bytes more (λ f g. FeedsAgree f g a)
+-- both sources gave feeds, which agree so far
+abbrev pub GaveAgreed : Agreed → JobDevices → JobDevices → Type 0
+GaveAgreed a old new = BothGave (both_sources old) (both_sources new) (λ f g. FeedsAgree f g a)
 
 -- the output got the whole line of how far the feeds of both sources agree, and the exit is Whole
-pub record AgreementIsOut (end : Exit) (given : Inputs) (old new : Device) : Type 0 where
+pub record AgreementIsOut (end : Exit) (old new : JobDevices) : Type 0 where
   pub agreed : Agreed
   pub exit_is : end ≡ exit.Whole
-  pub agree : IfBothGive given (SpellAgreed agreed)
-  pub gave : Receives old new (agree_text agreed)
+  pub agree : GaveAgreed agreed old new
+  pub gave : Receives old.out new.out (agree_text agreed)
 
 -- ---- why there is none
 
 -- the first bytes of the line are out, and not all
-pub record PartOfAgreementIsOut (written : ℕ) (given : Inputs) (old new : Device) : Type 0 where
+pub record PartOfAgreementIsOut (written : ℕ) (old new : JobDevices) : Type 0 where
   pub agreed : Agreed
-  pub agree : IfBothGive given (SpellAgreed agreed)
+  pub agree : GaveAgreed agreed old new
   pub some : written < length (agree_text agreed)
-  pub gave : Receives old new (take written (agree_text agreed))
+  pub gave : Receives old.out new.out (take written (agree_text agreed))
 
 -- the feeds do not agree, and nothing is written
 pub record DoNotAgree (e : CompareStop) (old new : JobDevices) : Type 0 where
@@ -61,7 +61,7 @@ pub record DoNotAgree (e : CompareStop) (old new : JobDevices) : Type 0 where
 abbrev pub AgreementFailsBy : Fault → JobDevices → JobDevices → Type 0
 AgreementFailsBy (replay.Write written) old new =
     BothWork (both_sources old) (both_sources new) × Fails old.out new.out
-    × PartOfAgreementIsOut written (inputs_of old) old.out new.out
+    × PartOfAgreementIsOut written old new
 AgreementFailsBy other old new = ⊥
 
 -- why a comparison has no answer: the feeds do not agree, or the whole line is not out

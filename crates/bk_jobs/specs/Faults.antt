@@ -1,6 +1,7 @@
 -- What a job leaves: its answer, or the fault that kept it from one.
 use Rattle.std.specs.Prelude.{◌≡◌, ◌↔◌, ◌⊎◌, ℕ, ◌<◌, Bool, true, false, List, IfSome, codes, if◌then◌else◌, length, take, string_bytes, IsTrue, Ok, Err}
 use Rattle.bk_frames.specs.Device.{Device, Works, Fails, Receives, IfKnown}
+use Rattle.bk_frames.specs.Pulling.{Gave}
 use Rattle.bk_results.specs.declared.compare_stop.CompareStop.{CompareStop}
 use Rattle.bk_results.specs.declared.fault.Fault.{Fault}
 use Rattle.bk_results.specs.declared.status.Status.{Status}
@@ -72,9 +73,12 @@ ReplyIsOut asked end old new =
     (answer : Replied) × (Ok end ≡ ending asked answer.missing answer.reply)
     × IsAnswered (IsRepliedOf asked) answer old new
 
--- the output got the lines of all frames of the bytes
-abbrev pub FramesAreOut : Exit → Device → Device → List ℕ → Type 0
-FramesAreOut end old new bytes = (end ≡ exit.Whole) × AllIsListed old new bytes
+-- the output got the lines of all frames of the bytes that the source gave, which are those that it had, where these are
+-- known
+abbrev pub FramesAreOut : Exit → Devices → Devices → Type 0
+FramesAreOut end old new =
+    (end ≡ exit.Whole) × Gave old.source new.source (AllIsListed old.sink new.sink)
+    × IfKnown old.source (AllIsListed old.sink new.sink)
 
 -- the output got the whole summary of the bytes that the source gave, and the exit says whether a batch is missing
 abbrev pub SummaryIsOut : Exit → Devices → Devices → Type 0
@@ -102,13 +106,13 @@ AnswerIsOut (job.Ask workers asked file) end old new =
     ReplyIsOut asked end (first_devices old) (first_devices new)
 AnswerIsOut (job.CheckReport workers report file) end old new =
     IfBothGive (inputs_of old) (ClaimIsOut end old.out new.out)
-AnswerIsOut (job.Frames file) end old new = IfKnown old.first (FramesAreOut end old.out new.out)
+AnswerIsOut (job.Frames file) end old new = FramesAreOut end (first_devices old) (first_devices new)
 AnswerIsOut (job.Summary workers file) end old new = SummaryIsOut end (first_devices old) (first_devices new)
 AnswerIsOut (job.Dag window file) end old new = PictureIsOut window end (first_devices old) (first_devices new)
 AnswerIsOut (job.Apply file) end old new = IfKnown old.first (ReportIsOut end old.out new.out)
 AnswerIsOut (job.Schedule workers feed events) end old new =
     ScheduleIsOut workers end (inputs_of old) old.out new.out
-AnswerIsOut (job.Compare first second) end old new = AgreementIsOut end (inputs_of old) old.out new.out
+AnswerIsOut (job.Compare first second) end old new = AgreementIsOut end old new
 
 -- ---- why a job has no answer
 

@@ -1,13 +1,18 @@
 -- How a job ends whose files are opened first.
-use Rattle.std.specs.Prelude.{◌≡◌, ◌⊎◌, Bool, true, false}
+use Rattle.std.specs.Prelude.{◌≡◌, ◌⊎◌, ℕ, Bool, List, Some, true, false}
 use Rattle.bk_frames.specs.Device.{Device}
+use Rattle.bk_results.specs.declared.fault.Fault.TheVariants as replay
+use Rattle.bk_results.specs.declared.script_fault.ScriptFault.TheVariants as text
 use Rattle.bk_cli.specs.Exits.{is_answer}
-use Rattle.bk_cli.specs.Explanations.{told}
+use Rattle.bk_cli.specs.Explanations.{told, told_of}
+use Rattle.bk_cli.specs.FaultLines.{Reports}
+use Rattle.bk_cli.specs.Files.{file_of, second_file_of}
 use Rattle.bk_cli.specs.declared.exit.Exit.{Exit}
 use Rattle.bk_cli.specs.declared.exit.Exit.TheVariants as exit
 use Rattle.bk_cli.specs.declared.job.Job.{Job}
 use Rattle.bk_cli.specs.declared.job_fault.JobFault.{JobFault}
-use Rattle.bk_jobs.specs.Faults.{AnswerIsOut, EndsBy, EndsWithLine}
+use Rattle.bk_cli.specs.declared.job_fault.JobFault.TheVariants as fault
+use Rattle.bk_jobs.specs.Faults.{AnswerIsOut, EndsBy}
 use Rattle.bk_jobs.specs.Gaps.{GapsAreTold}
 use Rattle.bk_jobs.specs.Sources.{AllWork, JobDevices, inputs_of}
 
@@ -22,12 +27,25 @@ pub record RanOver (j : Job) (verbose : Bool) (end : Exit) (out out' err err' : 
   pub gaps : is_answer j end ≡ true → verbose ≡ true → GapsAreTold j (inputs_of old) err err'
   pub fault : is_answer j end ≡ false → (e : JobFault) × EndsBy j (told verbose j) e end old new err err'
 
--- the job did not begin: a file could not be opened, or there was no memory to read ahead
-pub record BeganNot (verbose : Bool) (end : Exit) (out out' err err' : Device) : Type 0 where
+-- a path is that of a file which the job reads
+abbrev pub IsFileOf : Job → List ℕ → Type 0
+IsFileOf j path = (file_of j ≡ Some path) ⊎ (second_file_of j ≡ Some path)
+
+-- a file of the job could not be opened, which is told with its path
+abbrev pub HasNoFile : Job → Bool → Device → Device → Type 0
+HasNoFile j verbose err err' =
+    (path : List ℕ) × IsFileOf j path × Reports (told_of verbose path (fault.Text text.Read)) err err'
+
+-- there was no memory to read ahead, which is told
+abbrev pub HasNoMemory : Job → Bool → Device → Device → Type 0
+HasNoMemory j verbose err err' = Reports (told verbose j (fault.Replay replay.Memory)) err err'
+
+-- the job did not begin
+pub record BeganNot (j : Job) (verbose : Bool) (end : Exit) (out out' err err' : Device) : Type 0 where
   pub failed : end ≡ exit.Failed
   pub untouched : out' ≡ out
-  pub line : EndsWithLine verbose end err err'
+  pub line : HasNoFile j verbose err err' ⊎ HasNoMemory j verbose err err'
 
 -- the one or the other
 abbrev pub Ran : Job → Bool → Exit → Device → Device → Device → Device → Type 0
-Ran j verbose end out out' err err' = RanOver j verbose end out out' err err' ⊎ BeganNot verbose end out out' err err'
+Ran j verbose end out out' err err' = RanOver j verbose end out out' err err' ⊎ BeganNot j verbose end out out' err err'

@@ -1,6 +1,7 @@
 //! Writes the answer of a job.
 //!
-//! The jobs are in three groups, by what they read: a function that has an arm for each takes a minute to be proved.
+//! The jobs are in four groups, by what they read and by whether they execute on threads: two of the functions do not wait
+//! for any, and a function that has an arm for each job takes a minute to be proved.
 
 ghost use Rattle.std.specs.Prelude.{◌≡◌, true, false, OnOk, IfOk, IfErr};
 ghost use Rattle.bk_frames.specs.Device.{CanBeUsed};
@@ -8,7 +9,7 @@ ghost use Rattle.bk_cli.specs.Exits.{is_answer, may_end, reads_second};
 ghost use Rattle.bk_jobs.specs.Faults.{JobFailsBy, AnswerIsOut};
 ghost use Rattle.bk_jobs.specs.Gaps.{AreGapsOf};
 ghost use Rattle.bk_jobs.specs.Sources.{AllWork, inputs, job_devices};
-ghost use Rattle.bk_jobs.specs.private.Groups.{reads_feed, reads_text};
+ghost use Rattle.bk_jobs.specs.private.Groups.{replays_one, replays_two, reads_frames, reads_texts};
 
 use crate::claiming::check_claim;
 use crate::comparing::compare_feeds;
@@ -25,8 +26,8 @@ use bk_pool::Gate;
 use std::sync::Wait;
 use std::thread::Threads;
 
-// Writes the answer of a job whose answer is read off one feed.
-fn answer_of_feed<R, G: Gate + Sync, S1: Source, S2: Source, O: Sink>(
+// Writes the answer of a job that replays one feed.
+fn answer_of_run<R, G: Gate + Sync, S1: Source, S2: Source, O: Sink>(
     rt: &R,
     job: &Job,
     gate: &G,
@@ -36,7 +37,7 @@ fn answer_of_feed<R, G: Gate + Sync, S1: Source, S2: Source, O: Sink>(
 ) -> Result<End, JobFault>
 where
     R: Threads + Wait + Sync + AllocGlobal,
-    requires group { reads_feed job.now ≡ true }
+    requires group { replays_one job.now ≡ true }
     requires first { CanBeUsed (S1.state first.old) }
     requires second { reads_second job.now ≡ true → CanBeUsed (S2.state second.old) }
     requires out { CanBeUsed (O.state out.old) }
@@ -70,8 +71,8 @@ where
             let end = reply(rt, gate, asked, *workers, first, out)?;
             Ok(end)
         }
-        Job::Frames { .. } => {
-            let end = list(rt, first, out)?;
+        Job::Summary { workers, .. } => {
+            let end = sum_up(rt, gate, *workers, first, out)?;
             Ok(End {
                 exit: end,
                 gaps: Gaps {
@@ -80,8 +81,49 @@ where
                 },
             })
         }
-        Job::Summary { workers, .. } => {
-            let end = sum_up(rt, gate, *workers, first, out)?;
+        Job::Make { .. }
+        | Job::CheckProof { .. }
+        | Job::CheckReport { .. }
+        | Job::Frames { .. }
+        | Job::Dag { .. }
+        | Job::Apply { .. }
+        | Job::Schedule { .. }
+        | Job::Compare { .. } => unreachable!(),
+    }
+}
+
+// Writes the answer of a job that reads one feed and executes on no other thread.
+fn answer_of_frames<R, S1: Source, S2: Source, O: Sink>(
+    rt: &R,
+    job: &Job,
+    first: &mut S1,
+    second: &mut S2,
+    out: &mut O,
+) -> Result<End, JobFault>
+where
+    R: Threads + Sync + AllocGlobal,
+    requires group { reads_frames job.now ≡ true }
+    requires first { CanBeUsed (S1.state first.old) }
+    requires second { reads_second job.now ≡ true → CanBeUsed (S2.state second.old) }
+    requires out { CanBeUsed (O.state out.old) }
+    ensures report { IfOk result (λ end. AnswerIsOut job.now end.exit
+        (job_devices (S1.state first.old) (S2.state second.old) (O.state out.old))
+        (job_devices (S1.state first.new) (S2.state second.new) (O.state out.new))) }
+    ensures gaps { IfOk result (λ end. AreGapsOf job.now
+        (inputs (S1.state first.old).bytes (S2.state second.old).bytes) end.gaps) }
+    ensures answer { IfOk result (λ end. (is_answer job.now end.exit ≡ true)
+        × (may_end job.now end.exit ≡ true)) }
+    ensures sound { OnOk result (AllWork
+        (job_devices (S1.state first.old) (S2.state second.old) (O.state out.old))
+        (job_devices (S1.state first.new) (S2.state second.new) (O.state out.new))) }
+    ensures fault { IfErr result (λ e. JobFailsBy job.now e
+        (job_devices (S1.state first.old) (S2.state second.old) (O.state out.old))
+        (job_devices (S1.state first.new) (S2.state second.new) (O.state out.new))) }
+    ensures second { reads_second job.now ≡ false → second.new ≡ second.old }
+{
+    match job {
+        Job::Frames { .. } => {
+            let end = list(rt, first, out)?;
             Ok(End {
                 exit: end,
                 gaps: Gaps {
@@ -110,15 +152,18 @@ where
                 },
             })
         }
-        Job::Make { .. }
+        Job::Run { .. }
+        | Job::Make { .. }
         | Job::CheckProof { .. }
         | Job::CheckReport { .. }
+        | Job::Ask { .. }
+        | Job::Summary { .. }
         | Job::Schedule { .. }
         | Job::Compare { .. } => unreachable!(),
     }
 }
 
-// Writes the answer of a job whose answer is read off a script or a proof.
+// Writes the answer of a job that reads a script, a proof or a list of events.
 fn answer_of_text<R, S1: Source, S2: Source, O: Sink>(
     rt: &R,
     job: &Job,
@@ -127,8 +172,8 @@ fn answer_of_text<R, S1: Source, S2: Source, O: Sink>(
     out: &mut O,
 ) -> Result<End, JobFault>
 where
-    R: Threads + Wait + Sync + AllocGlobal,
-    requires group { reads_text job.now ≡ true }
+    R: Threads + Sync + AllocGlobal,
+    requires group { reads_texts job.now ≡ true }
     requires first { CanBeUsed (S1.state first.old) }
     requires second { reads_second job.now ≡ true → CanBeUsed (S2.state second.old) }
     requires out { CanBeUsed (O.state out.old) }
@@ -168,6 +213,16 @@ where
                 },
             })
         }
+        Job::Schedule { workers, .. } => {
+            let end = schedule(rt, *workers, first, second, out)?;
+            Ok(End {
+                exit: end,
+                gaps: Gaps {
+                    first: None,
+                    second: None,
+                },
+            })
+        }
         Job::Run { .. }
         | Job::CheckReport { .. }
         | Job::Ask { .. }
@@ -175,12 +230,11 @@ where
         | Job::Summary { .. }
         | Job::Dag { .. }
         | Job::Apply { .. }
-        | Job::Schedule { .. }
         | Job::Compare { .. } => unreachable!(),
     }
 }
 
-// Writes the answer of a job that has two inputs.
+// Writes the answer of a job that replays one feed or two and has two inputs.
 fn answer_of_two<R, G: Gate + Sync, S1: Source, S2: Source, O: Sink>(
     rt: &R,
     job: &Job,
@@ -191,7 +245,7 @@ fn answer_of_two<R, G: Gate + Sync, S1: Source, S2: Source, O: Sink>(
 ) -> Result<End, JobFault>
 where
     R: Threads + Wait + Sync + AllocGlobal,
-    requires group { reads_second job.now ≡ true }
+    requires group { replays_two job.now ≡ true }
     requires first { CanBeUsed (S1.state first.old) }
     requires second { reads_second job.now ≡ true → CanBeUsed (S2.state second.old) }
     requires out { CanBeUsed (O.state out.old) }
@@ -221,16 +275,6 @@ where
                 },
             })
         }
-        Job::Schedule { workers, .. } => {
-            let end = schedule(rt, *workers, first, second, out)?;
-            Ok(End {
-                exit: end,
-                gaps: Gaps {
-                    first: None,
-                    second: None,
-                },
-            })
-        }
         Job::Compare { .. } => {
             let end = compare_feeds(rt, gate, first, second, out)?;
             Ok(end)
@@ -242,7 +286,8 @@ where
         | Job::Frames { .. }
         | Job::Summary { .. }
         | Job::Dag { .. }
-        | Job::Apply { .. } => unreachable!(),
+        | Job::Apply { .. }
+        | Job::Schedule { .. } => unreachable!(),
     }
 }
 
@@ -276,14 +321,16 @@ where
     ensures second { reads_second job.now ≡ false → second.new ≡ second.old }
 {
     match job {
-        Job::Run { .. }
-        | Job::Ask { .. }
-        | Job::Frames { .. }
-        | Job::Summary { .. }
-        | Job::Dag { .. }
-        | Job::Apply { .. } => answer_of_feed(rt, job, gate, first, second, out),
-        Job::Make { .. } | Job::CheckProof { .. } => answer_of_text(rt, job, first, second, out),
-        Job::CheckReport { .. } | Job::Schedule { .. } | Job::Compare { .. } => answer_of_two(
+        Job::Run { .. } | Job::Ask { .. } | Job::Summary { .. } => answer_of_run(
+            rt, job, gate, first, second, out,
+        ),
+        Job::Frames { .. } | Job::Dag { .. } | Job::Apply { .. } => answer_of_frames(
+            rt, job, first, second, out,
+        ),
+        Job::Make { .. } | Job::CheckProof { .. } | Job::Schedule { .. } => answer_of_text(
+            rt, job, first, second, out,
+        ),
+        Job::CheckReport { .. } | Job::Compare { .. } => answer_of_two(
             rt, job, gate, first, second, out,
         ),
     }

@@ -42,8 +42,8 @@ where
     requires second { CanBeUsed (S2.state second.old) }
     requires out { CanBeUsed (O.state out.old) }
     ensures agree { IfOk result (λ end. AgreementIsOut end.exit
-        (inputs (S1.state first.old).bytes (S2.state second.old).bytes)
-        (O.state out.old) (O.state out.new)) }
+        (job_devices (S1.state first.old) (S2.state second.old) (O.state out.old))
+        (job_devices (S1.state first.new) (S2.state second.new) (O.state out.new))) }
     ensures gaps { IfOk result (λ end. IfBothGive
         (inputs (S1.state first.old).bytes (S2.state second.old).bytes)
         (λ bytes more. IsGap bytes end.gaps.first × IsGap more end.gaps.second)) }

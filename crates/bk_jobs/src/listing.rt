@@ -1,7 +1,7 @@
 //! The job that lists the frames of a feed.
 
 ghost use Rattle.std.specs.Prelude.{◌≡◌, OnOk, IfOk, IfErr};
-ghost use Rattle.bk_frames.specs.Device.{CanBeUsed, Works, IfKnown};
+ghost use Rattle.bk_frames.specs.Device.{CanBeUsed, Works};
 ghost use Rattle.bk_results.specs.Devices.{devices};
 ghost use Rattle.bk_listing.specs.Answers.{ListFails};
 ghost use Rattle.bk_jobs.specs.Faults.{FramesAreOut};
@@ -20,8 +20,9 @@ pub(crate) fn list<R: Threads + Sync + AllocGlobal, S: Source, O: Sink>(
 ) -> Result<Exit, Fault>
     requires source { CanBeUsed (S.state source.old) }
     requires out { CanBeUsed (O.state out.old) }
-    ensures frames { IfOk result (λ end. IfKnown (S.state source.old)
-        (FramesAreOut end (O.state out.old) (O.state out.new))) }
+    ensures frames { IfOk result (λ end. FramesAreOut end
+        (devices (S.state source.old) (O.state out.old))
+        (devices (S.state source.new) (O.state out.new))) }
     ensures answer { IfOk result (λ end. end ≡ Exit.Whole) }
     ensures sound { OnOk result (Works (S.state source.old) (S.state source.new)
         × Works (O.state out.old) (O.state out.new)) }

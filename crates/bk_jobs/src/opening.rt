@@ -6,7 +6,7 @@ ghost use Rattle.bk_results.specs.Devices.{IsUntouched};
 ghost use Rattle.bk_cli.specs.Exits.{is_answer, is_refusal, may_end, writes_ahead};
 ghost use Rattle.bk_jobs.specs.Faults.{EndsWithLine};
 ghost use Rattle.bk_jobs.specs.Gaps.{GapsAreTold};
-ghost use Rattle.bk_jobs.specs.Openings.{Ran};
+ghost use Rattle.bk_jobs.specs.Openings.{HasNoFile, HasNoMemory, IsFileOf, Ran};
 ghost use Rattle.bk_jobs.specs.Sources.{inputs};
 
 use crate::running::{Watch, run_watched};
@@ -26,12 +26,15 @@ use std::time::Clock;
 const AHEAD: usize = 65_536;
 
 // Reports a file that cannot be opened.
-fn not_opened<E: Sink>(path: &str, verbose: bool, err: &mut E) -> Exit
-    requires { CanBeUsed (E.state err.old) }
+fn not_opened<E: Sink>(line: &Line, path: &str, err: &mut E) -> Exit
+    requires path { IsFileOf line.now.job path.now }
+    requires err { CanBeUsed (E.state err.old) }
     ensures failed { result ≡ Exit.Failed }
-    ensures line { EndsWithLine verbose result (E.state err.old) (E.state err.new) }
+    ensures line { EndsWithLine line.now.notes.verbose result (E.state err.old) (E.state err.new) }
+    ensures told { HasNoFile line.now.job line.now.notes.verbose (E.state err.old) (E.state err.new) }
 {
-    tell_of(path, verbose, &JobFault::Text(ScriptFault::Read), err);
+    let fault = JobFault::Text(ScriptFault::Read);
+    tell_of(path, line.notes.verbose, &fault, err);
     Exit::Failed
 }
 
@@ -40,6 +43,7 @@ fn no_memory<E: Sink>(line: &Line, err: &mut E) -> Exit
     requires { CanBeUsed (E.state err.old) }
     ensures failed { result ≡ Exit.Failed }
     ensures line { EndsWithLine line.now.notes.verbose result (E.state err.old) (E.state err.new) }
+    ensures told { HasNoMemory line.now.job line.now.notes.verbose (E.state err.old) (E.state err.new) }
 {
     let fault = JobFault::Replay(Fault::Memory);
     tell(&line.job, line.notes.verbose, &fault, err);
@@ -94,7 +98,7 @@ where
     match line.job.file() {
         Some(path) => match fs::open(rt, path) {
             Ok(feed) => run_over(rt, line, progress, feed, claimed, out, err),
-            Err(_) => not_opened(path, line.notes.verbose, err),
+            Err(_) => not_opened(line, path, err),
         },
         None => run_over(rt, line, progress, rt.reader(), claimed, out, err),
     }
@@ -111,6 +115,7 @@ fn open_report<R, O: Sink, E: Sink>(
 ) -> Exit
 where
     R: Files + Input + Eprint + Clock + AllocGlobal + Threads + Wait + Sync,
+    requires path { IsFileOf line.now.job report.now }
     requires out { CanBeUsed (O.state out.old) }
     requires err { CanBeUsed (E.state err.old) }
     ensures quiet { is_answer line.now.job result ≡ true → line.now.notes.verbose ≡ false
@@ -125,7 +130,7 @@ where
 {
     match fs::open(rt, report) {
         Ok(claimed) => open_feed(rt, line, progress, claimed, out, err),
-        Err(_) => not_opened(report, line.notes.verbose, err),
+        Err(_) => not_opened(line, report, err),
     }
 }
 
@@ -194,7 +199,7 @@ where
     match line.job.file() {
         Some(path) => match fs::open(rt, path) {
             Ok(first) => open_second(rt, line, progress, first, out, err),
-            Err(_) => not_opened(path, line.notes.verbose, err),
+            Err(_) => not_opened(line, path, err),
         },
         None => open_second(rt, line, progress, rt.reader(), out, err),
     }
@@ -227,7 +232,7 @@ where
     match line.job.second_file() {
         Some(path) => match fs::open(rt, path) {
             Ok(second) => run_over(rt, line, progress, first, second, out, err),
-            Err(_) => not_opened(path, line.notes.verbose, err),
+            Err(_) => not_opened(line, path, err),
         },
         None => run_over(rt, line, progress, first, nothing, out, err),
     }

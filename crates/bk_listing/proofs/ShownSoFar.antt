@@ -191,6 +191,19 @@ list_on old now later r s l m h w e same = record {
   out = received old.sink now.sink later.sink h.text w.lines h.out w.out.1;
 }
 
+-- of a feed whose bytes all came all frames are listed
+feed_listed : (old now later : Devices) (r : FrameReader) (l m : Lister) → (h : HasShown old now r l) → ListsWaiting h.taken h.text r m now.sink later.sink → (r.cutter.kept ≡ []) × (2 ≤ r.cutter.index)
+    → (whole : List ℕ) → HasCut whole h.taken r → AllIsListed old.sink later.sink whole
+feed_listed old now later r l m h w ends whole come =
+    let z = ends_as_feed whole (h.taken ++ waiting r) r.cutter come.cuts ends.0 ends.1 in (
+      feed_of z.0 (h.taken ++ waiting r),
+      z.2,
+      z.3,
+      h.text ++ w.lines,
+      (w.listed z.0 (subst (λ (o : Option Version). CanBe o z.0) (sym (come.version ∙ z.1)) refl)).listing,
+      received old.sink now.sink later.sink h.text w.lines h.out w.out.1,
+    )
+
 -- all bytes came, and are those of a feed
 pub whole_listed : (old now later : Devices) (r : FrameReader) (l m : Lister) → (h : HasShown old now r l) → IfKnown old.source (λ whole. HasCut whole h.taken r) → ListsWaiting h.taken h.text r m now.sink later.sink → (r.cutter.kept ≡ []) × (2 ≤ r.cutter.index)
     → IfKnown old.source (AllIsListed old.sink later.sink)
@@ -198,15 +211,13 @@ whole_listed old now later r l m h all w ends = by_known old.source.bytes all
   where
     by_known : (a : Option (List ℕ)) → IfSome a (λ whole. HasCut whole h.taken r) → IfSome a (AllIsListed old.sink later.sink)
     by_known None come = tt
-    by_known (Some whole) come =
-        let z = ends_as_feed whole (h.taken ++ waiting r) r.cutter come.cuts ends.0 ends.1 in (
-          feed_of z.0 (h.taken ++ waiting r),
-          z.2,
-          z.3,
-          h.text ++ w.lines,
-          (w.listed z.0 (subst (λ (o : Option Version). CanBe o z.0) (sym (come.version ∙ z.1)) refl)).listing,
-          received old.sink now.sink later.sink h.text w.lines h.out w.out.1,
-        )
+    by_known (Some whole) come = feed_listed old now later r l m h w ends whole come
+
+-- and of the bytes that the source gave
+pub given_listed : (old now later : Devices) (r : FrameReader) (l m : Lister) → (h : HasShown old now r l) → later.source ≡ now.source → ListsWaiting h.taken h.text r m now.sink later.sink → (r.cutter.kept ≡ []) × (2 ≤ r.cutter.index)
+    → Gave old.source later.source (AllIsListed old.sink later.sink)
+given_listed old now later r l m h same w ends =
+    (h.come.bytes, subst (λ (d : Device). Gives old.source d h.come.bytes) (sym same) h.come.gave, feed_listed old now later r l m h w ends h.come.bytes h.come.come)
 
 -- ---- faults
 

@@ -6,6 +6,7 @@ ghost use Rattle.bk_base.specs.declared.version.Version.{Version};
 ghost use Rattle.bk_frames.specs.Cutting.{frames_in};
 ghost use Rattle.bk_frames.specs.Device.{Device, CanBeUsed, Works, IfKnown};
 ghost use Rattle.bk_base.specs.Feed.{Frame};
+ghost use Rattle.bk_frames.specs.Pulling.{Gave};
 ghost use Rattle.bk_results.specs.Devices.{devices};
 ghost use Rattle.bk_listing.specs.Answers.{AllIsListed, ListFails};
 ghost use Rattle.bk_listing.specs.private.Listed.{CanList, EndsBy, HasShown, IsEmptied, LeavesBy, ListsWaiting, WaitingFails};
@@ -113,6 +114,8 @@ fn list_all<R: Threads + Sync, S: Source, K: Sink>(
         (devices (S.state source.old) (K.state sink.old)) reader.old lister.old }
     ensures listed { OnOk result (IfKnown (S.state source.old)
         (AllIsListed (K.state sink.old) (K.state sink.new))) }
+    ensures given { OnOk result (Gave (S.state source.old) (S.state source.new)
+        (AllIsListed (K.state sink.old) (K.state sink.new))) }
     ensures sound { OnOk result (Works (S.state source.old) (S.state source.new)
         × Works (K.state sink.old) (K.state sink.new)) }
     ensures fault { IfErr result (λ f. ListFails f
@@ -151,6 +154,8 @@ pub fn list_frames<R: Threads + Sync, S: Source, K: Sink>(
     requires source { CanBeUsed (S.state source.old) }
     requires sink { CanBeUsed (K.state sink.old) }
     ensures listed { OnOk result (IfKnown (S.state source.old)
+        (AllIsListed (K.state sink.old) (K.state sink.new))) }
+    ensures given { OnOk result (Gave (S.state source.old) (S.state source.new)
         (AllIsListed (K.state sink.old) (K.state sink.new))) }
     ensures sound { OnOk result (Works (S.state source.old) (S.state source.new)
         × Works (K.state sink.old) (K.state sink.new)) }

@@ -2,7 +2,7 @@
 use Rattle.std.specs.Prelude.{◌≡◌, ◌⊎◌, List, ℕ, Some}
 use Rattle.bk_base.specs.declared.version.Version.{Version}
 use Rattle.bk_frames.specs.Cutting.{EndsShort}
-use Rattle.bk_frames.specs.Device.{Device, Works, IfKnown}
+use Rattle.bk_frames.specs.Device.{Device, Works}
 use Rattle.bk_base.specs.Feed.{Frame, FeedValue, IsFeed, feed_of, spelling}
 use Rattle.bk_order.specs.Stops.{IsStop}
 use Rattle.bk_order.specs.declared.stop.Stop.{Stop}
@@ -12,6 +12,7 @@ use Rattle.bk_results.specs.declared.differ.Agreed.{Agreed}
 use Rattle.bk_results.specs.declared.fault.Fault.{Fault}
 use Rattle.bk_results.specs.declared.fault.Fault.TheVariants as fault
 use Rattle.bk_follow.specs.Agreement.{settled_in, FollowersDiffer}
+use Rattle.bk_answer.specs.Given.{GaveAll}
 use Rattle.bk_answer.specs.Outcomes.{IsOutcomeOf}
 use Rattle.bk_compare.specs.declared.compared.Compared.{Compared}
 use Rattle.bk_compare.specs.FeedAgreement.{FeedsCompared, FeedsDiffer, OfTheirFeeds, FollowFails}
@@ -49,11 +50,11 @@ EndsNot v other = ⊥
 abbrev pub compared_of : Followed → Followed → Agreed → Compared
 compared_of one other a = record { agreed = a; first = missing_in one.book; second = missing_in other.book }
 
--- it agrees with the feed that another source has, which another Follower has followed, where that is known
-abbrev pub AgreesWith : Followed → Followed → Device → Agreed → Type 0
-AgreesWith one other source a =
+-- it agrees with the feed that another source gave, which another Follower has followed
+abbrev pub AgreesWith : Followed → Followed → Device → Device → Agreed → Type 0
+AgreesWith one other old new a =
     (bytes : List ℕ) → HasEnded bytes one
-    → IfKnown source (λ more. OfTheirFeeds bytes more (λ f g. FeedsCompared f g (compared_of one other a)))
+    → GaveAll old new (λ more. OfTheirFeeds bytes more (λ f g. FeedsCompared f g (compared_of one other a)))
 
 -- why it does not: the other feed was not followed to its end; or they differ
 abbrev pub ComparisonStopsWith : CompareStop → Followed → Device → Device → Type 0
@@ -61,7 +62,7 @@ ComparisonStopsWith (why.First found) v old new = ⊥
 ComparisonStopsWith (why.Second found) v old new = FollowFails found old new
 ComparisonStopsWith (why.Differ found) v old new =
     Works old new
-    × ((bytes : List ℕ) → HasEnded bytes v → IfKnown old (λ more. OfTheirFeeds bytes more (FeedsDiffer found)))
+    × ((bytes : List ℕ) → HasEnded bytes v → GaveAll old new (λ more. OfTheirFeeds bytes more (FeedsDiffer found)))
 
 -- two Followers differ so
 abbrev pub IsDifferOf : Followed → Followed → CompareStop → Type 0

@@ -9,7 +9,7 @@ returns-in_err-agreed-in-Ok-clause-stop g c =
 
 pub returns-in_ok-agreed-in-Ok-clause-agree : goal.returns-in_ok-agreed-in-Ok-clause-agree
 returns-in_ok-agreed-in-Ok-clause-agree g c =
-    rw (c.missing-first.ensures, c.missing-second.ensures) (both_agree c.in_ok-agreed-in-Ok.agreed c.follow_to_end.new.follower c.compare_with.new.other (g.S.Source.state c.args.first.now) (g.T.Source.state c.args.second.now) c.in-Ok.ensures.ended c.in_ok-agreed-in-Ok.ensures.agree)
+    rw (c.missing-first.ensures, c.missing-second.ensures) (both_agree c.in_ok-agreed-in-Ok.agreed c.follow_to_end.new.follower c.compare_with.new.other (g.S.Source.state c.args.first.now) (g.S.Source.state c.follow_to_end.new.source) (g.T.Source.state c.args.second.now) (g.T.Source.state c.compare_with.new.source) c.in-Ok.ensures.ended c.in_ok-agreed-in-Ok.ensures.agree)
 
 pub returns-in_ok-agreed-in-Ok-clause-sound : goal.returns-in_ok-agreed-in-Ok-clause-sound
 returns-in_ok-agreed-in-Ok-clause-sound g c = (c.in-Ok.ensures.works.0, c.in_ok-agreed-in-Ok.ensures.sound)

@@ -2,7 +2,7 @@ use Rattle.bk_compare.proofs.FeedEnds.{agrees_by, works_by, stops_by}
 use Rattle.bk_compare.proofs.agreeing.compare_with.Goals as goal
 
 pub returns-in-Ok-clause-agree : goal.returns-in-Ok-clause-agree
-returns-in-Ok-clause-agree g c = agrees_by c.compare_ended.result c.args.one.now c.follow_to_end.new.follower (g.S.Source.state c.args.source.now) c.in-Ok.ensures.ended c.compare_ended.ensures.agree
+returns-in-Ok-clause-agree g c = agrees_by c.compare_ended.result c.args.one.now c.follow_to_end.new.follower (g.S.Source.state c.args.source.now) (g.S.Source.state c.follow_to_end.new.source) c.in-Ok.ensures.ended c.compare_ended.ensures.agree
 
 pub returns-in-Ok-clause-sound : goal.returns-in-Ok-clause-sound
 returns-in-Ok-clause-sound g c = works_by c.compare_ended.result (g.S.Source.state c.args.source.now) (g.S.Source.state c.follow_to_end.new.source) c.in-Ok.ensures.works.0

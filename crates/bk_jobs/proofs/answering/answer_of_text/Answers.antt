@@ -16,3 +16,9 @@ returns-in_ok-end-in-Make-clause-gaps g c = rw c.in-Make.is refl
 
 pub returns-in_ok-end-in-CheckProof-clause-gaps : goal.returns-in_ok-end-in-CheckProof-clause-gaps
 returns-in_ok-end-in-CheckProof-clause-gaps g c = rw c.in-CheckProof.is refl
+
+pub returns-in_ok-end-in-Schedule-clause-answer : goal.returns-in_ok-end-in-Schedule-clause-answer
+returns-in_ok-end-in-Schedule-clause-answer g c = rw (c.in-Schedule.is, c.in_ok-end-in-Schedule.ensures.answer) (refl, refl)
+
+pub returns-in_ok-end-in-Schedule-clause-gaps : goal.returns-in_ok-end-in-Schedule-clause-gaps
+returns-in_ok-end-in-Schedule-clause-gaps g c = rw c.in-Schedule.is refl

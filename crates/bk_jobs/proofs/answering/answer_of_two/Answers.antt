@@ -3,9 +3,6 @@ use Rattle.std.proofs.Common.{refl}
 use Rattle.bk_jobs.proofs.StatusLemmas.{claim_answers}
 use Rattle.bk_jobs.proofs.answering.answer_of_two.Goals as goal
 
-pub returns-in_ok-end-in-Schedule-clause-answer : goal.returns-in_ok-end-in-Schedule-clause-answer
-returns-in_ok-end-in-Schedule-clause-answer g c = rw (c.in-Schedule.is, c.in_ok-end-in-Schedule.ensures.answer) (refl, refl)
-
 pub returns-in_ok-end-in-Compare-clause-answer : goal.returns-in_ok-end-in-Compare-clause-answer
 returns-in_ok-end-in-Compare-clause-answer g c = rw (c.in-Compare.is, c.in_ok-end-in-Compare.ensures.answer) (refl, refl)
 
@@ -13,9 +10,6 @@ pub returns-in_ok-end-in-CheckReport-clause-answer : goal.returns-in_ok-end-in-C
 returns-in_ok-end-in-CheckReport-clause-answer g c =
     let (v, e) = c.in_ok-end-in-CheckReport.ensures.answer in
     rw c.in-CheckReport.is (claim_answers c.in-CheckReport.workers c.in-CheckReport.report c.in-CheckReport.file v _ e)
-
-pub returns-in_ok-end-in-Schedule-clause-gaps : goal.returns-in_ok-end-in-Schedule-clause-gaps
-returns-in_ok-end-in-Schedule-clause-gaps g c = rw c.in-Schedule.is refl
 
 pub returns-in_ok-end-in-CheckReport-clause-gaps : goal.returns-in_ok-end-in-CheckReport-clause-gaps
 returns-in_ok-end-in-CheckReport-clause-gaps g c = rw c.in-CheckReport.is refl

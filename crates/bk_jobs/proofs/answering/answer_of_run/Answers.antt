@@ -1,7 +1,7 @@
 -- How each of these jobs may end with an answer.
 use Rattle.std.proofs.Common.{refl}
 use Rattle.bk_jobs.proofs.StatusLemmas.{run_answers, query_ends, summary_answers}
-use Rattle.bk_jobs.proofs.answering.answer_of_feed.Goals as goal
+use Rattle.bk_jobs.proofs.answering.answer_of_run.Goals as goal
 
 pub returns-in_ok-end-in-Run-clause-answer : goal.returns-in_ok-end-in-Run-clause-answer
 returns-in_ok-end-in-Run-clause-answer g c = rw c.in-Run.is (run_answers c.in-Run.workers c.in-Run.file _ c.in_ok-end-in-Run.ensures.answer)
@@ -9,32 +9,14 @@ returns-in_ok-end-in-Run-clause-answer g c = rw c.in-Run.is (run_answers c.in-Ru
 pub returns-in_ok-end-in-Summary-clause-answer : goal.returns-in_ok-end-in-Summary-clause-answer
 returns-in_ok-end-in-Summary-clause-answer g c = rw c.in-Summary.is (summary_answers c.in-Summary.workers c.in-Summary.file _ c.in_ok-end-in-Summary.ensures.answer)
 
-pub returns-in_ok-end-in-Apply-clause-answer : goal.returns-in_ok-end-in-Apply-clause-answer
-returns-in_ok-end-in-Apply-clause-answer g c = rw (c.in-Apply.is, c.in_ok-end-in-Apply.ensures.answer) (refl, refl)
-
 pub returns-in_ok-end-in-Ask-clause-answer : goal.returns-in_ok-end-in-Ask-clause-answer
 returns-in_ok-end-in-Ask-clause-answer g c = rw c.in-Ask.is (query_ends c.in-Ask.workers c.in-Ask.asked c.in-Ask.file _ c.in_ok-end-in-Ask.ensures.answer)
-
-pub returns-in_ok-end-in-Frames-clause-answer : goal.returns-in_ok-end-in-Frames-clause-answer
-returns-in_ok-end-in-Frames-clause-answer g c = rw (c.in-Frames.is, c.in_ok-end-in-Frames.ensures.answer) (refl, refl)
-
-pub returns-in_ok-end-in-Dag-clause-answer : goal.returns-in_ok-end-in-Dag-clause-answer
-returns-in_ok-end-in-Dag-clause-answer g c = rw (c.in-Dag.is, c.in_ok-end-in-Dag.ensures.answer) (refl, refl)
 
 pub returns-in_ok-end-in-Run-clause-gaps : goal.returns-in_ok-end-in-Run-clause-gaps
 returns-in_ok-end-in-Run-clause-gaps g c = rw c.in-Run.is refl
 
 pub returns-in_ok-end-in-Summary-clause-gaps : goal.returns-in_ok-end-in-Summary-clause-gaps
 returns-in_ok-end-in-Summary-clause-gaps g c = rw c.in-Summary.is refl
-
-pub returns-in_ok-end-in-Apply-clause-gaps : goal.returns-in_ok-end-in-Apply-clause-gaps
-returns-in_ok-end-in-Apply-clause-gaps g c = rw c.in-Apply.is refl
-
-pub returns-in_ok-end-in-Frames-clause-gaps : goal.returns-in_ok-end-in-Frames-clause-gaps
-returns-in_ok-end-in-Frames-clause-gaps g c = rw c.in-Frames.is refl
-
-pub returns-in_ok-end-in-Dag-clause-gaps : goal.returns-in_ok-end-in-Dag-clause-gaps
-returns-in_ok-end-in-Dag-clause-gaps g c = rw c.in-Dag.is refl
 
 pub returns-in_ok-end-in-Ask-clause-gaps : goal.returns-in_ok-end-in-Ask-clause-gaps
 returns-in_ok-end-in-Ask-clause-gaps g c = rw c.in-Ask.is (c.in_ok-end-in-Ask.ensures.gap, c.in_ok-end-in-Ask.ensures.one)

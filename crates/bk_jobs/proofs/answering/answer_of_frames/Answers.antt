@@ -1,0 +1,21 @@
+-- How each of these jobs may end with an answer.
+use Rattle.std.proofs.Common.{refl}
+use Rattle.bk_jobs.proofs.answering.answer_of_frames.Goals as goal
+
+pub returns-in_ok-end-in-Apply-clause-answer : goal.returns-in_ok-end-in-Apply-clause-answer
+returns-in_ok-end-in-Apply-clause-answer g c = rw (c.in-Apply.is, c.in_ok-end-in-Apply.ensures.answer) (refl, refl)
+
+pub returns-in_ok-end-in-Frames-clause-answer : goal.returns-in_ok-end-in-Frames-clause-answer
+returns-in_ok-end-in-Frames-clause-answer g c = rw (c.in-Frames.is, c.in_ok-end-in-Frames.ensures.answer) (refl, refl)
+
+pub returns-in_ok-end-in-Dag-clause-answer : goal.returns-in_ok-end-in-Dag-clause-answer
+returns-in_ok-end-in-Dag-clause-answer g c = rw (c.in-Dag.is, c.in_ok-end-in-Dag.ensures.answer) (refl, refl)
+
+pub returns-in_ok-end-in-Apply-clause-gaps : goal.returns-in_ok-end-in-Apply-clause-gaps
+returns-in_ok-end-in-Apply-clause-gaps g c = rw c.in-Apply.is refl
+
+pub returns-in_ok-end-in-Frames-clause-gaps : goal.returns-in_ok-end-in-Frames-clause-gaps
+returns-in_ok-end-in-Frames-clause-gaps g c = rw c.in-Frames.is refl
+
+pub returns-in_ok-end-in-Dag-clause-gaps : goal.returns-in_ok-end-in-Dag-clause-gaps
+returns-in_ok-end-in-Dag-clause-gaps g c = rw c.in-Dag.is refl
