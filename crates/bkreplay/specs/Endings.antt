@@ -1,10 +1,12 @@
 -- How the program ends, by its words.
-use Rattle.std.specs.Prelude.{◌≡◌, ◌≢◌, ◌⊎◌, Option, List, true, false}
-use Rattle.clap.specs.Words.{Row, Text, kind_of}
+use Rattle.std.specs.Prelude.{◌≡◌, ◌≢◌, ◌⊎◌, Option, List, [], true, false}
+use Rattle.clap.specs.Words.{HasKind, Row, Text, fault_of, kind_of, subcommand_of}
 use Rattle.clap.specs.declared.error.Error.{Error}
 use Rattle.clap.specs.declared.error.kind.ErrorKind.TheVariants as kind
 use Rattle.bk_frames.specs.Device.{Device}
-use Rattle.bk_cli.specs.CommandLine.{AreNotesOf, IsJobOf}
+use Rattle.bk_results.specs.Devices.{IsUntouched}
+use Rattle.bk_cli.specs.CommandLine.{AreNotesOf, IsJobOf, IsOfRoot, command_line}
+use Rattle.bk_cli.specs.Exits.{has_fault, is_refusal, is_report, may_end, writes_ahead}
 use Rattle.bk_cli.specs.Explanations.{gaps_told}
 use Rattle.bk_cli.specs.FaultLines.{Reports}
 use Rattle.bk_cli.specs.declared.gaps.Gaps.{Gaps}
@@ -15,10 +17,12 @@ use Rattle.bk_cli.specs.declared.notes.Notes.{Notes}
 use Rattle.bk_jobs.specs.Faults.{EndsWithLine}
 use Rattle.bk_jobs.specs.Openings.{Ran}
 
--- where the words name no job: with Failed where memory ran out, and with No where the words have a fault; help and the
--- version are neither
+-- where the words name no job: with Failed where memory ran out; with Whole after help and the version, or with Failed where
+-- these could not be written; and with No where the words have a fault
 pub record EndsByKind (e : Error) (end : Exit) : Type 0 where
   pub memory : kind_of e ≡ kind.OutOfMemory → end ≡ exit.Failed
+  pub help : (kind_of e ≡ kind.DisplayHelp) ⊎ (kind_of e ≡ kind.DisplayVersion)
+      → (end ≡ exit.Whole) ⊎ (end ≡ exit.Failed)
   pub mistake : kind_of e ≢ kind.OutOfMemory → kind_of e ≢ kind.DisplayHelp → kind_of e ≢ kind.DisplayVersion
       → end ≡ exit.No
 
@@ -28,10 +32,6 @@ abbrev pub IsTold : Option (Text × List Row) → Exit → Device → Device →
 IsTold found end err err' =
     EndsWithLine false end err err' ⊎ ((n : Notes) × AreNotesOf found n × EndsWithLine n.verbose end err err')
 
--- nothing was told, or the missing batches at which the orders of a job's feeds stop
-abbrev pub IsQuiet : Device → Device → Type 0
-IsQuiet err err' = (err' ≡ err) ⊎ ((j : Job) × (gaps : Gaps) × Reports (gaps_told j gaps) err err')
-
 -- missing batches only where the notes of the words are verbose
 abbrev pub IsQuietAsNoted : Option (Text × List Row) → Device → Device → Type 0
 IsQuietAsNoted found err err' =
@@ -39,8 +39,39 @@ IsQuietAsNoted found err err' =
     ⊎ ((j : Job) × (n : Notes) × IsJobOf found j × AreNotesOf found n × (n.verbose ≡ true)
     × ((gaps : Gaps) × Reports (gaps_told j gaps) err err'))
 
--- the job of the words ran, told as their notes say; or they name none, and nothing is written of an answer
-abbrev pub RanWords : Option (Text × List Row) → Exit → Device → Device → Device → Device → Type 0
-RanWords found end out out' err err' =
-    ((j : Job) × (n : Notes) × IsJobOf found j × AreNotesOf found n × Ran j n.verbose end out out' err err')
-    ⊎ ((e : Error) × EndsByKind e end × (out' ≡ out))
+-- the words have no fault, and the job that they name ran, told as their notes say; where the bytes are to blame nothing is
+-- written, but by a job that writes ahead
+pub record RanJob (words : List Text) (end : Exit) (out out' err err' : Device) : Type 0 where
+  pub job : Job
+  pub notes : Notes
+  pub good : fault_of command_line words ≡ []
+  pub names : IsJobOf (subcommand_of command_line words) job
+  pub noted : AreNotesOf (subcommand_of command_line words) notes
+  pub ends : may_end job end ≡ true
+  pub blame : is_refusal end ≡ true → writes_ahead job ≡ false → IsUntouched out out'
+  pub ran : Ran job notes.verbose end out out' err err'
+
+-- the words have a fault, or ask for help or the version, or memory ran out: that decides how the program ends, nothing is
+-- written of an answer, and one line says what failed
+pub record RanNone (words : List Text) (end : Exit) (out out' err err' : Device) : Type 0 where
+  pub error : Error
+  pub names : HasKind (fault_of command_line words) error ⊎ IsOfRoot error (subcommand_of command_line words)
+  pub ends : EndsByKind error end
+  pub unwritten : out' ≡ out
+  pub quiet : is_report end ≡ true → err' ≡ err
+  pub line : has_fault end ≡ true → EndsWithLine false end err err'
+
+-- the one or the other
+abbrev pub RanWords : List Text → Exit → Device → Device → Device → Device → Type 0
+RanWords words end out out' err err' = RanJob words end out out' err err' ⊎ RanNone words end out out' err err'
+
+-- the words could not be read: no answer is written
+pub record ReadNoWords (end : Exit) (out out' err err' : Device) : Type 0 where
+  pub ends : (end ≡ exit.No) ⊎ (end ≡ exit.Failed)
+  pub unwritten : out' ≡ out
+  pub line : has_fault end ≡ true → EndsWithLine false end err err'
+
+-- some words were read and are answered, or none could be read
+abbrev pub RanProgram : Exit → Device → Device → Device → Device → Type 0
+RanProgram end out out' err err' =
+    ((words : List Text) × RanWords words end out out' err err') ⊎ ReadNoWords end out out' err err'

@@ -7,7 +7,7 @@ ghost use Rattle.bk_cli.specs.Exits.{has_fault, is_refusal, is_report};
 ghost use Rattle.bk_jobs.specs.Faults.{EndsWithLine};
 ghost use Rattle.bk_cli.specs.CommandLine.{NamesFrames, command_line};
 ghost use Rattle.clap.specs.Words.{subcommand_of};
-ghost use Rattle.bkreplay.specs.Endings.{EndsByKind, IsQuiet, IsQuietAsNoted, IsTold, RanWords};
+ghost use Rattle.bkreplay.specs.Endings.{EndsByKind, IsQuietAsNoted, IsTold, RanProgram, RanWords};
 
 use bk_cli::{Exit, JobFault, Line, parse_line, report};
 use bk_frames::{Sink, push_all};
@@ -30,9 +30,9 @@ where
     R: Env + Files + Input + Print + Eprint + Clock + AllocGlobal + Threads + Wait + Sync,
     requires out { CanBeUsed (O.state out.old) }
     requires err { CanBeUsed (E.state err.old) }
-    ensures quiet { is_report result ≡ true → IsQuiet (E.state err.old) (E.state err.new) }
     ensures line { has_fault result ≡ true → (verbose : AnyBool)
         × EndsWithLine verbose result (E.state err.old) (E.state err.new) }
+    ensures ran { RanProgram result (O.state out.old) (O.state out.new) (E.state err.old) (E.state err.new) }
 {
     match words(rt) {
         Ok(words) => run_words(rt, terminal, words.as_slice(), out, err),
@@ -59,7 +59,7 @@ where
         → IsTold (subcommand_of command_line (map S.text words.now)) result (E.state err.old) (E.state err.new) }
     ensures blame { is_refusal result ≡ true → IsUntouched (O.state out.old) (O.state out.new)
         ⊎ NamesFrames (subcommand_of command_line (map S.text words.now)) }
-    ensures ran { RanWords (subcommand_of command_line (map S.text words.now)) result
+    ensures ran { RanWords (map S.text words.now) result
         (O.state out.old) (O.state out.new) (E.state err.old) (E.state err.new) }
 {
     match parse_line(rt.alloc(), words) {

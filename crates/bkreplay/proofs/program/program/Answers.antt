@@ -1,5 +1,5 @@
--- The line of a fault is told as the notes of the words say.
-use Rattle.std.proofs.Common.{false, inl, inr}
+-- The words that were read are those that are answered.
+use Rattle.std.proofs.Common.{false, inl, inr, map, refl}
 use Rattle.bkreplay.proofs.program.program.Goals as goal
 
 pub returns-in-Ok-clause-line : goal.returns-in-Ok-clause-line
@@ -8,8 +8,12 @@ returns-in-Ok-clause-line g c = λ r. elim (c.run_words.ensures.line r) [
   | inr t ↦ (t.0.verbose, t.2)
 ]
 
-pub returns-in-Ok-clause-quiet : goal.returns-in-Ok-clause-quiet
-returns-in-Ok-clause-quiet g c = λ r. elim (c.run_words.ensures.quiet r) [
-  | inl h ↦ inl h
-  | inr t ↦ inr (t.0, t.5.0, t.5.1)
-]
+pub returns-in-Ok-clause-ran : goal.returns-in-Ok-clause-ran
+returns-in-Ok-clause-ran g c = inl (_, c.run_words.ensures.ran)
+
+pub returns-in-Err-clause-ran : goal.returns-in-Err-clause-ran
+returns-in-Err-clause-ran g c = inr (record {
+  ends = c.refuse_words.ensures.ends;
+  unwritten = refl;
+  line = c.refuse_words.ensures.line;
+})

@@ -20,8 +20,16 @@ returns-in-Ok-clause-line g c = λ r.
     inr (c.in-Ok.line.notes, c.in-Ok.ensures.notes, c.open_and_run.ensures.line (fault_is_no_answer c.in-Ok.line.job c.open_and_run.result r))
 
 pub returns-in-Ok-clause-ran : goal.returns-in-Ok-clause-ran
-returns-in-Ok-clause-ran g c =
-    inl (c.in-Ok.line.job, c.in-Ok.line.notes, c.in-Ok.ensures.job, c.in-Ok.ensures.notes, c.open_and_run.ensures.ran)
+returns-in-Ok-clause-ran g c = inl (record {
+  job = c.in-Ok.line.job;
+  notes = c.in-Ok.line.notes;
+  good = c.in-Ok.ensures.whole;
+  names = c.in-Ok.ensures.job;
+  noted = c.in-Ok.ensures.notes;
+  ends = c.open_and_run.ensures.ends;
+  blame = c.open_and_run.ensures.unwritten;
+  ran = c.open_and_run.ensures.ran;
+})
 
 pub returns-in-Err-clause-quiet : goal.returns-in-Err-clause-quiet
 returns-in-Err-clause-quiet g c = λ r. inl (ap g.E.Sink.state (c.answer_error.ensures.quiet r))
@@ -30,4 +38,11 @@ pub returns-in-Err-clause-line : goal.returns-in-Err-clause-line
 returns-in-Err-clause-line g c = λ r. inl (c.answer_error.ensures.line r)
 
 pub returns-in-Err-clause-ran : goal.returns-in-Err-clause-ran
-returns-in-Err-clause-ran g c = inr (c.in-Err.error, c.answer_error.ensures.kind, refl)
+returns-in-Err-clause-ran g c = inr (record {
+  error = c.in-Err.error;
+  names = c.in-Err.ensures.kinds;
+  ends = c.answer_error.ensures.kind;
+  unwritten = refl;
+  quiet = λ r. ap g.E.Sink.state (c.answer_error.ensures.quiet r);
+  line = c.answer_error.ensures.line;
+})
