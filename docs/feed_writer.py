@@ -11,9 +11,23 @@ from struct import pack
 
 
 def need(test, what):
-    """Values that no feed can hold are refused here. A number that is too large for its field is refused by `pack`."""
+    """What no feed can hold, or what would not count in one, is refused here."""
     if not test:
         raise ValueError(what)
+
+
+def number(value, bits, what):
+    """A number as so many bits, big-endian. A number of a data base, as a Decimal, is one too."""
+    whole = int(value)
+    need(whole == value and 0 <= whole < 1 << bits, f"{what} is {value}: it has to be a number from 0 to 2^{bits} - 1")
+    return whole.to_bytes(bits // 8, "big")
+
+
+def of_32(value, what):
+    """A key, a digest or an id, as bytes: of a data base it may come as a memoryview."""
+    found = bytes(memoryview(value))
+    need(len(found) == 32, f"{what} has {len(found)} bytes: it has to have 32")
+    return found
 
 
 def ascending(numbers):
@@ -25,32 +39,63 @@ class Feed:
 
     `keys[i]` is the key of member i, 32 bytes. `accounts` are tuples (id, balance, sequence number) in any order. With
     `weights`, one for each member, the feed has version Two, and version One without.
+
+    A certificate is refused that would be rejected, would wait for a parent that did not come before it, or would be a
+    second one of its author and round. With `checked=False` all is written that the format can hold.
     """
 
-    def __init__(self, out, keys, accounts, weights=None):
-        need(1 <= len(keys) <= 128 and all(len(key) == 32 for key in keys), "1 to 128 keys of 32 bytes")
-        need(weights is None or (len(weights) == len(keys) and min(weights) > 0), "a weight above 0 for each key")
+    def __init__(self, out, keys, accounts, weights=None, checked=True):
+        keys = [of_32(key, f"the key of member {member}") for member, key in enumerate(keys)]
+        need(1 <= len(keys) <= 128, f"{len(keys)} members: 1 to 128 can be")
+        need(weights is None or len(weights) == len(keys), "a weight for each key")
+        need(weights is None or min(weights) > 0, "a weight has to be above 0")
         accounts = sorted(accounts)
-        need(len(accounts) <= 600_000, "at most 600,000 accounts")
-        need(ascending([id for id, _, _ in accounts]), "each account once")
-        need(sum(balance for _, balance, _ in accounts) < 2**63, "balances of less than 2^63 together")
-        need(all(seq < 2**63 for _, _, seq in accounts), "sequence numbers below 2^63")
-        self.out, self.keys, self.size = out, keys, 4
+        need(len(accounts) <= 600_000, f"{len(accounts)} accounts: at most 600,000 can be")
+        need(ascending([id for id, _, _ in accounts]), "an account comes twice")
+        need(sum(balance for _, balance, _ in accounts) < 2**63, "the balances together are 2^63 or more")
+        need(all(seq < 2**63 for _, _, seq in accounts), "a sequence number is 2^63 or more")
+        self.out, self.keys, self.checked, self.size = out, keys, checked, 4
+        self.weights = [int(weight) for weight in weights or [1] * len(keys)]
+        # At most so much weight may be faulty; certificates take the rest of all weights.
+        self.faulty = (sum(self.weights) - 1) // 3
+        self.quorum = sum(self.weights) - self.faulty
+        # The certificate of each round and author, and where each id is.
+        self.made, self.places = {}, {}
         out.write(b"BKF2" if weights else b"BKF1")
-        self._frame(1, bytes([len(keys)]) + b"".join(keys) + b"".join(pack(">I", weight) for weight in weights or []))
-        self._frame(2, pack(">I", len(accounts)) + b"".join(pack(">QQQ", *account) for account in accounts))
+        named = b"".join(number(weight, 32, "a weight") for weight in weights or [])
+        self._frame(1, bytes([len(keys)]) + b"".join(keys) + named)
+        words = ("an account", "a balance", "a sequence number")
+        rows = b"".join(number(value, 64, what) for account in accounts for value, what in zip(account, words))
+        self._frame(2, number(len(accounts), 32, "how many accounts") + rows)
 
     def _frame(self, kind, payload):
         self.size += 5 + len(payload)
-        need(len(payload) <= 16_777_216 and self.size <= 4_294_967_295, "the payload or the feed is too long")
+        need(len(payload) <= 16_777_216, f"a payload of {len(payload)} bytes: at most 16,777,216 can be")
+        need(self.size <= 4_294_967_295, "the feed has more than 4,294,967,295 bytes")
         self.out.write(pack(">BI", kind, len(payload)) + payload)
 
     def batch(self, transactions):
         """Writes a batch of these transactions, and returns its digest."""
-        payload = pack(">H", len(transactions))
-        payload += b"".join(pack(">H", len(transaction)) + transaction for transaction in transactions)
+        payload = number(len(transactions), 16, "how many transactions")
+        payload += b"".join(number(len(tx), 16, "the length of a transaction") + tx for tx in transactions)
         self._frame(4, payload)
         return sha256(payload).digest()
+
+    def weight_of(self, members):
+        """What these members weigh together, each counted once."""
+        return sum(self.weights[member] for member in set(members))
+
+    def _check(self, author, round, parents, signers):
+        """Whether a certificate of these counts."""
+        of = f"the certificate of round {round} by member {author}"
+        need(1 <= round <= 1_000_000, f"{of}: a round is from 1 to 1,000,000")
+        weight = self.weight_of(signers)
+        need(weight >= self.quorum, f"{of}: its signers weigh {weight}, and a quorum {self.quorum}")
+        need(round > 1 or not parents, f"{of}: a certificate of round 1 has no parents")
+        known = all(self.places.get(id, (0, 0))[0] == round - 1 for id in parents)
+        need(known, f"{of}: a parent is no earlier certificate of round {round - 1}")
+        weight = self.weight_of(self.places[id][1] for id in parents)
+        need(round == 1 or weight >= self.quorum, f"{of}: its parents weigh {weight}, and a quorum {self.quorum}")
 
     def certificate(self, author, round, batches, parents, signers):
         """Writes a certificate, and returns its id.
@@ -58,14 +103,21 @@ class Feed:
         `batches` are digests, in the order in which the batches are to be executed. `parents` are ids, in any order.
         `author` and `signers` are member numbers.
         """
-        parents, signers = sorted(parents), sorted(set(signers))
-        need(all(0 <= member < len(self.keys) for member in [author, *signers]), "author and signers that are members")
-        need(all(len(digest) == 32 for digest in [*batches, *parents]), "digests and ids of 32 bytes")
-        need(len(batches) <= 1_000, "at most 1,000 batches")
-        need(len(parents) <= 128 and ascending(parents), "at most 128 parents, each once")
-        header = pack(">BIH", author, round, len(batches)) + b"".join(batches)
+        batches = [of_32(digest, "the digest of a batch") for digest in batches]
+        parents, signers = sorted(of_32(id, "the id of a parent") for id in parents), sorted(set(signers))
+        for member in (author, *signers):
+            need(0 <= member < len(self.keys), f"there is no member {member}: there are {len(self.keys)}, from 0 on")
+        need(len(batches) <= 1_000, f"{len(batches)} batches: at most 1,000 can be")
+        need(len(parents) <= 128 and ascending(parents), "there are more than 128 parents, or one comes twice")
+        if self.checked:
+            self._check(author, round, parents, signers)
+        header = number(author, 8, "an author") + number(round, 32, "a round")
+        header += pack(">H", len(batches)) + b"".join(batches)
         header += pack(">B", len(parents)) + b"".join(parents)
         id = sha256(b"\x10" + header).digest()
+        first = self.made.setdefault((round, author), id)
+        need(first == id or not self.checked, f"there are two certificates of round {round} by member {author}")
+        self.places[id] = (round, author)
         mask = sum(1 << member for member in signers).to_bytes(16, "little")
         tags = b"".join(hmac.digest(self.keys[member], id, "sha256") for member in signers)
         self._frame(3, header + mask + tags)
@@ -74,23 +126,29 @@ class Feed:
 
 def _transaction(kind, sender, receivers, guards, seq, body):
     """The sender and the receivers are declared for writing, a guard that is neither for reading."""
-    need(sender not in receivers, "a receiver other than the sender")
+    need(sender not in receivers, f"account {sender} is the sender and a receiver")
     writes = {sender, *receivers}
     declared = sorted([(id, 1) for id in writes] + [(id, 0) for id in guards - writes])
-    text = pack(">BB", kind, len(declared)) + b"".join(pack(">BQ", mode, id) for id, mode in declared)
-    return text + pack(">QQ", seq, sender) + body
+    text = pack(">BB", kind, len(declared))
+    text += b"".join(pack(">B", mode) + number(id, 64, "an account") for id, mode in declared)
+    return text + number(seq, 64, "a sequence number") + number(sender, 64, "an account") + body
+
+
+def _numbers(**values):
+    """These numbers, each of 64 bits, in this order."""
+    return b"".join(number(value, 64, f"`{name}`") for name, value in values.items())
 
 
 def pay(sender, to, amount, seq):
-    return _transaction(1, sender, [to], set(), seq, pack(">QQ", to, amount))
+    return _transaction(1, sender, [to], set(), seq, _numbers(to=to, amount=amount))
 
 
 def pay_if(sender, to, amount, seq, guard, least):
-    return _transaction(2, sender, [to], {guard}, seq, pack(">QQQQ", to, amount, guard, least))
+    return _transaction(2, sender, [to], {guard}, seq, _numbers(to=to, amount=amount, guard=guard, least=least))
 
 
 def sweep(sender, to, keep, seq):
-    return _transaction(3, sender, [to], set(), seq, pack(">QQ", to, keep))
+    return _transaction(3, sender, [to], set(), seq, _numbers(to=to, keep=keep))
 
 
 def split(sender, payments, seq):
@@ -98,7 +156,7 @@ def split(sender, payments, seq):
     payments = sorted(payments)
     receivers = [to for to, _ in payments]
     need(1 <= len(payments) <= 6 and ascending(receivers), "1 to 6 receivers, each once")
-    body = pack(">B", len(payments)) + b"".join(pack(">QQ", *payment) for payment in payments)
+    body = pack(">B", len(payments)) + b"".join(_numbers(to=to, amount=amount) for to, amount in payments)
     return _transaction(4, sender, receivers, set(), seq, body)
 
 
