@@ -4,7 +4,7 @@ use Rattle.std.specs.Prelude.{◌↔◌, IsTrue}
 use Rattle.std.proofs.lemmas.Bool.{cases_lt}
 use Rattle.std.proofs.lemmas.List.{length-take-le, take_all}
 use Rattle.std.specs.Io.KnownBytes.{Keeps}
-use Rattle.bk_frames.specs.Device.{Device, Receives, IfKnown}
+use Rattle.bk_frames.specs.Device.{Device, Receives}
 use Rattle.bk_frames.specs.Writing.{StopsWriting}
 use Rattle.bk_frames.specs.declared.writing.WriteFault.{WriteFault}
 use Rattle.bk_results.specs.Devices.{devices}
@@ -44,10 +44,14 @@ keeps_all None = tt
 keeps_all (Some bytes) = refl
 
 pub verdict_is_out : (root text : List ℕ) (good : Bool) (old new out out' : Device) → HasRead 65536 old new text → (IsTrue good ↔ IsGoodProof root text)
-    → Receives out out' (verdict_text good) → IfKnown old (VerdictIsOut root (exit_by good) out out')
-verdict_is_out root text good old new out out' read h got =
-    known_then old.bytes (λ bytes. IsRead 65536 bytes text) (VerdictIsOut root (exit_by good) out out')
-    (λ bytes is. (good, verdict_of_read root bytes text good is h, refl, got)) read.2
+    → Receives out out' (verdict_text good) → VerdictIsOut root (exit_by good) (devices old out) (devices new out')
+verdict_is_out root text good old new out out' read h got = (
+  good,
+  refl,
+  got,
+  (text, read.3, h),
+  known_then old.bytes (λ bytes. IsRead 65536 bytes text) (λ bytes. IsVerdict root bytes good) (λ bytes is. verdict_of_read root bytes text good is h) read.2,
+)
 
 pub verdict_stops : (root text : List ℕ) (good : Bool) (old new out out' : Device) (e : WriteFault) → HasRead 65536 old new text → (IsTrue good ↔ IsGoodProof root text)
     → StopsWriting e (verdict_text good) out out' → CheckFailsBy root (fault.Write e.written) (devices old out) (devices new out')

@@ -49,9 +49,12 @@ abbrev pub ReportIsOut : Exit → Device → Device → List ℕ → Type 0
 ReportIsOut end old new bytes =
     (text : List ℕ) × IsApplyReport bytes text × (end ≡ exit.Whole) × Receives old new text
 
--- the output got the whole feed that the bytes make as a script
-abbrev pub FeedIsOut : Exit → Device → Device → List ℕ → Type 0
-FeedIsOut end old new bytes = (end ≡ exit.Whole) × script.IsMade bytes old new
+-- the output got the whole feed that the text which the source gave makes as a script, and so does that which it had, where
+-- this is known
+abbrev pub FeedIsOut : Exit → Devices → Devices → Type 0
+FeedIsOut end old new =
+    (end ≡ exit.Whole) × Gave old.source new.source (λ text. script.IsMade text old.sink new.sink)
+    × IfKnown old.source (λ text. script.IsMade text old.sink new.sink)
 
 -- the text of a verdict on a proof
 abbrev pub verdict_text : Bool → List ℕ
@@ -61,11 +64,13 @@ verdict_text good = if good then codes "proof good\n" else codes "proof bad\n"
 abbrev pub IsVerdict : List ℕ → List ℕ → Bool → Type 0
 IsVerdict root bytes good = IsTrue good ↔ IsGoodProof root bytes
 
--- the output got the verdict on the bytes, and the exit is the verdict's
-abbrev pub VerdictIsOut : List ℕ → Exit → Device → Device → List ℕ → Type 0
-VerdictIsOut root end old new bytes =
-    (good : Bool) × IsVerdict root bytes good × (end ≡ exit_by good)
-    × Receives old new (verdict_text good)
+-- the output got the verdict on the text that the source gave, and on that which it had, where this is known; and the exit is
+-- the verdict's
+abbrev pub VerdictIsOut : List ℕ → Exit → Devices → Devices → Type 0
+VerdictIsOut root end old new =
+    (good : Bool) × (end ≡ exit_by good) × Receives old.sink new.sink (verdict_text good)
+    × Gave old.source new.source (λ text. IsVerdict root text good)
+    × IfKnown old.source (λ bytes. IsVerdict root bytes good)
 
 -- the output got the whole reply to a query of the bytes that the source gave, and the exit is the reply's
 abbrev pub ReplyIsOut : Query → Exit → Devices → Devices → Type 0
@@ -99,9 +104,9 @@ ScheduleIsOut workers end given old new =
 -- the output got the whole answer of a job over what its sources give, and the exit is the answer's
 abbrev pub AnswerIsOut : Job → Exit → JobDevices → JobDevices → Type 0
 AnswerIsOut (job.Run workers file) end old new = RunIsOut end (first_devices old) (first_devices new)
-AnswerIsOut (job.Make file) end old new = IfKnown old.first (FeedIsOut end old.out new.out)
+AnswerIsOut (job.Make file) end old new = FeedIsOut end (first_devices old) (first_devices new)
 AnswerIsOut (job.CheckProof root file) end old new =
-    IfKnown old.first (VerdictIsOut (string_bytes root) end old.out new.out)
+    VerdictIsOut (string_bytes root) end (first_devices old) (first_devices new)
 AnswerIsOut (job.Ask workers asked file) end old new =
     ReplyIsOut asked end (first_devices old) (first_devices new)
 AnswerIsOut (job.CheckReport workers report file) end old new =

@@ -1,7 +1,7 @@
 //! Jobs that read a text: a script, or a proof.
 
 ghost use Rattle.std.specs.Prelude.{◌≡◌, ◌⊎◌, OnOk, IfOk, IfErr};
-ghost use Rattle.bk_frames.specs.Device.{CanBeUsed, Works, IfKnown};
+ghost use Rattle.bk_frames.specs.Device.{CanBeUsed, Works};
 ghost use Rattle.bk_results.specs.Devices.{devices};
 ghost use Rattle.bk_script.specs.Answers as script;
 ghost use Rattle.bk_jobs.specs.Faults.{FeedIsOut, VerdictIsOut, CheckFailsBy, verdict_text};
@@ -22,8 +22,9 @@ pub(crate) fn make_feed<R: AllocGlobal, S: Source, O: Sink>(
 ) -> Result<Exit, ScriptFault>
     requires source { CanBeUsed (S.state source.old) }
     requires out { CanBeUsed (O.state out.old) }
-    ensures feed { IfOk result (λ end. IfKnown (S.state source.old)
-        (FeedIsOut end (O.state out.old) (O.state out.new))) }
+    ensures feed { IfOk result (λ end. FeedIsOut end
+        (devices (S.state source.old) (O.state out.old))
+        (devices (S.state source.new) (O.state out.new))) }
     ensures answer { IfOk result (λ end. end ≡ Exit.Whole) }
     ensures sound { OnOk result (Works (S.state source.old) (S.state source.new)
         × Works (O.state out.old) (O.state out.new)) }
@@ -56,8 +57,9 @@ pub(crate) fn check<R: AllocGlobal, S: Source, O: Sink>(
 ) -> Result<Exit, ScriptFault>
     requires source { CanBeUsed (S.state source.old) }
     requires out { CanBeUsed (O.state out.old) }
-    ensures verdict { IfOk result (λ end. IfKnown (S.state source.old)
-        (VerdictIsOut root.now end (O.state out.old) (O.state out.new))) }
+    ensures verdict { IfOk result (λ end. VerdictIsOut root.now end
+        (devices (S.state source.old) (O.state out.old))
+        (devices (S.state source.new) (O.state out.new))) }
     ensures answer { IfOk result (λ end. (end ≡ Exit.Whole) ⊎ (end ≡ Exit.No)) }
     ensures sound { OnOk result (Works (S.state source.old) (S.state source.new)
         × Works (O.state out.old) (O.state out.new)) }

@@ -1,11 +1,13 @@
 -- A text that is read whole, and its feed.
-use Rattle.std.proofs.Common.{◌≡◌, ℕ, ◌+◌, ◌-◌, ◌<◌, ◌≤◌, ◌==◌, nat_le, Bool, true, false, if◌then◌else◌, List, [], ◌∷◌, ◌++◌, length, take, drop, Option, Some, None, Ok, Err, refl, sym, ap, ◌∙◌, arith, length-drop, length-append}
+use Rattle.std.proofs.Common.{◌≡◌, ℕ, ◌+◌, ◌-◌, ◌<◌, ◌≤◌, ◌==◌, nat_le, Bool, true, false, if◌then◌else◌, List, [], ◌∷◌, ◌++◌, length, take, drop, Option, Some, None, Ok, Err, refl, sym, ap, subst, ◌∙◌, arith, length-drop, length-append}
 use Rattle.std.proofs.lemmas.List.{take_at, take_all, append-nil, take-take, length-take-le}
 use Rattle.std.proofs.lemmas.Bool.{eq-eqb, eqb-true}
 use Rattle.std.proofs.lemmas.Bool.Decides.{nat_tests}
 use Rattle.std.specs.Prelude.{IfSome}
 use Rattle.std.specs.Io.KnownBytes.{Consumes, IsAtEnd, Keeps}
+use Rattle.std.proofs.KnownBytes.{Consumes-trans}
 use Rattle.bk_frames.specs.Device.{Device, Receives, IfKnown}
+use Rattle.bk_frames.specs.Pulling.{Gave}
 use Rattle.bk_frames.specs.declared.writing.WriteFault.{WriteFault}
 use Rattle.bk_frames.specs.Writing.{StopsWriting}
 use Rattle.bk_results.specs.declared.script_fault.ScriptCode.TheVariants as code
@@ -41,6 +43,11 @@ unfolding IsRead
 read_enough None new text most gave many = tt
 read_enough (Some bs) None text most gave many = absurd gave
 read_enough (Some bs) (Some cs) text most gave many = sym (take_at text cs (most + 1) many) ∙ ap (take (most + 1)) (sym gave)
+
+-- what a source gave, where a last pull gave nothing
+pub gives_still : (old mid new : Option (List ℕ)) (text buf : List ℕ) (count : ℕ) → Consumes old mid text → Consumes mid new (take count buf) → count ≡ 0 → Consumes old new text
+gives_still old mid new text buf count gave last zero =
+    subst (λ t. Consumes old new t) (ap (λ n. text ++ take n buf) zero ∙ append-nil text) (Consumes-trans old mid new text (take count buf) gave last)
 
 -- ---- the feed of a whole text
 
@@ -151,7 +158,7 @@ known_then (Some bytes) P Q f h = f bytes h
 
 pub text_gives : (most : ℕ) (old new : Device) (text feed : List ℕ) → HasRead most old new text → feed_within most text ≡ Ok feed → IsFeedFrom most old new feed
 text_gives most old new text feed read e =
-    (read.0, known_then old.bytes (λ bytes. IsRead most bytes text) (λ bytes. feed_within most bytes ≡ Ok feed) (λ bytes is. sym (feed_of_read most bytes text is) ∙ e) read.2)
+    (read.0, known_then old.bytes (λ bytes. IsRead most bytes text) (λ bytes. feed_within most bytes ≡ Ok feed) (λ bytes is. sym (feed_of_read most bytes text is) ∙ e) read.2, (text, read.3, e))
 
 pub text_fails : (most : ℕ) (old new : Device) (text : List ℕ) (e : ScriptFault) → HasRead most old new text
     → Agrees {A = Unit {0}} {B = List ℕ} (λ _. []) (Err e) (feed_within most text) → IsNoFeedFrom most e old new
@@ -189,3 +196,8 @@ pub all_written : (source source' sink sink' : Device) (feed : List ℕ) → IsF
     → IfKnown source (λ text. IsMade text sink sink')
 all_written source source' sink sink' feed made out =
     known_then source.bytes (λ text. feed_of text ≡ Ok feed) (λ text. IsMade text sink sink') (λ text is. (feed, is, out)) made.1
+
+-- and of the text that the source gave
+pub given_written : (source source' sink sink' : Device) (feed : List ℕ) → IsFeedFrom MOST_SCRIPT source source' feed → Receives sink sink' feed
+    → Gave source source' (λ text. IsMade text sink sink')
+given_written source source' sink sink' feed (works, known, (text, gives, is)) out = (text, gives, (feed, is, out))

@@ -1,7 +1,7 @@
 -- What the calls of a script answer.
 use Rattle.std.specs.Prelude.{◌≡◌, ℕ, ◌+◌, ◌<◌, ◌≤◌, List, length, take, Result, Ok, Err}
 use Rattle.std.specs.Io.KnownBytes.{Keeps}
-use Rattle.bk_frames.specs.Device.{Device, Works, Fails, Receives, IfKnown}
+use Rattle.bk_frames.specs.Device.{Device, Works, Fails, Gives, Receives, IfKnown}
 use Rattle.bk_results.specs.declared.script_fault.ScriptCode.{ScriptCode}
 use Rattle.bk_results.specs.declared.script_fault.ScriptFault.{ScriptFault}
 use Rattle.bk_results.specs.declared.script_fault.ScriptFault.TheVariants as fault
@@ -21,10 +21,10 @@ Answers view (Err stop.Memory) defined = Unit {0}
 unfoldable pub IsRead : ℕ → List ℕ → List ℕ → Type 0
 IsRead most bytes text = text ≡ take (most + 1) bytes
 
--- a text was read, and no call of the source failed
+-- a text was read, which is what the source gave, and no call of it failed
 abbrev pub HasRead : ℕ → Device → Device → List ℕ → Type 0
 HasRead most old new text =
-    Works old new × (length text ≤ most + 1) × IfKnown old (λ bytes. IsRead most bytes text)
+    Works old new × (length text ≤ most + 1) × IfKnown old (λ bytes. IsRead most bytes text) × Gives old new text
 
 -- why a text was not read: a call of the source failed, or memory ran out
 abbrev pub IsNotRead : ScriptFault → Device → Device → Type 0

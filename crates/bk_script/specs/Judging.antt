@@ -1,5 +1,5 @@
 -- What each line of a script means: what is known after it, or what is wrong with it.
-use Rattle.std.specs.Prelude.{ℕ, ◌+◌, ◌*◌, ◌^◌, Bool, true, false, List, [], ◌∷◌, ◌++◌, length, drop, replicate, nat_le, nat_lt, ◌==◌, ◌&&◌, not, if◌then◌else◌, Option, Some, None, is_some, Result, Ok, Err, slice_index_or, slice_get, unwrap_or}
+use Rattle.std.specs.Prelude.{ℕ, ◌+◌, ◌*◌, ◌^◌, Bool, true, List, [], ◌∷◌, ◌++◌, length, drop, replicate, nat_le, nat_lt, ◌==◌, ◌&&◌, not, if◌then◌else◌, Option, Some, None, is_some, Result, Ok, Err, slice_index_or, slice_get, unwrap_or}
 use Rattle.std.specs.List.{list_all, list_any, insert, position_or_len}
 use Rattle.std.specs.Cmp.Lexicographic.{slice_cmp}
 use Rattle.std.specs.Ordering.{nat_cmp}

@@ -1,6 +1,7 @@
 -- What the private functions that make a feed say.
 use Rattle.std.specs.Prelude.{◌≡◌, ℕ, List, Result, Ok, Err}
 use Rattle.bk_frames.specs.Device.{Device, Works, Fails, IfKnown}
+use Rattle.bk_frames.specs.Pulling.{Gave}
 use Rattle.bk_results.specs.declared.script_fault.ScriptFault.{ScriptFault}
 use Rattle.bk_results.specs.declared.script_fault.ScriptFault.TheVariants as fault
 use Rattle.bk_script.specs.Script.{LineFault, feed_within}
@@ -14,9 +15,11 @@ Agrees view (Err fault.Read) defined = ⊥
 Agrees view (Err (fault.Write written)) defined = ⊥
 Agrees view (Err fault.Memory) defined = Unit {0}
 
--- the bytes of a source make this feed, and no call failed
+-- the bytes of a source make this feed, and so do those that it gave; and no call failed
 abbrev pub IsFeedFrom : ℕ → Device → Device → List ℕ → Type 0
-IsFeedFrom most old new feed = Works old new × IfKnown old (λ bytes. feed_within most bytes ≡ Ok feed)
+IsFeedFrom most old new feed =
+    Works old new × IfKnown old (λ bytes. feed_within most bytes ≡ Ok feed)
+    × Gave old new (λ text. feed_within most text ≡ Ok feed)
 
 -- why they make none: they have this fault; a call of the source failed; or memory ran out
 abbrev pub IsNoFeedFrom : ℕ → ScriptFault → Device → Device → Type 0

@@ -11,6 +11,9 @@ returns-in_ok-end-in-CheckProof-clause-answer g c = elim c.in_ok-end-in-CheckPro
   | inr e ↦ rw (c.in-CheckProof.is, e) (refl, refl)
 ]
 
+pub returns-in_ok-end-in-CheckProof-clause-report : goal.returns-in_ok-end-in-CheckProof-clause-report
+returns-in_ok-end-in-CheckProof-clause-report g c = rw c.in-CheckProof.is (rw (← c.as_bytes.ensures.value) c.in_ok-end-in-CheckProof.ensures.verdict)
+
 pub returns-in_ok-end-in-Make-clause-gaps : goal.returns-in_ok-end-in-Make-clause-gaps
 returns-in_ok-end-in-Make-clause-gaps g c = rw c.in-Make.is refl
 

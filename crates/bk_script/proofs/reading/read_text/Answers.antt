@@ -1,5 +1,5 @@
 use Rattle.std.proofs.Common.{rules, arith, ◌<◌, length}
-use Rattle.bk_script.proofs.WholeTexts.{read_all, read_enough}
+use Rattle.bk_script.proofs.WholeTexts.{gives_still, read_all, read_enough}
 use Rattle.bk_script.proofs.reading.read_text.Goals as goal
 
 pub returns-then-count-eq0-clause-text : goal.returns-then-count-eq0-clause-text
@@ -8,6 +8,7 @@ returns-then-count-eq0-clause-text g c =
       search rules,
       c.loop-text.invariant.within,
       read_all (g.S.Source.state c.args.source.now).bytes (g.S.Source.state c.loop-text.source).bytes (g.S.Source.state c.pull.new.self).bytes c.loop-text.text.items c.pull.new.buf c.in_ok-count.count c.args.most c.loop-text.invariant.gave c.in_ok-count.ensures.bytes c.if-count-eq0.true some c.loop-text.invariant.within,
+      gives_still (g.S.Source.state c.args.source.now).bytes (g.S.Source.state c.loop-text.source).bytes (g.S.Source.state c.pull.new.self).bytes c.loop-text.text.items c.pull.new.buf c.in_ok-count.count c.loop-text.invariant.gave c.in_ok-count.ensures.bytes.0 c.if-count-eq0.true,
     )
 
 pub returns-clause-text : goal.returns-clause-text
@@ -15,4 +16,5 @@ returns-clause-text g c = (
   c.loop-text.invariant.sound,
   c.loop-text.invariant.within,
   read_enough (g.S.Source.state c.args.source.now).bytes (g.S.Source.state c.loop-text.source).bytes c.loop-text.text.items c.args.most c.loop-text.invariant.gave (omega (arith, c.loop-text.invariant.within, c.loop-text-test.false)),
+  c.loop-text.invariant.gave,
 )
