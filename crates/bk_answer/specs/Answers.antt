@@ -2,12 +2,11 @@
 -- any answer: which texts, with which end, answer it of a feed.
 use Rattle.std.specs.Prelude.{◌≡◌, ℕ, ◌<◌, Bool, true, List, length, take}
 use Rattle.bk_base.specs.Feed.{FeedValue, IsFeed}
-use Rattle.bk_frames.specs.Device.{Device, Works, Fails, Receives}
+use Rattle.bk_frames.specs.Device.{Device, Works, Fails, Receives, GaveAll}
 use Rattle.bk_frames.specs.Pulling.{Refuses}
 use Rattle.bk_results.specs.declared.fault.Fault.{Fault}
 use Rattle.bk_results.specs.declared.fault.Fault.TheVariants as fault
 use Rattle.bk_results.specs.Devices.{AreFeedWith, Devices, IsUntouched, NothingHappened}
-use Rattle.bk_answer.specs.Given.{GaveAll}
 use Rattle.bk_answer.specs.Closed.{ClosedValue, OrderValue, IsClosedFor, IsOrderedFor}
 use Rattle.bk_answer.specs.RunReport.{HasPlace, IsStopped}
 

@@ -2,6 +2,5 @@ pub mod RunReport
 pub mod Outcomes
 pub mod Gaps
 pub mod Closed
-pub mod Given
 pub mod Answers
 pub mod Values

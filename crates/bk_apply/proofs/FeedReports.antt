@@ -1,20 +1,20 @@
 -- What a summary's lines are of its feed.
 use Rattle.std.proofs.Common.{◌≡◌, ℕ, ◌^◌, ◌<◌, List, [], length, map, Option, Some, None, refl, ap, subst, arith}
-use Rattle.std.specs.Prelude.{IfSome}
+use Rattle.bk_frames.proofs.Devices.{gave_all}
 use Rattle.std.proofs.KnownBytes.{Keeps-refl}
 use Rattle.std.proofs.lemmas.List.{length-map}
-use Rattle.bk_frames.specs.Device.{Device, Receives, IfKnown}
+use Rattle.bk_frames.specs.Device.{Device, GaveAll}
 use Rattle.bk_base.specs.declared.genesis.Row.{Row}
 use Rattle.bk_base.specs.Feed.{FeedValue, IsFeed, spelling, genesis_of}
 use Rattle.bk_rules.specs.declared.receipt.Receipt.{Receipt}
 use Rattle.bk_rules.specs.Fold.{state_after, receipts_of}
 use Rattle.bk_rules.proofs.Folding.{length-receipts}
-use Rattle.bk_apply.specs.Answers.{PartIsOut}
+use Rattle.bk_apply.specs.Answers.{PartIsOut, ReportIsOut}
 use Rattle.bk_results.specs.Devices.{IsUntouched, AreFeed}
 use Rattle.bk_report.specs.Lines.{text_of}
 use Rattle.bk_report.specs.Pages.{PageValue, blank, Puts, Stops}
 use Rattle.bk_tx.specs.Batches.{payloads_of, feed_transactions, count_in}
-use Rattle.bk_report.specs.Report.{lines_of, apply_report_of, IsApplyReport}
+use Rattle.bk_report.specs.Report.{lines_of, apply_report_of}
 use Rattle.bk_report.proofs.Putting.{all_out, part_out, part_size}
 use Rattle.bk_ledger.proofs.Growth.{few_rows}
 use Rattle.bk_ledger.proofs.Runs.{few_batches, few_feed_transactions}
@@ -42,34 +42,28 @@ few_accounts feed rows good e = omega (arith, ap length e, few_rows feed good)
 lines_are : (feed : FeedValue) (counts : List (Option ℕ)) (receipts : List Receipt) (rows : List Row) → IsLedgerOf feed counts receipts rows → text_of (lines_of counts receipts rows) ≡ text_of (apply_report_of feed)
 lines_are feed counts receipts rows l = λ i. text_of (lines_of (l.counts_are i) (l.receipts_are i) (l.rows_are i))
 
--- the bytes that are known are those of a feed
-pub are_feed : (known : Device) (feed : FeedValue) → IsFeed feed → IfKnown known (λ bytes. bytes ≡ spelling feed) → IfKnown known AreFeed
-are_feed known feed good spelled = by_bytes known.bytes spelled
-  where
-    by_bytes : (bytes : Option (List ℕ)) → IfSome bytes (λ bs. bs ≡ spelling feed) → IfSome bytes AreFeed
-    by_bytes None spelled = tt
-    by_bytes (Some bs) spelled = (feed, good, spelled)
+-- the bytes that a source gave are those of a feed
+pub are_feed : (known now : Device) (feed : FeedValue) → IsFeed feed → GaveAll known now (λ bytes. bytes ≡ spelling feed) → GaveAll known now AreFeed
+are_feed known now feed good spelled = gave_all known now (λ bytes. bytes ≡ spelling feed) AreFeed spelled (λ bytes is. (feed, good, is))
 
 -- the front of the report is out where the sink stopped
-pub part_is_out : (known old new : Device) (page : PageValue) (feed : FeedValue) (counts : List (Option ℕ)) (receipts : List Receipt) (rows : List Row) (written : ℕ) → page ≡ blank → IsFeed feed
-    → IfKnown known (λ bytes. bytes ≡ spelling feed) → IsLedgerOf feed counts receipts rows → Stops old new page (text_of (lines_of counts receipts rows)) written → IfKnown known (PartIsOut written old new)
-part_is_out known old new page feed counts receipts rows written empty good spelled l stop = by_bytes known.bytes spelled
+pub part_is_out : (known now old new : Device) (page : PageValue) (feed : FeedValue) (counts : List (Option ℕ)) (receipts : List Receipt) (rows : List Row) (written : ℕ) → page ≡ blank → IsFeed feed
+    → GaveAll known now (λ bytes. bytes ≡ spelling feed) → IsLedgerOf feed counts receipts rows → Stops old new page (text_of (lines_of counts receipts rows)) written → GaveAll known now (PartIsOut written old new)
+part_is_out known now old new page feed counts receipts rows written empty good spelled l stop =
+    gave_all known now (λ bytes. bytes ≡ spelling feed) (PartIsOut written old new) spelled
+    (λ bytes is. (text, record { feed = feed; good = good; spelled = is; report = lines_are feed counts receipts rows l }, part_size old new text written at_first, part_out old new text written at_first))
   where
-    by_bytes : (bytes : Option (List ℕ)) → IfSome bytes (λ bs. bs ≡ spelling feed) → IfSome bytes (PartIsOut written old new)
-    by_bytes None spelled = tt
-    by_bytes (Some bs) spelled =
-        let text = text_of (lines_of counts receipts rows) in
-        let at_first : Stops old new blank text written = subst (λ (p : PageValue). Stops old new p text written) empty stop in
-        (text, record { feed = feed; good = good; spelled = spelled; report = lines_are feed counts receipts rows l }, part_size old new text written at_first, part_out old new text written at_first)
+    text : List ℕ
+    text = text_of (lines_of counts receipts rows)
+
+    at_first : Stops old new blank text written
+    at_first = subst (λ (p : PageValue). Stops old new p text written) empty stop
 
 -- the whole report is out
-pub all_is_out : (known old new : Device) (page after : PageValue) (feed : FeedValue) (counts : List (Option ℕ)) (receipts : List Receipt) (rows : List Row) → page ≡ blank → after.bytes ≡ [] → IsFeed feed
-    → IfKnown known (λ bytes. bytes ≡ spelling feed) → IsLedgerOf feed counts receipts rows → Puts old new page after (text_of (lines_of counts receipts rows))
-    → IfKnown known (λ bytes. (text : List ℕ) × IsApplyReport bytes text × Receives old new text)
-all_is_out known old new page after feed counts receipts rows empty out good spelled l put = by_bytes known.bytes spelled
+pub all_is_out : (old new : Device) (page after : PageValue) (feed : FeedValue) (counts : List (Option ℕ)) (receipts : List Receipt) (rows : List Row) → page ≡ blank → after.bytes ≡ [] → IsFeed feed
+    → IsLedgerOf feed counts receipts rows → Puts old new page after (text_of (lines_of counts receipts rows)) → (bytes : List ℕ) → bytes ≡ spelling feed → ReportIsOut old new bytes
+all_is_out old new page after feed counts receipts rows empty out good l put bytes spelled =
+    (text, record { feed = feed; good = good; spelled = spelled; report = lines_are feed counts receipts rows l }, all_out old new after text (subst (λ (p : PageValue). Puts old new p after text) empty put) out)
   where
-    by_bytes : (bytes : Option (List ℕ)) → IfSome bytes (λ bs. bs ≡ spelling feed) → IfSome bytes (λ bs. (text : List ℕ) × IsApplyReport bs text × Receives old new text)
-    by_bytes None spelled = tt
-    by_bytes (Some bs) spelled =
-        let text = text_of (lines_of counts receipts rows) in
-        (text, record { feed = feed; good = good; spelled = spelled; report = lines_are feed counts receipts rows l }, all_out old new after text (subst (λ (p : PageValue). Puts old new p after text) empty put) out)
+    text : List ℕ
+    text = text_of (lines_of counts receipts rows)

@@ -1,9 +1,9 @@
 -- The transactions of a feed by a list of events.
 use Rattle.std.proofs.Common.{◌≡◌, ℕ, ◌+◌, ◌^◌, ◌<◌, List, [], length, Option, Some, None, sym, ap, subst, ◌∙◌, arith}
-use Rattle.std.specs.Prelude.{IfSome}
+use Rattle.bk_frames.proofs.Devices.{gave_all}
 use Rattle.bk_base.specs.declared.genesis.Row.{Row}
 use Rattle.bk_base.specs.declared.version.Version.{Version}
-use Rattle.bk_frames.specs.Device.{Device, Works, IfKnown}
+use Rattle.bk_frames.specs.Device.{Device, Works, GaveAll}
 use Rattle.bk_base.specs.Feed.{FeedValue, IsFeed, spelling, genesis_of}
 use Rattle.bk_base.specs.Genesis.{AreAccounts, ids_of}
 use Rattle.bk_tx.specs.Transaction.{Transaction}
@@ -97,22 +97,14 @@ unscheduled feed workers events plan ledger OutOfMemory of bad = tt
 
 -- ---- of the bytes of a source
 
-pub known_execution : (known : Device) (feed : FeedValue) (P : Scene → Type 0) → IsFeed feed → IfKnown known (λ bytes. bytes ≡ spelling feed) → InExecution feed P
-    → IfKnown known (λ bytes. InExecutionOf bytes P)
-known_execution known feed P good spelled run = by_bytes known.bytes spelled
-  where
-    by_bytes : (bytes : Option (List ℕ)) → IfSome bytes (λ bs. bs ≡ spelling feed) → IfSome bytes (λ bs. InExecutionOf bs P)
-    by_bytes None spelled = tt
-    by_bytes (Some bs) spelled = (feed, good, spelled, run)
-
 -- memory ran out after the feed was read
 pub stops_memory : (workers : ℕ) (events : List Event) (source source' sink : Device) (feed : FeedValue) → Works source source' → IsFeed feed
-    → IfKnown source (λ bytes. bytes ≡ spelling feed) → StopsBy (stop.Fault fault.Memory) workers events (devices source sink) (devices source' sink)
-stops_memory workers events source source' sink feed works good spelled = (works, are_feed source feed good spelled, untouched sink)
+    → GaveAll source source' (λ bytes. bytes ≡ spelling feed) → StopsBy (stop.Fault fault.Memory) workers events (devices source sink) (devices source' sink)
+stops_memory workers events source source' sink feed works good spelled = (works, are_feed source source' feed good spelled, untouched sink)
 
 -- its events gave nothing
 pub stops_unscheduled : (e : ScheduleStop) (workers : ℕ) (events : List Event) (source source' sink : Device) (feed : FeedValue) → Works source source' → IsFeed feed
-    → IfKnown source (λ bytes. bytes ≡ spelling feed) → Unscheduled feed workers events e → StopsBy e workers events (devices source sink) (devices source' sink)
+    → GaveAll source source' (λ bytes. bytes ≡ spelling feed) → Unscheduled feed workers events e → StopsBy e workers events (devices source sink) (devices source' sink)
 stops_unscheduled (stop.Fault fault.Memory) workers events source source' sink feed works good spelled bad = stops_memory workers events source source' sink feed works good spelled
 stops_unscheduled (stop.Fault (fault.Feed found)) workers events source source' sink feed works good spelled bad = absurd bad
 stops_unscheduled (stop.Fault (fault.Collision id)) workers events source source' sink feed works good spelled bad = absurd bad
@@ -120,4 +112,4 @@ stops_unscheduled (stop.Fault (fault.Equivocation round author first second)) wo
 stops_unscheduled (stop.Fault (fault.Unfinished place)) workers events source source' sink feed works good spelled bad = absurd bad
 stops_unscheduled (stop.Fault (fault.Write written)) workers events source source' sink feed works good spelled bad = absurd bad
 stops_unscheduled (stop.Schedule found) workers events source source' sink feed works good spelled bad =
-    (bad.0, (works, untouched sink), known_execution source feed (λ s. IsFault s workers events found) good spelled bad.1)
+    (bad.0, (works, untouched sink), gave_all source source' (λ bytes. bytes ≡ spelling feed) (λ bytes. InExecutionOf bytes (λ s. IsFault s workers events found)) spelled (λ bytes is. (feed, good, is, bad.1)))

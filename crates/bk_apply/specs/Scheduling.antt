@@ -1,6 +1,6 @@
 -- The schedules of a feed: its transactions, in feed order, by a given list of events.
 use Rattle.std.specs.Prelude.{◌≡◌, ℕ, List}
-use Rattle.bk_frames.specs.Device.{IfKnown}
+use Rattle.bk_frames.specs.Device.{GaveAll}
 use Rattle.bk_base.specs.Feed.{FeedValue, IsFeed, spelling, genesis_of}
 use Rattle.bk_base.specs.Genesis.{ids_of}
 use Rattle.bk_rules.specs.Ledger.{Ledger, ledger_of, IsPrepared}
@@ -59,4 +59,5 @@ IsOfEvents OutOfMemory = ⊥
 abbrev pub StopsBy : ScheduleStop → ℕ → List Event → Devices → Devices → Type 0
 StopsBy (stop.Fault found) workers events old new = FailsBy found old new
 StopsBy (stop.Schedule found) workers events old new =
-    IsOfEvents found × NothingHappened old new × IfKnown old.source (IsNotWholeFor workers events found)
+    IsOfEvents found × NothingHappened old new
+    × GaveAll old.source new.source (IsNotWholeFor workers events found)

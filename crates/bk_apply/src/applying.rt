@@ -1,9 +1,9 @@
-ghost use Rattle.std.specs.Prelude.{◌≡◌, ℕ, ◌^◌, ◌<◌, List, [], length, vec_len, OnOk, IfErr};
-ghost use Rattle.bk_frames.specs.Device.{CanBeUsed, Works, Receives, IfKnown};
+ghost use Rattle.std.specs.Prelude.{◌≡◌, ◌^◌, ◌<◌, [], length, vec_len, OnOk, IfErr};
+ghost use Rattle.bk_frames.specs.Device.{CanBeUsed, Works, GaveAll};
 ghost use Rattle.bk_base.specs.Genesis.{total_of};
-ghost use Rattle.bk_apply.specs.Answers.{FailsBy};
+ghost use Rattle.bk_apply.specs.Answers.{FailsBy, ReportIsOut};
 ghost use Rattle.bk_results.specs.Devices.{devices};
-ghost use Rattle.bk_report.specs.Report.{IsApplyReport, lines_of};
+ghost use Rattle.bk_report.specs.Report.{lines_of};
 ghost use Rattle.bk_report.specs.Lines.{text_of};
 ghost use Rattle.bk_report.specs.Pages.{Written, blank};
 
@@ -43,8 +43,8 @@ pub(crate) fn write_report<K: Sink>(
 pub fn apply<S: Source, K: Sink>(alloc: Global, source: &mut S, sink: &mut K) -> Result<(), Fault>
     requires source { CanBeUsed (S.state source.old) }
     requires sink { CanBeUsed (K.state sink.old) }
-    ensures report { OnOk result (IfKnown (S.state source.old) (λ bytes.
-        (text : List ℕ) × IsApplyReport bytes text × Receives (K.state sink.old) (K.state sink.new) text)) }
+    ensures report { OnOk result (GaveAll (S.state source.old) (S.state source.new)
+        (ReportIsOut (K.state sink.old) (K.state sink.new))) }
     ensures sound { OnOk result (Works (S.state source.old) (S.state source.new)
         × Works (K.state sink.old) (K.state sink.new)) }
     ensures fault { IfErr result (λ e. FailsBy e (devices (S.state source.old) (K.state sink.old))

@@ -1,7 +1,7 @@
 //! A feed's transactions, executed by a given list of events.
 
 ghost use Rattle.std.specs.Prelude.{◌≡◌, ℕ, List, map, IfOk, OnOk, IfErr};
-ghost use Rattle.bk_frames.specs.Device.{CanBeUsed, Works, Receives, IfKnown};
+ghost use Rattle.bk_frames.specs.Device.{CanBeUsed, Works, GaveAll};
 ghost use Rattle.bk_base.specs.Feed.{IsFeed, genesis_of};
 ghost use Rattle.bk_rules.specs.Fold.{state_after, receipts_of};
 ghost use Rattle.bk_steps.specs.Schedule.{IsWholeAmong};
@@ -9,7 +9,7 @@ ghost use Rattle.bk_results.specs.declared.fault.Fault.TheVariants as fault;
 ghost use Rattle.bk_apply.specs.declared.scheduling.ScheduleStop.TheVariants as stop;
 ghost use Rattle.bk_results.specs.Devices.{devices};
 ghost use Rattle.bk_tx.specs.Batches.{count_in, payloads_of, feed_transactions};
-ghost use Rattle.bk_report.specs.Report.{IsApplyReport};
+ghost use Rattle.bk_apply.specs.Answers.{ReportIsOut};
 ghost use Rattle.bk_apply.specs.Scheduling.{InExecution, IsWholeFor, StopsBy};
 ghost use Rattle.bk_apply.specs.private.Schedules.{stop_of, Unscheduled, IsScheduled};
 
@@ -141,9 +141,9 @@ pub fn apply_schedule<S: Source, K: Sink>(
 ) -> Result<(), ScheduleStop>
     requires source { CanBeUsed (S.state source.old) }
     requires sink { CanBeUsed (K.state sink.old) }
-    ensures report { OnOk result (IfKnown (S.state source.old) (λ bytes.
-        (text : List ℕ) × IsApplyReport bytes text × Receives (K.state sink.old) (K.state sink.new) text)) }
-    ensures whole { OnOk result (IfKnown (S.state source.old) (IsWholeFor workers events.now)) }
+    ensures report { OnOk result (GaveAll (S.state source.old) (S.state source.new) (λ bytes.
+        IsWholeFor workers events.now bytes
+        × ReportIsOut (K.state sink.old) (K.state sink.new) bytes)) }
     ensures sound { OnOk result (Works (S.state source.old) (S.state source.new)
         × Works (K.state sink.old) (K.state sink.new)) }
     ensures stop { IfErr result (λ e. StopsBy e workers events.now

@@ -4,13 +4,15 @@ use Rattle.std.specs.Prelude.{IfSome, MatchOption, slice_get, slice_range, codes
 use Rattle.std.specs.Global.{Vec}
 use Rattle.std.specs.Io.KnownBytes.{Consumes, IsAtEnd}
 use Rattle.std.specs.List.{after_last, before_first}
-use Rattle.std.proofs.KnownBytes.{Consumes-trans}
+use Rattle.std.proofs.KnownBytes.{Consumes-nil, Consumes-trans}
 use Rattle.std.proofs.Math.Seq.{take-add}
 use Rattle.std.proofs.lemmas.Bool.{cond-false, cond-true, le-ltb, lt-ltb}
 use Rattle.std.proofs.lemmas.List.{drop-take, drop_at, take_all, take_at}
 use Rattle.bk_claim.specs.Claims.{difference, ends_line, line_at, line_number, shown, shown_byte, words_or_end}
 use Rattle.bk_claim.specs.declared.comparing.Found.{Found}
 use Rattle.bk_claim.specs.private.Finding.{IsFound, Leads, found_text, found_words, line_between, line_from}
+use Rattle.bk_frames.specs.Device.{Device, Gives}
+use Rattle.bk_frames.specs.Pulling.{Gave}
 use Rattle.bk_results.specs.Lines.{spaced}
 
 -- ---- a line that is read on
@@ -53,6 +55,38 @@ leads_end (Some x) (Some y) (Some z) first line piece count leads gave none end 
     let empty : y ≡ [] = gave ∙ ap (λ (k : ℕ). take k piece ++ z) none ∙ end in
     sym (leads ∙ ap (line_from line) empty ∙ ap (take 200) (append-nil line) ∙ take_all 200 line short)
 
+-- the same of what was given
+abbrev pub Led : List ℕ → List ℕ → List ℕ → Type 0
+Led first line given = (more : List ℕ) → line_from first (given ++ more) ≡ line_from line more
+
+pub led_first : (d : Device) (line : List ℕ) → Gave d d (Led line line)
+led_first d line = ([], Consumes-nil d.bytes, λ more. refl)
+
+pub led_on : (a b c : Device) (first line new came : List ℕ) (done : Bool) → Gave a b (Led first line) → Gives b c came
+    → ((more : List ℕ) → line_from line (came ++ more) ≡ cond done new (line_from new more)) → done ≡ false → Gave a c (Led first new)
+led_on a b c first line new came done (given, gave, leads) next goes on = (
+  given ++ came,
+  Consumes-trans a.bytes b.bytes c.bytes given came gave next,
+  λ more. ap (line_from first) (append_assoc given came more) ∙ leads (came ++ more) ∙ goes more ∙ cond-false done new (line_from new more) on,
+)
+
+pub led_whole : (a b c : Device) (first line new came : List ℕ) (done : Bool) → Gave a b (Led first line) → Gives b c came
+    → ((more : List ℕ) → line_from line (came ++ more) ≡ cond done new (line_from new more)) → done ≡ true → Gave a c (λ given. new ≡ line_from first given)
+led_whole a b c first line new came done (given, gave, leads) next goes whole = (
+  given ++ came,
+  Consumes-trans a.bytes b.bytes c.bytes given came gave next,
+  sym (ap (line_from first) (sym (append-nil (given ++ came)) ∙ append_assoc given came []) ∙ leads (came ++ []) ∙ goes [] ∙ cond-true done new (line_from new []) whole),
+)
+
+pub led_end : (a b c : Device) (first line piece : List ℕ) (count : ℕ) → Gave a b (Led first line) → Gives b c (take count piece) → count ≡ 0
+    → length line ≤ 200 → Gave a c (λ given. line ≡ line_from first given)
+led_end a b c first line piece count (given, gave, leads) next none short =
+    let empty : take count piece ≡ [] = ap (λ (k : ℕ). take k piece) none in (
+      given ++ take count piece,
+      Consumes-trans a.bytes b.bytes c.bytes given (take count piece) gave next,
+      sym (ap (λ (t : List ℕ). line_from first (given ++ t)) empty ∙ leads [] ∙ ap (take 200) (append-nil line) ∙ take_all 200 line short),
+    )
+
 -- ---- a claim's line, of which these bytes came
 
 starts_between : (before begun more : List ℕ) → begun ≡ take 200 (after_last ends_line before) → line_from begun more ≡ line_between before more
@@ -72,6 +106,19 @@ pub between_whole : (a : Option (List ℕ)) (before came begun put : List ℕ) (
 between_whole None before came begun put done e goes whole = tt
 between_whole (Some x) before came begun put done e goes whole =
     sym (cond-true done put (line_from put x) whole) ∙ sym (goes x) ∙ starts_between before begun (came ++ x) e
+
+-- the same of what was given
+pub given_on : (a b : Device) (before came begun put new : List ℕ) (done : Bool) → begun ≡ take 200 (after_last ends_line before)
+    → ((more : List ℕ) → line_from begun (came ++ more) ≡ cond done put (line_from put more)) → done ≡ false
+    → Gave a b (λ given. new ≡ line_from put given) → Gave a b (λ given. new ≡ line_between before (came ++ given))
+given_on a b before came begun put new done e goes on (given, gave, is) =
+    (given, gave, is ∙ sym (cond-false done put (line_from put given) on) ∙ sym (goes given) ∙ starts_between before begun (came ++ given) e)
+
+pub given_whole : (d : Device) (before came begun put : List ℕ) (done : Bool) → begun ≡ take 200 (after_last ends_line before)
+    → ((more : List ℕ) → line_from begun (came ++ more) ≡ cond done put (line_from put more)) → done ≡ true
+    → Gave d d (λ given. put ≡ line_between before (came ++ given))
+given_whole d before came begun put done e goes whole =
+    ([], Consumes-nil d.bytes, sym (cond-true done put (line_from put []) whole) ∙ sym (goes []) ∙ starts_between before begun (came ++ []) e)
 
 -- ---- the byte where they differ
 
@@ -152,6 +199,24 @@ found_known (Some x) (Some y) (Some z) right back piece at same count line insid
     found_here right back (take count piece) z x at same line inside is (gave ∙ ap (λ (t : List ℕ). take at right ++ t) came) within below alike apart
     (line_is ∙ ap (λ (t : List ℕ). line_between (take (at + same) right) (t ++ z)) part)
 
+-- the same of what was given
+pub found_given : (a b c d : Device) (right back piece : List ℕ) (at same count : ℕ) (line : Vec ℕ) → at ≤ length right → back ≡ drop at right
+    → Gives a b (take at right) → Gives b c (take count piece) → count ≤ length piece → same ≤ length back → same < count → take same back ≡ take same (take count piece)
+    → slice_get back same ≢ slice_get (take count piece) same
+    → Gave c d (λ given. line.items ≡ line_between (take (at + same) right) (slice_range piece same count ++ given))
+    → Gave a d (λ claim. IsFound right claim (record { at = at + same; line = Some line }))
+found_given a b c d right back piece at same count line inside is gave came fits within low alike apart (given, rest, line_is) =
+    let more : length (take count piece) ≡ count = omega (arith, length-take count piece, fits) in
+    let below : same < length (take count piece) = omega (arith, more, low) in
+    let whole : count ≡ same + (count - same) = omega (arith, low) in
+    let part : slice_range piece same count ≡ drop same (take count piece) =
+    sym (drop-take same (count - same) piece) ∙ ap (λ (k : ℕ). drop same (take k piece)) (sym whole) in (
+      (take at right ++ take count piece) ++ given,
+      Consumes-trans a.bytes c.bytes d.bytes (take at right ++ take count piece) given (Consumes-trans a.bytes b.bytes c.bytes (take at right) (take count piece) gave came) rest,
+      found_here right back (take count piece) given ((take at right ++ take count piece) ++ given) at same line inside is (append_assoc (take at right) (take count piece) given) within below alike apart
+          (line_is ∙ ap (λ (t : List ℕ). line_between (take (at + same) right) (t ++ given)) part),
+    )
+
 -- a whole piece came, and all of it is the same
 pub piece_is_same : (a b c : Option (List ℕ)) (right back piece : List ℕ) (at same count : ℕ) → at ≤ length right → back ≡ drop at right
     → Consumes a b (take at right) → Consumes b c (take count piece) → count ≤ length piece → same ≤ length back → same ≤ length (take count piece) → count ≤ same
@@ -177,6 +242,14 @@ ends_known (Some x) (Some y) (Some z) right piece at count found gave came none 
     let empty : y ≡ [] = came ∙ ap (λ (k : ℕ). take k piece ++ z) none ∙ end in
     let all : x ≡ take at right = gave ∙ ap (λ (t : List ℕ). take at right ++ t) empty ∙ append-nil (take at right) in
     subst (λ (claim : List ℕ). MatchOption found (claim ≡ right) (λ f. IsFound right claim f)) (sym all) is
+
+-- the same of what was given
+pub ends_given : (a b c : Device) (right piece : List ℕ) (at count : ℕ) (found : Option Found) → Gives a b (take at right) → Gives b c (take count piece) → count ≡ 0
+    → MatchOption found (take at right ≡ right) (λ f. IsFound right (take at right) f)
+    → Gave a c (λ claim. MatchOption found (claim ≡ right) (λ f. IsFound right claim f))
+ends_given a b c right piece at count found gave came none is =
+    let all : take at right ++ take count piece ≡ take at right = ap (λ (k : ℕ). take at right ++ take k piece) none ∙ append-nil (take at right) in
+    (take at right, subst (Consumes a.bytes c.bytes) all (Consumes-trans a.bytes b.bytes c.bytes (take at right) (take count piece) gave came), is)
 
 -- ---- what is shown of it
 

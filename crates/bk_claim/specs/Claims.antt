@@ -6,8 +6,8 @@ use Rattle.bk_claim.specs.declared.verdict.ClaimStop.TheVariants as stop
 use Rattle.bk_claim.specs.declared.verdict.Verdict.{Verdict}
 use Rattle.bk_claim.specs.declared.verdict.Verdict.TheVariants as verdict
 use Rattle.bk_answer.specs.RunReport.{IsReport, IsStopped, HasPlace}
-use Rattle.bk_frames.specs.Device.{Device, Works, Fails, Receives, IfKnown}
-use Rattle.bk_frames.specs.Pulling.{Refuses}
+use Rattle.bk_frames.specs.Device.{Device, Works, Fails, Receives, IfKnown, GaveAll}
+use Rattle.bk_frames.specs.Pulling.{Gave, Refuses}
 use Rattle.bk_results.specs.Devices.{IsUntouched}
 use Rattle.bk_results.specs.Lines.{spaced}
 use Rattle.bk_results.specs.declared.fault.Fault.{Fault}
@@ -94,6 +94,12 @@ claim_devices feed claimed sink = record { feed = feed; claimed = claimed; sink 
 abbrev pub IfBothKnown : ClaimDevices → (List ℕ → List ℕ → Type 0) → Type 0
 IfBothKnown d holds = IfKnown d.feed (λ bytes. IfKnown d.claimed (λ claim. holds bytes claim))
 
+-- so it does; and of what was read it holds as well: of the feed all, of the claim no more than shows the verdict
+abbrev pub OfBoth : ClaimDevices → ClaimDevices → (List ℕ → List ℕ → Type 0) → Type 0
+OfBoth old new holds =
+    IfBothKnown old holds
+    × GaveAll old.feed new.feed (λ bytes. Gave old.claimed new.claimed (λ claim. holds bytes claim))
+
 -- no call of any failed
 abbrev pub AllWork : ClaimDevices → ClaimDevices → Type 0
 AllWork old new = Works old.feed new.feed × Works old.claimed new.claimed × Works old.sink new.sink
@@ -119,18 +125,18 @@ OnlyFeedIsUsed old new = (new.claimed ≡ old.claimed) × IsUntouched old.sink n
 abbrev pub RunFailsBy : Fault → ClaimDevices → ClaimDevices → Type 0
 RunFailsBy (fault.Feed found) old new = Refuses found old.feed new.feed × OnlyFeedIsUsed old new
 RunFailsBy (fault.Unfinished place) old new =
-    Works old.feed new.feed × OnlyFeedIsUsed old new × IfKnown old.feed (λ bytes. HasPlace bytes place)
+    Works old.feed new.feed × OnlyFeedIsUsed old new × GaveAll old.feed new.feed (λ bytes. HasPlace bytes place)
 RunFailsBy (fault.Write written) old new =
     Works old.feed new.feed × Works old.claimed new.claimed × Fails old.sink new.sink
-    × IfBothKnown old (PartOfVerdictIsOut written old.sink new.sink)
+    × OfBoth old new (PartOfVerdictIsOut written old.sink new.sink)
 RunFailsBy fault.Memory old new =
     Works old.feed new.feed × Works old.claimed new.claimed × IsUntouched old.sink new.sink
 RunFailsBy found old new =
-    Works old.feed new.feed × OnlyFeedIsUsed old new × IfKnown old.feed (λ bytes. IsStopped bytes found)
+    Works old.feed new.feed × OnlyFeedIsUsed old new × GaveAll old.feed new.feed (λ bytes. IsStopped bytes found)
 
 -- why there is no verdict: so; or a call of the claim failed, after a feed that has a report, and nothing is written
 abbrev pub ClaimFailsBy : ClaimStop → ClaimDevices → ClaimDevices → Type 0
 ClaimFailsBy (stop.Run found) old new = RunFailsBy found old new
 ClaimFailsBy stop.Unread old new =
     Works old.feed new.feed × Fails old.claimed new.claimed × IsUntouched old.sink new.sink
-    × IfKnown old.feed HaveReport
+    × GaveAll old.feed new.feed HaveReport

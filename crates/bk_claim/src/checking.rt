@@ -1,10 +1,11 @@
 //! The verdict on a claim, from the bytes of a feed to the text.
 
 ghost use Rattle.std.specs.Prelude.{◌≡◌, ◌≤◌, ℕ, List, IfOk, IfErr, OnOk};
-ghost use Rattle.bk_claim.specs.Claims.{AllWork, ClaimFailsBy, IfBothKnown, ShowsVerdict, VerdictIsOut, claim_devices, good};
+ghost use Rattle.bk_claim.specs.Claims.{AllWork, ClaimFailsBy, OfBoth, ShowsVerdict, VerdictIsOut, claim_devices, good};
 ghost use Rattle.bk_claim.specs.private.Judging.{HoldFailsBy, JudgeFailsBy, ShownIsOut};
 ghost use Rattle.bk_answer.specs.RunReport.{IsReport};
-ghost use Rattle.bk_frames.specs.Device.{CanBeUsed, Works, IfKnown};
+ghost use Rattle.bk_frames.specs.Device.{CanBeUsed, Works, IfKnown, GaveAll};
+ghost use Rattle.bk_frames.specs.Pulling.{Gave};
 ghost use Rattle.bk_results.specs.Devices.{devices};
 
 use crate::comparing::compare_claim;
@@ -28,7 +29,7 @@ fn hold_report<R: Threads + Wait + Sync, S: Source, G: Gate + Sync>(
 ) -> Result<(Vec<u8>, Status), Fault>
     requires feed { CanBeUsed (S.state feed.old) }
     requires workers { (1 ≤ workers) × (workers ≤ 64) }
-    ensures report { IfOk result (λ r. IfKnown (S.state feed.old)
+    ensures report { IfOk result (λ r. GaveAll (S.state feed.old) (S.state feed.new)
         (λ bytes. IsReport bytes r.0.items r.1)) }
     ensures works { OnOk result (Works (S.state feed.old) (S.state feed.new)) }
     ensures fault { IfErr result (λ f. HoldFailsBy f (S.state feed.old) (S.state feed.new)) }
@@ -63,6 +64,8 @@ fn judge<S: Source, K: Sink>(
     requires claimed { CanBeUsed (S.state claimed.old) }
     requires sink { CanBeUsed (K.state sink.old) }
     ensures shown { IfOk result (λ v. IfKnown (S.state claimed.old)
+        (ShownIsOut right.now status v (K.state sink.old) (K.state sink.new))) }
+    ensures given { IfOk result (λ v. Gave (S.state claimed.old) (S.state claimed.new)
         (ShownIsOut right.now status v (K.state sink.old) (K.state sink.new))) }
     ensures works { OnOk result (Works (S.state claimed.old) (S.state claimed.new)
         × Works (K.state sink.old) (K.state sink.new)) }
@@ -103,8 +106,9 @@ pub fn check_report<R: Threads + Wait + Sync, S1: Source, S2: Source, K: Sink, G
     requires claimed { CanBeUsed (S2.state claimed.old) }
     requires sink { CanBeUsed (K.state sink.old) }
     requires workers { (1 ≤ workers) × (workers ≤ 64) }
-    ensures verdict { IfOk result (λ v. IfBothKnown
+    ensures verdict { IfOk result (λ v. OfBoth
         (claim_devices (S1.state feed.old) (S2.state claimed.old) (K.state sink.old))
+        (claim_devices (S1.state feed.new) (S2.state claimed.new) (K.state sink.new))
         (VerdictIsOut v (K.state sink.old) (K.state sink.new))) }
     ensures work { OnOk result (AllWork
         (claim_devices (S1.state feed.old) (S2.state claimed.old) (K.state sink.old))

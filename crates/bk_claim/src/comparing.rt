@@ -3,6 +3,7 @@
 ghost use Rattle.std.specs.Prelude.{◌≡◌, ◌≢◌, ◌<◌, ◌≤◌, ◌++◌, length, take, MatchOption, slice_get, slice_range, IfOk, IfErr, IfSome, OnOk};
 ghost use Rattle.bk_claim.specs.private.Finding.{CompareStops, IsFound, line_between, line_from};
 ghost use Rattle.bk_frames.specs.Device.{CanBeUsed, Works, IfKnown};
+ghost use Rattle.bk_frames.specs.Pulling.{Gave};
 
 use crate::lines::{begin_line, put_line};
 use crate::verdict::ClaimStop;
@@ -61,6 +62,8 @@ fn finish_line<S: Source>(
     ensures works { OnOk result (Works (S.state claimed.old) (S.state claimed.new)) }
     ensures line { OnOk result (IfKnown (S.state claimed.old)
         (λ rest. line.new.items ≡ line_from line.old.items rest)) }
+    ensures given { OnOk result (Gave (S.state claimed.old) (S.state claimed.new)
+        (λ given. line.new.items ≡ line_from line.old.items given)) }
     ensures stop { IfErr result (λ e. CompareStops e (S.state claimed.old) (S.state claimed.new)) }
 {
     // The label names the loop for its proof.
@@ -90,6 +93,8 @@ fn claimed_line<S: Source>(
     ensures works { OnOk result (Works (S.state claimed.old) (S.state claimed.new)) }
     ensures line { IfOk result (λ line. IfKnown (S.state claimed.old)
         (λ rest. line.items ≡ line_between before.now (slice_range piece.old from to ++ rest))) }
+    ensures given { IfOk result (λ line. Gave (S.state claimed.old) (S.state claimed.new)
+        (λ given. line.items ≡ line_between before.now (slice_range piece.old from to ++ given))) }
     ensures stop { IfErr result (λ e. CompareStops e (S.state claimed.old) (S.state claimed.new)) }
 {
     let mut line = begin_line(alloc, before)?;
@@ -125,6 +130,8 @@ fn compare_pieces<S: Source>(
     ensures works { OnOk result (Works (S.state claimed.old) (S.state claimed.new)) }
     ensures found { IfOk result (λ r. IfKnown (S.state claimed.old)
         (λ claim. MatchOption r (claim ≡ right.now) (λ f. IsFound right.now claim f))) }
+    ensures given { IfOk result (λ r. Gave (S.state claimed.old) (S.state claimed.new)
+        (λ claim. MatchOption r (claim ≡ right.now) (λ f. IsFound right.now claim f))) }
     ensures inside { IfOk result (λ r. IfSome r (λ f. f.at ≤ length right.now)) }
     ensures stop { IfErr result (λ e. CompareStops e (S.state claimed.old) (S.state claimed.new)) }
 {
@@ -155,6 +162,8 @@ pub(crate) fn compare_claim<S: Source>(
     requires sound { CanBeUsed (S.state claimed.old) }
     ensures works { OnOk result (Works (S.state claimed.old) (S.state claimed.new)) }
     ensures found { IfOk result (λ r. IfKnown (S.state claimed.old)
+        (λ claim. MatchOption r (claim ≡ right.now) (λ f. IsFound right.now claim f))) }
+    ensures given { IfOk result (λ r. Gave (S.state claimed.old) (S.state claimed.new)
         (λ claim. MatchOption r (claim ≡ right.now) (λ f. IsFound right.now claim f))) }
     ensures inside { IfOk result (λ r. IfSome r (λ f. f.at ≤ length right.now)) }
     ensures stop { IfErr result (λ e. CompareStops e (S.state claimed.old) (S.state claimed.new)) }

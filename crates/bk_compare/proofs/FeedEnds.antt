@@ -3,7 +3,7 @@ use Rattle.std.proofs.Common.{◌≡◌, ℕ, true, false, List, Option, Some, N
 use Rattle.std.specs.Prelude.{IfOk, IfErr, OnOk, Result, Ok, Err}
 use Rattle.std.proofs.lemmas.List.Elements.{Contains-append_left, Contains-append_right}
 use Rattle.bk_base.specs.declared.version.Version.{Version}
-use Rattle.bk_frames.specs.Device.{Device, Works, IfKnown}
+use Rattle.bk_frames.specs.Device.{Device, Works, IfKnown, GaveAll}
 use Rattle.bk_base.specs.Feed.{Frame, FeedValue, feed_of}
 use Rattle.bk_committee.specs.Payload.{CommitteeValue}
 use Rattle.bk_commit.specs.Growth.{IsPartOf}
@@ -36,8 +36,8 @@ use Rattle.bk_answer.specs.RunReport.{committee_in, later_frames, IsStopIn, HasP
 use Rattle.bk_compare.specs.private.Ends.{HasStopIn, HasEnded, Ends, EndsNot, AgreesWith, compared_of, ComparisonStopsWith, IsDifferOf}
 use Rattle.bk_follow.specs.Stopping.{stops}
 use Rattle.bk_follow.proofs.ComparedBooks.{version_is}
-use Rattle.bk_follow.proofs.RunAnswers.{of_given, known_of, cut_short}
-use Rattle.bk_answer.specs.Given.{GaveAll}
+use Rattle.bk_frames.proofs.Devices.{gave_all, known_of}
+use Rattle.bk_follow.proofs.RunAnswers.{of_given, cut_short}
 
 -- ---- one feed
 
@@ -117,7 +117,7 @@ source_ended known now v w (given, gives, whole, (frames, come)) ends = (given, 
 
 -- why it has not
 pub source_not : (f : Fault) (known now : Device) (v : Followed) → Works known now → GaveAll known now (λ bytes. AllHasCome bytes v) → EndsNot v f → FollowFails f known now
-source_not (fault.Feed found) known now v works come h = cut_short known now v found works (known_of known now (λ bytes. AllHasCome bytes v) come) h
+source_not (fault.Feed found) known now v works come h = cut_short known now v found works come h
 source_not (fault.Collision id) known now v works come h = absurd h
 source_not (fault.Equivocation round author first second) known now v works come h = absurd h
 source_not (fault.Unfinished place) known now v works come h =
@@ -216,16 +216,12 @@ module _ (one other : Followed) (bytes more : List ℕ) (x : HasEnded bytes one)
 
 -- ---- two sources
 
--- of what a source gave
-of_gave : (old new : Device) (P Q : List ℕ → Type 0) → GaveAll old new P → ((bytes : List ℕ) → P bytes → Q bytes) → GaveAll old new Q
-of_gave old new P Q (given, gives, whole, holds) f = (given, gives, whole, f given holds)
-
 pub agrees_with : (one other : Followed) (old new : Device) (a : Agreed) → GaveAll old new (λ more. HasEnded more other) → FollowersAgree one other a → AgreesWith one other old new a
 agrees_with one other old new a ended h =
-    λ bytes x. of_gave old new (λ more. HasEnded more other) (λ more. OfTheirFeeds bytes more (λ f g. FeedsCompared f g (compared_of one other a))) ended (λ more y. ended_agree one other bytes more x y a h)
+    λ bytes x. gave_all old new (λ more. HasEnded more other) (λ more. OfTheirFeeds bytes more (λ f g. FeedsCompared f g (compared_of one other a))) ended (λ more y. ended_agree one other bytes more x y a h)
 
 pub differs_with : (one other : Followed) (old new : Device) (d : Differ) → Works old new → GaveAll old new (λ more. HasEnded more other) → FollowersDiffer one other d → ComparisonStopsWith (why.Differ d) one old new
-differs_with one other old new d works ended h = (works, λ bytes x. of_gave old new (λ more. HasEnded more other) (λ more. OfTheirFeeds bytes more (FeedsDiffer d)) ended (λ more y. ended_differ one other bytes more x y d h))
+differs_with one other old new d works ended h = (works, λ bytes x. gave_all old new (λ more. HasEnded more other) (λ more. OfTheirFeeds bytes more (FeedsDiffer d)) ended (λ more y. ended_differ one other bytes more x y d h))
 
 -- what comparing both says of the source of the other
 pub agrees_by : (result : Result Agreed CompareStop) (one other : Followed) (old new : Device) → GaveAll old new (λ more. HasEnded more other) → IfOk result (FollowersAgree one other) → IfOk result (AgreesWith one other old new)
@@ -249,7 +245,7 @@ stops_by (Err e) one other old new works ended h = differs_by e one other old ne
 pub both_agree : (a : Agreed) (one other : Followed) (first first' second second' : Device) → GaveAll first first' (λ bytes. HasEnded bytes one) → AgreesWith one other second second' a
     → BothGave (sources first second) (sources first' second') (λ f g. FeedsCompared f g (compared_of one other a))
 both_agree a one other first first' second second' ended h =
-    of_gave first first' (λ bytes. HasEnded bytes one) (λ bytes. GaveAll second second' (λ more. OfTheirFeeds bytes more (λ f g. FeedsCompared f g (compared_of one other a)))) ended (λ bytes x. h bytes x)
+    gave_all first first' (λ bytes. HasEnded bytes one) (λ bytes. GaveAll second second' (λ more. OfTheirFeeds bytes more (λ f g. FeedsCompared f g (compared_of one other a)))) ended (λ bytes x. h bytes x)
 
 -- what follows from what holds of both feeds holds of them
 pub of_theirs : (holds too : FeedValue → FeedValue → Type 0) (bytes more : List ℕ) → ((f g : FeedValue) → holds f g → too f g) → OfTheirFeeds bytes more holds → OfTheirFeeds bytes more too
@@ -257,8 +253,8 @@ of_theirs holds too bytes more f x = record { one = x.one; other = x.other; good
 
 both_so : (old new : Sources) (holds too : FeedValue → FeedValue → Type 0) → ((f g : FeedValue) → holds f g → too f g) → BothGave old new holds → BothGave old new too
 both_so old new holds too f h =
-    of_gave old.first new.first (λ bytes. GaveAll old.second new.second (λ more. OfTheirFeeds bytes more holds)) (λ bytes. GaveAll old.second new.second (λ more. OfTheirFeeds bytes more too)) h
-    (λ bytes k. of_gave old.second new.second (λ more. OfTheirFeeds bytes more holds) (λ more. OfTheirFeeds bytes more too) k (λ more x. of_theirs holds too bytes more f x))
+    gave_all old.first new.first (λ bytes. GaveAll old.second new.second (λ more. OfTheirFeeds bytes more holds)) (λ bytes. GaveAll old.second new.second (λ more. OfTheirFeeds bytes more too)) h
+    (λ bytes k. gave_all old.second new.second (λ more. OfTheirFeeds bytes more holds) (λ more. OfTheirFeeds bytes more too) k (λ more x. of_theirs holds too bytes more f x))
 
 pub agree_too : (old new : Sources) (c : Compared) → BothGave old new (λ f g. FeedsCompared f g c) → BothGave old new (λ f g. FeedsAgree f g c.agreed)
 agree_too old new c h = both_so old new (λ f g. FeedsCompared f g c) (λ f g. FeedsAgree f g c.agreed) (λ f g x. x.agree) h
@@ -267,16 +263,16 @@ agree_too old new c h = both_so old new (λ f g. FeedsCompared f g c) (λ f g. F
 pub both_known : (old new : Sources) (holds : FeedValue → FeedValue → Type 0) → BothGave old new holds → IfKnown old.first (λ bytes. IfKnown old.second (λ more. OfTheirFeeds bytes more holds))
 both_known old new holds h =
     known_of old.first new.first (λ bytes. IfKnown old.second (λ more. OfTheirFeeds bytes more holds))
-    (of_gave old.first new.first (λ bytes. GaveAll old.second new.second (λ more. OfTheirFeeds bytes more holds)) (λ bytes. IfKnown old.second (λ more. OfTheirFeeds bytes more holds)) h
+    (gave_all old.first new.first (λ bytes. GaveAll old.second new.second (λ more. OfTheirFeeds bytes more holds)) (λ bytes. IfKnown old.second (λ more. OfTheirFeeds bytes more holds)) h
     (λ bytes k. known_of old.second new.second (λ more. OfTheirFeeds bytes more holds) k))
 
 -- and the bytes of both stop at the missing batches of both
 pub gaps_too : (old new : Sources) (c : Compared) → BothGave old new (λ f g. FeedsCompared f g c) → IfKnown old.first (λ bytes. IfKnown old.second (λ more. IsGap bytes c.first × IsGap more c.second))
 gaps_too old new c h =
     known_of old.first new.first (λ bytes. IfKnown old.second (λ more. IsGap bytes c.first × IsGap more c.second))
-    (of_gave old.first new.first (λ bytes. GaveAll old.second new.second (λ more. OfTheirFeeds bytes more (λ f g. FeedsCompared f g c))) (λ bytes. IfKnown old.second (λ more. IsGap bytes c.first × IsGap more c.second)) h
+    (gave_all old.first new.first (λ bytes. GaveAll old.second new.second (λ more. OfTheirFeeds bytes more (λ f g. FeedsCompared f g c))) (λ bytes. IfKnown old.second (λ more. IsGap bytes c.first × IsGap more c.second)) h
     (λ bytes k. known_of old.second new.second (λ more. IsGap bytes c.first × IsGap more c.second)
-    (of_gave old.second new.second (λ more. OfTheirFeeds bytes more (λ f g. FeedsCompared f g c)) (λ more. IsGap bytes c.first × IsGap more c.second) k (λ more x. gaps_of bytes more x))))
+    (gave_all old.second new.second (λ more. OfTheirFeeds bytes more (λ f g. FeedsCompared f g c)) (λ more. IsGap bytes c.first × IsGap more c.second) k (λ more x. gaps_of bytes more x))))
   where
     gaps_of : (bytes more : List ℕ) → OfTheirFeeds bytes more (λ f g. FeedsCompared f g c) → IsGap bytes c.first × IsGap more c.second
     gaps_of bytes more x = (
@@ -286,10 +282,10 @@ gaps_too old new c h =
 
 -- a feed that has ended is a feed
 is_feed : (old new : Device) (one : Followed) → GaveAll old new (λ bytes. HasEnded bytes one) → GaveAll old new AreFeed
-is_feed old new one ended = of_gave old new (λ bytes. HasEnded bytes one) AreFeed ended (λ bytes x. (feed_of x.version x.frames, x.good, x.spelled))
+is_feed old new one ended = gave_all old new (λ bytes. HasEnded bytes one) AreFeed ended (λ bytes x. (feed_of x.version x.frames, x.good, x.spelled))
 
 pub compare_stops : (e : CompareStop) (one : Followed) (first first' second second' : Device) → Works first first' → GaveAll first first' (λ bytes. HasEnded bytes one) → ComparisonStopsWith e one second second' → ComparisonStops e (sources first second) (sources first' second')
 compare_stops (why.First found) one first first' second second' works ended h = absurd h
 compare_stops (why.Second found) one first first' second second' works ended h = (works, is_feed first first' one ended, h)
 compare_stops (why.Differ found) one first first' second second' works ended h =
-    ((works, h.0), of_gave first first' (λ bytes. HasEnded bytes one) (λ bytes. GaveAll second second' (λ more. OfTheirFeeds bytes more (FeedsDiffer found))) ended (λ bytes x. h.1 bytes x))
+    ((works, h.0), gave_all first first' (λ bytes. HasEnded bytes one) (λ bytes. GaveAll second second' (λ more. OfTheirFeeds bytes more (FeedsDiffer found))) ended (λ bytes x. h.1 bytes x))

@@ -1,6 +1,6 @@
 -- When the feeds of two sources agree, and why they do not.
 use Rattle.std.specs.Prelude.{◌≡◌, List, ℕ}
-use Rattle.bk_frames.specs.Device.{Device, Works}
+use Rattle.bk_frames.specs.Device.{Device, Works, GaveAll}
 use Rattle.bk_base.specs.Feed.{FeedValue, IsFeed, spelling}
 use Rattle.bk_frames.specs.Pulling.{Refuses}
 use Rattle.bk_order.specs.declared.stop.Stop.TheVariants as stop
@@ -13,7 +13,6 @@ use Rattle.bk_results.specs.declared.fault.Fault.{Fault}
 use Rattle.bk_results.specs.declared.fault.Fault.TheVariants as fault
 use Rattle.bk_compare.specs.declared.compared.Compared.{Compared}
 use Rattle.bk_answer.specs.Gaps.{IsGapIn}
-use Rattle.bk_answer.specs.Given.{GaveAll}
 use Rattle.bk_follow.specs.Agreement.{HaveOneSetup, HaveNoStop, HaveStop, Agree}
 use Rattle.bk_results.specs.Devices.{AreFeed}
 use Rattle.bk_answer.specs.Outcomes.{Outcome, IsOutcomeOf}

@@ -2,8 +2,7 @@
 
 ghost use Rattle.bk_frames.specs.declared.pulling.TheConstants.{PIECE};
 ghost use Rattle.std.specs.Prelude.{◌≡◌, ◌<◌, ◌≤◌, None, length, OnOk, IfOk, IfErr};
-ghost use Rattle.bk_frames.specs.Device.{CanBeUsed, Works};
-ghost use Rattle.bk_answer.specs.Given.{GaveAll};
+ghost use Rattle.bk_frames.specs.Device.{CanBeUsed, Works, GaveAll};
 ghost use Rattle.bk_follow.specs.Agreement.{FollowersAgree};
 ghost use Rattle.bk_follow.specs.Follower.{unfed};
 ghost use Rattle.bk_compare.specs.FeedAgreement.{BothGave, BothWork, ComparisonStops, FeedsAgree, FeedsCompared, FollowFails, sources};

@@ -6,14 +6,13 @@ use Rattle.std.proofs.lemmas.List.{append-nil, map-append}
 use Rattle.bk_base.specs.declared.kind.Kind.{Kind}
 use Rattle.bk_base.specs.declared.version.Version.{Version}
 use Rattle.bk_frames.specs.declared.fault.FeedFault.{FeedFault}
-use Rattle.bk_frames.specs.Device.{Device, CanBeUsed, Works, IfKnown}
+use Rattle.bk_frames.specs.Device.{Device, CanBeUsed, Works, IfKnown, GaveAll}
 use Rattle.bk_base.specs.Feed.{Frame}
 use Rattle.bk_frames.specs.Cutting.{Cut, Cuts, in_magic, past_magic, in_frames, CutsInto, fresh, frames_in}
 use Rattle.bk_frames.specs.Pulling.{Refuses}
 use Rattle.bk_frames.specs.Reading.{IsPulled, Pulls, room_of}
 use Rattle.bk_frames.proofs.CutJoining.{cuts_then}
 use Rattle.bk_frames.proofs.Pulls.{at_end}
-use Rattle.bk_answer.specs.Given.{GaveAll}
 use Rattle.bk_follow.specs.declared.gathering.Gathered.{Gathered}
 use Rattle.bk_follow.specs.private.Gathering.{HasGathered, HasPulled, CanTake, TakesWaiting, CanPull, OfPulled, PullsGroup, HasPulledGroup}
 use Rattle.bk_follow.proofs.Waiting.{can_take, took_all, took_none}

@@ -14,7 +14,6 @@ use Rattle.bk_ledger.specs.Ledger.{LedgerValue}
 use Rattle.bk_follow.specs.Follower.{BookValue, Followed, FollowsBy, Follows, HasCome, executed_in}
 use Rattle.bk_answer.specs.RunReport.{later_frames}
 use Rattle.bk_follow.specs.Ordering.{FindsOrder, IsOrdered, OrderFails, anchors_in, certs_in}
-use Rattle.bk_follow.specs.Queries.{QueryFails}
 use Rattle.bk_follow.specs.private.Books.{IsGoodBook, BookSettleFails}
 use Rattle.bk_follow.specs.private.Ledgers.{book_with}
 use Rattle.bk_follow.specs.private.Ordered.{BookOrderFails}
@@ -119,12 +118,3 @@ order_fails (fault.Equivocation round author first second) cut committee book st
 order_fails (fault.Unfinished place) cut committee book stands kept b new is none e h = absurd h
 order_fails (fault.Write written) cut committee book stands kept b new is none e h = absurd h
 order_fails fault.Memory cut committee book stands kept b new is none e h = e
-
--- which is why a query was not answered
-pub query_has_failed : (f : Fault) (old new : Followed) → OrderFails old new f → QueryFails old f
-query_has_failed (fault.Feed found) old new h = absurd h
-query_has_failed (fault.Collision id) old new h = h.1
-query_has_failed (fault.Equivocation round author first second) old new h = h.1
-query_has_failed (fault.Unfinished place) old new h = absurd h
-query_has_failed (fault.Write written) old new h = absurd h
-query_has_failed fault.Memory old new h = tt

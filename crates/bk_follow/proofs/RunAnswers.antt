@@ -4,16 +4,16 @@ use Rattle.std.specs.Prelude.{IfSome}
 use Rattle.std.proofs.KnownBytes.{Keeps-refl}
 use Rattle.bk_frames.specs.declared.fault.FaultCode.TheVariants as code
 use Rattle.bk_frames.specs.declared.fault.FeedFault.{FeedFault}
-use Rattle.bk_frames.specs.Device.{Device, Works, IfKnown}
+use Rattle.bk_frames.specs.Device.{Device, Works, IfKnown, GaveAll}
 use Rattle.bk_base.specs.Feed.{Frame, FeedValue, IsFeed, feed_of, spelling}
 use Rattle.bk_frames.specs.FirstFault.{HasFault}
 use Rattle.bk_frames.specs.Pulling.{Refuses}
 use Rattle.bk_frames.specs.Cutting.{EndsShort}
 use Rattle.bk_frames.proofs.CutJoining.{ends_cut_short}
+use Rattle.bk_frames.proofs.Devices.{gave_all, known_of}
 use Rattle.bk_results.specs.declared.fault.Fault.{Fault}
 use Rattle.bk_results.specs.declared.fault.Fault.TheVariants as fault
 use Rattle.bk_results.specs.Devices.{devices, IsUntouched}
-use Rattle.bk_answer.specs.Given.{GaveAll}
 use Rattle.bk_answer.specs.Answers.{AnswerFailsBy, AnswerIsOut, IsAnswered, IsMadeOf, IsOrderMadeOf, PartIsOut, TextIsOut, TextStops, WritesAnswer, WritesNot}
 use Rattle.bk_answer.specs.Closed.{ClosedValue, OrderValue}
 use Rattle.bk_answer.specs.RunReport.{IsStopIn, IsStopped, HasPlaceIn, HasPlace}
@@ -29,28 +29,6 @@ use Rattle.bk_follow.proofs.Following.{on_closed, settled_now}
 
 -- ---- what holds of the bytes that came
 
--- what holds of whatever has come holds of the bytes, where they are known
-pub of_known : (known : Device) (v : Followed) (P : List ℕ → Type 0) → IfKnown known (λ bytes. AllHasCome bytes v) → ((bytes : List ℕ) (frames : List Frame) → HasCome bytes frames v → P bytes) → IfKnown known P
-of_known known v P come f = by_known known.bytes come
-  where
-    by_known : (o : Option (List ℕ)) → IfSome o (λ bytes. AllHasCome bytes v) → IfSome o P
-    by_known None c = tt
-    by_known (Some bytes) c = f bytes c.0 c.1
-
--- the same of the feed that they are
-pub of_feed : (known : Device) (v : Followed) (P : FeedValue → Type 0) (Q : List ℕ → Type 0) → IfKnown known (λ bytes. AllHasCome bytes v) → OfFeed v P
-    → ((bytes : List ℕ) (feed : FeedValue) → IsFeed feed → bytes ≡ spelling feed → P feed → Q bytes) → IfKnown known Q
-of_feed known v P Q come ends f =
-    of_known known v Q come (λ bytes frames c. let end = ends bytes frames c in f bytes (feed_of end.version frames) end.good end.spelled end.holds)
-
--- the bytes that a source gave are those that are known
-pub known_of : (old new : Device) (P : List ℕ → Type 0) → GaveAll old new P → IfKnown old P
-known_of old new P (given, gives, whole, holds) = by_known old.bytes whole
-  where
-    by_known : (o : Option (List ℕ)) → IfSome o (λ w. w ≡ given) → IfSome o P
-    by_known None h = tt
-    by_known (Some bytes) h = subst P (sym h) holds
-
 -- what holds of the feed that has come holds of the bytes that a source gave
 pub of_given : (old new : Device) (v : Followed) (P : FeedValue → Type 0) (Q : List ℕ → Type 0) → GaveAll old new (λ bytes. AllHasCome bytes v) → OfFeed v P
     → ((bytes : List ℕ) (feed : FeedValue) → IsFeed feed → bytes ≡ spelling feed → P feed → Q bytes) → GaveAll old new Q
@@ -59,11 +37,12 @@ of_given old new v P Q (given, gives, whole, (frames, come)) ends f =
     (given, gives, whole, f given (feed_of end.version frames) end.good end.spelled end.holds)
 
 -- a feed that ends too early is refused
-pub cut_short : (known now : Device) (v : Followed) (found : FeedFault) → Works known now → IfKnown known (λ bytes. AllHasCome bytes v) → EndsShort v.cut found → Refuses found known now
+pub cut_short : (known now : Device) (v : Followed) (found : FeedFault) → Works known now → GaveAll known now (λ bytes. AllHasCome bytes v) → EndsShort v.cut found → Refuses found known now
 cut_short known now v found works come short =
     let at : FeedFault = record { offset = v.cut.offset; code = code.Truncated } in
-    let shown : IfKnown known (λ bytes. HasFault bytes at) = of_known known v (λ bytes. HasFault bytes at) come (λ bytes frames c. ends_cut_short bytes frames v.cut at c.cuts (record { is = refl; shown = short.shown })) in
-    subst (λ (f : FeedFault). Refuses f known now) (sym short.is) (works, shown)
+    let shown : GaveAll known now (λ bytes. HasFault bytes at) =
+    gave_all known now (λ bytes. AllHasCome bytes v) (λ bytes. HasFault bytes at) come (λ bytes c. ends_cut_short bytes c.0 v.cut at c.1.cuts (record { is = refl; shown = short.shown })) in
+    subst (λ (f : FeedFault). Refuses f known now) (sym short.is) (works, (shown.0, shown.1, shown.3), known_of known now (λ bytes. HasFault bytes at) shown)
 
 pub stopped : (known now : Device) (v : Followed) (found : Fault) → GaveAll known now (λ bytes. AllHasCome bytes v) → OfFeed v (λ feed. IsStopIn feed found) → GaveAll known now (λ bytes. IsStopped bytes found)
 stopped known now v found come ends =
@@ -198,7 +177,7 @@ module _ {E : Type 0} (text : FeedValue → E → List ℕ → Type 0) where
 
   -- why the Follower had no answer is why the call had none
   pub call_fails : (f : Fault) (executes : Bool) (known now old new : Device) (v : Followed) → Works known now → GaveAll known now (λ bytes. AllHasCome bytes v) → FollowerAnswersNot text executes v f old new → AnswerFailsBy text executes f (devices known old) (devices now new)
-  call_fails (fault.Feed found) executes known now old new v works come h = (cut_short known now v found works (known_of known now (λ bytes. AllHasCome bytes v) come) h.0, h.1)
+  call_fails (fault.Feed found) executes known now old new v works come h = (cut_short known now v found works come h.0, h.1)
   call_fails (fault.Collision id) executes known now old new v works come h = ((works, h.1), stopped known now v (fault.Collision id) come h.0)
   call_fails (fault.Equivocation round author first second) executes known now old new v works come h = ((works, h.1), stopped known now v (fault.Equivocation round author first second) come h.0)
   call_fails (fault.Unfinished place) executes known now old new v works come h = (

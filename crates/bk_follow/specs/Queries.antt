@@ -46,14 +46,6 @@ IsStopSoFar v (fault.Write written) = ⊥
 IsStopSoFar v fault.Memory = ⊥
 IsStopSoFar v stop = OfFrames v (λ feed. IsStopIn feed stop)
 
--- why another was not: that, or memory ran out
-abbrev pub QueryFails : Followed → Fault → Type 0
-QueryFails v (fault.Feed found) = ⊥
-QueryFails v (fault.Unfinished place) = ⊥
-QueryFails v (fault.Write written) = ⊥
-QueryFails v fault.Memory = Unit {0}
-QueryFails v stop = OfFrames v (λ feed. IsStopIn feed stop)
-
 -- this is the order of a book, and what it has executed
 pub record IsClosedBook (b : BookValue) (c : ClosedValue) : Type 0 where
   pub order : c.order ≡ order_of b

@@ -2,8 +2,7 @@
 
 ghost use Rattle.std.specs.Prelude.{◌≡◌, ◌++◌, ◌<◌, ◌≤◌, [], ℕ, List, length, None, OnOk, IfOk, IfErr, IsTrue, false};
 ghost use Rattle.bk_frames.specs.Cutting.{fresh, frames_in};
-ghost use Rattle.bk_frames.specs.Device.{Device, CanBeUsed};
-ghost use Rattle.bk_answer.specs.Given.{GaveAll};
+ghost use Rattle.bk_frames.specs.Device.{Device, CanBeUsed, GaveAll};
 ghost use Rattle.bk_frames.specs.Reading.{room_of};
 ghost use Rattle.bk_frames.specs.declared.pulling.TheConstants.{PIECE};
 ghost use Rattle.bk_base.specs.Feed.{Frame};

@@ -4,8 +4,7 @@ ghost use Rattle.std.specs.Prelude.{◌≡◌, ℕ, List, None, Err, OnOk, IfOk,
 ghost use Rattle.bk_base.specs.Feed.{Frame, FeedValue};
 ghost use Rattle.bk_follow.specs.Finishing.{ClosesOrder, CloseOrderFails};
 ghost use Rattle.bk_follow.specs.Follower.{HasCome};
-ghost use Rattle.bk_follow.specs.Ordering.{IsOrderSoFar, IsOrdered, FindsOrder, OrderFails, anchors_in, certs_in};
-ghost use Rattle.bk_follow.specs.Queries.{QueryFails};
+ghost use Rattle.bk_follow.specs.Ordering.{IsOrdered, FindsOrder, OrderFails, anchors_in, certs_in};
 ghost use Rattle.bk_follow.specs.private.Books.{IsGoodBook};
 ghost use Rattle.bk_follow.specs.private.Ordered.{BookOrderFails};
 ghost use Rattle.bk_follow.specs.private.Parts.{followed, OrdersNot};
@@ -103,7 +102,8 @@ impl Follower {
         }
     }
 
-    /// The order as it was settled last, by `settle`, `settle_order` or `order`.
+    /// The committed anchors and the certificates in order as they were settled last, by `settle`, `settle_order` or
+    /// `close_order`. Both are empty before the genesis is whole.
     pub fn last_order(&self) -> Order<'_>
         ensures anchors { result.anchors.now ≡ anchors_in self.now.book }
         ensures certs { result.certs.now ≡ certs_in self.now.book }
@@ -118,20 +118,5 @@ impl Follower {
                 certs: &[],
             },
         }
-    }
-
-    /// The committed anchors and the certificates in order of the whole frames so far, also of those after the last
-    /// settle. Nothing is executed. Both are empty before the genesis is whole. It is `settle_order` and then
-    /// `last_order`, whose contracts also say what it leaves.
-    ///
-    /// `Collision` or `Equivocation` where the frames so far are stopped.
-    pub fn order(&mut self) -> Result<Order<'_>, Fault>
-        ensures order { IfOk result (λ o. IsOrderSoFar self.old o.anchors.now o.certs.now) }
-        ensures works { OnOk result (self.old.fault ≡ None) }
-        ensures again { IfSome self.old.fault (λ f. result ≡ Err f) }
-        ensures fault { IfErr result (λ f. self.old.fault ≡ None → QueryFails self.old f) }
-    {
-        self.settle_order()?;
-        Ok(self.last_order())
     }
 }

@@ -1,11 +1,10 @@
 ghost use Rattle.std.specs.Prelude.{◌≡◌, ℕ, ◌<◌, ◌≤◌, [], List, length, true, None, Some, OnOk, IfOk, IfErr};
 ghost use Rattle.bk_answer.specs.Answers.{AnswerFailsBy, IsAnswered};
 ghost use Rattle.bk_answer.specs.RunReport.{report_text};
-ghost use Rattle.bk_frames.specs.Device.{CanBeUsed, Works};
+ghost use Rattle.bk_frames.specs.Device.{CanBeUsed, Works, GaveAll};
 ghost use Rattle.bk_base.specs.Feed.{Frame};
 ghost use Rattle.bk_follow.specs.Follower.{unfed};
 ghost use Rattle.bk_results.specs.Devices.{devices};
-ghost use Rattle.bk_answer.specs.Given.{GaveAll};
 ghost use Rattle.bk_follow.specs.Replaying.{ReadFails, AllHasCome};
 ghost use Rattle.bk_follow.specs.private.Gathering.{HasGathered, IsAllOf};
 ghost use Rattle.bk_frames.specs.declared.pulling.TheConstants.{PIECE};

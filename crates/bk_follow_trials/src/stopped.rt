@@ -13,7 +13,6 @@ where
 {
     follower.settle(rt, &Open).err() == Some(*fault)
         && follower.settle_order().err() == Some(*fault)
-        && follower.order().err() == Some(*fault)
 }
 
 // Whether nothing is found.

@@ -3,6 +3,7 @@ use Rattle.std.proofs.Common.{◌≡◌, ℕ, zero, suc, ◌+◌, ◌-◌, lengt
 use Rattle.std.proofs.lemmas.List.{take_at, drop_at, take_all}
 use Rattle.std.specs.Prelude.{IfSome}
 use Rattle.std.specs.Io.KnownBytes.{Consumes, Appends}
+use Rattle.bk_frames.specs.Device.{Device, GaveAll, IfKnown}
 
 -- two parts that were given in turn are one
 pub consumes_then : (a b c : Option (List ℕ)) (xs ys : List ℕ) → Consumes a b xs → Consumes b c ys → Consumes a c (xs ++ ys)
@@ -53,3 +54,15 @@ took_more a b c done n bytes before last =
 pub took_header : (a b c : Option (List ℕ)) (header payload : List ℕ) (written : ℕ) → length header ≡ 5 → Appends a b header → Appends b c (take written payload) → Appends a c (take (written + 5) (header ++ payload))
 took_header a b c header payload written five first second =
     rw (take_past header payload written (written + 5) (omega (arith, five))) (appends_then a b c header (take written payload) first second)
+
+-- what follows from what holds of the bytes that a source gave holds of them
+pub gave_all : (old new : Device) (P Q : List ℕ → Type 0) → GaveAll old new P → ((bytes : List ℕ) → P bytes → Q bytes) → GaveAll old new Q
+gave_all old new P Q (given, gives, whole, holds) f = (given, gives, whole, f given holds)
+
+-- and of the bytes that are known
+pub known_of : (old new : Device) (P : List ℕ → Type 0) → GaveAll old new P → IfKnown old P
+known_of old new P (given, gives, whole, holds) = by_known old.bytes whole
+  where
+    by_known : (o : Option (List ℕ)) → IfSome o (λ w. w ≡ given) → IfSome o P
+    by_known None h = tt
+    by_known (Some bytes) h = subst P (sym h) holds

@@ -9,7 +9,7 @@ use Rattle.bk_base.specs.declared.kind.Kind.{Kind}
 use Rattle.bk_frames.specs.declared.pulling.TheConstants.{PIECE}
 use Rattle.bk_frames.specs.declared.fault.FaultCode.TheVariants as code
 use Rattle.bk_frames.specs.declared.fault.FeedFault.{FeedFault}
-use Rattle.bk_frames.specs.Device.{Device, Works, Fails, Gives, IfKnown}
+use Rattle.bk_frames.specs.Device.{Device, Works, Fails, Gives, IfKnown, GaveAll}
 use Rattle.bk_base.specs.Feed.{Frame, spelling, FeedValue}
 use Rattle.bk_frames.specs.FirstFault.{HasFault}
 use Rattle.bk_frames.specs.Pulling.{Gave, StopsAt, FrontCallsForMemoryAt, Refuses}
@@ -66,10 +66,10 @@ all_pulled start now later bytes frames c p nothing end = by_known start.bytes l
 pub refused_piece : (start now later : Device) (bytes piece : List ℕ) (frames : List Frame) (c : Cut) (found : FeedFault) → IsPulled start now bytes frames c → Gives now later piece → Works now later → length piece ≤ PIECE → RefusesPiece c piece found → Refuses found start later
 refused_piece start now later bytes piece frames c found p gave works few r =
     by_code found.code ⊥ (Reaches c piece found.offset) (ShowsFault c piece found) (Fails start later × Gave start later (λ given. StopsAt given found.offset)) (Works start later × Gave start later (λ given. FrontCallsForMemoryAt given found.offset))
-    (Works start later × IfKnown start (λ all. HasFault all found))
+    (Works start later × Gave start later (λ given. HasFault given found) × IfKnown start (λ all. HasFault all found))
     (λ h. absurd h)
     (λ h. (same, (bytes ++ piece, came, memory_is_the_feeds bytes piece frames c found.offset p.cuts h few)))
-    (λ h. (same, by_known start.bytes later.bytes came (fault_is_the_feeds bytes piece frames c found p.cuts h)))
+    (λ h. let shown = fault_is_the_feeds bytes piece frames c found p.cuts h in (same, (bytes ++ piece, came, shown), by_known start.bytes later.bytes came shown))
     r.cause
   where
     same : Works start later
@@ -94,15 +94,17 @@ pub at_end : (start : Device) (bytes came : List ℕ) → length came ≡ 0 → 
 at_end start bytes [] none all = subst (λ (t : List ℕ). IfKnown start (λ whole. whole ≡ t)) (sym (append-nil bytes)) all
 at_end start bytes (b ∷ bs) none all = absurd (omega (arith, none))
 
-pub whole_read : (start : Device) (bytes : List ℕ) (feed : FeedValue) → bytes ≡ spelling feed → IfKnown start (λ whole. whole ≡ bytes) → IfKnown start (λ whole. whole ≡ spelling feed)
-whole_read start bytes feed is all = subst (λ (t : List ℕ). IfKnown start (λ whole. whole ≡ t)) is all
+pub whole_read : (start now : Device) (bytes : List ℕ) (feed : FeedValue) → Gives start now bytes → bytes ≡ spelling feed → IfKnown start (λ whole. whole ≡ bytes) → GaveAll start now (λ given. given ≡ spelling feed)
+whole_read start now bytes feed gave is all = (bytes, gave, all, is)
 
 -- the bytes end, and are cut short
 pub ended_short : (start now : Device) (bytes : List ℕ) (frames : List Frame) (c : Cut) (f : FeedFault) → IsPulled start now bytes frames c → IfKnown start (λ whole. whole ≡ bytes) → EndsShort c f → Refuses f start now
 ended_short start now bytes frames c f p all short =
-    subst (λ (g : FeedFault). Refuses g start now) (sym short.is) (p.works, by_known start.bytes all)
+    subst (λ (g : FeedFault). Refuses g start now) (sym short.is) (p.works, (bytes, p.gave, shown), by_known start.bytes all)
   where
+    shown : HasFault bytes (record { offset = c.offset; code = code.Truncated })
+    shown = subst (HasFault bytes) short.is (ends_cut_short bytes frames c f p.cuts short)
+
     by_known : (a : Option (List ℕ)) → IfSome a (λ whole. whole ≡ bytes) → IfSome a (λ whole. HasFault whole (record { offset = c.offset; code = code.Truncated }))
     by_known None h = tt
-    by_known (Some whole) h = subst (λ (t : List ℕ). HasFault t (record { offset = c.offset; code = code.Truncated })) (sym h)
-        (subst (HasFault bytes) short.is (ends_cut_short bytes frames c f p.cuts short))
+    by_known (Some whole) h = subst (λ (t : List ℕ). HasFault t (record { offset = c.offset; code = code.Truncated })) (sym h) shown

@@ -35,3 +35,8 @@ Receives old new bytes = Appends old.bytes new.bytes bytes
 -- this holds of the bytes of a device, where they are known
 abbrev pub IfKnown : Device → (List ℕ → Type 0) → Type 0
 IfKnown device holds = IfSome device.bytes holds
+
+-- a source gave bytes of which this holds, all that it had where that is known
+abbrev pub GaveAll : Device → Device → (List ℕ → Type 0) → Type 0
+GaveAll old new holds =
+    (given : List ℕ) × Gives old new given × IfKnown old (λ whole. whole ≡ given) × holds given

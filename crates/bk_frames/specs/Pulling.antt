@@ -48,10 +48,11 @@ pub record FrontCallsForMemoryAt (bytes : List ℕ) (offset : ℕ) : Type 0 wher
   pub first : offset ≡ 0 → ahead ≡ []
 
 -- why a feed was refused: a call of the source failed, after bytes that stop at this offset; or memory ran out, after
--- bytes that call for it at this offset; or all bytes of the source have this fault
+-- bytes that call for it at this offset; or the bytes that the source gave have this fault, and so have all that it had,
+-- where they are known
 abbrev pub Refuses : FeedFault → Device → Device → Type 0
 Refuses fault start now =
     ByCode fault.code
     (Fails start now × Gave start now (λ given. StopsAt given fault.offset))
     (Works start now × Gave start now (λ given. FrontCallsForMemoryAt given fault.offset))
-    (Works start now × IfKnown start (λ bytes. HasFault bytes fault))
+    (Works start now × Gave start now (λ given. HasFault given fault) × IfKnown start (λ bytes. HasFault bytes fault))

@@ -3,7 +3,7 @@
 ghost use Rattle.std.specs.Prelude.{◌≡◌, ℕ, ◌<◌, ◌≤◌, List, Some, None, length, IfOk, OnOk, IfErr, IfSome, slice_get};
 ghost use Rattle.bk_base.specs.declared.version.Version.{Version};
 ghost use Rattle.bk_frames.specs.Cutting.{Cuts, EndsShort, fresh, frames_in};
-ghost use Rattle.bk_frames.specs.Device.{CanBeUsed, Works, IfKnown};
+ghost use Rattle.bk_frames.specs.Device.{CanBeUsed, Works, GaveAll};
 ghost use Rattle.bk_base.specs.Feed.{spelling, genesis_of, IsFeed, AreGoodFrom};
 ghost use Rattle.bk_base.specs.Genesis.{AreAccounts};
 ghost use Rattle.bk_frames.specs.Pulling.{Refuses};
@@ -105,7 +105,7 @@ fn read_in_pieces<S: Source>(
     requires some { 0 < length piece.old }
     requires few { length piece.old ≤ PIECE }
     ensures feed { IfOk result (λ feed. IsFeed feed
-        × IfKnown (S.state source.old) (λ bytes. bytes ≡ spelling feed)) }
+        × GaveAll (S.state source.old) (S.state source.new) (λ bytes. bytes ≡ spelling feed)) }
     ensures sound { OnOk result (Works (S.state source.old) (S.state source.new)) }
     ensures fault { IfErr result (λ f. Refuses f (S.state source.old) (S.state source.new)) }
 {
@@ -131,7 +131,7 @@ impl Feed {
     pub fn read<S: Source>(alloc: Global, source: &mut S) -> Result<Feed, FeedFault>
         requires { CanBeUsed (S.state source.old) }
         ensures feed { IfOk result (λ feed. IsFeed feed
-            × IfKnown (S.state source.old) (λ bytes. bytes ≡ spelling feed)) }
+            × GaveAll (S.state source.old) (S.state source.new) (λ bytes. bytes ≡ spelling feed)) }
         ensures sound { OnOk result (Works (S.state source.old) (S.state source.new)) }
         ensures fault { IfErr result (λ e. Refuses e (S.state source.old) (S.state source.new)) }
     {

@@ -187,10 +187,10 @@ pub read_refused : (start now later : Device) (taken : List Frame) (r s : FrameR
     → Refuses found start later × Gave start later (λ given. AreFront given found.offset s.version (taken ++ frames_in s.frames.items))
 read_refused start now later taken r s piece found h gave works refused = (
   by_code found.code ⊥ (FrontCallsForMemoryAt all found.offset) (HasFault all found) (Fails start later × Gave start later (λ given. StopsAt given found.offset)) (Works start later × Gave start later (λ given. FrontCallsForMemoryAt given found.offset))
-      (Works start later × IfKnown start (λ bytes. HasFault bytes found))
+      (Works start later × Gave start later (λ given. HasFault given found) × IfKnown start (λ bytes. HasFault bytes found))
       (λ no_way. absurd no_way)
       (λ m. (same, (all, came, m)))
-      (λ f. (same, by_known start.bytes later.bytes came f))
+      (λ f. (same, (all, came, f), by_known start.bytes later.bytes came f))
       refused.cause,
   (all, came, refused.front),
 )

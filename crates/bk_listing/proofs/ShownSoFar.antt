@@ -234,7 +234,7 @@ from_code code.Extra P Q R G p q r h = r h
 
 refuses_once : (found : FeedFault) (a b : Device) → Refuses found a b → FailsOnceAtMost a b
 refuses_once found a b h =
-    from_code found.code (Fails a b × Gave a b (λ given. StopsAt given found.offset)) (Works a b × Gave a b (λ given. FrontCallsForMemoryAt given found.offset)) (Works a b × IfKnown a (λ bytes. HasFault bytes found)) (FailsOnceAtMost a b)
+    from_code found.code (Fails a b × Gave a b (λ given. StopsAt given found.offset)) (Works a b × Gave a b (λ given. FrontCallsForMemoryAt given found.offset)) (Works a b × Gave a b (λ given. HasFault given found) × IfKnown a (λ bytes. HasFault bytes found)) (FailsOnceAtMost a b)
     (λ x. inr x.0) (λ x. inl x.0) (λ x. inl x.0) h
 
 good_front : (v : Version) (index offset : ℕ) (xs ys : List Frame) → AreGoodFrom v index offset (xs ++ ys) → AreGoodFrom v index offset xs
@@ -335,7 +335,7 @@ end_fault old now later r l m f h same all ends = by_fault f ends
 
     by_fault : (g : Fault) → EndsBy g h.taken h.text r m now.sink later.sink → ListFails g old later
     by_fault (fault.Feed found) (short, w) =
-        let refused : Refuses found old.source later.source = subst (λ (x : FeedFault). Refuses x old.source later.source) (sym short.is) (works, subst (λ (x : FeedFault). IfKnown old.source (λ whole. HasFault whole x)) short.is (cut_short found short old.source.bytes all)) in
+        let refused : Refuses found old.source later.source = subst (λ (x : FeedFault). Refuses x old.source later.source) (sym short.is) (works, (h.come.bytes, gave, subst (HasFault h.come.bytes) short.is (ends_cut_short h.come.bytes (h.taken ++ waiting r) r.cutter found h.come.come.cuts short)), subst (λ (x : FeedFault). IfKnown old.source (λ whole. HasFault whole x)) short.is (cut_short found short old.source.bytes all)) in
         let listed = front_listed old now later h.taken h.text r l h.come.bytes r.cutter.offset (own_front old now r l h) gave (inl works) h.listed h.works h.out m w in
         (refused, listed.0, subst (λ (n : ℕ). Gave old.source later.source (IsListedTo n old.sink later.sink)) (sym (ap (λ (x : FeedFault). x.offset) short.is)) listed.1)
     by_fault (fault.Collision id) no_way = absurd no_way

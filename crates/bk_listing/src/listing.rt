@@ -4,10 +4,9 @@ ghost use Rattle.std.specs.Prelude.{◌≡◌, ◌<◌, ◌≤◌, ◌++◌, [],
 ghost use Rattle.bk_frames.specs.declared.pulling.TheConstants.{PIECE};
 ghost use Rattle.bk_base.specs.declared.version.Version.{Version};
 ghost use Rattle.bk_frames.specs.Cutting.{frames_in};
-ghost use Rattle.bk_frames.specs.Device.{Device, CanBeUsed, Works, IfKnown};
+ghost use Rattle.bk_frames.specs.Device.{Device, CanBeUsed, Works};
 ghost use Rattle.bk_base.specs.Feed.{Frame};
-ghost use Rattle.bk_frames.specs.Pulling.{Gave};
-ghost use Rattle.bk_results.specs.Devices.{devices};
+ghost use Rattle.bk_results.specs.Devices.{OfGiven, devices};
 ghost use Rattle.bk_listing.specs.Answers.{AllIsListed, ListFails};
 ghost use Rattle.bk_listing.specs.private.Listed.{CanList, EndsBy, HasShown, IsEmptied, LeavesBy, ListsWaiting, WaitingFails};
 
@@ -112,9 +111,7 @@ fn list_all<R: Threads + Sync, S: Source, K: Sink>(
     requires few { length piece.old ≤ PIECE }
     requires first { HasShown (devices (S.state source.old) (K.state sink.old))
         (devices (S.state source.old) (K.state sink.old)) reader.old lister.old }
-    ensures listed { OnOk result (IfKnown (S.state source.old)
-        (AllIsListed (K.state sink.old) (K.state sink.new))) }
-    ensures given { OnOk result (Gave (S.state source.old) (S.state source.new)
+    ensures listed { OnOk result (OfGiven (S.state source.old) (S.state source.new)
         (AllIsListed (K.state sink.old) (K.state sink.new))) }
     ensures sound { OnOk result (Works (S.state source.old) (S.state source.new)
         × Works (K.state sink.old) (K.state sink.new)) }
@@ -153,9 +150,7 @@ pub fn list_frames<R: Threads + Sync, S: Source, K: Sink>(
 ) -> Result<(), Fault>
     requires source { CanBeUsed (S.state source.old) }
     requires sink { CanBeUsed (K.state sink.old) }
-    ensures listed { OnOk result (IfKnown (S.state source.old)
-        (AllIsListed (K.state sink.old) (K.state sink.new))) }
-    ensures given { OnOk result (Gave (S.state source.old) (S.state source.new)
+    ensures listed { OnOk result (OfGiven (S.state source.old) (S.state source.new)
         (AllIsListed (K.state sink.old) (K.state sink.new))) }
     ensures sound { OnOk result (Works (S.state source.old) (S.state source.new)
         × Works (K.state sink.old) (K.state sink.new)) }

@@ -125,12 +125,10 @@ where
     Ok(has_proof(rt, follower, wanted)? && follower.prove(rt, 3)?.is_none())
 }
 
-// Whether the order is as wanted, as it is settled and as it was settled last.
+// Whether the order is as wanted.
 fn has_order(follower: &mut Follower, wanted: Wanted) -> Result<bool> {
     follower.settle_order()?;
-    let is_last = is_order(follower.last_order(), wanted.anchors, wanted.certs);
-    let order = follower.order()?;
-    Ok(is_last && is_order(order, wanted.anchors, wanted.certs))
+    Ok(is_order(follower.last_order(), wanted.anchors, wanted.certs))
 }
 
 fn gives<R>(rt: &R, follower: &mut Follower, wanted: Wanted) -> Result<bool>
@@ -221,8 +219,9 @@ where
 
 // Whether one certificate is ordered, and its payment is not executed.
 fn is_unexecuted(follower: &mut Follower) -> Result<bool> {
+    follower.settle_order()?;
     Ok(
-        is_order(follower.order()?, 1, 1)
+        is_order(follower.last_order(), 1, 1)
             && follower.receipt(0)?.is_none()
             && follower.account(2)?.is_some(),
     )
@@ -233,11 +232,9 @@ fn settles_one<R>(rt: &R, follower: &mut Follower) -> Result<bool>
 where
     R: AllocGlobal + Threads + Wait + Sync,
 {
-    Ok(
-        follower.settle(rt, &Open)? == 1
-            && is_order(follower.order()?, 1, 1)
-            && follower.receipt(0)?.is_some(),
-    )
+    let settled = follower.settle(rt, &Open)?;
+    follower.settle_order()?;
+    Ok(settled == 1 && is_order(follower.last_order(), 1, 1) && follower.receipt(0)?.is_some())
 }
 
 // Whether the order is that of the whole frames so far without any settling, which executes nothing.
@@ -246,7 +243,8 @@ where
     R: AllocGlobal + Threads + Wait + Sync,
 {
     for byte in feed.chunks(1) {
-        if !is_order(follower.order()?, 0, 0) {
+        follower.settle_order()?;
+        if !is_order(follower.last_order(), 0, 0) {
             return Ok(false);
         }
         follower.feed(rt, byte)?;

@@ -1,7 +1,8 @@
 -- What a call with a source and a sink leaves of both.
 use Rattle.std.specs.Prelude.{◌≡◌, ℕ, List}
 use Rattle.std.specs.Io.KnownBytes.{Keeps}
-use Rattle.bk_frames.specs.Device.{Device, Works}
+use Rattle.bk_frames.specs.Device.{Device, Works, IfKnown}
+use Rattle.bk_frames.specs.Pulling.{Gave}
 use Rattle.bk_base.specs.Feed.{FeedValue, IsFeed, spelling}
 
 -- the source and the sink of a replay
@@ -20,6 +21,10 @@ IsUntouched old new = Works old new × Keeps old.bytes new.bytes
 -- no call of either device failed, and nothing was written
 abbrev pub NothingHappened : Devices → Devices → Type 0
 NothingHappened old new = Works old.source new.source × IsUntouched old.sink new.sink
+
+-- this holds of the bytes that a source gave, and of all that it had, where they are known
+abbrev pub OfGiven : Device → Device → (List ℕ → Type 0) → Type 0
+OfGiven old new holds = Gave old new holds × IfKnown old holds
 
 -- the bytes are those of a feed
 abbrev pub AreFeed : List ℕ → Type 0

@@ -134,12 +134,12 @@ events_of_read most bytes text is =
 
 pub text_lists : (old new : Device) (text : List ℕ) (events : Events) → HasRead MOST_SCRIPT old new text → events_within MOST_SCRIPT text ≡ Ok (event_list events) → AreEvents old new events
 text_lists old new text events read e =
-    (read.0, known_then old.bytes (λ bytes. IsRead MOST_SCRIPT bytes text) (λ bytes. events_within MOST_SCRIPT bytes ≡ Ok (event_list events)) (λ bytes is. sym (events_of_read MOST_SCRIPT bytes text is) ∙ e) read.2)
+    (read.0, ((text, read.3, e), known_then old.bytes (λ bytes. IsRead MOST_SCRIPT bytes text) (λ bytes. events_within MOST_SCRIPT bytes ≡ Ok (event_list events)) (λ bytes is. sym (events_of_read MOST_SCRIPT bytes text is) ∙ e) read.2))
 
 pub text_lists_none : (old new : Device) (text : List ℕ) (e : EventsFault) → HasRead MOST_SCRIPT old new text
     → Lists event_list (Err e) (events_within MOST_SCRIPT text) → HasNoEvents e old new
 text_lists_none old new text (fault.Line line) read h =
-    (read.0, known_then old.bytes (λ bytes. IsRead MOST_SCRIPT bytes text) (λ bytes. events_within MOST_SCRIPT bytes ≡ Err line) (λ bytes is. sym (events_of_read MOST_SCRIPT bytes text is) ∙ h) read.2)
+    (read.0, ((text, read.3, h), known_then old.bytes (λ bytes. IsRead MOST_SCRIPT bytes text) (λ bytes. events_within MOST_SCRIPT bytes ≡ Err line) (λ bytes is. sym (events_of_read MOST_SCRIPT bytes text is) ∙ h) read.2))
 text_lists_none old new text fault.Read read h = absurd h
 text_lists_none old new text fault.Memory read h = read.0
 

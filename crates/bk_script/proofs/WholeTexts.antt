@@ -7,7 +7,7 @@ use Rattle.std.specs.Prelude.{IfSome}
 use Rattle.std.specs.Io.KnownBytes.{Consumes, IsAtEnd, Keeps}
 use Rattle.std.proofs.KnownBytes.{Consumes-trans}
 use Rattle.bk_frames.specs.Device.{Device, Receives, IfKnown}
-use Rattle.bk_frames.specs.Pulling.{Gave}
+use Rattle.bk_results.specs.Devices.{OfGiven}
 use Rattle.bk_frames.specs.declared.writing.WriteFault.{WriteFault}
 use Rattle.bk_frames.specs.Writing.{StopsWriting}
 use Rattle.bk_results.specs.declared.script_fault.ScriptCode.TheVariants as code
@@ -158,12 +158,12 @@ known_then (Some bytes) P Q f h = f bytes h
 
 pub text_gives : (most : ℕ) (old new : Device) (text feed : List ℕ) → HasRead most old new text → feed_within most text ≡ Ok feed → IsFeedFrom most old new feed
 text_gives most old new text feed read e =
-    (read.0, known_then old.bytes (λ bytes. IsRead most bytes text) (λ bytes. feed_within most bytes ≡ Ok feed) (λ bytes is. sym (feed_of_read most bytes text is) ∙ e) read.2, (text, read.3, e))
+    (read.0, ((text, read.3, e), known_then old.bytes (λ bytes. IsRead most bytes text) (λ bytes. feed_within most bytes ≡ Ok feed) (λ bytes is. sym (feed_of_read most bytes text is) ∙ e) read.2))
 
 pub text_fails : (most : ℕ) (old new : Device) (text : List ℕ) (e : ScriptFault) → HasRead most old new text
     → Agrees {A = Unit {0}} {B = List ℕ} (λ _. []) (Err e) (feed_within most text) → IsNoFeedFrom most e old new
 text_fails most old new text (fault.Script line found) read h =
-    (read.0, known_then old.bytes (λ bytes. IsRead most bytes text) (λ bytes. feed_within most bytes ≡ Err (record { line = line; code = found })) (λ bytes is. sym (feed_of_read most bytes text is) ∙ h) read.2)
+    (read.0, ((text, read.3, h), known_then old.bytes (λ bytes. IsRead most bytes text) (λ bytes. feed_within most bytes ≡ Err (record { line = line; code = found })) (λ bytes is. sym (feed_of_read most bytes text is) ∙ h) read.2))
 text_fails most old new text fault.Read read h = absurd h
 text_fails most old new text (fault.Write written) read h = absurd h
 text_fails most old new text fault.Memory read h = read.0
@@ -187,17 +187,16 @@ source_fails source source' sink fault.Read h = (h, (refl, keeps_all sink.bytes)
 source_fails source source' sink (fault.Write written) h = absurd h
 source_fails source source' sink fault.Memory h = (h, (refl, keeps_all sink.bytes))
 
+-- what follows of the bytes of a source
+pub of_given_then : (old new : Device) (P Q : List ℕ → Type 0) → ((bytes : List ℕ) → P bytes → Q bytes) → OfGiven old new P → OfGiven old new Q
+of_given_then old new P Q f ((text, gives, h), known) = ((text, gives, f text h), known_then old.bytes P Q f known)
+
 pub sink_fails : (source source' sink sink' : Device) (feed : List ℕ) (e : WriteFault) → IsFeedFrom MOST_SCRIPT source source' feed → StopsWriting e feed sink sink'
     → FailsBy (fault.Write e.written) (devices source sink) (devices source' sink')
 sink_fails source source' sink sink' feed e made stops =
-    (made.0, stops.fails, known_then source.bytes (λ text. feed_of text ≡ Ok feed) (λ text. IsMadeInPart e.written text sink sink') (λ text is. (feed, is, stops.short, stops.out)) made.1)
+    (made.0, stops.fails, of_given_then source source' (λ text. feed_of text ≡ Ok feed) (λ text. IsMadeInPart e.written text sink sink') (λ text is. (feed, is, stops.short, stops.out)) made.1)
 
 pub all_written : (source source' sink sink' : Device) (feed : List ℕ) → IsFeedFrom MOST_SCRIPT source source' feed → Receives sink sink' feed
-    → IfKnown source (λ text. IsMade text sink sink')
+    → OfGiven source source' (λ text. IsMade text sink sink')
 all_written source source' sink sink' feed made out =
-    known_then source.bytes (λ text. feed_of text ≡ Ok feed) (λ text. IsMade text sink sink') (λ text is. (feed, is, out)) made.1
-
--- and of the text that the source gave
-pub given_written : (source source' sink sink' : Device) (feed : List ℕ) → IsFeedFrom MOST_SCRIPT source source' feed → Receives sink sink' feed
-    → Gave source source' (λ text. IsMade text sink sink')
-given_written source source' sink sink' feed (works, known, (text, gives, is)) out = (text, gives, (feed, is, out))
+    of_given_then source source' (λ text. feed_of text ≡ Ok feed) (λ text. IsMade text sink sink') (λ text is. (feed, is, out)) made.1

@@ -2,6 +2,7 @@
 use Rattle.std.specs.Prelude.{◌≡◌, ℕ, ◌+◌, ◌<◌, ◌≤◌, List, length, take, Result, Ok, Err}
 use Rattle.std.specs.Io.KnownBytes.{Keeps}
 use Rattle.bk_frames.specs.Device.{Device, Works, Fails, Gives, Receives, IfKnown}
+use Rattle.bk_results.specs.Devices.{OfGiven}
 use Rattle.bk_results.specs.declared.script_fault.ScriptCode.{ScriptCode}
 use Rattle.bk_results.specs.declared.script_fault.ScriptFault.{ScriptFault}
 use Rattle.bk_results.specs.declared.script_fault.ScriptFault.TheVariants as fault
@@ -62,10 +63,10 @@ IsMadeInPart written text old new =
 abbrev pub FailsBy : ScriptFault → Devices → Devices → Type 0
 FailsBy (fault.Script line found) old new =
     Works old.source new.source
-    × IfKnown old.source (λ text. feed_of text ≡ Err (record { line = line; code = found }))
+    × OfGiven old.source new.source (λ text. feed_of text ≡ Err (record { line = line; code = found }))
     × IsUntouched old.sink new.sink
 FailsBy fault.Read old new = Fails old.source new.source × IsUntouched old.sink new.sink
 FailsBy (fault.Write written) old new =
     Works old.source new.source × Fails old.sink new.sink
-    × IfKnown old.source (λ text. IsMadeInPart written text old.sink new.sink)
+    × OfGiven old.source new.source (λ text. IsMadeInPart written text old.sink new.sink)
 FailsBy fault.Memory old new = Works old.source new.source × IsUntouched old.sink new.sink

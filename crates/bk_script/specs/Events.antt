@@ -1,7 +1,8 @@
 -- What the text of a list of events says: the events, each with its line, or the first line with a fault.
 use Rattle.std.specs.Prelude.{◌≡◌, ℕ, ◌+◌, List, [], ◌∷◌, ◌++◌, length, take, nat_le, if◌then◌else◌, Option, Some, None, Result, Ok, Err, codes}
 use Rattle.std.specs.Str.{bytes_eq}
-use Rattle.bk_frames.specs.Device.{Device, Works, Fails, IfKnown}
+use Rattle.bk_frames.specs.Device.{Device, Works, Fails}
+use Rattle.bk_results.specs.Devices.{OfGiven}
 use Rattle.bk_steps.specs.declared.event.Event.{Event}
 use Rattle.bk_steps.specs.declared.event.Event.TheVariants.{Claim, Read, Write, Finish}
 use Rattle.bk_script.specs.declared.events.Events.{Events}
@@ -89,11 +90,11 @@ events_of text = events_within MOST_SCRIPT text
 
 -- no call of the source failed, and its text says these events
 abbrev pub AreEvents : Device → Device → Events → Type 0
-AreEvents old new events = Works old new × IfKnown old (λ text. events_of text ≡ Ok (event_list events))
+AreEvents old new events = Works old new × OfGiven old new (λ text. events_of text ≡ Ok (event_list events))
 
 -- why there is no list of events, by the fault: this is the first line of the text with a fault; a call of the source
 -- failed; or memory ran out
 abbrev pub HasNoEvents : EventsFault → Device → Device → Type 0
-HasNoEvents (fault.Line line) old new = Works old new × IfKnown old (λ text. events_of text ≡ Err line)
+HasNoEvents (fault.Line line) old new = Works old new × OfGiven old new (λ text. events_of text ≡ Err line)
 HasNoEvents fault.Read old new = Fails old new
 HasNoEvents fault.Memory old new = Works old new

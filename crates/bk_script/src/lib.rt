@@ -25,6 +25,8 @@ mod words;
 pub use bk_results::{EventsFault, ScriptCode, ScriptFault};
 pub use events::{Events, read_events};
 pub use fault::Stop;
+pub use line::is_skipped;
 pub use making::{MOST_SCRIPT, make};
 pub use reading::read_text;
 pub use script::Script;
+pub use words::{number, pieces};

@@ -5,8 +5,8 @@ use Rattle.bk_claim.specs.declared.verdict.ClaimStop.{ClaimStop}
 use Rattle.bk_claim.specs.declared.verdict.ClaimStop.TheVariants as stop
 use Rattle.bk_claim.specs.declared.verdict.Verdict.{Verdict}
 use Rattle.bk_answer.specs.RunReport.{IsStopped, HasPlace}
-use Rattle.bk_frames.specs.Device.{Device, Works, Fails, Receives, IfKnown}
-use Rattle.bk_frames.specs.Pulling.{Refuses}
+use Rattle.bk_frames.specs.Device.{Device, Works, Fails, Receives, IfKnown, GaveAll}
+use Rattle.bk_frames.specs.Pulling.{Gave, Refuses}
 use Rattle.bk_results.specs.Devices.{Devices, IsUntouched, NothingHappened}
 use Rattle.bk_results.specs.declared.fault.Fault.{Fault}
 use Rattle.bk_results.specs.declared.fault.Fault.TheVariants as fault
@@ -15,10 +15,10 @@ use Rattle.bk_results.specs.declared.status.Status.{Status}
 -- why a report is not held: the feed is refused or stopped, a worker took a place and did not finish it, or memory ran out
 abbrev pub HoldFailsBy : Fault → Device → Device → Type 0
 HoldFailsBy (fault.Feed found) old new = Refuses found old new
-HoldFailsBy (fault.Unfinished place) old new = Works old new × IfKnown old (λ bytes. HasPlace bytes place)
+HoldFailsBy (fault.Unfinished place) old new = Works old new × GaveAll old new (λ bytes. HasPlace bytes place)
 HoldFailsBy (fault.Write written) old new = ⊥
 HoldFailsBy fault.Memory old new = Works old new
-HoldFailsBy found old new = Works old new × IfKnown old (λ bytes. IsStopped bytes found)
+HoldFailsBy found old new = Works old new × GaveAll old new (λ bytes. IsStopped bytes found)
 
 -- the sink received the text of the verdict on a claim beside a report
 abbrev pub ShownIsOut : List ℕ → Status → Verdict → Device → Device → List ℕ → Type 0
@@ -36,6 +36,7 @@ abbrev pub JudgeStops : List ℕ → Status → Fault → Devices → Devices �
 JudgeStops right end (fault.Write written) old new =
     Works old.source new.source × Fails old.sink new.sink
     × IfKnown old.source (PartOfShownIsOut right end written old.sink new.sink)
+    × Gave old.source new.source (PartOfShownIsOut right end written old.sink new.sink)
 JudgeStops right end fault.Memory old new = NothingHappened old new
 JudgeStops right end other old new = ⊥
 

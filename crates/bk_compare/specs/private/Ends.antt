@@ -2,7 +2,7 @@
 use Rattle.std.specs.Prelude.{◌≡◌, ◌⊎◌, List, ℕ, Some}
 use Rattle.bk_base.specs.declared.version.Version.{Version}
 use Rattle.bk_frames.specs.Cutting.{EndsShort}
-use Rattle.bk_frames.specs.Device.{Device, Works}
+use Rattle.bk_frames.specs.Device.{Device, Works, GaveAll}
 use Rattle.bk_base.specs.Feed.{Frame, FeedValue, IsFeed, feed_of, spelling}
 use Rattle.bk_order.specs.Stops.{IsStop}
 use Rattle.bk_order.specs.declared.stop.Stop.{Stop}
@@ -12,7 +12,6 @@ use Rattle.bk_results.specs.declared.differ.Agreed.{Agreed}
 use Rattle.bk_results.specs.declared.fault.Fault.{Fault}
 use Rattle.bk_results.specs.declared.fault.Fault.TheVariants as fault
 use Rattle.bk_follow.specs.Agreement.{settled_in, FollowersDiffer}
-use Rattle.bk_answer.specs.Given.{GaveAll}
 use Rattle.bk_answer.specs.Outcomes.{IsOutcomeOf}
 use Rattle.bk_compare.specs.declared.compared.Compared.{Compared}
 use Rattle.bk_compare.specs.FeedAgreement.{FeedsCompared, FeedsDiffer, OfTheirFeeds, FollowFails}

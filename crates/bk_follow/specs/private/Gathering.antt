@@ -1,6 +1,6 @@
 -- A feed whose frames are gathered before they are taken.
 use Rattle.std.specs.Prelude.{◌≡◌, ◌<◌, ℕ, List, [], ◌++◌, Option, None, Some, Bool, true, false, Result, Ok, Err}
-use Rattle.bk_frames.specs.Device.{Device, Works, Gives, IfKnown}
+use Rattle.bk_frames.specs.Device.{Device, Works, Gives, IfKnown, GaveAll}
 use Rattle.bk_base.specs.Feed.{Frame}
 use Rattle.bk_frames.specs.Cutting.{Cut, Cuts, CutsInto, IsOpen, fresh, frames_in}
 use Rattle.bk_frames.specs.Pulling.{Refuses}
@@ -11,7 +11,6 @@ use Rattle.bk_base.specs.declared.version.Version.{Version}
 use Rattle.std.specs.Global.{Vec}
 use Rattle.bk_follow.specs.declared.gathering.Gathered.{Gathered}
 use Rattle.bk_follow.specs.declared.opening.Opened.{Opened}
-use Rattle.bk_answer.specs.Given.{GaveAll}
 use Rattle.bk_follow.specs.Follower.{Follows, FollowsBy}
 use Rattle.bk_follow.specs.private.Books.{HasFollowed}
 

@@ -1,5 +1,8 @@
-use Rattle.std.proofs.Common.{◌∙◌}
+use Rattle.std.proofs.Common.{◌∙◌, ◌≡◌}
 use Rattle.std.proofs.lemmas.Result.{err_from_is_err_and}
+use Rattle.bk_base.specs.Feed.{spelling}
+use Rattle.bk_frames.proofs.Devices.{gave_all}
+use Rattle.bk_apply.specs.Answers.{ReportIsOut}
 use Rattle.bk_apply.proofs.FeedReports.{few_accounts, few_counts, few_receipts, part_is_out, all_is_out}
 use Rattle.bk_apply.proofs.applying.apply.Goals as goal
 
@@ -21,7 +24,7 @@ returns-in_err-write_report-clause-fault g c =
     rw (p.1, p.2) (
       c.in_ok-feed.ensures.sound,
       c.in_err-write_report.ensures.written.0,
-      part_is_out (g.S.Source.state c.args.source.now) _ _ _ c.in_ok-feed.feed l.counts.items l.receipts.items l.rows.items _ c.in_ok-page.ensures c.in_ok-feed.ensures.feed.0 c.in_ok-feed.ensures.feed.1
+      part_is_out (g.S.Source.state c.args.source.now) (g.S.Source.state c.read.new.source) _ _ _ c.in_ok-feed.feed l.counts.items l.receipts.items l.rows.items _ c.in_ok-page.ensures c.in_ok-feed.ensures.feed.0 c.in_ok-feed.ensures.feed.1
           (record { counts_are = counts; receipts_are = receipts; rows_are = rows }) c.in_err-write_report.ensures.written.1,
     )
 
@@ -31,5 +34,6 @@ returns-clause-report g c =
     let counts = c.in_ok-summary.ensures.counts ∙ c.in_ok-ledger.ensures.counts in
     let receipts = c.in_ok-summary.ensures.receipts ∙ c.in_ok-ledger.ensures.receipts in
     let rows = c.in_ok-summary.ensures.rows ∙ c.in_ok-ledger.ensures.rows in
-    all_is_out (g.S.Source.state c.args.source.now) _ _ _ _ c.in_ok-feed.feed l.counts.items l.receipts.items l.rows.items c.in_ok-page.ensures c.in_ok-write_report.ensures.empty c.in_ok-feed.ensures.feed.0 c.in_ok-feed.ensures.feed.1
-    (record { counts_are = counts; receipts_are = receipts; rows_are = rows }) c.in_ok-write_report.ensures.written.1
+    gave_all (g.S.Source.state c.args.source.now) (g.S.Source.state c.read.new.source) (λ bytes. bytes ≡ spelling c.in_ok-feed.feed) (ReportIsOut (g.K.Sink.state c.args.sink.now) (g.K.Sink.state c.write_report.new.sink)) c.in_ok-feed.ensures.feed.1
+    (all_is_out _ _ _ _ c.in_ok-feed.feed l.counts.items l.receipts.items l.rows.items c.in_ok-page.ensures c.in_ok-write_report.ensures.empty c.in_ok-feed.ensures.feed.0
+    (record { counts_are = counts; receipts_are = receipts; rows_are = rows }) c.in_ok-write_report.ensures.written.1)

@@ -1,8 +1,11 @@
-use Rattle.std.proofs.Common.{◌∙◌}
+use Rattle.std.proofs.Common.{◌∙◌, ◌≡◌}
 use Rattle.std.proofs.lemmas.Result.{err_from_is_err_and}
-use Rattle.bk_steps.specs.Schedule.{IsWholeAmong}
+use Rattle.bk_base.specs.Feed.{spelling}
+use Rattle.bk_frames.proofs.Devices.{gave_all}
+use Rattle.bk_apply.specs.Answers.{ReportIsOut}
+use Rattle.bk_apply.specs.Scheduling.{IsWholeFor}
 use Rattle.bk_apply.proofs.FeedReports.{untouched, few_accounts, few_counts, few_receipts, part_is_out, all_is_out}
-use Rattle.bk_apply.proofs.Schedules.{known_execution, stops_memory, stops_unscheduled}
+use Rattle.bk_apply.proofs.Schedules.{stops_memory, stops_unscheduled}
 use Rattle.bk_apply.proofs.scheduling.apply_schedule.Goals as goal
 
 pub returns-in_err-feed-clause-stop : goal.returns-in_err-feed-clause-stop
@@ -43,7 +46,7 @@ returns-in_err-write_report-clause-stop g c =
     rw (p.1, p.2) (
       c.in_ok-feed.ensures.sound,
       c.in_err-write_report.ensures.written.0,
-      part_is_out (g.S.Source.state c.args.source.now) _ _ _ c.in_ok-feed.feed l.counts.items l.receipts.items l.rows.items _ c.in_ok-page.ensures c.in_ok-feed.ensures.feed.0 c.in_ok-feed.ensures.feed.1
+      part_is_out (g.S.Source.state c.args.source.now) (g.S.Source.state c.read.new.source) _ _ _ c.in_ok-feed.feed l.counts.items l.receipts.items l.rows.items _ c.in_ok-page.ensures c.in_ok-feed.ensures.feed.0 c.in_ok-feed.ensures.feed.1
           (record { counts_are = counts; receipts_are = receipts; rows_are = rows }) c.in_err-write_report.ensures.written.1,
     )
 
@@ -53,9 +56,10 @@ returns-clause-report g c =
     let counts = c.in_ok-summary.ensures.counts ∙ c.in_ok-ledger.ensures.counts in
     let receipts = c.in_ok-summary.ensures.receipts ∙ c.in_ok-ledger.ensures.receipts in
     let rows = c.in_ok-summary.ensures.rows ∙ c.in_ok-ledger.ensures.rows in
-    all_is_out (g.S.Source.state c.args.source.now) _ _ _ _ c.in_ok-feed.feed l.counts.items l.receipts.items l.rows.items c.in_ok-page.ensures c.in_ok-write_report.ensures.empty c.in_ok-feed.ensures.feed.0 c.in_ok-feed.ensures.feed.1
-    (record { counts_are = counts; receipts_are = receipts; rows_are = rows }) c.in_ok-write_report.ensures.written.1
-
-pub returns-clause-whole : goal.returns-clause-whole
-returns-clause-whole g c =
-    known_execution (g.S.Source.state c.args.source.now) c.in_ok-feed.feed (λ s. IsWholeAmong s c.args.workers c.args.events.now) c.in_ok-feed.ensures.feed.0 c.in_ok-feed.ensures.feed.1 c.in_ok-ledger.ensures.whole
+    gave_all (g.S.Source.state c.args.source.now) (g.S.Source.state c.read.new.source) (λ bytes. bytes ≡ spelling c.in_ok-feed.feed)
+    (λ bytes. IsWholeFor c.args.workers c.args.events.now bytes × ReportIsOut (g.K.Sink.state c.args.sink.now) (g.K.Sink.state c.write_report.new.sink) bytes) c.in_ok-feed.ensures.feed.1
+    (λ bytes is. (
+      (c.in_ok-feed.feed, c.in_ok-feed.ensures.feed.0, is, c.in_ok-ledger.ensures.whole),
+      all_is_out _ _ _ _ c.in_ok-feed.feed l.counts.items l.receipts.items l.rows.items c.in_ok-page.ensures c.in_ok-write_report.ensures.empty c.in_ok-feed.ensures.feed.0
+          (record { counts_are = counts; receipts_are = receipts; rows_are = rows }) c.in_ok-write_report.ensures.written.1 bytes is,
+    ))

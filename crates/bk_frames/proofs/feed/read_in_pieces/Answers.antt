@@ -85,7 +85,7 @@ returns-clause-feed g c =
     let q = c.in_ok-count.ensures.pulls start bytes [] c.pieces.invariant.pulled.1 in
     let zero : c.in_ok-count.count ≡ 0 = c.if-count-eq0.true in
     let all = at_end start bytes q.came (q.counted ∙ zero) (c.in_ok-count.ensures.all zero start bytes (frames_in c.pieces.frames.items) c.pieces.invariant.pulled.1) in
-    map_ok c.whole_feed.result _ _ (λ feed h. (h.0, whole_read start (bytes ++ q.came) feed (h.1 (bytes ++ q.came) q.pulled.cuts) all)) c.whole_feed.ensures.feed
+    map_ok c.whole_feed.result _ _ (λ feed h. (h.0, whole_read start (g.S.Source.state c.pull_frames.new.source) (bytes ++ q.came) feed q.pulled.gave (h.1 (bytes ++ q.came) q.pulled.cuts) all)) c.whole_feed.ensures.feed
 
 pub returns-clause-sound : goal.returns-clause-sound
 returns-clause-sound g c =

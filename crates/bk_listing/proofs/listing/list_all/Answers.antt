@@ -46,22 +46,13 @@ returns-then-count-eq0-clause-listed g c =
     let h = c.pieces.invariant.shown in
     let r = c.in-Ok.ensures.come (g.S.Source.state c.args.source.now) h.taken h.come in
     let all = c.in-Ok.ensures.all c.if-count-eq0.true (g.S.Source.state c.args.source.now) h.taken h.come in
-    ok_two c.list_last.result _ _ _ c.list_last.ensures.listed c.list_last.ensures.whole (λ listed whole.
-    whole_listed old read (devices (g.S.Source.state c.pull.new.source) (g.K.Sink.state c.list_last.new.sink)) c.pull.new.self c.pieces.lister c.list_last.new.lister
-    (read_on old now read c.pieces.reader c.pull.new.self c.pieces.lister h r c.pull.ensures.version refl) all
-    (listed h.taken h.text (can_list r.bytes h.taken h.text c.pull.new.self c.pieces.lister r.come (λ v can. h.listed v (c.pull.ensures.version v can)) h.written)) whole)
-
-pub returns-then-count-eq0-clause-given : goal.returns-then-count-eq0-clause-given
-returns-then-count-eq0-clause-given g c =
-    let old = devices (g.S.Source.state c.args.source.now) (g.K.Sink.state c.args.sink.now) in
-    let now = devices (g.S.Source.state c.pieces.source) (g.K.Sink.state c.pieces.sink) in
-    let read = devices (g.S.Source.state c.pull.new.source) (g.K.Sink.state c.pieces.sink) in
-    let h = c.pieces.invariant.shown in
-    let r = c.in-Ok.ensures.come (g.S.Source.state c.args.source.now) h.taken h.come in
-    ok_two c.list_last.result _ _ _ c.list_last.ensures.listed c.list_last.ensures.whole (λ listed whole.
-    given_listed old read (devices (g.S.Source.state c.pull.new.source) (g.K.Sink.state c.list_last.new.sink)) c.pull.new.self c.pieces.lister c.list_last.new.lister
-    (read_on old now read c.pieces.reader c.pull.new.self c.pieces.lister h r c.pull.ensures.version refl) refl
-    (listed h.taken h.text (can_list r.bytes h.taken h.text c.pull.new.self c.pieces.lister r.come (λ v can. h.listed v (c.pull.ensures.version v can)) h.written)) whole)
+    let shown = read_on old now read c.pieces.reader c.pull.new.self c.pieces.lister h r c.pull.ensures.version refl in
+    let later = devices (g.S.Source.state c.pull.new.source) (g.K.Sink.state c.list_last.new.sink) in
+    let can = can_list r.bytes h.taken h.text c.pull.new.self c.pieces.lister r.come (λ v can. h.listed v (c.pull.ensures.version v can)) h.written in
+    ok_two c.list_last.result _ _ _ c.list_last.ensures.listed c.list_last.ensures.whole (λ listed whole. (
+      given_listed old read later c.pull.new.self c.pieces.lister c.list_last.new.lister shown refl (listed h.taken h.text can) whole,
+      whole_listed old read later c.pull.new.self c.pieces.lister c.list_last.new.lister shown all (listed h.taken h.text can) whole,
+    ))
 
 pub returns-then-count-eq0-clause-sound : goal.returns-then-count-eq0-clause-sound
 returns-then-count-eq0-clause-sound g c =

@@ -19,9 +19,6 @@ list_all-requires-clause-first g c = λ lives within.
 pub returns-clause-listed : goal.returns-clause-listed
 returns-clause-listed g c = c.list_all.ensures.listed
 
-pub returns-clause-given : goal.returns-clause-given
-returns-clause-given g c = c.list_all.ensures.given
-
 pub returns-clause-sound : goal.returns-clause-sound
 returns-clause-sound g c = c.list_all.ensures.sound
 

@@ -1,5 +1,5 @@
 use Rattle.std.proofs.lemmas.Result.{err_from_is_err_and}
-use Rattle.bk_script.proofs.WholeTexts.{source_fails, sink_fails, all_written, given_written}
+use Rattle.bk_script.proofs.WholeTexts.{source_fails, sink_fails, all_written}
 use Rattle.bk_script.proofs.making.make.Goals as goal
 
 pub returns-in_err-feed-clause-fault : goal.returns-in_err-feed-clause-fault
@@ -15,7 +15,3 @@ returns-in_err-push_all-clause-fault g c =
 pub returns-clause-feed : goal.returns-clause-feed
 returns-clause-feed g c =
     all_written (g.S.Source.state c.args.source.now) (g.S.Source.state c.feed_from.new.source) (g.K.Sink.state c.args.sink.now) (g.K.Sink.state c.push_all.new.sink) c.in_ok-feed.feed.items c.in_ok-feed.ensures.feed (rw (← c.deref.ensures.value) c.in_ok-push_all.ensures.ok.1)
-
-pub returns-clause-given : goal.returns-clause-given
-returns-clause-given g c =
-    given_written (g.S.Source.state c.args.source.now) (g.S.Source.state c.feed_from.new.source) (g.K.Sink.state c.args.sink.now) (g.K.Sink.state c.push_all.new.sink) c.in_ok-feed.feed.items c.in_ok-feed.ensures.feed (rw (← c.deref.ensures.value) c.in_ok-push_all.ensures.ok.1)
