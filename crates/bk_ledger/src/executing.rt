@@ -1,4 +1,4 @@
-//! Batches, executed in slices by any number of workers.
+//! Batches, executed in slices by any number of workers. What one worker does is in `turns.rt`.
 //!
 //! While a slice is executed, the one after it is planned in a thread of its own, and the next one is read and decoded
 //! in another, which also looks up its accounts. In version Two a slice may declare accounts without a slot: then slots
@@ -30,7 +30,7 @@ use std::sync::{Arc, Wait};
 use std::thread::{Threads, join};
 
 // Executes a plan from a state that it can run on, with this many workers, and puts the receipts at the end of a list.
-// With one worker, and for few transactions, no thread is started.
+// For few transactions no thread is started.
 fn run_plan<R: Threads + Wait + Sync, G: Gate + Sync>(
     rt: &R,
     alloc: Global,
@@ -46,7 +46,7 @@ fn run_plan<R: Threads + Wait + Sync, G: Gate + Sync>(
         (IsFoldOnto (arc_value plan.now) state receipts.old.items receipts.new.items) }
     ensures unfinished { IfErr result (λ e. IsBelow (length (arc_value plan.now).txs) e) }
 {
-    if workers == 1 || plan.len() < WORTH_THREADS {
+    if plan.len() < WORTH_THREADS {
         return execute_here_onto(alloc, plan, state, gate, receipts);
     }
     execute_onto(rt, alloc, plan, state, workers, gate, receipts)
@@ -325,7 +325,8 @@ impl Ledger {
         Ok((ledger, ahead.from))
     }
 
-    /// Executes further batches, in slices of at least so many transactions.
+    /// Executes further batches, in slices of at least so many transactions. One worker needs no plan: it executes them in
+    /// their order.
     pub(crate) fn execute_by<R: Threads + Wait + Sync, G: Gate + Sync>(
         self,
         rt: &R,
@@ -348,6 +349,9 @@ impl Ledger {
             let added = transactions_of (map (λ p. p.now) payloads.now) in
             IfErr result (Leaves first (first + length added)) }
     {
+        if workers == 1 {
+            return Ok(self.execute_in_turn(rt, alloc, payloads, fewest, gate)?);
+        }
         let (ledger, from) = self.execute_covered(rt, alloc, payloads, fewest, workers, gate)?;
         if from == payloads.len() {
             return Ok(ledger);
@@ -357,9 +361,10 @@ impl Ledger {
 
     /// Executes further batches, a slice at a time, with this many workers, 1 to 64.
     ///
-    /// No more threads execute a slice at once than there are processors but two, on which later slices are prepared; with
-    /// two workers or more they are two at least. The calling thread is one of them, and the only one for a slice of few
-    /// transactions.
+    /// One worker is the calling thread: it executes one transaction after another, while another thread reads the next
+    /// slice, and calls the gate for the places of a slice once all of them are done. Of two workers or more, no more
+    /// threads execute a slice at once than there are processors but two, on which later slices are prepared, and two at
+    /// least. The calling thread is one of them, and the only one for a slice of few transactions.
     ///
     /// Opening accounts have room for fewer than 2^63 transactions in all (`bk_rules::room_is_left`).
     ///

@@ -14,6 +14,7 @@ mod ready;
 mod slice;
 mod summary;
 mod touched;
+mod turns;
 mod widening;
 mod workers;
 
