@@ -8,12 +8,16 @@ use Rattle.bk_base.specs.declared.genesis.Row.{Row}
 use Rattle.bk_rules.specs.declared.receipt.Receipt.{Receipt}
 use Rattle.bk_report.specs.declared.line.Line.{Line}
 use Rattle.bk_report.specs.declared.line.Line.TheVariants as line
+use Rattle.std.specs.Prelude.{codes}
+use Rattle.std.proofs.lemmas.List.Concat.{flat_map-cons}
+use Rattle.bk_results.specs.Lines.{spaced}
+use Rattle.bk_rules.specs.Numbers.{number_of}
 use Rattle.bk_report.specs.Lines.{line_text, text_of}
 use Rattle.bk_report.specs.Report.{tx_lines, account_lines}
 use Rattle.bk_report.specs.RunLines.{rows_lines}
 use Rattle.bk_report.specs.Pages.{PageValue, Puts, Stops, Written}
 use Rattle.bk_report.specs.Sheets.{IsPiece}
-use Rattle.bk_report.proofs.Putting.{puts_then, stops_then, stops_more, text_next}
+use Rattle.bk_report.proofs.Putting.{puts_then, stops_then, stops_more}
 use Rattle.bk_report.proofs.ReportLines.{length-tx_lines}
 use Rattle.bk_report.proofs.LineGroups.{HasPut, groups_put, group_stops, stops_before, text_two, line_of_item, line_of_tx}
 
@@ -82,11 +86,46 @@ account_at receipts rows i d le lt =
 pub length-rows_lines : (receipts : List Receipt) (rows : List Row) → length (rows_lines receipts rows) ≡ length receipts + length rows
 length-rows_lines receipts rows = omega (arith, length-append (tx_lines 0 receipts) (account_lines rows), length-tx_lines 0 receipts, length-map rows (λ (x : Row). line.Account x.id x.balance x.seq))
 
--- one line more of those from one on
-pub line_more : (text : List ℕ) (lines : List Line) (start i : ℕ) (l : Line) → slice_get lines (start + i) ≡ Some l
-    → (text ++ text_of (take i (drop start lines))) ++ (line_text l ++ 10 ∷ []) ≡ text ++ text_of (take (i + 1) (drop start lines))
-line_more text lines start i l e =
-    append_assoc text (text_of (take i (drop start lines))) (line_text l ++ 10 ∷ []) ∙ ap (λ (t : List ℕ). text ++ t) (sym (text_next (drop start lines) i l (get_from start lines i ∙ e)))
+-- the text of a line, by its number
+pub tx_text : (receipts : List Receipt) (rows : List Row) (i : ℕ) (d : Receipt) (two : ℕ) (l : Line) → i < length receipts → two ≡ number_of (get_or receipts i d).status → slice_get (rows_lines receipts rows) i ≡ Some l
+    → codes "tx" ++ spaced i ++ spaced two ++ spaced (get_or receipts i d).moved ≡ line_text l
+tx_text receipts rows i d two l low number e =
+    let found : Some (line.Tx i (get_or receipts i d).status (get_or receipts i d).moved) ≡ Some l = sym (tx_at receipts rows i d low) ∙ e in
+    let same : line.Tx i (get_or receipts i d).status (get_or receipts i d).moved ≡ l = cc in
+    ap (λ (n : ℕ). codes "tx" ++ spaced i ++ spaced n ++ spaced (get_or receipts i d).moved) number ∙ ap line_text same
+
+pub account_text : (receipts : List Receipt) (rows : List Row) (i : ℕ) (d : Row) (l : Line) → length receipts ≤ i → i < length receipts + length rows → slice_get (rows_lines receipts rows) i ≡ Some l
+    → codes "account" ++ spaced (get_or rows (i - length receipts) d).id ++ spaced (get_or rows (i - length receipts) d).balance ++ spaced (get_or rows (i - length receipts) d).seq ≡ line_text l
+account_text receipts rows i d l le lt e =
+    let found : Some (line.Account (get_or rows (i - length receipts) d).id (get_or rows (i - length receipts) d).balance (get_or rows (i - length receipts) d).seq) ≡ Some l = sym (account_at receipts rows i d le lt) ∙ e in
+    let same : line.Account (get_or rows (i - length receipts) d).id (get_or rows (i - length receipts) d).balance (get_or rows (i - length receipts) d).seq ≡ l = cc in
+    ap line_text same
+
+-- what is at an index, before what is there after it
+from_here : {A : Type 0} (xs : List A) (k : ℕ) → k < length xs → (x : A) × (slice_get xs k ≡ Some x) × (drop k xs ≡ x ∷ drop (suc k) xs)
+from_here [] k low = absurd (omega (arith, low))
+from_here (x ∷ xs) zero low = (x, refl, refl)
+from_here (x ∷ xs) (suc k) low = from_here xs k (omega (arith, low))
+
+-- one line more before those from one on
+line_before : (lines : List Line) (k n : ℕ) (old new : List ℕ) → k < length lines → old ≡ text_of (take n (drop (suc k) lines)) → ((l : Line) → slice_get lines k ≡ Some l → new ≡ (line_text l ++ 10 ∷ []) ++ old)
+    → new ≡ text_of (take (suc n) (drop k lines))
+line_before lines k n old new low before put =
+    let here = from_here lines k low in
+    put here.0 here.1
+    ∙ ap (λ (t : List ℕ). (line_text here.0 ++ 10 ∷ []) ++ t) before
+    ∙ sym (flat_map-cons (λ (l : Line). line_text l ++ 10 ∷ []) here.0 (take n (drop (suc k) lines)))
+    ∙ ap (λ (ls : List Line). text_of (take (suc n) ls)) (sym here.2)
+
+-- the last of so many lines, and those after it that are written
+pub line_more : (lines : List Line) (start count done : ℕ) (old new : List ℕ) → done < count → start + count ≤ length lines → old ≡ text_of (take done (drop (start + (count - done)) lines))
+    → ((l : Line) → slice_get lines (start + (count - 1 - done)) ≡ Some l → new ≡ (line_text l ++ 10 ∷ []) ++ old) → new ≡ text_of (take (done + 1) (drop (start + (count - (done + 1))) lines))
+line_more lines start count done old new low within before put =
+    let after : start + (count - done) ≡ suc (start + (count - 1 - done)) = omega arith in
+    let here : start + (count - 1 - done) ≡ start + (count - (done + 1)) = omega arith in
+    let more : suc done ≡ done + 1 = omega arith in
+    line_before lines (start + (count - 1 - done)) done old new (omega arith) (before ∙ ap (λ (k : ℕ). text_of (take done (drop k lines))) after) put
+    ∙ (λ i. text_of (take (more i) (drop (here i) lines)))
 
 -- as many lines as are left are all of them
 pub piece_min : (lines : List Line) (start n total : ℕ) → length lines ≡ total → text_of (take (min n (total - start)) (drop start lines)) ≡ text_of (take n (drop start lines))

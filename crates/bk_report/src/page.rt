@@ -23,7 +23,7 @@ pub(crate) const LINE: usize = 96;
 
 // Puts a text where there is room for it.
 #[inline(always)]
-fn put_text(page: &mut Vec<u8>, text: &[u8])
+pub(crate) fn put_text(page: &mut Vec<u8>, text: &[u8])
     requires { vec_len page.old + length text.now ≤ vec_capacity page.old }
     ensures items { page.new.items ≡ page.old.items ++ text.now }
     ensures len { vec_len page.new ≡ vec_len page.old + length text.now }
@@ -35,7 +35,7 @@ fn put_text(page: &mut Vec<u8>, text: &[u8])
 // Writes a space and a number before a place of a text, and says where they begin.
 #[inline(always)]
 #[tactic(auto, using(crate::proofs::Numbers::number_short, crate::proofs::Numbers::set_before))]
-fn write_before(text: &mut [u8], end: usize, number: u64) -> usize
+pub(crate) fn write_before(text: &mut [u8], end: usize, number: u64) -> usize
     requires { (21 ≤ end) × (end ≤ length text.old) }
     ensures text { drop result text.new ≡ spaced number ++ drop end text.old }
     ensures start { (result ≤ end) × (end ≤ result + 21) }
@@ -278,6 +278,21 @@ impl Page {
     {
         self.flush(sink)?;
         self.push(sink, text)
+    }
+
+    /// Puts a text, after the page went out where it had no room for it. No memory is taken.
+    pub fn put_text<K: Sink>(&mut self, sink: &mut K, text: &[u8]) -> Result<(), WriteFault>
+        requires sound { CanBeUsed (K.state sink.old) }
+        requires size { size_of self.old + length text.now < 2 ^ 62 }
+        ensures written { Written result (K.state sink.old) (K.state sink.new) self.old self.new
+            text.now }
+        ensures size { OnOk result (size_of self.new ≡ size_of self.old + length text.now) }
+    {
+        if text.len() > PAGE - self.bytes.len().min(PAGE) {
+            return self.put_whole(sink, text);
+        }
+        put_text(&mut self.bytes, text);
+        Ok(())
     }
 
     /// Puts a line, and lets the page go out first where it could get too long.
