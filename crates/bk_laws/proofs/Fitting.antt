@@ -27,10 +27,11 @@ use Rattle.bk_rules.specs.Rule.{Accounts, Change, balance_at, changes_of, paymen
 use Rattle.bk_rules.specs.Rows.{account_at, account_of, changed, outcome_of, row_of, rows_after}
 use Rattle.bk_rules.proofs.Folding.{total_below}
 use Rattle.bk_rules.proofs.Room.{room_left}
+use Rattle.bk_order.specs.Orders.{Ordered}
 use Rattle.bk_report.specs.Proofs.{IsRow}
 use Rattle.bk_tx.specs.Batches.{transactions_of}
 use Rattle.bk_report.specs.RunLines.{Reading}
-use Rattle.bk_answer.specs.RunReport.{Reads, committee_in, later_frames}
+use Rattle.bk_answer.specs.RunReport.{IsOrderIn, Reads, committee_in, later_frames}
 use Rattle.bk_answer.proofs.Counting.{few_places}
 use Rattle.bk_laws.proofs.Texts.{later_part, ordered_transactions, payload_bytes}
 
@@ -150,13 +151,27 @@ rows_fit v (r ∷ rows) ids balances seqs =
     let seq = seqs.0 in
     (record { id = ids.0; balance = balances.0; seq = omega arith }, rows_fit v rows ids.1 balances.1 seqs.1)
 
-pub accounts_fit : (feed : FeedValue) (r : Reading) → IsBytes (spelling feed) → IsFeed feed → Reads feed r → All IsRow r.rows × (length r.rows < 2 ^ 64)
-accounts_fit feed r are good reads =
-    let txs = transactions_of r.ordered.payloads.list in
+-- those after the transactions of an order
+pub rows_after_fit : (feed : FeedValue) (o : Ordered) → IsBytes (spelling feed) → IsFeed feed → IsOrderIn feed o
+    → All IsRow (state_after feed.version (transactions_of o.payloads.list) (genesis_of feed.frames)) × (length (state_after feed.version (transactions_of o.payloads.list) (genesis_of feed.frames)) < 2 ^ 64)
+rows_after_fit feed o are good ordered =
+    let txs = transactions_of o.payloads.list in
     let opening = genesis_of feed.frames in
     let accounts = genesis_accounts feed.version feed.frames good in
-    let few : length txs < 2 ^ 31 = few_places feed.version (committee_in feed) feed.frames (later_frames feed) r.ordered good.good (later_part feed.frames) reads.ordered in
-    let fits = fits_fold feed.version txs MOST_ACCOUNTS opening (ordered_transactions feed r.ordered are reads.ordered) (genesis_fits feed.frames (payload_bytes feed are)) in
+    let few : length txs < 2 ^ 31 = few_places feed.version (committee_in feed) feed.frames (later_frames feed) o good.good (later_part feed.frames) ordered in
+    let fits = fits_fold feed.version txs MOST_ACCOUNTS opening (ordered_transactions feed o are ordered) (genesis_fits feed.frames (payload_bytes feed are)) in
     let rows = state_after feed.version txs opening in
     let each : AllByRecursion IsRow rows = rows_fit feed.version rows fits.ids (balances_fit rows (total_below feed.version txs opening accounts)) (room_left feed.version txs 0 opening accounts (omega (arith, few))) in
-    subst (λ (xs : List Row). All IsRow xs × (length xs < 2 ^ 64)) (sym reads.folded.rows) (All-from_recursion IsRow rows each, omega (arith, fits.few, few))
+    (All-from_recursion IsRow rows each, omega (arith, fits.few, few))
+
+-- and the opening ones
+pub opening_fits : (feed : FeedValue) → IsBytes (spelling feed) → IsFeed feed → All IsRow (genesis_of feed.frames)
+opening_fits feed are good =
+    let opening = genesis_of feed.frames in
+    let accounts = genesis_accounts feed.version feed.frames good in
+    let ids = (genesis_fits feed.frames (payload_bytes feed are)).ids in
+    All-from_recursion IsRow opening (rows_fit feed.version opening ids (balances_fit opening accounts.within) (room_left feed.version [] 0 opening accounts (omega arith)))
+
+pub accounts_fit : (feed : FeedValue) (r : Reading) → IsBytes (spelling feed) → IsFeed feed → Reads feed r → All IsRow r.rows × (length r.rows < 2 ^ 64)
+accounts_fit feed r are good reads =
+    subst (λ (xs : List Row). All IsRow xs × (length xs < 2 ^ 64)) (sym reads.folded.rows) (rows_after_fit feed r.ordered are good reads.ordered)

@@ -24,3 +24,4 @@ pub mod BindingTrees
 pub mod BindingRoots
 pub mod BindingRows
 pub mod BindingFeeds
+pub mod ChainedFeeds

@@ -3,3 +3,4 @@ pub mod Laws
 pub mod Following
 pub mod Hashed
 pub mod Binding
+pub mod Chained

@@ -4,6 +4,7 @@
 //! same accounts, or SHA-256 has a collision among the byte strings that were hashed. Nothing is supposed of SHA-256.
 
 ghost use Rattle.bk_laws.specs.Binding.{AccountsBind, GoodPathsHold, GoodProofsHold, GoodStatesHold, OneProof, ReportsEndInState, RootsBind, StatesBind};
+ghost use Rattle.bk_laws.specs.Chained.{DigestsSuffice, LinksFit};
 
 /// Where the climb from the hash of a leaf, with any index, size and path, gives the root of a list of leaves, the leaf
 /// is in the list, or there is a hash collision.
@@ -36,4 +37,14 @@ pub fn states_bind()
 /// there is a hash collision.
 pub fn one_proof()
     ensures { OneProof }
+{}
+
+/// Feeds whose links are good as a chain are a chain, or there is a hash collision.
+pub fn digests_suffice()
+    ensures { DigestsSuffice }
+{}
+
+/// The link of every feed can be said in a line: its digests are 32 bytes, and its numbers fit.
+pub fn links_fit()
+    ensures { LinksFit }
 {}

@@ -10,7 +10,10 @@
 mod binding;
 mod laws;
 
-pub use binding::{good_paths_hold, good_proofs_hold, one_proof, roots_bind, states_bind};
+pub use binding::{
+    digests_suffice, good_paths_hold, good_proofs_hold, links_fit, one_proof, roots_bind,
+    states_bind,
+};
 pub use laws::{
     accounts_fit, claims_have_one_verdict, exactly_one_answer, exactly_one_comparison,
     exactly_one_reply, exactly_one_schedule_answer, executed_is_fold, fault_or_apply_report,
