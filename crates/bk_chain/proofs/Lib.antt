@@ -1,0 +1,10 @@
+pub mod Texts
+pub mod Numerals
+pub mod LineWords
+pub mod Following
+pub mod Verdicts
+pub mod Results
+pub mod Walking
+pub mod Checked
+pub mod Linked
+pub mod Folded
