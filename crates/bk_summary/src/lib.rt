@@ -16,6 +16,7 @@ mod txs;
 mod writing;
 
 pub use laws::digests_are_of_payloads;
+pub use payloads::committee_digest;
 pub use summary::{AnchorCounts, BatchCounts, CertCounts, MemberCounts, Summary, TxCounts};
 pub use text::push_summary;
 pub use writing::Summarize;

@@ -44,7 +44,7 @@ fn push_weights(out: &mut Vec<u8>, committee: &Committee) -> Result<(), AllocErr
 }
 
 /// SHA-256 of the payload of a committee.
-pub(crate) fn committee_digest(alloc: Global, committee: &Committee) -> Result<Digest32, AllocError>
+pub fn committee_digest(alloc: Global, committee: &Committee) -> Result<Digest32, AllocError>
     ensures { IfOk result (λ d. d ≡ sha256 (committee_bytes committee.now)) }
 {
     let mut payload = Vec::new(alloc);

@@ -1,0 +1,5 @@
+use Rattle.bk_tables.proofs.PaidSums.{adds_up}
+use Rattle.bk_tables.proofs.laws.paid_adds_up.Goals as goal
+
+pub returns : goal.returns
+returns c = adds_up

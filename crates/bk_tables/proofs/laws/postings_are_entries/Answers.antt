@@ -1,0 +1,5 @@
+use Rattle.bk_tables.proofs.PartRows.{are_entries}
+use Rattle.bk_tables.proofs.laws.postings_are_entries.Goals as goal
+
+pub returns : goal.returns
+returns c = are_entries

@@ -1,0 +1,5 @@
+use Rattle.bk_tables.proofs.PaidSums.{have_status}
+use Rattle.bk_tables.proofs.laws.rows_have_status.Goals as goal
+
+pub returns : goal.returns
+returns c = have_status

@@ -1,0 +1,16 @@
+use Rattle.std.proofs.Common.{◌≡◌, ◌≤◌, ◌+◌, ◌*◌, drop, length, take}
+use Rattle.bk_report.specs.Pages.{size_of}
+use Rattle.bk_rules.specs.Fold.{state_after}
+use Rattle.bk_rules.specs.Ledger.{ledger_of}
+use Rattle.bk_tx.specs.Batches.{transactions_of}
+use Rattle.bk_tables.specs.Postings.{postings_text}
+use Rattle.bk_tables.specs.private.Walking.{walk_rows}
+use Rattle.bk_tables.proofs.PostingWalks.{IsWalking}
+use Rattle.bk_tables.proofs.postings.put_batches.Given as goal
+
+abbrev pub invariant-loop-batch : goal.invariant-loop-batch
+invariant-loop-batch g l = record {
+  walks : IsWalking l.accounts (transactions_of (drop l.batch l.intake.ordered.payloads.list)) l.place l.state (ledger_of l.initial.state.version l.initial.state.slots (state_after l.initial.state.version (transactions_of l.intake.ordered.payloads.list) l.initial.state.rows)) (g.K.Sink.state l.initial.sink) (g.K.Sink.state l.sink) l.initial.sheet.page l.sheet.page (postings_text l.accounts (walk_rows l.initial.state.version 0 (transactions_of l.intake.ordered.payloads.list) l.initial.state.rows));
+  place : l.place ≡ length (transactions_of (take l.batch l.intake.ordered.payloads.list));
+  size : size_of l.sheet.page ≤ 1200 * l.place + 100;
+}

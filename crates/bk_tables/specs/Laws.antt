@@ -1,0 +1,74 @@
+-- What the definitions of the tables say together.
+use Rattle.std.specs.Prelude.{◌≡◌, ◌==◌, ℕ, Contains, IfSome, List, Option, Some, None, filter, map, slice_index_or}
+use Rattle.std.specs.List.{AllByRecursion, AllZip, sum_by}
+use Rattle.bk_base.specs.Feed.{FeedValue}
+use Rattle.bk_base.specs.declared.genesis.Row.{Row}
+use Rattle.bk_base.specs.declared.version.Version.{Version}
+use Rattle.bk_cert.specs.Node.{Node}
+use Rattle.bk_committee.specs.Sizes.{Sizes}
+use Rattle.bk_order.specs.Orders.{Ordered}
+use Rattle.bk_report.specs.Report.{batch_lines}
+use Rattle.bk_report.specs.RunLines.{cert_lines}
+use Rattle.bk_report.specs.declared.line.Line.TheVariants as line
+use Rattle.bk_tx.specs.Batches.{count_in}
+use Rattle.bk_tx.specs.Spelling.{IsTransaction}
+use Rattle.bk_tx.specs.Transaction.{Transaction}
+use Rattle.bk_views.specs.Laws.{adds, takes}
+use Rattle.bk_views.specs.Statement.{Course, entries_of}
+use Rattle.bk_rules.specs.declared.receipt.Receipt.{Receipt}
+use Rattle.bk_rules.specs.Rows.{outcome_of}
+use Rattle.bk_results.specs.declared.status.Status.{Status}
+use Rattle.bk_tables.specs.Batches.{IsBatchRow}
+use Rattle.bk_tables.specs.Payments.{names_one, payments_text, rows_at}
+use Rattle.bk_tables.specs.Postings.{postings_at}
+use Rattle.bk_tables.specs.declared.posting.Posting.{Posting}
+use Rattle.bk_tables.specs.Tables.{IsPaymentTable}
+use Rattle.bk_tables.specs.declared.batches.BatchRow.{BatchRow}
+use Rattle.bk_tables.specs.declared.payment.At.{At}
+use Rattle.bk_tables.specs.declared.payment.PaymentRow.{PaymentRow}
+
+-- a transaction at a place, with what became of it
+abbrev pub at_with : ℕ → ℕ → Receipt → At
+at_with place batch receipt = record { place = place; batch = batch; receipt = receipt }
+
+-- the rows of a place are of that place and batch and have the status of its receipt, which the report's line of it shows
+abbrev pub IsRowAt : At → PaymentRow → Type 0
+IsRowAt at row = (row.place ≡ at.place) × (row.batch ≡ at.batch) × (row.status ≡ at.receipt.status)
+
+abbrev pub RowsHaveStatus : Type 0
+RowsHaveStatus = (at : At) (t : Option Transaction) → AllByRecursion (IsRowAt at) (rows_at at t)
+
+-- what the rows of a place paid is what its transaction moved, whatever the accounts are
+abbrev pub PaidAddsUp : Type 0
+PaidAddsUp = (v : Version) (t : Option Transaction) (accounts : List Row) (place batch : ℕ)
+    → let receipt = (outcome_of v t accounts).receipt in
+    sum_by (λ (row : PaymentRow). row.paid) (rows_at (at_with place batch receipt) t) ≡ receipt.moved
+
+-- the rows that a list shows are those without it that name an account of the list, in their order
+abbrev pub ListPicksRows : Type 0
+ListPicksRows = (ids : List ℕ) (rows : List PaymentRow)
+    → payments_text (Some ids) rows ≡ payments_text None (filter (λ (row : PaymentRow). names_one ids row.asked) rows)
+
+-- the rows of batches, by their indexes and counts, are the report's lines of batches, and the certificate of each is one of
+-- its lines of certificates
+abbrev pub RowsAreBatchLines : Type 0
+RowsAreBatchLines = (z : Sizes) (held : List Node) (o : Ordered) (rows : List BatchRow)
+    → AllZip (IsBatchRow z held o) o.payloads.list rows
+    → (batch_lines 0 (map count_in o.payloads.list) ≡ batch_lines 0 (map (λ (row : BatchRow). row.count) rows))
+    × AllByRecursion (λ (row : BatchRow). Contains (cert_lines o.order) (line.Cert row.cert.round row.cert.author)) rows
+
+-- a feed has one table of payments, and one end of it
+abbrev pub OnePaymentTable : Type 0
+OnePaymentTable = (ids : Option (List ℕ)) (feed : FeedValue) (end also : Status) (text other : List ℕ)
+    → IsPaymentTable ids feed end text → IsPaymentTable ids feed also other → (text ≡ other) × (end ≡ also)
+
+-- the rows of postings of one account are, place by place, the entries of its statement
+abbrev pub PostingsAreEntries : Type 0
+PostingsAreEntries = (c : Course) (id place : ℕ) (t : Option Transaction) → IfSome t IsTransaction
+    → map (λ (q : Posting). q.entry) (filter (λ (q : Posting). q.account == id) (postings_at c place t)) ≡ entries_of c id place t
+
+-- in each place what the sender's row takes is what the receivers' rows add
+abbrev pub OutIsAllIn : Type 0
+OutIsAllIn = (c : Course) (place : ℕ) (t : Transaction) → slice_index_or c.txs place None ≡ Some t → IsTransaction t
+    → sum_by (λ (q : Posting). adds q.entry.role q.entry.amount) (postings_at c place (Some t))
+    ≡ sum_by (λ (q : Posting). takes q.entry.role q.entry.amount) (postings_at c place (Some t))

@@ -1,0 +1,9 @@
+pub mod Commas
+pub mod Asking
+pub mod Placing
+pub mod Naming
+pub mod Rows
+pub mod Runs
+pub mod Shows
+pub mod Listed
+pub mod Walking

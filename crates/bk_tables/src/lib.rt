@@ -1,0 +1,38 @@
+//! The tables of a feed, as CSV: the batches of its order, the payments of its transactions, and what these do to each
+//! account.
+//!
+//! [`Batches`], [`Transactions`] and [`Postings`] are the answers of a feed that write them, a row at a time. All memory is
+//! taken before the first byte is out. [`read_accounts`] reads the list of accounts by which rows are picked.
+#![tactic(auto)]
+
+mod accounts;
+mod batches;
+mod laws;
+mod line;
+mod listing;
+mod naming;
+mod parts;
+mod payment;
+mod placing;
+mod posting;
+mod postings;
+mod rows;
+mod sheet;
+mod text;
+mod texts;
+mod transactions;
+
+pub use accounts::Accounts;
+pub use batches::{BatchRow, Batches};
+pub use laws::{
+    list_picks_rows, one_payment_table, out_is_all_in, paid_adds_up, postings_are_entries,
+    rows_are_batch_lines, rows_have_status,
+};
+pub use listing::{AccountsFault, MOST_LIST, read_accounts};
+pub use payment::{Asked, Kind, PaymentRow};
+pub use posting::Posting;
+pub use postings::Postings;
+pub use transactions::Transactions;
+
+#[cfg(test)]
+mod tests;
