@@ -1,6 +1,6 @@
 -- What the words of a command line name.
 use Rattle.std.proofs.Common.{ℕ, ◌≡◌, ◌⊎◌, ◌∙◌, inl, inr, sym, ap, ap₂, refl, List, [], ◌∷◌, Option, Some, None, Bool, true, false, map, codes, option_map, cond, subst}
-use Rattle.std.specs.Prelude.{Box, unwrap_or, find}
+use Rattle.std.specs.Prelude.{Box, unwrap_or, find, if◌then◌else◌}
 use Rattle.std.specs.Str.{IsUtf8, bytes_eq}
 use Rattle.std.proofs.lemmas.Slice.Eq.{bytes_eq-Decides}
 use Rattle.std.specs.Box.{box_value}
@@ -12,6 +12,7 @@ use Rattle.clap.specs.declared.parser.matches.ArgMatches.{ArgMatches}
 use Rattle.clap.specs.declared.parser.matches.SubCommand.{SubCommand}
 use Rattle.clap.specs.declared.parser.matches.ArgMatches.TheViews.{out-ArgMatches, out-SubCommand}
 use Rattle.bk_cli.specs.CommandLine.{command_line, all_words, AreNamedBy, AreNotesIn, AreNotesOf, IsOneOf, IsJobOf, IsJobAt, NamesNoDigest}
+use Rattle.bk_cli.specs.Files.{reads_input_twice}
 use Rattle.bk_cli.specs.declared.job.Job.{Job}
 use Rattle.bk_cli.specs.declared.notes.Notes.{Notes}
 
@@ -122,10 +123,36 @@ are_text word (inr (inr (inr (inr (inr (inr (inr (inl e)))))))) = subst IsUtf8 (
 are_text word (inr (inr (inr (inr (inr (inr (inr (inr (inl e))))))))) = subst IsUtf8 (sym e) (codes "anchors", (refl, refl))
 are_text word (inr (inr (inr (inr (inr (inr (inr (inr (inr (inl e)))))))))) = subst IsUtf8 (sym e) (codes "dag", (refl, refl))
 are_text word (inr (inr (inr (inr (inr (inr (inr (inr (inr (inr (inl e))))))))))) = subst IsUtf8 (sym e) (codes "statement", (refl, refl))
-are_text word (inr (inr (inr (inr (inr (inr (inr (inr (inr (inr (inr (inl e)))))))))))) = subst IsUtf8 (sym e) (codes "check-proof", (refl, refl))
-are_text word (inr (inr (inr (inr (inr (inr (inr (inr (inr (inr (inr (inr (inl e))))))))))))) = subst IsUtf8 (sym e) (codes "check-state", (refl, refl))
-are_text word (inr (inr (inr (inr (inr (inr (inr (inr (inr (inr (inr (inr (inr (inl e)))))))))))))) = subst IsUtf8 (sym e) (codes "check-report", (refl, refl))
-are_text word (inr (inr (inr (inr (inr (inr (inr (inr (inr (inr (inr (inr (inr (inr (inl e))))))))))))))) = subst IsUtf8 (sym e) (codes "apply", (refl, refl))
-are_text word (inr (inr (inr (inr (inr (inr (inr (inr (inr (inr (inr (inr (inr (inr (inr (inl e)))))))))))))))) = subst IsUtf8 (sym e) (codes "schedule", (refl, refl))
-are_text word (inr (inr (inr (inr (inr (inr (inr (inr (inr (inr (inr (inr (inr (inr (inr (inr (inl e))))))))))))))))) = subst IsUtf8 (sym e) (codes "compare", (refl, refl))
-are_text word (inr (inr (inr (inr (inr (inr (inr (inr (inr (inr (inr (inr (inr (inr (inr (inr (inr e))))))))))))))))) = absurd e
+are_text word (inr (inr (inr (inr (inr (inr (inr (inr (inr (inr (inr (inl e)))))))))))) = subst IsUtf8 (sym e) (codes "transactions", (refl, refl))
+are_text word (inr (inr (inr (inr (inr (inr (inr (inr (inr (inr (inr (inr (inl e))))))))))))) = subst IsUtf8 (sym e) (codes "postings", (refl, refl))
+are_text word (inr (inr (inr (inr (inr (inr (inr (inr (inr (inr (inr (inr (inr (inl e)))))))))))))) = subst IsUtf8 (sym e) (codes "batches", (refl, refl))
+are_text word (inr (inr (inr (inr (inr (inr (inr (inr (inr (inr (inr (inr (inr (inr (inl e))))))))))))))) = subst IsUtf8 (sym e) (codes "check-proof", (refl, refl))
+are_text word (inr (inr (inr (inr (inr (inr (inr (inr (inr (inr (inr (inr (inr (inr (inr (inl e)))))))))))))))) = subst IsUtf8 (sym e) (codes "check-state", (refl, refl))
+are_text word (inr (inr (inr (inr (inr (inr (inr (inr (inr (inr (inr (inr (inr (inr (inr (inr (inl e))))))))))))))))) = subst IsUtf8 (sym e) (codes "check-report", (refl, refl))
+are_text word (inr (inr (inr (inr (inr (inr (inr (inr (inr (inr (inr (inr (inr (inr (inr (inr (inr (inl e)))))))))))))))))) = subst IsUtf8 (sym e) (codes "apply", (refl, refl))
+are_text word (inr (inr (inr (inr (inr (inr (inr (inr (inr (inr (inr (inr (inr (inr (inr (inr (inr (inr (inl e))))))))))))))))))) = subst IsUtf8 (sym e) (codes "schedule", (refl, refl))
+are_text word (inr (inr (inr (inr (inr (inr (inr (inr (inr (inr (inr (inr (inr (inr (inr (inr (inr (inr (inr (inl e)))))))))))))))))))) = subst IsUtf8 (sym e) (codes "compare", (refl, refl))
+are_text word (inr (inr (inr (inr (inr (inr (inr (inr (inr (inr (inr (inr (inr (inr (inr (inr (inr (inr (inr (inr (inl e))))))))))))))))))))) = subst IsUtf8 (sym e) (codes "link", (refl, refl))
+are_text word (inr (inr (inr (inr (inr (inr (inr (inr (inr (inr (inr (inr (inr (inr (inr (inr (inr (inr (inr (inr (inr (inl e)))))))))))))))))))))) = subst IsUtf8 (sym e) (codes "check-chain", (refl, refl))
+are_text word (inr (inr (inr (inr (inr (inr (inr (inr (inr (inr (inr (inr (inr (inr (inr (inr (inr (inr (inr (inr (inr (inr e)))))))))))))))))))))) = absurd e
+
+-- ---- standard input
+
+sole_at : (b : Bool) (j k : Job) → reads_input_twice j ≡ b → (if b then None else Some j) ≡ Some k
+    → (j ≡ k) × (reads_input_twice k ≡ false)
+sole_at false j k is e =
+    let same : j ≡ k = ap (λ (o : Option Job). unwrap_or o j) e in
+    (same, subst (λ (x : Job). reads_input_twice x ≡ false) same is)
+sole_at true j k is e = absurd (cc)
+
+-- a job that is taken is the one that was made, and does not read standard input twice
+pub is_sole : (j k : Job) → (if reads_input_twice j then None else Some j) ≡ Some k → (j ≡ k) × (reads_input_twice k ≡ false)
+is_sole j k = sole_at (reads_input_twice j) j k refl
+
+twice_at : (b : Bool) (j : Job) → (if b then None else Some j) ≡ None → b ≡ true
+twice_at false j e = absurd (cc)
+twice_at true j e = refl
+
+-- and one that is not taken reads it twice
+pub is_twice : (j : Job) → (if reads_input_twice j then None else Some j) ≡ None → reads_input_twice j ≡ true
+is_twice j = twice_at (reads_input_twice j) j

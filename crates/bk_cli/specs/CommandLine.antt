@@ -11,9 +11,14 @@ use Rattle.clap.specs.declared.builder.value_parser.ValueParser.TheVariants.{Sig
 use Rattle.bk_digest.specs.Digest.{IsHexDigest}
 use Rattle.bk_results.specs.declared.query.Query.{Query}
 use Rattle.bk_results.specs.declared.query.Query.TheVariants as query
+use Rattle.bk_cli.specs.Files.{reads_input_twice}
 use Rattle.bk_cli.specs.declared.job.Job.{Job}
 use Rattle.bk_cli.specs.declared.job.Job.TheVariants as job
 use Rattle.bk_cli.specs.declared.notes.Notes.{Notes}
+use Rattle.bk_cli.specs.declared.view.Table.{Table}
+use Rattle.bk_cli.specs.declared.view.Table.TheVariants as table
+use Rattle.bk_cli.specs.declared.view.View.{View}
+use Rattle.bk_cli.specs.declared.view.View.TheVariants as view
 use Rattle.bk_cli.specs.declared.verb.Verb.{Verb}
 use Rattle.bk_cli.specs.declared.verb.Verb.TheVariants as verb
 
@@ -78,6 +83,14 @@ rounds_rule = record (new_rule (codes "rounds")) {
   parser = Some (Signed (pos 1) (pos 1000));
 }
 
+-- the option `--accounts LIST`
+abbrev pub accounts_rule : Rule
+accounts_rule = record (new_rule (codes "accounts")) {
+  long = Some (codes "accounts");
+  action = Some Set;
+  value_names = 1;
+}
+
 -- an option without a value, by its name
 abbrev pub flag_rule : Text → Rule
 flag_rule name = record (new_rule name) { long = Some name; action = Some SetTrue }
@@ -128,6 +141,12 @@ dag_line =
     let named = new_app (codes "dag") in
     noted_line (with_rule (with_rule (with_rule named from_rule) rounds_rule) file_rule)
 
+-- a command `NAME [--workers W] [--accounts LIST] [FILE]`
+abbrev pub table_line : Text → App
+table_line name =
+    let named = new_app name in
+    noted_line (with_rule (with_rule (with_rule named workers_rule) accounts_rule) file_rule)
+
 -- the command `compare FEED1 FEED2`
 abbrev pub compare_line : App
 compare_line =
@@ -146,12 +165,17 @@ word_of verb.Summary = codes "summary"
 word_of verb.Anchors = codes "anchors"
 word_of verb.Dag = codes "dag"
 word_of verb.Statement = codes "statement"
+word_of verb.Transactions = codes "transactions"
+word_of verb.Postings = codes "postings"
+word_of verb.Batches = codes "batches"
 word_of verb.CheckProof = codes "check-proof"
 word_of verb.CheckState = codes "check-state"
 word_of verb.CheckReport = codes "check-report"
 word_of verb.Apply = codes "apply"
 word_of verb.Schedule = codes "schedule"
 word_of verb.Compare = codes "compare"
+word_of verb.Link = codes "link"
+word_of verb.CheckChain = codes "check-chain"
 
 -- a command with its arguments
 abbrev pub line_of : Verb → App
@@ -166,12 +190,17 @@ line_of verb.Summary = value_line (codes "summary") workers_rule
 line_of verb.Anchors = file_line (codes "anchors")
 line_of verb.Dag = dag_line
 line_of verb.Statement = working_line (codes "statement") id_rule
+line_of verb.Transactions = table_line (codes "transactions")
+line_of verb.Postings = table_line (codes "postings")
+line_of verb.Batches = file_line (codes "batches")
 line_of verb.CheckProof = value_line (codes "check-proof") root_rule
 line_of verb.CheckState = working_line (codes "check-state") root_rule
 line_of verb.CheckReport = working_line (codes "check-report") report_rule
 line_of verb.Apply = file_line (codes "apply")
 line_of verb.Schedule = schedule_line
 line_of verb.Compare = compare_line
+line_of verb.Link = value_line (codes "link") workers_rule
+line_of verb.CheckChain = file_line (codes "check-chain")
 
 -- the program's name, with a version
 abbrev pub program : App
@@ -199,15 +228,21 @@ viewing_line =
     with_command (with_command (with_command (with_command (with_command asking_line
     verb.Frames) verb.Summary) verb.Anchors) verb.Dag) verb.Statement
 
+-- and with those that write a table
+abbrev pub tabling_line : App
+tabling_line =
+    with_command (with_command (with_command viewing_line verb.Transactions) verb.Postings) verb.Batches
+
 -- and with those that check something
 abbrev pub checking_line : App
 checking_line =
-    with_command (with_command (with_command viewing_line verb.CheckProof) verb.CheckState) verb.CheckReport
+    with_command (with_command (with_command tabling_line verb.CheckProof) verb.CheckState) verb.CheckReport
 
 -- the whole command line: `bkreplay`, and one of the commands
 abbrev pub command_line : App
 command_line =
-    with_command (with_command (with_command checking_line verb.Apply) verb.Schedule) verb.Compare
+    with_command (with_command (with_command (with_command (with_command checking_line
+    verb.Apply) verb.Schedule) verb.Compare) verb.Link) verb.CheckChain
 
 -- ---- the job
 
@@ -253,7 +288,8 @@ IsQueryAt word rows query.Anchors = word ≡ word_of verb.Anchors
 IsQueryAt word rows (query.Statement id) =
     (word ≡ word_of verb.Statement) × IsNumberBy (2 ^ 64) (one_of (codes "ID") rows) id
 
--- for a query executes one worker; for that of a digest, and for a statement, as many as `--workers` names
+-- how many workers the job of a query names: as many as `--workers` says for that of a digest and for a statement, and one
+-- for the others, whose number is not asked for: they execute on all processors
 abbrev pub AreWorkersFor : List Row → Query → ℕ → Type 0
 AreWorkersFor rows query.Order count = count ≡ 1
 AreWorkersFor rows (query.Account id) count = count ≡ 1
@@ -262,6 +298,29 @@ AreWorkersFor rows (query.Proof id) count = count ≡ 1
 AreWorkersFor rows (query.State root) count = AreNamedBy 1 (one_of (codes "workers") rows) count
 AreWorkersFor rows query.Anchors count = count ≡ 1
 AreWorkersFor rows (query.Statement id) count = AreNamedBy 1 (one_of (codes "workers") rows) count
+
+-- what is shown is what a command shows; of a table all rows, where no list of accounts is named
+abbrev pub IsViewAt : Text → List Row → View → Type 0
+IsViewAt word rows view.Transactions =
+    (word ≡ word_of verb.Transactions) × (first_of (codes "accounts") rows ≡ None)
+IsViewAt word rows view.Postings = (word ≡ word_of verb.Postings) × (first_of (codes "accounts") rows ≡ None)
+IsViewAt word rows view.Batches = word ≡ word_of verb.Batches
+IsViewAt word rows view.Link = word ≡ word_of verb.Link
+
+-- as many workers as `--workers` names execute for it; the batches need none
+abbrev pub AreWorkersToShow : List Row → View → ℕ → Type 0
+AreWorkersToShow rows view.Batches count = count ≡ 1
+AreWorkersToShow rows other count = AreNamedBy 1 (one_of (codes "workers") rows) count
+
+-- all rows of a table
+abbrev pub view_of : Table → View
+view_of table.Transactions = view.Transactions
+view_of table.Postings = view.Postings
+
+-- the command of a table
+abbrev pub verb_of : Table → Verb
+verb_of table.Transactions = verb.Transactions
+verb_of table.Postings = verb.Postings
 
 -- the job is that of a command, with the values of its arguments
 abbrev pub IsJobAt : Text → List Row → Job → Type 0
@@ -298,6 +357,15 @@ IsJobAt word rows (job.Schedule workers feed events) =
 IsJobAt word rows (job.Compare first second) =
     (word ≡ word_of verb.Compare) × IsTextIn rows (codes "FEED1") (string_bytes first)
     × IsTextIn rows (codes "FEED2") (string_bytes second)
+IsJobAt word rows (job.Show workers shown file) =
+    IsViewAt word rows shown × AreWorkersToShow rows shown workers
+    × IsFileIn rows (option_map string_bytes file)
+IsJobAt word rows (job.Pick workers shown accounts file) =
+    (word ≡ word_of (verb_of shown)) × AreNamedBy 1 (one_of (codes "workers") rows) workers
+    × (first_of (codes "accounts") rows ≡ Some (string_bytes accounts))
+    × IsFileIn rows (option_map string_bytes file)
+IsJobAt word rows (job.CheckChain file) =
+    (word ≡ word_of verb.CheckChain) × IsFileIn rows (option_map string_bytes file)
 
 -- the job is that of the command that was found in the words
 abbrev pub IsJobOf : Option (Text × List Row) → Job → Type 0
@@ -332,16 +400,17 @@ abbrev pub NamesNoDigest : Option (Text × List Row) → Type 0
 NamesNoDigest None = ⊥
 NamesNoDigest (Some found) = (found.0 ≡ word_of verb.CheckState) × LacksDigest found.1
 
--- the error is that of a ROOT that is not a digest, and the words have one
-abbrev pub IsOfRoot : Error → Option (Text × List Row) → Type 0
-IsOfRoot e found = (kind_of e ≡ kind.ValueValidation) × NamesNoDigest found
+-- ---- standard input that is named twice
 
--- ---- a job that writes while it reads
+-- the words ask for a job that would read standard input in place of both of its files
+abbrev pub NamesInputTwice : Option (Text × List Row) → Type 0
+NamesInputTwice found = (j : Job) × IsJobOf found j × (reads_input_twice j ≡ true)
 
--- the command that was found in the words is `frames`
-abbrev pub NamesFrames : Option (Text × List Row) → Type 0
-NamesFrames None = ⊥
-NamesFrames (Some found) = found.0 ≡ word_of verb.Frames
+-- ---- values that are refused together with their command
+
+-- the error is that of a ROOT that is not a digest, or of standard input that is named twice, and the words have that fault
+abbrev pub IsOfValues : Error → Option (Text × List Row) → Type 0
+IsOfValues e found = (kind_of e ≡ kind.ValueValidation) × (NamesNoDigest found ⊎ NamesInputTwice found)
 
 -- ---- the words of the commands
 
@@ -355,5 +424,6 @@ abbrev pub all_words : List Text
 all_words =
     word_of verb.Run ∷ word_of verb.Make ∷ word_of verb.Order ∷ word_of verb.Account ∷ word_of verb.Receipt
     ∷ word_of verb.Prove ∷ word_of verb.Frames ∷ word_of verb.Summary ∷ word_of verb.Anchors ∷ word_of verb.Dag
-    ∷ word_of verb.Statement ∷ word_of verb.CheckProof ∷ word_of verb.CheckState ∷ word_of verb.CheckReport ∷ word_of verb.Apply
-    ∷ word_of verb.Schedule ∷ word_of verb.Compare ∷ []
+    ∷ word_of verb.Statement ∷ word_of verb.Transactions ∷ word_of verb.Postings ∷ word_of verb.Batches
+    ∷ word_of verb.CheckProof ∷ word_of verb.CheckState ∷ word_of verb.CheckReport ∷ word_of verb.Apply
+    ∷ word_of verb.Schedule ∷ word_of verb.Compare ∷ word_of verb.Link ∷ word_of verb.CheckChain ∷ []

@@ -53,6 +53,7 @@ abbrev pub gives_verdict : Job → Bool
 gives_verdict (job.CheckProof root file) = true
 gives_verdict (job.Ask workers asked file) = gives_state asked
 gives_verdict (job.CheckReport workers report file) = true
+gives_verdict (job.CheckChain file) = true
 gives_verdict other = false
 
 -- what a query asks for may be absent; an order and its anchors never are, and a digest is right or wrong
@@ -68,9 +69,11 @@ abbrev pub may_say_no : Job → Bool
 may_say_no (job.CheckProof root file) = true
 may_say_no (job.Ask workers asked file) = gives_state asked || may_be_absent asked
 may_say_no (job.CheckReport workers report file) = true
+may_say_no (job.CheckChain file) = true
 may_say_no other = false
 
--- a job that refuses bytes: those that are no feed, no script, no events of a whole run, or feeds of no one setup
+-- a job that refuses bytes: those that are no feed, no script, no list of accounts, no links, no events of a whole run, or
+-- feeds of no one setup
 abbrev pub refuses : Job → Bool
 refuses (job.Run workers file) = true
 refuses (job.Make file) = true
@@ -83,6 +86,9 @@ refuses (job.Dag window file) = true
 refuses (job.Apply file) = true
 refuses (job.Schedule workers feed events) = true
 refuses (job.Compare first second) = true
+refuses (job.Show workers shown file) = true
+refuses (job.Pick workers shown accounts file) = true
+refuses (job.CheckChain file) = true
 
 -- a job that finds the order of a feed, or compares those of two, which may be stopped
 abbrev pub finds_order : Job → Bool
@@ -92,6 +98,8 @@ finds_order (job.CheckReport workers report file) = true
 finds_order (job.Summary workers file) = true
 finds_order (job.Dag window file) = true
 finds_order (job.Compare first second) = true
+finds_order (job.Show workers shown file) = true
+finds_order (job.Pick workers shown accounts file) = true
 finds_order other = false
 
 -- a job that says whether a batch is missing
@@ -100,6 +108,9 @@ reports_missing (job.Run workers file) = true
 reports_missing (job.Ask workers asked file) = tells_missing asked
 reports_missing (job.CheckReport workers report file) = true
 reports_missing (job.Summary workers file) = true
+reports_missing (job.Show workers shown file) = true
+reports_missing (job.Pick workers shown accounts file) = true
+reports_missing (job.CheckChain file) = true
 reports_missing other = false
 
 -- a job that reads its second source
@@ -107,6 +118,7 @@ abbrev pub reads_second : Job → Bool
 reads_second (job.CheckReport workers report file) = true
 reads_second (job.Schedule workers feed events) = true
 reads_second (job.Compare first second) = true
+reads_second (job.Pick workers shown accounts file) = true
 reads_second other = false
 
 -- a job that writes while it reads: where it refuses the bytes, its first lines are out
@@ -233,6 +245,8 @@ abbrev pub exit_after : JobFault → Exit
 exit_after (fault.Replay e) = exit_after_replay e
 exit_after (fault.Text e) = exit_after_text e
 exit_after (fault.Events e) = exit_after_list e
+exit_after (fault.Accounts line) = exit.WrongInput
+exit_after (fault.Links line) = exit.WrongInput
 exit_after (fault.Compared e) = exit_after_compare e
 exit_after (fault.AbsentAccount id missing) = exit.No
 exit_after (fault.AbsentPlace place missing) = exit.No

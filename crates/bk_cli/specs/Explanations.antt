@@ -160,6 +160,10 @@ abbrev pub words_of : JobFault → List ℕ
 words_of (fault.Replay e) = replay_words e
 words_of (fault.Text e) = text_words e
 words_of (fault.Events e) = list_words e
+words_of (fault.Accounts line) =
+    codes "line" ++ spaced line ++ codes " is not the id of an account, or ends a list that is too long"
+words_of (fault.Links line) =
+    codes "line" ++ spaced line ++ codes " is not a line of `link`, or ends a text that is too long"
 words_of (fault.Compared e) = compare_words e
 words_of (fault.AbsentAccount id missing) = codes "there is no account" ++ spaced id ++ and_gap missing
 words_of (fault.AbsentPlace place missing) = codes "there is no transaction at place" ++ spaced place ++ and_gap missing

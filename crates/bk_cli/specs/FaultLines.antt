@@ -77,6 +77,8 @@ abbrev pub reported : JobFault → List ℕ
 reported (fault.Replay e) = replay_text e
 reported (fault.Text e) = script_text e
 reported (fault.Events e) = list_text e
+reported (fault.Accounts line) = codes "accounts fault at line" ++ spaced line
+reported (fault.Links line) = codes "links fault at line" ++ spaced line
 reported (fault.Compared e) = compare_text e
 reported (fault.AbsentAccount id missing) = codes "absent account" ++ spaced id
 reported (fault.AbsentPlace place missing) = codes "absent place" ++ spaced place

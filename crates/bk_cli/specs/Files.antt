@@ -1,5 +1,6 @@
 -- The files that a job names, and the one that a fault of it is about.
-use Rattle.std.specs.Prelude.{Bool, true, false, List, ℕ, Option, Some, None, codes, if◌then◌else◌, option_map, string_bytes, unwrap_or}
+use Rattle.std.specs.Prelude.{Bool, true, false, ◌&&◌, List, ℕ, Option, Some, None, codes, if◌then◌else◌, option_map, string_bytes, unwrap_or}
+use Rattle.std.specs.Str.{bytes_eq}
 use Rattle.bk_results.specs.declared.compare_stop.CompareStop.{CompareStop}
 use Rattle.bk_results.specs.declared.compare_stop.CompareStop.TheVariants as compared
 use Rattle.bk_results.specs.declared.fault.Fault.{Fault}
@@ -26,6 +27,9 @@ file_of (job.Dag window file) = option_map string_bytes file
 file_of (job.Apply file) = option_map string_bytes file
 file_of (job.Schedule workers feed events) = Some (string_bytes feed)
 file_of (job.Compare first second) = Some (string_bytes first)
+file_of (job.Show workers shown file) = option_map string_bytes file
+file_of (job.Pick workers shown accounts file) = option_map string_bytes file
+file_of (job.CheckChain file) = option_map string_bytes file
 
 -- the path of the second
 abbrev pub second_file_of : Job → Option (List ℕ)
@@ -40,13 +44,33 @@ second_file_of (job.Dag window file) = None
 second_file_of (job.Apply file) = None
 second_file_of (job.Schedule workers feed events) = Some (string_bytes events)
 second_file_of (job.Compare first second) = Some (string_bytes second)
+second_file_of (job.Show workers shown file) = None
+second_file_of (job.Pick workers shown accounts file) = Some (string_bytes accounts)
+second_file_of (job.CheckChain file) = None
+
+-- ---- standard input
+
+-- a path that stands for standard input
+abbrev pub is_input : List ℕ → Bool
+is_input path = bytes_eq path (codes "-")
+
+-- the name of what is read: its path; and where there is none, or one that stands for it, standard input
+abbrev pub input_name : Option (List ℕ) → List ℕ
+input_name None = codes "standard input"
+input_name (Some path) = if is_input path then codes "standard input" else path
+
+-- a job reads standard input in place of both of its files
+abbrev pub reads_input_twice : Job → Bool
+reads_input_twice j =
+    unwrap_or (option_map is_input (file_of j)) true && unwrap_or (option_map is_input (second_file_of j)) false
 
 -- ---- what a fault is about
 
--- a job that reads a report which is checked
-abbrev pub reads_report : Job → Bool
-reads_report (job.CheckReport workers report file) = true
-reads_report other = false
+-- a job whose second file is a text beside a feed: a report which is checked, or a list of accounts
+abbrev pub reads_beside : Job → Bool
+reads_beside (job.CheckReport workers report file) = true
+reads_beside (job.Pick workers shown accounts file) = true
+reads_beside other = false
 
 -- a feed that was not replayed: a failed write is about the output
 abbrev pub replay_about : Fault → About
@@ -57,10 +81,10 @@ replay_about (replay.Unfinished place) = about.First
 replay_about (replay.Write written) = about.Output
 replay_about replay.Memory = about.First
 
--- a text that was not read or answered: of a report that is checked only reading fails
+-- a text that was not read or answered: of a text beside a feed only reading fails
 abbrev pub text_about : Job → ScriptFault → About
 text_about j (text.Script line found) = about.First
-text_about j text.Read = if reads_report j then about.Second else about.First
+text_about j text.Read = if reads_beside j then about.Second else about.First
 text_about j (text.Write written) = about.Output
 text_about j text.Memory = about.First
 
@@ -75,12 +99,14 @@ abbrev pub about_of : Job → JobFault → About
 about_of j (fault.Replay e) = replay_about e
 about_of j (fault.Text e) = text_about j e
 about_of j (fault.Events e) = about.Second
+about_of j (fault.Accounts line) = about.Second
+about_of j (fault.Links line) = about.First
 about_of j (fault.Compared e) = compare_about e
 about_of j (fault.AbsentAccount id missing) = about.First
 about_of j (fault.AbsentPlace place missing) = about.First
 
 -- its name: a path, or standard input or output
 abbrev pub name_of : Job → About → List ℕ
-name_of j about.First = unwrap_or (file_of j) (codes "standard input")
-name_of j about.Second = unwrap_or (second_file_of j) (codes "standard input")
+name_of j about.First = input_name (file_of j)
+name_of j about.Second = input_name (second_file_of j)
 name_of j about.Output = codes "standard output"

@@ -1,9 +1,9 @@
 //! What a fault is about: one of the files of a job, or its output.
 
-ghost use Rattle.std.specs.Prelude.{◌≡◌};
-ghost use Rattle.bk_cli.specs.Files.{about_of, compare_about, name_of, reads_report, replay_about, text_about};
+ghost use Rattle.std.specs.Prelude.{◌≡◌, option_map};
+ghost use Rattle.bk_cli.specs.Files.{about_of, compare_about, input_name, name_of, reads_beside, replay_about, text_about};
 
-use crate::job::Job;
+use crate::job::{Job, is_input};
 use crate::job_fault::JobFault;
 use bk_results::{CompareStop, Fault, ScriptFault};
 
@@ -34,7 +34,7 @@ fn about_text(job: &Job, fault: &ScriptFault) -> About
 {
     match (fault, job) {
         (ScriptFault::Write { .. }, _) => About::Output,
-        (ScriptFault::Read, Job::CheckReport { .. }) => About::Second,
+        (ScriptFault::Read, Job::CheckReport { .. } | Job::Pick { .. }) => About::Second,
         _ => About::First,
     }
 }
@@ -49,6 +49,16 @@ fn about_compare(stop: &CompareStop) -> About
     }
 }
 
+// The name of what is read.
+fn input_name(path: Option<&str>) -> &str
+    ensures { result.now ≡ input_name (option_map (λ s. s.now) path.entry) }
+{
+    match path {
+        Some(path) if !is_input(path) => path,
+        _ => "standard input",
+    }
+}
+
 impl About {
     /// What a fault of a job is about.
     pub(crate) fn of(job: &Job, fault: &JobFault) -> About
@@ -57,9 +67,11 @@ impl About {
         match fault {
             JobFault::Replay(fault) => about_replay(fault),
             JobFault::Text(fault) => about_text(job, fault),
-            JobFault::Events(_) => About::Second,
+            JobFault::Events(_) | JobFault::Accounts { .. } => About::Second,
             JobFault::Compared(stop) => about_compare(stop),
-            JobFault::AbsentAccount { .. } | JobFault::AbsentPlace { .. } => About::First,
+            JobFault::Links { .. }
+            | JobFault::AbsentAccount { .. }
+            | JobFault::AbsentPlace { .. } => About::First,
         }
     }
 
@@ -68,8 +80,8 @@ impl About {
         ensures { result.now ≡ name_of job.now self }
     {
         match self {
-            About::First => job.file().unwrap_or("standard input"),
-            About::Second => job.second_file().unwrap_or("standard input"),
+            About::First => input_name(job.file()),
+            About::Second => input_name(job.second_file()),
             About::Output => "standard output",
         }
     }

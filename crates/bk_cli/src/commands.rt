@@ -3,12 +3,12 @@
 ghost use Rattle.std.specs.Prelude.{◌≡◌, true, false, IfOk, IfSome};
 ghost use Rattle.clap.specs.Words.{App, Rule, app_of};
 ghost use Rattle.clap.specs.declared.builder.command.Command.TheViews.{out-Command};
-ghost use Rattle.bk_cli.specs.CommandLine.{asking_line, checking_line, viewing_line, command_line, file_line, value_line, schedule_line, working_line};
-ghost use Rattle.bk_cli.specs.CommandLine.{noted_line, file_rule, workers_rule, required_rule, root_rule, id_rule, place_rule, from_rule, rounds_rule, dag_line, compare_line};
+ghost use Rattle.bk_cli.specs.CommandLine.{asking_line, checking_line, viewing_line, tabling_line, command_line, file_line, value_line, table_line, schedule_line, working_line};
+ghost use Rattle.bk_cli.specs.CommandLine.{noted_line, file_rule, workers_rule, required_rule, root_rule, id_rule, place_rule, from_rule, rounds_rule, accounts_rule, dag_line, compare_line};
 
 use crate::help::{self, Help};
-use crate::more_help;
 use crate::shaped::{Plain, Shaped};
+use crate::{more_help, table_help};
 use clap::{Command, value_parser};
 use std::alloc::{AllocError, Global};
 
@@ -74,6 +74,13 @@ fn rounds_arg<'a>(alloc: Global) -> Plain<'a>
         .read_by(value_parser!(u32).range(1..=1_000))
 }
 
+// The option `--accounts LIST`.
+fn accounts_arg<'a>(alloc: Global) -> Plain<'a>
+    ensures { result ≡ accounts_rule }
+{
+    Plain::valued(alloc, "accounts", table_help::ACCOUNTS).option("accounts", "LIST")
+}
+
 // The command with the options that every command has.
 fn noted<'a>(alloc: Global, command: Shaped<'a>) -> Shaped<'a>
     ensures { (a : App) → IfSome command.entry (λ c. c ≡ a)
@@ -131,6 +138,17 @@ fn dag_command<'a>(alloc: Global) -> Shaped<'a>
     noted(alloc, command)
 }
 
+// A command `NAME [--workers W] [--accounts LIST] [FILE]`.
+fn table_command<'a>(alloc: Global, name: &'a str, text: Help<'a>) -> Shaped<'a>
+    ensures { IfSome result (λ c. c ≡ table_line name.now) }
+{
+    let command = Shaped::new(alloc, name, text)
+        .arg(workers_arg(alloc, help::WORKERS))
+        .arg(accounts_arg(alloc))
+        .arg(file_arg(alloc));
+    noted(alloc, command)
+}
+
 // The command `compare FEED1 FEED2`.
 fn compare_command<'a>(alloc: Global) -> Shaped<'a>
     ensures { IfSome result (λ c. c ≡ compare_line) }
@@ -168,12 +186,22 @@ fn viewing_command<'a>(alloc: Global) -> Shaped<'a>
         .subcommand(working_command(alloc, "statement", id_arg(alloc), help::STATEMENT))
 }
 
+// And with those that write a table.
+fn tabling_command<'a>(alloc: Global) -> Shaped<'a>
+    ensures { IfSome result (λ c. c ≡ tabling_line) }
+{
+    viewing_command(alloc)
+        .subcommand(table_command(alloc, "transactions", table_help::TRANSACTIONS))
+        .subcommand(table_command(alloc, "postings", table_help::POSTINGS))
+        .subcommand(file_command(alloc, "batches", table_help::BATCHES))
+}
+
 // And with those that check something.
 fn checking_command<'a>(alloc: Global) -> Shaped<'a>
     ensures { IfSome result (λ c. c ≡ checking_line) }
 {
     let report = required_arg(alloc, "REPORT", help::REPORT);
-    viewing_command(alloc)
+    tabling_command(alloc)
         .subcommand(value_command(
             alloc,
             "check-proof",
@@ -189,15 +217,18 @@ fn checking_command<'a>(alloc: Global) -> Shaped<'a>
         .subcommand(working_command(alloc, "check-report", report, more_help::CHECK_REPORT))
 }
 
-// And with those that execute batches as they come, and that take two files: all commands, in the order in which a user meets
-// them.
+// And with those that execute batches as they come, that take two files, and that are about a chain of feeds: all commands, in
+// the order in which a user meets them.
 fn whole_command<'a>(alloc: Global) -> Shaped<'a>
     ensures { IfSome result (λ c. c ≡ command_line) }
 {
+    let workers = workers_arg(alloc, help::WORKERS);
     checking_command(alloc)
         .subcommand(file_command(alloc, "apply", more_help::APPLY))
         .subcommand(schedule_command(alloc))
         .subcommand(compare_command(alloc))
+        .subcommand(value_command(alloc, "link", workers, table_help::LINK))
+        .subcommand(file_command(alloc, "check-chain", table_help::CHECK_CHAIN))
 }
 
 /// All commands.

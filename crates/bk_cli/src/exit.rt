@@ -61,6 +61,7 @@ impl Exit {
             JobFault::Text(fault) => Exit::after_text(fault),
             JobFault::Events(fault) => Exit::after_list(fault),
             JobFault::Compared(stop) => Exit::after_compare(stop),
+            JobFault::Accounts { .. } | JobFault::Links { .. } => Exit::WrongInput,
             JobFault::AbsentAccount { .. } | JobFault::AbsentPlace { .. } => Exit::No,
         }
     }

@@ -267,6 +267,22 @@ pub(crate) fn in_words(fault: &JobFault) -> ShortLine
         JobFault::Replay(fault) => put_replay(&mut line, fault),
         JobFault::Text(fault) => put_script(&mut line, fault),
         JobFault::Events(fault) => put_list(&mut line, fault),
+        JobFault::Accounts { line: number } => {
+            put_text(&mut line, b"line");
+            put_number(&mut line, u64::from(*number));
+            put_text(
+                &mut line,
+                b" is not the id of an account, or ends a list that is too long",
+            );
+        }
+        JobFault::Links { line: number } => {
+            put_text(&mut line, b"line");
+            put_number(&mut line, u64::from(*number));
+            put_text(
+                &mut line,
+                b" is not a line of `link`, or ends a text that is too long",
+            );
+        }
         JobFault::Compared(stop) => put_compare(&mut line, stop),
         JobFault::AbsentAccount { id, missing } => {
             put_text(&mut line, b"there is no account");

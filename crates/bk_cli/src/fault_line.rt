@@ -172,6 +172,14 @@ pub(crate) fn fault_line(fault: &JobFault) -> ShortLine
         JobFault::Replay(fault) => put_replay(&mut line, fault),
         JobFault::Text(fault) => put_script(&mut line, fault),
         JobFault::Events(fault) => put_list(&mut line, fault),
+        JobFault::Accounts { line: number } => {
+            put_text(&mut line, b"accounts fault at line");
+            put_number(&mut line, u64::from(*number));
+        }
+        JobFault::Links { line: number } => {
+            put_text(&mut line, b"links fault at line");
+            put_number(&mut line, u64::from(*number));
+        }
         JobFault::Compared(stop) => put_compare(&mut line, stop),
         JobFault::AbsentAccount { id, .. } => {
             put_text(&mut line, b"absent account");

@@ -7,7 +7,8 @@ pub(crate) struct Help<'a> {
     pub(crate) after: &'a str,
 }
 
-pub(crate) const FILE: &str = "The path of the file; standard input by default";
+pub(crate) const FILE: &str =
+    "The path of the file; standard input by default, and for a path that is `-`";
 
 pub(crate) const WORKERS: &str =
     "How many threads execute at most, 1 to 64; 1 by default. The output is the same for any number";
@@ -50,12 +51,14 @@ Output goes to standard output. A fault is one line on standard error.
 
 Exit status:
   0  the whole output is written
-  1  the command line is wrong, what was asked for is absent, the proof or the digest is bad, or the report differs
-  2  a feed, the script or the list of events is wrong, or two feeds differ in version, committee or opening accounts
+  1  the command line is wrong, what was asked for is absent, the proof or the digest is bad, the report differs, or the
+     chain is broken
+  2  a feed, the script, a list or the links are wrong, or two feeds differ in version, committee or opening accounts
   3  a feed, or two together, are stopped by a collision or an equivocation
   4  a read, a write or memory failed, or a worker did not finish
-  5  the whole output of `run`, `summary`, `statement`, `check-state` or `check-report` is written, and the order stops at
-     a missing batch
+  5  the whole output of `run`, `summary`, `statement`, `transactions`, `postings`, `batches`, `check-state`,
+     `check-report` or `link` is written, and the order stops at a missing batch; or a chain is good and its last feed
+     is short
 
 Codes:
   feed fault  1 the first bytes are not `BKF1` or `BKF2`, 2 cut short, 3 kind of frame, 4 length, 5 committee,

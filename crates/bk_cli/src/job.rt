@@ -1,13 +1,16 @@
 //! What the command line asks for.
 
-ghost use Rattle.std.specs.Prelude.{◌≡◌, ◌≤◌, ◌^◌, [], option_map, string_bytes, codes, unwrap_or, Some, IfOk, MatchOption};
+ghost use Rattle.std.specs.Prelude.{◌≡◌, ◌≤◌, ◌^◌, [], option_map, string_bytes, codes, unwrap_or, if◌then◌else◌, None, Some, IfOk, MatchOption};
 ghost use Rattle.clap.specs.Words.{one_text, first_value, found_of, rows_of};
 ghost use Rattle.bk_cli.specs.declared.job.Job.TheVariants as job;
 ghost use Rattle.bk_cli.specs.CommandLine.{IsFileIn, NamesNoDigest};
-ghost use Rattle.bk_cli.specs.CommandLine.{IsJobAt, AreNamedBy, IsChosenBy, IsNumberBy, word_of};
-ghost use Rattle.bk_cli.specs.Files.{file_of, second_file_of};
+ghost use Rattle.bk_cli.specs.CommandLine.{IsJobAt, AreNamedBy, IsChosenBy, IsNumberBy, verb_of, view_of, word_of};
+ghost use Rattle.bk_cli.specs.declared.view.View.TheVariants as view;
+ghost use Rattle.std.specs.Str.{bytes_eq};
+ghost use Rattle.bk_cli.specs.Files.{file_of, is_input, reads_input_twice, second_file_of};
 
 use crate::verb::Verb;
+use crate::view::{Table, View};
 use crate::window::{MOST_FROM, MOST_ROUNDS, Window};
 use crate::workers::Workers;
 use bk_digest::Digest32;
@@ -15,7 +18,7 @@ use bk_results::Query;
 use clap::ArgMatches;
 use std::alloc::{AllocError, Global};
 
-/// What the program is to do. A `file` is a path; standard input is read where there is none.
+/// What the program is to do. A `file` is a path; standard input is read where there is none, and where a path is `-`.
 #[derive(Drop)]
 pub enum Job {
     /// Finds the committed order of a feed, executes its batches and writes the report of the run.
@@ -86,10 +89,32 @@ pub enum Job {
         /// The path of the other.
         second: String,
     },
+    /// Writes a table of a feed, or the line that links it to others.
+    Show {
+        /// How many threads execute.
+        workers: Workers,
+        /// What is shown.
+        shown: View,
+        file: Option<String>,
+    },
+    /// Writes the rows of a table that have an account of a list.
+    Pick {
+        /// How many threads execute.
+        workers: Workers,
+        /// The table.
+        shown: Table,
+        /// The path of the list.
+        accounts: String,
+        file: Option<String>,
+    },
+    /// Writes whether lines are the links of feeds that are one ledger.
+    CheckChain {
+        file: Option<String>,
+    },
 }
 
 impl Job {
-    /// The path of the feed, of the script or of the proof, where one is named; of two feeds that of the first.
+    /// The path of the feed, of the script, of the proof or of the links, where one is named; of two feeds that of the first.
     pub fn file(&self) -> Option<&str>
         ensures { option_map (λ s. s.now) result ≡ file_of self.now }
     {
@@ -102,14 +127,17 @@ impl Job {
             | Job::Frames { file }
             | Job::Summary { file, .. }
             | Job::Dag { file, .. }
-            | Job::Apply { file } => file.as_deref(),
+            | Job::Apply { file }
+            | Job::Show { file, .. }
+            | Job::Pick { file, .. }
+            | Job::CheckChain { file } => file.as_deref(),
             Job::Schedule { feed, .. } => Some(feed.as_str()),
             Job::Compare { first, .. } => Some(first.as_str()),
         }
     }
 
-    /// The path of the other file that is read, where there is one: the text that is said to be a report, a list of events,
-    /// or a second feed.
+    /// The path of the other file that is read, where there is one: the text that is said to be a report, a list of events or
+    /// of accounts, or a second feed.
     pub fn second_file(&self) -> Option<&str>
         ensures { option_map (λ s. s.now) result ≡ second_file_of self.now }
     {
@@ -121,12 +149,51 @@ impl Job {
             | Job::Frames { .. }
             | Job::Summary { .. }
             | Job::Dag { .. }
-            | Job::Apply { .. } => None,
+            | Job::Apply { .. }
+            | Job::Show { .. }
+            | Job::CheckChain { .. } => None,
             Job::CheckReport { report, .. } => Some(report.as_str()),
             Job::Schedule { events, .. } => Some(events.as_str()),
             Job::Compare { second, .. } => Some(second.as_str()),
+            Job::Pick { accounts, .. } => Some(accounts.as_str()),
         }
     }
+
+    // Whether standard input would be read in place of both files.
+    fn reads_input_twice(&self) -> bool
+        ensures { result ≡ reads_input_twice self.now }
+    {
+        let first = match self.file() {
+            Some(path) => is_input(path),
+            None => true,
+        };
+        let second = match self.second_file() {
+            Some(path) => is_input(path),
+            None => false,
+        };
+        first && second
+    }
+
+    // Gives its memory back. A caller that ends with this call need not go through all that a job holds in its own proof.
+    fn discard(self) {}
+}
+
+/// Whether a path stands for standard input.
+pub fn is_input(path: &str) -> bool
+    ensures { result ≡ is_input path.now }
+{
+    path == "-"
+}
+
+/// The job, where it reads standard input in place of one file at most.
+pub(crate) fn sole(job: Job) -> Option<Job>
+    ensures { result ≡ (if reads_input_twice job then None else Some job) }
+{
+    if job.reads_input_twice() {
+        job.discard();
+        return None;
+    }
+    Some(job)
 }
 
 // The text in a string of its own, where there is one.
@@ -299,6 +366,74 @@ fn dag_of(found: &ArgMatches<'_>, file: Option<String>) -> Job
     Job::Dag { window, file }
 }
 
+// What is shown where all rows of a table are.
+fn whole(shown: Table) -> View
+    ensures { result ≡ view_of shown }
+{
+    match shown {
+        Table::Transactions => View::Transactions,
+        Table::Postings => View::Postings,
+    }
+}
+
+// The job of a table of this file, with the values of its other arguments.
+fn table_of(
+    alloc: Global,
+    found: &ArgMatches<'_>,
+    shown: Table,
+    file: Option<String>,
+) -> Result<Option<Job>, AllocError>
+    requires { IsFileIn (rows_of (found_of found.now)) (option_map string_bytes file) }
+    ensures { IfOk result (λ made. MatchOption made
+        (NamesNoDigest (Some (word_of (verb_of shown), rows_of (found_of found.now))))
+        (IsJobAt (word_of (verb_of shown)) (rows_of (found_of found.now)))) }
+{
+    let workers = workers_in(found, Workers::one());
+    match owned(alloc, found.get_str("accounts"))? {
+        Some(accounts) => Ok(Some(Job::Pick {
+            workers,
+            shown,
+            accounts,
+            file,
+        })),
+        None => {
+            let shown = whole(shown);
+            Ok(Some(Job::Show {
+                workers,
+                shown,
+                file,
+            }))
+        }
+    }
+}
+
+// The job of `link` of this file, with the values of its other arguments.
+fn link_of(found: &ArgMatches<'_>, file: Option<String>) -> Job
+    requires { IsFileIn (rows_of (found_of found.now)) (option_map string_bytes file) }
+    ensures { IsJobAt (codes "link") (rows_of (found_of found.now)) result }
+{
+    let workers = workers_in(found, Workers::one());
+    let shown = View::Link;
+    Job::Show {
+        workers,
+        shown,
+        file,
+    }
+}
+
+// The job of `batches` of this file.
+fn batches_of(file: Option<String>) -> Job
+    ensures { result ≡ job.Show 1 view.Batches file }
+{
+    let workers = Workers::one();
+    let shown = View::Batches;
+    Job::Show {
+        workers,
+        shown,
+        file,
+    }
+}
+
 // The job of a query for which one thread executes.
 fn ask_one(asked: Query, file: Option<String>) -> Job
     ensures { result ≡ job.Ask 1 asked file }
@@ -343,11 +478,16 @@ pub(crate) fn job_of(
         Verb::Anchors => Ok(Some(ask_one(Query::Anchors, file))),
         Verb::Dag => Ok(Some(dag_of(found, file))),
         Verb::Statement => Ok(Some(statement_of(found, file))),
+        Verb::Transactions => table_of(alloc, found, Table::Transactions, file),
+        Verb::Postings => table_of(alloc, found, Table::Postings, file),
+        Verb::Batches => Ok(Some(batches_of(file))),
         Verb::CheckProof => proof_of(alloc, found, file),
         Verb::CheckState => state_of(alloc, found, file),
         Verb::CheckReport => report_of(alloc, found, file),
         Verb::Apply => Ok(Some(Job::Apply { file })),
         Verb::Schedule => schedule_of(alloc, found),
         Verb::Compare => compare_of(alloc, found),
+        Verb::Link => Ok(Some(link_of(found, file))),
+        Verb::CheckChain => Ok(Some(Job::CheckChain { file })),
     }
 }

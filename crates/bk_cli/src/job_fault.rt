@@ -17,6 +17,14 @@ pub enum JobFault {
     Text(ScriptFault),
     /// A list of events gives no report.
     Events(ListFault),
+    /// This line of a list of accounts is none, or ends a list that is too long.
+    Accounts {
+        line: u32,
+    },
+    /// This line is not that of a link, or ends a text of links that is too long.
+    Links {
+        line: u32,
+    },
     /// Two feeds do not agree.
     Compared(CompareStop),
     /// The feed has no account of this id. Where its order stops at a missing batch, this is the digest.

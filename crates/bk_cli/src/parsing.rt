@@ -1,12 +1,13 @@
 //! From the words of a command line to a job.
 
-ghost use Rattle.std.specs.Prelude.{◌≡◌, ◌⊎◌, true, [], map, IfOk, IfErr};
+ghost use Rattle.std.specs.Prelude.{◌≡◌, ◌⊎◌, true, false, [], map, IfOk, IfErr};
 ghost use Rattle.clap.specs.Kinds.{FailsBy, HasKind};
 ghost use Rattle.clap.specs.Words.{fault_of, has_subcommand, kind_of, subcommand_of, subcommand_rows_of, takes};
-ghost use Rattle.bk_cli.specs.CommandLine.{AreNotesOf, IsJobOf, IsOfRoot, command_line};
+ghost use Rattle.bk_cli.specs.CommandLine.{AreNotesOf, IsJobOf, IsOfValues, command_line};
+ghost use Rattle.bk_cli.specs.Files.{reads_input_twice};
 
 use crate::commands::command;
-use crate::job::{Job, job_of};
+use crate::job::{Job, job_of, sole};
 use crate::notes::Notes;
 use crate::verb::Verb;
 use clap::error::ErrorKind;
@@ -45,20 +46,31 @@ fn no_digest(alloc: Global) -> Result<Error, AllocError>
     )
 }
 
+// The error of standard input that is named twice.
+fn input_twice(alloc: Global) -> Result<Error, AllocError>
+    ensures { IfOk result (λ e. kind_of e ≡ ErrorKind.ValueValidation) }
+{
+    command(alloc)?.error(
+        ErrorKind::ValueValidation,
+        "standard input is named twice, by - or by a FILE that is left out",
+    )
+}
+
 /// Reads the words of a command line; the first is the program's name.
 ///
 /// An error is a fault of the words, a request for help or for the version, or that memory ran out; its kind says which.
 /// Words without a fault give a job, and those with one an error of the fault's kind, unless memory ran out. A ROOT of
-/// `check-state` that is not a digest is a fault of the kind `ValueValidation`.
+/// `check-state` that is not a digest, and standard input that is named twice, are faults of the kind `ValueValidation`.
 pub fn parse_line<'a, S: AsStr>(alloc: Global, words: &'a [S]) -> Result<Line, Error>
     ensures job { IfOk result (λ l. IsJobOf (subcommand_of command_line (map S.text words.now)) l.job) }
+    ensures once { IfOk result (λ l. reads_input_twice l.job ≡ false) }
     ensures notes { IfOk result (λ l. AreNotesOf (subcommand_of command_line (map S.text words.now)) l.notes) }
     ensures whole { IfOk result (λ _. fault_of command_line (map S.text words.now) ≡ []) }
     ensures kinds { IfErr result (λ e. HasKind (fault_of command_line (map S.text words.now)) e
-        ⊎ IsOfRoot e (subcommand_of command_line (map S.text words.now))) }
+        ⊎ IsOfValues e (subcommand_of command_line (map S.text words.now))) }
     ensures error { IfErr result (λ e. takes command_line (map S.text words.now) ≡ true
         → (kind_of e ≡ ErrorKind.OutOfMemory)
-        ⊎ IsOfRoot e (subcommand_of command_line (map S.text words.now))) }
+        ⊎ IsOfValues e (subcommand_of command_line (map S.text words.now))) }
 {
     let matches = matches_of(alloc, words)?;
     let Some((name, found)) = matches.subcommand() else {
@@ -67,6 +79,9 @@ pub fn parse_line<'a, S: AsStr>(alloc: Global, words: &'a [S]) -> Result<Line, E
     let Some(job) = job_of(alloc, Verb::of(name), found)? else {
         return Err(no_digest(alloc)?);
     };
+    let Some(job) = sole(job) else {
+        return Err(input_twice(alloc)?);
+    };
     let notes = Notes::found_in(found);
     Ok(Line { job, notes })
 }
@@ -74,12 +89,13 @@ pub fn parse_line<'a, S: AsStr>(alloc: Global, words: &'a [S]) -> Result<Line, E
 /// The job of the words of a command line, as [`parse_line`] reads them.
 pub fn parse<'a, S: AsStr>(alloc: Global, words: &'a [S]) -> Result<Job, Error>
     ensures job { IfOk result (IsJobOf (subcommand_of command_line (map S.text words.now))) }
+    ensures once { IfOk result (λ j. reads_input_twice j ≡ false) }
     ensures whole { IfOk result (λ _. fault_of command_line (map S.text words.now) ≡ []) }
     ensures kinds { IfErr result (λ e. HasKind (fault_of command_line (map S.text words.now)) e
-        ⊎ IsOfRoot e (subcommand_of command_line (map S.text words.now))) }
+        ⊎ IsOfValues e (subcommand_of command_line (map S.text words.now))) }
     ensures error { IfErr result (λ e. takes command_line (map S.text words.now) ≡ true
         → (kind_of e ≡ ErrorKind.OutOfMemory)
-        ⊎ IsOfRoot e (subcommand_of command_line (map S.text words.now))) }
+        ⊎ IsOfValues e (subcommand_of command_line (map S.text words.now))) }
 {
     match parse_line(alloc, words) {
         Ok(Line { job, .. }) => Ok(job),

@@ -122,7 +122,7 @@ impl<'a> Shaped<'a> {
         ensures { IfSome result (λ c. c ≡ program) }
     {
         let command = named(alloc, "bkreplay", help::PROGRAM)
-            .version("0.1.0")
+            .version("0.2.0")
             .disable_help_subcommand(true)
             .subcommand_required(true);
         Shaped {

@@ -18,12 +18,17 @@ pub(crate) enum Verb {
     Anchors,
     Dag,
     Statement,
+    Transactions,
+    Postings,
+    Batches,
     CheckProof,
     CheckState,
     CheckReport,
     Apply,
     Schedule,
     Compare,
+    Link,
+    CheckChain,
 }
 
 // Whether the word is the other.
@@ -72,6 +77,15 @@ impl Verb {
         if is(word, "statement") {
             return Verb::Statement;
         }
+        if is(word, "transactions") {
+            return Verb::Transactions;
+        }
+        if is(word, "postings") {
+            return Verb::Postings;
+        }
+        if is(word, "batches") {
+            return Verb::Batches;
+        }
         if is(word, "check-proof") {
             return Verb::CheckProof;
         }
@@ -87,6 +101,12 @@ impl Verb {
         if is(word, "schedule") {
             return Verb::Schedule;
         }
-        Verb::Compare
+        if is(word, "compare") {
+            return Verb::Compare;
+        }
+        if is(word, "link") {
+            return Verb::Link;
+        }
+        Verb::CheckChain
     }
 }

@@ -1,5 +1,5 @@
 -- Where the bytes are to blame for the exit.
-use Rattle.std.proofs.Common.{◌≡◌, ℕ, List, Option, Some, None, IfSome, true, false, inl, inr, refl}
+use Rattle.std.proofs.Common.{Ok, ◌≡◌, ℕ, List, Option, Some, None, IfSome, true, false, inl, inr, refl}
 use Rattle.bk_frames.specs.Device.{Device, IfKnown}
 use Rattle.bk_base.specs.Feed.{FeedValue}
 use Rattle.bk_frames.specs.FirstFault.{HasFault}
@@ -9,7 +9,7 @@ use Rattle.bk_frames.specs.declared.fault.FaultCode.TheVariants as code
 use Rattle.bk_frames.specs.declared.fault.FeedFault.{FeedFault}
 use Rattle.bk_order.specs.declared.stop.Stop.TheVariants as stop
 use Rattle.bk_results.specs.Devices.{IsUntouched}
-use Rattle.bk_follow.proofs.RunAnswers.{known_of}
+use Rattle.bk_frames.proofs.Devices.{known_of}
 use Rattle.bk_compare.specs.FeedAgreement.{FeedsDiffer, OfTheirFeeds}
 use Rattle.bk_compare.proofs.FeedEnds.{both_known}
 use Rattle.bk_results.specs.declared.compare_stop.CompareStop.{CompareStop}
@@ -24,7 +24,7 @@ use Rattle.bk_script.specs.Events.{events_of}
 use Rattle.bk_steps.specs.declared.outcome.ScheduleFault.TheVariants as schedule
 use Rattle.bk_base.specs.declared.refused.Refused as reason
 use Rattle.bk_apply.specs.Scheduling.{IsNotWholeFor}
-use Rattle.std.specs.Prelude.{Err, slice_index_or}
+use Rattle.std.specs.Prelude.{Err}
 use Rattle.bk_cli.specs.declared.exit.Exit.TheVariants as exit
 use Rattle.bk_cli.specs.declared.job.Job.{Job}
 use Rattle.bk_cli.specs.declared.job.Job.TheVariants as job
@@ -32,11 +32,23 @@ use Rattle.bk_cli.specs.declared.job_fault.JobFault.{JobFault}
 use Rattle.bk_cli.specs.declared.job_fault.JobFault.TheVariants as fault
 use Rattle.bk_results.specs.declared.events_fault.EventsFault.TheVariants as unread
 use Rattle.bk_cli.specs.declared.list_fault.ListFault.TheVariants as list
-use Rattle.bk_jobs.specs.Schedules.{AreNoEvents, AreRefused, Lists}
+use Rattle.bk_jobs.specs.Schedules.{AreNoEvents, AreRefused, IsListed, IsRefusedAt}
 use Rattle.bk_jobs.specs.Sources.{AreBroken, Inputs, JobDevices, inputs_of}
 use Rattle.bk_cli.specs.Exits.{exit_after, exit_after_compare, exit_by_code, is_refusal, writes_ahead}
 use Rattle.bk_jobs.specs.Comparisons.{DoNotAgree, HaveSomeStop, both_sources}
-use Rattle.bk_jobs.specs.Faults.{AreStopped, AreToBlame, MakeNoFeed, JobFailsBy}
+use Rattle.bk_jobs.specs.Faults.{AreNoAccounts, AreNoLinks, AreStopped, AreToBlame, MakeNoFeed, JobFailsBy}
+use Rattle.bk_jobs.specs.Views.{executes_to_show, table_text, view_text}
+use Rattle.bk_chain.specs.Chain.{HasLinksFault}
+use Rattle.bk_tables.specs.Listing.{ids_of}
+use Rattle.std.specs.Prelude.{Bool}
+use Rattle.bk_results.specs.Devices.{Devices}
+use Rattle.bk_answer.specs.Answers.{AnswerFailsBy}
+use Rattle.bk_answer.specs.RunReport.{report_text}
+use Rattle.bk_ask.specs.Asking.{IsRepliedOf, executes}
+use Rattle.bk_picture.specs.Drawing.{drawing_text}
+use Rattle.bk_summary.specs.Summarizing.{IsSummaryText}
+use Rattle.bk_jobs.specs.Sources.{first_devices}
+use Rattle.bk_cli.specs.Exits.{exit_after_replay}
 
 -- ---- bytes to blame
 
@@ -61,13 +73,13 @@ refused : (j : Job) (given : Inputs) (f : FaultCode) (offset : ℕ) (old new : D
     (right : IfKnown old AreBroken → AreToBlame j exit.WrongInput given)
     → Refuses (record { offset = offset; code = f }) old new → is_refusal (exit_by_code f) ≡ true
     → AreToBlame j (exit_by_code f) given
-refused j given code.Magic offset old new right h e = right (broken _ old.bytes h.1)
-refused j given code.Truncated offset old new right h e = right (broken _ old.bytes h.1)
-refused j given code.Kind offset old new right h e = right (broken _ old.bytes h.1)
-refused j given code.Length offset old new right h e = right (broken _ old.bytes h.1)
-refused j given code.Committee offset old new right h e = right (broken _ old.bytes h.1)
-refused j given code.Genesis offset old new right h e = right (broken _ old.bytes h.1)
-refused j given code.Extra offset old new right h e = right (broken _ old.bytes h.1)
+refused j given code.Magic offset old new right h e = right (broken _ old.bytes h.2)
+refused j given code.Truncated offset old new right h e = right (broken _ old.bytes h.2)
+refused j given code.Kind offset old new right h e = right (broken _ old.bytes h.2)
+refused j given code.Length offset old new right h e = right (broken _ old.bytes h.2)
+refused j given code.Committee offset old new right h e = right (broken _ old.bytes h.2)
+refused j given code.Genesis offset old new right h e = right (broken _ old.bytes h.2)
+refused j given code.Extra offset old new right h e = right (broken _ old.bytes h.2)
 refused j given code.Read offset old new right h e = absurd (cc)
 refused j given code.Memory offset old new right h e = absurd (cc)
 
@@ -76,14 +88,26 @@ no_events : (line : ℕ) (text : Option (List ℕ)) → IfSome text (λ t. event
 no_events line None h = tt
 no_events line (Some t) h = (line, h)
 
+-- a list of accounts has a line that is none, or a text of links one that is none
+no_accounts : (line : ℕ) (list : Option (List ℕ)) → IfSome list (λ t. ids_of t ≡ Err line) → IfSome list AreNoAccounts
+no_accounts line None h = tt
+no_accounts line (Some t) h = (line, h)
+
+no_links : (line : ℕ) (links : Option (List ℕ)) → IfSome links (λ t. HasLinksFault t line) → IfSome links AreNoLinks
+no_links line None h = tt
+no_links line (Some t) h = (line, h)
+
 -- one of the events is refused
-one_refused : (workers line : ℕ) (why : reason.Refused) (feed text : Option (List ℕ))
-    → IfSome text (Lists (λ events. (index : ℕ) × (line ≡ slice_index_or events.lines index 0)
-    × IfSome feed (IsNotWholeFor workers events.list (schedule.Refused index why))))
-    → IfSome text (λ t. IfSome feed (λ bytes. AreRefused workers bytes t))
-one_refused workers line why feed None h = tt
-one_refused workers line why None (Some t) h = tt
-one_refused workers line why (Some bytes) (Some t) (events, is, (index, at, whole)) = (events, is, (index, why, whole))
+one_refused : (workers line : ℕ) (why : reason.Refused) (old new : JobDevices) → IsListed old new (IsRefusedAt workers old.first new.first line why)
+    → IfSome old.second.bytes (λ t. IfSome old.first.bytes (λ bytes. AreRefused workers bytes t))
+one_refused workers line why old new (events, (gave, known), (index, at, whole)) =
+    by_known old.second.bytes old.first.bytes known (known_of old.first new.first (IsNotWholeFor workers events.list (schedule.Refused index why)) whole)
+  where
+    by_known : (text feed : Option (List ℕ)) → IfSome text (λ t. events_of t ≡ Ok events) → IfSome feed (IsNotWholeFor workers events.list (schedule.Refused index why))
+        → IfSome text (λ t. IfSome feed (λ bytes. AreRefused workers bytes t))
+    by_known None feed is h = tt
+    by_known (Some t) None is h = tt
+    by_known (Some t) (Some bytes) is h = (events, is, (index, why, h))
 
 -- two feeds are stopped together
 stopped_so : (P : FeedValue → FeedValue → Type 0) (bytes more : List ℕ) → ((f g : FeedValue) → P f g → HaveSomeStop f g) → OfTheirFeeds bytes more P
@@ -133,18 +157,26 @@ compare_blames first second (compared.Differ (differ.Twins round author one othe
 )
 compare_blames first second (compared.Differ differ.Memory) old new h r = absurd (cc)
 
+-- a feed was not answered for its bytes
+answer_blames : {E : Type 0} (T : FeedValue → E → List ℕ → Type 0) (x : Bool) (j : Job) (e : Fault) (given : Inputs) (old new : Devices)
+    (right : IfKnown old.source AreBroken → AreToBlame j exit.WrongInput given) (halt : IfKnown old.source AreStopped → AreToBlame j exit.Stopped given)
+    → AnswerFailsBy T x e old new → is_refusal (exit_after_replay e) ≡ true → AreToBlame j (exit_after_replay e) given × IsUntouched old.sink new.sink
+answer_blames T x j (replay.Feed found) given old new right halt h r = (refused j given found.code found.offset old.source new.source right h.0 r, h.1)
+answer_blames T x j (replay.Collision id) given old new right halt h r =
+    (halt (stopped (replay.Collision id) old.source.bytes (known_of old.source new.source _ h.1)), h.0.1)
+answer_blames T x j (replay.Equivocation round author first second) given old new right halt h r =
+    (halt (stopped (replay.Equivocation round author first second) old.source.bytes (known_of old.source new.source _ h.1)), h.0.1)
+answer_blames T x j (replay.Unfinished place) given old new right halt h r = absurd (cc)
+answer_blames T x j (replay.Write written) given old new right halt h r = absurd (cc)
+answer_blames T x j replay.Memory given old new right halt h r = absurd (cc)
+
 blames : (j : Job) (e : JobFault) (old new : JobDevices) → writes_ahead j ≡ false → JobFailsBy j e old new → is_refusal (exit_after e) ≡ true
     → AreToBlame j (exit_after e) (inputs_of old) × IsUntouched old.out new.out
-blames (job.Run workers file) (fault.Replay (replay.Feed found)) old new w h r =
-    (refused (job.Run workers file) (inputs_of old) found.code found.offset _ _ (λ b. b) h.0 r, h.1)
-blames (job.Run workers file) (fault.Replay (replay.Collision id)) old new w h r = (stopped (replay.Collision id) old.first.bytes (known_of old.first new.first _ h.1), h.0.1)
-blames (job.Run workers file) (fault.Replay (replay.Equivocation round author first second)) old new w h r = (stopped (replay.Equivocation round author first second) old.first.bytes (known_of old.first new.first _ h.1), h.0.1)
-blames (job.Run workers file) (fault.Replay (replay.Unfinished place)) old new w h r = absurd (cc)
-blames (job.Run workers file) (fault.Replay (replay.Write written)) old new w h r = absurd (cc)
-blames (job.Run workers file) (fault.Replay replay.Memory) old new w h r = absurd (cc)
+blames (job.Run workers file) (fault.Replay e) old new w h r =
+    answer_blames report_text true (job.Run workers file) e (inputs_of old) (first_devices old) (first_devices new) (λ b. b) (λ b. b) h r
 blames (job.Run workers file) (fault.Text e) old new w h r = absurd h
 blames (job.Make file) (fault.Replay e) old new w h r = absurd h
-blames (job.Make file) (fault.Text (text.Script line found)) old new w h r = (no_feed _ old.first.bytes h.1, h.2)
+blames (job.Make file) (fault.Text (text.Script line found)) old new w h r = (no_feed _ old.first.bytes h.1.1, h.2)
 blames (job.Make file) (fault.Text text.Read) old new w h r = absurd (cc)
 blames (job.Make file) (fault.Text (text.Write written)) old new w h r = absurd (cc)
 blames (job.Make file) (fault.Text text.Memory) old new w h r = absurd (cc)
@@ -153,18 +185,13 @@ blames (job.CheckProof root file) (fault.Text (text.Script line found)) old new 
 blames (job.CheckProof root file) (fault.Text text.Read) old new w h r = absurd (cc)
 blames (job.CheckProof root file) (fault.Text (text.Write written)) old new w h r = absurd (cc)
 blames (job.CheckProof root file) (fault.Text text.Memory) old new w h r = absurd (cc)
-blames (job.Ask workers asked file) (fault.Replay (replay.Feed found)) old new w h r =
-    (refused (job.Ask workers asked file) (inputs_of old) found.code found.offset _ _ (λ b. b) h.0 r, h.1)
-blames (job.Ask workers asked file) (fault.Replay (replay.Collision id)) old new w h r = (stopped (replay.Collision id) old.first.bytes (known_of old.first new.first _ h.1), h.0.1)
-blames (job.Ask workers asked file) (fault.Replay (replay.Equivocation round author first second)) old new w h r = (stopped (replay.Equivocation round author first second) old.first.bytes (known_of old.first new.first _ h.1), h.0.1)
-blames (job.Ask workers asked file) (fault.Replay (replay.Unfinished place)) old new w h r = absurd (cc)
-blames (job.Ask workers asked file) (fault.Replay (replay.Write written)) old new w h r = absurd (cc)
-blames (job.Ask workers asked file) (fault.Replay replay.Memory) old new w h r = absurd (cc)
+blames (job.Ask workers asked file) (fault.Replay e) old new w h r =
+    answer_blames (IsRepliedOf asked) (executes asked) (job.Ask workers asked file) e (inputs_of old) (first_devices old) (first_devices new) (λ b. b) (λ b. b) h r
 blames (job.Ask workers asked file) (fault.Text e) old new w h r = absurd h
 blames (job.CheckReport workers report file) (fault.Replay (replay.Feed found)) old new w h r =
     (refused (job.CheckReport workers report file) (inputs_of old) found.code found.offset _ _ (λ b. b) h.0 r, h.1.1)
-blames (job.CheckReport workers report file) (fault.Replay (replay.Collision id)) old new w h r = (stopped (replay.Collision id) old.first.bytes h.2, h.1.1)
-blames (job.CheckReport workers report file) (fault.Replay (replay.Equivocation round author first second)) old new w h r = (stopped (replay.Equivocation round author first second) old.first.bytes h.2, h.1.1)
+blames (job.CheckReport workers report file) (fault.Replay (replay.Collision id)) old new w h r = (stopped (replay.Collision id) old.first.bytes (known_of old.first new.first _ h.2), h.1.1)
+blames (job.CheckReport workers report file) (fault.Replay (replay.Equivocation round author first second)) old new w h r = (stopped (replay.Equivocation round author first second) old.first.bytes (known_of old.first new.first _ h.2), h.1.1)
 blames (job.CheckReport workers report file) (fault.Replay (replay.Unfinished place)) old new w h r = absurd (cc)
 blames (job.CheckReport workers report file) (fault.Replay (replay.Write written)) old new w h r = absurd (cc)
 blames (job.CheckReport workers report file) (fault.Replay replay.Memory) old new w h r = absurd (cc)
@@ -174,23 +201,13 @@ blames (job.CheckReport workers report file) (fault.Text (text.Write written)) o
 blames (job.CheckReport workers report file) (fault.Text text.Memory) old new w h r = absurd h
 blames (job.CheckReport workers report file) (fault.Events e) old new w h r = absurd h
 blames (job.CheckReport workers report file) (fault.Compared e) old new w h r = absurd h
-blames (job.Summary workers file) (fault.Replay (replay.Feed found)) old new w h r =
-    (refused (job.Summary workers file) (inputs_of old) found.code found.offset _ _ (λ b. b) h.0 r, h.1)
-blames (job.Summary workers file) (fault.Replay (replay.Collision id)) old new w h r = (stopped (replay.Collision id) old.first.bytes (known_of old.first new.first _ h.1), h.0.1)
-blames (job.Summary workers file) (fault.Replay (replay.Equivocation round author first second)) old new w h r = (stopped (replay.Equivocation round author first second) old.first.bytes (known_of old.first new.first _ h.1), h.0.1)
-blames (job.Summary workers file) (fault.Replay (replay.Unfinished place)) old new w h r = absurd (cc)
-blames (job.Summary workers file) (fault.Replay (replay.Write written)) old new w h r = absurd (cc)
-blames (job.Summary workers file) (fault.Replay replay.Memory) old new w h r = absurd (cc)
+blames (job.Summary workers file) (fault.Replay e) old new w h r =
+    answer_blames IsSummaryText true (job.Summary workers file) e (inputs_of old) (first_devices old) (first_devices new) (λ b. b) (λ b. b) h r
 blames (job.Summary workers file) (fault.Text e) old new w h r = absurd h
 blames (job.Summary workers file) (fault.Events e) old new w h r = absurd h
 blames (job.Summary workers file) (fault.Compared e) old new w h r = absurd h
-blames (job.Dag window file) (fault.Replay (replay.Feed found)) old new w h r =
-    (refused (job.Dag window file) (inputs_of old) found.code found.offset _ _ (λ b. b) h.0 r, h.1)
-blames (job.Dag window file) (fault.Replay (replay.Collision id)) old new w h r = (stopped (replay.Collision id) old.first.bytes (known_of old.first new.first _ h.1), h.0.1)
-blames (job.Dag window file) (fault.Replay (replay.Equivocation round author first second)) old new w h r = (stopped (replay.Equivocation round author first second) old.first.bytes (known_of old.first new.first _ h.1), h.0.1)
-blames (job.Dag window file) (fault.Replay (replay.Unfinished place)) old new w h r = absurd (cc)
-blames (job.Dag window file) (fault.Replay (replay.Write written)) old new w h r = absurd (cc)
-blames (job.Dag window file) (fault.Replay replay.Memory) old new w h r = absurd (cc)
+blames (job.Dag window file) (fault.Replay e) old new w h r =
+    answer_blames (drawing_text window.from window.rounds) false (job.Dag window file) e (inputs_of old) (first_devices old) (first_devices new) (λ b. b) (λ b. b) h r
 blames (job.Dag window file) (fault.Text e) old new w h r = absurd h
 blames (job.Dag window file) (fault.Events e) old new w h r = absurd h
 blames (job.Dag window file) (fault.Compared e) old new w h r = absurd h
@@ -218,11 +235,11 @@ blames (job.Schedule workers feed events) (fault.Replay (replay.Write written)) 
 blames (job.Schedule workers feed events) (fault.Replay replay.Memory) old new w h r = absurd (cc)
 blames (job.Schedule workers feed events) (fault.Text e) old new w h r = absurd h
 blames (job.Schedule workers feed events) (fault.Events (list.Unread (unread.Line line))) old new w h r =
-    (inr (inl (no_events line old.second.bytes h.0.1)), h.2)
+    (inr (inl (no_events line old.second.bytes h.0.1.1)), h.2)
 blames (job.Schedule workers feed events) (fault.Events (list.Unread unread.Read)) old new w h r = absurd (cc)
 blames (job.Schedule workers feed events) (fault.Events (list.Unread unread.Memory)) old new w h r = absurd (cc)
 blames (job.Schedule workers feed events) (fault.Events (list.Refused line why)) old new w h r =
-    (inr (inr (one_refused workers line why old.first.bytes old.second.bytes h.0.1)), h.1.1)
+    (inr (inr (one_refused workers line why old new h.1)), h.2.1)
 blames (job.Schedule workers feed events) (fault.Events (list.Unfinished place)) old new w h r = absurd (cc)
 blames (job.Run workers file) (fault.Compared e) old new w h r = absurd h
 blames (job.Make file) (fault.Compared e) old new w h r = absurd h
@@ -240,6 +257,52 @@ blames (job.Compare first second) (fault.Replay replay.Memory) old new w h r = a
 blames (job.Compare first second) (fault.Text e) old new w h r = absurd h
 blames (job.Compare first second) (fault.Events e) old new w h r = absurd h
 blames (job.Frames file) e old new w h r = absurd (cc)
+blames (job.Run workers file) (fault.Accounts line) old new w h r = absurd h
+blames (job.Run workers file) (fault.Links line) old new w h r = absurd h
+blames (job.Make file) (fault.Accounts line) old new w h r = absurd h
+blames (job.Make file) (fault.Links line) old new w h r = absurd h
+blames (job.CheckProof root file) (fault.Accounts line) old new w h r = absurd h
+blames (job.CheckProof root file) (fault.Links line) old new w h r = absurd h
+blames (job.Ask workers asked file) (fault.Accounts line) old new w h r = absurd h
+blames (job.Ask workers asked file) (fault.Links line) old new w h r = absurd h
+blames (job.CheckReport workers report file) (fault.Accounts line) old new w h r = absurd h
+blames (job.CheckReport workers report file) (fault.Links line) old new w h r = absurd h
+blames (job.Summary workers file) (fault.Accounts line) old new w h r = absurd h
+blames (job.Summary workers file) (fault.Links line) old new w h r = absurd h
+blames (job.Dag window file) (fault.Accounts line) old new w h r = absurd h
+blames (job.Dag window file) (fault.Links line) old new w h r = absurd h
+blames (job.Apply file) (fault.Accounts line) old new w h r = absurd h
+blames (job.Apply file) (fault.Links line) old new w h r = absurd h
+blames (job.Schedule workers feed events) (fault.Accounts line) old new w h r = absurd h
+blames (job.Schedule workers feed events) (fault.Links line) old new w h r = absurd h
+blames (job.Compare first second) (fault.Accounts line) old new w h r = absurd h
+blames (job.Compare first second) (fault.Links line) old new w h r = absurd h
+blames (job.Show workers shown file) (fault.Accounts line) old new w h r = absurd h
+blames (job.Show workers shown file) (fault.Links line) old new w h r = absurd h
+blames (job.CheckChain file) (fault.Accounts line) old new w h r = absurd h
+blames (job.CheckChain file) (fault.Links line) old new w h r = (no_links line old.first.bytes h.2.1, h.1)
+blames (job.Show workers shown file) (fault.Replay e) old new w h r =
+    answer_blames (view_text shown) (executes_to_show shown) (job.Show workers shown file) e (inputs_of old) (first_devices old) (first_devices new) (λ b. b) (λ b. b) h r
+blames (job.Show workers shown file) (fault.Text e) old new w h r = absurd h
+blames (job.Show workers shown file) (fault.Events e) old new w h r = absurd h
+blames (job.Show workers shown file) (fault.Compared e) old new w h r = absurd h
+blames (job.Pick workers shown accounts file) (fault.Replay e) old new w h r =
+    answer_blames (table_text shown (Some h.1.0)) true (job.Pick workers shown accounts file) e (inputs_of old) (first_devices old) (first_devices new) (λ b. inl b) (λ b. b) h.1.2 r
+blames (job.Pick workers shown accounts file) (fault.Accounts line) old new w h r = (inr (no_accounts line old.second.bytes h.0.1.1), h.2)
+blames (job.Pick workers shown accounts file) (fault.Links line) old new w h r = absurd h
+blames (job.Pick workers shown accounts file) (fault.Text (text.Script line found)) old new w h r = absurd h
+blames (job.Pick workers shown accounts file) (fault.Text text.Read) old new w h r = absurd (cc)
+blames (job.Pick workers shown accounts file) (fault.Text (text.Write written)) old new w h r = absurd h
+blames (job.Pick workers shown accounts file) (fault.Text text.Memory) old new w h r = absurd (cc)
+blames (job.Pick workers shown accounts file) (fault.Events e) old new w h r = absurd h
+blames (job.Pick workers shown accounts file) (fault.Compared e) old new w h r = absurd h
+blames (job.CheckChain file) (fault.Replay e) old new w h r = absurd h
+blames (job.CheckChain file) (fault.Text (text.Script line found)) old new w h r = absurd h
+blames (job.CheckChain file) (fault.Text text.Read) old new w h r = absurd (cc)
+blames (job.CheckChain file) (fault.Text (text.Write written)) old new w h r = absurd (cc)
+blames (job.CheckChain file) (fault.Text text.Memory) old new w h r = absurd (cc)
+blames (job.CheckChain file) (fault.Events e) old new w h r = absurd h
+blames (job.CheckChain file) (fault.Compared e) old new w h r = absurd h
 
 -- the frames of bytes that are no feed
 frames_blame : (file : _) (e : JobFault) (old new : JobDevices) → JobFailsBy (job.Frames file) e old new → is_refusal (exit_after e) ≡ true
@@ -253,6 +316,8 @@ frames_blame file (fault.Replay (replay.Write written)) old new h r = absurd (cc
 frames_blame file (fault.Replay replay.Memory) old new h r = absurd (cc)
 frames_blame file (fault.Text e) old new h r = absurd h
 frames_blame file (fault.Events e) old new h r = absurd h
+frames_blame file (fault.Accounts line) old new h r = absurd h
+frames_blame file (fault.Links line) old new h r = absurd h
 frames_blame file (fault.Compared e) old new h r = absurd h
 frames_blame file (fault.AbsentAccount id missing) old new h r = absurd (cc)
 frames_blame file (fault.AbsentPlace place missing) old new h r = absurd (cc)
@@ -281,3 +346,6 @@ bytes_to_blame (job.Dag window file) e old new h r = unwritten (job.Dag window f
 bytes_to_blame (job.Apply file) e old new h r = unwritten (job.Apply file) e old new (blames (job.Apply file) e old new refl h r)
 bytes_to_blame (job.Schedule workers feed events) e old new h r = unwritten (job.Schedule workers feed events) e old new (blames (job.Schedule workers feed events) e old new refl h r)
 bytes_to_blame (job.Compare first second) e old new h r = unwritten (job.Compare first second) e old new (blames (job.Compare first second) e old new refl h r)
+bytes_to_blame (job.Show workers shown file) e old new h r = unwritten (job.Show workers shown file) e old new (blames (job.Show workers shown file) e old new refl h r)
+bytes_to_blame (job.Pick workers shown accounts file) e old new h r = unwritten (job.Pick workers shown accounts file) e old new (blames (job.Pick workers shown accounts file) e old new refl h r)
+bytes_to_blame (job.CheckChain file) e old new h r = unwritten (job.CheckChain file) e old new (blames (job.CheckChain file) e old new refl h r)

@@ -30,6 +30,11 @@ use Rattle.bk_claim.specs.declared.verdict.Verdict.TheVariants as verdict
 use Rattle.bk_jobs.specs.Comparisons.{CompareFailsBy}
 use Rattle.bk_jobs.specs.Reports.{ClaimCheckFailsBy, exit_by_verdict}
 use Rattle.bk_jobs.specs.Faults.{JobFailsBy, QueryFailsBy}
+use Rattle.bk_jobs.specs.Views.{ChainFailsBy, PickFailsBy, exit_by_chain}
+use Rattle.bk_chain.specs.declared.verdict.ChainEnd.{ChainEnd}
+use Rattle.bk_chain.specs.declared.verdict.ChainEnd.TheVariants as chained
+use Rattle.bk_cli.specs.declared.view.Table.{Table}
+use Rattle.bk_cli.specs.declared.view.View.{View}
 
 -- ---- how a job ends
 
@@ -64,32 +69,41 @@ absent_is_none (query.State root) missing e h = absurd (cc)
 absent_is_none query.Anchors missing e h = refl
 absent_is_none (query.Statement id) missing e h = refl
 
--- a comparison may end as a run of one of its feeds may
-replay_may_end : (first second : _) (e : Fault) → may_end (job.Compare first second) (exit_after_replay e) ≡ true
-replay_may_end first second (replay.Feed found) = feed_may_end (job.Compare first second) refl found.code
-replay_may_end first second (replay.Collision id) = refl
-replay_may_end first second (replay.Equivocation round author one other) = refl
-replay_may_end first second (replay.Unfinished place) = refl
-replay_may_end first second (replay.Write written) = refl
-replay_may_end first second replay.Memory = refl
+-- a job whose feed is replayed may end by why it was not
+replay_may_end : (j : Job) (e : Fault) → may_end j exit.WrongInput ≡ true → may_end j exit.Stopped ≡ true → may_end j (exit_after_replay e) ≡ true
+replay_may_end j (replay.Feed found) right halt = feed_may_end j right found.code
+replay_may_end j (replay.Collision id) right halt = halt
+replay_may_end j (replay.Equivocation round author one other) right halt = halt
+replay_may_end j (replay.Unfinished place) right halt = refl
+replay_may_end j (replay.Write written) right halt = refl
+replay_may_end j replay.Memory right halt = refl
 
 -- a comparison may end by its faults
 compare_may_end : (first second : _) (e : CompareStop) → may_end (job.Compare first second) (exit_after_compare e) ≡ true
-compare_may_end first second (compared.First e) = replay_may_end first second e
-compare_may_end first second (compared.Second e) = replay_may_end first second e
+compare_may_end first second (compared.First e) = replay_may_end (job.Compare first second) e refl refl
+compare_may_end first second (compared.Second e) = replay_may_end (job.Compare first second) e refl refl
 compare_may_end first second (compared.Differ differ.Setup) = refl
 compare_may_end first second (compared.Differ (differ.Collision id)) = refl
 compare_may_end first second (compared.Differ (differ.Twins round author one other)) = refl
 compare_may_end first second (compared.Differ differ.Memory) = refl
 
+-- the rows that have an account of a list
+pick_may_end : (workers : ℕ) (shown : Table) (accounts file : _) (e : JobFault) (old new : JobDevices) → PickFailsBy shown e old new → may_end (job.Pick workers shown accounts file) (exit_after e) ≡ true
+pick_may_end workers shown accounts file (fault.Replay e) old new h = replay_may_end (job.Pick workers shown accounts file) e refl refl
+pick_may_end workers shown accounts file (fault.Text (text.Script line found)) old new h = absurd h
+pick_may_end workers shown accounts file (fault.Text text.Read) old new h = refl
+pick_may_end workers shown accounts file (fault.Text (text.Write written)) old new h = absurd h
+pick_may_end workers shown accounts file (fault.Text text.Memory) old new h = refl
+pick_may_end workers shown accounts file (fault.Accounts line) old new h = refl
+pick_may_end workers shown accounts file (fault.Links line) old new h = absurd h
+pick_may_end workers shown accounts file (fault.Events e) old new h = absurd h
+pick_may_end workers shown accounts file (fault.Compared e) old new h = absurd h
+pick_may_end workers shown accounts file (fault.AbsentAccount id missing) old new h = absurd h
+pick_may_end workers shown accounts file (fault.AbsentPlace place missing) old new h = absurd h
+
 -- a job may end by its faults
 pub ends_by_fault : (j : Job) (e : JobFault) (old new : JobDevices) → JobFailsBy j e old new → may_end j (exit_after e) ≡ true
-ends_by_fault (job.Run workers file) (fault.Replay (replay.Feed found)) old new h = feed_may_end (job.Run workers file) refl found.code
-ends_by_fault (job.Run workers file) (fault.Replay (replay.Collision id)) old new h = refl
-ends_by_fault (job.Run workers file) (fault.Replay (replay.Equivocation round author first second)) old new h = refl
-ends_by_fault (job.Run workers file) (fault.Replay (replay.Unfinished place)) old new h = refl
-ends_by_fault (job.Run workers file) (fault.Replay (replay.Write written)) old new h = refl
-ends_by_fault (job.Run workers file) (fault.Replay replay.Memory) old new h = refl
+ends_by_fault (job.Run workers file) (fault.Replay e) old new h = replay_may_end (job.Run workers file) e refl refl
 ends_by_fault (job.Run workers file) (fault.Text e) old new h = absurd h
 ends_by_fault (job.Make file) (fault.Replay e) old new h = absurd h
 ends_by_fault (job.Make file) (fault.Text (text.Script line found)) old new h = refl
@@ -101,12 +115,7 @@ ends_by_fault (job.CheckProof root file) (fault.Text (text.Script line found)) o
 ends_by_fault (job.CheckProof root file) (fault.Text text.Read) old new h = refl
 ends_by_fault (job.CheckProof root file) (fault.Text (text.Write written)) old new h = refl
 ends_by_fault (job.CheckProof root file) (fault.Text text.Memory) old new h = refl
-ends_by_fault (job.Ask workers asked file) (fault.Replay (replay.Feed found)) old new h = feed_may_end (job.Ask workers asked file) refl found.code
-ends_by_fault (job.Ask workers asked file) (fault.Replay (replay.Collision id)) old new h = refl
-ends_by_fault (job.Ask workers asked file) (fault.Replay (replay.Equivocation round author first second)) old new h = refl
-ends_by_fault (job.Ask workers asked file) (fault.Replay (replay.Unfinished place)) old new h = refl
-ends_by_fault (job.Ask workers asked file) (fault.Replay (replay.Write written)) old new h = refl
-ends_by_fault (job.Ask workers asked file) (fault.Replay replay.Memory) old new h = refl
+ends_by_fault (job.Ask workers asked file) (fault.Replay e) old new h = replay_may_end (job.Ask workers asked file) e refl refl
 ends_by_fault (job.Ask workers asked file) (fault.Text e) old new h = absurd h
 ends_by_fault (job.Ask workers asked file) (fault.AbsentAccount id missing) old new h = absent_may_say_no asked h.answer.missing _ h.fault_is
 ends_by_fault (job.Ask workers asked file) (fault.AbsentPlace place missing) old new h = absent_may_say_no asked h.answer.missing _ h.fault_is
@@ -116,12 +125,7 @@ ends_by_fault (job.Make file) (fault.AbsentAccount id missing) old new h = absur
 ends_by_fault (job.Make file) (fault.AbsentPlace place missing) old new h = absurd h
 ends_by_fault (job.CheckProof root file) (fault.AbsentAccount id missing) old new h = absurd h
 ends_by_fault (job.CheckProof root file) (fault.AbsentPlace place missing) old new h = absurd h
-ends_by_fault (job.CheckReport workers report file) (fault.Replay (replay.Feed found)) old new h = feed_may_end (job.CheckReport workers report file) refl found.code
-ends_by_fault (job.CheckReport workers report file) (fault.Replay (replay.Collision id)) old new h = refl
-ends_by_fault (job.CheckReport workers report file) (fault.Replay (replay.Equivocation round author first second)) old new h = refl
-ends_by_fault (job.CheckReport workers report file) (fault.Replay (replay.Unfinished place)) old new h = refl
-ends_by_fault (job.CheckReport workers report file) (fault.Replay (replay.Write written)) old new h = refl
-ends_by_fault (job.CheckReport workers report file) (fault.Replay replay.Memory) old new h = refl
+ends_by_fault (job.CheckReport workers report file) (fault.Replay e) old new h = replay_may_end (job.CheckReport workers report file) e refl refl
 ends_by_fault (job.CheckReport workers report file) (fault.Text (text.Script line found)) old new h = absurd h
 ends_by_fault (job.CheckReport workers report file) (fault.Text text.Read) old new h = refl
 ends_by_fault (job.CheckReport workers report file) (fault.Text (text.Write written)) old new h = absurd h
@@ -141,23 +145,13 @@ ends_by_fault (job.Frames file) (fault.Replay replay.Memory) old new h = refl
 ends_by_fault (job.Frames file) (fault.Text e) old new h = absurd h
 ends_by_fault (job.Frames file) (fault.Events e) old new h = absurd h
 ends_by_fault (job.Frames file) (fault.Compared e) old new h = absurd h
-ends_by_fault (job.Summary workers file) (fault.Replay (replay.Feed found)) old new h = feed_may_end (job.Summary workers file) refl found.code
-ends_by_fault (job.Summary workers file) (fault.Replay (replay.Collision id)) old new h = refl
-ends_by_fault (job.Summary workers file) (fault.Replay (replay.Equivocation round author first second)) old new h = refl
-ends_by_fault (job.Summary workers file) (fault.Replay (replay.Unfinished place)) old new h = refl
-ends_by_fault (job.Summary workers file) (fault.Replay (replay.Write written)) old new h = refl
-ends_by_fault (job.Summary workers file) (fault.Replay replay.Memory) old new h = refl
+ends_by_fault (job.Summary workers file) (fault.Replay e) old new h = replay_may_end (job.Summary workers file) e refl refl
 ends_by_fault (job.Summary workers file) (fault.Text e) old new h = absurd h
 ends_by_fault (job.Summary workers file) (fault.Events e) old new h = absurd h
 ends_by_fault (job.Summary workers file) (fault.Compared e) old new h = absurd h
 ends_by_fault (job.Summary workers file) (fault.AbsentAccount id missing) old new h = absurd h
 ends_by_fault (job.Summary workers file) (fault.AbsentPlace place missing) old new h = absurd h
-ends_by_fault (job.Dag window file) (fault.Replay (replay.Feed found)) old new h = feed_may_end (job.Dag window file) refl found.code
-ends_by_fault (job.Dag window file) (fault.Replay (replay.Collision id)) old new h = refl
-ends_by_fault (job.Dag window file) (fault.Replay (replay.Equivocation round author first second)) old new h = refl
-ends_by_fault (job.Dag window file) (fault.Replay (replay.Unfinished place)) old new h = absurd (let e = h.0 in cc)
-ends_by_fault (job.Dag window file) (fault.Replay (replay.Write written)) old new h = refl
-ends_by_fault (job.Dag window file) (fault.Replay replay.Memory) old new h = refl
+ends_by_fault (job.Dag window file) (fault.Replay e) old new h = replay_may_end (job.Dag window file) e refl refl
 ends_by_fault (job.Dag window file) (fault.Text e) old new h = absurd h
 ends_by_fault (job.Dag window file) (fault.Events e) old new h = absurd h
 ends_by_fault (job.Dag window file) (fault.Compared e) old new h = absurd h
@@ -209,6 +203,55 @@ ends_by_fault (job.Compare first second) (fault.Text e) old new h = absurd h
 ends_by_fault (job.Compare first second) (fault.Events e) old new h = absurd h
 ends_by_fault (job.Compare first second) (fault.AbsentAccount id missing) old new h = absurd h
 ends_by_fault (job.Compare first second) (fault.AbsentPlace place missing) old new h = absurd h
+ends_by_fault (job.Run workers file) (fault.Accounts line) old new h = absurd h
+ends_by_fault (job.Run workers file) (fault.Links line) old new h = absurd h
+ends_by_fault (job.Make file) (fault.Accounts line) old new h = absurd h
+ends_by_fault (job.Make file) (fault.Links line) old new h = absurd h
+ends_by_fault (job.CheckProof root file) (fault.Accounts line) old new h = absurd h
+ends_by_fault (job.CheckProof root file) (fault.Links line) old new h = absurd h
+ends_by_fault (job.Ask workers asked file) (fault.Accounts line) old new h = absurd h
+ends_by_fault (job.Ask workers asked file) (fault.Links line) old new h = absurd h
+ends_by_fault (job.CheckReport workers report file) (fault.Accounts line) old new h = absurd h
+ends_by_fault (job.CheckReport workers report file) (fault.Links line) old new h = absurd h
+ends_by_fault (job.Frames file) (fault.Accounts line) old new h = absurd h
+ends_by_fault (job.Frames file) (fault.Links line) old new h = absurd h
+ends_by_fault (job.Summary workers file) (fault.Accounts line) old new h = absurd h
+ends_by_fault (job.Summary workers file) (fault.Links line) old new h = absurd h
+ends_by_fault (job.Dag window file) (fault.Accounts line) old new h = absurd h
+ends_by_fault (job.Dag window file) (fault.Links line) old new h = absurd h
+ends_by_fault (job.Apply file) (fault.Accounts line) old new h = absurd h
+ends_by_fault (job.Apply file) (fault.Links line) old new h = absurd h
+ends_by_fault (job.Schedule workers feed events) (fault.Accounts line) old new h = absurd h
+ends_by_fault (job.Schedule workers feed events) (fault.Links line) old new h = absurd h
+ends_by_fault (job.Compare first second) (fault.Accounts line) old new h = absurd h
+ends_by_fault (job.Compare first second) (fault.Links line) old new h = absurd h
+ends_by_fault (job.Show workers shown file) (fault.Accounts line) old new h = absurd h
+ends_by_fault (job.Show workers shown file) (fault.Links line) old new h = absurd h
+ends_by_fault (job.CheckChain file) (fault.Accounts line) old new h = absurd h
+ends_by_fault (job.CheckChain file) (fault.Links line) old new h = refl
+ends_by_fault (job.Show workers shown file) (fault.Replay e) old new h = replay_may_end (job.Show workers shown file) e refl refl
+ends_by_fault (job.Show workers shown file) (fault.Text e) old new h = absurd h
+ends_by_fault (job.Show workers shown file) (fault.Events e) old new h = absurd h
+ends_by_fault (job.Show workers shown file) (fault.Compared e) old new h = absurd h
+ends_by_fault (job.Show workers shown file) (fault.AbsentAccount id missing) old new h = absurd h
+ends_by_fault (job.Show workers shown file) (fault.AbsentPlace place missing) old new h = absurd h
+ends_by_fault (job.Pick workers shown accounts file) (fault.Replay e) old new h = pick_may_end workers shown accounts file (fault.Replay e) old new h
+ends_by_fault (job.Pick workers shown accounts file) (fault.Text e) old new h = pick_may_end workers shown accounts file (fault.Text e) old new h
+ends_by_fault (job.Pick workers shown accounts file) (fault.Accounts line) old new h = pick_may_end workers shown accounts file (fault.Accounts line) old new h
+ends_by_fault (job.Pick workers shown accounts file) (fault.Links line) old new h = absurd h
+ends_by_fault (job.Pick workers shown accounts file) (fault.Events e) old new h = absurd h
+ends_by_fault (job.Pick workers shown accounts file) (fault.Compared e) old new h = absurd h
+ends_by_fault (job.Pick workers shown accounts file) (fault.AbsentAccount id missing) old new h = absurd h
+ends_by_fault (job.Pick workers shown accounts file) (fault.AbsentPlace place missing) old new h = absurd h
+ends_by_fault (job.CheckChain file) (fault.Text (text.Script line found)) old new h = absurd h
+ends_by_fault (job.CheckChain file) (fault.Text text.Read) old new h = refl
+ends_by_fault (job.CheckChain file) (fault.Text (text.Write written)) old new h = refl
+ends_by_fault (job.CheckChain file) (fault.Text text.Memory) old new h = refl
+ends_by_fault (job.CheckChain file) (fault.Replay e) old new h = absurd h
+ends_by_fault (job.CheckChain file) (fault.Events e) old new h = absurd h
+ends_by_fault (job.CheckChain file) (fault.Compared e) old new h = absurd h
+ends_by_fault (job.CheckChain file) (fault.AbsentAccount id missing) old new h = absurd h
+ends_by_fault (job.CheckChain file) (fault.AbsentPlace place missing) old new h = absurd h
 
 -- a fault is no answer
 feed_is_none : (j : Job) (f : FaultCode) → is_answer j (exit_by_code f) ≡ false
@@ -269,6 +312,14 @@ fault_is_none j (fault.Compared (compared.Differ differ.Setup)) old new h = refl
 fault_is_none j (fault.Compared (compared.Differ (differ.Collision id))) old new h = refl
 fault_is_none j (fault.Compared (compared.Differ (differ.Twins round author first second))) old new h = refl
 fault_is_none j (fault.Compared (compared.Differ differ.Memory)) old new h = refl
+fault_is_none j (fault.Accounts line) old new h = refl
+fault_is_none j (fault.Links line) old new h = refl
+fault_is_none (job.Show workers shown file) (fault.AbsentAccount id missing) old new h = absurd h
+fault_is_none (job.Show workers shown file) (fault.AbsentPlace place missing) old new h = absurd h
+fault_is_none (job.Pick workers shown accounts file) (fault.AbsentAccount id missing) old new h = absurd h
+fault_is_none (job.Pick workers shown accounts file) (fault.AbsentPlace place missing) old new h = absurd h
+fault_is_none (job.CheckChain file) (fault.AbsentAccount id missing) old new h = absurd h
+fault_is_none (job.CheckChain file) (fault.AbsentPlace place missing) old new h = absurd h
 
 -- a report is an answer of any job
 pub report_is_answer : (j : Job) (end : Exit) → is_report end ≡ true → is_answer j end ≡ true
@@ -298,6 +349,30 @@ summary_answers workers file exit.WrongInput h = absurd (cc)
 summary_answers workers file exit.Stopped h = absurd (cc)
 summary_answers workers file exit.Failed h = absurd (cc)
 summary_answers workers file exit.Missing h = (refl, refl)
+
+pub show_answers : (workers : ℕ) (shown : View) (file : _) (end : Exit) → is_report end ≡ true
+    → (is_answer (job.Show workers shown file) end ≡ true) × (may_end (job.Show workers shown file) end ≡ true)
+show_answers workers shown file exit.Whole h = (refl, refl)
+show_answers workers shown file exit.No h = absurd (cc)
+show_answers workers shown file exit.WrongInput h = absurd (cc)
+show_answers workers shown file exit.Stopped h = absurd (cc)
+show_answers workers shown file exit.Failed h = absurd (cc)
+show_answers workers shown file exit.Missing h = (refl, refl)
+
+pub pick_answers : (workers : ℕ) (shown : Table) (accounts file : _) (end : Exit) → is_report end ≡ true
+    → (is_answer (job.Pick workers shown accounts file) end ≡ true) × (may_end (job.Pick workers shown accounts file) end ≡ true)
+pick_answers workers shown accounts file exit.Whole h = (refl, refl)
+pick_answers workers shown accounts file exit.No h = absurd (cc)
+pick_answers workers shown accounts file exit.WrongInput h = absurd (cc)
+pick_answers workers shown accounts file exit.Stopped h = absurd (cc)
+pick_answers workers shown accounts file exit.Failed h = absurd (cc)
+pick_answers workers shown accounts file exit.Missing h = (refl, refl)
+
+pub chain_answers : (file : _) (v : ChainEnd) (end : Exit) → end ≡ exit_by_chain v
+    → (is_answer (job.CheckChain file) end ≡ true) × (may_end (job.CheckChain file) end ≡ true)
+chain_answers file chained.Whole end e = rw e (refl, refl)
+chain_answers file chained.Short end e = rw e (refl, refl)
+chain_answers file chained.Broken end e = rw e (refl, refl)
 
 pub claim_answers : (workers : ℕ) (report file : _) (v : Verdict) (end : Exit) → end ≡ exit_by_verdict v
     → (is_answer (job.CheckReport workers report file) end ≡ true) × (may_end (job.CheckReport workers report file) end ≡ true)
@@ -352,6 +427,8 @@ job_of_query workers asked file (fault.Events e) old new h = absurd h
 job_of_query workers asked file (fault.Compared e) old new h = absurd h
 job_of_query workers asked file (fault.AbsentAccount id missing) old new h = h
 job_of_query workers asked file (fault.AbsentPlace place missing) old new h = h
+job_of_query workers asked file (fault.Accounts line) old new h = absurd h
+job_of_query workers asked file (fault.Links line) old new h = absurd h
 
 -- why a schedule has no report is why its job has no answer
 pub job_of_schedule : (workers : ℕ) (feed events : _) (e : JobFault) (old new : JobDevices)
@@ -362,6 +439,8 @@ job_of_schedule workers feed events (fault.Events e) old new h = h
 job_of_schedule workers feed events (fault.Compared e) old new h = absurd h
 job_of_schedule workers feed events (fault.AbsentAccount id missing) old new h = absurd h
 job_of_schedule workers feed events (fault.AbsentPlace place missing) old new h = absurd h
+job_of_schedule workers feed events (fault.Accounts line) old new h = absurd h
+job_of_schedule workers feed events (fault.Links line) old new h = absurd h
 
 -- why there is no verdict on a text is why its job has no answer
 pub job_of_claim : (workers : ℕ) (report file : _) (e : JobFault) (old new : JobDevices) → ClaimCheckFailsBy e old new
@@ -372,6 +451,8 @@ job_of_claim workers report file (fault.Events e) old new h = absurd h
 job_of_claim workers report file (fault.Compared e) old new h = absurd h
 job_of_claim workers report file (fault.AbsentAccount id missing) old new h = absurd h
 job_of_claim workers report file (fault.AbsentPlace place missing) old new h = absurd h
+job_of_claim workers report file (fault.Accounts line) old new h = absurd h
+job_of_claim workers report file (fault.Links line) old new h = absurd h
 
 -- why a comparison has no answer is why its job has none
 pub job_of_compare : (first second : _) (e : JobFault) (old new : JobDevices) → CompareFailsBy e old new
@@ -382,3 +463,32 @@ job_of_compare first second (fault.Events e) old new h = absurd h
 job_of_compare first second (fault.Compared e) old new h = h
 job_of_compare first second (fault.AbsentAccount id missing) old new h = absurd h
 job_of_compare first second (fault.AbsentPlace place missing) old new h = absurd h
+job_of_compare first second (fault.Accounts line) old new h = absurd h
+job_of_compare first second (fault.Links line) old new h = absurd h
+
+-- why rows that have an account of a list were not written is why their job has no answer
+pub job_of_pick : (workers : ℕ) (shown : Table) (accounts file : _) (e : JobFault) (old new : JobDevices) → PickFailsBy shown e old new
+    → JobFailsBy (job.Pick workers shown accounts file) e old new
+job_of_pick workers shown accounts file (fault.Replay e) old new h = h
+job_of_pick workers shown accounts file (fault.Text e) old new h = h
+job_of_pick workers shown accounts file (fault.Accounts line) old new h = h
+job_of_pick workers shown accounts file (fault.Links line) old new h = absurd h
+job_of_pick workers shown accounts file (fault.Events e) old new h = absurd h
+job_of_pick workers shown accounts file (fault.Compared e) old new h = absurd h
+job_of_pick workers shown accounts file (fault.AbsentAccount id missing) old new h = absurd h
+job_of_pick workers shown accounts file (fault.AbsentPlace place missing) old new h = absurd h
+
+-- and why there is no verdict on links is why theirs has none
+pub job_of_chain : (file : _) (e : JobFault) (old new : JobDevices) → ChainFailsBy e (first_devices old) (first_devices new)
+    → JobFailsBy (job.CheckChain file) e old new
+job_of_chain file (fault.Replay e) old new h = absurd h
+job_of_chain file (fault.Text (text.Script line found)) old new h = absurd h
+job_of_chain file (fault.Text text.Read) old new h = h
+job_of_chain file (fault.Text (text.Write written)) old new h = h
+job_of_chain file (fault.Text text.Memory) old new h = h
+job_of_chain file (fault.Accounts line) old new h = absurd h
+job_of_chain file (fault.Links line) old new h = h
+job_of_chain file (fault.Events e) old new h = absurd h
+job_of_chain file (fault.Compared e) old new h = absurd h
+job_of_chain file (fault.AbsentAccount id missing) old new h = absurd h
+job_of_chain file (fault.AbsentPlace place missing) old new h = absurd h

@@ -49,8 +49,7 @@ verdict_is_out root text good old new out out' read h got = (
   good,
   refl,
   got,
-  (text, read.3, h),
-  known_then old.bytes (λ bytes. IsRead 65536 bytes text) (λ bytes. IsVerdict root bytes good) (λ bytes is. verdict_of_read root bytes text good is h) read.2,
+  ((text, read.3, h), known_then old.bytes (λ bytes. IsRead 65536 bytes text) (λ bytes. IsVerdict root bytes good) (λ bytes is. verdict_of_read root bytes text good is h) read.2),
 )
 
 pub verdict_stops : (root text : List ℕ) (good : Bool) (old new out out' : Device) (e : WriteFault) → HasRead 65536 old new text → (IsTrue good ↔ IsGoodProof root text)
@@ -58,8 +57,11 @@ pub verdict_stops : (root text : List ℕ) (good : Bool) (old new out out' : Dev
 verdict_stops root text good old new out out' e read h stops = (
   read.0,
   stops.fails,
-  known_then old.bytes (λ bytes. IsRead 65536 bytes text) (PartOfVerdictIsOut root e.written out out')
-      (λ bytes is. (good, verdict_of_read root bytes text good is h, stops.short, stops.out)) read.2,
+  (
+    (text, read.3, (good, h, stops.short, stops.out)),
+    known_then old.bytes (λ bytes. IsRead 65536 bytes text) (PartOfVerdictIsOut root e.written out out')
+        (λ bytes is. (good, verdict_of_read root bytes text good is h, stops.short, stops.out)) read.2,
+  ),
 )
 
 pub not_read : (root : List ℕ) (old new out : Device) (e : ScriptFault) → IsNotRead e old new → CheckFailsBy root e (devices old out) (devices new out)

@@ -1,12 +1,12 @@
 -- What a job leaves: its answer, or the fault that kept it from one.
 use Rattle.std.specs.Prelude.{◌≡◌, ◌↔◌, ◌⊎◌, ℕ, ◌<◌, Bool, true, false, List, IfSome, codes, if◌then◌else◌, length, take, string_bytes, IsTrue, Ok, Err}
-use Rattle.bk_frames.specs.Device.{Device, Works, Fails, Receives, IfKnown}
-use Rattle.bk_frames.specs.Pulling.{Gave}
+use Rattle.bk_frames.specs.Device.{Device, Works, Fails, Receives, GaveAll}
 use Rattle.bk_results.specs.declared.compare_stop.CompareStop.{CompareStop}
 use Rattle.bk_results.specs.declared.fault.Fault.{Fault}
 use Rattle.bk_results.specs.declared.status.Status.{Status}
-use Rattle.bk_results.specs.Devices.{Devices, IsUntouched}
-use Rattle.bk_apply.specs.Answers.{FailsBy}
+use Rattle.bk_results.specs.Devices.{Devices, IsUntouched, OfGiven}
+use Rattle.bk_apply.specs.Answers.{FailsBy, ReportIsOut}
+use Rattle.bk_apply.specs.Scheduling.{IsWholeFor}
 use Rattle.bk_answer.specs.Answers.{AnswerFailsBy, IsAnswered}
 use Rattle.bk_ask.specs.Asking.{IsRepliedOf, executes}
 use Rattle.bk_ask.specs.declared.replied.Replied.{Replied}
@@ -16,20 +16,25 @@ use Rattle.bk_summary.specs.Summarizing.{IsSummaryText}
 use Rattle.bk_report.specs.Proofs.{IsGoodProof}
 use Rattle.bk_results.specs.declared.query.Query.{Query}
 use Rattle.bk_results.specs.declared.query.Reply.TheVariants as reply
-use Rattle.bk_report.specs.Report.{IsApplyReport}
+use Rattle.bk_claim.specs.Claims as claim
+use Rattle.bk_claim.specs.Claims.{OfBoth}
+use Rattle.bk_claim.specs.declared.verdict.Verdict.{Verdict}
 use Rattle.bk_answer.specs.RunReport.{IsStopped, report_text}
 use Rattle.bk_script.specs.Answers as script
 use Rattle.bk_script.specs.Script.{LineFault, feed_of}
 use Rattle.bk_results.specs.declared.script_fault.ScriptFault.{ScriptFault}
 use Rattle.bk_results.specs.declared.script_fault.ScriptFault.TheVariants as text
-use Rattle.bk_jobs.specs.Comparisons.{DoNotAgree, AgreementFailsBy, AgreementIsOut, AreStoppedTogether, AreWrongTogether, IfBothGive}
-use Rattle.bk_jobs.specs.Reports.{ClaimCheckFailsBy, ClaimIsOut, ClaimIsUnread}
+use Rattle.bk_jobs.specs.Comparisons.{DoNotAgree, AgreementFailsBy, AgreementIsOut, AreStoppedTogether, AreWrongTogether}
+use Rattle.bk_jobs.specs.Reports.{ClaimCheckFailsBy, ClaimIsUnread, claim_of, exit_by_verdict}
 use Rattle.bk_cli.specs.Exits.{absence, ending, exit_at, exit_by, exit_after}
 use Rattle.bk_cli.specs.Explanations.{told_of}
 use Rattle.bk_cli.specs.FaultLines.{Reports}
 use Rattle.bk_cli.specs.Windows.{WindowValue}
-use Rattle.bk_jobs.specs.Schedules.{AreNoEvents, AreRefused, IsWholeRun, ListFailsBy, ScheduleFailsBy}
-use Rattle.bk_jobs.specs.Sources.{AreBroken, Inputs, JobDevices, first_devices, inputs_of}
+use Rattle.bk_jobs.specs.Schedules.{AreNoEvents, AreRefused, IsListed, ListFailsBy, ScheduleFailsBy}
+use Rattle.bk_chain.specs.Chain.{HasLinksFault}
+use Rattle.bk_tables.specs.Listing.{ids_of}
+use Rattle.bk_jobs.specs.Views.{ChainFailsBy, ChainIsOut, PickFailsBy, PickIsOut, ViewFailsBy, ViewIsOut}
+use Rattle.bk_jobs.specs.Sources.{AreBroken, Inputs, JobDevices, first_devices}
 use Rattle.bk_cli.specs.declared.exit.Exit.{Exit}
 use Rattle.bk_cli.specs.declared.exit.Exit.TheVariants as exit
 use Rattle.bk_cli.specs.declared.job.Job.{Job}
@@ -44,17 +49,16 @@ use Rattle.bk_cli.specs.declared.list_fault.ListFault.{ListFault}
 abbrev pub RunIsOut : Exit → Devices → Devices → Type 0
 RunIsOut end old new = (answer : Status) × (end ≡ exit_at answer) × IsAnswered report_text answer old new
 
--- the output got the whole apply report of the bytes
-abbrev pub ReportIsOut : Exit → Device → Device → List ℕ → Type 0
-ReportIsOut end old new bytes =
-    (text : List ℕ) × IsApplyReport bytes text × (end ≡ exit.Whole) × Receives old new text
+-- the output got the whole apply report of the bytes that the source gave
+abbrev pub ApplyIsOut : Exit → Devices → Devices → Type 0
+ApplyIsOut end old new =
+    (end ≡ exit.Whole) × GaveAll old.source new.source (ReportIsOut old.sink new.sink)
 
 -- the output got the whole feed that the text which the source gave makes as a script, and so does that which it had, where
 -- this is known
 abbrev pub FeedIsOut : Exit → Devices → Devices → Type 0
 FeedIsOut end old new =
-    (end ≡ exit.Whole) × Gave old.source new.source (λ text. script.IsMade text old.sink new.sink)
-    × IfKnown old.source (λ text. script.IsMade text old.sink new.sink)
+    (end ≡ exit.Whole) × OfGiven old.source new.source (λ text. script.IsMade text old.sink new.sink)
 
 -- the text of a verdict on a proof
 abbrev pub verdict_text : Bool → List ℕ
@@ -69,8 +73,7 @@ IsVerdict root bytes good = IsTrue good ↔ IsGoodProof root bytes
 abbrev pub VerdictIsOut : List ℕ → Exit → Devices → Devices → Type 0
 VerdictIsOut root end old new =
     (good : Bool) × (end ≡ exit_by good) × Receives old.sink new.sink (verdict_text good)
-    × Gave old.source new.source (λ text. IsVerdict root text good)
-    × IfKnown old.source (λ bytes. IsVerdict root bytes good)
+    × OfGiven old.source new.source (λ text. IsVerdict root text good)
 
 -- the output got the whole reply to a query of the bytes that the source gave, and the exit is the reply's
 abbrev pub ReplyIsOut : Query → Exit → Devices → Devices → Type 0
@@ -82,8 +85,7 @@ ReplyIsOut asked end old new =
 -- known
 abbrev pub FramesAreOut : Exit → Devices → Devices → Type 0
 FramesAreOut end old new =
-    (end ≡ exit.Whole) × Gave old.source new.source (AllIsListed old.sink new.sink)
-    × IfKnown old.source (AllIsListed old.sink new.sink)
+    (end ≡ exit.Whole) × OfGiven old.source new.source (AllIsListed old.sink new.sink)
 
 -- the output got the whole summary of the bytes that the source gave, and the exit says whether a batch is missing
 abbrev pub SummaryIsOut : Exit → Devices → Devices → Type 0
@@ -94,12 +96,19 @@ abbrev pub PictureIsOut : WindowValue → Exit → Devices → Devices → Type 
 PictureIsOut window end old new =
     (end ≡ exit.Whole) × IsAnswered (drawing_text window.from window.rounds) tt old new
 
--- the output got the whole apply report of the first source, and the exit is the report's; and the second source lists
--- events that are a whole run of its transactions
-abbrev pub ScheduleIsOut : ℕ → Exit → Inputs → Device → Device → Type 0
-ScheduleIsOut workers end given old new =
-    IfSome given.first (ReportIsOut end old new)
-    × IfSome given.second (λ text. IfSome given.first (λ bytes. IsWholeRun workers bytes text))
+-- the second source gave a list of events, which are a whole run of the transactions of the feed that the first gave; and
+-- the output got the whole apply report of this feed
+abbrev pub ScheduleIsOut : ℕ → Exit → JobDevices → JobDevices → Type 0
+ScheduleIsOut workers end old new =
+    (end ≡ exit.Whole)
+    × IsListed old new (λ events. GaveAll old.first new.first (λ bytes.
+    IsWholeFor workers events.list bytes × ReportIsOut old.out new.out bytes))
+
+-- the output got the whole verdict on the text, and the exit is the verdict's
+abbrev pub ClaimIsOut : Exit → JobDevices → JobDevices → Type 0
+ClaimIsOut end old new =
+    (answer : Verdict) × (end ≡ exit_by_verdict answer)
+    × OfBoth (claim_of old) (claim_of new) (claim.VerdictIsOut answer old.out new.out)
 
 -- the output got the whole answer of a job over what its sources give, and the exit is the answer's
 abbrev pub AnswerIsOut : Job → Exit → JobDevices → JobDevices → Type 0
@@ -109,15 +118,17 @@ AnswerIsOut (job.CheckProof root file) end old new =
     VerdictIsOut (string_bytes root) end (first_devices old) (first_devices new)
 AnswerIsOut (job.Ask workers asked file) end old new =
     ReplyIsOut asked end (first_devices old) (first_devices new)
-AnswerIsOut (job.CheckReport workers report file) end old new =
-    IfBothGive (inputs_of old) (ClaimIsOut end old.out new.out)
+AnswerIsOut (job.CheckReport workers report file) end old new = ClaimIsOut end old new
 AnswerIsOut (job.Frames file) end old new = FramesAreOut end (first_devices old) (first_devices new)
 AnswerIsOut (job.Summary workers file) end old new = SummaryIsOut end (first_devices old) (first_devices new)
 AnswerIsOut (job.Dag window file) end old new = PictureIsOut window end (first_devices old) (first_devices new)
-AnswerIsOut (job.Apply file) end old new = IfKnown old.first (ReportIsOut end old.out new.out)
-AnswerIsOut (job.Schedule workers feed events) end old new =
-    ScheduleIsOut workers end (inputs_of old) old.out new.out
+AnswerIsOut (job.Apply file) end old new = ApplyIsOut end (first_devices old) (first_devices new)
+AnswerIsOut (job.Schedule workers feed events) end old new = ScheduleIsOut workers end old new
 AnswerIsOut (job.Compare first second) end old new = AgreementIsOut end old new
+AnswerIsOut (job.Show workers shown file) end old new =
+    ViewIsOut shown end (first_devices old) (first_devices new)
+AnswerIsOut (job.Pick workers shown accounts file) end old new = PickIsOut shown end old new
+AnswerIsOut (job.CheckChain file) end old new = ChainIsOut end (first_devices old) (first_devices new)
 
 -- ---- why a job has no answer
 
@@ -138,7 +149,7 @@ CheckFailsBy root (text.Script line found) old new = ⊥
 CheckFailsBy root text.Read old new = Fails old.source new.source × IsUntouched old.sink new.sink
 CheckFailsBy root (text.Write written) old new =
     Works old.source new.source × Fails old.sink new.sink
-    × IfKnown old.source (PartOfVerdictIsOut root written old.sink new.sink)
+    × OfGiven old.source new.source (PartOfVerdictIsOut root written old.sink new.sink)
 CheckFailsBy root text.Memory old new =
     Works old.source new.source × IsUntouched old.sink new.sink
 
@@ -158,6 +169,9 @@ ReplayFailsBy (job.Apply file) e old new = FailsBy e (first_devices old) (first_
 ReplayFailsBy (job.Schedule workers feed events) e old new =
     ScheduleFailsBy workers (fault.Replay e) old new
 ReplayFailsBy (job.Compare first second) e old new = AgreementFailsBy e old new
+ReplayFailsBy (job.Show workers shown file) e old new =
+    ViewFailsBy shown e (first_devices old) (first_devices new)
+ReplayFailsBy (job.Pick workers shown accounts file) e old new = PickFailsBy shown (fault.Replay e) old new
 ReplayFailsBy other e old new = ⊥
 
 -- why a text was not answered for a job
@@ -167,12 +181,24 @@ TextFailsBy (job.Make file) e old new =
 TextFailsBy (job.CheckProof root file) e old new =
     CheckFailsBy (string_bytes root) e (first_devices old) (first_devices new)
 TextFailsBy (job.CheckReport workers report file) e old new = ClaimIsUnread e old new
+TextFailsBy (job.Pick workers shown accounts file) e old new = PickFailsBy shown (fault.Text e) old new
+TextFailsBy (job.CheckChain file) e old new = ChainFailsBy (fault.Text e) (first_devices old) (first_devices new)
 TextFailsBy other e old new = ⊥
 
 -- why a list of events gives no report for a job
 abbrev pub EventsFailBy : Job → ListFault → JobDevices → JobDevices → Type 0
 EventsFailBy (job.Schedule workers feed events) e old new = ListFailsBy workers e old new
 EventsFailBy other e old new = ⊥
+
+-- why a list of accounts, or lines that are no links, give no answer for a job
+abbrev pub AccountsFailBy : Job → ℕ → JobDevices → JobDevices → Type 0
+AccountsFailBy (job.Pick workers shown accounts file) line old new = PickFailsBy shown (fault.Accounts line) old new
+AccountsFailBy other line old new = ⊥
+
+abbrev pub LinksFailBy : Job → ℕ → JobDevices → JobDevices → Type 0
+LinksFailBy (job.CheckChain file) line old new =
+    ChainFailsBy (fault.Links line) (first_devices old) (first_devices new)
+LinksFailBy other line old new = ⊥
 
 -- why two feeds that do not agree give no answer for a job
 abbrev pub ComparisonFailsBy : Job → CompareStop → JobDevices → JobDevices → Type 0
@@ -206,6 +232,8 @@ abbrev pub JobFailsBy : Job → JobFault → JobDevices → JobDevices → Type 
 JobFailsBy j (fault.Replay e) old new = ReplayFailsBy j e old new
 JobFailsBy j (fault.Text e) old new = TextFailsBy j e old new
 JobFailsBy j (fault.Events e) old new = EventsFailBy j e old new
+JobFailsBy j (fault.Accounts line) old new = AccountsFailBy j line old new
+JobFailsBy j (fault.Links line) old new = LinksFailBy j line old new
 JobFailsBy j (fault.Compared e) old new = ComparisonFailsBy j e old new
 JobFailsBy j (fault.AbsentAccount id missing) old new = IsAbsentFor j (fault.AbsentAccount id missing) old new
 JobFailsBy j (fault.AbsentPlace place missing) old new = IsAbsentFor j (fault.AbsentPlace place missing) old new
@@ -236,6 +264,13 @@ AreWrongFor workers given =
     IfSome given.first AreBroken ⊎ IfSome given.second AreNoEvents
     ⊎ IfSome given.second (λ text. IfSome given.first (λ bytes. AreRefused workers bytes text))
 
+-- the text is no list of accounts; the text is none of links
+abbrev pub AreNoAccounts : List ℕ → Type 0
+AreNoAccounts bytes = (line : ℕ) × (ids_of bytes ≡ Err line)
+
+abbrev pub AreNoLinks : List ℕ → Type 0
+AreNoLinks bytes = (line : ℕ) × HasLinksFault bytes line
+
 -- what the sources give is wrong for a job
 abbrev pub AreWrong : Job → Inputs → Type 0
 AreWrong (job.Run workers file) given = IfSome given.first AreBroken
@@ -249,6 +284,9 @@ AreWrong (job.Dag window file) given = IfSome given.first AreBroken
 AreWrong (job.Apply file) given = IfSome given.first AreBroken
 AreWrong (job.Schedule workers feed events) given = AreWrongFor workers given
 AreWrong (job.Compare first second) given = AreWrongTogether given
+AreWrong (job.Show workers shown file) given = IfSome given.first AreBroken
+AreWrong (job.Pick workers shown accounts file) given = IfSome given.first AreBroken ⊎ IfSome given.second AreNoAccounts
+AreWrong (job.CheckChain file) given = IfSome given.first AreNoLinks
 
 -- the bytes are stopped by a collision or by twins
 abbrev pub AreStopped : List ℕ → Type 0
@@ -262,6 +300,8 @@ AreStoppedFor (job.CheckReport workers report file) given = IfSome given.first A
 AreStoppedFor (job.Summary workers file) given = IfSome given.first AreStopped
 AreStoppedFor (job.Dag window file) given = IfSome given.first AreStopped
 AreStoppedFor (job.Compare first second) given = AreStoppedTogether given
+AreStoppedFor (job.Show workers shown file) given = IfSome given.first AreStopped
+AreStoppedFor (job.Pick workers shown accounts file) given = IfSome given.first AreStopped
 AreStoppedFor other given = ⊥
 
 -- what bytes to blame are like, by the exit

@@ -24,6 +24,9 @@ AreGapsOf (job.Summary workers file) given gaps = gaps ≡ no_gaps
 AreGapsOf (job.Dag window file) given gaps = gaps ≡ no_gaps
 AreGapsOf (job.Apply file) given gaps = gaps ≡ no_gaps
 AreGapsOf (job.Schedule workers feed events) given gaps = gaps ≡ no_gaps
+AreGapsOf (job.Show workers shown file) given gaps = gaps ≡ no_gaps
+AreGapsOf (job.Pick workers shown accounts file) given gaps = gaps ≡ no_gaps
+AreGapsOf (job.CheckChain file) given gaps = gaps ≡ no_gaps
 AreGapsOf (job.Compare first second) given gaps =
     IfBothGive given (λ bytes more. IsGap bytes gaps.first × IsGap more gaps.second)
 

@@ -5,4 +5,5 @@ pub mod Openings
 pub mod Reports
 pub mod private
 pub mod Schedules
+pub mod Views
 pub mod Sources

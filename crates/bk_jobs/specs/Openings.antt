@@ -31,12 +31,12 @@ pub record RanOver (j : Job) (verbose : Bool) (end : Exit) (out out' err err' : 
 abbrev pub IsFileOf : Job → List ℕ → Type 0
 IsFileOf j path = (file_of j ≡ Some path) ⊎ (second_file_of j ≡ Some path)
 
--- a file of the job could not be opened, which is told with its path
+-- a file of the job could not be opened, which is reported with its path
 abbrev pub HasNoFile : Job → Bool → Device → Device → Type 0
 HasNoFile j verbose err err' =
     (path : List ℕ) × IsFileOf j path × Reports (told_of verbose path (fault.Text text.Read)) err err'
 
--- there was no memory to read ahead, which is told
+-- there was no memory to read ahead, which is reported
 abbrev pub HasNoMemory : Job → Bool → Device → Device → Type 0
 HasNoMemory j verbose err err' = Reports (told verbose j (fault.Replay replay.Memory)) err err'
 

@@ -1,8 +1,6 @@
 -- The job that checks whether a text is the report of a feed. The feed is its first source; the text, which is read after
 -- it, is the second.
-use Rattle.std.specs.Prelude.{◌≡◌, List, ℕ}
-use Rattle.bk_frames.specs.Device.{Device}
-use Rattle.bk_claim.specs.Claims.{ClaimDevices, ClaimFailsBy, VerdictIsOut, claim_devices}
+use Rattle.bk_claim.specs.Claims.{ClaimDevices, ClaimFailsBy, claim_devices}
 use Rattle.bk_claim.specs.declared.verdict.ClaimStop.{ClaimStop}
 use Rattle.bk_claim.specs.declared.verdict.ClaimStop.TheVariants as stop
 use Rattle.bk_claim.specs.declared.verdict.Verdict.{Verdict}
@@ -20,11 +18,6 @@ abbrev pub exit_by_verdict : Verdict → Exit
 exit_by_verdict verdict.Good = exit.Whole
 exit_by_verdict verdict.Short = exit.Missing
 exit_by_verdict verdict.Differs = exit.No
-
--- the output got the whole verdict on the text, and the exit is the verdict's
-abbrev pub ClaimIsOut : Exit → Device → Device → List ℕ → List ℕ → Type 0
-ClaimIsOut end old new feed claimed =
-    (answer : Verdict) × (end ≡ exit_by_verdict answer) × VerdictIsOut answer old new feed claimed
 
 -- the feed, the text and the output
 abbrev pub claim_of : JobDevices → ClaimDevices

@@ -1,12 +1,11 @@
 -- The job of a schedule. Its feed is the first source; its list of events, which is read before the feed, the second.
 use Rattle.std.specs.Prelude.{◌≡◌, ℕ, List, slice_index_or, Ok, Err}
-use Rattle.bk_frames.specs.Device.{Device, Works, IfKnown}
+use Rattle.bk_frames.specs.Device.{Device, Works, GaveAll}
 use Rattle.bk_steps.specs.declared.outcome.ScheduleFault.TheVariants as schedule
 use Rattle.bk_base.specs.declared.refused.Refused as reason
 use Rattle.bk_apply.specs.Answers.{FailsBy}
-use Rattle.bk_results.specs.Devices.{IsUntouched}
-use Rattle.bk_results.specs.Devices.{NothingHappened}
-use Rattle.bk_apply.specs.Scheduling.{IsNotWholeFor, IsWholeFor}
+use Rattle.bk_results.specs.Devices.{IsUntouched, NothingHappened, OfGiven}
+use Rattle.bk_apply.specs.Scheduling.{IsNotWholeFor}
 use Rattle.bk_results.specs.declared.fault.Fault.TheVariants as replay
 use Rattle.bk_apply.specs.declared.scheduling.ScheduleStop.{ScheduleStop}
 use Rattle.bk_apply.specs.declared.scheduling.ScheduleStop.TheVariants as stop
@@ -25,11 +24,10 @@ Lists holds text = (events : EventList) × (events_of text ≡ Ok events) × hol
 abbrev pub IsList : List ℕ → Type 0
 IsList text = (events : EventList) × (events_of text ≡ Ok events)
 
--- ---- the answer
-
--- the text is a list of events that are a whole run of the feed's transactions, by this many workers
-abbrev pub IsWholeRun : ℕ → List ℕ → List ℕ → Type 0
-IsWholeRun workers bytes text = Lists (λ events. IsWholeFor workers events.list bytes) text
+-- the text that the second source gave is a list of events, of which this holds
+abbrev pub IsListed : JobDevices → JobDevices → (EventList → Type 0) → Type 0
+IsListed old new holds =
+    (events : EventList) × OfGiven old.second new.second (λ text. events_of text ≡ Ok events) × holds events
 
 -- ---- why there is no report
 
@@ -42,19 +40,15 @@ fault_at (stop.Schedule (schedule.Unfinished place)) lines = fault.Events (list.
 fault_at (stop.Schedule schedule.OutOfMemory) lines = fault.Replay replay.Memory
 
 -- of these events, the one on this line is the first that is refused, for this reason
-abbrev pub IsRefusedAt : ℕ → Device → ℕ → reason.Refused → EventList → Type 0
-IsRefusedAt workers feed line why events =
+abbrev pub IsRefusedAt : ℕ → Device → Device → ℕ → reason.Refused → EventList → Type 0
+IsRefusedAt workers old new line why events =
     (index : ℕ) × (line ≡ slice_index_or events.lines index 0)
-    × IfKnown feed (IsNotWholeFor workers events.list (schedule.Refused index why))
+    × GaveAll old new (IsNotWholeFor workers events.list (schedule.Refused index why))
 
 -- these events are all allowed, and leave this place, the least, undone
-abbrev pub IsLeftBy : ℕ → Device → ℕ → EventList → Type 0
-IsLeftBy workers feed place events =
-    IfKnown feed (IsNotWholeFor workers events.list (schedule.Unfinished place))
-
--- the list was read, no call of its source failed, and this holds of its events
-abbrev pub HasListed : (EventList → Type 0) → JobDevices → JobDevices → Type 0
-HasListed holds old new = Works old.second new.second × IfKnown old.second (Lists holds)
+abbrev pub IsLeftBy : ℕ → Device → Device → ℕ → EventList → Type 0
+IsLeftBy workers old new place events =
+    GaveAll old new (IsNotWholeFor workers events.list (schedule.Unfinished place))
 
 -- why a list of events gives no report, by the fault: the list was not read, and the feed is as it was; an event is
 -- refused; or a place is left. Nothing is written
@@ -62,16 +56,16 @@ abbrev pub ListFailsBy : ℕ → ListFault → JobDevices → JobDevices → Typ
 ListFailsBy workers (list.Unread e) old new =
     HasNoEvents e old.second new.second × (new.first ≡ old.first) × IsUntouched old.out new.out
 ListFailsBy workers (list.Refused line why) old new =
-    HasListed (IsRefusedAt workers old.first line why) old new
+    Works old.second new.second × IsListed old new (IsRefusedAt workers old.first new.first line why)
     × NothingHappened (first_devices old) (first_devices new)
 ListFailsBy workers (list.Unfinished place) old new =
-    HasListed (IsLeftBy workers old.first place) old new
+    Works old.second new.second × IsListed old new (IsLeftBy workers old.first new.first place)
     × NothingHappened (first_devices old) (first_devices new)
 
 -- why a schedule has no report: the list of events was read, and the feed was not replayed; or it is the list
 abbrev pub ScheduleFailsBy : ℕ → JobFault → JobDevices → JobDevices → Type 0
 ScheduleFailsBy workers (fault.Replay e) old new =
-    Works old.second new.second × IfKnown old.second IsList
+    Works old.second new.second × OfGiven old.second new.second IsList
     × FailsBy e (first_devices old) (first_devices new)
 ScheduleFailsBy workers (fault.Events e) old new = ListFailsBy workers e old new
 ScheduleFailsBy workers other old new = ⊥

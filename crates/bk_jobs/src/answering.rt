@@ -11,6 +11,7 @@ ghost use Rattle.bk_jobs.specs.Gaps.{AreGapsOf};
 ghost use Rattle.bk_jobs.specs.Sources.{AllWork, inputs, job_devices};
 ghost use Rattle.bk_jobs.specs.private.Groups.{replays_one, replays_two, reads_frames, reads_texts};
 
+use crate::chaining::check_links;
 use crate::claiming::check_claim;
 use crate::comparing::compare_feeds;
 use crate::drawing::draw_rounds;
@@ -19,6 +20,7 @@ use crate::listing::list;
 use crate::queries::reply;
 use crate::replaying::{apply_all, run, sum_up};
 use crate::scheduling::schedule;
+use crate::showing::{pick, show};
 use crate::texts::{check, make_feed};
 use bk_cli::{Gaps, Job, JobFault};
 use bk_frames::{Sink, Source};
@@ -81,6 +83,16 @@ where
                 },
             })
         }
+        Job::Show { workers, shown, .. } => {
+            let end = show(rt, gate, *shown, *workers, first, out)?;
+            Ok(End {
+                exit: end,
+                gaps: Gaps {
+                    first: None,
+                    second: None,
+                },
+            })
+        }
         Job::Make { .. }
         | Job::CheckProof { .. }
         | Job::CheckReport { .. }
@@ -88,7 +100,9 @@ where
         | Job::Dag { .. }
         | Job::Apply { .. }
         | Job::Schedule { .. }
-        | Job::Compare { .. } => unreachable!(),
+        | Job::Compare { .. }
+        | Job::Pick { .. }
+        | Job::CheckChain { .. } => unreachable!(),
     }
 }
 
@@ -159,7 +173,10 @@ where
         | Job::Ask { .. }
         | Job::Summary { .. }
         | Job::Schedule { .. }
-        | Job::Compare { .. } => unreachable!(),
+        | Job::Compare { .. }
+        | Job::Show { .. }
+        | Job::Pick { .. }
+        | Job::CheckChain { .. } => unreachable!(),
     }
 }
 
@@ -223,6 +240,16 @@ where
                 },
             })
         }
+        Job::CheckChain { .. } => {
+            let end = check_links(rt, first, out)?;
+            Ok(End {
+                exit: end,
+                gaps: Gaps {
+                    first: None,
+                    second: None,
+                },
+            })
+        }
         Job::Run { .. }
         | Job::CheckReport { .. }
         | Job::Ask { .. }
@@ -230,7 +257,9 @@ where
         | Job::Summary { .. }
         | Job::Dag { .. }
         | Job::Apply { .. }
-        | Job::Compare { .. } => unreachable!(),
+        | Job::Compare { .. }
+        | Job::Show { .. }
+        | Job::Pick { .. } => unreachable!(),
     }
 }
 
@@ -279,6 +308,16 @@ where
             let end = compare_feeds(rt, gate, first, second, out)?;
             Ok(end)
         }
+        Job::Pick { workers, shown, .. } => {
+            let end = pick(rt, gate, *shown, *workers, first, second, out)?;
+            Ok(End {
+                exit: end,
+                gaps: Gaps {
+                    first: None,
+                    second: None,
+                },
+            })
+        }
         Job::Run { .. }
         | Job::Make { .. }
         | Job::CheckProof { .. }
@@ -287,7 +326,9 @@ where
         | Job::Summary { .. }
         | Job::Dag { .. }
         | Job::Apply { .. }
-        | Job::Schedule { .. } => unreachable!(),
+        | Job::Schedule { .. }
+        | Job::Show { .. }
+        | Job::CheckChain { .. } => unreachable!(),
     }
 }
 
@@ -321,17 +362,16 @@ where
     ensures second { reads_second job.now ≡ false → second.new ≡ second.old }
 {
     match job {
-        Job::Run { .. } | Job::Ask { .. } | Job::Summary { .. } => answer_of_run(
-            rt, job, gate, first, second, out,
-        ),
-        Job::Frames { .. } | Job::Dag { .. } | Job::Apply { .. } => answer_of_frames(
-            rt, job, first, second, out,
-        ),
-        Job::Make { .. } | Job::CheckProof { .. } | Job::Schedule { .. } => answer_of_text(
-            rt, job, first, second, out,
-        ),
-        Job::CheckReport { .. } | Job::Compare { .. } => answer_of_two(
-            rt, job, gate, first, second, out,
-        ),
+        Job::Run { .. } | Job::Ask { .. } | Job::Summary { .. } | Job::Show { .. } => {
+            answer_of_run(rt, job, gate, first, second, out)
+        }
+        Job::Frames { .. } | Job::Dag { .. } | Job::Apply { .. } => {
+            answer_of_frames(rt, job, first, second, out)
+        }
+        Job::Make { .. } | Job::CheckProof { .. } | Job::Schedule { .. } | Job::CheckChain { .. } =>
+            { answer_of_text(rt, job, first, second, out) }
+        Job::CheckReport { .. } | Job::Compare { .. } | Job::Pick { .. } => {
+            answer_of_two(rt, job, gate, first, second, out)
+        }
     }
 }

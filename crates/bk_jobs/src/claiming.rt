@@ -3,9 +3,9 @@
 ghost use Rattle.std.specs.Prelude.{◌≡◌, OnOk, IfOk, IfErr};
 ghost use Rattle.bk_frames.specs.Device.{CanBeUsed};
 ghost use Rattle.bk_claim.specs.declared.verdict.Verdict.{Verdict as AnyVerdict};
-ghost use Rattle.bk_jobs.specs.Comparisons.{IfBothGive};
-ghost use Rattle.bk_jobs.specs.Reports.{ClaimCheckFailsBy, ClaimIsOut, exit_by_verdict, fault_by_stop};
-ghost use Rattle.bk_jobs.specs.Sources.{AllWork, inputs, job_devices};
+ghost use Rattle.bk_jobs.specs.Faults.{ClaimIsOut};
+ghost use Rattle.bk_jobs.specs.Reports.{ClaimCheckFailsBy, exit_by_verdict, fault_by_stop};
+ghost use Rattle.bk_jobs.specs.Sources.{AllWork, job_devices};
 
 use bk_claim::{ClaimStop, Verdict, check_report};
 use bk_cli::{Exit, JobFault, Workers};
@@ -50,9 +50,9 @@ where
     requires feed { CanBeUsed (S1.state feed.old) }
     requires claimed { CanBeUsed (S2.state claimed.old) }
     requires out { CanBeUsed (O.state out.old) }
-    ensures verdict { IfOk result (λ end. IfBothGive
-        (inputs (S1.state feed.old).bytes (S2.state claimed.old).bytes)
-        (ClaimIsOut end (O.state out.old) (O.state out.new))) }
+    ensures verdict { IfOk result (λ end. ClaimIsOut end
+        (job_devices (S1.state feed.old) (S2.state claimed.old) (O.state out.old))
+        (job_devices (S1.state feed.new) (S2.state claimed.new) (O.state out.new))) }
     ensures answer { IfOk result (λ end. (v : AnyVerdict) × (end ≡ exit_by_verdict v)) }
     ensures sound { OnOk result (AllWork
         (job_devices (S1.state feed.old) (S2.state claimed.old) (O.state out.old))

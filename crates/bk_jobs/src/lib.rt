@@ -5,10 +5,12 @@
 #![tactic(auto)]
 
 mod answering;
+mod chaining;
 mod claiming;
 mod comparing;
 mod drawing;
 mod end;
+mod inputs;
 mod listing;
 mod machine;
 mod opening;
@@ -16,7 +18,9 @@ mod queries;
 mod replaying;
 mod running;
 mod scheduling;
+mod showing;
 mod texts;
 
+pub use inputs::Inputs;
 pub use opening::open_and_run;
 pub use running::{Watch, run_job, run_watched};

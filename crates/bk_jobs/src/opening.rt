@@ -3,19 +3,16 @@
 ghost use Rattle.std.specs.Prelude.{◌≡◌, true, false};
 ghost use Rattle.bk_frames.specs.Device.{CanBeUsed};
 ghost use Rattle.bk_results.specs.Devices.{IsUntouched};
-ghost use Rattle.bk_cli.specs.Exits.{is_answer, is_refusal, may_end, writes_ahead};
-ghost use Rattle.bk_jobs.specs.Faults.{EndsWithLine};
-ghost use Rattle.bk_jobs.specs.Gaps.{GapsAreTold};
+ghost use Rattle.bk_cli.specs.Exits.{is_refusal, may_end, writes_ahead};
 ghost use Rattle.bk_jobs.specs.Openings.{HasNoFile, HasNoMemory, IsFileOf, Ran};
-ghost use Rattle.bk_jobs.specs.Sources.{inputs};
 
+use crate::inputs::Inputs;
 use crate::running::{Watch, run_watched};
 use bk_cli::{Exit, Job, JobFault, Line, tell, tell_of};
 use bk_frames::{Counted, Sink};
 use bk_progress::{Metered, Progress};
 use bk_results::Fault;
 use bk_script::ScriptFault;
-use std::fs;
 use std::io::{BufReader, Read};
 use std::rt::Files;
 use std::sync::Wait;
@@ -30,7 +27,6 @@ fn not_opened<E: Sink>(line: &Line, path: &str, err: &mut E) -> Exit
     requires path { IsFileOf line.now.job path.now }
     requires err { CanBeUsed (E.state err.old) }
     ensures failed { result ≡ Exit.Failed }
-    ensures line { EndsWithLine line.now.notes.verbose result (E.state err.old) (E.state err.new) }
     ensures told { HasNoFile line.now.job line.now.notes.verbose (E.state err.old) (E.state err.new) }
 {
     let fault = JobFault::Text(ScriptFault::Read);
@@ -42,7 +38,6 @@ fn not_opened<E: Sink>(line: &Line, path: &str, err: &mut E) -> Exit
 fn no_memory<E: Sink>(line: &Line, err: &mut E) -> Exit
     requires { CanBeUsed (E.state err.old) }
     ensures failed { result ≡ Exit.Failed }
-    ensures line { EndsWithLine line.now.notes.verbose result (E.state err.old) (E.state err.new) }
     ensures told { HasNoMemory line.now.job line.now.notes.verbose (E.state err.old) (E.state err.new) }
 {
     let fault = JobFault::Replay(Fault::Memory);
@@ -50,45 +45,40 @@ fn no_memory<E: Sink>(line: &Line, err: &mut E) -> Exit
     Exit::Failed
 }
 
-// How many bytes a file has, where that is known.
-fn size_of<R: Files>(rt: &R, path: &str) -> Option<u64> {
-    match fs::metadata(rt, path) {
-        Ok(found) if found.is_file() => Some(found.len()),
-        _ => None,
-    }
-}
-
 // Counts the bytes that are going to be read.
-fn expect_files<R: Files + Clock + Eprint>(rt: &R, job: &Job, progress: &Progress<'_, R>) {
+fn expect_files<F: Files + Input, P: Clock + Eprint>(
+    files: &Inputs<'_, F>,
+    job: &Job,
+    progress: &Progress<'_, P>,
+) {
     if !progress.is_shown() {
         return;
     }
     match job.file() {
-        Some(path) => progress.expect(size_of(rt, path)),
+        Some(path) => progress.expect(files.size_of(path)),
         None => progress.expect(None),
     }
     if let Some(path) = job.second_file() {
-        progress.expect(size_of(rt, path));
+        progress.expect(files.size_of(path));
     }
 }
 
-// Opens the feed, after the text that is said to be its report, and runs the job.
-fn open_feed<R, J: Read + Drop, O: Sink, E: Sink>(
+// Opens the feed, after the text beside it, and runs the job.
+fn open_feed<F, R, P, J: Read + Drop, O: Sink, E: Sink>(
+    files: &Inputs<'_, F>,
     rt: &R,
     line: &Line,
-    progress: &Progress<'_, R>,
-    claimed: J,
+    progress: &Progress<'_, P>,
+    text: J,
     out: &mut O,
     err: &mut E,
 ) -> Exit
 where
-    R: Files + Input + Eprint + Clock + AllocGlobal + Threads + Wait + Sync,
+    F: Files + Input,
+    R: AllocGlobal + Threads + Wait + Sync,
+    P: Clock + Eprint + Sync,
     requires out { CanBeUsed (O.state out.old) }
     requires err { CanBeUsed (E.state err.old) }
-    ensures quiet { is_answer line.now.job result ≡ true → line.now.notes.verbose ≡ false
-        → err.new ≡ err.old }
-    ensures line { is_answer line.now.job result ≡ false
-        → EndsWithLine line.now.notes.verbose result (E.state err.old) (E.state err.new) }
     ensures unwritten { is_refusal result ≡ true → writes_ahead line.now.job ≡ false
         → IsUntouched (O.state out.old) (O.state out.new) }
     ensures ends { may_end line.now.job result ≡ true }
@@ -96,73 +86,72 @@ where
         (O.state out.old) (O.state out.new) (E.state err.old) (E.state err.new) }
 {
     match line.job.file() {
-        Some(path) => match fs::open(rt, path) {
-            Ok(feed) => run_over(rt, line, progress, feed, claimed, out, err),
+        Some(path) => match files.open(path) {
+            Ok(feed) => run_over(rt, line, progress, feed, text, out, err),
             Err(_) => not_opened(line, path, err),
         },
-        None => run_over(rt, line, progress, rt.reader(), claimed, out, err),
+        None => run_over(rt, line, progress, files.standard(), text, out, err),
     }
 }
 
-// Opens the text that is said to be a report, and then the feed, and runs the job.
-fn open_report<R, O: Sink, E: Sink>(
+// Opens the text beside a feed, a claimed report or a list of accounts, and then the feed, and runs the job.
+fn open_beside<F, R, P, O: Sink, E: Sink>(
+    files: &Inputs<'_, F>,
     rt: &R,
     line: &Line,
-    progress: &Progress<'_, R>,
-    report: &str,
+    progress: &Progress<'_, P>,
+    text: &str,
     out: &mut O,
     err: &mut E,
 ) -> Exit
 where
-    R: Files + Input + Eprint + Clock + AllocGlobal + Threads + Wait + Sync,
-    requires path { IsFileOf line.now.job report.now }
+    F: Files + Input,
+    R: AllocGlobal + Threads + Wait + Sync,
+    P: Clock + Eprint + Sync,
+    requires path { IsFileOf line.now.job text.now }
     requires out { CanBeUsed (O.state out.old) }
     requires err { CanBeUsed (E.state err.old) }
-    ensures quiet { is_answer line.now.job result ≡ true → line.now.notes.verbose ≡ false
-        → err.new ≡ err.old }
-    ensures line { is_answer line.now.job result ≡ false
-        → EndsWithLine line.now.notes.verbose result (E.state err.old) (E.state err.new) }
     ensures unwritten { is_refusal result ≡ true → writes_ahead line.now.job ≡ false
         → IsUntouched (O.state out.old) (O.state out.new) }
     ensures ends { may_end line.now.job result ≡ true }
     ensures ran { Ran line.now.job line.now.notes.verbose result
         (O.state out.old) (O.state out.new) (E.state err.old) (E.state err.new) }
 {
-    match fs::open(rt, report) {
-        Ok(claimed) => open_feed(rt, line, progress, claimed, out, err),
-        Err(_) => not_opened(line, report, err),
+    match files.open(text) {
+        Ok(text) => open_feed(files, rt, line, progress, text, out, err),
+        Err(_) => not_opened(line, text, err),
     }
 }
 
 /// Opens what the job names, in the order of its words and before anything is read, and runs it, watched by `progress`.
 ///
-/// Standard input is read where no file is named. A file that cannot be opened ends with `Failed` and `read failed`. An
+/// Standard input is read where no file is named, and for the path `-`. A file that cannot be opened ends with `Failed` and `read failed`. An
 /// end that is no answer has the line of its fault on `err`, and where the notes are verbose one more line in words; an
 /// answer to a query or of a comparison has a line then for each missing batch at which an order stops.
-pub fn open_and_run<R, O: Sink, E: Sink>(
+pub fn open_and_run<F, R, P, O: Sink, E: Sink>(
+    files: &Inputs<'_, F>,
     rt: &R,
     line: &Line,
-    progress: &Progress<'_, R>,
+    progress: &Progress<'_, P>,
     out: &mut O,
     err: &mut E,
 ) -> Exit
 where
-    R: Files + Input + Eprint + Clock + AllocGlobal + Threads + Wait + Sync,
+    F: Files + Input,
+    R: AllocGlobal + Threads + Wait + Sync,
+    P: Clock + Eprint + Sync,
     requires out { CanBeUsed (O.state out.old) }
     requires err { CanBeUsed (E.state err.old) }
-    ensures quiet { is_answer line.now.job result ≡ true → line.now.notes.verbose ≡ false
-        → err.new ≡ err.old }
-    ensures line { is_answer line.now.job result ≡ false
-        → EndsWithLine line.now.notes.verbose result (E.state err.old) (E.state err.new) }
     ensures unwritten { is_refusal result ≡ true → writes_ahead line.now.job ≡ false
         → IsUntouched (O.state out.old) (O.state out.new) }
     ensures ends { may_end line.now.job result ≡ true }
     ensures ran { Ran line.now.job line.now.notes.verbose result
         (O.state out.old) (O.state out.new) (E.state err.old) (E.state err.new) }
 {
-    expect_files(rt, &line.job, progress);
+    expect_files(files, &line.job, progress);
     match &line.job {
-        Job::CheckReport { report, .. } => open_report(
+        Job::CheckReport { report, .. } => open_beside(
+            files,
             rt,
             line,
             progress,
@@ -170,26 +159,34 @@ where
             out,
             err,
         ),
-        _ => open_first(rt, line, progress, out, err),
+        Job::Pick { accounts, .. } => open_beside(
+            files,
+            rt,
+            line,
+            progress,
+            accounts.as_str(),
+            out,
+            err,
+        ),
+        _ => open_first(files, rt, line, progress, out, err),
     }
 }
 
 // Opens the first file, where the job names one, then the second, and runs the job.
-fn open_first<R, O: Sink, E: Sink>(
+fn open_first<F, R, P, O: Sink, E: Sink>(
+    files: &Inputs<'_, F>,
     rt: &R,
     line: &Line,
-    progress: &Progress<'_, R>,
+    progress: &Progress<'_, P>,
     out: &mut O,
     err: &mut E,
 ) -> Exit
 where
-    R: Files + Input + Eprint + Clock + AllocGlobal + Threads + Wait + Sync,
+    F: Files + Input,
+    R: AllocGlobal + Threads + Wait + Sync,
+    P: Clock + Eprint + Sync,
     requires out { CanBeUsed (O.state out.old) }
     requires err { CanBeUsed (E.state err.old) }
-    ensures quiet { is_answer line.now.job result ≡ true → line.now.notes.verbose ≡ false
-        → err.new ≡ err.old }
-    ensures line { is_answer line.now.job result ≡ false
-        → EndsWithLine line.now.notes.verbose result (E.state err.old) (E.state err.new) }
     ensures unwritten { is_refusal result ≡ true → writes_ahead line.now.job ≡ false
         → IsUntouched (O.state out.old) (O.state out.new) }
     ensures ends { may_end line.now.job result ≡ true }
@@ -197,31 +194,30 @@ where
         (O.state out.old) (O.state out.new) (E.state err.old) (E.state err.new) }
 {
     match line.job.file() {
-        Some(path) => match fs::open(rt, path) {
-            Ok(first) => open_second(rt, line, progress, first, out, err),
+        Some(path) => match files.open(path) {
+            Ok(first) => open_second(files, rt, line, progress, first, out, err),
             Err(_) => not_opened(line, path, err),
         },
-        None => open_second(rt, line, progress, rt.reader(), out, err),
+        None => open_second(files, rt, line, progress, files.standard(), out, err),
     }
 }
 
 // Opens the second file, where the job names one, and runs the job.
-fn open_second<R, I: Read + Drop, O: Sink, E: Sink>(
+fn open_second<F, R, P, I: Read + Drop, O: Sink, E: Sink>(
+    files: &Inputs<'_, F>,
     rt: &R,
     line: &Line,
-    progress: &Progress<'_, R>,
+    progress: &Progress<'_, P>,
     first: I,
     out: &mut O,
     err: &mut E,
 ) -> Exit
 where
-    R: Files + Eprint + Clock + AllocGlobal + Threads + Wait + Sync,
+    F: Files + Input,
+    R: AllocGlobal + Threads + Wait + Sync,
+    P: Clock + Eprint + Sync,
     requires out { CanBeUsed (O.state out.old) }
     requires err { CanBeUsed (E.state err.old) }
-    ensures quiet { is_answer line.now.job result ≡ true → line.now.notes.verbose ≡ false
-        → err.new ≡ err.old }
-    ensures line { is_answer line.now.job result ≡ false
-        → EndsWithLine line.now.notes.verbose result (E.state err.old) (E.state err.new) }
     ensures unwritten { is_refusal result ≡ true → writes_ahead line.now.job ≡ false
         → IsUntouched (O.state out.old) (O.state out.new) }
     ensures ends { may_end line.now.job result ≡ true }
@@ -230,7 +226,7 @@ where
 {
     let nothing: &[u8] = b"";
     match line.job.second_file() {
-        Some(path) => match fs::open(rt, path) {
+        Some(path) => match files.open(path) {
             Ok(second) => run_over(rt, line, progress, first, second, out, err),
             Err(_) => not_opened(line, path, err),
         },
@@ -239,26 +235,20 @@ where
 }
 
 // Runs a job over its inputs. Small pulls are made of the first alone.
-fn run_over<R, I: Read + Drop, J: Read + Drop, O: Sink, E: Sink>(
+fn run_over<R, P, I: Read + Drop, J: Read + Drop, O: Sink, E: Sink>(
     rt: &R,
     line: &Line,
-    progress: &Progress<'_, R>,
+    progress: &Progress<'_, P>,
     first: I,
     second: J,
     out: &mut O,
     err: &mut E,
 ) -> Exit
 where
-    R: Eprint + Clock + AllocGlobal + Threads + Wait + Sync,
+    R: AllocGlobal + Threads + Wait + Sync,
+    P: Clock + Eprint + Sync,
     requires out { CanBeUsed (O.state out.old) }
     requires err { CanBeUsed (E.state err.old) }
-    ensures quiet { is_answer line.now.job result ≡ true → line.now.notes.verbose ≡ false
-        → err.new ≡ err.old }
-    ensures gaps { is_answer line.now.job result ≡ true → line.now.notes.verbose ≡ true
-        → GapsAreTold line.now.job (inputs (I.remaining first) (J.remaining second))
-        (E.state err.old) (E.state err.new) }
-    ensures line { is_answer line.now.job result ≡ false
-        → EndsWithLine line.now.notes.verbose result (E.state err.old) (E.state err.new) }
     ensures unwritten { is_refusal result ≡ true → writes_ahead line.now.job ≡ false
         → IsUntouched (O.state out.old) (O.state out.new) }
     ensures ends { may_end line.now.job result ≡ true }

@@ -1,14 +1,14 @@
 //! Jobs that replay a feed.
 
 ghost use Rattle.std.specs.Prelude.{◌≡◌, true, OnOk, IfOk, IfErr};
-ghost use Rattle.bk_frames.specs.Device.{CanBeUsed, Works, IfKnown};
+ghost use Rattle.bk_frames.specs.Device.{CanBeUsed, Works};
 ghost use Rattle.bk_results.specs.Devices.{devices};
 ghost use Rattle.bk_apply.specs.Answers.{FailsBy};
 ghost use Rattle.bk_answer.specs.Answers.{AnswerFailsBy};
 ghost use Rattle.bk_answer.specs.RunReport.{report_text};
 ghost use Rattle.bk_cli.specs.Exits.{is_report};
 ghost use Rattle.bk_summary.specs.Summarizing.{IsSummaryText};
-ghost use Rattle.bk_jobs.specs.Faults.{RunIsOut, ReportIsOut, SummaryIsOut};
+ghost use Rattle.bk_jobs.specs.Faults.{RunIsOut, ApplyIsOut, SummaryIsOut};
 
 use bk_apply::apply;
 use bk_cli::{Exit, Workers};
@@ -88,8 +88,9 @@ pub(crate) fn apply_all<R: AllocGlobal, S: Source, O: Sink>(
 ) -> Result<Exit, Fault>
     requires source { CanBeUsed (S.state source.old) }
     requires out { CanBeUsed (O.state out.old) }
-    ensures report { IfOk result (λ end. IfKnown (S.state source.old)
-        (ReportIsOut end (O.state out.old) (O.state out.new))) }
+    ensures report { IfOk result (λ end. ApplyIsOut end
+        (devices (S.state source.old) (O.state out.old))
+        (devices (S.state source.new) (O.state out.new))) }
     ensures answer { IfOk result (λ end. end ≡ Exit.Whole) }
     ensures sound { OnOk result (Works (S.state source.old) (S.state source.new)
         × Works (O.state out.old) (O.state out.new)) }

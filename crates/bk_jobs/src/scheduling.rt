@@ -1,10 +1,10 @@
 //! Jobs that execute a feed by a list of events.
 
 ghost use Rattle.std.specs.Prelude.{◌≡◌, OnOk, IfOk, IfErr, slice_index_or};
-ghost use Rattle.bk_frames.specs.Device.{CanBeUsed, IfKnown};
+ghost use Rattle.bk_frames.specs.Device.{CanBeUsed};
 ghost use Rattle.bk_jobs.specs.Faults.{ScheduleIsOut};
 ghost use Rattle.bk_jobs.specs.Schedules.{ScheduleFailsBy, fault_at};
-ghost use Rattle.bk_jobs.specs.Sources.{AllWork, inputs, job_devices};
+ghost use Rattle.bk_jobs.specs.Sources.{AllWork, job_devices};
 
 use bk_apply::{ScheduleStop, apply_schedule};
 use bk_cli::{Exit, JobFault, ListFault, Workers};
@@ -52,8 +52,8 @@ pub(crate) fn schedule<R: AllocGlobal, S1: Source, S2: Source, O: Sink>(
     requires events { CanBeUsed (S2.state events.old) }
     requires out { CanBeUsed (O.state out.old) }
     ensures report { IfOk result (λ end. ScheduleIsOut workers end
-        (inputs (S1.state feed.old).bytes (S2.state events.old).bytes)
-        (O.state out.old) (O.state out.new)) }
+        (job_devices (S1.state feed.old) (S2.state events.old) (O.state out.old))
+        (job_devices (S1.state feed.new) (S2.state events.new) (O.state out.new))) }
     ensures answer { IfOk result (λ end. end ≡ Exit.Whole) }
     ensures sound { OnOk result (AllWork
         (job_devices (S1.state feed.old) (S2.state events.old) (O.state out.old))

@@ -7,10 +7,12 @@
 //! What it shows is part of no contract but one: a `Metered` source is the source in it.
 #![tactic(auto)]
 
+mod display;
 mod metered;
 mod progress;
 mod watcher;
 
+pub use display::Display;
 pub use metered::Metered;
 pub use progress::{Manner, Progress};
 pub use watcher::Watcher;

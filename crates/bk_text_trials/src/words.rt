@@ -56,7 +56,7 @@ fn workers_of(job: &Job) -> Option<usize> {
 
 const ROOT: &str = "a0f73141eeeda4cb3f115f1ee0468dde8a3de31db5fd987f0eec1df811bce063";
 
-const NAMED: [Named; 18] = [
+const NAMED: [Named; 19] = [
     Named {
         words: &["bkreplay", "run"],
         kind: Kind::Run,
@@ -153,6 +153,13 @@ const NAMED: [Named; 18] = [
         kind: Kind::Schedule,
         workers: Some(64),
         first: Some("a"),
+        second: Some("b"),
+    },
+    Named {
+        words: &["bkreplay", "schedule", "-", "b"],
+        kind: Kind::Schedule,
+        workers: Some(2),
+        first: Some("-"),
         second: Some("b"),
     },
     Named {

@@ -7,7 +7,7 @@ use bk_cli::parse;
 use clap::error::ErrorKind;
 use std::alloc::Global;
 
-const WRONG: [(&[&str], ErrorKind); 24] = [
+const WRONG: [(&[&str], ErrorKind); 28] = [
     (&["bkreplay"], ErrorKind::MissingSubcommand),
     (&["bkreplay", "replay"], ErrorKind::InvalidSubcommand),
     (&["bkreplay", "run", "a", "b"], ErrorKind::UnknownArgument),
@@ -37,6 +37,22 @@ const WRONG: [(&[&str], ErrorKind); 24] = [
     (
         &["bkreplay", "check-proof", "a", "b", "c"],
         ErrorKind::UnknownArgument,
+    ),
+    (
+        &["bkreplay", "compare", "-", "-"],
+        ErrorKind::ValueValidation,
+    ),
+    (
+        &["bkreplay", "check-report", "-"],
+        ErrorKind::ValueValidation,
+    ),
+    (
+        &["bkreplay", "transactions", "--accounts", "-"],
+        ErrorKind::ValueValidation,
+    ),
+    (
+        &["bkreplay", "transactions", "--accounts", "-", "-"],
+        ErrorKind::ValueValidation,
     ),
     (&["bkreplay", "run", "--help"], ErrorKind::DisplayHelp),
     (&["bkreplay", "--help"], ErrorKind::DisplayHelp),

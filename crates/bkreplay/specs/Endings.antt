@@ -1,15 +1,12 @@
 -- How the program ends, by its words.
-use Rattle.std.specs.Prelude.{◌≡◌, ◌≢◌, ◌⊎◌, Option, List, [], true, false}
-use Rattle.clap.specs.Words.{HasKind, Row, Text, fault_of, kind_of, subcommand_of}
+use Rattle.std.specs.Prelude.{◌≡◌, ◌≢◌, ◌⊎◌, List, [], true, false}
+use Rattle.clap.specs.Words.{HasKind, Text, fault_of, kind_of, subcommand_of}
 use Rattle.clap.specs.declared.error.Error.{Error}
 use Rattle.clap.specs.declared.error.kind.ErrorKind.TheVariants as kind
 use Rattle.bk_frames.specs.Device.{Device}
 use Rattle.bk_results.specs.Devices.{IsUntouched}
-use Rattle.bk_cli.specs.CommandLine.{AreNotesOf, IsJobOf, IsOfRoot, command_line}
+use Rattle.bk_cli.specs.CommandLine.{AreNotesOf, IsJobOf, IsOfValues, command_line}
 use Rattle.bk_cli.specs.Exits.{has_fault, is_refusal, is_report, may_end, writes_ahead}
-use Rattle.bk_cli.specs.Explanations.{gaps_told}
-use Rattle.bk_cli.specs.FaultLines.{Reports}
-use Rattle.bk_cli.specs.declared.gaps.Gaps.{Gaps}
 use Rattle.bk_cli.specs.declared.exit.Exit.{Exit}
 use Rattle.bk_cli.specs.declared.exit.Exit.TheVariants as exit
 use Rattle.bk_cli.specs.declared.job.Job.{Job}
@@ -26,20 +23,7 @@ pub record EndsByKind (e : Error) (end : Exit) : Type 0 where
   pub mistake : kind_of e ≢ kind.OutOfMemory → kind_of e ≢ kind.DisplayHelp → kind_of e ≢ kind.DisplayVersion
       → end ≡ exit.No
 
--- the end is that of a fault, which is told as the notes of the words say; that the words could not be read, or their
--- answer not written, is one line
-abbrev pub IsTold : Option (Text × List Row) → Exit → Device → Device → Type 0
-IsTold found end err err' =
-    EndsWithLine false end err err' ⊎ ((n : Notes) × AreNotesOf found n × EndsWithLine n.verbose end err err')
-
--- missing batches only where the notes of the words are verbose
-abbrev pub IsQuietAsNoted : Option (Text × List Row) → Device → Device → Type 0
-IsQuietAsNoted found err err' =
-    (err' ≡ err)
-    ⊎ ((j : Job) × (n : Notes) × IsJobOf found j × AreNotesOf found n × (n.verbose ≡ true)
-    × ((gaps : Gaps) × Reports (gaps_told j gaps) err err'))
-
--- the words have no fault, and the job that they name ran, told as their notes say; where the bytes are to blame nothing is
+-- the words have no fault, and the job that they name ran, reported as their notes say; where the bytes are to blame nothing is
 -- written, but by a job that writes ahead
 pub record RanJob (words : List Text) (end : Exit) (out out' err err' : Device) : Type 0 where
   pub job : Job
@@ -55,7 +39,7 @@ pub record RanJob (words : List Text) (end : Exit) (out out' err err' : Device) 
 -- written of an answer, and one line says what failed
 pub record RanNone (words : List Text) (end : Exit) (out out' err err' : Device) : Type 0 where
   pub error : Error
-  pub names : HasKind (fault_of command_line words) error ⊎ IsOfRoot error (subcommand_of command_line words)
+  pub names : HasKind (fault_of command_line words) error ⊎ IsOfValues error (subcommand_of command_line words)
   pub ends : EndsByKind error end
   pub unwritten : out' ≡ out
   pub quiet : is_report end ≡ true → err' ≡ err

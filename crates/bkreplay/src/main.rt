@@ -2,9 +2,13 @@
 #![tactic(auto)]
 
 mod program;
+mod speaker;
 
-use crate::program::program;
+use crate::program::{System, program};
+use crate::speaker::Speaker;
 use bk_frames::Counted;
+use bk_jobs::Inputs;
+use bk_progress::Display;
 use std::io::IsTerminal;
 use std::process::ExitCode;
 
@@ -12,5 +16,10 @@ fn main(rt: HostRuntime) -> ExitCode {
     let mut out = Counted::new(rt.stdout());
     let terminal = rt.stderr().is_terminal();
     let mut err = Counted::new(rt.stderr());
-    ExitCode::from(program(&rt, terminal, &mut out, &mut err).number())
+    let system = System {
+        inputs: Inputs::new(&rt),
+        display: Display::new(&rt, terminal),
+        speaker: Speaker::new(&rt),
+    };
+    ExitCode::from(program(&rt, &system, &mut out, &mut err).number())
 }

@@ -111,3 +111,31 @@ returns-in-Schedule c = rw c.in-Schedule.is c.schedule_of.ensures
 
 pub returns-in-Compare : goal.returns-in-Compare
 returns-in-Compare c = rw c.in-Compare.is c.compare_of.ensures
+
+pub table_of-requires : goal.table_of-requires
+table_of-requires c = let found = found_of c.args.found.now in sym (first_value-rows found (codes "FILE")) ∙ (sym c.get_str.ensures ∙ sym c.in_ok-file.ensures)
+
+pub returns-in-Transactions : goal.returns-in-Transactions
+returns-in-Transactions c = rw c.in-Transactions.is c.table_of.ensures
+
+pub table_of-requires-in-Postings : goal.table_of-requires-in-Postings
+table_of-requires-in-Postings c = let found = found_of c.args.found.now in sym (first_value-rows found (codes "FILE")) ∙ (sym c.get_str.ensures ∙ sym c.in_ok-file.ensures)
+
+pub returns-in-Postings : goal.returns-in-Postings
+returns-in-Postings c = rw c.in-Postings.is c.table_of-in-Postings.ensures
+
+pub returns-in-Batches : goal.returns-in-Batches
+returns-in-Batches c =
+    let found = found_of c.args.found.now in
+    rw c.batches_of.ensures (ap word_of c.in-Batches.is, refl, sym (first_value-rows found (codes "FILE")) ∙ (sym c.get_str.ensures ∙ sym c.in_ok-file.ensures))
+
+pub link_of-requires : goal.link_of-requires
+link_of-requires c = let found = found_of c.args.found.now in sym (first_value-rows found (codes "FILE")) ∙ (sym c.get_str.ensures ∙ sym c.in_ok-file.ensures)
+
+pub returns-in-Link : goal.returns-in-Link
+returns-in-Link c = rw c.in-Link.is c.link_of.ensures
+
+pub returns-in-CheckChain : goal.returns-in-CheckChain
+returns-in-CheckChain c =
+    let found = found_of c.args.found.now in
+    (ap word_of c.in-CheckChain.is, sym (first_value-rows found (codes "FILE")) ∙ (sym c.get_str.ensures ∙ sym c.in_ok-file.ensures))

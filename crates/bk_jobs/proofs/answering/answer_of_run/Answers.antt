@@ -1,6 +1,6 @@
 -- How each of these jobs may end with an answer.
 use Rattle.std.proofs.Common.{refl}
-use Rattle.bk_jobs.proofs.StatusLemmas.{run_answers, query_ends, summary_answers}
+use Rattle.bk_jobs.proofs.StatusLemmas.{run_answers, query_ends, show_answers, summary_answers}
 use Rattle.bk_jobs.proofs.answering.answer_of_run.Goals as goal
 
 pub returns-in_ok-end-in-Run-clause-answer : goal.returns-in_ok-end-in-Run-clause-answer
@@ -20,3 +20,9 @@ returns-in_ok-end-in-Summary-clause-gaps g c = rw c.in-Summary.is refl
 
 pub returns-in_ok-end-in-Ask-clause-gaps : goal.returns-in_ok-end-in-Ask-clause-gaps
 returns-in_ok-end-in-Ask-clause-gaps g c = rw c.in-Ask.is (c.in_ok-end-in-Ask.ensures.gap, c.in_ok-end-in-Ask.ensures.one)
+
+pub returns-in_ok-end-in-Show-clause-answer : goal.returns-in_ok-end-in-Show-clause-answer
+returns-in_ok-end-in-Show-clause-answer g c = rw c.in-Show.is (show_answers c.in-Show.workers c.in-Show.shown c.in-Show.file _ c.in_ok-end-in-Show.ensures.answer)
+
+pub returns-in_ok-end-in-Show-clause-gaps : goal.returns-in_ok-end-in-Show-clause-gaps
+returns-in_ok-end-in-Show-clause-gaps g c = rw c.in-Show.is refl

@@ -1,5 +1,6 @@
 -- How each of these jobs may end with an answer.
 use Rattle.std.proofs.Common.{refl, inl, inr}
+use Rattle.bk_jobs.proofs.StatusLemmas.{chain_answers}
 use Rattle.bk_jobs.proofs.answering.answer_of_text.Goals as goal
 
 pub returns-in_ok-end-in-Make-clause-answer : goal.returns-in_ok-end-in-Make-clause-answer
@@ -25,3 +26,14 @@ returns-in_ok-end-in-Schedule-clause-answer g c = rw (c.in-Schedule.is, c.in_ok-
 
 pub returns-in_ok-end-in-Schedule-clause-gaps : goal.returns-in_ok-end-in-Schedule-clause-gaps
 returns-in_ok-end-in-Schedule-clause-gaps g c = rw c.in-Schedule.is refl
+
+pub returns-in_ok-end-in-CheckChain-clause-answer : goal.returns-in_ok-end-in-CheckChain-clause-answer
+returns-in_ok-end-in-CheckChain-clause-answer g c =
+    let (v, e) = c.in_ok-end-in-CheckChain.ensures.answer in
+    rw c.in-CheckChain.is (chain_answers c.in-CheckChain.file v _ e)
+
+pub returns-in_ok-end-in-CheckChain-clause-gaps : goal.returns-in_ok-end-in-CheckChain-clause-gaps
+returns-in_ok-end-in-CheckChain-clause-gaps g c = rw c.in-CheckChain.is refl
+
+pub returns-in_ok-end-in-Schedule-clause-report : goal.returns-in_ok-end-in-Schedule-clause-report
+returns-in_ok-end-in-Schedule-clause-report g c = rw c.in-Schedule.is c.in_ok-end-in-Schedule.ensures.report

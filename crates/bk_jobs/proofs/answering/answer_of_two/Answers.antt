@@ -1,6 +1,6 @@
 -- How each of these jobs may end with an answer.
 use Rattle.std.proofs.Common.{refl}
-use Rattle.bk_jobs.proofs.StatusLemmas.{claim_answers}
+use Rattle.bk_jobs.proofs.StatusLemmas.{claim_answers, pick_answers}
 use Rattle.bk_jobs.proofs.answering.answer_of_two.Goals as goal
 
 pub returns-in_ok-end-in-Compare-clause-answer : goal.returns-in_ok-end-in-Compare-clause-answer
@@ -16,3 +16,9 @@ returns-in_ok-end-in-CheckReport-clause-gaps g c = rw c.in-CheckReport.is refl
 
 pub returns-in_ok-end-in-Compare-clause-gaps : goal.returns-in_ok-end-in-Compare-clause-gaps
 returns-in_ok-end-in-Compare-clause-gaps g c = rw c.in-Compare.is c.in_ok-end-in-Compare.ensures.gaps
+
+pub returns-in_ok-end-in-Pick-clause-answer : goal.returns-in_ok-end-in-Pick-clause-answer
+returns-in_ok-end-in-Pick-clause-answer g c = rw c.in-Pick.is (pick_answers c.in-Pick.workers c.in-Pick.shown c.in-Pick.accounts c.in-Pick.file _ c.in_ok-end-in-Pick.ensures.answer)
+
+pub returns-in_ok-end-in-Pick-clause-gaps : goal.returns-in_ok-end-in-Pick-clause-gaps
+returns-in_ok-end-in-Pick-clause-gaps g c = rw c.in-Pick.is refl

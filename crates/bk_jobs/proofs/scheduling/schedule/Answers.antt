@@ -10,8 +10,8 @@ returns-in_err-listed-clause-fault g c =
 
 pub returns-in-Ok-clause-report : goal.returns-in-Ok-clause-report
 returns-in-Ok-clause-report g c =
-    schedule_is_out c.args.workers c.in_ok-listed.listed (g.S1.Source.state c.args.feed.now) (g.S2.Source.state c.args.events.now) (g.S2.Source.state c.read_events.new.source) (g.O.Sink.state c.args.out.now) (g.O.Sink.state c.apply_schedule.new.sink)
-    c.in_ok-listed.ensures.events c.in-Ok.ensures.report (rw (← c.number.ensures, ← c.deref.ensures.value) c.in-Ok.ensures.whole)
+    schedule_is_out c.args.workers c.in_ok-listed.listed (g.S1.Source.state c.args.feed.now) (g.S1.Source.state c.apply_schedule.new.source) (g.S2.Source.state c.args.events.now) (g.S2.Source.state c.read_events.new.source) (g.O.Sink.state c.args.out.now) (g.O.Sink.state c.apply_schedule.new.sink)
+    c.in_ok-listed.ensures.events (rw (← c.number.ensures, ← c.deref.ensures.value) c.in-Ok.ensures.report)
 
 pub returns-clause-fault : goal.returns-clause-fault
 returns-clause-fault g c =

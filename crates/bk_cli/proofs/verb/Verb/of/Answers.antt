@@ -38,19 +38,34 @@ pub returns-then-is-11 : goal.returns-then-is-11
 returns-then-is-11 c = is_word _ (codes "statement") (c.is-11.ensures ∙ c.if-is-11.true)
 
 pub returns-then-is-12 : goal.returns-then-is-12
-returns-then-is-12 c = is_word _ (codes "check-proof") (c.is-12.ensures ∙ c.if-is-12.true)
+returns-then-is-12 c = is_word _ (codes "transactions") (c.is-12.ensures ∙ c.if-is-12.true)
 
 pub returns-then-is-13 : goal.returns-then-is-13
-returns-then-is-13 c = is_word _ (codes "check-state") (c.is-13.ensures ∙ c.if-is-13.true)
+returns-then-is-13 c = is_word _ (codes "postings") (c.is-13.ensures ∙ c.if-is-13.true)
 
 pub returns-then-is-14 : goal.returns-then-is-14
-returns-then-is-14 c = is_word _ (codes "check-report") (c.is-14.ensures ∙ c.if-is-14.true)
+returns-then-is-14 c = is_word _ (codes "batches") (c.is-14.ensures ∙ c.if-is-14.true)
 
 pub returns-then-is-15 : goal.returns-then-is-15
-returns-then-is-15 c = is_word _ (codes "apply") (c.is-15.ensures ∙ c.if-is-15.true)
+returns-then-is-15 c = is_word _ (codes "check-proof") (c.is-15.ensures ∙ c.if-is-15.true)
 
 pub returns-then-is-16 : goal.returns-then-is-16
-returns-then-is-16 c = is_word _ (codes "schedule") (c.is-16.ensures ∙ c.if-is-16.true)
+returns-then-is-16 c = is_word _ (codes "check-state") (c.is-16.ensures ∙ c.if-is-16.true)
+
+pub returns-then-is-17 : goal.returns-then-is-17
+returns-then-is-17 c = is_word _ (codes "check-report") (c.is-17.ensures ∙ c.if-is-17.true)
+
+pub returns-then-is-18 : goal.returns-then-is-18
+returns-then-is-18 c = is_word _ (codes "apply") (c.is-18.ensures ∙ c.if-is-18.true)
+
+pub returns-then-is-19 : goal.returns-then-is-19
+returns-then-is-19 c = is_word _ (codes "schedule") (c.is-19.ensures ∙ c.if-is-19.true)
+
+pub returns-then-is-20 : goal.returns-then-is-20
+returns-then-is-20 c = is_word _ (codes "compare") (c.is-20.ensures ∙ c.if-is-20.true)
+
+pub returns-then-is-21 : goal.returns-then-is-21
+returns-then-is-21 c = is_word _ (codes "link") (c.is-21.ensures ∙ c.if-is-21.true)
 
 pub returns : goal.returns
 returns c =
@@ -66,9 +81,14 @@ returns c =
     let after_anchors = not_first word (codes "anchors") (drop 9 all_words) (c.is-9.ensures ∙ c.if-is-9.false) after_summary in
     let after_dag = not_first word (codes "dag") (drop 10 all_words) (c.is-10.ensures ∙ c.if-is-10.false) after_anchors in
     let after_statement = not_first word (codes "statement") (drop 11 all_words) (c.is-11.ensures ∙ c.if-is-11.false) after_dag in
-    let after_check_proof = not_first word (codes "check-proof") (drop 12 all_words) (c.is-12.ensures ∙ c.if-is-12.false) after_statement in
-    let after_check_state = not_first word (codes "check-state") (drop 13 all_words) (c.is-13.ensures ∙ c.if-is-13.false) after_check_proof in
-    let after_check_report = not_first word (codes "check-report") (drop 14 all_words) (c.is-14.ensures ∙ c.if-is-14.false) after_check_state in
-    let after_apply = not_first word (codes "apply") (drop 15 all_words) (c.is-15.ensures ∙ c.if-is-15.false) after_check_report in
-    let after_schedule = not_first word (codes "schedule") (drop 16 all_words) (c.is-16.ensures ∙ c.if-is-16.false) after_apply in
-    the_last word (codes "compare") after_schedule
+    let after_transactions = not_first word (codes "transactions") (drop 12 all_words) (c.is-12.ensures ∙ c.if-is-12.false) after_statement in
+    let after_postings = not_first word (codes "postings") (drop 13 all_words) (c.is-13.ensures ∙ c.if-is-13.false) after_transactions in
+    let after_batches = not_first word (codes "batches") (drop 14 all_words) (c.is-14.ensures ∙ c.if-is-14.false) after_postings in
+    let after_check_proof = not_first word (codes "check-proof") (drop 15 all_words) (c.is-15.ensures ∙ c.if-is-15.false) after_batches in
+    let after_check_state = not_first word (codes "check-state") (drop 16 all_words) (c.is-16.ensures ∙ c.if-is-16.false) after_check_proof in
+    let after_check_report = not_first word (codes "check-report") (drop 17 all_words) (c.is-17.ensures ∙ c.if-is-17.false) after_check_state in
+    let after_apply = not_first word (codes "apply") (drop 18 all_words) (c.is-18.ensures ∙ c.if-is-18.false) after_check_report in
+    let after_schedule = not_first word (codes "schedule") (drop 19 all_words) (c.is-19.ensures ∙ c.if-is-19.false) after_apply in
+    let after_compare = not_first word (codes "compare") (drop 20 all_words) (c.is-20.ensures ∙ c.if-is-20.false) after_schedule in
+    let after_link = not_first word (codes "link") (drop 21 all_words) (c.is-21.ensures ∙ c.if-is-21.false) after_compare in
+    the_last word (codes "check-chain") after_link

@@ -1,0 +1,28 @@
+//! Where progress is shown.
+
+use crate::progress::{Manner, Progress};
+use std::time::Clock;
+
+/// Standard error and the clock, for progress alone: what has a `Display` can write nothing but the lines of a [`Progress`].
+#[derive(Drop)]
+pub struct Display<'a, P> {
+    shows: &'a P,
+    terminal: bool,
+}
+
+impl<'a, P: Clock + Eprint> Display<'a, P> {
+    /// Standard error may be a terminal, on which progress is shown in one line.
+    pub fn new(shows: &'a P, terminal: bool) -> Self {
+        Display { shows, terminal }
+    }
+
+    /// The progress of a job, which is hidden where it is not wanted.
+    pub fn progress(&self, wanted: bool) -> Progress<'a, P> {
+        let manner = match (wanted, self.terminal) {
+            (false, _) => Manner::Hidden,
+            (true, false) => Manner::Lines,
+            (true, true) => Manner::Terminal,
+        };
+        Progress::new(self.shows, manner)
+    }
+}
