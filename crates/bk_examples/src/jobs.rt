@@ -17,7 +17,7 @@ use std::thread::Threads;
 // The fault of a failed read of the first file of a command.
 fn first_fault(command: &str) -> &'static [u8] {
     match command {
-        "make" | "check-proof" => UNREAD_TEXT,
+        "make" | "check-proof" | "check-chain" => UNREAD_TEXT,
         _ => UNREAD_FEED,
     }
 }

@@ -3,7 +3,7 @@
 use anyhow::{Result, bail};
 use bk_cli::{Exit, parse_line};
 use bk_frames::Counted;
-use bk_jobs::open_and_run;
+use bk_jobs::{Inputs, open_and_run};
 use bk_progress::{Manner, Progress};
 use clap::Error;
 use clap::error::ErrorKind;
@@ -76,7 +76,7 @@ where
     let mut out = Counted::new(Vec::new(alloc));
     let mut err = Counted::new(Vec::new(alloc));
     let hidden = Progress::new(rt, Manner::Hidden);
-    let exit = open_and_run(rt, &line, &hidden, &mut out, &mut err);
+    let exit = open_and_run(&Inputs::new(rt), rt, &line, &hidden, &mut out, &mut err);
     Ok(Outcome {
         status: exit.number(),
         out: out.into_inner(),
