@@ -160,6 +160,18 @@ def split(sender, payments, seq):
     return _transaction(4, sender, receivers, set(), seq, body)
 
 
+def next_genesis(report):
+    """The accounts at the end of a feed, for the opening of the next: tuples (id, balance, sequence number). `report` is
+    the text of `run`, or its lines; its order has to stop at no missing batch, since a chain goes on only from a feed
+    that is whole."""
+    lines = report.splitlines() if isinstance(report, str) else list(report)
+    words = [line.split() for line in lines]
+    need(any(line[:1] == ["state"] for line in words), "the report has no line `state`: it is no whole report of `run`")
+    missing = [line[1] for line in words if line[:1] == ["missing"]]
+    need(not missing, f"the order stops at the missing batch {''.join(missing[:1])}")
+    return [tuple(int(word) for word in line[1:]) for line in words if line[:1] == ["account"]]
+
+
 def one_commit(out):
     """Account 1 pays 30 to account 2, and four members commit the payment."""
     keys = [bytes([member + 1]) * 32 for member in range(4)]
