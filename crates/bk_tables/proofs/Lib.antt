@@ -14,8 +14,13 @@ pub mod AccountLines
 pub mod WholeLists
 pub mod PaidSums
 pub mod RowLaws
+pub mod PlacesShown
+pub mod HeldTransactions
+pub mod OneBatches
+pub mod SomeTable
 pub mod OneTable
 pub mod PartRows
+pub mod WholeStatements
 pub mod PartSums
 pub mod PartAmounts
 pub mod PostingTexts

@@ -65,7 +65,7 @@ module _ (frames : List Frame) (batches : List Batch) (are : AreBatches frames b
       let s = are.sound f.batch f.inside in
       ap sha256 (sym f.payload_is ∙ ap (λ (b : Batch). b.payload) s.2) ∙ (sym (ap (λ (b : Batch). b.digest) s.2) ∙ f.digest_is)
 
-  front : (ds : List (List ℕ)) → (rest : List (List ℕ)) × (ds ≡ map sha256 (before_missing batches ds).list ++ rest)
+  pub front : (ds : List (List ℕ)) → (rest : List (List ℕ)) × (ds ≡ map sha256 (before_missing batches ds).list ++ rest)
   front [] = ([], refl)
   front (d ∷ more) = by_case (payload_of batches d) refl (front more)
     where

@@ -1,6 +1,6 @@
--- The rows of one account are the entries of its statement.
+-- The rows of one account in a place are the entry of its statement.
 use Rattle.std.proofs.Common.{◌≡◌, ◌≢◌, ℕ, ◌<◌, ◌≤◌, Bool, true, false, cond, eqb, ltb, ◌||◌, ◌&&◌, List, [], ◌∷◌, ◌++◌, map, Option, Some, None, refl, sym, ap, ◌∙◌, arith}
-use Rattle.std.specs.Prelude.{filter, option_map, unwrap_or}
+use Rattle.std.specs.Prelude.{IfSome, filter, option_map, unwrap_or}
 use Rattle.std.specs.List.{AllByRecursion, list_any}
 use Rattle.std.proofs.lemmas.Bool.{eqb-true, eq-eqb}
 use Rattle.std.proofs.lemmas.Bool.Decides.{nat_tests}
@@ -13,11 +13,10 @@ use Rattle.bk_tx.specs.declared.body.Body.{Body}
 use Rattle.bk_tx.specs.declared.body.Body.TheVariants as body
 use Rattle.bk_rules.specs.Rule.{Guard, guard_of}
 use Rattle.bk_rules.specs.Fold.{outcome_at}
-use Rattle.bk_views.specs.Statement.{Course, entries_by, entry_with, guards, role_in}
-use Rattle.bk_tables.specs.Laws.{PostingsAreEntries}
+use Rattle.bk_views.specs.Statement.{Course, entries_by, entries_of, entry_with, guards, role_in}
 use Rattle.bk_views.specs.declared.entry.Role.{Role}
 use Rattle.bk_views.specs.declared.entry.Role.TheVariants as role
-use Rattle.bk_tables.specs.Postings.{Part, guard_parts, part_with, parts_of, posting_of}
+use Rattle.bk_tables.specs.Postings.{Part, guard_parts, part_with, parts_of, posting_of, postings_at}
 use Rattle.bk_tables.specs.declared.posting.Posting.{Posting}
 
 abbrev is_of : ℕ → Part → Bool
@@ -188,9 +187,9 @@ rows_one c place t id (p ∷ parts) = by_test (eqb p.account id) (rows_one c pla
     by_test true e = ap (λ (qs : List Posting). posting_of c place t p ∷ qs) e
     by_test false e = e
 
-pub are_entries : PostingsAreEntries
-are_entries c id place None h = refl
-are_entries c id place (Some t) h =
+pub place_entries : (c : Course) (id place : ℕ) (t : Option Transaction) → IfSome t IsTransaction → map (λ (q : Posting). q.entry) (filter (λ (q : Posting). eqb q.account id) (postings_at c place t)) ≡ entries_of c id place t
+place_entries c id place None h = refl
+place_entries c id place (Some t) h =
     ap (map (λ (q : Posting). q.entry)) (rows_one c place t id (parts_of t) ∙ ap (map (posting_of c place t)) (parts_one t id h)) ∙ by_role (role_in t id)
   where
     by_role : (r : Option Role) → map (λ (q : Posting). q.entry) (map (posting_of c place t) (parts_by id r)) ≡ entries_by (entry_with c id place t (outcome_at c.version c.txs place c.opening).receipt) r

@@ -115,7 +115,7 @@ module _ (z : Sizes) (held : List Node) (anchors : List CertRef) (i : ℕ) (sett
   }
 
 -- the certificates that are placed
-certs_added : (old part : List CertRef) (placed : List Placed) (anchor : ℕ) → certs_of placed ≡ old → certs_of (placed ++ map (placed_with anchor) part) ≡ old ++ part
+pub certs_added : (old part : List CertRef) (placed : List Placed) (anchor : ℕ) → certs_of placed ≡ old → certs_of (placed ++ map (placed_with anchor) part) ≡ old ++ part
 certs_added old part placed anchor e = map-append (λ (p : Placed). p.cert) placed (map (placed_with anchor) part) ∙ (λ i. e i ++ certs_with part i)
   where
     certs_with : (cs : List CertRef) → certs_of (map (placed_with anchor) cs) ≡ cs

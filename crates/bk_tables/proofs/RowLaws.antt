@@ -13,10 +13,12 @@ use Rattle.bk_report.specs.declared.line.Line.TheVariants as line
 use Rattle.bk_tx.specs.Batches.{count_in}
 use Rattle.bk_tables.specs.Batches.{IsBatchRow, names}
 use Rattle.bk_tables.specs.Csv.{table_text}
-use Rattle.bk_tables.specs.Laws.{ListPicksRows, RowsAreBatchLines}
-use Rattle.bk_tables.specs.Payments.{names_one, payment_fields}
+use Rattle.bk_tables.specs.Laws.{ListPicksPostings, ListPicksRows, RowsAreBatchLines}
+use Rattle.bk_tables.specs.Payments.{is_among, names_one, payment_fields}
+use Rattle.bk_tables.specs.Postings.{posting_fields}
 use Rattle.bk_tables.specs.declared.batches.BatchRow.{BatchRow}
 use Rattle.bk_tables.specs.declared.payment.PaymentRow.{PaymentRow}
+use Rattle.bk_tables.specs.declared.posting.Posting.{Posting}
 
 all_kept : {X : Type 0} (xs : List X) → filter (λ (x : X). true) xs ≡ xs
 all_kept [] = refl
@@ -24,6 +26,9 @@ all_kept (x ∷ xs) = ap (λ (ys : List _). x ∷ ys) (all_kept xs)
 
 pub list_picks : ListPicksRows
 list_picks ids rows = ap (λ (xs : List PaymentRow). table_text (map payment_fields xs)) (sym (all_kept (filter (λ (row : PaymentRow). names_one ids row.asked) rows)))
+
+pub list_picks_accounts : ListPicksPostings
+list_picks_accounts ids rows = ap (λ (xs : List Posting). table_text (map posting_fields xs)) (sym (all_kept (filter (λ (row : Posting). is_among ids row.account) rows)))
 
 -- what is found is there
 found_inside : (p : CertRef → Bool) (xs : List CertRef) (y : CertRef) → find p xs ≡ Some y → Contains xs y

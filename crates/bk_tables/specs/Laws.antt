@@ -1,7 +1,7 @@
--- What the definitions of the tables say together.
-use Rattle.std.specs.Prelude.{◌≡◌, ◌==◌, ℕ, Contains, IfSome, List, Option, Some, None, filter, map, slice_index_or}
+-- What the rows of the tables say together.
+use Rattle.std.specs.Prelude.{◌≡◌, ◌==◌, ◌<◌, ◌↔◌, ℕ, Contains, IfSome, List, length, Option, Some, None, filter, map, slice_index_or}
 use Rattle.std.specs.List.{AllByRecursion, AllZip, sum_by}
-use Rattle.bk_base.specs.Feed.{FeedValue}
+use Rattle.bk_base.specs.Numbers.{IsBytes}
 use Rattle.bk_base.specs.declared.genesis.Row.{Row}
 use Rattle.bk_base.specs.declared.version.Version.{Version}
 use Rattle.bk_cert.specs.Node.{Node}
@@ -10,22 +10,33 @@ use Rattle.bk_order.specs.Orders.{Ordered}
 use Rattle.bk_report.specs.Report.{batch_lines}
 use Rattle.bk_report.specs.RunLines.{cert_lines}
 use Rattle.bk_report.specs.declared.line.Line.TheVariants as line
-use Rattle.bk_tx.specs.Batches.{count_in}
+use Rattle.bk_tx.specs.Batches.{count_in, transactions_of}
 use Rattle.bk_tx.specs.Spelling.{IsTransaction}
 use Rattle.bk_tx.specs.Transaction.{Transaction}
 use Rattle.bk_views.specs.Laws.{adds, takes}
-use Rattle.bk_views.specs.Statement.{Course, entries_of}
+use Rattle.bk_views.specs.Statement.{Course, entries}
 use Rattle.bk_rules.specs.declared.receipt.Receipt.{Receipt}
 use Rattle.bk_rules.specs.Rows.{outcome_of}
-use Rattle.bk_results.specs.declared.status.Status.{Status}
 use Rattle.bk_tables.specs.Batches.{IsBatchRow}
-use Rattle.bk_tables.specs.Payments.{names_one, payments_text, rows_at}
-use Rattle.bk_tables.specs.Postings.{postings_at}
+use Rattle.bk_tables.specs.Payments.{is_among, names_one, payments_text, rows_at, rows_from}
+use Rattle.bk_tables.specs.Postings.{postings, postings_at, postings_text}
 use Rattle.bk_tables.specs.declared.posting.Posting.{Posting}
-use Rattle.bk_tables.specs.Tables.{IsPaymentTable}
 use Rattle.bk_tables.specs.declared.batches.BatchRow.{BatchRow}
 use Rattle.bk_tables.specs.declared.payment.At.{At}
 use Rattle.bk_tables.specs.declared.payment.PaymentRow.{PaymentRow}
+
+-- ---- transactions
+
+-- each of these that is well formed is a transaction that bytes can hold
+abbrev pub AreTransactions : List (Option Transaction) → Type 0
+AreTransactions txs = AllByRecursion (λ (t : Option Transaction). IfSome t IsTransaction) txs
+
+-- what the bytes of payloads hold is so
+abbrev pub PayloadsHoldTransactions : Type 0
+PayloadsHoldTransactions = (payloads : List (List ℕ))
+    → AllByRecursion IsBytes payloads → AreTransactions (transactions_of payloads)
+
+-- ---- the rows of payments
 
 -- a transaction at a place, with what became of it
 abbrev pub at_with : ℕ → ℕ → Receipt → At
@@ -44,10 +55,25 @@ PaidAddsUp = (v : Version) (t : Option Transaction) (accounts : List Row) (place
     → let receipt = (outcome_of v t accounts).receipt in
     sum_by (λ (row : PaymentRow). row.paid) (rows_at (at_with place batch receipt) t) ≡ receipt.moved
 
+-- one of these rows is of this place
+abbrev pub HasRow : List PaymentRow → ℕ → Type 0
+HasRow rows place = (row : PaymentRow) × Contains rows row × (row.place ≡ place)
+
+-- the places of the rows are those of the receipts, and so of the report's lines of transactions
+abbrev pub PlacesAreRows : Type 0
+PlacesAreRows = (receipts : List Receipt) (payloads : List (List ℕ)) → length receipts ≡ length (transactions_of payloads)
+    → AreTransactions (transactions_of payloads) → (place : ℕ)
+    → (place < length receipts) ↔ HasRow (rows_from receipts 0 0 payloads) place
+
 -- the rows that a list shows are those without it that name an account of the list, in their order
 abbrev pub ListPicksRows : Type 0
 ListPicksRows = (ids : List ℕ) (rows : List PaymentRow)
     → payments_text (Some ids) rows ≡ payments_text None (filter (λ (row : PaymentRow). names_one ids row.asked) rows)
+
+-- the same of postings: those whose account the list names
+abbrev pub ListPicksPostings : Type 0
+ListPicksPostings = (ids : List ℕ) (rows : List Posting)
+    → postings_text (Some ids) rows ≡ postings_text None (filter (λ (row : Posting). is_among ids row.account) rows)
 
 -- the rows of batches, by their indexes and counts, are the report's lines of batches, and the certificate of each is one of
 -- its lines of certificates
@@ -57,15 +83,10 @@ RowsAreBatchLines = (z : Sizes) (held : List Node) (o : Ordered) (rows : List Ba
     → (batch_lines 0 (map count_in o.payloads.list) ≡ batch_lines 0 (map (λ (row : BatchRow). row.count) rows))
     × AllByRecursion (λ (row : BatchRow). Contains (cert_lines o.order) (line.Cert row.cert.round row.cert.author)) rows
 
--- a feed has one table of payments, and one end of it
-abbrev pub OnePaymentTable : Type 0
-OnePaymentTable = (ids : Option (List ℕ)) (feed : FeedValue) (end also : Status) (text other : List ℕ)
-    → IsPaymentTable ids feed end text → IsPaymentTable ids feed also other → (text ≡ other) × (end ≡ also)
-
--- the rows of postings of one account are, place by place, the entries of its statement
+-- the rows of postings of one account are, in order, the entries of its statement
 abbrev pub PostingsAreEntries : Type 0
-PostingsAreEntries = (c : Course) (id place : ℕ) (t : Option Transaction) → IfSome t IsTransaction
-    → map (λ (q : Posting). q.entry) (filter (λ (q : Posting). q.account == id) (postings_at c place t)) ≡ entries_of c id place t
+PostingsAreEntries = (c : Course) (id : ℕ) → AreTransactions c.txs
+    → map (λ (q : Posting). q.entry) (filter (λ (q : Posting). q.account == id) (postings c)) ≡ entries c id
 
 -- in each place what the sender's row takes is what the receivers' rows add
 abbrev pub OutIsAllIn : Type 0

@@ -6,3 +6,4 @@ pub mod private
 pub mod Listing
 pub mod Postings
 pub mod Laws
+pub mod TextLaws

@@ -1,6 +1,12 @@
 //! Laws of the definitions, each the contract of a function that does nothing.
 
-ghost use Rattle.bk_tables.specs.Laws.{ListPicksRows, OnePaymentTable, OutIsAllIn, PaidAddsUp, PostingsAreEntries, RowsAreBatchLines, RowsHaveStatus};
+ghost use Rattle.bk_tables.specs.Laws.{ListPicksPostings, ListPicksRows, OutIsAllIn, PaidAddsUp, PayloadsHoldTransactions, PlacesAreRows, PostingsAreEntries, RowsAreBatchLines, RowsHaveStatus};
+ghost use Rattle.bk_tables.specs.TextLaws.{OneBatchTable, OnePaymentTable, OnePostingTable};
+
+/// What the bytes of payloads hold are transactions, or malformed.
+pub fn payloads_hold_transactions()
+    ensures { PayloadsHoldTransactions }
+{}
 
 /// The rows of a place of `transactions` have the status of its `tx` line.
 pub fn rows_have_status()
@@ -12,22 +18,29 @@ pub fn paid_adds_up()
     ensures { PaidAddsUp }
 {}
 
+/// The places of the rows of `transactions` are those of the `tx` lines: every place has a row, and
+/// every row is of one of them.
+pub fn places_are_rows()
+    ensures { PlacesAreRows }
+{}
+
 /// The rows of `transactions` with a list are those without it that name an account of the list.
 pub fn list_picks_rows()
     ensures { ListPicksRows }
 {}
 
-/// The rows of `batches` are the report's `batch` lines, and the certificate of each is one of its `cert` lines.
+/// The rows of `postings` with a list are those without it whose account the list names.
+pub fn list_picks_postings()
+    ensures { ListPicksPostings }
+{}
+
+/// The rows of `batches` are the report's `batch` lines, and the certificate of each is one of its
+/// `cert` lines.
 pub fn rows_are_batch_lines()
     ensures { RowsAreBatchLines }
 {}
 
-/// A feed that nothing stops has exactly one text of `transactions`, with one end.
-pub fn one_payment_table()
-    ensures { OnePaymentTable }
-{}
-
-/// The rows of `postings` of one account are the `tx` lines of its `statement`.
+/// The rows of `postings` of one account are the `tx` lines of its `statement`, in order.
 pub fn postings_are_entries()
     ensures { PostingsAreEntries }
 {}
@@ -35,4 +48,19 @@ pub fn postings_are_entries()
 /// In each place of `postings` the amount `out` is the sum of the amounts `in`.
 pub fn out_is_all_in()
     ensures { OutIsAllIn }
+{}
+
+/// A feed that has a report has exactly one text of `transactions`, which ends as the report does.
+pub fn one_payment_table()
+    ensures { OnePaymentTable }
+{}
+
+/// A feed that has a report has exactly one text of `postings`, which ends as the report does.
+pub fn one_posting_table()
+    ensures { OnePostingTable }
+{}
+
+/// A feed that has a report has exactly one text of `batches`, which ends as the report does.
+pub fn one_batch_table()
+    ensures { OneBatchTable }
 {}
