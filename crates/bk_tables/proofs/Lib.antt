@@ -27,3 +27,5 @@ pub mod PostingTexts
 pub mod PostingWalks
 pub mod Slots
 pub mod PostingTables
+pub mod CountedOnce
+pub mod RowsCounted

@@ -7,3 +7,4 @@ pub mod Listing
 pub mod Postings
 pub mod Laws
 pub mod TextLaws
+pub mod Counted

@@ -1,5 +1,6 @@
 //! Laws of the definitions, each the contract of a function that does nothing.
 
+ghost use Rattle.bk_tables.specs.Counted.{CountsOnce, RowsCountOnce};
 ghost use Rattle.bk_tables.specs.Laws.{ListPicksPostings, ListPicksRows, OutIsAllIn, PaidAddsUp, PayloadsHoldTransactions, PlacesAreRows, PostingsAreEntries, RowsAreBatchLines, RowsHaveStatus};
 ghost use Rattle.bk_tables.specs.TextLaws.{OneBatchTable, OnePaymentTable, OnePostingTable};
 
@@ -22,6 +23,14 @@ pub fn paid_adds_up()
 /// every row is of one of them.
 pub fn places_are_rows()
     ensures { PlacesAreRows }
+{}
+
+/// Of the places with one `from` and `seq` at most one has status 0, 5 or 6, in a feed and in a chain
+/// of feeds. So the rows of `transactions` with such a status and one `from` and `seq` are of one
+/// place.
+pub fn counts_once()
+    ensures places { CountsOnce }
+    ensures rows { RowsCountOnce }
 {}
 
 /// The rows of `transactions` with a list are those without it that name an account of the list.
