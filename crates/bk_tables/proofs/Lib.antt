@@ -19,6 +19,8 @@ pub mod HeldTransactions
 pub mod OneBatches
 pub mod SomeTable
 pub mod OneTable
+pub mod PlainRows
+pub mod ReadBack
 pub mod PartRows
 pub mod WholeStatements
 pub mod PartSums

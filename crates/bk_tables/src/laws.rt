@@ -2,7 +2,7 @@
 
 ghost use Rattle.bk_tables.specs.Counted.{CountsOnce, RowsCountOnce};
 ghost use Rattle.bk_tables.specs.Laws.{ListPicksPostings, ListPicksRows, OutIsAllIn, PaidAddsUp, PayloadsHoldTransactions, PlacesAreRows, PostingsAreEntries, RowsAreBatchLines, RowsHaveStatus};
-ghost use Rattle.bk_tables.specs.TextLaws.{OneBatchTable, OnePaymentTable, OnePostingTable};
+ghost use Rattle.bk_tables.specs.TextLaws.{BatchesReadBack, OneBatchTable, OnePaymentTable, OnePostingTable, PaymentsReadBack, PostingsReadBack};
 
 /// What the bytes of payloads hold are transactions, or malformed.
 pub fn payloads_hold_transactions()
@@ -72,4 +72,12 @@ pub fn one_posting_table()
 /// A feed that has a report has exactly one text of `batches`, which ends as the report does.
 pub fn one_batch_table()
     ensures { OneBatchTable }
+{}
+
+/// A reader of the kit's `csv` with its defaults, but for no header row, reads each text as its
+/// header and the fields of its rows.
+pub fn csv_reads_back()
+    ensures batches { BatchesReadBack }
+    ensures transactions { PaymentsReadBack }
+    ensures postings { PostingsReadBack }
 {}
