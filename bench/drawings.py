@@ -1,5 +1,5 @@
-"""A plain reading of `dag`: the picture of some rounds, from the bytes of a feed that is not stopped. The style and the key
-are those of the program's source; all else is written here once more."""
+"""A plain reading of `dag`: the picture of some rounds, from the bytes of a feed that is not stopped. The style sheet is that
+of the definitions; all else is written here once more."""
 import os
 import re
 import struct
@@ -9,11 +9,24 @@ from drawn import committee_of, verdict
 from readings import admitted_of, anchors_lines, history_of, leader_of
 
 
-def constant(name):
-    """A text of crates/bk_picture/src/fixed.rt."""
-    with open(os.path.join(ROOT, "crates/bk_picture/src/fixed.rt"), encoding="utf-8") as source:
-        text = re.search(rf'const {name}: &str = "([^"]*)"', source.read())[1]
-    return re.sub(r"\\\n *", "", text).replace("\\n", "\n")
+def style_sheet():
+    """The style sheet and the background, as crates/bk_picture/specs/Fixed.antt defines them."""
+    with open(os.path.join(ROOT, "crates/bk_picture/specs/Fixed.antt"), encoding="utf-8") as source:
+        body = source.read().split("\nstyle_text =\n")[1].split("\n\n")[0]
+    return "".join(re.findall(r'codes "([^"]*)"', body)).replace("\\n", "\n")
+
+
+def key():
+    """The signs of the key: a column of circles, one of rings and one of lines, each sign 24 below the one before."""
+    text = ""
+    columns = ((0, 6, 18, ("ordered", "admitted", "waiting")), (120, 10, 138, ("voted", "linked", "skipped", "open")))
+    for left, radius, right, words in columns:
+        for row, word in enumerate(words):
+            at = (f" cx='{left}'" if left else "") + (f" cy='{24 * row}'" if row else "")
+            text += f"<circle class='{word}'{at} r='{radius}'/><text x='{right}' y='{24 * row + 4}'>{word}</text>\n"
+    for row, (kind, word) in enumerate((("l", "parent"), ("v", "vote"))):
+        text += f"<path class='{kind}' d='M230 {24 * row}h24'/><text x='262' y='{24 * row + 4}'>{word}</text>\n"
+    return text
 
 
 def height(member):
@@ -74,7 +87,7 @@ def dag_text(version, frames, first, count):
     labels = (f"<text x='24' y='{height(member) + 4}'>{member}</text>\n" for member in range(committee.n))
     return (f"<svg xmlns='http://www.w3.org/2000/svg' version='1.1' role='img' viewBox='0 0 {wide} {high}'"
             f" width='{wide}' height='{high}'>\n<title>{count} rounds from {first}, {committee.n} members</title>\n"
-            + constant("STYLE") + "".join(links(committee, admitted, first, *place) for place in places)
+            + style_sheet() + "".join(links(committee, admitted, first, *place) for place in places)
             + "".join(column(committee, classes, rows.get(number), number, x) for number, x in places)
             + "".join(labels) + f"<g class='k' transform='translate(60 {height(committee.n) + 20})'>\n"
-            + constant("KEY") + "</g>\n</svg>\n")
+            + key() + "</g>\n</svg>\n")

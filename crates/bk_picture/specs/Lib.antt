@@ -1,4 +1,5 @@
 pub mod Picture
+pub mod Fixed
 pub mod Svg
 pub mod Drawing
 pub mod private

@@ -5,7 +5,7 @@ use Rattle.std.specs.Int.{bit_at}
 use Rattle.bk_views.specs.Anchors.{row_text, state_word, votes_word}
 use Rattle.bk_views.specs.declared.anchors.AnchorRow.{AnchorRow}
 use Rattle.bk_views.specs.declared.anchors.AnchorState.{AnchorState}
-use Rattle.bk_picture.specs.declared.fixed.TheConstants.{KEY, STYLE}
+use Rattle.bk_picture.specs.Fixed.{signs_text, style_text}
 use Rattle.bk_picture.specs.declared.picture.Cell.{Cell}
 use Rattle.bk_picture.specs.declared.picture.Class.{Class}
 use Rattle.bk_picture.specs.declared.picture.Class.TheVariants as class
@@ -42,7 +42,7 @@ name_line count from members =
     ++ codes " members</title>\n"
 
 unfoldable pub head_text : Picture → List ℕ
-head_text p = head_line p.count p.members ++ (name_line p.count p.from p.members ++ STYLE.now)
+head_text p = head_line p.count p.members ++ (name_line p.count p.from p.members ++ style_text)
 
 -- ---- the lines to parents
 
@@ -169,7 +169,7 @@ abbrev pub key_head : ℕ → List ℕ
 key_head y = codes "<g class='k' transform='translate(60 " ++ decimal y ++ codes ")'>\n"
 
 unfoldable pub key_text : ℕ → List ℕ
-key_text members = key_head (height_of members + 20) ++ (KEY.now ++ codes "</g>\n</svg>\n")
+key_text members = key_head (height_of members + 20) ++ (signs_text ++ codes "</g>\n</svg>\n")
 
 -- ---- the whole
 

@@ -1,7 +1,11 @@
 //! The fixed parts of a picture's text.
 
-/// The style, for light and dark backgrounds, and the background.
-pub const STYLE: &str = "<style>\n\
+ghost use Rattle.std.specs.Prelude.{◌≡◌, ◌++◌, OnOk, string_bytes};
+ghost use Rattle.bk_picture.specs.Fixed.{signs_text, style_text};
+
+use std::alloc::AllocError;
+
+const STYLE: &str = "<style>\n\
     .b{fill:#fff}text{font:12px sans-serif;fill:#222;text-anchor:middle}.k text{text-anchor:start}\n\
     .l{fill:none;stroke:#888;stroke-width:.8;stroke-opacity:.6}.v{fill:none;stroke:#a50;stroke-width:2.6}\n\
     .ordered{fill:#124;stroke:#124;stroke-width:2}.admitted{fill:#fff;stroke:#124;stroke-width:2}\n\
@@ -15,8 +19,7 @@ pub const STYLE: &str = "<style>\n\
     <rect class='b' width='100%' height='100%'/>\n\
     ";
 
-/// The key.
-pub const KEY: &str = "<circle class='ordered' r='6'/><text x='18' y='4'>ordered</text>\n\
+const SIGNS: &str = "<circle class='ordered' r='6'/><text x='18' y='4'>ordered</text>\n\
     <circle class='admitted' cy='24' r='6'/><text x='18' y='28'>admitted</text>\n\
     <circle class='waiting' cy='48' r='6'/><text x='18' y='52'>waiting</text>\n\
     <circle class='voted' cx='120' r='10'/><text x='138' y='4'>voted</text>\n\
@@ -26,3 +29,21 @@ pub const KEY: &str = "<circle class='ordered' r='6'/><text x='18' y='4'>ordered
     <path class='l' d='M230 0h24'/><text x='262' y='4'>parent</text>\n\
     <path class='v' d='M230 24h24'/><text x='262' y='28'>vote</text>\n\
     ";
+
+/// Adds the style sheet and the background.
+#[tactic(auto, unfolding(crate::specs::Fixed::style_text))]
+pub(crate) fn push_style(text: &mut String) -> Result<(), AllocError>
+    ensures { OnOk result (string_bytes text.new ≡ string_bytes text.old ++ style_text) }
+{
+    text.push_str(STYLE)?;
+    Ok(())
+}
+
+/// Adds the signs of the key.
+#[tactic(auto, unfolding(crate::specs::Fixed::signs_text))]
+pub(crate) fn push_signs(text: &mut String) -> Result<(), AllocError>
+    ensures { OnOk result (string_bytes text.new ≡ string_bytes text.old ++ signs_text) }
+{
+    text.push_str(SIGNS)?;
+    Ok(())
+}

@@ -5,7 +5,7 @@ ghost use Rattle.std.specs.List.{flat_map};
 ghost use Rattle.bk_views.specs.Anchors.{row_text};
 ghost use Rattle.bk_picture.specs.Svg.{anchor_of, column_text, dot_head, head_line, key_head, label_text, name_line, path_text, ring_head, round_text, title_words, vote_path_text, dot_line, dot_text, head_text, key_text, left_of, links_text, members_text, parents_text, ring_line, ring_text, segment_if, segment_text, svg_text, vote_text};
 
-use crate::fixed::{KEY, STYLE};
+use crate::fixed::{push_signs, push_style};
 use crate::picture::{Cell, Class, Column, Picture};
 use crate::words::{Head, Note, Title, height_of};
 use bk_views::{AnchorRow, AnchorState};
@@ -340,7 +340,7 @@ fn push_head(text: &mut String, picture: &Picture) -> Result<(), AllocError>
 {
     push_size(text, picture.count, picture.members)?;
     push_name(text, picture.count, picture.from, picture.members)?;
-    text.push_str(STYLE)?;
+    push_style(text)?;
     Ok(())
 }
 
@@ -358,7 +358,7 @@ fn push_key(text: &mut String, members: u8) -> Result<(), AllocError>
 {
     let y = height_of(members);
     push_key_head(text, y + 20)?;
-    text.push_str(KEY)?;
+    push_signs(text)?;
     text.push_str("</g>\n</svg>\n")?;
     Ok(())
 }

@@ -1,6 +1,6 @@
 use Rattle.std.proofs.Common.{◌+◌, codes}
 use Rattle.std.specs.Prelude.{string_bytes}
-use Rattle.bk_picture.specs.declared.fixed.TheConstants.{KEY}
+use Rattle.bk_picture.specs.Fixed.{signs_text}
 use Rattle.bk_picture.specs.Svg.{height_of, key_head, key_text}
 use Rattle.bk_picture.proofs.Puts.{same_number, then_put}
 use Rattle.bk_picture.proofs.svg.push_key.Goals as goal
@@ -8,6 +8,6 @@ use Rattle.bk_picture.proofs.svg.push_key.Goals as goal
 pub returns : goal.returns
 unfolding key_text
 returns c =
-    let end = string_bytes c.push_str-2.new.self in
+    let end = string_bytes c.push_str.new.self in
     then_put (string_bytes c.args.text.now) (string_bytes c.push_key_head.new.text) end (key_head (height_of c.args.members + 20)) _ (same_number (λ y. key_head (y + 20)) (string_bytes c.args.text.now) (string_bytes c.push_key_head.new.text) c.height_of-y.result (height_of c.args.members) c.height_of-y.ensures.is c.in_ok-push_key_head.ensures)
-    (then_put (string_bytes c.push_key_head.new.text) (string_bytes c.push_str.new.self) end KEY.now (codes "</g>\n</svg>\n") c.in_ok-push_str.ensures.bytes c.in_ok-push_str-2.ensures.bytes)
+    (then_put (string_bytes c.push_key_head.new.text) (string_bytes c.push_signs.new.text) end signs_text (codes "</g>\n</svg>\n") c.in_ok-push_signs.ensures c.in_ok-push_str.ensures.bytes)

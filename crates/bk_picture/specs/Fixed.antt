@@ -1,0 +1,32 @@
+-- The fixed parts of a picture's text.
+use Rattle.std.specs.Prelude.{ℕ, List, ◌++◌, codes}
+
+-- the style sheet, for light and dark backgrounds, and the background
+unfoldable pub style_text : List ℕ
+style_text =
+    codes "<style>\n"
+    ++ codes ".b{fill:#fff}text{font:12px sans-serif;fill:#222;text-anchor:middle}.k text{text-anchor:start}\n"
+    ++ codes ".l{fill:none;stroke:#888;stroke-width:.8;stroke-opacity:.6}.v{fill:none;stroke:#a50;stroke-width:2.6}\n"
+    ++ codes ".ordered{fill:#124;stroke:#124;stroke-width:2}.admitted{fill:#fff;stroke:#124;stroke-width:2}\n"
+    ++ codes ".waiting{fill:#fff;stroke:#a50;stroke-width:1.6;stroke-dasharray:2.4 2.4}\n"
+    ++ codes ".voted,.linked,.skipped,.open{fill:none;stroke:#222}.voted{stroke-width:2.4}\n"
+    ++ codes ".linked{stroke-width:2.4;stroke-dasharray:8 4}.skipped{stroke-width:2.4;stroke-dasharray:1.5 4}"
+    ++ codes ".open{stroke-width:.9}\n"
+    ++ codes "@media(prefers-color-scheme:dark){.b{fill:#15181c}text{fill:#ddd}.l{stroke:#889}.v{stroke:#e94}\n"
+    ++ codes ".ordered{fill:#9cf;stroke:#9cf}.admitted{fill:#15181c;stroke:#9cf}.waiting{fill:#15181c;stroke:#e94}\n"
+    ++ codes ".voted,.linked,.skipped,.open{stroke:#ddd}}\n"
+    ++ codes "</style>\n"
+    ++ codes "<rect class='b' width='100%' height='100%'/>\n"
+
+-- the signs of the key, each with its name: what became of a certificate, what became of an anchor, and the lines
+unfoldable pub signs_text : List ℕ
+signs_text =
+    codes "<circle class='ordered' r='6'/><text x='18' y='4'>ordered</text>\n"
+    ++ codes "<circle class='admitted' cy='24' r='6'/><text x='18' y='28'>admitted</text>\n"
+    ++ codes "<circle class='waiting' cy='48' r='6'/><text x='18' y='52'>waiting</text>\n"
+    ++ codes "<circle class='voted' cx='120' r='10'/><text x='138' y='4'>voted</text>\n"
+    ++ codes "<circle class='linked' cx='120' cy='24' r='10'/><text x='138' y='28'>linked</text>\n"
+    ++ codes "<circle class='skipped' cx='120' cy='48' r='10'/><text x='138' y='52'>skipped</text>\n"
+    ++ codes "<circle class='open' cx='120' cy='72' r='10'/><text x='138' y='76'>open</text>\n"
+    ++ codes "<path class='l' d='M230 0h24'/><text x='262' y='4'>parent</text>\n"
+    ++ codes "<path class='v' d='M230 24h24'/><text x='262' y='28'>vote</text>\n"
