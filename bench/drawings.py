@@ -1,5 +1,5 @@
-"""A plain reading of `dag`: the picture of some rounds, from the bytes of a feed that is not stopped. The style sheet is that
-of the definitions; all else is written here once more."""
+"""A plain reading of `dag`: the picture of some rounds, from the bytes of a feed that is not stopped. The style sheet and the
+words on what the signs mean are those of the definitions; all else is written here once more."""
 import os
 import re
 import struct
@@ -9,10 +9,10 @@ from drawn import committee_of, verdict
 from readings import admitted_of, anchors_lines, history_of, leader_of
 
 
-def style_sheet():
-    """The style sheet and the background, as crates/bk_picture/specs/Fixed.antt defines them."""
+def fixed(name):
+    """A text of crates/bk_picture/specs/Fixed.antt."""
     with open(os.path.join(ROOT, "crates/bk_picture/specs/Fixed.antt"), encoding="utf-8") as source:
-        body = source.read().split("\nstyle_text =\n")[1].split("\n\n")[0]
+        body = source.read().split(f"\n{name} =\n")[1].split("\n\n")[0]
     return "".join(re.findall(r'codes "([^"]*)"', body)).replace("\\n", "\n")
 
 
@@ -30,7 +30,7 @@ def key():
 
 
 def height(member):
-    return 28 * member + 50
+    return 28 * member + 82
 
 
 def classes_of(committee, frames, admitted, rows):
@@ -62,7 +62,7 @@ def links(committee, admitted, first, number, x):
 
 def column(committee, classes, row, number, x):
     """The number, the ring and the circles of a round."""
-    text = f"<g transform='translate({x})'>\n<text y='24'>{number}</text>\n"
+    text = f"<g transform='translate({x})'>\n<text y='56'>{number}</text>\n"
     note, leader = "", None
     if row:
         _, _, _, leader, _, votes, _, need, state = row.split()
@@ -76,18 +76,34 @@ def column(committee, classes, row, number, x):
     return text + "</g>\n"
 
 
+def name_of(first, drawn, last, members):
+    """Which rounds are drawn of how many, and of how many members."""
+    rounds = f"rounds {drawn[0]} to {drawn[-1]}" if drawn else f"no rounds from {first} on"
+    return f"{rounds} of {last}, {members} members"
+
+
+def head(name, columns, members):
+    """The size, the name and what the signs mean, the style, and the words round the picture."""
+    wide, high = 40 * max(columns, 8) + 60, 28 * members + 202
+    return (f"<svg xmlns='http://www.w3.org/2000/svg' version='1.1' role='img' viewBox='0 0 {wide} {high}'"
+            f" width='{wide}' height='{high}'>\n<title>{name}</title>\n" + fixed("desc_text") + fixed("style_text")
+            + f"<text class='h' x='16' y='20'>{name}</text>\n<text class='a' x='60' y='40'>round</text>\n"
+            f"<text class='a' transform='translate(12 {height(0)}) rotate(-90)'>member</text>\n")
+
+
 def dag_text(version, frames, first, count):
-    """The picture of `count` rounds from the first on; each frame is its kind and its payload."""
+    """The picture of the rounds that a feed has of `count` rounds from the first on; each frame is its kind and its
+    payload. The last round of a feed is the greatest of a certificate that breaks no rule."""
     committee = committee_of(version, frames[0][1])
     admitted = admitted_of(committee, frames)
     rows = {int(line.split()[1]): line for line in anchors_lines(version, frames)}
     classes = classes_of(committee, frames, admitted, rows)
-    wide, high = 40 * max(count, 8) + 60, 28 * committee.n + 170
-    places = [(number, 40 * (number - first) + 60) for number in range(first, first + count)]
+    last = max((number for number, _ in classes), default=0)
+    drawn = [number for number in range(first, first + count) if number <= last]
+    places = [(number, 40 * (number - first) + 60) for number in drawn]
     labels = (f"<text x='24' y='{height(member) + 4}'>{member}</text>\n" for member in range(committee.n))
-    return (f"<svg xmlns='http://www.w3.org/2000/svg' version='1.1' role='img' viewBox='0 0 {wide} {high}'"
-            f" width='{wide}' height='{high}'>\n<title>{count} rounds from {first}, {committee.n} members</title>\n"
-            + style_sheet() + "".join(links(committee, admitted, first, *place) for place in places)
+    return (head(name_of(first, drawn, last, committee.n), len(drawn), committee.n)
+            + "".join(links(committee, admitted, first, *place) for place in places)
             + "".join(column(committee, classes, rows.get(number), number, x) for number, x in places)
             + "".join(labels) + f"<g class='k' transform='translate(60 {height(committee.n) + 20})'>\n"
             + key() + "</g>\n</svg>\n")

@@ -1,3 +1,4 @@
+pub mod LastRounds
 pub mod Puts
 pub mod Filling
 pub mod Segments

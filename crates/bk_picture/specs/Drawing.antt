@@ -18,7 +18,8 @@ pub record IsGraphOf (feed : FeedValue) (g : Graph) : Type 0 where
   pub anchors : g.anchors ≡ ordered.anchors
   pub order : g.order ≡ ordered.order
 
--- nothing stops the feed, and this is the text of its picture, of `count` rounds from the round `from` on
+-- nothing stops the feed, and this is the text of its picture, of `count` rounds from the round `from` on, as far as it has
+-- them
 pub record IsDrawingOf (feed : FeedValue) (from count : ℕ) (text : List ℕ) : Type 0 where
   pub clear : HasNoStopIn feed
   pub graph : Graph

@@ -1,12 +1,23 @@
 -- The fixed parts of a picture's text.
 use Rattle.std.specs.Prelude.{ℕ, List, ◌++◌, codes}
 
+-- what the signs mean
+unfoldable pub desc_text : List ℕ
+desc_text =
+    codes "<desc>A column for each round, a row for each member.\n"
+    ++ codes "A full circle is a certificate of the order, an empty one is admitted and not in the order,\n"
+    ++ codes "and one with a broken outline waits for a parent. Where there is no circle, it is absent or rejected.\n"
+    ++ codes "A ring is round the place of the leader of an odd round: thick if the anchor is voted,\n"
+    ++ codes "in long dashes if it is linked, in dots if it is skipped, thin if it is open.\n"
+    ++ codes "A line leads to a parent of the round before; a thick one is a vote for an anchor.</desc>\n"
+
 -- the style sheet, for light and dark backgrounds, and the background
 unfoldable pub style_text : List ℕ
 style_text =
     codes "<style>\n"
-    ++ codes ".b{fill:#fff}text{font:12px sans-serif;fill:#222;text-anchor:middle}.k text{text-anchor:start}\n"
-    ++ codes ".l{fill:none;stroke:#888;stroke-width:.8;stroke-opacity:.6}.v{fill:none;stroke:#a50;stroke-width:2.6}\n"
+    ++ codes ".b{fill:#fff}text{font:12px sans-serif;fill:#222;text-anchor:middle}.k text,.h{text-anchor:start}\n"
+    ++ codes ".a{font-style:italic}.l{fill:none;stroke:#888;stroke-width:.8;stroke-opacity:.6}"
+    ++ codes ".v{fill:none;stroke:#a50;stroke-width:2.6}\n"
     ++ codes ".ordered{fill:#124;stroke:#124;stroke-width:2}.admitted{fill:#fff;stroke:#124;stroke-width:2}\n"
     ++ codes ".waiting{fill:#fff;stroke:#a50;stroke-width:1.6;stroke-dasharray:2.4 2.4}\n"
     ++ codes ".voted,.linked,.skipped,.open{fill:none;stroke:#222}.voted{stroke-width:2.4}\n"
@@ -30,3 +41,9 @@ signs_text =
     ++ codes "<circle class='open' cx='120' cy='72' r='10'/><text x='138' y='76'>open</text>\n"
     ++ codes "<path class='l' d='M230 0h24'/><text x='262' y='4'>parent</text>\n"
     ++ codes "<path class='v' d='M230 24h24'/><text x='262' y='28'>vote</text>\n"
+
+-- the names of the axes: over the numbers of the rounds, and beside those of the members
+unfoldable pub axes_text : List ℕ
+axes_text =
+    codes "<text class='a' x='60' y='40'>round</text>\n"
+    ++ codes "<text class='a' transform='translate(12 82) rotate(-90)'>member</text>\n"

@@ -1,5 +1,5 @@
 -- What is drawn of some rounds, read off the certificates that break no rule and their order.
-use Rattle.std.specs.Prelude.{◌≡◌, ℕ, ◌+◌, ◌-◌, ◌/◌, ◌%◌, ◌<◌, ◌↔◌, ◌==◌, List, length, slice_get, slice_index_or, Contains, Option, Some, None, if◌then◌else◌}
+use Rattle.std.specs.Prelude.{◌≡◌, ℕ, ◌+◌, ◌-◌, ◌/◌, ◌%◌, ◌<◌, ◌≤◌, ◌↔◌, ◌==◌, min, List, length, slice_get, slice_index_or, Contains, Option, Some, None, if◌then◌else◌}
 use Rattle.bk_committee.specs.Sizes.{Sizes, members}
 use Rattle.bk_cert.specs.Node.{Node}
 use Rattle.bk_cert.specs.Place.{place_of}
@@ -86,11 +86,21 @@ pub record AreColumnsOf (g : Graph) (rows : List AnchorRow) (from count : ℕ) (
 
 -- ---- the picture
 
--- the picture of `count` rounds from the round `from` on
+-- the last round: no held certificate is of a later one, and one is of this round, if it is not 0
+pub record IsLastRound (held : List Node) (last : ℕ) : Type 0 where
+  pub highest : (c : Node) → Contains held c → c.header.round ≤ last
+  pub reached : 0 < last → (c : Node) × Contains held c × (c.header.round ≡ last)
+
+-- how many of `count` rounds from the round `from` on are drawn: those up to the last round
+abbrev pub rounds_shown : ℕ → ℕ → ℕ → ℕ
+rounds_shown from count last = min count (last + 1 - from)
+
+-- the picture of `count` rounds from the round `from` on, as far as there are so many
 pub record IsPictureOf (g : Graph) (from count : ℕ) (p : Picture) : Type 0 where
   pub from_is : p.from ≡ from
-  pub count_is : p.count ≡ count
+  pub last_is : IsLastRound g.held p.last
+  pub count_is : p.count ≡ rounds_shown from count p.last
   pub members_are : p.members ≡ members g.sizes
   pub rows : List AnchorRow
   pub are_rows : AreRows g.sizes g.held g.anchors rows
-  pub columns : AreColumnsOf g rows from count p.columns.items
+  pub columns : AreColumnsOf g rows from p.count p.columns.items

@@ -5,7 +5,7 @@ use Rattle.std.specs.Int.{bit_at}
 use Rattle.bk_views.specs.Anchors.{row_text, state_word, votes_word}
 use Rattle.bk_views.specs.declared.anchors.AnchorRow.{AnchorRow}
 use Rattle.bk_views.specs.declared.anchors.AnchorState.{AnchorState}
-use Rattle.bk_picture.specs.Fixed.{signs_text, style_text}
+use Rattle.bk_picture.specs.Fixed.{axes_text, desc_text, signs_text, style_text}
 use Rattle.bk_picture.specs.declared.picture.Cell.{Cell}
 use Rattle.bk_picture.specs.declared.picture.Class.{Class}
 use Rattle.bk_picture.specs.declared.picture.Class.TheVariants as class
@@ -19,7 +19,7 @@ abbrev pub left_of : ℕ → ℕ → ℕ
 left_of from round = 40 * (round - from) + 60
 
 abbrev pub height_of : ℕ → ℕ
-height_of member = 28 * member + 50
+height_of member = 28 * member + 82
 
 -- ---- the head
 
@@ -33,16 +33,32 @@ size_words wide high =
 abbrev pub head_line : ℕ → ℕ → List ℕ
 head_line count members =
     codes "<svg xmlns='http://www.w3.org/2000/svg' version='1.1' role='img' "
-    ++ size_words (40 * max count 8 + 60) (28 * members + 170) ++ codes ">"
+    ++ size_words (40 * max count 8 + 60) (28 * members + 202) ++ codes ">"
 
--- the title
-abbrev pub name_line : ℕ → ℕ → ℕ → List ℕ
-name_line count from members =
-    codes "\n<title>" ++ decimal count ++ codes " rounds from " ++ decimal from ++ codes ", " ++ decimal members
-    ++ codes " members</title>\n"
+-- which rounds are drawn: the first one and the last one, or that there is none
+abbrev pub span_words : ℕ → ℕ → List ℕ
+span_words from count =
+    if count == 0 then (codes "no rounds from " ++ decimal from ++ codes " on")
+    else (codes "rounds " ++ decimal from ++ codes " to " ++ decimal (from + count - 1))
+
+-- the name: which rounds are drawn of how many, and of how many members
+abbrev pub name_words : ℕ → ℕ → ℕ → ℕ → List ℕ
+name_words from count last members =
+    span_words from count ++ (codes " of " ++ (decimal last ++ (codes ", " ++ (decimal members ++ codes " members"))))
+
+-- the title and the heading are this name
+abbrev pub title_line : List ℕ → List ℕ
+title_line name = codes "\n<title>" ++ name ++ codes "</title>\n"
+
+abbrev pub heading_line : List ℕ → List ℕ
+heading_line name = codes "<text class='h' x='16' y='20'>" ++ name ++ codes "</text>\n"
+
+-- the title, what the signs mean, the style sheet, the heading and the names of the axes
+unfoldable pub name_text : List ℕ → List ℕ
+name_text name = title_line name ++ (desc_text ++ (style_text ++ (heading_line name ++ axes_text)))
 
 unfoldable pub head_text : Picture → List ℕ
-head_text p = head_line p.count p.members ++ (name_line p.count p.from p.members ++ style_text)
+head_text p = head_line p.count p.members ++ name_text (name_words p.from p.count p.last p.members)
 
 -- ---- the lines to parents
 
@@ -146,7 +162,7 @@ ring_text (Some row) = ring_line row
 -- the number, the ring and the circles of a round
 abbrev pub round_text : ℕ → ℕ → List ℕ
 round_text x round =
-    codes "<g transform='translate(" ++ (decimal x ++ (codes ")'>\n<text y='24'>" ++ (decimal round ++ codes "</text>\n")))
+    codes "<g transform='translate(" ++ (decimal x ++ (codes ")'>\n<text y='56'>" ++ (decimal round ++ codes "</text>\n")))
 
 unfoldable pub column_text : ℕ → Column → List ℕ
 column_text from column =

@@ -1,3 +1,4 @@
 pub mod Marks
 pub mod Cells
+pub mod Last
 pub mod Shows

@@ -57,7 +57,8 @@ fn write_picture<K: Sink>(
     Ok(())
 }
 
-/// The picture of `count` rounds, 1 to 1,000, from the round `from` on, 1 to 1,000,000, as what a feed answers: SVG 1.1.
+/// The picture of `count` rounds, 1 to 1,000, from the round `from` on, 1 to 1,000,000, up to the last round of the feed,
+/// as what a feed answers: SVG 1.1.
 #[derive(Clone, Copy)]
 pub struct Draw {
     pub from: u32,

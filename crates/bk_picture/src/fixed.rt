@@ -1,22 +1,40 @@
 //! The fixed parts of a picture's text.
 
 ghost use Rattle.std.specs.Prelude.{◌≡◌, ◌++◌, OnOk, string_bytes};
-ghost use Rattle.bk_picture.specs.Fixed.{signs_text, style_text};
+ghost use Rattle.bk_picture.specs.Fixed.{axes_text, desc_text, signs_text, style_text};
 
 use std::alloc::AllocError;
 
+const DESC: &str = "<desc>A column for each round, a row for each member.\n\
+    A full circle is a certificate of the order, an empty one is admitted and not in the order,\n\
+    and one with a broken outline waits for a parent. Where there is no circle, it is absent \
+    or rejected.\n\
+    A ring is round the place of the leader of an odd round: thick if the anchor is voted,\n\
+    in long dashes if it is linked, in dots if it is skipped, thin if it is open.\n\
+    A line leads to a parent of the round before; a thick one is a vote for an anchor.</desc>\n\
+    ";
+
 const STYLE: &str = "<style>\n\
-    .b{fill:#fff}text{font:12px sans-serif;fill:#222;text-anchor:middle}.k text{text-anchor:start}\n\
-    .l{fill:none;stroke:#888;stroke-width:.8;stroke-opacity:.6}.v{fill:none;stroke:#a50;stroke-width:2.6}\n\
+    .b{fill:#fff}text{font:12px sans-serif;fill:#222;text-anchor:middle}\
+    .k text,.h{text-anchor:start}\n\
+    .a{font-style:italic}.l{fill:none;stroke:#888;stroke-width:.8;stroke-opacity:.6}\
+    .v{fill:none;stroke:#a50;stroke-width:2.6}\n\
     .ordered{fill:#124;stroke:#124;stroke-width:2}.admitted{fill:#fff;stroke:#124;stroke-width:2}\n\
     .waiting{fill:#fff;stroke:#a50;stroke-width:1.6;stroke-dasharray:2.4 2.4}\n\
     .voted,.linked,.skipped,.open{fill:none;stroke:#222}.voted{stroke-width:2.4}\n\
-    .linked{stroke-width:2.4;stroke-dasharray:8 4}.skipped{stroke-width:2.4;stroke-dasharray:1.5 4}.open{stroke-width:.9}\n\
-    @media(prefers-color-scheme:dark){.b{fill:#15181c}text{fill:#ddd}.l{stroke:#889}.v{stroke:#e94}\n\
-    .ordered{fill:#9cf;stroke:#9cf}.admitted{fill:#15181c;stroke:#9cf}.waiting{fill:#15181c;stroke:#e94}\n\
+    .linked{stroke-width:2.4;stroke-dasharray:8 4}\
+    .skipped{stroke-width:2.4;stroke-dasharray:1.5 4}.open{stroke-width:.9}\n\
+    @media(prefers-color-scheme:dark){.b{fill:#15181c}text{fill:#ddd}.l{stroke:#889}\
+    .v{stroke:#e94}\n\
+    .ordered{fill:#9cf;stroke:#9cf}.admitted{fill:#15181c;stroke:#9cf}\
+    .waiting{fill:#15181c;stroke:#e94}\n\
     .voted,.linked,.skipped,.open{stroke:#ddd}}\n\
     </style>\n\
     <rect class='b' width='100%' height='100%'/>\n\
+    ";
+
+const AXES: &str = "<text class='a' x='60' y='40'>round</text>\n\
+    <text class='a' transform='translate(12 82) rotate(-90)'>member</text>\n\
     ";
 
 const SIGNS: &str = "<circle class='ordered' r='6'/><text x='18' y='4'>ordered</text>\n\
@@ -30,12 +48,30 @@ const SIGNS: &str = "<circle class='ordered' r='6'/><text x='18' y='4'>ordered</
     <path class='v' d='M230 24h24'/><text x='262' y='28'>vote</text>\n\
     ";
 
+/// Adds what the signs mean.
+#[tactic(auto, unfolding(crate::specs::Fixed::desc_text))]
+pub(crate) fn push_desc(text: &mut String) -> Result<(), AllocError>
+    ensures { OnOk result (string_bytes text.new ≡ string_bytes text.old ++ desc_text) }
+{
+    text.push_str(DESC)?;
+    Ok(())
+}
+
 /// Adds the style sheet and the background.
 #[tactic(auto, unfolding(crate::specs::Fixed::style_text))]
 pub(crate) fn push_style(text: &mut String) -> Result<(), AllocError>
     ensures { OnOk result (string_bytes text.new ≡ string_bytes text.old ++ style_text) }
 {
     text.push_str(STYLE)?;
+    Ok(())
+}
+
+/// Adds the names of the axes.
+#[tactic(auto, unfolding(crate::specs::Fixed::axes_text))]
+pub(crate) fn push_axes(text: &mut String) -> Result<(), AllocError>
+    ensures { OnOk result (string_bytes text.new ≡ string_bytes text.old ++ axes_text) }
+{
+    text.push_str(AXES)?;
     Ok(())
 }
 

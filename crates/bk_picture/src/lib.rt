@@ -1,4 +1,5 @@
-//! A picture of some rounds of a feed: its certificates, the links to their parents, and what became of the anchors.
+//! A picture of some rounds of a feed, up to its last one: its certificates, the links to their parents, and what became
+//! of the anchors.
 //!
 //! [`picture_of`] finds what is drawn, a column for each round and in it a cell for each member. [`svg_of`] makes the
 //! text of a picture. [`Draw`] is the answer of a feed that writes it.
@@ -8,6 +9,8 @@ mod cells;
 mod columns;
 mod drawing;
 mod fixed;
+mod head;
+mod last;
 mod marks;
 mod picture;
 mod svg;

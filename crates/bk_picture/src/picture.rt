@@ -5,6 +5,7 @@ ghost use Rattle.bk_commit.specs.Ordering.{IsCommitted};
 ghost use Rattle.bk_picture.specs.Picture.{IsPictureOf, graph_with};
 
 use crate::columns::columns_of;
+use crate::last::{last_of, shown_of};
 use crate::marks::marks_of;
 use bk_cert::CertRef;
 use bk_rounds::{Members, Rounds};
@@ -52,16 +53,19 @@ pub struct Column {
 pub struct Picture {
     /// The first round.
     pub from: u32,
-    /// How many rounds there are.
+    /// How many rounds are drawn.
     pub count: u32,
+    /// The greatest round of all certificates that are held, 0 where none is held.
+    pub last: u32,
     /// How many members there are.
     pub members: u8,
     /// A column for each round, in their order.
     pub columns: Vec<Column>,
 }
 
-/// The picture of `count` rounds from the round `from` on, where these are the committed anchors and the certificates in
-/// order. O(members) for each round that is drawn, and for each two rounds up to the last.
+/// The picture of `count` rounds from the round `from` on, or of fewer where the last round comes before, where these
+/// are the committed anchors and the certificates in order. O(members) for each round that is drawn, and for each two
+/// rounds up to the last; O(1) for each held certificate, and O(n log n) where n of them wait.
 pub fn picture_of(
     alloc: Global,
     rounds: &Rounds,
@@ -76,12 +80,15 @@ pub fn picture_of(
     ensures { IfOk result (IsPictureOf (graph_with rounds.now.sizes rounds.now.held anchors.now
         order.now) from count) }
 {
+    let last = last_of(rounds)?;
+    let shown = shown_of(from, count, last);
     let rows = anchor_rows(alloc, rounds, anchors)?;
-    let marks = marks_of(alloc, order, from, count)?;
-    let columns = columns_of(alloc, rounds, &rows, &marks, from, count)?;
+    let marks = marks_of(alloc, order, from, shown)?;
+    let columns = columns_of(alloc, rounds, &rows, &marks, from, shown)?;
     Ok(Picture {
         from,
-        count,
+        count: shown,
+        last,
         members: rounds.members(),
         columns,
     })

@@ -3,11 +3,12 @@
 ghost use Rattle.std.specs.Prelude.{◌≡◌, ◌<◌, ◌++◌, OnOk, IfOk, string_bytes};
 ghost use Rattle.std.specs.List.{flat_map};
 ghost use Rattle.bk_views.specs.Anchors.{row_text};
-ghost use Rattle.bk_picture.specs.Svg.{anchor_of, column_text, dot_head, head_line, key_head, label_text, name_line, path_text, ring_head, round_text, title_words, vote_path_text, dot_line, dot_text, head_text, key_text, left_of, links_text, members_text, parents_text, ring_line, ring_text, segment_if, segment_text, svg_text, vote_text};
+ghost use Rattle.bk_picture.specs.Svg.{anchor_of, column_text, dot_head, key_head, label_text, path_text, ring_head, round_text, title_words, vote_path_text, dot_line, dot_text, head_text, key_text, left_of, links_text, members_text, parents_text, ring_line, ring_text, segment_if, segment_text, svg_text, vote_text};
 
-use crate::fixed::{push_signs, push_style};
+use crate::fixed::push_signs;
+use crate::head::push_head;
 use crate::picture::{Cell, Class, Column, Picture};
-use crate::words::{Head, Note, Title, height_of};
+use crate::words::{Note, Title, height_of};
 use bk_views::{AnchorRow, AnchorState};
 use itoa::Buffer;
 use std::alloc::{AllocError, Global};
@@ -263,7 +264,7 @@ fn push_round(text: &mut String, x: u64, round: u32) -> Result<(), AllocError>
 {
     write!(
         text,
-        "<g transform='translate({x})'>\n<text y='24'>{round}</text>\n"
+        "<g transform='translate({x})'>\n<text y='56'>{round}</text>\n"
     )?;
     Ok(())
 }
@@ -310,37 +311,6 @@ fn push_members(text: &mut String, members: u8) -> Result<(), AllocError>
         let y = height_of(member);
         push_label(text, y + 4, member)?;
     }
-    Ok(())
-}
-
-// Begins with the size.
-fn push_size(text: &mut String, count: u32, members: u8) -> Result<(), AllocError>
-    ensures { OnOk result (string_bytes text.new ≡ string_bytes text.old ++ head_line count members) }
-{
-    let head = Head { count, members };
-    write!(text, "{head}")?;
-    Ok(())
-}
-
-// Adds the title.
-fn push_name(text: &mut String, count: u32, from: u32, members: u8) -> Result<(), AllocError>
-    ensures { OnOk result (string_bytes text.new
-        ≡ string_bytes text.old ++ name_line count from members) }
-{
-    write!(
-        text,
-        "\n<title>{count} rounds from {from}, {members} members</title>\n"
-    )?;
-    Ok(())
-}
-
-// Adds the head: the size, the title and the style.
-fn push_head(text: &mut String, picture: &Picture) -> Result<(), AllocError>
-    ensures { OnOk result (string_bytes text.new ≡ string_bytes text.old ++ head_text picture.now) }
-{
-    push_size(text, picture.count, picture.members)?;
-    push_name(text, picture.count, picture.from, picture.members)?;
-    push_style(text)?;
     Ok(())
 }
 

@@ -2,7 +2,7 @@
 
 ghost use Rattle.std.specs.Prelude.{◌≡◌, ◌<◌, ◌^◌, Some};
 ghost use Rattle.bk_views.specs.Anchors.{votes_word};
-ghost use Rattle.bk_picture.specs.Svg.{class_word, head_line, height_of, note_words, size_words, title_words};
+ghost use Rattle.bk_picture.specs.Svg.{class_word, height_of, note_words, title_words};
 
 use crate::picture::Class;
 use bk_views::{AnchorRow, AnchorState};
@@ -86,49 +86,10 @@ impl fmt::Display for Title {
     }
 }
 
-/// The line of the head, without its line feed.
-#[derive(Clone, Copy)]
-pub(crate) struct Head {
-    pub count: u32,
-    pub members: u8,
-}
-
-impl fmt::Display for Head {
-    ghost output = { λ h. Some (head_line h.count h.members) };
-
-    fn fmt<W: fmt::Write>(&self, f: &mut fmt::Formatter<W>) -> fmt::Result {
-        let wide = 40 * u64::from(self.count.max(8)) + 60;
-        let high = 28 * u64::from(self.members) + 170;
-        let size = Size { wide, high };
-        write!(
-            f,
-            "<svg xmlns='http://www.w3.org/2000/svg' version='1.1' role='img' {size}>"
-        )
-    }
-}
-
-#[derive(Clone, Copy)]
-struct Size {
-    wide: u64,
-    high: u64,
-}
-
-impl fmt::Display for Size {
-    ghost output = { λ s. Some (size_words s.wide s.high) };
-
-    fn fmt<W: fmt::Write>(&self, f: &mut fmt::Formatter<W>) -> fmt::Result {
-        let Size { wide, high } = *self;
-        write!(
-            f,
-            "viewBox='0 0 {wide} {high}' width='{wide}' height='{high}'"
-        )
-    }
-}
-
 /// Where the row of a member is.
 pub(crate) fn height_of(member: u8) -> u64
     ensures is { result ≡ height_of member }
     ensures small { result < 2 ^ 16 }
 {
-    28 * u64::from(member) + 50
+    28 * u64::from(member) + 82
 }
