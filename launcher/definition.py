@@ -1,5 +1,5 @@
 """Reads the command line of `bkreplay` from its definition in crates/bk_cli/src: commands.rt, shaped.rt, help.rt,
-more_help.rt and verb.rt.
+more_help.rt, table_help.rt and verb.rt.
 
 The functions of commands.rt are evaluated as they are written: `let` statements, calls, and the methods of Body.member
 and in METHODS.
@@ -39,8 +39,8 @@ def unquoted(text):
 
 
 def read_texts():
-    """The constants of help.rt and more_help.rt: a text, or the two texts of a command."""
-    source = read(f"{SOURCE}/help.rt") + read(f"{SOURCE}/more_help.rt")
+    """The constants of the files of help: a text, or the two texts of a command."""
+    source = "".join(read(f"{SOURCE}/{name}.rt") for name in ("help", "more_help", "table_help"))
     literal = r'"((?:[^"\\]|\\.)*)"'
     texts = {name: unquoted(text)
              for name, text in re.findall(rf"const (\w+): &str =\s*{literal};", source, re.DOTALL)}
@@ -166,7 +166,7 @@ class Body:
             return int(token)
         if token in self.variables:
             return self.variables[token]
-        if token.startswith(("help::", "more_help::")):
+        if token.startswith(("help::", "more_help::", "table_help::")):
             name = token.split("::")[1]
             if name not in self.source.texts:
                 fail(f"{SOURCE}: the constant {name} is not there")
@@ -191,7 +191,7 @@ class Body:
 
 
 class Source:
-    """The functions of commands.rt, each with its parameters and its body, and the constants of help.rt and more_help.rt."""
+    """The functions of commands.rt, each with its parameters and its body, and the constants of the files of help."""
 
     def __init__(self):
         text = re.sub(r"^ *//.*\n", "", read(f"{SOURCE}/commands.rt"), flags=re.MULTILINE)
@@ -210,10 +210,15 @@ class Source:
         return shaped(named[1], self.texts[named[2]]).set("version", version[1])
 
 
+def is_path(arg):
+    """Whether the value of an argument is the path of a file, as its help begins to say."""
+    return arg.get("help", "").startswith("The path of ")
+
+
 def kind_of(arg):
     """What a completion offers for an argument: `file` or, for a number or a digest, nothing."""
     text = arg.get("help", "")
-    if text.startswith("The path of "):
+    if is_path(arg):
         return "file"
     if "value_parser" in arg or text.startswith("The digest of "):
         return "none"
@@ -250,7 +255,7 @@ def checked(command):
             fail(f"the help of {command.name} has no `{heading}`")
     for arg in command["arg"]:
         if not is_flag(arg):
-            limits_of(arg) if "long" in arg else kind_of(arg)
+            limits_of(arg) if "long" in arg and not is_path(arg) else kind_of(arg)
         elif "long" not in arg or "help" not in arg:
             fail(f"the option {arg.name} has no name or no help")
 

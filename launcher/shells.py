@@ -23,7 +23,10 @@ def valued(command):
 
 
 def listed(arg):
-    """The least and the greatest number that an option takes, where a list of them is short enough to be offered."""
+    """The least and the greatest number that an option takes, where a list of them is short enough to be offered; nothing
+    of one that takes a path."""
+    if kind_of(arg) == "file":
+        return None
     least, greatest = limits_of(arg)
     return (least, greatest) if greatest - least < MOST_NUMBERS else None
 
@@ -114,11 +117,12 @@ def bash_case(command):
 
 
 def bash_values(command):
-    """What is offered for the values of a command's options: numbers, or nothing."""
+    """What is offered for the values of a command's options: numbers, files, or nothing."""
     lines = []
     for it in valued(command):
         numbers = listed(it)
-        offered = "" if not numbers else f" COMPREPLY=($(compgen -W '{{{numbers[0]}..{numbers[1]}}}' -- \"$current\"))"
+        files = " COMPREPLY=($(compgen -f -- \"$current\"))" if kind_of(it) == "file" else ""
+        offered = files if not numbers else f" COMPREPLY=($(compgen -W '{{{numbers[0]}..{numbers[1]}}}' -- \"$current\"))"
         lines.append(f"    '{command.name} --{it['long']}'){offered} ;;")
     return lines
 
@@ -175,7 +179,8 @@ def zsh_option(arg):
     if is_flag(arg):
         return quoted(f"--{arg['long']}[{zsh_text(arg['help'])}]")
     numbers = listed(arg)
-    offered = f"({{{numbers[0]}..{numbers[1]}}})" if numbers else " "
+    other = "_files" if kind_of(arg) == "file" else " "
+    offered = f"({{{numbers[0]}..{numbers[1]}}})" if numbers else other
     return quoted(f"--{arg['long']}=[{zsh_text(arg['help'])}]:{arg['value_name']}:{offered}")
 
 
@@ -240,9 +245,11 @@ def fish_quoted(text):
 
 
 def fish_numbers(arg):
-    """What is offered for the value of an option: numbers, or nothing."""
+    """What is offered for the value of an option: numbers, files, or nothing."""
     if is_flag(arg):
         return ""
+    if kind_of(arg) == "file":
+        return "-r -F "
     numbers = listed(arg)
     return f"-x -a '(seq {numbers[0]} {numbers[1]})' " if numbers else "-x "
 

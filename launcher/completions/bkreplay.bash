@@ -5,7 +5,7 @@ _bkreplay() {
     for ((at = 1; at < COMP_CWORD; at++)); do
         word=${COMP_WORDS[at]}
         case $word in
-        --from | --rounds | --workers) value=$word ;;
+        --accounts | --from | --rounds | --workers) value=$word ;;
         *[\<\>]*) value=redirection ;;
         = | -*) ;;
         *)
@@ -69,6 +69,18 @@ _bkreplay() {
         names='--workers --progress --verbose --help'
         kinds=(none file)
         ;;
+    transactions)
+        names='--workers --accounts --progress --verbose --help'
+        kinds=(file)
+        ;;
+    postings)
+        names='--workers --accounts --progress --verbose --help'
+        kinds=(file)
+        ;;
+    batches)
+        names='--progress --verbose --help'
+        kinds=(file)
+        ;;
     check-proof)
         names='--progress --verbose --help'
         kinds=(none file)
@@ -93,6 +105,14 @@ _bkreplay() {
         names='--progress --verbose --help'
         kinds=(file file)
         ;;
+    link)
+        names='--workers --progress --verbose --help'
+        kinds=(file)
+        ;;
+    check-chain)
+        names='--progress --verbose --help'
+        kinds=(file)
+        ;;
     *) return ;;
     esac
     case "$command $value" in
@@ -101,9 +121,14 @@ _bkreplay() {
     'dag --from') ;;
     'dag --rounds') ;;
     'statement --workers') COMPREPLY=($(compgen -W '{1..64}' -- "$current")) ;;
+    'transactions --workers') COMPREPLY=($(compgen -W '{1..64}' -- "$current")) ;;
+    'transactions --accounts') COMPREPLY=($(compgen -f -- "$current")) ;;
+    'postings --workers') COMPREPLY=($(compgen -W '{1..64}' -- "$current")) ;;
+    'postings --accounts') COMPREPLY=($(compgen -f -- "$current")) ;;
     'check-state --workers') COMPREPLY=($(compgen -W '{1..64}' -- "$current")) ;;
     'check-report --workers') COMPREPLY=($(compgen -W '{1..64}' -- "$current")) ;;
     'schedule --workers') COMPREPLY=($(compgen -W '{1..64}' -- "$current")) ;;
+    'link --workers') COMPREPLY=($(compgen -W '{1..64}' -- "$current")) ;;
     *redirection) compopt -o default 2>/dev/null ;;
     *)
         if [[ $current == -* ]]; then
@@ -145,11 +170,16 @@ summary Write how much is in a feed, how much of it is ordered, and what became 
 anchors Write what became of the anchor of each odd round, with its votes
 dag Draw the certificates of some rounds and what became of them, as an SVG picture
 statement Write what the transactions of the order do to one account
+transactions Write the payments of the order'\''s transactions as comma-separated values
+postings Write what each transaction of the order does to each of its accounts, as comma-separated values
+batches Write the batches of the order as comma-separated values
 check-proof Check that a text proves an account of the state of this digest
 check-state Check that a digest is that of the state at the end of a feed
 check-report Check that a file is the report of a feed
 apply Execute all batches of a feed, in feed order and on one thread, and write the apply report
 schedule Execute all batches of a feed in the order of a list of worker events, and write the apply report
-compare Compare the orders of two feeds and what was executed by them'
+compare Compare the orders of two feeds and what was executed by them
+link Write the line by which a feed is shown to follow on another
+check-chain Check that feeds are one ledger, by their link lines'
 
 complete -F _bkreplay bkreplay

@@ -6,7 +6,7 @@ function __bkreplay_at --argument-names command index
     set -l found
     for word in (commandline -opc)[2..]
         switch $word
-            case --from --rounds --workers
+            case --accounts --from --rounds --workers
                 set value $word
             case '-*'
             case '*'
@@ -37,12 +37,17 @@ complete -c bkreplay -n "__bkreplay_at ''" -a summary -d 'Write how much is in a
 complete -c bkreplay -n "__bkreplay_at ''" -a anchors -d 'Write what became of the anchor of each odd round, with its votes'
 complete -c bkreplay -n "__bkreplay_at ''" -a dag -d 'Draw the certificates of some rounds and what became of them, as an SVG picture'
 complete -c bkreplay -n "__bkreplay_at ''" -a statement -d 'Write what the transactions of the order do to one account'
+complete -c bkreplay -n "__bkreplay_at ''" -a transactions -d 'Write the payments of the order\'s transactions as comma-separated values'
+complete -c bkreplay -n "__bkreplay_at ''" -a postings -d 'Write what each transaction of the order does to each of its accounts, as comma-separated values'
+complete -c bkreplay -n "__bkreplay_at ''" -a batches -d 'Write the batches of the order as comma-separated values'
 complete -c bkreplay -n "__bkreplay_at ''" -a check-proof -d 'Check that a text proves an account of the state of this digest'
 complete -c bkreplay -n "__bkreplay_at ''" -a check-state -d 'Check that a digest is that of the state at the end of a feed'
 complete -c bkreplay -n "__bkreplay_at ''" -a check-report -d 'Check that a file is the report of a feed'
 complete -c bkreplay -n "__bkreplay_at ''" -a apply -d 'Execute all batches of a feed, in feed order and on one thread, and write the apply report'
 complete -c bkreplay -n "__bkreplay_at ''" -a schedule -d 'Execute all batches of a feed in the order of a list of worker events, and write the apply report'
 complete -c bkreplay -n "__bkreplay_at ''" -a compare -d 'Compare the orders of two feeds and what was executed by them'
+complete -c bkreplay -n "__bkreplay_at ''" -a link -d 'Write the line by which a feed is shown to follow on another'
+complete -c bkreplay -n "__bkreplay_at ''" -a check-chain -d 'Check that feeds are one ledger, by their link lines'
 complete -c bkreplay -n '__bkreplay_at run' -l workers -x -a '(seq 1 64)' -d 'How many threads execute at most, 1 to 64; 1 by default. The output is the same for any number'
 complete -c bkreplay -n '__bkreplay_at run' -l progress -d 'Show on standard error how many bytes are read, and how many transactions are executed'
 complete -c bkreplay -n '__bkreplay_at run' -l verbose -d 'Say in one more line what a fault is, in words, or at which missing batch an order stops, and name the file'
@@ -81,6 +86,19 @@ complete -c bkreplay -n '__bkreplay_at statement' -l workers -x -a '(seq 1 64)' 
 complete -c bkreplay -n '__bkreplay_at statement' -l progress -d 'Show on standard error how many bytes are read, and how many transactions are executed'
 complete -c bkreplay -n '__bkreplay_at statement' -l verbose -d 'Say in one more line what a fault is, in words, or at which missing batch an order stops, and name the file'
 complete -c bkreplay -n '__bkreplay_at statement 1' -F
+complete -c bkreplay -n '__bkreplay_at transactions' -l workers -x -a '(seq 1 64)' -d 'How many threads execute at most, 1 to 64; 1 by default. The output is the same for any number'
+complete -c bkreplay -n '__bkreplay_at transactions' -l accounts -r -F -d 'The path of a list of accounts, an id on each line: only rows that have one of them are written'
+complete -c bkreplay -n '__bkreplay_at transactions' -l progress -d 'Show on standard error how many bytes are read, and how many transactions are executed'
+complete -c bkreplay -n '__bkreplay_at transactions' -l verbose -d 'Say in one more line what a fault is, in words, or at which missing batch an order stops, and name the file'
+complete -c bkreplay -n '__bkreplay_at transactions 0' -F
+complete -c bkreplay -n '__bkreplay_at postings' -l workers -x -a '(seq 1 64)' -d 'How many threads execute at most, 1 to 64; 1 by default. The output is the same for any number'
+complete -c bkreplay -n '__bkreplay_at postings' -l accounts -r -F -d 'The path of a list of accounts, an id on each line: only rows that have one of them are written'
+complete -c bkreplay -n '__bkreplay_at postings' -l progress -d 'Show on standard error how many bytes are read, and how many transactions are executed'
+complete -c bkreplay -n '__bkreplay_at postings' -l verbose -d 'Say in one more line what a fault is, in words, or at which missing batch an order stops, and name the file'
+complete -c bkreplay -n '__bkreplay_at postings 0' -F
+complete -c bkreplay -n '__bkreplay_at batches' -l progress -d 'Show on standard error how many bytes are read, and how many transactions are executed'
+complete -c bkreplay -n '__bkreplay_at batches' -l verbose -d 'Say in one more line what a fault is, in words, or at which missing batch an order stops, and name the file'
+complete -c bkreplay -n '__bkreplay_at batches 0' -F
 complete -c bkreplay -n '__bkreplay_at check-proof' -l progress -d 'Show on standard error how many bytes are read, and how many transactions are executed'
 complete -c bkreplay -n '__bkreplay_at check-proof' -l verbose -d 'Say in one more line what a fault is, in words, or at which missing batch an order stops, and name the file'
 complete -c bkreplay -n '__bkreplay_at check-proof 1' -F
@@ -105,3 +123,10 @@ complete -c bkreplay -n '__bkreplay_at compare' -l progress -d 'Show on standard
 complete -c bkreplay -n '__bkreplay_at compare' -l verbose -d 'Say in one more line what a fault is, in words, or at which missing batch an order stops, and name the file'
 complete -c bkreplay -n '__bkreplay_at compare 0' -F
 complete -c bkreplay -n '__bkreplay_at compare 1' -F
+complete -c bkreplay -n '__bkreplay_at link' -l workers -x -a '(seq 1 64)' -d 'How many threads execute at most, 1 to 64; 1 by default. The output is the same for any number'
+complete -c bkreplay -n '__bkreplay_at link' -l progress -d 'Show on standard error how many bytes are read, and how many transactions are executed'
+complete -c bkreplay -n '__bkreplay_at link' -l verbose -d 'Say in one more line what a fault is, in words, or at which missing batch an order stops, and name the file'
+complete -c bkreplay -n '__bkreplay_at link 0' -F
+complete -c bkreplay -n '__bkreplay_at check-chain' -l progress -d 'Show on standard error how many bytes are read, and how many transactions are executed'
+complete -c bkreplay -n '__bkreplay_at check-chain' -l verbose -d 'Say in one more line what a fault is, in words, or at which missing batch an order stops, and name the file'
+complete -c bkreplay -n '__bkreplay_at check-chain 0' -F
