@@ -8,6 +8,7 @@ pub mod TableTexts
 pub mod Walks
 pub mod OrderTaken
 pub mod PageOut
+pub mod Fronts
 pub mod BatchWalks
 pub mod PaymentTables
 pub mod AccountLines

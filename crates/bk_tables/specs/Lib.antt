@@ -2,6 +2,7 @@ pub mod Csv
 pub mod Batches
 pub mod Payments
 pub mod Tables
+pub mod Growing
 pub mod private
 pub mod Listing
 pub mod Postings

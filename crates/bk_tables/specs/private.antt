@@ -5,5 +5,6 @@ pub mod Naming
 pub mod Rows
 pub mod Runs
 pub mod Shows
+pub mod Sheets
 pub mod Listed
 pub mod Walking

@@ -1,24 +1,124 @@
 //! Where rows are written: a page, and the row that is made.
 
-ghost use Rattle.std.specs.Prelude.{◌≡◌, [], IfOk};
-ghost use Rattle.bk_report.specs.Pages.{blank};
+ghost use Rattle.std.specs.Prelude.{◌≡◌, ◌⊎◌, ◌+◌, ◌^◌, ◌<◌, [], length, IfOk, OnOk};
+ghost use Rattle.bk_frames.specs.Device.{CanBeUsed};
+ghost use Rattle.bk_report.specs.Pages.{Written, blank, size_of};
+ghost use Rattle.bk_tables.specs.private.Sheets.{with_front};
 
 use crate::line::Line;
+use bk_frames::{Sink, WriteFault};
 use bk_report::Page;
 use std::alloc::{AllocError, Global};
+use std::marker::Model;
+
+/// A page, and a text in front of it that is put with the first text after it, and not before. Contracts see both as one
+/// page.
+#[derive(Drop)]
+pub(crate) struct Leaf {
+    front: Vec<u8>,
+    page: Page,
+}
+
+impl Model for Leaf {
+    ghost use Rattle.std.specs.Prelude.{◌≡◌, ◌<◌, length};
+    ghost use Rattle.bk_report.specs.Pages.{PageValue, blank};
+    ghost use Rattle.bk_tables.specs.private.Sheets.{with_front};
+
+    ghost Value = { PageValue };
+
+    ghost view = { λ l. with_front l.front.items l.page };
+
+    ghost invariant = { λ l. 0 < length l.front.items → l.page ≡ blank };
+}
+
+// Puts the text in front of a page, if there is one.
+fn put_front<K: Sink>(sink: &mut K, page: &mut Page, front: &mut Vec<u8>) -> Result<(), WriteFault>
+    requires sound { CanBeUsed (K.state sink.old) }
+    requires fresh { 0 < length front.old.items → page.old ≡ blank }
+    requires size { size_of (with_front front.old.items page.old) < 2 ^ 62 }
+    ensures none { front.new.items ≡ [] }
+    ensures written { Written result (K.state sink.old) (K.state sink.new)
+        (with_front front.old.items page.old) page.new [] }
+    ensures size { OnOk result (size_of page.new ≡ size_of (with_front front.old.items page.old)) }
+{
+    if front.is_empty() {
+        return Ok(());
+    }
+    let put = page.put_text(sink, front.as_slice());
+    front.clear();
+    put
+}
+
+impl Leaf {
+    /// A text in front of an empty page. All room that is ever needed is taken here.
+    fn new(alloc: Global, front: &[u8]) -> Result<Leaf, AllocError>
+        ensures { IfOk result (λ l. l ≡ with_front front.now blank) }
+    {
+        let front = front.to_vec(alloc)?;
+        let page = Page::new(alloc)?;
+        Ok(Leaf { front, page })
+    }
+
+    /// Puts a text, after the one in front.
+    pub fn put_text<K: Sink>(&mut self, sink: &mut K, text: &[u8]) -> Result<(), WriteFault>
+        requires sound { CanBeUsed (K.state sink.old) }
+        requires size { size_of self.old + length text.now < 2 ^ 62 }
+        ensures written { Written result (K.state sink.old) (K.state sink.new) self.old self.new
+            text.now }
+        ensures size { OnOk result (size_of self.new ≡ size_of self.old + length text.now) }
+    {
+        put_front(sink, &mut self.page, &mut self.front)?;
+        self.page.put_text(sink, text)
+    }
+
+    /// Lets all that it holds go out, the text in front too.
+    pub fn flush<K: Sink>(&mut self, sink: &mut K) -> Result<(), WriteFault>
+        requires sound { CanBeUsed (K.state sink.old) }
+        requires size { size_of self.old < 2 ^ 62 }
+        ensures written { Written result (K.state sink.old) (K.state sink.new) self.old self.new
+            [] }
+        ensures empty { OnOk result (self.new.bytes ≡ []) }
+        ensures size { OnOk result (size_of self.new ≡ size_of self.old) }
+    {
+        put_front(sink, &mut self.page, &mut self.front)?;
+        self.page.flush(sink)
+    }
+
+    /// The same where a text was put after the one in front, and nothing where there was none.
+    pub fn flush_rows<K: Sink>(&mut self, sink: &mut K) -> Result<(), WriteFault>
+        requires sound { CanBeUsed (K.state sink.old) }
+        requires size { size_of self.old < 2 ^ 62 }
+        ensures written { Written result (K.state sink.old) (K.state sink.new) self.old self.new
+            [] }
+        ensures out { OnOk result ((self.new.bytes ≡ []) ⊎ (self.new.out ≡ 0)) }
+        ensures size { OnOk result (size_of self.new ≡ size_of self.old) }
+    {
+        if self.front.is_empty() {
+            return self.flush(sink);
+        }
+        Ok(())
+    }
+}
 
 /// A page of rows, and room for one.
 #[derive(Drop)]
 pub(crate) struct Sheet {
-    pub page: Page,
+    pub page: Leaf,
     pub line: Line,
+}
+
+/// An empty page with a text in front. All room that rows ever need is taken here.
+pub(crate) fn sheet_after(alloc: Global, front: &[u8]) -> Result<Sheet, AllocError>
+    ensures { IfOk result (λ s. s.page ≡ with_front front.now blank) }
+{
+    let page = Leaf::new(alloc, front)?;
+    let line = Line::new(alloc)?;
+    Ok(Sheet { page, line })
 }
 
 /// An empty page. All room that rows ever need is taken here.
 pub(crate) fn new_sheet(alloc: Global) -> Result<Sheet, AllocError>
     ensures { IfOk result (λ s. s.page ≡ blank) }
 {
-    let page = Page::new(alloc)?;
-    let line = Line::new(alloc)?;
-    Ok(Sheet { page, line })
+    sheet_after(alloc, &[])
 }

@@ -1,6 +1,8 @@
 //! The payments of an order, as what a feed answers.
 
-ghost use Rattle.std.specs.Prelude.{◌≡◌, ℕ, ◌+◌, ◌*◌, ◌≤◌, ◌<◌, ◌^◌, [], List, Some, IsSome, length, map, false, slice_get, OnOk, IfErr, IfOk, option_map};
+ghost use Rattle.std.specs.Prelude.{◌≡◌, ◌⊎◌, ℕ, ◌+◌, ◌*◌, ◌≤◌, ◌<◌, ◌^◌, [], List, Some, IsSome, drop, length, map, take, false, slice_get, OnOk, IfErr, IfOk, option_map};
+ghost use Rattle.bk_answer.specs.Answers.{IsMadeOf};
+ghost use Rattle.bk_answer.specs.Values.{closed_value};
 ghost use Rattle.bk_base.specs.Feed.{FeedValue};
 ghost use Rattle.bk_frames.specs.Device.{CanBeUsed};
 ghost use Rattle.bk_frames.specs.Writing.{Writes};
@@ -8,7 +10,9 @@ ghost use Rattle.bk_report.specs.Pages.{Written, blank, size_of};
 ghost use Rattle.bk_rules.specs.Fold.{receipts_of};
 ghost use Rattle.bk_tx.specs.Batches.{count_in, transactions_in, transactions_of};
 ghost use Rattle.bk_tx.specs.Reading.{text_at};
-ghost use Rattle.bk_tables.specs.Payments.{payments_text, receipt_at, rows_from, rows_in};
+ghost use Rattle.bk_tables.specs.Csv.{row_text};
+ghost use Rattle.bk_tables.specs.Growing.{ShowsAll, ShowsFirst, none_shown};
+ghost use Rattle.bk_tables.specs.Payments.{payments_header, payments_text, receipt_at, rows_from, rows_in};
 ghost use Rattle.bk_tables.specs.Tables.{IsPaymentTable, transactions_text};
 ghost use Rattle.bk_tables.specs.private.Runs.{outcome_in};
 ghost use Rattle.bk_tables.specs.private.Shows.{TextFails};
@@ -17,7 +21,7 @@ use crate::accounts::Accounts;
 use crate::batches::end_of;
 use crate::payment::At;
 use crate::rows::put_place;
-use crate::sheet::{Sheet, new_sheet};
+use crate::sheet::{Sheet, new_sheet, sheet_after};
 use crate::texts::next_text;
 use bk_answer::{Answer, Closed};
 use bk_base::Fields;
@@ -27,7 +31,8 @@ use bk_order::Intake;
 use bk_results::{Fault, Status};
 use bk_rules::Receipt;
 use bk_tx::Tx;
-use std::alloc::Global;
+use std::alloc::{AllocError, Global};
+use std::marker::Model;
 use std::thread::Threads;
 
 // The header, a row.
@@ -72,13 +77,15 @@ fn put_batch<K: Sink>(
     Ok(())
 }
 
-// Puts the rows of all batches of an order.
+// Puts the rows of the batches of an order from this one on, whose first place is this.
 fn put_batches<K: Sink>(
     sink: &mut K,
     sheet: &mut Sheet,
     accounts: &Option<Accounts>,
     intake: &Intake,
     ledger: &Ledger,
+    first: usize,
+    start: usize,
 ) -> Result<(), WriteFault>
     requires sound { CanBeUsed (K.state sink.old) }
     requires open { intake.now.failed ≡ false }
@@ -87,16 +94,21 @@ fn put_batches<K: Sink>(
         ≡ length (transactions_of intake.now.ordered.payloads.list) }
     requires few { length ledger.now.receipts < 2 ^ 32 }
     requires batches { length intake.now.ordered.payloads.list < 2 ^ 32 }
-    requires size { size_of sheet.old.page ≤ 100 }
+    requires within { first ≤ length intake.now.ordered.payloads.list }
+    requires places { start ≡ length (transactions_of
+        (take first intake.now.ordered.payloads.list)) }
+    requires size { size_of sheet.old.page ≤ 1800 * start + 100 }
     ensures written { Written result (K.state sink.old) (K.state sink.new)
-        sheet.old.page sheet.new.page (payments_text accounts.now
-        (rows_from ledger.now.receipts 0 0 intake.now.ordered.payloads.list)) }
-    ensures size { OnOk result (size_of sheet.new.page < 2 ^ 60) }
+        sheet.old.page sheet.new.page (payments_text accounts.now (rows_from ledger.now.receipts
+        first start (drop first intake.now.ordered.payloads.list))) }
+    ensures size { OnOk result (size_of sheet.new.page
+        ≤ 1800 * length (transactions_of intake.now.ordered.payloads.list) + 100) }
 {
     let receipts = ledger.receipts();
-    let mut place = 0;
-    for (batch, count) in ledger.counts().iter().enumerate() {
-        if let Some(count) = count {
+    let counts = ledger.counts();
+    let mut place = start;
+    for batch in first..counts.len() {
+        if let Some(count) = counts[batch] {
             let payload = intake.payload(batch);
             put_batch(
                 sink,
@@ -107,7 +119,7 @@ fn put_batches<K: Sink>(
                 place,
                 receipts,
             )?;
-            place += usize::from(*count);
+            place += usize::from(count);
         }
     }
     Ok(())
@@ -135,7 +147,7 @@ fn put_table<K: Sink>(
     ensures empty { OnOk result (sheet.new.page.bytes ≡ []) }
 {
     sheet.page.put_text(sink, HEADER)?;
-    put_batches(sink, sheet, accounts, intake, ledger)?;
+    put_batches(sink, sheet, accounts, intake, ledger, 0, 0)?;
     sheet.page.flush(sink)
 }
 
@@ -164,6 +176,78 @@ fn write_table<K: Sink>(
     let mut sheet = new_sheet(alloc)?;
     put_table(sink, &mut sheet, accounts, intake, ledger)?;
     Ok(())
+}
+
+/// The table of payments of an order that grows: its header, and the rows of the batches that it has so far. Contracts see
+/// the page on which it is put, and how many batches and places it shows.
+#[derive(Drop)]
+pub struct PaymentRows {
+    sheet: Sheet,
+    batch: usize,
+    place: usize,
+}
+
+impl Model for PaymentRows {
+    ghost use Rattle.bk_tables.specs.Growing.{Shown};
+
+    ghost Value = { Shown };
+
+    ghost view = { λ r. record { page = r.sheet.page; batch = r.batch; place = r.place } };
+}
+
+impl PaymentRows {
+    /// Before the first row. All room that rows ever need is taken here.
+    pub fn new(alloc: Global) -> Result<PaymentRows, AllocError>
+        ensures { IfOk result (λ r. r ≡ none_shown (row_text payments_header)) }
+    {
+        Ok(PaymentRows {
+            sheet: sheet_after(alloc, HEADER)?,
+            batch: 0,
+            place: 0,
+        })
+    }
+
+    /// Writes the rows of the batches that are not shown yet: those that name one of these accounts, or all of them. The
+    /// header comes before the first row that is written. After an error it is not to be used again.
+    pub fn write_more<K: Sink>(
+        &mut self,
+        sink: &mut K,
+        accounts: &Option<Accounts>,
+        closed: &Closed<'_>,
+    ) -> Result<(), WriteFault>
+        requires sound { CanBeUsed (K.state sink.old) }
+        requires closed { (feed : FeedValue) × IsMadeOf (closed_value closed.now) feed }
+        requires shown { ShowsFirst 1800 closed.now.order.intake.now.ordered.payloads.list self.old }
+        ensures written { Written result (K.state sink.old) (K.state sink.new)
+            self.old.page self.new.page (payments_text accounts.now
+            (rows_from closed.now.ledger.now.receipts self.old.batch self.old.place
+            (drop self.old.batch closed.now.order.intake.now.ordered.payloads.list))) }
+        ensures shown { OnOk result
+            (ShowsAll 1800 closed.now.order.intake.now.ordered.payloads.list self.new) }
+        ensures out { OnOk result ((self.new.page.bytes ≡ []) ⊎ (self.new.page.out ≡ 0)) }
+    {
+        let intake = closed.order.intake;
+        let PaymentRows {
+            sheet,
+            batch,
+            place,
+        } = self;
+        put_batches(sink, sheet, accounts, intake, closed.ledger, *batch, *place)?;
+        *batch = closed.ledger.counts().len();
+        *place = closed.ledger.receipts().len();
+        sheet.page.flush_rows(sink)
+    }
+
+    /// Writes the header, if it is not out.
+    pub fn end<K: Sink>(&mut self, sink: &mut K) -> Result<(), WriteFault>
+        requires sound { CanBeUsed (K.state sink.old) }
+        requires size { size_of self.old.page < 2 ^ 62 }
+        ensures written { Written result (K.state sink.old) (K.state sink.new)
+            self.old.page self.new.page [] }
+        ensures empty { OnOk result (self.new.page.bytes ≡ []) }
+    {
+        self.sheet.page.flush(sink)
+    }
 }
 
 /// The table of the payments of the order, as what a feed answers: all of them, or those that name one of some accounts. It

@@ -11,12 +11,12 @@ use Rattle.bk_tables.proofs.transactions.put_batches.Goals.{in-Some+in_ok-put_ba
 use Rattle.bk_tables.proofs.transactions.put_batches.Goals as goal
 
 pub loop-batch-init : goal.loop-batch-init
-loop-batch-init g c = record { put = begun _ _ _ _ refl; place = refl; size = c.requires.size }
+loop-batch-init g c = record { put = begun _ _ _ _ refl; place = c.requires.places; size = c.requires.size }
 
 pub put_batch-requires-clause-grammar : goal.put_batch-requires-clause-grammar
 put_batch-requires-clause-grammar g c =
     let payloads = c.args.intake.now.ordered.payloads.list in
-    (count_some c.payload-payload.result.now c.in-Some.count (sym (count_here payloads c.counts-count-items.result.now c.loop-batch.batch None c.payload-payload.result.now (c.counts-count-items.ensures ∙ c.requires.counts) c.loop-batch-test.true c.payload-payload.ensures) ∙ c.in-Some.is)).0
+    (count_some c.payload-payload.result.now c.in-Some.count (sym (count_here payloads c.counts-counts.result.now c.loop-batch.batch None c.payload-payload.result.now (c.counts-counts.ensures ∙ c.requires.counts) c.loop-batch-test.true c.payload-payload.ensures) ∙ c.in-Some.is)).0
 
 pub put_batch-requires-clause-inside : goal.put_batch-requires-clause-inside
 put_batch-requires-clause-inside g c =
@@ -39,16 +39,16 @@ pub overflow_add-place : goal.overflow_add-place
 overflow_add-place g c =
     let payloads = c.args.intake.now.ordered.payloads.list in
     let inside = places_inside payloads c.loop-batch.batch c.payload-payload.result.now c.payload-payload.ensures in
-    let n = (count_some c.payload-payload.result.now c.in-Some.count (sym (count_here payloads c.counts-count-items.result.now c.loop-batch.batch None c.payload-payload.result.now (c.counts-count-items.ensures ∙ c.requires.counts) c.loop-batch-test.true c.payload-payload.ensures) ∙ c.in-Some.is)).1 in
+    let n = (count_some c.payload-payload.result.now c.in-Some.count (sym (count_here payloads c.counts-counts.result.now c.loop-batch.batch None c.payload-payload.result.now (c.counts-counts.ensures ∙ c.requires.counts) c.loop-batch-test.true c.payload-payload.ensures) ∙ c.in-Some.is)).1 in
     omega (arith, inside, n, c.from-place.ensures, c.loop-batch.invariant.place, c.requires.receipts, c.requires.few)
 
 pub loop-batch-preserved : goal.loop-batch-preserved
 loop-batch-preserved g c =
     let payloads = c.args.intake.now.ordered.payloads.list in
-    elim c.match-count.branch [
+    elim c.match-counts-batch.branch [
       | in-Some+in_ok-put_batch w ↦
           let payload = w.payload-payload.result.now in
-          let n = (count_some payload w.in-Some.count (sym (count_here payloads c.counts-count-items.result.now c.loop-batch.batch None payload (c.counts-count-items.ensures ∙ c.requires.counts) c.loop-batch-test.true w.payload-payload.ensures) ∙ w.in-Some.is)).1 in
+          let n = (count_some payload w.in-Some.count (sym (count_here payloads c.counts-counts.result.now c.loop-batch.batch None payload (c.counts-counts.ensures ∙ c.requires.counts) c.loop-batch-test.true w.payload-payload.ensures) ∙ w.in-Some.is)).1 in
           let next : ℕ = c.loop-batch.place + w.from-place.result in
           let more = payments_text c.args.accounts.now (rows_from c.args.ledger.now.receipts (c.loop-batch.batch + 1) next (drop (c.loop-batch.batch + 1) payloads)) in
           rw (w.sink-is, w.sheet-is, w.place-is) (record {
@@ -60,10 +60,10 @@ loop-batch-preserved g c =
             size = let s = w.in_ok-put_batch.ensures.size in omega (arith, s, n, w.from-place.ensures);
           })
       | in_default w ↦
-          let low = ap length (c.counts-count-items.ensures ∙ c.requires.counts) ∙ length-map payloads count_in in
+          let low = ap length (c.counts-counts.ensures ∙ c.requires.counts) ∙ length-map payloads count_in in
           let payload : List ℕ = get_or payloads c.loop-batch.batch [] in
           let here = slice_get-get_or payloads c.loop-batch.batch [] (omega (arith, low, c.loop-batch-test.true)) in
-          let none = count_none payload (sym (count_here payloads c.counts-count-items.result.now c.loop-batch.batch None payload (c.counts-count-items.ensures ∙ c.requires.counts) c.loop-batch-test.true here) ∙ w.in_default.is) in
+          let none = count_none payload (sym (count_here payloads c.counts-counts.result.now c.loop-batch.batch None payload (c.counts-counts.ensures ∙ c.requires.counts) c.loop-batch-test.true here) ∙ w.in_default.is) in
           rw (w.sink-is, w.sheet-is, w.place-is) (record {
             put = same_rest _ _ _ _ _ _ _ (void_rows payloads c.loop-batch.batch payload c.args.accounts.now c.args.ledger.now.receipts c.loop-batch.place here none) c.loop-batch.invariant.put;
             place = let m = next_place payloads c.loop-batch.batch payload here in let n = ap length none in omega (arith, m, n, c.loop-batch.invariant.place);

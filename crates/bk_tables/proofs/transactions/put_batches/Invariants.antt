@@ -7,7 +7,7 @@ use Rattle.bk_tables.proofs.transactions.put_batches.Given as goal
 
 abbrev pub invariant-loop-batch : goal.invariant-loop-batch
 invariant-loop-batch g l = record {
-  put : IsDone (g.K.Sink.state l.initial.sink) (g.K.Sink.state l.sink) l.initial.sheet.page l.sheet.page (payments_text l.accounts (rows_from l.ledger.receipts 0 0 l.intake.ordered.payloads.list)) (payments_text l.accounts (rows_from l.ledger.receipts l.batch l.place (drop l.batch l.intake.ordered.payloads.list)));
+  put : IsDone (g.K.Sink.state l.initial.sink) (g.K.Sink.state l.sink) l.initial.sheet.page l.sheet.page (payments_text l.accounts (rows_from l.ledger.receipts l.first l.start (drop l.first l.intake.ordered.payloads.list))) (payments_text l.accounts (rows_from l.ledger.receipts l.batch l.place (drop l.batch l.intake.ordered.payloads.list)));
   place : l.place ≡ length (transactions_of (take l.batch l.intake.ordered.payloads.list));
   size : size_of l.sheet.page ≤ 1800 * l.place + 100;
 }
