@@ -1,0 +1,87 @@
+-- How following a feed ends.
+use Rattle.std.proofs.Common.{◌≡◌, inl, inr, ◌∙◌, ℕ, List, [], ◌++◌, Option, Some, refl, sym, ap, subst, append-nil}
+use Rattle.std.specs.Prelude.{IfSome}
+use Rattle.bk_answer.specs.Answers.{IsAnswered}
+use Rattle.bk_answer.specs.RunReport.{HasNoStopIn, IsOrderIn, reach_of}
+use Rattle.bk_frames.specs.Device.{Fails, IfKnown, Works}
+use Rattle.bk_order.specs.Orders.{Ordered}
+use Rattle.bk_report.specs.Pages.{PageValue, Puts, Stops, blank}
+use Rattle.bk_report.proofs.Putting.{all_out, puts_then}
+use Rattle.bk_follow.specs.Follower.{BookValue, IsSettled}
+use Rattle.bk_follow.specs.Queries.{missing_in}
+use Rattle.std.proofs.KnownBytes.{Appends-nil, Consumes-nil}
+use Rattle.bk_base.specs.Feed.{Frame, FeedValue, feed_of, genesis_of}
+use Rattle.bk_commit.specs.Growth.{IsPrefix}
+use Rattle.bk_frames.specs.Device.{Device, Gives}
+use Rattle.bk_frames.specs.Pulling.{Gave}
+use Rattle.bk_results.specs.Devices.{devices}
+use Rattle.bk_results.specs.declared.fault.Fault.{Fault}
+use Rattle.bk_results.specs.declared.fault.Fault.TheVariants as fault
+use Rattle.bk_results.specs.declared.status.Status.{Status}
+use Rattle.bk_follow.specs.Follower.{Followed}
+use Rattle.bk_tail.specs.Tailing.{OfWholeFrames, TableSoFar, TailFailsBy}
+use Rattle.bk_tail.specs.private.Putting.{HasPut, PutFails, TableKind}
+use Rattle.bk_tail.specs.private.Steps.{AdvanceFails, GaveAfter, HasFollowed, IsWholeFeed}
+use Rattle.bk_tail.proofs.Growing.{IsBookAt, book_at, put_stops, so_far_longer}
+
+module _ (k : TableKind) (start now first sink : Device) where
+  gave_so_far : (bytes : List ℕ) → GaveAfter start now bytes (λ given. Unit {0}) → TableSoFar k.text first sink bytes → Gave start now (TableSoFar k.text first sink)
+  gave_so_far bytes (given, gives, (longer, _)) out = (given, gives, so_far_longer k.text first sink bytes given longer out)
+
+  gave_with : (bytes : List ℕ) (holds : List ℕ → Type 0) → GaveAfter start now bytes holds → TableSoFar k.text first sink bytes → Gave start now (λ given. TableSoFar k.text first sink given × holds given)
+  gave_with bytes holds (given, gives, (longer, h)) out = (given, gives, (so_far_longer k.text first sink bytes given longer out, h))
+
+  -- the feed was not followed further
+  pub advance_fails : (f : Fault) (bytes : List ℕ) → AdvanceFails f start now bytes → TableSoFar k.text first sink bytes → TailFailsBy k.text f (devices start first) (devices now sink)
+  advance_fails (fault.Feed found) bytes h out = (h.0, gave_so_far bytes h.1 out)
+  advance_fails (fault.Collision id) bytes h out = (h.0, gave_with bytes _ h.1 out)
+  advance_fails (fault.Equivocation round author one other) bytes h out = (h.0, gave_with bytes _ h.1 out)
+  advance_fails (fault.Unfinished place) bytes h out = (h.0, gave_with bytes _ h.1 out)
+  advance_fails (fault.Write written) bytes h out = absurd h
+  advance_fails fault.Memory bytes h out = (h.0, gave_so_far bytes h.1 out)
+
+  -- rows were not put
+  pub put_fails : (f : Fault) (written : ℕ) (bytes : List ℕ) (frames : List Frame) (v : Followed) → f ≡ fault.Write written → HasFollowed start now bytes frames v → PutFails k written bytes first sink → TailFailsBy k.text f (devices start first) (devices now sink)
+  put_fails f written bytes frames v is h fails = subst (λ (g : Fault). TailFailsBy k.text g (devices start first) (devices now sink)) (sym is) (h.works, fails.0, (bytes, h.gave, fails.1))
+
+-- ---- the end of the feed
+
+-- which texts are a table of an order
+abbrev pub IsTextOf : TableKind → Type 0
+IsTextOf k =
+    (feed : FeedValue) (o : Ordered) → HasNoStopIn feed → IsOrderIn feed o
+    → k.text feed (reach_of o.payloads.missing) (k.header ++ k.rows feed.version (genesis_of feed.frames) o.payloads.list)
+
+module _ (k : TableKind) (is_text : IsTextOf k) (start now first sink : Device) (all : List ℕ) (whole : List Frame) (v : Followed) (page : PageValue) (done : Ordered)
+    (f : HasFollowed start now all whole v) (settled : IsSettled whole v) (w : IsWholeFeed all whole v) (h : HasPut k all whole v.cut.version first sink page done) (last : IfSome v.book (λ b. done ≡ b.taken.ordered)) where
+  at : IsBookAt all whole v w.holds.0
+  at = book_at all whole v w.holds.0 f.come settled w.holds.1
+
+  done_is : done ≡ w.holds.0.taken.ordered
+  done_is = subst (λ (o : Option BookValue). IfSome o (λ b. done ≡ b.taken.ordered)) w.holds.1 last
+
+  nothing_grows : k.rows at.version (genesis_of whole) w.holds.0.taken.ordered.payloads.list ≡ k.rows at.version (genesis_of whole) done.payloads.list ++ []
+  nothing_grows = ap (λ (o : Ordered). k.rows at.version (genesis_of whole) o.payloads.list) (sym done_is) ∙ sym (append-nil (k.rows at.version (genesis_of whole) done.payloads.list))
+
+  -- the header did not go out
+  pub end_fails : (later : Device) (written : ℕ) → Fails sink later × Stops sink later page [] written → PutFails k written all first later
+  end_fails later written stop = put_stops k all whole v w.holds.0 first sink page done f.come at h [] nothing_grows (is_text (feed_of at.version whole) w.holds.0.taken.ordered at.current.clear at.current.ordered) later written stop
+
+  -- all is out
+  pub answered : (later : Device) (after : PageValue) → IfKnown start (λ given. given ≡ all) → Works sink later × Puts sink later page after [] → after.bytes ≡ [] → IsAnswered k.text (reach_of (missing_in v.book)) (devices start first) (devices now later)
+  answered later after known put empty =
+      let o = w.holds.0.taken.ordered in
+      let feed = feed_of w.version whole in
+      let text = k.header ++ k.rows w.version (genesis_of whole) o.payloads.list in
+      let shown : k.header ++ h.shown ≡ text = ap (λ (t : List ℕ). k.header ++ t) ((h.many w.version w.known w.good.opened).shown_is ∙ ap (λ (x : Ordered). k.rows w.version (genesis_of whole) x.payloads.list) done_is) in
+      let puts : Puts first later blank after text = subst (λ (t : List ℕ). Puts first later blank after t) (append-nil (k.header ++ h.shown) ∙ shown) (puts_then first sink later blank page after (k.header ++ h.shown) [] h.puts put.1) in
+      let end : reach_of o.payloads.missing ≡ reach_of (missing_in v.book) = ap (λ (b : Option BookValue). reach_of (missing_in b)) (sym w.holds.1) in
+      subst (λ (e : Status). IsAnswered k.text e (devices start first) (devices now later)) end (record {
+        source = f.works;
+        sink = put.0 ∙ h.so_far.0;
+        out = (all, f.gave, known, (text, record { feed = feed; good = w.good; spelled = w.spelled; holds = is_text feed o w.holds.2.clear w.holds.2.ordered }, all_out first later after text puts empty));
+      })
+
+-- memory ran out before the first byte
+pub none_read : (k : TableKind) (start first : Device) → TailFailsBy k.text fault.Memory (devices start first) (devices start first)
+none_read k start first = (refl, ([], Consumes-nil start.bytes, (refl, inl (Appends-nil first.bytes))))

@@ -1,0 +1,159 @@
+-- A table that is put while its feed is followed: more comes, more is put, and why it is not.
+use Rattle.std.proofs.Common.{◌≡◌, ◌⊎◌, inl, inr, ◌∙◌, ℕ, zero, suc, ◌+◌, ◌<◌, ◌≤◌, List, [], ◌∷◌, ◌++◌, length, take, Option, Some, None, refl, sym, ap, subst, append_assoc, append-nil, length-append, arith}
+use Rattle.std.specs.Prelude.{IfSome}
+use Rattle.std.proofs.KnownBytes.{Appends-nil}
+use Rattle.std.proofs.lemmas.List.Elements.{Contains-append_left}
+use Rattle.bk_base.specs.declared.genesis.Row.{Row}
+use Rattle.bk_base.specs.declared.version.Version.{Version}
+use Rattle.bk_base.specs.Feed.{Frame, FeedValue, IsFeed, feed_of, genesis_of, spelling}
+use Rattle.bk_commit.specs.Growth.{IsPrefix}
+use Rattle.bk_frames.specs.Device.{Device, Fails, Receives, Works}
+use Rattle.bk_frames.proofs.CutJoining.{bytes_so_far}
+use Rattle.bk_order.specs.Intake.{nothing_ordered}
+use Rattle.bk_order.specs.Orders.{Ordered}
+use Rattle.bk_order.proofs.Ordering.{none_ordered}
+use Rattle.bk_order.proofs.Sets.{frames_grow}
+use Rattle.bk_report.specs.Pages.{PageValue, Puts, Stops, blank}
+use Rattle.bk_report.proofs.Putting.{all_out, part_out, part_size, puts_then, stops_then}
+use Rattle.bk_results.specs.declared.status.Status.{Status}
+use Rattle.bk_answer.specs.RunReport.{committee_in, later_frames, reach_of}
+use Rattle.bk_follow.specs.Follower.{BookValue, Followed, HasCome, IsCurrent, IsSettled, IsSettledBy, OrdersPart}
+use Rattle.bk_follow.proofs.Books.{whole_part}
+use Rattle.bk_follow.proofs.Following.{IsOfGoodBook, good_of}
+use Rattle.bk_tail.specs.Tailing.{FeedBegins, TableSoFar}
+use Rattle.bk_tail.specs.private.Putting.{HasPut, IsPartDone, PutFails, TableKind}
+use Rattle.bk_tail.proofs.OneVersion.{known_before}
+
+prefix_then : {X : Type 0} (xs ys zs : List X) → IsPrefix xs ys → IsPrefix ys zs → IsPrefix xs zs
+prefix_then xs ys zs h k = (h.0 ++ k.0, k.1 ∙ ap (λ t. t ++ k.0) h.1 ∙ append_assoc xs h.0 k.0)
+
+-- what is out stays where more comes
+pub so_far_longer : (text : FeedValue → Status → List ℕ → Type 0) (old new : Device) (bytes all : List ℕ) → IsPrefix bytes all → TableSoFar text old new bytes → TableSoFar text old new all
+so_far_longer text old new bytes all longer (works, inl none) = (works, inl none)
+so_far_longer text old new bytes all longer (works, inr (feed, (good, begins), end, out)) = (works, inr (feed, (good, prefix_then (spelling feed) bytes all begins longer), end, out))
+
+-- no order is that of no frames
+nothing_of : (feed : FeedValue) → OrdersPart feed nothing_ordered
+nothing_of feed = record { part = []; within = λ c h. absurd (let low = h.1 in omega (arith, low)); ordered = none_ordered (committee_in feed) }
+
+-- ---- more frames come
+
+module _ (k : TableKind) (none_rows : (version : Version) (genesis : List Row) → k.rows version genesis [] ≡ []) where
+  -- of no order nothing is shown, of whatever frames
+  nothing_done : (frames : List Frame) (version : Version) (done : Ordered) (shown : List ℕ) → (done ≡ nothing_ordered) × (shown ≡ []) → IsPartDone k frames version done shown
+  nothing_done frames version done shown (none, empty) = record {
+    part = subst (OrdersPart (feed_of version frames)) (sym none) (nothing_of (feed_of version frames));
+    shown_is = empty ∙ sym (none_rows version (genesis_of frames)) ∙ ap (λ (o : Ordered). k.rows version (genesis_of frames) o.payloads.list) (sym none);
+  }
+
+  -- the order of a part is that of a part of more frames
+  part_on : (first second : Frame) (rest next : List Frame) (version : Version) (done : Ordered) (shown : List ℕ) → IsPartDone k (first ∷ second ∷ rest) version done shown → IsPartDone k ((first ∷ second ∷ rest) ++ next) version done shown
+  part_on first second rest next version done shown h = record {
+    part = record { part = h.part.part; within = λ c i. Contains-append_left rest next c (h.part.within c i); ordered = h.part.ordered };
+    shown_is = h.shown_is;
+  }
+
+  many_on : (frames next : List Frame) (version : Version) (done : Ordered) (shown : List ℕ) → (length frames < 2 → (done ≡ nothing_ordered) × (shown ≡ [])) → (2 ≤ length frames → IsPartDone k frames version done shown) → IsPartDone k (frames ++ next) version done shown
+  many_on [] next version done shown few many = nothing_done next version done shown (few (omega arith))
+  many_on (f ∷ []) next version done shown few many = nothing_done (f ∷ next) version done shown (few (omega arith))
+  many_on (f ∷ g ∷ rest) next version done shown few many = part_on f g rest next version done shown (many (omega arith))
+
+  pub put_longer : (bytes all : List ℕ) (frames whole : List Frame) (v w : Followed) (first now : Device) (page : PageValue) (done : Ordered) → IsPrefix bytes all → IsPrefix frames whole → HasCome bytes frames v → HasCome all whole w
+      → HasPut k bytes frames v.cut.version first now page done → HasPut k all whole w.cut.version first now page done
+  put_longer bytes all frames whole v w first now page done longer more come then h = record {
+    shown = h.shown;
+    so_far = so_far_longer k.text first now bytes all longer h.so_far;
+    puts = h.puts;
+    few = λ short. h.few (let n = ap length more.1 in let m = length-append frames more.0 in omega (arith, n, m, short));
+    many = λ version known two. subst (λ (fs : List Frame). IsPartDone k fs version done h.shown) (sym more.1)
+        (many_on frames more.0 version done h.shown h.few (λ two. h.many version (known_before bytes all frames whole v.cut w.cut version longer come.cuts then.cuts two known) two));
+  }
+
+  -- before the first byte: the header waits
+  pub none_put : (v : Followed) (first : Device) (page : PageValue) → page ≡ record { out = 0; bytes = k.header } → HasPut k [] [] v.cut.version first first page nothing_ordered
+  none_put v first page is = record {
+    shown = [];
+    so_far = (refl, inl (Appends-nil first.bytes));
+    puts = subst (λ (p : PageValue). Puts first first blank p (k.header ++ [])) (sym is) (record { pushed = []; gave = Appends-nil first.bytes; kept = append-nil k.header; out = refl });
+    few = λ _. (refl, refl);
+    many = λ version known two. absurd (omega (arith, two));
+  }
+
+-- ---- a Follower with a book, all of whose frames are settled
+
+-- the frames are those of a feed, and this is its book
+pub record IsBookAt (bytes : List ℕ) (frames : List Frame) (v : Followed) (b : BookValue) : Type 0 where
+  pub version : Version
+  pub known : v.cut.version ≡ Some version
+  pub good : IsFeed (feed_of version frames)
+  pub begins : IsPrefix (spelling (feed_of version frames)) bytes
+  pub current : IsCurrent (feed_of version frames) b
+
+pub book_at : (bytes : List ℕ) (frames : List Frame) (v : Followed) (b : BookValue) → HasCome bytes frames v → IsSettled frames v → v.book ≡ Some b → IsBookAt bytes frames v b
+book_at bytes frames v b come settled is =
+    let g = good_of bytes frames v b come is in
+    record {
+      version = g.version;
+      known = g.known;
+      good = record { good = g.good.good; opened = g.good.opened };
+      begins = (v.cut.kept, (bytes_so_far bytes frames v.cut g.version come.cuts g.known).0.spelled);
+      current = subst (λ (x : Option Version × Option BookValue). IsSettledBy x.0 frames x.1) (λ i. (g.known i, is i)) settled;
+    }
+
+same_version : (o : Option Version) (v w : Version) → o ≡ Some v → o ≡ Some w → v ≡ w
+same_version o v w e f = cc
+
+module _ (k : TableKind) (bytes : List ℕ) (frames : List Frame) (v : Followed) (b : BookValue) (first now : Device) (page : PageValue) (done : Ordered) (come : HasCome bytes frames v) (at : IsBookAt bytes frames v b) (h : HasPut k bytes frames v.cut.version first now page done) where
+  abbrev feed : FeedValue
+  feed = feed_of at.version frames
+
+  -- the text of the rows of a list of batches
+  abbrev rows_of : List (List ℕ) → List ℕ
+  rows_of payloads = k.rows at.version (genesis_of frames) payloads
+
+  abbrev payloads : List (List ℕ)
+  payloads = b.taken.ordered.payloads.list
+
+  pub part_done : IsPartDone k frames at.version done h.shown
+  part_done = h.many at.version at.known at.good.opened
+
+  -- the batches that are shown begin those of the order
+  pub begins : IsPrefix done.payloads.list payloads
+  begins = (frames_grow (committee_in feed) part_done.part.part (later_frames feed) done b.taken.ordered part_done.part.within at.current.clear part_done.part.ordered at.current.ordered).2
+
+  abbrev end : Status
+  end = reach_of b.taken.ordered.payloads.missing
+
+  module _ (more : List ℕ) (grows : rows_of payloads ≡ rows_of done.payloads.list ++ more) (is_text : k.text feed end (k.header ++ rows_of payloads)) where
+    all_text : (k.header ++ h.shown) ++ more ≡ k.header ++ rows_of payloads
+    all_text = append_assoc k.header h.shown more ∙ ap (λ (t : List ℕ). k.header ++ t) (ap (λ (t : List ℕ). t ++ more) part_done.shown_is ∙ sym grows)
+
+    out_so_far : (later : Device) (after : PageValue) → Works first later → Puts first later blank after (k.header ++ rows_of payloads) → (after.bytes ≡ []) ⊎ (after.out ≡ 0) → TableSoFar k.text first later bytes
+    out_so_far later after works puts (inl empty) = (works, inr (feed, (at.good, at.begins), end, (k.header ++ rows_of payloads, is_text, all_out first later after (k.header ++ rows_of payloads) puts empty)))
+    out_so_far later after works puts (inr none) = (works, inl (subst (Receives first later) (nothing_pushed puts.pushed (omega (arith, none, puts.out))) puts.gave))
+      where
+        nothing_pushed : (pushed : List ℕ) → length pushed ≡ 0 → pushed ≡ []
+        nothing_pushed [] e = refl
+        nothing_pushed (c ∷ cs) e = absurd (omega (arith, e))
+
+    -- more rows are put
+    pub put_more : (later : Device) (after : PageValue) → Works now later × Puts now later page after more → (after.bytes ≡ []) ⊎ (after.out ≡ 0) → HasPut k bytes frames v.cut.version first later after b.taken.ordered
+    put_more later after put out =
+        let puts = subst (λ (t : List ℕ). Puts first later blank after t) all_text (puts_then first now later blank page after (k.header ++ h.shown) more h.puts put.1) in
+        record {
+          shown = rows_of payloads;
+          so_far = out_so_far later after (put.0 ∙ h.so_far.0) puts out;
+          puts = puts;
+          few = λ few. absurd (let two = at.good.opened in omega (arith, few, two));
+          many = λ version known two.
+              subst (λ (x : Version). IsPartDone k frames x b.taken.ordered (rows_of payloads)) (same_version v.cut.version at.version version at.known known)
+              (record { part = whole_part feed b.taken.ordered at.current.ordered; shown_is = refl });
+        }
+
+    -- the sink failed
+    pub put_stops : (later : Device) (written : ℕ) → Fails now later × Stops now later page more written → PutFails k written bytes first later
+    put_stops later written stop =
+        let s = subst (λ (t : List ℕ). Stops first later blank t written) all_text (stops_then first now later blank page (k.header ++ h.shown) more written h.puts stop.1) in (
+          stop.0 ∙ ap (λ (n : ℕ). n + 1) h.so_far.0,
+          (feed, (v.cut, come.cuts, come.is_open, at.known), (end, (k.header ++ rows_of payloads, is_text, part_size first later (k.header ++ rows_of payloads) written s, part_out first later (k.header ++ rows_of payloads) written s))),
+        )

@@ -1,0 +1,8 @@
+mod Pieces
+mod OneVersion
+mod Growing
+mod PaymentsPut
+mod PaymentsStep
+mod Ends
+mod PostingsPut
+mod RowsStay

@@ -1,0 +1,134 @@
+use Rattle.std.proofs.Common.{◌≡◌, [], refl, sym, subst, arith}
+use Rattle.std.proofs.lemmas.Result.{err_from_is_err_and}
+use Rattle.bk_answer.specs.Answers.{IsAnswered}
+use Rattle.bk_order.specs.Intake.{nothing_ordered}
+use Rattle.bk_results.specs.Devices.{devices}
+use Rattle.bk_results.specs.declared.status.Status.{Status}
+use Rattle.bk_tail.specs.private.Putting.{payments}
+use Rattle.bk_tail.proofs.Ends.{advance_fails, answered, end_fails, put_fails}
+use Rattle.bk_tail.proofs.PaymentsPut.{payments_table}
+use Rattle.bk_tail.proofs.PaymentsStep.{none_put_on, put_on}
+use Rattle.bk_tail.proofs.Pieces.{none_followed}
+use Rattle.bk_tail.proofs.payments.tail_rows.Goals as goal
+
+pub pieces-init : goal.pieces-init
+pieces-init g c = record {
+  bytes = [];
+  frames = [];
+  done = nothing_ordered;
+  followed = none_followed (g.S.Source.state c.args.source.now) c.args.follower.now c.requires.first;
+  put = none_put_on c.args.accounts.now c.args.follower.now (g.K.Sink.state c.args.sink.now) c.args.rows.now c.requires.none;
+  source = c.requires.source;
+  sink = c.requires.sink;
+  some = c.requires.some;
+  few = c.requires.few;
+}
+
+pub returns-in_err-ended-clause-fault : goal.returns-in_err-ended-clause-fault
+returns-in_err-ended-clause-fault g c =
+    let p = err_from_is_err_and c.from_residual.result c.from_residual.ensures.1 in
+    let i = c.pieces.invariant in
+    rw (p.1, p.2) (advance_fails (payments c.args.accounts.now) (g.S.Source.state c.args.source.now) (g.S.Source.state c.advance.new.source) (g.K.Sink.state c.args.sink.now) (g.K.Sink.state c.pieces.sink) _ i.bytes
+    (c.in_err-ended.ensures.fault (g.S.Source.state c.args.source.now) i.bytes i.frames i.followed) i.put.put.so_far)
+
+pub put_new-requires-clause-put : goal.put_new-requires-clause-put
+put_new-requires-clause-put g c =
+    let i = c.pieces.invariant in
+    let a = c.in_ok-ended.ensures.next (g.S.Source.state c.args.source.now) i.bytes i.frames i.followed in (
+      a.all,
+      a.whole,
+      g.K.Sink.state c.args.sink.now,
+      i.done,
+      a.followed.come,
+      a.settled,
+      put_on c.args.accounts.now i.bytes a.all i.frames a.whole c.pieces.follower c.advance.new.follower (g.K.Sink.state c.args.sink.now) (g.K.Sink.state c.pieces.sink) c.pieces.rows i.done a.longer a.more i.followed.come a.followed.come i.put,
+    )
+
+pub returns-in_err-put_new-clause-fault : goal.returns-in_err-put_new-clause-fault
+returns-in_err-put_new-clause-fault g c =
+    let p = err_from_is_err_and c.from_residual-in_err-put_new.result c.from_residual-in_err-put_new.ensures.1 in
+    let i = c.pieces.invariant in
+    let start = g.S.Source.state c.args.source.now in
+    let first = g.K.Sink.state c.args.sink.now in
+    let a = c.in_ok-ended.ensures.next start i.bytes i.frames i.followed in
+    let on = put_on c.args.accounts.now i.bytes a.all i.frames a.whole c.pieces.follower c.advance.new.follower first (g.K.Sink.state c.pieces.sink) c.pieces.rows i.done a.longer a.more i.followed.come a.followed.come i.put in
+    rw (p.1, p.2) (put_fails (payments c.args.accounts.now) start (g.S.Source.state c.advance.new.source) first (g.K.Sink.state c.put_new.new.sink) _ _ a.all a.whole c.advance.new.follower refl a.followed
+    (c.in_err-put_new.ensures.fault a.all a.whole first i.done a.followed.come a.settled on))
+
+pub end-requires-clause-sound : goal.end-requires-clause-sound
+end-requires-clause-sound g c =
+    let i = c.pieces.invariant in
+    let start = g.S.Source.state c.args.source.now in
+    let first = g.K.Sink.state c.args.sink.now in
+    let a = c.in_ok-ended.ensures.next start i.bytes i.frames i.followed in
+    let on = put_on c.args.accounts.now i.bytes a.all i.frames a.whole c.pieces.follower c.advance.new.follower first (g.K.Sink.state c.pieces.sink) c.pieces.rows i.done a.longer a.more i.followed.come a.followed.come i.put in
+    let n = c.in_ok-put_new.ensures.put a.all a.whole first i.done a.followed.come a.settled on in
+    let wrote = n.1.put.so_far.0 in
+    omega (arith, wrote, c.requires.sink)
+
+pub end-requires-clause-size : goal.end-requires-clause-size
+end-requires-clause-size g c =
+    let i = c.pieces.invariant in
+    let start = g.S.Source.state c.args.source.now in
+    let first = g.K.Sink.state c.args.sink.now in
+    let a = c.in_ok-ended.ensures.next start i.bytes i.frames i.followed in
+    let on = put_on c.args.accounts.now i.bytes a.all i.frames a.whole c.pieces.follower c.advance.new.follower first (g.K.Sink.state c.pieces.sink) c.pieces.rows i.done a.longer a.more i.followed.come a.followed.come i.put in
+    let n = c.in_ok-put_new.ensures.put a.all a.whole first i.done a.followed.come a.settled on in
+    let size = n.1.shows.size in
+    let few = n.1.few in
+    omega (arith, size, few)
+
+pub returns-in_err-end-clause-fault : goal.returns-in_err-end-clause-fault
+returns-in_err-end-clause-fault g c =
+    let p = err_from_is_err_and c.from_residual-in_err-end.result c.from_residual-in_err-end.ensures.1 in
+    let i = c.pieces.invariant in
+    let start = g.S.Source.state c.args.source.now in
+    let now = g.S.Source.state c.advance.new.source in
+    let first = g.K.Sink.state c.args.sink.now in
+    let sink = g.K.Sink.state c.put_new.new.sink in
+    let v = c.advance.new.follower in
+    let ids = c.args.accounts.now in
+    let a = c.in_ok-ended.ensures.next start i.bytes i.frames i.followed in
+    let on = put_on ids i.bytes a.all i.frames a.whole c.pieces.follower v first (g.K.Sink.state c.pieces.sink) c.pieces.rows i.done a.longer a.more i.followed.come a.followed.come i.put in
+    let n = c.in_ok-put_new.ensures.put a.all a.whole first i.done a.followed.come a.settled on in
+    let e = a.ends c.if-ended.true in
+    rw (p.1, p.2) (put_fails (payments ids) start now first (g.K.Sink.state c.end.new.sink) _ _ a.all a.whole v refl a.followed
+    (end_fails (payments ids) (payments_table ids) start now first sink a.all a.whole v c.put_new.new.rows.page n.0 a.followed a.settled e.1 n.1.put n.2 (g.K.Sink.state c.end.new.sink) _ c.in_err-end.ensures.written))
+
+pub returns-then-ended-clause-answer : goal.returns-then-ended-clause-answer
+returns-then-ended-clause-answer g c =
+    let i = c.pieces.invariant in
+    let start = g.S.Source.state c.args.source.now in
+    let now = g.S.Source.state c.advance.new.source in
+    let first = g.K.Sink.state c.args.sink.now in
+    let sink = g.K.Sink.state c.put_new.new.sink in
+    let v = c.advance.new.follower in
+    let ids = c.args.accounts.now in
+    let a = c.in_ok-ended.ensures.next start i.bytes i.frames i.followed in
+    let on = put_on ids i.bytes a.all i.frames a.whole c.pieces.follower v first (g.K.Sink.state c.pieces.sink) c.pieces.rows i.done a.longer a.more i.followed.come a.followed.come i.put in
+    let n = c.in_ok-put_new.ensures.put a.all a.whole first i.done a.followed.come a.settled on in
+    let e = a.ends c.if-ended.true in
+    subst (λ (s : Status). IsAnswered (payments ids).text s (devices start first) (devices now (g.K.Sink.state c.end.new.sink))) (sym c.reach.ensures)
+    (answered (payments ids) (payments_table ids) start now first sink a.all a.whole v c.put_new.new.rows.page n.0 a.followed a.settled e.1 n.1.put n.2 (g.K.Sink.state c.end.new.sink) c.end.new.self.page e.0 c.in_ok-end.ensures.written c.in_ok-end.ensures.empty)
+
+pub pieces-preserved : goal.pieces-preserved
+pieces-preserved g c =
+    let i = c.pieces.invariant in
+    let start = g.S.Source.state c.args.source.now in
+    let first = g.K.Sink.state c.args.sink.now in
+    let a = c.in_ok-ended.ensures.next start i.bytes i.frames i.followed in
+    let on = put_on c.args.accounts.now i.bytes a.all i.frames a.whole c.pieces.follower c.advance.new.follower first (g.K.Sink.state c.pieces.sink) c.pieces.rows i.done a.longer a.more i.followed.come a.followed.come i.put in
+    let n = c.in_ok-put_new.ensures.put a.all a.whole first i.done a.followed.come a.settled on in
+    let read = a.followed.works in
+    let wrote = n.1.put.so_far.0 in
+    record {
+      bytes = a.all;
+      frames = a.whole;
+      done = n.0;
+      followed = a.followed;
+      put = n.1;
+      source = omega (arith, read, c.requires.source);
+      sink = omega (arith, wrote, c.requires.sink);
+      some = omega (arith, c.advance.auto.piece, i.some);
+      few = omega (arith, c.advance.auto.piece, i.few);
+    }

@@ -1,0 +1,73 @@
+use Rattle.std.proofs.Common.{◌≡◌, ℕ, zero, suc, ◌<◌, ◌≤◌, take, length, length-take, refl, arith}
+use Rattle.std.proofs.lemmas.Result.{err_from_is_err_and}
+use Rattle.bk_tail.proofs.Pieces.{all_given, close_fails, closed, feed_fails, nearer, nothing_more, read_fails, settle_fails, settled, taken}
+use Rattle.bk_tail.proofs.piece.advance.Goals as goal
+
+not_zero : (n : ℕ) → ¬ (n ≡ 0) → 0 < n
+not_zero zero h = absurd (h refl)
+not_zero (suc n) h = omega arith
+
+pub returns-in_err-count-clause-fault : goal.returns-in_err-count-clause-fault
+returns-in_err-count-clause-fault g c =
+    let p = err_from_is_err_and c.from_residual.result c.from_residual.ensures.1 in
+    rw (p.1, p.2) (λ start bytes frames h.
+    read_fails _ c.offset.result start (g.S.Source.state c.args.source.now) (g.S.Source.state c.pull.new.source) bytes frames c.args.follower.now
+    c.in_err-count.ensures.fault c.offset.ensures c.in_err-count.ensures.kept c.in_err-count.ensures.fails h)
+
+pub returns-in_err-close-clause-fault : goal.returns-in_err-close-clause-fault
+returns-in_err-close-clause-fault g c =
+    let p = err_from_is_err_and c.from_residual-in_err-close.result c.from_residual-in_err-close.ensures.1 in
+    let now = g.S.Source.state c.args.source.now in
+    let later = g.S.Source.state c.pull.new.source in
+    let piece = take c.in_ok-count.count c.pull.new.piece in
+    let none : length piece ≡ 0 = omega (arith, length-take c.in_ok-count.count c.pull.new.piece, c.if-count-eq0.true) in
+    rw (p.1, p.2) (λ start bytes frames h.
+    close_fails _ start later bytes frames c.args.follower.now c.close.new.self (c.in_err-close.ensures.fault h.come.works)
+    (all_given start now later bytes piece frames c.args.follower.now none c.in_ok-count.ensures.came (c.in_ok-count.ensures.end c.if-count-eq0.true) h)
+    (nothing_more start now later bytes piece frames c.args.follower.now none c.in_ok-count.ensures.came c.in_ok-count.ensures.works h))
+
+pub returns-then-count-eq0-clause-next : goal.returns-then-count-eq0-clause-next
+returns-then-count-eq0-clause-next g c =
+    let now = g.S.Source.state c.args.source.now in
+    let later = g.S.Source.state c.pull.new.source in
+    let piece = take c.in_ok-count.count c.pull.new.piece in
+    let none : length piece ≡ 0 = omega (arith, length-take c.in_ok-count.count c.pull.new.piece, c.if-count-eq0.true) in
+    λ start bytes frames h.
+    closed start later bytes frames c.args.follower.now c.close.new.self c.in_ok-close.ensures.closed
+    (all_given start now later bytes piece frames c.args.follower.now none c.in_ok-count.ensures.came (c.in_ok-count.ensures.end c.if-count-eq0.true) h)
+    (nothing_more start now later bytes piece frames c.args.follower.now none c.in_ok-count.ensures.came c.in_ok-count.ensures.works h)
+
+pub returns-in_err-feed-clause-fault : goal.returns-in_err-feed-clause-fault
+returns-in_err-feed-clause-fault g c =
+    let p = err_from_is_err_and c.from_residual-in_err-feed.result c.from_residual-in_err-feed.ensures.1 in
+    rw (p.1, p.2) (λ start bytes frames h.
+    feed_fails _ start (g.S.Source.state c.args.source.now) (g.S.Source.state c.pull.new.source) bytes (take c.in_ok-count.count c.pull.new.piece) frames c.args.follower.now
+    c.in_ok-count.ensures.came c.in_ok-count.ensures.works (omega (arith, length-take c.in_ok-count.count c.pull.new.piece, c.pull.auto.piece, c.requires.few))
+    (c.in_err-feed.ensures.fault h.come.works) h)
+
+pub returns-in_err-settle-clause-fault : goal.returns-in_err-settle-clause-fault
+returns-in_err-settle-clause-fault g c =
+    let p = err_from_is_err_and c.from_residual-in_err-settle.result c.from_residual-in_err-settle.ensures.1 in
+    let piece = take c.in_ok-count.count c.pull.new.piece in
+    rw (p.1, p.2) (λ start bytes frames h.
+    let t = taken start (g.S.Source.state c.args.source.now) (g.S.Source.state c.pull.new.source) bytes piece frames c.args.follower.now c.feed.new.self
+    c.in_ok-count.ensures.came c.in_ok-count.ensures.works c.in_ok-feed.ensures.takes h in
+    settle_fails _ start (g.S.Source.state c.pull.new.source) bytes piece _ c.feed.new.self c.settle.new.self (c.in_err-settle.ensures.fault t.1.come.works) t.1)
+
+pub returns-clause-next : goal.returns-clause-next
+returns-clause-next g c =
+    let piece = take c.in_ok-count.count c.pull.new.piece in
+    λ start bytes frames h.
+    let t = taken start (g.S.Source.state c.args.source.now) (g.S.Source.state c.pull.new.source) bytes piece frames c.args.follower.now c.feed.new.self
+    c.in_ok-count.ensures.came c.in_ok-count.ensures.works c.in_ok-feed.ensures.takes h in
+    settled start (g.S.Source.state c.pull.new.source) bytes piece frames t.0 c.feed.new.self c.settle.new.self _ c.in_ok-settle.ensures.settled t.1
+
+pub returns-clause-nearer : goal.returns-clause-nearer
+returns-clause-nearer g c =
+    let piece = take c.in_ok-count.count c.pull.new.piece in
+    let some = not_zero c.in_ok-count.count c.if-count-eq0.false in
+    let (start, bytes, frames, h) = c.requires.followed in
+    let t = taken start (g.S.Source.state c.args.source.now) (g.S.Source.state c.pull.new.source) bytes piece frames c.args.follower.now c.feed.new.self
+    c.in_ok-count.ensures.came c.in_ok-count.ensures.works c.in_ok-feed.ensures.takes h in
+    λ _. nearer start (g.S.Source.state c.args.source.now) (g.S.Source.state c.pull.new.source) bytes piece frames _ c.args.follower.now c.feed.new.self c.settle.new.self
+    c.in_ok-settle.ensures.settled.cut (omega (arith, some, length-take c.in_ok-count.count c.pull.new.piece, c.in_ok-count.ensures.bound)) h t.1

@@ -1,0 +1,3 @@
+pub mod Tailing
+pub mod Laws
+pub mod private

@@ -1,0 +1,47 @@
+-- One piece of a feed that is followed.
+use Rattle.std.specs.Prelude.{◌≡◌, ℕ, Bool, true, List, Some}
+use Rattle.bk_base.specs.Feed.{Frame}
+use Rattle.bk_commit.specs.Growth.{IsPrefix}
+use Rattle.bk_frames.specs.Device.{Device, Works, Gives, IfKnown}
+use Rattle.bk_frames.specs.Pulling.{Gave, Refuses}
+use Rattle.bk_results.specs.declared.fault.Fault.{Fault}
+use Rattle.bk_results.specs.declared.fault.Fault.TheVariants as fault
+use Rattle.bk_answer.specs.RunReport.{HasPlaceIn, IsStopIn}
+use Rattle.bk_follow.specs.Follower.{BookValue, Followed, HasCome, IsCurrent, IsSettled}
+use Rattle.bk_follow.specs.Finishing.{EndsAs}
+use Rattle.bk_tail.specs.Tailing.{OfWholeFrames}
+
+-- since `start` a source gave these bytes, no call of it failed, and a Follower took them: these frames are whole
+pub record HasFollowed (start now : Device) (bytes : List ℕ) (frames : List Frame) (v : Followed) : Type 0 where
+  pub works : Works start now
+  pub gave : Gives start now bytes
+  pub come : HasCome bytes frames v
+
+-- what came is a feed, and the order of all of it was executed
+abbrev pub IsWholeFeed : List ℕ → List Frame → Followed → Type 0
+IsWholeFeed bytes frames v = EndsAs bytes frames v (λ feed. (b : BookValue) × (v.book ≡ Some b) × IsCurrent feed b)
+
+-- more came after these bytes and frames, and all of it is settled; at its end the source had no more, and it is a feed
+pub record Advanced (start now : Device) (bytes : List ℕ) (frames : List Frame) (v : Followed) (ended : Bool) : Type 0 where
+  pub all : List ℕ
+  pub whole : List Frame
+  pub longer : IsPrefix bytes all
+  pub more : IsPrefix frames whole
+  pub followed : HasFollowed start now all whole v
+  pub settled : IsSettled whole v
+  pub ends : ended ≡ true → IfKnown start (λ given. given ≡ all) × IsWholeFeed all whole v
+
+-- this holds of the bytes that a source gave, which begin with these
+abbrev pub GaveAfter : Device → Device → List ℕ → (List ℕ → Type 0) → Type 0
+GaveAfter start now bytes holds = Gave start now (λ given. IsPrefix bytes given × holds given)
+
+-- why a feed was not followed further, after these bytes
+abbrev pub AdvanceFails : Fault → Device → Device → List ℕ → Type 0
+AdvanceFails (fault.Feed found) start now bytes =
+    Refuses found start now × GaveAfter start now bytes (λ given. Unit {0})
+AdvanceFails (fault.Unfinished place) start now bytes =
+    Works start now × GaveAfter start now bytes (λ given. OfWholeFrames given (λ feed. HasPlaceIn feed place))
+AdvanceFails (fault.Write written) start now bytes = ⊥
+AdvanceFails fault.Memory start now bytes = Works start now × GaveAfter start now bytes (λ given. Unit {0})
+AdvanceFails stop start now bytes =
+    Works start now × GaveAfter start now bytes (λ given. OfWholeFrames given (λ feed. IsStopIn feed stop))

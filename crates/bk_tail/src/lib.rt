@@ -1,0 +1,12 @@
+//! A feed that is followed while it grows, and its table written as it becomes final.
+//!
+//! [`tail_transactions`] reads a feed a piece at a time. After each piece it settles the whole frames so far, and
+//! writes the rows of the places that this executed before it reads more. Rows that are out stay.
+#![tactic(auto)]
+
+mod laws;
+mod payments;
+mod piece;
+
+pub use laws::rows_stay;
+pub use payments::tail_transactions;
