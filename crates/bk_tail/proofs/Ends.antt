@@ -1,5 +1,5 @@
 -- How following a feed ends.
-use Rattle.std.proofs.Common.{◌≡◌, inl, inr, ◌∙◌, ℕ, List, [], ◌++◌, Option, Some, refl, sym, ap, subst, append-nil}
+use Rattle.std.proofs.Common.{◌≡◌, inl, ◌∙◌, ℕ, List, [], ◌++◌, Option, Some, refl, sym, ap, subst, append-nil}
 use Rattle.std.specs.Prelude.{IfSome}
 use Rattle.bk_answer.specs.Answers.{IsAnswered}
 use Rattle.bk_answer.specs.RunReport.{HasNoStopIn, IsOrderIn, reach_of}
@@ -11,15 +11,14 @@ use Rattle.bk_follow.specs.Follower.{BookValue, IsSettled}
 use Rattle.bk_follow.specs.Queries.{missing_in}
 use Rattle.std.proofs.KnownBytes.{Appends-nil, Consumes-nil}
 use Rattle.bk_base.specs.Feed.{Frame, FeedValue, feed_of, genesis_of}
-use Rattle.bk_commit.specs.Growth.{IsPrefix}
-use Rattle.bk_frames.specs.Device.{Device, Gives}
+use Rattle.bk_frames.specs.Device.{Device}
 use Rattle.bk_frames.specs.Pulling.{Gave}
 use Rattle.bk_results.specs.Devices.{devices}
 use Rattle.bk_results.specs.declared.fault.Fault.{Fault}
 use Rattle.bk_results.specs.declared.fault.Fault.TheVariants as fault
 use Rattle.bk_results.specs.declared.status.Status.{Status}
 use Rattle.bk_follow.specs.Follower.{Followed}
-use Rattle.bk_tail.specs.Tailing.{OfWholeFrames, TableSoFar, TailFailsBy}
+use Rattle.bk_tail.specs.Tailing.{TableSoFar, TailFailsBy}
 use Rattle.bk_tail.specs.private.Putting.{HasPut, PutFails, TableKind}
 use Rattle.bk_tail.specs.private.Steps.{AdvanceFails, GaveAfter, HasFollowed, IsWholeFeed}
 use Rattle.bk_tail.proofs.Growing.{IsBookAt, book_at, put_stops, so_far_longer}

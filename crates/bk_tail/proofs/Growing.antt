@@ -1,6 +1,5 @@
 -- A table that is put while its feed is followed: more comes, more is put, and why it is not.
-use Rattle.std.proofs.Common.{◌≡◌, ◌⊎◌, inl, inr, ◌∙◌, ℕ, zero, suc, ◌+◌, ◌<◌, ◌≤◌, List, [], ◌∷◌, ◌++◌, length, take, Option, Some, None, refl, sym, ap, subst, append_assoc, append-nil, length-append, arith}
-use Rattle.std.specs.Prelude.{IfSome}
+use Rattle.std.proofs.Common.{◌≡◌, ◌⊎◌, inl, inr, ◌∙◌, ℕ, ◌+◌, ◌<◌, ◌≤◌, List, [], ◌∷◌, ◌++◌, length, take, Option, Some, refl, sym, ap, subst, append_assoc, append-nil, length-append, arith}
 use Rattle.std.proofs.KnownBytes.{Appends-nil}
 use Rattle.std.proofs.lemmas.List.Elements.{Contains-append_left}
 use Rattle.bk_base.specs.declared.genesis.Row.{Row}
@@ -19,8 +18,8 @@ use Rattle.bk_results.specs.declared.status.Status.{Status}
 use Rattle.bk_answer.specs.RunReport.{committee_in, later_frames, reach_of}
 use Rattle.bk_follow.specs.Follower.{BookValue, Followed, HasCome, IsCurrent, IsSettled, IsSettledBy, OrdersPart}
 use Rattle.bk_follow.proofs.Books.{whole_part}
-use Rattle.bk_follow.proofs.Following.{IsOfGoodBook, good_of}
-use Rattle.bk_tail.specs.Tailing.{FeedBegins, TableSoFar}
+use Rattle.bk_follow.proofs.Following.{good_of}
+use Rattle.bk_tail.specs.Tailing.{TableSoFar}
 use Rattle.bk_tail.specs.private.Putting.{HasPut, IsPartDone, PutFails, TableKind}
 use Rattle.bk_tail.proofs.OneVersion.{known_before}
 

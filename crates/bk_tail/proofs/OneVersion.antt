@@ -1,5 +1,5 @@
 -- The version of a feed, once it is known, stays.
-use Rattle.std.proofs.Common.{◌≡◌, ◌∙◌, ℕ, ◌≤◌, List, [], ◌∷◌, ◌++◌, length, sym, ap, refl, subst, Option, Some, None, arith, append_assoc}
+use Rattle.std.proofs.Common.{◌≡◌, ◌∙◌, ℕ, ◌≤◌, List, ◌++◌, length, sym, ap, refl, Option, Some, None, arith, append_assoc}
 use Rattle.bk_base.specs.declared.version.Version.{Version}
 use Rattle.bk_base.specs.Feed.{Frame, feed_of, magic}
 use Rattle.bk_commit.specs.Growth.{IsPrefix}

@@ -1,5 +1,5 @@
 -- The payments of an order that grows.
-use Rattle.std.proofs.Common.{◌≡◌, ◌∙◌, ℕ, zero, suc, ◌+◌, ◌<◌, ◌≤◌, List, [], ◌∷◌, ◌++◌, length, drop, get_or, take, Option, Some, None, refl, sym, ap, subst, append_assoc, append-nil, length-append, arith}
+use Rattle.std.proofs.Common.{◌≡◌, ◌∙◌, ℕ, ◌+◌, ◌≤◌, List, [], ◌∷◌, ◌++◌, length, drop, get_or, take, Option, refl, sym, ap, append_assoc, length-append, arith}
 use Rattle.std.proofs.lemmas.List.{drop_at, get_or_append_left, take_at}
 use Rattle.std.proofs.lemmas.List.Concat.{flat_map-append, flat_map-cons}
 use Rattle.bk_base.specs.declared.genesis.Row.{Row}
@@ -13,11 +13,9 @@ use Rattle.bk_rules.specs.Fold.{receipts_of, state_after}
 use Rattle.bk_rules.proofs.Folding.{length-receipts, receipts_append}
 use Rattle.bk_tx.specs.Batches.{transactions_in, transactions_of}
 use Rattle.bk_tx.specs.Transaction.{Transaction}
-use Rattle.bk_answer.specs.Outcomes.{IsOutcomeOf}
 use Rattle.bk_answer.specs.RunReport.{HasNoStopIn, IsOrderIn, reach_of}
 use Rattle.bk_tables.specs.Growing.{ShowsAll, ShowsFirst, Shown}
 use Rattle.bk_tables.specs.Payments.{payments_text, rows_at, rows_from, rows_in}
-use Rattle.bk_tables.specs.Tables.{IsPaymentTable}
 use Rattle.bk_tables.specs.declared.payment.PaymentRow.{PaymentRow}
 use Rattle.bk_tables.proofs.TableTexts.{payments_two}
 use Rattle.bk_tail.specs.private.Putting.{payments}

@@ -1,5 +1,5 @@
 -- The payments of the places that a settle executed.
-use Rattle.std.proofs.Common.{◌≡◌, ◌⊎◌, ◌∙◌, ℕ, ◌<◌, ◌^◌, List, [], ◌++◌, drop, length, Option, Some, None, refl, sym, ap, subst, arith}
+use Rattle.std.proofs.Common.{◌≡◌, ◌⊎◌, ◌∙◌, ℕ, List, [], ◌++◌, drop, length, Option, Some, None, refl, sym, ap, subst, arith}
 use Rattle.std.specs.Prelude.{IfErr, IfSome, OnOk, Result, Ok, Err}
 use Rattle.bk_base.specs.declared.genesis.Row.{Row}
 use Rattle.bk_base.specs.declared.version.Version.{Version}
@@ -22,7 +22,7 @@ use Rattle.bk_follow.proofs.ClosedBooks.{closed_for}
 use Rattle.bk_tables.specs.Growing.{Shown, ShowsAll, ShowsFirst, none_shown}
 use Rattle.bk_tables.specs.Payments.{payments_header, payments_text, rows_from}
 use Rattle.bk_tables.proofs.PaymentTables.{receipts_each}
-use Rattle.bk_tail.specs.private.Putting.{HasPut, IsPutOn, PutFails, payments}
+use Rattle.bk_tail.specs.private.Putting.{IsPutOn, PutFails, payments}
 use Rattle.bk_tail.proofs.Growing.{IsBookAt, begins, book_at, none_put, put_longer, put_more, put_stops}
 use Rattle.bk_tail.proofs.PaymentsPut.{payments_more, payments_table, shows_first}
 

@@ -3,7 +3,6 @@ use Rattle.std.proofs.Common.{◌≡◌, ℕ, ◌+◌, ◌<◌, ◌≤◌, true,
 use Rattle.std.specs.Io.KnownBytes.{IsAtEnd, Keeps}
 use Rattle.std.proofs.KnownBytes.{Consumes-nil, Consumes-kept}
 use Rattle.bk_base.specs.Feed.{Frame, FeedValue, feed_of}
-use Rattle.bk_base.specs.declared.version.Version.{Version}
 use Rattle.bk_commit.specs.Growth.{IsPrefix}
 use Rattle.bk_frames.specs.Cutting.{Cut}
 use Rattle.bk_base.specs.declared.limits.TheConstants.{MOST_FEED}
@@ -17,7 +16,7 @@ use Rattle.bk_frames.proofs.PulledBytes.{open_short, so_long}
 use Rattle.bk_results.specs.declared.fault.Fault.{Fault}
 use Rattle.bk_results.specs.declared.fault.Fault.TheVariants as fault
 use Rattle.bk_answer.specs.RunReport.{HasPlaceIn, IsStopIn}
-use Rattle.bk_follow.specs.Finishing.{CloseFails, Closes, EndsAs, OfFeed}
+use Rattle.bk_follow.specs.Finishing.{CloseFails, Closes, OfFeed}
 use Rattle.bk_follow.specs.Follower.{FeedFails, Followed, HasCome, OfFrames, SettleFails, Settles, Takes, unfed}
 use Rattle.bk_frames.specs.Cutting.{in_magic}
 use Rattle.bk_tail.specs.Tailing.{OfWholeFrames}

@@ -10,7 +10,6 @@ use Rattle.bk_order.specs.Stops.{HasNoStop}
 use Rattle.bk_order.proofs.Sets.{frames_grow}
 use Rattle.bk_results.specs.declared.status.Status.{Status}
 use Rattle.bk_rules.specs.declared.receipt.Receipt.{Receipt}
-use Rattle.bk_answer.specs.Outcomes.{IsOutcomeOf, Outcome}
 use Rattle.bk_answer.specs.RunReport.{HasNoStopIn, IsOrderIn, committee_in, later_frames}
 use Rattle.bk_follow.specs.Agreement.{HaveOneSetup}
 use Rattle.bk_tables.specs.Csv.{row_text}
@@ -19,7 +18,7 @@ use Rattle.bk_tables.specs.Postings.{postings_header, postings_text}
 use Rattle.bk_tables.specs.Tables.{IsPaymentTable, IsPostingTable, course_of}
 use Rattle.bk_tables.specs.declared.posting.Posting.{Posting}
 use Rattle.bk_tables.proofs.PostingTables.{walk_all}
-use Rattle.bk_tail.specs.Laws.{RowsStay, TablesGrow}
+use Rattle.bk_tail.specs.Laws.{RowsStay}
 use Rattle.bk_tail.specs.private.Putting.{TableKind, payments, postings}
 use Rattle.bk_tail.proofs.PaymentsPut.{payments_grow}
 use Rattle.bk_tail.proofs.PostingsPut.{postings_grow}

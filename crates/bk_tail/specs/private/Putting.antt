@@ -9,7 +9,7 @@ use Rattle.bk_order.specs.Intake.{nothing_ordered}
 use Rattle.bk_order.specs.Orders.{Ordered}
 use Rattle.bk_report.specs.Pages.{PageValue, Puts, blank}
 use Rattle.bk_results.specs.declared.status.Status.{Status}
-use Rattle.bk_follow.specs.Follower.{Followed, HasCome, IsSettled, OrdersPart}
+use Rattle.bk_follow.specs.Follower.{Followed, OrdersPart}
 use Rattle.bk_tables.specs.Csv.{row_text}
 use Rattle.bk_tables.specs.Growing.{Shown, ShowsAll}
 use Rattle.bk_tables.specs.Payments.{payments_header, payments_text, rows_from}
@@ -50,7 +50,8 @@ pub record IsPartDone (k : TableKind) (frames : List Frame) (version : Version) 
 
 -- of these frames the table of an order was put: of nothing before the genesis is whole, and then of a part of them. What
 -- is out is nothing, or the whole table of a feed that begins the bytes
-pub record HasPut (k : TableKind) (bytes : List ℕ) (frames : List Frame) (known : Option Version) (first now : Device) (page : PageValue) (done : Ordered) : Type 0 where
+pub record HasPut (k : TableKind) (bytes : List ℕ) (frames : List Frame) (known : Option Version) (first now : Device)
+    (page : PageValue) (done : Ordered) : Type 0 where
   pub shown : List ℕ
   pub so_far : TableSoFar k.text first now bytes
   pub puts : Puts first now blank page (k.header ++ shown)
@@ -58,7 +59,8 @@ pub record HasPut (k : TableKind) (bytes : List ℕ) (frames : List Frame) (know
   pub many : (version : Version) → known ≡ Some version → 2 ≤ length frames → IsPartDone k frames version done shown
 
 -- all of these frames are settled, and the table of an order is put
-pub record IsPutOn (k : TableKind) (most : ℕ) (bytes : List ℕ) (frames : List Frame) (v : Followed) (first now : Device) (rows : Shown) (done : Ordered) : Type 0 where
+pub record IsPutOn (k : TableKind) (most : ℕ) (bytes : List ℕ) (frames : List Frame) (v : Followed) (first now : Device)
+    (rows : Shown) (done : Ordered) : Type 0 where
   pub put : HasPut k bytes frames v.cut.version first now rows.page done
   pub shows : ShowsAll most done.payloads.list rows
   pub few : rows.place < 2 ^ 32

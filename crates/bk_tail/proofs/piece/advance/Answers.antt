@@ -1,4 +1,4 @@
-use Rattle.std.proofs.Common.{◌≡◌, ℕ, zero, suc, ◌<◌, ◌≤◌, take, length, length-take, refl, arith}
+use Rattle.std.proofs.Common.{◌≡◌, ℕ, zero, suc, ◌<◌, take, length, length-take, refl, arith}
 use Rattle.std.proofs.lemmas.Result.{err_from_is_err_and}
 use Rattle.bk_tail.proofs.Pieces.{all_given, close_fails, closed, feed_fails, nearer, nothing_more, read_fails, settle_fails, settled, taken}
 use Rattle.bk_tail.proofs.piece.advance.Goals as goal
