@@ -1,3 +1,4 @@
 pub mod Tailing
+pub mod Waits
 pub mod Laws
 pub mod private
