@@ -11,7 +11,7 @@ use Rattle.clap.specs.Words.{App, HasMatchesOf, Row, Text, subcommand_of, subcom
 use Rattle.clap.specs.declared.parser.matches.ArgMatches.{ArgMatches}
 use Rattle.clap.specs.declared.parser.matches.SubCommand.{SubCommand}
 use Rattle.clap.specs.declared.parser.matches.ArgMatches.TheViews.{out-ArgMatches, out-SubCommand}
-use Rattle.bk_cli.specs.CommandLine.{command_line, all_words, AreNamedBy, AreNotesIn, AreNotesOf, IsOneOf, IsJobOf, IsJobAt, NamesNoDigest}
+use Rattle.bk_cli.specs.CommandLine.{command_line, all_words, AreNamedBy, AreNotesIn, AreNotesOf, IsOneOf, IsJobOf, IsJobAt, NamesNoJob}
 use Rattle.bk_cli.specs.Files.{reads_input_twice}
 use Rattle.bk_cli.specs.declared.job.Job.{Job}
 use Rattle.bk_cli.specs.declared.notes.Notes.{Notes}
@@ -54,11 +54,11 @@ pub notes_at_found : (found : Option (Text × List Row)) (name : Text) (rows : L
 notes_at_found found name rows n is h = subst (λ (f : Option (Text × List Row)). AreNotesOf f n) (sym is) h
 
 -- and where there is none for want of a digest, the words name none
-pub no_digest_at : (found : Option (Text × List Row)) (name word : Text) (rows : List Row) → found ≡ Some (name, rows) → name ≡ word → NamesNoDigest (Some (word, rows))
-    → NamesNoDigest found
-no_digest_at found name word rows is same h =
+pub no_job_at : (found : Option (Text × List Row)) (name word : Text) (rows : List Row) → found ≡ Some (name, rows) → name ≡ word → NamesNoJob (Some (word, rows))
+    → NamesNoJob found
+no_job_at found name word rows is same h =
     let is_word : found ≡ Some (word, rows) = is ∙ ap (λ (t : Text). Some (t, rows)) same in
-    subst NamesNoDigest (sym is_word) h
+    subst NamesNoJob (sym is_word) h
 
 -- the usual number of workers by another name
 pub named_by_usual : (n usual : ℕ) (t : Option Text) (count : ℕ) → n ≡ usual → AreNamedBy n t count → AreNamedBy usual t count

@@ -11,7 +11,7 @@ use Rattle.clap.specs.declared.builder.value_parser.ValueParser.TheVariants.{Sig
 use Rattle.bk_digest.specs.Digest.{IsHexDigest}
 use Rattle.bk_results.specs.declared.query.Query.{Query}
 use Rattle.bk_results.specs.declared.query.Query.TheVariants as query
-use Rattle.bk_cli.specs.Files.{reads_input_twice}
+use Rattle.bk_cli.specs.Files.{names_input, reads_input_twice}
 use Rattle.bk_cli.specs.declared.job.Job.{Job}
 use Rattle.bk_cli.specs.declared.job.Job.TheVariants as job
 use Rattle.bk_cli.specs.declared.notes.Notes.{Notes}
@@ -141,11 +141,26 @@ dag_line =
     let named = new_app (codes "dag") in
     noted_line (with_rule (with_rule (with_rule named from_rule) rounds_rule) file_rule)
 
--- a command `NAME [--workers W] [--accounts LIST] [FILE]`
-abbrev pub table_line : Text → App
-table_line name =
-    let named = new_app name in
-    noted_line (with_rule (with_rule (with_rule named workers_rule) accounts_rule) file_rule)
+-- the options `--follow` and `--wait`
+abbrev pub follow_rule : Rule
+follow_rule = flag_rule (codes "follow")
+
+abbrev pub wait_rule : Rule
+wait_rule = flag_rule (codes "wait")
+
+-- a command `NAME [--workers W] [--accounts LIST]`
+abbrev pub picking_line : Text → App
+picking_line name = with_rule (with_rule (new_app name) workers_rule) accounts_rule
+
+-- the command `transactions [--workers W] [--accounts LIST] [--follow] [--wait] [FILE]`
+abbrev pub transactions_line : App
+transactions_line =
+    let picking = picking_line (codes "transactions") in
+    noted_line (with_rule (with_rule (with_rule picking follow_rule) wait_rule) file_rule)
+
+-- the command `postings [--workers W] [--accounts LIST] [FILE]`
+abbrev pub postings_line : App
+postings_line = noted_line (with_rule (picking_line (codes "postings")) file_rule)
 
 -- the command `compare FEED1 FEED2`
 abbrev pub compare_line : App
@@ -190,8 +205,8 @@ line_of verb.Summary = value_line (codes "summary") workers_rule
 line_of verb.Anchors = file_line (codes "anchors")
 line_of verb.Dag = dag_line
 line_of verb.Statement = working_line (codes "statement") id_rule
-line_of verb.Transactions = table_line (codes "transactions")
-line_of verb.Postings = table_line (codes "postings")
+line_of verb.Transactions = transactions_line
+line_of verb.Postings = postings_line
 line_of verb.Batches = file_line (codes "batches")
 line_of verb.CheckProof = value_line (codes "check-proof") root_rule
 line_of verb.CheckState = working_line (codes "check-state") root_rule
@@ -254,6 +269,11 @@ IsFileIn rows file = first_of (codes "FILE") rows ≡ file
 abbrev pub IsTextIn : List Row → Text → Text → Type 0
 IsTextIn rows name text = text ≡ unwrap_or (first_of name rows) []
 
+-- an option without a value is given: its value is true
+abbrev pub IsOn : Option Text → Bool → Type 0
+IsOn None on = on ≡ false
+IsOn (Some text) on = (text ≡ codes "true" → on ≡ true) × (text ≡ codes "false" → on ≡ false)
+
 -- a number from 1 to the first is the value of an option: the second where there is none
 abbrev pub IsChosenBy : ℕ → ℕ → Option Text → ℕ → Type 0
 IsChosenBy most usual None n = n ≡ usual
@@ -299,10 +319,26 @@ AreWorkersFor rows (query.State root) count = AreNamedBy 1 (one_of (codes "worke
 AreWorkersFor rows query.Anchors count = count ≡ 1
 AreWorkersFor rows (query.Statement id) count = AreNamedBy 1 (one_of (codes "workers") rows) count
 
--- what is shown is what a command shows; of a table all rows, where no list of accounts is named
+-- a feed is followed where `--follow` is given, and waited for where `--wait` is
+abbrev pub IsFollowed : List Row → Bool → Type 0
+IsFollowed rows on = IsOn (one_of (codes "follow") rows) on
+
+abbrev pub IsWaited : List Row → Bool → Type 0
+IsWaited rows on = IsOn (one_of (codes "wait") rows) on
+
+-- a table is written at the end of its feed
+abbrev pub IsAtEnd : List Row → Type 0
+IsAtEnd rows = IsFollowed rows false × IsWaited rows false
+
+-- the postings are written at no other time
+abbrev pub IsAtEndFor : Table → List Row → Type 0
+IsAtEndFor table.Transactions rows = IsAtEnd rows
+IsAtEndFor table.Postings rows = Unit {0}
+
+-- what is shown is what a command shows; of a table all rows, where no list of accounts is named, and at the end of the feed
 abbrev pub IsViewAt : Text → List Row → View → Type 0
 IsViewAt word rows view.Transactions =
-    (word ≡ word_of verb.Transactions) × (first_of (codes "accounts") rows ≡ None)
+    (word ≡ word_of verb.Transactions) × (first_of (codes "accounts") rows ≡ None) × IsAtEnd rows
 IsViewAt word rows view.Postings = (word ≡ word_of verb.Postings) × (first_of (codes "accounts") rows ≡ None)
 IsViewAt word rows view.Batches = word ≡ word_of verb.Batches
 IsViewAt word rows view.Link = word ≡ word_of verb.Link
@@ -362,7 +398,12 @@ IsJobAt word rows (job.Show workers shown file) =
     × IsFileIn rows (option_map string_bytes file)
 IsJobAt word rows (job.Pick workers shown accounts file) =
     (word ≡ word_of (verb_of shown)) × AreNamedBy 1 (one_of (codes "workers") rows) workers
-    × (first_of (codes "accounts") rows ≡ Some (string_bytes accounts))
+    × (first_of (codes "accounts") rows ≡ Some (string_bytes accounts)) × IsAtEndFor shown rows
+    × IsFileIn rows (option_map string_bytes file)
+IsJobAt word rows (job.Follow workers accounts wait file) =
+    (word ≡ word_of verb.Transactions) × AreNamedBy 1 (one_of (codes "workers") rows) workers
+    × (first_of (codes "accounts") rows ≡ option_map string_bytes accounts) × IsFollowed rows true × IsWaited rows wait
+    × (wait ≡ true → names_input (option_map string_bytes file) ≡ false)
     × IsFileIn rows (option_map string_bytes file)
 IsJobAt word rows (job.CheckChain file) =
     (word ≡ word_of verb.CheckChain) × IsFileIn rows (option_map string_bytes file)
@@ -374,11 +415,6 @@ IsJobOf (Some found) j = IsJobAt found.0 found.1 j
 
 -- ---- what else is told
 
--- an option without a value is given: its value is true
-abbrev pub IsOn : Option Text → Bool → Type 0
-IsOn None on = on ≡ false
-IsOn (Some text) on = (text ≡ codes "true" → on ≡ true) × (text ≡ codes "false" → on ≡ false)
-
 -- the notes are the values of `--progress` and `--verbose`
 abbrev pub AreNotesIn : List Row → Notes → Type 0
 AreNotesIn rows notes =
@@ -389,16 +425,23 @@ abbrev pub AreNotesOf : Option (Text × List Row) → Notes → Type 0
 AreNotesOf None notes = ⊥
 AreNotesOf (Some found) notes = AreNotesIn found.1 notes
 
--- ---- a digest that is none
+-- ---- words that name no job
 
 -- the value of ROOT is not a digest
 abbrev pub LacksDigest : List Row → Type 0
 LacksDigest rows = IsHexDigest (unwrap_or (first_of (codes "ROOT") rows) []) → ⊥
 
--- the command that was found in the words is `check-state`, and its ROOT is not a digest
-abbrev pub NamesNoDigest : Option (Text × List Row) → Type 0
-NamesNoDigest None = ⊥
-NamesNoDigest (Some found) = (found.0 ≡ word_of verb.CheckState) × LacksDigest found.1
+-- `--wait` is given where no file can grow: without `--follow`, or where standard input is read
+abbrev pub WaitsInVain : List Row → Type 0
+WaitsInVain rows = IsWaited rows true × (IsFollowed rows false ⊎ (names_input (first_of (codes "FILE") rows) ≡ true))
+
+-- the command that was found in the words is `check-state`, and its ROOT is not a digest; or it is `transactions`, and waits
+-- in vain
+abbrev pub NamesNoJob : Option (Text × List Row) → Type 0
+NamesNoJob None = ⊥
+NamesNoJob (Some found) =
+    (found.0 ≡ word_of verb.CheckState) × LacksDigest found.1
+    ⊎ (found.0 ≡ word_of verb.Transactions) × WaitsInVain found.1
 
 -- ---- standard input that is named twice
 
@@ -408,9 +451,9 @@ NamesInputTwice found = (j : Job) × IsJobOf found j × (reads_input_twice j ≡
 
 -- ---- values that are refused together with their command
 
--- the error is that of a ROOT that is not a digest, or of standard input that is named twice, and the words have that fault
+-- the error is that of words that name no job, or of standard input that is named twice, and the words have that fault
 abbrev pub IsOfValues : Error → Option (Text × List Row) → Type 0
-IsOfValues e found = (kind_of e ≡ kind.ValueValidation) × (NamesNoDigest found ⊎ NamesInputTwice found)
+IsOfValues e found = (kind_of e ≡ kind.ValueValidation) × (NamesNoJob found ⊎ NamesInputTwice found)
 
 -- ---- the words of the commands
 

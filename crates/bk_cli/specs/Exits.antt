@@ -1,5 +1,5 @@
 -- The exit statuses of the program.
-use Rattle.std.specs.Prelude.{ℕ, List, Option, Bool, true, false, ◌||◌, if◌then◌else◌, Result, Ok, Err}
+use Rattle.std.specs.Prelude.{ℕ, List, Option, Some, Bool, true, false, ◌||◌, if◌then◌else◌, Result, Ok, Err}
 use Rattle.bk_frames.specs.declared.fault.FaultCode.{FaultCode}
 use Rattle.bk_frames.specs.declared.fault.FaultCode.TheVariants as code
 use Rattle.bk_results.specs.declared.compare_stop.CompareStop.{CompareStop}
@@ -88,6 +88,7 @@ refuses (job.Schedule workers feed events) = true
 refuses (job.Compare first second) = true
 refuses (job.Show workers shown file) = true
 refuses (job.Pick workers shown accounts file) = true
+refuses (job.Follow workers accounts wait file) = true
 refuses (job.CheckChain file) = true
 
 -- a job that finds the order of a feed, or compares those of two, which may be stopped
@@ -100,6 +101,7 @@ finds_order (job.Dag window file) = true
 finds_order (job.Compare first second) = true
 finds_order (job.Show workers shown file) = true
 finds_order (job.Pick workers shown accounts file) = true
+finds_order (job.Follow workers accounts wait file) = true
 finds_order other = false
 
 -- a job that says whether a batch is missing
@@ -110,6 +112,7 @@ reports_missing (job.CheckReport workers report file) = true
 reports_missing (job.Summary workers file) = true
 reports_missing (job.Show workers shown file) = true
 reports_missing (job.Pick workers shown accounts file) = true
+reports_missing (job.Follow workers accounts wait file) = true
 reports_missing (job.CheckChain file) = true
 reports_missing other = false
 
@@ -119,11 +122,13 @@ reads_second (job.CheckReport workers report file) = true
 reads_second (job.Schedule workers feed events) = true
 reads_second (job.Compare first second) = true
 reads_second (job.Pick workers shown accounts file) = true
+reads_second (job.Follow workers (Some accounts) wait file) = true
 reads_second other = false
 
 -- a job that writes while it reads: where it refuses the bytes, its first lines are out
 abbrev pub writes_ahead : Job → Bool
 writes_ahead (job.Frames file) = true
+writes_ahead (job.Follow workers accounts wait file) = true
 writes_ahead other = false
 
 -- how a job may end

@@ -29,6 +29,7 @@ file_of (job.Schedule workers feed events) = Some (string_bytes feed)
 file_of (job.Compare first second) = Some (string_bytes first)
 file_of (job.Show workers shown file) = option_map string_bytes file
 file_of (job.Pick workers shown accounts file) = option_map string_bytes file
+file_of (job.Follow workers accounts wait file) = option_map string_bytes file
 file_of (job.CheckChain file) = option_map string_bytes file
 
 -- the path of the second
@@ -46,6 +47,7 @@ second_file_of (job.Schedule workers feed events) = Some (string_bytes events)
 second_file_of (job.Compare first second) = Some (string_bytes second)
 second_file_of (job.Show workers shown file) = None
 second_file_of (job.Pick workers shown accounts file) = Some (string_bytes accounts)
+second_file_of (job.Follow workers accounts wait file) = option_map string_bytes accounts
 second_file_of (job.CheckChain file) = None
 
 -- ---- standard input
@@ -59,10 +61,13 @@ abbrev pub input_name : Option (List ℕ) → List ℕ
 input_name None = codes "standard input"
 input_name (Some path) = if is_input path then codes "standard input" else path
 
+-- standard input is read in place of a file: its path stands for it, or there is none
+abbrev pub names_input : Option (List ℕ) → Bool
+names_input path = unwrap_or (option_map is_input path) true
+
 -- a job reads standard input in place of both of its files
 abbrev pub reads_input_twice : Job → Bool
-reads_input_twice j =
-    unwrap_or (option_map is_input (file_of j)) true && unwrap_or (option_map is_input (second_file_of j)) false
+reads_input_twice j = names_input (file_of j) && unwrap_or (option_map is_input (second_file_of j)) false
 
 -- ---- what a fault is about
 
@@ -70,6 +75,7 @@ reads_input_twice j =
 abbrev pub reads_beside : Job → Bool
 reads_beside (job.CheckReport workers report file) = true
 reads_beside (job.Pick workers shown accounts file) = true
+reads_beside (job.Follow workers accounts wait file) = true
 reads_beside other = false
 
 -- a feed that was not replayed: a failed write is about the output

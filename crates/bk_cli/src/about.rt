@@ -34,7 +34,8 @@ fn about_text(job: &Job, fault: &ScriptFault) -> About
 {
     match (fault, job) {
         (ScriptFault::Write { .. }, _) => About::Output,
-        (ScriptFault::Read, Job::CheckReport { .. } | Job::Pick { .. }) => About::Second,
+        (ScriptFault::Read, Job::CheckReport { .. } | Job::Pick { .. } | Job::Follow { .. }) =>
+            About::Second,
         _ => About::First,
     }
 }

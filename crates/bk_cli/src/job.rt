@@ -1,14 +1,15 @@
 //! What the command line asks for.
 
-ghost use Rattle.std.specs.Prelude.{◌≡◌, ◌≤◌, ◌^◌, [], option_map, string_bytes, codes, unwrap_or, if◌then◌else◌, None, Some, IfOk, MatchOption};
+ghost use Rattle.std.specs.Prelude.{◌≡◌, ◌≤◌, ◌^◌, ◌⊎◌, [], option_map, string_bytes, codes, unwrap_or, if◌then◌else◌, true, false, None, Some, IfOk, MatchOption};
 ghost use Rattle.clap.specs.Words.{one_text, first_value, found_of, rows_of};
 ghost use Rattle.bk_cli.specs.declared.job.Job.TheVariants as job;
-ghost use Rattle.bk_cli.specs.CommandLine.{IsFileIn, NamesNoDigest};
+ghost use Rattle.bk_cli.specs.CommandLine.{IsAtEndFor, IsFileIn, IsFollowed, IsWaited, NamesNoJob};
 ghost use Rattle.bk_cli.specs.CommandLine.{IsJobAt, AreNamedBy, IsChosenBy, IsNumberBy, verb_of, view_of, word_of};
 ghost use Rattle.bk_cli.specs.declared.view.View.TheVariants as view;
 ghost use Rattle.std.specs.Str.{bytes_eq};
-ghost use Rattle.bk_cli.specs.Files.{file_of, is_input, reads_input_twice, second_file_of};
+ghost use Rattle.bk_cli.specs.Files.{file_of, is_input, names_input, reads_input_twice, second_file_of};
 
+use crate::notes::flag_in;
 use crate::verb::Verb;
 use crate::view::{Table, View};
 use crate::window::{MOST_FROM, MOST_ROUNDS, Window};
@@ -107,6 +108,16 @@ pub enum Job {
         accounts: String,
         file: Option<String>,
     },
+    /// Writes the payments of a feed as they become final, while the feed comes.
+    Follow {
+        /// How many threads execute.
+        workers: Workers,
+        /// The path of the list of accounts, where not all rows are written.
+        accounts: Option<String>,
+        /// Whether more is waited for at the end of the file.
+        wait: bool,
+        file: Option<String>,
+    },
     /// Writes whether lines are the links of feeds that are one ledger.
     CheckChain {
         file: Option<String>,
@@ -130,6 +141,7 @@ impl Job {
             | Job::Apply { file }
             | Job::Show { file, .. }
             | Job::Pick { file, .. }
+            | Job::Follow { file, .. }
             | Job::CheckChain { file } => file.as_deref(),
             Job::Schedule { feed, .. } => Some(feed.as_str()),
             Job::Compare { first, .. } => Some(first.as_str()),
@@ -156,6 +168,7 @@ impl Job {
             Job::Schedule { events, .. } => Some(events.as_str()),
             Job::Compare { second, .. } => Some(second.as_str()),
             Job::Pick { accounts, .. } => Some(accounts.as_str()),
+            Job::Follow { accounts, .. } => accounts.as_deref(),
         }
     }
 
@@ -163,10 +176,7 @@ impl Job {
     fn reads_input_twice(&self) -> bool
         ensures { result ≡ reads_input_twice self.now }
     {
-        let first = match self.file() {
-            Some(path) => is_input(path),
-            None => true,
-        };
+        let first = names_input(self.file());
         let second = match self.second_file() {
             Some(path) => is_input(path),
             None => false,
@@ -176,6 +186,16 @@ impl Job {
 
     // Gives its memory back. A caller that ends with this call need not go through all that a job holds in its own proof.
     fn discard(self) {}
+}
+
+// Whether standard input is read in place of a file.
+fn names_input(path: Option<&str>) -> bool
+    ensures { result ≡ names_input (option_map (λ s. s.now) path.entry) }
+{
+    match path {
+        Some(path) => is_input(path),
+        None => true,
+    }
 }
 
 /// Whether a path stands for standard input.
@@ -244,7 +264,7 @@ fn place_in(found: &ArgMatches<'_>) -> u32
 // The job of `schedule`, with the values of its arguments.
 fn schedule_of(alloc: Global, found: &ArgMatches<'_>) -> Result<Option<Job>, AllocError>
     ensures { IfOk result (λ made. MatchOption made
-        (NamesNoDigest (Some (codes "schedule", rows_of (found_of found.now))))
+        (NamesNoJob (Some (codes "schedule", rows_of (found_of found.now))))
         (IsJobAt (codes "schedule") (rows_of (found_of found.now)))) }
 {
     let workers = workers_in(found, Workers::two());
@@ -260,7 +280,7 @@ fn schedule_of(alloc: Global, found: &ArgMatches<'_>) -> Result<Option<Job>, All
 // The job of `compare`, with the values of its arguments.
 fn compare_of(alloc: Global, found: &ArgMatches<'_>) -> Result<Option<Job>, AllocError>
     ensures { IfOk result (λ made. MatchOption made
-        (NamesNoDigest (Some (codes "compare", rows_of (found_of found.now))))
+        (NamesNoJob (Some (codes "compare", rows_of (found_of found.now))))
         (IsJobAt (codes "compare") (rows_of (found_of found.now)))) }
 {
     let first = text_in(alloc, found, "FEED1")?;
@@ -276,7 +296,7 @@ fn proof_of(
 ) -> Result<Option<Job>, AllocError>
     requires { IsFileIn (rows_of (found_of found.now)) (option_map string_bytes file) }
     ensures { IfOk result (λ made. MatchOption made
-        (NamesNoDigest (Some (codes "check-proof", rows_of (found_of found.now))))
+        (NamesNoJob (Some (codes "check-proof", rows_of (found_of found.now))))
         (IsJobAt (codes "check-proof") (rows_of (found_of found.now)))) }
 {
     let root = text_in(alloc, found, "ROOT")?;
@@ -291,7 +311,7 @@ fn state_of(
 ) -> Result<Option<Job>, AllocError>
     requires { IsFileIn (rows_of (found_of found.now)) (option_map string_bytes file) }
     ensures { IfOk result (λ made. MatchOption made
-        (NamesNoDigest (Some (codes "check-state", rows_of (found_of found.now))))
+        (NamesNoJob (Some (codes "check-state", rows_of (found_of found.now))))
         (IsJobAt (codes "check-state") (rows_of (found_of found.now)))) }
 {
     let text = text_in(alloc, found, "ROOT")?;
@@ -330,7 +350,7 @@ fn report_of(
 ) -> Result<Option<Job>, AllocError>
     requires { IsFileIn (rows_of (found_of found.now)) (option_map string_bytes file) }
     ensures { IfOk result (λ made. MatchOption made
-        (NamesNoDigest (Some (codes "check-report", rows_of (found_of found.now))))
+        (NamesNoJob (Some (codes "check-report", rows_of (found_of found.now))))
         (IsJobAt (codes "check-report") (rows_of (found_of found.now)))) }
 {
     let report = text_in(alloc, found, "REPORT")?;
@@ -376,16 +396,30 @@ fn whole(shown: Table) -> View
     }
 }
 
-// The job of a table of this file, with the values of its other arguments.
+// Whether more would be waited for where no file can grow.
+fn waits_in_vain(wait: bool, follow: bool, file: &Option<String>) -> bool
+    ensures vain { result ≡ true → (wait ≡ true)
+        × ((follow ≡ false) ⊎ (names_input (option_map string_bytes file.now) ≡ true)) }
+    ensures grows { result ≡ false → wait ≡ true
+        → (follow ≡ true) × (names_input (option_map string_bytes file.now) ≡ false) }
+{
+    if !wait {
+        return false;
+    }
+    !follow || names_input(file.as_deref())
+}
+
+// The job of a table of this file at the end of its feed, with the values of its other arguments.
 fn table_of(
     alloc: Global,
     found: &ArgMatches<'_>,
     shown: Table,
     file: Option<String>,
 ) -> Result<Option<Job>, AllocError>
-    requires { IsFileIn (rows_of (found_of found.now)) (option_map string_bytes file) }
+    requires file { IsFileIn (rows_of (found_of found.now)) (option_map string_bytes file) }
+    requires end { IsAtEndFor shown (rows_of (found_of found.now)) }
     ensures { IfOk result (λ made. MatchOption made
-        (NamesNoDigest (Some (word_of (verb_of shown), rows_of (found_of found.now))))
+        (NamesNoJob (Some (word_of (verb_of shown), rows_of (found_of found.now))))
         (IsJobAt (word_of (verb_of shown)) (rows_of (found_of found.now)))) }
 {
     let workers = workers_in(found, Workers::one());
@@ -405,6 +439,54 @@ fn table_of(
             }))
         }
     }
+}
+
+// The job of `transactions` of this file where it is followed, with the values of its other arguments.
+fn follow_of(
+    alloc: Global,
+    found: &ArgMatches<'_>,
+    wait: bool,
+    file: Option<String>,
+) -> Result<Option<Job>, AllocError>
+    requires file { IsFileIn (rows_of (found_of found.now)) (option_map string_bytes file) }
+    requires follow { IsFollowed (rows_of (found_of found.now)) true }
+    requires wait { IsWaited (rows_of (found_of found.now)) wait }
+    requires grows { wait ≡ true → names_input (option_map string_bytes file) ≡ false }
+    ensures { IfOk result (λ made. MatchOption made
+        (NamesNoJob (Some (codes "transactions", rows_of (found_of found.now))))
+        (IsJobAt (codes "transactions") (rows_of (found_of found.now)))) }
+{
+    let workers = workers_in(found, Workers::one());
+    let accounts = owned(alloc, found.get_str("accounts"))?;
+    Ok(Some(Job::Follow {
+        workers,
+        accounts,
+        wait,
+        file,
+    }))
+}
+
+// The job of `transactions` of this file, with the values of its other arguments. There is none where it would wait in
+// vain.
+fn transactions_of(
+    alloc: Global,
+    found: &ArgMatches<'_>,
+    file: Option<String>,
+) -> Result<Option<Job>, AllocError>
+    requires { IsFileIn (rows_of (found_of found.now)) (option_map string_bytes file) }
+    ensures { IfOk result (λ made. MatchOption made
+        (NamesNoJob (Some (codes "transactions", rows_of (found_of found.now))))
+        (IsJobAt (codes "transactions") (rows_of (found_of found.now)))) }
+{
+    let follow = flag_in(found, "follow");
+    let wait = flag_in(found, "wait");
+    if waits_in_vain(wait, follow, &file) {
+        return Ok(None);
+    }
+    if follow {
+        return follow_of(alloc, found, wait, file);
+    }
+    table_of(alloc, found, Table::Transactions, file)
 }
 
 // The job of `link` of this file, with the values of its other arguments.
@@ -446,14 +528,15 @@ fn ask_one(asked: Query, file: Option<String>) -> Job
     }
 }
 
-/// The job of a command, with the values of its arguments. There is none where a ROOT has to be a digest and is not.
+/// The job of a command, with the values of its arguments. There is none where a ROOT has to be a digest and is not, and where
+/// `--wait` is given and no file can grow.
 pub(crate) fn job_of(
     alloc: Global,
     verb: Verb,
     found: &ArgMatches<'_>,
 ) -> Result<Option<Job>, AllocError>
     ensures { IfOk result (λ made. MatchOption made
-        (NamesNoDigest (Some (word_of verb, rows_of (found_of found.now))))
+        (NamesNoJob (Some (word_of verb, rows_of (found_of found.now))))
         (IsJobAt (word_of verb) (rows_of (found_of found.now)))) }
 {
     let file = owned(alloc, found.get_str("FILE"))?;
@@ -478,7 +561,7 @@ pub(crate) fn job_of(
         Verb::Anchors => Ok(Some(ask_one(Query::Anchors, file))),
         Verb::Dag => Ok(Some(dag_of(found, file))),
         Verb::Statement => Ok(Some(statement_of(found, file))),
-        Verb::Transactions => table_of(alloc, found, Table::Transactions, file),
+        Verb::Transactions => transactions_of(alloc, found, file),
         Verb::Postings => table_of(alloc, found, Table::Postings, file),
         Verb::Batches => Ok(Some(batches_of(file))),
         Verb::CheckProof => proof_of(alloc, found, file),

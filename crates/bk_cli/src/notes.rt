@@ -15,8 +15,8 @@ pub struct Notes {
     pub verbose: bool,
 }
 
-// Whether an option without a value is given.
-fn flag_in(found: &ArgMatches<'_>, name: &str) -> bool
+/// Whether an option without a value is given.
+pub(crate) fn flag_in(found: &ArgMatches<'_>, name: &str) -> bool
     ensures { IsOn (one_text (found_of found.now) name.now) result }
 {
     found.get_flag(name)

@@ -36,14 +36,21 @@ fn matches_of<'a, S: AsStr>(alloc: Global, words: &'a [S]) -> Result<ArgMatches<
     command(alloc)?.try_get_matches_from(words)
 }
 
-// The error of a ROOT that is not a digest.
-fn no_digest(alloc: Global) -> Result<Error, AllocError>
+// What is wrong with words of this command that name no job.
+fn unfit(verb: Verb) -> &'static str {
+    match verb {
+        Verb::Transactions | Verb::Postings => {
+            "--wait needs --follow and a FILE that is not standard input"
+        }
+        _ => "ROOT is not a digest: 64 hexadecimal digits in lower case",
+    }
+}
+
+// The error of words of this command that name no job.
+fn no_job(alloc: Global, verb: Verb) -> Result<Error, AllocError>
     ensures { IfOk result (λ e. kind_of e ≡ ErrorKind.ValueValidation) }
 {
-    command(alloc)?.error(
-        ErrorKind::ValueValidation,
-        "ROOT is not a digest: 64 hexadecimal digits in lower case",
-    )
+    command(alloc)?.error(ErrorKind::ValueValidation, unfit(verb))
 }
 
 // The error of standard input that is named twice.
@@ -60,7 +67,8 @@ fn input_twice(alloc: Global) -> Result<Error, AllocError>
 ///
 /// An error is a fault of the words, a request for help or for the version, or that memory ran out; its kind says which.
 /// Words without a fault give a job, and those with one an error of the fault's kind, unless memory ran out. A ROOT of
-/// `check-state` that is not a digest, and standard input that is named twice, are faults of the kind `ValueValidation`.
+/// `check-state` that is not a digest, `--wait` without `--follow` or a file, and standard input that is named twice, are
+/// faults of the kind `ValueValidation`.
 pub fn parse_line<'a, S: AsStr>(alloc: Global, words: &'a [S]) -> Result<Line, Error>
     ensures job { IfOk result (λ l. IsJobOf (subcommand_of command_line (map S.text words.now)) l.job) }
     ensures once { IfOk result (λ l. reads_input_twice l.job ≡ false) }
@@ -76,8 +84,9 @@ pub fn parse_line<'a, S: AsStr>(alloc: Global, words: &'a [S]) -> Result<Line, E
     let Some((name, found)) = matches.subcommand() else {
         unreachable!()
     };
-    let Some(job) = job_of(alloc, Verb::of(name), found)? else {
-        return Err(no_digest(alloc)?);
+    let verb = Verb::of(name);
+    let Some(job) = job_of(alloc, verb, found)? else {
+        return Err(no_job(alloc, verb)?);
     };
     let Some(job) = sole(job) else {
         return Err(input_twice(alloc)?);

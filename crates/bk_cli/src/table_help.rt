@@ -5,6 +5,12 @@ use crate::help::Help;
 pub(crate) const ACCOUNTS: &str =
     "The path of a list of accounts, an id on each line: only rows that have one of them are written";
 
+pub(crate) const FOLLOW: &str =
+    "Write each row as soon as no later frame can change it, while the feed comes; else all rows are written at its end";
+
+pub(crate) const WAIT: &str =
+    "With `--follow` and a FILE: at the end of the file, wait for more of it, without end";
+
 pub(crate) const TRANSACTIONS: Help<'static> = Help {
     about: "Write the payments of the order's transactions as comma-separated values",
     after: "\
@@ -20,6 +26,10 @@ the transaction says; a field that its kind does not have is empty. STATUS is th
 
 With a list of accounts, only rows whose FROM, TO or GUARD is in the list are written. The list has an id on each line;
 empty lines and lines that begin with `#` are skipped. It has at most 16,777,216 bytes, and is read before the feed.
+
+With `--follow` the rows of what a piece of the feed commits are written before the next piece is read. A fault ends the
+command at the piece that shows it; rows that are out stay out, and are right. With `--wait` too, the end of FILE is no
+end: the program reads again every 100 ms until a signal or a fault ends it.
 
 Exit status:
   0  all rows are written

@@ -1,5 +1,5 @@
 -- The digest is the value of ROOT, and the workers are those of `--workers`.
-use Rattle.std.proofs.Common.{◌≡◌, ◌∙◌, ap, sym, subst, codes, Option, None, unwrap_or, [], refl}
+use Rattle.std.proofs.Common.{◌≡◌, ◌∙◌, ap, inl, sym, subst, codes, Option, None, unwrap_or, [], refl}
 use Rattle.std.specs.Prelude.{IsSome}
 use Rattle.clap.proofs.WalkLemmas.{first_value-rows, one_text-rows}
 use Rattle.clap.specs.Words.{Text, first_value, found_of}
@@ -15,7 +15,7 @@ pub returns-in_default : goal.returns-in_default
 returns-in_default c =
     let text : c.as_bytes.result.now ≡ unwrap_or (first_value (found_of c.args.found.now) (codes "ROOT")) [] = c.as_bytes.ensures.value ∙ c.in_ok-text.ensures in
     let same = text ∙ ap (λ (t : Option Text). unwrap_or t []) (first_value-rows (found_of c.args.found.now) (codes "ROOT")) in
-    (refl, λ hex. none_is_not_some c.parse_hex.result c.in_default.is (c.parse_hex.ensures.found.1 (subst IsHexDigest (sym same) hex)))
+    inl (refl, λ hex. none_is_not_some c.parse_hex.result c.in_default.is (c.parse_hex.ensures.found.1 (subst IsHexDigest (sym same) hex)))
 
 pub returns : goal.returns
 returns c =
