@@ -3,7 +3,12 @@ use Rattle.std.proofs.Common.{Ok, ◌≡◌, ℕ, List, Option, Some, None, IfSo
 use Rattle.bk_frames.specs.Device.{Device, IfKnown}
 use Rattle.bk_base.specs.Feed.{FeedValue}
 use Rattle.bk_frames.specs.FirstFault.{HasFault}
-use Rattle.bk_frames.specs.Pulling.{Refuses}
+use Rattle.bk_frames.specs.Pulling.{Gave, Refuses}
+use Rattle.std.specs.Io.KnownBytes.{Consumes}
+use Rattle.bk_commit.specs.Growth.{IsPrefix}
+use Rattle.bk_results.specs.declared.status.Status.{Status}
+use Rattle.bk_tail.specs.Tailing.{TailFailsBy}
+use Rattle.bk_tables.specs.Tables.{IsPaymentTable}
 use Rattle.bk_frames.specs.declared.fault.FaultCode.{FaultCode}
 use Rattle.bk_frames.specs.declared.fault.FaultCode.TheVariants as code
 use Rattle.bk_frames.specs.declared.fault.FeedFault.{FeedFault}
@@ -36,7 +41,7 @@ use Rattle.bk_jobs.specs.Schedules.{AreNoEvents, AreRefused, IsListed, IsRefused
 use Rattle.bk_jobs.specs.Sources.{AreBroken, Inputs, JobDevices, inputs_of}
 use Rattle.bk_cli.specs.Exits.{exit_after, exit_after_compare, exit_by_code, is_refusal, writes_ahead}
 use Rattle.bk_jobs.specs.Comparisons.{DoNotAgree, HaveSomeStop, both_sources}
-use Rattle.bk_jobs.specs.Faults.{AreNoAccounts, AreNoLinks, AreStopped, AreToBlame, MakeNoFeed, JobFailsBy}
+use Rattle.bk_jobs.specs.Faults.{AreNoAccounts, AreNoLinks, AreStopped, AreStoppedAhead, AreToBlame, MakeNoFeed, JobFailsBy}
 use Rattle.bk_jobs.specs.Views.{executes_to_show, table_text, view_text}
 use Rattle.bk_chain.specs.Chain.{HasLinksFault}
 use Rattle.bk_tables.specs.Listing.{ids_of}
@@ -257,6 +262,7 @@ blames (job.Compare first second) (fault.Replay replay.Memory) old new w h r = a
 blames (job.Compare first second) (fault.Text e) old new w h r = absurd h
 blames (job.Compare first second) (fault.Events e) old new w h r = absurd h
 blames (job.Frames file) e old new w h r = absurd (cc)
+blames (job.Follow workers accounts wait file) e old new w h r = absurd (cc)
 blames (job.Run workers file) (fault.Accounts line) old new w h r = absurd h
 blames (job.Run workers file) (fault.Links line) old new w h r = absurd h
 blames (job.Make file) (fault.Accounts line) old new w h r = absurd h
@@ -322,6 +328,47 @@ frames_blame file (fault.Compared e) old new h r = absurd h
 frames_blame file (fault.AbsentAccount id missing) old new h r = absurd (cc)
 frames_blame file (fault.AbsentPlace place missing) old new h r = absurd (cc)
 
+-- known bytes begin with what was given
+begins_with : (old new : Device) (P : List ℕ → Type 0) → Gave old new P → IfKnown old (λ bytes. (part : List ℕ) × IsPrefix part bytes × P part)
+begins_with old new P (given, gives, h) = by_known old.bytes new.bytes given gives h
+  where
+    by_known : (before after : Option (List ℕ)) (part : List ℕ) → Consumes before after part → P part
+        → IfSome before (λ bytes. (front : List ℕ) × IsPrefix front bytes × P front)
+    by_known None after part g k = tt
+    by_known (Some xs) None part g k = absurd g
+    by_known (Some xs) (Some ys) part g k = (part, (ys, g), k)
+
+-- a feed was not followed for its bytes
+tail_blames : (T : FeedValue → Status → List ℕ → Type 0) (j : Job) (e : Fault) (given : Inputs) (old new : Devices)
+    (right : IfKnown old.source AreBroken → AreToBlame j exit.WrongInput given) (halt : IfKnown old.source AreStoppedAhead → AreToBlame j exit.Stopped given)
+    → TailFailsBy T e old new → is_refusal (exit_after_replay e) ≡ true → AreToBlame j (exit_after_replay e) given
+tail_blames T j (replay.Feed found) given old new right halt h r = refused j given found.code found.offset old.source new.source right h.0 r
+tail_blames T j (replay.Collision id) given old new right halt h r =
+    halt (weaker old.source.bytes (λ bs k. (k.0, k.1, replay.Collision id, k.2.1)) (begins_with old.source new.source _ h.1))
+tail_blames T j (replay.Equivocation round author first second) given old new right halt h r =
+    halt (weaker old.source.bytes (λ bs k. (k.0, k.1, replay.Equivocation round author first second, k.2.1)) (begins_with old.source new.source _ h.1))
+tail_blames T j (replay.Unfinished place) given old new right halt h r = absurd (cc)
+tail_blames T j (replay.Write written) given old new right halt h r = absurd (cc)
+tail_blames T j replay.Memory given old new right halt h r = absurd (cc)
+
+follow_blames : (workers : ℕ) (accounts : _) (wait : Bool) (file : _) (e : JobFault) (old new : JobDevices)
+    → JobFailsBy (job.Follow workers accounts wait file) e old new → is_refusal (exit_after e) ≡ true → AreToBlame (job.Follow workers accounts wait file) (exit_after e) (inputs_of old)
+follow_blames workers None wait file (fault.Replay e) old new h r =
+    tail_blames (IsPaymentTable None) (job.Follow workers None wait file) e (inputs_of old) (first_devices old) (first_devices new) (λ b. inl b) (λ b. b) h.1 r
+follow_blames workers (Some accounts) wait file (fault.Replay e) old new h r =
+    tail_blames (IsPaymentTable (Some h.1.0)) (job.Follow workers (Some accounts) wait file) e (inputs_of old) (first_devices old) (first_devices new) (λ b. inl b) (λ b. b) h.1.2 r
+follow_blames workers None wait file (fault.Accounts line) old new h r = absurd h
+follow_blames workers (Some accounts) wait file (fault.Accounts line) old new h r = inr (no_accounts line old.second.bytes h.0.1.1)
+follow_blames workers accounts wait file (fault.Links line) old new h r = absurd h
+follow_blames workers accounts wait file (fault.Text (text.Script line found)) old new h r = absurd h
+follow_blames workers accounts wait file (fault.Text text.Read) old new h r = absurd (cc)
+follow_blames workers accounts wait file (fault.Text (text.Write written)) old new h r = absurd (cc)
+follow_blames workers accounts wait file (fault.Text text.Memory) old new h r = absurd (cc)
+follow_blames workers accounts wait file (fault.Events e) old new h r = absurd h
+follow_blames workers accounts wait file (fault.Compared e) old new h r = absurd h
+follow_blames workers accounts wait file (fault.AbsentAccount id missing) old new h r = absurd (cc)
+follow_blames workers accounts wait file (fault.AbsentPlace place missing) old new h r = absurd (cc)
+
 -- the bytes are to blame, and nothing is written but by a job that writes while it reads
 pub BlamesThem : Job → JobFault → JobDevices → JobDevices → Type 0
 BlamesThem j e old new =
@@ -336,6 +383,7 @@ pub bytes_to_blame : (j : Job) (e : JobFault) (old new : JobDevices) → JobFail
     → AreToBlame j (exit_after e) (inputs_of old) × (writes_ahead j ≡ false → IsUntouched old.out new.out)
 unfolding BlamesThem
 bytes_to_blame (job.Frames file) e old new h r = (frames_blame file e old new h r, λ w. absurd (cc))
+bytes_to_blame (job.Follow workers accounts wait file) e old new h r = (follow_blames workers accounts wait file e old new h r, λ w. absurd (cc))
 bytes_to_blame (job.Run workers file) e old new h r = unwritten (job.Run workers file) e old new (blames (job.Run workers file) e old new refl h r)
 bytes_to_blame (job.Make file) e old new h r = unwritten (job.Make file) e old new (blames (job.Make file) e old new refl h r)
 bytes_to_blame (job.CheckProof root file) e old new h r = unwritten (job.CheckProof root file) e old new (blames (job.CheckProof root file) e old new refl h r)

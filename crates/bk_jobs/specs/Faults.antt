@@ -1,5 +1,5 @@
 -- What a job leaves: its answer, or the fault that kept it from one.
-use Rattle.std.specs.Prelude.{◌≡◌, ◌↔◌, ◌⊎◌, ℕ, ◌<◌, Bool, true, false, List, IfSome, codes, if◌then◌else◌, length, take, string_bytes, IsTrue, Ok, Err}
+use Rattle.std.specs.Prelude.{◌≡◌, ◌↔◌, ◌⊎◌, ℕ, ◌<◌, Bool, true, false, List, IfSome, codes, if◌then◌else◌, length, take, string_bytes, IsTrue, is_some, Ok, Err}
 use Rattle.bk_frames.specs.Device.{Device, Works, Fails, Receives, GaveAll}
 use Rattle.bk_results.specs.declared.compare_stop.CompareStop.{CompareStop}
 use Rattle.bk_results.specs.declared.fault.Fault.{Fault}
@@ -19,7 +19,7 @@ use Rattle.bk_results.specs.declared.query.Reply.TheVariants as reply
 use Rattle.bk_claim.specs.Claims as claim
 use Rattle.bk_claim.specs.Claims.{OfBoth}
 use Rattle.bk_claim.specs.declared.verdict.Verdict.{Verdict}
-use Rattle.bk_answer.specs.RunReport.{IsStopped, report_text}
+use Rattle.bk_answer.specs.RunReport.{IsStopIn, IsStopped, report_text}
 use Rattle.bk_script.specs.Answers as script
 use Rattle.bk_script.specs.Script.{LineFault, feed_of}
 use Rattle.bk_results.specs.declared.script_fault.ScriptFault.{ScriptFault}
@@ -32,8 +32,10 @@ use Rattle.bk_cli.specs.FaultLines.{Reports}
 use Rattle.bk_cli.specs.Windows.{WindowValue}
 use Rattle.bk_jobs.specs.Schedules.{AreNoEvents, AreRefused, IsListed, ListFailsBy, ScheduleFailsBy}
 use Rattle.bk_chain.specs.Chain.{HasLinksFault}
+use Rattle.bk_commit.specs.Growth.{IsPrefix}
 use Rattle.bk_tables.specs.Listing.{ids_of}
-use Rattle.bk_jobs.specs.Views.{ChainFailsBy, ChainIsOut, PickFailsBy, PickIsOut, ViewFailsBy, ViewIsOut}
+use Rattle.bk_tail.specs.Tailing.{OfWholeFrames}
+use Rattle.bk_jobs.specs.Views.{ChainFailsBy, ChainIsOut, FollowFailsBy, FollowIsOut, PickFailsBy, PickIsOut, ViewFailsBy, ViewIsOut}
 use Rattle.bk_jobs.specs.Sources.{AreBroken, Inputs, JobDevices, first_devices}
 use Rattle.bk_cli.specs.declared.exit.Exit.{Exit}
 use Rattle.bk_cli.specs.declared.exit.Exit.TheVariants as exit
@@ -128,6 +130,7 @@ AnswerIsOut (job.Compare first second) end old new = AgreementIsOut end old new
 AnswerIsOut (job.Show workers shown file) end old new =
     ViewIsOut shown end (first_devices old) (first_devices new)
 AnswerIsOut (job.Pick workers shown accounts file) end old new = PickIsOut shown end old new
+AnswerIsOut (job.Follow workers accounts wait file) end old new = FollowIsOut (is_some accounts) end old new
 AnswerIsOut (job.CheckChain file) end old new = ChainIsOut end (first_devices old) (first_devices new)
 
 -- ---- why a job has no answer
@@ -172,6 +175,8 @@ ReplayFailsBy (job.Compare first second) e old new = AgreementFailsBy e old new
 ReplayFailsBy (job.Show workers shown file) e old new =
     ViewFailsBy shown e (first_devices old) (first_devices new)
 ReplayFailsBy (job.Pick workers shown accounts file) e old new = PickFailsBy shown (fault.Replay e) old new
+ReplayFailsBy (job.Follow workers accounts wait file) e old new =
+    FollowFailsBy (fault.Replay e) (is_some accounts) old new
 ReplayFailsBy other e old new = ⊥
 
 -- why a text was not answered for a job
@@ -182,6 +187,8 @@ TextFailsBy (job.CheckProof root file) e old new =
     CheckFailsBy (string_bytes root) e (first_devices old) (first_devices new)
 TextFailsBy (job.CheckReport workers report file) e old new = ClaimIsUnread e old new
 TextFailsBy (job.Pick workers shown accounts file) e old new = PickFailsBy shown (fault.Text e) old new
+TextFailsBy (job.Follow workers accounts wait file) e old new =
+    FollowFailsBy (fault.Text e) (is_some accounts) old new
 TextFailsBy (job.CheckChain file) e old new = ChainFailsBy (fault.Text e) (first_devices old) (first_devices new)
 TextFailsBy other e old new = ⊥
 
@@ -193,6 +200,8 @@ EventsFailBy other e old new = ⊥
 -- why a list of accounts, or lines that are no links, give no answer for a job
 abbrev pub AccountsFailBy : Job → ℕ → JobDevices → JobDevices → Type 0
 AccountsFailBy (job.Pick workers shown accounts file) line old new = PickFailsBy shown (fault.Accounts line) old new
+AccountsFailBy (job.Follow workers accounts wait file) line old new =
+    FollowFailsBy (fault.Accounts line) (is_some accounts) old new
 AccountsFailBy other line old new = ⊥
 
 abbrev pub LinksFailBy : Job → ℕ → JobDevices → JobDevices → Type 0
@@ -286,11 +295,18 @@ AreWrong (job.Schedule workers feed events) given = AreWrongFor workers given
 AreWrong (job.Compare first second) given = AreWrongTogether given
 AreWrong (job.Show workers shown file) given = IfSome given.first AreBroken
 AreWrong (job.Pick workers shown accounts file) given = IfSome given.first AreBroken ⊎ IfSome given.second AreNoAccounts
+AreWrong (job.Follow workers accounts wait file) given =
+    IfSome given.first AreBroken ⊎ IfSome given.second AreNoAccounts
 AreWrong (job.CheckChain file) given = IfSome given.first AreNoLinks
 
 -- the bytes are stopped by a collision or by twins
 abbrev pub AreStopped : List ℕ → Type 0
 AreStopped bytes = (found : Fault) × IsStopped bytes found
+
+-- the whole frames of some first bytes are stopped so
+abbrev pub AreStoppedAhead : List ℕ → Type 0
+AreStoppedAhead bytes =
+    (part : List ℕ) × IsPrefix part bytes × (found : Fault) × OfWholeFrames part (λ feed. IsStopIn feed found)
 
 -- what the sources give is stopped, for a job that finds an order
 abbrev pub AreStoppedFor : Job → Inputs → Type 0
@@ -302,6 +318,7 @@ AreStoppedFor (job.Dag window file) given = IfSome given.first AreStopped
 AreStoppedFor (job.Compare first second) given = AreStoppedTogether given
 AreStoppedFor (job.Show workers shown file) given = IfSome given.first AreStopped
 AreStoppedFor (job.Pick workers shown accounts file) given = IfSome given.first AreStopped
+AreStoppedFor (job.Follow workers accounts wait file) given = IfSome given.first AreStoppedAhead
 AreStoppedFor other given = ⊥
 
 -- what bytes to blame are like, by the exit

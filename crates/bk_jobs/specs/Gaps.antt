@@ -26,6 +26,7 @@ AreGapsOf (job.Apply file) given gaps = gaps ≡ no_gaps
 AreGapsOf (job.Schedule workers feed events) given gaps = gaps ≡ no_gaps
 AreGapsOf (job.Show workers shown file) given gaps = gaps ≡ no_gaps
 AreGapsOf (job.Pick workers shown accounts file) given gaps = gaps ≡ no_gaps
+AreGapsOf (job.Follow workers accounts wait file) given gaps = gaps ≡ no_gaps
 AreGapsOf (job.CheckChain file) given gaps = gaps ≡ no_gaps
 AreGapsOf (job.Compare first second) given gaps =
     IfBothGive given (λ bytes more. IsGap bytes gaps.first × IsGap more gaps.second)

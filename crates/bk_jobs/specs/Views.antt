@@ -13,6 +13,7 @@ use Rattle.bk_chain.specs.declared.fault.ChainFault.{ChainFault}
 use Rattle.bk_chain.specs.declared.fault.ChainFault.TheVariants as broken
 use Rattle.bk_chain.specs.declared.verdict.ChainEnd.{ChainEnd}
 use Rattle.bk_chain.specs.declared.verdict.ChainEnd.TheVariants as verdict
+use Rattle.bk_tail.specs.Tailing.{TailFailsBy}
 use Rattle.bk_tables.specs.Listing.{AreNamedIn, HasNoAccounts}
 use Rattle.bk_tables.specs.Tables.{IsBatchTable, IsPaymentTable, IsPostingTable}
 use Rattle.bk_tables.specs.declared.listing.AccountsFault.{AccountsFault}
@@ -90,6 +91,34 @@ PickFailsBy shown (fault.Replay e) old new =
     × IsPicked old new (λ accounts.
     AnswerFailsBy (table_text shown (Some accounts)) true e (first_devices old) (first_devices new))
 PickFailsBy shown other old new = ⊥
+
+-- ---- the payments of a feed that is followed
+
+-- this holds of the accounts of the list that the second source gave; or of none, where no list is named
+abbrev pub IsPickedIf : Bool → JobDevices → JobDevices → (Option (List ℕ) → Type 0) → Type 0
+IsPickedIf true old new holds = IsPicked old new (λ accounts. holds (Some accounts))
+IsPickedIf false old new holds = holds None
+
+-- the output got the whole table of the feed that the source gave, and the exit says whether a batch is missing
+abbrev pub PaymentsAreOut : Option (List ℕ) → Exit → Devices → Devices → Type 0
+PaymentsAreOut accounts end old new =
+    (answer : Status) × (end ≡ exit_at answer) × IsAnswered (IsPaymentTable accounts) answer old new
+
+-- the same where there may be a list
+abbrev pub FollowIsOut : Bool → Exit → JobDevices → JobDevices → Type 0
+FollowIsOut picks end old new =
+    IsPickedIf picks old new (λ accounts. PaymentsAreOut accounts end (first_devices old) (first_devices new))
+
+-- why it did not: the list was not read; or the feed was not followed to its end, and then rows of it may be out
+abbrev pub FollowFailsBy : JobFault → Bool → JobDevices → JobDevices → Type 0
+FollowFailsBy (fault.Accounts line) true old new = ListIsUnread (list.Line line) old new
+FollowFailsBy (fault.Text text.Read) true old new = ListIsUnread list.Read old new
+FollowFailsBy (fault.Text text.Memory) true old new = ListIsUnread list.Memory old new
+FollowFailsBy (fault.Replay e) picks old new =
+    Works old.second new.second
+    × IsPickedIf picks old new (λ accounts.
+    TailFailsBy (IsPaymentTable accounts) e (first_devices old) (first_devices new))
+FollowFailsBy other picks old new = ⊥
 
 -- ---- links
 

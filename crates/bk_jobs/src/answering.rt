@@ -16,6 +16,7 @@ use crate::claiming::check_claim;
 use crate::comparing::compare_feeds;
 use crate::drawing::draw_rounds;
 use crate::end::End;
+use crate::following::{follow, follow_some};
 use crate::listing::list;
 use crate::queries::reply;
 use crate::replaying::{apply_all, run, sum_up};
@@ -93,6 +94,20 @@ where
                 },
             })
         }
+        Job::Follow {
+            workers,
+            accounts: None,
+            ..
+        } => {
+            let end = follow(rt, gate, *workers, first, out)?;
+            Ok(End {
+                exit: end,
+                gaps: Gaps {
+                    first: None,
+                    second: None,
+                },
+            })
+        }
         Job::Make { .. }
         | Job::CheckProof { .. }
         | Job::CheckReport { .. }
@@ -102,6 +117,7 @@ where
         | Job::Schedule { .. }
         | Job::Compare { .. }
         | Job::Pick { .. }
+        | Job::Follow { .. }
         | Job::CheckChain { .. } => unreachable!(),
     }
 }
@@ -176,6 +192,7 @@ where
         | Job::Compare { .. }
         | Job::Show { .. }
         | Job::Pick { .. }
+        | Job::Follow { .. }
         | Job::CheckChain { .. } => unreachable!(),
     }
 }
@@ -259,7 +276,8 @@ where
         | Job::Apply { .. }
         | Job::Compare { .. }
         | Job::Show { .. }
-        | Job::Pick { .. } => unreachable!(),
+        | Job::Pick { .. }
+        | Job::Follow { .. } => unreachable!(),
     }
 }
 
@@ -318,6 +336,20 @@ where
                 },
             })
         }
+        Job::Follow {
+            workers,
+            accounts: Some(_),
+            ..
+        } => {
+            let end = follow_some(rt, gate, *workers, first, second, out)?;
+            Ok(End {
+                exit: end,
+                gaps: Gaps {
+                    first: None,
+                    second: None,
+                },
+            })
+        }
         Job::Run { .. }
         | Job::Make { .. }
         | Job::CheckProof { .. }
@@ -328,6 +360,7 @@ where
         | Job::Apply { .. }
         | Job::Schedule { .. }
         | Job::Show { .. }
+        | Job::Follow { .. }
         | Job::CheckChain { .. } => unreachable!(),
     }
 }
@@ -362,16 +395,22 @@ where
     ensures second { reads_second job.now ≡ false → second.new ≡ second.old }
 {
     match job {
-        Job::Run { .. } | Job::Ask { .. } | Job::Summary { .. } | Job::Show { .. } => {
-            answer_of_run(rt, job, gate, first, second, out)
-        }
+        Job::Run { .. }
+        | Job::Ask { .. }
+        | Job::Summary { .. }
+        | Job::Show { .. }
+        | Job::Follow { accounts: None, .. } => answer_of_run(rt, job, gate, first, second, out),
         Job::Frames { .. } | Job::Dag { .. } | Job::Apply { .. } => {
             answer_of_frames(rt, job, first, second, out)
         }
         Job::Make { .. } | Job::CheckProof { .. } | Job::Schedule { .. } | Job::CheckChain { .. } =>
             { answer_of_text(rt, job, first, second, out) }
-        Job::CheckReport { .. } | Job::Compare { .. } | Job::Pick { .. } => {
-            answer_of_two(rt, job, gate, first, second, out)
-        }
+        Job::CheckReport { .. }
+        | Job::Compare { .. }
+        | Job::Pick { .. }
+        | Job::Follow {
+            accounts: Some(_),
+            ..
+        } => answer_of_two(rt, job, gate, first, second, out),
     }
 }

@@ -10,6 +10,7 @@ mod claiming;
 mod comparing;
 mod drawing;
 mod end;
+mod following;
 mod inputs;
 mod listing;
 mod machine;

@@ -13,6 +13,7 @@ use bk_frames::{Counted, Sink};
 use bk_progress::{Metered, Progress};
 use bk_results::Fault;
 use bk_script::ScriptFault;
+use bk_tail::Waiting;
 use std::io::{BufReader, Read};
 use std::rt::Files;
 use std::sync::Wait;
@@ -45,6 +46,14 @@ fn no_memory<E: Sink>(line: &Line, err: &mut E) -> Exit
     Exit::Failed
 }
 
+// Whether the end of the first file is waited at for more.
+fn is_waited(job: &Job) -> bool {
+    match job {
+        Job::Follow { wait, .. } => *wait,
+        _ => false,
+    }
+}
+
 // Counts the bytes that are going to be read.
 fn expect_files<F: Files + Input, P: Clock + Eprint>(
     files: &Inputs<'_, F>,
@@ -55,8 +64,8 @@ fn expect_files<F: Files + Input, P: Clock + Eprint>(
         return;
     }
     match job.file() {
-        Some(path) => progress.expect(files.size_of(path)),
-        None => progress.expect(None),
+        Some(path) if !is_waited(job) => progress.expect(files.size_of(path)),
+        Some(_) | None => progress.expect(None),
     }
     if let Some(path) = job.second_file() {
         progress.expect(files.size_of(path));
@@ -75,7 +84,7 @@ fn open_feed<F, R, P, J: Read + Drop, O: Sink, E: Sink>(
 ) -> Exit
 where
     F: Files + Input,
-    R: AllocGlobal + Threads + Wait + Sync,
+    R: AllocGlobal + Clock + Threads + Wait + Sync,
     P: Clock + Eprint + Sync,
     requires out { CanBeUsed (O.state out.old) }
     requires err { CanBeUsed (E.state err.old) }
@@ -106,7 +115,7 @@ fn open_beside<F, R, P, O: Sink, E: Sink>(
 ) -> Exit
 where
     F: Files + Input,
-    R: AllocGlobal + Threads + Wait + Sync,
+    R: AllocGlobal + Clock + Threads + Wait + Sync,
     P: Clock + Eprint + Sync,
     requires path { IsFileOf line.now.job text.now }
     requires out { CanBeUsed (O.state out.old) }
@@ -138,7 +147,7 @@ pub fn open_and_run<F, R, P, O: Sink, E: Sink>(
 ) -> Exit
 where
     F: Files + Input,
-    R: AllocGlobal + Threads + Wait + Sync,
+    R: AllocGlobal + Clock + Threads + Wait + Sync,
     P: Clock + Eprint + Sync,
     requires out { CanBeUsed (O.state out.old) }
     requires err { CanBeUsed (E.state err.old) }
@@ -159,15 +168,11 @@ where
             out,
             err,
         ),
-        Job::Pick { accounts, .. } => open_beside(
-            files,
-            rt,
-            line,
-            progress,
-            accounts.as_str(),
-            out,
-            err,
-        ),
+        Job::Pick { accounts, .. }
+        | Job::Follow {
+            accounts: Some(accounts),
+            ..
+        } => open_beside(files, rt, line, progress, accounts.as_str(), out, err),
         _ => open_first(files, rt, line, progress, out, err),
     }
 }
@@ -183,7 +188,7 @@ fn open_first<F, R, P, O: Sink, E: Sink>(
 ) -> Exit
 where
     F: Files + Input,
-    R: AllocGlobal + Threads + Wait + Sync,
+    R: AllocGlobal + Clock + Threads + Wait + Sync,
     P: Clock + Eprint + Sync,
     requires out { CanBeUsed (O.state out.old) }
     requires err { CanBeUsed (E.state err.old) }
@@ -214,7 +219,7 @@ fn open_second<F, R, P, I: Read + Drop, O: Sink, E: Sink>(
 ) -> Exit
 where
     F: Files + Input,
-    R: AllocGlobal + Threads + Wait + Sync,
+    R: AllocGlobal + Clock + Threads + Wait + Sync,
     P: Clock + Eprint + Sync,
     requires out { CanBeUsed (O.state out.old) }
     requires err { CanBeUsed (E.state err.old) }
@@ -245,7 +250,7 @@ fn run_over<R, P, I: Read + Drop, J: Read + Drop, O: Sink, E: Sink>(
     err: &mut E,
 ) -> Exit
 where
-    R: AllocGlobal + Threads + Wait + Sync,
+    R: AllocGlobal + Clock + Threads + Wait + Sync,
     P: Clock + Eprint + Sync,
     requires out { CanBeUsed (O.state out.old) }
     requires err { CanBeUsed (E.state err.old) }
@@ -258,6 +263,7 @@ where
     let Ok(reader) = BufReader::with_capacity(rt.alloc(), AHEAD, first) else {
         return no_memory(line, err);
     };
+    let waits = is_waited(&line.job);
     let watch = Watch {
         watcher: progress,
         verbose: line.notes.verbose,
@@ -266,7 +272,7 @@ where
         rt,
         &line.job,
         &watch,
-        &mut Metered::new(Counted::new(reader), progress),
+        &mut Waiting::new(Metered::new(Counted::new(reader), &*progress), &*rt, waits),
         &mut Metered::new(Counted::new(second), progress),
         out,
         err,

@@ -97,7 +97,8 @@ where
 /// - `Failed`: a read, a write or memory failed, or a transaction is not finished. The fault is one line on `err`;
 ///   after a failed write `out` has the first bytes of the answer, and else nothing.
 ///
-/// The job of frames alone writes while it reads: the lines of the frames before a fault are on `out`.
+/// Two jobs write while they read: the lines of the frames before a fault, and of a feed that is followed the rows of the
+/// pieces before it, are on `out`.
 pub fn run_job<R: Threads + Wait + Sync + AllocGlobal, S1: Source, S2: Source, O: Sink, E: Sink>(
     rt: &R,
     job: &Job,

@@ -58,8 +58,8 @@ where
     Ok(Exit::at(status))
 }
 
-// The fault of a list of accounts.
-fn fault_of(fault: AccountsFault) -> JobFault
+/// The fault of a list of accounts.
+pub(crate) fn fault_of(fault: AccountsFault) -> JobFault
     ensures { result ≡ fault_by_list fault }
 {
     match fault {

@@ -38,7 +38,7 @@ pub(crate) fn program<R, F, P, Q, O: Sink, E: Sink>(
     err: &mut E,
 ) -> Exit
 where
-    R: Env + AllocGlobal + Threads + Wait + Sync,
+    R: Env + AllocGlobal + Clock + Threads + Wait + Sync,
     F: Files + Input,
     P: Clock + Eprint + Sync,
     Q: Print + Eprint,
@@ -61,7 +61,7 @@ fn run_words<R, F, P, Q, S: AsStr, O: Sink, E: Sink>(
     err: &mut E,
 ) -> Exit
 where
-    R: AllocGlobal + Threads + Wait + Sync,
+    R: AllocGlobal + Clock + Threads + Wait + Sync,
     F: Files + Input,
     P: Clock + Eprint + Sync,
     Q: Print + Eprint,

@@ -1,5 +1,5 @@
 -- The jobs by what they read, and by whether they replay.
-use Rattle.std.specs.Prelude.{Bool, true, false}
+use Rattle.std.specs.Prelude.{Bool, true, false, Some, None}
 use Rattle.bk_cli.specs.declared.job.Job.{Job}
 use Rattle.bk_cli.specs.declared.job.Job.TheVariants as job
 
@@ -9,6 +9,7 @@ replays_one (job.Run workers file) = true
 replays_one (job.Ask workers asked file) = true
 replays_one (job.Summary workers file) = true
 replays_one (job.Show workers shown file) = true
+replays_one (job.Follow workers None wait file) = true
 replays_one other = false
 
 -- a job that reads one feed, and executes on no thread but its own
@@ -31,4 +32,5 @@ abbrev pub replays_two : Job → Bool
 replays_two (job.CheckReport workers report file) = true
 replays_two (job.Compare first second) = true
 replays_two (job.Pick workers shown accounts file) = true
+replays_two (job.Follow workers (Some accounts) wait file) = true
 replays_two other = false

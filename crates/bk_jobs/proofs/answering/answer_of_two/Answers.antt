@@ -1,6 +1,6 @@
 -- How each of these jobs may end with an answer.
 use Rattle.std.proofs.Common.{refl}
-use Rattle.bk_jobs.proofs.StatusLemmas.{claim_answers, pick_answers}
+use Rattle.bk_jobs.proofs.StatusLemmas.{claim_answers, follow_answers, pick_answers}
 use Rattle.bk_jobs.proofs.answering.answer_of_two.Goals as goal
 
 pub returns-in_ok-end-in-Compare-clause-answer : goal.returns-in_ok-end-in-Compare-clause-answer
@@ -22,3 +22,11 @@ returns-in_ok-end-in-Pick-clause-answer g c = rw c.in-Pick.is (pick_answers c.in
 
 pub returns-in_ok-end-in-Pick-clause-gaps : goal.returns-in_ok-end-in-Pick-clause-gaps
 returns-in_ok-end-in-Pick-clause-gaps g c = rw c.in-Pick.is refl
+
+pub returns-in_ok-end-in-Follow-default-Some-default-default-clause-answer : goal.returns-in_ok-end-in-Follow-default-Some-default-default-clause-answer
+returns-in_ok-end-in-Follow-default-Some-default-default-clause-answer g c =
+    rw c.in-Follow-default-Some-default-default.is (follow_answers c.in-Follow-default-Some-default-default.workers c.in-Follow-default-Some-default-default.accounts c.in-Follow-default-Some-default-default.wait c.in-Follow-default-Some-default-default.file _
+    c.in_ok-end-in-Follow-default-Some-default-default.ensures.answer)
+
+pub returns-in_ok-end-in-Follow-default-Some-default-default-clause-gaps : goal.returns-in_ok-end-in-Follow-default-Some-default-default-clause-gaps
+returns-in_ok-end-in-Follow-default-Some-default-default-clause-gaps g c = rw c.in-Follow-default-Some-default-default.is refl
