@@ -25,13 +25,16 @@ pub(crate) const UNREAD_FEED: &[u8] = b"feed fault 8 at ";
 /// The fault of a text that cannot be read.
 pub(crate) const UNREAD_TEXT: &[u8] = b"read failed\n";
 
-/// Whether this is the fault of a failed read, and nothing is written.
-pub(crate) fn is_unread(found: &Outcome, fault: &[u8]) -> bool {
-    found.status == 4 && found.err.starts_with(fault) && found.out.is_empty()
+/// Whether this is the fault of a failed read, and nothing is written; of a feed that is followed, no more than the first
+/// rows are.
+pub(crate) fn is_unread(job: &Job, found: &Outcome, whole: &Outcome, fault: &[u8]) -> bool {
+    let is_ahead = matches!(job, Job::Follow { .. }) && whole.out.starts_with(&found.out);
+    let is_written_well = found.out.is_empty() || is_ahead;
+    found.status == 4 && found.err.starts_with(fault) && is_written_well
 }
 
-/// Whether a failed read of the first file gives this fault and writes nothing, whichever read it is; and one of them
-/// fails.
+/// Whether a failed read of the first file gives this fault and writes nothing before it, whichever read it is; and one of
+/// them fails.
 pub(crate) fn reads_fail_well<R>(
     rt: &R,
     job: &Job,
@@ -52,7 +55,7 @@ where
         if found.is_same(whole) {
             return reads > 0;
         }
-        if !is_unread(&found, fault) {
+        if !is_unread(job, &found, whole, fault) {
             return false;
         }
     }

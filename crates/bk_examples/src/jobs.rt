@@ -55,7 +55,7 @@ where
         if found.is_same(whole) {
             return second_reads > 0 || job.second_file().is_none();
         }
-        if !is_unread(&found, fault) {
+        if !is_unread(job, &found, whole, fault) {
             return false;
         }
     }

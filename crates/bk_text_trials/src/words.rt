@@ -26,6 +26,8 @@ enum Kind {
     CheckState,
     Schedule,
     Compare,
+    Follow,
+    Wait,
     Other,
 }
 
@@ -41,22 +43,25 @@ fn kind_of(job: &Job) -> Kind {
         } => Kind::CheckState,
         Job::Schedule { .. } => Kind::Schedule,
         Job::Compare { .. } => Kind::Compare,
+        Job::Follow { wait: false, .. } => Kind::Follow,
+        Job::Follow { wait: true, .. } => Kind::Wait,
         _ => Kind::Other,
     }
 }
 
 fn workers_of(job: &Job) -> Option<usize> {
     match job {
-        Job::Run { workers, .. } | Job::Ask { workers, .. } | Job::Schedule { workers, .. } => {
-            Some(workers.count())
-        }
+        Job::Run { workers, .. }
+        | Job::Ask { workers, .. }
+        | Job::Schedule { workers, .. }
+        | Job::Follow { workers, .. } => Some(workers.count()),
         _ => None,
     }
 }
 
 const ROOT: &str = "a0f73141eeeda4cb3f115f1ee0468dde8a3de31db5fd987f0eec1df811bce063";
 
-const NAMED: [Named; 19] = [
+const NAMED: [Named; 22] = [
     Named {
         words: &["bkreplay", "run"],
         kind: Kind::Run,
@@ -189,6 +194,43 @@ const NAMED: [Named; 19] = [
         workers: Some(64),
         first: Some("a"),
         second: None,
+    },
+    Named {
+        words: &["bkreplay", "transactions", "--follow"],
+        kind: Kind::Follow,
+        workers: Some(1),
+        first: None,
+        second: None,
+    },
+    Named {
+        words: &[
+            "bkreplay",
+            "transactions",
+            "--accounts",
+            "l",
+            "--follow",
+            "-",
+        ],
+        kind: Kind::Follow,
+        workers: Some(1),
+        first: Some("-"),
+        second: Some("l"),
+    },
+    Named {
+        words: &[
+            "bkreplay",
+            "transactions",
+            "--wait",
+            "--follow",
+            "--accounts=l",
+            "--workers",
+            "3",
+            "a",
+        ],
+        kind: Kind::Wait,
+        workers: Some(3),
+        first: Some("a"),
+        second: Some("l"),
     },
 ];
 

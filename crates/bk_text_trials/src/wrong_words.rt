@@ -7,7 +7,7 @@ use bk_cli::parse;
 use clap::error::ErrorKind;
 use std::alloc::Global;
 
-const WRONG: [(&[&str], ErrorKind); 28] = [
+const WRONG: [(&[&str], ErrorKind); 33] = [
     (&["bkreplay"], ErrorKind::MissingSubcommand),
     (&["bkreplay", "replay"], ErrorKind::InvalidSubcommand),
     (&["bkreplay", "run", "a", "b"], ErrorKind::UnknownArgument),
@@ -53,6 +53,26 @@ const WRONG: [(&[&str], ErrorKind); 28] = [
     (
         &["bkreplay", "transactions", "--accounts", "-", "-"],
         ErrorKind::ValueValidation,
+    ),
+    (
+        &["bkreplay", "transactions", "--wait", "a"],
+        ErrorKind::ValueValidation,
+    ),
+    (
+        &["bkreplay", "transactions", "--follow", "--wait"],
+        ErrorKind::ValueValidation,
+    ),
+    (
+        &["bkreplay", "transactions", "--follow", "--wait", "-"],
+        ErrorKind::ValueValidation,
+    ),
+    (
+        &["bkreplay", "transactions", "--follow", "--follow", "a"],
+        ErrorKind::ArgumentConflict,
+    ),
+    (
+        &["bkreplay", "postings", "--follow", "a"],
+        ErrorKind::UnknownArgument,
     ),
     (&["bkreplay", "run", "--help"], ErrorKind::DisplayHelp),
     (&["bkreplay", "--help"], ErrorKind::DisplayHelp),
