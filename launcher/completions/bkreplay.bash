@@ -70,7 +70,7 @@ _bkreplay() {
         kinds=(none file)
         ;;
     transactions)
-        names='--workers --accounts --progress --verbose --help'
+        names='--workers --accounts --follow --wait --progress --verbose --help'
         kinds=(file)
         ;;
     postings)

@@ -88,6 +88,8 @@ complete -c bkreplay -n '__bkreplay_at statement' -l verbose -d 'Say in one more
 complete -c bkreplay -n '__bkreplay_at statement 1' -F
 complete -c bkreplay -n '__bkreplay_at transactions' -l workers -x -a '(seq 1 64)' -d 'How many threads execute at most, 1 to 64; 1 by default. The output is the same for any number'
 complete -c bkreplay -n '__bkreplay_at transactions' -l accounts -r -F -d 'The path of a list of accounts, an id on each line: only rows that have one of them are written'
+complete -c bkreplay -n '__bkreplay_at transactions' -l follow -d 'Write each row as soon as no later frame can change it, while the feed comes; else all rows are written at its end'
+complete -c bkreplay -n '__bkreplay_at transactions' -l wait -d 'With `--follow` and a FILE: at the end of the file, wait for more of it, without end'
 complete -c bkreplay -n '__bkreplay_at transactions' -l progress -d 'Show on standard error how many bytes are read, and how many transactions are executed'
 complete -c bkreplay -n '__bkreplay_at transactions' -l verbose -d 'Say in one more line what a fault is, in words, or at which missing batch an order stops, and name the file'
 complete -c bkreplay -n '__bkreplay_at transactions 0' -F
