@@ -1,0 +1,86 @@
+//! A feed's table, followed and whole.
+
+use crate::devices::{MOST, Reader, Writer};
+use anyhow::Result;
+use bk_follow::answer_by_ledger;
+use bk_frames::Counted;
+use bk_pool::Open;
+use bk_results::{Fault, Status};
+use bk_tables::{Accounts, Transactions};
+use bk_tail::tail_transactions;
+use std::alloc::Global;
+use std::sync::Wait;
+use std::thread::Threads;
+
+/// Which rows are asked for: those that name this account, or all of them.
+pub(crate) type Named = Option<u64>;
+
+/// What a call leaves: how it ends, and what the sink holds.
+#[derive(Drop)]
+pub(crate) struct Left {
+    pub(crate) end: Result<Status, Fault>,
+    pub(crate) text: Vec<u8>,
+}
+
+/// What a sink takes a call, and how many calls it takes.
+#[derive(Clone, Copy)]
+pub(crate) struct Room {
+    pub(crate) most: usize,
+    pub(crate) calls: usize,
+}
+
+/// A sink that takes all.
+pub(crate) const WIDE: Room = Room {
+    most: MOST,
+    calls: MOST,
+};
+
+fn accounts_of(alloc: Global, named: Named) -> Result<Option<Accounts>> {
+    let Some(id) = named else {
+        return Ok(None);
+    };
+    let mut ids = Vec::new(alloc);
+    ids.push(id)?;
+    Ok(Some(Accounts::of(ids)))
+}
+
+/// Follows a feed.
+pub(crate) fn followed<R>(rt: &R, named: Named, reader: Reader<'_>, room: Room) -> Result<Left>
+where
+    R: AllocGlobal + Threads + Wait + Sync,
+{
+    let alloc: Global = rt.alloc();
+    let Room { most, calls } = room;
+    let held = Vec::new(alloc);
+    let mut source = Counted::new(reader);
+    let mut sink = Counted::new(Writer { held, most, calls });
+    let accounts = accounts_of(alloc, named)?;
+    let asked = Transactions { accounts };
+    let end = tail_transactions(rt, alloc, &mut source, &mut sink, 2, &Open, &asked);
+    let text = sink.into_inner().held;
+    Ok(Left { end, text })
+}
+
+/// Reads a feed whole, and writes its table then.
+pub(crate) fn whole<R>(rt: &R, named: Named, feed: &[u8]) -> Result<Left>
+where
+    R: AllocGlobal + Threads + Wait + Sync,
+{
+    let alloc: Global = rt.alloc();
+    let mut source = Counted::new(feed);
+    let mut sink = Counted::new(Vec::new(alloc));
+    let accounts = accounts_of(alloc, named)?;
+    let asked = Transactions { accounts };
+    let end = answer_by_ledger(rt, alloc, &mut source, &mut sink, 2, &Open, &asked);
+    let text = sink.into_inner();
+    Ok(Left { end, text })
+}
+
+/// A source of so many bytes a call.
+pub(crate) fn in_pieces(feed: &[u8], most: usize) -> Reader<'_> {
+    Reader {
+        rest: feed,
+        most,
+        calls: MOST,
+    }
+}

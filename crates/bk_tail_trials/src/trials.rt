@@ -1,0 +1,189 @@
+//! Feeds that are followed in pieces, cut, broken and stopped, and over devices that fail.
+
+use crate::devices::{MOST, Reader};
+use crate::feeds::{
+    MISSING, NOTHING, ONE_COMMIT, ONE_COMMIT_TWO, TWINS_LATER, TWO_COMMITS, TWO_COMMITS_TWO,
+};
+use crate::made::made;
+use crate::tables::{Named, Room, WIDE, followed, in_pieces, whole};
+use crate::tally::Tally;
+use anyhow::Result;
+use bk_frames::{FaultCode, FeedFault};
+use bk_results::Fault;
+use std::alloc::Global;
+use std::sync::Wait;
+use std::thread::Threads;
+
+// How many bytes a piece has, at most.
+const PIECES: [usize; 3] = [1, 7, 65_536];
+
+// All rows, those of an account that comes to be, and those of none.
+const NAMED: [Named; 3] = [None, Some(9), Some(77)];
+
+const FEEDS: [&str; 6] = [
+    ONE_COMMIT,
+    ONE_COMMIT_TWO,
+    NOTHING,
+    TWO_COMMITS,
+    TWO_COMMITS_TWO,
+    MISSING,
+];
+
+// Followed in pieces of each size, a feed has the table that it has when it is read whole.
+fn try_pieces<R>(rt: &R, tally: &mut Tally, script: &str, named: Named) -> Result<()>
+where
+    R: AllocGlobal + Eprint + Threads + Wait + Sync,
+{
+    let alloc: Global = rt.alloc();
+    let feed = made(alloc, script)?;
+    let wanted = whole(rt, named, &feed)?;
+    for most in PIECES {
+        let left = followed(rt, named, in_pieces(&feed, most), WIDE)?;
+        tally.note(
+            rt,
+            "table in pieces",
+            left.text == wanted.text && left.end == wanted.end,
+        );
+    }
+    Ok(())
+}
+
+fn try_tables<R>(rt: &R, tally: &mut Tally) -> Result<()>
+where
+    R: AllocGlobal + Eprint + Threads + Wait + Sync,
+{
+    for script in FEEDS {
+        for named in NAMED {
+            try_pieces(rt, tally, script, named)?;
+        }
+    }
+    Ok(())
+}
+
+// Whether a fault is this one of the feed.
+fn is_fault(end: &Result<bk_results::Status, Fault>, code: FaultCode) -> bool {
+    match end {
+        Err(Fault::Feed(FeedFault { code: found, .. })) => *found == code,
+        _ => false,
+    }
+}
+
+// Whether these are the whole first lines of a text, or none.
+fn are_lines_of(text: &[u8], whole: &[u8]) -> bool {
+    whole.starts_with(text) && (text.is_empty() || text.ends_with(b"\n"))
+}
+
+// Cut at each byte, a feed leaves the rows of the whole frames before the cut, however it came. The source that fails there
+// leaves the same, and a later cut no fewer.
+fn try_cuts<R>(rt: &R, tally: &mut Tally, script: &str) -> Result<()>
+where
+    R: AllocGlobal + Eprint + Threads + Wait + Sync,
+{
+    let alloc: Global = rt.alloc();
+    let feed = made(alloc, script)?;
+    let wanted = whole(rt, None, &feed)?;
+    let mut before = 0;
+    for end in 0..feed.len() {
+        let part = feed.get(..end).unwrap_or(&[]);
+        let cut = followed(rt, None, in_pieces(part, 1), WIDE)?;
+        let at_once = followed(rt, None, in_pieces(part, MOST), WIDE)?;
+        let failing = Reader {
+            rest: &feed,
+            most: 1,
+            calls: end,
+        };
+        let failed = followed(rt, None, failing, WIDE)?;
+        let is_whole = cut.end.is_ok() && cut.text == whole(rt, None, part)?.text;
+        let is_short = is_fault(&cut.end, FaultCode::Truncated) && cut.text == failed.text;
+        tally.note(rt, "cut ends", is_whole || is_short);
+        tally.note(
+            rt,
+            "cut at once",
+            at_once.text == cut.text && at_once.end == cut.end,
+        );
+        tally.note(rt, "source fails", is_fault(&failed.end, FaultCode::Read));
+        let is_more = before <= failed.text.len() && are_lines_of(&failed.text, &wanted.text);
+        tally.note(rt, "rows stay", is_more);
+        before = failed.text.len();
+    }
+    Ok(())
+}
+
+// A feed, and after it a frame of no kind.
+fn try_fault<R>(rt: &R, tally: &mut Tally, script: &str) -> Result<()>
+where
+    R: AllocGlobal + Eprint + Threads + Wait + Sync,
+{
+    let alloc: Global = rt.alloc();
+    let mut feed = made(alloc, script)?;
+    let wanted = whole(rt, None, &feed)?;
+    feed.push(9)?;
+    let slow = followed(rt, None, in_pieces(&feed, 1), WIDE)?;
+    tally.note(
+        rt,
+        "fault later",
+        is_fault(&slow.end, FaultCode::Kind) && slow.text == wanted.text,
+    );
+    let fast = followed(rt, None, in_pieces(&feed, MOST), WIDE)?;
+    tally.note(
+        rt,
+        "fault at once",
+        is_fault(&fast.end, FaultCode::Kind) && fast.text.is_empty(),
+    );
+    Ok(())
+}
+
+// Twins after a commit: the rows before them are out, where they came in a piece of their own.
+fn try_twins<R>(rt: &R, tally: &mut Tally) -> Result<()>
+where
+    R: AllocGlobal + Eprint + Threads + Wait + Sync,
+{
+    let alloc: Global = rt.alloc();
+    let feed = made(alloc, TWINS_LATER)?;
+    let header = whole(rt, None, &made(alloc, NOTHING)?)?;
+    let slow = followed(rt, None, in_pieces(&feed, 7), WIDE)?;
+    let is_stop = matches!(&slow.end, Err(Fault::Equivocation { .. }));
+    let is_row = slow.text.starts_with(&header.text) && header.text.len() < slow.text.len();
+    tally.note(rt, "twins later", is_stop && is_row);
+    let fast = followed(rt, None, in_pieces(&feed, MOST), WIDE)?;
+    let is_stop = matches!(&fast.end, Err(Fault::Equivocation { .. }));
+    tally.note(rt, "twins at once", is_stop && fast.text.is_empty());
+    Ok(())
+}
+
+// A sink that fails after each byte has exactly the bytes before.
+fn try_sinks<R>(rt: &R, tally: &mut Tally, script: &str) -> Result<()>
+where
+    R: AllocGlobal + Eprint + Threads + Wait + Sync,
+{
+    let alloc: Global = rt.alloc();
+    let feed = made(alloc, script)?;
+    let wanted = whole(rt, None, &feed)?;
+    for calls in 0..wanted.text.len() {
+        let room = Room { most: 1, calls };
+        let left = followed(rt, None, in_pieces(&feed, 7), room)?;
+        let written = calls as u64;
+        let is_failed = left.end == Err(Fault::Write { written });
+        tally.note(
+            rt,
+            "sink fails",
+            is_failed && left.text.as_slice() == wanted.text.get(..calls).unwrap_or(&[]),
+        );
+    }
+    Ok(())
+}
+
+/// All of them.
+pub(crate) fn try_all<R>(rt: &R, tally: &mut Tally) -> Result<()>
+where
+    R: AllocGlobal + Eprint + Threads + Wait + Sync,
+{
+    try_tables(rt, tally)?;
+    try_cuts(rt, tally, TWO_COMMITS)?;
+    try_cuts(rt, tally, TWO_COMMITS_TWO)?;
+    try_fault(rt, tally, TWO_COMMITS)?;
+    try_fault(rt, tally, MISSING)?;
+    try_twins(rt, tally)?;
+    try_sinks(rt, tally, TWO_COMMITS)?;
+    Ok(())
+}
