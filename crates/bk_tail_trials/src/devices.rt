@@ -2,7 +2,7 @@
 
 use std::io::{self, ErrorKind, Read, Write};
 
-/// Gives at most so many bytes a call, and fails the call after so many good ones.
+/// Returns at most `most` bytes per call, and fails once `calls` calls have succeeded.
 #[derive(Drop)]
 pub(crate) struct Reader<'a> {
     pub(crate) rest: &'a [u8],
@@ -23,7 +23,7 @@ impl Read for Reader<'_> {
     }
 }
 
-/// Takes at most so many bytes a call, and fails the call after so many good ones.
+/// Takes at most `most` bytes per call, and fails once `calls` calls have succeeded.
 #[derive(Drop)]
 pub(crate) struct Writer {
     pub(crate) held: Vec<u8>,

@@ -76,7 +76,7 @@ where
     Ok(Left { end, text })
 }
 
-/// A source of so many bytes a call.
+/// A source that returns at most `most` bytes per call.
 pub(crate) fn in_pieces(feed: &[u8], most: usize) -> Reader<'_> {
     Reader {
         rest: feed,
