@@ -4,7 +4,7 @@ use Rattle.bk_base.specs.Feed.{Frame, FeedValue}
 use Rattle.bk_committee.specs.Payload.{CommitteeValue}
 use Rattle.bk_cert.specs.declared.place.CertRef.{CertRef}
 use Rattle.bk_commit.specs.Ordering.{IsCommitted}
-use Rattle.bk_order.specs.Intake.{HasTaken, Taken}
+use Rattle.bk_order.specs.Intake.{HasTaken}
 use Rattle.bk_order.specs.Orders.{AreRoundsOf, AreWaiting, IsOrderOf}
 use Rattle.bk_order.specs.Stops.{HasNoStop}
 use Rattle.bk_rounds.specs.Rounds.{RoundsValue}

@@ -36,7 +36,7 @@ use Rattle.bk_flatten.specs.Order.{IsOrderBack, IsOrder}
 use Rattle.bk_flatten.proofs.Orders.{order_present}
 use Rattle.bk_flatten.proofs.Extended.{order_has_history}
 use Rattle.bk_order.specs.declared.reject.Reject.{Reject}
-use Rattle.bk_order.specs.Frames.{AreCerts, AreBatches, rejects_by, IsRejectOf, AreRejects}
+use Rattle.bk_order.specs.Frames.{AreCerts, AreBatches, id_in, rejects_by, IsRejectOf, AreRejects}
 use Rattle.bk_order.specs.Orders.{Ordered, IsOrderOf, AreWaiting}
 use Rattle.bk_tx.specs.Batches.{transactions_in, transactions_of}
 use Rattle.bk_ledger.specs.Naming.{named_by}
@@ -325,7 +325,7 @@ one_reject k number payload kind.Committee found h = omega (arith, ap length h)
 one_reject k number payload kind.Genesis found h = omega (arith, ap length h)
 one_reject k number payload kind.Certificate found (v, is, e) = by_verdict v e
   where
-    by_verdict : (w : Verdict) → found ≡ rejects_by number w → length found ≤ 1
+    by_verdict : (w : Verdict) → found ≡ rejects_by number (id_in payload) w → length found ≤ 1
     by_verdict (verdict.Good c) f = omega (arith, ap length f)
     by_verdict (verdict.Broken r) f = omega (arith, ap length f)
 one_reject k number payload kind.Batch found h = omega (arith, ap length h)

@@ -1,6 +1,6 @@
 -- What is written of a feed that was closed is its report.
-use Rattle.std.proofs.Common.{◌≡◌, ℕ, ◌+◌, ◌^◌, ◌<◌, ◌≤◌, ◌++◌, List, [], length, take, drop, Option, Some, false, refl, sym, ap, subst, ◌∙◌, arith}
-use Rattle.std.specs.Prelude.{Contains, option_map}
+use Rattle.std.proofs.Common.{◌≡◌, ℕ, ◌+◌, ◌^◌, ◌<◌, ◌≤◌, ◌++◌, List, [], length, take, drop, false, refl, sym, ap, subst, ◌∙◌, arith}
+use Rattle.std.specs.Prelude.{Contains}
 use Rattle.std.proofs.lemmas.List.{length-map, length-drop, take-append-drop}
 use Rattle.std.proofs.lemmas.List.Elements.{Contains-append_right}
 use Rattle.bk_frames.specs.Device.{Device}
@@ -10,7 +10,7 @@ use Rattle.bk_committee.specs.Payload.{CommitteeValue}
 use Rattle.bk_commit.specs.Growth.{IsPartOf}
 use Rattle.bk_cert.specs.declared.place.CertRef.{CertRef}
 use Rattle.bk_order.specs.Frames.{AreRejects}
-use Rattle.bk_order.specs.Intake.{first_later_frame, Taken, HasTaken}
+use Rattle.bk_order.specs.Intake.{first_later_frame, HasTaken}
 use Rattle.bk_order.specs.Orders.{AreWaiting}
 use Rattle.bk_order.specs.Stops.{HasNoStop}
 use Rattle.bk_base.proofs.Accounts.{genesis_few}
@@ -22,7 +22,7 @@ use Rattle.bk_answer.specs.Answers.{IsMadeOf, IsOrderMadeOf, TextIsOut, TextStop
 use Rattle.bk_report.specs.Lines.{text_of}
 use Rattle.bk_tx.specs.Batches.{transactions_of, count_in}
 use Rattle.bk_report.specs.RunLines.{Reading, head_lines, order_lines, batches_lines, ledger_lines, run_lines}
-use Rattle.bk_answer.specs.RunReport.{committee_in, later_frames, Reads, IsReportOf, reach_of, report_text}
+use Rattle.bk_answer.specs.RunReport.{committee_in, later_frames, Reads, reach_of, report_text}
 use Rattle.bk_report.specs.Pages.{PageValue, blank, Puts, Stops}
 use Rattle.bk_answer.proofs.Counting.{few_places, few_named, few_ordered_batches, few_waiting, few_anchors, few_in_order, few_rejects}
 use Rattle.bk_report.proofs.Putting.{all_out, part_out, part_size}

@@ -7,7 +7,8 @@ use Rattle.bk_frames.specs.Pulling.{Refuses}
 use Rattle.bk_results.specs.declared.fault.Fault.{Fault}
 use Rattle.bk_results.specs.declared.fault.Fault.TheVariants as fault
 use Rattle.bk_results.specs.Devices.{AreFeedWith, Devices, IsUntouched, NothingHappened}
-use Rattle.bk_answer.specs.Closed.{ClosedValue, OrderValue, IsClosedFor, IsOrderedFor}
+use Rattle.bk_order.specs.Intake.{Taken}
+use Rattle.bk_answer.specs.Closed.{ClosedValue, OrderValue, IsClosedFor, IsOrderedFor, IsTakenFor}
 use Rattle.bk_answer.specs.RunReport.{HasPlace, IsStopped}
 
 -- ---- a text that is written
@@ -29,6 +30,9 @@ IsMadeOf c feed = IsFeed feed × IsClosedFor feed c
 
 abbrev pub IsOrderMadeOf : OrderValue → FeedValue → Type 0
 IsOrderMadeOf o feed = IsFeed feed × IsOrderedFor feed o
+
+abbrev pub IsTakenOf : Taken → FeedValue → Type 0
+IsTakenOf v feed = IsFeed feed × IsTakenFor feed v
 
 -- the answer of each of these feeds was written, and no call failed
 abbrev pub WritesAnswer : {E : Type 0} → (FeedValue → Type 0) → (FeedValue → E → List ℕ → Type 0) → E → Device → Device → Type 0

@@ -39,6 +39,12 @@ pub record IsExecuted (feed : FeedValue) (o : Ordered) (e : Executed) : Type 0 w
   pub rows : e.rows ≡ state_after feed.version (transactions_of o.payloads.list) (genesis_of feed.frames)
   pub slots : e.slots ≤ length (genesis_of feed.frames) + named_by (transactions_of o.payloads.list)
 
+-- this was taken of all frames of a feed after the genesis, whether something stops the feed or not
+pub record IsTakenFor (feed : FeedValue) (v : Taken) : Type 0 where
+  pub committee : v.committee ≡ committee_in feed
+  pub taken : HasTaken (later_frames feed) v
+  pub works : v.failed ≡ false
+
 -- the order of a feed that ended: its opening accounts, and what was taken of the frames after the genesis
 pub record OrderValue : Type 0 where
   pub opening : List Row

@@ -1,14 +1,15 @@
 //! What a feed answers, whatever is asked of it: what was made of a feed that ended, and the text that is written of it.
 //!
 //! An [`Answer`] reads a [`Closed`] feed, whose batches were executed, an [`OrderAnswer`] a [`ClosedOrder`], of which
-//! only the order was found. Each says by a relation which texts answer it. The runners of `bk_follow` read a feed to its
-//! end, close it, and let one of them write.
+//! only the order was found, and a [`FrameAnswer`] what was taken of the frames of a feed, which may be stopped. Each says
+//! by a relation which texts answer it. The runners of `bk_follow` read a feed to its end, close it, and let one of them
+//! write.
 #![tactic(auto)]
 
 mod answer;
 mod closed;
 mod report;
 
-pub use answer::{Answer, OrderAnswer};
+pub use answer::{Answer, FrameAnswer, OrderAnswer};
 pub use closed::{Closed, ClosedOrder};
 pub use report::Report;

@@ -258,3 +258,7 @@ least_kept held p a h k e = let was : AreIdsOf held a (Some k) (second_at p a) =
 -- a place without an index has no id
 pub none_kept : (held : List Node) (p : Places) (a : CertRef) → ArePlaces held p → first_at p a ≡ None → IsLeastBy id_cmp (IsIdAt held a) None
 none_kept held p a h e = let was : AreIdsOf held a None (second_at p a) = subst (λ o. AreIdsOf held a o (second_at p a)) e (h.ids a) in was.1
+
+-- the id at an index is that of the certificate there
+pub id_there : (held : List Node) (k : ℕ) (d : Node) → k < length held → id_at held k ≡ (get_or held k d).id
+id_there held k d low = get_or-map (λ (c : Node). c.id) held k d [] low

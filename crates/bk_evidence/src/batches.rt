@@ -1,6 +1,6 @@
 //! The batches that are held, by digest.
 
-ghost use Rattle.std.specs.Prelude.{◌≡◌, ◌≢◌, ◌++◌, ◌∷◌, ◌<◌, ◌↔◌, [], length, Contains, IfOk, OnOk, OnErr, None, false, IsOk, IsTrue, MatchOption, option_map, slice_index_or, IfSome};
+ghost use Rattle.std.specs.Prelude.{◌==◌, ◌≡◌, ◌≢◌, ◌++◌, ◌∷◌, ◌<◌, ◌↔◌, [], length, Contains, IfOk, OnOk, OnErr, None, false, IsOk, IsTrue, MatchOption, option_map, slice_index_or, IfSome};
 ghost use Rattle.std.specs.List.{position};
 ghost use Rattle.std.specs.BTreeMap.{get};
 ghost use Rattle.bk_evidence.specs.Batches.{Batch, AreApart, IsBatchCollision, IsBatchOffer, batch_with, batches_after, has_digest, payload_of};
@@ -125,6 +125,28 @@ impl Batches {
     {
         let index = *self.firsts.get(digest)?;
         Some(BatchRef { index })
+    }
+
+    /// How many batches are held.
+    pub fn len(&self) -> usize
+        ensures { result ≡ length self.now }
+    {
+        self.stored.len()
+    }
+
+    /// Whether no batch is held.
+    pub fn is_empty(&self) -> bool
+        ensures { result ≡ (length self.now == 0) }
+    {
+        self.stored.is_empty()
+    }
+
+    /// The digest under which a batch is held.
+    pub fn digest(&self, batch: BatchRef) -> Digest32
+        requires { batch.index < length self.now }
+        ensures { (d : Batch) → result ≡ (slice_index_or self.now batch.index d).digest }
+    {
+        batch_at(&self.stored, batch.index).digest
     }
 
     /// The payload of a batch.

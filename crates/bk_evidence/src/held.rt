@@ -1,10 +1,10 @@
 //! The certificates that are held, by id.
 
-ghost use Rattle.std.specs.Prelude.{◌≡◌, ◌<◌, ◌++◌, ◌∷◌, ◌↔◌, [], length, Contains, IfOk, OnOk, OnErr, None, Some, cond, IsTrue, MatchOption, ℕ, List};
+ghost use Rattle.std.specs.Prelude.{◌≡◌, ◌<◌, ◌++◌, ◌∷◌, ◌↔◌, [], length, Contains, IfOk, OnOk, OnErr, None, Some, cond, IsTrue, MatchOption, IfSome, IfNone, slice_index_or, ℕ, List};
 ghost use Rattle.bk_evidence.specs.Collisions.{id_cmp};
 ghost use Rattle.bk_cert.specs.Node.{Node};
 ghost use Rattle.bk_cert.specs.Place.{place_of};
-ghost use Rattle.bk_evidence.specs.Held.{IsCollision, IsOffer, NoCollision, held_after};
+ghost use Rattle.bk_evidence.specs.Held.{IsCollision, IsNewId, IsOffer, NoCollision, held_after};
 ghost use Rattle.bk_evidence.specs.Twins.{IsEvidence, IsIdAt, NoTwins};
 ghost use Rattle.bk_evidence.specs.Laws.{HaveSame};
 ghost use Rattle.bk_evidence.specs.private.Answers.{offer_of};
@@ -16,7 +16,7 @@ use crate::firsts::first_of;
 use crate::least::least_id;
 use crate::offer::Offer;
 use crate::places::{Places, note};
-use bk_cert::SharedCert;
+use bk_cert::{CertRef, SharedCert};
 use bk_digest::Digest32;
 use std::alloc::{AllocError, Global};
 use std::collections::BTreeMap;
@@ -101,6 +101,32 @@ impl Held {
         }
     }
 
+    /// The certificates, in the order in which they were stored.
+    pub fn certs(&self) -> &[SharedCert]
+        ensures { result.now ≡ self.now }
+    {
+        self.certs.as_slice()
+    }
+
+    /// The first certificate with this id. O(log n) in what is held.
+    pub fn get(&self, id: &Digest32) -> Option<&SharedCert>
+        ensures found { IfSome result (λ c. Contains self.now c.now × (c.now.id ≡ id.now)) }
+        ensures none { IfNone result (IsNewId self.now id.now) }
+    {
+        let index = *self.firsts.get(id)?;
+        Some(cert_at(&self.certs, index))
+    }
+
+    /// A certificate with the least id of a place. O(log n) in what is held.
+    pub fn at(&self, place: CertRef) -> Option<&SharedCert>
+        ensures found { IfSome result (λ c. Contains self.now c.now
+            × IsIdAt self.now place c.now.id) }
+        ensures none { IfNone result ((id : List ℕ) → IsIdAt self.now place id → ⊥) }
+    {
+        let index = *self.places.firsts.get(&place)?;
+        Some(cert_at(&self.certs, index))
+    }
+
     /// The least round and author that has two ids, with its two least ids.
     pub fn evidence(&self) -> Option<Evidence>
         ensures { MatchOption result (NoTwins self.now) (IsEvidence self.now) }
@@ -161,6 +187,14 @@ impl Held {
         offer_all(&mut all, &other.certs)?;
         Ok(all)
     }
+}
+
+// The certificate at an index.
+fn cert_at(certs: &[SharedCert], index: usize) -> &SharedCert
+    requires { index < length certs.now }
+    ensures { (d : Node) → result.now ≡ slice_index_or certs.now index d }
+{
+    &certs[index]
 }
 
 // Offers each of the certificates.

@@ -10,3 +10,4 @@ pub mod OrderSoFar
 pub mod ClosedOrders
 pub mod ComparedBooks
 pub mod Groups
+pub mod Frames

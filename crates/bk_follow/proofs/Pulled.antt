@@ -1,12 +1,10 @@
 -- Pulling a feed in pieces: what has come, and what a refusal says of all bytes.
-use Rattle.std.proofs.Common.{◌≡◌, ℕ, List, [], ◌++◌, Option, Some, None, refl, sym, subst, ◌∙◌}
-use Rattle.std.specs.Prelude.{IfSome}
+use Rattle.std.proofs.Common.{◌≡◌, ℕ, List, [], ◌++◌, refl}
 use Rattle.std.proofs.KnownBytes.{Consumes-nil}
-use Rattle.bk_frames.specs.Device.{Device, IfKnown, GaveAll}
+use Rattle.bk_frames.specs.Device.{Device, GaveAll}
 use Rattle.bk_base.specs.Feed.{Frame}
 use Rattle.bk_frames.specs.Cutting.{CutsInto, frames_in}
 use Rattle.bk_frames.specs.Reading.{IsPulled, Pulls}
-use Rattle.bk_frames.proofs.Pulls.{at_end}
 use Rattle.bk_follow.specs.Follower.{Followed, HasCome}
 use Rattle.bk_follow.specs.private.Gathering.{HasGathered, HasPulled, IsAllOf}
 use Rattle.bk_follow.specs.declared.gathering.Gathered.{Gathered}

@@ -4,8 +4,8 @@ use Rattle.std.specs.Prelude.{IfSome}
 use Rattle.std.proofs.KnownBytes.{Keeps-refl}
 use Rattle.bk_frames.specs.declared.fault.FaultCode.TheVariants as code
 use Rattle.bk_frames.specs.declared.fault.FeedFault.{FeedFault}
-use Rattle.bk_frames.specs.Device.{Device, Works, IfKnown, GaveAll}
-use Rattle.bk_base.specs.Feed.{Frame, FeedValue, IsFeed, feed_of, spelling}
+use Rattle.bk_frames.specs.Device.{Device, Works, GaveAll}
+use Rattle.bk_base.specs.Feed.{FeedValue, IsFeed, feed_of, spelling}
 use Rattle.bk_frames.specs.FirstFault.{HasFault}
 use Rattle.bk_frames.specs.Pulling.{Refuses}
 use Rattle.bk_frames.specs.Cutting.{EndsShort}
@@ -17,7 +17,7 @@ use Rattle.bk_results.specs.Devices.{devices, IsUntouched}
 use Rattle.bk_answer.specs.Answers.{AnswerFailsBy, AnswerIsOut, IsAnswered, IsMadeOf, IsOrderMadeOf, PartIsOut, TextIsOut, TextStops, WritesAnswer, WritesNot}
 use Rattle.bk_answer.specs.Closed.{ClosedValue, OrderValue}
 use Rattle.bk_answer.specs.RunReport.{IsStopIn, IsStopped, HasPlaceIn, HasPlace}
-use Rattle.bk_follow.specs.Follower.{BookValue, Followed, HasCome, IsCurrent, executed_in}
+use Rattle.bk_follow.specs.Follower.{BookValue, Followed, IsCurrent, executed_in}
 use Rattle.bk_follow.specs.Finishing.{OfFeed, Closes, CloseFails, ClosesOrder, CloseOrderFails}
 use Rattle.bk_follow.specs.Ordering.{IsOrdered}
 use Rattle.bk_follow.specs.Queries.{IsClosedBook, order_of}

@@ -1,5 +1,5 @@
 -- What a Follower is to its callers.
-use Rattle.std.specs.Prelude.{◌≡◌, ◌≤◌, ℕ, ◌+◌, false, List, [], ◌∷◌, ◌++◌, length, map, Option, Some, None, IfSome}
+use Rattle.std.specs.Prelude.{◌≡◌, ℕ, ◌+◌, false, List, [], ◌∷◌, ◌++◌, length, Option, Some, None, IfSome}
 use Rattle.bk_base.specs.declared.version.Version.{Version}
 use Rattle.bk_base.specs.declared.genesis.Row.{Row}
 use Rattle.bk_base.specs.Feed.{Frame, FeedValue, feed_of, genesis_of}
@@ -9,11 +9,8 @@ use Rattle.bk_commit.specs.Growth.{IsPartOf}
 use Rattle.bk_order.specs.Intake.{Taken, HasTaken, nothing_ordered}
 use Rattle.bk_order.specs.Orders.{Ordered, IsOrderOf}
 use Rattle.bk_rules.specs.declared.receipt.Receipt.{Receipt}
-use Rattle.bk_rules.specs.Fold.{state_after, receipts_of}
 use Rattle.bk_results.specs.declared.fault.Fault.{Fault}
 use Rattle.bk_results.specs.declared.fault.Fault.TheVariants as fault
-use Rattle.bk_ledger.specs.Naming.{named_by}
-use Rattle.bk_tx.specs.Batches.{count_in, transactions_of}
 use Rattle.bk_answer.specs.Closed.{Executed, IsExecuted}
 use Rattle.bk_answer.specs.RunReport.{committee_in, later_frames, HasNoStopIn, IsOrderIn, IsStopIn, HasPlaceIn}
 

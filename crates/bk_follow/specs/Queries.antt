@@ -3,6 +3,7 @@ use Rattle.std.specs.Prelude.{◌≡◌, ℕ, ◌≤◌, List, [], length, Optio
 use Rattle.bk_base.specs.declared.version.Version.{Version}
 use Rattle.bk_base.specs.declared.genesis.Row.{Row}
 use Rattle.bk_base.specs.Feed.{Frame, feed_of}
+use Rattle.bk_frames.specs.Cutting.{EndsShort}
 use Rattle.bk_results.specs.declared.fault.Fault.{Fault}
 use Rattle.bk_results.specs.declared.fault.Fault.TheVariants as fault
 use Rattle.bk_answer.specs.Closed.{ClosedValue, OrderValue, executed_of}
@@ -50,3 +51,8 @@ IsStopSoFar v stop = OfFrames v (λ feed. IsStopIn feed stop)
 pub record IsClosedBook (b : BookValue) (c : ClosedValue) : Type 0 where
   pub order : c.order ≡ order_of b
   pub executed : b.executed ≡ Some (executed_of c.ledger)
+
+-- why a feed does not end here: its bytes are cut short
+abbrev pub EndsNot : Followed → Fault → Type 0
+EndsNot v (fault.Feed found) = EndsShort v.cut found
+EndsNot v other = ⊥

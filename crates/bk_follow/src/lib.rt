@@ -10,6 +10,7 @@ mod comparing;
 mod differ;
 mod fault;
 mod follower;
+mod framing;
 mod gathering;
 mod opening;
 mod order;
@@ -19,5 +20,6 @@ mod replaying;
 
 pub use answering::{answer_by_ledger, answer_by_order};
 pub use follower::{Follower, is_stop};
+pub use framing::answer_by_frames;
 pub use order::Order;
 pub use replaying::replay;

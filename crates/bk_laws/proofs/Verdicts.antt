@@ -29,7 +29,7 @@ use Rattle.bk_certcheck.proofs.Rules.{last_number, none_below_next, broken_later
 use Rattle.bk_cert.proofs.Lists.{none_in_nil, contains_cases, contains_first, contains_later}
 use Rattle.bk_evidence.specs.Batches.{Batch}
 use Rattle.bk_order.specs.declared.reject.Reject.{Reject}
-use Rattle.bk_order.specs.Frames.{AreCerts, batch_of, AreBatches, certs_by, rejects_by, IsRejectOf, AreRejects}
+use Rattle.bk_order.specs.Frames.{AreCerts, batch_of, AreBatches, certs_by, id_in, rejects_by, IsRejectOf, AreRejects}
 use Rattle.bk_laws.proofs.Deciding.{Decided, decided_any, decided_below, decided_both, decided_by, decided_not, decided_test, same_number}
 
 -- ---- what can be decided of numbers and lists
@@ -237,7 +237,7 @@ batches_exist frames =
 rejects_of : (k : CommitteeValue) (number : ℕ) (payload : List ℕ) (x : Kind) → (found : List Reject) × IsRejectOf k number payload x found
 rejects_of k number payload kind.Committee = ([], refl)
 rejects_of k number payload kind.Genesis = ([], refl)
-rejects_of k number payload kind.Certificate = let v = verdict_exists k payload in (rejects_by number v.0, (v.0, v.1, refl))
+rejects_of k number payload kind.Certificate = let v = verdict_exists k payload in (rejects_by number (id_in payload) v.0, (v.0, v.1, refl))
 rejects_of k number payload kind.Batch = ([], refl)
 
 pub rejects_exist : (k : CommitteeValue) (number : ℕ) (frames : List Frame) → (found : List Reject) × AreRejects k number frames found

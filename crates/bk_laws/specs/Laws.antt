@@ -1,5 +1,5 @@
 -- What the definitions of all crates say together.
-use Rattle.std.specs.Prelude.{◌≡◌, ◌⊎◌, ◌↔◌, ℕ, ◌+◌, ◌^◌, ◌<◌, List, All, Contains, length, Some, slice_get}
+use Rattle.std.specs.Prelude.{◌≡◌, ◌⊎◌, ◌↔◌, ℕ, ◌+◌, ◌^◌, ◌<◌, List, All, Contains, length, Option, Some, slice_get}
 use Rattle.hex.specs.Hex.{encode_lower}
 use Rattle.bk_frames.specs.declared.fault.FeedFault.{FeedFault}
 use Rattle.bk_base.specs.declared.kind.Kind.TheVariants as kind
@@ -9,6 +9,7 @@ use Rattle.bk_base.specs.Numbers.{IsBytes}
 use Rattle.bk_certcheck.specs.declared.rule.Rule.{Rule}
 use Rattle.bk_certcheck.specs.Verdicts.{IsBroken}
 use Rattle.bk_commit.specs.Growth.{IsPrefix, IsPartOf}
+use Rattle.bk_order.specs.Frames.{id_in}
 use Rattle.bk_order.specs.Intake.{first_later_frame}
 use Rattle.bk_order.specs.declared.stop.Stop.{Stop}
 use Rattle.bk_report.specs.Proofs.{IsRow, IsGoodProof}
@@ -119,18 +120,19 @@ HoldsCertificate feed number bytes =
     (i : ℕ) × (number ≡ first_later_frame + i)
     × (slice_get (later_frames feed) i ≡ Some (frame_of kind.Certificate bytes))
 
--- what is rejected is each certificate that breaks a rule, by the number of its frame and the least
--- rule that it breaks, and nothing else
+-- what is rejected is each certificate that breaks a rule, by the number of its frame, the least rule
+-- that it breaks and its id, and nothing else
 abbrev pub RejectedAreBroken : Type 0
-RejectedAreBroken = (feed : FeedValue) (r : Reading) (number : ℕ) (why : Rule) → Reads feed r
-    → Contains r.rejected (record { frame = number; rule = why })
-    ↔ ((bytes : List ℕ) × HoldsCertificate feed number bytes × IsBroken (committee_in feed) bytes why)
+RejectedAreBroken = (feed : FeedValue) (r : Reading) (number : ℕ) (why : Rule) (id : Option (List ℕ)) → Reads feed r
+    → Contains r.rejected (record { frame = number; rule = why; id = id })
+    ↔ ((bytes : List ℕ) × HoldsCertificate feed number bytes × IsBroken (committee_in feed) bytes why
+    × (id ≡ id_in bytes))
 
 -- a feed holds a certificate of these bytes, and it is rejected by this rule
 abbrev pub Rejects : FeedValue → Reading → List ℕ → Rule → Type 0
 Rejects feed r bytes why =
     (number : ℕ) × HoldsCertificate feed number bytes
-    × Contains r.rejected (record { frame = number; rule = why })
+    × Contains r.rejected (record { frame = number; rule = why; id = id_in bytes })
 
 -- what is rejected of a feed is rejected of every larger one, by the same rule
 abbrev pub RejectedStay : Type 0

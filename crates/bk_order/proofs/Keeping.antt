@@ -18,7 +18,7 @@ use Rattle.bk_evidence.specs.Laws.{HaveSame}
 use Rattle.bk_evidence.proofs.Members.{same_itself}
 use Rattle.bk_cert.proofs.Lists.{none_in_nil, contains_cases, contains_first}
 use Rattle.bk_order.specs.declared.reject.Reject.{Reject}
-use Rattle.bk_order.specs.Frames.{IsCertIn, AreCerts, batch_of, IsBatchIn, AreBatches, certs_by, rejects_by, IsRejectOf, AreRejects}
+use Rattle.bk_order.specs.Frames.{IsCertIn, AreCerts, batch_of, IsBatchIn, AreBatches, certs_by, id_in, rejects_by, IsRejectOf, AreRejects}
 use Rattle.bk_order.specs.Intake.{Kept, IsKeptOf, first_later_frame}
 use Rattle.bk_order.specs.Tally.{IsTallyOf}
 
@@ -98,7 +98,7 @@ next_more before f old new e s = let l = length-append before (f ∷ []) in omeg
 
 module _ (k : CommitteeValue) (before : List Frame) (f : Frame) (old new : Kept) (kept : IsKeptOf k before old) (next : new.next ≡ old.next + 1) (tally : IsTallyOf k (before ++ f ∷ []) new.tally) where
   pub kept_certificate : (v : Verdict) → f.kind ≡ kind.Certificate → IsVerdict k f.payload v → HaveSame new.certs (old.certs ++ certs_by v) → new.batches ≡ old.batches
-      → new.rejected ≡ old.rejected ++ rejects_by old.next v → IsKeptOf k (before ++ f ∷ []) new
+      → new.rejected ≡ old.rejected ++ rejects_by old.next (id_in f.payload) v → IsKeptOf k (before ++ f ∷ []) new
   kept_certificate v e h certs batches rejected = record {
     next = next_more before f old.next new.next kept.next next;
     certs = certs_more k before f old.certs (certs_by v) new.certs kept.certs
@@ -107,8 +107,8 @@ module _ (k : CommitteeValue) (before : List Frame) (f : Frame) (old new : Kept)
         certs;
     batches = batches_more before f old.batches [] new.batches kept.batches (λ b t. absurd (none_in_nil b t))
         (no_batches f (λ q. let clash : kind.Certificate ≡ kind.Batch = sym e ∙ q in absurd cc)) (same_nothing new.batches old.batches batches);
-    rejected = subst (AreRejects k first_later_frame (before ++ f ∷ [])) (sym rejected) (rejects_more k first_later_frame before f old.rejected (rejects_by old.next v) kept.rejected
-        (subst (λ (x : Kind). IsRejectOf k (first_later_frame + length before) f.payload x (rejects_by old.next v)) (sym e) (v, h, ap (λ (n : ℕ). rejects_by n v) kept.next)));
+    rejected = subst (AreRejects k first_later_frame (before ++ f ∷ [])) (sym rejected) (rejects_more k first_later_frame before f old.rejected (rejects_by old.next (id_in f.payload) v) kept.rejected
+        (subst (λ (x : Kind). IsRejectOf k (first_later_frame + length before) f.payload x (rejects_by old.next (id_in f.payload) v)) (sym e) (v, h, ap (λ (n : ℕ). rejects_by n (id_in f.payload) v) kept.next)));
     tally = tally;
   }
 

@@ -32,7 +32,7 @@ use Rattle.bk_flatten.proofs.Orders.{order_present}
 use Rattle.bk_order.specs.declared.reject.Reject.{Reject}
 use Rattle.bk_order.specs.declared.stop.Stop.{Stop}
 use Rattle.bk_order.specs.declared.stop.Stop.TheVariants as stop
-use Rattle.bk_order.specs.Frames.{AreCerts, AreBatches, IsRejectOf, AreRejects, rejects_by}
+use Rattle.bk_order.specs.Frames.{AreCerts, AreBatches, IsRejectOf, AreRejects, id_in, rejects_by}
 use Rattle.bk_order.specs.Orders.{Ordered, ordered_with, IsOrderOf, AreWaiting}
 use Rattle.bk_order.specs.Stops.{CollidesIn, IsStop, HasNoStop}
 use Rattle.bk_order.proofs.Sets.{clear_of, apart_of, frames_grow}
@@ -55,7 +55,7 @@ none_is_some x e = absurd cc
 one_reject : (k : CommitteeValue) (number : ℕ) (payload : List ℕ) (x : Kind) (one other : List Reject) → IsRejectOf k number payload x one → IsRejectOf k number payload x other → one ≡ other
 one_reject k number payload kind.Committee one other h g = h ∙ sym g
 one_reject k number payload kind.Genesis one other h g = h ∙ sym g
-one_reject k number payload kind.Certificate one other (v, is, e) (w, has, f) = e ∙ ap (rejects_by number) (one_verdict k payload v w is has) ∙ sym f
+one_reject k number payload kind.Certificate one other (v, is, e) (w, has, f) = e ∙ ap (rejects_by number (id_in payload)) (one_verdict k payload v w is has) ∙ sym f
 one_reject k number payload kind.Batch one other h g = h ∙ sym g
 
 pub one_rejects : (k : CommitteeValue) (number : ℕ) (frames : List Frame) (one other : List Reject) → AreRejects k number frames one → AreRejects k number frames other → one ≡ other

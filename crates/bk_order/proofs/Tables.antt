@@ -1,5 +1,5 @@
 -- The table with one more frame.
-use Rattle.std.proofs.Common.{◌≡◌, ℕ, ◌+◌, ◌<◌, ◌^◌, Bool, true, false, List, [], ◌∷◌, ◌++◌, length, refl, sym, ap, subst, ◌∙◌, arith, append_assoc}
+use Rattle.std.proofs.Common.{◌≡◌, ℕ, ◌+◌, ◌<◌, ◌^◌, Bool, true, false, List, [], ◌∷◌, ◌++◌, length, Option, None, refl, sym, ap, subst, ◌∙◌, arith, append_assoc}
 use Rattle.std.specs.List.{AllZip}
 use Rattle.std.proofs.lemmas.List.{append-nil}
 use Rattle.bk_base.specs.declared.kind.Kind.{Kind}
@@ -7,6 +7,9 @@ use Rattle.bk_base.specs.declared.kind.Kind.TheVariants as kind
 use Rattle.bk_base.specs.Feed.{Frame}
 use Rattle.bk_committee.specs.Payload.{CommitteeValue}
 use Rattle.bk_certcheck.specs.declared.verdict.Verdict.{Verdict}
+use Rattle.bk_certcheck.specs.declared.verdict.Verdict.TheVariants as verdict
+use Rattle.bk_certcheck.specs.declared.rule.Rule.{Rule}
+use Rattle.bk_certcheck.specs.Verdicts.{IsVerdict}
 use Rattle.bk_commit.specs.Growth.{IsPartOf, IsPrefix}
 use Rattle.bk_evidence.specs.Batches.{Batch, batch_with, IsBatchOffer, batches_after}
 use Rattle.bk_evidence.specs.declared.batches.BatchOffer.{BatchOffer}
@@ -17,13 +20,16 @@ use Rattle.bk_order.specs.declared.judging.Digested.{Digested}
 use Rattle.bk_order.specs.declared.judging.Judged.{Judged}
 use Rattle.bk_order.specs.declared.judging.Judged.TheVariants as judged
 use Rattle.bk_order.specs.declared.table.Table.{Table}
-use Rattle.bk_order.specs.Frames.{certs_by, rejects_by}
+use Rattle.bk_cert.specs.Node.{Node}
+use Rattle.bk_order.specs.Frames.{certs_by, id_in, rejects_by}
+use Rattle.bk_order.specs.declared.reject.Reject.{Reject}
 use Rattle.bk_order.specs.Intake.{IsKeptOf}
 use Rattle.bk_order.specs.private.Judging.{IsJudged, IsOther}
 use Rattle.bk_order.specs.private.Joined.{GoesOn, IsJoined, IsKeeping, kept_in}
 use Rattle.bk_order.specs.declared.tally.Tally.{Tally}
 use Rattle.bk_order.specs.private.Tallies.{CountsBatch, CountsVerdict, HasRoom, IsNewDigest}
-use Rattle.bk_order.proofs.Keeping.{kept_certificate, kept_batch, kept_other}
+use Rattle.bk_rounds.specs.Rounds.{RoundsValue}
+use Rattle.bk_order.proofs.Keeping.{same_nothing, kept_certificate, kept_batch, kept_other}
 use Rattle.bk_order.proofs.Tallying.{batch_tallied, other_tallied, tally_has_room, verdict_tallied}
 
 -- the frame is counted
@@ -44,17 +50,37 @@ pub record Keeps (k : CommitteeValue) (old mid : Table) (one : Judged) : Type 0 
   pub next : mid.next + 1 ≡ old.next + 1
   pub kept : (f : Frame) (before : List Frame) → IsJudged k f one → IsKeptOf k before (kept_in old) → IsKeptOf k (before ++ f ∷ []) (kept_in (tick mid))
 
-pub cert_keeps : (k : CommitteeValue) (old mid : Table) (one : Judged) (v : Verdict) → one ≡ judged.Certificate v → IsJoined k old.held old.rounds → IsJoined k mid.held mid.rounds
+-- the frame holds a certificate with this verdict, and with this id where it is rejected
+abbrev pub IsCertJudged : CommitteeValue → Frame → Verdict → ℕ → Option (List ℕ) → Type 0
+IsCertJudged k f v number id = (f.kind ≡ kind.Certificate) × IsVerdict k f.payload v × (rejects_by number id v ≡ rejects_by number (id_in f.payload) v)
+
+pub good_judged : (k : CommitteeValue) (one : Judged) (c : Node) (number : ℕ) → one ≡ judged.Good c → (f : Frame) → IsJudged k f one → IsCertJudged k f (verdict.Good c) number None
+good_judged k one c number e f j = let is : IsJudged k f (judged.Good c) = subst (IsJudged k f) e j in (is.0, is.1, refl)
+
+pub broken_judged : (k : CommitteeValue) (one : Judged) (r : Rule) (id : Option (List ℕ)) (number : ℕ) → one ≡ judged.Broken r id → (f : Frame) → IsJudged k f one → IsCertJudged k f (verdict.Broken r) number id
+broken_judged k one r id number e f j = let is : IsJudged k f (judged.Broken r id) = subst (IsJudged k f) e j in (is.0, is.1, ap (λ (i : Option (List ℕ)). rejects_by number i (verdict.Broken r)) is.2)
+
+pub cert_keeps : (k : CommitteeValue) (old mid : Table) (one : Judged) (v : Verdict) (id : Option (List ℕ)) → ((f : Frame) → IsJudged k f one → IsCertJudged k f v old.next id) → IsJoined k old.held old.rounds → IsJoined k mid.held mid.rounds
     → mid.next ≡ old.next → IsPartOf old.rounds.held mid.rounds.held → mid.batches ≡ old.batches → HaveSame mid.held (old.held ++ certs_by v)
-    → mid.rejected.items ≡ old.rejected.items ++ rejects_by old.next v → old.next + 1 < 2 ^ 64 → CountsVerdict old.held old.tally mid.tally v → Keeps k old mid one
-cert_keeps k old mid one v e before after next rounds batches certs rejected few counts = record {
+    → mid.rejected.items ≡ old.rejected.items ++ rejects_by old.next id v → old.next + 1 < 2 ^ 64 → CountsVerdict old.held old.tally mid.tally v → Keeps k old mid one
+cert_keeps k old mid one v id is_cert before after next rounds batches certs rejected few counts = record {
   joined = after;
   goes_on = record { rounds = rounds; sizes = after.sizes ∙ sym before.sizes; batches = ([], batches ∙ sym (append-nil old.batches)) };
   next = ap (λ (n : ℕ). n + 1) next;
-  kept = λ f fs j h. let is : IsJudged k f (judged.Certificate v) = subst (IsJudged k f) e j in
+  kept = λ f fs j h. let is : IsCertJudged k f v old.next id = is_cert f j in
       kept_certificate k fs f (kept_in old) (kept_in (tick mid)) h (ap (λ (n : ℕ). n + 1) next)
-      (verdict_tallied k fs f old.tally h.tally old.held mid.tally v h.certs (room_for k fs old h few) is.0 is.1 counts) v is.0 is.1 certs batches rejected;
+      (verdict_tallied k fs f old.tally h.tally old.held mid.tally v h.certs (room_for k fs old h few) is.0 is.1 counts) v is.0 is.1 certs batches (rejected ∙ ap (λ (rs : List Reject). old.rejected.items ++ rs) is.2);
 }
+
+-- what is rejected is held neither as a certificate nor as a batch
+pub broken_keeps : (k : CommitteeValue) (old mid : Table) (one : Judged) (r : Rule) (id : Option (List ℕ)) → one ≡ judged.Broken r id → IsJoined k old.held old.rounds
+    → mid.next ≡ old.next → mid.rounds ≡ old.rounds → mid.batches ≡ old.batches → mid.held ≡ old.held
+    → mid.rejected.items ≡ old.rejected.items ++ rejects_by old.next id (verdict.Broken r) → old.next + 1 < 2 ^ 64 → CountsVerdict old.held old.tally mid.tally (verdict.Broken r) → Keeps k old mid one
+broken_keeps k old mid one r id e joined next rounds batches held rejected few counts =
+    cert_keeps k old mid one (verdict.Broken r) id (broken_judged k one r id old.next e) joined
+    (subst (λ (p : List Node × RoundsValue). IsJoined k p.0 p.1) (λ j. (sym held j, sym rounds j)) joined) next
+    (subst (λ (t : RoundsValue). IsPartOf old.rounds.held t.held) (sym rounds) (λ c h. h)) batches
+    (same_nothing mid.held old.held held) rejected few counts
 
 pub batch_keeps : (k : CommitteeValue) (old : Table) (bs : List Batch) (tally : Tally) (one : Judged) (b : Digested) → one ≡ judged.Batch b → IsJoined k old.held old.rounds
     → HaveSame bs (old.batches ++ batch_with b.digest b.payload.items ∷ []) → IsPrefix old.batches bs → old.next + 1 < 2 ^ 64 → CountsBatch old.batches old.tally tally b.digest

@@ -21,6 +21,7 @@ use bk_base::Kind;
 use bk_cert::CertRef;
 use bk_committee::Committee;
 use bk_digest::Digest32;
+use bk_evidence::{Batches, Held};
 use bk_rounds::Rounds;
 use std::alloc::{AllocError, Global};
 use std::marker::Model;
@@ -154,6 +155,20 @@ impl Intake {
         ensures { result ≡ self.now.kept.tally }
     {
         self.table.tally
+    }
+
+    /// The good certificates, each once, those of collisions and twins too.
+    pub fn held(&self) -> &Held
+        ensures { result.now ≡ self.now.kept.certs }
+    {
+        &self.table.held
+    }
+
+    /// The batches, each once, those of collisions too.
+    pub fn stored(&self) -> &Batches
+        ensures { result.now ≡ self.now.kept.batches }
+    {
+        &self.table.batches
     }
 
     /// The stop of the frames so far, if they have one.

@@ -6,12 +6,14 @@ ghost use Rattle.bk_committee.specs.Payload.{CommitteeValue};
 ghost use Rattle.bk_base.specs.declared.kind.Kind.{Kind};
 ghost use Rattle.bk_base.specs.Feed.{frame_of};
 ghost use Rattle.bk_frames.specs.Cutting.{frames_in};
+ghost use Rattle.bk_order.specs.Frames.{id_in};
 ghost use Rattle.bk_order.specs.private.Judging.{IsFound, IsJudged};
 
 use crate::finding::{Found, find_part};
 use crate::parts::{bytes_in, is_worth, parts_of};
 use bk_base::Kind;
-use bk_certcheck::Verdict;
+use bk_cert::{CertView, id_of_bytes};
+use bk_certcheck::{Checked, Rule, Verdict};
 use bk_committee::Committee;
 use bk_digest::Digest32;
 use rayon::current_num_threads;
@@ -32,8 +34,10 @@ pub(crate) struct Digested {
 /// A frame as it is judged.
 #[derive(Drop)]
 pub(crate) enum Judged {
-    /// The verdict on a certificate.
-    Certificate(Verdict),
+    /// A certificate that breaks no rule.
+    Good(Checked),
+    /// The least rule that the bytes of a certificate break, and its id where they are one.
+    Broken(Rule, Option<Digest32>),
     /// A batch.
     Batch(Digested),
     /// A committee or a genesis. Nothing of it is held.
@@ -100,13 +104,24 @@ fn find_all(
     Ok(out)
 }
 
+// The id of the certificate that the bytes encode.
+fn id_in(payload: &[u8]) -> Option<Digest32>
+    ensures { result ≡ id_in payload.now }
+{
+    let view = CertView::of(payload)?;
+    Some(id_of_bytes(view.header_bytes()))
+}
+
 // A frame with its payload, as it was found to be.
 fn with_payload(found: Found, payload: Vec<u8>) -> Judged
     ensures { (k : CommitteeValue) (kind : Kind) → IsFound k (frame_of kind payload.items) found
         → IsJudged k (frame_of kind payload.items) result }
 {
     match found {
-        Found::Certificate(verdict) => Judged::Certificate(verdict),
+        Found::Certificate(verdict) => match verdict {
+            Verdict::Good(good) => Judged::Good(good),
+            Verdict::Broken(rule) => Judged::Broken(rule, id_in(&payload)),
+        },
         Found::Batch(digest) => Judged::Batch(Digested { digest, payload }),
         Found::Other => Judged::Other,
     }

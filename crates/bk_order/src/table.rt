@@ -4,12 +4,13 @@ ghost use Rattle.std.specs.Prelude.{◌≡◌, ◌++◌, ◌∷◌, ℕ, ◌+◌
 ghost use Rattle.std.specs.List.{AllZip};
 ghost use Rattle.bk_committee.specs.Payload.{sizes_of};
 ghost use Rattle.bk_base.specs.Feed.{Frame};
-ghost use Rattle.bk_certcheck.specs.Verdicts.{IsGood, IsVerdict};
+ghost use Rattle.bk_certcheck.specs.Verdicts.{IsGood};
+ghost use Rattle.bk_certcheck.specs.declared.verdict.Verdict.TheVariants as verdict;
 ghost use Rattle.bk_rounds.specs.Rounds.{rounds_with};
 ghost use Rattle.bk_commit.specs.Growth.{IsPrefix, IsPartOf};
 ghost use Rattle.bk_evidence.specs.Laws.{HaveSame};
 ghost use Rattle.bk_evidence.specs.Batches.{batch_with};
-ghost use Rattle.bk_order.specs.Frames.{certs_by, rejects_by};
+ghost use Rattle.bk_order.specs.Frames.{rejects_by};
 ghost use Rattle.bk_order.specs.Intake.{IsKeptOf, first_later_frame};
 ghost use Rattle.bk_order.specs.private.Judging.{IsJudged};
 ghost use Rattle.bk_order.specs.private.Tallies.{CountsVerdict, IsNewDigest, IsNewId};
@@ -19,8 +20,9 @@ use crate::judging::{Digested, Judged};
 use crate::reject::Reject;
 use crate::tally::Tally;
 use bk_cert::SharedCert;
-use bk_certcheck::{Checked, Verdict};
+use bk_certcheck::{Checked, Rule};
 use bk_committee::Committee;
+use bk_digest::Digest32;
 use bk_evidence::{BatchOffer, Batches, Held, Offer};
 use bk_rounds::Rounds;
 use std::alloc::{AllocError, Global};
@@ -82,38 +84,46 @@ fn hold(
     }
 }
 
-// Keeps the verdict on a certificate, which the frame with this number holds.
-fn keep_verdict(
+// Keeps a certificate that breaks no rule.
+fn keep_good(
     alloc: Global,
     committee: &Committee,
     table: &mut Table,
-    verdict: Verdict,
+    good: Checked,
 ) -> Result<(), AllocError>
     requires joined { IsJoined committee.now table.old.held table.old.rounds }
-    requires judged { (bytes : List ℕ) × IsVerdict committee.now bytes verdict }
+    requires judged { (bytes : List ℕ) × IsGood committee.now bytes good }
     ensures joined { OnOk result (IsJoined committee.now table.new.held table.new.rounds) }
     ensures next { OnOk result (table.new.next ≡ table.old.next) }
     ensures rounds { OnOk result (IsPartOf table.old.rounds.held table.new.rounds.held) }
     ensures batches { OnOk result (table.new.batches ≡ table.old.batches) }
-    ensures certs { OnOk result (HaveSame table.new.held (table.old.held ++ certs_by verdict)) }
-    ensures rejected { OnOk result (table.new.rejected.items
-        ≡ table.old.rejected.items ++ rejects_by table.old.next verdict) }
+    ensures certs { OnOk result (HaveSame table.new.held (table.old.held ++ good ∷ [])) }
+    ensures rejected { OnOk result (table.new.rejected.items ≡ table.old.rejected.items) }
     ensures tally { OnOk result
-        (CountsVerdict table.old.held table.old.tally table.new.tally verdict) }
+        (CountsVerdict table.old.held table.old.tally table.new.tally (verdict.Good good)) }
 {
-    match verdict {
-        Verdict::Good(good) => {
-            let new = hold(alloc, committee, &mut table.held, &mut table.rounds, good)?;
-            table.tally = table.tally.with_good(new);
-        }
-        Verdict::Broken(rule) => {
-            table.rejected.push(Reject {
-                frame: table.next,
-                rule,
-            })?;
-            table.tally = table.tally.with_broken();
-        }
-    }
+    let new = hold(alloc, committee, &mut table.held, &mut table.rounds, good)?;
+    table.tally = table.tally.with_good(new);
+    Ok(())
+}
+
+// Keeps that the certificate of the frame with the next number breaks this rule.
+fn keep_broken(table: &mut Table, rule: Rule, id: Option<Digest32>) -> Result<(), AllocError>
+    ensures next { table.new.next ≡ table.old.next }
+    ensures rounds { table.new.rounds ≡ table.old.rounds }
+    ensures batches { table.new.batches ≡ table.old.batches }
+    ensures certs { table.new.held ≡ table.old.held }
+    ensures rejected { OnOk result (table.new.rejected.items
+        ≡ table.old.rejected.items ++ rejects_by table.old.next id (verdict.Broken rule)) }
+    ensures tally { OnOk result
+        (CountsVerdict table.old.held table.old.tally table.new.tally (verdict.Broken rule)) }
+{
+    table.rejected.push(Reject {
+        frame: table.next,
+        rule,
+        id,
+    })?;
+    table.tally = table.tally.with_broken();
     Ok(())
 }
 
@@ -148,7 +158,8 @@ fn keep(
         → IsKeptOf committee.now (before ++ f ∷ []) (kept_in table.new)) }
 {
     match one {
-        Judged::Certificate(verdict) => keep_verdict(alloc, committee, table, verdict)?,
+        Judged::Good(good) => keep_good(alloc, committee, table, good)?,
+        Judged::Broken(rule, id) => keep_broken(table, rule, id)?,
         Judged::Batch(batch) => {
             let new = keep_batch(&mut table.batches, batch)?;
             table.tally = table.tally.with_batch(new);

@@ -46,6 +46,9 @@ all_put a b p q lines i le before = (before.works, subst (λ (t : List Line). Pu
 pub line_of_item : {A : Type 0} (line_of : A → Line) (xs : List A) (i : ℕ) (d : A) → i < length xs → slice_get (map line_of xs) i ≡ Some (line_of (get_or xs i d))
 line_of_item line_of xs i d lt = slice_get-map line_of xs i ∙ ap (option_map line_of) (slice_get-get_or xs i d lt)
 
+pub line_of_this : {A : Type 0} (line_of : A → Line) (xs : List A) (i : ℕ) (x : A) → i < length xs → x ≡ get_or xs i x → slice_get (map line_of xs) i ≡ Some (line_of x)
+line_of_this line_of xs i x lt is = line_of_item line_of xs i x lt ∙ ap (λ y. Some (line_of y)) (sym is)
+
 pub all_items : {A : Type 0} (line_of : A → Line) (xs : List A) (i : ℕ) → length xs ≤ i → length (map line_of xs) ≤ i
 all_items line_of xs i le = omega (arith, length-map xs line_of)
 

@@ -29,7 +29,8 @@ pub fn put_rejects<K: Sink>(
     ensures size { OnOk result (size_of page.new ≤ size_of page.old + 96 * length rejected.now) }
 {
     for reject in rejected {
-        let Reject { frame, rule } = *reject;
+        let frame = reject.frame;
+        let rule = reject.rule;
         page.put(sink, Line::Reject { frame, rule })?;
     }
     Ok(())

@@ -7,8 +7,8 @@ use Rattle.bk_base.specs.declared.kind.Kind.TheVariants as kind
 use Rattle.bk_base.specs.Feed.{Frame}
 use Rattle.bk_committee.specs.Payload.{CommitteeValue}
 use Rattle.bk_certcheck.specs.declared.verdict.Verdict.{Verdict}
-use Rattle.bk_certcheck.specs.Verdicts.{IsVerdict}
-use Rattle.bk_order.specs.Frames.{certificates_in, batches_in}
+use Rattle.bk_certcheck.specs.Verdicts.{IsBroken, IsGood, IsVerdict}
+use Rattle.bk_order.specs.Frames.{certificates_in, batches_in, id_in}
 use Rattle.bk_order.specs.declared.finding.Found.{Found}
 use Rattle.bk_order.specs.declared.finding.Found.TheVariants as found
 use Rattle.bk_order.specs.declared.judging.Judged.{Judged}
@@ -29,7 +29,8 @@ IsFound k f found.Other = IsOther f.kind
 
 -- what a frame is found to be
 abbrev pub IsJudged : CommitteeValue → Frame → Judged → Type 0
-IsJudged k f (judged.Certificate v) = (f.kind ≡ kind.Certificate) × IsVerdict k f.payload v
+IsJudged k f (judged.Good c) = (f.kind ≡ kind.Certificate) × IsGood k f.payload c
+IsJudged k f (judged.Broken r id) = (f.kind ≡ kind.Certificate) × IsBroken k f.payload r × (id ≡ id_in f.payload)
 IsJudged k f (judged.Batch one) =
     (f.kind ≡ kind.Batch) × (one.digest ≡ sha256 f.payload) × (one.payload.items ≡ f.payload)
 IsJudged k f judged.Other = IsOther f.kind

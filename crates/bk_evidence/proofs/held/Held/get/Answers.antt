@@ -1,0 +1,18 @@
+use Rattle.std.proofs.Common.{ap, sym, ◌∙◌}
+use Rattle.bk_cert.specs.Node.{Node}
+use Rattle.bk_evidence.proofs.Indexing.{indexed_at, indexed_none}
+use Rattle.bk_evidence.proofs.held.Held.get.Goals as goal
+
+pub returns-in_err-index-clause-none : goal.returns-in_err-index-clause-none
+returns-in_err-index-clause-none c = rw (c.from_residual.ensures, ← c.self.view_is)
+    (indexed_none (λ (d : Node). d.id) c.self.inside.certs.items c.self.inside.firsts c.self.invariant.0.0 c.args.id.now (sym c.in_err-index.ensures.value))
+
+pub cert_at-requires : goal.cert_at-requires
+cert_at-requires c = rw c.deref.ensures.value (indexed_at (λ (d : Node). d.id) c.self.inside.certs.items c.self.inside.firsts c.self.invariant.0.0 c.args.id.now c.in_ok-index.field-0.now (sym c.in_ok-index.ensures.value)).0
+
+pub returns-clause-found : goal.returns-clause-found
+returns-clause-found c =
+    let at = indexed_at (λ (d : Node). d.id) c.self.inside.certs.items c.self.inside.firsts c.self.invariant.0.0 c.args.id.now c.in_ok-index.field-0.now (sym c.in_ok-index.ensures.value) in
+    let here = rw c.deref.ensures.value at (λ (d : Node). c.cert_at.ensures d) in
+    rw (← c.self.view_is)
+    ((c.in_ok-index.field-0.now, at.0, sym (here c.cert_at.result.now)), ap (λ (n : Node). n.id) (here c.cert_at.result.now) ∙ at.1 c.cert_at.result.now)
