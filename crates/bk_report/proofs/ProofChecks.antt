@@ -1,5 +1,5 @@
 -- What a check of a proof's text comes to.
-use Rattle.std.proofs.Common.{◌≡◌, ℕ, ◌<◌, ◌≤◌, List, length, Bool, Some, sym, subst}
+use Rattle.std.proofs.Common.{◌≡◌, ℕ, ◌<◌, ◌≤◌, List, length, Bool, true, false, Some, sym, ap, subst, ◌∙◌}
 use Rattle.std.specs.Prelude.{IsTrue, ◌↔◌}
 use Rattle.hex.specs.Hex.{encode_lower}
 use Rattle.bk_digest.specs.Digest.{tagged_of}
@@ -26,3 +26,10 @@ spelled_root root text q found good =
 -- the proof that was read shows it
 pub shows_good : (root text : List ℕ) (q : ProofValue) → IsProofValue q → text ≡ proof_text q → length text ≤ most_proof → root ≡ encode_lower q.state → Leads q → IsGoodProof root text
 shows_good root text q valid spelled short root_is leads = record { proof = q; valid = valid; spelled = spelled; short = short; root_is = root_is; inside = leads.0; leads = leads.1 }
+
+pub not_led : (b : Bool) → b ≡ false → IsTrue b → ⊥
+not_led b is_no is = absurd (let e : true ≡ false = sym is ∙ is_no in cc)
+
+-- a proof that the text is has the account of the one that was read
+pub account_of_text : (root text : List ℕ) (q : ProofValue) → ((p : ProofValue) → IsProofValue p → text ≡ proof_text p → q ≡ p) → (g : IsGoodProof root text) → g.proof.account ≡ q.account
+account_of_text root text q found g = ap (λ (p : ProofValue). p.account) (sym (found g.proof g.valid g.spelled))

@@ -78,3 +78,11 @@ pub record IsGoodProof (root text : List ℕ) : Type 0 where
   pub root_is : root ≡ encode_lower proof.state
   pub inside : proof.index < proof.size
   pub leads : climb (tagged_of 0x00 (row_text proof.account)) proof.index proof.size proof.path ≡ Some proof.state
+
+-- each proof of the state that the text is has this account, and the text is one
+abbrev pub ShowsAccount : List ℕ → List ℕ → Row → Type 0
+ShowsAccount root text row = IsGoodProof root text × ((g : IsGoodProof root text) → g.proof.account ≡ row)
+
+-- a text is that of a proof of a state, and the proof is of the account with this id
+abbrev pub IsGoodProofOf : List ℕ → ℕ → List ℕ → Type 0
+IsGoodProofOf root id text = (g : IsGoodProof root text) × (g.proof.account.id ≡ id)

@@ -17,7 +17,7 @@ mod report;
 mod rows;
 mod sheets;
 
-pub use checking::{MOST_PROOF, check_proof};
+pub use checking::{MOST_PROOF, check_proof, check_proof_of};
 pub use groups::{
     put_accounts, put_anchors, put_batches, put_certs, put_receipts, put_rejects, put_waiting,
 };
