@@ -17,6 +17,7 @@ mod job;
 mod job_fault;
 mod line;
 mod list_fault;
+mod making;
 mod more_help;
 mod notes;
 mod parsing;

@@ -7,7 +7,8 @@ ghost use Rattle.bk_cli.specs.CommandLine.{AreNotesOf, IsJobOf, IsOfValues, comm
 ghost use Rattle.bk_cli.specs.Files.{reads_input_twice};
 
 use crate::commands::command;
-use crate::job::{Job, job_of, sole};
+use crate::job::{Job, sole};
+use crate::making::job_of;
 use crate::notes::Notes;
 use crate::verb::Verb;
 use clap::error::ErrorKind;

@@ -3,7 +3,7 @@ use Rattle.std.proofs.Common.{subst, codes, Option, refl}
 use Rattle.clap.proofs.WalkLemmas.{one_text-rows}
 use Rattle.clap.specs.Words.{Text, found_of}
 use Rattle.bk_cli.specs.CommandLine.{IsChosenBy}
-use Rattle.bk_cli.proofs.job.dag_of.Goals as goal
+use Rattle.bk_cli.proofs.making.dag_of.Goals as goal
 
 pub returns : goal.returns
 returns c =

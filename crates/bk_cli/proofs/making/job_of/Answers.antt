@@ -4,7 +4,7 @@ use Rattle.clap.proofs.WalkLemmas.{first_value-rows, one_text-rows}
 use Rattle.clap.specs.Words.{Text, found_of}
 use Rattle.bk_cli.specs.CommandLine.{AreNamedBy, IsNumberBy, word_of}
 use Rattle.bk_cli.proofs.WordLemmas.{named_by_usual}
-use Rattle.bk_cli.proofs.job.job_of.Goals as goal
+use Rattle.bk_cli.proofs.making.job_of.Goals as goal
 
 pub returns-in-Run : goal.returns-in-Run
 returns-in-Run c =

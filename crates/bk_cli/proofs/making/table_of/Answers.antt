@@ -8,7 +8,7 @@ use Rattle.bk_cli.specs.declared.view.Table.{Table}
 use Rattle.bk_cli.specs.declared.view.Table.TheVariants as table
 use Rattle.bk_cli.specs.declared.view.View.{View}
 use Rattle.bk_cli.proofs.WordLemmas.{named_by_usual}
-use Rattle.bk_cli.proofs.job.table_of.Goals as goal
+use Rattle.bk_cli.proofs.making.table_of.Goals as goal
 
 -- without a list all rows are shown
 whole_at : (t : Table) (rows : List Row) (v : View) → v ≡ view_of t → first_of (codes "accounts") rows ≡ None → IsAtEndFor t rows → IsViewAt (word_of (verb_of t)) rows v

@@ -2,7 +2,7 @@
 use Rattle.std.proofs.Common.{◌∙◌, ap, codes, Option, unwrap_or, [], refl}
 use Rattle.clap.proofs.WalkLemmas.{first_value-rows}
 use Rattle.clap.specs.Words.{Text, found_of}
-use Rattle.bk_cli.proofs.job.compare_of.Goals as goal
+use Rattle.bk_cli.proofs.making.compare_of.Goals as goal
 
 pub returns : goal.returns
 returns c =

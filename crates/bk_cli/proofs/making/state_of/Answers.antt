@@ -6,7 +6,7 @@ use Rattle.clap.specs.Words.{Text, first_value, found_of}
 use Rattle.bk_digest.specs.Digest.{IsHexDigest}
 use Rattle.bk_cli.specs.CommandLine.{AreNamedBy}
 use Rattle.bk_cli.proofs.WordLemmas.{named_by_usual}
-use Rattle.bk_cli.proofs.job.state_of.Goals as goal
+use Rattle.bk_cli.proofs.making.state_of.Goals as goal
 
 none_is_not_some : {X : Type 0} (o : Option X) → o ≡ None → IsSome o → ⊥
 none_is_not_some o is some = absurd (let none = subst IsSome is some in cc)

@@ -4,7 +4,7 @@ use Rattle.clap.proofs.WalkLemmas.{first_value-rows, one_text-rows}
 use Rattle.clap.specs.Words.{Text, found_of}
 use Rattle.bk_cli.specs.CommandLine.{AreNamedBy}
 use Rattle.bk_cli.proofs.WordLemmas.{named_by_usual}
-use Rattle.bk_cli.proofs.job.report_of.Goals as goal
+use Rattle.bk_cli.proofs.making.report_of.Goals as goal
 
 pub returns : goal.returns
 returns c =

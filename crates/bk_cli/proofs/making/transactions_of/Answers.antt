@@ -4,7 +4,7 @@ use Rattle.clap.proofs.WalkLemmas.{one_text-rows}
 use Rattle.clap.specs.Words.{Text, found_of, one_of, rows_of}
 use Rattle.bk_cli.specs.Files.{names_input}
 use Rattle.bk_cli.specs.CommandLine.{IsOn}
-use Rattle.bk_cli.proofs.job.transactions_of.Goals as goal
+use Rattle.bk_cli.proofs.making.transactions_of.Goals as goal
 
 either_way : {A B C D : Type 0} → (A → C) → (B → D) → A ⊎ B → C ⊎ D
 either_way f g (inl a) = inl (f a)
