@@ -1,0 +1,6 @@
+pub mod Lines
+pub mod Waiting
+pub mod Missing
+pub mod Evidence
+pub mod Answers
+pub mod Laws

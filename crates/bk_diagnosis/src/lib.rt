@@ -1,0 +1,10 @@
+//! What is wrong with a feed: what keeps the certificates that wait from being admitted, which batches its order lacks, and
+//! all evidence of collisions and twins.
+//!
+//! [`Waiting`] and [`Missing`] are answers of a feed whose order was found, and [`Evidence`] is one of the frames of a feed
+//! that may be stopped. Each ends with whether it has a line.
+#![tactic(auto)]
+
+mod line;
+
+pub use line::{Line, push_lines};
