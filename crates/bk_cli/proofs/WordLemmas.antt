@@ -126,15 +126,18 @@ are_text word (inr (inr (inr (inr (inr (inr (inr (inr (inr (inr (inl e))))))))))
 are_text word (inr (inr (inr (inr (inr (inr (inr (inr (inr (inr (inr (inl e)))))))))))) = subst IsUtf8 (sym e) (codes "transactions", (refl, refl))
 are_text word (inr (inr (inr (inr (inr (inr (inr (inr (inr (inr (inr (inr (inl e))))))))))))) = subst IsUtf8 (sym e) (codes "postings", (refl, refl))
 are_text word (inr (inr (inr (inr (inr (inr (inr (inr (inr (inr (inr (inr (inr (inl e)))))))))))))) = subst IsUtf8 (sym e) (codes "batches", (refl, refl))
-are_text word (inr (inr (inr (inr (inr (inr (inr (inr (inr (inr (inr (inr (inr (inr (inl e))))))))))))))) = subst IsUtf8 (sym e) (codes "check-proof", (refl, refl))
-are_text word (inr (inr (inr (inr (inr (inr (inr (inr (inr (inr (inr (inr (inr (inr (inr (inl e)))))))))))))))) = subst IsUtf8 (sym e) (codes "check-state", (refl, refl))
-are_text word (inr (inr (inr (inr (inr (inr (inr (inr (inr (inr (inr (inr (inr (inr (inr (inr (inl e))))))))))))))))) = subst IsUtf8 (sym e) (codes "check-report", (refl, refl))
-are_text word (inr (inr (inr (inr (inr (inr (inr (inr (inr (inr (inr (inr (inr (inr (inr (inr (inr (inl e)))))))))))))))))) = subst IsUtf8 (sym e) (codes "apply", (refl, refl))
-are_text word (inr (inr (inr (inr (inr (inr (inr (inr (inr (inr (inr (inr (inr (inr (inr (inr (inr (inr (inl e))))))))))))))))))) = subst IsUtf8 (sym e) (codes "schedule", (refl, refl))
-are_text word (inr (inr (inr (inr (inr (inr (inr (inr (inr (inr (inr (inr (inr (inr (inr (inr (inr (inr (inr (inl e)))))))))))))))))))) = subst IsUtf8 (sym e) (codes "compare", (refl, refl))
-are_text word (inr (inr (inr (inr (inr (inr (inr (inr (inr (inr (inr (inr (inr (inr (inr (inr (inr (inr (inr (inr (inl e))))))))))))))))))))) = subst IsUtf8 (sym e) (codes "link", (refl, refl))
-are_text word (inr (inr (inr (inr (inr (inr (inr (inr (inr (inr (inr (inr (inr (inr (inr (inr (inr (inr (inr (inr (inr (inl e)))))))))))))))))))))) = subst IsUtf8 (sym e) (codes "check-chain", (refl, refl))
-are_text word (inr (inr (inr (inr (inr (inr (inr (inr (inr (inr (inr (inr (inr (inr (inr (inr (inr (inr (inr (inr (inr (inr e)))))))))))))))))))))) = absurd e
+are_text word (inr (inr (inr (inr (inr (inr (inr (inr (inr (inr (inr (inr (inr (inr (inl e))))))))))))))) = subst IsUtf8 (sym e) (codes "waiting", (refl, refl))
+are_text word (inr (inr (inr (inr (inr (inr (inr (inr (inr (inr (inr (inr (inr (inr (inr (inl e)))))))))))))))) = subst IsUtf8 (sym e) (codes "missing", (refl, refl))
+are_text word (inr (inr (inr (inr (inr (inr (inr (inr (inr (inr (inr (inr (inr (inr (inr (inr (inl e))))))))))))))))) = subst IsUtf8 (sym e) (codes "evidence", (refl, refl))
+are_text word (inr (inr (inr (inr (inr (inr (inr (inr (inr (inr (inr (inr (inr (inr (inr (inr (inr (inl e)))))))))))))))))) = subst IsUtf8 (sym e) (codes "check-proof", (refl, refl))
+are_text word (inr (inr (inr (inr (inr (inr (inr (inr (inr (inr (inr (inr (inr (inr (inr (inr (inr (inr (inl e))))))))))))))))))) = subst IsUtf8 (sym e) (codes "check-state", (refl, refl))
+are_text word (inr (inr (inr (inr (inr (inr (inr (inr (inr (inr (inr (inr (inr (inr (inr (inr (inr (inr (inr (inl e)))))))))))))))))))) = subst IsUtf8 (sym e) (codes "check-report", (refl, refl))
+are_text word (inr (inr (inr (inr (inr (inr (inr (inr (inr (inr (inr (inr (inr (inr (inr (inr (inr (inr (inr (inr (inl e))))))))))))))))))))) = subst IsUtf8 (sym e) (codes "apply", (refl, refl))
+are_text word (inr (inr (inr (inr (inr (inr (inr (inr (inr (inr (inr (inr (inr (inr (inr (inr (inr (inr (inr (inr (inr (inl e)))))))))))))))))))))) = subst IsUtf8 (sym e) (codes "schedule", (refl, refl))
+are_text word (inr (inr (inr (inr (inr (inr (inr (inr (inr (inr (inr (inr (inr (inr (inr (inr (inr (inr (inr (inr (inr (inr (inl e))))))))))))))))))))))) = subst IsUtf8 (sym e) (codes "compare", (refl, refl))
+are_text word (inr (inr (inr (inr (inr (inr (inr (inr (inr (inr (inr (inr (inr (inr (inr (inr (inr (inr (inr (inr (inr (inr (inr (inl e)))))))))))))))))))))))) = subst IsUtf8 (sym e) (codes "link", (refl, refl))
+are_text word (inr (inr (inr (inr (inr (inr (inr (inr (inr (inr (inr (inr (inr (inr (inr (inr (inr (inr (inr (inr (inr (inr (inr (inr (inl e))))))))))))))))))))))))) = subst IsUtf8 (sym e) (codes "check-chain", (refl, refl))
+are_text word (inr (inr (inr (inr (inr (inr (inr (inr (inr (inr (inr (inr (inr (inr (inr (inr (inr (inr (inr (inr (inr (inr (inr (inr (inr e))))))))))))))))))))))))) = absurd e
 
 -- ---- standard input
 

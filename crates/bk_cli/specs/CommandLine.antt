@@ -15,6 +15,8 @@ use Rattle.bk_cli.specs.Files.{names_input, reads_input_twice}
 use Rattle.bk_cli.specs.declared.job.Job.{Job}
 use Rattle.bk_cli.specs.declared.job.Job.TheVariants as job
 use Rattle.bk_cli.specs.declared.notes.Notes.{Notes}
+use Rattle.bk_cli.specs.declared.view.Diagnosis.{Diagnosis}
+use Rattle.bk_cli.specs.declared.view.Diagnosis.TheVariants as sought
 use Rattle.bk_cli.specs.declared.view.Table.{Table}
 use Rattle.bk_cli.specs.declared.view.Table.TheVariants as table
 use Rattle.bk_cli.specs.declared.view.View.{View}
@@ -91,6 +93,15 @@ accounts_rule = record (new_rule (codes "accounts")) {
   value_names = 1;
 }
 
+-- the option `--account ID`, a number below 2^64
+abbrev pub account_rule : Rule
+account_rule = record (new_rule (codes "account")) {
+  long = Some (codes "account");
+  action = Some Set;
+  value_names = 1;
+  parser = Some (Unsigned 0 18446744073709551615);
+}
+
 -- an option without a value, by its name
 abbrev pub flag_rule : Text → Rule
 flag_rule name = record (new_rule name) { long = Some name; action = Some SetTrue }
@@ -162,6 +173,12 @@ transactions_line =
 abbrev pub postings_line : App
 postings_line = noted_line (with_rule (picking_line (codes "postings")) file_rule)
 
+-- the command `check-proof [--account ID] ROOT [FILE]`
+abbrev pub proof_line : App
+proof_line =
+    let named = new_app (codes "check-proof") in
+    noted_line (with_rule (with_rule (with_rule named account_rule) root_rule) file_rule)
+
 -- the command `compare FEED1 FEED2`
 abbrev pub compare_line : App
 compare_line =
@@ -183,6 +200,9 @@ word_of verb.Statement = codes "statement"
 word_of verb.Transactions = codes "transactions"
 word_of verb.Postings = codes "postings"
 word_of verb.Batches = codes "batches"
+word_of verb.Waiting = codes "waiting"
+word_of verb.Missing = codes "missing"
+word_of verb.Evidence = codes "evidence"
 word_of verb.CheckProof = codes "check-proof"
 word_of verb.CheckState = codes "check-state"
 word_of verb.CheckReport = codes "check-report"
@@ -208,7 +228,10 @@ line_of verb.Statement = working_line (codes "statement") id_rule
 line_of verb.Transactions = transactions_line
 line_of verb.Postings = postings_line
 line_of verb.Batches = file_line (codes "batches")
-line_of verb.CheckProof = value_line (codes "check-proof") root_rule
+line_of verb.Waiting = file_line (codes "waiting")
+line_of verb.Missing = file_line (codes "missing")
+line_of verb.Evidence = file_line (codes "evidence")
+line_of verb.CheckProof = proof_line
 line_of verb.CheckState = working_line (codes "check-state") root_rule
 line_of verb.CheckReport = working_line (codes "check-report") report_rule
 line_of verb.Apply = file_line (codes "apply")
@@ -248,10 +271,15 @@ abbrev pub tabling_line : App
 tabling_line =
     with_command (with_command (with_command viewing_line verb.Transactions) verb.Postings) verb.Batches
 
+-- and with those that say what is wrong with a feed
+abbrev pub diagnosing_line : App
+diagnosing_line =
+    with_command (with_command (with_command tabling_line verb.Waiting) verb.Missing) verb.Evidence
+
 -- and with those that check something
 abbrev pub checking_line : App
 checking_line =
-    with_command (with_command (with_command tabling_line verb.CheckProof) verb.CheckState) verb.CheckReport
+    with_command (with_command (with_command diagnosing_line verb.CheckProof) verb.CheckState) verb.CheckReport
 
 -- the whole command line: `bkreplay`, and one of the commands
 abbrev pub command_line : App
@@ -292,6 +320,13 @@ IsNumberBy limit None n = n ≡ 0
 IsNumberBy limit (Some text) n =
     IsNumeral 10 (without_leading_plus text) → digits_value 10 (without_leading_plus text) < limit
     → n ≡ digits_value 10 (without_leading_plus text)
+
+-- a number below a limit is the value of an option: none where it is left out
+abbrev pub IsGivenBy : ℕ → Option Text → Option ℕ → Type 0
+IsGivenBy limit None given = given ≡ None
+IsGivenBy limit (Some text) given =
+    IsNumeral 10 (without_leading_plus text) → digits_value 10 (without_leading_plus text) < limit
+    → given ≡ Some (digits_value 10 (without_leading_plus text))
 
 -- the query is that of a command, with the value of its argument
 abbrev pub IsQueryAt : Text → List Row → Query → Type 0
@@ -358,6 +393,12 @@ abbrev pub verb_of : Table → Verb
 verb_of table.Transactions = verb.Transactions
 verb_of table.Postings = verb.Postings
 
+-- the command that looks for what is wrong
+abbrev pub verb_for : Diagnosis → Verb
+verb_for sought.Waiting = verb.Waiting
+verb_for sought.Missing = verb.Missing
+verb_for sought.Evidence = verb.Evidence
+
 -- the job is that of a command, with the values of its arguments
 abbrev pub IsJobAt : Text → List Row → Job → Type 0
 IsJobAt word rows (job.Run workers file) =
@@ -365,8 +406,9 @@ IsJobAt word rows (job.Run workers file) =
     × IsFileIn rows (option_map string_bytes file)
 IsJobAt word rows (job.Make file) =
     (word ≡ word_of verb.Make) × IsFileIn rows (option_map string_bytes file)
-IsJobAt word rows (job.CheckProof root file) =
+IsJobAt word rows (job.CheckProof root account file) =
     (word ≡ word_of verb.CheckProof) × IsTextIn rows (codes "ROOT") (string_bytes root)
+    × IsGivenBy (2 ^ 64) (one_of (codes "account") rows) account
     × IsFileIn rows (option_map string_bytes file)
 IsJobAt word rows (job.Ask workers asked file) =
     IsQueryAt word rows asked × AreWorkersFor rows asked workers
@@ -405,6 +447,8 @@ IsJobAt word rows (job.Follow workers accounts wait file) =
     × (first_of (codes "accounts") rows ≡ option_map string_bytes accounts) × IsFollowed rows true × IsWaited rows wait
     × (wait ≡ true → names_input (option_map string_bytes file) ≡ false)
     × IsFileIn rows (option_map string_bytes file)
+IsJobAt word rows (job.Diagnose d file) =
+    (word ≡ word_of (verb_for d)) × IsFileIn rows (option_map string_bytes file)
 IsJobAt word rows (job.CheckChain file) =
     (word ≡ word_of verb.CheckChain) × IsFileIn rows (option_map string_bytes file)
 
@@ -468,5 +512,6 @@ all_words =
     word_of verb.Run ∷ word_of verb.Make ∷ word_of verb.Order ∷ word_of verb.Account ∷ word_of verb.Receipt
     ∷ word_of verb.Prove ∷ word_of verb.Frames ∷ word_of verb.Summary ∷ word_of verb.Anchors ∷ word_of verb.Dag
     ∷ word_of verb.Statement ∷ word_of verb.Transactions ∷ word_of verb.Postings ∷ word_of verb.Batches
+    ∷ word_of verb.Waiting ∷ word_of verb.Missing ∷ word_of verb.Evidence
     ∷ word_of verb.CheckProof ∷ word_of verb.CheckState ∷ word_of verb.CheckReport ∷ word_of verb.Apply
     ∷ word_of verb.Schedule ∷ word_of verb.Compare ∷ word_of verb.Link ∷ word_of verb.CheckChain ∷ []

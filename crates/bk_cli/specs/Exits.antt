@@ -19,6 +19,8 @@ use Rattle.bk_results.specs.declared.script_fault.ScriptFault.{ScriptFault}
 use Rattle.bk_results.specs.declared.script_fault.ScriptFault.TheVariants as text
 use Rattle.bk_cli.specs.declared.exit.Exit.{Exit}
 use Rattle.bk_cli.specs.declared.exit.Exit.TheVariants as exit
+use Rattle.bk_cli.specs.declared.view.Diagnosis.{Diagnosis}
+use Rattle.bk_cli.specs.declared.view.Diagnosis.TheVariants as sought
 use Rattle.bk_cli.specs.declared.job.Job.{Job}
 use Rattle.bk_cli.specs.declared.job.Job.TheVariants as job
 use Rattle.bk_cli.specs.declared.job_fault.JobFault.{JobFault}
@@ -48,11 +50,37 @@ tells_missing (query.State root) = true
 tells_missing (query.Statement id) = true
 tells_missing other = false
 
+-- what is wrong is said with a no: that something waits, or that there is evidence
+abbrev pub tells_no : Diagnosis → Bool
+tells_no sought.Waiting = true
+tells_no sought.Missing = false
+tells_no sought.Evidence = true
+
+-- it is read off an order, which a feed that is stopped has not
+abbrev pub orders : Diagnosis → Bool
+orders sought.Waiting = true
+orders sought.Missing = true
+orders sought.Evidence = false
+
+-- it is that batches are missing
+abbrev pub lacks : Diagnosis → Bool
+lacks sought.Waiting = false
+lacks sought.Missing = true
+lacks sought.Evidence = false
+
+-- the exit after a diagnosis, by whether something is wrong
+abbrev pub exit_by_lines : Diagnosis → Bool → Exit
+exit_by_lines d false = exit.Whole
+exit_by_lines sought.Waiting true = exit.No
+exit_by_lines sought.Missing true = exit.Missing
+exit_by_lines sought.Evidence true = exit.No
+
 -- a job whose answer may be no
 abbrev pub gives_verdict : Job → Bool
-gives_verdict (job.CheckProof root file) = true
+gives_verdict (job.CheckProof root account file) = true
 gives_verdict (job.Ask workers asked file) = gives_state asked
 gives_verdict (job.CheckReport workers report file) = true
+gives_verdict (job.Diagnose d file) = tells_no d
 gives_verdict (job.CheckChain file) = true
 gives_verdict other = false
 
@@ -66,9 +94,10 @@ may_be_absent other = false
 
 -- a job that may end with no: by its answer, or since what it asks for is absent
 abbrev pub may_say_no : Job → Bool
-may_say_no (job.CheckProof root file) = true
+may_say_no (job.CheckProof root account file) = true
 may_say_no (job.Ask workers asked file) = gives_state asked || may_be_absent asked
 may_say_no (job.CheckReport workers report file) = true
+may_say_no (job.Diagnose d file) = tells_no d
 may_say_no (job.CheckChain file) = true
 may_say_no other = false
 
@@ -77,7 +106,7 @@ may_say_no other = false
 abbrev pub refuses : Job → Bool
 refuses (job.Run workers file) = true
 refuses (job.Make file) = true
-refuses (job.CheckProof root file) = false
+refuses (job.CheckProof root account file) = false
 refuses (job.Ask workers asked file) = true
 refuses (job.CheckReport workers report file) = true
 refuses (job.Frames file) = true
@@ -89,6 +118,7 @@ refuses (job.Compare first second) = true
 refuses (job.Show workers shown file) = true
 refuses (job.Pick workers shown accounts file) = true
 refuses (job.Follow workers accounts wait file) = true
+refuses (job.Diagnose d file) = true
 refuses (job.CheckChain file) = true
 
 -- a job that finds the order of a feed, or compares those of two, which may be stopped
@@ -102,6 +132,7 @@ finds_order (job.Compare first second) = true
 finds_order (job.Show workers shown file) = true
 finds_order (job.Pick workers shown accounts file) = true
 finds_order (job.Follow workers accounts wait file) = true
+finds_order (job.Diagnose d file) = orders d
 finds_order other = false
 
 -- a job that says whether a batch is missing
@@ -113,6 +144,7 @@ reports_missing (job.Summary workers file) = true
 reports_missing (job.Show workers shown file) = true
 reports_missing (job.Pick workers shown accounts file) = true
 reports_missing (job.Follow workers accounts wait file) = true
+reports_missing (job.Diagnose d file) = lacks d
 reports_missing (job.CheckChain file) = true
 reports_missing other = false
 

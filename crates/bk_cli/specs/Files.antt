@@ -18,7 +18,7 @@ use Rattle.bk_cli.specs.declared.job_fault.JobFault.TheVariants as fault
 abbrev pub file_of : Job → Option (List ℕ)
 file_of (job.Run workers file) = option_map string_bytes file
 file_of (job.Make file) = option_map string_bytes file
-file_of (job.CheckProof root file) = option_map string_bytes file
+file_of (job.CheckProof root account file) = option_map string_bytes file
 file_of (job.Ask workers asked file) = option_map string_bytes file
 file_of (job.CheckReport workers report file) = option_map string_bytes file
 file_of (job.Frames file) = option_map string_bytes file
@@ -30,13 +30,14 @@ file_of (job.Compare first second) = Some (string_bytes first)
 file_of (job.Show workers shown file) = option_map string_bytes file
 file_of (job.Pick workers shown accounts file) = option_map string_bytes file
 file_of (job.Follow workers accounts wait file) = option_map string_bytes file
+file_of (job.Diagnose d file) = option_map string_bytes file
 file_of (job.CheckChain file) = option_map string_bytes file
 
 -- the path of the second
 abbrev pub second_file_of : Job → Option (List ℕ)
 second_file_of (job.Run workers file) = None
 second_file_of (job.Make file) = None
-second_file_of (job.CheckProof root file) = None
+second_file_of (job.CheckProof root account file) = None
 second_file_of (job.Ask workers asked file) = None
 second_file_of (job.CheckReport workers report file) = Some (string_bytes report)
 second_file_of (job.Frames file) = None
@@ -48,6 +49,7 @@ second_file_of (job.Compare first second) = Some (string_bytes second)
 second_file_of (job.Show workers shown file) = None
 second_file_of (job.Pick workers shown accounts file) = Some (string_bytes accounts)
 second_file_of (job.Follow workers accounts wait file) = option_map string_bytes accounts
+second_file_of (job.Diagnose d file) = None
 second_file_of (job.CheckChain file) = None
 
 -- ---- standard input

@@ -3,12 +3,12 @@
 ghost use Rattle.std.specs.Prelude.{◌≡◌, true, false, IfOk, IfSome};
 ghost use Rattle.clap.specs.Words.{App, Rule, app_of};
 ghost use Rattle.clap.specs.declared.builder.command.Command.TheViews.{out-Command};
-ghost use Rattle.bk_cli.specs.CommandLine.{asking_line, checking_line, viewing_line, tabling_line, command_line, file_line, value_line, picking_line, postings_line, transactions_line, schedule_line, working_line};
-ghost use Rattle.bk_cli.specs.CommandLine.{noted_line, file_rule, workers_rule, required_rule, root_rule, id_rule, place_rule, from_rule, rounds_rule, accounts_rule, dag_line, compare_line};
+ghost use Rattle.bk_cli.specs.CommandLine.{asking_line, checking_line, viewing_line, tabling_line, diagnosing_line, command_line, file_line, value_line, picking_line, postings_line, transactions_line, schedule_line, working_line};
+ghost use Rattle.bk_cli.specs.CommandLine.{noted_line, file_rule, workers_rule, required_rule, root_rule, id_rule, place_rule, from_rule, rounds_rule, account_rule, accounts_rule, dag_line, proof_line, compare_line};
 
 use crate::help::{self, Help};
 use crate::shaped::{Plain, Shaped};
-use crate::{more_help, table_help};
+use crate::{diagnosis_help, more_help, table_help};
 use clap::{Command, value_parser};
 use std::alloc::{AllocError, Global};
 
@@ -79,6 +79,15 @@ fn accounts_arg<'a>(alloc: Global) -> Plain<'a>
     ensures { result ≡ accounts_rule }
 {
     Plain::valued(alloc, "accounts", table_help::ACCOUNTS).option("accounts", "LIST")
+}
+
+// The option `--account ID`.
+fn account_arg<'a>(alloc: Global) -> Plain<'a>
+    ensures { result ≡ account_rule }
+{
+    Plain::valued(alloc, "account", diagnosis_help::ACCOUNT)
+        .option("account", "ID")
+        .read_by(value_parser!(u64))
 }
 
 // The command with the options that every command has.
@@ -166,6 +175,17 @@ fn postings_command<'a>(alloc: Global) -> Shaped<'a>
     noted(alloc, command)
 }
 
+// The command `check-proof [--account ID] ROOT [FILE]`.
+fn proof_command<'a>(alloc: Global) -> Shaped<'a>
+    ensures { IfSome result (λ c. c ≡ proof_line) }
+{
+    let command = Shaped::new(alloc, "check-proof", more_help::CHECK_PROOF)
+        .arg(account_arg(alloc))
+        .arg(root_arg(alloc))
+        .arg(file_arg(alloc));
+    noted(alloc, command)
+}
+
 // The command `compare FEED1 FEED2`.
 fn compare_command<'a>(alloc: Global) -> Shaped<'a>
     ensures { IfSome result (λ c. c ≡ compare_line) }
@@ -213,18 +233,23 @@ fn tabling_command<'a>(alloc: Global) -> Shaped<'a>
         .subcommand(file_command(alloc, "batches", table_help::BATCHES))
 }
 
+// And with those that say what is wrong with a feed.
+fn diagnosing_command<'a>(alloc: Global) -> Shaped<'a>
+    ensures { IfSome result (λ c. c ≡ diagnosing_line) }
+{
+    tabling_command(alloc)
+        .subcommand(file_command(alloc, "waiting", diagnosis_help::WAITING))
+        .subcommand(file_command(alloc, "missing", diagnosis_help::MISSING))
+        .subcommand(file_command(alloc, "evidence", diagnosis_help::EVIDENCE))
+}
+
 // And with those that check something.
 fn checking_command<'a>(alloc: Global) -> Shaped<'a>
     ensures { IfSome result (λ c. c ≡ checking_line) }
 {
     let report = required_arg(alloc, "REPORT", help::REPORT);
-    tabling_command(alloc)
-        .subcommand(value_command(
-            alloc,
-            "check-proof",
-            root_arg(alloc),
-            more_help::CHECK_PROOF,
-        ))
+    diagnosing_command(alloc)
+        .subcommand(proof_command(alloc))
         .subcommand(working_command(
             alloc,
             "check-state",

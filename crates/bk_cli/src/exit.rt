@@ -1,11 +1,12 @@
 //! The exit statuses of the program.
 
 ghost use Rattle.std.specs.Prelude.{◌≡◌};
-ghost use Rattle.bk_cli.specs.Exits.{exit_number, exit_at, exit_by, exit_after, exit_after_replay, exit_after_text, exit_after_list};
+ghost use Rattle.bk_cli.specs.Exits.{exit_number, exit_at, exit_by, exit_by_lines, exit_after, exit_after_replay, exit_after_text, exit_after_list};
 ghost use Rattle.bk_cli.specs.Exits.{exit_after_compare, exit_after_differ};
 
 use crate::job_fault::JobFault;
 use crate::list_fault::ListFault;
+use crate::view::Diagnosis;
 use bk_frames::FaultCode;
 use bk_results::{CompareStop, Differ, EventsFault, Fault, ScriptFault, Status};
 
@@ -50,6 +51,19 @@ impl Exit {
         ensures { result ≡ exit_by good }
     {
         if good { Exit::Whole } else { Exit::No }
+    }
+
+    /// The exit after a diagnosis, by whether something is wrong.
+    pub fn by_lines(sought: Diagnosis, some: bool) -> Exit
+        ensures { result ≡ exit_by_lines sought some }
+    {
+        if !some {
+            return Exit::Whole;
+        }
+        match sought {
+            Diagnosis::Waiting | Diagnosis::Evidence => Exit::No,
+            Diagnosis::Missing => Exit::Missing,
+        }
     }
 
     /// The exit after a fault.

@@ -3,7 +3,7 @@
 ghost use Rattle.std.specs.Prelude.{◌≡◌, option_map, if◌then◌else◌, None, Some};
 ghost use Rattle.bk_cli.specs.Files.{file_of, is_input, names_input, reads_input_twice, second_file_of};
 
-use crate::view::{Table, View};
+use crate::view::{Diagnosis, Table, View};
 use crate::window::Window;
 use crate::workers::Workers;
 use bk_results::Query;
@@ -25,6 +25,8 @@ pub enum Job {
     CheckProof {
         /// The digest of the state, as the words have it.
         root: String,
+        /// The account that it has to be of, where one is named.
+        account: Option<u64>,
         file: Option<String>,
     },
     /// Writes whether a text is the report of a feed.
@@ -107,6 +109,12 @@ pub enum Job {
         wait: bool,
         file: Option<String>,
     },
+    /// Writes what is wrong with a feed.
+    Diagnose {
+        /// What is looked for.
+        sought: Diagnosis,
+        file: Option<String>,
+    },
     /// Writes whether lines are the links of feeds that are one ledger.
     CheckChain {
         file: Option<String>,
@@ -131,6 +139,7 @@ impl Job {
             | Job::Show { file, .. }
             | Job::Pick { file, .. }
             | Job::Follow { file, .. }
+            | Job::Diagnose { file, .. }
             | Job::CheckChain { file } => file.as_deref(),
             Job::Schedule { feed, .. } => Some(feed.as_str()),
             Job::Compare { first, .. } => Some(first.as_str()),
@@ -152,6 +161,7 @@ impl Job {
             | Job::Dag { .. }
             | Job::Apply { .. }
             | Job::Show { .. }
+            | Job::Diagnose { .. }
             | Job::CheckChain { .. } => None,
             Job::CheckReport { report, .. } => Some(report.as_str()),
             Job::Schedule { events, .. } => Some(events.as_str()),

@@ -7,6 +7,7 @@
 
 mod about;
 mod commands;
+mod diagnosis_help;
 mod exit;
 mod explain;
 mod fault_line;
@@ -40,6 +41,6 @@ pub use list_fault::ListFault;
 pub use notes::Notes;
 pub use parsing::{Line, parse, parse_line};
 pub use telling::{tell, tell_of};
-pub use view::{Table, View};
+pub use view::{Diagnosis, Table, View};
 pub use window::Window;
 pub use workers::Workers;

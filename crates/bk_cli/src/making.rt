@@ -4,14 +4,14 @@ ghost use Rattle.std.specs.Prelude.{◌≡◌, ◌≤◌, ◌^◌, ◌⊎◌, []
 ghost use Rattle.clap.specs.Words.{one_text, first_value, found_of, rows_of};
 ghost use Rattle.bk_cli.specs.declared.job.Job.TheVariants as job;
 ghost use Rattle.bk_cli.specs.CommandLine.{IsAtEndFor, IsFileIn, IsFollowed, IsWaited, NamesNoJob};
-ghost use Rattle.bk_cli.specs.CommandLine.{IsJobAt, AreNamedBy, IsChosenBy, IsNumberBy, verb_of, view_of, word_of};
+ghost use Rattle.bk_cli.specs.CommandLine.{IsJobAt, AreNamedBy, IsChosenBy, IsGivenBy, IsNumberBy, verb_of, view_of, word_of};
 ghost use Rattle.bk_cli.specs.declared.view.View.TheVariants as view;
 ghost use Rattle.bk_cli.specs.Files.{names_input};
 
 use crate::job::{Job, names_input};
 use crate::notes::flag_in;
 use crate::verb::Verb;
-use crate::view::{Table, View};
+use crate::view::{Diagnosis, Table, View};
 use crate::window::{MOST_FROM, MOST_ROUNDS, Window};
 use crate::workers::Workers;
 use bk_digest::Digest32;
@@ -57,6 +57,13 @@ fn id_in(found: &ArgMatches<'_>) -> u64
     found.get_one::<u64>("ID").unwrap_or(0)
 }
 
+// The value of `--account`, where it is given. The parser has refused what is no number.
+fn account_in(found: &ArgMatches<'_>) -> Option<u64>
+    ensures { IsGivenBy (2 ^ 64) (one_text (found_of found.now) (codes "account")) result }
+{
+    found.get_one::<u64>("account")
+}
+
 // The value of PLACE. The parser has refused words without it.
 fn place_in(found: &ArgMatches<'_>) -> u32
     ensures { IsNumberBy (2 ^ 32) (one_text (found_of found.now) (codes "PLACE")) result }
@@ -91,7 +98,7 @@ fn compare_of(alloc: Global, found: &ArgMatches<'_>) -> Result<Option<Job>, Allo
     Ok(Some(Job::Compare { first, second }))
 }
 
-// The job of `check-proof` of this file, with the value of its other argument.
+// The job of `check-proof` of this file, with the values of its other arguments.
 fn proof_of(
     alloc: Global,
     found: &ArgMatches<'_>,
@@ -103,7 +110,12 @@ fn proof_of(
         (IsJobAt (codes "check-proof") (rows_of (found_of found.now)))) }
 {
     let root = text_in(alloc, found, "ROOT")?;
-    Ok(Some(Job::CheckProof { root, file }))
+    let account = account_in(found);
+    Ok(Some(Job::CheckProof {
+        root,
+        account,
+        file,
+    }))
 }
 
 // The job of `check-state` of this file, with the values of its other arguments. There is none where ROOT is not a digest.
@@ -319,6 +331,13 @@ fn batches_of(file: Option<String>) -> Job
     }
 }
 
+// The job that says what is wrong with this file.
+fn diagnosis_of(sought: Diagnosis, file: Option<String>) -> Job
+    ensures { result ≡ job.Diagnose sought file }
+{
+    Job::Diagnose { sought, file }
+}
+
 // The job of a query for which one thread executes.
 fn ask_one(asked: Query, file: Option<String>) -> Job
     ensures { result ≡ job.Ask 1 asked file }
@@ -367,6 +386,9 @@ pub(crate) fn job_of(
         Verb::Transactions => transactions_of(alloc, found, file),
         Verb::Postings => table_of(alloc, found, Table::Postings, file),
         Verb::Batches => Ok(Some(batches_of(file))),
+        Verb::Waiting => Ok(Some(diagnosis_of(Diagnosis::Waiting, file))),
+        Verb::Missing => Ok(Some(diagnosis_of(Diagnosis::Missing, file))),
+        Verb::Evidence => Ok(Some(diagnosis_of(Diagnosis::Evidence, file))),
         Verb::CheckProof => proof_of(alloc, found, file),
         Verb::CheckState => state_of(alloc, found, file),
         Verb::CheckReport => report_of(alloc, found, file),

@@ -13,6 +13,8 @@ Reads a proof: these lines, at most 65,536 bytes in all. Writes `proof good` or 
   account ID BALANCE SEQ          the account
   path HEX                        one line for each digest on the path from the account to the state
 
+With `--account ID` the proof is bad too where it is one of another account.
+
 Exit status:
   0  the proof is good
   1  the proof is bad, or the command line is wrong

@@ -21,6 +21,9 @@ pub(crate) enum Verb {
     Transactions,
     Postings,
     Batches,
+    Waiting,
+    Missing,
+    Evidence,
     CheckProof,
     CheckState,
     CheckReport,
@@ -85,6 +88,15 @@ impl Verb {
         }
         if is(word, "batches") {
             return Verb::Batches;
+        }
+        if is(word, "waiting") {
+            return Verb::Waiting;
+        }
+        if is(word, "missing") {
+            return Verb::Missing;
+        }
+        if is(word, "evidence") {
+            return Verb::Evidence;
         }
         if is(word, "check-proof") {
             return Verb::CheckProof;

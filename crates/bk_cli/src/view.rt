@@ -1,4 +1,4 @@
-//! The tables and lines that a job shows of a feed.
+//! The tables and lines that a job shows of a feed, and what it says is wrong with it.
 
 /// A table with a row for each payment, or for each account that a transaction has.
 #[derive(Clone, Copy, Debug, PartialEq, Eq)]
@@ -20,4 +20,15 @@ pub enum View {
     Batches,
     /// The accounts at both ends, and what lies between them, in one line.
     Link,
+}
+
+/// What is wrong with a feed.
+#[derive(Clone, Copy, Debug, PartialEq, Eq)]
+pub enum Diagnosis {
+    /// What keeps the certificates that wait from being admitted.
+    Waiting,
+    /// The batches that the order names and no frame has.
+    Missing,
+    /// All collisions and twins.
+    Evidence,
 }

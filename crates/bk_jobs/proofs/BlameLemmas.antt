@@ -41,6 +41,7 @@ use Rattle.bk_jobs.specs.Schedules.{AreNoEvents, AreRefused, IsListed, IsRefused
 use Rattle.bk_jobs.specs.Sources.{AreBroken, Inputs, JobDevices, inputs_of}
 use Rattle.bk_cli.specs.Exits.{exit_after, exit_after_compare, exit_by_code, is_refusal, writes_ahead}
 use Rattle.bk_jobs.specs.Comparisons.{DoNotAgree, HaveSomeStop, both_sources}
+use Rattle.bk_jobs.specs.Diagnoses.{diagnosis_text}
 use Rattle.bk_jobs.specs.Faults.{AreNoAccounts, AreNoLinks, AreStopped, AreStoppedAhead, AreToBlame, MakeNoFeed, JobFailsBy}
 use Rattle.bk_jobs.specs.Views.{executes_to_show, table_text, view_text}
 use Rattle.bk_chain.specs.Chain.{HasLinksFault}
@@ -185,11 +186,11 @@ blames (job.Make file) (fault.Text (text.Script line found)) old new w h r = (no
 blames (job.Make file) (fault.Text text.Read) old new w h r = absurd (cc)
 blames (job.Make file) (fault.Text (text.Write written)) old new w h r = absurd (cc)
 blames (job.Make file) (fault.Text text.Memory) old new w h r = absurd (cc)
-blames (job.CheckProof root file) (fault.Replay e) old new w h r = absurd h
-blames (job.CheckProof root file) (fault.Text (text.Script line found)) old new w h r = absurd h
-blames (job.CheckProof root file) (fault.Text text.Read) old new w h r = absurd (cc)
-blames (job.CheckProof root file) (fault.Text (text.Write written)) old new w h r = absurd (cc)
-blames (job.CheckProof root file) (fault.Text text.Memory) old new w h r = absurd (cc)
+blames (job.CheckProof root account file) (fault.Replay e) old new w h r = absurd h
+blames (job.CheckProof root account file) (fault.Text (text.Script line found)) old new w h r = absurd h
+blames (job.CheckProof root account file) (fault.Text text.Read) old new w h r = absurd (cc)
+blames (job.CheckProof root account file) (fault.Text (text.Write written)) old new w h r = absurd (cc)
+blames (job.CheckProof root account file) (fault.Text text.Memory) old new w h r = absurd (cc)
 blames (job.Ask workers asked file) (fault.Replay e) old new w h r =
     answer_blames (IsRepliedOf asked) (executes asked) (job.Ask workers asked file) e (inputs_of old) (first_devices old) (first_devices new) (λ b. b) (λ b. b) h r
 blames (job.Ask workers asked file) (fault.Text e) old new w h r = absurd h
@@ -213,9 +214,14 @@ blames (job.Summary workers file) (fault.Events e) old new w h r = absurd h
 blames (job.Summary workers file) (fault.Compared e) old new w h r = absurd h
 blames (job.Dag window file) (fault.Replay e) old new w h r =
     answer_blames (drawing_text window.from window.rounds) false (job.Dag window file) e (inputs_of old) (first_devices old) (first_devices new) (λ b. b) (λ b. b) h r
+blames (job.Diagnose d file) (fault.Replay e) old new w h r =
+    answer_blames (diagnosis_text d) false (job.Diagnose d file) e (inputs_of old) (first_devices old) (first_devices new) (λ b. b) (λ b. b) h.0 r
 blames (job.Dag window file) (fault.Text e) old new w h r = absurd h
+blames (job.Diagnose d file) (fault.Text e) old new w h r = absurd h
 blames (job.Dag window file) (fault.Events e) old new w h r = absurd h
+blames (job.Diagnose d file) (fault.Events e) old new w h r = absurd h
 blames (job.Dag window file) (fault.Compared e) old new w h r = absurd h
+blames (job.Diagnose d file) (fault.Compared e) old new w h r = absurd h
 blames j (fault.AbsentAccount id missing) old new w h r = absurd (cc)
 blames j (fault.AbsentPlace place missing) old new w h r = absurd (cc)
 blames (job.Apply file) (fault.Replay (replay.Feed found)) old new w h r =
@@ -228,7 +234,7 @@ blames (job.Apply file) (fault.Replay replay.Memory) old new w h r = absurd (cc)
 blames (job.Apply file) (fault.Text e) old new w h r = absurd h
 blames (job.Run workers file) (fault.Events e) old new w h r = absurd h
 blames (job.Make file) (fault.Events e) old new w h r = absurd h
-blames (job.CheckProof root file) (fault.Events e) old new w h r = absurd h
+blames (job.CheckProof root account file) (fault.Events e) old new w h r = absurd h
 blames (job.Ask workers asked file) (fault.Events e) old new w h r = absurd h
 blames (job.Apply file) (fault.Events e) old new w h r = absurd h
 blames (job.Schedule workers feed events) (fault.Replay (replay.Feed found)) old new w h r =
@@ -248,7 +254,7 @@ blames (job.Schedule workers feed events) (fault.Events (list.Refused line why))
 blames (job.Schedule workers feed events) (fault.Events (list.Unfinished place)) old new w h r = absurd (cc)
 blames (job.Run workers file) (fault.Compared e) old new w h r = absurd h
 blames (job.Make file) (fault.Compared e) old new w h r = absurd h
-blames (job.CheckProof root file) (fault.Compared e) old new w h r = absurd h
+blames (job.CheckProof root account file) (fault.Compared e) old new w h r = absurd h
 blames (job.Ask workers asked file) (fault.Compared e) old new w h r = absurd h
 blames (job.Apply file) (fault.Compared e) old new w h r = absurd h
 blames (job.Schedule workers feed events) (fault.Compared e) old new w h r = absurd h
@@ -267,8 +273,8 @@ blames (job.Run workers file) (fault.Accounts line) old new w h r = absurd h
 blames (job.Run workers file) (fault.Links line) old new w h r = absurd h
 blames (job.Make file) (fault.Accounts line) old new w h r = absurd h
 blames (job.Make file) (fault.Links line) old new w h r = absurd h
-blames (job.CheckProof root file) (fault.Accounts line) old new w h r = absurd h
-blames (job.CheckProof root file) (fault.Links line) old new w h r = absurd h
+blames (job.CheckProof root account file) (fault.Accounts line) old new w h r = absurd h
+blames (job.CheckProof root account file) (fault.Links line) old new w h r = absurd h
 blames (job.Ask workers asked file) (fault.Accounts line) old new w h r = absurd h
 blames (job.Ask workers asked file) (fault.Links line) old new w h r = absurd h
 blames (job.CheckReport workers report file) (fault.Accounts line) old new w h r = absurd h
@@ -276,7 +282,9 @@ blames (job.CheckReport workers report file) (fault.Links line) old new w h r = 
 blames (job.Summary workers file) (fault.Accounts line) old new w h r = absurd h
 blames (job.Summary workers file) (fault.Links line) old new w h r = absurd h
 blames (job.Dag window file) (fault.Accounts line) old new w h r = absurd h
+blames (job.Diagnose d file) (fault.Accounts line) old new w h r = absurd h
 blames (job.Dag window file) (fault.Links line) old new w h r = absurd h
+blames (job.Diagnose d file) (fault.Links line) old new w h r = absurd h
 blames (job.Apply file) (fault.Accounts line) old new w h r = absurd h
 blames (job.Apply file) (fault.Links line) old new w h r = absurd h
 blames (job.Schedule workers feed events) (fault.Accounts line) old new w h r = absurd h
@@ -386,11 +394,12 @@ bytes_to_blame (job.Frames file) e old new h r = (frames_blame file e old new h 
 bytes_to_blame (job.Follow workers accounts wait file) e old new h r = (follow_blames workers accounts wait file e old new h r, λ w. absurd (cc))
 bytes_to_blame (job.Run workers file) e old new h r = unwritten (job.Run workers file) e old new (blames (job.Run workers file) e old new refl h r)
 bytes_to_blame (job.Make file) e old new h r = unwritten (job.Make file) e old new (blames (job.Make file) e old new refl h r)
-bytes_to_blame (job.CheckProof root file) e old new h r = unwritten (job.CheckProof root file) e old new (blames (job.CheckProof root file) e old new refl h r)
+bytes_to_blame (job.CheckProof root account file) e old new h r = unwritten (job.CheckProof root account file) e old new (blames (job.CheckProof root account file) e old new refl h r)
 bytes_to_blame (job.Ask workers asked file) e old new h r = unwritten (job.Ask workers asked file) e old new (blames (job.Ask workers asked file) e old new refl h r)
 bytes_to_blame (job.CheckReport workers report file) e old new h r = unwritten (job.CheckReport workers report file) e old new (blames (job.CheckReport workers report file) e old new refl h r)
 bytes_to_blame (job.Summary workers file) e old new h r = unwritten (job.Summary workers file) e old new (blames (job.Summary workers file) e old new refl h r)
 bytes_to_blame (job.Dag window file) e old new h r = unwritten (job.Dag window file) e old new (blames (job.Dag window file) e old new refl h r)
+bytes_to_blame (job.Diagnose d file) e old new h r = unwritten (job.Diagnose d file) e old new (blames (job.Diagnose d file) e old new refl h r)
 bytes_to_blame (job.Apply file) e old new h r = unwritten (job.Apply file) e old new (blames (job.Apply file) e old new refl h r)
 bytes_to_blame (job.Schedule workers feed events) e old new h r = unwritten (job.Schedule workers feed events) e old new (blames (job.Schedule workers feed events) e old new refl h r)
 bytes_to_blame (job.Compare first second) e old new h r = unwritten (job.Compare first second) e old new (blames (job.Compare first second) e old new refl h r)

@@ -1,5 +1,5 @@
 -- How a job may end.
-use Rattle.std.proofs.Common.{◌≡◌, ℕ, Bool, List, Option, Some, true, false, ◌||◌, refl, subst}
+use Rattle.std.proofs.Common.{◌≡◌, ℕ, Bool, List, Option, Some, true, false, ◌||◌, refl, sym, subst}
 use Rattle.bk_frames.specs.declared.fault.FaultCode.{FaultCode}
 use Rattle.bk_frames.specs.declared.fault.FaultCode.TheVariants as code
 use Rattle.bk_results.specs.declared.compare_stop.CompareStop.{CompareStop}
@@ -24,7 +24,11 @@ use Rattle.bk_results.specs.declared.events_fault.EventsFault.TheVariants as unr
 use Rattle.bk_cli.specs.declared.list_fault.ListFault.TheVariants as list
 use Rattle.bk_jobs.specs.Schedules.{ScheduleFailsBy}
 use Rattle.bk_jobs.specs.Sources.{JobDevices, first_devices}
-use Rattle.bk_cli.specs.Exits.{absence, ending, gives_state, may_be_absent, exit_after, exit_after_compare, exit_after_replay, exit_by_code, is_answer, is_report, may_end}
+use Rattle.bk_results.specs.Devices.{Devices}
+use Rattle.bk_jobs.specs.Diagnoses.{DiagnosisFailsBy}
+use Rattle.bk_cli.specs.declared.view.Diagnosis.{Diagnosis}
+use Rattle.bk_cli.specs.declared.view.Diagnosis.TheVariants as sought
+use Rattle.bk_cli.specs.Exits.{absence, exit_by_lines, ending, gives_state, may_be_absent, exit_after, exit_after_compare, exit_after_replay, exit_by_code, is_answer, is_report, may_end}
 use Rattle.bk_claim.specs.declared.verdict.Verdict.{Verdict}
 use Rattle.bk_claim.specs.declared.verdict.Verdict.TheVariants as verdict
 use Rattle.bk_jobs.specs.Comparisons.{CompareFailsBy}
@@ -101,6 +105,28 @@ pick_may_end workers shown accounts file (fault.Compared e) old new h = absurd h
 pick_may_end workers shown accounts file (fault.AbsentAccount id missing) old new h = absurd h
 pick_may_end workers shown accounts file (fault.AbsentPlace place missing) old new h = absurd h
 
+-- a diagnosis, which a stop ends only where it is read off an order
+diagnosis_may_end : (d : Diagnosis) (file : _) (e : Fault) (old new : Devices) → DiagnosisFailsBy d e old new → may_end (job.Diagnose d file) (exit_after_replay e) ≡ true
+diagnosis_may_end sought.Waiting file e old new h = replay_may_end (job.Diagnose sought.Waiting file) e refl refl
+diagnosis_may_end sought.Missing file e old new h = replay_may_end (job.Diagnose sought.Missing file) e refl refl
+diagnosis_may_end sought.Evidence file (replay.Feed found) old new h = feed_may_end (job.Diagnose sought.Evidence file) refl found.code
+diagnosis_may_end sought.Evidence file (replay.Collision id) old new h = absurd (let clash = h.1 refl in cc)
+diagnosis_may_end sought.Evidence file (replay.Equivocation round author one other) old new h = absurd (let clash = h.1 refl in cc)
+diagnosis_may_end sought.Evidence file (replay.Unfinished place) old new h = refl
+diagnosis_may_end sought.Evidence file (replay.Write written) old new h = refl
+diagnosis_may_end sought.Evidence file replay.Memory old new h = refl
+
+-- how one ends
+pub job_of_diagnosis : (d : Diagnosis) (file : _) (end : Exit) (some : Bool) → end ≡ exit_by_lines d some
+    → (is_answer (job.Diagnose d file) end ≡ true) × (may_end (job.Diagnose d file) end ≡ true)
+job_of_diagnosis d file end some e = subst (λ (x : Exit). (is_answer (job.Diagnose d file) x ≡ true) × (may_end (job.Diagnose d file) x ≡ true)) (sym e) (by_lines d some)
+  where
+    by_lines : (d : Diagnosis) (some : Bool) → (is_answer (job.Diagnose d file) (exit_by_lines d some) ≡ true) × (may_end (job.Diagnose d file) (exit_by_lines d some) ≡ true)
+    by_lines d false = (refl, refl)
+    by_lines sought.Waiting true = (refl, refl)
+    by_lines sought.Missing true = (refl, refl)
+    by_lines sought.Evidence true = (refl, refl)
+
 -- a job may end by its faults
 pub ends_by_fault : (j : Job) (e : JobFault) (old new : JobDevices) → JobFailsBy j e old new → may_end j (exit_after e) ≡ true
 ends_by_fault (job.Run workers file) (fault.Replay e) old new h = replay_may_end (job.Run workers file) e refl refl
@@ -110,11 +136,11 @@ ends_by_fault (job.Make file) (fault.Text (text.Script line found)) old new h = 
 ends_by_fault (job.Make file) (fault.Text text.Read) old new h = refl
 ends_by_fault (job.Make file) (fault.Text (text.Write written)) old new h = refl
 ends_by_fault (job.Make file) (fault.Text text.Memory) old new h = refl
-ends_by_fault (job.CheckProof root file) (fault.Replay e) old new h = absurd h
-ends_by_fault (job.CheckProof root file) (fault.Text (text.Script line found)) old new h = absurd h
-ends_by_fault (job.CheckProof root file) (fault.Text text.Read) old new h = refl
-ends_by_fault (job.CheckProof root file) (fault.Text (text.Write written)) old new h = refl
-ends_by_fault (job.CheckProof root file) (fault.Text text.Memory) old new h = refl
+ends_by_fault (job.CheckProof root account file) (fault.Replay e) old new h = absurd h
+ends_by_fault (job.CheckProof root account file) (fault.Text (text.Script line found)) old new h = absurd h
+ends_by_fault (job.CheckProof root account file) (fault.Text text.Read) old new h = refl
+ends_by_fault (job.CheckProof root account file) (fault.Text (text.Write written)) old new h = refl
+ends_by_fault (job.CheckProof root account file) (fault.Text text.Memory) old new h = refl
 ends_by_fault (job.Ask workers asked file) (fault.Replay e) old new h = replay_may_end (job.Ask workers asked file) e refl refl
 ends_by_fault (job.Ask workers asked file) (fault.Text e) old new h = absurd h
 ends_by_fault (job.Ask workers asked file) (fault.AbsentAccount id missing) old new h = absent_may_say_no asked h.answer.missing _ h.fault_is
@@ -123,8 +149,8 @@ ends_by_fault (job.Run workers file) (fault.AbsentAccount id missing) old new h 
 ends_by_fault (job.Run workers file) (fault.AbsentPlace place missing) old new h = absurd h
 ends_by_fault (job.Make file) (fault.AbsentAccount id missing) old new h = absurd h
 ends_by_fault (job.Make file) (fault.AbsentPlace place missing) old new h = absurd h
-ends_by_fault (job.CheckProof root file) (fault.AbsentAccount id missing) old new h = absurd h
-ends_by_fault (job.CheckProof root file) (fault.AbsentPlace place missing) old new h = absurd h
+ends_by_fault (job.CheckProof root account file) (fault.AbsentAccount id missing) old new h = absurd h
+ends_by_fault (job.CheckProof root account file) (fault.AbsentPlace place missing) old new h = absurd h
 ends_by_fault (job.CheckReport workers report file) (fault.Replay e) old new h = replay_may_end (job.CheckReport workers report file) e refl refl
 ends_by_fault (job.CheckReport workers report file) (fault.Text (text.Script line found)) old new h = absurd h
 ends_by_fault (job.CheckReport workers report file) (fault.Text text.Read) old new h = refl
@@ -152,11 +178,17 @@ ends_by_fault (job.Summary workers file) (fault.Compared e) old new h = absurd h
 ends_by_fault (job.Summary workers file) (fault.AbsentAccount id missing) old new h = absurd h
 ends_by_fault (job.Summary workers file) (fault.AbsentPlace place missing) old new h = absurd h
 ends_by_fault (job.Dag window file) (fault.Replay e) old new h = replay_may_end (job.Dag window file) e refl refl
+ends_by_fault (job.Diagnose d file) (fault.Replay e) old new h = diagnosis_may_end d file e (first_devices old) (first_devices new) h
 ends_by_fault (job.Dag window file) (fault.Text e) old new h = absurd h
+ends_by_fault (job.Diagnose d file) (fault.Text e) old new h = absurd h
 ends_by_fault (job.Dag window file) (fault.Events e) old new h = absurd h
+ends_by_fault (job.Diagnose d file) (fault.Events e) old new h = absurd h
 ends_by_fault (job.Dag window file) (fault.Compared e) old new h = absurd h
+ends_by_fault (job.Diagnose d file) (fault.Compared e) old new h = absurd h
 ends_by_fault (job.Dag window file) (fault.AbsentAccount id missing) old new h = absurd h
+ends_by_fault (job.Diagnose d file) (fault.AbsentAccount id missing) old new h = absurd h
 ends_by_fault (job.Dag window file) (fault.AbsentPlace place missing) old new h = absurd h
+ends_by_fault (job.Diagnose d file) (fault.AbsentPlace place missing) old new h = absurd h
 ends_by_fault (job.Apply file) (fault.AbsentAccount id missing) old new h = absurd h
 ends_by_fault (job.Apply file) (fault.AbsentPlace place missing) old new h = absurd h
 ends_by_fault (job.Apply file) (fault.Replay (replay.Feed found)) old new h = feed_may_end (job.Apply file) refl found.code
@@ -168,7 +200,7 @@ ends_by_fault (job.Apply file) (fault.Replay replay.Memory) old new h = refl
 ends_by_fault (job.Apply file) (fault.Text e) old new h = absurd h
 ends_by_fault (job.Run workers file) (fault.Events e) old new h = absurd h
 ends_by_fault (job.Make file) (fault.Events e) old new h = absurd h
-ends_by_fault (job.CheckProof root file) (fault.Events e) old new h = absurd h
+ends_by_fault (job.CheckProof root account file) (fault.Events e) old new h = absurd h
 ends_by_fault (job.Ask workers asked file) (fault.Events e) old new h = absurd h
 ends_by_fault (job.Apply file) (fault.Events e) old new h = absurd h
 ends_by_fault (job.Schedule workers feed events) (fault.Replay (replay.Feed found)) old new h =
@@ -188,7 +220,7 @@ ends_by_fault (job.Schedule workers feed events) (fault.AbsentAccount id missing
 ends_by_fault (job.Schedule workers feed events) (fault.AbsentPlace place missing) old new h = absurd h
 ends_by_fault (job.Run workers file) (fault.Compared e) old new h = absurd h
 ends_by_fault (job.Make file) (fault.Compared e) old new h = absurd h
-ends_by_fault (job.CheckProof root file) (fault.Compared e) old new h = absurd h
+ends_by_fault (job.CheckProof root account file) (fault.Compared e) old new h = absurd h
 ends_by_fault (job.Ask workers asked file) (fault.Compared e) old new h = absurd h
 ends_by_fault (job.Apply file) (fault.Compared e) old new h = absurd h
 ends_by_fault (job.Schedule workers feed events) (fault.Compared e) old new h = absurd h
@@ -207,8 +239,8 @@ ends_by_fault (job.Run workers file) (fault.Accounts line) old new h = absurd h
 ends_by_fault (job.Run workers file) (fault.Links line) old new h = absurd h
 ends_by_fault (job.Make file) (fault.Accounts line) old new h = absurd h
 ends_by_fault (job.Make file) (fault.Links line) old new h = absurd h
-ends_by_fault (job.CheckProof root file) (fault.Accounts line) old new h = absurd h
-ends_by_fault (job.CheckProof root file) (fault.Links line) old new h = absurd h
+ends_by_fault (job.CheckProof root account file) (fault.Accounts line) old new h = absurd h
+ends_by_fault (job.CheckProof root account file) (fault.Links line) old new h = absurd h
 ends_by_fault (job.Ask workers asked file) (fault.Accounts line) old new h = absurd h
 ends_by_fault (job.Ask workers asked file) (fault.Links line) old new h = absurd h
 ends_by_fault (job.CheckReport workers report file) (fault.Accounts line) old new h = absurd h
@@ -218,7 +250,9 @@ ends_by_fault (job.Frames file) (fault.Links line) old new h = absurd h
 ends_by_fault (job.Summary workers file) (fault.Accounts line) old new h = absurd h
 ends_by_fault (job.Summary workers file) (fault.Links line) old new h = absurd h
 ends_by_fault (job.Dag window file) (fault.Accounts line) old new h = absurd h
+ends_by_fault (job.Diagnose d file) (fault.Accounts line) old new h = absurd h
 ends_by_fault (job.Dag window file) (fault.Links line) old new h = absurd h
+ends_by_fault (job.Diagnose d file) (fault.Links line) old new h = absurd h
 ends_by_fault (job.Apply file) (fault.Accounts line) old new h = absurd h
 ends_by_fault (job.Apply file) (fault.Links line) old new h = absurd h
 ends_by_fault (job.Schedule workers feed events) (fault.Accounts line) old new h = absurd h
@@ -297,7 +331,7 @@ fault_is_none j (fault.Events (list.Refused line why)) old new h = refl
 fault_is_none j (fault.Events (list.Unfinished place)) old new h = refl
 fault_is_none (job.Run workers file) (fault.AbsentAccount id missing) old new h = absurd h
 fault_is_none (job.Make file) (fault.AbsentAccount id missing) old new h = absurd h
-fault_is_none (job.CheckProof root file) (fault.AbsentAccount id missing) old new h = absurd h
+fault_is_none (job.CheckProof root account file) (fault.AbsentAccount id missing) old new h = absurd h
 fault_is_none (job.Ask workers asked file) (fault.AbsentAccount id missing) old new h = absent_is_none asked h.answer.missing _ h.fault_is
 fault_is_none (job.CheckReport workers report file) (fault.AbsentAccount id missing) old new h = absurd h
 fault_is_none (job.CheckReport workers report file) (fault.AbsentPlace place missing) old new h = absurd h
@@ -306,11 +340,13 @@ fault_is_none (job.Frames file) (fault.AbsentPlace place missing) old new h = ab
 fault_is_none (job.Summary workers file) (fault.AbsentAccount id missing) old new h = absurd h
 fault_is_none (job.Summary workers file) (fault.AbsentPlace place missing) old new h = absurd h
 fault_is_none (job.Dag window file) (fault.AbsentAccount id missing) old new h = absurd h
+fault_is_none (job.Diagnose d file) (fault.AbsentAccount id missing) old new h = absurd h
 fault_is_none (job.Dag window file) (fault.AbsentPlace place missing) old new h = absurd h
+fault_is_none (job.Diagnose d file) (fault.AbsentPlace place missing) old new h = absurd h
 fault_is_none (job.Apply file) (fault.AbsentAccount id missing) old new h = absurd h
 fault_is_none (job.Run workers file) (fault.AbsentPlace place missing) old new h = absurd h
 fault_is_none (job.Make file) (fault.AbsentPlace place missing) old new h = absurd h
-fault_is_none (job.CheckProof root file) (fault.AbsentPlace place missing) old new h = absurd h
+fault_is_none (job.CheckProof root account file) (fault.AbsentPlace place missing) old new h = absurd h
 fault_is_none (job.Ask workers asked file) (fault.AbsentPlace place missing) old new h = absent_is_none asked h.answer.missing _ h.fault_is
 fault_is_none (job.Apply file) (fault.AbsentPlace place missing) old new h = absurd h
 fault_is_none (job.Schedule workers feed events) (fault.AbsentAccount id missing) old new h = absurd h

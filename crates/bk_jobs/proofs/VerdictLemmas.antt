@@ -8,12 +8,11 @@ use Rattle.bk_frames.specs.Device.{Device, Receives}
 use Rattle.bk_frames.specs.Writing.{StopsWriting}
 use Rattle.bk_frames.specs.declared.writing.WriteFault.{WriteFault}
 use Rattle.bk_results.specs.Devices.{devices}
-use Rattle.bk_report.specs.Proofs.{IsGoodProof}
 use Rattle.bk_script.specs.Answers.{HasRead, IsNotRead, IsRead}
 use Rattle.bk_results.specs.declared.script_fault.ScriptFault.{ScriptFault}
 use Rattle.bk_results.specs.declared.script_fault.ScriptFault.TheVariants as fault
 use Rattle.bk_cli.specs.Exits.{exit_by}
-use Rattle.bk_jobs.specs.Faults.{CheckFailsBy, IsVerdict, PartOfVerdictIsOut, VerdictIsOut, verdict_text}
+use Rattle.bk_jobs.specs.Faults.{CheckFailsBy, IsVerdict, ProvesFor, PartOfVerdictIsOut, VerdictIsOut, verdict_text}
 use Rattle.bk_cli.specs.declared.exit.Exit.TheVariants as exit
 
 -- all bytes were read, or too many for a proof
@@ -26,13 +25,14 @@ read_of_proof bytes text is = elim (cases_lt 65536 (length bytes)) [
   | inr short ↦ inl (is ∙ take_all 65537 bytes (omega (arith, short)))
 ]
 
-too_long : (root text : List ℕ) → 65536 < length text → IsGoodProof root text → ⊥
-too_long root text long p = let short = p.short in absurd (omega (arith, long, short))
+too_long : (root : List ℕ) (account : Option ℕ) (text : List ℕ) → 65536 < length text → ProvesFor root account text → ⊥
+too_long root None text long p = let short = p.short in absurd (omega (arith, long, short))
+too_long root (Some id) text long p = let short = p.0.short in absurd (omega (arith, long, short))
 
-pub verdict_of_read : (root bytes text : List ℕ) (good : Bool) → IsRead 65536 bytes text → (IsTrue good ↔ IsGoodProof root text) → IsVerdict root bytes good
-verdict_of_read root bytes text good is h = elim (read_of_proof bytes text is) [
-  | inl same ↦ subst (λ (t : List ℕ). IsTrue good ↔ IsGoodProof root t) same h
-  | inr long ↦ (λ t. absurd (too_long root text long.0 (h.0 t)), λ p. absurd (too_long root bytes long.1 p))
+pub verdict_of_read : (root : List ℕ) (account : Option ℕ) (bytes text : List ℕ) (good : Bool) → IsRead 65536 bytes text → (IsTrue good ↔ ProvesFor root account text) → IsVerdict root account bytes good
+verdict_of_read root account bytes text good is h = elim (read_of_proof bytes text is) [
+  | inl same ↦ subst (λ (t : List ℕ). IsTrue good ↔ ProvesFor root account t) same h
+  | inr long ↦ (λ t. absurd (too_long root account text long.0 (h.0 t)), λ p. absurd (too_long root account bytes long.1 p))
 ]
 
 known_then : (b : Option (List ℕ)) (P Q : List ℕ → Type 0) → ((bytes : List ℕ) → P bytes → Q bytes) → IfSome b P → IfSome b Q
@@ -43,35 +43,35 @@ keeps_all : (b : Option (List ℕ)) → Keeps b b
 keeps_all None = tt
 keeps_all (Some bytes) = refl
 
-pub verdict_is_out : (root text : List ℕ) (good : Bool) (old new out out' : Device) → HasRead 65536 old new text → (IsTrue good ↔ IsGoodProof root text)
-    → Receives out out' (verdict_text good) → VerdictIsOut root (exit_by good) (devices old out) (devices new out')
-verdict_is_out root text good old new out out' read h got = (
+pub verdict_is_out : (root : List ℕ) (account : Option ℕ) (text : List ℕ) (good : Bool) (old new out out' : Device) → HasRead 65536 old new text → (IsTrue good ↔ ProvesFor root account text)
+    → Receives out out' (verdict_text good) → VerdictIsOut root account (exit_by good) (devices old out) (devices new out')
+verdict_is_out root account text good old new out out' read h got = (
   good,
   refl,
   got,
-  ((text, read.3, h), known_then old.bytes (λ bytes. IsRead 65536 bytes text) (λ bytes. IsVerdict root bytes good) (λ bytes is. verdict_of_read root bytes text good is h) read.2),
+  ((text, read.3, h), known_then old.bytes (λ bytes. IsRead 65536 bytes text) (λ bytes. IsVerdict root account bytes good) (λ bytes is. verdict_of_read root account bytes text good is h) read.2),
 )
 
-pub verdict_stops : (root text : List ℕ) (good : Bool) (old new out out' : Device) (e : WriteFault) → HasRead 65536 old new text → (IsTrue good ↔ IsGoodProof root text)
-    → StopsWriting e (verdict_text good) out out' → CheckFailsBy root (fault.Write e.written) (devices old out) (devices new out')
-verdict_stops root text good old new out out' e read h stops = (
+pub verdict_stops : (root : List ℕ) (account : Option ℕ) (text : List ℕ) (good : Bool) (old new out out' : Device) (e : WriteFault) → HasRead 65536 old new text → (IsTrue good ↔ ProvesFor root account text)
+    → StopsWriting e (verdict_text good) out out' → CheckFailsBy root account (fault.Write e.written) (devices old out) (devices new out')
+verdict_stops root account text good old new out out' e read h stops = (
   read.0,
   stops.fails,
   (
     (text, read.3, (good, h, stops.short, stops.out)),
-    known_then old.bytes (λ bytes. IsRead 65536 bytes text) (PartOfVerdictIsOut root e.written out out')
-        (λ bytes is. (good, verdict_of_read root bytes text good is h, stops.short, stops.out)) read.2,
+    known_then old.bytes (λ bytes. IsRead 65536 bytes text) (PartOfVerdictIsOut root account e.written out out')
+        (λ bytes is. (good, verdict_of_read root account bytes text good is h, stops.short, stops.out)) read.2,
   ),
 )
 
-pub not_read : (root : List ℕ) (old new out : Device) (e : ScriptFault) → IsNotRead e old new → CheckFailsBy root e (devices old out) (devices new out)
-not_read root old new out (fault.Script line found) h = absurd h
-not_read root old new out fault.Read h = (h, (refl, keeps_all out.bytes))
-not_read root old new out (fault.Write written) h = absurd h
-not_read root old new out fault.Memory h = (h, (refl, keeps_all out.bytes))
+pub not_read : (root : List ℕ) (account : Option ℕ) (old new out : Device) (e : ScriptFault) → IsNotRead e old new → CheckFailsBy root account e (devices old out) (devices new out)
+not_read root account old new out (fault.Script line found) h = absurd h
+not_read root account old new out fault.Read h = (h, (refl, keeps_all out.bytes))
+not_read root account old new out (fault.Write written) h = absurd h
+not_read root account old new out fault.Memory h = (h, (refl, keeps_all out.bytes))
 
-pub no_memory : (root text : List ℕ) (old new out : Device) → HasRead 65536 old new text → CheckFailsBy root fault.Memory (devices old out) (devices new out)
-no_memory root text old new out read = (read.0, (refl, keeps_all out.bytes))
+pub no_memory : (root : List ℕ) (account : Option ℕ) (text : List ℕ) (old new out : Device) → HasRead 65536 old new text → CheckFailsBy root account fault.Memory (devices old out) (devices new out)
+no_memory root account text old new out read = (read.0, (refl, keeps_all out.bytes))
 
 pub yes_or_no : (good : Bool) → (exit_by good ≡ exit.Whole) ⊎ (exit_by good ≡ exit.No)
 yes_or_no true = inl refl

@@ -1,5 +1,5 @@
 -- What a job leaves: its answer, or the fault that kept it from one.
-use Rattle.std.specs.Prelude.{◌≡◌, ◌↔◌, ◌⊎◌, ℕ, ◌<◌, Bool, true, false, List, IfSome, codes, if◌then◌else◌, length, take, string_bytes, IsTrue, is_some, Ok, Err}
+use Rattle.std.specs.Prelude.{◌≡◌, ◌↔◌, ◌⊎◌, ℕ, ◌<◌, Bool, true, false, List, Option, Some, None, IfSome, codes, if◌then◌else◌, length, take, string_bytes, IsTrue, is_some, Ok, Err}
 use Rattle.bk_frames.specs.Device.{Device, Works, Fails, Receives, GaveAll}
 use Rattle.bk_results.specs.declared.compare_stop.CompareStop.{CompareStop}
 use Rattle.bk_results.specs.declared.fault.Fault.{Fault}
@@ -13,7 +13,7 @@ use Rattle.bk_ask.specs.declared.replied.Replied.{Replied}
 use Rattle.bk_listing.specs.Answers.{AllIsListed, ListFails}
 use Rattle.bk_picture.specs.Drawing.{drawing_text}
 use Rattle.bk_summary.specs.Summarizing.{IsSummaryText}
-use Rattle.bk_report.specs.Proofs.{IsGoodProof}
+use Rattle.bk_report.specs.Proofs.{IsGoodProof, IsGoodProofOf}
 use Rattle.bk_results.specs.declared.query.Query.{Query}
 use Rattle.bk_results.specs.declared.query.Reply.TheVariants as reply
 use Rattle.bk_claim.specs.Claims as claim
@@ -25,6 +25,7 @@ use Rattle.bk_script.specs.Script.{LineFault, feed_of}
 use Rattle.bk_results.specs.declared.script_fault.ScriptFault.{ScriptFault}
 use Rattle.bk_results.specs.declared.script_fault.ScriptFault.TheVariants as text
 use Rattle.bk_jobs.specs.Comparisons.{DoNotAgree, AgreementFailsBy, AgreementIsOut, AreStoppedTogether, AreWrongTogether}
+use Rattle.bk_jobs.specs.Diagnoses.{DiagnosisFailsBy, DiagnosisIsOut}
 use Rattle.bk_jobs.specs.Reports.{ClaimCheckFailsBy, ClaimIsUnread, claim_of, exit_by_verdict}
 use Rattle.bk_cli.specs.Exits.{absence, ending, exit_at, exit_by, exit_after}
 use Rattle.bk_cli.specs.Explanations.{told_of}
@@ -66,16 +67,21 @@ FeedIsOut end old new =
 abbrev pub verdict_text : Bool → List ℕ
 verdict_text good = if good then codes "proof good\n" else codes "proof bad\n"
 
--- the verdict on whether the bytes are a proof of this root
-abbrev pub IsVerdict : List ℕ → List ℕ → Bool → Type 0
-IsVerdict root bytes good = IsTrue good ↔ IsGoodProof root bytes
+-- the bytes are a proof of this root, and of the account with this id where one is named
+abbrev pub ProvesFor : List ℕ → Option ℕ → List ℕ → Type 0
+ProvesFor root None bytes = IsGoodProof root bytes
+ProvesFor root (Some id) bytes = IsGoodProofOf root id bytes
+
+-- the verdict on whether they are
+abbrev pub IsVerdict : List ℕ → Option ℕ → List ℕ → Bool → Type 0
+IsVerdict root account bytes good = IsTrue good ↔ ProvesFor root account bytes
 
 -- the output got the verdict on the text that the source gave, and on that which it had, where this is known; and the exit is
 -- the verdict's
-abbrev pub VerdictIsOut : List ℕ → Exit → Devices → Devices → Type 0
-VerdictIsOut root end old new =
+abbrev pub VerdictIsOut : List ℕ → Option ℕ → Exit → Devices → Devices → Type 0
+VerdictIsOut root account end old new =
     (good : Bool) × (end ≡ exit_by good) × Receives old.sink new.sink (verdict_text good)
-    × OfGiven old.source new.source (λ text. IsVerdict root text good)
+    × OfGiven old.source new.source (λ text. IsVerdict root account text good)
 
 -- the output got the whole reply to a query of the bytes that the source gave, and the exit is the reply's
 abbrev pub ReplyIsOut : Query → Exit → Devices → Devices → Type 0
@@ -116,8 +122,8 @@ ClaimIsOut end old new =
 abbrev pub AnswerIsOut : Job → Exit → JobDevices → JobDevices → Type 0
 AnswerIsOut (job.Run workers file) end old new = RunIsOut end (first_devices old) (first_devices new)
 AnswerIsOut (job.Make file) end old new = FeedIsOut end (first_devices old) (first_devices new)
-AnswerIsOut (job.CheckProof root file) end old new =
-    VerdictIsOut (string_bytes root) end (first_devices old) (first_devices new)
+AnswerIsOut (job.CheckProof root account file) end old new =
+    VerdictIsOut (string_bytes root) account end (first_devices old) (first_devices new)
 AnswerIsOut (job.Ask workers asked file) end old new =
     ReplyIsOut asked end (first_devices old) (first_devices new)
 AnswerIsOut (job.CheckReport workers report file) end old new = ClaimIsOut end old new
@@ -131,6 +137,7 @@ AnswerIsOut (job.Show workers shown file) end old new =
     ViewIsOut shown end (first_devices old) (first_devices new)
 AnswerIsOut (job.Pick workers shown accounts file) end old new = PickIsOut shown end old new
 AnswerIsOut (job.Follow workers accounts wait file) end old new = FollowIsOut (is_some accounts) end old new
+AnswerIsOut (job.Diagnose d file) end old new = DiagnosisIsOut d end (first_devices old) (first_devices new)
 AnswerIsOut (job.CheckChain file) end old new = ChainIsOut end (first_devices old) (first_devices new)
 
 -- ---- why a job has no answer
@@ -140,20 +147,20 @@ abbrev pub script_devices : Devices → script.Devices
 script_devices d = script.devices d.source d.sink
 
 -- the first bytes of the verdict are out, and not all
-abbrev pub PartOfVerdictIsOut : List ℕ → ℕ → Device → Device → List ℕ → Type 0
-PartOfVerdictIsOut root written old new bytes =
-    (good : Bool) × IsVerdict root bytes good × (written < length (verdict_text good))
+abbrev pub PartOfVerdictIsOut : List ℕ → Option ℕ → ℕ → Device → Device → List ℕ → Type 0
+PartOfVerdictIsOut root account written old new bytes =
+    (good : Bool) × IsVerdict root account bytes good × (written < length (verdict_text good))
     × Receives old new (take written (verdict_text good))
 
 -- why there is no verdict, by the fault: a call of the source failed, and nothing is written; a call of the sink failed,
 -- and exactly the first bytes of the verdict are out; or memory ran out, and nothing is written
-abbrev pub CheckFailsBy : List ℕ → ScriptFault → Devices → Devices → Type 0
-CheckFailsBy root (text.Script line found) old new = ⊥
-CheckFailsBy root text.Read old new = Fails old.source new.source × IsUntouched old.sink new.sink
-CheckFailsBy root (text.Write written) old new =
+abbrev pub CheckFailsBy : List ℕ → Option ℕ → ScriptFault → Devices → Devices → Type 0
+CheckFailsBy root account (text.Script line found) old new = ⊥
+CheckFailsBy root account text.Read old new = Fails old.source new.source × IsUntouched old.sink new.sink
+CheckFailsBy root account (text.Write written) old new =
     Works old.source new.source × Fails old.sink new.sink
-    × OfGiven old.source new.source (PartOfVerdictIsOut root written old.sink new.sink)
-CheckFailsBy root text.Memory old new =
+    × OfGiven old.source new.source (PartOfVerdictIsOut root account written old.sink new.sink)
+CheckFailsBy root account text.Memory old new =
     Works old.source new.source × IsUntouched old.sink new.sink
 
 -- why a feed was not replayed for a job
@@ -177,14 +184,15 @@ ReplayFailsBy (job.Show workers shown file) e old new =
 ReplayFailsBy (job.Pick workers shown accounts file) e old new = PickFailsBy shown (fault.Replay e) old new
 ReplayFailsBy (job.Follow workers accounts wait file) e old new =
     FollowFailsBy (fault.Replay e) (is_some accounts) old new
+ReplayFailsBy (job.Diagnose d file) e old new = DiagnosisFailsBy d e (first_devices old) (first_devices new)
 ReplayFailsBy other e old new = ⊥
 
 -- why a text was not answered for a job
 abbrev pub TextFailsBy : Job → ScriptFault → JobDevices → JobDevices → Type 0
 TextFailsBy (job.Make file) e old new =
     script.FailsBy e (script_devices (first_devices old)) (script_devices (first_devices new))
-TextFailsBy (job.CheckProof root file) e old new =
-    CheckFailsBy (string_bytes root) e (first_devices old) (first_devices new)
+TextFailsBy (job.CheckProof root account file) e old new =
+    CheckFailsBy (string_bytes root) account e (first_devices old) (first_devices new)
 TextFailsBy (job.CheckReport workers report file) e old new = ClaimIsUnread e old new
 TextFailsBy (job.Pick workers shown accounts file) e old new = PickFailsBy shown (fault.Text e) old new
 TextFailsBy (job.Follow workers accounts wait file) e old new =
@@ -284,7 +292,7 @@ AreNoLinks bytes = (line : ℕ) × HasLinksFault bytes line
 abbrev pub AreWrong : Job → Inputs → Type 0
 AreWrong (job.Run workers file) given = IfSome given.first AreBroken
 AreWrong (job.Make file) given = IfSome given.first MakeNoFeed
-AreWrong (job.CheckProof root file) given = ⊥
+AreWrong (job.CheckProof root account file) given = ⊥
 AreWrong (job.Ask workers asked file) given = IfSome given.first AreBroken
 AreWrong (job.CheckReport workers report file) given = IfSome given.first AreBroken
 AreWrong (job.Frames file) given = IfSome given.first AreBroken
@@ -297,6 +305,7 @@ AreWrong (job.Show workers shown file) given = IfSome given.first AreBroken
 AreWrong (job.Pick workers shown accounts file) given = IfSome given.first AreBroken ⊎ IfSome given.second AreNoAccounts
 AreWrong (job.Follow workers accounts wait file) given =
     IfSome given.first AreBroken ⊎ IfSome given.second AreNoAccounts
+AreWrong (job.Diagnose d file) given = IfSome given.first AreBroken
 AreWrong (job.CheckChain file) given = IfSome given.first AreNoLinks
 
 -- the bytes are stopped by a collision or by twins
@@ -319,6 +328,7 @@ AreStoppedFor (job.Compare first second) given = AreStoppedTogether given
 AreStoppedFor (job.Show workers shown file) given = IfSome given.first AreStopped
 AreStoppedFor (job.Pick workers shown accounts file) given = IfSome given.first AreStopped
 AreStoppedFor (job.Follow workers accounts wait file) given = IfSome given.first AreStoppedAhead
+AreStoppedFor (job.Diagnose d file) given = IfSome given.first AreStopped
 AreStoppedFor other given = ⊥
 
 -- what bytes to blame are like, by the exit

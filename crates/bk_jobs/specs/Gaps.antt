@@ -15,7 +15,7 @@ use Rattle.bk_jobs.specs.Sources.{Inputs}
 abbrev pub AreGapsOf : Job → Inputs → Gaps → Type 0
 AreGapsOf (job.Run workers file) given gaps = gaps ≡ no_gaps
 AreGapsOf (job.Make file) given gaps = gaps ≡ no_gaps
-AreGapsOf (job.CheckProof root file) given gaps = gaps ≡ no_gaps
+AreGapsOf (job.CheckProof root account file) given gaps = gaps ≡ no_gaps
 AreGapsOf (job.Ask workers asked file) given gaps =
     IfSome given.first (λ bytes. IsGap bytes gaps.first) × (gaps.second ≡ None)
 AreGapsOf (job.CheckReport workers report file) given gaps = gaps ≡ no_gaps
@@ -27,6 +27,7 @@ AreGapsOf (job.Schedule workers feed events) given gaps = gaps ≡ no_gaps
 AreGapsOf (job.Show workers shown file) given gaps = gaps ≡ no_gaps
 AreGapsOf (job.Pick workers shown accounts file) given gaps = gaps ≡ no_gaps
 AreGapsOf (job.Follow workers accounts wait file) given gaps = gaps ≡ no_gaps
+AreGapsOf (job.Diagnose d file) given gaps = gaps ≡ no_gaps
 AreGapsOf (job.CheckChain file) given gaps = gaps ≡ no_gaps
 AreGapsOf (job.Compare first second) given gaps =
     IfBothGive given (λ bytes more. IsGap bytes gaps.first × IsGap more gaps.second)

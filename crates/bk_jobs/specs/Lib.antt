@@ -6,4 +6,5 @@ pub mod Reports
 pub mod private
 pub mod Schedules
 pub mod Views
+pub mod Diagnoses
 pub mod Sources

@@ -14,6 +14,7 @@ ghost use Rattle.bk_jobs.specs.private.Groups.{replays_one, replays_two, reads_f
 use crate::chaining::check_links;
 use crate::claiming::check_claim;
 use crate::comparing::compare_feeds;
+use crate::diagnosing::diagnose;
 use crate::drawing::draw_rounds;
 use crate::end::End;
 use crate::following::{follow, follow_some};
@@ -118,6 +119,7 @@ where
         | Job::Compare { .. }
         | Job::Pick { .. }
         | Job::Follow { .. }
+        | Job::Diagnose { .. }
         | Job::CheckChain { .. } => unreachable!(),
     }
 }
@@ -164,6 +166,16 @@ where
         }
         Job::Dag { window, .. } => {
             let end = draw_rounds(rt, *window, first, out)?;
+            Ok(End {
+                exit: end,
+                gaps: Gaps {
+                    first: None,
+                    second: None,
+                },
+            })
+        }
+        Job::Diagnose { sought, .. } => {
+            let end = diagnose(rt, *sought, first, out)?;
             Ok(End {
                 exit: end,
                 gaps: Gaps {
@@ -237,8 +249,8 @@ where
                 },
             })
         }
-        Job::CheckProof { root, .. } => {
-            let end = check(rt, root.as_bytes(), first, out)?;
+        Job::CheckProof { root, account, .. } => {
+            let end = check(rt, root.as_bytes(), *account, first, out)?;
             Ok(End {
                 exit: end,
                 gaps: Gaps {
@@ -277,7 +289,8 @@ where
         | Job::Compare { .. }
         | Job::Show { .. }
         | Job::Pick { .. }
-        | Job::Follow { .. } => unreachable!(),
+        | Job::Follow { .. }
+        | Job::Diagnose { .. } => unreachable!(),
     }
 }
 
@@ -361,6 +374,7 @@ where
         | Job::Schedule { .. }
         | Job::Show { .. }
         | Job::Follow { .. }
+        | Job::Diagnose { .. }
         | Job::CheckChain { .. } => unreachable!(),
     }
 }
@@ -400,7 +414,7 @@ where
         | Job::Summary { .. }
         | Job::Show { .. }
         | Job::Follow { accounts: None, .. } => answer_of_run(rt, job, gate, first, second, out),
-        Job::Frames { .. } | Job::Dag { .. } | Job::Apply { .. } => {
+        Job::Frames { .. } | Job::Dag { .. } | Job::Apply { .. } | Job::Diagnose { .. } => {
             answer_of_frames(rt, job, first, second, out)
         }
         Job::Make { .. } | Job::CheckProof { .. } | Job::Schedule { .. } | Job::CheckChain { .. } =>

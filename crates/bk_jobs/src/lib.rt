@@ -8,6 +8,7 @@ mod answering;
 mod chaining;
 mod claiming;
 mod comparing;
+mod diagnosing;
 mod drawing;
 mod end;
 mod following;

@@ -4,12 +4,13 @@ ghost use Rattle.std.specs.Prelude.{◌≡◌, ◌⊎◌, OnOk, IfOk, IfErr};
 ghost use Rattle.bk_frames.specs.Device.{CanBeUsed, Works};
 ghost use Rattle.bk_results.specs.Devices.{devices};
 ghost use Rattle.bk_script.specs.Answers as script;
-ghost use Rattle.bk_jobs.specs.Faults.{FeedIsOut, VerdictIsOut, CheckFailsBy, verdict_text};
+ghost use Rattle.bk_jobs.specs.Faults.{FeedIsOut, VerdictIsOut, CheckFailsBy, IsVerdict, verdict_text};
 
 use bk_cli::Exit;
 use bk_frames::{Sink, Source, push_all};
-use bk_report::{MOST_PROOF, check_proof};
+use bk_report::{MOST_PROOF, check_proof, check_proof_of};
 use bk_script::{ScriptFault, make, read_text};
+use std::alloc::{AllocError, Global};
 
 // How many bytes of a proof are asked for at once, at most.
 const PIECE: usize = 4_096;
@@ -47,29 +48,45 @@ fn verdict_text(good: bool) -> &'static [u8]
     }
 }
 
-/// Writes the verdict on whether a text is a proof of this root. Of a text that is too long, one byte more than a proof
+// Whether a text is a proof of this root, and of the account with this id where one is named.
+fn proves(
+    alloc: Global,
+    root: &[u8],
+    account: Option<u64>,
+    text: &[u8],
+) -> Result<bool, AllocError>
+    ensures { IfOk result (IsVerdict root.now account text.now) }
+{
+    match account {
+        Some(id) => check_proof_of(alloc, root, id, text),
+        None => check_proof(alloc, root, text),
+    }
+}
+
+/// Writes the verdict on whether a text is a proof of this root, and of this account where one is named. Of a text that is too long, one byte more than a proof
 /// can have is read.
 pub(crate) fn check<R: AllocGlobal, S: Source, O: Sink>(
     rt: &R,
     root: &[u8],
+    account: Option<u64>,
     source: &mut S,
     out: &mut O,
 ) -> Result<Exit, ScriptFault>
     requires source { CanBeUsed (S.state source.old) }
     requires out { CanBeUsed (O.state out.old) }
-    ensures verdict { IfOk result (λ end. VerdictIsOut root.now end
+    ensures verdict { IfOk result (λ end. VerdictIsOut root.now account end
         (devices (S.state source.old) (O.state out.old))
         (devices (S.state source.new) (O.state out.new))) }
     ensures answer { IfOk result (λ end. (end ≡ Exit.Whole) ⊎ (end ≡ Exit.No)) }
     ensures sound { OnOk result (Works (S.state source.old) (S.state source.new)
         × Works (O.state out.old) (O.state out.new)) }
-    ensures fault { IfErr result (λ e. CheckFailsBy root.now e
+    ensures fault { IfErr result (λ e. CheckFailsBy root.now account e
         (devices (S.state source.old) (O.state out.old))
         (devices (S.state source.new) (O.state out.new))) }
 {
     let mut piece = [0u8; PIECE];
     let text = read_text(rt.alloc(), source, &mut piece, MOST_PROOF)?;
-    let good = check_proof(rt.alloc(), root, &text)?;
+    let good = proves(rt.alloc(), root, account, &text)?;
     push_all(out, verdict_text(good))?;
     Ok(Exit::by(good))
 }

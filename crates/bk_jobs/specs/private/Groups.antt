@@ -17,12 +17,13 @@ abbrev pub reads_frames : Job → Bool
 reads_frames (job.Frames file) = true
 reads_frames (job.Dag window file) = true
 reads_frames (job.Apply file) = true
+reads_frames (job.Diagnose d file) = true
 reads_frames other = false
 
 -- a job that reads a script, a proof, links, or a list of events beside a feed
 abbrev pub reads_texts : Job → Bool
 reads_texts (job.Make file) = true
-reads_texts (job.CheckProof root file) = true
+reads_texts (job.CheckProof root account file) = true
 reads_texts (job.Schedule workers feed events) = true
 reads_texts (job.CheckChain file) = true
 reads_texts other = false

@@ -129,6 +129,21 @@ returns-in-Batches c =
     let found = found_of c.args.found.now in
     rw c.batches_of.ensures (ap word_of c.in-Batches.is, refl, sym (first_value-rows found (codes "FILE")) ∙ (sym c.get_str.ensures ∙ sym c.in_ok-file.ensures))
 
+pub returns-in-Waiting : goal.returns-in-Waiting
+returns-in-Waiting c =
+    let found = found_of c.args.found.now in
+    rw c.diagnosis_of.ensures (ap word_of c.in-Waiting.is, sym (first_value-rows found (codes "FILE")) ∙ (sym c.get_str.ensures ∙ sym c.in_ok-file.ensures))
+
+pub returns-in-Missing : goal.returns-in-Missing
+returns-in-Missing c =
+    let found = found_of c.args.found.now in
+    rw c.diagnosis_of-in-Missing.ensures (ap word_of c.in-Missing.is, sym (first_value-rows found (codes "FILE")) ∙ (sym c.get_str.ensures ∙ sym c.in_ok-file.ensures))
+
+pub returns-in-Evidence : goal.returns-in-Evidence
+returns-in-Evidence c =
+    let found = found_of c.args.found.now in
+    rw c.diagnosis_of-in-Evidence.ensures (ap word_of c.in-Evidence.is, sym (first_value-rows found (codes "FILE")) ∙ (sym c.get_str.ensures ∙ sym c.in_ok-file.ensures))
+
 pub link_of-requires : goal.link_of-requires
 link_of-requires c = let found = found_of c.args.found.now in sym (first_value-rows found (codes "FILE")) ∙ (sym c.get_str.ensures ∙ sym c.in_ok-file.ensures)
 

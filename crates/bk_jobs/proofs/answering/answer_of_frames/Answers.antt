@@ -1,5 +1,6 @@
 -- How each of these jobs may end with an answer.
 use Rattle.std.proofs.Common.{refl}
+use Rattle.bk_jobs.proofs.StatusLemmas.{job_of_diagnosis}
 use Rattle.bk_jobs.proofs.answering.answer_of_frames.Goals as goal
 
 pub returns-in_ok-end-in-Apply-clause-answer : goal.returns-in_ok-end-in-Apply-clause-answer
@@ -19,3 +20,9 @@ returns-in_ok-end-in-Frames-clause-gaps g c = rw c.in-Frames.is refl
 
 pub returns-in_ok-end-in-Dag-clause-gaps : goal.returns-in_ok-end-in-Dag-clause-gaps
 returns-in_ok-end-in-Dag-clause-gaps g c = rw c.in-Dag.is refl
+
+pub returns-in_ok-end-in-Diagnose-clause-answer : goal.returns-in_ok-end-in-Diagnose-clause-answer
+returns-in_ok-end-in-Diagnose-clause-answer g c = rw c.in-Diagnose.is (job_of_diagnosis c.in-Diagnose.sought _ _ c.in_ok-end-in-Diagnose.ensures.diagnosis.0 c.in_ok-end-in-Diagnose.ensures.diagnosis.1)
+
+pub returns-in_ok-end-in-Diagnose-clause-gaps : goal.returns-in_ok-end-in-Diagnose-clause-gaps
+returns-in_ok-end-in-Diagnose-clause-gaps g c = rw c.in-Diagnose.is refl

@@ -47,25 +47,34 @@ pub returns-then-is-14 : goal.returns-then-is-14
 returns-then-is-14 c = is_word _ (codes "batches") (c.is-14.ensures ∙ c.if-is-14.true)
 
 pub returns-then-is-15 : goal.returns-then-is-15
-returns-then-is-15 c = is_word _ (codes "check-proof") (c.is-15.ensures ∙ c.if-is-15.true)
+returns-then-is-15 c = is_word _ (codes "waiting") (c.is-15.ensures ∙ c.if-is-15.true)
 
 pub returns-then-is-16 : goal.returns-then-is-16
-returns-then-is-16 c = is_word _ (codes "check-state") (c.is-16.ensures ∙ c.if-is-16.true)
+returns-then-is-16 c = is_word _ (codes "missing") (c.is-16.ensures ∙ c.if-is-16.true)
 
 pub returns-then-is-17 : goal.returns-then-is-17
-returns-then-is-17 c = is_word _ (codes "check-report") (c.is-17.ensures ∙ c.if-is-17.true)
+returns-then-is-17 c = is_word _ (codes "evidence") (c.is-17.ensures ∙ c.if-is-17.true)
 
 pub returns-then-is-18 : goal.returns-then-is-18
-returns-then-is-18 c = is_word _ (codes "apply") (c.is-18.ensures ∙ c.if-is-18.true)
+returns-then-is-18 c = is_word _ (codes "check-proof") (c.is-18.ensures ∙ c.if-is-18.true)
 
 pub returns-then-is-19 : goal.returns-then-is-19
-returns-then-is-19 c = is_word _ (codes "schedule") (c.is-19.ensures ∙ c.if-is-19.true)
+returns-then-is-19 c = is_word _ (codes "check-state") (c.is-19.ensures ∙ c.if-is-19.true)
 
 pub returns-then-is-20 : goal.returns-then-is-20
-returns-then-is-20 c = is_word _ (codes "compare") (c.is-20.ensures ∙ c.if-is-20.true)
+returns-then-is-20 c = is_word _ (codes "check-report") (c.is-20.ensures ∙ c.if-is-20.true)
 
 pub returns-then-is-21 : goal.returns-then-is-21
-returns-then-is-21 c = is_word _ (codes "link") (c.is-21.ensures ∙ c.if-is-21.true)
+returns-then-is-21 c = is_word _ (codes "apply") (c.is-21.ensures ∙ c.if-is-21.true)
+
+pub returns-then-is-22 : goal.returns-then-is-22
+returns-then-is-22 c = is_word _ (codes "schedule") (c.is-22.ensures ∙ c.if-is-22.true)
+
+pub returns-then-is-23 : goal.returns-then-is-23
+returns-then-is-23 c = is_word _ (codes "compare") (c.is-23.ensures ∙ c.if-is-23.true)
+
+pub returns-then-is-24 : goal.returns-then-is-24
+returns-then-is-24 c = is_word _ (codes "link") (c.is-24.ensures ∙ c.if-is-24.true)
 
 pub returns : goal.returns
 returns c =
@@ -84,11 +93,14 @@ returns c =
     let after_transactions = not_first word (codes "transactions") (drop 12 all_words) (c.is-12.ensures ∙ c.if-is-12.false) after_statement in
     let after_postings = not_first word (codes "postings") (drop 13 all_words) (c.is-13.ensures ∙ c.if-is-13.false) after_transactions in
     let after_batches = not_first word (codes "batches") (drop 14 all_words) (c.is-14.ensures ∙ c.if-is-14.false) after_postings in
-    let after_check_proof = not_first word (codes "check-proof") (drop 15 all_words) (c.is-15.ensures ∙ c.if-is-15.false) after_batches in
-    let after_check_state = not_first word (codes "check-state") (drop 16 all_words) (c.is-16.ensures ∙ c.if-is-16.false) after_check_proof in
-    let after_check_report = not_first word (codes "check-report") (drop 17 all_words) (c.is-17.ensures ∙ c.if-is-17.false) after_check_state in
-    let after_apply = not_first word (codes "apply") (drop 18 all_words) (c.is-18.ensures ∙ c.if-is-18.false) after_check_report in
-    let after_schedule = not_first word (codes "schedule") (drop 19 all_words) (c.is-19.ensures ∙ c.if-is-19.false) after_apply in
-    let after_compare = not_first word (codes "compare") (drop 20 all_words) (c.is-20.ensures ∙ c.if-is-20.false) after_schedule in
-    let after_link = not_first word (codes "link") (drop 21 all_words) (c.is-21.ensures ∙ c.if-is-21.false) after_compare in
+    let after_waiting = not_first word (codes "waiting") (drop 15 all_words) (c.is-15.ensures ∙ c.if-is-15.false) after_batches in
+    let after_missing = not_first word (codes "missing") (drop 16 all_words) (c.is-16.ensures ∙ c.if-is-16.false) after_waiting in
+    let after_evidence = not_first word (codes "evidence") (drop 17 all_words) (c.is-17.ensures ∙ c.if-is-17.false) after_missing in
+    let after_check_proof = not_first word (codes "check-proof") (drop 18 all_words) (c.is-18.ensures ∙ c.if-is-18.false) after_evidence in
+    let after_check_state = not_first word (codes "check-state") (drop 19 all_words) (c.is-19.ensures ∙ c.if-is-19.false) after_check_proof in
+    let after_check_report = not_first word (codes "check-report") (drop 20 all_words) (c.is-20.ensures ∙ c.if-is-20.false) after_check_state in
+    let after_apply = not_first word (codes "apply") (drop 21 all_words) (c.is-21.ensures ∙ c.if-is-21.false) after_check_report in
+    let after_schedule = not_first word (codes "schedule") (drop 22 all_words) (c.is-22.ensures ∙ c.if-is-22.false) after_apply in
+    let after_compare = not_first word (codes "compare") (drop 23 all_words) (c.is-23.ensures ∙ c.if-is-23.false) after_schedule in
+    let after_link = not_first word (codes "link") (drop 24 all_words) (c.is-24.ensures ∙ c.if-is-24.false) after_compare in
     the_last word (codes "check-chain") after_link

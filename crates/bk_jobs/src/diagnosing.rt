@@ -1,0 +1,41 @@
+//! The job that says what is wrong with a feed.
+
+ghost use Rattle.std.specs.Prelude.{◌≡◌, false, OnOk, IfOk, IfErr};
+ghost use Rattle.bk_frames.specs.Device.{CanBeUsed, Works};
+ghost use Rattle.bk_answer.specs.Answers.{AnswerFailsBy, IsAnswered};
+ghost use Rattle.bk_cli.specs.Exits.{exit_by_lines};
+ghost use Rattle.bk_results.specs.Devices.{devices};
+ghost use Rattle.bk_jobs.specs.Diagnoses.{DiagnosisFailsBy, DiagnosisIsOut};
+
+use bk_cli::{Diagnosis, Exit};
+use bk_diagnosis::{Evidence, Missing, Waiting};
+use bk_follow::{answer_by_frames, answer_by_order};
+use bk_frames::{Sink, Source};
+use bk_results::Fault;
+use std::thread::Threads;
+
+/// Writes what is wrong with a feed.
+pub(crate) fn diagnose<R: Threads + Sync + AllocGlobal, S: Source, O: Sink>(
+    rt: &R,
+    sought: Diagnosis,
+    source: &mut S,
+    out: &mut O,
+) -> Result<Exit, Fault>
+    requires source { CanBeUsed (S.state source.old) }
+    requires out { CanBeUsed (O.state out.old) }
+    ensures diagnosis { IfOk result (λ end. DiagnosisIsOut sought end
+        (devices (S.state source.old) (O.state out.old))
+        (devices (S.state source.new) (O.state out.new))) }
+    ensures sound { OnOk result (Works (S.state source.old) (S.state source.new)
+        × Works (O.state out.old) (O.state out.new)) }
+    ensures fault { IfErr result (λ e. DiagnosisFailsBy sought e
+        (devices (S.state source.old) (O.state out.old))
+        (devices (S.state source.new) (O.state out.new))) }
+{
+    let some = match sought {
+        Diagnosis::Waiting => answer_by_order(rt, rt.alloc(), source, out, &Waiting)?,
+        Diagnosis::Missing => answer_by_order(rt, rt.alloc(), source, out, &Missing)?,
+        Diagnosis::Evidence => answer_by_frames(rt, rt.alloc(), source, out, &Evidence)?,
+    };
+    Ok(Exit::by_lines(sought, some))
+}
