@@ -83,7 +83,11 @@ where
 
 /// Whether it is a job that gets an answer and writes nothing before it.
 pub(crate) fn is_answered(example: &Example<'_>) -> bool {
-    !matches!(example.command, "run" | "frames") && matches!(example.status, 0 | 5)
+    match example.status {
+        0 | 5 => !matches!(example.command, "run" | "frames"),
+        1 => matches!(example.command, "waiting" | "evidence"),
+        _ => false,
+    }
 }
 
 /// Whether such a job ends well with each read and each write failing in turn.

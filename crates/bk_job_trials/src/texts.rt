@@ -59,7 +59,11 @@ where
 
 fn checking(alloc: Global, root: &str) -> Result<Job> {
     let root = String::from_str(alloc, root)?;
-    Ok(Job::CheckProof { root, file: None })
+    Ok(Job::CheckProof {
+        root,
+        account: None,
+        file: None,
+    })
 }
 
 // Whether a text is checked to this verdict.

@@ -2,7 +2,7 @@
 
 use crate::tally::Tally;
 use anyhow::Result;
-use bk_cli::{Job, parse};
+use bk_cli::{Diagnosis, Job, parse};
 use bk_results::Query;
 use std::alloc::Global;
 
@@ -23,11 +23,15 @@ enum Kind {
     Apply,
     Make,
     CheckProof,
+    CheckProofOfSeven,
     CheckState,
     Schedule,
     Compare,
     Follow,
     Wait,
+    Waiting,
+    Missing,
+    Evidence,
     Other,
 }
 
@@ -36,7 +40,10 @@ fn kind_of(job: &Job) -> Kind {
         Job::Run { .. } => Kind::Run,
         Job::Apply { .. } => Kind::Apply,
         Job::Make { .. } => Kind::Make,
-        Job::CheckProof { .. } => Kind::CheckProof,
+        Job::CheckProof { account: None, .. } => Kind::CheckProof,
+        Job::CheckProof {
+            account: Some(7), ..
+        } => Kind::CheckProofOfSeven,
         Job::Ask {
             asked: Query::State { .. },
             ..
@@ -45,6 +52,11 @@ fn kind_of(job: &Job) -> Kind {
         Job::Compare { .. } => Kind::Compare,
         Job::Follow { wait: false, .. } => Kind::Follow,
         Job::Follow { wait: true, .. } => Kind::Wait,
+        Job::Diagnose { sought, .. } => match sought {
+            Diagnosis::Waiting => Kind::Waiting,
+            Diagnosis::Missing => Kind::Missing,
+            Diagnosis::Evidence => Kind::Evidence,
+        },
         _ => Kind::Other,
     }
 }
@@ -61,7 +73,7 @@ fn workers_of(job: &Job) -> Option<usize> {
 
 const ROOT: &str = "a0f73141eeeda4cb3f115f1ee0468dde8a3de31db5fd987f0eec1df811bce063";
 
-const NAMED: [Named; 22] = [
+const NAMED: [Named; 27] = [
     Named {
         words: &["bkreplay", "run"],
         kind: Kind::Run,
@@ -130,6 +142,41 @@ const NAMED: [Named; 22] = [
         kind: Kind::CheckProof,
         workers: None,
         first: None,
+        second: None,
+    },
+    Named {
+        words: &["bkreplay", "check-proof", "--account", "7", "no root"],
+        kind: Kind::CheckProofOfSeven,
+        workers: None,
+        first: None,
+        second: None,
+    },
+    Named {
+        words: &["bkreplay", "check-proof", "no root", "a", "--account=7"],
+        kind: Kind::CheckProofOfSeven,
+        workers: None,
+        first: Some("a"),
+        second: None,
+    },
+    Named {
+        words: &["bkreplay", "waiting"],
+        kind: Kind::Waiting,
+        workers: None,
+        first: None,
+        second: None,
+    },
+    Named {
+        words: &["bkreplay", "missing", "a"],
+        kind: Kind::Missing,
+        workers: None,
+        first: Some("a"),
+        second: None,
+    },
+    Named {
+        words: &["bkreplay", "evidence", "a b.feed"],
+        kind: Kind::Evidence,
+        workers: None,
+        first: Some("a b.feed"),
         second: None,
     },
     Named {
