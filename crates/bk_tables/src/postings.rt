@@ -1,6 +1,6 @@
 //! What the places of an order do to each account, as what a feed answers.
 
-ghost use Rattle.std.specs.Prelude.{◌≡◌, ℕ, ◌+◌, ◌*◌, ◌≤◌, ◌<◌, ◌^◌, [], true, false, IsSome, length, map, OnOk, IfErr, IfOk};
+ghost use Rattle.std.specs.Prelude.{◌≡◌, ℕ, ◌+◌, ◌*◌, ◌≤◌, ◌<◌, ◌^◌, [], true, false, IsSome, drop, length, map, take, OnOk, IfErr, IfOk};
 ghost use Rattle.bk_frames.specs.Device.{CanBeUsed};
 ghost use Rattle.bk_frames.specs.Writing.{Writes};
 ghost use Rattle.bk_report.specs.Pages.{Written, blank, size_of};
@@ -37,14 +37,19 @@ fn are_enough(state: &State, txs: &[Option<Tx>]) -> bool {
     txs.len() > state.slots().len() / 8
 }
 
-// Makes a slot for each account that the transactions of an order declare.
-fn make_slots(alloc: Global, state: &mut State, intake: &Intake) -> Result<(), AllocError>
+// Makes a slot for each account that the transactions of the batches from this one on declare.
+fn make_slots(
+    alloc: Global,
+    state: &mut State,
+    intake: &Intake,
+    first: usize,
+) -> Result<(), AllocError>
     requires open { intake.now.failed ≡ false }
-    ensures { OnOk result
-        (IsReady (transactions_of intake.now.ordered.payloads.list) state.old state.new) }
+    ensures { OnOk result (IsReady
+        (transactions_of (drop first intake.now.ordered.payloads.list)) state.old state.new) }
 {
     let mut txs = Vec::new(alloc);
-    for index in 0..intake.batches() {
+    for index in first..intake.batches() {
         push_transactions(&mut txs, intake.payload(index))?;
         if are_enough(state, &txs) {
             state.prepare(alloc, &txs)?;
@@ -55,8 +60,19 @@ fn make_slots(alloc: Global, state: &mut State, intake: &Intake) -> Result<(), A
     Ok(())
 }
 
-// The accounts before the first place of an order, with a slot for each that its transactions declare. In version One
-// these need none.
+// The same where they need them: in version One they do not.
+fn cover(alloc: Global, state: &mut State, intake: &Intake, first: usize) -> Result<(), AllocError>
+    requires open { intake.now.failed ≡ false }
+    ensures { OnOk result (IsReady
+        (transactions_of (drop first intake.now.ordered.payloads.list)) state.old state.new) }
+{
+    match state.version() {
+        Version::One => Ok(()),
+        Version::Two => make_slots(alloc, state, intake, first),
+    }
+}
+
+// The accounts before the first place of an order, with a slot for each that its transactions declare.
 fn opened(
     alloc: Global,
     version: Version,
@@ -72,10 +88,7 @@ fn opened(
         (transactions_of intake.now.ordered.payloads.list) ≡ true) }
 {
     let mut state = State::new(alloc, version, opening)?;
-    match version {
-        Version::One => {}
-        Version::Two => make_slots(alloc, &mut state, intake)?,
-    }
+    cover(alloc, &mut state, intake, 0)?;
     Ok(state)
 }
 
@@ -118,7 +131,7 @@ fn put_batch<K: Sink>(
     Ok(())
 }
 
-// Executes all batches of an order, and puts their rows.
+// Executes the batches of an order from this one on, whose first place is this, and puts their rows.
 fn put_batches<K: Sink>(
     sink: &mut K,
     sheet: &mut Sheet,
@@ -126,26 +139,36 @@ fn put_batches<K: Sink>(
     state: &mut State,
     intake: &Intake,
     counts: &[Option<u16>],
+    first: usize,
+    start: usize,
 ) -> Result<(), WriteFault>
     requires sound { CanBeUsed (K.state sink.old) }
     requires open { intake.now.failed ≡ false }
     requires counts { counts.now ≡ map count_in intake.now.ordered.payloads.list }
     requires covered { are_covered state.old.version state.old.slots
-        (transactions_of intake.now.ordered.payloads.list) ≡ true }
+        (transactions_of (drop first intake.now.ordered.payloads.list)) ≡ true }
     requires room { HasRoom state.old.version
-        (length (transactions_of intake.now.ordered.payloads.list)) state.old.rows }
+        (length (transactions_of (drop first intake.now.ordered.payloads.list))) state.old.rows }
     requires few { length (transactions_of intake.now.ordered.payloads.list) < 2 ^ 32 }
-    requires size { size_of sheet.old.page ≤ 100 }
+    requires within { first ≤ length intake.now.ordered.payloads.list }
+    requires places { start ≡ length (transactions_of
+        (take first intake.now.ordered.payloads.list)) }
+    requires size { size_of sheet.old.page ≤ 1200 * start + 100 }
     ensures written { Written result (K.state sink.old) (K.state sink.new)
-        sheet.old.page sheet.new.page (postings_text accounts.now (walk_rows state.old.version 0
-        (transactions_of intake.now.ordered.payloads.list) state.old.rows)) }
-    ensures size { OnOk result (size_of sheet.new.page < 2 ^ 60) }
+        sheet.old.page sheet.new.page (postings_text accounts.now (walk_rows state.old.version start
+        (transactions_of (drop first intake.now.ordered.payloads.list)) state.old.rows)) }
+    ensures after { OnOk result (state.new ≡ ledger_of state.old.version state.old.slots
+        (state_after state.old.version
+        (transactions_of (drop first intake.now.ordered.payloads.list)) state.old.rows)) }
+    ensures size { OnOk result (size_of sheet.new.page
+        ≤ 1200 * length (transactions_of intake.now.ordered.payloads.list) + 100) }
 {
-    let mut place = 0;
-    for (batch, count) in counts.iter().enumerate() {
-        if let Some(count) = count {
-            put_batch(sink, sheet, accounts, state, intake.payload(batch), place)?;
-            place += usize::from(*count);
+    let mut place = start;
+    for batch in first..counts.len() {
+        if let Some(count) = counts[batch] {
+            let payload = intake.payload(batch);
+            put_batch(sink, sheet, accounts, state, payload, place)?;
+            place += usize::from(count);
         }
     }
     Ok(())
@@ -175,7 +198,7 @@ fn put_table<K: Sink>(
     ensures empty { OnOk result (sheet.new.page.bytes ≡ []) }
 {
     sheet.page.put_text(sink, HEADER)?;
-    put_batches(sink, sheet, accounts, state, intake, counts)?;
+    put_batches(sink, sheet, accounts, state, intake, counts, 0, 0)?;
     sheet.page.flush(sink)
 }
 

@@ -10,57 +10,57 @@ use Rattle.bk_tables.proofs.postings.put_batches.Goals.{in-Some+in_ok-put_batch,
 use Rattle.bk_tables.proofs.postings.put_batches.Goals as goal
 
 pub loop-batch-init : goal.loop-batch-init
-loop-batch-init g c = record { walks = walk_begun _ _ 0 c.args.state.now _ _ c.requires.covered c.requires.room; place = refl; size = c.requires.size }
+loop-batch-init g c = record { walks = walk_begun _ _ c.args.start c.args.state.now _ _ c.requires.covered c.requires.room; place = c.requires.places; size = c.requires.size }
 
 pub put_batch-requires-clause-grammar : goal.put_batch-requires-clause-grammar
 put_batch-requires-clause-grammar g c =
-    (count_some c.payload.result.now c.in-Some.count (sym (count_here c.args.intake.now.ordered.payloads.list c.args.counts.now c.loop-batch.batch None c.payload.result.now c.requires.counts c.loop-batch-test.true c.payload.ensures) ∙ c.in-Some.is)).0
+    (count_some c.payload-payload.result.now c.in-Some.count (sym (count_here c.args.intake.now.ordered.payloads.list c.args.counts.now c.loop-batch.batch None c.payload-payload.result.now c.requires.counts c.loop-batch-test.true c.payload-payload.ensures) ∙ c.in-Some.is)).0
 
 pub put_batch-requires-clause-covered : goal.put_batch-requires-clause-covered
 put_batch-requires-clause-covered g c =
     let payloads = c.args.intake.now.ordered.payloads.list in
-    let payload = c.payload.result.now in
-    part_covered c.args.accounts.now (transactions_of (drop c.loop-batch.batch payloads)) (transactions_in payload) (transactions_of (drop (c.loop-batch.batch + 1) payloads)) (left_txs payloads c.loop-batch.batch payload c.payload.ensures)
+    let payload = c.payload-payload.result.now in
+    part_covered c.args.accounts.now (transactions_of (drop c.loop-batch.batch payloads)) (transactions_in payload) (transactions_of (drop (c.loop-batch.batch + 1) payloads)) (left_txs payloads c.loop-batch.batch payload c.payload-payload.ensures)
     c.loop-batch.place (c.loop-batch.place + length (transactions_in payload)) refl c.loop-batch.state _ _ _ _ _ _ c.loop-batch.invariant.walks
 
 pub put_batch-requires-clause-room : goal.put_batch-requires-clause-room
 put_batch-requires-clause-room g c =
     let payloads = c.args.intake.now.ordered.payloads.list in
-    let payload = c.payload.result.now in
-    part_room c.args.accounts.now (transactions_of (drop c.loop-batch.batch payloads)) (transactions_in payload) (transactions_of (drop (c.loop-batch.batch + 1) payloads)) (left_txs payloads c.loop-batch.batch payload c.payload.ensures)
+    let payload = c.payload-payload.result.now in
+    part_room c.args.accounts.now (transactions_of (drop c.loop-batch.batch payloads)) (transactions_in payload) (transactions_of (drop (c.loop-batch.batch + 1) payloads)) (left_txs payloads c.loop-batch.batch payload c.payload-payload.ensures)
     c.loop-batch.place (c.loop-batch.place + length (transactions_in payload)) refl c.loop-batch.state _ _ _ _ _ _ c.loop-batch.invariant.walks
 
 pub put_batch-requires-clause-few : goal.put_batch-requires-clause-few
 put_batch-requires-clause-few g c =
-    let inside = places_inside c.args.intake.now.ordered.payloads.list c.loop-batch.batch c.payload.result.now c.payload.ensures in
+    let inside = places_inside c.args.intake.now.ordered.payloads.list c.loop-batch.batch c.payload-payload.result.now c.payload-payload.ensures in
     omega (arith, inside, c.loop-batch.invariant.place, c.requires.few)
 
 pub returns-in_err-put_batch-clause-written : goal.returns-in_err-put_batch-clause-written
 returns-in_err-put_batch-clause-written g c =
     let p = err_from_is_err_and c.from_residual.result c.from_residual.ensures.1 in
     let payloads = c.args.intake.now.ordered.payloads.list in
-    let payload = c.payload.result.now in
-    rw (p.1, p.2) (part_walk_stops c.args.accounts.now (transactions_of (drop c.loop-batch.batch payloads)) (transactions_in payload) (transactions_of (drop (c.loop-batch.batch + 1) payloads)) (left_txs payloads c.loop-batch.batch payload c.payload.ensures)
+    let payload = c.payload-payload.result.now in
+    rw (p.1, p.2) (part_walk_stops c.args.accounts.now (transactions_of (drop c.loop-batch.batch payloads)) (transactions_in payload) (transactions_of (drop (c.loop-batch.batch + 1) payloads)) (left_txs payloads c.loop-batch.batch payload c.payload-payload.ensures)
     c.loop-batch.place (c.loop-batch.place + length (transactions_in payload)) refl c.loop-batch.state _ _ _ _ _ _ c.loop-batch.invariant.walks _ _ c.in_err-put_batch.ensures.written)
 
 pub overflow_add-place : goal.overflow_add-place
 overflow_add-place g c =
     let payloads = c.args.intake.now.ordered.payloads.list in
-    let inside = places_inside payloads c.loop-batch.batch c.payload.result.now c.payload.ensures in
-    let n = (count_some c.payload.result.now c.in-Some.count (sym (count_here payloads c.args.counts.now c.loop-batch.batch None c.payload.result.now c.requires.counts c.loop-batch-test.true c.payload.ensures) ∙ c.in-Some.is)).1 in
+    let inside = places_inside payloads c.loop-batch.batch c.payload-payload.result.now c.payload-payload.ensures in
+    let n = (count_some c.payload-payload.result.now c.in-Some.count (sym (count_here payloads c.args.counts.now c.loop-batch.batch None c.payload-payload.result.now c.requires.counts c.loop-batch-test.true c.payload-payload.ensures) ∙ c.in-Some.is)).1 in
     omega (arith, inside, n, c.from-place.ensures, c.loop-batch.invariant.place, c.requires.few)
 
 pub loop-batch-preserved : goal.loop-batch-preserved
 loop-batch-preserved g c =
     let payloads = c.args.intake.now.ordered.payloads.list in
-    elim c.match-count.branch [
+    elim c.match-counts-batch.branch [
       | in-Some+in_ok-put_batch w ↦
-          let payload = w.payload.result.now in
-          let n = (count_some payload w.in-Some.count (sym (count_here payloads c.args.counts.now c.loop-batch.batch None payload c.requires.counts c.loop-batch-test.true w.payload.ensures) ∙ w.in-Some.is)).1 in
+          let payload = w.payload-payload.result.now in
+          let n = (count_some payload w.in-Some.count (sym (count_here payloads c.args.counts.now c.loop-batch.batch None payload c.requires.counts c.loop-batch-test.true w.payload-payload.ensures) ∙ w.in-Some.is)).1 in
           rw (w.sink-is, w.sheet-is, w.state-is, w.place-is) (record {
-            walks = part_put c.args.accounts.now (transactions_of (drop c.loop-batch.batch payloads)) (transactions_in payload) (transactions_of (drop (c.loop-batch.batch + 1) payloads)) (left_txs payloads c.loop-batch.batch payload w.payload.ensures)
+            walks = part_put c.args.accounts.now (transactions_of (drop c.loop-batch.batch payloads)) (transactions_in payload) (transactions_of (drop (c.loop-batch.batch + 1) payloads)) (left_txs payloads c.loop-batch.batch payload w.payload-payload.ensures)
                 c.loop-batch.place (c.loop-batch.place + w.from-place.result) (omega (arith, n, w.from-place.ensures)) c.loop-batch.state _ _ _ _ _ _ c.loop-batch.invariant.walks _ _ _ w.in_ok-put_batch.ensures.after w.in_ok-put_batch.ensures.written;
-            place = let m = next_place payloads c.loop-batch.batch payload w.payload.ensures in omega (arith, m, n, w.from-place.ensures, c.loop-batch.invariant.place);
+            place = let m = next_place payloads c.loop-batch.batch payload w.payload-payload.ensures in omega (arith, m, n, w.from-place.ensures, c.loop-batch.invariant.place);
             size = let s = w.in_ok-put_batch.ensures.size in omega (arith, s, n, w.from-place.ensures);
           })
       | in_default w ↦
@@ -87,3 +87,9 @@ returns-clause-size g c =
     let low = ap length c.requires.counts ∙ length-map payloads count_in in
     let all = ap length (all_txs payloads c.loop-batch.batch (omega (arith, low, c.loop-batch-test.false))) in
     omega (arith, all, c.loop-batch.invariant.place, c.loop-batch.invariant.size, c.requires.few)
+
+pub returns-clause-after : goal.returns-clause-after
+returns-clause-after g c =
+    let payloads = c.args.intake.now.ordered.payloads.list in
+    let low = ap length c.requires.counts ∙ length-map payloads count_in in
+    (walk_done c.args.accounts.now (transactions_of (drop c.loop-batch.batch payloads)) c.loop-batch.place c.loop-batch.state _ _ _ _ _ _ (no_txs payloads c.loop-batch.batch (omega (arith, low, c.loop-batch-test.false))) c.loop-batch.invariant.walks).1
