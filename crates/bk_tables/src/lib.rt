@@ -21,6 +21,7 @@ mod sheet;
 mod text;
 mod texts;
 mod transactions;
+mod walk;
 
 pub use accounts::Accounts;
 pub use batches::{BatchRow, Batches};

@@ -2,7 +2,7 @@ use Rattle.std.proofs.Common.{◌≡◌, ◌++◌, List, Option, drop}
 use Rattle.bk_tx.specs.Batches.{transactions_of}
 use Rattle.bk_tx.specs.Transaction.{Transaction}
 use Rattle.bk_tables.proofs.Slots.{AreMaking}
-use Rattle.bk_tables.proofs.postings.make_slots.Given as goal
+use Rattle.bk_tables.proofs.walk.make_slots.Given as goal
 
 abbrev pub invariant-loop-index : goal.invariant-loop-index
 invariant-loop-index l = record {

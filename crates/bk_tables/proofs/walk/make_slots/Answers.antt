@@ -3,8 +3,8 @@ use Rattle.bk_tx.specs.Batches.{transactions_in, transactions_of}
 use Rattle.bk_tx.specs.Transaction.{Transaction}
 use Rattle.bk_rules.specs.Ledger.{IsPrepared, are_covered}
 use Rattle.bk_tables.proofs.Slots.{AreMaking, all_made, left_txs, making_begun, making_made, making_waits, no_txs}
-use Rattle.bk_tables.proofs.postings.make_slots.Goals.{else-are_enough, then-are_enough+in_ok-prepare}
-use Rattle.bk_tables.proofs.postings.make_slots.Goals as goal
+use Rattle.bk_tables.proofs.walk.make_slots.Goals.{else-are_enough, then-are_enough+in_ok-prepare}
+use Rattle.bk_tables.proofs.walk.make_slots.Goals as goal
 
 pub loop-index-init : goal.loop-index-init
 loop-index-init c = record { so_far = []; left = refl; making = rw c.new-txs.ensures.items (making_begun c.args.state.now) }

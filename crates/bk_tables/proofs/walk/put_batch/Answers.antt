@@ -3,7 +3,7 @@ use Rattle.std.specs.Option.{option_copied}
 use Rattle.std.proofs.lemmas.Result.{err_from_is_err_and}
 use Rattle.bk_tables.proofs.PostingWalks.{batch_begun, batch_done, batch_here, text_covered, text_missing, text_put, text_room, text_stops}
 use Rattle.bk_tables.proofs.Walks.{texts_are, texts_counted, texts_there}
-use Rattle.bk_tables.proofs.postings.put_batch.Goals as goal
+use Rattle.bk_tables.proofs.walk.put_batch.Goals as goal
 
 pub returns-in_default-clause-written : goal.returns-in_default-clause-written
 returns-in_default-clause-written g c = absurd (texts_there c.args.payload.now c.requires.grammar (rw c.new-texts.ensures at c.in_default.ensures.found))

@@ -6,8 +6,8 @@ use Rattle.bk_tx.specs.Batches.{count_in, transactions_in, transactions_of}
 use Rattle.bk_tables.proofs.BatchWalks.{count_here, count_none, count_some, next_place, places_inside}
 use Rattle.bk_tables.proofs.PostingWalks.{part_covered, part_put, part_room, part_walk_stops, walk_begun, walk_done, walk_same}
 use Rattle.bk_tables.proofs.Slots.{all_txs, left_txs, no_txs, void_txs}
-use Rattle.bk_tables.proofs.postings.put_batches.Goals.{in-Some+in_ok-put_batch, in_default}
-use Rattle.bk_tables.proofs.postings.put_batches.Goals as goal
+use Rattle.bk_tables.proofs.walk.put_batches.Goals.{in-Some+in_ok-put_batch, in_default}
+use Rattle.bk_tables.proofs.walk.put_batches.Goals as goal
 
 pub loop-batch-init : goal.loop-batch-init
 loop-batch-init g c = record { walks = walk_begun _ _ c.args.start c.args.state.now _ _ c.requires.covered c.requires.room; place = c.requires.places; size = c.requires.size }

@@ -1,7 +1,7 @@
 use Rattle.std.proofs.Common.{drop, refl, sym, ◌∙◌}
 use Rattle.bk_rules.proofs.Widening.{covered_one}
 use Rattle.bk_tx.specs.Batches.{transactions_of}
-use Rattle.bk_tables.proofs.postings.cover.Goals as goal
+use Rattle.bk_tables.proofs.walk.cover.Goals as goal
 
 pub returns-in-One : goal.returns-in-One
 returns-in-One c = record {

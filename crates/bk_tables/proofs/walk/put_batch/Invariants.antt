@@ -6,7 +6,7 @@ use Rattle.bk_tx.specs.Batches.{transactions_in}
 use Rattle.bk_tables.specs.Postings.{postings_text}
 use Rattle.bk_tables.specs.private.Walking.{walk_rows}
 use Rattle.bk_tables.proofs.PostingWalks.{InBatch}
-use Rattle.bk_tables.proofs.postings.put_batch.Given as goal
+use Rattle.bk_tables.proofs.walk.put_batch.Given as goal
 
 abbrev pub invariant-loop-index : goal.invariant-loop-index
 invariant-loop-index g l = record {

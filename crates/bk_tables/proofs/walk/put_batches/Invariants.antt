@@ -6,7 +6,7 @@ use Rattle.bk_tx.specs.Batches.{transactions_of}
 use Rattle.bk_tables.specs.Postings.{postings_text}
 use Rattle.bk_tables.specs.private.Walking.{walk_rows}
 use Rattle.bk_tables.proofs.PostingWalks.{IsWalking}
-use Rattle.bk_tables.proofs.postings.put_batches.Given as goal
+use Rattle.bk_tables.proofs.walk.put_batches.Given as goal
 
 abbrev pub invariant-loop-batch : goal.invariant-loop-batch
 invariant-loop-batch g l = record {
