@@ -30,5 +30,6 @@ pub mod PostingTexts
 pub mod PostingWalks
 pub mod Slots
 pub mod PostingTables
+pub mod PostingsGrow
 pub mod CountedOnce
 pub mod RowsCounted

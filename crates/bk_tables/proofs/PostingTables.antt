@@ -74,7 +74,7 @@ rows_at_place c before more (Some t) all place at =
       };
     }) (parts_of t)
 
-walk_from : (c : Course) (before more : List (Option Transaction)) → c.txs ≡ before ++ more → (place : ℕ) → place ≡ length before → walk_rows c.version place more (state_after c.version before c.opening) ≡ postings_from c place more
+pub walk_from : (c : Course) (before more : List (Option Transaction)) → c.txs ≡ before ++ more → (place : ℕ) → place ≡ length before → walk_rows c.version place more (state_after c.version before c.opening) ≡ postings_from c place more
 walk_from c before [] all place at = refl
 walk_from c before (t ∷ more) all place at =
     let next = walk_from c (before ++ t ∷ []) more (all ∙ sym (append_assoc before (t ∷ []) more)) (place + 1) (let n = length-append before (t ∷ []) in omega (arith, n, at)) in

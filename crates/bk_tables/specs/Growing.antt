@@ -1,7 +1,13 @@
 -- A table that is written while its order grows.
-use Rattle.std.specs.Prelude.{◌≡◌, ◌≤◌, ℕ, ◌+◌, ◌*◌, List, length, take}
+use Rattle.std.specs.Prelude.{◌≡◌, ◌≤◌, ℕ, ◌+◌, ◌*◌, true, List, [], drop, length, take, Option, Some, None}
+use Rattle.bk_answer.specs.Closed.{ClosedValue}
+use Rattle.bk_base.specs.declared.genesis.Row.{Row}
+use Rattle.bk_base.specs.declared.version.Version.{Version}
 use Rattle.bk_report.specs.Pages.{PageValue, size_of}
+use Rattle.bk_rules.specs.Fold.{state_after}
+use Rattle.bk_rules.specs.Ledger.{Ledger, are_covered}
 use Rattle.bk_tx.specs.Batches.{transactions_of}
+use Rattle.bk_views.specs.Statement.{Course}
 
 -- how far a table is: the page on which it is put, how many batches of the order it shows, and how many places these have
 pub record Shown : Type 0 where
@@ -24,3 +30,41 @@ pub record ShowsAll (most : ℕ) (payloads : List (List ℕ)) (s : Shown) : Type
   pub batches : s.batch ≡ length payloads
   pub places : s.place ≡ length (transactions_of payloads)
   pub size : size_of s.page ≤ most * s.place + 100
+
+-- ---- rows that show accounts
+
+-- how far a table is whose rows show accounts after places: with the accounts after the places that it shows, once the
+-- opening accounts are known
+pub record Walked : Type 0 where
+  pub shown : Shown
+  pub state : Option Ledger
+
+abbrev pub none_walked : List ℕ → Walked
+none_walked header = record { shown = none_shown header; state = None }
+
+-- these are the accounts after these batches, from opening accounts; before the first batch there need be none
+abbrev pub AreAfter : Version → List Row → List (List ℕ) → Option Ledger → Type 0
+AreAfter version opening payloads None = payloads ≡ []
+AreAfter version opening payloads (Some l) =
+    (l.version ≡ version) × (l.rows ≡ state_after version (transactions_of payloads) opening)
+
+-- the accounts are those after the batches that are shown
+abbrev pub HasWalked : ClosedValue → Walked → Type 0
+HasWalked c w =
+    AreAfter c.ledger.state.version c.order.opening (take w.shown.batch c.order.taken.ordered.payloads.list) w.state
+
+-- they are known, and each account that the other batches declare has a slot
+pub record IsReadyFor (c : ClosedValue) (w : Walked) : Type 0 where
+  pub ledger : Ledger
+  pub known : w.state ≡ Some ledger
+  pub walked : HasWalked c (record { shown = w.shown; state = Some ledger })
+  pub covered : are_covered ledger.version ledger.slots
+      (transactions_of (drop w.shown.batch c.order.taken.ordered.payloads.list)) ≡ true
+
+-- the transactions of an order that was executed
+abbrev pub course_in : ClosedValue → Course
+course_in c = record {
+  version = c.ledger.state.version;
+  opening = c.order.opening;
+  txs = transactions_of c.order.taken.ordered.payloads.list;
+}

@@ -33,7 +33,7 @@ pub use laws::{
 pub use listing::{AccountsFault, MOST_LIST, read_accounts};
 pub use payment::{Asked, Kind, PaymentRow};
 pub use posting::Posting;
-pub use postings::Postings;
+pub use postings::{PostingRows, Postings};
 pub use transactions::{PaymentRows, Transactions};
 
 #[cfg(test)]
