@@ -61,10 +61,11 @@ pub record IsReadyFor (c : ClosedValue) (w : Walked) : Type 0 where
   pub covered : are_covered ledger.version ledger.slots
       (transactions_of (drop w.shown.batch c.order.taken.ordered.payloads.list)) ≡ true
 
--- the transactions of an order that was executed
+-- the transactions of these batches, from opening accounts
+abbrev pub course_with : Version → List Row → List (List ℕ) → Course
+course_with version opening payloads =
+    record { version = version; opening = opening; txs = transactions_of payloads }
+
+-- those of an order that was executed
 abbrev pub course_in : ClosedValue → Course
-course_in c = record {
-  version = c.ledger.state.version;
-  opening = c.order.opening;
-  txs = transactions_of c.order.taken.ordered.payloads.list;
-}
+course_in c = course_with c.ledger.state.version c.order.opening c.order.taken.ordered.payloads.list
