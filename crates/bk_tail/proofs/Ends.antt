@@ -1,8 +1,8 @@
 -- How following a feed ends.
-use Rattle.std.proofs.Common.{◌≡◌, inl, ◌∙◌, ℕ, List, [], ◌++◌, Option, Some, refl, sym, ap, subst, append-nil}
+use Rattle.std.proofs.Common.{◌≡◌, inl, ◌∙◌, ℕ, List, [], ◌++◌, Option, refl, sym, ap, subst, append-nil}
 use Rattle.std.specs.Prelude.{IfSome}
 use Rattle.bk_answer.specs.Answers.{IsAnswered}
-use Rattle.bk_answer.specs.RunReport.{HasNoStopIn, IsOrderIn, reach_of}
+use Rattle.bk_answer.specs.RunReport.{reach_of}
 use Rattle.bk_frames.specs.Device.{Fails, IfKnown, Works}
 use Rattle.bk_order.specs.Orders.{Ordered}
 use Rattle.bk_report.specs.Pages.{PageValue, Puts, Stops, blank}
@@ -10,7 +10,7 @@ use Rattle.bk_report.proofs.Putting.{all_out, puts_then}
 use Rattle.bk_follow.specs.Follower.{BookValue, IsSettled}
 use Rattle.bk_follow.specs.Queries.{missing_in}
 use Rattle.std.proofs.KnownBytes.{Appends-nil, Consumes-nil}
-use Rattle.bk_base.specs.Feed.{Frame, FeedValue, feed_of, genesis_of}
+use Rattle.bk_base.specs.Feed.{Frame, feed_of, genesis_of}
 use Rattle.bk_frames.specs.Device.{Device}
 use Rattle.bk_frames.specs.Pulling.{Gave}
 use Rattle.bk_results.specs.Devices.{devices}
@@ -19,7 +19,7 @@ use Rattle.bk_results.specs.declared.fault.Fault.TheVariants as fault
 use Rattle.bk_results.specs.declared.status.Status.{Status}
 use Rattle.bk_follow.specs.Follower.{Followed}
 use Rattle.bk_tail.specs.Tailing.{TableSoFar, TailFailsBy}
-use Rattle.bk_tail.specs.private.Putting.{HasPut, PutFails, TableKind}
+use Rattle.bk_tail.specs.private.Putting.{HasPut, IsTextOf, PutFails, PutNot, TableKind}
 use Rattle.bk_tail.specs.private.Steps.{AdvanceFails, GaveAfter, HasFollowed, IsWholeFeed}
 use Rattle.bk_tail.proofs.Growing.{IsBookAt, book_at, put_stops, so_far_longer}
 
@@ -43,13 +43,16 @@ module _ (k : TableKind) (start now first sink : Device) where
   pub put_fails : (f : Fault) (written : ℕ) (bytes : List ℕ) (frames : List Frame) (v : Followed) → f ≡ fault.Write written → HasFollowed start now bytes frames v → PutFails k written bytes first sink → TailFailsBy k.text f (devices start first) (devices now sink)
   put_fails f written bytes frames v is h fails = subst (λ (g : Fault). TailFailsBy k.text g (devices start first) (devices now sink)) (sym is) (h.works, fails.0, (bytes, h.gave, fails.1))
 
--- ---- the end of the feed
+  -- or memory ran out
+  pub put_not : (f : Fault) (bytes : List ℕ) (frames : List Frame) (v : Followed) → HasFollowed start now bytes frames v → PutNot k f bytes first sink → TailFailsBy k.text f (devices start first) (devices now sink)
+  put_not (fault.Feed found) bytes frames v h fails = absurd fails
+  put_not (fault.Collision id) bytes frames v h fails = absurd fails
+  put_not (fault.Equivocation round author one other) bytes frames v h fails = absurd fails
+  put_not (fault.Unfinished place) bytes frames v h fails = absurd fails
+  put_not (fault.Write written) bytes frames v h fails = (h.works, fails.0, (bytes, h.gave, fails.1))
+  put_not fault.Memory bytes frames v h out = (h.works, (bytes, h.gave, out))
 
--- which texts are a table of an order
-abbrev pub IsTextOf : TableKind → Type 0
-IsTextOf k =
-    (feed : FeedValue) (o : Ordered) → HasNoStopIn feed → IsOrderIn feed o
-    → k.text feed (reach_of o.payloads.missing) (k.header ++ k.rows feed.version (genesis_of feed.frames) o.payloads.list)
+-- ---- the end of the feed
 
 module _ (k : TableKind) (is_text : IsTextOf k) (start now first sink : Device) (all : List ℕ) (whole : List Frame) (v : Followed) (page : PageValue) (done : Ordered)
     (f : HasFollowed start now all whole v) (settled : IsSettled whole v) (w : IsWholeFeed all whole v) (h : HasPut k all whole v.cut.version first sink page done) (last : IfSome v.book (λ b. done ≡ b.taken.ordered)) where

@@ -1,5 +1,5 @@
 -- A table that is put while its feed is followed: more comes, more is put, and why it is not.
-use Rattle.std.proofs.Common.{◌≡◌, ◌⊎◌, inl, inr, ◌∙◌, ℕ, ◌+◌, ◌<◌, ◌≤◌, List, [], ◌∷◌, ◌++◌, length, take, Option, Some, refl, sym, ap, subst, append_assoc, append-nil, length-append, arith}
+use Rattle.std.proofs.Common.{◌≡◌, ◌⊎◌, inl, inr, ◌∙◌, ℕ, ◌+◌, ◌<◌, ◌≤◌, List, [], ◌∷◌, ◌++◌, length, Option, Some, refl, sym, ap, subst, append_assoc, append-nil, length-append, arith}
 use Rattle.std.proofs.KnownBytes.{Appends-nil}
 use Rattle.std.proofs.lemmas.List.Elements.{Contains-append_left}
 use Rattle.bk_base.specs.declared.genesis.Row.{Row}
@@ -20,7 +20,7 @@ use Rattle.bk_follow.specs.Follower.{BookValue, Followed, HasCome, IsCurrent, Is
 use Rattle.bk_follow.proofs.Books.{whole_part}
 use Rattle.bk_follow.proofs.Following.{good_of}
 use Rattle.bk_tail.specs.Tailing.{TableSoFar}
-use Rattle.bk_tail.specs.private.Putting.{HasPut, IsPartDone, PutFails, TableKind}
+use Rattle.bk_tail.specs.private.Putting.{AboutAccounts, HasPut, IsPartDone, PutFails, TableKind}
 use Rattle.bk_tail.proofs.OneVersion.{known_before}
 
 prefix_then : {X : Type 0} (xs ys zs : List X) → IsPrefix xs ys → IsPrefix ys zs → IsPrefix xs zs
@@ -99,7 +99,7 @@ book_at bytes frames v b come settled is =
       current = subst (λ (x : Option Version × Option BookValue). IsSettledBy x.0 frames x.1) (λ i. (g.known i, is i)) settled;
     }
 
-same_version : (o : Option Version) (v w : Version) → o ≡ Some v → o ≡ Some w → v ≡ w
+pub same_version : (o : Option Version) (v w : Version) → o ≡ Some v → o ≡ Some w → v ≡ w
 same_version o v w e f = cc
 
 module _ (k : TableKind) (bytes : List ℕ) (frames : List Frame) (v : Followed) (b : BookValue) (first now : Device) (page : PageValue) (done : Ordered) (come : HasCome bytes frames v) (at : IsBookAt bytes frames v b) (h : HasPut k bytes frames v.cut.version first now page done) where
@@ -156,3 +156,11 @@ module _ (k : TableKind) (bytes : List ℕ) (frames : List Frame) (v : Followed)
           stop.0 ∙ ap (λ (n : ℕ). n + 1) h.so_far.0,
           (feed, (v.cut, come.cuts, come.is_open, at.known), (end, (k.header ++ rows_of payloads, is_text, part_size first later (k.header ++ rows_of payloads) written s, part_out first later (k.header ++ rows_of payloads) written s))),
         )
+
+-- ---- what rows say of the accounts, where more frames come
+
+pub holds_longer : (k : TableKind) (holds : AboutAccounts) (frames next : List Frame) (version : Version) (done : Ordered) (shown : List ℕ) → (length frames < 2 → (done ≡ nothing_ordered) × (shown ≡ []))
+    → (length frames < 2 → (v : Version) (genesis : List Row) → holds v genesis []) → (2 ≤ length frames → holds version (genesis_of frames) done.payloads.list) → holds version (genesis_of (frames ++ next)) done.payloads.list
+holds_longer k holds [] next version done shown none few many = subst (λ (o : Ordered). holds version (genesis_of next) o.payloads.list) (sym (none (omega arith)).0) (few (omega arith) version (genesis_of next))
+holds_longer k holds (f ∷ []) next version done shown none few many = subst (λ (o : Ordered). holds version (genesis_of (f ∷ next)) o.payloads.list) (sym (none (omega arith)).0) (few (omega arith) version (genesis_of (f ∷ next)))
+holds_longer k holds (f ∷ g ∷ rest) next version done shown none few many = many (omega arith)

@@ -2,7 +2,7 @@ mod Pieces
 mod OneVersion
 mod Growing
 mod PaymentsPut
-mod PaymentsStep
+mod Step
 mod Ends
 mod PostingsPut
 mod RowsStay

@@ -1,24 +1,27 @@
 -- The payments of an order that grows.
 use Rattle.std.proofs.Common.{◌≡◌, ◌∙◌, ℕ, ◌+◌, ◌≤◌, List, [], ◌∷◌, ◌++◌, length, drop, get_or, take, Option, refl, sym, ap, append_assoc, length-append, arith}
-use Rattle.std.proofs.lemmas.List.{drop_at, get_or_append_left, take_at}
+use Rattle.std.proofs.lemmas.List.{drop_at, get_or_append_left, length-take-le, take-append-drop}
 use Rattle.std.proofs.lemmas.List.Concat.{flat_map-append, flat_map-cons}
 use Rattle.bk_base.specs.declared.genesis.Row.{Row}
 use Rattle.bk_base.specs.declared.version.Version.{Version}
-use Rattle.bk_base.specs.Feed.{FeedValue, genesis_of}
+use Rattle.bk_base.specs.Feed.{FeedValue}
 use Rattle.bk_commit.specs.Growth.{IsPrefix}
-use Rattle.bk_order.specs.Orders.{Ordered}
 use Rattle.bk_rules.specs.declared.receipt.Receipt.{Receipt}
 use Rattle.bk_rules.specs.declared.receipt.Status.TheVariants as status
 use Rattle.bk_rules.specs.Fold.{receipts_of, state_after}
 use Rattle.bk_rules.proofs.Folding.{length-receipts, receipts_append}
 use Rattle.bk_tx.specs.Batches.{transactions_in, transactions_of}
 use Rattle.bk_tx.specs.Transaction.{Transaction}
-use Rattle.bk_answer.specs.RunReport.{HasNoStopIn, IsOrderIn, reach_of}
-use Rattle.bk_tables.specs.Growing.{ShowsAll, ShowsFirst, Shown}
+use Rattle.bk_answer.specs.Answers.{IsMadeOf}
+use Rattle.bk_answer.specs.Closed.{ClosedValue}
+use Rattle.bk_frames.specs.Device.{Device, Fails, Works}
+use Rattle.bk_report.specs.Pages.{Puts, Stops}
+use Rattle.bk_results.specs.declared.fault.Fault.TheVariants as fault
+use Rattle.bk_tables.specs.Growing.{ShowsFirst, Shown}
 use Rattle.bk_tables.specs.Payments.{payments_text, rows_at, rows_from, rows_in}
 use Rattle.bk_tables.specs.declared.payment.PaymentRow.{PaymentRow}
 use Rattle.bk_tables.proofs.TableTexts.{payments_two}
-use Rattle.bk_tail.specs.private.Putting.{payments}
+use Rattle.bk_tail.specs.private.Putting.{IsMore, PutsMore, PutsNoMore, payloads_in, payments}
 
 -- ---- the rows of a place stay where more receipts come
 
@@ -75,20 +78,22 @@ payments_more ids v genesis xs payloads receipts batch place begins are e f =
     ap ((payments ids).rows v genesis) begins.1 ∙ payments_grow ids v genesis xs begins.0
     ∙ (λ i. (payments ids).rows v genesis xs ++ payments_text ids (rows_from (all i) (sym e i) (sym f i) (sym left i)))
 
--- ---- the batches that a table shows
+-- ---- what a call puts
 
-pub shows_first : (most : ℕ) (xs payloads : List (List ℕ)) (s : Shown) → IsPrefix xs payloads → ShowsAll most xs s → ShowsFirst most payloads s
-shows_first most xs payloads s begins all = record {
-  within = let n = ap length begins.1 in let m = length-append xs begins.0 in omega (arith, n, m, all.batches);
-  places = all.places ∙ ap (λ (ps : List (List ℕ)). length (transactions_of ps)) (sym (ap (take s.batch) begins.1 ∙ take_at xs begins.0 s.batch (sym all.batches)));
-  size = all.size;
-}
+module _ (ids : Option (List ℕ)) (c : ClosedValue) (made : (feed : FeedValue) × IsMadeOf c feed) (rows : Shown) (h : ShowsFirst 1800 (payloads_in c) rows) where
+  is_more : IsMore (payments ids) c rows.batch (payments_text ids (rows_from c.ledger.receipts rows.batch rows.place (drop rows.batch (payloads_in c))))
+  is_more =
+      let closed = made.1.1 in
+      let receipts : c.ledger.receipts ≡ receipts_of c.ledger.state.version (transactions_of (payloads_in c)) c.order.opening =
+      closed.executed.receipts ∙ (λ i. receipts_of (sym closed.executed.version i) (transactions_of (payloads_in c)) (sym closed.order.opening i)) in
+      payments_more ids c.ledger.state.version c.order.opening (take rows.batch (payloads_in c)) (payloads_in c) c.ledger.receipts rows.batch rows.place
+      (drop rows.batch (payloads_in c), sym (take-append-drop rows.batch (payloads_in c))) receipts (sym (length-take-le rows.batch (payloads_in c) h.within)) h.places
 
--- the text of an order's rows is a table
-pub payments_table : (ids : Option (List ℕ)) (feed : FeedValue) (o : Ordered) → HasNoStopIn feed → IsOrderIn feed o → (payments ids).text feed (reach_of o.payloads.missing) ((payments ids).header ++ (payments ids).rows feed.version (genesis_of feed.frames) o.payloads.list)
-payments_table ids feed o clear order = record {
-  outcome = record { ordered = o; receipts = receipts_of feed.version (transactions_of o.payloads.list) (genesis_of feed.frames); rows = state_after feed.version (transactions_of o.payloads.list) (genesis_of feed.frames) };
-  is_outcome = record { clear = clear; ordered = order; receipts = refl; rows = refl };
-  text_is = refl;
-  end_is = refl;
-}
+  abbrev more : List ℕ
+  more = payments_text ids (rows_from c.ledger.receipts rows.batch rows.place (drop rows.batch (payloads_in c)))
+
+  pub payments_put : (old new : Device) (after : Shown) → Works old new × Puts old new rows.page after.page more → PutsMore (payments ids) c old new rows after
+  payments_put old new after put = (more, is_more, put.0, put.1)
+
+  pub payments_stop : (old new : Device) (written : ℕ) → Fails old new × Stops old new rows.page more written → PutsNoMore (payments ids) c old new rows (fault.Write written)
+  payments_stop old new written stop = (more, is_more, stop.0, stop.1)

@@ -14,10 +14,7 @@ use Rattle.bk_answer.specs.RunReport.{HasNoStopIn, IsOrderIn, committee_in, late
 use Rattle.bk_follow.specs.Agreement.{HaveOneSetup}
 use Rattle.bk_tables.specs.Csv.{row_text}
 use Rattle.bk_tables.specs.Payments.{payments_header, payments_text, rows_from}
-use Rattle.bk_tables.specs.Postings.{postings_header, postings_text}
-use Rattle.bk_tables.specs.Tables.{IsPaymentTable, IsPostingTable, course_of}
-use Rattle.bk_tables.specs.declared.posting.Posting.{Posting}
-use Rattle.bk_tables.proofs.PostingTables.{walk_all}
+use Rattle.bk_tables.specs.Tables.{IsPaymentTable, IsPostingTable}
 use Rattle.bk_tail.specs.Laws.{RowsStay}
 use Rattle.bk_tail.specs.private.Putting.{TableKind, payments, postings}
 use Rattle.bk_tail.proofs.PaymentsPut.{payments_grow}
@@ -61,7 +58,7 @@ postings_read ids feed end text h = record {
   clear = h.is_outcome.clear;
   order = h.outcome.ordered;
   ordered = h.is_outcome.ordered;
-  text_is = h.text_is ∙ ap (λ (rows : List Posting). row_text postings_header ++ postings_text ids rows) (sym (walk_all (course_of feed h.outcome)));
+  text_is = h.text_is;
 }
 
 pub rows_stay : RowsStay

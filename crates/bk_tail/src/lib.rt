@@ -8,6 +8,8 @@
 mod laws;
 mod payments;
 mod piece;
+mod rows;
+mod tail;
 mod waiting;
 
 pub use laws::rows_stay;

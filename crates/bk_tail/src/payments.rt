@@ -1,100 +1,62 @@
 //! The payments of a feed that is followed.
 
-ghost use Rattle.std.specs.Prelude.{◌≡◌, ◌<◌, ◌≤◌, ℕ, List, length, IfOk, IfErr, IfSome, OnOk};
+ghost use Rattle.std.specs.Prelude.{◌≤◌, IfOk, IfErr};
 ghost use Rattle.bk_answer.specs.Answers.{IsAnswered};
-ghost use Rattle.bk_base.specs.Feed.{Frame};
-ghost use Rattle.bk_follow.specs.Follower.{HasCome, IsSettled, unfed};
-ghost use Rattle.bk_frames.specs.Device.{CanBeUsed, Device};
-ghost use Rattle.bk_frames.specs.declared.pulling.TheConstants.{PIECE};
-ghost use Rattle.bk_order.specs.Orders.{Ordered};
+ghost use Rattle.bk_frames.specs.Device.{CanBeUsed};
 ghost use Rattle.bk_results.specs.Devices.{devices};
-ghost use Rattle.bk_tables.specs.Csv.{row_text};
-ghost use Rattle.bk_tables.specs.Growing.{none_shown};
-ghost use Rattle.bk_tables.specs.Payments.{payments_header};
 ghost use Rattle.bk_tables.specs.Tables.{IsPaymentTable};
 ghost use Rattle.bk_tail.specs.Tailing.{TailFailsBy};
-ghost use Rattle.bk_tail.specs.private.Putting.{IsPutOn, PutFails, payments};
+ghost use Rattle.bk_tail.specs.private.Kinds.{no_payments, payments_short, payments_table};
+ghost use Rattle.bk_tail.specs.private.Putting.{payments};
 
-use crate::piece::{advance, reach};
-use bk_follow::Follower;
-use bk_frames::{PIECE, Sink, Source, WriteFault};
+use crate::rows::TableRows;
+use crate::tail::tail_table;
+use bk_answer::Closed;
+use bk_frames::{Sink, Source, WriteFault};
 use bk_pool::Gate;
 use bk_results::{Fault, Status};
 use bk_tables::{Accounts, PaymentRows, Transactions};
-use std::alloc::Global;
+use std::alloc::{AllocError, Global};
 use std::sync::Wait;
 use std::thread::Threads;
 
-// Puts the rows of the places that were executed since the last call.
-fn put_new<K: Sink>(
-    rows: &mut PaymentRows,
-    sink: &mut K,
-    accounts: &Option<Accounts>,
-    follower: &Follower,
-) -> Result<(), WriteFault>
-    requires sound { CanBeUsed (K.state sink.old) }
-    requires put { (bytes : List ℕ) × (frames : List Frame) × (first : Device) × (done : Ordered)
-        × HasCome bytes frames follower.now × IsSettled frames follower.now
-        × IsPutOn (payments accounts.now) 1800 bytes frames follower.now
-        first (K.state sink.old) rows.old done }
-    ensures put { OnOk result ((bytes : List ℕ) (frames : List Frame) (first : Device) (done : Ordered)
-        → HasCome bytes frames follower.now → IsSettled frames follower.now
-        → IsPutOn (payments accounts.now) 1800 bytes frames follower.now
-        first (K.state sink.old) rows.old done
-        → (now : Ordered) × IsPutOn (payments accounts.now) 1800 bytes frames follower.now
-        first (K.state sink.new) rows.new now
-        × IfSome follower.now.book (λ b. now ≡ b.taken.ordered)) }
-    ensures fault { IfErr result (λ e. (bytes : List ℕ) (frames : List Frame) (first : Device) (done : Ordered)
-        → HasCome bytes frames follower.now → IsSettled frames follower.now
-        → IsPutOn (payments accounts.now) 1800 bytes frames follower.now
-        first (K.state sink.old) rows.old done
-        → PutFails (payments accounts.now) e.written bytes first (K.state sink.new)) }
-{
-    match follower.closed() {
-        Some(closed) => rows.write_more(sink, accounts, &closed),
-        None => Ok(()),
-    }
-}
+impl TableRows for PaymentRows {
+    ghost kind = { payments };
 
-// Follows all that a source has, and writes its payments. The piece is room for its bytes.
-fn tail_rows<R, S: Source, K: Sink, G: Gate + Sync>(
-    rt: &R,
-    source: &mut S,
-    sink: &mut K,
-    piece: &mut [u8],
-    follower: &mut Follower,
-    gate: &G,
-    accounts: &Option<Accounts>,
-    rows: &mut PaymentRows,
-) -> Result<Status, Fault>
-where
-    R: Threads + Wait + Sync,
-    requires some { 0 < length piece.old }
-    requires few { length piece.old ≤ PIECE }
-    requires first { follower.old ≡ unfed }
-    requires none { rows.old ≡ none_shown (row_text payments_header) }
-    requires source { CanBeUsed (S.state source.old) }
-    requires sink { CanBeUsed (K.state sink.old) }
-    ensures answer { IfOk result (λ status. IsAnswered (IsPaymentTable accounts.now) status
-        (devices (S.state source.old) (K.state sink.old))
-        (devices (S.state source.new) (K.state sink.new))) }
-    ensures fault { IfErr result (λ f. TailFailsBy (IsPaymentTable accounts.now) f
-        (devices (S.state source.old) (K.state sink.old))
-        (devices (S.state source.new) (K.state sink.new))) }
-{
-    'pieces: loop {
-        let ended = advance(rt, source, piece, follower, gate)?;
-        put_new(rows, sink, accounts, follower)?;
-        if ended {
-            rows.end(sink)?;
-            return Ok(reach(follower));
-        }
+    ghost shown = { λ r. r };
+
+    ghost holds = { λ r version genesis payloads. Unit {0} };
+
+    fn none(alloc: Global) -> Result<PaymentRows, AllocError> {
+        PaymentRows::new(alloc)
     }
+
+    fn put_more<K: Sink>(
+        &mut self,
+        alloc: Global,
+        sink: &mut K,
+        accounts: &Option<Accounts>,
+        closed: &Closed<'_>,
+    ) -> Result<(), Fault> {
+        let _ = alloc;
+        self.write_more(sink, accounts, closed)?;
+        Ok(())
+    }
+
+    fn put_end<K: Sink>(&mut self, sink: &mut K) -> Result<(), WriteFault> {
+        self.end(sink)
+    }
+
+    ghost no_rows = { no_payments };
+
+    ghost short = { payments_short };
+
+    ghost is_text = { payments_table };
 }
 
 /// Reads a feed to its end, and writes the table of its payments as it becomes final: after each piece of at most
-/// [`PIECE`] bytes, the rows of the places that the whole frames so far add to the order, before more is read. The header
-/// comes with the first rows, or at the end.
+/// [`PIECE`](bk_frames::PIECE) bytes, the rows of the places that the whole frames so far add to the order, before more is
+/// read. The header comes with the first rows, or at the end.
 ///
 /// A fault of the feed or a stop ends it at the piece that shows it, and of that piece no row is written. What is out
 /// then is the table of a feed that nothing stops, or nothing; what a failed sink has is the beginning of one.
@@ -119,19 +81,6 @@ where
         (devices (S.state source.old) (K.state sink.old))
         (devices (S.state source.new) (K.state sink.new))) }
 {
-    let mut piece = vec![in alloc; 0u8; PIECE]?;
-    let mut rows = PaymentRows::new(alloc)?;
-    let mut follower = Follower::new(alloc, workers);
-    let end = tail_rows(
-        rt,
-        source,
-        sink,
-        piece.as_mut_slice(),
-        &mut follower,
-        gate,
-        &asked.accounts,
-        &mut rows,
-    );
-    follower.discard();
-    end
+    let accounts = &asked.accounts;
+    tail_table::<R, S, K, G, PaymentRows>(rt, alloc, source, sink, workers, gate, accounts)
 }

@@ -1,28 +1,34 @@
 -- A table that is put while its feed is followed. `rows` stands for the text of its rows: of the batches of an order, from
 -- opening accounts, in a version.
-use Rattle.std.specs.Prelude.{◌≡◌, ◌<◌, ◌≤◌, ◌^◌, ℕ, List, [], ◌++◌, length, Option, Some}
+use Rattle.std.specs.Prelude.{◌≡◌, ◌<◌, ◌≤◌, ◌^◌, ℕ, List, [], ◌++◌, length, take, Option, Some}
+use Rattle.bk_answer.specs.Closed.{ClosedValue}
+use Rattle.bk_answer.specs.RunReport.{HasNoStopIn, IsOrderIn, reach_of}
 use Rattle.bk_base.specs.Feed.{Frame, FeedValue, feed_of, genesis_of}
 use Rattle.bk_base.specs.declared.genesis.Row.{Row}
 use Rattle.bk_base.specs.declared.version.Version.{Version}
-use Rattle.bk_frames.specs.Device.{Device, Fails}
+use Rattle.bk_frames.specs.Device.{Device, Fails, Works}
 use Rattle.bk_order.specs.Intake.{nothing_ordered}
 use Rattle.bk_order.specs.Orders.{Ordered}
-use Rattle.bk_report.specs.Pages.{PageValue, Puts, blank}
+use Rattle.bk_report.specs.Pages.{PageValue, Puts, Stops, blank}
+use Rattle.bk_results.specs.declared.fault.Fault.{Fault}
+use Rattle.bk_results.specs.declared.fault.Fault.TheVariants as fault
 use Rattle.bk_results.specs.declared.status.Status.{Status}
 use Rattle.bk_follow.specs.Follower.{Followed, OrdersPart}
 use Rattle.bk_tables.specs.Csv.{row_text}
-use Rattle.bk_tables.specs.Growing.{Shown, ShowsAll}
+use Rattle.bk_tables.specs.Growing.{Shown, ShowsAll, course_with}
 use Rattle.bk_tables.specs.Payments.{payments_header, payments_text, rows_from}
+use Rattle.bk_tables.specs.Postings as table
 use Rattle.bk_tables.specs.Postings.{postings_header, postings_text}
 use Rattle.bk_tables.specs.Tables.{IsPaymentTable, IsPostingTable}
-use Rattle.bk_tables.specs.private.Walking.{walk_rows}
 use Rattle.bk_tail.specs.Tailing.{OfWholeFrames, TableSoFar, TableStops}
 use Rattle.bk_rules.specs.Fold.{receipts_of}
 use Rattle.bk_tx.specs.Batches.{transactions_of}
 
--- a kind of table: its header, the text of its rows, and which texts are that of a feed
+-- a kind of table: its header, how many bytes the rows of a place have at most, the text of its rows, and which texts are
+-- that of a feed
 pub record TableKind : Type 1 where
   pub header : List ℕ
+  pub most : ℕ
   pub rows : Version → List Row → List (List ℕ) → List ℕ
   pub text : FeedValue → Status → List ℕ → Type 0
 
@@ -30,6 +36,7 @@ pub record TableKind : Type 1 where
 abbrev pub payments : Option (List ℕ) → TableKind
 payments ids = record {
   header = row_text payments_header;
+  most = 1800;
   rows = λ version genesis payloads.
       payments_text ids (rows_from (receipts_of version (transactions_of payloads) genesis) 0 0 payloads);
   text = IsPaymentTable ids;
@@ -39,9 +46,46 @@ payments ids = record {
 abbrev pub postings : Option (List ℕ) → TableKind
 postings ids = record {
   header = row_text postings_header;
-  rows = λ version genesis payloads. postings_text ids (walk_rows version 0 (transactions_of payloads) genesis);
+  most = 1200;
+  rows = λ version genesis payloads. postings_text ids (table.postings (course_with version genesis payloads));
   text = IsPostingTable ids;
 }
+
+-- its header and rows are the table of an order that nothing stops
+abbrev pub IsTextOf : TableKind → Type 0
+IsTextOf k =
+    (feed : FeedValue) (o : Ordered) → HasNoStopIn feed → IsOrderIn feed o
+    → k.text feed (reach_of o.payloads.missing)
+    (k.header ++ k.rows feed.version (genesis_of feed.frames) o.payloads.list)
+
+-- ---- rows of an order that was executed
+
+abbrev pub payloads_in : ClosedValue → List (List ℕ)
+payloads_in c = c.order.taken.ordered.payloads.list
+
+-- what rows say of the accounts after some batches, in a version and from opening accounts
+abbrev pub AboutAccounts : Type 1
+AboutAccounts = Version → List Row → List (List ℕ) → Type 0
+
+-- this is the text of the rows of the batches from this one on
+abbrev pub IsMore : TableKind → ClosedValue → ℕ → List ℕ → Type 0
+IsMore k c batch more =
+    k.rows c.ledger.state.version c.order.opening (payloads_in c)
+    ≡ k.rows c.ledger.state.version c.order.opening (take batch (payloads_in c)) ++ more
+
+-- they were put
+abbrev pub PutsMore : TableKind → ClosedValue → Device → Device → Shown → Shown → Type 0
+PutsMore k c old new before after =
+    (more : List ℕ) × IsMore k c before.batch more × Works old new × Puts old new before.page after.page more
+
+-- they were not put: a call of the sink failed, or memory ran out before the first of them
+abbrev pub PutsNoMore : TableKind → ClosedValue → Device → Device → Shown → Fault → Type 0
+PutsNoMore k c old new before (fault.Write written) =
+    (more : List ℕ) × IsMore k c before.batch more × Fails old new × Stops old new before.page more written
+PutsNoMore k c old new before fault.Memory = old ≡ new
+PutsNoMore k c old new before other = ⊥
+
+-- ---- rows of a feed that is followed
 
 -- what is done is the order of a part of these frames, and the rows that are shown are those of it
 pub record IsPartDone (k : TableKind) (frames : List Frame) (version : Version) (done : Ordered) (shown : List ℕ) : Type 0 where
@@ -58,14 +102,24 @@ pub record HasPut (k : TableKind) (bytes : List ℕ) (frames : List Frame) (know
   pub few : length frames < 2 → (done ≡ nothing_ordered) × (shown ≡ [])
   pub many : (version : Version) → known ≡ Some version → 2 ≤ length frames → IsPartDone k frames version done shown
 
--- all of these frames are settled, and the table of an order is put
-pub record IsPutOn (k : TableKind) (most : ℕ) (bytes : List ℕ) (frames : List Frame) (v : Followed) (first now : Device)
-    (rows : Shown) (done : Ordered) : Type 0 where
+-- all of these frames are settled, and the table of an order is put. What the rows say of the accounts holds after the
+-- batches of this order
+pub record IsPutOn (k : TableKind) (bytes : List ℕ) (frames : List Frame) (v : Followed) (first now : Device) (rows : Shown)
+    (holds : AboutAccounts) (done : Ordered) : Type 0 where
   pub put : HasPut k bytes frames v.cut.version first now rows.page done
-  pub shows : ShowsAll most done.payloads.list rows
+  pub shows : ShowsAll k.most done.payloads.list rows
   pub few : rows.place < 2 ^ 32
+  pub before : length frames < 2 → (version : Version) (genesis : List Row) → holds version genesis []
+  pub after : (version : Version) → v.cut.version ≡ Some version → 2 ≤ length frames
+      → holds version (genesis_of frames) done.payloads.list
 
 -- the rows were not put: a call of the sink failed
 abbrev pub PutFails : TableKind → ℕ → List ℕ → Device → Device → Type 0
 PutFails k written bytes first now =
     Fails first now × OfWholeFrames bytes (TableStops k.text written first now)
+
+-- or memory ran out
+abbrev pub PutNot : TableKind → Fault → List ℕ → Device → Device → Type 0
+PutNot k (fault.Write written) bytes first now = PutFails k written bytes first now
+PutNot k fault.Memory bytes first now = TableSoFar k.text first now bytes
+PutNot k other bytes first now = ⊥

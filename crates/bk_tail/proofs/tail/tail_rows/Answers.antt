@@ -1,15 +1,13 @@
-use Rattle.std.proofs.Common.{◌≡◌, [], refl, sym, subst, arith}
+use Rattle.std.proofs.Common.{[], refl, sym, subst, arith}
 use Rattle.std.proofs.lemmas.Result.{err_from_is_err_and}
 use Rattle.bk_answer.specs.Answers.{IsAnswered}
 use Rattle.bk_order.specs.Intake.{nothing_ordered}
 use Rattle.bk_results.specs.Devices.{devices}
 use Rattle.bk_results.specs.declared.status.Status.{Status}
-use Rattle.bk_tail.specs.private.Putting.{payments}
-use Rattle.bk_tail.proofs.Ends.{advance_fails, answered, end_fails, put_fails}
-use Rattle.bk_tail.proofs.PaymentsPut.{payments_table}
-use Rattle.bk_tail.proofs.PaymentsStep.{none_put_on, put_on}
+use Rattle.bk_tail.proofs.Ends.{advance_fails, answered, end_fails, put_fails, put_not}
+use Rattle.bk_tail.proofs.Step.{few_bytes, none_put_on, put_on}
 use Rattle.bk_tail.proofs.Pieces.{none_followed}
-use Rattle.bk_tail.proofs.payments.tail_rows.Goals as goal
+use Rattle.bk_tail.proofs.tail.tail_rows.Goals as goal
 
 pub pieces-init : goal.pieces-init
 pieces-init g c = record {
@@ -17,7 +15,7 @@ pieces-init g c = record {
   frames = [];
   done = nothing_ordered;
   followed = none_followed (g.S.Source.state c.args.source.now) c.args.follower.now c.requires.first;
-  put = none_put_on c.args.accounts.now c.args.follower.now (g.K.Sink.state c.args.sink.now) c.args.rows.now c.requires.none;
+  put = none_put_on (g.T.TableRows.kind c.args.accounts.now) (g.met.T.TableRows.no_rows c.args.accounts.now) c.args.follower.now (g.K.Sink.state c.args.sink.now) (g.T.TableRows.shown c.args.rows.now) (g.T.TableRows.holds c.args.rows.now) (g.met.T.TableRows.short c.args.accounts.now).0 c.requires.none c.requires.before;
   source = c.requires.source;
   sink = c.requires.sink;
   some = c.requires.some;
@@ -28,7 +26,7 @@ pub returns-in_err-ended-clause-fault : goal.returns-in_err-ended-clause-fault
 returns-in_err-ended-clause-fault g c =
     let p = err_from_is_err_and c.from_residual.result c.from_residual.ensures.1 in
     let i = c.pieces.invariant in
-    rw (p.1, p.2) (advance_fails (payments c.args.accounts.now) (g.S.Source.state c.args.source.now) (g.S.Source.state c.advance.new.source) (g.K.Sink.state c.args.sink.now) (g.K.Sink.state c.pieces.sink) _ i.bytes
+    rw (p.1, p.2) (advance_fails (g.T.TableRows.kind c.args.accounts.now) (g.S.Source.state c.args.source.now) (g.S.Source.state c.advance.new.source) (g.K.Sink.state c.args.sink.now) (g.K.Sink.state c.pieces.sink) _ i.bytes
     (c.in_err-ended.ensures.fault (g.S.Source.state c.args.source.now) i.bytes i.frames i.followed) i.put.put.so_far)
 
 pub put_new-requires-clause-put : goal.put_new-requires-clause-put
@@ -41,7 +39,7 @@ put_new-requires-clause-put g c =
       i.done,
       a.followed.come,
       a.settled,
-      put_on c.args.accounts.now i.bytes a.all i.frames a.whole c.pieces.follower c.advance.new.follower (g.K.Sink.state c.args.sink.now) (g.K.Sink.state c.pieces.sink) c.pieces.rows i.done a.longer a.more i.followed.come a.followed.come i.put,
+      put_on (g.T.TableRows.kind c.args.accounts.now) (g.met.T.TableRows.no_rows c.args.accounts.now) i.bytes a.all i.frames a.whole c.pieces.follower c.advance.new.follower (g.K.Sink.state c.args.sink.now) (g.K.Sink.state c.pieces.sink) (g.T.TableRows.shown c.pieces.rows) (g.T.TableRows.holds c.pieces.rows) i.done a.longer a.more i.followed.come a.followed.come i.put,
     )
 
 pub returns-in_err-put_new-clause-fault : goal.returns-in_err-put_new-clause-fault
@@ -51,36 +49,34 @@ returns-in_err-put_new-clause-fault g c =
     let start = g.S.Source.state c.args.source.now in
     let first = g.K.Sink.state c.args.sink.now in
     let a = c.in_ok-ended.ensures.next start i.bytes i.frames i.followed in
-    let on = put_on c.args.accounts.now i.bytes a.all i.frames a.whole c.pieces.follower c.advance.new.follower first (g.K.Sink.state c.pieces.sink) c.pieces.rows i.done a.longer a.more i.followed.come a.followed.come i.put in
-    rw (p.1, p.2) (put_fails (payments c.args.accounts.now) start (g.S.Source.state c.advance.new.source) first (g.K.Sink.state c.put_new.new.sink) _ _ a.all a.whole c.advance.new.follower refl a.followed
+    let on = put_on (g.T.TableRows.kind c.args.accounts.now) (g.met.T.TableRows.no_rows c.args.accounts.now) i.bytes a.all i.frames a.whole c.pieces.follower c.advance.new.follower first (g.K.Sink.state c.pieces.sink) (g.T.TableRows.shown c.pieces.rows) (g.T.TableRows.holds c.pieces.rows) i.done a.longer a.more i.followed.come a.followed.come i.put in
+    rw (p.1, p.2) (put_not (g.T.TableRows.kind c.args.accounts.now) start (g.S.Source.state c.advance.new.source) first (g.K.Sink.state c.put_new.new.sink) _ a.all a.whole c.advance.new.follower a.followed
     (c.in_err-put_new.ensures.fault a.all a.whole first i.done a.followed.come a.settled on))
 
-pub end-requires-clause-sound : goal.end-requires-clause-sound
-end-requires-clause-sound g c =
+pub put_end-requires-clause-sound : goal.put_end-requires-clause-sound
+put_end-requires-clause-sound g c =
     let i = c.pieces.invariant in
     let start = g.S.Source.state c.args.source.now in
     let first = g.K.Sink.state c.args.sink.now in
     let a = c.in_ok-ended.ensures.next start i.bytes i.frames i.followed in
-    let on = put_on c.args.accounts.now i.bytes a.all i.frames a.whole c.pieces.follower c.advance.new.follower first (g.K.Sink.state c.pieces.sink) c.pieces.rows i.done a.longer a.more i.followed.come a.followed.come i.put in
+    let on = put_on (g.T.TableRows.kind c.args.accounts.now) (g.met.T.TableRows.no_rows c.args.accounts.now) i.bytes a.all i.frames a.whole c.pieces.follower c.advance.new.follower first (g.K.Sink.state c.pieces.sink) (g.T.TableRows.shown c.pieces.rows) (g.T.TableRows.holds c.pieces.rows) i.done a.longer a.more i.followed.come a.followed.come i.put in
     let n = c.in_ok-put_new.ensures.put a.all a.whole first i.done a.followed.come a.settled on in
     let wrote = n.1.put.so_far.0 in
     omega (arith, wrote, c.requires.sink)
 
-pub end-requires-clause-size : goal.end-requires-clause-size
-end-requires-clause-size g c =
+pub put_end-requires-clause-size : goal.put_end-requires-clause-size
+put_end-requires-clause-size g c =
     let i = c.pieces.invariant in
     let start = g.S.Source.state c.args.source.now in
     let first = g.K.Sink.state c.args.sink.now in
     let a = c.in_ok-ended.ensures.next start i.bytes i.frames i.followed in
-    let on = put_on c.args.accounts.now i.bytes a.all i.frames a.whole c.pieces.follower c.advance.new.follower first (g.K.Sink.state c.pieces.sink) c.pieces.rows i.done a.longer a.more i.followed.come a.followed.come i.put in
+    let on = put_on (g.T.TableRows.kind c.args.accounts.now) (g.met.T.TableRows.no_rows c.args.accounts.now) i.bytes a.all i.frames a.whole c.pieces.follower c.advance.new.follower first (g.K.Sink.state c.pieces.sink) (g.T.TableRows.shown c.pieces.rows) (g.T.TableRows.holds c.pieces.rows) i.done a.longer a.more i.followed.come a.followed.come i.put in
     let n = c.in_ok-put_new.ensures.put a.all a.whole first i.done a.followed.come a.settled on in
-    let size = n.1.shows.size in
-    let few = n.1.few in
-    omega (arith, size, few)
+    few_bytes (g.T.TableRows.kind c.args.accounts.now).most (g.T.TableRows.shown c.put_new.new.rows).place _ (g.met.T.TableRows.short c.args.accounts.now).1 n.1.few n.1.shows.size
 
-pub returns-in_err-end-clause-fault : goal.returns-in_err-end-clause-fault
-returns-in_err-end-clause-fault g c =
-    let p = err_from_is_err_and c.from_residual-in_err-end.result c.from_residual-in_err-end.ensures.1 in
+pub returns-in_err-put_end-clause-fault : goal.returns-in_err-put_end-clause-fault
+returns-in_err-put_end-clause-fault g c =
+    let p = err_from_is_err_and c.from_residual-in_err-put_end.result c.from_residual-in_err-put_end.ensures.1 in
     let i = c.pieces.invariant in
     let start = g.S.Source.state c.args.source.now in
     let now = g.S.Source.state c.advance.new.source in
@@ -88,12 +84,13 @@ returns-in_err-end-clause-fault g c =
     let sink = g.K.Sink.state c.put_new.new.sink in
     let v = c.advance.new.follower in
     let ids = c.args.accounts.now in
+    let k = g.T.TableRows.kind ids in
     let a = c.in_ok-ended.ensures.next start i.bytes i.frames i.followed in
-    let on = put_on ids i.bytes a.all i.frames a.whole c.pieces.follower v first (g.K.Sink.state c.pieces.sink) c.pieces.rows i.done a.longer a.more i.followed.come a.followed.come i.put in
+    let on = put_on k (g.met.T.TableRows.no_rows ids) i.bytes a.all i.frames a.whole c.pieces.follower v first (g.K.Sink.state c.pieces.sink) (g.T.TableRows.shown c.pieces.rows) (g.T.TableRows.holds c.pieces.rows) i.done a.longer a.more i.followed.come a.followed.come i.put in
     let n = c.in_ok-put_new.ensures.put a.all a.whole first i.done a.followed.come a.settled on in
     let e = a.ends c.if-ended.true in
-    rw (p.1, p.2) (put_fails (payments ids) start now first (g.K.Sink.state c.end.new.sink) _ _ a.all a.whole v refl a.followed
-    (end_fails (payments ids) (payments_table ids) start now first sink a.all a.whole v c.put_new.new.rows.page n.0 a.followed a.settled e.1 n.1.put n.2 (g.K.Sink.state c.end.new.sink) _ c.in_err-end.ensures.written))
+    rw (p.1, p.2) (put_fails k start now first (g.K.Sink.state c.put_end.new.sink) _ _ a.all a.whole v refl a.followed
+    (end_fails k (g.met.T.TableRows.is_text ids) start now first sink a.all a.whole v (g.T.TableRows.shown c.put_new.new.rows).page n.0 a.followed a.settled e.1 n.1.put n.2 (g.K.Sink.state c.put_end.new.sink) _ c.in_err-put_end.ensures.written))
 
 pub returns-then-ended-clause-answer : goal.returns-then-ended-clause-answer
 returns-then-ended-clause-answer g c =
@@ -104,12 +101,13 @@ returns-then-ended-clause-answer g c =
     let sink = g.K.Sink.state c.put_new.new.sink in
     let v = c.advance.new.follower in
     let ids = c.args.accounts.now in
+    let k = g.T.TableRows.kind ids in
     let a = c.in_ok-ended.ensures.next start i.bytes i.frames i.followed in
-    let on = put_on ids i.bytes a.all i.frames a.whole c.pieces.follower v first (g.K.Sink.state c.pieces.sink) c.pieces.rows i.done a.longer a.more i.followed.come a.followed.come i.put in
+    let on = put_on k (g.met.T.TableRows.no_rows ids) i.bytes a.all i.frames a.whole c.pieces.follower v first (g.K.Sink.state c.pieces.sink) (g.T.TableRows.shown c.pieces.rows) (g.T.TableRows.holds c.pieces.rows) i.done a.longer a.more i.followed.come a.followed.come i.put in
     let n = c.in_ok-put_new.ensures.put a.all a.whole first i.done a.followed.come a.settled on in
     let e = a.ends c.if-ended.true in
-    subst (λ (s : Status). IsAnswered (payments ids).text s (devices start first) (devices now (g.K.Sink.state c.end.new.sink))) (sym c.reach.ensures)
-    (answered (payments ids) (payments_table ids) start now first sink a.all a.whole v c.put_new.new.rows.page n.0 a.followed a.settled e.1 n.1.put n.2 (g.K.Sink.state c.end.new.sink) c.end.new.self.page e.0 c.in_ok-end.ensures.written c.in_ok-end.ensures.empty)
+    subst (λ (s : Status). IsAnswered k.text s (devices start first) (devices now (g.K.Sink.state c.put_end.new.sink))) (sym c.reach.ensures)
+    (answered k (g.met.T.TableRows.is_text ids) start now first sink a.all a.whole v (g.T.TableRows.shown c.put_new.new.rows).page n.0 a.followed a.settled e.1 n.1.put n.2 (g.K.Sink.state c.put_end.new.sink) (g.T.TableRows.shown c.put_end.new.self).page e.0 c.in_ok-put_end.ensures.written c.in_ok-put_end.ensures.empty)
 
 pub pieces-preserved : goal.pieces-preserved
 pieces-preserved g c =
@@ -117,7 +115,7 @@ pieces-preserved g c =
     let start = g.S.Source.state c.args.source.now in
     let first = g.K.Sink.state c.args.sink.now in
     let a = c.in_ok-ended.ensures.next start i.bytes i.frames i.followed in
-    let on = put_on c.args.accounts.now i.bytes a.all i.frames a.whole c.pieces.follower c.advance.new.follower first (g.K.Sink.state c.pieces.sink) c.pieces.rows i.done a.longer a.more i.followed.come a.followed.come i.put in
+    let on = put_on (g.T.TableRows.kind c.args.accounts.now) (g.met.T.TableRows.no_rows c.args.accounts.now) i.bytes a.all i.frames a.whole c.pieces.follower c.advance.new.follower first (g.K.Sink.state c.pieces.sink) (g.T.TableRows.shown c.pieces.rows) (g.T.TableRows.holds c.pieces.rows) i.done a.longer a.more i.followed.come a.followed.come i.put in
     let n = c.in_ok-put_new.ensures.put a.all a.whole first i.done a.followed.come a.settled on in
     let read = a.followed.works in
     let wrote = n.1.put.so_far.0 in

@@ -4,9 +4,9 @@ use Rattle.bk_frames.specs.Device.{CanBeUsed}
 use Rattle.bk_frames.specs.Reading.{room_of}
 use Rattle.bk_frames.specs.declared.pulling.TheConstants.{PIECE}
 use Rattle.bk_order.specs.Orders.{Ordered}
-use Rattle.bk_tail.specs.private.Putting.{IsPutOn, payments}
+use Rattle.bk_tail.specs.private.Putting.{IsPutOn}
 use Rattle.bk_tail.specs.private.Steps.{HasFollowed}
-use Rattle.bk_tail.proofs.payments.tail_rows.Given as goal
+use Rattle.bk_tail.proofs.tail.tail_rows.Given as goal
 
 abbrev pub invariant-pieces : goal.invariant-pieces
 invariant-pieces g l = record {
@@ -14,7 +14,7 @@ invariant-pieces g l = record {
   frames : List Frame;
   done : Ordered;
   followed : HasFollowed (g.S.Source.state l.initial.source) (g.S.Source.state l.source) bytes frames l.follower;
-  put : IsPutOn (payments l.accounts) 1800 bytes frames l.follower (g.K.Sink.state l.initial.sink) (g.K.Sink.state l.sink) l.rows done;
+  put : IsPutOn (g.T.TableRows.kind l.accounts) bytes frames l.follower (g.K.Sink.state l.initial.sink) (g.K.Sink.state l.sink) (g.T.TableRows.shown l.rows) (g.T.TableRows.holds l.rows) done;
   source : CanBeUsed (g.S.Source.state l.source);
   sink : CanBeUsed (g.K.Sink.state l.sink);
   some : 0 < length l.piece;

@@ -1,5 +1,5 @@
 -- While it waits, nothing is consumed and no call fails.
-use Rattle.std.proofs.Common.{◌≡◌, []}
+use Rattle.std.proofs.Common.{[]}
 use Rattle.std.specs.Io.KnownBytes.{Consumes}
 use Rattle.bk_frames.specs.Device.{Works}
 use Rattle.bk_tail.proofs.waiting.Waiting.pull_waiting.Given as goal

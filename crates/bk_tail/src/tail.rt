@@ -1,0 +1,137 @@
+//! A table that is written while its feed is followed.
+
+ghost use Rattle.std.specs.Prelude.{◌≡◌, ◌<◌, ◌≤◌, ℕ, List, [], Option, length, IfOk, IfErr, IfSome, OnOk};
+ghost use Rattle.bk_answer.specs.Answers.{IsAnswered};
+ghost use Rattle.bk_base.specs.Feed.{Frame};
+ghost use Rattle.bk_base.specs.declared.genesis.Row.{Row};
+ghost use Rattle.bk_base.specs.declared.version.Version.{Version};
+ghost use Rattle.bk_follow.specs.Follower.{HasCome, IsSettled, unfed};
+ghost use Rattle.bk_frames.specs.Device.{CanBeUsed, Device};
+ghost use Rattle.bk_frames.specs.declared.pulling.TheConstants.{PIECE};
+ghost use Rattle.bk_order.specs.Orders.{Ordered};
+ghost use Rattle.bk_results.specs.Devices.{devices};
+ghost use Rattle.bk_tables.specs.Growing.{none_shown};
+ghost use Rattle.bk_tail.specs.Tailing.{TailFailsBy};
+ghost use Rattle.bk_tail.specs.private.Putting.{IsPutOn, PutNot};
+
+use crate::piece::{advance, reach};
+use crate::rows::TableRows;
+use bk_follow::Follower;
+use bk_frames::{PIECE, Sink, Source};
+use bk_pool::Gate;
+use bk_results::{Fault, Status};
+use bk_tables::Accounts;
+use std::alloc::Global;
+use std::sync::Wait;
+use std::thread::Threads;
+
+// Puts the rows of the places that were executed since the last call.
+fn put_new<T: TableRows, K: Sink>(
+    alloc: Global,
+    rows: &mut T,
+    sink: &mut K,
+    accounts: &Option<Accounts>,
+    follower: &Follower,
+) -> Result<(), Fault>
+    requires sound { CanBeUsed (K.state sink.old) }
+    requires put { (bytes : List ℕ) × (frames : List Frame) × (first : Device) × (done : Ordered)
+        × HasCome bytes frames follower.now × IsSettled frames follower.now
+        × IsPutOn (T.kind accounts.now) bytes frames follower.now
+        first (K.state sink.old) (T.shown rows.old) (T.holds rows.old) done }
+    ensures put { OnOk result ((bytes : List ℕ) (frames : List Frame) (first : Device) (done : Ordered)
+        → HasCome bytes frames follower.now → IsSettled frames follower.now
+        → IsPutOn (T.kind accounts.now) bytes frames follower.now
+        first (K.state sink.old) (T.shown rows.old) (T.holds rows.old) done
+        → (now : Ordered) × IsPutOn (T.kind accounts.now) bytes frames follower.now
+        first (K.state sink.new) (T.shown rows.new) (T.holds rows.new) now
+        × IfSome follower.now.book (λ b. now ≡ b.taken.ordered)) }
+    ensures fault { IfErr result (λ f. (bytes : List ℕ) (frames : List Frame) (first : Device) (done : Ordered)
+        → HasCome bytes frames follower.now → IsSettled frames follower.now
+        → IsPutOn (T.kind accounts.now) bytes frames follower.now
+        first (K.state sink.old) (T.shown rows.old) (T.holds rows.old) done
+        → PutNot (T.kind accounts.now) f bytes first (K.state sink.new)) }
+{
+    match follower.closed() {
+        Some(closed) => rows.put_more(alloc, sink, accounts, &closed),
+        None => Ok(()),
+    }
+}
+
+// Follows all that a source has, and writes its table. The piece is room for its bytes.
+fn tail_rows<R, S: Source, K: Sink, G: Gate + Sync, T: TableRows>(
+    rt: &R,
+    alloc: Global,
+    source: &mut S,
+    sink: &mut K,
+    piece: &mut [u8],
+    follower: &mut Follower,
+    gate: &G,
+    accounts: &Option<Accounts>,
+    rows: &mut T,
+) -> Result<Status, Fault>
+where
+    R: Threads + Wait + Sync,
+    requires some { 0 < length piece.old }
+    requires few { length piece.old ≤ PIECE }
+    requires first { follower.old ≡ unfed }
+    requires none { T.shown rows.old ≡ none_shown (T.kind accounts.now).header }
+    requires before { (version : Version) (genesis : List Row) → T.holds rows.old version genesis [] }
+    requires source { CanBeUsed (S.state source.old) }
+    requires sink { CanBeUsed (K.state sink.old) }
+    ensures answer { IfOk result (λ status. IsAnswered (T.kind accounts.now).text status
+        (devices (S.state source.old) (K.state sink.old))
+        (devices (S.state source.new) (K.state sink.new))) }
+    ensures fault { IfErr result (λ f. TailFailsBy (T.kind accounts.now).text f
+        (devices (S.state source.old) (K.state sink.old))
+        (devices (S.state source.new) (K.state sink.new))) }
+{
+    'pieces: loop {
+        let ended = advance(rt, source, piece, follower, gate)?;
+        put_new(alloc, rows, sink, accounts, follower)?;
+        if ended {
+            rows.put_end(sink)?;
+            return Ok(reach(follower));
+        }
+    }
+}
+
+/// Reads a feed to its end, and writes a table of it as it becomes final: after each piece of at most [`PIECE`] bytes, the
+/// rows of the places that the whole frames so far add to the order, before more is read.
+pub(crate) fn tail_table<R, S: Source, K: Sink, G: Gate + Sync, T: TableRows + Drop>(
+    rt: &R,
+    alloc: Global,
+    source: &mut S,
+    sink: &mut K,
+    workers: usize,
+    gate: &G,
+    accounts: &Option<Accounts>,
+) -> Result<Status, Fault>
+where
+    R: Threads + Wait + Sync,
+    requires source { CanBeUsed (S.state source.old) }
+    requires sink { CanBeUsed (K.state sink.old) }
+    requires workers { (1 ≤ workers) × (workers ≤ 64) }
+    ensures answer { IfOk result (λ status. IsAnswered (T.kind accounts.now).text status
+        (devices (S.state source.old) (K.state sink.old))
+        (devices (S.state source.new) (K.state sink.new))) }
+    ensures fault { IfErr result (λ f. TailFailsBy (T.kind accounts.now).text f
+        (devices (S.state source.old) (K.state sink.old))
+        (devices (S.state source.new) (K.state sink.new))) }
+{
+    let mut piece = vec![in alloc; 0u8; PIECE]?;
+    let mut rows = T::none(alloc)?;
+    let mut follower = Follower::new(alloc, workers);
+    let end = tail_rows(
+        rt,
+        alloc,
+        source,
+        sink,
+        piece.as_mut_slice(),
+        &mut follower,
+        gate,
+        accounts,
+        &mut rows,
+    );
+    follower.discard();
+    end
+}
