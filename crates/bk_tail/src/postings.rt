@@ -1,0 +1,88 @@
+//! What the places of a feed do to each account, where the feed is followed.
+
+ghost use Rattle.std.specs.Prelude.{◌≤◌, IfOk, IfErr};
+ghost use Rattle.bk_answer.specs.Answers.{IsAnswered};
+ghost use Rattle.bk_frames.specs.Device.{CanBeUsed};
+ghost use Rattle.bk_results.specs.Devices.{devices};
+ghost use Rattle.bk_tables.specs.Growing.{AreAfter};
+ghost use Rattle.bk_tables.specs.Tables.{IsPostingTable};
+ghost use Rattle.bk_tail.specs.Tailing.{TailFailsBy};
+ghost use Rattle.bk_tail.specs.private.Kinds.{no_postings, postings_short, postings_table};
+ghost use Rattle.bk_tail.specs.private.Putting.{postings};
+
+use crate::rows::TableRows;
+use crate::tail::tail_table;
+use bk_answer::Closed;
+use bk_frames::{Sink, Source, WriteFault};
+use bk_pool::Gate;
+use bk_results::{Fault, Status};
+use bk_tables::{Accounts, PostingRows, Postings};
+use std::alloc::{AllocError, Global};
+use std::sync::Wait;
+use std::thread::Threads;
+
+impl TableRows for PostingRows {
+    ghost kind = { postings };
+
+    ghost shown = { λ r. r.shown };
+
+    ghost holds = { λ r version genesis payloads. AreAfter version genesis payloads r.state };
+
+    fn none(alloc: Global) -> Result<PostingRows, AllocError> {
+        PostingRows::new(alloc)
+    }
+
+    fn put_more<K: Sink>(
+        &mut self,
+        alloc: Global,
+        sink: &mut K,
+        accounts: &Option<Accounts>,
+        closed: &Closed<'_>,
+    ) -> Result<(), Fault> {
+        self.prepare(alloc, closed)?;
+        self.write_more(sink, accounts, closed)?;
+        Ok(())
+    }
+
+    fn put_end<K: Sink>(&mut self, sink: &mut K) -> Result<(), WriteFault> {
+        self.end(sink)
+    }
+
+    ghost no_rows = { no_postings };
+
+    ghost short = { postings_short };
+
+    ghost is_text = { postings_table };
+}
+
+/// Reads a feed to its end, and writes the table of what its places do to each account as it becomes final: after each
+/// piece of at most [`PIECE`](bk_frames::PIECE) bytes, the rows of the places that the whole frames so far add to the
+/// order, before more is read. The header comes with the first rows, or at the end. The accounts after the places that
+/// are out are kept, so each place is executed once more than in the ledger, and no more.
+///
+/// A fault of the feed or a stop ends it at the piece that shows it, and of that piece no row is written. What is out
+/// then is the table of a feed that nothing stops, or nothing; what a failed sink has is the beginning of one.
+pub fn tail_postings<R, S: Source, K: Sink, G: Gate + Sync>(
+    rt: &R,
+    alloc: Global,
+    source: &mut S,
+    sink: &mut K,
+    workers: usize,
+    gate: &G,
+    asked: &Postings,
+) -> Result<Status, Fault>
+where
+    R: Threads + Wait + Sync,
+    requires source { CanBeUsed (S.state source.old) }
+    requires sink { CanBeUsed (K.state sink.old) }
+    requires workers { (1 ≤ workers) × (workers ≤ 64) }
+    ensures answer { IfOk result (λ status. IsAnswered (IsPostingTable asked.now.accounts) status
+        (devices (S.state source.old) (K.state sink.old))
+        (devices (S.state source.new) (K.state sink.new))) }
+    ensures fault { IfErr result (λ f. TailFailsBy (IsPostingTable asked.now.accounts) f
+        (devices (S.state source.old) (K.state sink.old))
+        (devices (S.state source.new) (K.state sink.new))) }
+{
+    let accounts = &asked.accounts;
+    tail_table::<R, S, K, G, PostingRows>(rt, alloc, source, sink, workers, gate, accounts)
+}
