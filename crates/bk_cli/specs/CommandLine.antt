@@ -163,15 +163,9 @@ wait_rule = flag_rule (codes "wait")
 abbrev pub picking_line : Text → App
 picking_line name = with_rule (with_rule (new_app name) workers_rule) accounts_rule
 
--- the command `transactions [--workers W] [--accounts LIST] [--follow] [--wait] [FILE]`
-abbrev pub transactions_line : App
-transactions_line =
-    let picking = picking_line (codes "transactions") in
-    noted_line (with_rule (with_rule (with_rule picking follow_rule) wait_rule) file_rule)
-
--- the command `postings [--workers W] [--accounts LIST] [FILE]`
-abbrev pub postings_line : App
-postings_line = noted_line (with_rule (picking_line (codes "postings")) file_rule)
+-- a command `NAME [--workers W] [--accounts LIST] [--follow] [--wait] [FILE]`
+abbrev pub table_line : Text → App
+table_line name = noted_line (with_rule (with_rule (with_rule (picking_line name) follow_rule) wait_rule) file_rule)
 
 -- the command `check-proof [--account ID] ROOT [FILE]`
 abbrev pub proof_line : App
@@ -225,8 +219,8 @@ line_of verb.Summary = value_line (codes "summary") workers_rule
 line_of verb.Anchors = file_line (codes "anchors")
 line_of verb.Dag = dag_line
 line_of verb.Statement = working_line (codes "statement") id_rule
-line_of verb.Transactions = transactions_line
-line_of verb.Postings = postings_line
+line_of verb.Transactions = table_line (codes "transactions")
+line_of verb.Postings = table_line (codes "postings")
 line_of verb.Batches = file_line (codes "batches")
 line_of verb.Waiting = file_line (codes "waiting")
 line_of verb.Missing = file_line (codes "missing")
@@ -365,16 +359,12 @@ IsWaited rows on = IsOn (one_of (codes "wait") rows) on
 abbrev pub IsAtEnd : List Row → Type 0
 IsAtEnd rows = IsFollowed rows false × IsWaited rows false
 
--- the postings are written at no other time
-abbrev pub IsAtEndFor : Table → List Row → Type 0
-IsAtEndFor table.Transactions rows = IsAtEnd rows
-IsAtEndFor table.Postings rows = Unit {0}
-
 -- what is shown is what a command shows; of a table all rows, where no list of accounts is named, and at the end of the feed
 abbrev pub IsViewAt : Text → List Row → View → Type 0
 IsViewAt word rows view.Transactions =
     (word ≡ word_of verb.Transactions) × (first_of (codes "accounts") rows ≡ None) × IsAtEnd rows
-IsViewAt word rows view.Postings = (word ≡ word_of verb.Postings) × (first_of (codes "accounts") rows ≡ None)
+IsViewAt word rows view.Postings =
+    (word ≡ word_of verb.Postings) × (first_of (codes "accounts") rows ≡ None) × IsAtEnd rows
 IsViewAt word rows view.Batches = word ≡ word_of verb.Batches
 IsViewAt word rows view.Link = word ≡ word_of verb.Link
 
@@ -440,10 +430,10 @@ IsJobAt word rows (job.Show workers shown file) =
     × IsFileIn rows (option_map string_bytes file)
 IsJobAt word rows (job.Pick workers shown accounts file) =
     (word ≡ word_of (verb_of shown)) × AreNamedBy 1 (one_of (codes "workers") rows) workers
-    × (first_of (codes "accounts") rows ≡ Some (string_bytes accounts)) × IsAtEndFor shown rows
+    × (first_of (codes "accounts") rows ≡ Some (string_bytes accounts)) × IsAtEnd rows
     × IsFileIn rows (option_map string_bytes file)
-IsJobAt word rows (job.Follow workers accounts wait file) =
-    (word ≡ word_of verb.Transactions) × AreNamedBy 1 (one_of (codes "workers") rows) workers
+IsJobAt word rows (job.Follow workers shown accounts wait file) =
+    (word ≡ word_of (verb_of shown)) × AreNamedBy 1 (one_of (codes "workers") rows) workers
     × (first_of (codes "accounts") rows ≡ option_map string_bytes accounts) × IsFollowed rows true × IsWaited rows wait
     × (wait ≡ true → names_input (option_map string_bytes file) ≡ false)
     × IsFileIn rows (option_map string_bytes file)
@@ -479,13 +469,13 @@ LacksDigest rows = IsHexDigest (unwrap_or (first_of (codes "ROOT") rows) []) →
 abbrev pub WaitsInVain : List Row → Type 0
 WaitsInVain rows = IsWaited rows true × (IsFollowed rows false ⊎ (names_input (first_of (codes "FILE") rows) ≡ true))
 
--- the command that was found in the words is `check-state`, and its ROOT is not a digest; or it is `transactions`, and waits
--- in vain
+-- the command that was found in the words is `check-state`, and its ROOT is not a digest; or it is that of a table, and
+-- waits in vain
 abbrev pub NamesNoJob : Option (Text × List Row) → Type 0
 NamesNoJob None = ⊥
 NamesNoJob (Some found) =
     (found.0 ≡ word_of verb.CheckState) × LacksDigest found.1
-    ⊎ (found.0 ≡ word_of verb.Transactions) × WaitsInVain found.1
+    ⊎ ((shown : Table) × (found.0 ≡ word_of (verb_of shown)) × WaitsInVain found.1)
 
 -- ---- standard input that is named twice
 

@@ -117,7 +117,7 @@ refuses (job.Schedule workers feed events) = true
 refuses (job.Compare first second) = true
 refuses (job.Show workers shown file) = true
 refuses (job.Pick workers shown accounts file) = true
-refuses (job.Follow workers accounts wait file) = true
+refuses (job.Follow workers shown accounts wait file) = true
 refuses (job.Diagnose d file) = true
 refuses (job.CheckChain file) = true
 
@@ -131,7 +131,7 @@ finds_order (job.Dag window file) = true
 finds_order (job.Compare first second) = true
 finds_order (job.Show workers shown file) = true
 finds_order (job.Pick workers shown accounts file) = true
-finds_order (job.Follow workers accounts wait file) = true
+finds_order (job.Follow workers shown accounts wait file) = true
 finds_order (job.Diagnose d file) = orders d
 finds_order other = false
 
@@ -143,7 +143,7 @@ reports_missing (job.CheckReport workers report file) = true
 reports_missing (job.Summary workers file) = true
 reports_missing (job.Show workers shown file) = true
 reports_missing (job.Pick workers shown accounts file) = true
-reports_missing (job.Follow workers accounts wait file) = true
+reports_missing (job.Follow workers shown accounts wait file) = true
 reports_missing (job.Diagnose d file) = lacks d
 reports_missing (job.CheckChain file) = true
 reports_missing other = false
@@ -154,13 +154,13 @@ reads_second (job.CheckReport workers report file) = true
 reads_second (job.Schedule workers feed events) = true
 reads_second (job.Compare first second) = true
 reads_second (job.Pick workers shown accounts file) = true
-reads_second (job.Follow workers (Some accounts) wait file) = true
+reads_second (job.Follow workers shown (Some accounts) wait file) = true
 reads_second other = false
 
 -- a job that writes while it reads: where it refuses the bytes, its first lines are out
 abbrev pub writes_ahead : Job → Bool
 writes_ahead (job.Frames file) = true
-writes_ahead (job.Follow workers accounts wait file) = true
+writes_ahead (job.Follow workers shown accounts wait file) = true
 writes_ahead other = false
 
 -- how a job may end

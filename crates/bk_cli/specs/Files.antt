@@ -29,7 +29,7 @@ file_of (job.Schedule workers feed events) = Some (string_bytes feed)
 file_of (job.Compare first second) = Some (string_bytes first)
 file_of (job.Show workers shown file) = option_map string_bytes file
 file_of (job.Pick workers shown accounts file) = option_map string_bytes file
-file_of (job.Follow workers accounts wait file) = option_map string_bytes file
+file_of (job.Follow workers shown accounts wait file) = option_map string_bytes file
 file_of (job.Diagnose d file) = option_map string_bytes file
 file_of (job.CheckChain file) = option_map string_bytes file
 
@@ -48,7 +48,7 @@ second_file_of (job.Schedule workers feed events) = Some (string_bytes events)
 second_file_of (job.Compare first second) = Some (string_bytes second)
 second_file_of (job.Show workers shown file) = None
 second_file_of (job.Pick workers shown accounts file) = Some (string_bytes accounts)
-second_file_of (job.Follow workers accounts wait file) = option_map string_bytes accounts
+second_file_of (job.Follow workers shown accounts wait file) = option_map string_bytes accounts
 second_file_of (job.Diagnose d file) = None
 second_file_of (job.CheckChain file) = None
 
@@ -77,7 +77,7 @@ reads_input_twice j = names_input (file_of j) && unwrap_or (option_map is_input 
 abbrev pub reads_beside : Job → Bool
 reads_beside (job.CheckReport workers report file) = true
 reads_beside (job.Pick workers shown accounts file) = true
-reads_beside (job.Follow workers accounts wait file) = true
+reads_beside (job.Follow workers shown accounts wait file) = true
 reads_beside other = false
 
 -- a feed that was not replayed: a failed write is about the output

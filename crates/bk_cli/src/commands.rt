@@ -3,7 +3,7 @@
 ghost use Rattle.std.specs.Prelude.{◌≡◌, true, false, IfOk, IfSome};
 ghost use Rattle.clap.specs.Words.{App, Rule, app_of};
 ghost use Rattle.clap.specs.declared.builder.command.Command.TheViews.{out-Command};
-ghost use Rattle.bk_cli.specs.CommandLine.{asking_line, checking_line, viewing_line, tabling_line, diagnosing_line, command_line, file_line, value_line, picking_line, postings_line, transactions_line, schedule_line, working_line};
+ghost use Rattle.bk_cli.specs.CommandLine.{asking_line, checking_line, viewing_line, tabling_line, diagnosing_line, command_line, file_line, value_line, picking_line, table_line, schedule_line, working_line};
 ghost use Rattle.bk_cli.specs.CommandLine.{noted_line, file_rule, workers_rule, required_rule, root_rule, id_rule, place_rule, from_rule, rounds_rule, account_rule, accounts_rule, dag_line, proof_line, compare_line};
 
 use crate::help::{self, Help};
@@ -156,22 +156,14 @@ fn picking_command<'a>(alloc: Global, name: &'a str, text: Help<'a>) -> Shaped<'
         .arg(accounts_arg(alloc))
 }
 
-// The command `transactions [--workers W] [--accounts LIST] [--follow] [--wait] [FILE]`.
-fn transactions_command<'a>(alloc: Global) -> Shaped<'a>
-    ensures { IfSome result (λ c. c ≡ transactions_line) }
+// A command `NAME [--workers W] [--accounts LIST] [--follow] [--wait] [FILE]`.
+fn table_command<'a>(alloc: Global, name: &'a str, text: Help<'a>) -> Shaped<'a>
+    ensures { IfSome result (λ c. c ≡ table_line name.now) }
 {
-    let command = picking_command(alloc, "transactions", table_help::TRANSACTIONS)
+    let command = picking_command(alloc, name, text)
         .arg(Plain::flag(alloc, "follow", table_help::FOLLOW))
         .arg(Plain::flag(alloc, "wait", table_help::WAIT))
         .arg(file_arg(alloc));
-    noted(alloc, command)
-}
-
-// The command `postings [--workers W] [--accounts LIST] [FILE]`.
-fn postings_command<'a>(alloc: Global) -> Shaped<'a>
-    ensures { IfSome result (λ c. c ≡ postings_line) }
-{
-    let command = picking_command(alloc, "postings", table_help::POSTINGS).arg(file_arg(alloc));
     noted(alloc, command)
 }
 
@@ -228,8 +220,8 @@ fn tabling_command<'a>(alloc: Global) -> Shaped<'a>
     ensures { IfSome result (λ c. c ≡ tabling_line) }
 {
     viewing_command(alloc)
-        .subcommand(transactions_command(alloc))
-        .subcommand(postings_command(alloc))
+        .subcommand(table_command(alloc, "transactions", table_help::TRANSACTIONS))
+        .subcommand(table_command(alloc, "postings", table_help::POSTINGS))
         .subcommand(file_command(alloc, "batches", table_help::BATCHES))
 }
 

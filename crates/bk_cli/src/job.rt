@@ -99,10 +99,12 @@ pub enum Job {
         accounts: String,
         file: Option<String>,
     },
-    /// Writes the payments of a feed as they become final, while the feed comes.
+    /// Writes the rows of a table of a feed as they become final, while the feed comes.
     Follow {
         /// How many threads execute.
         workers: Workers,
+        /// The table.
+        shown: Table,
         /// The path of the list of accounts, where not all rows are written.
         accounts: Option<String>,
         /// Whether more is waited for at the end of the file.

@@ -3,7 +3,7 @@
 ghost use Rattle.std.specs.Prelude.{◌≡◌, ◌≤◌, ◌^◌, ◌⊎◌, [], option_map, string_bytes, codes, unwrap_or, true, false, None, Some, IfOk, MatchOption};
 ghost use Rattle.clap.specs.Words.{one_text, first_value, found_of, rows_of};
 ghost use Rattle.bk_cli.specs.declared.job.Job.TheVariants as job;
-ghost use Rattle.bk_cli.specs.CommandLine.{IsAtEndFor, IsFileIn, IsFollowed, IsWaited, NamesNoJob};
+ghost use Rattle.bk_cli.specs.CommandLine.{IsAtEnd, IsFileIn, IsFollowed, IsWaited, NamesNoJob};
 ghost use Rattle.bk_cli.specs.CommandLine.{IsJobAt, AreNamedBy, IsChosenBy, IsGivenBy, IsNumberBy, verb_of, view_of, word_of};
 ghost use Rattle.bk_cli.specs.declared.view.View.TheVariants as view;
 ghost use Rattle.bk_cli.specs.Files.{names_input};
@@ -232,7 +232,7 @@ fn table_of(
     file: Option<String>,
 ) -> Result<Option<Job>, AllocError>
     requires file { IsFileIn (rows_of (found_of found.now)) (option_map string_bytes file) }
-    requires end { IsAtEndFor shown (rows_of (found_of found.now)) }
+    requires end { IsAtEnd (rows_of (found_of found.now)) }
     ensures { IfOk result (λ made. MatchOption made
         (NamesNoJob (Some (word_of (verb_of shown), rows_of (found_of found.now))))
         (IsJobAt (word_of (verb_of shown)) (rows_of (found_of found.now)))) }
@@ -256,10 +256,11 @@ fn table_of(
     }
 }
 
-// The job of `transactions` of this file where it is followed, with the values of its other arguments.
+// The job of a table of this file where it is followed, with the values of its other arguments.
 fn follow_of(
     alloc: Global,
     found: &ArgMatches<'_>,
+    shown: Table,
     wait: bool,
     file: Option<String>,
 ) -> Result<Option<Job>, AllocError>
@@ -268,30 +269,31 @@ fn follow_of(
     requires wait { IsWaited (rows_of (found_of found.now)) wait }
     requires grows { wait ≡ true → names_input (option_map string_bytes file) ≡ false }
     ensures { IfOk result (λ made. MatchOption made
-        (NamesNoJob (Some (codes "transactions", rows_of (found_of found.now))))
-        (IsJobAt (codes "transactions") (rows_of (found_of found.now)))) }
+        (NamesNoJob (Some (word_of (verb_of shown), rows_of (found_of found.now))))
+        (IsJobAt (word_of (verb_of shown)) (rows_of (found_of found.now)))) }
 {
     let workers = workers_in(found, Workers::one());
     let accounts = owned(alloc, found.get_str("accounts"))?;
     Ok(Some(Job::Follow {
         workers,
+        shown,
         accounts,
         wait,
         file,
     }))
 }
 
-// The job of `transactions` of this file, with the values of its other arguments. There is none where it would wait in
-// vain.
-fn transactions_of(
+// The job of a table of this file, with the values of its other arguments. There is none where it would wait in vain.
+fn growing_of(
     alloc: Global,
     found: &ArgMatches<'_>,
+    shown: Table,
     file: Option<String>,
 ) -> Result<Option<Job>, AllocError>
     requires { IsFileIn (rows_of (found_of found.now)) (option_map string_bytes file) }
     ensures { IfOk result (λ made. MatchOption made
-        (NamesNoJob (Some (codes "transactions", rows_of (found_of found.now))))
-        (IsJobAt (codes "transactions") (rows_of (found_of found.now)))) }
+        (NamesNoJob (Some (word_of (verb_of shown), rows_of (found_of found.now))))
+        (IsJobAt (word_of (verb_of shown)) (rows_of (found_of found.now)))) }
 {
     let follow = flag_in(found, "follow");
     let wait = flag_in(found, "wait");
@@ -299,9 +301,9 @@ fn transactions_of(
         return Ok(None);
     }
     if follow {
-        return follow_of(alloc, found, wait, file);
+        return follow_of(alloc, found, shown, wait, file);
     }
-    table_of(alloc, found, Table::Transactions, file)
+    table_of(alloc, found, shown, file)
 }
 
 // The job of `link` of this file, with the values of its other arguments.
@@ -383,8 +385,8 @@ pub(crate) fn job_of(
         Verb::Anchors => Ok(Some(ask_one(Query::Anchors, file))),
         Verb::Dag => Ok(Some(dag_of(found, file))),
         Verb::Statement => Ok(Some(statement_of(found, file))),
-        Verb::Transactions => transactions_of(alloc, found, file),
-        Verb::Postings => table_of(alloc, found, Table::Postings, file),
+        Verb::Transactions => growing_of(alloc, found, Table::Transactions, file),
+        Verb::Postings => growing_of(alloc, found, Table::Postings, file),
         Verb::Batches => Ok(Some(batches_of(file))),
         Verb::Waiting => Ok(Some(diagnosis_of(Diagnosis::Waiting, file))),
         Verb::Missing => Ok(Some(diagnosis_of(Diagnosis::Missing, file))),

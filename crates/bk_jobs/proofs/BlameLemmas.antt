@@ -8,7 +8,6 @@ use Rattle.std.specs.Io.KnownBytes.{Consumes}
 use Rattle.bk_commit.specs.Growth.{IsPrefix}
 use Rattle.bk_results.specs.declared.status.Status.{Status}
 use Rattle.bk_tail.specs.Tailing.{TailFailsBy}
-use Rattle.bk_tables.specs.Tables.{IsPaymentTable}
 use Rattle.bk_frames.specs.declared.fault.FaultCode.{FaultCode}
 use Rattle.bk_frames.specs.declared.fault.FaultCode.TheVariants as code
 use Rattle.bk_frames.specs.declared.fault.FeedFault.{FeedFault}
@@ -43,6 +42,7 @@ use Rattle.bk_cli.specs.Exits.{exit_after, exit_after_compare, exit_by_code, is_
 use Rattle.bk_jobs.specs.Comparisons.{DoNotAgree, HaveSomeStop, both_sources}
 use Rattle.bk_jobs.specs.Diagnoses.{diagnosis_text}
 use Rattle.bk_jobs.specs.Faults.{AreNoAccounts, AreNoLinks, AreStopped, AreStoppedAhead, AreToBlame, MakeNoFeed, JobFailsBy}
+use Rattle.bk_cli.specs.declared.view.Table.{Table}
 use Rattle.bk_jobs.specs.Views.{executes_to_show, table_text, view_text}
 use Rattle.bk_chain.specs.Chain.{HasLinksFault}
 use Rattle.bk_tables.specs.Listing.{ids_of}
@@ -268,7 +268,7 @@ blames (job.Compare first second) (fault.Replay replay.Memory) old new w h r = a
 blames (job.Compare first second) (fault.Text e) old new w h r = absurd h
 blames (job.Compare first second) (fault.Events e) old new w h r = absurd h
 blames (job.Frames file) e old new w h r = absurd (cc)
-blames (job.Follow workers accounts wait file) e old new w h r = absurd (cc)
+blames (job.Follow workers shown accounts wait file) e old new w h r = absurd (cc)
 blames (job.Run workers file) (fault.Accounts line) old new w h r = absurd h
 blames (job.Run workers file) (fault.Links line) old new w h r = absurd h
 blames (job.Make file) (fault.Accounts line) old new w h r = absurd h
@@ -359,23 +359,23 @@ tail_blames T j (replay.Unfinished place) given old new right halt h r = absurd 
 tail_blames T j (replay.Write written) given old new right halt h r = absurd (cc)
 tail_blames T j replay.Memory given old new right halt h r = absurd (cc)
 
-follow_blames : (workers : ℕ) (accounts : _) (wait : Bool) (file : _) (e : JobFault) (old new : JobDevices)
-    → JobFailsBy (job.Follow workers accounts wait file) e old new → is_refusal (exit_after e) ≡ true → AreToBlame (job.Follow workers accounts wait file) (exit_after e) (inputs_of old)
-follow_blames workers None wait file (fault.Replay e) old new h r =
-    tail_blames (IsPaymentTable None) (job.Follow workers None wait file) e (inputs_of old) (first_devices old) (first_devices new) (λ b. inl b) (λ b. b) h.1 r
-follow_blames workers (Some accounts) wait file (fault.Replay e) old new h r =
-    tail_blames (IsPaymentTable (Some h.1.0)) (job.Follow workers (Some accounts) wait file) e (inputs_of old) (first_devices old) (first_devices new) (λ b. inl b) (λ b. b) h.1.2 r
-follow_blames workers None wait file (fault.Accounts line) old new h r = absurd h
-follow_blames workers (Some accounts) wait file (fault.Accounts line) old new h r = inr (no_accounts line old.second.bytes h.0.1.1)
-follow_blames workers accounts wait file (fault.Links line) old new h r = absurd h
-follow_blames workers accounts wait file (fault.Text (text.Script line found)) old new h r = absurd h
-follow_blames workers accounts wait file (fault.Text text.Read) old new h r = absurd (cc)
-follow_blames workers accounts wait file (fault.Text (text.Write written)) old new h r = absurd (cc)
-follow_blames workers accounts wait file (fault.Text text.Memory) old new h r = absurd (cc)
-follow_blames workers accounts wait file (fault.Events e) old new h r = absurd h
-follow_blames workers accounts wait file (fault.Compared e) old new h r = absurd h
-follow_blames workers accounts wait file (fault.AbsentAccount id missing) old new h r = absurd (cc)
-follow_blames workers accounts wait file (fault.AbsentPlace place missing) old new h r = absurd (cc)
+follow_blames : (workers : ℕ) (shown : Table) (accounts : _) (wait : Bool) (file : _) (e : JobFault) (old new : JobDevices)
+    → JobFailsBy (job.Follow workers shown accounts wait file) e old new → is_refusal (exit_after e) ≡ true → AreToBlame (job.Follow workers shown accounts wait file) (exit_after e) (inputs_of old)
+follow_blames workers shown None wait file (fault.Replay e) old new h r =
+    tail_blames (table_text shown None) (job.Follow workers shown None wait file) e (inputs_of old) (first_devices old) (first_devices new) (λ b. inl b) (λ b. b) h.1 r
+follow_blames workers shown (Some accounts) wait file (fault.Replay e) old new h r =
+    tail_blames (table_text shown (Some h.1.0)) (job.Follow workers shown (Some accounts) wait file) e (inputs_of old) (first_devices old) (first_devices new) (λ b. inl b) (λ b. b) h.1.2 r
+follow_blames workers shown None wait file (fault.Accounts line) old new h r = absurd h
+follow_blames workers shown (Some accounts) wait file (fault.Accounts line) old new h r = inr (no_accounts line old.second.bytes h.0.1.1)
+follow_blames workers shown accounts wait file (fault.Links line) old new h r = absurd h
+follow_blames workers shown accounts wait file (fault.Text (text.Script line found)) old new h r = absurd h
+follow_blames workers shown accounts wait file (fault.Text text.Read) old new h r = absurd (cc)
+follow_blames workers shown accounts wait file (fault.Text (text.Write written)) old new h r = absurd (cc)
+follow_blames workers shown accounts wait file (fault.Text text.Memory) old new h r = absurd (cc)
+follow_blames workers shown accounts wait file (fault.Events e) old new h r = absurd h
+follow_blames workers shown accounts wait file (fault.Compared e) old new h r = absurd h
+follow_blames workers shown accounts wait file (fault.AbsentAccount id missing) old new h r = absurd (cc)
+follow_blames workers shown accounts wait file (fault.AbsentPlace place missing) old new h r = absurd (cc)
 
 -- the bytes are to blame, and nothing is written but by a job that writes while it reads
 pub BlamesThem : Job → JobFault → JobDevices → JobDevices → Type 0
@@ -391,7 +391,7 @@ pub bytes_to_blame : (j : Job) (e : JobFault) (old new : JobDevices) → JobFail
     → AreToBlame j (exit_after e) (inputs_of old) × (writes_ahead j ≡ false → IsUntouched old.out new.out)
 unfolding BlamesThem
 bytes_to_blame (job.Frames file) e old new h r = (frames_blame file e old new h r, λ w. absurd (cc))
-bytes_to_blame (job.Follow workers accounts wait file) e old new h r = (follow_blames workers accounts wait file e old new h r, λ w. absurd (cc))
+bytes_to_blame (job.Follow workers shown accounts wait file) e old new h r = (follow_blames workers shown accounts wait file e old new h r, λ w. absurd (cc))
 bytes_to_blame (job.Run workers file) e old new h r = unwritten (job.Run workers file) e old new (blames (job.Run workers file) e old new refl h r)
 bytes_to_blame (job.Make file) e old new h r = unwritten (job.Make file) e old new (blames (job.Make file) e old new refl h r)
 bytes_to_blame (job.CheckProof root account file) e old new h r = unwritten (job.CheckProof root account file) e old new (blames (job.CheckProof root account file) e old new refl h r)

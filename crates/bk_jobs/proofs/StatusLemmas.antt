@@ -277,17 +277,17 @@ ends_by_fault (job.Pick workers shown accounts file) (fault.Events e) old new h 
 ends_by_fault (job.Pick workers shown accounts file) (fault.Compared e) old new h = absurd h
 ends_by_fault (job.Pick workers shown accounts file) (fault.AbsentAccount id missing) old new h = absurd h
 ends_by_fault (job.Pick workers shown accounts file) (fault.AbsentPlace place missing) old new h = absurd h
-ends_by_fault (job.Follow workers accounts wait file) (fault.Replay e) old new h = replay_may_end (job.Follow workers accounts wait file) e refl refl
-ends_by_fault (job.Follow workers accounts wait file) (fault.Text (text.Script line found)) old new h = absurd h
-ends_by_fault (job.Follow workers accounts wait file) (fault.Text text.Read) old new h = refl
-ends_by_fault (job.Follow workers accounts wait file) (fault.Text (text.Write written)) old new h = absurd h
-ends_by_fault (job.Follow workers accounts wait file) (fault.Text text.Memory) old new h = refl
-ends_by_fault (job.Follow workers accounts wait file) (fault.Accounts line) old new h = refl
-ends_by_fault (job.Follow workers accounts wait file) (fault.Links line) old new h = absurd h
-ends_by_fault (job.Follow workers accounts wait file) (fault.Events e) old new h = absurd h
-ends_by_fault (job.Follow workers accounts wait file) (fault.Compared e) old new h = absurd h
-ends_by_fault (job.Follow workers accounts wait file) (fault.AbsentAccount id missing) old new h = absurd h
-ends_by_fault (job.Follow workers accounts wait file) (fault.AbsentPlace place missing) old new h = absurd h
+ends_by_fault (job.Follow workers shown accounts wait file) (fault.Replay e) old new h = replay_may_end (job.Follow workers shown accounts wait file) e refl refl
+ends_by_fault (job.Follow workers shown accounts wait file) (fault.Text (text.Script line found)) old new h = absurd h
+ends_by_fault (job.Follow workers shown accounts wait file) (fault.Text text.Read) old new h = refl
+ends_by_fault (job.Follow workers shown accounts wait file) (fault.Text (text.Write written)) old new h = absurd h
+ends_by_fault (job.Follow workers shown accounts wait file) (fault.Text text.Memory) old new h = refl
+ends_by_fault (job.Follow workers shown accounts wait file) (fault.Accounts line) old new h = refl
+ends_by_fault (job.Follow workers shown accounts wait file) (fault.Links line) old new h = absurd h
+ends_by_fault (job.Follow workers shown accounts wait file) (fault.Events e) old new h = absurd h
+ends_by_fault (job.Follow workers shown accounts wait file) (fault.Compared e) old new h = absurd h
+ends_by_fault (job.Follow workers shown accounts wait file) (fault.AbsentAccount id missing) old new h = absurd h
+ends_by_fault (job.Follow workers shown accounts wait file) (fault.AbsentPlace place missing) old new h = absurd h
 ends_by_fault (job.CheckChain file) (fault.Text (text.Script line found)) old new h = absurd h
 ends_by_fault (job.CheckChain file) (fault.Text text.Read) old new h = refl
 ends_by_fault (job.CheckChain file) (fault.Text (text.Write written)) old new h = refl
@@ -365,8 +365,8 @@ fault_is_none (job.Show workers shown file) (fault.AbsentAccount id missing) old
 fault_is_none (job.Show workers shown file) (fault.AbsentPlace place missing) old new h = absurd h
 fault_is_none (job.Pick workers shown accounts file) (fault.AbsentAccount id missing) old new h = absurd h
 fault_is_none (job.Pick workers shown accounts file) (fault.AbsentPlace place missing) old new h = absurd h
-fault_is_none (job.Follow workers accounts wait file) (fault.AbsentAccount id missing) old new h = absurd h
-fault_is_none (job.Follow workers accounts wait file) (fault.AbsentPlace place missing) old new h = absurd h
+fault_is_none (job.Follow workers shown accounts wait file) (fault.AbsentAccount id missing) old new h = absurd h
+fault_is_none (job.Follow workers shown accounts wait file) (fault.AbsentPlace place missing) old new h = absurd h
 fault_is_none (job.CheckChain file) (fault.AbsentAccount id missing) old new h = absurd h
 fault_is_none (job.CheckChain file) (fault.AbsentPlace place missing) old new h = absurd h
 
@@ -417,14 +417,14 @@ pick_answers workers shown accounts file exit.Stopped h = absurd (cc)
 pick_answers workers shown accounts file exit.Failed h = absurd (cc)
 pick_answers workers shown accounts file exit.Missing h = (refl, refl)
 
-pub follow_answers : (workers : ℕ) (accounts : _) (wait : Bool) (file : _) (end : Exit) → is_report end ≡ true
-    → (is_answer (job.Follow workers accounts wait file) end ≡ true) × (may_end (job.Follow workers accounts wait file) end ≡ true)
-follow_answers workers accounts wait file exit.Whole h = (refl, refl)
-follow_answers workers accounts wait file exit.No h = absurd (cc)
-follow_answers workers accounts wait file exit.WrongInput h = absurd (cc)
-follow_answers workers accounts wait file exit.Stopped h = absurd (cc)
-follow_answers workers accounts wait file exit.Failed h = absurd (cc)
-follow_answers workers accounts wait file exit.Missing h = (refl, refl)
+pub follow_answers : (workers : ℕ) (shown : Table) (accounts : _) (wait : Bool) (file : _) (end : Exit) → is_report end ≡ true
+    → (is_answer (job.Follow workers shown accounts wait file) end ≡ true) × (may_end (job.Follow workers shown accounts wait file) end ≡ true)
+follow_answers workers shown accounts wait file exit.Whole h = (refl, refl)
+follow_answers workers shown accounts wait file exit.No h = absurd (cc)
+follow_answers workers shown accounts wait file exit.WrongInput h = absurd (cc)
+follow_answers workers shown accounts wait file exit.Stopped h = absurd (cc)
+follow_answers workers shown accounts wait file exit.Failed h = absurd (cc)
+follow_answers workers shown accounts wait file exit.Missing h = (refl, refl)
 
 pub chain_answers : (file : _) (v : ChainEnd) (end : Exit) → end ≡ exit_by_chain v
     → (is_answer (job.CheckChain file) end ≡ true) × (may_end (job.CheckChain file) end ≡ true)
@@ -537,16 +537,16 @@ job_of_pick workers shown accounts file (fault.AbsentAccount id missing) old new
 job_of_pick workers shown accounts file (fault.AbsentPlace place missing) old new h = absurd h
 
 -- why a feed that is followed has no table is why its job has no answer
-pub job_of_follow : (workers : ℕ) (accounts wait file : _) (e : JobFault) (old new : JobDevices) → FollowFailsBy e true old new
-    → JobFailsBy (job.Follow workers (Some accounts) wait file) e old new
-job_of_follow workers accounts wait file (fault.Replay e) old new h = h
-job_of_follow workers accounts wait file (fault.Text e) old new h = h
-job_of_follow workers accounts wait file (fault.Accounts line) old new h = h
-job_of_follow workers accounts wait file (fault.Links line) old new h = absurd h
-job_of_follow workers accounts wait file (fault.Events e) old new h = absurd h
-job_of_follow workers accounts wait file (fault.Compared e) old new h = absurd h
-job_of_follow workers accounts wait file (fault.AbsentAccount id missing) old new h = absurd h
-job_of_follow workers accounts wait file (fault.AbsentPlace place missing) old new h = absurd h
+pub job_of_follow : (workers : ℕ) (shown : Table) (accounts wait file : _) (e : JobFault) (old new : JobDevices) → FollowFailsBy shown e true old new
+    → JobFailsBy (job.Follow workers shown (Some accounts) wait file) e old new
+job_of_follow workers shown accounts wait file (fault.Replay e) old new h = h
+job_of_follow workers shown accounts wait file (fault.Text e) old new h = h
+job_of_follow workers shown accounts wait file (fault.Accounts line) old new h = h
+job_of_follow workers shown accounts wait file (fault.Links line) old new h = absurd h
+job_of_follow workers shown accounts wait file (fault.Events e) old new h = absurd h
+job_of_follow workers shown accounts wait file (fault.Compared e) old new h = absurd h
+job_of_follow workers shown accounts wait file (fault.AbsentAccount id missing) old new h = absurd h
+job_of_follow workers shown accounts wait file (fault.AbsentPlace place missing) old new h = absurd h
 
 -- and why there is no verdict on links is why theirs has none
 pub job_of_chain : (file : _) (e : JobFault) (old new : JobDevices) → ChainFailsBy e (first_devices old) (first_devices new)

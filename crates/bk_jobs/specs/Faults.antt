@@ -136,7 +136,7 @@ AnswerIsOut (job.Compare first second) end old new = AgreementIsOut end old new
 AnswerIsOut (job.Show workers shown file) end old new =
     ViewIsOut shown end (first_devices old) (first_devices new)
 AnswerIsOut (job.Pick workers shown accounts file) end old new = PickIsOut shown end old new
-AnswerIsOut (job.Follow workers accounts wait file) end old new = FollowIsOut (is_some accounts) end old new
+AnswerIsOut (job.Follow workers shown accounts wait file) end old new = FollowIsOut shown (is_some accounts) end old new
 AnswerIsOut (job.Diagnose d file) end old new = DiagnosisIsOut d end (first_devices old) (first_devices new)
 AnswerIsOut (job.CheckChain file) end old new = ChainIsOut end (first_devices old) (first_devices new)
 
@@ -182,8 +182,8 @@ ReplayFailsBy (job.Compare first second) e old new = AgreementFailsBy e old new
 ReplayFailsBy (job.Show workers shown file) e old new =
     ViewFailsBy shown e (first_devices old) (first_devices new)
 ReplayFailsBy (job.Pick workers shown accounts file) e old new = PickFailsBy shown (fault.Replay e) old new
-ReplayFailsBy (job.Follow workers accounts wait file) e old new =
-    FollowFailsBy (fault.Replay e) (is_some accounts) old new
+ReplayFailsBy (job.Follow workers shown accounts wait file) e old new =
+    FollowFailsBy shown (fault.Replay e) (is_some accounts) old new
 ReplayFailsBy (job.Diagnose d file) e old new = DiagnosisFailsBy d e (first_devices old) (first_devices new)
 ReplayFailsBy other e old new = ⊥
 
@@ -195,8 +195,8 @@ TextFailsBy (job.CheckProof root account file) e old new =
     CheckFailsBy (string_bytes root) account e (first_devices old) (first_devices new)
 TextFailsBy (job.CheckReport workers report file) e old new = ClaimIsUnread e old new
 TextFailsBy (job.Pick workers shown accounts file) e old new = PickFailsBy shown (fault.Text e) old new
-TextFailsBy (job.Follow workers accounts wait file) e old new =
-    FollowFailsBy (fault.Text e) (is_some accounts) old new
+TextFailsBy (job.Follow workers shown accounts wait file) e old new =
+    FollowFailsBy shown (fault.Text e) (is_some accounts) old new
 TextFailsBy (job.CheckChain file) e old new = ChainFailsBy (fault.Text e) (first_devices old) (first_devices new)
 TextFailsBy other e old new = ⊥
 
@@ -208,8 +208,8 @@ EventsFailBy other e old new = ⊥
 -- why a list of accounts, or lines that are no links, give no answer for a job
 abbrev pub AccountsFailBy : Job → ℕ → JobDevices → JobDevices → Type 0
 AccountsFailBy (job.Pick workers shown accounts file) line old new = PickFailsBy shown (fault.Accounts line) old new
-AccountsFailBy (job.Follow workers accounts wait file) line old new =
-    FollowFailsBy (fault.Accounts line) (is_some accounts) old new
+AccountsFailBy (job.Follow workers shown accounts wait file) line old new =
+    FollowFailsBy shown (fault.Accounts line) (is_some accounts) old new
 AccountsFailBy other line old new = ⊥
 
 abbrev pub LinksFailBy : Job → ℕ → JobDevices → JobDevices → Type 0
@@ -303,7 +303,7 @@ AreWrong (job.Schedule workers feed events) given = AreWrongFor workers given
 AreWrong (job.Compare first second) given = AreWrongTogether given
 AreWrong (job.Show workers shown file) given = IfSome given.first AreBroken
 AreWrong (job.Pick workers shown accounts file) given = IfSome given.first AreBroken ⊎ IfSome given.second AreNoAccounts
-AreWrong (job.Follow workers accounts wait file) given =
+AreWrong (job.Follow workers shown accounts wait file) given =
     IfSome given.first AreBroken ⊎ IfSome given.second AreNoAccounts
 AreWrong (job.Diagnose d file) given = IfSome given.first AreBroken
 AreWrong (job.CheckChain file) given = IfSome given.first AreNoLinks
@@ -327,7 +327,7 @@ AreStoppedFor (job.Dag window file) given = IfSome given.first AreStopped
 AreStoppedFor (job.Compare first second) given = AreStoppedTogether given
 AreStoppedFor (job.Show workers shown file) given = IfSome given.first AreStopped
 AreStoppedFor (job.Pick workers shown accounts file) given = IfSome given.first AreStopped
-AreStoppedFor (job.Follow workers accounts wait file) given = IfSome given.first AreStoppedAhead
+AreStoppedFor (job.Follow workers shown accounts wait file) given = IfSome given.first AreStoppedAhead
 AreStoppedFor (job.Diagnose d file) given = IfSome given.first AreStopped
 AreStoppedFor other given = ⊥
 

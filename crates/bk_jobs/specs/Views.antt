@@ -92,7 +92,7 @@ PickFailsBy shown (fault.Replay e) old new =
     AnswerFailsBy (table_text shown (Some accounts)) true e (first_devices old) (first_devices new))
 PickFailsBy shown other old new = ⊥
 
--- ---- the payments of a feed that is followed
+-- ---- the rows of a feed that is followed
 
 -- this holds of the accounts of the list that the second source gave; or of none, where no list is named
 abbrev pub IsPickedIf : Bool → JobDevices → JobDevices → (Option (List ℕ) → Type 0) → Type 0
@@ -100,25 +100,25 @@ IsPickedIf true old new holds = IsPicked old new (λ accounts. holds (Some accou
 IsPickedIf false old new holds = holds None
 
 -- the output got the whole table of the feed that the source gave, and the exit says whether a batch is missing
-abbrev pub PaymentsAreOut : Option (List ℕ) → Exit → Devices → Devices → Type 0
-PaymentsAreOut accounts end old new =
-    (answer : Status) × (end ≡ exit_at answer) × IsAnswered (IsPaymentTable accounts) answer old new
+abbrev pub RowsAreOut : Table → Option (List ℕ) → Exit → Devices → Devices → Type 0
+RowsAreOut shown accounts end old new =
+    (answer : Status) × (end ≡ exit_at answer) × IsAnswered (table_text shown accounts) answer old new
 
 -- the same where there may be a list
-abbrev pub FollowIsOut : Bool → Exit → JobDevices → JobDevices → Type 0
-FollowIsOut picks end old new =
-    IsPickedIf picks old new (λ accounts. PaymentsAreOut accounts end (first_devices old) (first_devices new))
+abbrev pub FollowIsOut : Table → Bool → Exit → JobDevices → JobDevices → Type 0
+FollowIsOut shown picks end old new =
+    IsPickedIf picks old new (λ accounts. RowsAreOut shown accounts end (first_devices old) (first_devices new))
 
 -- why it did not: the list was not read; or the feed was not followed to its end, and then rows of it may be out
-abbrev pub FollowFailsBy : JobFault → Bool → JobDevices → JobDevices → Type 0
-FollowFailsBy (fault.Accounts line) true old new = ListIsUnread (list.Line line) old new
-FollowFailsBy (fault.Text text.Read) true old new = ListIsUnread list.Read old new
-FollowFailsBy (fault.Text text.Memory) true old new = ListIsUnread list.Memory old new
-FollowFailsBy (fault.Replay e) picks old new =
+abbrev pub FollowFailsBy : Table → JobFault → Bool → JobDevices → JobDevices → Type 0
+FollowFailsBy shown (fault.Accounts line) true old new = ListIsUnread (list.Line line) old new
+FollowFailsBy shown (fault.Text text.Read) true old new = ListIsUnread list.Read old new
+FollowFailsBy shown (fault.Text text.Memory) true old new = ListIsUnread list.Memory old new
+FollowFailsBy shown (fault.Replay e) picks old new =
     Works old.second new.second
     × IsPickedIf picks old new (λ accounts.
-    TailFailsBy (IsPaymentTable accounts) e (first_devices old) (first_devices new))
-FollowFailsBy other picks old new = ⊥
+    TailFailsBy (table_text shown accounts) e (first_devices old) (first_devices new))
+FollowFailsBy shown other picks old new = ⊥
 
 -- ---- links
 

@@ -97,10 +97,11 @@ where
         }
         Job::Follow {
             workers,
+            shown,
             accounts: None,
             ..
         } => {
-            let end = follow(rt, gate, *workers, first, out)?;
+            let end = follow(rt, gate, *shown, *workers, first, out)?;
             Ok(End {
                 exit: end,
                 gaps: Gaps {
@@ -351,10 +352,11 @@ where
         }
         Job::Follow {
             workers,
+            shown,
             accounts: Some(_),
             ..
         } => {
-            let end = follow_some(rt, gate, *workers, first, second, out)?;
+            let end = follow_some(rt, gate, *shown, *workers, first, second, out)?;
             Ok(End {
                 exit: end,
                 gaps: Gaps {

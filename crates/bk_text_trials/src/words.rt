@@ -2,7 +2,7 @@
 
 use crate::tally::Tally;
 use anyhow::Result;
-use bk_cli::{Diagnosis, Job, parse};
+use bk_cli::{Diagnosis, Job, Table, parse};
 use bk_results::Query;
 use std::alloc::Global;
 
@@ -29,6 +29,7 @@ enum Kind {
     Compare,
     Follow,
     Wait,
+    FollowPostings,
     Waiting,
     Missing,
     Evidence,
@@ -50,6 +51,9 @@ fn kind_of(job: &Job) -> Kind {
         } => Kind::CheckState,
         Job::Schedule { .. } => Kind::Schedule,
         Job::Compare { .. } => Kind::Compare,
+        Job::Follow {
+            shown: Table::Postings, ..
+        } => Kind::FollowPostings,
         Job::Follow { wait: false, .. } => Kind::Follow,
         Job::Follow { wait: true, .. } => Kind::Wait,
         Job::Diagnose { sought, .. } => match sought {
@@ -73,7 +77,7 @@ fn workers_of(job: &Job) -> Option<usize> {
 
 const ROOT: &str = "a0f73141eeeda4cb3f115f1ee0468dde8a3de31db5fd987f0eec1df811bce063";
 
-const NAMED: [Named; 27] = [
+const NAMED: [Named; 28] = [
     Named {
         words: &["bkreplay", "run"],
         kind: Kind::Run,
@@ -155,6 +159,13 @@ const NAMED: [Named; 27] = [
         words: &["bkreplay", "check-proof", "no root", "a", "--account=7"],
         kind: Kind::CheckProofOfSeven,
         workers: None,
+        first: Some("a"),
+        second: None,
+    },
+    Named {
+        words: &["bkreplay", "postings", "--follow", "--workers", "3", "a"],
+        kind: Kind::FollowPostings,
+        workers: Some(3),
         first: Some("a"),
         second: None,
     },

@@ -7,7 +7,7 @@ use bk_cli::parse;
 use clap::error::ErrorKind;
 use std::alloc::Global;
 
-const WRONG: [(&[&str], ErrorKind); 33] = [
+const WRONG: [(&[&str], ErrorKind); 39] = [
     (&["bkreplay"], ErrorKind::MissingSubcommand),
     (&["bkreplay", "replay"], ErrorKind::InvalidSubcommand),
     (&["bkreplay", "run", "a", "b"], ErrorKind::UnknownArgument),
@@ -71,7 +71,31 @@ const WRONG: [(&[&str], ErrorKind); 33] = [
         ErrorKind::ArgumentConflict,
     ),
     (
-        &["bkreplay", "postings", "--follow", "a"],
+        &["bkreplay", "postings", "--wait", "a"],
+        ErrorKind::ValueValidation,
+    ),
+    (
+        &["bkreplay", "batches", "--follow", "a"],
+        ErrorKind::UnknownArgument,
+    ),
+    (
+        &["bkreplay", "check-proof", "--account", "-1", "a"],
+        ErrorKind::UnknownArgument,
+    ),
+    (
+        &["bkreplay", "check-proof", "--account", "18446744073709551616", "a"],
+        ErrorKind::ValueValidation,
+    ),
+    (
+        &["bkreplay", "check-proof", "--account", "one", "a"],
+        ErrorKind::ValueValidation,
+    ),
+    (
+        &["bkreplay", "waiting", "a", "b"],
+        ErrorKind::UnknownArgument,
+    ),
+    (
+        &["bkreplay", "missing", "--workers", "2"],
         ErrorKind::UnknownArgument,
     ),
     (&["bkreplay", "run", "--help"], ErrorKind::DisplayHelp),

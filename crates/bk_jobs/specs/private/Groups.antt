@@ -9,7 +9,7 @@ replays_one (job.Run workers file) = true
 replays_one (job.Ask workers asked file) = true
 replays_one (job.Summary workers file) = true
 replays_one (job.Show workers shown file) = true
-replays_one (job.Follow workers None wait file) = true
+replays_one (job.Follow workers shown None wait file) = true
 replays_one other = false
 
 -- a job that reads one feed, and executes on no thread but its own
@@ -33,5 +33,5 @@ abbrev pub replays_two : Job → Bool
 replays_two (job.CheckReport workers report file) = true
 replays_two (job.Compare first second) = true
 replays_two (job.Pick workers shown accounts file) = true
-replays_two (job.Follow workers (Some accounts) wait file) = true
+replays_two (job.Follow workers shown (Some accounts) wait file) = true
 replays_two other = false

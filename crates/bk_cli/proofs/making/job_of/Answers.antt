@@ -112,17 +112,17 @@ returns-in-Schedule c = rw c.in-Schedule.is c.schedule_of.ensures
 pub returns-in-Compare : goal.returns-in-Compare
 returns-in-Compare c = rw c.in-Compare.is c.compare_of.ensures
 
-pub transactions_of-requires : goal.transactions_of-requires
-transactions_of-requires c = let found = found_of c.args.found.now in sym (first_value-rows found (codes "FILE")) ∙ (sym c.get_str.ensures ∙ sym c.in_ok-file.ensures)
+pub growing_of-requires : goal.growing_of-requires
+growing_of-requires c = let found = found_of c.args.found.now in sym (first_value-rows found (codes "FILE")) ∙ (sym c.get_str.ensures ∙ sym c.in_ok-file.ensures)
 
 pub returns-in-Transactions : goal.returns-in-Transactions
-returns-in-Transactions c = rw c.in-Transactions.is c.transactions_of.ensures
+returns-in-Transactions c = rw c.in-Transactions.is c.growing_of.ensures
 
-pub table_of-requires-clause-file : goal.table_of-requires-clause-file
-table_of-requires-clause-file c = let found = found_of c.args.found.now in sym (first_value-rows found (codes "FILE")) ∙ (sym c.get_str.ensures ∙ sym c.in_ok-file.ensures)
+pub growing_of-in-Postings-requires : goal.growing_of-in-Postings-requires
+growing_of-in-Postings-requires c = let found = found_of c.args.found.now in sym (first_value-rows found (codes "FILE")) ∙ (sym c.get_str.ensures ∙ sym c.in_ok-file.ensures)
 
 pub returns-in-Postings : goal.returns-in-Postings
-returns-in-Postings c = rw c.in-Postings.is c.table_of.ensures
+returns-in-Postings c = rw c.in-Postings.is c.growing_of-in-Postings.ensures
 
 pub returns-in-Batches : goal.returns-in-Batches
 returns-in-Batches c =

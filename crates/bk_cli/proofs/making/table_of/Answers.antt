@@ -3,7 +3,7 @@ use Rattle.std.proofs.Common.{◌≡◌, ◌∙◌, ℕ, List, ap, sym, subst, c
 use Rattle.std.specs.Prelude.{option_map, string_bytes}
 use Rattle.clap.proofs.WalkLemmas.{first_value-rows, one_text-rows}
 use Rattle.clap.specs.Words.{Row, Text, first_of, found_of, one_of, rows_of}
-use Rattle.bk_cli.specs.CommandLine.{AreNamedBy, AreWorkersToShow, IsAtEndFor, IsViewAt, verb_of, view_of, word_of}
+use Rattle.bk_cli.specs.CommandLine.{AreNamedBy, AreWorkersToShow, IsAtEnd, IsViewAt, verb_of, view_of, word_of}
 use Rattle.bk_cli.specs.declared.view.Table.{Table}
 use Rattle.bk_cli.specs.declared.view.Table.TheVariants as table
 use Rattle.bk_cli.specs.declared.view.View.{View}
@@ -11,9 +11,9 @@ use Rattle.bk_cli.proofs.WordLemmas.{named_by_usual}
 use Rattle.bk_cli.proofs.making.table_of.Goals as goal
 
 -- without a list all rows are shown
-whole_at : (t : Table) (rows : List Row) (v : View) → v ≡ view_of t → first_of (codes "accounts") rows ≡ None → IsAtEndFor t rows → IsViewAt (word_of (verb_of t)) rows v
+whole_at : (t : Table) (rows : List Row) (v : View) → v ≡ view_of t → first_of (codes "accounts") rows ≡ None → IsAtEnd rows → IsViewAt (word_of (verb_of t)) rows v
 whole_at table.Transactions rows v e none end = rw e (refl, none, end)
-whole_at table.Postings rows v e none end = rw e (refl, none)
+whole_at table.Postings rows v e none end = rw e (refl, none, end)
 
 workers_at : (t : Table) (rows : List Row) (v : View) (count : ℕ) → v ≡ view_of t → AreNamedBy 1 (one_of (codes "workers") rows) count → AreWorkersToShow rows v count
 workers_at table.Transactions rows v count e named = rw e named

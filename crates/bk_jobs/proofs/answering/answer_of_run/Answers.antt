@@ -27,10 +27,10 @@ returns-in_ok-end-in-Show-clause-answer g c = rw c.in-Show.is (show_answers c.in
 pub returns-in_ok-end-in-Show-clause-gaps : goal.returns-in_ok-end-in-Show-clause-gaps
 returns-in_ok-end-in-Show-clause-gaps g c = rw c.in-Show.is refl
 
-pub returns-in_ok-end-in-Follow-default-None-default-default-clause-answer : goal.returns-in_ok-end-in-Follow-default-None-default-default-clause-answer
-returns-in_ok-end-in-Follow-default-None-default-default-clause-answer g c =
-    rw c.in-Follow-default-None-default-default.is (follow_answers c.in-Follow-default-None-default-default.workers c.in-Follow-default-None-default-default.accounts c.in-Follow-default-None-default-default.wait c.in-Follow-default-None-default-default.file _
-    c.in_ok-end-in-Follow-default-None-default-default.ensures.answer)
+pub returns-in_ok-end-in-Follow-default-default-None-default-default-clause-answer : goal.returns-in_ok-end-in-Follow-default-default-None-default-default-clause-answer
+returns-in_ok-end-in-Follow-default-default-None-default-default-clause-answer g c =
+    rw c.in-Follow-default-default-None-default-default.is (follow_answers c.in-Follow-default-default-None-default-default.workers c.in-Follow-default-default-None-default-default.shown c.in-Follow-default-default-None-default-default.accounts c.in-Follow-default-default-None-default-default.wait c.in-Follow-default-default-None-default-default.file _
+    c.in_ok-end-in-Follow-default-default-None-default-default.ensures.answer)
 
-pub returns-in_ok-end-in-Follow-default-None-default-default-clause-gaps : goal.returns-in_ok-end-in-Follow-default-None-default-default-clause-gaps
-returns-in_ok-end-in-Follow-default-None-default-default-clause-gaps g c = rw c.in-Follow-default-None-default-default.is refl
+pub returns-in_ok-end-in-Follow-default-default-None-default-default-clause-gaps : goal.returns-in_ok-end-in-Follow-default-default-None-default-default-clause-gaps
+returns-in_ok-end-in-Follow-default-default-None-default-default-clause-gaps g c = rw c.in-Follow-default-default-None-default-default.is refl

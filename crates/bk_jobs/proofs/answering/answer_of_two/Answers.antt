@@ -23,10 +23,10 @@ returns-in_ok-end-in-Pick-clause-answer g c = rw c.in-Pick.is (pick_answers c.in
 pub returns-in_ok-end-in-Pick-clause-gaps : goal.returns-in_ok-end-in-Pick-clause-gaps
 returns-in_ok-end-in-Pick-clause-gaps g c = rw c.in-Pick.is refl
 
-pub returns-in_ok-end-in-Follow-default-Some-default-default-clause-answer : goal.returns-in_ok-end-in-Follow-default-Some-default-default-clause-answer
-returns-in_ok-end-in-Follow-default-Some-default-default-clause-answer g c =
-    rw c.in-Follow-default-Some-default-default.is (follow_answers c.in-Follow-default-Some-default-default.workers c.in-Follow-default-Some-default-default.accounts c.in-Follow-default-Some-default-default.wait c.in-Follow-default-Some-default-default.file _
-    c.in_ok-end-in-Follow-default-Some-default-default.ensures.answer)
+pub returns-in_ok-end-in-Follow-default-default-Some-default-default-clause-answer : goal.returns-in_ok-end-in-Follow-default-default-Some-default-default-clause-answer
+returns-in_ok-end-in-Follow-default-default-Some-default-default-clause-answer g c =
+    rw c.in-Follow-default-default-Some-default-default.is (follow_answers c.in-Follow-default-default-Some-default-default.workers c.in-Follow-default-default-Some-default-default.shown c.in-Follow-default-default-Some-default-default.accounts c.in-Follow-default-default-Some-default-default.wait c.in-Follow-default-default-Some-default-default.file _
+    c.in_ok-end-in-Follow-default-default-Some-default-default.ensures.answer)
 
-pub returns-in_ok-end-in-Follow-default-Some-default-default-clause-gaps : goal.returns-in_ok-end-in-Follow-default-Some-default-default-clause-gaps
-returns-in_ok-end-in-Follow-default-Some-default-default-clause-gaps g c = rw c.in-Follow-default-Some-default-default.is refl
+pub returns-in_ok-end-in-Follow-default-default-Some-default-default-clause-gaps : goal.returns-in_ok-end-in-Follow-default-default-Some-default-default-clause-gaps
+returns-in_ok-end-in-Follow-default-default-Some-default-default-clause-gaps g c = rw c.in-Follow-default-default-Some-default-default.is refl

@@ -1,5 +1,5 @@
 -- Each argument is added to those before it.
-use Rattle.bk_cli.proofs.commands.transactions_command.Goals as goal
+use Rattle.bk_cli.proofs.commands.table_command.Goals as goal
 
 pub returns : goal.returns
 returns c =

@@ -4,7 +4,7 @@ use Rattle.clap.proofs.WalkLemmas.{one_text-rows}
 use Rattle.clap.specs.Words.{Text, found_of, one_of, rows_of}
 use Rattle.bk_cli.specs.Files.{names_input}
 use Rattle.bk_cli.specs.CommandLine.{IsOn}
-use Rattle.bk_cli.proofs.making.transactions_of.Goals as goal
+use Rattle.bk_cli.proofs.making.growing_of.Goals as goal
 
 either_way : {A B C D : Type 0} → (A → C) → (B → D) → A ⊎ B → C ⊎ D
 either_way f g (inl a) = inl (f a)
@@ -22,6 +22,7 @@ returns-then-waits_in_vain c =
     let wait = subst (λ (t : Option Text). IsOn t c.flag_in-wait.result) (one_text-rows found (codes "wait")) c.flag_in-wait.ensures in
     let follow = subst (λ (t : Option Text). IsOn t c.flag_in-follow.result) (one_text-rows found (codes "follow")) c.flag_in-follow.ensures in
     inr (
+      c.args.shown,
       refl,
       (
         subst (λ (b : Bool). IsOn (one_of (codes "wait") (rows_of found)) b) vain.0 wait,
