@@ -4,3 +4,4 @@ pub mod Missing
 pub mod Evidence
 pub mod Answers
 pub mod Laws
+pub mod private

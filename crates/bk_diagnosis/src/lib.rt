@@ -5,6 +5,16 @@
 //! that may be stopped. Each ends with whether it has a line.
 #![tactic(auto)]
 
+mod graph;
+mod lacking;
+mod laws;
 mod line;
+mod missing;
+mod rejects;
+mod waiting;
+mod writing;
 
+pub use laws::first_is_missing;
 pub use line::{Line, push_lines};
+pub use missing::Missing;
+pub use waiting::Waiting;

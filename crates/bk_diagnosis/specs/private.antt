@@ -1,0 +1,4 @@
+pub mod Lacking
+pub mod Rejects
+pub mod Graph
+pub mod Shows

@@ -1,0 +1,78 @@
+//! The batches that the order of a feed lacks, as what a feed answers.
+
+ghost use Rattle.std.specs.Prelude.{◌≡◌, Contains, IfOk, IfErr, string_bytes};
+ghost use Rattle.bk_base.specs.Feed.{FeedValue};
+ghost use Rattle.bk_cert.specs.declared.place.CertRef.{CertRef};
+ghost use Rattle.bk_frames.specs.Device.{CanBeUsed};
+ghost use Rattle.bk_rounds.specs.Admission.{IsPresent};
+ghost use Rattle.bk_answer.specs.Answers.{IsOrderMadeOf};
+ghost use Rattle.bk_answer.specs.Values.{order_value};
+ghost use Rattle.bk_diagnosis.specs.Answers.{ShowsLines};
+ghost use Rattle.bk_diagnosis.specs.Lines.{text_of};
+ghost use Rattle.bk_diagnosis.specs.Missing.{AreMissingIn};
+ghost use Rattle.bk_diagnosis.specs.private.Lacking.{missing_lines};
+ghost use Rattle.bk_diagnosis.specs.private.Shows.{WritesLines, LinesFail};
+
+use crate::lacking::lacks_of;
+use crate::writing::write_lines;
+use bk_answer::{ClosedOrder, OrderAnswer};
+use bk_frames::Sink;
+use bk_order::Intake;
+use bk_results::Fault;
+use bk_rounds::Rounds;
+use std::alloc::{AllocError, Global};
+
+// The lines of what the order lacks.
+fn text_of_missing(alloc: Global, intake: &Intake, rounds: &Rounds) -> Result<String, AllocError>
+    requires { (a : CertRef) → Contains intake.now.ordered.order a
+        → IsPresent rounds.now.sizes rounds.now.held a }
+    ensures { IfOk result (λ text. string_bytes text
+        ≡ text_of (missing_lines rounds.now intake.now)) }
+{
+    let lacks = lacks_of(alloc, rounds, intake.stored(), intake.order())?;
+    let mut text = String::new(alloc);
+    lacks.push(&mut text)?;
+    Ok(text)
+}
+
+// Writes them.
+fn write_missing<K: Sink>(
+    alloc: Global,
+    sink: &mut K,
+    intake: &Intake,
+    rounds: &Rounds,
+) -> Result<bool, Fault>
+    requires sound { CanBeUsed (K.state sink.old) }
+    requires present { (a : CertRef) → Contains intake.now.ordered.order a
+        → IsPresent rounds.now.sizes rounds.now.held a }
+    ensures out { IfOk result (WritesLines (missing_lines rounds.now intake.now)
+        (K.state sink.old) (K.state sink.new)) }
+    ensures fault { IfErr result (LinesFail (missing_lines rounds.now intake.now)
+        (K.state sink.old) (K.state sink.new)) }
+{
+    let text = text_of_missing(alloc, intake, rounds)?;
+    write_lines(sink, &text)
+}
+
+/// The batches that the order of a feed lacks, as what a feed answers: a line for each digest that an ordered certificate
+/// names and that no batch frame has, in the order in which these name them first. It ends with whether there is one.
+#[derive(Clone, Copy)]
+pub struct Missing;
+
+impl OrderAnswer for Missing {
+    type End = bool;
+
+    ghost can_ask = { λ _. Unit {0} };
+
+    ghost text = { λ _. ShowsLines AreMissingIn };
+
+    fn write<K: Sink>(
+        &self,
+        alloc: Global,
+        order: &ClosedOrder<'_>,
+        sink: &mut K,
+    ) -> Result<bool, Fault> {
+        let rounds = order.rounds();
+        write_missing(alloc, sink, order.intake, rounds)
+    }
+}
