@@ -3,3 +3,10 @@ pub mod Firsts
 pub mod Parents
 pub mod Shown
 pub mod FirstMissing
+pub mod Noting
+pub mod Found
+pub mod OtherEntries
+pub mod NamedOrder
+pub mod Groups
+pub mod TwinLines
+pub mod Written

@@ -5,15 +5,19 @@
 //! that may be stopped. Each ends with whether it has a line.
 #![tactic(auto)]
 
+mod colliding;
+mod evidence;
 mod graph;
 mod lacking;
 mod laws;
 mod line;
 mod missing;
 mod rejects;
+mod twins;
 mod waiting;
 mod writing;
 
+pub use evidence::Evidence;
 pub use laws::first_is_missing;
 pub use line::{Line, push_lines};
 pub use missing::Missing;
