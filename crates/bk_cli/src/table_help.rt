@@ -60,6 +60,10 @@ account, 4 stale, 5 guard, 6 funds.
 With a list of accounts, only rows whose ACCOUNT is in the list are written. The list has an id on each line; empty lines
 and lines that begin with `#` are skipped. It has at most 16,777,216 bytes, and is read before the feed.
 
+With `--follow` the rows of what a piece of the feed commits are written before the next piece is read. A fault ends the
+command at the piece that shows it; rows that are out stay out, and are right. With `--wait` too, the end of FILE is no
+end: the program reads again every 100 ms until a signal or a fault ends it.
+
 Exit status:
   0  all rows are written
   1  the command line is wrong

@@ -118,8 +118,8 @@ growing_of-requires c = let found = found_of c.args.found.now in sym (first_valu
 pub returns-in-Transactions : goal.returns-in-Transactions
 returns-in-Transactions c = rw c.in-Transactions.is c.growing_of.ensures
 
-pub growing_of-in-Postings-requires : goal.growing_of-in-Postings-requires
-growing_of-in-Postings-requires c = let found = found_of c.args.found.now in sym (first_value-rows found (codes "FILE")) ∙ (sym c.get_str.ensures ∙ sym c.in_ok-file.ensures)
+pub growing_of-requires-in-Postings : goal.growing_of-requires-in-Postings
+growing_of-requires-in-Postings c = let found = found_of c.args.found.now in sym (first_value-rows found (codes "FILE")) ∙ (sym c.get_str.ensures ∙ sym c.in_ok-file.ensures)
 
 pub returns-in-Postings : goal.returns-in-Postings
 returns-in-Postings c = rw c.in-Postings.is c.growing_of-in-Postings.ensures
