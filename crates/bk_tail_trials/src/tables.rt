@@ -6,14 +6,25 @@ use bk_follow::answer_by_ledger;
 use bk_frames::Counted;
 use bk_pool::Open;
 use bk_results::{Fault, Status};
-use bk_tables::{Accounts, Transactions};
-use bk_tail::tail_transactions;
+use bk_tables::{Accounts, Postings, Transactions};
+use bk_tail::{tail_postings, tail_transactions};
 use std::alloc::Global;
 use std::sync::Wait;
 use std::thread::Threads;
 
-/// Which rows are asked for: those that name this account, or all of them.
-pub(crate) type Named = Option<u64>;
+/// A table of what the transactions of a feed did.
+#[derive(Clone, Copy)]
+pub(crate) enum Table {
+    Transactions,
+    Postings,
+}
+
+/// Which table is asked for, and which of its rows: those that name this account, or all of them.
+#[derive(Clone, Copy)]
+pub(crate) struct Asked {
+    pub(crate) table: Table,
+    pub(crate) named: Option<u64>,
+}
 
 /// What a call leaves: how it ends, and what the sink holds.
 #[derive(Drop)]
@@ -35,7 +46,7 @@ pub(crate) const WIDE: Room = Room {
     calls: MOST,
 };
 
-fn accounts_of(alloc: Global, named: Named) -> Result<Option<Accounts>> {
+fn accounts_of(alloc: Global, named: Option<u64>) -> Result<Option<Accounts>> {
     let Some(id) = named else {
         return Ok(None);
     };
@@ -45,7 +56,7 @@ fn accounts_of(alloc: Global, named: Named) -> Result<Option<Accounts>> {
 }
 
 /// Follows a feed.
-pub(crate) fn followed<R>(rt: &R, named: Named, reader: Reader<'_>, room: Room) -> Result<Left>
+pub(crate) fn followed<R>(rt: &R, asked: Asked, reader: Reader<'_>, room: Room) -> Result<Left>
 where
     R: AllocGlobal + Threads + Wait + Sync,
 {
@@ -54,24 +65,40 @@ where
     let held = Vec::new(alloc);
     let mut source = Counted::new(reader);
     let mut sink = Counted::new(Writer { held, most, calls });
-    let accounts = accounts_of(alloc, named)?;
-    let asked = Transactions { accounts };
-    let end = tail_transactions(rt, alloc, &mut source, &mut sink, 2, &Open, &asked);
+    let accounts = accounts_of(alloc, asked.named)?;
+    let end = match asked.table {
+        Table::Transactions => {
+            let asked = Transactions { accounts };
+            tail_transactions(rt, alloc, &mut source, &mut sink, 2, &Open, &asked)
+        }
+        Table::Postings => {
+            let asked = Postings { accounts };
+            tail_postings(rt, alloc, &mut source, &mut sink, 2, &Open, &asked)
+        }
+    };
     let text = sink.into_inner().held;
     Ok(Left { end, text })
 }
 
 /// Reads a feed whole, and writes its table then.
-pub(crate) fn whole<R>(rt: &R, named: Named, feed: &[u8]) -> Result<Left>
+pub(crate) fn whole<R>(rt: &R, asked: Asked, feed: &[u8]) -> Result<Left>
 where
     R: AllocGlobal + Threads + Wait + Sync,
 {
     let alloc: Global = rt.alloc();
     let mut source = Counted::new(feed);
     let mut sink = Counted::new(Vec::new(alloc));
-    let accounts = accounts_of(alloc, named)?;
-    let asked = Transactions { accounts };
-    let end = answer_by_ledger(rt, alloc, &mut source, &mut sink, 2, &Open, &asked);
+    let accounts = accounts_of(alloc, asked.named)?;
+    let end = match asked.table {
+        Table::Transactions => {
+            let asked = Transactions { accounts };
+            answer_by_ledger(rt, alloc, &mut source, &mut sink, 2, &Open, &asked)
+        }
+        Table::Postings => {
+            let asked = Postings { accounts };
+            answer_by_ledger(rt, alloc, &mut source, &mut sink, 2, &Open, &asked)
+        }
+    };
     let text = sink.into_inner();
     Ok(Left { end, text })
 }

@@ -5,7 +5,7 @@ use crate::feeds::{
     MISSING, NOTHING, ONE_COMMIT, ONE_COMMIT_TWO, TWINS_LATER, TWO_COMMITS, TWO_COMMITS_TWO,
 };
 use crate::made::made;
-use crate::tables::{Named, Room, WIDE, followed, in_pieces, whole};
+use crate::tables::{Asked, Room, Table, WIDE, followed, in_pieces, whole};
 use crate::tally::Tally;
 use anyhow::Result;
 use bk_frames::{FaultCode, FeedFault};
@@ -18,7 +18,9 @@ use std::thread::Threads;
 const PIECES: [usize; 3] = [1, 7, 65_536];
 
 // All rows, those of an account that comes to be, and those of none.
-const NAMED: [Named; 3] = [None, Some(9), Some(77)];
+const NAMED: [Option<u64>; 3] = [None, Some(9), Some(77)];
+
+const TABLES: [Table; 2] = [Table::Transactions, Table::Postings];
 
 const FEEDS: [&str; 6] = [
     ONE_COMMIT,
@@ -30,15 +32,15 @@ const FEEDS: [&str; 6] = [
 ];
 
 // Followed in pieces of each size, a feed has the table that it has when it is read whole.
-fn try_pieces<R>(rt: &R, tally: &mut Tally, script: &str, named: Named) -> Result<()>
+fn try_pieces<R>(rt: &R, tally: &mut Tally, script: &str, asked: Asked) -> Result<()>
 where
     R: AllocGlobal + Eprint + Threads + Wait + Sync,
 {
     let alloc: Global = rt.alloc();
     let feed = made(alloc, script)?;
-    let wanted = whole(rt, named, &feed)?;
+    let wanted = whole(rt, asked, &feed)?;
     for most in PIECES {
-        let left = followed(rt, named, in_pieces(&feed, most), WIDE)?;
+        let left = followed(rt, asked, in_pieces(&feed, most), WIDE)?;
         tally.note(
             rt,
             "table in pieces",
@@ -54,7 +56,9 @@ where
 {
     for script in FEEDS {
         for named in NAMED {
-            try_pieces(rt, tally, script, named)?;
+            for table in TABLES {
+                try_pieces(rt, tally, script, Asked { table, named })?;
+            }
         }
     }
     Ok(())
@@ -75,25 +79,25 @@ fn are_lines_of(text: &[u8], whole: &[u8]) -> bool {
 
 // Cut at each byte, a feed leaves the rows of the whole frames before the cut, however it came. The source that fails there
 // leaves the same, and a later cut no fewer.
-fn try_cuts<R>(rt: &R, tally: &mut Tally, script: &str) -> Result<()>
+fn try_cuts<R>(rt: &R, tally: &mut Tally, asked: Asked, script: &str) -> Result<()>
 where
     R: AllocGlobal + Eprint + Threads + Wait + Sync,
 {
     let alloc: Global = rt.alloc();
     let feed = made(alloc, script)?;
-    let wanted = whole(rt, None, &feed)?;
+    let wanted = whole(rt, asked, &feed)?;
     let mut before = 0;
     for end in 0..feed.len() {
         let part = feed.get(..end).unwrap_or(&[]);
-        let cut = followed(rt, None, in_pieces(part, 1), WIDE)?;
-        let at_once = followed(rt, None, in_pieces(part, MOST), WIDE)?;
+        let cut = followed(rt, asked, in_pieces(part, 1), WIDE)?;
+        let at_once = followed(rt, asked, in_pieces(part, MOST), WIDE)?;
         let failing = Reader {
             rest: &feed,
             most: 1,
             calls: end,
         };
-        let failed = followed(rt, None, failing, WIDE)?;
-        let is_whole = cut.end.is_ok() && cut.text == whole(rt, None, part)?.text;
+        let failed = followed(rt, asked, failing, WIDE)?;
+        let is_whole = cut.end.is_ok() && cut.text == whole(rt, asked, part)?.text;
         let is_short = is_fault(&cut.end, FaultCode::Truncated) && cut.text == failed.text;
         tally.note(rt, "cut ends", is_whole || is_short);
         tally.note(
@@ -110,21 +114,21 @@ where
 }
 
 // A feed, and after it a frame of no kind.
-fn try_fault<R>(rt: &R, tally: &mut Tally, script: &str) -> Result<()>
+fn try_fault<R>(rt: &R, tally: &mut Tally, asked: Asked, script: &str) -> Result<()>
 where
     R: AllocGlobal + Eprint + Threads + Wait + Sync,
 {
     let alloc: Global = rt.alloc();
     let mut feed = made(alloc, script)?;
-    let wanted = whole(rt, None, &feed)?;
+    let wanted = whole(rt, asked, &feed)?;
     feed.push(9)?;
-    let slow = followed(rt, None, in_pieces(&feed, 1), WIDE)?;
+    let slow = followed(rt, asked, in_pieces(&feed, 1), WIDE)?;
     tally.note(
         rt,
         "fault later",
         is_fault(&slow.end, FaultCode::Kind) && slow.text == wanted.text,
     );
-    let fast = followed(rt, None, in_pieces(&feed, MOST), WIDE)?;
+    let fast = followed(rt, asked, in_pieces(&feed, MOST), WIDE)?;
     tally.note(
         rt,
         "fault at once",
@@ -134,34 +138,34 @@ where
 }
 
 // Twins after a commit: the rows before them are out, where they came in a piece of their own.
-fn try_twins<R>(rt: &R, tally: &mut Tally) -> Result<()>
+fn try_twins<R>(rt: &R, tally: &mut Tally, asked: Asked) -> Result<()>
 where
     R: AllocGlobal + Eprint + Threads + Wait + Sync,
 {
     let alloc: Global = rt.alloc();
     let feed = made(alloc, TWINS_LATER)?;
-    let header = whole(rt, None, &made(alloc, NOTHING)?)?;
-    let slow = followed(rt, None, in_pieces(&feed, 7), WIDE)?;
+    let header = whole(rt, asked, &made(alloc, NOTHING)?)?;
+    let slow = followed(rt, asked, in_pieces(&feed, 7), WIDE)?;
     let is_stop = matches!(&slow.end, Err(Fault::Equivocation { .. }));
     let is_row = slow.text.starts_with(&header.text) && header.text.len() < slow.text.len();
     tally.note(rt, "twins later", is_stop && is_row);
-    let fast = followed(rt, None, in_pieces(&feed, MOST), WIDE)?;
+    let fast = followed(rt, asked, in_pieces(&feed, MOST), WIDE)?;
     let is_stop = matches!(&fast.end, Err(Fault::Equivocation { .. }));
     tally.note(rt, "twins at once", is_stop && fast.text.is_empty());
     Ok(())
 }
 
 // A sink that fails after each byte has exactly the bytes before.
-fn try_sinks<R>(rt: &R, tally: &mut Tally, script: &str) -> Result<()>
+fn try_sinks<R>(rt: &R, tally: &mut Tally, asked: Asked, script: &str) -> Result<()>
 where
     R: AllocGlobal + Eprint + Threads + Wait + Sync,
 {
     let alloc: Global = rt.alloc();
     let feed = made(alloc, script)?;
-    let wanted = whole(rt, None, &feed)?;
+    let wanted = whole(rt, asked, &feed)?;
     for calls in 0..wanted.text.len() {
         let room = Room { most: 1, calls };
-        let left = followed(rt, None, in_pieces(&feed, 7), room)?;
+        let left = followed(rt, asked, in_pieces(&feed, 7), room)?;
         let written = calls as u64;
         let is_failed = left.end == Err(Fault::Write { written });
         tally.note(
@@ -173,17 +177,29 @@ where
     Ok(())
 }
 
+// A table over feeds that are cut, broken and stopped, and over sinks that fail.
+fn try_table<R>(rt: &R, tally: &mut Tally, table: Table) -> Result<()>
+where
+    R: AllocGlobal + Eprint + Threads + Wait + Sync,
+{
+    let asked = Asked { table, named: None };
+    try_cuts(rt, tally, asked, TWO_COMMITS)?;
+    try_cuts(rt, tally, asked, TWO_COMMITS_TWO)?;
+    try_fault(rt, tally, asked, TWO_COMMITS)?;
+    try_fault(rt, tally, asked, MISSING)?;
+    try_twins(rt, tally, asked)?;
+    try_sinks(rt, tally, asked, TWO_COMMITS)?;
+    Ok(())
+}
+
 /// All of them.
 pub(crate) fn try_all<R>(rt: &R, tally: &mut Tally) -> Result<()>
 where
     R: AllocGlobal + Eprint + Threads + Wait + Sync,
 {
     try_tables(rt, tally)?;
-    try_cuts(rt, tally, TWO_COMMITS)?;
-    try_cuts(rt, tally, TWO_COMMITS_TWO)?;
-    try_fault(rt, tally, TWO_COMMITS)?;
-    try_fault(rt, tally, MISSING)?;
-    try_twins(rt, tally)?;
-    try_sinks(rt, tally, TWO_COMMITS)?;
+    for table in TABLES {
+        try_table(rt, tally, table)?;
+    }
     Ok(())
 }
