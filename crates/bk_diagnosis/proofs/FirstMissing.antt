@@ -1,5 +1,5 @@
 -- The first digest that is missing.
-use Rattle.std.proofs.Common.{◌≡◌, ℕ, Bool, true, false, cond, List, [], ◌∷◌, ◌++◌, map, Option, Some, None, refl, sym, ap, ◌∙◌}
+use Rattle.std.proofs.Common.{◌≡◌, ℕ, Bool, true, false, cond, List, [], ◌∷◌, ◌++◌, Option, Some, None, refl, sym, ap, ◌∙◌}
 use Rattle.std.specs.Prelude.{filter, not, option_map, slice_get}
 use Rattle.std.specs.List.{flat_map}
 use Rattle.std.specs.Str.{bytes_eq}
@@ -8,9 +8,9 @@ use Rattle.std.proofs.lemmas.List.Concat.{flat_map-cons}
 use Rattle.bk_cert.specs.Node.{Node}
 use Rattle.bk_cert.specs.declared.place.CertRef.{CertRef}
 use Rattle.bk_evidence.specs.Batches.{Batch, payload_of}
-use Rattle.bk_flatten.specs.Batches.{batches_of, before_missing, cons_payload, digests_of, named_at, once}
+use Rattle.bk_flatten.specs.Batches.{before_missing, cons_payload, digests_of, named_at, once}
 use Rattle.bk_diagnosis.specs.Laws.{FirstIsMissing}
-use Rattle.bk_diagnosis.specs.Missing.{Naming, first_namings, is_lacking, is_none, missing_in, namings}
+use Rattle.bk_diagnosis.specs.Missing.{Naming, first_namings, is_none, missing_in, namings}
 use Rattle.bk_diagnosis.specs.private.Lacking.{digests_in, named_by}
 
 filter_digests : (p : List ℕ → Bool) (ns : List Naming) → digests_in (filter (λ (n : Naming). p n.digest) ns) ≡ filter p (digests_in ns)

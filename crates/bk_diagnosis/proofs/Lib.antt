@@ -10,3 +10,4 @@ pub mod NamedOrder
 pub mod Groups
 pub mod TwinLines
 pub mod Written
+pub mod Kept

@@ -1,6 +1,6 @@
 -- The lines that were made of a feed are those of the feed.
-use Rattle.std.proofs.Common.{◌≡◌, ℕ, Bool, List, Contains, refl, sym, subst, ◌∙◌, ap, map}
-use Rattle.std.specs.Prelude.{Result, Ok, Err, OnOk, IfOk, IfErr, ◌↔◌}
+use Rattle.std.proofs.Common.{◌≡◌, ℕ, Bool, List, Contains, refl, sym, subst, ◌∙◌, ap}
+use Rattle.std.specs.Prelude.{Result, Ok, Err, IfOk, IfErr, ◌↔◌}
 use Rattle.bk_base.specs.Feed.{FeedValue}
 use Rattle.bk_committee.specs.Payload.{CommitteeValue, sizes_of}
 use Rattle.bk_committee.specs.Sizes.{Sizes}
@@ -14,8 +14,8 @@ use Rattle.bk_cert.specs.Place.{Lists}
 use Rattle.bk_rounds.specs.Admission.{IsPresent, WaitsAt}
 use Rattle.bk_rounds.specs.Rounds.{RoundsValue}
 use Rattle.bk_order.specs.Frames.{AreCerts, AreRejects}
-use Rattle.bk_order.specs.Intake.{Taken, first_later_frame}
-use Rattle.bk_order.specs.Orders.{AreRoundsOf, IsOrderOf, Ordered}
+use Rattle.bk_order.specs.Intake.{first_later_frame}
+use Rattle.bk_order.specs.Orders.{AreRoundsOf}
 use Rattle.bk_results.specs.declared.fault.Fault.{Fault}
 use Rattle.bk_results.specs.declared.fault.Fault.TheVariants as fault
 use Rattle.bk_answer.specs.Answers.{IsOrderMadeOf, WritesAnswer, WritesNot}

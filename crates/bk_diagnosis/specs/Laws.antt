@@ -1,23 +1,19 @@
 -- What the definitions of a diagnosis say together.
-use Rattle.std.specs.Prelude.{◌≡◌, ◌≢◌, ◌↔◌, ◌⊎◌, ◌<◌, ℕ, List, [], ◌∷◌, Contains, Option, Some, None, option_map, slice_get, map}
-use Rattle.bk_base.specs.Feed.{FeedValue}
-use Rattle.bk_committee.specs.Payload.{sizes_of}
+use Rattle.std.specs.Prelude.{◌≡◌, ◌≢◌, ◌↔◌, ◌⊎◌, ◌<◌, ℕ, List, [], Contains, option_map, slice_get}
 use Rattle.bk_committee.specs.Sizes.{Sizes, quorum}
 use Rattle.bk_cert.specs.Clear.{IsClear}
 use Rattle.bk_cert.specs.Node.{Node}
 use Rattle.bk_cert.specs.declared.place.CertRef.{CertRef}
 use Rattle.bk_evidence.specs.Batches.{Batch}
-use Rattle.bk_evidence.specs.Twins.{AreTwins}
 use Rattle.bk_flatten.specs.Batches.{batches_of}
 use Rattle.bk_rounds.specs.Admission.{IsFit, IsWaiting}
 use Rattle.bk_rounds.specs.Votes.{WeighExactly}
-use Rattle.bk_order.specs.Stops.{AreClear, CollidesIn}
+use Rattle.bk_order.specs.Stops.{AreClear}
 use Rattle.bk_order.specs.declared.reject.Reject.{Reject}
 use Rattle.bk_diagnosis.specs.Evidence.{IsAllEvidence}
 use Rattle.bk_diagnosis.specs.Missing.{Naming, missing_in}
 use Rattle.bk_diagnosis.specs.Waiting.{AreParentLines, MadeParent}
 use Rattle.bk_diagnosis.specs.declared.line.Line.{Line}
-use Rattle.bk_diagnosis.specs.declared.line.Line.TheVariants as line
 
 -- the authors of the parents weigh less than a quorum
 abbrev pub IsLight : Sizes → List Node → Node → Type 0

@@ -1,5 +1,5 @@
 -- What keeps a certificate that waits from being admitted.
-use Rattle.std.specs.Prelude.{◌≡◌, ◌≢◌, ℕ, ◌+◌, List, [], ◌∷◌, ◌++◌, Option, Some, Contains}
+use Rattle.std.specs.Prelude.{◌≡◌, ◌≢◌, ℕ, ◌+◌, List, [], ◌∷◌, ◌++◌, Some, Contains}
 use Rattle.bk_base.specs.Feed.{FeedValue}
 use Rattle.bk_committee.specs.Payload.{sizes_of}
 use Rattle.bk_committee.specs.Sizes.{Sizes, quorum}

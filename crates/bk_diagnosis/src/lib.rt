@@ -18,7 +18,7 @@ mod waiting;
 mod writing;
 
 pub use evidence::Evidence;
-pub use laws::first_is_missing;
+pub use laws::{first_is_missing, waits_where_kept};
 pub use line::{Line, push_lines};
 pub use missing::Missing;
 pub use waiting::Waiting;

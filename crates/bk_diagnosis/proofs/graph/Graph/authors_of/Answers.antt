@@ -1,4 +1,4 @@
-use Rattle.std.proofs.Common.{ℕ, List, refl, sym, ap, subst, ◌∙◌, take, take_all}
+use Rattle.std.proofs.Common.{ℕ, List, sym, ap, subst, ◌∙◌, take, take_all}
 use Rattle.std.specs.Prelude.{◌↔◌}
 use Rattle.bk_cert.specs.Values.{HeaderValue}
 use Rattle.bk_rounds.specs.Members.{Has}

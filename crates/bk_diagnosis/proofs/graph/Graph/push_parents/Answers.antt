@@ -1,4 +1,4 @@
-use Rattle.std.proofs.Common.{Option, refl, sym, ap, subst, ◌∙◌}
+use Rattle.std.proofs.Common.{Option, sym, ap, subst, ◌∙◌}
 use Rattle.std.proofs.lemmas.List.{append-nil}
 use Rattle.bk_cert.specs.Values.{HeaderValue}
 use Rattle.bk_diagnosis.specs.Waiting.{IsParentLine}
