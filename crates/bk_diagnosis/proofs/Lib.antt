@@ -11,3 +11,6 @@ pub mod Groups
 pub mod TwinLines
 pub mod Written
 pub mod Kept
+pub mod Stopping
+pub mod Alike
+pub mod Saying

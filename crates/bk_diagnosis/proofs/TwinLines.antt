@@ -81,7 +81,7 @@ places_listed (g ∷ more) h = listed_by g.place g.others (twin_places more)
 
 -- ---- one group for a place
 
-irreflexive : (a b : CertRef) → a ≡ b → IsBefore a b → ⊥
+pub irreflexive : (a b : CertRef) → a ≡ b → IsBefore a b → ⊥
 irreflexive a b e h = one_way a a (subst (λ (c : CertRef). IsBefore a c) (sym e) h) (subst (λ (c : CertRef). IsBefore a c) (sym e) h)
 
 same_group : (groups : List Group) → AreGroups groups → (g h : Group) → Contains groups g → Contains groups h → g.place ≡ h.place → g ≡ h
@@ -104,11 +104,11 @@ ids_ascend (f ∷ more) are g t = ⊎_elim
     (λ (l : Contains more g). ids_ascend more are.2 g l)
     (contains_cases f more g t)
 
-least_below : (least id : List ℕ) (others : List (List ℕ)) → IsStrictlySortedBy id_cmp (least ∷ others) → Contains others id → id_cmp least id ≡ Less
+pub least_below : (least id : List ℕ) (others : List (List ℕ)) → IsStrictlySortedBy id_cmp (least ∷ others) → Contains others id → id_cmp least id ≡ Less
 least_below least id others s (k, low, e) =
     subst (λ (q : List ℕ). id_cmp least q ≡ Less) e (All-from_recursion (λ (q : List ℕ). id_cmp least q ≡ Less) others (sorted_head id_cmp least others s) k id low)
 
-only_least : (least p q : List ℕ) (others : List (List ℕ)) → Contains (least ∷ others) p → Contains (least ∷ others) q → p ≢ q → (id : List ℕ) × Contains others id
+pub only_least : (least p q : List ℕ) (others : List (List ℕ)) → Contains (least ∷ others) p → Contains (least ∷ others) q → p ≢ q → (id : List ℕ) × Contains others id
 only_least least p q others t u apart = ⊎_elim
     (λ (e : least ≡ p). ⊎_elim (λ (f : least ≡ q). absurd (apart (sym e ∙ f))) (λ (l : Contains others q). (q, l)) (contains_cases least others q u))
     (λ (l : Contains others p). (p, l))

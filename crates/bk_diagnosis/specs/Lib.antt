@@ -5,3 +5,4 @@ pub mod Evidence
 pub mod Answers
 pub mod Laws
 pub mod private
+pub mod EvidenceLaws
