@@ -1,9 +1,8 @@
 -- Certificates and batches with the same members have the same evidence, and one list of it.
-use Rattle.std.proofs.Common.{◌≡◌, ◌⊎◌, ◌<◌, ℕ, List, [], ◌∷◌, ◌++◌, map, refl, sym, ap, subst, ◌∙◌, inl, inr, ⊎_elim}
+use Rattle.std.proofs.Common.{◌≡◌, ℕ, List, [], ◌∷◌, ◌++◌, map, refl, sym, ap, subst, ◌∙◌, inl, inr, ⊎_elim}
 use Rattle.std.specs.Prelude.{◌↔◌}
 use Rattle.std.specs.List.{Contains}
 use Rattle.std.specs.List.Sorted.{IsStrictlySortedBy}
-use Rattle.std.specs.declared.cmp.Ordering.TheVariants.{Less}
 use Rattle.std.proofs.lemmas.Map.Keys.{sorted_tail}
 use Rattle.bk_base.specs.Feed.{FeedValue}
 use Rattle.bk_cert.specs.Node.{Node}
@@ -16,7 +15,7 @@ use Rattle.bk_evidence.specs.Held.{Collides}
 use Rattle.bk_evidence.specs.Twins.{AreTwins, IsIdAt}
 use Rattle.bk_evidence.proofs.Colliding.{collides_more, id_order}
 use Rattle.bk_evidence.proofs.Lesser.{less_apart}
-use Rattle.bk_order.specs.Stops.{AreClear, CollidesIn, IsStop}
+use Rattle.bk_order.specs.Stops.{CollidesIn, IsStop}
 use Rattle.bk_order.specs.declared.stop.Stop.{Stop}
 use Rattle.bk_answer.specs.RunReport.{HasNoStopIn, committee_in, later_frames}
 use Rattle.bk_diagnosis.specs.Evidence.{AreAllTwinLines, AreTwinLines, HasTwins, IsAllEvidence, IsEvidenceIn, ListsIds, twins_line}
@@ -124,19 +123,19 @@ module _ (feed : FeedValue) (lines : List Line) (h : IsEvidenceIn feed lines) wh
   pub one_list_in : (ys : List Line) → IsEvidenceIn feed ys → lines ≡ ys
   one_list_in ys k = one_evidence k.certs k.batches lines ys
       (same_evidence h.certs k.certs (λ c t. k.are_certs.complete c (h.are_certs.sound c t)) (λ c t. h.are_certs.complete c (k.are_certs.sound c t))
-          h.batches k.batches (λ b t. k.are_batches.complete b (h.are_batches.sound b t)) (λ b t. h.are_batches.complete b (k.are_batches.sound b t)) lines h.holds)
+      h.batches k.batches (λ b t. k.are_batches.complete b (h.are_batches.sound b t)) (λ b t. h.are_batches.complete b (k.are_batches.sound b t)) lines h.holds)
       k.holds
 
   pub stops_feed : (lines ≡ []) ↔ HasNoStopIn feed
   stops_feed = (
     λ e. record { certs = h.certs; batches = h.batches; are_certs = h.are_certs; are_batches = h.are_batches; holds = (evidence_clear h.certs h.batches lines h.holds).0 e },
     λ k. (evidence_clear k.certs k.batches lines
-    (same_evidence h.certs k.certs (λ c t. k.are_certs.complete c (h.are_certs.sound c t)) (λ c t. h.are_certs.complete c (k.are_certs.sound c t))
+        (same_evidence h.certs k.certs (λ c t. k.are_certs.complete c (h.are_certs.sound c t)) (λ c t. h.are_certs.complete c (k.are_certs.sound c t))
         h.batches k.batches (λ b t. k.are_batches.complete b (h.are_batches.sound b t)) (λ b t. h.are_batches.complete b (k.are_batches.sound b t)) lines h.holds)).1 k.holds,
   )
 
   pub first_in_feed : (s : Stop) → IsStop (committee_in feed) (later_frames feed) s → (more : List Line) × (lines ≡ stop_line s ∷ more)
   first_in_feed s k = first_stop k.certs k.batches lines s
       (same_evidence h.certs k.certs (λ c t. k.are_certs.complete c (h.are_certs.sound c t)) (λ c t. h.are_certs.complete c (k.are_certs.sound c t))
-          h.batches k.batches (λ b t. k.are_batches.complete b (h.are_batches.sound b t)) (λ b t. h.are_batches.complete b (k.are_batches.sound b t)) lines h.holds)
+      h.batches k.batches (λ b t. k.are_batches.complete b (h.are_batches.sound b t)) (λ b t. h.are_batches.complete b (k.are_batches.sound b t)) lines h.holds)
       k.holds

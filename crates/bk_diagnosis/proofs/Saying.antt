@@ -1,6 +1,5 @@
 -- Each line of the evidence holds, whatever holds is said, and it stays said.
-use Rattle.std.proofs.Common.{◌≡◌, ◌⊎◌, ◌<◌, ℕ, List, [], ◌∷◌, ◌++◌, map, refl, sym, ap, subst, ◌∙◌, inl, inr, ⊎_elim}
-use Rattle.std.specs.Prelude.{◌↔◌}
+use Rattle.std.proofs.Common.{◌≡◌, ℕ, List, [], ◌∷◌, map, sym, subst, inl, inr, ⊎_elim}
 use Rattle.std.specs.List.{Contains}
 use Rattle.std.proofs.lemmas.List.Elements.{Contains-append_left, Contains-append_right, Contains-append_cases}
 use Rattle.bk_base.specs.Feed.{FeedValue, Frame}
@@ -9,13 +8,13 @@ use Rattle.bk_cert.specs.Node.{Node}
 use Rattle.bk_cert.specs.declared.place.CertRef.{CertRef}
 use Rattle.bk_cert.proofs.Lists.{none_in_nil, contains_cases, contains_first, contains_later, from_map, in_map}
 use Rattle.bk_evidence.specs.Batches.{Batch}
-use Rattle.bk_evidence.specs.Twins.{AreTwins, IsIdAt}
+use Rattle.bk_evidence.specs.Twins.{IsIdAt}
 use Rattle.bk_evidence.proofs.Colliding.{id_order}
 use Rattle.bk_evidence.proofs.Lesser.{less_apart}
 use Rattle.bk_order.specs.Frames.{AreCerts}
 use Rattle.bk_order.specs.Stops.{CollidesIn}
 use Rattle.bk_answer.specs.RunReport.{committee_in, later_frames}
-use Rattle.bk_diagnosis.specs.Evidence.{AreAllTwinLines, AreTwinLines, HasTwins, IsAllEvidence, IsEvidenceIn, twins_line}
+use Rattle.bk_diagnosis.specs.Evidence.{AreAllTwinLines, AreTwinLines, IsAllEvidence, IsEvidenceIn, twins_line}
 use Rattle.bk_diagnosis.specs.EvidenceLaws.{AreSaying, IsFact, IsShownBy}
 use Rattle.bk_diagnosis.specs.declared.line.Line.{Line}
 use Rattle.bk_diagnosis.specs.declared.line.Line.TheVariants as line

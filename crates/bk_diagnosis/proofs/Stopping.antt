@@ -1,9 +1,8 @@
 -- There is evidence exactly where something stops a feed, and the first line is that of the stop.
-use Rattle.std.proofs.Common.{◌≡◌, ◌≢◌, ◌⊎◌, ◌<◌, ℕ, List, [], ◌∷◌, ◌++◌, map, refl, sym, ap, subst, ◌∙◌, inl, inr, ⊎_elim, arith}
+use Rattle.std.proofs.Common.{◌≡◌, ◌≢◌, ◌⊎◌, ℕ, List, [], ◌∷◌, ◌++◌, map, refl, sym, ap, subst, ◌∙◌, inl, inr, ⊎_elim}
 use Rattle.std.specs.Prelude.{◌↔◌}
 use Rattle.std.specs.List.{Contains}
 use Rattle.std.specs.List.Sorted.{IsStrictlySortedBy}
-use Rattle.std.specs.declared.cmp.Ordering.TheVariants.{Less, Greater}
 use Rattle.bk_cert.specs.Node.{Node}
 use Rattle.bk_cert.specs.Place.{IsBefore, IsListed, place_of}
 use Rattle.bk_cert.specs.declared.place.CertRef.{CertRef}
@@ -12,21 +11,21 @@ use Rattle.bk_cert.proofs.Listed.{one_way}
 use Rattle.bk_evidence.specs.Batches.{Batch}
 use Rattle.bk_evidence.specs.Collisions.{CollidesBy, IsAtMost, id_cmp}
 use Rattle.bk_evidence.specs.Held.{Collides}
-use Rattle.bk_evidence.specs.Twins.{AreTwins, IsEvidence, IsIdAt, place_in}
+use Rattle.bk_evidence.specs.Twins.{IsEvidence, place_in}
 use Rattle.bk_evidence.specs.declared.evidence.Evidence.{Evidence}
 use Rattle.bk_evidence.proofs.Colliding.{id_order}
 use Rattle.bk_evidence.proofs.Judging.{same_cert}
 use Rattle.std.proofs.lemmas.Map.Keys.{sorted_tail}
 use Rattle.bk_evidence.proofs.Lesser.{at_most_on, itself, both_at_most, less_apart, less_not_greater, same_or_not}
 use Rattle.bk_evidence.proofs.Payloads.{same_batch}
-use Rattle.bk_order.specs.Stops.{AreClear, CollidesIn, IsLeastCollision, IsStopOf}
+use Rattle.bk_order.specs.Stops.{AreClear, CollidesIn, IsStopOf}
 use Rattle.bk_order.specs.declared.stop.Stop.{Stop}
 use Rattle.bk_order.specs.declared.stop.Stop.TheVariants as stop
 use Rattle.bk_diagnosis.specs.Evidence.{AreAllTwinLines, AreTwinLines, HasTwins, IsAllEvidence, twins_line}
 use Rattle.bk_diagnosis.specs.EvidenceLaws.{stop_line}
 use Rattle.bk_diagnosis.specs.declared.line.Line.{Line}
 use Rattle.bk_diagnosis.specs.declared.line.Line.TheVariants as line
-use Rattle.bk_diagnosis.proofs.TwinLines.{irreflexive, least_below, only_least}
+use Rattle.bk_diagnosis.proofs.TwinLines.{least_below, only_least}
 
 -- ---- empty lists
 
@@ -79,11 +78,15 @@ module _ (certs : List Node) (batches : List Batch) (lines : List Line) (h : IsA
               (λ (apart : c ≢ d). absurd (none d.id (inl (record { one = c; other = d; has_one = t; has_other = u; names_one = s; names_other = refl; apart = apart }))))
               (same_cert c d s);
           no_twins = λ c d t u s. ⊎_elim (λ (p : c.id ≡ d.id). p)
-              (λ (apart : c.id ≢ d.id). absurd (alone (place_of d) (c.id, d.id, record {
-                one = record { cert = c; is_held = t; place_is = s; id_is = refl };
-                two = record { cert = d; is_held = u; place_is = refl; id_is = refl };
-                apart = apart;
-              })))
+              (λ (apart : c.id ≢ d.id). absurd (alone (place_of d) (
+                c.id,
+                d.id,
+                record {
+                  one = record { cert = c; is_held = t; place_is = s; id_is = refl };
+                  two = record { cert = d; is_held = u; place_is = refl; id_is = refl };
+                  apart = apart;
+                },
+              )))
               (same_or_not id_order c.id d.id);
         };
         apart = λ b e t u s. ⊎_elim (λ (p : b ≡ e). p)
