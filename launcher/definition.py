@@ -1,5 +1,5 @@
 """Reads the command line of `bkreplay` from its definition in crates/bk_cli/src: commands.rt, shaped.rt, help.rt,
-more_help.rt, table_help.rt and verb.rt.
+more_help.rt, table_help.rt, diagnosis_help.rt and verb.rt.
 
 The functions of commands.rt are evaluated as they are written: `let` statements, calls, and the methods of Body.member
 and in METHODS.
@@ -11,6 +11,8 @@ import sys
 
 ROOT = os.path.dirname(os.path.dirname(os.path.realpath(__file__)))
 SOURCE = "crates/bk_cli/src"
+# The files of help.
+MODULES = ("help", "more_help", "table_help", "diagnosis_help")
 # The methods of a value that is built, and of those the ones that can be called more than once.
 METHODS = {
     "Arg": {"action", "help", "long", "required", "value_name", "value_parser"},
@@ -38,9 +40,9 @@ def unquoted(text):
     return re.sub(r"\\(?:(\n)\s*|(.))", lambda it: "" if it[1] else escapes[it[2]], text)
 
 
-def read_texts():
-    """The constants of the files of help: a text, or the two texts of a command."""
-    source = "".join(read(f"{SOURCE}/{name}.rt") for name in ("help", "more_help", "table_help"))
+def texts_of(module):
+    """The constants of a file of help, each by its path: a text, or the two texts of a command."""
+    source = read(f"{SOURCE}/{module}.rt")
     literal = r'"((?:[^"\\]|\\.)*)"'
     texts = {name: unquoted(text)
              for name, text in re.findall(rf"const (\w+): &str =\s*{literal};", source, re.DOTALL)}
@@ -49,8 +51,13 @@ def read_texts():
     texts |= {name: {"about": unquoted(about), "after": unquoted(after)} for name, about, after in helps}
     for name in re.findall(r"\bconst (\w+)", source):
         if name not in texts:
-            fail(f"{SOURCE}: the constant {name} is neither a text nor a Help with about and after")
-    return texts
+            fail(f"{SOURCE}/{module}.rt: the constant {name} is neither a text nor a Help with about and after")
+    return {f"{module}::{name}": text for name, text in texts.items()}
+
+
+def read_texts():
+    """Those of all files of help."""
+    return {name: text for module in MODULES for name, text in texts_of(module).items()}
 
 
 class Built(dict):
@@ -166,11 +173,10 @@ class Body:
             return int(token)
         if token in self.variables:
             return self.variables[token]
-        if token.startswith(("help::", "more_help::", "table_help::")):
-            name = token.split("::")[1]
-            if name not in self.source.texts:
-                fail(f"{SOURCE}: the constant {name} is not there")
-            return self.source.texts[name]
+        if token.split("::")[0] in MODULES:
+            if token not in self.source.texts:
+                fail(f"{SOURCE}: the constant {token} is not there")
+            return self.source.texts[token]
         if token == "value_parser!":
             self.next("(")
             found = Built("Parser", self.next())
@@ -207,7 +213,7 @@ class Source:
         version = re.search(r'\.version\("([\d.]+)"\)', text)
         if not named or not version:
             fail(f"{SOURCE}/shaped.rt: the name, the help or the version of the program is not understood")
-        return shaped(named[1], self.texts[named[2]]).set("version", version[1])
+        return shaped(named[1], self.texts[f"help::{named[2]}"]).set("version", version[1])
 
 
 def is_path(arg):
@@ -232,11 +238,10 @@ def is_flag(arg):
 
 
 def limits_of(option):
-    """The least and the greatest number that an option takes."""
-    numbers = option.get("value_parser", {}).get("range")
-    if not numbers or "value_name" not in option or "help" not in option:
-        fail(f"the option {option.name} has no range of numbers, no name of its value, or no help")
-    return numbers
+    """The least and the greatest number that an option takes, nothing of one that takes any."""
+    if not option.get("value_parser") or "value_name" not in option or "help" not in option:
+        fail(f"the option {option.name} takes no number, or has no name of its value, or no help")
+    return option["value_parser"].get("range")
 
 
 def changed_on():

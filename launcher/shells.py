@@ -24,11 +24,9 @@ def valued(command):
 
 def listed(arg):
     """The least and the greatest number that an option takes, where a list of them is short enough to be offered; nothing
-    of one that takes a path."""
-    if kind_of(arg) == "file":
-        return None
-    least, greatest = limits_of(arg)
-    return (least, greatest) if greatest - least < MOST_NUMBERS else None
+    of one that takes a path or any number."""
+    limits = None if kind_of(arg) == "file" else limits_of(arg)
+    return limits if limits and limits[1] - limits[0] < MOST_NUMBERS else None
 
 
 def options_with_values(program):

@@ -5,7 +5,7 @@ _bkreplay() {
     for ((at = 1; at < COMP_CWORD; at++)); do
         word=${COMP_WORDS[at]}
         case $word in
-        --accounts | --from | --rounds | --workers) value=$word ;;
+        --account | --accounts | --from | --rounds | --workers) value=$word ;;
         *[\<\>]*) value=redirection ;;
         = | -*) ;;
         *)
@@ -74,15 +74,27 @@ _bkreplay() {
         kinds=(file)
         ;;
     postings)
-        names='--workers --accounts --progress --verbose --help'
+        names='--workers --accounts --follow --wait --progress --verbose --help'
         kinds=(file)
         ;;
     batches)
         names='--progress --verbose --help'
         kinds=(file)
         ;;
-    check-proof)
+    waiting)
         names='--progress --verbose --help'
+        kinds=(file)
+        ;;
+    missing)
+        names='--progress --verbose --help'
+        kinds=(file)
+        ;;
+    evidence)
+        names='--progress --verbose --help'
+        kinds=(file)
+        ;;
+    check-proof)
+        names='--account --progress --verbose --help'
         kinds=(none file)
         ;;
     check-state)
@@ -125,6 +137,7 @@ _bkreplay() {
     'transactions --accounts') COMPREPLY=($(compgen -f -- "$current")) ;;
     'postings --workers') COMPREPLY=($(compgen -W '{1..64}' -- "$current")) ;;
     'postings --accounts') COMPREPLY=($(compgen -f -- "$current")) ;;
+    'check-proof --account') ;;
     'check-state --workers') COMPREPLY=($(compgen -W '{1..64}' -- "$current")) ;;
     'check-report --workers') COMPREPLY=($(compgen -W '{1..64}' -- "$current")) ;;
     'schedule --workers') COMPREPLY=($(compgen -W '{1..64}' -- "$current")) ;;
@@ -173,6 +186,9 @@ statement Write what the transactions of the order do to one account
 transactions Write the payments of the order'\''s transactions as comma-separated values
 postings Write what each transaction of the order does to each of its accounts, as comma-separated values
 batches Write the batches of the order as comma-separated values
+waiting Write what keeps the certificates that wait from being admitted
+missing Write which batches the order names and the feed lacks
+evidence Write all collisions and all certificates that one member made for one round
 check-proof Check that a text proves an account of the state of this digest
 check-state Check that a digest is that of the state at the end of a feed
 check-report Check that a file is the report of a feed

@@ -6,7 +6,7 @@ function __bkreplay_at --argument-names command index
     set -l found
     for word in (commandline -opc)[2..]
         switch $word
-            case --accounts --from --rounds --workers
+            case --account --accounts --from --rounds --workers
                 set value $word
             case '-*'
             case '*'
@@ -40,6 +40,9 @@ complete -c bkreplay -n "__bkreplay_at ''" -a statement -d 'Write what the trans
 complete -c bkreplay -n "__bkreplay_at ''" -a transactions -d 'Write the payments of the order\'s transactions as comma-separated values'
 complete -c bkreplay -n "__bkreplay_at ''" -a postings -d 'Write what each transaction of the order does to each of its accounts, as comma-separated values'
 complete -c bkreplay -n "__bkreplay_at ''" -a batches -d 'Write the batches of the order as comma-separated values'
+complete -c bkreplay -n "__bkreplay_at ''" -a waiting -d 'Write what keeps the certificates that wait from being admitted'
+complete -c bkreplay -n "__bkreplay_at ''" -a missing -d 'Write which batches the order names and the feed lacks'
+complete -c bkreplay -n "__bkreplay_at ''" -a evidence -d 'Write all collisions and all certificates that one member made for one round'
 complete -c bkreplay -n "__bkreplay_at ''" -a check-proof -d 'Check that a text proves an account of the state of this digest'
 complete -c bkreplay -n "__bkreplay_at ''" -a check-state -d 'Check that a digest is that of the state at the end of a feed'
 complete -c bkreplay -n "__bkreplay_at ''" -a check-report -d 'Check that a file is the report of a feed'
@@ -95,12 +98,24 @@ complete -c bkreplay -n '__bkreplay_at transactions' -l verbose -d 'Say in one m
 complete -c bkreplay -n '__bkreplay_at transactions 0' -F
 complete -c bkreplay -n '__bkreplay_at postings' -l workers -x -a '(seq 1 64)' -d 'How many threads execute at most, 1 to 64; 1 by default. The output is the same for any number'
 complete -c bkreplay -n '__bkreplay_at postings' -l accounts -r -F -d 'The path of a list of accounts, an id on each line: only rows that have one of them are written'
+complete -c bkreplay -n '__bkreplay_at postings' -l follow -d 'Write each row as soon as no later frame can change it, while the feed comes; else all rows are written at its end'
+complete -c bkreplay -n '__bkreplay_at postings' -l wait -d 'With `--follow` and a FILE: at the end of the file, wait for more of it, without end'
 complete -c bkreplay -n '__bkreplay_at postings' -l progress -d 'Show on standard error how many bytes are read, and how many transactions are executed'
 complete -c bkreplay -n '__bkreplay_at postings' -l verbose -d 'Say in one more line what a fault is, in words, or at which missing batch an order stops, and name the file'
 complete -c bkreplay -n '__bkreplay_at postings 0' -F
 complete -c bkreplay -n '__bkreplay_at batches' -l progress -d 'Show on standard error how many bytes are read, and how many transactions are executed'
 complete -c bkreplay -n '__bkreplay_at batches' -l verbose -d 'Say in one more line what a fault is, in words, or at which missing batch an order stops, and name the file'
 complete -c bkreplay -n '__bkreplay_at batches 0' -F
+complete -c bkreplay -n '__bkreplay_at waiting' -l progress -d 'Show on standard error how many bytes are read, and how many transactions are executed'
+complete -c bkreplay -n '__bkreplay_at waiting' -l verbose -d 'Say in one more line what a fault is, in words, or at which missing batch an order stops, and name the file'
+complete -c bkreplay -n '__bkreplay_at waiting 0' -F
+complete -c bkreplay -n '__bkreplay_at missing' -l progress -d 'Show on standard error how many bytes are read, and how many transactions are executed'
+complete -c bkreplay -n '__bkreplay_at missing' -l verbose -d 'Say in one more line what a fault is, in words, or at which missing batch an order stops, and name the file'
+complete -c bkreplay -n '__bkreplay_at missing 0' -F
+complete -c bkreplay -n '__bkreplay_at evidence' -l progress -d 'Show on standard error how many bytes are read, and how many transactions are executed'
+complete -c bkreplay -n '__bkreplay_at evidence' -l verbose -d 'Say in one more line what a fault is, in words, or at which missing batch an order stops, and name the file'
+complete -c bkreplay -n '__bkreplay_at evidence 0' -F
+complete -c bkreplay -n '__bkreplay_at check-proof' -l account -x -d 'The id of an account: the proof is good only where its `account` line shows this id'
 complete -c bkreplay -n '__bkreplay_at check-proof' -l progress -d 'Show on standard error how many bytes are read, and how many transactions are executed'
 complete -c bkreplay -n '__bkreplay_at check-proof' -l verbose -d 'Say in one more line what a fault is, in words, or at which missing batch an order stops, and name the file'
 complete -c bkreplay -n '__bkreplay_at check-proof 1' -F

@@ -11,12 +11,12 @@ pub(crate) const WAITING: Help<'static> = Help {
 Reads a feed, as `run` does, and finds its order. Executes nothing. Writes to standard output, for each certificate that
 waits, by its round and then its author:
 
-  waiting ROUND AUTHOR ID         the certificate; one or more of these lines follow, by ascending HEX, the parent's id:
-  parent HEX absent               no certificate frame has this id
-  parent HEX rejected FRAME RULE  a certificate has it that breaks a rule: the first is in FRAME, and breaks RULE first
-  parent HEX waiting ROUND AUTHOR the parent waits itself
-  parent HEX round ROUND AUTHOR   the parent is admitted, but not of the round just before
-  parents weigh W of Q            no parent keeps it: their authors weigh W together, and a quorum is Q
+  waiting ROUND AUTHOR ID          the certificate; one or more of these lines follow, by ascending HEX, the parent's id:
+  parent HEX absent                no certificate frame has this id
+  parent HEX rejected FRAME RULE   a certificate has it that breaks a rule: the first is in FRAME, and breaks RULE first
+  parent HEX waiting ROUND AUTHOR  the parent waits itself
+  parent HEX round ROUND AUTHOR    the parent is admitted, but not of the round just before
+  parents weigh W of Q             no parent keeps it: their authors weigh W together, and a quorum is Q
 
 RULE is the number that `frames` and the `reject` lines of a report name.
 
@@ -59,9 +59,9 @@ pub(crate) const EVIDENCE: Help<'static> = Help {
 Reads a feed to its end, whether something stops it or not. Orders and executes nothing. Of the certificates that break no
 rule, and of the batches, it writes to standard output:
 
-  collision ID                    two headers have this id, or two payloads this digest; ascending, each once
-  equivocation ROUND AUTHOR ID ID a member made several certificates for one round, by round and then author: the least id
-                                  with each of the others, ascending
+  collision ID                     two headers have this id, or two payloads this digest; ascending, each once
+  equivocation ROUND AUTHOR ID ID  a member made several certificates for one round, by round and then author: the least
+                                   id with each of the others, ascending
 
 The first line is what stops `run`; where nothing does, there is none.
 
