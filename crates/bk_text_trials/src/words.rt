@@ -43,7 +43,8 @@ fn kind_of(job: &Job) -> Kind {
         Job::Make { .. } => Kind::Make,
         Job::CheckProof { account: None, .. } => Kind::CheckProof,
         Job::CheckProof {
-            account: Some(7), ..
+            account: Some(7),
+            ..
         } => Kind::CheckProofOfSeven,
         Job::Ask {
             asked: Query::State { .. },
@@ -52,7 +53,8 @@ fn kind_of(job: &Job) -> Kind {
         Job::Schedule { .. } => Kind::Schedule,
         Job::Compare { .. } => Kind::Compare,
         Job::Follow {
-            shown: Table::Postings, ..
+            shown: Table::Postings,
+            ..
         } => Kind::FollowPostings,
         Job::Follow { wait: false, .. } => Kind::Follow,
         Job::Follow { wait: true, .. } => Kind::Wait,

@@ -83,7 +83,13 @@ const WRONG: [(&[&str], ErrorKind); 39] = [
         ErrorKind::UnknownArgument,
     ),
     (
-        &["bkreplay", "check-proof", "--account", "18446744073709551616", "a"],
+        &[
+            "bkreplay",
+            "check-proof",
+            "--account",
+            "18446744073709551616",
+            "a",
+        ],
         ErrorKind::ValueValidation,
     ),
     (

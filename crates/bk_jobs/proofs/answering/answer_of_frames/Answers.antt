@@ -22,7 +22,7 @@ pub returns-in_ok-end-in-Dag-clause-gaps : goal.returns-in_ok-end-in-Dag-clause-
 returns-in_ok-end-in-Dag-clause-gaps g c = rw c.in-Dag.is refl
 
 pub returns-in_ok-end-in-Diagnose-clause-answer : goal.returns-in_ok-end-in-Diagnose-clause-answer
-returns-in_ok-end-in-Diagnose-clause-answer g c = rw c.in-Diagnose.is (job_of_diagnosis c.in-Diagnose.sought _ _ c.in_ok-end-in-Diagnose.ensures.diagnosis.0 c.in_ok-end-in-Diagnose.ensures.diagnosis.1)
+returns-in_ok-end-in-Diagnose-clause-answer g c = rw c.in-Diagnose.is (job_of_diagnosis c.in-Diagnose.sought c.in-Diagnose.file _ c.in_ok-end-in-Diagnose.ensures.diagnosis.0 c.in_ok-end-in-Diagnose.ensures.diagnosis.1)
 
 pub returns-in_ok-end-in-Diagnose-clause-gaps : goal.returns-in_ok-end-in-Diagnose-clause-gaps
 returns-in_ok-end-in-Diagnose-clause-gaps g c = rw c.in-Diagnose.is refl
