@@ -25,7 +25,7 @@ filter_digests p (n ∷ ns) = by_test (p n.digest) (filter_digests p ns)
     by_test false h = h
 
 -- each digest once
-digests_once : (ns : List Naming) → digests_in (first_namings ns) ≡ once (digests_in ns)
+pub digests_once : (ns : List Naming) → digests_in (first_namings ns) ≡ once (digests_in ns)
 digests_once [] = refl
 digests_once (n ∷ ns) =
     ap (λ (ds : List (List ℕ)). n.digest ∷ ds)
@@ -35,7 +35,7 @@ digests_by : (a : CertRef) (ds : List (List ℕ)) → digests_in (named_by a ds)
 digests_by a [] = refl
 digests_by a (d ∷ ds) = ap (λ (es : List (List ℕ)). d ∷ es) (digests_by a ds)
 
-digests_named : (certs : List Node) (order : List CertRef) → digests_in (namings certs order) ≡ flat_map (named_at certs) order
+pub digests_named : (certs : List Node) (order : List CertRef) → digests_in (namings certs order) ≡ flat_map (named_at certs) order
 digests_named certs [] = refl
 digests_named certs (a ∷ order) =
     ap digests_in (flat_map-cons (λ (b : CertRef). named_by b (named_at certs b)) a order)

@@ -14,3 +14,4 @@ pub mod Kept
 pub mod Stopping
 pub mod Alike
 pub mod Saying
+pub mod Gained

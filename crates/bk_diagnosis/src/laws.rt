@@ -1,6 +1,6 @@
 //! Laws of the definitions, each the contract of a function that does nothing.
 
-ghost use Rattle.bk_diagnosis.specs.Laws.{FirstIsMissing, WaitsWhereKept};
+ghost use Rattle.bk_diagnosis.specs.Laws.{FirstIsMissing, GainedIsWhole, WaitsWhereKept};
 
 /// A certificate of a round after the first waits exactly where a parent has a line, or where none has one and their
 /// authors weigh less than a quorum.
@@ -12,4 +12,9 @@ pub fn waits_where_kept()
 /// line exactly where it stops.
 pub fn first_is_missing()
     ensures { FirstIsMissing }
+{}
+
+/// The order of a feed that gained a batch for each digest that was missing stops at none.
+pub fn gained_is_whole()
+    ensures { GainedIsWhole }
 {}

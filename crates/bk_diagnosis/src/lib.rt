@@ -20,7 +20,7 @@ mod writing;
 
 pub use evidence::Evidence;
 pub use evidence_laws::{evidence_is_exact, evidence_stays, evidence_stops, one_list_of_evidence};
-pub use laws::{first_is_missing, waits_where_kept};
+pub use laws::{first_is_missing, gained_is_whole, waits_where_kept};
 pub use line::{Line, push_lines};
 pub use missing::Missing;
 pub use waiting::Waiting;
