@@ -58,7 +58,7 @@ impl TableRows for PostingRows {
 /// Reads a feed to its end, and writes the table of what its places do to each account as it becomes final: after each
 /// piece of at most [`PIECE`](bk_frames::PIECE) bytes, the rows of the places that the whole frames so far add to the
 /// order, before more is read. The header comes with the first rows, or at the end. The accounts after the places that
-/// are out are kept, so each place is executed once more than in the ledger, and no more.
+/// are out are kept, so a piece executes only its own places for their rows.
 ///
 /// A fault of the feed or a stop ends it at the piece that shows it, and of that piece no row is written. What is out
 /// then is the table of a feed that nothing stops, or nothing; what a failed sink has is the beginning of one.
