@@ -49,12 +49,7 @@ fn verdict_text(good: bool) -> &'static [u8]
 }
 
 // Whether a text is a proof of this root, and of the account with this id where one is named.
-fn proves(
-    alloc: Global,
-    root: &[u8],
-    account: Option<u64>,
-    text: &[u8],
-) -> Result<bool, AllocError>
+fn proves(alloc: Global, root: &[u8], account: Option<u64>, text: &[u8]) -> Result<bool, AllocError>
     ensures { IfOk result (IsVerdict root.now account text.now) }
 {
     match account {
