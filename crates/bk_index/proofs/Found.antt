@@ -1,0 +1,165 @@
+-- What a list of entries with distinct keys finds, and keys by their index.
+use Rattle.std.proofs.Common.{◌≡◌, ◌≢◌, ℕ, zero, suc, ◌<◌, ◌≤◌, ◌⊎◌, inl, inr, Bool, true, false, cond, List, [], ◌∷◌, ◌++◌, length, Option, Some, None, get_or, set, slice_get, refl, sym, ap, ◌∙◌, arith}
+use Rattle.std.specs.Cmp.{IsTotalOrder, both_ways, tied_itself}
+use Rattle.std.specs.Map.{keys_of}
+use Rattle.std.specs.Ordering.{is_eq}
+use Rattle.std.specs.declared.cmp.Ordering.{Ordering}
+use Rattle.std.proofs.lemmas.Bool.{cases_Bool, false_from_ne_true}
+use Rattle.std.proofs.lemmas.List.{map-set}
+use Rattle.std.specs.Option.{option_map}
+use Rattle.std.proofs.lemmas.Option.{slice_get-map, slice_get_read, slice_get_past}
+use Rattle.bk_index.specs.Finding.{find}
+use Rattle.bk_index.specs.private.Hints.{AreDistinct}
+
+none_some : {X : Type 0} (x : X) → ◌≡◌ {A = Option X} None (Some x) → ⊥
+none_some x e = cc
+
+pub same_some : {X : Type 0} (x y : X) → ◌≡◌ {A = Option X} (Some x) (Some y) → x ≡ y
+same_some x y e = cc
+
+zero_suc : (i : ℕ) → zero ≡ suc i → ⊥
+zero_suc i e = omega (arith, e)
+
+suc_same : (i j : ℕ) → suc i ≡ suc j → i ≡ j
+suc_same i j e = omega (arith, e)
+
+same_suc : (i j : ℕ) → i ≡ j → suc i ≡ suc j
+same_suc i j e = ap suc e
+
+module _ {X : Type 0} where
+  -- what is at an index of a list is there in a longer one
+  pub get_left : (xs ys : List X) (i : ℕ) (x : X) → slice_get xs i ≡ Some x → slice_get (xs ++ ys) i ≡ Some x
+  get_left [] ys i x there = absurd (none_some x there)
+  get_left (y ∷ xs) ys zero x there = there
+  get_left (y ∷ xs) ys (suc i) x there = get_left xs ys i x there
+
+  -- the last one is at the index after all others
+  pub get_last : (xs : List X) (x : X) → slice_get (xs ++ x ∷ []) (length xs) ≡ Some x
+  get_last [] x = refl
+  get_last (y ∷ xs) x = get_last xs x
+
+  -- what is in a list with one more was there, or it is the last one
+  pub get_pushed : (xs : List X) (x : X) (i : ℕ) (k : X) → slice_get (xs ++ x ∷ []) i ≡ Some k → (slice_get xs i ≡ Some k) ⊎ ((i ≡ length xs) × (x ≡ k))
+  get_pushed [] x zero k there = inr (refl, same_some x k there)
+  get_pushed [] x (suc i) k there = absurd (none_some k there)
+  get_pushed (y ∷ xs) x zero k there = inl there
+  get_pushed (y ∷ xs) x (suc i) k there = next (get_pushed xs x i k there)
+    where
+      next : (slice_get xs i ≡ Some k) ⊎ ((i ≡ length xs) × (x ≡ k)) → (slice_get xs i ≡ Some k) ⊎ ((suc i ≡ suc (length xs)) × (x ≡ k))
+      next (inl h) = inl h
+      next (inr (e, f)) = inr (same_suc i (length xs) e, f)
+
+  -- to set what is there changes nothing
+  pub set_there : (xs : List X) (i : ℕ) (x : X) → slice_get xs i ≡ Some x → set xs i x ≡ xs
+  set_there [] i x there = absurd (none_some x there)
+  set_there (y ∷ xs) zero x there = ap (λ z. z ∷ xs) (sym (same_some y x there))
+  set_there (y ∷ xs) (suc i) x there = ap (λ zs. y ∷ zs) (set_there xs i x there)
+
+  pub distinct_tail : (x : X) (xs : List X) → AreDistinct (x ∷ xs) → AreDistinct xs
+  distinct_tail x xs distinct i j k one other = suc_same i j (distinct (suc i) (suc j) k one other)
+
+  -- a new key leaves keys distinct
+  pub distinct_pushed : (xs : List X) (x : X) → AreDistinct xs → ((i : ℕ) → slice_get xs i ≢ Some x) → AreDistinct (xs ++ x ∷ [])
+  distinct_pushed xs x distinct new i j k one other = by (get_pushed xs x i k one) (get_pushed xs x j k other)
+    where
+      by : (slice_get xs i ≡ Some k) ⊎ ((i ≡ length xs) × (x ≡ k)) → (slice_get xs j ≡ Some k) ⊎ ((j ≡ length xs) × (x ≡ k)) → i ≡ j
+      by (inl h) (inl g) = distinct i j k h g
+      by (inl h) (inr (e, f)) = absurd (new i (h ∙ ap Some (sym f)))
+      by (inr (e, f)) (inl g) = absurd (new j (g ∙ ap Some (sym f)))
+      by (inr (e, f)) (inr (e', f')) = e ∙ sym e'
+
+  -- fewer keys stay distinct
+  pub distinct_before : (xs ys : List X) → AreDistinct (xs ++ ys) → AreDistinct xs
+  distinct_before xs ys distinct i j k one other = distinct i j k (get_left xs ys i k one) (get_left xs ys j k other)
+
+-- the keys stay where a key gets another value
+pub keys_set : {K : Type 0} (es : List (K × ℕ)) (i : ℕ) (key : K) (v : ℕ) → slice_get (keys_of es) i ≡ Some key → keys_of (set es i (key, v)) ≡ keys_of es
+keys_set es i key v there = map-set (λ e. e.0) es i (key, v) ∙ set_there (keys_of es) i key there
+
+module _ {K : Type 0} (cmp : K → K → Ordering) (total : IsTotalOrder cmp) (exact : (a b : K) → is_eq (cmp a b) ≡ true → a ≡ b) where
+  pub is_itself : (a : K) → is_eq (cmp a a) ≡ true
+  is_itself a = ap is_eq (tied_itself total a)
+
+  same_is : (a b : K) → a ≡ b → is_eq (cmp a b) ≡ true
+  same_is a b e = ap (λ x. is_eq (cmp a x)) (sym e) ∙ is_itself a
+
+  turned : (a b : K) → is_eq (cmp a b) ≡ is_eq (cmp b a)
+  turned a b = both_ways _ _ (λ t. same_is b a (sym (exact a b t))) (λ t. same_is a b (sym (exact b a t)))
+
+  pub differs : (a b : K) → (a ≡ b → ⊥) → is_eq (cmp a b) ≡ false
+  differs a b apart = false_from_ne_true _ (λ t. apart (exact a b t))
+
+  -- one more entry before, with another key
+  step : (key q k : K) (v w : ℕ) (a b : Option ℕ) → (key ≡ k → ⊥) → a ≡ cond (is_eq (cmp key q)) (Some v) b
+      → cond (is_eq (cmp q k)) (Some w) a ≡ cond (is_eq (cmp key q)) (Some v) (cond (is_eq (cmp q k)) (Some w) b)
+  step key q k v w a b apart e = by (cases_Bool (is_eq (cmp q k)))
+    where
+      by : (is_eq (cmp q k) ≡ true) ⊎ (is_eq (cmp q k) ≡ false) → cond (is_eq (cmp q k)) (Some w) a ≡ cond (is_eq (cmp key q)) (Some v) (cond (is_eq (cmp q k)) (Some w) b)
+      by (inl t) =
+          let other : is_eq (cmp key q) ≡ false = differs key q (λ s. apart (s ∙ exact q k t)) in
+          ap (λ (c : Bool). cond c (Some w) a) t ∙ sym (ap (λ (c : Bool). cond c (Some v) (cond (is_eq (cmp q k)) (Some w) b)) other ∙ ap (λ (c : Bool). cond c (Some w) b) t)
+      by (inr f) = ap (λ (c : Bool). cond c (Some w) a) f ∙ (e ∙ sym (ap (λ (c : Bool). cond (is_eq (cmp key q)) (Some v) (cond c (Some w) b)) f))
+
+  -- a key that is there has the value of its entry
+  pub find_there : (es : List (K × ℕ)) (i : ℕ) (key : K) (x : K × ℕ) → AreDistinct (keys_of es) → slice_get (keys_of es) i ≡ Some key → x ≡ get_or es i x → find cmp es key ≡ Some x.1
+  find_there [] i key x distinct there is = absurd (none_some key there)
+  find_there (e ∷ es) zero key x distinct there is =
+      ap (λ (c : Bool). cond c (Some e.1) (find cmp es key)) (same_is key e.0 (sym (same_some e.0 key there))) ∙ ap (λ (y : K × ℕ). Some y.1) (sym is)
+  find_there (e ∷ es) (suc i) key x distinct there is =
+      ap (λ (c : Bool). cond c (Some e.1) (find cmp es key)) (differs key e.0 (λ s. zero_suc i (distinct zero (suc i) key (ap Some (sym s)) there)))
+      ∙ find_there es i key x (distinct_tail e.0 (keys_of es) distinct) there is
+
+  -- a key that is not there has none
+  pub find_absent : (es : List (K × ℕ)) (key : K) → ((i : ℕ) → slice_get (keys_of es) i ≢ Some key) → find cmp es key ≡ None
+  find_absent [] key absent = refl
+  find_absent (e ∷ es) key absent =
+      ap (λ (c : Bool). cond c (Some e.1) (find cmp es key)) (differs key e.0 (λ s. absent zero (ap Some (sym s))))
+      ∙ find_absent es key (λ i. absent (suc i))
+
+  -- a new key has its value, and each other key has what it had
+  pub find_pushed : (es : List (K × ℕ)) (key : K) (v : ℕ) (q : K) → ((i : ℕ) → slice_get (keys_of es) i ≢ Some key)
+      → find cmp (es ++ (key, v) ∷ []) q ≡ cond (is_eq (cmp key q)) (Some v) (find cmp es q)
+  find_pushed [] key v q absent = ap (λ (c : Bool). cond c (Some v) None) (turned q key)
+  find_pushed (e ∷ es) key v q absent =
+      step key q e.0 v e.1 (find cmp (es ++ (key, v) ∷ []) q) (find cmp es q) (λ s. absent zero (ap Some (sym s))) (find_pushed es key v q (λ i. absent (suc i)))
+
+  -- a key that is there gets another value
+  pub find_set : (es : List (K × ℕ)) (i : ℕ) (key : K) (v : ℕ) (q : K) → AreDistinct (keys_of es) → slice_get (keys_of es) i ≡ Some key
+      → find cmp (set es i (key, v)) q ≡ cond (is_eq (cmp key q)) (Some v) (find cmp es q)
+  find_set [] i key v q distinct there = absurd (none_some key there)
+  find_set (e ∷ es) zero key v q distinct there = by (cases_Bool (is_eq (cmp key q)))
+    where
+      by : (is_eq (cmp key q) ≡ true) ⊎ (is_eq (cmp key q) ≡ false) → cond (is_eq (cmp q key)) (Some v) (find cmp es q) ≡ cond (is_eq (cmp key q)) (Some v) (cond (is_eq (cmp q e.0)) (Some e.1) (find cmp es q))
+      by (inl t) = ap (λ (c : Bool). cond c (Some v) (find cmp es q)) (turned q key ∙ t) ∙ sym (ap (λ (c : Bool). cond c (Some v) (cond (is_eq (cmp q e.0)) (Some e.1) (find cmp es q))) t)
+      by (inr f) =
+          let other : is_eq (cmp q e.0) ≡ false = ap (λ k. is_eq (cmp q k)) (same_some e.0 key there) ∙ (turned q key ∙ f) in
+          ap (λ (c : Bool). cond c (Some v) (find cmp es q)) (turned q key ∙ f)
+          ∙ sym (ap (λ (c : Bool). cond c (Some v) (cond (is_eq (cmp q e.0)) (Some e.1) (find cmp es q))) f ∙ ap (λ (c : Bool). cond c (Some e.1) (find cmp es q)) other)
+  find_set (e ∷ es) (suc i) key v q distinct there =
+      step key q e.0 v e.1 (find cmp (set es i (key, v)) q) (find cmp es q) (λ s. zero_suc i (distinct zero (suc i) key (ap Some (sym s)) there))
+      (find_set es i key v q (distinct_tail e.0 (keys_of es) distinct) there)
+
+  -- a key with a value has it
+  pub find_known : (es : List (K × ℕ)) (key : K) (v : ℕ) (q : K) → find cmp es key ≡ Some v → find cmp es q ≡ cond (is_eq (cmp key q)) (Some v) (find cmp es q)
+  find_known es key v q known = by (cases_Bool (is_eq (cmp key q)))
+    where
+      by : (is_eq (cmp key q) ≡ true) ⊎ (is_eq (cmp key q) ≡ false) → find cmp es q ≡ cond (is_eq (cmp key q)) (Some v) (find cmp es q)
+      by (inl t) = ap (find cmp es) (sym (exact key q t)) ∙ (known ∙ sym (ap (λ (c : Bool). cond c (Some v) (find cmp es q)) t))
+      by (inr f) = sym (ap (λ (c : Bool). cond c (Some v) (find cmp es q)) f)
+
+-- the key of an entry that is read
+pub key_at : {K : Type 0} (es : List (K × ℕ)) (i : ℕ) (e : K × ℕ) → i < length es → e ≡ get_or es i e → slice_get (keys_of es) i ≡ Some e.0
+key_at es i e low is = slice_get-map (λ x. x.0) es i ∙ ap (option_map (λ x. x.0)) (slice_get_read es (length es) i e refl low is)
+
+-- no key is past the end
+pub key_past : {K : Type 0} (es : List (K × ℕ)) (i : ℕ) (k : K) → length es ≤ i → slice_get (keys_of es) i ≢ Some k
+key_past es i k high there = none_some k (sym (slice_get-map (λ x. x.0) es i ∙ ap (option_map (λ x. x.0)) (slice_get_past es i high)) ∙ there)
+
+-- an entry has a key exactly where the two are equal in their order
+pub has_key_exactly : {K : Type 0} (cmp : K → K → Ordering) (total : IsTotalOrder cmp) (exact : (a b : K) → is_eq (cmp a b) ≡ true → a ≡ b) (es : List (K × ℕ)) (i : ℕ) (e : K × ℕ) (key : K) (b : Bool)
+    → slice_get (keys_of es) i ≡ Some e.0 → b ≡ is_eq (cmp key e.0)
+    → ((b ≡ true → slice_get (keys_of es) i ≡ Some key) × (slice_get (keys_of es) i ≡ Some key → b ≡ true))
+has_key_exactly cmp total exact es i e key b at is = (
+  (λ t. at ∙ ap Some (sym (exact key e.0 (sym is ∙ t)))),
+  (λ there. is ∙ same_is cmp total exact key e.0 (same_some key e.0 (sym there ∙ at))),
+)

@@ -1,0 +1,168 @@
+-- Hints: what stays found, and that what is not found is not there.
+use Rattle.std.proofs.Common.{◌≡◌, ◌≢◌, ℕ, ◌+◌, ◌-◌, ◌<◌, ◌≤◌, ◌⊎◌, inl, inr, Bool, true, cond, List, [], ◌∷◌, ◌++◌, length, Option, Some, None, get_or, set, slice_get, refl, sym, ap, ◌∙◌, subst, arith}
+use Rattle.std.specs.BTreeMap.{BTreeMap, get}
+use Rattle.std.specs.Cmp.{IsTotalOrder}
+use Rattle.std.specs.Ordering.{is_eq}
+use Rattle.std.specs.declared.cmp.Ordering.{Ordering}
+use Rattle.std.proofs.lemmas.Bool.{cases_order, cases_eq}
+use Rattle.std.specs.Map.{keys_of, lookup}
+use Rattle.std.specs.Option.{IfNone}
+use Rattle.std.proofs.lemmas.List.{length-map, map-append, length-set, get_or-set_same, get_or-set_other}
+use Rattle.std.proofs.lemmas.Option.{slice_get_within}
+use Rattle.bk_index.specs.declared.hints.TheConstants.{MOST_TRIES}
+use Rattle.bk_index.specs.private.Hints.{slot_in, hint_at, AreTaken, IsKept, near, beyond, IsFree, AreDistinct, IsKeptIn, AreKept, IsIndex, IsPut, IsPassed}
+use Rattle.bk_index.proofs.Found.{same_some, get_left, get_pushed, distinct_pushed, distinct_before, is_itself, differs}
+
+zero_next : (n : ℕ) → 0 ≡ n + 1 → ⊥
+zero_next n e = omega (arith, e)
+
+next_back : (n : ℕ) → n + 1 - 1 ≡ n
+next_back n = omega arith
+
+-- what a try finds stays where a free slot is written
+pub hint_stays : (table : List ℕ) (slot h number i : ℕ) → get_or table slot 0 ≡ 0 → hint_at table number i ≢ 0 → hint_at (set table slot h) number i ≡ hint_at table number i
+hint_stays table slot h number i free taken =
+    ap (λ n. get_or (set table slot h) (slot_in n number i) 0) (length-set table slot h)
+    ∙ get_or-set_other table slot (slot_in (length table) number i) h 0 (λ e. taken (ap (λ j. get_or table j 0) e ∙ free))
+
+taken_stays : (table : List ℕ) (slot h number count : ℕ) → get_or table slot 0 ≡ 0 → AreTaken table number count → AreTaken (set table slot h) number count
+taken_stays table slot h number count free taken = λ i low e. taken i low (sym (hint_stays table slot h number i free (taken i low)) ∙ e)
+
+-- and what is found is still found
+pub kept_stays : (table : List ℕ) (slot h number : ℕ) (other : Option ℕ) (index : ℕ) → get_or table slot 0 ≡ 0 → IsKept table number other index → IsKept (set table slot h) number other index
+kept_stays table slot h number other index free (near i low taken is) =
+    near i low (taken_stays table slot h number i free taken) (hint_stays table slot h number i free (λ e. zero_next index (sym e ∙ is)) ∙ is)
+kept_stays table slot h number other index free (beyond taken is) = beyond (taken_stays table slot h number MOST_TRIES free taken) is
+
+-- what is written into the first free slot of its number is found
+pub kept_here : (table : List ℕ) (slot h number : ℕ) (other : Option ℕ) (index : ℕ) → IsFree table number slot → h ≡ index + 1 → IsKept (set table slot h) number other index
+kept_here table slot h number other index f e =
+    near f.at f.low (taken_stays table slot h number f.at f.free f.taken)
+    (ap (λ n. get_or (set table slot h) (slot_in n number f.at) 0) (length-set table slot h)
+    ∙ (ap (λ j. get_or (set table slot h) j 0) (sym f.slot_is) ∙ (get_or-set_same table slot h 0 f.inside ∙ e)))
+
+-- one more try
+pub taken_more : (table : List ℕ) (number count : ℕ) → AreTaken table number count → hint_at table number count ≢ 0 → AreTaken table number (count + 1)
+taken_more table number count taken here i low = by (cases_eq i count)
+  where
+    by : (i ≡ count) ⊎ (i ≡ count → ⊥) → hint_at table number i ≢ 0
+    by (inl e) = λ z. here (ap (hint_at table number) (sym e) ∙ z)
+    by (inr other) = taken i (omega (arith, low, other))
+
+pub taken_none : (table : List ℕ) (number : ℕ) → AreTaken table number 0
+taken_none table number i low = absurd (omega (arith, low))
+
+module _ {K : Type 0} where
+  pub passed_none : (keys : List K) (table : List ℕ) (number : ℕ) (key : K) → IsPassed keys table number key 0
+  passed_none keys table number key = record { taken = taken_none table number; others = λ i low. absurd (omega (arith, low)) }
+
+  pub passed_more : (keys : List K) (table : List ℕ) (number : ℕ) (key : K) (count : ℕ) → IsPassed keys table number key count → hint_at table number count ≢ 0
+      → slice_get keys (hint_at table number count - 1) ≢ Some key → IsPassed keys table number key (count + 1)
+  passed_more keys table number key count passed here other = record { taken = taken_more table number count passed.taken here; others = λ i low. by i low (cases_eq i count) }
+    where
+      by : (i : ℕ) → i < count + 1 → (i ≡ count) ⊎ (i ≡ count → ⊥) → slice_get keys (hint_at table number i - 1) ≢ Some key
+      by i low (inl e) = λ z. other (ap (λ j. slice_get keys (hint_at table number j - 1)) (sym e) ∙ z)
+      by i low (inr apart) = passed.others i (omega (arith, low, apart))
+
+module _ {K : Type 0} (cmp : K → K → Ordering) (number : K → ℕ) where
+  -- a key that was not met before a free slot is not there
+  pub absent_free : (keys : List K) (table : List ℕ) (rest : BTreeMap K ℕ) (key : K) (tries : ℕ) → IsIndex cmp number keys table rest
+      → IsPassed keys table (number key) key tries → tries < MOST_TRIES → hint_at table (number key) tries ≡ 0 → (i : ℕ) → slice_get keys i ≢ Some key
+  absent_free keys table rest key tries index passed low free i there = by (index.kept i key (slice_get_within keys i key there) there)
+    where
+      by : IsKept table (number key) (get cmp rest key) i → ⊥
+      by (near j in_low taken is) = order (cases_order j tries)
+        where
+          order : (j ≡ tries) ⊎ ((j < tries) ⊎ (tries < j)) → ⊥
+          order (inl e) = zero_next i (sym free ∙ (ap (hint_at table (number key)) (sym e) ∙ is))
+          order (inr (inl before)) = passed.others j before (ap (λ n. slice_get keys (n - 1)) is ∙ (ap (slice_get keys) (next_back i) ∙ there))
+          order (inr (inr after)) = taken tries after free
+      by (beyond taken is) = taken tries low free
+
+  -- a key that was met in no slot, and is not in the ordered map, is not there
+  pub absent_beyond : (keys : List K) (table : List ℕ) (rest : BTreeMap K ℕ) (key : K) → IsIndex cmp number keys table rest
+      → IsPassed keys table (number key) key MOST_TRIES → ((i : ℕ) → get cmp rest key ≡ Some i → slice_get keys i ≢ Some key) → (i : ℕ) → slice_get keys i ≢ Some key
+  absent_beyond keys table rest key index passed none i there = by (index.kept i key (slice_get_within keys i key there) there)
+    where
+      by : IsKept table (number key) (get cmp rest key) i → ⊥
+      by (near j low taken is) = passed.others j low (ap (λ n. slice_get keys (n - 1)) is ∙ (ap (slice_get keys) (next_back i) ∙ there))
+      by (beyond taken is) = none i is there
+
+  -- a new key in a slot
+  pub put_near : (table : List ℕ) (rest : BTreeMap K ℕ) (slot h : ℕ) (key : K) (index : ℕ) → IsFree table (number key) slot → h ≡ index + 1
+      → IsPut cmp number table rest (set table slot h) rest key index
+  put_near table rest slot h key index f e = record {
+    sized = length-set table slot h;
+    here = kept_here table slot h (number key) (get cmp rest key) index f e;
+    others = λ k i apart kept. kept_stays table slot h (number k) (get cmp rest k) i f.free kept;
+  }
+
+  -- and in the ordered map
+  pub put_beyond : IsTotalOrder cmp → ((a b : K) → is_eq (cmp a b) ≡ true → a ≡ b) → (table : List ℕ) (rest more : BTreeMap K ℕ) (key : K) (index : ℕ) → AreTaken table (number key) MOST_TRIES
+      → ((q : K) → get cmp more q ≡ cond (is_eq (cmp key q)) (Some index) (get cmp rest q)) → IsPut cmp number table rest table more key index
+  put_beyond total exact table rest more key index taken up = record {
+    sized = refl;
+    here = beyond taken (up key ∙ ap (λ (b : Bool). cond b (Some index) (get cmp rest key)) (is_itself cmp total exact key));
+    others = λ k i apart kept. subst (λ (o : Option ℕ). IsKept table (number k) o i)
+        (sym (up k ∙ ap (λ (b : Bool). cond b (Some index) (get cmp rest k)) (differs cmp total exact key k (λ e. apart (sym e))))) kept;
+  }
+
+  pub kept_none : (keys : List K) (table : List ℕ) (rest : BTreeMap K ℕ) → AreKept cmp number keys 0 table rest
+  kept_none keys table rest i k low there = absurd (omega (arith, low))
+
+  -- one more of the keys
+  pub kept_more : (keys : List K) (count : ℕ) (key : K) (table after : List ℕ) (rest more : BTreeMap K ℕ) → AreDistinct keys → slice_get keys count ≡ Some key
+      → AreKept cmp number keys count table rest → IsPut cmp number table rest after more key count → AreKept cmp number keys (count + 1) after more
+  kept_more keys count key table after rest more distinct at kept put i k low there = by (cases_eq i count)
+    where
+      by : (i ≡ count) ⊎ (i ≡ count → ⊥) → IsKeptIn cmp number after more k i
+      by (inl e) =
+          let same : key ≡ k = same_some key k (sym at ∙ (ap (slice_get keys) (sym e) ∙ there)) in
+          subst (λ (j : ℕ). IsKeptIn cmp number after more k j) (sym e) (subst (λ (q : K). IsKeptIn cmp number after more q count) same put.here)
+      by (inr apart) = put.others k i (λ e. apart (distinct i count key (there ∙ ap Some e) at)) (kept i k (omega (arith, low, apart)) there)
+
+  -- a new key after all others
+  pub index_pushed : (keys : List K) (key : K) (table after : List ℕ) (rest more : BTreeMap K ℕ) → IsIndex cmp number keys table rest → ((i : ℕ) → slice_get keys i ≢ Some key)
+      → IsPut cmp number table rest after more key (length keys) → IsIndex cmp number (keys ++ key ∷ []) after more
+  index_pushed keys key table after rest more index new put = record {
+    distinct = distinct_pushed keys key index.distinct new;
+    kept = λ i k low there. by i k (get_pushed keys key i k there);
+  }
+    where
+      by : (i : ℕ) (k : K) → (slice_get keys i ≡ Some k) ⊎ ((i ≡ length keys) × (key ≡ k)) → IsKeptIn cmp number after more k i
+      by i k (inl there) = put.others k i (λ e. new i (there ∙ ap Some e)) (index.kept i k (slice_get_within keys i k there) there)
+      by i k (inr (e, f)) = subst (λ (j : ℕ). IsKeptIn cmp number after more k j) (sym e) (subst (λ (q : K). IsKeptIn cmp number after more q (length keys)) f put.here)
+
+  -- the first of the keys
+  pub index_before : (keys ys : List K) (table : List ℕ) (rest : BTreeMap K ℕ) → IsIndex cmp number (keys ++ ys) table rest → IsIndex cmp number keys table rest
+  index_before keys ys table rest index = record {
+    distinct = distinct_before keys ys index.distinct;
+    kept = λ i k low there. index.kept i k (slice_get_within (keys ++ ys) i k (get_left keys ys i k there)) (get_left keys ys i k there);
+  }
+
+  -- all keys
+  pub index_all : (es : List (K × ℕ)) (count : ℕ) (table : List ℕ) (rest : BTreeMap K ℕ) → AreDistinct (keys_of es) → AreKept cmp number (keys_of es) count table rest → length es ≤ count
+      → IsIndex cmp number (keys_of es) table rest
+  index_all es count table rest distinct kept all = record { distinct = distinct; kept = λ i k low there. kept i k (omega (arith, low, all, length-map es (λ (e : K × ℕ). e.0))) there }
+
+  -- only what is read counts
+  pub index_same : (keys same_keys : List K) (table same_table : List ℕ) (rest same_rest : BTreeMap K ℕ) → same_keys ≡ keys → same_table ≡ table → same_rest.entries ≡ rest.entries
+      → IsIndex cmp number keys table rest → IsIndex cmp number same_keys same_table same_rest
+  index_same keys same_keys table same_table rest same_rest e f h index =
+      subst (λ (ks : List K). IsIndex cmp number ks same_table same_rest) (sym e) (subst (λ (t : List ℕ). IsIndex cmp number keys t same_rest) (sym f) (record {
+        distinct = index.distinct;
+        kept = λ i k low there. subst (λ (o : Option ℕ). IsKept table (number k) o i) (sym (ap (λ (es : List (K × ℕ)). lookup (λ q. is_eq (cmp k q)) es) h)) (index.kept i k low there);
+      }))
+
+  -- an entry with a new key
+  pub entry_pushed : (es more_es : List (K × ℕ)) (key : K) (v : ℕ) (table after : List ℕ) (rest more : BTreeMap K ℕ) (n : ℕ) → more_es ≡ es ++ (key, v) ∷ [] → n ≡ length es
+      → IsIndex cmp number (keys_of es) table rest → ((i : ℕ) → slice_get (keys_of es) i ≢ Some key) → IsPut cmp number table rest after more key n → IsIndex cmp number (keys_of more_es) after more
+  entry_pushed es more_es key v table after rest more n e f index new put =
+      subst (λ (ks : List K). IsIndex cmp number ks after more) (sym (ap keys_of e ∙ map-append (λ (x : K × ℕ). x.0) es ((key, v) ∷ [])))
+      (index_pushed (keys_of es) key table after rest more index new
+      (subst (λ (k : ℕ). IsPut cmp number table rest after more key k) (f ∙ sym (length-map es (λ (x : K × ℕ). x.0))) put))
+
+-- what holds where nothing is found
+pub none_gives : {A B : Type 0} (o : Option ℕ) → (A → B) → IfNone o A → IfNone o B
+none_gives None f h = f h
+none_gives (Some k) f h = tt

@@ -1,0 +1,24 @@
+use Rattle.std.proofs.Common.{◌≡◌, ℕ, Some, None, Option, IsSome, slice_get, subst}
+use Rattle.std.specs.Map.{keys_of}
+use Rattle.std.proofs.lemmas.Bool.{false≢true}
+use Rattle.bk_index.specs.Finding.{find}
+use Rattle.bk_index.proofs.Found.{find_set, find_absent, keys_set}
+use Rattle.bk_index.proofs.index.Index.set.Goals as goal
+
+not_some : (o : Option ℕ) → o ≡ None → IsSome o → ⊥
+not_some o e h = false≢true (subst (λ (x : Option ℕ). IsSome x) e h)
+
+pub invariant_of-self : goal.invariant_of-self
+invariant_of-self g c =
+    let there : slice_get (keys_of c.self.inside.entries.items) c.in-Some.at ≡ Some c.args.key = rw (← c.deref.ensures.value) c.in-Some.ensures.found in
+    rw (keys_set c.self.inside.entries.items c.in-Some.at c.args.key c.args.value there) c.self.invariant
+
+pub returns-in-Some : goal.returns-in-Some
+returns-in-Some g c = λ q. rw (← c.self.view_is)
+    (find_set g.K.Ord.cmp g.met.K.Ord.total g.met.K.Spread.exact c.self.inside.entries.items c.in-Some.at c.args.key c.args.value q c.self.invariant.distinct (rw (← c.deref.ensures.value) c.in-Some.ensures.found))
+
+pub returns-in_default : goal.returns-in_default
+returns-in_default g c = λ q.
+    let none : find g.K.Ord.cmp c.args.self.now c.args.key ≡ None = rw (← c.self.view_is)
+    (find_absent g.K.Ord.cmp g.met.K.Ord.total g.met.K.Spread.exact c.self.inside.entries.items c.args.key (rw (← c.deref.ensures.value) c.in_default.ensures.none)) in
+    absurd (not_some (find g.K.Ord.cmp c.args.self.now c.args.key) none c.requires)

@@ -1,0 +1,22 @@
+use Rattle.std.proofs.Common.{◌≡◌, ◌∙◌, ℕ, sym, subst, arith}
+use Rattle.std.specs.Map.{keys_of}
+use Rattle.bk_index.specs.declared.hints.TheConstants.{MOST_TRIES}
+use Rattle.bk_index.specs.private.Hints.{IsPassed, hint_at}
+use Rattle.bk_index.proofs.Hinted.{absent_free, absent_beyond, none_gives}
+use Rattle.bk_index.proofs.search.search.Goals as goal
+
+free_is : (a b : ℕ) → a ≡ b → a ≡ 0 → b ≡ 0
+free_is a b e f = sym e ∙ f
+
+pub returns-then-hint-eq0-clause-none : goal.returns-then-hint-eq0-clause-none
+returns-then-hint-eq0-clause-none g c =
+    let passed : IsPassed (keys_of c.args.entries.now) c.args.table.now (g.K.Spread.number c.args.key.now) c.args.key.now c.loop-tries.tries = rw (← c.spread-number.ensures) c.loop-tries.invariant in
+    let free : hint_at c.args.table.now (g.K.Spread.number c.args.key.now) c.loop-tries.tries ≡ 0 = rw (← c.spread-number.ensures) (free_is c.hint_at-hint.result (hint_at c.args.table.now c.spread-number.result c.loop-tries.tries) c.hint_at-hint.ensures c.if-hint-eq0.true) in
+    absent_free g.K.Ord.cmp g.K.Spread.number (keys_of c.args.entries.now) c.args.table.now c.args.rest.now c.args.key.now c.loop-tries.tries c.requires passed (omega (arith, c.loop-tries-test.true)) free
+
+pub returns-clause-none : goal.returns-clause-none
+returns-clause-none g c =
+    let count : c.loop-tries.tries ≡ MOST_TRIES = omega (arith, c.loop-tries-test.false, c.loop-tries.auto.tries-end) in
+    let all : IsPassed (keys_of c.args.entries.now) c.args.table.now (g.K.Spread.number c.args.key.now) c.args.key.now MOST_TRIES =
+    subst (λ (n : ℕ). IsPassed (keys_of c.args.entries.now) c.args.table.now (g.K.Spread.number c.args.key.now) c.args.key.now n) count (rw (← c.spread-number.ensures) c.loop-tries.invariant) in
+    none_gives c.search_rest.result (absent_beyond g.K.Ord.cmp g.K.Spread.number (keys_of c.args.entries.now) c.args.table.now c.args.rest.now c.args.key.now c.requires all) c.search_rest.ensures.none

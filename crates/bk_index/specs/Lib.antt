@@ -1,0 +1,3 @@
+pub mod Keys
+pub mod Finding
+pub mod private

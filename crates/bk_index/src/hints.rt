@@ -1,0 +1,114 @@
+//! The table of hints and the ordered map beside it.
+
+ghost use Rattle.std.specs.Prelude.{◌≡◌, ◌≢◌, ℕ, ◌+◌, ◌-◌, ◌<◌, ◌≤◌, length, IfSome, IfNone, IfOk, OnOk, OnErr, Some};
+ghost use Rattle.std.specs.BTreeMap.{IsUnchanged};
+ghost use Rattle.std.specs.Map.{keys_of};
+ghost use Rattle.bk_index.specs.private.Hints.{slot_in, hint_at, AreTaken, IsFree, AreDistinct, IsIndex, IsPut};
+
+use crate::spread::Spread;
+use std::alloc::{AllocError, Global};
+use std::collections::BTreeMap;
+
+/// How many slots are tried for a key.
+pub(crate) const MOST_TRIES: usize = 16;
+
+// The slot of a try. The length is a power of two.
+fn slot_in(len: usize, number: usize, tries: usize) -> usize
+    ensures is { result ≡ slot_in len number tries }
+    ensures inside { 1 ≤ len → result < len }
+{
+    number.wrapping_add(tries) & len.saturating_sub(1)
+}
+
+/// The hint that a try finds: the index of an entry and 1, or 0.
+pub(crate) fn hint_at(table: &[u32], number: usize, tries: usize) -> u32
+    ensures { result ≡ hint_at table.now number tries }
+{
+    match table.get(slot_in(table.len(), number, tries)) {
+        Some(hint) => *hint,
+        None => 0,
+    }
+}
+
+// The first free slot for this number.
+fn free_slot(table: &[u32], number: usize) -> Option<usize>
+    requires { 1 ≤ length table.now }
+    ensures found { IfSome result (IsFree table.now number) }
+    ensures none { IfNone result (AreTaken table.now number MOST_TRIES) }
+{
+    for tries in 0..MOST_TRIES {
+        if hint_at(table, number, tries) == 0 {
+            return Some(slot_in(table.len(), number, tries));
+        }
+    }
+    None
+}
+
+// The hint for the entry at an index.
+fn hint_for(index: usize) -> Result<u32, AllocError>
+    ensures { IfOk result (λ hint. hint ≡ index + 1) }
+{
+    match u32::try_from(index.saturating_add(1)) {
+        Ok(hint) => Ok(hint),
+        Err(_) => Err(AllocError),
+    }
+}
+
+/// Puts the index of a new key into the table, or into the ordered map.
+///
+/// An `Err` comes where memory runs out, or the index is above what a hint can say. Nothing changes
+/// then.
+pub(crate) fn put<K: Spread>(
+    table: &mut Vec<u32>,
+    rest: &mut BTreeMap<K, usize>,
+    key: K,
+    index: usize,
+) -> Result<(), AllocError>
+    requires { 1 ≤ length table.old.items }
+    ensures ok { OnOk result (IsPut K.cmp K.number
+        table.old.items rest.old table.new.items rest.new key index) }
+    ensures err { OnErr result (table.new.items ≡ table.old.items) }
+    ensures same { OnErr result (IsUnchanged rest.old rest.new) }
+{
+    let hint = hint_for(index)?;
+    match free_slot(table, key.spread()) {
+        Some(slot) => {
+            table[slot] = hint;
+        }
+        None => {
+            rest.insert(key, index)?;
+        }
+    }
+    Ok(())
+}
+
+/// A table of this length for these entries, and the ordered map beside it.
+pub(crate) fn make_anew<K: Spread>(
+    alloc: Global,
+    entries: &[(K, usize)],
+    len: usize,
+) -> Result<(Vec<u32>, BTreeMap<K, usize>), AllocError>
+    requires some { 1 ≤ len }
+    requires distinct { AreDistinct (keys_of entries.now) }
+    ensures index { IfOk result (λ made.
+        IsIndex K.cmp K.number (keys_of entries.now) made.0.items made.1) }
+    ensures sized { IfOk result (λ made. length made.0.items ≡ len) }
+{
+    let mut table = Vec::new(alloc);
+    table.resize(len, 0)?;
+    let mut rest = BTreeMap::new(alloc);
+    for index in 0..entries.len() {
+        put(&mut table, &mut rest, entries[index].0, index)?;
+    }
+    Ok((table, rest))
+}
+
+/// The length of the table that takes the place of one of this length.
+pub(crate) fn longer(len: usize) -> usize
+    ensures { 1 ≤ result }
+{
+    if len < 8 {
+        return 16;
+    }
+    len.saturating_mul(2)
+}

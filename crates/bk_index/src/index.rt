@@ -1,0 +1,132 @@
+//! The map.
+
+ghost use Rattle.std.specs.Prelude.{◌≡◌, ◌++◌, ◌∷◌, ℕ, ◌≤◌, ◌<◌, List, [], Some, None, cond, length, IfOk, IsSome, OnOk, OnErr, vec_len, vec_capacity};
+ghost use Rattle.std.specs.Map.{keys_of};
+ghost use Rattle.std.specs.Option.{unwrap_or};
+ghost use Rattle.std.specs.Ordering.{is_eq};
+ghost use Rattle.bk_index.specs.Finding.{find};
+ghost use Rattle.bk_index.specs.private.Hints.{IsIndex};
+
+use crate::hints::{longer, make_anew, put};
+use crate::search::search;
+use crate::spread::Spread;
+use std::alloc::{AllocError, Global};
+use std::collections::BTreeMap;
+use std::marker::Model;
+
+/// A map from keys to numbers, mostly indices into a list. Contracts see the entries, in the order
+/// in which their keys came.
+///
+/// An entry takes its key and 8 bytes, and 8 to 16 bytes of the table. While a list or the table
+/// grows, twice that.
+#[derive(Drop)]
+pub struct Index<K: Spread> {
+    alloc: Global,
+    entries: Vec<(K, usize)>,
+    // The index of an entry and 1, or 0. The length is a power of two.
+    table: Vec<u32>,
+    // The indices of entries that have no slot near their number.
+    rest: BTreeMap<K, usize>,
+}
+
+impl<K: Spread> Model for Index<K> {
+    ghost use Rattle.std.specs.Prelude.{List, ℕ};
+    ghost use Rattle.std.specs.Map.{keys_of};
+    ghost use Rattle.bk_index.specs.private.Hints.{IsIndex};
+
+    ghost Value = { List (K × ℕ) };
+
+    ghost view = { λ x. x.entries.items };
+
+    ghost invariant = { λ x.
+        IsIndex K.cmp K.number (keys_of x.entries.items) x.table.items x.rest };
+}
+
+impl<K: Spread> Index<K> {
+    /// No key. It takes no memory.
+    pub fn new(alloc: Global) -> Index<K>
+        ensures { result ≡ [] }
+    {
+        Index {
+            alloc,
+            entries: Vec::new(alloc),
+            table: Vec::new(alloc),
+            rest: BTreeMap::new(alloc),
+        }
+    }
+
+    /// The number of a key. Mostly constant time, O(log n) at worst.
+    pub fn get(&self, key: &K) -> Option<usize>
+        ensures { result ≡ find K.cmp self.now key.now }
+    {
+        let at = search(&self.entries, &self.table, &self.rest, key)?;
+        Some(self.entries[at].1)
+    }
+
+    /// The number that a key has. `None`: it had none, and has this one now.
+    ///
+    /// An `Err` comes where memory runs out, or 4,294,967,295 keys are there. No key changes then.
+    pub fn first_of(&mut self, key: K, value: usize) -> Result<Option<usize>, AllocError>
+        ensures found { IfOk result (λ found. found ≡ find K.cmp self.old key) }
+        ensures known { IfOk result (λ found. IsSome found → self.new ≡ self.old) }
+        ensures new { IfOk result (λ found. found ≡ None → self.new ≡ self.old ++ (key, value) ∷ []) }
+        ensures put { IfOk result (λ found. (q : K) → find K.cmp self.new q
+            ≡ cond (is_eq (K.cmp key q)) (Some (unwrap_or found value)) (find K.cmp self.old q)) }
+        ensures err { OnErr result (self.new ≡ self.old) }
+    {
+        let found = search(&self.entries, &self.table, &self.rest, &key);
+        if let Some(at) = found {
+            return Ok(Some(self.entries[at].1));
+        }
+        make_room(
+            self.alloc,
+            &mut self.entries,
+            &mut self.table,
+            &mut self.rest,
+        )?;
+        put(&mut self.table, &mut self.rest, key, self.entries.len())?;
+        self.entries.push_reserved((key, value));
+        Ok(None)
+    }
+
+    /// Gives another number to a key that has one. It takes no memory.
+    pub fn set(&mut self, key: K, value: usize)
+        requires { IsSome (find K.cmp self.old key) }
+        ensures { (q : K) → find K.cmp self.new q
+            ≡ cond (is_eq (K.cmp key q)) (Some value) (find K.cmp self.old q) }
+    {
+        if let Some(at) = search(&self.entries, &self.table, &self.rest, &key) {
+            self.entries[at] = (key, value);
+        }
+    }
+
+    /// Takes out the key that came last. Its slot stays taken until the table grows.
+    pub fn forget_last(&mut self)
+        ensures { (before : List (K × ℕ)) (last : K × ℕ) → self.old ≡ before ++ last ∷ []
+            → self.new ≡ before }
+    {
+        let _ = self.entries.pop();
+    }
+}
+
+// Makes room for one more entry. An `Err` comes only where memory runs out.
+fn make_room<K: Spread>(
+    alloc: Global,
+    entries: &mut Vec<(K, usize)>,
+    table: &mut Vec<u32>,
+    rest: &mut BTreeMap<K, usize>,
+) -> Result<(), AllocError>
+    requires { IsIndex K.cmp K.number (keys_of entries.old.items) table.old.items rest.old }
+    ensures same { entries.new.items ≡ entries.old.items }
+    ensures index { IsIndex K.cmp K.number (keys_of entries.old.items) table.new.items rest.new }
+    ensures some { OnOk result (1 ≤ length table.new.items) }
+    ensures room { OnOk result (vec_len entries.new < vec_capacity entries.new) }
+{
+    entries.reserve(1)?;
+    if table.len() / 2 <= entries.len() {
+        let (longer_table, other_rest) = make_anew(alloc, entries, longer(table.len()))?;
+        *table = longer_table;
+        *rest = other_rest;
+    }
+    Ok(())
+}
