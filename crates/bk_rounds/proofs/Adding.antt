@@ -38,7 +38,7 @@ pub record IsAdding (held : List Node) (n m : Names) (c : Node) (k : ℕ) (slot 
   pub cert : slot.cert ≡ length held
   pub parents : map (id_of n.slots.items) slot.parents.items ≡ c.header.parents
   pub slots : m.slots.items ≡ set n.slots.items k slot
-  pub numbers : m.numbers.entries ≡ n.numbers.entries
+  pub numbers : m.numbers ≡ n.numbers
 
 module _ (held : List Node) (n m : Names) (c : Node) (k : ℕ) (slot : Slot) (h : IsAdding held n m c k slot) where
   pub round_here : round_of m.slots.items k ≡ c.header.round

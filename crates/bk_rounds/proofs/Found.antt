@@ -187,6 +187,15 @@ place_held z held n placed top w a = (
         let (c, at, s) = w.tied.cert k p.0 in
         (c, held_at held (cert_of n.slots.items k) c at, same_place (place_of c) (place_at n.slots.items k) s.round s.author ∙ p.1)
 
+-- a place that no certificate has, has no number
+pub place_free : (z : Sizes) (held : List Node) (n : Names) (placed : CertRef → Option ℕ) (top : ℕ) → IsWhole z held n placed top → (a : CertRef)
+    → ((c : Node) → Contains held c → place_of c ≡ a → ⊥) → placed a ≡ None
+place_free z held n placed top w a free = by (placed a) refl
+  where
+    by : (o : Option ℕ) → placed a ≡ o → placed a ≡ None
+    by None e = e
+    by (Some k) e = let (c, there, at) = (place_held z held n placed top w a).0 (ap is_some e) in absurd (free c there at)
+
 pub id_held : (z : Sizes) (held : List Node) (n : Names) (placed : CertRef → Option ℕ) (top : ℕ) → IsWhole z held n placed top → (q : List ℕ) (k : ℕ) → known_in n q ≡ Some k
     → (t : Bool) (r : ℕ) → r ≡ round_of n.slots.items k → IsTrue t ↔ (0 < r) → IsTrue t ↔ ((c : Node) × Contains held c × (c.id ≡ q))
 id_held z held n placed top w q k e t r is test =

@@ -240,7 +240,7 @@ names_rows a b n numbers slots marks sets unmarked rows = record {
 }
   where
     known : (q : List ℕ) → known_in b q ≡ known_in a q
-    known q = ap (λ m. lookup (is_same_id q) m.entries) numbers
+    known q = ap (λ es. lookup (is_same_id q) es) numbers
 
 pub grows_rows : (a b : Names) → b.slots ≡ a.slots → b.marks ≡ a.marks → b.sets ≡ a.sets
     → ((m i : ℕ) → Contains (row_of a.pending m) i → Contains (row_of b.pending m) i) → Grows a b

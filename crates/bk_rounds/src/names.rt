@@ -1,29 +1,25 @@
 //! Ids by number.
 
-ghost use Rattle.std.specs.Prelude.{◌≡◌, ◌<◌, ℕ, List, [], Some, cond, length, map, All, OnOk, OnErr, IfOk};
-ghost use Rattle.std.specs.BTreeMap.{IsUnchanged, get};
-ghost use Rattle.std.specs.Cmp.Lexicographic.{slice_cmp};
-ghost use Rattle.std.specs.Option.{unwrap_or};
-ghost use Rattle.std.specs.Ordering.{nat_cmp};
+ghost use Rattle.std.specs.Prelude.{◌≡◌, ◌<◌, [], length, map, All, OnOk, IfOk};
 ghost use Rattle.bk_rounds.specs.private.Numbered.{id_of};
-ghost use Rattle.bk_rounds.specs.private.Names.{AreNames, AreSame, HasRoom, Grows, is_same_id};
+ghost use Rattle.bk_rounds.specs.private.Names.{AreNames, AreSame, HasRoom, Grows};
 
 use crate::members::Members;
 use crate::rows::{has_id, likely, skip};
 use crate::slots::Slot;
 use crate::waking::Pending;
 use bk_digest::Digest32;
+use bk_index::Index;
 use std::alloc::{AllocError, Global};
-use std::collections::BTreeMap;
 
 /// The ids that were met, those of parents that are not held among them, each with its number.
 ///
 /// What is known of a number is at that index in each of the lists, and who waits for it in
-/// `pending`. An id is found in O(log n) of those that were met, whatever its bytes: they come from
-/// a feed.
+/// `pending`. An id is mostly found in constant time, and in O(log n) of those that were met
+/// whatever its bytes: they come from a feed.
 #[derive(Drop)]
 pub(crate) struct Names {
-    pub numbers: BTreeMap<Digest32, usize>,
+    pub numbers: Index<Digest32>,
     pub slots: Vec<Slot>,
     pub marks: Vec<bool>,
     pub pending: Pending,
@@ -39,7 +35,7 @@ impl Names {
         ensures names { AreNames result }
     {
         Names {
-            numbers: BTreeMap::new(alloc),
+            numbers: Index::new(alloc),
             slots: Vec::new(alloc),
             marks: Vec::new(alloc),
             pending: Pending::new(alloc),
@@ -106,7 +102,7 @@ pub(crate) fn number_of(
     ensures inside { IfOk result (λ k. k < length names.new.slots.items) }
     ensures id { IfOk result (λ k. id_of names.new.slots.items k ≡ id.now) }
 {
-    if let Some(number) = names.numbers.get(id).copied() {
+    if let Some(number) = names.numbers.get(id) {
         return Ok(number);
     }
     own_number(alloc, names, id)
@@ -127,7 +123,7 @@ pub(crate) fn own_number(
 {
     make_room(names)?;
     let number = names.slots.len();
-    if let Some(known) = enter(&mut names.numbers, *id, number)? {
+    if let Some(known) = names.numbers.first_of(*id, number)? {
         return Ok(known);
     }
     names.slots.push_reserved(Slot {
@@ -141,29 +137,6 @@ pub(crate) fn own_number(
     names.sets.push_reserved(Members::none());
     names.unmarked += 1;
     Ok(number)
-}
-
-// The number that an id has. Where it has none, it gets this one.
-fn enter(
-    numbers: &mut BTreeMap<Digest32, usize>,
-    id: Digest32,
-    number: usize,
-) -> Result<Option<usize>, AllocError>
-    ensures known { IfOk result (λ known. known ≡ get (slice_cmp nat_cmp) numbers.old id) }
-    ensures put { IfOk result (λ known. (q : List ℕ) → get (slice_cmp nat_cmp) numbers.new q
-        ≡ cond (is_same_id id q) (Some (unwrap_or known number))
-        (get (slice_cmp nat_cmp) numbers.old q)) }
-    ensures err { OnErr result (IsUnchanged numbers.old numbers.new) }
-{
-    let known = numbers.insert(id, number)?;
-    if let Some(known) = known {
-        match numbers.insert(id, known) {
-            Ok(_) => {}
-            // Only a new id can fail.
-            Err(_) => {}
-        }
-    }
-    Ok(known)
 }
 
 // Makes room for one more id in the lists.

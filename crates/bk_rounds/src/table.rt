@@ -28,9 +28,9 @@ use crate::weights::Weights;
 use bk_cert::{CertRef, Header, SharedCert};
 use bk_certcheck::MOST_ROUND;
 use bk_digest::Digest32;
+use bk_index::Index;
 use std::alloc::{AllocError, Global};
 use std::cmp::Ordering;
-use std::collections::BTreeMap;
 use std::marker::Model;
 
 /// The held certificates of a committee, and which of them are admitted. Contracts see it as they
@@ -41,7 +41,7 @@ pub(crate) struct Table {
     weights: Weights,
     certs: Vec<SharedCert>,
     names: Names,
-    places: BTreeMap<CertRef, usize>,
+    places: Index<CertRef>,
     rows: Rows,
     buffers: Buffers,
     // The greatest round of an admitted one.
@@ -74,7 +74,7 @@ impl Table {
             weights,
             certs: Vec::new(alloc),
             names: Names::new(alloc),
-            places: BTreeMap::new(alloc),
+            places: Index::new(alloc),
             rows,
             buffers: Buffers::new(alloc),
             top: 0,
@@ -134,7 +134,7 @@ impl Table {
             round: cert.header().round(),
             author: cert.header().author(),
         };
-        self.places.insert(place, ready.number)?;
+        self.places.first_of(place, ready.number)?;
         let slot = Slot {
             id: *cert.id(),
             round: place.round,
@@ -200,7 +200,7 @@ impl Table {
     pub fn has_id(&self, id: &Digest32) -> bool
         ensures { IsTrue result ↔ ((c : Node) × Contains self.now.held c × (c.id ≡ id.now)) }
     {
-        match self.names.numbers.get(id).copied() {
+        match self.names.numbers.get(id) {
             Some(number) => self.names.slots[number].round != 0,
             None => false,
         }
@@ -293,7 +293,7 @@ impl Table {
 // The number of the admitted certificate of this place.
 fn admitted_number(
     names: &Names,
-    places: &BTreeMap<CertRef, usize>,
+    places: &Index<CertRef>,
     rows: &Rows,
     place: CertRef,
 ) -> Option<usize>
@@ -315,18 +315,13 @@ fn admitted_number(
 }
 
 // The number of the certificate of this place. Most are found without a search.
-fn find(
-    names: &Names,
-    places: &BTreeMap<CertRef, usize>,
-    rows: &Rows,
-    place: CertRef,
-) -> Option<usize>
+fn find(names: &Names, places: &Index<CertRef>, rows: &Rows, place: CertRef) -> Option<usize>
     requires placed { IsPlaced names.now.slots.items (number_at places.now) }
     ensures { result ≡ number_at places.now place }
 {
     match rows.at(&names.slots, place) {
         Some(number) => Some(number),
-        None => places.get(&place).copied(),
+        None => places.get(&place),
     }
 }
 

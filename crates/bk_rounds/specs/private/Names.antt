@@ -1,8 +1,8 @@
 -- The ids that were met, by number, and what is known of each.
 use Rattle.std.specs.Prelude.{◌≡◌, ℕ, ◌<◌, ◌≤◌, Bool, List, Contains, Option, Some, length, slice_index_or, vec_len, vec_capacity}
-use Rattle.std.specs.BTreeMap.{get}
 use Rattle.std.specs.Cmp.Lexicographic.{slice_cmp}
 use Rattle.std.specs.Ordering.{nat_cmp, is_eq}
+use Rattle.bk_index.specs.Finding.{find}
 use Rattle.bk_rounds.specs.declared.slots.Slot.{Slot}
 use Rattle.bk_rounds.specs.declared.names.Names.{Names}
 use Rattle.bk_rounds.specs.private.Numbered.{id_of, round_of, author_of, cert_of, parents_of, row_of, is_marked, count_unmarked, IsInsideRows}
@@ -22,7 +22,7 @@ is_same_id p q = is_eq (slice_cmp nat_cmp p q)
 
 -- the number of an id, where it has one
 abbrev pub known_in : Names → List ℕ → Option ℕ
-known_in n q = get (slice_cmp nat_cmp) n.numbers q
+known_in n q = find (slice_cmp nat_cmp) n.numbers q
 
 -- the lists are of one length, and each id has its number
 pub record AreNames (n : Names) : Type 0 where

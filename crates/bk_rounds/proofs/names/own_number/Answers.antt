@@ -1,7 +1,8 @@
-use Rattle.std.proofs.Common.{◌≡◌, ◌+◌, ◌++◌, ◌∷◌, [], ℕ, Option, false, cond, Some, ◌∙◌, ap, sym, refl, arith, length}
+use Rattle.std.proofs.Common.{◌≡◌, ◌<◌, ◌+◌, ◌++◌, ◌∷◌, [], ℕ, List, Option, subst, false, cond, Some, ◌∙◌, ap, sym, refl, arith, length}
 use Rattle.std.specs.Map.{lookup}
 use Rattle.std.specs.Option.{unwrap_or}
 use Rattle.std.proofs.lemmas.List.{length-append}
+use Rattle.bk_rounds.specs.private.Numbered.{id_of}
 use Rattle.bk_rounds.specs.private.Names.{is_same_id, known_in}
 use Rattle.bk_rounds.specs.declared.names.Names.{Names}
 use Rattle.bk_rounds.specs.declared.slots.Slot.{Slot}
@@ -28,9 +29,9 @@ pub returns-in-Some-clause-names : goal.returns-in-Some-clause-names
 returns-in-Some-clause-names c =
     let s = c.in_ok-make_room.ensures.same in
     let old : Names = c.make_room.new.names in
-    let new : Names = record old { numbers = c.enter.new.numbers } in
+    let new : Names = record old { numbers = c.first_of.new.self } in
     names_same c.args.names.now new c.requires.names (record {
-      numbers = λ q. known_put old new c.args.id.now c.in-Some.known (sym c.in_ok-known.ensures.known ∙ c.in-Some.is)
+      numbers = λ q. known_put old new c.args.id.now c.in-Some.known (sym c.in_ok-known.ensures.found ∙ c.in-Some.is)
           (λ r. c.in_ok-known.ensures.put r ∙ ap (λ (o : Option ℕ). cond (is_same_id c.args.id.now r) (Some (unwrap_or o c.len-number.result)) (known_in old r)) c.in-Some.is) q ∙ s.numbers q;
       slots = s.slots;
       marks = s.marks;
@@ -57,7 +58,7 @@ returns-clause-names c =
       unmarked = ap (λ k. k + 1) s.unmarked;
       updates = λ q. c.in_ok-known.ensures.put q ∙ (λ i. cond (is_same_id c.args.id.now q) (Some (unwrap_or (c.in_default.is i) (count i))) (s.numbers q i));
     } in
-    names_pushed c.args.names.now _ c.args.id.now slot c.none.result c.requires.names (sym (s.numbers c.args.id.now) ∙ (sym c.in_ok-known.ensures.known ∙ c.in_default.is)) p
+    names_pushed c.args.names.now _ c.args.id.now slot c.none.result c.requires.names (sym (s.numbers c.args.id.now) ∙ (sym c.in_ok-known.ensures.found ∙ c.in_default.is)) p
 
 pub returns-clause-grows : goal.returns-clause-grows
 returns-clause-grows c =
@@ -89,3 +90,17 @@ returns-clause-id c =
     let slot : Slot = record { id = c.args.id.now; round = 0; author = 0; cert = 0; parents = c.new.result } in
     let count : c.len-number.result ≡ length c.make_room.new.names.slots.items = omega (arith, c.len-number.ensures) in
     id_pushed c.make_room.new.names.slots.items c.push_reserved.new.self.items slot c.len-number.result c.push_reserved.ensures.items count
+
+pub returns-in-Some-clause-inside : goal.returns-in-Some-clause-inside
+returns-in-Some-clause-inside c =
+    let s = c.in_ok-make_room.ensures.same in
+    let k : ℕ = c.in-Some.known in
+    let h = c.requires.names.numbering.sound c.args.id.now k (sym (s.numbers c.args.id.now) ∙ (sym c.in_ok-known.ensures.found ∙ c.in-Some.is)) in
+    subst (λ (ss : List Slot). k < length ss) (sym s.slots) h.0
+
+pub returns-in-Some-clause-id : goal.returns-in-Some-clause-id
+returns-in-Some-clause-id c =
+    let s = c.in_ok-make_room.ensures.same in
+    let k : ℕ = c.in-Some.known in
+    let h = c.requires.names.numbering.sound c.args.id.now k (sym (s.numbers c.args.id.now) ∙ (sym c.in_ok-known.ensures.found ∙ c.in-Some.is)) in
+    ap (λ (ss : List Slot). id_of ss k) s.slots ∙ h.1

@@ -16,7 +16,7 @@ returns-clause-names c = record {
   rows = λ m i h. absurd (none_in_nil i (subst (λ (xs : List ℕ). Contains xs i) (c.new-4.ensures m) h));
   waiting = sym (ap count_unmarked c.new-3.ensures.items);
   numbering = record {
-    sound = λ q k e. absurd (none_some k (sym (ap (lookup (is_same_id q)) c.new.ensures.empty) ∙ e));
+    sound = λ q k e. absurd (none_some k (sym (ap (lookup (is_same_id q)) c.new.ensures) ∙ e));
     complete = λ k low. absurd (omega (arith, low, ap length c.new-2.ensures.items));
   };
 }

@@ -1,7 +1,8 @@
-use Rattle.std.proofs.Common.{◌≡◌, ◌≢◌, ◌-◌, ◌≤◌, ◌++◌, ◌∷◌, [], ◌∙◌, ◌↔◌, ℕ, cond, List, Some, refl, sym, ap, subst, arith, length, get_or, set, map}
+use Rattle.std.proofs.Common.{◌≡◌, ◌≢◌, ◌-◌, ◌≤◌, ◌++◌, ◌∷◌, [], ◌∙◌, ◌↔◌, ℕ, cond, List, Some, None, refl, sym, ap, subst, arith, length, get_or, set, map}
 use Rattle.std.specs.List.{Contains}
 use Rattle.std.specs.Map.{lookup}
 use Rattle.std.specs.BTreeMap.{is_at}
+use Rattle.std.specs.Option.{unwrap_or}
 use Rattle.std.specs.Ordering.{is_eq}
 use Rattle.std.specs.Vec.{with_items}
 use Rattle.std.proofs.lemmas.List.{with_items_is}
@@ -19,6 +20,7 @@ use Rattle.bk_rounds.specs.private.Numbered.{IsTable, IsInside, round_of, author
 use Rattle.bk_rounds.specs.private.Tied.{number_at, IsWhole, IsTied, place_at}
 use Rattle.bk_cert.proofs.Refs.{same_place}
 use Rattle.bk_rounds.proofs.Settling.{marked_low}
+use Rattle.bk_rounds.proofs.Found.{place_free}
 use Rattle.bk_rounds.proofs.Whole.{whole_grown}
 use Rattle.bk_rounds.proofs.Adding.{number_free, IsAdding, IsAdmitting, tied_added, good_added, parent_author, whole_added, answer_added, admitting_from, table_from, place_put}
 use Rattle.bk_rounds.proofs.table.Table.add.Goals as goal
@@ -28,10 +30,10 @@ invariant_of-self c = rw c.in_err-ready.ensures.certs
     (whole_grown c.self.inside.weights c.self.inside.certs.items c.self.inside.names c.prepare.new.names (number_at c.self.inside.places) (number_at c.self.inside.places) c.self.inside.top c.self.invariant
     c.in_err-ready.ensures.grows c.in_err-ready.ensures.names (λ q. refl))
 
-pub invariant_of-self-in_err-insert : goal.invariant_of-self-in_err-insert
-invariant_of-self-in_err-insert c = rw c.in_ok-ready.ensures.certs
-    (whole_grown c.self.inside.weights c.self.inside.certs.items c.self.inside.names c.prepare.new.names (number_at c.self.inside.places) (number_at c.insert.new.self) c.self.inside.top c.self.invariant
-    c.in_ok-ready.ensures.grows c.in_ok-ready.ensures.names (λ q. ap (lookup (is_at (place_cmp q))) c.in_err-insert.ensures.err))
+pub invariant_of-self-in_err-first_of : goal.invariant_of-self-in_err-first_of
+invariant_of-self-in_err-first_of c = rw c.in_ok-ready.ensures.certs
+    (whole_grown c.self.inside.weights c.self.inside.certs.items c.self.inside.names c.prepare.new.names (number_at c.self.inside.places) (number_at c.first_of.new.self) c.self.inside.top c.self.invariant
+    c.in_ok-ready.ensures.grows c.in_ok-ready.ensures.names (λ q. ap (lookup (is_at (place_cmp q))) c.in_err-first_of.ensures.err))
 
 pub admit-requires-clause-table : goal.admit-requires-clause-table
 admit-requires-clause-table c =
@@ -182,10 +184,11 @@ invariant_of-self-2 c =
     let free : (d : Node) → Contains held d → place_of d ≢ place_of cert = λ d t. c.requires.free d (subst (λ (v : RoundsValue). Contains v.held d) c.self.view_is t) in
     let here : CertRef = record { round = c.round.result; author = c.author.result } in
     let place : here ≡ place_of cert = same_place here (place_of cert) (c.round.ensures ∙ ap (λ (h : HeaderValue). h.round) c.header.ensures) (c.author.ensures ∙ ap (λ (h : HeaderValue). h.author) c.header-2.ensures) in
-    let up = place_put (number_at c.self.inside.places) (number_at c.insert.new.self) (place_of cert) k
-    (λ q. c.in_ok-insert.ensures.updates.0 q ∙ ap (λ (a : CertRef). cond (is_eq (place_cmp a q)) (Some k) (number_at c.self.inside.places q)) place) in
-    let whole : IsWhole z (held ++ cert ∷ []) m (number_at c.insert.new.self) c.tell-self-inside.result =
-    whole_added z held n m cert k slot (number_at c.self.inside.places) (number_at c.insert.new.self) c.self.inside.top c.tell-self-inside.result out w added good new free up
+    let none_there : c.in_ok-first_of.field-0 ≡ None = c.in_ok-first_of.ensures.found ∙ (ap (number_at c.self.inside.places) place ∙ place_free z held n (number_at c.self.inside.places) c.self.inside.top w (place_of cert) free) in
+    let up = place_put (number_at c.self.inside.places) (number_at c.first_of.new.self) (place_of cert) k
+    (λ q. c.in_ok-first_of.ensures.put q ∙ (λ i. cond (is_eq (place_cmp (place i) q)) (Some (unwrap_or (none_there i) k)) (number_at c.self.inside.places q))) in
+    let whole : IsWhole z (held ++ cert ∷ []) m (number_at c.first_of.new.self) c.tell-self-inside.result =
+    whole_added z held n m cert k slot (number_at c.self.inside.places) (number_at c.first_of.new.self) c.self.inside.top c.tell-self-inside.result out w added good new free up
     (table_from z m c.admit.new.slots c.admit.new.marks c.admit.new.pending e_s e_m refl table) admitted in
     let certs : c.push_reserved.new.self.items ≡ held ++ cert ∷ [] = c.push_reserved.ensures.items ∙ ap (λ (xs : List Node). xs ++ cert ∷ []) c.in_ok-ready.ensures.certs in
     rw certs whole
@@ -234,16 +237,17 @@ returns-clause-answer c =
     let free : (d : Node) → Contains held d → place_of d ≢ place_of cert = λ d t. c.requires.free d (subst (λ (v : RoundsValue). Contains v.held d) c.self.view_is t) in
     let here : CertRef = record { round = c.round.result; author = c.author.result } in
     let place : here ≡ place_of cert = same_place here (place_of cert) (c.round.ensures ∙ ap (λ (h : HeaderValue). h.round) c.header.ensures) (c.author.ensures ∙ ap (λ (h : HeaderValue). h.author) c.header-2.ensures) in
-    let up = place_put (number_at c.self.inside.places) (number_at c.insert.new.self) (place_of cert) k
-    (λ q. c.in_ok-insert.ensures.updates.0 q ∙ ap (λ (a : CertRef). cond (is_eq (place_cmp a q)) (Some k) (number_at c.self.inside.places q)) place) in
-    let whole : IsWhole z (held ++ cert ∷ []) m (number_at c.insert.new.self) c.tell-self-inside.result =
-    whole_added z held n m cert k slot (number_at c.self.inside.places) (number_at c.insert.new.self) c.self.inside.top c.tell-self-inside.result out w added good new free up
+    let none_there : c.in_ok-first_of.field-0 ≡ None = c.in_ok-first_of.ensures.found ∙ (ap (number_at c.self.inside.places) place ∙ place_free z held n (number_at c.self.inside.places) c.self.inside.top w (place_of cert) free) in
+    let up = place_put (number_at c.self.inside.places) (number_at c.first_of.new.self) (place_of cert) k
+    (λ q. c.in_ok-first_of.ensures.put q ∙ (λ i. cond (is_eq (place_cmp (place i) q)) (Some (unwrap_or (none_there i) k)) (number_at c.self.inside.places q))) in
+    let whole : IsWhole z (held ++ cert ∷ []) m (number_at c.first_of.new.self) c.tell-self-inside.result =
+    whole_added z held n m cert k slot (number_at c.self.inside.places) (number_at c.first_of.new.self) c.self.inside.top c.tell-self-inside.result out w added good new free up
     (table_from z m c.admit.new.slots c.admit.new.marks c.admit.new.pending e_s e_m refl table) admitted in
     let certs : c.push_reserved.new.self.items ≡ held ++ cert ∷ [] = c.push_reserved.ensures.items ∙ ap (λ (xs : List Node). xs ++ cert ∷ []) c.in_ok-ready.ensures.certs in
     let told : List CertRef = c.hand_over.result.items in
     let answer : c.tell-self-inside.new.answer.items ≡ map (place_at m.slots.items) out = c.tell-self-inside.ensures.answer ∙ (λ i. map (place_at (c.deref.ensures.value i)) (c.deref-2.ensures.value i)) in
     let lists : Lists told (λ a. IsPresent z (held ++ cert ∷ []) a × (IsPresent z held a → ⊥)) =
-    answer_added z held n m cert k slot (number_at c.self.inside.places) (number_at c.insert.new.self) c.self.inside.top c.tell-self-inside.result out told w whole added admitted
+    answer_added z held n m cert k slot (number_at c.self.inside.places) (number_at c.first_of.new.self) c.self.inside.top c.tell-self-inside.result out told w whole added admitted
     c.hand_over.ensures.listed (λ a. subst (λ (xs : List CertRef). Contains told a ↔ Contains xs a) answer (c.hand_over.ensures.same a)) in
     subst (λ (xs : List Node). Lists told (λ a. IsPresent z xs a × (IsPresent c.args.self.now.sizes c.args.self.now.held a → ⊥))) (sym certs)
     (subst (λ (v : RoundsValue). Lists told (λ a. IsPresent z (held ++ cert ∷ []) a × (IsPresent v.sizes v.held a → ⊥))) c.self.view_is lists)

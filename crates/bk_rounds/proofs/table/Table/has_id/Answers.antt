@@ -8,13 +8,13 @@ use Rattle.bk_rounds.proofs.table.Table.has_id.Goals as goal
 
 pub index-requires : goal.index-requires
 index-requires c =
-    let known : known_in c.self.inside.names c.args.id.now ≡ Some c.in-Some.number = sym c.get.ensures.value ∙ (sym c.copied.ensures ∙ c.in-Some.is) in
+    let known : known_in c.self.inside.names c.args.id.now ≡ Some c.in-Some.number = sym c.get.ensures ∙ c.in-Some.is in
     let low = (c.self.invariant.names.numbering.sound c.args.id.now c.in-Some.number known).0 in
     omega (arith, low)
 
 pub returns-in-Some : goal.returns-in-Some
 returns-in-Some c =
-    let known : known_in c.self.inside.names c.args.id.now ≡ Some c.in-Some.number = sym c.get.ensures.value ∙ (sym c.copied.ensures ∙ c.in-Some.is) in
+    let known : known_in c.self.inside.names c.args.id.now ≡ Some c.in-Some.number = sym c.get.ensures ∙ c.in-Some.is in
     let low = (c.self.invariant.names.numbering.sound c.args.id.now c.in-Some.number known).0 in
     rw (← c.self.view_is) (id_held c.self.inside.weights c.self.inside.certs.items c.self.inside.names (number_at c.self.inside.places) c.self.inside.top c.self.invariant c.args.id.now c.in-Some.number known _ c.index.result.now.round
     (round_read c.self.inside.names.slots.items c.in-Some.number c.index.result.now low c.index.ensures)
@@ -22,5 +22,5 @@ returns-in-Some c =
 
 pub returns-in-None : goal.returns-in-None
 returns-in-None c =
-    let unknown : known_in c.self.inside.names c.args.id.now ≡ None = sym c.get.ensures.value ∙ (sym c.copied.ensures ∙ c.in-None.is) in
+    let unknown : known_in c.self.inside.names c.args.id.now ≡ None = sym c.get.ensures ∙ c.in-None.is in
     rw (← c.self.view_is) ((λ f. absurd (false≢true f)), (λ (d, there, id). absurd (id_unknown c.self.inside.weights c.self.inside.certs.items c.self.inside.names (number_at c.self.inside.places) c.self.inside.top c.self.invariant c.args.id.now unknown d there id)))
