@@ -5,7 +5,7 @@ use Rattle.std.specs.Prelude.{not, MatchOption}
 use Rattle.std.specs.List.{Contains}
 use Rattle.std.proofs.lemmas.List.{take_more, take_all}
 use Rattle.std.proofs.lemmas.List.Elements.{Contains-get_or, Contains-append_left, Contains-append_right, Contains-append_cases, Contains-push, Contains-push_cases}
-use Rattle.std.specs.BTreeMap.{BTreeMap, get}
+use Rattle.bk_index.specs.Finding.{find}
 use Rattle.bk_cert.proofs.Lists.{none_in_nil}
 use Rattle.bk_evidence.specs.Batches.{Batch, AreApart, IsBatchCollision}
 use Rattle.bk_evidence.specs.Collisions.{id_cmp, CollidesBy}
@@ -29,18 +29,18 @@ from_not false h = absurd (true≢false h)
 
 -- ---- one batch
 
-module _ (xs : List Batch) (m : BTreeMap (List ℕ) ℕ) (indexed : IsIndexed digest_of xs m) (b : Batch) where
-  pub other_found : (k : ℕ) (r : Batch) → get id_cmp m b.digest ≡ Some k → r ≡ get_or xs k r → (r ≡ b → ⊥) → HasOther xs b
+module _ (xs : List Batch) (m : List (List ℕ × ℕ)) (indexed : IsIndexed digest_of xs m) (b : Batch) where
+  pub other_found : (k : ℕ) (r : Batch) → find id_cmp m b.digest ≡ Some k → r ≡ get_or xs k r → (r ≡ b → ⊥) → HasOther xs b
   other_found k r e is apart =
       let at = indexed_at digest_of xs m indexed b.digest k e in
       record { other = r; is_held = subst (Contains xs) (sym is) (Contains-get_or xs k r at.0); same_digest = ap digest_of is ∙ at.1 r; apart = apart }
 
-  pub other_same : (k : ℕ) (r : Batch) → get id_cmp m b.digest ≡ Some k → r ≡ get_or xs k r → r ≡ b → Contains xs b
+  pub other_same : (k : ℕ) (r : Batch) → find id_cmp m b.digest ≡ Some k → r ≡ get_or xs k r → r ≡ b → Contains xs b
   other_same k r e is same =
       let at = indexed_at digest_of xs m indexed b.digest k e in
       subst (Contains xs) (sym is ∙ same) (Contains-get_or xs k r at.0)
 
-  pub other_none : get id_cmp m b.digest ≡ None → HasOther xs b → Contains xs b
+  pub other_none : find id_cmp m b.digest ≡ None → HasOther xs b → Contains xs b
   other_none e h = absurd (indexed_none digest_of xs m indexed b.digest e h.other h.is_held h.same_digest)
 
 -- ---- the steps

@@ -1,7 +1,7 @@
 -- The least ids of each place, and the least place with twins, where one more certificate is stored.
 use Rattle.std.proofs.Common.{◌≡◌, ◌≢◌, ◌⊎◌, ◌<◌, ℕ, true, false, cond, List, [], ◌∷◌, ◌++◌, length, map, get_or, Option, Some, None, refl, sym, ap, subst, ◌∙◌, inl, inr, ⊎_elim, arith}
 use Rattle.std.specs.List.{Contains}
-use Rattle.std.specs.BTreeMap.{BTreeMap, get}
+use Rattle.bk_index.specs.Finding.{find}
 use Rattle.std.specs.Ordering.{match_ordering, is_eq}
 use Rattle.std.proofs.lemmas.Cmp.{tied_itself}
 use Rattle.std.proofs.lemmas.List.{length-append, length-map, map-append, get_or-map, get_or_append_left}
@@ -234,13 +234,13 @@ module _ (held : List Node) (c : Node) where
         }
 
 -- a place that has an index and gets it again is as it was
-pub same_put : (m n : BTreeMap CertRef ℕ) (a : CertRef) (k : ℕ) → get place_cmp m a ≡ Some k
-    → ((b : CertRef) → get place_cmp n b ≡ cond (is_eq (place_cmp a b)) (Some k) (get place_cmp m b)) → (b : CertRef) → get place_cmp n b ≡ get place_cmp m b
+pub same_put : (m n : List (CertRef × ℕ)) (a : CertRef) (k : ℕ) → find place_cmp m a ≡ Some k
+    → ((b : CertRef) → find place_cmp n b ≡ cond (is_eq (place_cmp a b)) (Some k) (find place_cmp m b)) → (b : CertRef) → find place_cmp n b ≡ find place_cmp m b
 same_put m n a k there put b = put b ∙ by (place_cmp a b) refl
   where
-    by : (r : Ordering) → place_cmp a b ≡ r → cond (is_eq r) (Some k) (get place_cmp m b) ≡ get place_cmp m b
+    by : (r : Ordering) → place_cmp a b ≡ r → cond (is_eq r) (Some k) (find place_cmp m b) ≡ find place_cmp m b
     by Less e = refl
-    by Equal e = sym there ∙ ap (get place_cmp m) (place_order.exact a b e)
+    by Equal e = sym there ∙ ap (find place_cmp m) (place_order.exact a b e)
     by Greater e = refl
 
 -- what is known of the places is the same

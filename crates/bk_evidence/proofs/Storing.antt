@@ -5,7 +5,7 @@ use Rattle.std.specs.List.{Contains}
 use Rattle.std.proofs.lemmas.Bool.{false≢true}
 use Rattle.std.proofs.lemmas.List.{take_more, take_all}
 use Rattle.std.proofs.lemmas.List.Elements.{Contains-get_or, Contains-push_cases}
-use Rattle.std.specs.BTreeMap.{BTreeMap, get}
+use Rattle.bk_index.specs.Finding.{find}
 use Rattle.bk_cert.proofs.Lists.{none_in_nil}
 use Rattle.bk_evidence.specs.Collisions.{id_cmp, CollidesBy}
 use Rattle.bk_evidence.specs.Batches.{Batch, batch_with, has_digest, payload_of}
@@ -42,43 +42,43 @@ none_from : (o : Option ℕ) → is_some o ≡ false → o ≡ None
 none_from None h = refl
 none_from (Some k) h = absurd (false≢true (sym h))
 
-module _ {E : Type 0} (name : E → List ℕ) (xs : List E) (m : BTreeMap (List ℕ) ℕ) (o : Option (List ℕ)) where
+module _ {E : Type 0} (name : E → List ℕ) (xs : List E) (m : List (List ℕ × ℕ)) (o : Option (List ℕ)) where
   abbrev pub IsKept : Type 0
   IsKept = IsIndexed name xs m × IsLeastBy id_cmp (CollidesBy name xs) o
 
   -- an entry with an index is held
-  pub held_at : IsKept → (id : List ℕ) (k : ℕ) (d : E) → get id_cmp m id ≡ Some k → HasName name xs id
+  pub held_at : IsKept → (id : List ℕ) (k : ℕ) (d : E) → find id_cmp m id ≡ Some k → HasName name xs id
   held_at kept id k d e = let at = indexed_at name xs m kept.0 id k e in (slice_index_or xs k d, Contains-get_or xs k d at.0, at.1 d)
 
-  pub absent_new : IsKept → (x : E) → is_some (get id_cmp m (name x)) ≡ false → (e : E) → Contains xs e → name e ≢ name x
-  absent_new kept x absent = indexed_none name xs m kept.0 (name x) (none_from (get id_cmp m (name x)) absent)
+  pub absent_new : IsKept → (x : E) → is_some (find id_cmp m (name x)) ≡ false → (e : E) → Contains xs e → name e ≢ name x
+  absent_new kept x absent = indexed_none name xs m kept.0 (name x) (none_from (find id_cmp m (name x)) absent)
 
-  pub found_more : IsKept → (x : E) → is_some (get id_cmp m (name x)) ≡ true → HasName name xs (name x)
-  found_more kept x there = let found = some_from (get id_cmp m (name x)) there in held_at kept (name x) found.0 x found.1
+  pub found_more : IsKept → (x : E) → is_some (find id_cmp m (name x)) ≡ true → HasName name xs (name x)
+  found_more kept x there = let found = some_from (find id_cmp m (name x)) there in held_at kept (name x) found.0 x found.1
 
   -- a first entry under its name
-  pub keeps_new : (ys : List E) (n : BTreeMap (List ℕ) ℕ) (x : E) → IsKept → is_some (get id_cmp m (name x)) ≡ false
+  pub keeps_new : (ys : List E) (n : List (List ℕ × ℕ)) (x : E) → IsKept → is_some (find id_cmp m (name x)) ≡ false
       → IsIndexed name ys n → ys ≡ xs ++ x ∷ [] → IsIndexed name ys n × IsLeastBy id_cmp (CollidesBy name ys) o
   keeps_new ys n x kept absent indexed e = (
     indexed,
-    subst (λ (zs : List E). IsLeastBy id_cmp (CollidesBy name zs) o) (sym e) (least_new name xs x o (indexed_none name xs m kept.0 (name x) (none_from (get id_cmp m (name x)) absent)) kept.1),
+    subst (λ (zs : List E). IsLeastBy id_cmp (CollidesBy name zs) o) (sym e) (least_new name xs x o (indexed_none name xs m kept.0 (name x) (none_from (find id_cmp m (name x)) absent)) kept.1),
   )
 
   -- a further one
-  pub keeps_more : (ys : List E) (x : E) → IsKept → is_some (get id_cmp m (name x)) ≡ true → (Contains xs x → ⊥) → ys ≡ xs ++ x ∷ []
+  pub keeps_more : (ys : List E) (x : E) → IsKept → is_some (find id_cmp m (name x)) ≡ true → (Contains xs x → ⊥) → ys ≡ xs ++ x ∷ []
       → IsIndexed name ys m × IsLeastBy id_cmp (CollidesBy name ys) (Some (least_of id_cmp o (name x)))
   keeps_more ys x kept there absent e =
-      let found = some_from (get id_cmp m (name x)) there in
+      let found = some_from (find id_cmp m (name x)) there in
       subst (λ (zs : List E). IsIndexed name zs m × IsLeastBy id_cmp (CollidesBy name zs) (Some (least_of id_cmp o (name x)))) (sym e)
       (indexed_more name xs m kept.0 x found.0 found.1, least_colliding name xs x o (held_at kept (name x) found.0 x found.1) absent kept.1)
 
 -- ---- payloads
 
-module _ (xs : List Batch) (m : BTreeMap (List ℕ) ℕ) (indexed : IsIndexed (λ (b : Batch). b.digest) xs m) (digest : List ℕ) where
-  pub payload_found : (k : ℕ) (r : List ℕ) → get id_cmp m digest ≡ Some k → ((d : Batch) → r ≡ (get_or xs k d).payload) → Some r ≡ payload_of xs digest
+module _ (xs : List Batch) (m : List (List ℕ × ℕ)) (indexed : IsIndexed (λ (b : Batch). b.digest) xs m) (digest : List ℕ) where
+  pub payload_found : (k : ℕ) (r : List ℕ) → find id_cmp m digest ≡ Some k → ((d : Batch) → r ≡ (get_or xs k d).payload) → Some r ≡ payload_of xs digest
   payload_found k r e read =
       let none = batch_with [] [] in
       ap Some (read none) ∙ ap (option_map (λ (b : Batch). b.payload)) (sym (find_position (has_digest digest) xs k none (sym (indexed.first digest) ∙ e)))
 
-  pub payload_absent : get id_cmp m digest ≡ None → None ≡ payload_of xs digest
+  pub payload_absent : find id_cmp m digest ≡ None → None ≡ payload_of xs digest
   payload_absent e = ap (option_map (λ (b : Batch). b.payload)) (sym (find_none (has_digest digest) xs (sym (indexed.first digest) ∙ e)))

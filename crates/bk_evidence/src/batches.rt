@@ -2,7 +2,6 @@
 
 ghost use Rattle.std.specs.Prelude.{◌==◌, ◌≡◌, ◌≢◌, ◌++◌, ◌∷◌, ◌<◌, ◌↔◌, [], length, Contains, IfOk, OnOk, OnErr, None, false, IsOk, IsTrue, MatchOption, option_map, slice_index_or, IfSome};
 ghost use Rattle.std.specs.List.{position};
-ghost use Rattle.std.specs.BTreeMap.{get};
 ghost use Rattle.bk_evidence.specs.Batches.{Batch, AreApart, IsBatchCollision, IsBatchOffer, batch_with, batches_after, has_digest, payload_of};
 ghost use Rattle.bk_evidence.specs.Collisions.{id_cmp};
 ghost use Rattle.bk_evidence.specs.private.Indexed.{CollidesWith, HasOther, IsIndexed};
@@ -10,8 +9,8 @@ ghost use Rattle.bk_evidence.specs.private.Least.{IsLeastBy};
 
 use crate::least::{least_id, lesser_id};
 use bk_digest::Digest32;
+use bk_index::Index;
 use std::alloc::{AllocError, Global};
-use std::collections::BTreeMap;
 use std::marker::Model;
 
 /// What an offer of a batch answers.
@@ -56,8 +55,8 @@ impl Model for Stored {
 #[derive(Drop)]
 pub struct Batches {
     stored: Vec<Stored>,
-    // The index of the first batch under each digest, by the order of the digests.
-    firsts: BTreeMap<Digest32, usize>,
+    // The index of the first batch under each digest.
+    firsts: Index<Digest32>,
     collision: Option<Digest32>,
 }
 
@@ -83,12 +82,13 @@ impl Batches {
     {
         Batches {
             stored: Vec::new(alloc),
-            firsts: BTreeMap::new(alloc),
+            firsts: Index::new(alloc),
             collision: None,
         }
     }
 
-    /// Stores a payload under a digest, unless it is stored there. O(log n) in what is held.
+    /// Stores a payload under a digest, unless it is stored there. Mostly constant time, O(log n)
+    /// in what is held at worst.
     ///
     /// An `Err` comes only where memory runs out, and leaves what is held as it was.
     pub fn offer(&mut self, digest: Digest32, payload: Vec<u8>) -> Result<BatchOffer, AllocError>
@@ -99,14 +99,15 @@ impl Batches {
         ensures unchanged { OnErr result (self.new ≡ self.old) }
     {
         let batch = Stored { digest, payload };
-        if !self.firsts.contains_key(&digest) {
-            store_first(&mut self.stored, &mut self.firsts, batch)?;
+        self.stored.reserve(1)?;
+        let Some(first) = self.firsts.first_of(digest, self.stored.len())? else {
+            self.stored.push_reserved(batch);
             return Ok(BatchOffer::New);
-        }
-        if is_stored(&self.stored, &self.firsts, &batch) {
+        };
+        if is_stored(&self.stored, first, &batch) {
             return Ok(BatchOffer::Repeat);
         }
-        self.stored.push(batch)?;
+        self.stored.push_reserved(batch);
         self.collision = Some(least_id(self.collision, digest));
         Ok(BatchOffer::Collision)
     }
@@ -115,7 +116,7 @@ impl Batches {
     pub fn get(&self, digest: &Digest32) -> Option<&[u8]>
         ensures { option_map (λ p. p.now) result ≡ payload_of self.now digest.now }
     {
-        let index = *self.firsts.get(digest)?;
+        let index = self.firsts.get(digest)?;
         Some(payload_at(&self.stored, index))
     }
 
@@ -123,7 +124,7 @@ impl Batches {
     pub fn index_of(&self, digest: &Digest32) -> Option<BatchRef>
         ensures { option_map (λ b. b.index) result ≡ position (has_digest digest.now) self.now }
     {
-        let index = *self.firsts.get(digest)?;
+        let index = self.firsts.get(digest)?;
         Some(BatchRef { index })
     }
 
@@ -182,7 +183,7 @@ impl Batches {
 // other have different payloads.
 fn least_across(
     stored: &[Stored],
-    firsts: &BTreeMap<Digest32, usize>,
+    firsts: &Index<Digest32>,
     more: &[Stored],
     known: Option<Digest32>,
 ) -> Option<Digest32>
@@ -200,12 +201,12 @@ fn least_across(
 }
 
 // Whether the first batch under the digest of this one has another payload.
-fn has_other(stored: &[Stored], firsts: &BTreeMap<Digest32, usize>, batch: &Stored) -> bool
+fn has_other(stored: &[Stored], firsts: &Index<Digest32>, batch: &Stored) -> bool
     requires { IsIndexed (λ (e : Batch). e.digest) stored.now firsts.now }
     ensures yes { IsTrue result → HasOther stored.now batch.now }
     ensures no { result ≡ false → HasOther stored.now batch.now → Contains stored.now batch.now }
 {
-    match firsts.get(&batch.digest).copied() {
+    match firsts.get(&batch.digest) {
         None => false,
         Some(index) => {
             let first = batch_at(stored, index);
@@ -232,21 +233,18 @@ fn payload_at(stored: &[Stored], index: usize) -> &[u8]
 }
 
 // Whether the batch is stored. A repeat of the first one under its digest is found at once.
-fn is_stored(stored: &[Stored], firsts: &BTreeMap<Digest32, usize>, batch: &Stored) -> bool
+fn is_stored(stored: &[Stored], first: usize, batch: &Stored) -> bool
     ensures { IsTrue result ↔ Contains stored.now batch.now }
 {
-    is_first(stored, firsts, batch) || is_among(stored, batch)
+    is_first(stored, first, batch) || is_among(stored, batch)
 }
 
-// Whether the batch is the first one under its digest.
-fn is_first(stored: &[Stored], firsts: &BTreeMap<Digest32, usize>, batch: &Stored) -> bool
+// Whether the batch is the one at this index.
+fn is_first(stored: &[Stored], first: usize, batch: &Stored) -> bool
     ensures { IsTrue result → Contains stored.now batch.now }
 {
-    let Some(index) = firsts.get(&batch.digest).copied() else {
-        return false;
-    };
-    match stored.get(index) {
-        Some(first) => is_same(first, batch),
+    match stored.get(first) {
+        Some(other) => is_same(other, batch),
         None => false,
     }
 }
@@ -268,22 +266,4 @@ fn is_same(one: &Stored, other: &Stored) -> bool
     ensures { IsTrue result ↔ (one.now ≡ other.now) }
 {
     one.digest == other.digest && one.payload == other.payload
-}
-
-// Stores the first batch under a digest, or nothing where memory runs out.
-fn store_first(
-    stored: &mut Vec<Stored>,
-    firsts: &mut BTreeMap<Digest32, usize>,
-    batch: Stored,
-) -> Result<(), AllocError>
-    requires indexed { IsIndexed (λ (e : Batch). e.digest) stored.old.items firsts.old }
-    requires new { get id_cmp firsts.old batch.digest ≡ None }
-    ensures indexed { IsIndexed (λ (e : Batch). e.digest) stored.new.items firsts.new }
-    ensures ok { OnOk result (stored.new.items ≡ stored.old.items ++ batch ∷ []) }
-    ensures err { OnErr result (stored.new.items ≡ stored.old.items) }
-{
-    stored.reserve(1)?;
-    firsts.insert(batch.digest, stored.len())?;
-    stored.push_reserved(batch);
-    Ok(())
 }

@@ -12,30 +12,28 @@ ghost use Rattle.bk_evidence.specs.private.Least.{IsLeastBy};
 ghost use Rattle.bk_evidence.specs.private.Places.{ArePlaces};
 
 use crate::evidence::{Evidence, Together};
-use crate::firsts::first_of;
 use crate::least::least_id;
 use crate::offer::Offer;
 use crate::places::{Places, note};
 use bk_cert::{CertRef, SharedCert};
 use bk_digest::Digest32;
+use bk_index::Index;
 use std::alloc::{AllocError, Global};
-use std::collections::BTreeMap;
 use std::marker::Model;
 
 /// The certificates that were offered, each distinct pair of an id and a header once, those of
 /// collisions and twins too. Contracts see them in the order in which they were stored.
 ///
-/// A certificate takes 64 bytes, besides the header and its id, which are shared, and the tables
-/// have room for at most about twice the certificates. A place takes 40 bytes more once it has
+/// A certificate takes 64 bytes, besides the header and its id, which are shared, and 16 to 32 of
+/// hints. The lists have room for at most about twice the certificates. A place takes 40 bytes more once it has
 /// twins. Where two headers have one id, a further offer under it goes over all that is held; with
 /// SHA-256 no such two are known.
 #[derive(Drop)]
 pub struct Held {
     alloc: Global,
     certs: Vec<SharedCert>,
-    // The index of the first certificate under each id, found by the order of the ids: a feed can
-    // choose them so that a table by their hash is slow.
-    firsts: BTreeMap<Digest32, usize>,
+    // The index of the first certificate under each id.
+    firsts: Index<Digest32>,
     collision: Option<Digest32>,
     places: Places,
 }
@@ -66,13 +64,14 @@ impl Held {
         Held {
             alloc,
             certs: Vec::new(alloc),
-            firsts: BTreeMap::new(alloc),
+            firsts: Index::new(alloc),
             collision: None,
             places: Places::new(alloc),
         }
     }
 
-    /// Stores a header under an id, unless it is stored there. O(log n) in what is held.
+    /// Stores a header under an id, unless it is stored there. Mostly constant time, O(log n) in
+    /// what is held at worst.
     ///
     /// An `Err` comes only where memory runs out, and leaves what is held as it was.
     pub fn offer(&mut self, cert: SharedCert) -> Result<Offer, AllocError>
@@ -81,12 +80,12 @@ impl Held {
         ensures unchanged { OnErr result (self.new ≡ self.old) }
     {
         let id = *cert.id();
-        match first_of(&mut self.firsts, id, self.certs.len())? {
+        match self.firsts.first_of(id, self.certs.len())? {
             None => match store(&mut self.certs, &mut self.places, cert) {
                 Ok(earlier) => Ok(offer_after(earlier)),
                 Err(error) => {
                     // The id loses its index again: this needs no memory.
-                    let _ = self.firsts.remove(&id);
+                    self.firsts.forget_last();
                     Err(error)
                 }
             },
@@ -108,22 +107,22 @@ impl Held {
         self.certs.as_slice()
     }
 
-    /// The first certificate with this id. O(log n) in what is held.
+    /// The first certificate with this id, found as by `offer`.
     pub fn get(&self, id: &Digest32) -> Option<&SharedCert>
         ensures found { IfSome result (λ c. Contains self.now c.now × (c.now.id ≡ id.now)) }
         ensures none { IfNone result (IsNewId self.now id.now) }
     {
-        let index = *self.firsts.get(id)?;
+        let index = self.firsts.get(id)?;
         Some(cert_at(&self.certs, index))
     }
 
-    /// A certificate with the least id of a place. O(log n) in what is held.
+    /// A certificate with the least id of a place, found as by `offer`.
     pub fn at(&self, place: CertRef) -> Option<&SharedCert>
         ensures found { IfSome result (λ c. Contains self.now c.now
             × IsIdAt self.now place c.now.id) }
         ensures none { IfNone result ((id : List ℕ) → IsIdAt self.now place id → ⊥) }
     {
-        let index = *self.places.firsts.get(&place)?;
+        let index = self.places.firsts.get(&place)?;
         Some(cert_at(&self.certs, index))
     }
 

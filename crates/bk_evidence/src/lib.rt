@@ -1,13 +1,13 @@
 //! What is held of a feed, and the evidence against who made it: batches and certificates, the
 //! collisions among them, and the twins of a round.
 //!
-//! Each distinct pair that was offered is kept. An offer costs the logarithm of what is held, whatever
-//! the bytes of its id, and every answer is of all that is held, whatever the order of the offers.
+//! Each distinct pair that was offered is kept. An offer mostly takes constant time, and the logarithm
+//! of what is held whatever the bytes of its id. Every answer is of all that is held, whatever the
+//! order of the offers.
 #![tactic(auto)]
 
 mod batches;
 mod evidence;
-mod firsts;
 mod held;
 mod laws;
 mod least;

@@ -1,18 +1,18 @@
 //! The ids of each place: the least two, which show whether the place has twins.
 
 ghost use Rattle.std.specs.Prelude.{◌≡◌, ◌<◌, ◌++◌, ◌∷◌, [], Some, length, IfOk, OnOk, OnErr};
-ghost use Rattle.std.specs.BTreeMap.{get};
 ghost use Rattle.bk_cert.specs.Place.{place_cmp, place_of};
+ghost use Rattle.bk_index.specs.Finding.{find};
 ghost use Rattle.bk_evidence.specs.Collisions.{id_cmp};
 ghost use Rattle.bk_evidence.specs.Twins.{IsIdAt};
 ghost use Rattle.bk_evidence.specs.private.Least.{IsLeastBy};
 ghost use Rattle.bk_evidence.specs.private.Places.{ArePlaces, AreSamePlaces, HasSecond, IsEmptyPlaces, evidence_in, id_at, ids_at};
 
 use crate::evidence::Evidence;
-use crate::firsts::{first_of, put_back};
 use crate::least::{least_id, least_place};
 use bk_cert::{CertRef, SharedCert};
 use bk_digest::Digest32;
+use bk_index::Index;
 use std::alloc::{AllocError, Global};
 use std::cmp::Ordering;
 use std::collections::BTreeMap;
@@ -28,7 +28,7 @@ pub(crate) struct LeastIds {
 #[derive(Drop)]
 pub(crate) struct Places {
     // The index of a certificate with the least id of the place.
-    pub firsts: BTreeMap<CertRef, usize>,
+    pub firsts: Index<CertRef>,
     // The second id. Only a place with twins is in it, so it takes no memory where there are none.
     pub seconds: BTreeMap<CertRef, Digest32>,
     pub twins: Option<CertRef>,
@@ -40,7 +40,7 @@ impl Places {
         ensures { IsEmptyPlaces result }
     {
         Places {
-            firsts: BTreeMap::new(alloc),
+            firsts: Index::new(alloc),
             seconds: BTreeMap::new(alloc),
             twins: None,
         }
@@ -67,7 +67,7 @@ impl Places {
         requires { ArePlaces certs.now self.now }
         ensures { result ≡ ids_at certs.now self.now place }
     {
-        let index = *self.firsts.get(&place)?;
+        let index = self.firsts.get(&place)?;
         Some(LeastIds {
             least: id_of(certs, index),
             second: self.seconds.get(&place).copied(),
@@ -107,7 +107,7 @@ pub(crate) fn note(
     ensures err { OnErr result (ArePlaces certs.now places.new) }
 {
     let place = place_at(cert);
-    match first_of(&mut places.firsts, place, certs.len())? {
+    match places.firsts.first_of(place, certs.len())? {
         None => Ok(None),
         Some(first) => {
             let least = id_of(certs, first);
@@ -125,7 +125,7 @@ fn note_other(
     first: usize,
 ) -> Result<(), AllocError>
     requires places { ArePlaces certs.now places.old }
-    requires first { get place_cmp places.old.firsts (place_of cert.now) ≡ Some first }
+    requires first { find place_cmp places.old.firsts (place_of cert.now) ≡ Some first }
     ensures ok { OnOk result (ArePlaces (certs.now ++ cert.now ∷ []) places.new) }
     ensures err { OnErr result (ArePlaces certs.now places.new) }
 {
@@ -135,7 +135,7 @@ fn note_other(
     match id.cmp(&least) {
         Ordering::Less => {
             add_second(places, place, least)?;
-            put_back(&mut places.firsts, place, certs.len());
+            places.firsts.set(place, certs.len());
         }
         Ordering::Equal => {}
         Ordering::Greater => {

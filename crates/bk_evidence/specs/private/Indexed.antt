@@ -2,7 +2,7 @@
 use Rattle.std.specs.Prelude.{◌≡◌, ◌≢◌, ℕ, Bool, List, Contains, take}
 use Rattle.std.specs.List.{position}
 use Rattle.std.specs.Str.{bytes_eq}
-use Rattle.std.specs.BTreeMap.{BTreeMap, get}
+use Rattle.bk_index.specs.Finding.{find}
 use Rattle.bk_evidence.specs.Batches.{Batch}
 use Rattle.bk_evidence.specs.Collisions.{id_cmp, CollidesBy}
 
@@ -12,8 +12,8 @@ is_named name id e = bytes_eq (name e) id
 
 -- each name has the index of the first entry under it
 pub record IsIndexed {E : Type 0} (name : E → List ℕ) (held : List E)
-    (firsts : BTreeMap (List ℕ) ℕ) : Type 0 where
-  pub first : (id : List ℕ) → get id_cmp firsts id ≡ position (is_named name id) held
+    (firsts : List (List ℕ × ℕ)) : Type 0 where
+  pub first : (id : List ℕ) → find id_cmp firsts id ≡ position (is_named name id) held
 
 -- a batch and another one that is held have the same digest
 pub record HasOther (held : List Batch) (b : Batch) : Type 0 where

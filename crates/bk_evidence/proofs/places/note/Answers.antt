@@ -16,8 +16,8 @@ id_of-least-requires c = (least_kept c.args.certs.now c.args.places.now c.place_
 pub note_other-requires-clause-places : goal.note_other-requires-clause-places
 note_other-requires-clause-places c =
     let old : Places = c.args.places.now in
-    places_same c.args.certs.now old (record old { firsts = c.first_of.new.firsts }) (record {
-      firsts = same_put old.firsts c.first_of.new.firsts c.place_at-place.result c.in-Some.first (sym c.in_ok-first_of.ensures.found ∙ c.in-Some.is)
+    places_same c.args.certs.now old (record old { firsts = c.first_of.new.self }) (record {
+      firsts = same_put old.firsts c.first_of.new.self c.place_at-place.result c.in-Some.first (sym c.in_ok-first_of.ensures.found ∙ c.in-Some.is)
           (λ b. c.in_ok-first_of.ensures.put b ∙ ap (λ (o : Option ℕ). cond (is_eq (place_cmp c.place_at-place.result b)) (Some (unwrap_or o (length c.args.certs.now))) (first_at old b)) c.in-Some.is);
       seconds = λ b. refl;
       twins = refl;
@@ -31,7 +31,7 @@ pub returns-in-None-clause-ok : goal.returns-in-None-clause-ok
 returns-in-None-clause-ok c =
     let old : Places = c.args.places.now in
     let here : c.place_at-place.result ≡ place_of c.args.cert.now = c.place_at-place.ensures in
-    noted_first c.args.certs.now c.args.cert.now old (record old { firsts = c.first_of.new.firsts }) c.requires
+    noted_first c.args.certs.now c.args.cert.now old (record old { firsts = c.first_of.new.self }) c.requires
     (ap (first_at old) (sym here) ∙ (sym c.in_ok-first_of.ensures.found ∙ c.in-None.is))
     (λ b. c.in_ok-first_of.ensures.put b ∙ (λ i. cond (is_eq (place_cmp (here i) b)) (Some (unwrap_or (c.in-None.is i) (length c.args.certs.now))) (first_at old b)))
     (λ b. refl) refl

@@ -14,12 +14,12 @@ pub returns-in_ok-add_second-in-Less-clause-ok : goal.returns-in_ok-add_second-i
 returns-in_ok-add_second-in-Less-clause-ok c =
     let old : Places = c.args.places.now in
     let s = c.in_ok-add_second-in-Less.ensures.ok in
-    let new : Places = record c.add_second.new.places { firsts = c.put_back.new.firsts } in
+    let new : Places = record c.add_second.new.places { firsts = c.set.new.self } in
     let here : c.place_at-place.result ≡ place_of c.args.cert.now = c.place_at-place.ensures in
     let least : c.id_of-least.result ≡ id_at c.args.certs.now c.args.first = c.id_of-least.ensures in
     noted_less c.args.certs.now c.args.cert.now old new c.requires.places c.args.first c.requires.first
     (sym (λ i. id_cmp (c.id.ensures i) (least i)) ∙ (sym c.cmp.ensures ∙ c.in-Less.is))
-    (λ b. c.put_back.ensures b ∙ (λ i. cond (is_eq (place_cmp (here i) b)) (Some (length c.args.certs.now)) (s.firsts b i)))
+    (λ b. c.set.ensures b ∙ (λ i. cond (is_eq (place_cmp (here i) b)) (Some (length c.args.certs.now)) (s.firsts b i)))
     (λ b. s.seconds b ∙ (λ i. cond (is_eq (place_cmp (here i) b)) (Some (least i)) (second_at old b)))
     (s.twins ∙ ap (λ (a : CertRef). Some (least_of place_cmp old.twins a)) here)
 

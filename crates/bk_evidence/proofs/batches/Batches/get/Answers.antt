@@ -6,14 +6,14 @@ use Rattle.bk_evidence.proofs.batches.Batches.get.Goals as goal
 
 pub returns-in_err-index : goal.returns-in_err-index
 returns-in_err-index c = rw (c.from_residual.ensures, ← c.self.view_is)
-    (payload_absent c.self.inside.stored.items c.self.inside.firsts c.self.invariant.0 c.args.digest.now (sym c.in_err-index.ensures.value))
+    (payload_absent c.self.inside.stored.items c.self.inside.firsts c.self.invariant.0 c.args.digest.now (sym c.in_err-index.ensures))
 
 pub payload_at-requires : goal.payload_at-requires
 payload_at-requires c =
-    let at = indexed_at (λ (b : Batch). b.digest) c.self.inside.stored.items c.self.inside.firsts c.self.invariant.0 c.args.digest.now c.in_ok-index.field-0.now (sym c.in_ok-index.ensures.value) in
+    let at = indexed_at (λ (b : Batch). b.digest) c.self.inside.stored.items c.self.inside.firsts c.self.invariant.0 c.args.digest.now c.in_ok-index.index (sym c.in_ok-index.ensures) in
     rw c.deref.ensures.value at.0
 
 pub returns : goal.returns
 returns c = rw (← c.self.view_is)
-    (payload_found c.self.inside.stored.items c.self.inside.firsts c.self.invariant.0 c.args.digest.now c.in_ok-index.field-0.now c.payload_at.result.now
-    (sym c.in_ok-index.ensures.value) (λ d. rw c.deref.ensures.value at (c.payload_at.ensures d)))
+    (payload_found c.self.inside.stored.items c.self.inside.firsts c.self.invariant.0 c.args.digest.now c.in_ok-index.index c.payload_at.result.now
+    (sym c.in_ok-index.ensures) (λ d. rw c.deref.ensures.value at (c.payload_at.ensures d)))

@@ -5,14 +5,14 @@ use Rattle.bk_evidence.proofs.held.Held.get.Goals as goal
 
 pub returns-in_err-index-clause-none : goal.returns-in_err-index-clause-none
 returns-in_err-index-clause-none c = rw (c.from_residual.ensures, ← c.self.view_is)
-    (indexed_none (λ (d : Node). d.id) c.self.inside.certs.items c.self.inside.firsts c.self.invariant.0.0 c.args.id.now (sym c.in_err-index.ensures.value))
+    (indexed_none (λ (d : Node). d.id) c.self.inside.certs.items c.self.inside.firsts c.self.invariant.0.0 c.args.id.now (sym c.in_err-index.ensures))
 
 pub cert_at-requires : goal.cert_at-requires
-cert_at-requires c = rw c.deref.ensures.value (indexed_at (λ (d : Node). d.id) c.self.inside.certs.items c.self.inside.firsts c.self.invariant.0.0 c.args.id.now c.in_ok-index.field-0.now (sym c.in_ok-index.ensures.value)).0
+cert_at-requires c = rw c.deref.ensures.value (indexed_at (λ (d : Node). d.id) c.self.inside.certs.items c.self.inside.firsts c.self.invariant.0.0 c.args.id.now c.in_ok-index.index (sym c.in_ok-index.ensures)).0
 
 pub returns-clause-found : goal.returns-clause-found
 returns-clause-found c =
-    let at = indexed_at (λ (d : Node). d.id) c.self.inside.certs.items c.self.inside.firsts c.self.invariant.0.0 c.args.id.now c.in_ok-index.field-0.now (sym c.in_ok-index.ensures.value) in
+    let at = indexed_at (λ (d : Node). d.id) c.self.inside.certs.items c.self.inside.firsts c.self.invariant.0.0 c.args.id.now c.in_ok-index.index (sym c.in_ok-index.ensures) in
     let here = rw c.deref.ensures.value at (λ (d : Node). c.cert_at.ensures d) in
     rw (← c.self.view_is)
-    ((c.in_ok-index.field-0.now, at.0, sym (here c.cert_at.result.now)), ap (λ (n : Node). n.id) (here c.cert_at.result.now) ∙ at.1 c.cert_at.result.now)
+    ((c.in_ok-index.index, at.0, sym (here c.cert_at.result.now)), ap (λ (n : Node). n.id) (here c.cert_at.result.now) ∙ at.1 c.cert_at.result.now)

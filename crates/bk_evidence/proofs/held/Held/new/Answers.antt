@@ -5,4 +5,4 @@ use Rattle.bk_evidence.proofs.Judging.{places_none}
 use Rattle.bk_evidence.proofs.held.Held.new.Goals as goal
 
 pub invariant_of-result : goal.invariant_of-result
-invariant_of-result c = rw c.new.ensures.items ((indexed_empty (λ (d : Node). d.id) c.new-2.result c.new-2.ensures.empty, least_none (λ (d : Node). d.id)), places_none c.new-3.result c.new-3.ensures)
+invariant_of-result c = rw c.new.ensures.items ((indexed_empty (λ (d : Node). d.id) c.new-2.result c.new-2.ensures, least_none (λ (d : Node). d.id)), places_none c.new-3.result c.new-3.ensures)
