@@ -2,10 +2,10 @@
 use Rattle.std.proofs.Common.{◌≡◌, ℕ, List, refl, subst}
 use Rattle.std.specs.Prelude.{Result, Ok, Err, OnOk, IfOk}
 use Rattle.bk_base.specs.Feed.{FeedValue}
-use Rattle.bk_cert.specs.declared.place.CertRef.{CertRef}
+use Rattle.bk_committee.specs.Payload.{CommitteeValue}
 use Rattle.bk_frames.specs.Device.{Device}
 use Rattle.bk_rounds.specs.Rounds.{RoundsValue}
-use Rattle.bk_order.specs.Intake.{Taken}
+use Rattle.bk_order.specs.Frames.{AreCerts}
 use Rattle.bk_order.specs.Orders.{AreRoundsOf}
 use Rattle.bk_results.specs.declared.fault.Fault.{Fault}
 use Rattle.bk_results.specs.declared.fault.Fault.TheVariants as fault
@@ -13,33 +13,28 @@ use Rattle.bk_answer.specs.Answers.{IsOrderMadeOf, WritesAnswer, WritesNot}
 use Rattle.bk_answer.specs.Closed.{OrderValue, IsOrderedFor}
 use Rattle.bk_answer.specs.RunReport.{committee_in, later_frames}
 use Rattle.bk_picture.specs.Drawing.{IsDrawingOf, IsGraphOf, drawing_text}
-use Rattle.bk_picture.specs.Picture.{IsPictureOf, graph_with}
-use Rattle.bk_picture.specs.Svg.{svg_text}
-use Rattle.bk_picture.specs.declared.picture.Picture.{Picture}
+use Rattle.bk_picture.specs.Picture.{HoldSame, IsPictureOf, graph_of}
 use Rattle.bk_picture.specs.private.Shows.{ShowsPicture, TextFails, WritesSome}
 
 module _ (feed : FeedValue) (o : OrderValue) (rounds : RoundsValue) (ordered : IsOrderedFor feed o) (rounds_here : AreRoundsOf (committee_in feed) (later_frames feed) rounds) where
-  graph_is : IsGraphOf feed (graph_with rounds.sizes rounds.held o.taken.ordered.anchors o.taken.ordered.order)
+  graph_is : IsGraphOf feed (graph_of rounds o.taken)
   graph_is = record { sizes = rounds_here.sizes; certs = rounds_here.certs; ordered = o.taken.ordered; is_order = ordered.ordered; anchors = refl; order = refl }
+
+  -- what was taken holds the certificates of the table of rounds
+  pub same_here : HoldSame o.taken.kept.certs rounds.held
+  same_here c =
+      let kept : AreCerts (committee_in feed) (later_frames feed) o.taken.kept.certs = subst (λ (k : CommitteeValue). AreCerts k (later_frames feed) o.taken.kept.certs) ordered.committee ordered.taken.certs in
+      ((λ t. rounds_here.certs.complete c (kept.sound c t)), (λ t. kept.complete c (rounds_here.certs.sound c t)))
 
   drawing : (from count : ℕ) (text : List ℕ) → ShowsPicture rounds o.taken from count text → IsDrawingOf feed from count text
   drawing from count text h = record {
     clear = ordered.clear;
-    graph = graph_with rounds.sizes rounds.held o.taken.ordered.anchors o.taken.ordered.order;
+    graph = graph_of rounds o.taken;
     is_graph = graph_is;
     picture = h.picture;
     is_picture = h.is_picture;
     text_is = h.text_is;
   }
-
--- the picture of the anchors and the certificates in order, as the intake lends them
-pub shows_picture : (rounds : RoundsValue) (taken : Taken) (from count : ℕ) (anchors order : List CertRef) (p : Picture) (text : List ℕ) → anchors ≡ taken.ordered.anchors → order ≡ taken.ordered.order
-    → IsPictureOf (graph_with rounds.sizes rounds.held anchors order) from count p → text ≡ svg_text p → ShowsPicture rounds taken from count text
-shows_picture rounds taken from count anchors order p text ea eo h e = record {
-  picture = p;
-  is_picture = subst (λ (q : List CertRef × List CertRef). IsPictureOf (graph_with rounds.sizes rounds.held q.0 q.1) from count p) (λ j. (ea j, eo j)) h;
-  text_is = e;
-}
 
 module _ (from count : ℕ) (o : OrderValue) (rounds : RoundsValue) (rounds_here : (feed : FeedValue) → IsOrderMadeOf o feed → AreRoundsOf (committee_in feed) (later_frames feed) rounds) (old new : Device) where
   -- the picture that was written is that of each feed

@@ -1,3 +1,4 @@
+pub mod Ids
 pub mod LastRounds
 pub mod Puts
 pub mod Filling

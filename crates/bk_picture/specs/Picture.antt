@@ -7,10 +7,14 @@ use Rattle.bk_cert.specs.declared.place.CertRef.{CertRef}
 use Rattle.bk_rounds.specs.Admission.{IsPresent, WaitsAt}
 use Rattle.bk_rounds.specs.Links.{Links}
 use Rattle.bk_rounds.specs.Members.{Has}
+use Rattle.bk_rounds.specs.Rounds.{RoundsValue}
 use Rattle.bk_rounds.specs.Votes.{IsAnchor}
+use Rattle.bk_order.specs.Intake.{Taken}
+use Rattle.bk_evidence.specs.Twins.{IsIdAt}
 use Rattle.bk_views.specs.Anchors.{AreRows}
 use Rattle.bk_views.specs.declared.anchors.AnchorRow.{AnchorRow}
 use Rattle.bk_picture.specs.declared.picture.Cell.{Cell}
+use Rattle.bk_picture.specs.declared.picture.Circle.{Circle}
 use Rattle.bk_picture.specs.declared.picture.Class.{Class}
 use Rattle.bk_picture.specs.declared.picture.Class.TheVariants as class
 use Rattle.bk_picture.specs.declared.picture.Column.{Column}
@@ -27,19 +31,31 @@ pub record Graph : Type 0 where
 abbrev pub graph_with : Sizes → List Node → List CertRef → List CertRef → Graph
 graph_with z held anchors order = record { sizes = z; held = held; anchors = anchors; order = order }
 
+-- what the picture of what was taken is read off, with its table of rounds
+abbrev pub graph_of : RoundsValue → Taken → Graph
+graph_of rounds taken = graph_with rounds.sizes rounds.held taken.ordered.anchors taken.ordered.order
+
+-- two lists have the same certificates
+abbrev pub HoldSame : List Node → List Node → Type 0
+HoldSame one other = (c : Node) → Contains one c ↔ Contains other c
+
 -- the place of a member in a round
 abbrev pub at_place : ℕ → ℕ → CertRef
 at_place round member = record { round = round; author = member }
 
 -- ---- a cell
 
--- what became of the certificate of a place: it is in the order; it is admitted and not in the order; it is held and not
--- admitted; or none is held
-abbrev pub IsClassOf : Graph → CertRef → Option Class → Type 0
-IsClassOf g a (Some class.Ordered) = Contains g.order a
-IsClassOf g a (Some class.Admitted) = IsPresent g.sizes g.held a × (Contains g.order a → ⊥)
-IsClassOf g a (Some class.Waiting) = WaitsAt g.sizes g.held a × (Contains g.order a → ⊥)
-IsClassOf g a None = (c : Node) → Contains g.held c → place_of c ≡ a → ⊥
+-- what became of the certificate of a place: it is in the order; it is admitted and not in the order; or it is held and not
+-- admitted
+abbrev pub IsClassOf : Graph → CertRef → Class → Type 0
+IsClassOf g a class.Ordered = Contains g.order a
+IsClassOf g a class.Admitted = IsPresent g.sizes g.held a × (Contains g.order a → ⊥)
+IsClassOf g a class.Waiting = WaitsAt g.sizes g.held a × (Contains g.order a → ⊥)
+
+-- the circle of the certificate of a place: its id, and what became of it. There is none where none is held
+abbrev pub IsCircleOf : Graph → CertRef → Option Circle → Type 0
+IsCircleOf g a (Some circle) = IsIdAt g.held a circle.id × IsClassOf g a circle.class
+IsCircleOf g a None = (id : List ℕ) → IsIdAt g.held a id → ⊥
 
 -- the certificate of a place names that of this member in the round before as a parent; both are admitted, and both rounds
 -- are drawn. A certificate that waits has no such parent
@@ -58,7 +74,7 @@ IsVoteOf g from a (Some y) = IsVoteIn g from a y
 -- the cell of a place
 pub record IsCellOf (g : Graph) (from : ℕ) (a : CertRef) (cell : Cell) : Type 0 where
   pub member : cell.member ≡ a.author
-  pub class_is : IsClassOf g a cell.class
+  pub circle_is : IsCircleOf g a cell.circle
   pub parents : (y : ℕ) → Has cell.parents y ↔ IsParentIn g from a y
   pub vote : IsVoteOf g from a cell.vote
 

@@ -2,11 +2,13 @@
 use Rattle.std.specs.Prelude.{ℕ, zero, suc, ◌+◌, ◌-◌, ◌*◌, max, ◌==◌, List, [], ◌++◌, codes, decimal, Option, Some, None, if◌then◌else◌}
 use Rattle.std.specs.List.{flat_map}
 use Rattle.std.specs.Int.{bit_at}
+use Rattle.hex.specs.Hex.{encode_lower}
 use Rattle.bk_views.specs.Anchors.{row_text, state_word, votes_word}
 use Rattle.bk_views.specs.declared.anchors.AnchorRow.{AnchorRow}
 use Rattle.bk_views.specs.declared.anchors.AnchorState.{AnchorState}
 use Rattle.bk_picture.specs.Fixed.{axes_text, desc_text, signs_text, style_text}
 use Rattle.bk_picture.specs.declared.picture.Cell.{Cell}
+use Rattle.bk_picture.specs.declared.picture.Circle.{Circle}
 use Rattle.bk_picture.specs.declared.picture.Class.{Class}
 use Rattle.bk_picture.specs.declared.picture.Class.TheVariants as class
 use Rattle.bk_picture.specs.declared.picture.Column.{Column}
@@ -116,10 +118,10 @@ note_words (Some row) =
     codes ", anchor " ++ state_word row.state ++ codes ", votes " ++ votes_word row.votes ++ codes " need " ++ decimal row.need
 
 -- the title of a certificate
-abbrev pub title_words : ℕ → ℕ → Class → Option AnchorRow → List ℕ
-title_words round member class anchor =
-    codes "round " ++ decimal round ++ codes " member " ++ decimal member ++ codes " " ++ class_word class
-    ++ note_words anchor
+abbrev pub title_words : ℕ → ℕ → Circle → Option AnchorRow → List ℕ
+title_words round member circle anchor =
+    codes "round " ++ decimal round ++ codes " member " ++ decimal member ++ codes " " ++ class_word circle.class
+    ++ note_words anchor ++ codes ", id " ++ encode_lower circle.id
 
 -- how a certificate's circle begins, and how any circle ends
 abbrev pub dot_head : Class → ℕ → List ℕ
@@ -130,9 +132,9 @@ abbrev pub circle_end : List ℕ
 circle_end = codes "</title></circle>\n"
 
 -- the line of a certificate's circle
-unfoldable pub dot_line : ℕ → ℕ → Class → Option AnchorRow → List ℕ
-dot_line round member class anchor =
-    dot_head class (height_of member) ++ (title_words round member class anchor ++ circle_end)
+unfoldable pub dot_line : ℕ → ℕ → Circle → Option AnchorRow → List ℕ
+dot_line round member circle anchor =
+    dot_head circle.class (height_of member) ++ (title_words round member circle anchor ++ circle_end)
 
 -- the row of a round, for the member that leads it
 abbrev pub anchor_of : Option AnchorRow → ℕ → Option AnchorRow
@@ -140,12 +142,12 @@ anchor_of None member = None
 anchor_of (Some row) member = if row.leader == member then Some row else None
 
 -- the circle of a cell, if it has one
-abbrev pub dot_text_of : ℕ → Option AnchorRow → ℕ → Option Class → List ℕ
+abbrev pub dot_text_of : ℕ → Option AnchorRow → ℕ → Option Circle → List ℕ
 dot_text_of round ring member None = []
-dot_text_of round ring member (Some class) = dot_line round member class (anchor_of ring member)
+dot_text_of round ring member (Some circle) = dot_line round member circle (anchor_of ring member)
 
 abbrev pub dot_text : ℕ → Option AnchorRow → Cell → List ℕ
-dot_text round ring cell = dot_text_of round ring cell.member cell.class
+dot_text round ring cell = dot_text_of round ring cell.member cell.circle
 
 -- the line of a ring round a leader's place; its title is the line of the anchor
 abbrev pub ring_head : AnchorState → ℕ → List ℕ

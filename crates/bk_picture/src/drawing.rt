@@ -4,6 +4,7 @@ ghost use Rattle.std.specs.Prelude.{◌≤◌, OnOk, IfOk, IfErr, string_bytes};
 ghost use Rattle.bk_frames.specs.Device.{CanBeUsed};
 ghost use Rattle.bk_commit.specs.Ordering.{IsCommitted};
 ghost use Rattle.bk_picture.specs.Drawing.{drawing_text};
+ghost use Rattle.bk_picture.specs.Picture.{HoldSame};
 ghost use Rattle.bk_picture.specs.private.Shows.{ShowsPicture, TextFails, WritesSome};
 
 use crate::picture::picture_of;
@@ -24,12 +25,13 @@ fn text_of(
     count: u32,
 ) -> Result<String, AllocError>
     requires committed { IsCommitted rounds.now.sizes rounds.now.held intake.now.ordered.anchors }
+    requires same { HoldSame intake.now.kept.certs rounds.now.held }
     requires first { (1 ≤ from) × (from ≤ 1000000) }
     requires few { count ≤ 1000 }
     ensures { IfOk result (λ text.
         ShowsPicture rounds.now intake.now from count (string_bytes text)) }
 {
-    let picture = picture_of(alloc, rounds, intake.anchors(), intake.order(), from, count)?;
+    let picture = picture_of(alloc, intake, rounds, from, count)?;
     let text = svg_of(alloc, &picture)?;
     Ok(text)
 }
@@ -45,6 +47,7 @@ fn write_picture<K: Sink>(
 ) -> Result<(), Fault>
     requires sound { CanBeUsed (K.state sink.old) }
     requires committed { IsCommitted rounds.now.sizes rounds.now.held intake.now.ordered.anchors }
+    requires same { HoldSame intake.now.kept.certs rounds.now.held }
     requires first { (1 ≤ from) × (from ≤ 1000000) }
     requires few { count ≤ 1000 }
     ensures out { OnOk result (WritesSome (ShowsPicture rounds.now intake.now from count)

@@ -17,5 +17,5 @@ mod svg;
 mod words;
 
 pub use drawing::Draw;
-pub use picture::{Cell, Class, Column, Picture, picture_of};
+pub use picture::{Cell, Circle, Class, Column, Picture, picture_of};
 pub use svg::svg_of;

@@ -2,12 +2,13 @@
 
 ghost use Rattle.std.specs.Prelude.{◌≤◌, IfOk};
 ghost use Rattle.bk_commit.specs.Ordering.{IsCommitted};
-ghost use Rattle.bk_picture.specs.Picture.{IsPictureOf, graph_with};
+ghost use Rattle.bk_picture.specs.Picture.{HoldSame, IsPictureOf, graph_of};
 
 use crate::columns::columns_of;
 use crate::last::{last_of, shown_of};
 use crate::marks::marks_of;
-use bk_cert::CertRef;
+use bk_digest::Digest32;
+use bk_order::Intake;
 use bk_rounds::{Members, Rounds};
 use bk_views::{AnchorRow, anchor_rows};
 use std::alloc::{AllocError, Global};
@@ -23,13 +24,22 @@ pub enum Class {
     Waiting,
 }
 
+/// A certificate that is held.
+#[derive(Clone, Copy, Debug, PartialEq, Eq)]
+pub struct Circle {
+    /// Its id: SHA-256 of the byte 0x10 and its header.
+    pub id: Digest32,
+    /// What became of it.
+    pub class: Class,
+}
+
 /// The place of a member in a round.
 #[derive(Clone, Copy)]
 pub struct Cell {
     /// The member.
     pub member: u8,
-    /// What became of its certificate, `None` where none is held.
-    pub class: Option<Class>,
+    /// Its certificate, `None` where none is held.
+    pub circle: Option<Circle>,
     /// The parents of its certificate, as members of the round before, where that round is drawn and the certificate is
     /// admitted.
     pub parents: Members,
@@ -63,28 +73,27 @@ pub struct Picture {
     pub columns: Vec<Column>,
 }
 
-/// The picture of `count` rounds from the round `from` on, or of fewer where the last round comes before, where these
-/// are the committed anchors and the certificates in order. O(members) for each round that is drawn, and for each two
-/// rounds up to the last; O(1) for each held certificate, and O(n log n) where n of them wait.
+/// The picture of `count` rounds from the round `from` on, or of fewer where the last round comes before, of what was
+/// taken, whose table of rounds this is. O(members) for each round that is drawn, and for each two rounds up to the last;
+/// O(log n) for each certificate that is drawn, O(1) for each other one that is held, and O(n log n) where n of them wait.
 pub fn picture_of(
     alloc: Global,
+    intake: &Intake,
     rounds: &Rounds,
-    anchors: &[CertRef],
-    order: &[CertRef],
     from: u32,
     count: u32,
 ) -> Result<Picture, AllocError>
-    requires committed { IsCommitted rounds.now.sizes rounds.now.held anchors.now }
+    requires committed { IsCommitted rounds.now.sizes rounds.now.held intake.now.ordered.anchors }
+    requires same { HoldSame intake.now.kept.certs rounds.now.held }
     requires first { (1 ≤ from) × (from ≤ 1000000) }
     requires few { count ≤ 1000 }
-    ensures { IfOk result (IsPictureOf (graph_with rounds.now.sizes rounds.now.held anchors.now
-        order.now) from count) }
+    ensures { IfOk result (IsPictureOf (graph_of rounds.now intake.now) from count) }
 {
     let last = last_of(rounds)?;
     let shown = shown_of(from, count, last);
-    let rows = anchor_rows(alloc, rounds, anchors)?;
-    let marks = marks_of(alloc, order, from, shown)?;
-    let columns = columns_of(alloc, rounds, &rows, &marks, from, shown)?;
+    let rows = anchor_rows(alloc, rounds, intake.anchors())?;
+    let marks = marks_of(alloc, intake.order(), from, shown)?;
+    let columns = columns_of(alloc, rounds, intake.held(), &rows, &marks, from, shown)?;
     Ok(Picture {
         from,
         count: shown,

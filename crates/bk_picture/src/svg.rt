@@ -7,7 +7,7 @@ ghost use Rattle.bk_picture.specs.Svg.{anchor_of, column_text, dot_head, key_hea
 
 use crate::fixed::push_signs;
 use crate::head::push_head;
-use crate::picture::{Cell, Class, Column, Picture};
+use crate::picture::{Cell, Circle, Class, Column, Picture};
 use crate::words::{Note, Title, height_of};
 use bk_views::{AnchorRow, AnchorState};
 use itoa::Buffer;
@@ -151,17 +151,17 @@ fn push_title(
     text: &mut String,
     round: u32,
     member: u8,
-    class: Class,
+    circle: Circle,
     anchor: Option<AnchorRow>,
 ) -> Result<(), AllocError>
     ensures { OnOk result (string_bytes text.new
-        ≡ string_bytes text.old ++ title_words round member class anchor) }
+        ≡ string_bytes text.old ++ title_words round member circle anchor) }
 {
     let note = Note { anchor };
     let title = Title {
         round,
         member,
-        class,
+        circle,
         note,
     };
     write!(text, "{title}")?;
@@ -173,15 +173,15 @@ fn push_circle(
     text: &mut String,
     round: u32,
     member: u8,
-    class: Class,
+    circle: Circle,
     anchor: Option<AnchorRow>,
 ) -> Result<(), AllocError>
     ensures { OnOk result (string_bytes text.new
-        ≡ string_bytes text.old ++ dot_line round member class anchor) }
+        ≡ string_bytes text.old ++ dot_line round member circle anchor) }
 {
     let y = height_of(member);
-    push_dot_head(text, class, y)?;
-    push_title(text, round, member, class, anchor)?;
+    push_dot_head(text, circle.class, y)?;
+    push_title(text, round, member, circle, anchor)?;
     text.push_str("</title></circle>\n")?;
     Ok(())
 }
@@ -196,10 +196,10 @@ fn push_dot(
     ensures { OnOk result (string_bytes text.new
         ≡ string_bytes text.old ++ dot_text round ring cell.now) }
 {
-    match cell.class {
-        Some(class) => {
+    match cell.circle {
+        Some(circle) => {
             let anchor = note_of(ring, cell.member);
-            push_circle(text, round, cell.member, class, anchor)
+            push_circle(text, round, cell.member, circle, anchor)
         }
         None => Ok(()),
     }

@@ -4,7 +4,7 @@ ghost use Rattle.std.specs.Prelude.{◌≡◌, ◌<◌, ◌^◌, Some};
 ghost use Rattle.bk_views.specs.Anchors.{votes_word};
 ghost use Rattle.bk_picture.specs.Svg.{class_word, height_of, note_words, title_words};
 
-use crate::picture::Class;
+use crate::picture::{Circle, Class};
 use bk_views::{AnchorRow, AnchorState};
 use std::fmt;
 
@@ -68,21 +68,22 @@ impl fmt::Display for Note {
 pub(crate) struct Title {
     pub round: u32,
     pub member: u8,
-    pub class: Class,
+    pub circle: Circle,
     pub note: Note,
 }
 
 impl fmt::Display for Title {
-    ghost output = { λ t. Some (title_words t.round t.member t.class t.note.anchor) };
+    ghost output = { λ t. Some (title_words t.round t.member t.circle t.note.anchor) };
 
     fn fmt<W: fmt::Write>(&self, f: &mut fmt::Formatter<W>) -> fmt::Result {
         let Title {
             round,
             member,
-            class,
+            circle,
             note,
         } = *self;
-        write!(f, "round {round} member {member} {class}{note}")
+        let Circle { id, class } = circle;
+        write!(f, "round {round} member {member} {class}{note}, id {id}")
     }
 }
 

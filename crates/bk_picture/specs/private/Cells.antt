@@ -1,9 +1,16 @@
 -- How cells and columns are found.
-use Rattle.std.specs.Prelude.{◌≡◌, ℕ, ◌+◌, ◌<◌, List, length, slice_index_or}
+use Rattle.std.specs.Prelude.{◌≡◌, ℕ, ◌+◌, ◌<◌, List, length, slice_index_or, Contains}
+use Rattle.bk_cert.specs.Node.{Node}
+use Rattle.bk_cert.specs.Place.{place_of}
+use Rattle.bk_cert.specs.declared.place.CertRef.{CertRef}
 use Rattle.bk_views.specs.declared.anchors.AnchorRow.{AnchorRow}
 use Rattle.bk_picture.specs.declared.picture.Cell.{Cell}
 use Rattle.bk_picture.specs.declared.picture.Column.{Column}
 use Rattle.bk_picture.specs.Picture.{Graph, IsCellOf, IsColumnOf, at_place}
+
+-- a certificate of this place is held
+abbrev pub IsPlaceIn : List Node → CertRef → Type 0
+IsPlaceIn held a = (c : Node) × Contains held c × (place_of c ≡ a)
 
 -- the cells of the first n members
 pub record AreCellsBelow (g : Graph) (from round n : ℕ) (cells : List Cell) : Type 0 where

@@ -7,14 +7,14 @@ use Rattle.bk_results.specs.declared.fault.Fault.{Fault}
 use Rattle.bk_results.specs.declared.fault.Fault.TheVariants as fault
 use Rattle.bk_results.specs.Devices.{IsUntouched}
 use Rattle.bk_rounds.specs.Rounds.{RoundsValue}
-use Rattle.bk_picture.specs.Picture.{IsPictureOf, graph_with}
+use Rattle.bk_picture.specs.Picture.{IsPictureOf, graph_of}
 use Rattle.bk_picture.specs.Svg.{svg_text}
 use Rattle.bk_picture.specs.declared.picture.Picture.{Picture}
 
 -- the text is that of the picture of what was taken
 pub record ShowsPicture (rounds : RoundsValue) (taken : Taken) (from count : ℕ) (text : List ℕ) : Type 0 where
   pub picture : Picture
-  pub is_picture : IsPictureOf (graph_with rounds.sizes rounds.held taken.ordered.anchors taken.ordered.order) from count picture
+  pub is_picture : IsPictureOf (graph_of rounds taken) from count picture
   pub text_is : text ≡ svg_text picture
 
 -- a text was written
