@@ -11,6 +11,7 @@ mod drawing;
 mod fixed;
 mod head;
 mod last;
+mod lines;
 mod marks;
 mod picture;
 mod svg;

@@ -2,7 +2,7 @@
 
 ghost use Rattle.std.specs.Prelude.{◌≡◌, ◌<◌, ◌^◌, Some};
 ghost use Rattle.bk_views.specs.Anchors.{votes_word};
-ghost use Rattle.bk_picture.specs.Svg.{class_word, height_of, note_words, title_words};
+ghost use Rattle.bk_picture.specs.Svg.{class_word, height_of, left_of, note_words, title_words};
 
 use crate::picture::{Circle, Class};
 use bk_views::{AnchorRow, AnchorState};
@@ -93,4 +93,11 @@ pub(crate) fn height_of(member: u8) -> u64
     ensures small { result < 2 ^ 16 }
 {
     28 * u64::from(member) + 82
+}
+
+/// Where the column of a round is.
+pub(crate) fn left_of(from: u32, round: u32) -> u64
+    ensures { result ≡ left_of from round }
+{
+    40 * u64::from(round.saturating_sub(from)) + 60
 }

@@ -3,7 +3,7 @@ use Rattle.std.specs.List.{flat_map}
 use Rattle.std.specs.Prelude.{string_bytes}
 use Rattle.bk_picture.specs.Svg.{left_of, links_text, parents_text, path_text, vote_path_text, vote_text}
 use Rattle.bk_picture.proofs.Puts.{same_items, same_number, then_put}
-use Rattle.bk_picture.proofs.svg.push_links.Goals as goal
+use Rattle.bk_picture.proofs.lines.push_links.Goals as goal
 
 pub returns : goal.returns
 unfolding links_text

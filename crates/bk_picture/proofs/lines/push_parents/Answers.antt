@@ -1,6 +1,6 @@
 use Rattle.std.specs.Prelude.{string_bytes}
 use Rattle.bk_picture.proofs.Segments.{no_segments, segments_more, all_segments}
-use Rattle.bk_picture.proofs.svg.push_parents.Goals as goal
+use Rattle.bk_picture.proofs.lines.push_parents.Goals as goal
 
 pub loop-parent-init : goal.loop-parent-init
 loop-parent-init c = no_segments c.args.cell.now.member c.args.cell.now.parents (string_bytes c.args.text.now)

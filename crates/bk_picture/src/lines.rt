@@ -1,0 +1,122 @@
+//! The lines of a picture to the parents of certificates.
+
+ghost use Rattle.std.specs.Prelude.{◌≡◌, ◌<◌, ◌++◌, OnOk, string_bytes};
+ghost use Rattle.std.specs.List.{flat_map};
+ghost use Rattle.bk_picture.specs.Svg.{links_text, parents_text, path_text, segment_if, segment_text, vote_path_text, vote_text};
+
+use crate::picture::{Cell, Column};
+use crate::words::{height_of, left_of};
+use itoa::Buffer;
+use std::alloc::AllocError;
+use std::fmt::Write;
+
+// Adds the line from a member's circle to that of a parent.
+fn push_segment(text: &mut String, member: u8, parent: u8) -> Result<(), AllocError>
+    ensures { OnOk result (string_bytes text.new
+        ≡ string_bytes text.old ++ segment_text member parent) }
+{
+    text.push_str("M0 ")?;
+    text.push_str(Buffer::new().format(height_of(member)))?;
+    text.push_str("L-40 ")?;
+    text.push_str(Buffer::new().format(height_of(parent)))?;
+    Ok(())
+}
+
+// Adds it, if the parent is one.
+fn push_parent(text: &mut String, cell: &Cell, parent: u8) -> Result<(), AllocError>
+    requires { parent < 128 }
+    ensures { OnOk result (string_bytes text.new
+        ≡ string_bytes text.old ++ segment_if cell.now.member cell.now.parents parent) }
+{
+    if cell.parents.has(parent) {
+        push_segment(text, cell.member, parent)?;
+    }
+    Ok(())
+}
+
+// Adds the lines to all parents of a cell.
+fn push_parents(text: &mut String, cell: &Cell) -> Result<(), AllocError>
+    ensures { OnOk result (string_bytes text.new ≡ string_bytes text.old ++ parents_text cell.now) }
+{
+    for parent in 0..128 {
+        push_parent(text, cell, parent)?;
+    }
+    Ok(())
+}
+
+// Adds the line to the parent that a cell votes for.
+fn push_vote(text: &mut String, cell: &Cell) -> Result<(), AllocError>
+    ensures { OnOk result (string_bytes text.new ≡ string_bytes text.old ++ vote_text cell.now) }
+{
+    match cell.vote {
+        Some(parent) => push_segment(text, cell.member, parent),
+        None => Ok(()),
+    }
+}
+
+// Adds the lines to all parents of a column.
+fn push_all_parents(text: &mut String, cells: &[Cell]) -> Result<(), AllocError>
+    ensures { OnOk result (string_bytes text.new
+        ≡ string_bytes text.old ++ flat_map parents_text cells.now) }
+{
+    for cell in cells {
+        push_parents(text, cell)?;
+    }
+    Ok(())
+}
+
+// Adds the lines of all its votes.
+fn push_votes(text: &mut String, cells: &[Cell]) -> Result<(), AllocError>
+    ensures { OnOk result (string_bytes text.new
+        ≡ string_bytes text.old ++ flat_map vote_text cells.now) }
+{
+    for cell in cells {
+        push_vote(text, cell)?;
+    }
+    Ok(())
+}
+
+// Begins the path of the lines to all parents.
+fn push_path(text: &mut String, x: u64) -> Result<(), AllocError>
+    ensures { OnOk result (string_bytes text.new ≡ string_bytes text.old ++ path_text x) }
+{
+    write!(text, "<path class='l' transform='translate({x})' d='")?;
+    Ok(())
+}
+
+// Ends it, and begins that of the votes.
+fn push_vote_path(text: &mut String, x: u64) -> Result<(), AllocError>
+    ensures { OnOk result (string_bytes text.new ≡ string_bytes text.old ++ vote_path_text x) }
+{
+    write!(text, "'/>\n<path class='v' transform='translate({x})' d='")?;
+    Ok(())
+}
+
+// Adds the two paths of a column.
+fn push_links(text: &mut String, from: u32, column: &Column) -> Result<(), AllocError>
+    ensures { OnOk result (string_bytes text.new
+        ≡ string_bytes text.old ++ links_text from column.now) }
+{
+    let x = left_of(from, column.round);
+    push_path(text, x)?;
+    push_all_parents(text, &column.cells)?;
+    push_vote_path(text, x)?;
+    push_votes(text, &column.cells)?;
+    text.push_str("'/>\n")?;
+    Ok(())
+}
+
+/// Adds the paths of all columns.
+pub(crate) fn push_all_links(
+    text: &mut String,
+    from: u32,
+    columns: &[Column],
+) -> Result<(), AllocError>
+    ensures { OnOk result (string_bytes text.new
+        ≡ string_bytes text.old ++ flat_map (links_text from) columns.now) }
+{
+    for column in columns {
+        push_links(text, from, column)?;
+    }
+    Ok(())
+}
