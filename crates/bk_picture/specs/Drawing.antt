@@ -1,5 +1,5 @@
 -- The picture of a feed, read off its frames alone.
-use Rattle.std.specs.Prelude.{◌≡◌, ℕ, List}
+use Rattle.std.specs.Prelude.{◌≡◌, ℕ, List, Option}
 use Rattle.bk_base.specs.Feed.{FeedValue}
 use Rattle.bk_committee.specs.Payload.{sizes_of}
 use Rattle.bk_order.specs.Frames.{AreCerts}
@@ -7,6 +7,7 @@ use Rattle.bk_order.specs.Orders.{Ordered}
 use Rattle.bk_answer.specs.RunReport.{HasNoStopIn, IsOrderIn, committee_in, later_frames}
 use Rattle.bk_picture.specs.Picture.{Graph, IsPictureOf}
 use Rattle.bk_picture.specs.Svg.{svg_text}
+use Rattle.bk_picture.specs.declared.links.Links.{Links}
 use Rattle.bk_picture.specs.declared.picture.Picture.{Picture}
 
 -- what a picture of a feed is read off: the sizes of its committee, its certificates that break no rule, and its order
@@ -19,15 +20,15 @@ pub record IsGraphOf (feed : FeedValue) (g : Graph) : Type 0 where
   pub order : g.order ≡ ordered.order
 
 -- nothing stops the feed, and this is the text of its picture, of `count` rounds from the round `from` on, as far as it has
--- them
-pub record IsDrawingOf (feed : FeedValue) (from count : ℕ) (text : List ℕ) : Type 0 where
+-- them, with the links that are asked for
+pub record IsDrawingOf (feed : FeedValue) (from count : ℕ) (asked : Option Links) (text : List ℕ) : Type 0 where
   pub clear : HasNoStopIn feed
   pub graph : Graph
   pub is_graph : IsGraphOf feed graph
   pub picture : Picture
-  pub is_picture : IsPictureOf graph from count picture
+  pub is_picture : IsPictureOf graph from count asked picture
   pub text_is : text ≡ svg_text picture
 
 -- the same as what a feed answers: it ends in one way
-abbrev pub drawing_text : ℕ → ℕ → FeedValue → Unit {0} → List ℕ → Type 0
-drawing_text from count feed end text = IsDrawingOf feed from count text
+abbrev pub drawing_text : ℕ → ℕ → Option Links → FeedValue → Unit {0} → List ℕ → Type 0
+drawing_text from count asked feed end text = IsDrawingOf feed from count asked text

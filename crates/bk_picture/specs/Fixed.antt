@@ -9,7 +9,8 @@ desc_text =
     ++ codes "and one with a broken outline waits for a parent. Where there is no circle, it is absent or rejected.\n"
     ++ codes "A ring is round the place of the leader of an odd round: thick if the anchor is voted,\n"
     ++ codes "in long dashes if it is linked, in dots if it is skipped, thin if it is open.\n"
-    ++ codes "A line leads to a parent of the round before; a thick one is a vote for an anchor.</desc>\n"
+    ++ codes "A line leads to a parent of the round before; a thick one is a vote for an anchor.\n"
+    ++ codes "The title says if some lines are left out.</desc>\n"
 
 -- the style sheet, for light and dark backgrounds, and the background
 unfoldable pub style_text : List ℕ
@@ -29,7 +30,7 @@ style_text =
     ++ codes "</style>\n"
     ++ codes "<rect class='b' width='100%' height='100%'/>\n"
 
--- the signs of the key, each with its name: what became of a certificate, what became of an anchor, and the lines
+-- the signs of the key, each with its name: what became of a certificate, and what became of an anchor
 unfoldable pub signs_text : List ℕ
 signs_text =
     codes "<circle class='ordered' r='6'/><text x='18' y='4'>ordered</text>\n"
@@ -39,8 +40,13 @@ signs_text =
     ++ codes "<circle class='linked' cx='120' cy='24' r='10'/><text x='138' y='28'>linked</text>\n"
     ++ codes "<circle class='skipped' cx='120' cy='48' r='10'/><text x='138' y='52'>skipped</text>\n"
     ++ codes "<circle class='open' cx='120' cy='72' r='10'/><text x='138' y='76'>open</text>\n"
-    ++ codes "<path class='l' d='M230 0h24'/><text x='262' y='4'>parent</text>\n"
-    ++ codes "<path class='v' d='M230 24h24'/><text x='262' y='28'>vote</text>\n"
+
+-- and those of the lines
+unfoldable pub vote_sign : List ℕ
+vote_sign = codes "<path class='v' d='M230 0h24'/><text x='262' y='4'>vote</text>\n"
+
+unfoldable pub parent_sign : List ℕ
+parent_sign = codes "<path class='l' d='M230 24h24'/><text x='262' y='28'>parent</text>\n"
 
 -- the names of the axes: over the numbers of the rounds, and beside those of the members
 unfoldable pub axes_text : List ℕ

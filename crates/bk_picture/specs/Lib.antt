@@ -1,3 +1,4 @@
+pub mod Links
 pub mod Picture
 pub mod Fixed
 pub mod Svg

@@ -13,6 +13,8 @@ use Rattle.bk_order.specs.Intake.{Taken}
 use Rattle.bk_evidence.specs.Twins.{IsIdAt}
 use Rattle.bk_views.specs.Anchors.{AreRows}
 use Rattle.bk_views.specs.declared.anchors.AnchorRow.{AnchorRow}
+use Rattle.bk_picture.specs.Links.{links_for}
+use Rattle.bk_picture.specs.declared.links.Links.{Links as Drawn}
 use Rattle.bk_picture.specs.declared.picture.Cell.{Cell}
 use Rattle.bk_picture.specs.declared.picture.Circle.{Circle}
 use Rattle.bk_picture.specs.declared.picture.Class.{Class}
@@ -111,12 +113,13 @@ pub record IsLastRound (held : List Node) (last : ℕ) : Type 0 where
 abbrev pub rounds_shown : ℕ → ℕ → ℕ → ℕ
 rounds_shown from count last = min count (last + 1 - from)
 
--- the picture of `count` rounds from the round `from` on, as far as there are so many
-pub record IsPictureOf (g : Graph) (from count : ℕ) (p : Picture) : Type 0 where
+-- the picture of `count` rounds from the round `from` on, as far as there are so many, with the links that are asked for
+pub record IsPictureOf (g : Graph) (from count : ℕ) (asked : Option Drawn) (p : Picture) : Type 0 where
   pub from_is : p.from ≡ from
   pub last_is : IsLastRound g.held p.last
   pub count_is : p.count ≡ rounds_shown from count p.last
   pub members_are : p.members ≡ members g.sizes
+  pub links_are : p.links ≡ links_for asked p.members
   pub rows : List AnchorRow
   pub are_rows : AreRows g.sizes g.held g.anchors rows
   pub columns : AreColumnsOf g rows from p.count p.columns.items

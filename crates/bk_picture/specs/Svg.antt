@@ -6,7 +6,9 @@ use Rattle.hex.specs.Hex.{encode_lower}
 use Rattle.bk_views.specs.Anchors.{row_text, state_word, votes_word}
 use Rattle.bk_views.specs.declared.anchors.AnchorRow.{AnchorRow}
 use Rattle.bk_views.specs.declared.anchors.AnchorState.{AnchorState}
-use Rattle.bk_picture.specs.Fixed.{axes_text, desc_text, signs_text, style_text}
+use Rattle.bk_picture.specs.Fixed.{axes_text, desc_text, parent_sign, signs_text, style_text, vote_sign}
+use Rattle.bk_picture.specs.declared.links.Links.{Links}
+use Rattle.bk_picture.specs.declared.links.Links.TheVariants as links
 use Rattle.bk_picture.specs.declared.picture.Cell.{Cell}
 use Rattle.bk_picture.specs.declared.picture.Circle.{Circle}
 use Rattle.bk_picture.specs.declared.picture.Class.{Class}
@@ -43,10 +45,17 @@ span_words from count =
     if count == 0 then (codes "no rounds from " ++ decimal from ++ codes " on")
     else (codes "rounds " ++ decimal from ++ codes " to " ++ decimal (from + count - 1))
 
--- the name: which rounds are drawn of how many, and of how many members
-abbrev pub name_words : ℕ → ℕ → ℕ → ℕ → List ℕ
-name_words from count last members =
-    span_words from count ++ (codes " of " ++ (decimal last ++ (codes ", " ++ (decimal members ++ codes " members"))))
+-- that lines are left out, and which are not
+abbrev pub links_words : Links → List ℕ
+links_words links.All = []
+links_words links.Votes = codes ", votes alone"
+links_words links.Hidden = codes ", no lines"
+
+-- the name: which rounds are drawn of how many, of how many members, and whether lines are left out
+abbrev pub name_words : ℕ → ℕ → ℕ → ℕ → Links → List ℕ
+name_words from count last members drawn =
+    span_words from count ++ (codes " of " ++ (decimal last ++ (codes ", " ++ (decimal members
+    ++ (codes " members" ++ links_words drawn)))))
 
 -- the title and the heading are this name
 abbrev pub title_line : List ℕ → List ℕ
@@ -60,7 +69,7 @@ unfoldable pub name_text : List ℕ → List ℕ
 name_text name = title_line name ++ (desc_text ++ (style_text ++ (heading_line name ++ axes_text)))
 
 unfoldable pub head_text : Picture → List ℕ
-head_text p = head_line p.count p.members ++ name_text (name_words p.from p.count p.last p.members)
+head_text p = head_line p.count p.members ++ name_text (name_words p.from p.count p.last p.members p.links)
 
 -- ---- the lines to parents
 
@@ -90,18 +99,32 @@ vote_text_of member (Some parent) = segment_text member parent
 abbrev pub vote_text : Cell → List ℕ
 vote_text cell = vote_text_of cell.member cell.vote
 
--- the beginning of the path of all lines of a column, and where it ends and that of the votes begins
-abbrev pub path_text : ℕ → List ℕ
-path_text x = codes "<path class='l' transform='translate(" ++ decimal x ++ codes ")' d='"
+-- how a path of lines to parents begins, how one of votes does, and how any ends
+abbrev pub parents_head : ℕ → List ℕ
+parents_head x = codes "<path class='l' transform='translate(" ++ decimal x ++ codes ")' d='"
 
-abbrev pub vote_path_text : ℕ → List ℕ
-vote_path_text x = codes "'/>\n<path class='v' transform='translate(" ++ decimal x ++ codes ")' d='"
+abbrev pub votes_head : ℕ → List ℕ
+votes_head x = codes "<path class='v' transform='translate(" ++ decimal x ++ codes ")' d='"
 
--- the paths of a column: one of the lines to all parents, and one of those that are votes
-unfoldable pub links_text : ℕ → Column → List ℕ
-links_text from column =
-    path_text (left_of from column.round) ++ (flat_map parents_text column.cells.items
-    ++ (vote_path_text (left_of from column.round) ++ (flat_map vote_text column.cells.items ++ codes "'/>\n")))
+abbrev pub path_end : List ℕ
+path_end = codes "'/>\n"
+
+-- the path of the lines to all parents of some cells, and that of those that are votes
+unfoldable pub parents_path : ℕ → List Cell → List ℕ
+parents_path x cells = parents_head x ++ (flat_map parents_text cells ++ path_end)
+
+unfoldable pub votes_path : ℕ → List Cell → List ℕ
+votes_path x cells = votes_head x ++ (flat_map vote_text cells ++ path_end)
+
+-- the paths of the lines that are drawn
+abbrev pub lines_text : Links → ℕ → List Cell → List ℕ
+lines_text links.All x cells = parents_path x cells ++ votes_path x cells
+lines_text links.Votes x cells = votes_path x cells
+lines_text links.Hidden x cells = []
+
+-- the lines of a column
+abbrev pub links_text : Links → ℕ → Column → List ℕ
+links_text drawn from column = lines_text drawn (left_of from column.round) column.cells.items
 
 -- ---- the circles
 
@@ -186,12 +209,19 @@ members_text (suc member) = members_text member ++ label_text (height_of member 
 abbrev pub key_head : ℕ → List ℕ
 key_head y = codes "<g class='k' transform='translate(60 " ++ decimal y ++ codes ")'>\n"
 
-unfoldable pub key_text : ℕ → List ℕ
-key_text members = key_head (height_of members + 20) ++ (signs_text ++ codes "</g>\n</svg>\n")
+-- the signs of the lines that are drawn
+abbrev pub line_signs : Links → List ℕ
+line_signs links.All = vote_sign ++ parent_sign
+line_signs links.Votes = vote_sign
+line_signs links.Hidden = []
+
+unfoldable pub key_text : ℕ → Links → List ℕ
+key_text members drawn =
+    key_head (height_of members + 20) ++ (signs_text ++ (line_signs drawn ++ codes "</g>\n</svg>\n"))
 
 -- ---- the whole
 
 abbrev pub svg_text : Picture → List ℕ
 svg_text p =
-    head_text p ++ (flat_map (links_text p.from) p.columns.items ++ (flat_map (column_text p.from) p.columns.items
-    ++ (members_text p.members ++ key_text p.members)))
+    head_text p ++ (flat_map (links_text p.links p.from) p.columns.items ++ (flat_map (column_text p.from) p.columns.items
+    ++ (members_text p.members ++ key_text p.members p.links)))

@@ -7,6 +7,7 @@ ghost use Rattle.bk_picture.specs.Drawing.{drawing_text};
 ghost use Rattle.bk_picture.specs.Picture.{HoldSame};
 ghost use Rattle.bk_picture.specs.private.Shows.{ShowsPicture, TextFails, WritesSome};
 
+use crate::links::Links;
 use crate::picture::picture_of;
 use crate::svg::svg_of;
 use bk_answer::{ClosedOrder, OrderAnswer};
@@ -23,15 +24,16 @@ fn text_of(
     rounds: &Rounds,
     from: u32,
     count: u32,
+    links: Option<Links>,
 ) -> Result<String, AllocError>
     requires committed { IsCommitted rounds.now.sizes rounds.now.held intake.now.ordered.anchors }
     requires same { HoldSame intake.now.kept.certs rounds.now.held }
     requires first { (1 ≤ from) × (from ≤ 1000000) }
     requires few { count ≤ 1000 }
     ensures { IfOk result (λ text.
-        ShowsPicture rounds.now intake.now from count (string_bytes text)) }
+        ShowsPicture rounds.now intake.now from count links (string_bytes text)) }
 {
-    let picture = picture_of(alloc, intake, rounds, from, count)?;
+    let picture = picture_of(alloc, intake, rounds, from, count, links)?;
     let text = svg_of(alloc, &picture)?;
     Ok(text)
 }
@@ -44,18 +46,19 @@ fn write_picture<K: Sink>(
     rounds: &Rounds,
     from: u32,
     count: u32,
+    links: Option<Links>,
 ) -> Result<(), Fault>
     requires sound { CanBeUsed (K.state sink.old) }
     requires committed { IsCommitted rounds.now.sizes rounds.now.held intake.now.ordered.anchors }
     requires same { HoldSame intake.now.kept.certs rounds.now.held }
     requires first { (1 ≤ from) × (from ≤ 1000000) }
     requires few { count ≤ 1000 }
-    ensures out { OnOk result (WritesSome (ShowsPicture rounds.now intake.now from count)
+    ensures out { OnOk result (WritesSome (ShowsPicture rounds.now intake.now from count links)
         (K.state sink.old) (K.state sink.new)) }
-    ensures fault { IfErr result (TextFails (ShowsPicture rounds.now intake.now from count)
+    ensures fault { IfErr result (TextFails (ShowsPicture rounds.now intake.now from count links)
         (K.state sink.old) (K.state sink.new)) }
 {
-    let text = text_of(alloc, intake, rounds, from, count)?;
+    let text = text_of(alloc, intake, rounds, from, count, links)?;
     push_all(sink, text.as_bytes())?;
     Ok(())
 }
@@ -66,6 +69,9 @@ fn write_picture<K: Sink>(
 pub struct Draw {
     pub from: u32,
     pub count: u32,
+    /// Which links are drawn. Where none are named: all of up to [`MOST_LINKED`](crate::MOST_LINKED) members, and of more
+    /// the votes alone.
+    pub links: Option<Links>,
 }
 
 impl OrderAnswer for Draw {
@@ -73,7 +79,7 @@ impl OrderAnswer for Draw {
 
     ghost can_ask = { λ d. (1 ≤ d.from) × (d.from ≤ 1000000) × (1 ≤ d.count) × (d.count ≤ 1000) };
 
-    ghost text = { λ d. drawing_text d.from d.count };
+    ghost text = { λ d. drawing_text d.from d.count d.links };
 
     fn write<K: Sink>(
         &self,
@@ -82,7 +88,7 @@ impl OrderAnswer for Draw {
         sink: &mut K,
     ) -> Result<(), Fault> {
         let rounds = order.rounds();
-        let Draw { from, count } = *self;
-        write_picture(alloc, sink, order.intake, rounds, from, count)
+        let Draw { from, count, links } = *self;
+        write_picture(alloc, sink, order.intake, rounds, from, count, links)
     }
 }

@@ -1,7 +1,7 @@
 //! The fixed parts of a picture's text.
 
 ghost use Rattle.std.specs.Prelude.{◌≡◌, ◌++◌, OnOk, string_bytes};
-ghost use Rattle.bk_picture.specs.Fixed.{axes_text, desc_text, signs_text, style_text};
+ghost use Rattle.bk_picture.specs.Fixed.{axes_text, desc_text, parent_sign, signs_text, style_text, vote_sign};
 
 use std::alloc::AllocError;
 
@@ -11,7 +11,8 @@ const DESC: &str = "<desc>A column for each round, a row for each member.\n\
     or rejected.\n\
     A ring is round the place of the leader of an odd round: thick if the anchor is voted,\n\
     in long dashes if it is linked, in dots if it is skipped, thin if it is open.\n\
-    A line leads to a parent of the round before; a thick one is a vote for an anchor.</desc>\n\
+    A line leads to a parent of the round before; a thick one is a vote for an anchor.\n\
+    The title says if some lines are left out.</desc>\n\
     ";
 
 const STYLE: &str = "<style>\n\
@@ -44,9 +45,11 @@ const SIGNS: &str = "<circle class='ordered' r='6'/><text x='18' y='4'>ordered</
     <circle class='linked' cx='120' cy='24' r='10'/><text x='138' y='28'>linked</text>\n\
     <circle class='skipped' cx='120' cy='48' r='10'/><text x='138' y='52'>skipped</text>\n\
     <circle class='open' cx='120' cy='72' r='10'/><text x='138' y='76'>open</text>\n\
-    <path class='l' d='M230 0h24'/><text x='262' y='4'>parent</text>\n\
-    <path class='v' d='M230 24h24'/><text x='262' y='28'>vote</text>\n\
     ";
+
+const VOTE: &str = "<path class='v' d='M230 0h24'/><text x='262' y='4'>vote</text>\n";
+
+const PARENT: &str = "<path class='l' d='M230 24h24'/><text x='262' y='28'>parent</text>\n";
 
 /// Adds what the signs mean.
 #[tactic(auto, unfolding(crate::specs::Fixed::desc_text))]
@@ -75,11 +78,29 @@ pub(crate) fn push_axes(text: &mut String) -> Result<(), AllocError>
     Ok(())
 }
 
-/// Adds the signs of the key.
+/// Adds the signs of the key that are circles.
 #[tactic(auto, unfolding(crate::specs::Fixed::signs_text))]
 pub(crate) fn push_signs(text: &mut String) -> Result<(), AllocError>
     ensures { OnOk result (string_bytes text.new ≡ string_bytes text.old ++ signs_text) }
 {
     text.push_str(SIGNS)?;
+    Ok(())
+}
+
+/// Adds the sign of a vote.
+#[tactic(auto, unfolding(crate::specs::Fixed::vote_sign))]
+pub(crate) fn push_vote_sign(text: &mut String) -> Result<(), AllocError>
+    ensures { OnOk result (string_bytes text.new ≡ string_bytes text.old ++ vote_sign) }
+{
+    text.push_str(VOTE)?;
+    Ok(())
+}
+
+/// Adds the sign of a line to a parent.
+#[tactic(auto, unfolding(crate::specs::Fixed::parent_sign))]
+pub(crate) fn push_parent_sign(text: &mut String) -> Result<(), AllocError>
+    ensures { OnOk result (string_bytes text.new ≡ string_bytes text.old ++ parent_sign) }
+{
+    text.push_str(PARENT)?;
     Ok(())
 }

@@ -1,9 +1,10 @@
 //! The head of a picture's text.
 
 ghost use Rattle.std.specs.Prelude.{◌≡◌, ◌++◌, OnOk, Some, string_bytes};
-ghost use Rattle.bk_picture.specs.Svg.{head_line, head_text, heading_line, name_text, name_words, size_words, span_words, title_line};
+ghost use Rattle.bk_picture.specs.Svg.{head_line, head_text, heading_line, links_words, name_text, name_words, size_words, span_words, title_line};
 
 use crate::fixed::{push_axes, push_desc, push_style};
+use crate::links::Links;
 use crate::picture::Picture;
 use std::alloc::AllocError;
 use std::fmt;
@@ -69,24 +70,44 @@ impl fmt::Display for Span {
     }
 }
 
+// That lines are left out, and which are not.
+#[derive(Clone, Copy)]
+struct LinksNote {
+    links: Links,
+}
+
+impl fmt::Display for LinksNote {
+    ghost output = { λ n. Some (links_words n.links) };
+
+    fn fmt<W: fmt::Write>(&self, f: &mut fmt::Formatter<W>) -> fmt::Result {
+        match self.links {
+            Links::All => Ok(()),
+            Links::Votes => write!(f, ", votes alone"),
+            Links::Hidden => write!(f, ", no lines"),
+        }
+    }
+}
+
 // The name of a picture.
 #[derive(Clone, Copy)]
 struct Name {
     span: Span,
     last: u32,
     members: u8,
+    note: LinksNote,
 }
 
 impl fmt::Display for Name {
-    ghost output = { λ n. Some (name_words n.span.from n.span.count n.last n.members) };
+    ghost output = { λ n. Some (name_words n.span.from n.span.count n.last n.members n.note.links) };
 
     fn fmt<W: fmt::Write>(&self, f: &mut fmt::Formatter<W>) -> fmt::Result {
         let Name {
             span,
             last,
             members,
+            note,
         } = *self;
-        write!(f, "{span} of {last}, {members} members")
+        write!(f, "{span} of {last}, {members} members{note}")
     }
 }
 
@@ -102,7 +123,7 @@ fn push_size(text: &mut String, count: u32, members: u8) -> Result<(), AllocErro
 // Adds the title.
 fn push_name(text: &mut String, name: Name) -> Result<(), AllocError>
     ensures { OnOk result (string_bytes text.new ≡ string_bytes text.old
-        ++ title_line (name_words name.span.from name.span.count name.last name.members)) }
+        ++ title_line (name_words name.span.from name.span.count name.last name.members name.note.links)) }
 {
     write!(text, "\n<title>{name}</title>\n")?;
     Ok(())
@@ -111,7 +132,7 @@ fn push_name(text: &mut String, name: Name) -> Result<(), AllocError>
 // Adds the heading.
 fn push_heading(text: &mut String, name: Name) -> Result<(), AllocError>
     ensures { OnOk result (string_bytes text.new ≡ string_bytes text.old
-        ++ heading_line (name_words name.span.from name.span.count name.last name.members)) }
+        ++ heading_line (name_words name.span.from name.span.count name.last name.members name.note.links)) }
 {
     write!(text, "<text class='h' x='16' y='20'>{name}</text>\n")?;
     Ok(())
@@ -120,7 +141,7 @@ fn push_heading(text: &mut String, name: Name) -> Result<(), AllocError>
 // Adds what has the name in it, and all between.
 fn push_names(text: &mut String, name: Name) -> Result<(), AllocError>
     ensures { OnOk result (string_bytes text.new ≡ string_bytes text.old
-        ++ name_text (name_words name.span.from name.span.count name.last name.members)) }
+        ++ name_text (name_words name.span.from name.span.count name.last name.members name.note.links)) }
 {
     push_name(text, name)?;
     push_desc(text)?;
@@ -139,6 +160,7 @@ pub(crate) fn push_head(text: &mut String, picture: &Picture) -> Result<(), Allo
         count,
         last,
         members,
+        links,
         ..
     } = *picture;
     push_size(text, count, members)?;
@@ -149,6 +171,7 @@ pub(crate) fn push_head(text: &mut String, picture: &Picture) -> Result<(), Allo
             span,
             last,
             members,
+            note: LinksNote { links },
         },
     )?;
     Ok(())

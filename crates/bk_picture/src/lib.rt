@@ -12,11 +12,13 @@ mod fixed;
 mod head;
 mod last;
 mod lines;
+mod links;
 mod marks;
 mod picture;
 mod svg;
 mod words;
 
 pub use drawing::Draw;
+pub use links::{Links, MOST_LINKED};
 pub use picture::{Cell, Circle, Class, Column, Picture, picture_of};
 pub use svg::svg_of;

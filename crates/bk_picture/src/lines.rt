@@ -2,8 +2,9 @@
 
 ghost use Rattle.std.specs.Prelude.{◌≡◌, ◌<◌, ◌++◌, OnOk, string_bytes};
 ghost use Rattle.std.specs.List.{flat_map};
-ghost use Rattle.bk_picture.specs.Svg.{links_text, parents_text, path_text, segment_if, segment_text, vote_path_text, vote_text};
+ghost use Rattle.bk_picture.specs.Svg.{lines_text, links_text, parents_head, parents_path, parents_text, segment_if, segment_text, vote_text, votes_head, votes_path};
 
+use crate::links::Links;
 use crate::picture::{Cell, Column};
 use crate::words::{height_of, left_of};
 use itoa::Buffer;
@@ -77,46 +78,78 @@ fn push_votes(text: &mut String, cells: &[Cell]) -> Result<(), AllocError>
 }
 
 // Begins the path of the lines to all parents.
-fn push_path(text: &mut String, x: u64) -> Result<(), AllocError>
-    ensures { OnOk result (string_bytes text.new ≡ string_bytes text.old ++ path_text x) }
+fn push_parents_head(text: &mut String, x: u64) -> Result<(), AllocError>
+    ensures { OnOk result (string_bytes text.new ≡ string_bytes text.old ++ parents_head x) }
 {
     write!(text, "<path class='l' transform='translate({x})' d='")?;
     Ok(())
 }
 
-// Ends it, and begins that of the votes.
-fn push_vote_path(text: &mut String, x: u64) -> Result<(), AllocError>
-    ensures { OnOk result (string_bytes text.new ≡ string_bytes text.old ++ vote_path_text x) }
+// Begins that of the votes.
+fn push_votes_head(text: &mut String, x: u64) -> Result<(), AllocError>
+    ensures { OnOk result (string_bytes text.new ≡ string_bytes text.old ++ votes_head x) }
 {
-    write!(text, "'/>\n<path class='v' transform='translate({x})' d='")?;
+    write!(text, "<path class='v' transform='translate({x})' d='")?;
     Ok(())
 }
 
-// Adds the two paths of a column.
-fn push_links(text: &mut String, from: u32, column: &Column) -> Result<(), AllocError>
+// Adds the path of the lines to all parents.
+fn push_parents_path(text: &mut String, x: u64, cells: &[Cell]) -> Result<(), AllocError>
     ensures { OnOk result (string_bytes text.new
-        ≡ string_bytes text.old ++ links_text from column.now) }
+        ≡ string_bytes text.old ++ parents_path x cells.now) }
 {
-    let x = left_of(from, column.round);
-    push_path(text, x)?;
-    push_all_parents(text, &column.cells)?;
-    push_vote_path(text, x)?;
-    push_votes(text, &column.cells)?;
+    push_parents_head(text, x)?;
+    push_all_parents(text, cells)?;
     text.push_str("'/>\n")?;
     Ok(())
 }
 
-/// Adds the paths of all columns.
+// Adds that of the votes.
+fn push_votes_path(text: &mut String, x: u64, cells: &[Cell]) -> Result<(), AllocError>
+    ensures { OnOk result (string_bytes text.new ≡ string_bytes text.old ++ votes_path x cells.now) }
+{
+    push_votes_head(text, x)?;
+    push_votes(text, cells)?;
+    text.push_str("'/>\n")?;
+    Ok(())
+}
+
+// Adds the paths of the lines that are drawn.
+fn push_lines(text: &mut String, links: Links, x: u64, cells: &[Cell]) -> Result<(), AllocError>
+    ensures { OnOk result (string_bytes text.new
+        ≡ string_bytes text.old ++ lines_text links x cells.now) }
+{
+    match links {
+        Links::All => {
+            push_parents_path(text, x, cells)?;
+            push_votes_path(text, x, cells)
+        }
+        Links::Votes => push_votes_path(text, x, cells),
+        Links::Hidden => Ok(()),
+    }
+}
+
+// Adds the lines of a column.
+fn push_links(text: &mut String, links: Links, from: u32, column: &Column) -> Result<(), AllocError>
+    ensures { OnOk result (string_bytes text.new
+        ≡ string_bytes text.old ++ links_text links from column.now) }
+{
+    let x = left_of(from, column.round);
+    push_lines(text, links, x, &column.cells)
+}
+
+/// Adds those of all columns.
 pub(crate) fn push_all_links(
     text: &mut String,
+    links: Links,
     from: u32,
     columns: &[Column],
 ) -> Result<(), AllocError>
     ensures { OnOk result (string_bytes text.new
-        ≡ string_bytes text.old ++ flat_map (links_text from) columns.now) }
+        ≡ string_bytes text.old ++ flat_map (links_text links from) columns.now) }
 {
     for column in columns {
-        push_links(text, from, column)?;
+        push_links(text, links, from, column)?;
     }
     Ok(())
 }

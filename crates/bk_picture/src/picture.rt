@@ -6,6 +6,7 @@ ghost use Rattle.bk_picture.specs.Picture.{HoldSame, IsPictureOf, graph_of};
 
 use crate::columns::columns_of;
 use crate::last::{last_of, shown_of};
+use crate::links::{Links, links_of};
 use crate::marks::marks_of;
 use bk_digest::Digest32;
 use bk_order::Intake;
@@ -69,12 +70,15 @@ pub struct Picture {
     pub last: u32,
     /// How many members there are.
     pub members: u8,
+    /// Which links are drawn.
+    pub links: Links,
     /// A column for each round, in their order.
     pub columns: Vec<Column>,
 }
 
 /// The picture of `count` rounds from the round `from` on, or of fewer where the last round comes before, of what was
-/// taken, whose table of rounds this is. O(members) for each round that is drawn, and for each two rounds up to the last;
+/// taken, whose table of rounds this is, with the links that are asked for: where none are named all of up to
+/// [`MOST_LINKED`](crate::MOST_LINKED) members, and of more the votes alone. O(members) for each round that is drawn, and for each two rounds up to the last;
 /// O(log n) for each certificate that is drawn, O(1) for each other one that is held, and O(n log n) where n of them wait.
 pub fn picture_of(
     alloc: Global,
@@ -82,23 +86,26 @@ pub fn picture_of(
     rounds: &Rounds,
     from: u32,
     count: u32,
+    links: Option<Links>,
 ) -> Result<Picture, AllocError>
     requires committed { IsCommitted rounds.now.sizes rounds.now.held intake.now.ordered.anchors }
     requires same { HoldSame intake.now.kept.certs rounds.now.held }
     requires first { (1 ≤ from) × (from ≤ 1000000) }
     requires few { count ≤ 1000 }
-    ensures { IfOk result (IsPictureOf (graph_of rounds.now intake.now) from count) }
+    ensures { IfOk result (IsPictureOf (graph_of rounds.now intake.now) from count links) }
 {
     let last = last_of(rounds)?;
     let shown = shown_of(from, count, last);
     let rows = anchor_rows(alloc, rounds, intake.anchors())?;
     let marks = marks_of(alloc, intake.order(), from, shown)?;
     let columns = columns_of(alloc, rounds, intake.held(), &rows, &marks, from, shown)?;
+    let members = rounds.members();
     Ok(Picture {
         from,
         count: shown,
         last,
-        members: rounds.members(),
+        members,
+        links: links_of(links, members),
         columns,
     })
 }

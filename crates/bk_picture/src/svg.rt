@@ -3,11 +3,12 @@
 ghost use Rattle.std.specs.Prelude.{◌≡◌, ◌++◌, OnOk, IfOk, string_bytes};
 ghost use Rattle.std.specs.List.{flat_map};
 ghost use Rattle.bk_views.specs.Anchors.{row_text};
-ghost use Rattle.bk_picture.specs.Svg.{anchor_of, column_text, dot_head, key_head, label_text, ring_head, round_text, title_words, dot_line, dot_text, head_text, key_text, members_text, ring_line, ring_text, svg_text};
+ghost use Rattle.bk_picture.specs.Svg.{anchor_of, column_text, dot_head, key_head, label_text, line_signs, ring_head, round_text, title_words, dot_line, dot_text, head_text, key_text, members_text, ring_line, ring_text, svg_text};
 
-use crate::fixed::push_signs;
+use crate::fixed::{push_parent_sign, push_signs, push_vote_sign};
 use crate::head::push_head;
 use crate::lines::push_all_links;
+use crate::links::Links;
 use crate::picture::{Cell, Circle, Class, Column, Picture};
 use crate::words::{Note, Title, height_of, left_of};
 use bk_views::{AnchorRow, AnchorState};
@@ -208,13 +209,29 @@ fn push_key_head(text: &mut String, y: u64) -> Result<(), AllocError>
     Ok(())
 }
 
+// Adds the signs of the lines that are drawn.
+fn push_line_signs(text: &mut String, links: Links) -> Result<(), AllocError>
+    ensures { OnOk result (string_bytes text.new ≡ string_bytes text.old ++ line_signs links) }
+{
+    match links {
+        Links::All => {
+            push_vote_sign(text)?;
+            push_parent_sign(text)
+        }
+        Links::Votes => push_vote_sign(text),
+        Links::Hidden => Ok(()),
+    }
+}
+
 // Adds the key and the end.
-fn push_key(text: &mut String, members: u8) -> Result<(), AllocError>
-    ensures { OnOk result (string_bytes text.new ≡ string_bytes text.old ++ key_text members) }
+fn push_key(text: &mut String, members: u8, links: Links) -> Result<(), AllocError>
+    ensures { OnOk result (string_bytes text.new
+        ≡ string_bytes text.old ++ key_text members links) }
 {
     let y = height_of(members);
     push_key_head(text, y + 20)?;
     push_signs(text)?;
+    push_line_signs(text, links)?;
     text.push_str("</g>\n</svg>\n")?;
     Ok(())
 }
@@ -225,9 +242,9 @@ pub fn svg_of(alloc: Global, picture: &Picture) -> Result<String, AllocError>
 {
     let mut text = String::new(alloc);
     push_head(&mut text, picture)?;
-    push_all_links(&mut text, picture.from, &picture.columns)?;
+    push_all_links(&mut text, picture.links, picture.from, &picture.columns)?;
     push_columns(&mut text, picture.from, &picture.columns)?;
     push_members(&mut text, picture.members)?;
-    push_key(&mut text, picture.members)?;
+    push_key(&mut text, picture.members, picture.links)?;
     Ok(text)
 }

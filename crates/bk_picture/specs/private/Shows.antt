@@ -1,5 +1,5 @@
 -- What writing a picture leaves.
-use Rattle.std.specs.Prelude.{◌≡◌, ℕ, ◌<◌, List, length, take}
+use Rattle.std.specs.Prelude.{◌≡◌, ℕ, ◌<◌, List, length, take, Option}
 use Rattle.bk_frames.specs.Device.{Device, Fails, Receives}
 use Rattle.bk_frames.specs.Writing.{Writes}
 use Rattle.bk_order.specs.Intake.{Taken}
@@ -9,12 +9,13 @@ use Rattle.bk_results.specs.Devices.{IsUntouched}
 use Rattle.bk_rounds.specs.Rounds.{RoundsValue}
 use Rattle.bk_picture.specs.Picture.{IsPictureOf, graph_of}
 use Rattle.bk_picture.specs.Svg.{svg_text}
+use Rattle.bk_picture.specs.declared.links.Links.{Links}
 use Rattle.bk_picture.specs.declared.picture.Picture.{Picture}
 
 -- the text is that of the picture of what was taken
-pub record ShowsPicture (rounds : RoundsValue) (taken : Taken) (from count : ℕ) (text : List ℕ) : Type 0 where
+pub record ShowsPicture (rounds : RoundsValue) (taken : Taken) (from count : ℕ) (asked : Option Links) (text : List ℕ) : Type 0 where
   pub picture : Picture
-  pub is_picture : IsPictureOf (graph_of rounds taken) from count picture
+  pub is_picture : IsPictureOf (graph_of rounds taken) from count asked picture
   pub text_is : text ≡ svg_text picture
 
 -- a text was written

@@ -8,5 +8,5 @@ unfolding head_text
 returns c =
     let p = c.args.picture.now in
     then_put (string_bytes c.args.text.now) (string_bytes c.push_size.new.text) (string_bytes c.push_names.new.text)
-    (head_line p.count p.members) (name_text (name_words p.from p.count p.last p.members))
+    (head_line p.count p.members) (name_text (name_words p.from p.count p.last p.members p.links))
     c.in_ok-push_size.ensures c.in_ok-push_names.ensures

@@ -5,4 +5,4 @@ use Rattle.bk_picture.specs.Svg.{links_text}
 use Rattle.bk_picture.proofs.lines.push_all_links.Given as goal
 
 abbrev pub invariant-loop-column : goal.invariant-loop-column
-invariant-loop-column l = string_bytes l.text ≡ string_bytes l.initial.text ++ flat_map (links_text l.from) (take l.column-index l.columns)
+invariant-loop-column l = string_bytes l.text ≡ string_bytes l.initial.text ++ flat_map (links_text l.links l.from) (take l.column-index l.columns)
