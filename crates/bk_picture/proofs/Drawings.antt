@@ -5,7 +5,8 @@ use Rattle.bk_base.specs.Feed.{FeedValue}
 use Rattle.bk_committee.specs.Payload.{CommitteeValue}
 use Rattle.bk_frames.specs.Device.{Device}
 use Rattle.bk_rounds.specs.Rounds.{RoundsValue}
-use Rattle.bk_order.specs.Frames.{AreCerts}
+use Rattle.bk_order.specs.Frames.{AreCerts, AreRejects}
+use Rattle.bk_order.specs.Intake.{first_later_frame}
 use Rattle.bk_order.specs.Orders.{AreRoundsOf}
 use Rattle.bk_results.specs.declared.fault.Fault.{Fault}
 use Rattle.bk_results.specs.declared.fault.Fault.TheVariants as fault
@@ -32,8 +33,11 @@ module _ (feed : FeedValue) (o : OrderValue) (rounds : RoundsValue) (ordered : I
     clear = ordered.clear;
     graph = graph_of rounds o.taken;
     is_graph = graph_is;
+    rejects = o.taken.kept.rejected;
+    are_rejects = subst (λ (k : CommitteeValue). AreRejects k first_later_frame (later_frames feed) o.taken.kept.rejected) ordered.committee ordered.taken.rejected;
     picture = h.picture;
     is_picture = h.is_picture;
+    rejected = h.rejected;
     text_is = h.text_is;
   }
 

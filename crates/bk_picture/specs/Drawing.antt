@@ -1,9 +1,11 @@
 -- The picture of a feed, read off its frames alone.
-use Rattle.std.specs.Prelude.{◌≡◌, ℕ, List, Option}
+use Rattle.std.specs.Prelude.{◌≡◌, ℕ, List, length, Option}
 use Rattle.bk_base.specs.Feed.{FeedValue}
 use Rattle.bk_committee.specs.Payload.{sizes_of}
-use Rattle.bk_order.specs.Frames.{AreCerts}
+use Rattle.bk_order.specs.Frames.{AreCerts, AreRejects}
+use Rattle.bk_order.specs.Intake.{first_later_frame}
 use Rattle.bk_order.specs.Orders.{Ordered}
+use Rattle.bk_order.specs.declared.reject.Reject.{Reject}
 use Rattle.bk_answer.specs.RunReport.{HasNoStopIn, IsOrderIn, committee_in, later_frames}
 use Rattle.bk_picture.specs.Picture.{Graph, IsPictureOf}
 use Rattle.bk_picture.specs.Svg.{svg_text}
@@ -25,8 +27,11 @@ pub record IsDrawingOf (feed : FeedValue) (from count : ℕ) (asked : Option Lin
   pub clear : HasNoStopIn feed
   pub graph : Graph
   pub is_graph : IsGraphOf feed graph
+  pub rejects : List Reject
+  pub are_rejects : AreRejects (committee_in feed) first_later_frame (later_frames feed) rejects
   pub picture : Picture
   pub is_picture : IsPictureOf graph from count asked picture
+  pub rejected : picture.rejected ≡ length rejects
   pub text_is : text ≡ svg_text picture
 
 -- the same as what a feed answers: it ends in one way

@@ -37,7 +37,7 @@ size_words wide high =
 abbrev pub head_line : ℕ → ℕ → List ℕ
 head_line count members =
     codes "<svg xmlns='http://www.w3.org/2000/svg' version='1.1' role='img' "
-    ++ size_words (40 * max count 8 + 60) (28 * members + 202) ++ codes ">"
+    ++ size_words (40 * max count 8 + 60) (28 * members + 222) ++ codes ">"
 
 -- which rounds are drawn: the first one and the last one, or that there is none
 abbrev pub span_words : ℕ → ℕ → List ℕ
@@ -215,13 +215,19 @@ line_signs links.All = vote_sign ++ parent_sign
 line_signs links.Votes = vote_sign
 line_signs links.Hidden = []
 
-unfoldable pub key_text : ℕ → Links → List ℕ
-key_text members drawn =
-    key_head (height_of members + 20) ++ (signs_text ++ (line_signs drawn ++ codes "</g>\n</svg>\n"))
+-- how many frames have a certificate that is rejected, in the whole feed: it has no circle
+abbrev pub rejected_line : ℕ → List ℕ
+rejected_line rejected =
+    codes "<text y='100'>rejected frames, not drawn: " ++ (decimal rejected ++ codes " (see bkreplay frames)</text>\n")
+
+unfoldable pub key_text : ℕ → Links → ℕ → List ℕ
+key_text members drawn rejected =
+    key_head (height_of members + 20) ++ (signs_text ++ (line_signs drawn
+    ++ (rejected_line rejected ++ codes "</g>\n</svg>\n")))
 
 -- ---- the whole
 
 abbrev pub svg_text : Picture → List ℕ
 svg_text p =
     head_text p ++ (flat_map (links_text p.links p.from) p.columns.items ++ (flat_map (column_text p.from) p.columns.items
-    ++ (members_text p.members ++ key_text p.members p.links)))
+    ++ (members_text p.members ++ key_text p.members p.links p.rejected)))

@@ -22,7 +22,7 @@ impl fmt::Display for Head {
 
     fn fmt<W: fmt::Write>(&self, f: &mut fmt::Formatter<W>) -> fmt::Result {
         let wide = 40 * u64::from(self.count.max(8)) + 60;
-        let high = 28 * u64::from(self.members) + 202;
+        let high = 28 * u64::from(self.members) + 222;
         let size = Size { wide, high };
         write!(
             f,

@@ -1,6 +1,6 @@
 //! What is drawn of some rounds.
 
-ghost use Rattle.std.specs.Prelude.{◌≤◌, IfOk};
+ghost use Rattle.std.specs.Prelude.{◌≡◌, ◌≤◌, IfOk, length};
 ghost use Rattle.bk_commit.specs.Ordering.{IsCommitted};
 ghost use Rattle.bk_picture.specs.Picture.{HoldSame, IsPictureOf, graph_of};
 
@@ -72,6 +72,8 @@ pub struct Picture {
     pub members: u8,
     /// Which links are drawn.
     pub links: Links,
+    /// How many frames of the whole feed have a certificate that is rejected.
+    pub rejected: u64,
     /// A column for each round, in their order.
     pub columns: Vec<Column>,
 }
@@ -92,7 +94,8 @@ pub fn picture_of(
     requires same { HoldSame intake.now.kept.certs rounds.now.held }
     requires first { (1 ≤ from) × (from ≤ 1000000) }
     requires few { count ≤ 1000 }
-    ensures { IfOk result (IsPictureOf (graph_of rounds.now intake.now) from count links) }
+    ensures picture { IfOk result (IsPictureOf (graph_of rounds.now intake.now) from count links) }
+    ensures rejected { IfOk result (λ p. p.rejected ≡ length intake.now.kept.rejected) }
 {
     let last = last_of(rounds)?;
     let shown = shown_of(from, count, last);
@@ -106,6 +109,7 @@ pub fn picture_of(
         last,
         members,
         links: links_of(links, members),
+        rejected: intake.rejected().len() as u64,
         columns,
     })
 }

@@ -3,7 +3,7 @@
 ghost use Rattle.std.specs.Prelude.{◌≡◌, ◌++◌, OnOk, IfOk, string_bytes};
 ghost use Rattle.std.specs.List.{flat_map};
 ghost use Rattle.bk_views.specs.Anchors.{row_text};
-ghost use Rattle.bk_picture.specs.Svg.{anchor_of, column_text, dot_head, key_head, label_text, line_signs, ring_head, round_text, title_words, dot_line, dot_text, head_text, key_text, members_text, ring_line, ring_text, svg_text};
+ghost use Rattle.bk_picture.specs.Svg.{anchor_of, column_text, dot_head, key_head, label_text, line_signs, ring_head, round_text, title_words, dot_line, dot_text, head_text, key_text, members_text, rejected_line, ring_line, ring_text, svg_text};
 
 use crate::fixed::{push_parent_sign, push_signs, push_vote_sign};
 use crate::head::push_head;
@@ -223,15 +223,28 @@ fn push_line_signs(text: &mut String, links: Links) -> Result<(), AllocError>
     }
 }
 
-// Adds the key and the end.
-fn push_key(text: &mut String, members: u8, links: Links) -> Result<(), AllocError>
+// Adds how many frames are rejected.
+fn push_rejected(text: &mut String, rejected: u64) -> Result<(), AllocError>
     ensures { OnOk result (string_bytes text.new
-        ≡ string_bytes text.old ++ key_text members links) }
+        ≡ string_bytes text.old ++ rejected_line rejected) }
+{
+    write!(
+        text,
+        "<text y='100'>rejected frames, not drawn: {rejected} (see bkreplay frames)</text>\n"
+    )?;
+    Ok(())
+}
+
+// Adds the key and the end.
+fn push_key(text: &mut String, members: u8, links: Links, rejected: u64) -> Result<(), AllocError>
+    ensures { OnOk result (string_bytes text.new
+        ≡ string_bytes text.old ++ key_text members links rejected) }
 {
     let y = height_of(members);
     push_key_head(text, y + 20)?;
     push_signs(text)?;
     push_line_signs(text, links)?;
+    push_rejected(text, rejected)?;
     text.push_str("</g>\n</svg>\n")?;
     Ok(())
 }
@@ -245,6 +258,6 @@ pub fn svg_of(alloc: Global, picture: &Picture) -> Result<String, AllocError>
     push_all_links(&mut text, picture.links, picture.from, &picture.columns)?;
     push_columns(&mut text, picture.from, &picture.columns)?;
     push_members(&mut text, picture.members)?;
-    push_key(&mut text, picture.members, picture.links)?;
+    push_key(&mut text, picture.members, picture.links, picture.rejected)?;
     Ok(text)
 }

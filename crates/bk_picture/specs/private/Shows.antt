@@ -16,6 +16,7 @@ use Rattle.bk_picture.specs.declared.picture.Picture.{Picture}
 pub record ShowsPicture (rounds : RoundsValue) (taken : Taken) (from count : ℕ) (asked : Option Links) (text : List ℕ) : Type 0 where
   pub picture : Picture
   pub is_picture : IsPictureOf (graph_of rounds taken) from count asked picture
+  pub rejected : picture.rejected ≡ length taken.kept.rejected
   pub text_is : text ≡ svg_text picture
 
 -- a text was written

@@ -9,8 +9,8 @@ use Rattle.bk_picture.proofs.picture.picture_of.Goals as goal
 pub columns_of-requires-clause-same : goal.columns_of-requires-clause-same
 columns_of-requires-clause-same c = subst (λ (certs : List Node). HoldSame certs c.args.rounds.now.held) (sym c.held.ensures) c.requires.same
 
-pub returns : goal.returns
-returns c =
+pub returns-clause-picture : goal.returns-clause-picture
+returns-clause-picture c =
     let g = graph_of c.args.rounds.now c.args.intake.now in
     let ordered = c.args.intake.now.ordered in
     let marks = subst (λ (order : List CertRef). AreMarks order c.args.from c.shown_of-shown.result c.in_ok-marks.marks.items) c.order.ensures c.in_ok-marks.ensures in
