@@ -1,5 +1,5 @@
 -- The picture of what was made of a feed is that of the feed.
-use Rattle.std.proofs.Common.{◌≡◌, ℕ, List, refl, subst}
+use Rattle.std.proofs.Common.{ℕ, List, refl, subst}
 use Rattle.std.specs.Prelude.{Result, Ok, Err, OnOk, IfOk, Option}
 use Rattle.bk_base.specs.Feed.{FeedValue}
 use Rattle.bk_committee.specs.Payload.{CommitteeValue}
@@ -15,7 +15,7 @@ use Rattle.bk_answer.specs.Closed.{OrderValue, IsOrderedFor}
 use Rattle.bk_answer.specs.RunReport.{committee_in, later_frames}
 use Rattle.bk_picture.specs.Drawing.{IsDrawingOf, IsGraphOf, drawing_text}
 use Rattle.bk_picture.specs.declared.links.Links.{Links}
-use Rattle.bk_picture.specs.Picture.{HoldSame, IsPictureOf, graph_of}
+use Rattle.bk_picture.specs.Picture.{HoldSame, graph_of}
 use Rattle.bk_picture.specs.private.Shows.{ShowsPicture, TextFails, WritesSome}
 
 module _ (feed : FeedValue) (o : OrderValue) (rounds : RoundsValue) (ordered : IsOrderedFor feed o) (rounds_here : AreRoundsOf (committee_in feed) (later_frames feed) rounds) where

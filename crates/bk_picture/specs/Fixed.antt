@@ -11,7 +11,7 @@ desc_text =
     ++ codes "A ring is round the place of the leader of an odd round: thick if the anchor is voted,\n"
     ++ codes "in long dashes if it is linked, in dots if it is skipped, thin if it is open.\n"
     ++ codes "A line leads to a parent of the round before; a thick one is a vote for an anchor.\n"
-    ++ codes "The title says if some lines are left out.</desc>\n"
+    ++ codes "Where the title says `votes alone`, each line is a vote, and thin.</desc>\n"
 
 -- the style sheet, for light and dark backgrounds, and the background
 unfoldable pub style_text : List ℕ
@@ -19,7 +19,7 @@ style_text =
     codes "<style>\n"
     ++ codes ".b{fill:#fff}text{font:12px sans-serif;fill:#222;text-anchor:middle}.k text,.h{text-anchor:start}\n"
     ++ codes ".a{font-style:italic}.l{fill:none;stroke:#888;stroke-width:.8;stroke-opacity:.6}"
-    ++ codes ".v{fill:none;stroke:#a50;stroke-width:2.6}\n"
+    ++ codes ".v{fill:none;stroke:#a50;stroke-width:2.6}.t{stroke-width:.8}\n"
     ++ codes ".ordered{fill:#124;stroke:#124;stroke-width:2}.admitted{fill:#fff;stroke:#124;stroke-width:2}\n"
     ++ codes ".waiting{fill:#fff;stroke:#a50;stroke-width:1.6;stroke-dasharray:2.4 2.4}\n"
     ++ codes ".voted,.linked,.skipped,.open{fill:none;stroke:#222}.voted{stroke-width:2.4}\n"
@@ -45,6 +45,9 @@ signs_text =
 -- and those of the lines
 unfoldable pub vote_sign : List ℕ
 vote_sign = codes "<path class='v' d='M230 0h24'/><text x='262' y='4'>vote</text>\n"
+
+unfoldable pub thin_vote_sign : List ℕ
+thin_vote_sign = codes "<path class='v t' d='M230 0h24'/><text x='262' y='4'>vote</text>\n"
 
 unfoldable pub parent_sign : List ℕ
 parent_sign = codes "<path class='l' d='M230 24h24'/><text x='262' y='28'>parent</text>\n"

@@ -2,7 +2,6 @@
 use Rattle.std.specs.Prelude.{◌≡◌, ℕ, ◌+◌, ◌-◌, ◌/◌, ◌%◌, ◌<◌, ◌≤◌, ◌↔◌, ◌==◌, min, List, length, slice_get, slice_index_or, Contains, Option, Some, None, if◌then◌else◌}
 use Rattle.bk_committee.specs.Sizes.{Sizes, members}
 use Rattle.bk_cert.specs.Node.{Node}
-use Rattle.bk_cert.specs.Place.{place_of}
 use Rattle.bk_cert.specs.declared.place.CertRef.{CertRef}
 use Rattle.bk_rounds.specs.Admission.{IsPresent, WaitsAt}
 use Rattle.bk_rounds.specs.Links.{Links}

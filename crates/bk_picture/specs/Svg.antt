@@ -6,7 +6,7 @@ use Rattle.hex.specs.Hex.{encode_lower}
 use Rattle.bk_views.specs.Anchors.{row_text, state_word, votes_word}
 use Rattle.bk_views.specs.declared.anchors.AnchorRow.{AnchorRow}
 use Rattle.bk_views.specs.declared.anchors.AnchorState.{AnchorState}
-use Rattle.bk_picture.specs.Fixed.{axes_text, desc_text, parent_sign, signs_text, style_text, vote_sign}
+use Rattle.bk_picture.specs.Fixed.{axes_text, desc_text, parent_sign, signs_text, style_text, thin_vote_sign, vote_sign}
 use Rattle.bk_picture.specs.declared.links.Links.{Links}
 use Rattle.bk_picture.specs.declared.links.Links.TheVariants as links
 use Rattle.bk_picture.specs.declared.picture.Cell.{Cell}
@@ -99,12 +99,13 @@ vote_text_of member (Some parent) = segment_text member parent
 abbrev pub vote_text : Cell → List ℕ
 vote_text cell = vote_text_of cell.member cell.vote
 
--- how a path of lines to parents begins, how one of votes does, and how any ends
+-- how a path of lines to parents begins, how one of votes does, with its classes, and how any ends
 abbrev pub parents_head : ℕ → List ℕ
 parents_head x = codes "<path class='l' transform='translate(" ++ decimal x ++ codes ")' d='"
 
-abbrev pub votes_head : ℕ → List ℕ
-votes_head x = codes "<path class='v' transform='translate(" ++ decimal x ++ codes ")' d='"
+abbrev pub votes_head : List ℕ → ℕ → List ℕ
+votes_head classes x =
+    codes "<path class='" ++ (classes ++ (codes "' transform='translate(" ++ (decimal x ++ codes ")' d='")))
 
 abbrev pub path_end : List ℕ
 path_end = codes "'/>\n"
@@ -113,13 +114,13 @@ path_end = codes "'/>\n"
 unfoldable pub parents_path : ℕ → List Cell → List ℕ
 parents_path x cells = parents_head x ++ (flat_map parents_text cells ++ path_end)
 
-unfoldable pub votes_path : ℕ → List Cell → List ℕ
-votes_path x cells = votes_head x ++ (flat_map vote_text cells ++ path_end)
+unfoldable pub votes_path : List ℕ → ℕ → List Cell → List ℕ
+votes_path classes x cells = votes_head classes x ++ (flat_map vote_text cells ++ path_end)
 
--- the paths of the lines that are drawn
+-- the paths of the lines that are drawn; votes are thin where they are drawn alone
 abbrev pub lines_text : Links → ℕ → List Cell → List ℕ
-lines_text links.All x cells = parents_path x cells ++ votes_path x cells
-lines_text links.Votes x cells = votes_path x cells
+lines_text links.All x cells = parents_path x cells ++ votes_path (codes "v") x cells
+lines_text links.Votes x cells = votes_path (codes "v t") x cells
 lines_text links.Hidden x cells = []
 
 -- the lines of a column
@@ -212,7 +213,7 @@ key_head y = codes "<g class='k' transform='translate(60 " ++ decimal y ++ codes
 -- the signs of the lines that are drawn
 abbrev pub line_signs : Links → List ℕ
 line_signs links.All = vote_sign ++ parent_sign
-line_signs links.Votes = vote_sign
+line_signs links.Votes = thin_vote_sign
 line_signs links.Hidden = []
 
 -- how many frames have a certificate that is rejected, in the whole feed: it has no circle

@@ -1,7 +1,7 @@
 //! The fixed parts of a picture's text.
 
 ghost use Rattle.std.specs.Prelude.{◌≡◌, ◌++◌, OnOk, string_bytes};
-ghost use Rattle.bk_picture.specs.Fixed.{axes_text, desc_text, parent_sign, signs_text, style_text, vote_sign};
+ghost use Rattle.bk_picture.specs.Fixed.{axes_text, desc_text, parent_sign, signs_text, style_text, thin_vote_sign, vote_sign};
 
 use std::alloc::AllocError;
 
@@ -13,14 +13,14 @@ const DESC: &str = "<desc>A column for each round, a row for each member.\n\
     A ring is round the place of the leader of an odd round: thick if the anchor is voted,\n\
     in long dashes if it is linked, in dots if it is skipped, thin if it is open.\n\
     A line leads to a parent of the round before; a thick one is a vote for an anchor.\n\
-    The title says if some lines are left out.</desc>\n\
+    Where the title says `votes alone`, each line is a vote, and thin.</desc>\n\
     ";
 
 const STYLE: &str = "<style>\n\
     .b{fill:#fff}text{font:12px sans-serif;fill:#222;text-anchor:middle}\
     .k text,.h{text-anchor:start}\n\
     .a{font-style:italic}.l{fill:none;stroke:#888;stroke-width:.8;stroke-opacity:.6}\
-    .v{fill:none;stroke:#a50;stroke-width:2.6}\n\
+    .v{fill:none;stroke:#a50;stroke-width:2.6}.t{stroke-width:.8}\n\
     .ordered{fill:#124;stroke:#124;stroke-width:2}.admitted{fill:#fff;stroke:#124;stroke-width:2}\n\
     .waiting{fill:#fff;stroke:#a50;stroke-width:1.6;stroke-dasharray:2.4 2.4}\n\
     .voted,.linked,.skipped,.open{fill:none;stroke:#222}.voted{stroke-width:2.4}\n\
@@ -49,6 +49,8 @@ const SIGNS: &str = "<circle class='ordered' r='6'/><text x='18' y='4'>ordered</
     ";
 
 const VOTE: &str = "<path class='v' d='M230 0h24'/><text x='262' y='4'>vote</text>\n";
+
+const THIN_VOTE: &str = "<path class='v t' d='M230 0h24'/><text x='262' y='4'>vote</text>\n";
 
 const PARENT: &str = "<path class='l' d='M230 24h24'/><text x='262' y='28'>parent</text>\n";
 
@@ -94,6 +96,15 @@ pub(crate) fn push_vote_sign(text: &mut String) -> Result<(), AllocError>
     ensures { OnOk result (string_bytes text.new ≡ string_bytes text.old ++ vote_sign) }
 {
     text.push_str(VOTE)?;
+    Ok(())
+}
+
+/// Adds the sign of a vote where no other lines are drawn.
+#[tactic(auto, unfolding(crate::specs::Fixed::thin_vote_sign))]
+pub(crate) fn push_thin_vote_sign(text: &mut String) -> Result<(), AllocError>
+    ensures { OnOk result (string_bytes text.new ≡ string_bytes text.old ++ thin_vote_sign) }
+{
+    text.push_str(THIN_VOTE)?;
     Ok(())
 }
 

@@ -85,11 +85,15 @@ fn push_parents_head(text: &mut String, x: u64) -> Result<(), AllocError>
     Ok(())
 }
 
-// Begins that of the votes.
-fn push_votes_head(text: &mut String, x: u64) -> Result<(), AllocError>
-    ensures { OnOk result (string_bytes text.new ≡ string_bytes text.old ++ votes_head x) }
+// Begins that of the votes, with these classes.
+fn push_votes_head(text: &mut String, classes: &str, x: u64) -> Result<(), AllocError>
+    ensures { OnOk result (string_bytes text.new
+        ≡ string_bytes text.old ++ votes_head classes.now x) }
 {
-    write!(text, "<path class='v' transform='translate({x})' d='")?;
+    write!(
+        text,
+        "<path class='{classes}' transform='translate({x})' d='"
+    )?;
     Ok(())
 }
 
@@ -104,11 +108,17 @@ fn push_parents_path(text: &mut String, x: u64, cells: &[Cell]) -> Result<(), Al
     Ok(())
 }
 
-// Adds that of the votes.
-fn push_votes_path(text: &mut String, x: u64, cells: &[Cell]) -> Result<(), AllocError>
-    ensures { OnOk result (string_bytes text.new ≡ string_bytes text.old ++ votes_path x cells.now) }
+// Adds that of the votes, with these classes.
+fn push_votes_path(
+    text: &mut String,
+    classes: &str,
+    x: u64,
+    cells: &[Cell],
+) -> Result<(), AllocError>
+    ensures { OnOk result (string_bytes text.new
+        ≡ string_bytes text.old ++ votes_path classes.now x cells.now) }
 {
-    push_votes_head(text, x)?;
+    push_votes_head(text, classes, x)?;
     push_votes(text, cells)?;
     text.push_str("'/>\n")?;
     Ok(())
@@ -122,9 +132,9 @@ fn push_lines(text: &mut String, links: Links, x: u64, cells: &[Cell]) -> Result
     match links {
         Links::All => {
             push_parents_path(text, x, cells)?;
-            push_votes_path(text, x, cells)
+            push_votes_path(text, "v", x, cells)
         }
-        Links::Votes => push_votes_path(text, x, cells),
+        Links::Votes => push_votes_path(text, "v t", x, cells),
         Links::Hidden => Ok(()),
     }
 }

@@ -5,7 +5,7 @@ ghost use Rattle.std.specs.List.{flat_map};
 ghost use Rattle.bk_views.specs.Anchors.{row_text};
 ghost use Rattle.bk_picture.specs.Svg.{anchor_of, column_text, dot_head, key_head, label_text, line_signs, ring_head, round_text, title_words, dot_line, dot_text, head_text, key_text, members_text, rejected_line, ring_line, ring_text, svg_text};
 
-use crate::fixed::{push_parent_sign, push_signs, push_vote_sign};
+use crate::fixed::{push_parent_sign, push_signs, push_thin_vote_sign, push_vote_sign};
 use crate::head::push_head;
 use crate::lines::push_all_links;
 use crate::links::Links;
@@ -218,7 +218,7 @@ fn push_line_signs(text: &mut String, links: Links) -> Result<(), AllocError>
             push_vote_sign(text)?;
             push_parent_sign(text)
         }
-        Links::Votes => push_vote_sign(text),
+        Links::Votes => push_thin_vote_sign(text),
         Links::Hidden => Ok(()),
     }
 }
