@@ -1,4 +1,5 @@
 mod LineLemmas
+mod LinkLemmas
 mod ReportLemmas
 mod WordLemmas
 mod ZipLemmas

@@ -12,6 +12,7 @@ use Rattle.bk_digest.specs.Digest.{IsHexDigest}
 use Rattle.bk_results.specs.declared.query.Query.{Query}
 use Rattle.bk_results.specs.declared.query.Query.TheVariants as query
 use Rattle.bk_cli.specs.Files.{names_input, reads_input_twice}
+use Rattle.bk_cli.specs.Links.{AreLinksIn, LacksLinks}
 use Rattle.bk_cli.specs.declared.job.Job.{Job}
 use Rattle.bk_cli.specs.declared.job.Job.TheVariants as job
 use Rattle.bk_cli.specs.declared.notes.Notes.{Notes}
@@ -85,6 +86,14 @@ rounds_rule = record (new_rule (codes "rounds")) {
   parser = Some (Signed (pos 1) (pos 1000));
 }
 
+-- the option `--links all|votes|none`
+abbrev pub links_rule : Rule
+links_rule = record (new_rule (codes "links")) {
+  long = Some (codes "links");
+  action = Some Set;
+  value_names = 1;
+}
+
 -- the option `--accounts LIST`
 abbrev pub accounts_rule : Rule
 accounts_rule = record (new_rule (codes "accounts")) {
@@ -146,11 +155,11 @@ schedule_line =
     let named = new_app (codes "schedule") in
     noted_line (with_rule (with_rule (with_rule named workers_rule) feed_rule) events_rule)
 
--- the command `dag [--from R] [--rounds N] [FILE]`
+-- the command `dag [--from R] [--rounds N] [--links all|votes|none] [FILE]`
 abbrev pub dag_line : App
 dag_line =
     let named = new_app (codes "dag") in
-    noted_line (with_rule (with_rule (with_rule named from_rule) rounds_rule) file_rule)
+    noted_line (with_rule (with_rule (with_rule (with_rule named from_rule) rounds_rule) links_rule) file_rule)
 
 -- the options `--follow` and `--wait`
 abbrev pub follow_rule : Rule
@@ -415,6 +424,7 @@ IsJobAt word rows (job.Summary workers file) =
 IsJobAt word rows (job.Dag window file) =
     (word ≡ word_of verb.Dag) × IsChosenBy 1000000 1 (one_of (codes "from") rows) window.from
     × IsChosenBy 1000 40 (one_of (codes "rounds") rows) window.rounds
+    × AreLinksIn rows window.links
     × IsFileIn rows (option_map string_bytes file)
 IsJobAt word rows (job.Apply file) =
     (word ≡ word_of verb.Apply) × IsFileIn rows (option_map string_bytes file)
@@ -469,12 +479,13 @@ LacksDigest rows = IsHexDigest (unwrap_or (first_of (codes "ROOT") rows) []) →
 abbrev pub WaitsInVain : List Row → Type 0
 WaitsInVain rows = IsWaited rows true × (IsFollowed rows false ⊎ (names_input (first_of (codes "FILE") rows) ≡ true))
 
--- the command that was found in the words is `check-state`, and its ROOT is not a digest; or it is that of a table, and
--- waits in vain
+-- the command that was found in the words is `check-state`, and its ROOT is not a digest; or it is `dag`, and the
+-- value of `--links` is none of its words; or it is that of a table, and waits in vain
 abbrev pub NamesNoJob : Option (Text × List Row) → Type 0
 NamesNoJob None = ⊥
 NamesNoJob (Some found) =
     (found.0 ≡ word_of verb.CheckState) × LacksDigest found.1
+    ⊎ (found.0 ≡ word_of verb.Dag) × LacksLinks found.1
     ⊎ ((shown : Table) × (found.0 ≡ word_of (verb_of shown)) × WaitsInVain found.1)
 
 -- ---- standard input that is named twice

@@ -3,4 +3,5 @@ pub mod Exits
 pub mod Explanations
 pub mod FaultLines
 pub mod Files
+pub mod Links
 pub mod Windows

@@ -4,7 +4,7 @@ ghost use Rattle.std.specs.Prelude.{◌≡◌, true, false, IfOk, IfSome};
 ghost use Rattle.clap.specs.Words.{App, Rule, app_of};
 ghost use Rattle.clap.specs.declared.builder.command.Command.TheViews.{out-Command};
 ghost use Rattle.bk_cli.specs.CommandLine.{asking_line, checking_line, viewing_line, tabling_line, diagnosing_line, command_line, file_line, value_line, picking_line, table_line, schedule_line, working_line};
-ghost use Rattle.bk_cli.specs.CommandLine.{noted_line, file_rule, workers_rule, required_rule, root_rule, id_rule, place_rule, from_rule, rounds_rule, account_rule, accounts_rule, dag_line, proof_line, compare_line};
+ghost use Rattle.bk_cli.specs.CommandLine.{noted_line, file_rule, workers_rule, required_rule, root_rule, id_rule, place_rule, from_rule, rounds_rule, account_rule, accounts_rule, links_rule, dag_line, proof_line, compare_line};
 
 use crate::help::{self, Help};
 use crate::shaped::{Plain, Shaped};
@@ -74,6 +74,13 @@ fn rounds_arg<'a>(alloc: Global) -> Plain<'a>
         .read_by(value_parser!(u32).range(1..=1_000))
 }
 
+// The option `--links all|votes|none`.
+fn links_arg<'a>(alloc: Global) -> Plain<'a>
+    ensures { result ≡ links_rule }
+{
+    Plain::valued(alloc, "links", help::LINKS).option("links", "all|votes|none")
+}
+
 // The option `--accounts LIST`.
 fn accounts_arg<'a>(alloc: Global) -> Plain<'a>
     ensures { result ≡ accounts_rule }
@@ -136,13 +143,14 @@ fn schedule_command<'a>(alloc: Global) -> Shaped<'a>
     noted(alloc, command)
 }
 
-// The command `dag [--from R] [--rounds N] [FILE]`.
+// The command `dag [--from R] [--rounds N] [--links all|votes|none] [FILE]`.
 fn dag_command<'a>(alloc: Global) -> Shaped<'a>
     ensures { IfSome result (λ c. c ≡ dag_line) }
 {
     let command = Shaped::new(alloc, "dag", help::DAG)
         .arg(from_arg(alloc))
         .arg(rounds_arg(alloc))
+        .arg(links_arg(alloc))
         .arg(file_arg(alloc));
     noted(alloc, command)
 }

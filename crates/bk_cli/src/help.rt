@@ -23,6 +23,9 @@ pub(crate) const FROM: &str = "The first round that is drawn, 1 to 1,000,000; 1 
 
 pub(crate) const ROUNDS: &str = "How many rounds are drawn, 1 to 1,000; 40 by default";
 
+pub(crate) const LINKS: &str =
+    "Which lines to parents are drawn; without it all up to 16 members, and votes above";
+
 pub(crate) const EVENT_WORKERS: &str =
     "The number of workers in the list of events, 1 to 64; 2 by default. The first is worker 0";
 
@@ -307,10 +310,12 @@ pub(crate) const DAG: Help<'static> = Help {
     about: "Draw the certificates of some rounds and what became of them, as an SVG picture",
     after: "\
 Reads a feed, as `run` does, and finds its order. Writes a picture of N rounds from round R on as SVG 1.1: a column for
-each round and a row for each member.
+each round and a row for each member. It ends at the last round of the feed, if that comes before. Its title says which
+rounds it shows of how many, and if lines are left out.
 
   circle                          a certificate: full if it is in the order, empty if it is not, with a broken outline if
-                                  it waits for a parent; a browser shows its title when the pointer is on it
+                                  it waits for a parent; a browser shows its title, with its id, when the pointer is on
+                                  it
   ring                            the place of the leader of an odd round, by what became of its anchor: thick if it is
                                   `voted`, in long dashes if `linked`, in dots if `skipped`, thin if `open`
   line                            from an admitted certificate to a parent; thick if it is a vote for an anchor
@@ -323,7 +328,7 @@ Exit status:
   4  feed fault 8 or 9, memory, read failed, or write failed
 
 Example:
-  ./bkreplay dag --rounds 8 examples/order/one_commit.feed",
+  ./bkreplay dag --rounds 8 --links votes examples/order/one_commit.feed",
 };
 
 pub(crate) const STATEMENT: Help<'static> = Help {

@@ -9,6 +9,7 @@ ghost use Rattle.bk_cli.specs.declared.view.View.TheVariants as view;
 ghost use Rattle.bk_cli.specs.Files.{names_input};
 
 use crate::job::{Job, names_input};
+use crate::links::links_in;
 use crate::notes::flag_in;
 use crate::verb::Verb;
 use crate::view::{Diagnosis, Table, View};
@@ -190,15 +191,20 @@ fn chosen_in(found: &ArgMatches<'_>, name: &str, most: u32, usual: u32) -> u32
     }
 }
 
-// The job of `dag` of this file, with the values of its other arguments.
-fn dag_of(found: &ArgMatches<'_>, file: Option<String>) -> Job
+// The job of `dag` of this file, with the values of its other arguments. There is none where the
+// value of `--links` is none of its words.
+fn dag_of(found: &ArgMatches<'_>, file: Option<String>) -> Option<Job>
     requires { IsFileIn (rows_of (found_of found.now)) (option_map string_bytes file) }
-    ensures { IsJobAt (codes "dag") (rows_of (found_of found.now)) result }
+    ensures { MatchOption result (NamesNoJob (Some (codes "dag", rows_of (found_of found.now))))
+        (IsJobAt (codes "dag") (rows_of (found_of found.now))) }
 {
+    let Some(links) = links_in(found) else {
+        return None;
+    };
     let from = chosen_in(found, "from", MOST_FROM, 1);
     let rounds = chosen_in(found, "rounds", MOST_ROUNDS, 40);
-    let window = Window::new(from, rounds);
-    Job::Dag { window, file }
+    let window = Window::new(from, rounds, links);
+    Some(Job::Dag { window, file })
 }
 
 // What is shown where all rows of a table are.
@@ -352,8 +358,8 @@ fn ask_one(asked: Query, file: Option<String>) -> Job
     }
 }
 
-/// The job of a command, with the values of its arguments. There is none where a ROOT has to be a digest and is not, and where
-/// `--wait` is given and no file can grow.
+/// The job of a command, with the values of its arguments. There is none where a ROOT has to be a digest and is not, where
+/// the value of `--links` is none of its words, and where `--wait` is given and no file can grow.
 pub(crate) fn job_of(
     alloc: Global,
     verb: Verb,
@@ -383,7 +389,7 @@ pub(crate) fn job_of(
             Ok(Some(Job::Summary { workers, file }))
         }
         Verb::Anchors => Ok(Some(ask_one(Query::Anchors, file))),
-        Verb::Dag => Ok(Some(dag_of(found, file))),
+        Verb::Dag => Ok(dag_of(found, file)),
         Verb::Statement => Ok(Some(statement_of(found, file))),
         Verb::Transactions => growing_of(alloc, found, Table::Transactions, file),
         Verb::Postings => growing_of(alloc, found, Table::Postings, file),

@@ -43,6 +43,7 @@ fn unfit(verb: Verb) -> &'static str {
         Verb::Transactions | Verb::Postings => {
             "--wait needs --follow and a FILE that is not standard input"
         }
+        Verb::Dag => "the value of --links is not all, votes or none",
         _ => "ROOT is not a digest: 64 hexadecimal digits in lower case",
     }
 }
@@ -68,7 +69,7 @@ fn input_twice(alloc: Global) -> Result<Error, AllocError>
 ///
 /// An error is a fault of the words, a request for help or for the version, or that memory ran out; its kind says which.
 /// Words without a fault give a job, and those with one an error of the fault's kind, unless memory ran out. A ROOT of
-/// `check-state` that is not a digest, `--wait` without `--follow` or a file, and standard input that is named twice, are
+/// `check-state` that is not a digest, a value of `--links` that is none of its words, `--wait` without `--follow` or a file, and standard input that is named twice, are
 /// faults of the kind `ValueValidation`.
 pub fn parse_line<'a, S: AsStr>(alloc: Global, words: &'a [S]) -> Result<Line, Error>
     ensures job { IfOk result (λ l. IsJobOf (subcommand_of command_line (map S.text words.now)) l.job) }

@@ -21,14 +21,14 @@ returns-then-waits_in_vain c =
     let vain = c.waits_in_vain.ensures.vain c.if-waits_in_vain.true in
     let wait = subst (λ (t : Option Text). IsOn t c.flag_in-wait.result) (one_text-rows found (codes "wait")) c.flag_in-wait.ensures in
     let follow = subst (λ (t : Option Text). IsOn t c.flag_in-follow.result) (one_text-rows found (codes "follow")) c.flag_in-follow.ensures in
-    inr (
+    inr (inr (
       c.args.shown,
       refl,
       (
         subst (λ (b : Bool). IsOn (one_of (codes "wait") (rows_of found)) b) vain.0 wait,
         either_way (λ e. subst (λ (b : Bool). IsOn (one_of (codes "follow") (rows_of found)) b) e follow) (λ e. ap names_input c.requires ∙ e) vain.1,
       ),
-    )
+    ))
 
 pub follow_of-requires-clause-follow : goal.follow_of-requires-clause-follow
 follow_of-requires-clause-follow c =
