@@ -221,15 +221,23 @@ def is_path(arg):
     return arg.get("help", "").startswith("The path of ")
 
 
+def words_of(arg):
+    """The words that an option takes, where the name of its value lists them, as `all|votes|none`; else nothing."""
+    words = arg.get("value_name", "").split("|")
+    return words if len(words) > 1 else []
+
+
 def kind_of(arg):
-    """What a completion offers for an argument: `file` or, for a number or a digest, nothing."""
+    """What a completion offers for an argument: `file`, `words` or, for a number or a digest, nothing."""
     text = arg.get("help", "")
     if is_path(arg):
         return "file"
+    if words_of(arg):
+        return "words"
     if "value_parser" in arg or text.startswith("The digest of "):
         return "none"
     fail(f"the help of the argument {arg.name} begins neither with `The path of` nor with `The digest of`, "
-         "and it is no number")
+         "it is no number, and the name of its value lists no words")
 
 
 def is_flag(arg):
@@ -239,6 +247,8 @@ def is_flag(arg):
 
 def limits_of(option):
     """The least and the greatest number that an option takes, nothing of one that takes any."""
+    if words_of(option):
+        return None
     if not option.get("value_parser") or "value_name" not in option or "help" not in option:
         fail(f"the option {option.name} takes no number, or has no name of its value, or no help")
     return option["value_parser"].get("range")

@@ -1,5 +1,5 @@
 """The completions of bash, zsh and fish, from the command line as definition.py reads it."""
-from definition import is_flag, kind_of, limits_of
+from definition import is_flag, kind_of, limits_of, words_of
 
 # A list of more numbers than these is not offered: it would hide what has to be typed.
 MOST_NUMBERS = 100
@@ -27,6 +27,12 @@ def listed(arg):
     of one that takes a path or any number."""
     limits = None if kind_of(arg) == "file" else limits_of(arg)
     return limits if limits and limits[1] - limits[0] < MOST_NUMBERS else None
+
+
+def choices(arg, numbers):
+    """What is offered for the value of an option: its words, or the numbers in the form of a shell, or nothing."""
+    found = listed(arg)
+    return numbers.format(*found) if found else " ".join(words_of(arg))
 
 
 def options_with_values(program):
@@ -115,12 +121,12 @@ def bash_case(command):
 
 
 def bash_values(command):
-    """What is offered for the values of a command's options: numbers, files, or nothing."""
+    """What is offered for the values of a command's options: numbers, words, files, or nothing."""
     lines = []
     for it in valued(command):
-        numbers = listed(it)
+        words = choices(it, "{{{}..{}}}")
         files = " COMPREPLY=($(compgen -f -- \"$current\"))" if kind_of(it) == "file" else ""
-        offered = files if not numbers else f" COMPREPLY=($(compgen -W '{{{numbers[0]}..{numbers[1]}}}' -- \"$current\"))"
+        offered = files if not words else f" COMPREPLY=($(compgen -W '{words}' -- \"$current\"))"
         lines.append(f"    '{command.name} --{it['long']}'){offered} ;;")
     return lines
 
@@ -176,9 +182,9 @@ def zsh_text(text):
 def zsh_option(arg):
     if is_flag(arg):
         return quoted(f"--{arg['long']}[{zsh_text(arg['help'])}]")
-    numbers = listed(arg)
+    words = choices(arg, "{{{}..{}}}")
     other = "_files" if kind_of(arg) == "file" else " "
-    offered = f"({{{numbers[0]}..{numbers[1]}}})" if numbers else other
+    offered = f"({words})" if words else other
     return quoted(f"--{arg['long']}=[{zsh_text(arg['help'])}]:{arg['value_name']}:{offered}")
 
 
@@ -242,20 +248,20 @@ def fish_quoted(text):
     return "'" + text.replace("\\", "\\\\").replace("'", "\\'") + "'"
 
 
-def fish_numbers(arg):
-    """What is offered for the value of an option: numbers, files, or nothing."""
+def fish_values(arg):
+    """What is offered for the value of an option: numbers, words, files, or nothing."""
     if is_flag(arg):
         return ""
     if kind_of(arg) == "file":
         return "-r -F "
-    numbers = listed(arg)
-    return f"-x -a '(seq {numbers[0]} {numbers[1]})' " if numbers else "-x "
+    words = choices(arg, "(seq {} {})")
+    return f"-x -a '{words}' " if words else "-x "
 
 
 def fish_lines(command):
     """What is completed after a command."""
     lines = [f"complete -c bkreplay -n '__bkreplay_at {command.name}' -l {it['long']} "
-             f"{fish_numbers(it)}-d {fish_quoted(it['help'])}" for it in options(command)]
+             f"{fish_values(it)}-d {fish_quoted(it['help'])}" for it in options(command)]
     return lines + [f"complete -c bkreplay -n '__bkreplay_at {command.name} {index}' -F"
                     for index, it in enumerate(places(command)) if kind_of(it) == "file"]
 

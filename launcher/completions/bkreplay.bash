@@ -5,7 +5,7 @@ _bkreplay() {
     for ((at = 1; at < COMP_CWORD; at++)); do
         word=${COMP_WORDS[at]}
         case $word in
-        --account | --accounts | --from | --rounds | --workers) value=$word ;;
+        --account | --accounts | --from | --links | --rounds | --workers) value=$word ;;
         *[\<\>]*) value=redirection ;;
         = | -*) ;;
         *)
@@ -62,7 +62,7 @@ _bkreplay() {
         kinds=(file)
         ;;
     dag)
-        names='--from --rounds --progress --verbose --help'
+        names='--from --rounds --links --progress --verbose --help'
         kinds=(file)
         ;;
     statement)
@@ -132,6 +132,7 @@ _bkreplay() {
     'summary --workers') COMPREPLY=($(compgen -W '{1..64}' -- "$current")) ;;
     'dag --from') ;;
     'dag --rounds') ;;
+    'dag --links') COMPREPLY=($(compgen -W 'all votes none' -- "$current")) ;;
     'statement --workers') COMPREPLY=($(compgen -W '{1..64}' -- "$current")) ;;
     'transactions --workers') COMPREPLY=($(compgen -W '{1..64}' -- "$current")) ;;
     'transactions --accounts') COMPREPLY=($(compgen -f -- "$current")) ;;

@@ -6,7 +6,7 @@ function __bkreplay_at --argument-names command index
     set -l found
     for word in (commandline -opc)[2..]
         switch $word
-            case --account --accounts --from --rounds --workers
+            case --account --accounts --from --links --rounds --workers
                 set value $word
             case '-*'
             case '*'
@@ -82,6 +82,7 @@ complete -c bkreplay -n '__bkreplay_at anchors' -l verbose -d 'Say in one more l
 complete -c bkreplay -n '__bkreplay_at anchors 0' -F
 complete -c bkreplay -n '__bkreplay_at dag' -l from -x -d 'The first round that is drawn, 1 to 1,000,000; 1 by default'
 complete -c bkreplay -n '__bkreplay_at dag' -l rounds -x -d 'How many rounds are drawn, 1 to 1,000; 40 by default'
+complete -c bkreplay -n '__bkreplay_at dag' -l links -x -a 'all votes none' -d 'Which lines to parents are drawn; without it all up to 16 members, and votes above'
 complete -c bkreplay -n '__bkreplay_at dag' -l progress -d 'Show on standard error how many bytes are read, and how many transactions are executed'
 complete -c bkreplay -n '__bkreplay_at dag' -l verbose -d 'Say in one more line what a fault is, in words, or at which missing batch an order stops, and name the file'
 complete -c bkreplay -n '__bkreplay_at dag 0' -F
