@@ -6,5 +6,6 @@ pub mod Words
 pub mod Openness
 pub mod Edges
 pub mod Refusals
+pub mod Rejected
 pub mod LineTexts
 pub mod ShownSoFar

@@ -1,5 +1,6 @@
 -- The text of the lines of frames.
 use Rattle.std.proofs.Common.{◌≡◌, ℕ, zero, suc, ◌+◌, ◌^◌, ◌<◌, ◌≤◌, List, [], ◌∷◌, ◌++◌, length, take, drop, get_or, Option, Some, None, refl, sym, ap, subst, ◌∙◌, arith, append_assoc, length-append}
+use Rattle.std.specs.Prelude.{count_by}
 use Rattle.std.specs.List.{AllZip, flat_map}
 use Rattle.std.specs.Global.{Vec}
 use Rattle.std.proofs.lemmas.List.{append-nil, take_more, take_all, take-append-drop}
@@ -13,9 +14,12 @@ use Rattle.bk_listing.specs.Listing.{AreWords, AreLinesFrom, IsListing, line_wit
 use Rattle.bk_listing.specs.declared.rows.Shown.{Shown}
 use Rattle.bk_listing.specs.declared.lines.Place.{Place}
 use Rattle.bk_listing.specs.declared.lister.Lister.{Lister}
-use Rattle.bk_listing.specs.private.Shown.{IsRow, PutsLines, IsCommitteeOf, HasListed, OpensBy, GoesOn, row_words}
+use Rattle.bk_listing.specs.Rejects.{AreRejectedBy, IsRejectedCount}
+use Rattle.bk_certcheck.specs.declared.rule.Rule.{Rule}
+use Rattle.bk_listing.specs.private.Shown.{IsRow, PutsLines, IsCommitteeOf, HasListed, OpensBy, GoesOn, is_rejected, row_rules, row_words}
 use Rattle.bk_listing.proofs.PartsOf.{frames_append}
 use Rattle.bk_listing.proofs.Frames.{zip_push}
+use Rattle.bk_listing.proofs.Rejected.{rejected_then, rows_counted, rows_rejected}
 
 -- ---- lines in turn
 
@@ -101,7 +105,7 @@ puts_on k start place next xs i x row old now new low there is h pushed index of
     subst (λ (fs : List Frame). PutsLines k start next fs old new) (sym (frames_more xs i x low there)) (record {
       text = h.text ++ (line_with place.index place.offset (row_words k row) ++ 10 ∷ []);
       put = pushed ∙ ap (λ (t : List ℕ). t ++ (line_with place.index place.offset (row_words k row) ++ 10 ∷ [])) h.put ∙ append_assoc old h.text (line_with place.index place.offset (row_words k row) ++ 10 ∷ []);
-      lines = lines_then k start.index start.offset place.index place.offset before (f ∷ []) h.text (line_with place.index place.offset (row_words k row) ++ 10 ∷ []) h.after.index h.after.offset h.lines (one_line k place.index place.offset f (row_words k row) is);
+      lines = lines_then k start.index start.offset place.index place.offset before (f ∷ []) h.text (line_with place.index place.offset (row_words k row) ++ 10 ∷ []) h.after.index h.after.offset h.lines (one_line k place.index place.offset f (row_words k row) is.0);
       after = record {
         index = omega (arith, index, h.after.index, length-append before (f ∷ []));
         offset = omega (arith, offset, h.after.offset, more_bytes before f);
@@ -128,8 +132,8 @@ known_one : (k m : CommitteeValue) → Some k ≡ Some m → k ≡ m
 known_one k m e = cc
 
 -- a listing that no committee stands for yet goes on with no frame
-pub goes_on_none : (version : Version) (frames : List Frame) (old new : Lister) (lines : List ℕ) → OpensBy version frames old.committee new.committee → new.committee ≡ None → new.place ≡ old.place → lines ≡ [] → GoesOn version frames old new lines
-goes_on_none version frames old new lines opens none place empty before text h = by_old old.committee refl
+pub goes_on_none : (version : Version) (frames : List Frame) (old new : Lister) (lines : List ℕ) → OpensBy version frames old.committee new.committee → new.committee ≡ None → new.place ≡ old.place → new.rejected ≡ old.rejected → lines ≡ [] → GoesOn version frames old new lines
+goes_on_none version frames old new lines opens none place rejected empty before text h = by_old old.committee refl
   where
     no_frames : (fs : List Frame) → IsCommitteeOf version fs None → fs ≡ []
     no_frames [] e = refl
@@ -147,11 +151,12 @@ goes_on_none version frames old new lines opens none place empty before text h =
           committee = rw same h.committee;
           index = rw place h.index;
           offset = rw place h.offset;
+          rejected = rw rejected h.rejected;
         }))
 
 -- and else with the lines of the frames
-pub goes_on : (version : Version) (frames : List Frame) (old new : Lister) (k : CommitteeValue) (lines : List ℕ) → OpensBy version frames old.committee new.committee → new.committee ≡ Some k → PutsLines k old.place new.place frames [] lines → GoesOn version frames old new lines
-goes_on version frames old new k lines opens known puts before text h = by_old old.committee refl before h.listing h.committee h.index h.offset
+pub goes_on : (version : Version) (frames : List Frame) (old new : Lister) (k : CommitteeValue) (rows : List Shown) (lines : List ℕ) → OpensBy version frames old.committee new.committee → new.committee ≡ Some k → PutsLines k old.place new.place frames [] lines → AllZip (IsRow k) frames rows → new.rejected ≡ old.rejected + count_by is_rejected rows → GoesOn version frames old new lines
+goes_on version frames old new k rows lines opens known puts zipped counted before text h = by_old old.committee refl before h.listing h.committee h.index h.offset h.rejected
   where
     added : (p : ℕ) (o : ℕ) → old.place.index ≡ p → old.place.offset ≡ o → AreLinesFrom k p o frames lines
     added p o i j = subst (λ (q : ℕ × ℕ × List ℕ). AreLinesFrom k q.0 q.1 frames q.2) (λ t. (i t, j t, sym puts.put t)) puts.lines
@@ -162,23 +167,45 @@ goes_on version frames old new k lines opens known puts before text h = by_old o
     offset_then : (bs : List Frame) → old.place.offset ≡ 4 + length (flat_map frame_text bs) → new.place.offset ≡ 4 + length (flat_map frame_text (bs ++ frames))
     offset_then bs e = omega (arith, e, puts.after.offset, ap length (flat_map-append frame_text bs frames), length-append (flat_map frame_text bs) (flat_map frame_text frames))
 
+    more_rules : List Rule
+    more_rules = flat_map row_rules rows
+
+    more_rejected : AreRejectedBy k frames more_rules
+    more_rejected = rows_rejected k frames rows zipped
+
+    first_rejected : (fs : List Frame) → IsCommitteeOf version fs (Some k) → AreRejectedBy k fs more_rules → old.rejected ≡ 0 → IsRejectedCount version fs new.rejected
+    first_rejected [] e are none = absurd cc
+    first_rejected (f ∷ fs) e are none = (
+      more_rules,
+      subst (λ (m : CommitteeValue). AreRejectedBy m (f ∷ fs) more_rules) (known_one k (committee_of version f.payload) e) are,
+      omega (arith, counted, rows_counted rows, none),
+    )
+
+    later_rejected : (b : Frame) (bs : List Frame) → k ≡ committee_of version b.payload → IsRejectedCount version (b ∷ bs) old.rejected → IsRejectedCount version ((b ∷ bs) ++ frames) new.rejected
+    later_rejected b bs same (rules, are, e) = (
+      rules ++ more_rules,
+      rejected_then (committee_of version b.payload) (b ∷ bs) frames rules more_rules are (subst (λ (m : CommitteeValue). AreRejectedBy m frames more_rules) same more_rejected),
+      omega (arith, counted, rows_counted rows, e, length-append rules more_rules),
+    )
+
     -- the frames that follow none
     first_frames : (fs : List Frame) → IsCommitteeOf version fs (Some k) → AreLinesFrom k 0 4 fs lines → IsListing version fs lines
     first_frames [] e l = absurd cc
     first_frames (f ∷ fs) e l = subst (λ (m : CommitteeValue). AreLinesFrom m 0 4 (f ∷ fs) lines) (known_one k (committee_of version f.payload) e) l
 
-    by_old : (o : Option CommitteeValue) → o ≡ old.committee → (bs : List Frame) → IsListing version bs text → IsCommitteeOf version bs old.committee → old.place.index ≡ length bs → old.place.offset ≡ 4 + length (flat_map frame_text bs) → HasListed version (bs ++ frames) (text ++ lines) new
-    by_old None e [] listing committee index offset =
+    by_old : (o : Option CommitteeValue) → o ≡ old.committee → (bs : List Frame) → IsListing version bs text → IsCommitteeOf version bs old.committee → old.place.index ≡ length bs → old.place.offset ≡ 4 + length (flat_map frame_text bs) → IsRejectedCount version bs old.rejected → HasListed version (bs ++ frames) (text ++ lines) new
+    by_old None e [] listing committee index offset rejected =
         let is : IsCommitteeOf version frames (Some k) = subst (IsCommitteeOf version frames) known (subst (λ (w : Option CommitteeValue). OpensBy version frames w new.committee) (sym e) opens) in
         record {
           listing = subst (IsListing version frames) (ap (λ (t : List ℕ). t ++ lines) (sym listing)) (first_frames frames is (added 0 4 index offset));
           committee = subst (IsCommitteeOf version frames) (sym known) is;
           index = index_then [] index;
           offset = offset_then [] offset;
+          rejected = first_rejected frames is more_rejected rejected;
         }
-    by_old None e (b ∷ bs) listing committee index offset = absurd (let clash = e ∙ committee in cc)
-    by_old (Some m) e [] listing committee index offset = absurd (let clash = e ∙ committee in cc)
-    by_old (Some m) e (b ∷ bs) listing committee index offset =
+    by_old None e (b ∷ bs) listing committee index offset rejected = absurd (let clash = e ∙ committee in cc)
+    by_old (Some m) e [] listing committee index offset rejected = absurd (let clash = e ∙ committee in cc)
+    by_old (Some m) e (b ∷ bs) listing committee index offset rejected =
         let stays : new.committee ≡ Some m = subst (λ (w : Option CommitteeValue). OpensBy version frames w new.committee) (sym e) opens in
         let same : k ≡ committee_of version b.payload = known_one k (committee_of version b.payload) (sym known ∙ stays ∙ e ∙ committee) in
         record {
@@ -187,4 +214,5 @@ goes_on version frames old new k lines opens known puts before text h = by_old o
           committee = stays ∙ e ∙ committee;
           index = index_then (b ∷ bs) index;
           offset = offset_then (b ∷ bs) offset;
+          rejected = later_rejected b bs same rejected;
         }

@@ -23,15 +23,16 @@ use Rattle.bk_frames.proofs.Devices.{appends_then, take_past}
 use Rattle.bk_frames.proofs.CutJoining.{bytes_so_far, none_before_magic, ends_as_feed, ends_cut_short, spelling_then}
 use Rattle.bk_results.specs.declared.fault.Fault.{Fault}
 use Rattle.bk_results.specs.declared.fault.Fault.TheVariants as fault
-use Rattle.bk_results.specs.Devices.{Devices, IsUntouched}
+use Rattle.bk_results.specs.Devices.{Devices, IsUntouched, OfGiven}
 use Rattle.bk_listing.specs.Listing.{IsListing}
-use Rattle.bk_listing.specs.Answers.{IsListingTo, no_frames, of_frames, AllIsListed, IsListedTo, FailsOnceAtMost, ListFails}
+use Rattle.bk_listing.specs.Answers.{IsListingTo, no_frames, of_frames, AllIsListed, HasRejected, IsListedTo, FailsOnceAtMost, ListFails}
 use Rattle.bk_listing.specs.declared.reader.FrameReader.{FrameReader}
 use Rattle.bk_listing.specs.declared.lister.Lister.{Lister}
 use Rattle.bk_listing.specs.private.Reading.{AreFront, CanBe, HasCut, HasRead}
 use Rattle.bk_listing.specs.private.Shown.{HasListed, ListsMore, MoreFails, GoesOn, PushFails}
 use Rattle.bk_listing.specs.private.Listed.{AreListed, CanList, IsEmptied, ListsWaiting, WaitingFails, LeavesBy, EndsBy, HasShown, waiting}
 use Rattle.bk_listing.proofs.Refusals.{front_here, none_read}
+use Rattle.bk_listing.proofs.Rejected.{few_rejected}
 
 back_empty : {X : Type 0} (xs ys : List X) → xs ++ ys ≡ [] → ys ≡ []
 back_empty [] ys e = e
@@ -49,12 +50,12 @@ frame_each : (frames : List Frame) → length frames ≤ length (flat_map frame_
 frame_each [] = omega arith
 frame_each (f ∷ more) = let rest = frame_each more in omega (arith, rest, ap length (flat_map-cons frame_text f more), length-append (frame_text f) (flat_map frame_text more))
 
-pub waiting_fits : (v : Version) (taken ws : List Frame) (text : List ℕ) (l : Lister) → HasListed v taken text l → AreGoodFrom v 0 4 (taken ++ ws) → (l.place.index + length ws < 2 ^ 64) × (l.place.offset + length (flat_map frame_text ws) < 2 ^ 64)
+pub waiting_fits : (v : Version) (taken ws : List Frame) (text : List ℕ) (l : Lister) → HasListed v taken text l → AreGoodFrom v 0 4 (taken ++ ws) → (l.place.index + length ws < 2 ^ 64) × (l.place.offset + length (flat_map frame_text ws) < 2 ^ 64) × (l.rejected ≤ l.place.index)
 waiting_fits v taken ws text l h good =
     let all = good_long v 0 4 (taken ++ ws) (omega arith) good in
     let split = ap length (flat_map-append frame_text taken ws) in
     let joined = length-append (flat_map frame_text taken) (flat_map frame_text ws) in
-    (omega (arith, h.index, all, split, joined, frame_each taken, frame_each ws), omega (arith, h.offset, all, split, joined))
+    (omega (arith, h.index, all, split, joined, frame_each taken, frame_each ws), omega (arith, h.offset, all, split, joined), omega (arith, h.index, few_rejected v taken l.rejected h.rejected))
 
 -- ---- the frames that wait are listed
 
@@ -192,7 +193,7 @@ list_on old now later r s l m h w e same = record {
 }
 
 -- of a feed whose bytes all came all frames are listed
-feed_listed : (old now later : Devices) (r : FrameReader) (l m : Lister) → (h : HasShown old now r l) → ListsWaiting h.taken h.text r m now.sink later.sink → (r.cutter.kept ≡ []) × (2 ≤ r.cutter.index)
+pub feed_listed : (old now later : Devices) (r : FrameReader) (l m : Lister) → (h : HasShown old now r l) → ListsWaiting h.taken h.text r m now.sink later.sink → (r.cutter.kept ≡ []) × (2 ≤ r.cutter.index)
     → (whole : List ℕ) → HasCut whole h.taken r → AllIsListed old.sink later.sink whole
 feed_listed old now later r l m h w ends whole come =
     let z = ends_as_feed whole (h.taken ++ waiting r) r.cutter come.cuts ends.0 ends.1 in (
@@ -204,20 +205,22 @@ feed_listed old now later r l m h w ends whole come =
       received old.sink now.sink later.sink h.text w.lines h.out w.out.1,
     )
 
--- all bytes came, and are those of a feed
-pub whole_listed : (old now later : Devices) (r : FrameReader) (l m : Lister) → (h : HasShown old now r l) → IfKnown old.source (λ whole. HasCut whole h.taken r) → ListsWaiting h.taken h.text r m now.sink later.sink → (r.cutter.kept ≡ []) × (2 ≤ r.cutter.index)
-    → IfKnown old.source (AllIsListed old.sink later.sink)
-whole_listed old now later r l m h all w ends = by_known old.source.bytes all
-  where
-    by_known : (a : Option (List ℕ)) → IfSome a (λ whole. HasCut whole h.taken r) → IfSome a (AllIsListed old.sink later.sink)
-    by_known None come = tt
-    by_known (Some whole) come = feed_listed old now later r l m h w ends whole come
+-- and counted where they are rejected
+pub feed_rejected : (old now later : Devices) (r : FrameReader) (l m : Lister) → (h : HasShown old now r l) → ListsWaiting h.taken h.text r m now.sink later.sink → (r.cutter.kept ≡ []) × (2 ≤ r.cutter.index)
+    → (whole : List ℕ) → HasCut whole h.taken r → HasRejected m.rejected whole
+feed_rejected old now later r l m h w ends whole come =
+    let z = ends_as_feed whole (h.taken ++ waiting r) r.cutter come.cuts ends.0 ends.1 in
+    record { feed = feed_of z.0 (h.taken ++ waiting r); good = z.2; spelled = z.3; holds = (w.listed z.0 (subst (λ (o : Option Version). CanBe o z.0) (sym (come.version ∙ z.1)) refl)).rejected }
 
--- and of the bytes that the source gave
-pub given_listed : (old now later : Devices) (r : FrameReader) (l m : Lister) → (h : HasShown old now r l) → later.source ≡ now.source → ListsWaiting h.taken h.text r m now.sink later.sink → (r.cutter.kept ≡ []) × (2 ≤ r.cutter.index)
-    → Gave old.source later.source (AllIsListed old.sink later.sink)
-given_listed old now later r l m h same w ends =
-    (h.come.bytes, subst (λ (d : Device). Gives old.source d h.come.bytes) (sym same) h.come.gave, feed_listed old now later r l m h w ends h.come.bytes h.come.come)
+-- what holds where all bytes came holds of those that the source gave, and of all that it had
+pub of_given : (old now later : Devices) (r : FrameReader) (l : Lister) (P : List ℕ → Type 0) → (h : HasShown old now r l) → later.source ≡ now.source → IfKnown old.source (λ whole. HasCut whole h.taken r)
+    → ((whole : List ℕ) → HasCut whole h.taken r → P whole) → OfGiven old.source later.source P
+of_given old now later r l P h same all so =
+    ((h.come.bytes, subst (λ (d : Device). Gives old.source d h.come.bytes) (sym same) h.come.gave, so h.come.bytes h.come.come), by_known old.source.bytes all)
+  where
+    by_known : (a : Option (List ℕ)) → IfSome a (λ whole. HasCut whole h.taken r) → IfSome a P
+    by_known None come = tt
+    by_known (Some whole) come = so whole come
 
 -- ---- faults
 

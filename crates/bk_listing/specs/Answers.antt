@@ -6,8 +6,9 @@ use Rattle.bk_frames.specs.FirstFault.{Begins}
 use Rattle.bk_frames.specs.Pulling.{Refuses, Gave}
 use Rattle.bk_results.specs.declared.fault.Fault.{Fault}
 use Rattle.bk_results.specs.declared.fault.Fault.TheVariants as fault
-use Rattle.bk_results.specs.Devices.{Devices}
+use Rattle.bk_results.specs.Devices.{AreFeedWith, Devices}
 use Rattle.bk_listing.specs.Listing.{IsListing}
+use Rattle.bk_listing.specs.Rejects.{IsRejectedCount}
 
 -- the listing of the good frames that bytes begin with and that end at this offset; no text at 0, where the magic is not
 -- whole
@@ -21,6 +22,10 @@ abbrev pub AllIsListed : Device → Device → List ℕ → Type 0
 AllIsListed old new bytes =
     (feed : FeedValue) × IsFeed feed × (bytes ≡ spelling feed)
     × (text : List ℕ) × IsListing feed.version feed.frames text × Receives old new text
+
+-- the bytes are a feed, and this many of its frames are rejected
+abbrev pub HasRejected : ℕ → List ℕ → Type 0
+HasRejected rejected bytes = AreFeedWith bytes (λ feed. IsRejectedCount feed.version feed.frames rejected)
 
 -- of the bytes that came the sink received the listing of the frames before this offset
 abbrev pub IsListedTo : ℕ → Device → Device → List ℕ → Type 0

@@ -1,3 +1,4 @@
 pub mod Listing
+pub mod Rejects
 pub mod Answers
 pub mod private

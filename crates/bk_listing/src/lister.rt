@@ -1,6 +1,6 @@
 //! Frames that are listed, group by group.
 
-ghost use Rattle.std.specs.Prelude.{◌≡◌, ◌+◌, ◌<◌, ◌^◌, ◌++◌, [], ℕ, List, length, take, OnOk, IfOk, IfErr, None};
+ghost use Rattle.std.specs.Prelude.{◌≡◌, ◌+◌, ◌<◌, ◌≤◌, ◌^◌, ◌++◌, [], ℕ, List, length, take, OnOk, IfOk, IfErr, None};
 ghost use Rattle.std.specs.List.{flat_map};
 ghost use Rattle.bk_frames.specs.Cutting.{frames_in};
 ghost use Rattle.bk_frames.specs.Device.{CanBeUsed, Works, Fails, Receives};
@@ -11,6 +11,7 @@ ghost use Rattle.bk_listing.specs.private.Shown.{GoesOn, HasListed, ListsMore, M
 
 use crate::judging::all_rows;
 use crate::lines::{Place, put_lines};
+use crate::rows::count_rejected;
 use bk_base::{Kind, Version};
 use bk_committee::Committee;
 use bk_frames::{Sink, push_all};
@@ -26,6 +27,8 @@ pub(crate) struct Lister {
     committee: Option<Committee>,
     /// Where the next frame stands.
     pub(crate) place: Place,
+    /// How many of the frames that were listed are rejected.
+    pub(crate) rejected: u64,
     /// How many bytes of text are out.
     written: u64,
 }
@@ -53,6 +56,7 @@ impl Lister {
                 index: 0,
                 offset: 4,
             },
+            rejected: 0,
             written: 0,
         }
     }
@@ -62,6 +66,7 @@ impl Lister {
         ensures opens { OnOk result (OpensBy version (frames_in frames.now)
             self.old.committee self.new.committee) }
         ensures place { self.new.place ≡ self.old.place }
+        ensures rejected { self.new.rejected ≡ self.old.rejected }
         ensures written { self.new.written ≡ self.old.written }
     {
         if self.committee.is_some() {
@@ -81,6 +86,7 @@ impl Lister {
         version: Version,
         frames: &[(Kind, Vec<u8>)],
     ) -> Result<Vec<u8>, AllocError>
+        requires few { self.old.rejected ≤ self.old.place.index }
         requires index { self.old.place.index + length frames.now < 2 ^ 64 }
         requires offset { self.old.place.offset
             + length (flat_map frame_text (frames_in frames.now)) < 2 ^ 64 }
@@ -95,6 +101,7 @@ impl Lister {
         };
         let rows = all_rows(rt, self.alloc, committee, frames)?;
         put_lines(&mut text, &mut self.place, committee, frames, &rows)?;
+        self.rejected += count_rejected(&rows) as u64;
         Ok(text)
     }
 
@@ -105,6 +112,7 @@ impl Lister {
             × (self.new.written ≡ self.old.written + length lines.now)) }
         ensures committee { self.new.committee ≡ self.old.committee }
         ensures place { self.new.place ≡ self.old.place }
+        ensures rejected { self.new.rejected ≡ self.old.rejected }
         ensures fault { IfErr result (λ f. PushFails f self.old.written lines.now
             (K.state sink.old) (K.state sink.new)) }
     {
@@ -133,6 +141,7 @@ impl Lister {
         frames: &[(Kind, Vec<u8>)],
     ) -> Result<(), Fault>
         requires sound { CanBeUsed (K.state sink.old) }
+        requires few { self.old.rejected ≤ self.old.place.index }
         requires index { self.old.place.index + length frames.now < 2 ^ 64 }
         requires offset { self.old.place.offset
             + length (flat_map frame_text (frames_in frames.now)) < 2 ^ 64 }

@@ -7,7 +7,7 @@ ghost use Rattle.bk_frames.specs.Cutting.{frames_in};
 ghost use Rattle.bk_frames.specs.Device.{Device, CanBeUsed, Works};
 ghost use Rattle.bk_base.specs.Feed.{Frame};
 ghost use Rattle.bk_results.specs.Devices.{OfGiven, devices};
-ghost use Rattle.bk_listing.specs.Answers.{AllIsListed, ListFails};
+ghost use Rattle.bk_listing.specs.Answers.{AllIsListed, HasRejected, ListFails};
 ghost use Rattle.bk_listing.specs.private.Listed.{CanList, EndsBy, HasShown, IsEmptied, LeavesBy, ListsWaiting, WaitingFails};
 
 use crate::lister::Lister;
@@ -113,6 +113,8 @@ fn list_all<R: Threads + Sync, S: Source, K: Sink>(
         (devices (S.state source.old) (K.state sink.old)) reader.old lister.old }
     ensures listed { OnOk result (OfGiven (S.state source.old) (S.state source.new)
         (AllIsListed (K.state sink.old) (K.state sink.new))) }
+    ensures rejected { OnOk result (OfGiven (S.state source.old) (S.state source.new)
+        (HasRejected lister.new.rejected)) }
     ensures sound { OnOk result (Works (S.state source.old) (S.state source.new)
         × Works (K.state sink.old) (K.state sink.new)) }
     ensures fault { IfErr result (λ f. ListFails f
@@ -140,6 +142,8 @@ fn list_all<R: Threads + Sync, S: Source, K: Sink>(
 /// Writes a line for each whole frame of a feed that comes before any fault, in the order of the feed. Certificates are
 /// judged by the local rules of the feed's version, on all processors. Memory is that of one group of frames.
 ///
+/// Returns how many of the frames are certificates that break a rule, with those whose bytes are no certificate.
+///
 /// Where the feed has a fault, the lines of the whole frames before it are out. Where the sink fails, exactly the first
 /// `written` bytes of such lines are.
 pub fn list_frames<R: Threads + Sync, S: Source, K: Sink>(
@@ -147,11 +151,12 @@ pub fn list_frames<R: Threads + Sync, S: Source, K: Sink>(
     alloc: Global,
     source: &mut S,
     sink: &mut K,
-) -> Result<(), Fault>
+) -> Result<u64, Fault>
     requires source { CanBeUsed (S.state source.old) }
     requires sink { CanBeUsed (K.state sink.old) }
     ensures listed { OnOk result (OfGiven (S.state source.old) (S.state source.new)
         (AllIsListed (K.state sink.old) (K.state sink.new))) }
+    ensures rejected { IfOk result (λ n. OfGiven (S.state source.old) (S.state source.new) (HasRejected n)) }
     ensures sound { OnOk result (Works (S.state source.old) (S.state source.new)
         × Works (K.state sink.old) (K.state sink.new)) }
     ensures fault { IfErr result (λ f. ListFails f
@@ -169,5 +174,6 @@ pub fn list_frames<R: Threads + Sync, S: Source, K: Sink>(
         piece.as_mut_slice(),
         &mut reader,
         &mut lister,
-    )
+    )?;
+    Ok(lister.rejected)
 }

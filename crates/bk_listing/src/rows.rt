@@ -1,6 +1,6 @@
 //! What the line of a frame says, but for its number and its offset.
 
-ghost use Rattle.std.specs.Prelude.{◌≡◌, ◌<◌, ◌^◌, List, ℕ, IfOk, length};
+ghost use Rattle.std.specs.Prelude.{◌≡◌, ◌<◌, ◌^◌, List, [], ℕ, IfOk, count_by, length};
 ghost use Rattle.std.specs.List.{AllZip};
 ghost use Rattle.sha2.specs.Sha256.{sha256};
 ghost use Rattle.bk_frames.specs.Cutting.{frames_in};
@@ -12,7 +12,8 @@ ghost use Rattle.bk_cert.specs.Identity.{id_of};
 ghost use Rattle.bk_certcheck.specs.Verdicts.{IsVerdict};
 ghost use Rattle.bk_listing.specs.Listing.{accounts_in, batch_words, cert_row, judged_words};
 ghost use Rattle.bk_listing.specs.private.Rows.{IsFound};
-ghost use Rattle.bk_listing.specs.private.Shown.{IsRow, row_words};
+ghost use Rattle.bk_listing.specs.Rejects.{rules_by};
+ghost use Rattle.bk_listing.specs.private.Shown.{IsRow, is_rejected, row_rules, row_words};
 ghost use Rattle.bk_listing.specs.declared.rows.Shown.TheVariants as shown;
 ghost use Rattle.bk_tx.specs.Batches.{count_in};
 
@@ -88,7 +89,8 @@ fn cert_row(view: &CertView<'_>, id: Digest32) -> CertRow
 // What a line says of the bytes of a certificate on which this is the verdict.
 fn judged(payload: &[u8], verdict: &Verdict) -> Shown
     requires { (k : CommitteeValue) × IsVerdict k payload.now verdict.now }
-    ensures { (k : CommitteeValue) → row_words k result ≡ judged_words payload.now verdict.now }
+    ensures words { (k : CommitteeValue) → row_words k result ≡ judged_words payload.now verdict.now }
+    ensures rules { row_rules result ≡ rules_by verdict.now }
 {
     let Some(view) = CertView::of(payload) else {
         return Shown::Malformed;
@@ -124,8 +126,9 @@ fn genesis(alloc: Global, payload: &[u8]) -> Result<Shown, AllocError>
 
 // What a line says of a batch with this digest.
 fn batch(alloc: Global, payload: &[u8], digest: Digest32) -> Result<Shown, AllocError>
-    ensures { IfOk result (λ row. (k : CommitteeValue)
+    ensures words { IfOk result (λ row. (k : CommitteeValue)
         → row_words k row ≡ batch_words digest (count_in payload.now)) }
+    ensures rules { IfOk result (λ row. row_rules row ≡ []) }
 {
     match read_batch(alloc, payload)? {
         Some(slices) => Ok(Shown::Batch(digest, slices.len())),
@@ -150,6 +153,33 @@ fn row_of(alloc: Global, kind: Kind, payload: &[u8], found: &Found) -> Result<Sh
             }
         },
     }
+}
+
+// Whether a row is of a frame that is rejected.
+fn is_rejected(row: &Shown) -> bool
+    ensures { result ≡ is_rejected row.now }
+{
+    match row {
+        Shown::Malformed | Shown::Broken(_, _) => true,
+        Shown::Committee(_)
+        | Shown::Genesis(_, _, _)
+        | Shown::Good(_)
+        | Shown::Batch(_, _)
+        | Shown::Void(_) => false,
+    }
+}
+
+/// How many of these rows are of frames that are rejected.
+pub(crate) fn count_rejected(rows: &[Shown]) -> usize
+    ensures { result ≡ count_by is_rejected rows.now }
+{
+    rows.iter()
+        .filter(
+            |row: &&Shown| -> bool
+                ensures { result ≡ is_rejected row.now.now }
+            { is_rejected(*row) },
+        )
+        .count()
 }
 
 /// The rows of frames, with what was found of each.

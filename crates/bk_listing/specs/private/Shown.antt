@@ -1,5 +1,5 @@
 -- What the line of a frame says, and what is listed so far.
-use Rattle.std.specs.Prelude.{◌≡◌, ℕ, ◌+◌, ◌<◌, List, [], ◌∷◌, ◌++◌, length, take, codes, Option, Some, None}
+use Rattle.std.specs.Prelude.{◌≡◌, ℕ, ◌+◌, ◌<◌, Bool, true, false, List, [], ◌∷◌, ◌++◌, length, take, codes, Option, Some, None}
 use Rattle.std.specs.List.{flat_map}
 use Rattle.bk_base.specs.declared.version.Version.{Version}
 use Rattle.bk_frames.specs.Device.{Device, Fails, Receives}
@@ -9,8 +9,10 @@ use Rattle.bk_results.specs.declared.fault.Fault.TheVariants as fault
 use Rattle.bk_results.specs.Devices.{IsUntouched}
 use Rattle.bk_base.specs.Feed.{Frame, frame_text}
 use Rattle.bk_committee.specs.Payload.{CommitteeValue, committee_of}
+use Rattle.bk_certcheck.specs.declared.rule.Rule.{Rule}
 use Rattle.bk_certcheck.specs.declared.rule.Rule.TheVariants as rule
 use Rattle.bk_listing.specs.Listing.{AreWords, AreLinesFrom, IsListing, committee_words, genesis_words, cert_words, rule_words, batch_words}
+use Rattle.bk_listing.specs.Rejects.{IsRejectedBy, IsRejectedCount}
 use Rattle.bk_listing.specs.declared.rows.Shown.{Shown}
 use Rattle.bk_listing.specs.declared.rows.Shown.TheVariants as shown
 use Rattle.bk_listing.specs.declared.lines.Place.{Place}
@@ -26,9 +28,30 @@ row_words k (shown.Broken row r) = codes "cert" ++ cert_words row ++ rule_words 
 row_words k (shown.Batch digest count) = batch_words digest (Some count)
 row_words k (shown.Void digest) = batch_words digest None
 
--- the words of a row are those of the frame
+-- the rule by which the frame of a row is rejected, if it is
+abbrev pub row_rules : Shown → List Rule
+row_rules (shown.Committee digest) = []
+row_rules (shown.Genesis digest accounts money) = []
+row_rules shown.Malformed = rule.Shape ∷ []
+row_rules (shown.Good row) = []
+row_rules (shown.Broken row r) = r ∷ []
+row_rules (shown.Batch digest count) = []
+row_rules (shown.Void digest) = []
+
+-- the frame of a row is rejected
+abbrev pub is_rejected : Shown → Bool
+is_rejected (shown.Committee digest) = false
+is_rejected (shown.Genesis digest accounts money) = false
+is_rejected shown.Malformed = true
+is_rejected (shown.Good row) = false
+is_rejected (shown.Broken row r) = true
+is_rejected (shown.Batch digest count) = false
+is_rejected (shown.Void digest) = false
+
+-- a row has the words of the frame, and the rule by which it is rejected
 abbrev pub IsRow : CommitteeValue → Frame → Shown → Type 0
-IsRow k f row = AreWords k f.kind f.payload (row_words k row)
+IsRow k f row =
+    AreWords k f.kind f.payload (row_words k row) × IsRejectedBy k f.kind f.payload (row_rules row)
 
 -- the place of the frame that follows these
 pub record IsPlaceAfter (start : Place) (frames : List Frame) (place : Place) : Type 0 where
@@ -53,6 +76,7 @@ pub record HasListed (version : Version) (frames : List Frame) (text : List ℕ)
   pub committee : IsCommitteeOf version frames l.committee
   pub index : l.place.index ≡ length frames
   pub offset : l.place.offset ≡ 4 + length (flat_map frame_text frames)
+  pub rejected : IsRejectedCount version frames l.rejected
 
 -- a committee is that of the first of these frames where none was known, and else stays
 abbrev pub OpensBy : Version → List Frame → Option CommitteeValue → Option CommitteeValue → Type 0

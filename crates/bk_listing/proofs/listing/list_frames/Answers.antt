@@ -16,11 +16,5 @@ pub list_all-requires-clause-first : goal.list_all-requires-clause-first
 list_all-requires-clause-first g c = λ lives within.
     none_shown (devices (g.S.Source.state c.args.source.now) (g.K.Sink.state c.args.sink.now)) c.new-reader.result c.new-lister.result c.new-reader.ensures.cut c.new-lister.ensures.listed c.new-lister.ensures.written
 
-pub returns-clause-listed : goal.returns-clause-listed
-returns-clause-listed g c = c.list_all.ensures.listed
-
-pub returns-clause-sound : goal.returns-clause-sound
-returns-clause-sound g c = c.list_all.ensures.sound
-
-pub returns-clause-fault : goal.returns-clause-fault
-returns-clause-fault g c = c.list_all.ensures.fault
+pub returns-clause-rejected : goal.returns-clause-rejected
+returns-clause-rejected g c = c.in_ok-list_all.ensures.rejected

@@ -19,6 +19,11 @@ returns-in_default-clause-listed g c = λ taken text h. none_listed taken text c
 pub returns-in_default-clause-emptied : goal.returns-in_default-clause-emptied
 returns-in_default-clause-emptied g c = record { cutter = refl; version = refl; head = refl; seen = refl; none_waits = ap (λ v. v.items) c.replace-frames.ensures.after ∙ c.new.ensures.items }
 
+pub list-requires-clause-few : goal.list-requires-clause-few
+list-requires-clause-few g c κs within =
+    let h = c.requires.ready.2 in
+    (waiting_fits c.in-Some.version c.requires.ready.0 (waiting c.args.reader.now) c.requires.ready.1 c.args.lister.now (h.listed c.in-Some.version (subst (λ (o : Option Version). CanBe o c.in-Some.version) (sym c.in-Some.is) refl)) (h.good c.in-Some.version c.in-Some.is)).2
+
 pub list-requires-clause-index : goal.list-requires-clause-index
 list-requires-clause-index g c κs within =
     let h = c.requires.ready.2 in
