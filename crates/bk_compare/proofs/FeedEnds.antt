@@ -1,6 +1,6 @@
 -- Where feeds end that are followed, and whether two of them agree.
-use Rattle.std.proofs.Common.{◌≡◌, ℕ, true, false, List, Option, Some, None, refl, sym, ap, subst, ◌∙◌, ◌⊎◌, inl, inr, ⊎_elim}
-use Rattle.std.specs.Prelude.{IfOk, IfErr, OnOk, Result, Ok, Err}
+use Rattle.std.proofs.Common.{◌≡◌, ◌≤◌, ℕ, Bool, true, false, List, [], ◌∷◌, length, Option, Some, None, refl, sym, ap, subst, ◌∙◌, ◌⊎◌, inl, inr, ⊎_elim, arith}
+use Rattle.std.specs.Prelude.{IfErr, OnOk, Result, Ok, Err}
 use Rattle.std.proofs.lemmas.List.Elements.{Contains-append_left, Contains-append_right}
 use Rattle.bk_base.specs.declared.version.Version.{Version}
 use Rattle.bk_frames.specs.Device.{Device, Works, IfKnown, GaveAll}
@@ -29,11 +29,12 @@ use Rattle.bk_compare.specs.declared.compared.Compared.{Compared}
 use Rattle.bk_answer.specs.Gaps.{IsGap, IsGapIn}
 use Rattle.bk_follow.specs.Queries.{missing_in}
 use Rattle.bk_follow.specs.Finishing.{OfFeed, Closes, CloseFails}
-use Rattle.bk_follow.specs.Follower.{BookValue, Followed, IsCurrent, ordered_in, receipts_of_executed}
+use Rattle.bk_follow.specs.Follower.{BookValue, Followed, Follows, FollowsBy, IsBookOf, IsCurrent, ordered_in, receipts_of_executed}
 use Rattle.bk_follow.specs.Queries.{rows_of_executed}
 use Rattle.bk_follow.specs.Replaying.{AllHasCome, ReadFails}
-use Rattle.bk_answer.specs.RunReport.{committee_in, later_frames, IsStopIn, HasPlaceIn, HasPlace}
-use Rattle.bk_compare.specs.private.Ends.{HasStopIn, HasEnded, Ends, EndsNot, AgreesWith, compared_of, ComparisonStopsWith, IsDifferOf}
+use Rattle.bk_answer.specs.RunReport.{committee_in, later_frames, IsOrderIn, IsStopIn, HasPlaceIn, HasPlace}
+use Rattle.bk_answer.specs.Flaws.{IsFlaw, IsFlawIf}
+use Rattle.bk_compare.specs.private.Ends.{HasStopIn, HasEnded, Ends, EndsNot, HasOrderOf, OfEnded, ComparisonStopsWith, IsDifferOf}
 use Rattle.bk_follow.specs.Stopping.{stops}
 use Rattle.bk_follow.proofs.ComparedBooks.{version_is}
 use Rattle.bk_frames.proofs.Devices.{gave_all, known_of}
@@ -144,6 +145,30 @@ part_unstopped k part whole s into none h = no_stop k part s (none_in_part k par
 outcome_of_end : (feed : FeedValue) (v : Followed) → HasStopIn feed ⊎ IsOutcomeOf feed (settled_in v.book) → (HasStopIn feed → ⊥) → IsOutcomeOf feed (settled_in v.book)
 outcome_of_end feed v end none = ⊎_elim (λ (s : HasStopIn feed). absurd (none s)) (λ (o : IsOutcomeOf feed (settled_in v.book)). o) end
 
+-- the book of a feed whose frames have come
+book_of : (version : Version) (frames : List Frame) (committee : Option CommitteeValue) (book : Option BookValue) → 2 ≤ length frames → FollowsBy version frames committee book → (b : BookValue) × (book ≡ Some b) × IsBookOf (feed_of version frames) b
+book_of version [] committee book two h = absurd (omega (arith, two))
+book_of version (first ∷ []) committee book two h = absurd (omega (arith, two))
+book_of version (first ∷ second ∷ more) committee book two h = h
+
+-- a Follower that has followed a feed to its end, which nothing stops, has its order
+order_made : (bytes : List ℕ) (v : Followed) (x : HasEnded bytes v) → (HasStopIn (feed_of x.version x.frames) → ⊥) → HasOrderOf v (feed_of x.version x.frames)
+order_made bytes v x none =
+    let o = outcome_of_end (feed_of x.version x.frames) v x.end none in
+    let followed : FollowsBy x.version x.frames v.committee v.book = subst (λ (w : Option Version). Follows w x.frames v.committee v.book) x.known x.come.follows in
+    let found = book_of x.version x.frames v.committee v.book x.good.opened followed in (
+      x.good,
+      (
+        found.0,
+        found.1,
+        record {
+          book = found.2;
+          clear = o.clear;
+          ordered = subst (λ (book : Option BookValue). IsOrderIn (feed_of x.version x.frames) (ordered_in book)) found.1 o.ordered;
+        },
+      ),
+    )
+
 -- the missing batch of an outcome is where its order stops
 gap_of_outcome : (feed : FeedValue) (book : Option BookValue) → IsOutcomeOf feed (settled_in book) → IsGapIn feed (missing_in book)
 gap_of_outcome feed book o = record { clear = o.clear; ordered = ordered_in book; order = o.ordered; missing_is = refl }
@@ -188,22 +213,34 @@ module _ (one other : Followed) (bytes more : List ℕ) (x : HasEnded bytes one)
         rows = h.rows;
       }
 
-  pub ended_agree : (a : Agreed) → FollowersAgree one other a → OfTheirFeeds bytes more (λ f g. FeedsCompared f g (compared_of one other a))
-  ended_agree a h =
-      let clear : HaveNoStop left right = both_feeds one other HaveNoStop bytes more h.clear x y in
+  clear_so : (a : Agreed) → FollowersAgree one other a → HaveNoStop left right
+  clear_so a h = both_feeds one other HaveNoStop bytes more h.clear x y
+
+  -- nothing stops either feed, and each Follower has the order of its own
+  pub left_order : (a : Agreed) → FollowersAgree one other a → HasOrderOf one left
+  left_order a h = order_made bytes one x (left_clear (clear_so a h))
+
+  pub right_order : (a : Agreed) → FollowersAgree one other a → HasOrderOf other right
+  right_order a h = order_made more other y (right_clear (clear_so a h))
+
+  pub ended_agree : (strict : Bool) (c : Compared) → c.first ≡ missing_in one.book → c.second ≡ missing_in other.book → FollowersAgree one other c.agreed → IsFlawIf strict left c.first_flaw → IsFlawIf strict right c.second_flaw → OfTheirFeeds bytes more (λ f g. FeedsCompared strict f g c)
+  ended_agree strict c first second h flaw also_flaw =
+      let clear : HaveNoStop left right = clear_so c.agreed h in
       let outcome : IsOutcomeOf left (settled_in one.book) = outcome_of_end left one x.end (left_clear clear) in
       let also : IsOutcomeOf right (settled_in other.book) = outcome_of_end right other y.end (right_clear clear) in
-      spelled_so (λ f g. FeedsCompared f g (compared_of one other a)) (record {
+      spelled_so (λ f g. FeedsCompared strict f g c) (record {
         agree = record {
           clear = clear;
           end = settled_in one.book;
           also = settled_in other.book;
           outcome = outcome;
           also_outcome = also;
-          agree = as_found a h clear outcome also;
+          agree = as_found c.agreed h clear outcome also;
         };
-        first = gap_of_outcome left one.book outcome;
-        second = gap_of_outcome right other.book also;
+        first = subst (IsGapIn left) (sym first) (gap_of_outcome left one.book outcome);
+        second = subst (IsGapIn right) (sym second) (gap_of_outcome right other.book also);
+        first_flaw = flaw;
+        second_flaw = also_flaw;
       })
 
   pub ended_differ : (d : Differ) → FollowersDiffer one other d → OfTheirFeeds bytes more (FeedsDiffer d)
@@ -216,21 +253,19 @@ module _ (one other : Followed) (bytes more : List ℕ) (x : HasEnded bytes one)
 
 -- ---- two sources
 
-pub agrees_with : (one other : Followed) (old new : Device) (a : Agreed) → GaveAll old new (λ more. HasEnded more other) → FollowersAgree one other a → AgreesWith one other old new a
-agrees_with one other old new a ended h =
-    λ bytes x. gave_all old new (λ more. HasEnded more other) (λ more. OfTheirFeeds bytes more (λ f g. FeedsCompared f g (compared_of one other a))) ended (λ more y. ended_agree one other bytes more x y a h)
+-- Followers that agree have one setup
+pub one_setup : (one other : Followed) (a : Agreed) → FollowersAgree one other a → FollowersDiffer one other differ.Memory
+one_setup one other a h bytes frames come =
+    let p = h.clear bytes frames come in
+    (p.0, p.1, λ more gs also. let q = p.2 more gs also in (q.0, q.1, q.2.0))
 
 pub differs_with : (one other : Followed) (old new : Device) (d : Differ) → Works old new → GaveAll old new (λ more. HasEnded more other) → FollowersDiffer one other d → ComparisonStopsWith (why.Differ d) one old new
 differs_with one other old new d works ended h = (works, λ bytes x. gave_all old new (λ more. HasEnded more other) (λ more. OfTheirFeeds bytes more (FeedsDiffer d)) ended (λ more y. ended_differ one other bytes more x y d h))
 
--- what comparing both says of the source of the other
-pub agrees_by : (result : Result Agreed CompareStop) (one other : Followed) (old new : Device) → GaveAll old new (λ more. HasEnded more other) → IfOk result (FollowersAgree one other) → IfOk result (AgreesWith one other old new)
-agrees_by (Ok a) one other old new ended h = agrees_with one other old new a ended h
-agrees_by (Err e) one other old new ended h = tt
-
-pub works_by : (result : Result Agreed CompareStop) (old new : Device) → Works old new → OnOk result (Works old new)
-works_by (Ok a) old new works = works
-works_by (Err e) old new works = tt
+-- what holds holds with a result
+pub on_ok : (result : Result Agreed CompareStop) (P : Type 0) → P → OnOk result P
+on_ok (Ok a) P h = h
+on_ok (Err e) P h = tt
 
 differs_by : (e : CompareStop) (one other : Followed) (old new : Device) → Works old new → GaveAll old new (λ more. HasEnded more other) → IsDifferOf one other e → ComparisonStopsWith e one old new
 differs_by (why.First found) one other old new works ended h = absurd h
@@ -242,10 +277,11 @@ stops_by (Ok a) one other old new works ended h = tt
 stops_by (Err e) one other old new works ended h = differs_by e one other old new works ended h
 
 -- and of both sources
-pub both_agree : (a : Agreed) (one other : Followed) (first first' second second' : Device) → GaveAll first first' (λ bytes. HasEnded bytes one) → AgreesWith one other second second' a
-    → BothGave (sources first second) (sources first' second') (λ f g. FeedsCompared f g (compared_of one other a))
-both_agree a one other first first' second second' ended h =
-    gave_all first first' (λ bytes. HasEnded bytes one) (λ bytes. GaveAll second second' (λ more. OfTheirFeeds bytes more (λ f g. FeedsCompared f g (compared_of one other a)))) ended (λ bytes x. h bytes x)
+pub both_gave : (one other : Followed) (holds : FeedValue → FeedValue → Type 0) (first first' second second' : Device) → GaveAll first first' (λ bytes. HasEnded bytes one) → GaveAll second second' (λ more. HasEnded more other)
+    → OfEnded one other holds → BothGave (sources first second) (sources first' second') holds
+both_gave one other holds first first' second second' ended also h =
+    gave_all first first' (λ bytes. HasEnded bytes one) (λ bytes. GaveAll second second' (λ more. OfTheirFeeds bytes more holds)) ended
+    (λ bytes x. gave_all second second' (λ more. HasEnded more other) (λ more. OfTheirFeeds bytes more holds) also (λ more y. h bytes more x y))
 
 -- what follows from what holds of both feeds holds of them
 pub of_theirs : (holds too : FeedValue → FeedValue → Type 0) (bytes more : List ℕ) → ((f g : FeedValue) → holds f g → too f g) → OfTheirFeeds bytes more holds → OfTheirFeeds bytes more too
@@ -256,8 +292,8 @@ both_so old new holds too f h =
     gave_all old.first new.first (λ bytes. GaveAll old.second new.second (λ more. OfTheirFeeds bytes more holds)) (λ bytes. GaveAll old.second new.second (λ more. OfTheirFeeds bytes more too)) h
     (λ bytes k. gave_all old.second new.second (λ more. OfTheirFeeds bytes more holds) (λ more. OfTheirFeeds bytes more too) k (λ more x. of_theirs holds too bytes more f x))
 
-pub agree_too : (old new : Sources) (c : Compared) → BothGave old new (λ f g. FeedsCompared f g c) → BothGave old new (λ f g. FeedsAgree f g c.agreed)
-agree_too old new c h = both_so old new (λ f g. FeedsCompared f g c) (λ f g. FeedsAgree f g c.agreed) (λ f g x. x.agree) h
+pub agree_too : (strict : Bool) (old new : Sources) (c : Compared) → BothGave old new (λ f g. FeedsCompared strict f g c) → BothGave old new (λ f g. FeedsAgree f g c.agreed)
+agree_too strict old new c h = both_so old new (λ f g. FeedsCompared strict f g c) (λ f g. FeedsAgree f g c.agreed) (λ f g x. x.agree) h
 
 -- what holds of the bytes that both gave holds of those that are known
 pub both_known : (old new : Sources) (holds : FeedValue → FeedValue → Type 0) → BothGave old new holds → IfKnown old.first (λ bytes. IfKnown old.second (λ more. OfTheirFeeds bytes more holds))
@@ -266,18 +302,32 @@ both_known old new holds h =
     (gave_all old.first new.first (λ bytes. GaveAll old.second new.second (λ more. OfTheirFeeds bytes more holds)) (λ bytes. IfKnown old.second (λ more. OfTheirFeeds bytes more holds)) h
     (λ bytes k. known_of old.second new.second (λ more. OfTheirFeeds bytes more holds) k))
 
--- and the bytes of both stop at the missing batches of both
-pub gaps_too : (old new : Sources) (c : Compared) → BothGave old new (λ f g. FeedsCompared f g c) → IfKnown old.first (λ bytes. IfKnown old.second (λ more. IsGap bytes c.first × IsGap more c.second))
-gaps_too old new c h =
-    known_of old.first new.first (λ bytes. IfKnown old.second (λ more. IsGap bytes c.first × IsGap more c.second))
-    (gave_all old.first new.first (λ bytes. GaveAll old.second new.second (λ more. OfTheirFeeds bytes more (λ f g. FeedsCompared f g c))) (λ bytes. IfKnown old.second (λ more. IsGap bytes c.first × IsGap more c.second)) h
-    (λ bytes k. known_of old.second new.second (λ more. IsGap bytes c.first × IsGap more c.second)
-    (gave_all old.second new.second (λ more. OfTheirFeeds bytes more (λ f g. FeedsCompared f g c)) (λ more. IsGap bytes c.first × IsGap more c.second) k (λ more x. gaps_of bytes more x))))
+-- and what follows from that of both byte strings
+both_bytes : (old new : Sources) (holds : FeedValue → FeedValue → Type 0) (so : List ℕ → List ℕ → Type 0) → ((bytes more : List ℕ) → OfTheirFeeds bytes more holds → so bytes more) → BothGave old new holds → IfKnown old.first (λ bytes. IfKnown old.second (λ more. so bytes more))
+both_bytes old new holds so f h =
+    known_of old.first new.first (λ bytes. IfKnown old.second (λ more. so bytes more))
+    (gave_all old.first new.first (λ bytes. GaveAll old.second new.second (λ more. OfTheirFeeds bytes more holds)) (λ bytes. IfKnown old.second (λ more. so bytes more)) h
+    (λ bytes k. known_of old.second new.second (λ more. so bytes more)
+    (gave_all old.second new.second (λ more. OfTheirFeeds bytes more holds) (λ more. so bytes more) k (λ more x. f bytes more x))))
+
+-- the bytes of both stop at the missing batches of both
+pub gaps_too : (strict : Bool) (old new : Sources) (c : Compared) → BothGave old new (λ f g. FeedsCompared strict f g c) → IfKnown old.first (λ bytes. IfKnown old.second (λ more. IsGap bytes c.first × IsGap more c.second))
+gaps_too strict old new c h = both_bytes old new (λ f g. FeedsCompared strict f g c) (λ bytes more. IsGap bytes c.first × IsGap more c.second) gaps_of h
   where
-    gaps_of : (bytes more : List ℕ) → OfTheirFeeds bytes more (λ f g. FeedsCompared f g c) → IsGap bytes c.first × IsGap more c.second
+    gaps_of : (bytes more : List ℕ) → OfTheirFeeds bytes more (λ f g. FeedsCompared strict f g c) → IsGap bytes c.first × IsGap more c.second
     gaps_of bytes more x = (
       record { feed = x.one; good = x.good; spelled = x.spelled; holds = x.holds.first },
       record { feed = x.other; good = x.other_good; spelled = x.other_spelled; holds = x.holds.second },
+    )
+
+-- and this keeps both from counting whole, where that was asked for
+pub flaws_too : (old new : Sources) (c : Compared) → BothGave old new (λ f g. FeedsCompared true f g c) → IfKnown old.first (λ bytes. IfKnown old.second (λ more. IsFlaw bytes c.first_flaw × IsFlaw more c.second_flaw))
+flaws_too old new c h = both_bytes old new (λ f g. FeedsCompared true f g c) (λ bytes more. IsFlaw bytes c.first_flaw × IsFlaw more c.second_flaw) flaws_of h
+  where
+    flaws_of : (bytes more : List ℕ) → OfTheirFeeds bytes more (λ f g. FeedsCompared true f g c) → IsFlaw bytes c.first_flaw × IsFlaw more c.second_flaw
+    flaws_of bytes more x = (
+      record { feed = x.one; good = x.good; spelled = x.spelled; holds = x.holds.first_flaw },
+      record { feed = x.other; good = x.other_good; spelled = x.other_spelled; holds = x.holds.second_flaw },
     )
 
 -- a feed that has ended is a feed

@@ -1,1 +1,2 @@
 pub mod FeedEnds
+pub mod Flawed

@@ -1,5 +1,5 @@
 -- When the feeds of two sources agree, and why they do not.
-use Rattle.std.specs.Prelude.{◌≡◌, List, ℕ}
+use Rattle.std.specs.Prelude.{◌≡◌, Bool, List, ℕ}
 use Rattle.bk_frames.specs.Device.{Device, Works, GaveAll}
 use Rattle.bk_base.specs.Feed.{FeedValue, IsFeed, spelling}
 use Rattle.bk_frames.specs.Pulling.{Refuses}
@@ -12,6 +12,7 @@ use Rattle.bk_results.specs.declared.differ.Differ.TheVariants as differ
 use Rattle.bk_results.specs.declared.fault.Fault.{Fault}
 use Rattle.bk_results.specs.declared.fault.Fault.TheVariants as fault
 use Rattle.bk_compare.specs.declared.compared.Compared.{Compared}
+use Rattle.bk_answer.specs.Flaws.{IsFlawIf}
 use Rattle.bk_answer.specs.Gaps.{IsGapIn}
 use Rattle.bk_follow.specs.Agreement.{HaveOneSetup, HaveNoStop, HaveStop, Agree}
 use Rattle.bk_results.specs.Devices.{AreFeed}
@@ -30,11 +31,14 @@ pub record FeedsAgree (one other : FeedValue) (a : Agreed) : Type 0 where
   pub also_outcome : IsOutcomeOf other also
   pub agree : Agree end also a
 
--- they agree so far, and these are the first missing batches of their orders
-pub record FeedsCompared (one other : FeedValue) (c : Compared) : Type 0 where
+-- they agree so far, these are the first missing batches of their orders, and this keeps each from counting whole, where
+-- that is asked for
+pub record FeedsCompared (strict : Bool) (one other : FeedValue) (c : Compared) : Type 0 where
   pub agree : FeedsAgree one other c.agreed
   pub first : IsGapIn one c.first
   pub second : IsGapIn other c.second
+  pub first_flaw : IsFlawIf strict one c.first_flaw
+  pub second_flaw : IsFlawIf strict other c.second_flaw
 
 -- why they do not: they have no one setup; or they have one, and the frames of both together are stopped so, or memory ran out
 abbrev pub FeedsDiffer : Differ → FeedValue → FeedValue → Type 0

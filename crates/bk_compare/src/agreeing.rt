@@ -6,13 +6,15 @@ ghost use Rattle.bk_frames.specs.Device.{CanBeUsed, Works, GaveAll};
 ghost use Rattle.bk_follow.specs.Agreement.{FollowersAgree};
 ghost use Rattle.bk_follow.specs.Follower.{unfed};
 ghost use Rattle.bk_compare.specs.FeedAgreement.{BothGave, BothWork, ComparisonStops, FeedsAgree, FeedsCompared, FollowFails, sources};
-ghost use Rattle.bk_compare.specs.private.Ends.{AgreesWith, ComparisonStopsWith, Ends, EndsNot, HasEnded, IsDifferOf};
+ghost use Rattle.bk_compare.specs.private.Ends.{BothHaveEnded, ComparisonStopsWith, Ends, EndsNot, HasEnded, IsDifferOf, OfEnded};
+ghost use Rattle.bk_results.specs.declared.differ.Differ.TheVariants as differ;
 
 use crate::compared::Compared;
+use crate::flaws::flaw_if;
 use bk_follow::{Follower, is_stop};
 use bk_frames::{PIECE, Source};
 use bk_pool::Gate;
-use bk_results::{Agreed, CompareStop, Fault};
+use bk_results::{Agreed, CompareStop, Differ, Fault};
 use std::alloc::Global;
 use std::sync::Wait;
 use std::thread::Threads;
@@ -103,7 +105,9 @@ fn compare_with<R: Threads + Wait + Sync, S: Source, G: Gate + Sync>(
     requires works { one.now.fault ≡ None }
     requires other { other.old ≡ unfed }
     requires sound { CanBeUsed (S.state source.old) }
-    ensures agree { IfOk result (AgreesWith one.now other.new (S.state source.old) (S.state source.new)) }
+    ensures agree { IfOk result (FollowersAgree one.now other.new) }
+    ensures ended { OnOk result (GaveAll (S.state source.old) (S.state source.new)
+        (λ bytes. HasEnded bytes other.new)) }
     ensures sound { OnOk result (Works (S.state source.old) (S.state source.new)) }
     ensures stop { IfErr result (λ e. ComparisonStopsWith e one.now
         (S.state source.old) (S.state source.new)) }
@@ -112,6 +116,31 @@ fn compare_with<R: Threads + Wait + Sync, S: Source, G: Gate + Sync>(
         Ok(()) => compare_ended(one, other),
         Err(fault) => Err(CompareStop::Second(fault)),
     }
+}
+
+// What was found of two Followers that agree so far. Each has followed a feed to its end.
+fn found_of(
+    one: &Follower,
+    other: &Follower,
+    agreed: Agreed,
+    strict: bool,
+) -> Result<Compared, Differ>
+    requires agree { FollowersAgree one.now other.now agreed }
+    requires ended { BothHaveEnded one.now other.now }
+    ensures found { IfOk result (λ c. OfEnded one.now other.now (λ f g. FeedsCompared strict f g c)) }
+    ensures memory { IfErr result (λ d. d ≡ differ.Memory) }
+{
+    let first = one.missing();
+    let second = other.missing();
+    let first_flaw = flaw_if(one, strict)?;
+    let second_flaw = flaw_if(other, strict)?;
+    Ok(Compared {
+        agreed,
+        first,
+        second,
+        first_flaw,
+        second_flaw,
+    })
 }
 
 // Compares the feeds of two sources, each with a Follower of its own.
@@ -123,6 +152,7 @@ fn compare_both<R: Threads + Wait + Sync, S: Source, T: Source, G: Gate + Sync>(
     one: &mut Follower,
     other: &mut Follower,
     gate: &G,
+    strict: bool,
 ) -> Result<Compared, CompareStop>
     requires first { CanBeUsed (S.state first.old) }
     requires second { CanBeUsed (T.state second.old) }
@@ -130,7 +160,7 @@ fn compare_both<R: Threads + Wait + Sync, S: Source, T: Source, G: Gate + Sync>(
     requires other { other.old ≡ unfed }
     ensures agree { IfOk result (λ c. BothGave
         (sources (S.state first.old) (T.state second.old))
-        (sources (S.state first.new) (T.state second.new)) (λ f g. FeedsCompared f g c)) }
+        (sources (S.state first.new) (T.state second.new)) (λ f g. FeedsCompared strict f g c)) }
     ensures sound { OnOk result (BothWork
         (sources (S.state first.old) (T.state second.old))
         (sources (S.state first.new) (T.state second.new))) }
@@ -141,13 +171,10 @@ fn compare_both<R: Threads + Wait + Sync, S: Source, T: Source, G: Gate + Sync>(
     match follow_to_end(rt, alloc, first, one, gate) {
         Ok(()) => {
             let agreed = compare_with(rt, alloc, one, second, other, gate)?;
-            let first = one.missing();
-            let second = other.missing();
-            Ok(Compared {
-                agreed,
-                first,
-                second,
-            })
+            match found_of(one, other, agreed, strict) {
+                Ok(compared) => Ok(compared),
+                Err(differ) => Err(CompareStop::Differ(differ)),
+            }
         }
         Err(fault) => Err(CompareStop::First(fault)),
     }
@@ -157,8 +184,8 @@ fn compare_both<R: Threads + Wait + Sync, S: Source, T: Source, G: Gate + Sync>(
 /// they come to.
 ///
 /// Where both have one version, committee and genesis and their frames together have neither a collision nor twins, the
-/// order of one begins that of the other and so do the receipts: the answer says how far, and at which missing batch each
-/// order stops. A collision or twins are those of both feeds together, be they in one of them alone.
+/// order of one begins that of the other and so do the receipts: the answer says how far, at which missing batch each
+/// order stops and, where `strict` is set, what keeps each feed from counting whole. A collision or twins are those of both feeds together, be they in one of them alone.
 pub fn compare_with_gaps<R: Threads + Wait + Sync, S: Source, T: Source, G: Gate + Sync>(
     rt: &R,
     alloc: Global,
@@ -166,13 +193,14 @@ pub fn compare_with_gaps<R: Threads + Wait + Sync, S: Source, T: Source, G: Gate
     second: &mut T,
     workers: usize,
     gate: &G,
+    strict: bool,
 ) -> Result<Compared, CompareStop>
     requires first { CanBeUsed (S.state first.old) }
     requires second { CanBeUsed (T.state second.old) }
     requires workers { (1 ≤ workers) × (workers ≤ 64) }
     ensures agree { IfOk result (λ c. BothGave
         (sources (S.state first.old) (T.state second.old))
-        (sources (S.state first.new) (T.state second.new)) (λ f g. FeedsCompared f g c)) }
+        (sources (S.state first.new) (T.state second.new)) (λ f g. FeedsCompared strict f g c)) }
     ensures sound { OnOk result (BothWork
         (sources (S.state first.old) (T.state second.old))
         (sources (S.state first.new) (T.state second.new))) }
@@ -182,13 +210,13 @@ pub fn compare_with_gaps<R: Threads + Wait + Sync, S: Source, T: Source, G: Gate
 {
     let mut one = Follower::new(alloc, workers);
     let mut other = Follower::new(alloc, workers);
-    let agreed = compare_both(rt, alloc, first, second, &mut one, &mut other, gate);
+    let compared = compare_both(rt, alloc, first, second, &mut one, &mut other, gate, strict);
     one.discard();
     other.discard();
-    agreed
+    compared
 }
 
-/// The same, without the batches at which the orders stop.
+/// The same, without the batches at which the orders stop, and without what keeps the feeds from counting whole.
 pub fn compare<R: Threads + Wait + Sync, S: Source, T: Source, G: Gate + Sync>(
     rt: &R,
     alloc: Global,
@@ -210,7 +238,7 @@ pub fn compare<R: Threads + Wait + Sync, S: Source, T: Source, G: Gate + Sync>(
         (sources (S.state first.old) (T.state second.old))
         (sources (S.state first.new) (T.state second.new))) }
 {
-    match compare_with_gaps(rt, alloc, first, second, workers, gate) {
+    match compare_with_gaps(rt, alloc, first, second, workers, gate, false) {
         Ok(compared) => Ok(compared.agreed),
         Err(stop) => Err(stop),
     }

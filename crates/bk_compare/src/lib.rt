@@ -3,6 +3,7 @@
 
 mod agreeing;
 mod compared;
+mod flaws;
 mod nowhere;
 
 pub use agreeing::{compare, compare_with_gaps};

@@ -74,7 +74,7 @@ where
 {
     let mut first = Counted::new(Reader::new(one, 7, calls.0));
     let mut second = Counted::new(Reader::new(other, 7, calls.1));
-    let end = compare_with_gaps(rt, rt.alloc(), &mut first, &mut second, 2, &Open);
+    let end = compare_with_gaps(rt, rt.alloc(), &mut first, &mut second, 2, &Open, false);
     Left::new(end, second.into_inner().rest.len())
 }
 

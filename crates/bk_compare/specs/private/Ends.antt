@@ -8,16 +8,14 @@ use Rattle.bk_order.specs.Stops.{IsStop}
 use Rattle.bk_order.specs.declared.stop.Stop.{Stop}
 use Rattle.bk_results.specs.declared.compare_stop.CompareStop.{CompareStop}
 use Rattle.bk_results.specs.declared.compare_stop.CompareStop.TheVariants as why
-use Rattle.bk_results.specs.declared.differ.Agreed.{Agreed}
 use Rattle.bk_results.specs.declared.fault.Fault.{Fault}
 use Rattle.bk_results.specs.declared.fault.Fault.TheVariants as fault
 use Rattle.bk_follow.specs.Agreement.{settled_in, FollowersDiffer}
 use Rattle.bk_answer.specs.Outcomes.{IsOutcomeOf}
-use Rattle.bk_compare.specs.declared.compared.Compared.{Compared}
-use Rattle.bk_compare.specs.FeedAgreement.{FeedsCompared, FeedsDiffer, OfTheirFeeds, FollowFails}
-use Rattle.bk_follow.specs.Queries.{missing_in}
+use Rattle.bk_compare.specs.FeedAgreement.{FeedsDiffer, OfTheirFeeds, FollowFails}
 use Rattle.bk_follow.specs.Finishing.{OfFeed}
-use Rattle.bk_follow.specs.Follower.{Followed, HasCome}
+use Rattle.bk_follow.specs.Follower.{BookValue, Followed, HasCome}
+use Rattle.bk_follow.specs.Ordering.{IsOrdered}
 use Rattle.bk_answer.specs.RunReport.{committee_in, later_frames, HasPlaceIn}
 
 -- something stops a feed
@@ -45,17 +43,20 @@ EndsNot v (fault.Unfinished place) = OfFeed v (λ feed. HasPlaceIn feed place)
 EndsNot v fault.Memory = Unit {0}
 EndsNot v other = ⊥
 
--- how far two Followers agree, and where their orders stop
-abbrev pub compared_of : Followed → Followed → Agreed → Compared
-compared_of one other a = record { agreed = a; first = missing_in one.book; second = missing_in other.book }
+-- a Follower's order is that of all frames of this feed, which nothing stops
+abbrev pub HasOrderOf : Followed → FeedValue → Type 0
+HasOrderOf v feed = IsFeed feed × ((b : BookValue) × (v.book ≡ Some b) × IsOrdered feed b)
 
--- it agrees with the feed that another source gave, which another Follower has followed
-abbrev pub AgreesWith : Followed → Followed → Device → Device → Agreed → Type 0
-AgreesWith one other old new a =
-    (bytes : List ℕ) → HasEnded bytes one
-    → GaveAll old new (λ more. OfTheirFeeds bytes more (λ f g. FeedsCompared f g (compared_of one other a)))
+-- two Followers have followed feeds to their ends
+abbrev pub BothHaveEnded : Followed → Followed → Type 0
+BothHaveEnded one other = (bytes : List ℕ) × (more : List ℕ) × HasEnded bytes one × HasEnded more other
 
--- why it does not: the other feed was not followed to its end; or they differ
+-- this holds of the two feeds that they have followed
+abbrev pub OfEnded : Followed → Followed → (FeedValue → FeedValue → Type 0) → Type 0
+OfEnded one other holds =
+    (bytes more : List ℕ) → HasEnded bytes one → HasEnded more other → OfTheirFeeds bytes more holds
+
+-- why it does not agree with the feed that another source gave: the other feed was not followed to its end; or they differ
 abbrev pub ComparisonStopsWith : CompareStop → Followed → Device → Device → Type 0
 ComparisonStopsWith (why.First found) v old new = ⊥
 ComparisonStopsWith (why.Second found) v old new = FollowFails found old new
