@@ -26,6 +26,7 @@ mod parsing;
 mod shaped;
 mod table_help;
 mod telling;
+mod values;
 mod verb;
 mod view;
 mod window;

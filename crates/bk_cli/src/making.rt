@@ -11,6 +11,7 @@ ghost use Rattle.bk_cli.specs.Files.{names_input};
 use crate::job::{Job, names_input};
 use crate::links::links_in;
 use crate::notes::flag_in;
+use crate::values::{account_in, chosen_in, id_in, owned, place_in, text_in, workers_in};
 use crate::verb::Verb;
 use crate::view::{Diagnosis, Table, View};
 use crate::window::{MOST_FROM, MOST_ROUNDS, Window};
@@ -19,58 +20,6 @@ use bk_digest::Digest32;
 use bk_results::Query;
 use clap::ArgMatches;
 use std::alloc::{AllocError, Global};
-
-// The text in a string of its own, where there is one.
-fn owned(alloc: Global, text: Option<&str>) -> Result<Option<String>, AllocError>
-    ensures { IfOk result (λ o. option_map string_bytes o ≡ option_map (λ s. s.now) text.entry) }
-{
-    match text {
-        Some(text) => Ok(Some(String::from_str(alloc, text)?)),
-        None => Ok(None),
-    }
-}
-
-// The value of `--workers`, the usual number where it is left out. The parser has refused what is not 1 to 64.
-fn workers_in(found: &ArgMatches<'_>, usual: Workers) -> Workers
-    ensures { AreNamedBy usual (one_text (found_of found.now) (codes "workers")) result }
-{
-    match found.get_one::<u8>("workers") {
-        Some(count) => Workers::new(count).unwrap_or(usual),
-        None => usual,
-    }
-}
-
-// The value of an argument that is required. The parser has refused words without it.
-fn text_in(alloc: Global, found: &ArgMatches<'_>, name: &str) -> Result<String, AllocError>
-    ensures { IfOk result (λ text. string_bytes text
-        ≡ unwrap_or (first_value (found_of found.now) name.now) []) }
-{
-    match found.get_str(name) {
-        Some(text) => String::from_str(alloc, text),
-        None => Ok(String::new(alloc)),
-    }
-}
-
-// The value of ID. The parser has refused words without it.
-fn id_in(found: &ArgMatches<'_>) -> u64
-    ensures { IsNumberBy (2 ^ 64) (one_text (found_of found.now) (codes "ID")) result }
-{
-    found.get_one::<u64>("ID").unwrap_or(0)
-}
-
-// The value of `--account`, where it is given. The parser has refused what is no number.
-fn account_in(found: &ArgMatches<'_>) -> Option<u64>
-    ensures { IsGivenBy (2 ^ 64) (one_text (found_of found.now) (codes "account")) result }
-{
-    found.get_one::<u64>("account")
-}
-
-// The value of PLACE. The parser has refused words without it.
-fn place_in(found: &ArgMatches<'_>) -> u32
-    ensures { IsNumberBy (2 ^ 32) (one_text (found_of found.now) (codes "PLACE")) result }
-{
-    found.get_one::<u32>("PLACE").unwrap_or(0)
-}
 
 // The job of `schedule`, with the values of its arguments.
 fn schedule_of(alloc: Global, found: &ArgMatches<'_>) -> Result<Option<Job>, AllocError>
@@ -176,19 +125,6 @@ fn report_of(
         report,
         file,
     }))
-}
-
-// The value of an option, a number from 1 to `most`, and the usual one where it is left out. The parser has refused what
-// is out of this range.
-fn chosen_in(found: &ArgMatches<'_>, name: &str, most: u32, usual: u32) -> u32
-    requires { (1 ≤ usual) × (usual ≤ most) }
-    ensures value { IsChosenBy most usual (one_text (found_of found.now) name.now) result }
-    ensures fit { (1 ≤ result) × (result ≤ most) }
-{
-    match found.get_one::<u32>(name) {
-        Some(number) if number >= 1 && number <= most => number,
-        Some(_) | None => usual,
-    }
 }
 
 // The job of `dag` of this file, with the values of its other arguments. There is none where the
