@@ -11,19 +11,16 @@ ghost use Rattle.bk_jobs.specs.Gaps.{AreGapsOf};
 ghost use Rattle.bk_jobs.specs.Sources.{AllWork, inputs, job_devices};
 ghost use Rattle.bk_jobs.specs.private.Groups.{replays_one, replays_two, reads_frames, reads_texts};
 
-use crate::chaining::check_links;
-use crate::claiming::check_claim;
-use crate::comparing::compare_feeds;
 use crate::diagnosing::diagnose;
 use crate::drawing::draw_rounds;
 use crate::end::End;
-use crate::following::{follow, follow_some};
+use crate::following::follow;
 use crate::listing::list;
 use crate::queries::reply;
 use crate::replaying::{apply_all, run, sum_up};
-use crate::scheduling::schedule;
-use crate::showing::{pick, show};
-use crate::texts::{check, make_feed};
+use crate::showing::show;
+use crate::text_jobs::answer_of_text;
+use crate::two_inputs::answer_of_two;
 use bk_cli::{Gaps, Job, JobFault};
 use bk_frames::{Sink, Source};
 use bk_pool::Gate;
@@ -206,177 +203,6 @@ where
         | Job::Show { .. }
         | Job::Pick { .. }
         | Job::Follow { .. }
-        | Job::CheckChain { .. } => unreachable!(),
-    }
-}
-
-// Writes the answer of a job that reads a script, a proof or a list of events.
-fn answer_of_text<R, S1: Source, S2: Source, O: Sink>(
-    rt: &R,
-    job: &Job,
-    first: &mut S1,
-    second: &mut S2,
-    out: &mut O,
-) -> Result<End, JobFault>
-where
-    R: Threads + Sync + AllocGlobal,
-    requires group { reads_texts job.now ≡ true }
-    requires first { CanBeUsed (S1.state first.old) }
-    requires second { reads_second job.now ≡ true → CanBeUsed (S2.state second.old) }
-    requires out { CanBeUsed (O.state out.old) }
-    ensures report { IfOk result (λ end. AnswerIsOut job.now end.exit
-        (job_devices (S1.state first.old) (S2.state second.old) (O.state out.old))
-        (job_devices (S1.state first.new) (S2.state second.new) (O.state out.new))) }
-    ensures gaps { IfOk result (λ end. AreGapsOf job.now
-        (inputs (S1.state first.old).bytes (S2.state second.old).bytes) end.gaps) }
-    ensures answer { IfOk result (λ end. (is_answer job.now end.exit ≡ true)
-        × (may_end job.now end.exit ≡ true)) }
-    ensures sound { OnOk result (AllWork
-        (job_devices (S1.state first.old) (S2.state second.old) (O.state out.old))
-        (job_devices (S1.state first.new) (S2.state second.new) (O.state out.new))) }
-    ensures fault { IfErr result (λ e. JobFailsBy job.now e
-        (job_devices (S1.state first.old) (S2.state second.old) (O.state out.old))
-        (job_devices (S1.state first.new) (S2.state second.new) (O.state out.new))) }
-    ensures second { reads_second job.now ≡ false → second.new ≡ second.old }
-{
-    match job {
-        Job::Make { .. } => {
-            let end = make_feed(rt, first, out)?;
-            Ok(End {
-                exit: end,
-                gaps: Gaps {
-                    first: None,
-                    second: None,
-                },
-            })
-        }
-        Job::CheckProof { root, account, .. } => {
-            let end = check(rt, root.as_bytes(), *account, first, out)?;
-            Ok(End {
-                exit: end,
-                gaps: Gaps {
-                    first: None,
-                    second: None,
-                },
-            })
-        }
-        Job::Schedule { workers, .. } => {
-            let end = schedule(rt, *workers, first, second, out)?;
-            Ok(End {
-                exit: end,
-                gaps: Gaps {
-                    first: None,
-                    second: None,
-                },
-            })
-        }
-        Job::CheckChain { .. } => {
-            let end = check_links(rt, first, out)?;
-            Ok(End {
-                exit: end,
-                gaps: Gaps {
-                    first: None,
-                    second: None,
-                },
-            })
-        }
-        Job::Run { .. }
-        | Job::CheckReport { .. }
-        | Job::Ask { .. }
-        | Job::Frames { .. }
-        | Job::Summary { .. }
-        | Job::Dag { .. }
-        | Job::Apply { .. }
-        | Job::Compare { .. }
-        | Job::Show { .. }
-        | Job::Pick { .. }
-        | Job::Follow { .. }
-        | Job::Diagnose { .. } => unreachable!(),
-    }
-}
-
-// Writes the answer of a job that replays one feed or two and has two inputs.
-fn answer_of_two<R, G: Gate + Sync, S1: Source, S2: Source, O: Sink>(
-    rt: &R,
-    job: &Job,
-    gate: &G,
-    first: &mut S1,
-    second: &mut S2,
-    out: &mut O,
-) -> Result<End, JobFault>
-where
-    R: Threads + Wait + Sync + AllocGlobal,
-    requires group { replays_two job.now ≡ true }
-    requires first { CanBeUsed (S1.state first.old) }
-    requires second { reads_second job.now ≡ true → CanBeUsed (S2.state second.old) }
-    requires out { CanBeUsed (O.state out.old) }
-    ensures report { IfOk result (λ end. AnswerIsOut job.now end.exit
-        (job_devices (S1.state first.old) (S2.state second.old) (O.state out.old))
-        (job_devices (S1.state first.new) (S2.state second.new) (O.state out.new))) }
-    ensures gaps { IfOk result (λ end. AreGapsOf job.now
-        (inputs (S1.state first.old).bytes (S2.state second.old).bytes) end.gaps) }
-    ensures answer { IfOk result (λ end. (is_answer job.now end.exit ≡ true)
-        × (may_end job.now end.exit ≡ true)) }
-    ensures sound { OnOk result (AllWork
-        (job_devices (S1.state first.old) (S2.state second.old) (O.state out.old))
-        (job_devices (S1.state first.new) (S2.state second.new) (O.state out.new))) }
-    ensures fault { IfErr result (λ e. JobFailsBy job.now e
-        (job_devices (S1.state first.old) (S2.state second.old) (O.state out.old))
-        (job_devices (S1.state first.new) (S2.state second.new) (O.state out.new))) }
-    ensures second { reads_second job.now ≡ false → second.new ≡ second.old }
-{
-    match job {
-        Job::CheckReport { workers, .. } => {
-            let end = check_claim(rt, gate, *workers, first, second, out)?;
-            Ok(End {
-                exit: end,
-                gaps: Gaps {
-                    first: None,
-                    second: None,
-                },
-            })
-        }
-        Job::Compare { .. } => {
-            let end = compare_feeds(rt, gate, first, second, out)?;
-            Ok(end)
-        }
-        Job::Pick { workers, shown, .. } => {
-            let end = pick(rt, gate, *shown, *workers, first, second, out)?;
-            Ok(End {
-                exit: end,
-                gaps: Gaps {
-                    first: None,
-                    second: None,
-                },
-            })
-        }
-        Job::Follow {
-            workers,
-            shown,
-            accounts: Some(_),
-            ..
-        } => {
-            let end = follow_some(rt, gate, *shown, *workers, first, second, out)?;
-            Ok(End {
-                exit: end,
-                gaps: Gaps {
-                    first: None,
-                    second: None,
-                },
-            })
-        }
-        Job::Run { .. }
-        | Job::Make { .. }
-        | Job::CheckProof { .. }
-        | Job::Ask { .. }
-        | Job::Frames { .. }
-        | Job::Summary { .. }
-        | Job::Dag { .. }
-        | Job::Apply { .. }
-        | Job::Schedule { .. }
-        | Job::Show { .. }
-        | Job::Follow { .. }
-        | Job::Diagnose { .. }
         | Job::CheckChain { .. } => unreachable!(),
     }
 }

@@ -21,7 +21,9 @@ mod replaying;
 mod running;
 mod scheduling;
 mod showing;
+mod text_jobs;
 mod texts;
+mod two_inputs;
 
 pub use inputs::Inputs;
 pub use opening::open_and_run;

@@ -1,0 +1,102 @@
+//! The answers of jobs that read a script, a proof, links or a list of events.
+
+ghost use Rattle.std.specs.Prelude.{◌≡◌, true, false, OnOk, IfOk, IfErr};
+ghost use Rattle.bk_frames.specs.Device.{CanBeUsed};
+ghost use Rattle.bk_cli.specs.Exits.{is_answer, may_end, reads_second};
+ghost use Rattle.bk_jobs.specs.Faults.{JobFailsBy, AnswerIsOut};
+ghost use Rattle.bk_jobs.specs.Gaps.{AreGapsOf};
+ghost use Rattle.bk_jobs.specs.Sources.{AllWork, inputs, job_devices};
+ghost use Rattle.bk_jobs.specs.private.Groups.{reads_texts};
+
+use crate::chaining::check_links;
+use crate::end::End;
+use crate::scheduling::schedule;
+use crate::texts::{check, make_feed};
+use bk_cli::{Gaps, Job, JobFault};
+use bk_frames::{Sink, Source};
+use std::thread::Threads;
+
+/// Writes the answer of a job that reads a script, a proof or a list of events.
+pub(crate) fn answer_of_text<R, S1: Source, S2: Source, O: Sink>(
+    rt: &R,
+    job: &Job,
+    first: &mut S1,
+    second: &mut S2,
+    out: &mut O,
+) -> Result<End, JobFault>
+where
+    R: Threads + Sync + AllocGlobal,
+    requires group { reads_texts job.now ≡ true }
+    requires first { CanBeUsed (S1.state first.old) }
+    requires second { reads_second job.now ≡ true → CanBeUsed (S2.state second.old) }
+    requires out { CanBeUsed (O.state out.old) }
+    ensures report { IfOk result (λ end. AnswerIsOut job.now end.exit
+        (job_devices (S1.state first.old) (S2.state second.old) (O.state out.old))
+        (job_devices (S1.state first.new) (S2.state second.new) (O.state out.new))) }
+    ensures gaps { IfOk result (λ end. AreGapsOf job.now
+        (inputs (S1.state first.old).bytes (S2.state second.old).bytes) end.gaps) }
+    ensures answer { IfOk result (λ end. (is_answer job.now end.exit ≡ true)
+        × (may_end job.now end.exit ≡ true)) }
+    ensures sound { OnOk result (AllWork
+        (job_devices (S1.state first.old) (S2.state second.old) (O.state out.old))
+        (job_devices (S1.state first.new) (S2.state second.new) (O.state out.new))) }
+    ensures fault { IfErr result (λ e. JobFailsBy job.now e
+        (job_devices (S1.state first.old) (S2.state second.old) (O.state out.old))
+        (job_devices (S1.state first.new) (S2.state second.new) (O.state out.new))) }
+    ensures second { reads_second job.now ≡ false → second.new ≡ second.old }
+{
+    match job {
+        Job::Make { .. } => {
+            let end = make_feed(rt, first, out)?;
+            Ok(End {
+                exit: end,
+                gaps: Gaps {
+                    first: None,
+                    second: None,
+                },
+            })
+        }
+        Job::CheckProof { root, account, .. } => {
+            let end = check(rt, root.as_bytes(), *account, first, out)?;
+            Ok(End {
+                exit: end,
+                gaps: Gaps {
+                    first: None,
+                    second: None,
+                },
+            })
+        }
+        Job::Schedule { workers, .. } => {
+            let end = schedule(rt, *workers, first, second, out)?;
+            Ok(End {
+                exit: end,
+                gaps: Gaps {
+                    first: None,
+                    second: None,
+                },
+            })
+        }
+        Job::CheckChain { .. } => {
+            let end = check_links(rt, first, out)?;
+            Ok(End {
+                exit: end,
+                gaps: Gaps {
+                    first: None,
+                    second: None,
+                },
+            })
+        }
+        Job::Run { .. }
+        | Job::CheckReport { .. }
+        | Job::Ask { .. }
+        | Job::Frames { .. }
+        | Job::Summary { .. }
+        | Job::Dag { .. }
+        | Job::Apply { .. }
+        | Job::Compare { .. }
+        | Job::Show { .. }
+        | Job::Pick { .. }
+        | Job::Follow { .. }
+        | Job::Diagnose { .. } => unreachable!(),
+    }
+}
