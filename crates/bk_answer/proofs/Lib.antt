@@ -1,3 +1,4 @@
 pub mod Closings
 pub mod Counting
 pub mod Reports
+pub mod Verdicts

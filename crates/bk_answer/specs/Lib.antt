@@ -4,3 +4,4 @@ pub mod Gaps
 pub mod Closed
 pub mod Answers
 pub mod Values
+pub mod Flaws

@@ -9,7 +9,9 @@
 mod answer;
 mod closed;
 mod report;
+mod strict;
 
 pub use answer::{Answer, FrameAnswer, OrderAnswer};
 pub use closed::{Closed, ClosedOrder};
 pub use report::Report;
+pub use strict::{Ended, Judged};
