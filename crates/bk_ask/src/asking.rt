@@ -1,5 +1,6 @@
 ghost use Rattle.std.specs.Prelude.{◌≤◌, IfOk, IfErr};
 ghost use Rattle.bk_answer.specs.Answers.{AnswerFailsBy, IsAnswered};
+ghost use Rattle.bk_answer.specs.Flaws.{judged_text};
 ghost use Rattle.bk_frames.specs.Device.{CanBeUsed};
 ghost use Rattle.bk_results.specs.Devices.{devices};
 ghost use Rattle.bk_ask.specs.Asking.{IsRepliedOf, executes};
@@ -7,6 +8,7 @@ ghost use Rattle.bk_ask.specs.Asking.{IsRepliedOf, executes};
 use crate::ordered::view_of;
 use crate::replied::Replied;
 use crate::replying::Executed;
+use bk_answer::{Ended, Judged};
 use bk_follow::{answer_by_ledger, answer_by_order};
 use bk_frames::{Sink, Source};
 use bk_pool::Gate;
@@ -42,8 +44,48 @@ pub fn ask<R: Threads + Wait + Sync, S: Source, K: Sink, G: Gate + Sync>(
         (devices (S.state source.old) (K.state sink.old))
         (devices (S.state source.new) (K.state sink.new))) }
 {
+    match ask_judged(rt, alloc, source, sink, query, workers, gate, false) {
+        Ok(ended) => Ok(ended.end),
+        Err(fault) => Err(fault),
+    }
+}
+
+/// Replies as [`ask`] does, and says what keeps the feed from counting whole, where this is asked for. That is found before
+/// anything is written.
+pub fn ask_judged<R: Threads + Wait + Sync, S: Source, K: Sink, G: Gate + Sync>(
+    rt: &R,
+    alloc: Global,
+    source: &mut S,
+    sink: &mut K,
+    query: Query,
+    workers: usize,
+    gate: &G,
+    strict: bool,
+) -> Result<Ended<Replied>, Fault>
+    requires source { CanBeUsed (S.state source.old) }
+    requires sink { CanBeUsed (K.state sink.old) }
+    requires workers { (1 ≤ workers) × (workers ≤ 64) }
+    ensures answer { IfOk result (λ ended. IsAnswered (judged_text strict (IsRepliedOf query)) ended
+        (devices (S.state source.old) (K.state sink.old))
+        (devices (S.state source.new) (K.state sink.new))) }
+    ensures fault { IfErr result (λ f. AnswerFailsBy (judged_text strict (IsRepliedOf query)) (executes query) f
+        (devices (S.state source.old) (K.state sink.old))
+        (devices (S.state source.new) (K.state sink.new))) }
+{
     match view_of(&query) {
-        Some(view) => answer_by_order(rt, alloc, source, sink, &view),
-        None => answer_by_ledger(rt, alloc, source, sink, workers, gate, &Executed { query }),
+        Some(view) => {
+            let asked = Judged {
+                answer: &view,
+                strict,
+            };
+            answer_by_order(rt, alloc, source, sink, &asked)
+        }
+        None => {
+            let asked = Judged {
+                answer: &Executed { query },
+                strict,
+            };
+            answer_by_ledger(rt, alloc, source, sink, workers, gate, &asked)
+        }
     }
 }

@@ -1,8 +1,9 @@
 //! The verdict on a claim, from the bytes of a feed to the text.
 
-ghost use Rattle.std.specs.Prelude.{◌≡◌, ◌≤◌, ℕ, List, IfOk, IfErr, OnOk};
+ghost use Rattle.std.specs.Prelude.{◌≡◌, ◌≤◌, ℕ, List, true, IfOk, IfErr, OnOk};
 ghost use Rattle.bk_claim.specs.Claims.{AllWork, ClaimFailsBy, OfBoth, ShowsVerdict, VerdictIsOut, claim_devices, good};
 ghost use Rattle.bk_claim.specs.private.Judging.{HoldFailsBy, JudgeFailsBy, ShownIsOut};
+ghost use Rattle.bk_answer.specs.Flaws.{IsFlaw};
 ghost use Rattle.bk_answer.specs.RunReport.{IsReport};
 ghost use Rattle.bk_frames.specs.Device.{CanBeUsed, Works, IfKnown, GaveAll};
 ghost use Rattle.bk_frames.specs.Pulling.{Gave};
@@ -11,7 +12,8 @@ ghost use Rattle.bk_results.specs.Devices.{devices};
 use crate::comparing::compare_claim;
 use crate::verdict::{ClaimStop, Verdict};
 use crate::wording::found_text;
-use bk_follow::replay;
+use bk_answer::{Ended, Judged, Report};
+use bk_follow::answer_by_ledger;
 use bk_frames::{Counted, Sink, Source, push_all};
 use bk_pool::Gate;
 use bk_results::{Fault, Status};
@@ -19,24 +21,31 @@ use std::alloc::Global;
 use std::sync::Wait;
 use std::thread::Threads;
 
-// Holds the report of a feed in memory.
+// Holds the report of a feed in memory, and what keeps the feed from counting whole, where this is asked for.
 fn hold_report<R: Threads + Wait + Sync, S: Source, G: Gate + Sync>(
     rt: &R,
     alloc: Global,
     feed: &mut S,
     workers: usize,
     gate: &G,
-) -> Result<(Vec<u8>, Status), Fault>
+    strict: bool,
+) -> Result<(Vec<u8>, Ended<Status>), Fault>
     requires feed { CanBeUsed (S.state feed.old) }
     requires workers { (1 ≤ workers) × (workers ≤ 64) }
     ensures report { IfOk result (λ r. GaveAll (S.state feed.old) (S.state feed.new)
-        (λ bytes. IsReport bytes r.0.items r.1)) }
+        (λ bytes. IsReport bytes r.0.items r.1.end)) }
+    ensures flaw { IfOk result (λ r. strict ≡ true → GaveAll (S.state feed.old) (S.state feed.new)
+        (λ bytes. IsFlaw bytes r.1.flaw)) }
     ensures works { OnOk result (Works (S.state feed.old) (S.state feed.new)) }
     ensures fault { IfErr result (λ f. HoldFailsBy f (S.state feed.old) (S.state feed.new)) }
 {
     let mut held = Counted::new(Vec::new(alloc));
-    match replay(rt, alloc, feed, &mut held, workers, gate) {
-        Ok(status) => Ok((held.into_inner(), status)),
+    let asked = Judged {
+        answer: &Report,
+        strict,
+    };
+    match answer_by_ledger(rt, alloc, feed, &mut held, workers, gate, &asked) {
+        Ok(ended) => Ok((held.into_inner(), ended)),
         // Memory takes all that there is room for.
         Err(Fault::Write { .. }) => Err(Fault::Memory),
         Err(fault) => Err(fault),
@@ -92,7 +101,8 @@ fn judge<S: Source, K: Sink>(
 ///
 /// The feed's report is held in memory. The claim is not: it is read in pieces, and no further than to the first line
 /// that differs or that is shown. Nothing is read of it before the feed is found to have a report. The whole verdict is
-/// known before anything is written, and with every stop but `Run(Fault::Write)` nothing is written.
+/// known before anything is written, and with every stop but `Run(Fault::Write)` nothing is written. Where it is asked for,
+/// what keeps the feed from counting whole comes with the verdict.
 pub fn check_report<R: Threads + Wait + Sync, S1: Source, S2: Source, K: Sink, G: Gate + Sync>(
     rt: &R,
     alloc: Global,
@@ -101,7 +111,8 @@ pub fn check_report<R: Threads + Wait + Sync, S1: Source, S2: Source, K: Sink, G
     sink: &mut K,
     workers: usize,
     gate: &G,
-) -> Result<Verdict, ClaimStop>
+    strict: bool,
+) -> Result<Ended<Verdict>, ClaimStop>
     requires feed { CanBeUsed (S1.state feed.old) }
     requires claimed { CanBeUsed (S2.state claimed.old) }
     requires sink { CanBeUsed (K.state sink.old) }
@@ -109,7 +120,9 @@ pub fn check_report<R: Threads + Wait + Sync, S1: Source, S2: Source, K: Sink, G
     ensures verdict { IfOk result (λ v. OfBoth
         (claim_devices (S1.state feed.old) (S2.state claimed.old) (K.state sink.old))
         (claim_devices (S1.state feed.new) (S2.state claimed.new) (K.state sink.new))
-        (VerdictIsOut v (K.state sink.old) (K.state sink.new))) }
+        (VerdictIsOut v.end (K.state sink.old) (K.state sink.new))) }
+    ensures flaw { IfOk result (λ v. strict ≡ true → GaveAll (S1.state feed.old) (S1.state feed.new)
+        (λ bytes. IsFlaw bytes v.flaw)) }
     ensures work { OnOk result (AllWork
         (claim_devices (S1.state feed.old) (S2.state claimed.old) (K.state sink.old))
         (claim_devices (S1.state feed.new) (S2.state claimed.new) (K.state sink.new))) }
@@ -117,6 +130,12 @@ pub fn check_report<R: Threads + Wait + Sync, S1: Source, S2: Source, K: Sink, G
         (claim_devices (S1.state feed.old) (S2.state claimed.old) (K.state sink.old))
         (claim_devices (S1.state feed.new) (S2.state claimed.new) (K.state sink.new))) }
 {
-    let (right, status) = hold_report(rt, alloc, feed, workers, gate)?;
-    judge(alloc, &right, status, claimed, sink)
+    let (right, ended) = hold_report(rt, alloc, feed, workers, gate, strict)?;
+    match judge(alloc, &right, ended.end, claimed, sink) {
+        Ok(verdict) => Ok(Ended {
+            end: verdict,
+            flaw: ended.flaw,
+        }),
+        Err(stop) => Err(stop),
+    }
 }
