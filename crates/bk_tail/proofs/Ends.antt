@@ -1,7 +1,10 @@
 -- How following a feed ends.
-use Rattle.std.proofs.Common.{◌≡◌, inl, ◌∙◌, ℕ, List, [], ◌++◌, Option, refl, sym, ap, subst, append-nil}
+use Rattle.std.proofs.Common.{◌≡◌, inl, ◌∙◌, ℕ, Bool, List, [], ◌++◌, Option, refl, sym, ap, subst, append-nil}
 use Rattle.std.specs.Prelude.{IfSome}
 use Rattle.bk_answer.specs.Answers.{IsAnswered}
+use Rattle.bk_answer.specs.Flaws.{IsFlawIf, judged_text}
+use Rattle.bk_answer.specs.declared.strict.Ended.{Ended}
+use Rattle.bk_results.specs.declared.flaw.Flaw.{Flaw}
 use Rattle.bk_answer.specs.RunReport.{reach_of}
 use Rattle.bk_frames.specs.Device.{Fails, IfKnown, Works}
 use Rattle.bk_order.specs.Orders.{Ordered}
@@ -54,6 +57,15 @@ module _ (k : TableKind) (start now first sink : Device) where
 
 -- ---- the end of the feed
 
+-- how it ends
+abbrev pub ended_with : Status → Option Flaw → Ended Status
+ended_with end flaw = record { end = end; flaw = flaw }
+
+-- memory ran out where all rows are out but the header
+pub no_flaw : (k : TableKind) (start now first sink : Device) (f : Fault) (all : List ℕ) (whole : List Frame) (v : Followed) (page : PageValue) (done : Ordered) → f ≡ fault.Memory → HasFollowed start now all whole v → HasPut k all whole v.cut.version first sink page done
+    → TailFailsBy k.text f (devices start first) (devices now sink)
+no_flaw k start now first sink f all whole v page done is h p = subst (λ (g : Fault). TailFailsBy k.text g (devices start first) (devices now sink)) (sym is) (h.works, (all, h.gave, p.so_far))
+
 module _ (k : TableKind) (is_text : IsTextOf k) (start now first sink : Device) (all : List ℕ) (whole : List Frame) (v : Followed) (page : PageValue) (done : Ordered)
     (f : HasFollowed start now all whole v) (settled : IsSettled whole v) (w : IsWholeFeed all whole v) (h : HasPut k all whole v.cut.version first sink page done) (last : IfSome v.book (λ b. done ≡ b.taken.ordered)) where
   at : IsBookAt all whole v w.holds.0
@@ -70,18 +82,19 @@ module _ (k : TableKind) (is_text : IsTextOf k) (start now first sink : Device) 
   end_fails later written stop = put_stops k all whole v w.holds.0 first sink page done f.come at h [] nothing_grows (is_text (feed_of at.version whole) w.holds.0.taken.ordered at.current.clear at.current.ordered) later written stop
 
   -- all is out
-  pub answered : (later : Device) (after : PageValue) → IfKnown start (λ given. given ≡ all) → Works sink later × Puts sink later page after [] → after.bytes ≡ [] → IsAnswered k.text (reach_of (missing_in v.book)) (devices start first) (devices now later)
-  answered later after known put empty =
+  pub answered : (strict : Bool) (flaw : Option Flaw) (later : Device) (after : PageValue) → IfKnown start (λ given. given ≡ all) → Works sink later × Puts sink later page after [] → after.bytes ≡ [] → IsFlawIf strict (feed_of w.version whole) flaw
+      → IsAnswered (judged_text strict k.text) (ended_with (reach_of (missing_in v.book)) flaw) (devices start first) (devices now later)
+  answered strict flaw later after known put empty flawed =
       let o = w.holds.0.taken.ordered in
       let feed = feed_of w.version whole in
       let text = k.header ++ k.rows w.version (genesis_of whole) o.payloads.list in
       let shown : k.header ++ h.shown ≡ text = ap (λ (t : List ℕ). k.header ++ t) ((h.many w.version w.known w.good.opened).shown_is ∙ ap (λ (x : Ordered). k.rows w.version (genesis_of whole) x.payloads.list) done_is) in
       let puts : Puts first later blank after text = subst (λ (t : List ℕ). Puts first later blank after t) (append-nil (k.header ++ h.shown) ∙ shown) (puts_then first sink later blank page after (k.header ++ h.shown) [] h.puts put.1) in
       let end : reach_of o.payloads.missing ≡ reach_of (missing_in v.book) = ap (λ (b : Option BookValue). reach_of (missing_in b)) (sym w.holds.1) in
-      subst (λ (e : Status). IsAnswered k.text e (devices start first) (devices now later)) end (record {
+      subst (λ (e : Status). IsAnswered (judged_text strict k.text) (ended_with e flaw) (devices start first) (devices now later)) end (record {
         source = f.works;
         sink = put.0 ∙ h.so_far.0;
-        out = (all, f.gave, known, (text, record { feed = feed; good = w.good; spelled = w.spelled; holds = is_text feed o w.holds.2.clear w.holds.2.ordered }, all_out first later after text puts empty));
+        out = (all, f.gave, known, (text, record { feed = feed; good = w.good; spelled = w.spelled; holds = (is_text feed o w.holds.2.clear w.holds.2.ordered, flawed) }, all_out first later after text puts empty));
       })
 
 -- memory ran out before the first byte

@@ -3,6 +3,7 @@ mod OneVersion
 mod Growing
 mod PaymentsPut
 mod Step
+mod Flawed
 mod Ends
 mod PostingsPut
 mod RowsStay

@@ -2,6 +2,7 @@
 
 ghost use Rattle.std.specs.Prelude.{◌≤◌, IfOk, IfErr};
 ghost use Rattle.bk_answer.specs.Answers.{IsAnswered};
+ghost use Rattle.bk_answer.specs.Flaws.{judged_text};
 ghost use Rattle.bk_frames.specs.Device.{CanBeUsed};
 ghost use Rattle.bk_results.specs.Devices.{devices};
 ghost use Rattle.bk_tables.specs.Growing.{AreAfter};
@@ -12,7 +13,7 @@ ghost use Rattle.bk_tail.specs.private.Putting.{postings};
 
 use crate::rows::TableRows;
 use crate::tail::tail_table;
-use bk_answer::Closed;
+use bk_answer::{Closed, Ended};
 use bk_frames::{Sink, Source, WriteFault};
 use bk_pool::Gate;
 use bk_results::{Fault, Status};
@@ -58,7 +59,8 @@ impl TableRows for PostingRows {
 /// Reads a feed to its end, and writes the table of what its places do to each account as it becomes final: after each
 /// piece of at most [`PIECE`](bk_frames::PIECE) bytes, the rows of the places that the whole frames so far add to the
 /// order, before more is read. The header comes with the first rows, or at the end. The accounts after the places that
-/// are out are kept, so a piece executes only its own places for their rows.
+/// are out are kept, so a piece executes only its own places for their rows. Where `strict` is set, it is found at the end
+/// what keeps the feed from counting whole.
 ///
 /// A fault of the feed or a stop ends it at the piece that shows it, and of that piece no row is written. What is out
 /// then is the table of a feed that nothing stops, or nothing; what a failed sink has is the beginning of one.
@@ -70,13 +72,14 @@ pub fn tail_postings<R, S: Source, K: Sink, G: Gate + Sync>(
     workers: usize,
     gate: &G,
     asked: &Postings,
-) -> Result<Status, Fault>
+    strict: bool,
+) -> Result<Ended<Status>, Fault>
 where
     R: Threads + Wait + Sync,
     requires source { CanBeUsed (S.state source.old) }
     requires sink { CanBeUsed (K.state sink.old) }
     requires workers { (1 ≤ workers) × (workers ≤ 64) }
-    ensures answer { IfOk result (λ status. IsAnswered (IsPostingTable asked.now.accounts) status
+    ensures answer { IfOk result (λ ended. IsAnswered (judged_text strict (IsPostingTable asked.now.accounts)) ended
         (devices (S.state source.old) (K.state sink.old))
         (devices (S.state source.new) (K.state sink.new))) }
     ensures fault { IfErr result (λ f. TailFailsBy (IsPostingTable asked.now.accounts) f
@@ -84,5 +87,5 @@ where
         (devices (S.state source.new) (K.state sink.new))) }
 {
     let accounts = &asked.accounts;
-    tail_table::<R, S, K, G, PostingRows>(rt, alloc, source, sink, workers, gate, accounts)
+    tail_table::<R, S, K, G, PostingRows>(rt, alloc, source, sink, workers, gate, accounts, strict)
 }

@@ -2,6 +2,7 @@
 
 ghost use Rattle.std.specs.Prelude.{◌≡◌, ◌<◌, ◌≤◌, ℕ, List, [], Option, length, IfOk, IfErr, IfSome, OnOk};
 ghost use Rattle.bk_answer.specs.Answers.{IsAnswered};
+ghost use Rattle.bk_answer.specs.Flaws.{judged_text};
 ghost use Rattle.bk_base.specs.Feed.{Frame};
 ghost use Rattle.bk_base.specs.declared.genesis.Row.{Row};
 ghost use Rattle.bk_base.specs.declared.version.Version.{Version};
@@ -14,8 +15,9 @@ ghost use Rattle.bk_tables.specs.Growing.{none_shown};
 ghost use Rattle.bk_tail.specs.Tailing.{TailFailsBy};
 ghost use Rattle.bk_tail.specs.private.Putting.{IsPutOn, PutNot};
 
-use crate::piece::{advance, reach};
+use crate::piece::{advance, flaw_if, reach};
 use crate::rows::TableRows;
+use bk_answer::Ended;
 use bk_follow::Follower;
 use bk_frames::{PIECE, Sink, Source};
 use bk_pool::Gate;
@@ -67,8 +69,9 @@ fn tail_rows<R, S: Source, K: Sink, G: Gate + Sync, T: TableRows>(
     follower: &mut Follower,
     gate: &G,
     accounts: &Option<Accounts>,
+    strict: bool,
     rows: &mut T,
-) -> Result<Status, Fault>
+) -> Result<Ended<Status>, Fault>
 where
     R: Threads + Wait + Sync,
     requires some { 0 < length piece.old }
@@ -78,7 +81,7 @@ where
     requires before { (version : Version) (genesis : List Row) → T.holds rows.old version genesis [] }
     requires source { CanBeUsed (S.state source.old) }
     requires sink { CanBeUsed (K.state sink.old) }
-    ensures answer { IfOk result (λ status. IsAnswered (T.kind accounts.now).text status
+    ensures answer { IfOk result (λ ended. IsAnswered (judged_text strict (T.kind accounts.now).text) ended
         (devices (S.state source.old) (K.state sink.old))
         (devices (S.state source.new) (K.state sink.new))) }
     ensures fault { IfErr result (λ f. TailFailsBy (T.kind accounts.now).text f
@@ -89,8 +92,10 @@ where
         let ended = advance(rt, source, piece, follower, gate)?;
         put_new(alloc, rows, sink, accounts, follower)?;
         if ended {
+            let flaw = flaw_if(follower, strict)?;
             rows.put_end(sink)?;
-            return Ok(reach(follower));
+            let end = reach(follower);
+            return Ok(Ended { end, flaw });
         }
     }
 }
@@ -105,13 +110,14 @@ pub(crate) fn tail_table<R, S: Source, K: Sink, G: Gate + Sync, T: TableRows + D
     workers: usize,
     gate: &G,
     accounts: &Option<Accounts>,
-) -> Result<Status, Fault>
+    strict: bool,
+) -> Result<Ended<Status>, Fault>
 where
     R: Threads + Wait + Sync,
     requires source { CanBeUsed (S.state source.old) }
     requires sink { CanBeUsed (K.state sink.old) }
     requires workers { (1 ≤ workers) × (workers ≤ 64) }
-    ensures answer { IfOk result (λ status. IsAnswered (T.kind accounts.now).text status
+    ensures answer { IfOk result (λ ended. IsAnswered (judged_text strict (T.kind accounts.now).text) ended
         (devices (S.state source.old) (K.state sink.old))
         (devices (S.state source.new) (K.state sink.new))) }
     ensures fault { IfErr result (λ f. TailFailsBy (T.kind accounts.now).text f
@@ -130,6 +136,7 @@ where
         &mut follower,
         gate,
         accounts,
+        strict,
         &mut rows,
     );
     follower.discard();

@@ -26,3 +26,27 @@ pub(crate) const MISSING: &str =
 /// Round 1 names a payment, and round 2 commits it; then round 1 comes again without the payment.
 pub(crate) const TWINS_LATER: &str =
     "members 1\naccount 1 100\naccount 2 50\nbatch b\npay 1 2 30 0\ncert a 1 0 b - 0\ncert b 2 0 - a 0\ncert e 1 0 - - 0\n";
+
+/// A payment is ordered, and nothing keeps the feed from counting whole.
+pub(crate) const WHOLE: &str =
+    "members 1\naccount 1 100\naccount 2 50\nbatch b\npay 1 2 30 0\ncert a 1 0 b - 0\ncert b 2 0 - a 0\n";
+
+/// A payment is ordered, and then two certificates come: one whose author is no member, and one whose signer is none.
+pub(crate) const REJECTED: &str =
+    "members 1\naccount 1 100\naccount 2 50\nbatch b\npay 1 2 30 0\ncert a 1 0 b - 0\ncert b 2 0 - a 0\ncert r 1 1 - - 0\ncert s 1 0 - - 1\n";
+
+/// A payment is ordered, and then a certificate comes whose parent does not.
+pub(crate) const WAITING: &str =
+    "members 1\naccount 1 100\naccount 2 50\nbatch b\npay 1 2 30 0\ncert a 1 0 b - 0\ncert b 2 0 - a 0\ncert w 4 0 - ba7816bf8f01cfea414140de5dae2223b00361a396177a9cb410ff61f20015ad 0\n";
+
+/// A certificate waits, and one before it breaks a rule.
+pub(crate) const REJECTED_AND_WAITING: &str =
+    "members 1\naccount 1 100\naccount 2 50\ncert s 1 0 - - 1\ncert w 4 0 - ba7816bf8f01cfea414140de5dae2223b00361a396177a9cb410ff61f20015ad 0\n";
+
+/// Round 1 names a batch that does not come, that of "abc", and a certificate breaks a rule.
+pub(crate) const MISSING_AND_REJECTED: &str =
+    "members 1\naccount 1 100\naccount 2 50\ncert s 1 0 - - 1\ncert a 1 0 ba7816bf8f01cfea414140de5dae2223b00361a396177a9cb410ff61f20015ad - 0\ncert b 2 0 - a 0\n";
+
+/// A certificate for which nobody votes.
+pub(crate) const UNVOTED: &str =
+    "members 1\naccount 1 100\naccount 2 50\nbatch b\npay 1 2 30 0\ncert a 1 0 b - 0\n";

@@ -5,11 +5,13 @@
 
 mod devices;
 mod feeds;
+mod flaws;
 mod made;
 mod tables;
 mod tally;
 mod trials;
 
+use crate::flaws::try_flaws;
 use crate::tally::Tally;
 use crate::trials::try_all;
 use anyhow::{Result, bail};
@@ -17,6 +19,7 @@ use anyhow::{Result, bail};
 fn main(rt: HostRuntime) -> Result<()> {
     let mut tally = Tally::new();
     try_all(&rt, &mut tally)?;
+    try_flaws(&rt, &mut tally)?;
     println!(rt; "{} passed, {} failed", tally.passed, tally.failed)?;
     if tally.failed > 0 {
         bail!("trials failed");

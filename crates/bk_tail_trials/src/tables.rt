@@ -5,7 +5,7 @@ use anyhow::Result;
 use bk_follow::answer_by_ledger;
 use bk_frames::Counted;
 use bk_pool::Open;
-use bk_results::{Fault, Status};
+use bk_results::{Fault, Flaw, Status};
 use bk_tables::{Accounts, Postings, Transactions};
 use bk_tail::{tail_postings, tail_transactions};
 use std::alloc::Global;
@@ -26,10 +26,11 @@ pub(crate) struct Asked {
     pub(crate) named: Option<u64>,
 }
 
-/// What a call leaves: how it ends, and what the sink holds.
+/// What a call leaves: how it ends, what keeps the feed from counting whole, and what the sink holds.
 #[derive(Drop)]
 pub(crate) struct Left {
     pub(crate) end: Result<Status, Fault>,
+    pub(crate) flaw: Option<Flaw>,
     pub(crate) text: Vec<u8>,
 }
 
@@ -55,8 +56,14 @@ fn accounts_of(alloc: Global, named: Option<u64>) -> Result<Option<Accounts>> {
     Ok(Some(Accounts::of(ids)))
 }
 
-/// Follows a feed.
-pub(crate) fn followed<R>(rt: &R, asked: Asked, reader: Reader<'_>, room: Room) -> Result<Left>
+/// Follows a feed, and judges it where `strict` is set.
+pub(crate) fn judged<R>(
+    rt: &R,
+    asked: Asked,
+    strict: bool,
+    reader: Reader<'_>,
+    room: Room,
+) -> Result<Left>
 where
     R: AllocGlobal + Threads + Wait + Sync,
 {
@@ -66,18 +73,30 @@ where
     let mut source = Counted::new(reader);
     let mut sink = Counted::new(Writer { held, most, calls });
     let accounts = accounts_of(alloc, asked.named)?;
-    let end = match asked.table {
+    let ended = match asked.table {
         Table::Transactions => {
             let asked = Transactions { accounts };
-            tail_transactions(rt, alloc, &mut source, &mut sink, 2, &Open, &asked)
+            tail_transactions(rt, alloc, &mut source, &mut sink, 2, &Open, &asked, strict)
         }
         Table::Postings => {
             let asked = Postings { accounts };
-            tail_postings(rt, alloc, &mut source, &mut sink, 2, &Open, &asked)
+            tail_postings(rt, alloc, &mut source, &mut sink, 2, &Open, &asked, strict)
         }
     };
     let text = sink.into_inner().held;
-    Ok(Left { end, text })
+    let (end, flaw) = match ended {
+        Ok(ended) => (Ok(ended.end), ended.flaw),
+        Err(fault) => (Err(fault), None),
+    };
+    Ok(Left { end, flaw, text })
+}
+
+/// Follows a feed without judging it.
+pub(crate) fn followed<R>(rt: &R, asked: Asked, reader: Reader<'_>, room: Room) -> Result<Left>
+where
+    R: AllocGlobal + Threads + Wait + Sync,
+{
+    judged(rt, asked, false, reader, room)
 }
 
 /// Reads a feed whole, and writes its table then.
@@ -100,7 +119,8 @@ where
         }
     };
     let text = sink.into_inner();
-    Ok(Left { end, text })
+    let flaw = None;
+    Ok(Left { end, flaw, text })
 }
 
 /// A source that returns at most `most` bytes per call.

@@ -14,13 +14,14 @@ use std::alloc::Global;
 use std::sync::Wait;
 use std::thread::Threads;
 
-// How many bytes a piece has, at most.
-const PIECES: [usize; 3] = [1, 7, 65_536];
+/// How many bytes a piece has, at most.
+pub(crate) const PIECES: [usize; 3] = [1, 7, 65_536];
 
 // All rows, those of an account that comes to be, and those of none.
 const NAMED: [Option<u64>; 3] = [None, Some(9), Some(77)];
 
-const TABLES: [Table; 2] = [Table::Transactions, Table::Postings];
+/// Both tables.
+pub(crate) const TABLES: [Table; 2] = [Table::Transactions, Table::Postings];
 
 const FEEDS: [&str; 6] = [
     ONE_COMMIT,

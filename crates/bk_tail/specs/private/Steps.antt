@@ -1,6 +1,6 @@
 -- One piece of a feed that is followed.
 use Rattle.std.specs.Prelude.{◌≡◌, ℕ, Bool, true, List, Some}
-use Rattle.bk_base.specs.Feed.{Frame}
+use Rattle.bk_base.specs.Feed.{Frame, FeedValue, IsFeed}
 use Rattle.bk_commit.specs.Growth.{IsPrefix}
 use Rattle.bk_frames.specs.Device.{Device, Works, Gives, IfKnown}
 use Rattle.bk_frames.specs.Pulling.{Gave, Refuses}
@@ -9,6 +9,7 @@ use Rattle.bk_results.specs.declared.fault.Fault.TheVariants as fault
 use Rattle.bk_answer.specs.RunReport.{HasPlaceIn, IsStopIn}
 use Rattle.bk_follow.specs.Follower.{BookValue, Followed, HasCome, IsCurrent, IsSettled}
 use Rattle.bk_follow.specs.Finishing.{EndsAs}
+use Rattle.bk_follow.specs.Ordering.{IsOrdered}
 use Rattle.bk_tail.specs.Tailing.{OfWholeFrames}
 
 -- since `start` a source gave these bytes, no call of it failed, and a Follower took them: these frames are whole
@@ -20,6 +21,10 @@ pub record HasFollowed (start now : Device) (bytes : List ℕ) (frames : List Fr
 -- what came is a feed, and the order of all of it was executed
 abbrev pub IsWholeFeed : List ℕ → List Frame → Followed → Type 0
 IsWholeFeed bytes frames v = EndsAs bytes frames v (λ feed. (b : BookValue) × (v.book ≡ Some b) × IsCurrent feed b)
+
+-- a Follower's order is that of all frames of this feed, which nothing stops
+abbrev pub HasOrderOf : Followed → FeedValue → Type 0
+HasOrderOf v feed = IsFeed feed × ((b : BookValue) × (v.book ≡ Some b) × IsOrdered feed b)
 
 -- more came after these bytes and frames, and all of it is settled; at its end the source had no more, and it is a feed
 pub record Advanced (start now : Device) (bytes : List ℕ) (frames : List Frame) (v : Followed) (ended : Bool) : Type 0 where

@@ -1,10 +1,13 @@
 use Rattle.std.proofs.Common.{[], refl, sym, subst, arith}
 use Rattle.std.proofs.lemmas.Result.{err_from_is_err_and}
 use Rattle.bk_answer.specs.Answers.{IsAnswered}
+use Rattle.bk_answer.specs.Flaws.{judged_text}
+use Rattle.bk_base.specs.Feed.{feed_of}
 use Rattle.bk_order.specs.Intake.{nothing_ordered}
 use Rattle.bk_results.specs.Devices.{devices}
 use Rattle.bk_results.specs.declared.status.Status.{Status}
-use Rattle.bk_tail.proofs.Ends.{advance_fails, answered, end_fails, put_fails, put_not}
+use Rattle.bk_tail.proofs.Ends.{advance_fails, answered, end_fails, ended_with, no_flaw, put_fails, put_not}
+use Rattle.bk_tail.proofs.Flawed.{whole_order}
 use Rattle.bk_tail.proofs.Step.{few_bytes, none_put_on, put_on}
 use Rattle.bk_tail.proofs.Pieces.{none_followed}
 use Rattle.bk_tail.proofs.tail.tail_rows.Goals as goal
@@ -52,6 +55,24 @@ returns-in_err-put_new-clause-fault g c =
     let on = put_on (g.T.TableRows.kind c.args.accounts.now) (g.met.T.TableRows.no_rows c.args.accounts.now) i.bytes a.all i.frames a.whole c.pieces.follower c.advance.new.follower first (g.K.Sink.state c.pieces.sink) (g.T.TableRows.shown c.pieces.rows) (g.T.TableRows.holds c.pieces.rows) i.done a.longer a.more i.followed.come a.followed.come i.put in
     rw (p.1, p.2) (put_not (g.T.TableRows.kind c.args.accounts.now) start (g.S.Source.state c.advance.new.source) first (g.K.Sink.state c.put_new.new.sink) _ a.all a.whole c.advance.new.follower a.followed
     (c.in_err-put_new.ensures.fault a.all a.whole first i.done a.followed.come a.settled on))
+
+pub flaw_if-requires : goal.flaw_if-requires
+flaw_if-requires g c =
+    let i = c.pieces.invariant in
+    let a = c.in_ok-ended.ensures.next (g.S.Source.state c.args.source.now) i.bytes i.frames i.followed in
+    let e = a.ends c.if-ended.true in
+    (feed_of e.1.version a.whole, whole_order a.all a.whole c.advance.new.follower e.1)
+
+pub returns-in_err-flaw-clause-fault : goal.returns-in_err-flaw-clause-fault
+returns-in_err-flaw-clause-fault g c =
+    let i = c.pieces.invariant in
+    let start = g.S.Source.state c.args.source.now in
+    let first = g.K.Sink.state c.args.sink.now in
+    let a = c.in_ok-ended.ensures.next start i.bytes i.frames i.followed in
+    let on = put_on (g.T.TableRows.kind c.args.accounts.now) (g.met.T.TableRows.no_rows c.args.accounts.now) i.bytes a.all i.frames a.whole c.pieces.follower c.advance.new.follower first (g.K.Sink.state c.pieces.sink) (g.T.TableRows.shown c.pieces.rows) (g.T.TableRows.holds c.pieces.rows) i.done a.longer a.more i.followed.come a.followed.come i.put in
+    let n = c.in_ok-put_new.ensures.put a.all a.whole first i.done a.followed.come a.settled on in
+    let p = err_from_is_err_and c.from_residual-in_err-flaw.result c.from_residual-in_err-flaw.ensures.1 in
+    rw (p.1, p.2) (no_flaw (g.T.TableRows.kind c.args.accounts.now) start (g.S.Source.state c.advance.new.source) first (g.K.Sink.state c.put_new.new.sink) _ a.all a.whole c.advance.new.follower (g.T.TableRows.shown c.put_new.new.rows).page n.0 refl a.followed n.1.put)
 
 pub put_end-requires-clause-sound : goal.put_end-requires-clause-sound
 put_end-requires-clause-sound g c =
@@ -106,8 +127,10 @@ returns-then-ended-clause-answer g c =
     let on = put_on k (g.met.T.TableRows.no_rows ids) i.bytes a.all i.frames a.whole c.pieces.follower v first (g.K.Sink.state c.pieces.sink) (g.T.TableRows.shown c.pieces.rows) (g.T.TableRows.holds c.pieces.rows) i.done a.longer a.more i.followed.come a.followed.come i.put in
     let n = c.in_ok-put_new.ensures.put a.all a.whole first i.done a.followed.come a.settled on in
     let e = a.ends c.if-ended.true in
-    subst (λ (s : Status). IsAnswered k.text s (devices start first) (devices now (g.K.Sink.state c.put_end.new.sink))) (sym c.reach.ensures)
-    (answered k (g.met.T.TableRows.is_text ids) start now first sink a.all a.whole v (g.T.TableRows.shown c.put_new.new.rows).page n.0 a.followed a.settled e.1 n.1.put n.2 (g.K.Sink.state c.put_end.new.sink) (g.T.TableRows.shown c.put_end.new.self).page e.0 c.in_ok-put_end.ensures.written c.in_ok-put_end.ensures.empty)
+    let flawed = c.in_ok-flaw.ensures (feed_of e.1.version a.whole) (whole_order a.all a.whole v e.1) in
+    subst (λ (s : Status). IsAnswered (judged_text c.args.strict k.text) (ended_with s c.in_ok-flaw.flaw) (devices start first) (devices now (g.K.Sink.state c.put_end.new.sink))) (sym c.reach-end.ensures)
+    (answered k (g.met.T.TableRows.is_text ids) start now first sink a.all a.whole v (g.T.TableRows.shown c.put_new.new.rows).page n.0 a.followed a.settled e.1 n.1.put n.2
+    c.args.strict c.in_ok-flaw.flaw (g.K.Sink.state c.put_end.new.sink) (g.T.TableRows.shown c.put_end.new.self).page e.0 c.in_ok-put_end.ensures.written c.in_ok-put_end.ensures.empty flawed)
 
 pub pieces-preserved : goal.pieces-preserved
 pieces-preserved g c =
