@@ -287,7 +287,7 @@ both_gave one other holds first first' second second' ended also h =
 pub of_theirs : (holds too : FeedValue → FeedValue → Type 0) (bytes more : List ℕ) → ((f g : FeedValue) → holds f g → too f g) → OfTheirFeeds bytes more holds → OfTheirFeeds bytes more too
 of_theirs holds too bytes more f x = record { one = x.one; other = x.other; good = x.good; other_good = x.other_good; spelled = x.spelled; other_spelled = x.other_spelled; holds = f x.one x.other x.holds }
 
-both_so : (old new : Sources) (holds too : FeedValue → FeedValue → Type 0) → ((f g : FeedValue) → holds f g → too f g) → BothGave old new holds → BothGave old new too
+pub both_so : (old new : Sources) (holds too : FeedValue → FeedValue → Type 0) → ((f g : FeedValue) → holds f g → too f g) → BothGave old new holds → BothGave old new too
 both_so old new holds too f h =
     gave_all old.first new.first (λ bytes. GaveAll old.second new.second (λ more. OfTheirFeeds bytes more holds)) (λ bytes. GaveAll old.second new.second (λ more. OfTheirFeeds bytes more too)) h
     (λ bytes k. gave_all old.second new.second (λ more. OfTheirFeeds bytes more holds) (λ more. OfTheirFeeds bytes more too) k (λ more x. of_theirs holds too bytes more f x))
