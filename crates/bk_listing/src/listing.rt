@@ -95,6 +95,12 @@ fn list_last<R: Threads + Sync, K: Sink>(
     Ok(())
 }
 
+// Whether so many bytes that wait are listed after a pull of so many with so much room: many wait, or there was no more to
+// pull, and what is there is listed before more is waited for.
+fn is_due(waiting: u64, count: usize, room: usize) -> bool {
+    ENOUGH <= waiting || count < room
+}
+
 // Lists all frames of a source. The piece is room for its bytes.
 fn list_all<R: Threads + Sync, S: Source, K: Sink>(
     rt: &R,
@@ -133,13 +139,14 @@ fn list_all<R: Threads + Sync, S: Source, K: Sink>(
         if count == 0 {
             return list_last(rt, alloc, sink, reader, lister);
         }
-        if ENOUGH <= reader.waiting(lister.place.offset) {
+        if is_due(reader.waiting(lister.place.offset), count, piece.len()) {
             list_waiting(rt, alloc, sink, reader, lister)?;
         }
     }
 }
 
-/// Writes a line for each whole frame of a feed that comes before any fault, in the order of the feed. Certificates are
+/// Writes a line for each whole frame of a feed that comes before any fault, in the order of the feed; where a pull gives
+/// less than there is room for, before more is waited for. Certificates are
 /// judged by the local rules of the feed's version, on all processors. Memory is that of one group of frames.
 ///
 /// Returns how many of the frames are certificates that break a rule, with those whose bytes are no certificate.
