@@ -14,7 +14,7 @@ ghost use Rattle.bk_diagnosis.specs.private.Lacking.{missing_lines};
 ghost use Rattle.bk_diagnosis.specs.private.Shows.{WritesLines, LinesFail};
 
 use crate::lacking::lacks_of;
-use crate::writing::write_lines;
+use crate::writing::write_text;
 use bk_answer::{ClosedOrder, OrderAnswer};
 use bk_frames::Sink;
 use bk_order::Intake;
@@ -51,7 +51,7 @@ fn write_missing<K: Sink>(
         (K.state sink.old) (K.state sink.new)) }
 {
     let text = text_of_missing(alloc, intake, rounds)?;
-    write_lines(sink, &text)
+    write_text(sink, &text)
 }
 
 /// The batches that the order of a feed lacks, as what a feed answers: a line for each digest that an ordered certificate

@@ -13,7 +13,7 @@ ghost use Rattle.bk_diagnosis.specs.private.Shows.{HasText, WritesSome, SomeFail
 
 use crate::graph::Graph;
 use crate::line::{Line, push_lines};
-use crate::writing::write_lines;
+use crate::writing::write_text;
 use bk_answer::{ClosedOrder, OrderAnswer};
 use bk_cert::CertRef;
 use bk_frames::Sink;
@@ -86,7 +86,7 @@ fn write_waiting<K: Sink>(
         (K.state sink.old) (K.state sink.new)) }
 {
     let text = text_of_waiting(alloc, intake, rounds)?;
-    write_lines(sink, &text)
+    write_text(sink, &text)
 }
 
 /// What keeps the certificates that wait from being admitted, as what a feed answers: a line for each, by round and

@@ -10,7 +10,7 @@ use bk_frames::{Sink, push_all};
 use bk_results::Fault;
 
 /// Writes the text of lines. Returns whether there is one.
-pub(crate) fn write_lines<K: Sink>(sink: &mut K, text: &str) -> Result<bool, Fault>
+pub(crate) fn write_text<K: Sink>(sink: &mut K, text: &str) -> Result<bool, Fault>
     requires sound { CanBeUsed (K.state sink.old) }
     ensures out { IfOk result (λ some. (lines : List Line) → text.now ≡ text_of lines
         → WritesLines lines (K.state sink.old) (K.state sink.new) some) }
