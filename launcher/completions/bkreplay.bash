@@ -26,7 +26,7 @@ _bkreplay() {
         kinds=(command)
         ;;
     run)
-        names='--workers --progress --verbose --help'
+        names='--workers --strict --progress --verbose --help'
         kinds=(file)
         ;;
     make)
@@ -34,59 +34,59 @@ _bkreplay() {
         kinds=(file)
         ;;
     order)
-        names='--progress --verbose --help'
+        names='--strict --progress --verbose --help'
         kinds=(file)
         ;;
     account)
-        names='--progress --verbose --help'
+        names='--strict --progress --verbose --help'
         kinds=(none file)
         ;;
     receipt)
-        names='--progress --verbose --help'
+        names='--strict --progress --verbose --help'
         kinds=(none file)
         ;;
     prove)
-        names='--progress --verbose --help'
+        names='--strict --progress --verbose --help'
         kinds=(none file)
         ;;
     frames)
-        names='--progress --verbose --help'
+        names='--strict --progress --verbose --help'
         kinds=(file)
         ;;
     summary)
-        names='--workers --progress --verbose --help'
+        names='--workers --strict --progress --verbose --help'
         kinds=(file)
         ;;
     anchors)
-        names='--progress --verbose --help'
+        names='--strict --progress --verbose --help'
         kinds=(file)
         ;;
     dag)
-        names='--from --rounds --links --progress --verbose --help'
+        names='--from --rounds --links --strict --progress --verbose --help'
         kinds=(file)
         ;;
     statement)
-        names='--workers --progress --verbose --help'
+        names='--workers --strict --progress --verbose --help'
         kinds=(none file)
         ;;
     transactions)
-        names='--workers --accounts --follow --wait --progress --verbose --help'
+        names='--workers --accounts --follow --wait --strict --progress --verbose --help'
         kinds=(file)
         ;;
     postings)
-        names='--workers --accounts --follow --wait --progress --verbose --help'
+        names='--workers --accounts --follow --wait --strict --progress --verbose --help'
         kinds=(file)
         ;;
     batches)
-        names='--progress --verbose --help'
+        names='--strict --progress --verbose --help'
         kinds=(file)
         ;;
     waiting)
-        names='--progress --verbose --help'
+        names='--strict --progress --verbose --help'
         kinds=(file)
         ;;
     missing)
-        names='--progress --verbose --help'
+        names='--strict --progress --verbose --help'
         kinds=(file)
         ;;
     evidence)
@@ -98,11 +98,11 @@ _bkreplay() {
         kinds=(none file)
         ;;
     check-state)
-        names='--workers --progress --verbose --help'
+        names='--workers --strict --progress --verbose --help'
         kinds=(none file)
         ;;
     check-report)
-        names='--workers --progress --verbose --help'
+        names='--workers --strict --progress --verbose --help'
         kinds=(file file)
         ;;
     apply)
@@ -114,11 +114,11 @@ _bkreplay() {
         kinds=(file file)
         ;;
     compare)
-        names='--progress --verbose --help'
+        names='--strict --progress --verbose --help'
         kinds=(file file)
         ;;
     link)
-        names='--workers --progress --verbose --help'
+        names='--workers --strict --progress --verbose --help'
         kinds=(file)
         ;;
     check-chain)

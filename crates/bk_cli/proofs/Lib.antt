@@ -1,3 +1,4 @@
+mod LeadLemmas
 mod LineLemmas
 mod LinkLemmas
 mod ReportLemmas

@@ -7,11 +7,11 @@ use Rattle.std.specs.Box.{box_value}
 use Rattle.clap.specs.Simple.{Shape, built, entered, label_of, rows_at, argument_words, names_of, subcommand_rows}
 use Rattle.clap.specs.Walk.{answers_to, stop_after}
 use Rattle.clap.specs.Matches.{subcommand_name_of}
-use Rattle.clap.specs.Words.{App, HasMatchesOf, Row, Text, subcommand_of, subcommand_rows_of}
+use Rattle.clap.specs.Words.{App, HasMatchesOf, Row, Text, one_of, subcommand_of, subcommand_rows_of}
 use Rattle.clap.specs.declared.parser.matches.ArgMatches.{ArgMatches}
 use Rattle.clap.specs.declared.parser.matches.SubCommand.{SubCommand}
 use Rattle.clap.specs.declared.parser.matches.ArgMatches.TheViews.{out-ArgMatches, out-SubCommand}
-use Rattle.bk_cli.specs.CommandLine.{command_line, all_words, AreNamedBy, AreNotesIn, AreNotesOf, IsOneOf, IsJobOf, IsJobAt, NamesNoJob}
+use Rattle.bk_cli.specs.CommandLine.{command_line, all_words, AreNamedBy, AreNotesIn, AreNotesOf, IsOn, IsOneOf, IsStrictOf, IsJobOf, IsJobAt, NamesNoJob}
 use Rattle.bk_cli.specs.Files.{reads_input_twice}
 use Rattle.bk_cli.specs.declared.job.Job.{Job}
 use Rattle.bk_cli.specs.declared.notes.Notes.{Notes}
@@ -52,6 +52,11 @@ job_at_found found name word rows j is same h =
 pub notes_at_found : (found : Option (Text × List Row)) (name : Text) (rows : List Row) (n : Notes) → found ≡ Some (name, rows) → AreNotesIn rows n
     → AreNotesOf found n
 notes_at_found found name rows n is h = subst (λ (f : Option (Text × List Row)). AreNotesOf f n) (sym is) h
+
+-- and so is what they say of a feed that falls short
+pub strict_at_found : (found : Option (Text × List Row)) (name : Text) (rows : List Row) (strict : Bool) → found ≡ Some (name, rows)
+    → IsOn (one_of (codes "strict") rows) strict → IsStrictOf found strict
+strict_at_found found name rows strict is h = subst (λ (f : Option (Text × List Row)). IsStrictOf f strict) (sym is) h
 
 -- and where there is none for want of a digest, the words name none
 pub no_job_at : (found : Option (Text × List Row)) (name word : Text) (rows : List Row) → found ≡ Some (name, rows) → name ≡ word → NamesNoJob (Some (word, rows))

@@ -137,17 +137,25 @@ place_rule = record (new_rule (codes "PLACE")) {
 abbrev pub noted_line : App → App
 noted_line a = with_rule (with_rule a (flag_rule (codes "progress"))) (flag_rule (codes "verbose"))
 
+-- the same with the option `--strict`, which a command has whose feed may fall short
+abbrev pub judged_line : App → App
+judged_line a = noted_line (with_rule a (flag_rule (codes "strict")))
+
 -- a command `NAME [FILE]`
 abbrev pub file_line : Text → App
 file_line name = noted_line (with_rule (new_app name) file_rule)
 
--- a command with one argument more in front
+-- the same with `--strict`
+abbrev pub feed_line : Text → App
+feed_line name = judged_line (with_rule (new_app name) file_rule)
+
+-- the same with one argument more in front
 abbrev pub value_line : Text → Rule → App
-value_line name rule = noted_line (with_rule (with_rule (new_app name) rule) file_rule)
+value_line name rule = judged_line (with_rule (with_rule (new_app name) rule) file_rule)
 
 -- a command `NAME [--workers W] VALUE [FILE]`, where the value is this argument
 abbrev pub working_line : Text → Rule → App
-working_line name rule = noted_line (with_rule (with_rule (with_rule (new_app name) workers_rule) rule) file_rule)
+working_line name rule = judged_line (with_rule (with_rule (with_rule (new_app name) workers_rule) rule) file_rule)
 
 -- the command `schedule [--workers W] FEED EVENTS`
 abbrev pub schedule_line : App
@@ -159,7 +167,7 @@ schedule_line =
 abbrev pub dag_line : App
 dag_line =
     let named = new_app (codes "dag") in
-    noted_line (with_rule (with_rule (with_rule (with_rule named from_rule) rounds_rule) links_rule) file_rule)
+    judged_line (with_rule (with_rule (with_rule (with_rule named from_rule) rounds_rule) links_rule) file_rule)
 
 -- the options `--follow` and `--wait`
 abbrev pub follow_rule : Rule
@@ -174,7 +182,7 @@ picking_line name = with_rule (with_rule (new_app name) workers_rule) accounts_r
 
 -- a command `NAME [--workers W] [--accounts LIST] [--follow] [--wait] [FILE]`
 abbrev pub table_line : Text → App
-table_line name = noted_line (with_rule (with_rule (with_rule (picking_line name) follow_rule) wait_rule) file_rule)
+table_line name = judged_line (with_rule (with_rule (with_rule (picking_line name) follow_rule) wait_rule) file_rule)
 
 -- the command `check-proof [--account ID] ROOT [FILE]`
 abbrev pub proof_line : App
@@ -185,7 +193,7 @@ proof_line =
 -- the command `compare FEED1 FEED2`
 abbrev pub compare_line : App
 compare_line =
-    noted_line (with_rule (with_rule (new_app (codes "compare")) first_feed_rule) second_feed_rule)
+    judged_line (with_rule (with_rule (new_app (codes "compare")) first_feed_rule) second_feed_rule)
 
 -- the word of a command
 abbrev pub word_of : Verb → Text
@@ -219,20 +227,20 @@ word_of verb.CheckChain = codes "check-chain"
 abbrev pub line_of : Verb → App
 line_of verb.Run = value_line (codes "run") workers_rule
 line_of verb.Make = file_line (codes "make")
-line_of verb.Order = file_line (codes "order")
+line_of verb.Order = feed_line (codes "order")
 line_of verb.Account = value_line (codes "account") id_rule
 line_of verb.Receipt = value_line (codes "receipt") place_rule
 line_of verb.Prove = value_line (codes "prove") id_rule
-line_of verb.Frames = file_line (codes "frames")
+line_of verb.Frames = feed_line (codes "frames")
 line_of verb.Summary = value_line (codes "summary") workers_rule
-line_of verb.Anchors = file_line (codes "anchors")
+line_of verb.Anchors = feed_line (codes "anchors")
 line_of verb.Dag = dag_line
 line_of verb.Statement = working_line (codes "statement") id_rule
 line_of verb.Transactions = table_line (codes "transactions")
 line_of verb.Postings = table_line (codes "postings")
-line_of verb.Batches = file_line (codes "batches")
-line_of verb.Waiting = file_line (codes "waiting")
-line_of verb.Missing = file_line (codes "missing")
+line_of verb.Batches = feed_line (codes "batches")
+line_of verb.Waiting = feed_line (codes "waiting")
+line_of verb.Missing = feed_line (codes "missing")
 line_of verb.Evidence = file_line (codes "evidence")
 line_of verb.CheckProof = proof_line
 line_of verb.CheckState = working_line (codes "check-state") root_rule
@@ -468,6 +476,11 @@ AreNotesIn rows notes =
 abbrev pub AreNotesOf : Option (Text × List Row) → Notes → Type 0
 AreNotesOf None notes = ⊥
 AreNotesOf (Some found) notes = AreNotesIn found.1 notes
+
+-- a feed that does not count whole is turned down where `--strict` is given
+abbrev pub IsStrictOf : Option (Text × List Row) → Bool → Type 0
+IsStrictOf None strict = ⊥
+IsStrictOf (Some found) strict = IsOn (one_of (codes "strict") found.1) strict
 
 -- ---- words that name no job
 

@@ -36,6 +36,7 @@ exit_number exit.WrongInput = 2
 exit_number exit.Stopped = 3
 exit_number exit.Failed = 4
 exit_number exit.Missing = 5
+exit_number exit.Flawed = 6
 
 -- ---- which job may end how
 
@@ -171,6 +172,12 @@ may_end j exit.WrongInput = refuses j
 may_end j exit.Stopped = finds_order j
 may_end j exit.Failed = true
 may_end j exit.Missing = reports_missing j
+may_end j exit.Flawed = false
+
+-- how it may end with `--strict`, and how without
+abbrev pub may_end_if : Bool → Job → Exit → Bool
+may_end_if true j exit.Flawed = true
+may_end_if strict j end = may_end j end
 
 -- a job that ends so has written its whole answer, and reports no fault
 abbrev pub is_answer : Job → Exit → Bool

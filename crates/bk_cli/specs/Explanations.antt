@@ -1,5 +1,5 @@
 -- What `--verbose` adds to the line of a fault: one more line, which has it in words with the name of the file.
-use Rattle.std.specs.Prelude.{ℕ, Bool, List, [], ◌++◌, codes, if◌then◌else◌, Option, Some, None}
+use Rattle.std.specs.Prelude.{ℕ, zero, Bool, List, [], ◌++◌, codes, if◌then◌else◌, Option, Some, None}
 use Rattle.bk_frames.specs.declared.fault.FaultCode.{FaultCode}
 use Rattle.bk_frames.specs.declared.fault.FaultCode.TheVariants as code
 use Rattle.bk_results.specs.declared.compare_stop.CompareStop.{CompareStop}
@@ -48,9 +48,16 @@ back_words code.Extra = codes " is a second committee or a second list of openin
 back_words code.Read = codes ""
 back_words code.Memory = codes ""
 
+-- what may be the matter where the very first bytes are wrong
+abbrev pub hint_words : FaultCode → ℕ → List ℕ
+hint_words code.Magic zero = codes "; is it text, or compressed?"
+hint_words code.Truncated zero = codes "; is it empty?"
+hint_words code.Read zero = codes "; is it a directory?"
+hint_words other offset = []
+
 -- a fault of a feed
 abbrev pub feed_words : FaultCode → ℕ → List ℕ
-feed_words found offset = front_words found ++ spaced offset ++ back_words found
+feed_words found offset = front_words found ++ spaced offset ++ back_words found ++ hint_words found offset
 
 -- two headers or batches that have one digest
 abbrev pub collision_words : List ℕ → List ℕ
@@ -114,7 +121,8 @@ list_words (list.Unfinished place) =
 
 -- two feeds that differ
 abbrev pub differ_words : Differ → List ℕ
-differ_words differ.Setup = codes "its version, committee or opening accounts are not those of the first feed"
+differ_words differ.Setup =
+    codes "its version, committee or opening accounts are not those of the first feed: see `summary` of both"
 differ_words (differ.Collision id) = codes "with the first feed, " ++ collision_words id
 differ_words (differ.Twins round author first second) = codes "with the first feed, " ++ twins_words round author
 differ_words differ.Memory = codes "memory ran out"

@@ -1,5 +1,5 @@
 -- The files that a job names, and the one that a fault of it is about.
-use Rattle.std.specs.Prelude.{Bool, true, false, ◌&&◌, List, ℕ, Option, Some, None, codes, if◌then◌else◌, option_map, string_bytes, unwrap_or}
+use Rattle.std.specs.Prelude.{Bool, true, false, ◌&&◌, ◌||◌, List, ℕ, Option, Some, None, codes, if◌then◌else◌, option_map, string_bytes, unwrap_or}
 use Rattle.std.specs.Str.{bytes_eq}
 use Rattle.bk_results.specs.declared.compare_stop.CompareStop.{CompareStop}
 use Rattle.bk_results.specs.declared.compare_stop.CompareStop.TheVariants as compared
@@ -66,6 +66,10 @@ input_name (Some path) = if is_input path then codes "standard input" else path
 -- standard input is read in place of a file: its path stands for it, or there is none
 abbrev pub names_input : Option (List ℕ) → Bool
 names_input path = unwrap_or (option_map is_input path) true
+
+-- a job reads standard input in place of a file
+abbrev pub reads_input : Job → Bool
+reads_input j = names_input (file_of j) || unwrap_or (option_map is_input (second_file_of j)) false
 
 -- a job reads standard input in place of both of its files
 abbrev pub reads_input_twice : Job → Bool

@@ -5,3 +5,6 @@ pub mod FaultLines
 pub mod Files
 pub mod Links
 pub mod Windows
+pub mod Strictness
+pub mod Words
+pub mod Unopened

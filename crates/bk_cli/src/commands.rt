@@ -3,11 +3,12 @@
 ghost use Rattle.std.specs.Prelude.{◌≡◌, true, false, IfOk, IfSome};
 ghost use Rattle.clap.specs.Words.{App, Rule, app_of};
 ghost use Rattle.clap.specs.declared.builder.command.Command.TheViews.{out-Command};
-ghost use Rattle.bk_cli.specs.CommandLine.{asking_line, checking_line, viewing_line, tabling_line, diagnosing_line, command_line, file_line, value_line, picking_line, table_line, schedule_line, working_line};
-ghost use Rattle.bk_cli.specs.CommandLine.{noted_line, file_rule, workers_rule, required_rule, root_rule, id_rule, place_rule, from_rule, rounds_rule, account_rule, accounts_rule, links_rule, dag_line, proof_line, compare_line};
+ghost use Rattle.bk_cli.specs.CommandLine.{asking_line, checking_line, viewing_line, tabling_line, diagnosing_line, command_line, feed_line, file_line, judged_line, value_line, picking_line, table_line, schedule_line, working_line};
+ghost use Rattle.bk_cli.specs.CommandLine.{noted_line, file_rule, workers_rule, required_rule, root_rule, id_rule, place_rule, from_rule, rounds_rule, links_rule, account_rule, accounts_rule, dag_line, proof_line, compare_line};
 
 use crate::help::{self, Help};
 use crate::shaped::{Plain, Shaped};
+use crate::verb::Verb;
 use crate::{diagnosis_help, more_help, table_help};
 use clap::{Command, value_parser};
 use std::alloc::{AllocError, Global};
@@ -107,6 +108,15 @@ fn noted<'a>(alloc: Global, command: Shaped<'a>) -> Shaped<'a>
         .arg(Plain::flag(alloc, "verbose", help::VERBOSE))
 }
 
+// The command with these options and `--strict`.
+fn judged<'a>(alloc: Global, command: Shaped<'a>) -> Shaped<'a>
+    ensures { (a : App) → IfSome command.entry (λ c. c ≡ a)
+        → IfSome result (λ c. c ≡ judged_line a) }
+{
+    let strict = Plain::flag(alloc, "strict", diagnosis_help::STRICT);
+    noted(alloc, command.arg(strict))
+}
+
 // The command `NAME [FILE]`.
 fn file_command<'a>(alloc: Global, name: &'a str, text: Help<'a>) -> Shaped<'a>
     ensures { IfSome result (λ c. c ≡ file_line name.now) }
@@ -114,12 +124,19 @@ fn file_command<'a>(alloc: Global, name: &'a str, text: Help<'a>) -> Shaped<'a>
     noted(alloc, Shaped::new(alloc, name, text).arg(file_arg(alloc)))
 }
 
+// The command `NAME [--strict] [FILE]`.
+fn feed_command<'a>(alloc: Global, name: &'a str, text: Help<'a>) -> Shaped<'a>
+    ensures { IfSome result (λ c. c ≡ feed_line name.now) }
+{
+    judged(alloc, Shaped::new(alloc, name, text).arg(file_arg(alloc)))
+}
+
 // The same with one argument more in front.
 fn value_command<'a>(alloc: Global, name: &'a str, value: Plain<'a>, text: Help<'a>) -> Shaped<'a>
     ensures { (r : Rule) → value.entry ≡ r → IfSome result (λ c. c ≡ value_line name.now r) }
 {
     let named = Shaped::new(alloc, name, text).arg(value);
-    noted(alloc, named.arg(file_arg(alloc)))
+    judged(alloc, named.arg(file_arg(alloc)))
 }
 
 // A command `NAME [--workers W] VALUE [FILE]`.
@@ -129,7 +146,7 @@ fn working_command<'a>(alloc: Global, name: &'a str, value: Plain<'a>, text: Hel
     let named = Shaped::new(alloc, name, text)
         .arg(workers_arg(alloc, help::WORKERS))
         .arg(value);
-    noted(alloc, named.arg(file_arg(alloc)))
+    judged(alloc, named.arg(file_arg(alloc)))
 }
 
 // The command `schedule [--workers W] FEED EVENTS`.
@@ -152,7 +169,7 @@ fn dag_command<'a>(alloc: Global) -> Shaped<'a>
         .arg(rounds_arg(alloc))
         .arg(links_arg(alloc))
         .arg(file_arg(alloc));
-    noted(alloc, command)
+    judged(alloc, command)
 }
 
 // A command `NAME [--workers W] [--accounts LIST]`, so far.
@@ -172,7 +189,7 @@ fn table_command<'a>(alloc: Global, name: &'a str, text: Help<'a>) -> Shaped<'a>
         .arg(Plain::flag(alloc, "follow", table_help::FOLLOW))
         .arg(Plain::flag(alloc, "wait", table_help::WAIT))
         .arg(file_arg(alloc));
-    noted(alloc, command)
+    judged(alloc, command)
 }
 
 // The command `check-proof [--account ID] ROOT [FILE]`.
@@ -193,7 +210,7 @@ fn compare_command<'a>(alloc: Global) -> Shaped<'a>
     let command = Shaped::new(alloc, "compare", more_help::COMPARE)
         .arg(required_arg(alloc, "FEED1", help::FEED1))
         .arg(required_arg(alloc, "FEED2", help::FEED2));
-    noted(alloc, command)
+    judged(alloc, command)
 }
 
 // The program with the commands that write a report, a feed or the reply to a query.
@@ -204,7 +221,7 @@ fn asking_command<'a>(alloc: Global) -> Shaped<'a>
     Shaped::program(alloc)
         .subcommand(value_command(alloc, "run", workers, help::RUN))
         .subcommand(file_command(alloc, "make", help::MAKE))
-        .subcommand(file_command(alloc, "order", help::ORDER))
+        .subcommand(feed_command(alloc, "order", help::ORDER))
         .subcommand(value_command(alloc, "account", id_arg(alloc), help::ACCOUNT))
         .subcommand(value_command(alloc, "receipt", place_arg(alloc), help::RECEIPT))
         .subcommand(value_command(alloc, "prove", id_arg(alloc), help::PROVE))
@@ -216,9 +233,9 @@ fn viewing_command<'a>(alloc: Global) -> Shaped<'a>
 {
     let workers = workers_arg(alloc, help::WORKERS);
     asking_command(alloc)
-        .subcommand(file_command(alloc, "frames", help::FRAMES))
+        .subcommand(feed_command(alloc, "frames", help::FRAMES))
         .subcommand(value_command(alloc, "summary", workers, help::SUMMARY))
-        .subcommand(file_command(alloc, "anchors", help::ANCHORS))
+        .subcommand(feed_command(alloc, "anchors", help::ANCHORS))
         .subcommand(dag_command(alloc))
         .subcommand(working_command(alloc, "statement", id_arg(alloc), help::STATEMENT))
 }
@@ -230,7 +247,7 @@ fn tabling_command<'a>(alloc: Global) -> Shaped<'a>
     viewing_command(alloc)
         .subcommand(table_command(alloc, "transactions", table_help::TRANSACTIONS))
         .subcommand(table_command(alloc, "postings", table_help::POSTINGS))
-        .subcommand(file_command(alloc, "batches", table_help::BATCHES))
+        .subcommand(feed_command(alloc, "batches", table_help::BATCHES))
 }
 
 // And with those that say what is wrong with a feed.
@@ -238,8 +255,8 @@ fn diagnosing_command<'a>(alloc: Global) -> Shaped<'a>
     ensures { IfSome result (λ c. c ≡ diagnosing_line) }
 {
     tabling_command(alloc)
-        .subcommand(file_command(alloc, "waiting", diagnosis_help::WAITING))
-        .subcommand(file_command(alloc, "missing", diagnosis_help::MISSING))
+        .subcommand(feed_command(alloc, "waiting", diagnosis_help::WAITING))
+        .subcommand(feed_command(alloc, "missing", diagnosis_help::MISSING))
         .subcommand(file_command(alloc, "evidence", diagnosis_help::EVIDENCE))
 }
 
@@ -271,6 +288,28 @@ fn whole_command<'a>(alloc: Global) -> Shaped<'a>
         .subcommand(compare_command(alloc))
         .subcommand(value_command(alloc, "link", workers, table_help::LINK))
         .subcommand(file_command(alloc, "check-chain", table_help::CHECK_CHAIN))
+}
+
+/// The command whose usage is shown where words of a command have no fault for the parser, and name no job.
+pub(crate) fn command_of<'a>(alloc: Global, verb: Verb) -> Result<Command<'a>, AllocError> {
+    match verb {
+        Verb::CheckState => {
+            let root = root_arg(alloc);
+            working_command(
+                alloc,
+                "bkreplay check-state",
+                root,
+                more_help::CHECK_STATE,
+            ).into_command()
+        }
+        Verb::Transactions => {
+            table_command(alloc, "bkreplay transactions", table_help::TRANSACTIONS).into_command()
+        }
+        Verb::Postings => {
+            table_command(alloc, "bkreplay postings", table_help::POSTINGS).into_command()
+        }
+        _ => command(alloc),
+    }
 }
 
 /// All commands.

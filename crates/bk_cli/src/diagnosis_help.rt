@@ -5,6 +5,9 @@ use crate::help::Help;
 pub(crate) const ACCOUNT: &str =
     "The id of an account: the proof is good only where its `account` line shows this id";
 
+pub(crate) const STRICT: &str =
+    "End with status 6, and say why in one more line, where the feed does not count whole";
+
 pub(crate) const WAITING: Help<'static> = Help {
     about: "Write what keeps the certificates that wait from being admitted",
     after: "\

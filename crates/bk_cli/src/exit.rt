@@ -26,6 +26,8 @@ pub enum Exit {
     Failed = 4,
     /// The report, a statement, or that a digest or a report is good, is written, and the order stops at a missing batch.
     Missing = 5,
+    /// What the status would be without `--strict` is 0, 1 or 5, and the feed does not count whole.
+    Flawed = 6,
 }
 
 impl Exit {

@@ -2,7 +2,7 @@
 
 ghost use Rattle.std.specs.Prelude.{◌≡◌, ◌+◌, ◌≤◌, ◌++◌, length, codes};
 ghost use Rattle.arrayvec.specs.ArrayVec.{array_vec_len};
-ghost use Rattle.bk_cli.specs.Explanations.{back_words, front_words, refused_words, script_words};
+ghost use Rattle.bk_cli.specs.Explanations.{back_words, front_words, hint_words, refused_words, script_words};
 ghost use Rattle.bk_cli.specs.Explanations.{collision_words, compare_words, differ_words, feed_words, list_words};
 ghost use Rattle.bk_cli.specs.Explanations.{replay_words, text_words, twins_words, unread_words, words_of};
 ghost use Rattle.bk_cli.specs.Explanations.{and_gap, gap_words};
@@ -19,7 +19,7 @@ use bk_results::{CompareStop, Differ, EventsFault, Fault, ScriptCode, ScriptFaul
 // What is in front of the byte at which the fault of a feed is.
 fn front(code: FaultCode) -> &'static [u8]
     ensures text { result.now ≡ front_words code }
-    ensures len { length result.now ≤ 40 }
+    ensures len { length result.now ≤ 35 }
 {
     match code {
         FaultCode::Magic => b"what begins at byte",
@@ -32,7 +32,7 @@ fn front(code: FaultCode) -> &'static [u8]
 // And what comes after it.
 fn back(code: FaultCode) -> &'static [u8]
     ensures text { result.now ≡ back_words code }
-    ensures len { length result.now ≤ 80 }
+    ensures len { length result.now ≤ 60 }
 {
     match code {
         FaultCode::Magic => b" is not a feed: its first bytes are neither BKF1 nor BKF2",
@@ -46,6 +46,22 @@ fn back(code: FaultCode) -> &'static [u8]
     }
 }
 
+// What may be the matter where the very first bytes are wrong.
+fn hint(code: FaultCode, offset: u64) -> &'static [u8]
+    ensures text { result.now ≡ hint_words code offset }
+    ensures len { length result.now ≤ 30 }
+{
+    if offset > 0 {
+        return b"";
+    }
+    match code {
+        FaultCode::Magic => b"; is it text, or compressed?",
+        FaultCode::Truncated => b"; is it empty?",
+        FaultCode::Read => b"; is it a directory?",
+        _ => b"",
+    }
+}
+
 // Puts a fault of a feed where there is room for 150 bytes.
 fn put_feed(line: &mut ShortLine, found: FeedFault)
     requires { array_vec_len line.old + 150 ≤ 192 }
@@ -55,6 +71,7 @@ fn put_feed(line: &mut ShortLine, found: FeedFault)
     put_text(line, front(found.code));
     put_number(line, found.offset);
     put_text(line, back(found.code));
+    put_text(line, hint(found.code, found.offset));
 }
 
 // Puts what two headers or batches of one digest are where there is room for 150 bytes.
@@ -205,7 +222,7 @@ fn put_differ(line: &mut ShortLine, differ: &Differ)
         Differ::Setup => {
             put_text(
                 line,
-                b"its version, committee or opening accounts are not those of the first feed",
+                b"its version, committee or opening accounts are not those of the first feed: see `summary` of both",
             );
         }
         Differ::Collision { id } => {

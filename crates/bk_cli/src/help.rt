@@ -17,7 +17,7 @@ pub(crate) const PROGRESS: &str =
     "Show on standard error how many bytes are read, and how many transactions are executed";
 
 pub(crate) const VERBOSE: &str =
-    "Say in one more line what a fault is, in words, or at which missing batch an order stops, and name the file";
+    "Say in one more line what a fault is, in words, and name the file; queries and `compare` also name a missing batch";
 
 pub(crate) const FROM: &str = "The first round that is drawn, 1 to 1,000,000; 1 by default";
 
@@ -62,6 +62,12 @@ Exit status:
   5  the whole output of `run`, `summary`, `statement`, `transactions`, `postings`, `batches`, `check-state`,
      `check-report` or `link` is written, and the order stops at a missing batch; or a chain is good and its last feed
      is short
+  6  with `--strict`: the status would be 0, 1 or 5, and a feed does not count whole. The first of these that holds is
+     one more line on standard error:
+     strict: missing HEX      the order stops at this batch, which the feed lacks
+     strict: rejected N       N frames of certificates break a rule
+     strict: waiting N        N certificates wait
+     strict: nothing ordered  no certificate is ordered
 
 Codes:
   feed fault  1 the first bytes are not `BKF1` or `BKF2`, 2 cut short, 3 kind of frame, 4 length, 5 committee,

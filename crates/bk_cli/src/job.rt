@@ -1,7 +1,7 @@
 //! What the command line asks for.
 
 ghost use Rattle.std.specs.Prelude.{◌≡◌, option_map, if◌then◌else◌, None, Some};
-ghost use Rattle.bk_cli.specs.Files.{file_of, is_input, names_input, reads_input_twice, second_file_of};
+ghost use Rattle.bk_cli.specs.Files.{file_of, is_input, names_input, reads_input, reads_input_twice, second_file_of};
 
 use crate::view::{Diagnosis, Table, View};
 use crate::window::Window;
@@ -171,6 +171,18 @@ impl Job {
             Job::Pick { accounts, .. } => Some(accounts.as_str()),
             Job::Follow { accounts, .. } => accounts.as_deref(),
         }
+    }
+
+    /// Whether standard input is read in place of a file.
+    pub fn reads_input(&self) -> bool
+        ensures { result ≡ reads_input self.now }
+    {
+        let first = names_input(self.file());
+        let second = match self.second_file() {
+            Some(path) => is_input(path),
+            None => false,
+        };
+        first || second
     }
 
     // Whether standard input would be read in place of both files.

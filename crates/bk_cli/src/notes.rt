@@ -1,7 +1,7 @@
 //! What else is written to standard error.
 
 ghost use Rattle.std.specs.Prelude.{codes};
-ghost use Rattle.clap.specs.Words.{found_of, one_text, rows_of};
+ghost use Rattle.clap.specs.Words.{found_of, one_of, one_text, rows_of};
 ghost use Rattle.bk_cli.specs.CommandLine.{AreNotesIn, IsOn};
 
 use clap::ArgMatches;
@@ -20,6 +20,13 @@ pub(crate) fn flag_in(found: &ArgMatches<'_>, name: &str) -> bool
     ensures { IsOn (one_text (found_of found.now) name.now) result }
 {
     found.get_flag(name)
+}
+
+/// The value of `--strict`.
+pub(crate) fn strict_in(found: &ArgMatches<'_>) -> bool
+    ensures { IsOn (one_of (codes "strict") (rows_of (found_of found.now))) result }
+{
+    flag_in(found, "strict")
 }
 
 impl Notes {

@@ -3,14 +3,16 @@
 ghost use Rattle.std.specs.Prelude.{◌≡◌, ◌⊎◌, true, false, [], map, IfOk, IfErr};
 ghost use Rattle.clap.specs.Kinds.{FailsBy, HasKind};
 ghost use Rattle.clap.specs.Words.{fault_of, has_subcommand, kind_of, subcommand_of, subcommand_rows_of, takes};
-ghost use Rattle.bk_cli.specs.CommandLine.{AreNotesOf, IsJobOf, IsOfValues, command_line};
+ghost use Rattle.bk_cli.specs.CommandLine.{AreNotesOf, IsJobOf, IsOfValues, IsStrictOf, command_line};
 ghost use Rattle.bk_cli.specs.Files.{reads_input_twice};
+ghost use Rattle.bk_cli.specs.Words.{settled};
 
-use crate::commands::command;
+use crate::commands::{command, command_of};
 use crate::job::{Job, sole};
 use crate::making::job_of;
-use crate::notes::Notes;
+use crate::notes::{Notes, strict_in};
 use crate::verb::Verb;
+use crate::words::settle;
 use clap::error::ErrorKind;
 use clap::{ArgMatches, Error};
 use std::alloc::{AllocError, Global};
@@ -23,6 +25,8 @@ pub struct Line {
     pub job: Job,
     /// What it reports while it runs, and after a fault.
     pub notes: Notes,
+    /// Whether a feed that does not count whole is turned down.
+    pub strict: bool,
 }
 
 // The matches of the words; every command line that is whole names a command.
@@ -52,7 +56,7 @@ fn unfit(verb: Verb) -> &'static str {
 fn no_job(alloc: Global, verb: Verb) -> Result<Error, AllocError>
     ensures { IfOk result (λ e. kind_of e ≡ ErrorKind.ValueValidation) }
 {
-    command(alloc)?.error(ErrorKind::ValueValidation, unfit(verb))
+    command_of(alloc, verb)?.error(ErrorKind::ValueValidation, unfit(verb))
 }
 
 // The error of standard input that is named twice.
@@ -65,16 +69,12 @@ fn input_twice(alloc: Global) -> Result<Error, AllocError>
     )
 }
 
-/// Reads the words of a command line; the first is the program's name.
-///
-/// An error is a fault of the words, a request for help or for the version, or that memory ran out; its kind says which.
-/// Words without a fault give a job, and those with one an error of the fault's kind, unless memory ran out. A ROOT of
-/// `check-state` that is not a digest, a value of `--links` that is none of its words, `--wait` without `--follow` or a file, and standard input that is named twice, are
-/// faults of the kind `ValueValidation`.
-pub fn parse_line<'a, S: AsStr>(alloc: Global, words: &'a [S]) -> Result<Line, Error>
+// Reads words whose first is the name of the program and whose second is that of a command.
+fn parse_settled<'a, S: AsStr>(alloc: Global, words: &'a [S]) -> Result<Line, Error>
     ensures job { IfOk result (λ l. IsJobOf (subcommand_of command_line (map S.text words.now)) l.job) }
     ensures once { IfOk result (λ l. reads_input_twice l.job ≡ false) }
     ensures notes { IfOk result (λ l. AreNotesOf (subcommand_of command_line (map S.text words.now)) l.notes) }
+    ensures strict { IfOk result (λ l. IsStrictOf (subcommand_of command_line (map S.text words.now)) l.strict) }
     ensures whole { IfOk result (λ _. fault_of command_line (map S.text words.now) ≡ []) }
     ensures kinds { IfErr result (λ e. HasKind (fault_of command_line (map S.text words.now)) e
         ⊎ IsOfValues e (subcommand_of command_line (map S.text words.now))) }
@@ -94,19 +94,44 @@ pub fn parse_line<'a, S: AsStr>(alloc: Global, words: &'a [S]) -> Result<Line, E
         return Err(input_twice(alloc)?);
     };
     let notes = Notes::found_in(found);
-    Ok(Line { job, notes })
+    let strict = strict_in(found);
+    Ok(Line { job, notes, strict })
+}
+
+/// Reads the words of a command line; the first is the program's name.
+///
+/// The options that every command has may come before the command's name, and `help` is another spelling of `--help`.
+///
+/// An error is a fault of the words, a request for help or for the version, or that memory ran out; its kind says which.
+/// Words without a fault give a job, and those with one an error of the fault's kind, unless memory ran out. A ROOT of
+/// `check-state` that is not a digest, a value of `--links` that is none of its words, `--wait` without `--follow` or a
+/// file, and standard input that is named twice, are faults of the kind `ValueValidation`.
+pub fn parse_line<'a, S: AsStr>(alloc: Global, words: &'a [S]) -> Result<Line, Error>
+    ensures job { IfOk result (λ l. IsJobOf (subcommand_of command_line (settled (map S.text words.now))) l.job) }
+    ensures once { IfOk result (λ l. reads_input_twice l.job ≡ false) }
+    ensures notes { IfOk result (λ l. AreNotesOf (subcommand_of command_line (settled (map S.text words.now))) l.notes) }
+    ensures strict { IfOk result (λ l. IsStrictOf (subcommand_of command_line (settled (map S.text words.now))) l.strict) }
+    ensures whole { IfOk result (λ _. fault_of command_line (settled (map S.text words.now)) ≡ []) }
+    ensures kinds { IfErr result (λ e. HasKind (fault_of command_line (settled (map S.text words.now))) e
+        ⊎ IsOfValues e (subcommand_of command_line (settled (map S.text words.now)))) }
+    ensures error { IfErr result (λ e. takes command_line (settled (map S.text words.now)) ≡ true
+        → (kind_of e ≡ ErrorKind.OutOfMemory)
+        ⊎ IsOfValues e (subcommand_of command_line (settled (map S.text words.now)))) }
+{
+    let words = settle(alloc, words)?;
+    parse_settled(alloc, words.as_slice())
 }
 
 /// The job of the words of a command line, as [`parse_line`] reads them.
 pub fn parse<'a, S: AsStr>(alloc: Global, words: &'a [S]) -> Result<Job, Error>
-    ensures job { IfOk result (IsJobOf (subcommand_of command_line (map S.text words.now))) }
+    ensures job { IfOk result (IsJobOf (subcommand_of command_line (settled (map S.text words.now)))) }
     ensures once { IfOk result (λ j. reads_input_twice j ≡ false) }
-    ensures whole { IfOk result (λ _. fault_of command_line (map S.text words.now) ≡ []) }
-    ensures kinds { IfErr result (λ e. HasKind (fault_of command_line (map S.text words.now)) e
-        ⊎ IsOfValues e (subcommand_of command_line (map S.text words.now))) }
-    ensures error { IfErr result (λ e. takes command_line (map S.text words.now) ≡ true
+    ensures whole { IfOk result (λ _. fault_of command_line (settled (map S.text words.now)) ≡ []) }
+    ensures kinds { IfErr result (λ e. HasKind (fault_of command_line (settled (map S.text words.now))) e
+        ⊎ IsOfValues e (subcommand_of command_line (settled (map S.text words.now)))) }
+    ensures error { IfErr result (λ e. takes command_line (settled (map S.text words.now)) ≡ true
         → (kind_of e ≡ ErrorKind.OutOfMemory)
-        ⊎ IsOfValues e (subcommand_of command_line (map S.text words.now))) }
+        ⊎ IsOfValues e (subcommand_of command_line (settled (map S.text words.now)))) }
 {
     match parse_line(alloc, words) {
         Ok(Line { job, .. }) => Ok(job),

@@ -2,56 +2,57 @@
 
 ghost use Rattle.std.specs.Prelude.{◌++◌, codes};
 ghost use Rattle.bk_frames.specs.Device.{CanBeUsed};
-ghost use Rattle.bk_cli.specs.Explanations.{note_line, told, told_of, words_of};
-ghost use Rattle.bk_cli.specs.FaultLines.{Reports, line_of};
+ghost use Rattle.bk_cli.specs.Explanations.{told, told_of};
+ghost use Rattle.bk_cli.specs.FaultLines.{Reports};
+ghost use Rattle.bk_cli.specs.Unopened.{told_unopened};
 
 use crate::about::About;
 use crate::explain::in_words;
 use crate::fault_line::{fault_line, report};
 use crate::job::Job;
 use crate::job_fault::JobFault;
+use crate::unopened::{Unopened, why};
 use bk_frames::{Sink, push_all};
+use bk_results::ScriptFault;
 
-// Writes a fault in words, up to the end of its line.
-fn push_words<E: Sink>(fault: &JobFault, err: &mut E)
+// Writes what is said of something, up to the end of its line.
+fn push_words<E: Sink>(words: &[u8], err: &mut E)
     requires { CanBeUsed (E.state err.old) }
-    ensures { Reports (codes ": " ++ words_of fault.now ++ codes "\n") (E.state err.old) (E.state err.new) }
+    ensures { Reports words.now (E.state err.old) (E.state err.new) }
 {
-    let line = in_words(fault);
     // A line that cannot be written is reported nowhere.
-    let _ = push_all(err, line.as_slice());
+    let _ = push_all(err, words);
 }
 
-// Writes the name of what the fault is about, and the fault in words.
-fn push_name<E: Sink>(name: &str, fault: &JobFault, err: &mut E)
+// Writes the name of what a fault is about, and then what is said of it.
+fn push_name<E: Sink>(name: &str, words: &[u8], err: &mut E)
     requires { CanBeUsed (E.state err.old) }
-    ensures { Reports (name.now ++ (codes ": " ++ words_of fault.now ++ codes "\n"))
-        (E.state err.old) (E.state err.new) }
+    ensures { Reports (name.now ++ words.now) (E.state err.old) (E.state err.new) }
 {
     match push_all(err, name.as_bytes()) {
-        Ok(()) => push_words(fault, err),
+        Ok(()) => push_words(words, err),
         Err(_) => {}
     }
 }
 
-// Writes the line that has the fault in words.
-fn push_note<E: Sink>(name: &str, fault: &JobFault, err: &mut E)
+// Writes the line that says something of what has this name.
+fn push_note<E: Sink>(name: &str, words: &[u8], err: &mut E)
     requires { CanBeUsed (E.state err.old) }
-    ensures { Reports (note_line name.now fault.now) (E.state err.old) (E.state err.new) }
+    ensures { Reports (codes "bkreplay: " ++ (name.now ++ words.now)) (E.state err.old) (E.state err.new) }
 {
     match push_all(err, b"bkreplay: ") {
-        Ok(()) => push_name(name, fault, err),
+        Ok(()) => push_name(name, words, err),
         Err(_) => {}
     }
 }
 
-// Reports a fault in its line and in words.
-fn report_twice<E: Sink>(name: &str, fault: &JobFault, err: &mut E)
+// Writes the line of a fault, and then the one that says something of what has this name.
+fn push_both<E: Sink>(line: &[u8], name: &str, words: &[u8], err: &mut E)
     requires { CanBeUsed (E.state err.old) }
-    ensures { Reports (line_of fault.now ++ note_line name.now fault.now) (E.state err.old) (E.state err.new) }
+    ensures { Reports (line.now ++ (codes "bkreplay: " ++ (name.now ++ words.now))) (E.state err.old) (E.state err.new) }
 {
-    match push_all(err, fault_line(fault).as_slice()) {
-        Ok(()) => push_note(name, fault, err),
+    match push_all(err, line) {
+        Ok(()) => push_note(name, words, err),
         Err(_) => {}
     }
 }
@@ -63,7 +64,8 @@ pub fn tell_of<E: Sink>(name: &str, verbose: bool, fault: &JobFault, err: &mut E
     ensures { Reports (told_of verbose name.now fault.now) (E.state err.old) (E.state err.new) }
 {
     if verbose {
-        report_twice(name, fault, err);
+        let words = in_words(fault);
+        push_both(fault_line(fault).as_slice(), name, words.as_slice(), err);
     } else {
         report(fault, err);
     }
@@ -75,4 +77,17 @@ pub fn tell<E: Sink>(job: &Job, verbose: bool, fault: &JobFault, err: &mut E)
     ensures { Reports (told verbose job.now fault.now) (E.state err.old) (E.state err.new) }
 {
     tell_of(About::of(job, fault).name(job), verbose, fault, err);
+}
+
+/// Reports that a file of this name could not be opened and, where `verbose` asks for words, for what reason.
+pub fn tell_unopened<E: Sink>(name: &str, verbose: bool, reason: Unopened, err: &mut E)
+    requires { CanBeUsed (E.state err.old) }
+    ensures { Reports (told_unopened verbose name.now reason) (E.state err.old) (E.state err.new) }
+{
+    let fault = JobFault::Text(ScriptFault::Read);
+    if verbose {
+        push_both(fault_line(&fault).as_slice(), name, why(reason), err);
+    } else {
+        report(&fault, err);
+    }
 }

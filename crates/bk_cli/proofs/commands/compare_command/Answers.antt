@@ -4,4 +4,4 @@ use Rattle.bk_cli.proofs.commands.compare_command.Goals as goal
 pub returns : goal.returns
 returns c =
     let first = c.arg.ensures _ _ c.new.ensures c.required_arg.ensures in
-    c.noted.ensures _ (c.arg-command.ensures _ _ first c.required_arg-2.ensures)
+    c.judged.ensures _ (c.arg-command.ensures _ _ first c.required_arg-2.ensures)

@@ -5,4 +5,4 @@ pub returns : goal.returns
 returns c =
     let follow = c.arg.ensures _ _ c.picking_command.ensures c.flag.ensures in
     let wait = c.arg-2.ensures _ _ follow c.flag-2.ensures in
-    c.noted.ensures _ (c.arg-command.ensures _ _ wait c.file_arg.ensures)
+    c.judged.ensures _ (c.arg-command.ensures _ _ wait c.file_arg.ensures)

@@ -2,4 +2,4 @@
 use Rattle.bk_cli.proofs.commands.value_command.Goals as goal
 
 pub returns : goal.returns
-returns c = λ r e. c.noted.ensures _ (c.arg.ensures _ _ (c.arg-named.ensures _ _ c.new.ensures e) c.file_arg.ensures)
+returns c = λ r e. c.judged.ensures _ (c.arg.ensures _ _ (c.arg-named.ensures _ _ c.new.ensures e) c.file_arg.ensures)
