@@ -51,7 +51,7 @@ use Rattle.bk_results.specs.Devices.{Devices}
 use Rattle.bk_answer.specs.Answers.{AnswerFailsBy}
 use Rattle.bk_answer.specs.RunReport.{report_text}
 use Rattle.bk_ask.specs.Asking.{IsRepliedOf, executes}
-use Rattle.bk_picture.specs.Drawing.{drawing_text}
+use Rattle.bk_jobs.specs.Drawn.{window_text}
 use Rattle.bk_summary.specs.Summarizing.{IsSummaryText}
 use Rattle.bk_jobs.specs.Sources.{first_devices}
 use Rattle.bk_cli.specs.Exits.{exit_after_replay}
@@ -213,7 +213,7 @@ blames (job.Summary workers file) (fault.Text e) old new w h r = absurd h
 blames (job.Summary workers file) (fault.Events e) old new w h r = absurd h
 blames (job.Summary workers file) (fault.Compared e) old new w h r = absurd h
 blames (job.Dag window file) (fault.Replay e) old new w h r =
-    answer_blames (drawing_text window.from window.rounds) false (job.Dag window file) e (inputs_of old) (first_devices old) (first_devices new) (λ b. b) (λ b. b) h r
+    answer_blames (window_text window) false (job.Dag window file) e (inputs_of old) (first_devices old) (first_devices new) (λ b. b) (λ b. b) h r
 blames (job.Diagnose d file) (fault.Replay e) old new w h r =
     answer_blames (diagnosis_text d) false (job.Diagnose d file) e (inputs_of old) (first_devices old) (first_devices new) (λ b. b) (λ b. b) h.0 r
 blames (job.Dag window file) (fault.Text e) old new w h r = absurd h

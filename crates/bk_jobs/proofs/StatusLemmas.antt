@@ -34,7 +34,7 @@ use Rattle.bk_claim.specs.declared.verdict.Verdict.TheVariants as verdict
 use Rattle.bk_jobs.specs.Comparisons.{CompareFailsBy}
 use Rattle.bk_jobs.specs.Reports.{ClaimCheckFailsBy, exit_by_verdict}
 use Rattle.bk_jobs.specs.Faults.{JobFailsBy, QueryFailsBy}
-use Rattle.bk_jobs.specs.Views.{ChainFailsBy, FollowFailsBy, PickFailsBy, exit_by_chain}
+use Rattle.bk_jobs.specs.Views.{PickFailsBy, exit_by_chain}
 use Rattle.bk_chain.specs.declared.verdict.ChainEnd.{ChainEnd}
 use Rattle.bk_chain.specs.declared.verdict.ChainEnd.TheVariants as chained
 use Rattle.bk_cli.specs.declared.view.Table.{Table}
@@ -378,6 +378,7 @@ report_is_answer j exit.WrongInput h = absurd (cc)
 report_is_answer j exit.Stopped h = absurd (cc)
 report_is_answer j exit.Failed h = absurd (cc)
 report_is_answer j exit.Missing h = refl
+report_is_answer j exit.Flawed h = absurd (cc)
 
 -- ---- the answers of the jobs
 
@@ -389,6 +390,7 @@ run_answers workers file exit.WrongInput h = absurd (cc)
 run_answers workers file exit.Stopped h = absurd (cc)
 run_answers workers file exit.Failed h = absurd (cc)
 run_answers workers file exit.Missing h = (refl, refl)
+run_answers workers file exit.Flawed h = absurd (cc)
 
 pub summary_answers : (workers : ℕ) (file : _) (end : Exit) → is_report end ≡ true
     → (is_answer (job.Summary workers file) end ≡ true) × (may_end (job.Summary workers file) end ≡ true)
@@ -398,6 +400,7 @@ summary_answers workers file exit.WrongInput h = absurd (cc)
 summary_answers workers file exit.Stopped h = absurd (cc)
 summary_answers workers file exit.Failed h = absurd (cc)
 summary_answers workers file exit.Missing h = (refl, refl)
+summary_answers workers file exit.Flawed h = absurd (cc)
 
 pub show_answers : (workers : ℕ) (shown : View) (file : _) (end : Exit) → is_report end ≡ true
     → (is_answer (job.Show workers shown file) end ≡ true) × (may_end (job.Show workers shown file) end ≡ true)
@@ -407,6 +410,7 @@ show_answers workers shown file exit.WrongInput h = absurd (cc)
 show_answers workers shown file exit.Stopped h = absurd (cc)
 show_answers workers shown file exit.Failed h = absurd (cc)
 show_answers workers shown file exit.Missing h = (refl, refl)
+show_answers workers shown file exit.Flawed h = absurd (cc)
 
 pub pick_answers : (workers : ℕ) (shown : Table) (accounts file : _) (end : Exit) → is_report end ≡ true
     → (is_answer (job.Pick workers shown accounts file) end ≡ true) × (may_end (job.Pick workers shown accounts file) end ≡ true)
@@ -416,6 +420,7 @@ pick_answers workers shown accounts file exit.WrongInput h = absurd (cc)
 pick_answers workers shown accounts file exit.Stopped h = absurd (cc)
 pick_answers workers shown accounts file exit.Failed h = absurd (cc)
 pick_answers workers shown accounts file exit.Missing h = (refl, refl)
+pick_answers workers shown accounts file exit.Flawed h = absurd (cc)
 
 pub follow_answers : (workers : ℕ) (shown : Table) (accounts : _) (wait : Bool) (file : _) (end : Exit) → is_report end ≡ true
     → (is_answer (job.Follow workers shown accounts wait file) end ≡ true) × (may_end (job.Follow workers shown accounts wait file) end ≡ true)
@@ -425,6 +430,7 @@ follow_answers workers shown accounts wait file exit.WrongInput h = absurd (cc)
 follow_answers workers shown accounts wait file exit.Stopped h = absurd (cc)
 follow_answers workers shown accounts wait file exit.Failed h = absurd (cc)
 follow_answers workers shown accounts wait file exit.Missing h = (refl, refl)
+follow_answers workers shown accounts wait file exit.Flawed h = absurd (cc)
 
 pub chain_answers : (file : _) (v : ChainEnd) (end : Exit) → end ≡ exit_by_chain v
     → (is_answer (job.CheckChain file) end ≡ true) × (may_end (job.CheckChain file) end ≡ true)
@@ -523,42 +529,3 @@ job_of_compare first second (fault.AbsentAccount id missing) old new h = absurd 
 job_of_compare first second (fault.AbsentPlace place missing) old new h = absurd h
 job_of_compare first second (fault.Accounts line) old new h = absurd h
 job_of_compare first second (fault.Links line) old new h = absurd h
-
--- why rows that have an account of a list were not written is why their job has no answer
-pub job_of_pick : (workers : ℕ) (shown : Table) (accounts file : _) (e : JobFault) (old new : JobDevices) → PickFailsBy shown e old new
-    → JobFailsBy (job.Pick workers shown accounts file) e old new
-job_of_pick workers shown accounts file (fault.Replay e) old new h = h
-job_of_pick workers shown accounts file (fault.Text e) old new h = h
-job_of_pick workers shown accounts file (fault.Accounts line) old new h = h
-job_of_pick workers shown accounts file (fault.Links line) old new h = absurd h
-job_of_pick workers shown accounts file (fault.Events e) old new h = absurd h
-job_of_pick workers shown accounts file (fault.Compared e) old new h = absurd h
-job_of_pick workers shown accounts file (fault.AbsentAccount id missing) old new h = absurd h
-job_of_pick workers shown accounts file (fault.AbsentPlace place missing) old new h = absurd h
-
--- why a feed that is followed has no table is why its job has no answer
-pub job_of_follow : (workers : ℕ) (shown : Table) (accounts wait file : _) (e : JobFault) (old new : JobDevices) → FollowFailsBy shown e true old new
-    → JobFailsBy (job.Follow workers shown (Some accounts) wait file) e old new
-job_of_follow workers shown accounts wait file (fault.Replay e) old new h = h
-job_of_follow workers shown accounts wait file (fault.Text e) old new h = h
-job_of_follow workers shown accounts wait file (fault.Accounts line) old new h = h
-job_of_follow workers shown accounts wait file (fault.Links line) old new h = absurd h
-job_of_follow workers shown accounts wait file (fault.Events e) old new h = absurd h
-job_of_follow workers shown accounts wait file (fault.Compared e) old new h = absurd h
-job_of_follow workers shown accounts wait file (fault.AbsentAccount id missing) old new h = absurd h
-job_of_follow workers shown accounts wait file (fault.AbsentPlace place missing) old new h = absurd h
-
--- and why there is no verdict on links is why theirs has none
-pub job_of_chain : (file : _) (e : JobFault) (old new : JobDevices) → ChainFailsBy e (first_devices old) (first_devices new)
-    → JobFailsBy (job.CheckChain file) e old new
-job_of_chain file (fault.Replay e) old new h = absurd h
-job_of_chain file (fault.Text (text.Script line found)) old new h = absurd h
-job_of_chain file (fault.Text text.Read) old new h = h
-job_of_chain file (fault.Text (text.Write written)) old new h = h
-job_of_chain file (fault.Text text.Memory) old new h = h
-job_of_chain file (fault.Accounts line) old new h = absurd h
-job_of_chain file (fault.Links line) old new h = h
-job_of_chain file (fault.Events e) old new h = absurd h
-job_of_chain file (fault.Compared e) old new h = absurd h
-job_of_chain file (fault.AbsentAccount id missing) old new h = absurd h
-job_of_chain file (fault.AbsentPlace place missing) old new h = absurd h

@@ -11,7 +11,7 @@ use Rattle.bk_answer.specs.Answers.{AnswerFailsBy, IsAnswered}
 use Rattle.bk_ask.specs.Asking.{IsRepliedOf, executes}
 use Rattle.bk_ask.specs.declared.replied.Replied.{Replied}
 use Rattle.bk_listing.specs.Answers.{AllIsListed, ListFails}
-use Rattle.bk_picture.specs.Drawing.{drawing_text}
+use Rattle.bk_jobs.specs.Drawn.{window_text}
 use Rattle.bk_summary.specs.Summarizing.{IsSummaryText}
 use Rattle.bk_report.specs.Proofs.{IsGoodProof, IsGoodProofOf}
 use Rattle.bk_results.specs.declared.query.Query.{Query}
@@ -99,10 +99,10 @@ FramesAreOut end old new =
 abbrev pub SummaryIsOut : Exit → Devices → Devices → Type 0
 SummaryIsOut end old new = (answer : Status) × (end ≡ exit_at answer) × IsAnswered IsSummaryText answer old new
 
--- the output got the whole picture of the bytes that the source gave, of the rounds of this window
+-- the output got the whole picture of the bytes that the source gave, with the rounds and links of this window
 abbrev pub PictureIsOut : WindowValue → Exit → Devices → Devices → Type 0
 PictureIsOut window end old new =
-    (end ≡ exit.Whole) × IsAnswered (drawing_text window.from window.rounds) tt old new
+    (end ≡ exit.Whole) × IsAnswered (window_text window) tt old new
 
 -- the second source gave a list of events, which are a whole run of the transactions of the feed that the first gave; and
 -- the output got the whole apply report of this feed
@@ -174,7 +174,7 @@ ReplayFailsBy (job.Frames file) e old new = ListFails e (first_devices old) (fir
 ReplayFailsBy (job.Summary workers file) e old new =
     AnswerFailsBy IsSummaryText true e (first_devices old) (first_devices new)
 ReplayFailsBy (job.Dag window file) e old new =
-    AnswerFailsBy (drawing_text window.from window.rounds) false e (first_devices old) (first_devices new)
+    AnswerFailsBy (window_text window) false e (first_devices old) (first_devices new)
 ReplayFailsBy (job.Apply file) e old new = FailsBy e (first_devices old) (first_devices new)
 ReplayFailsBy (job.Schedule workers feed events) e old new =
     ScheduleFailsBy workers (fault.Replay e) old new

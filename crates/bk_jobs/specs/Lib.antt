@@ -1,4 +1,5 @@
 pub mod Comparisons
+pub mod Drawn
 pub mod Faults
 pub mod Gaps
 pub mod Openings
@@ -8,3 +9,4 @@ pub mod Schedules
 pub mod Views
 pub mod Diagnoses
 pub mod Sources
+pub mod Flaws

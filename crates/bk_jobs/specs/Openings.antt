@@ -2,39 +2,49 @@
 use Rattle.std.specs.Prelude.{◌≡◌, ◌⊎◌, ℕ, Bool, List, Some, true, false}
 use Rattle.bk_frames.specs.Device.{Device}
 use Rattle.bk_results.specs.declared.fault.Fault.TheVariants as replay
-use Rattle.bk_results.specs.declared.script_fault.ScriptFault.TheVariants as text
 use Rattle.bk_cli.specs.Exits.{is_answer}
-use Rattle.bk_cli.specs.Explanations.{told, told_of}
+use Rattle.bk_cli.specs.Explanations.{told}
 use Rattle.bk_cli.specs.FaultLines.{Reports}
 use Rattle.bk_cli.specs.Files.{file_of, second_file_of}
+use Rattle.bk_cli.specs.Unopened.{told_unopened}
+use Rattle.bk_cli.specs.declared.unopened.Unopened.{Unopened}
 use Rattle.bk_cli.specs.declared.exit.Exit.{Exit}
 use Rattle.bk_cli.specs.declared.exit.Exit.TheVariants as exit
 use Rattle.bk_cli.specs.declared.job.Job.{Job}
 use Rattle.bk_cli.specs.declared.job_fault.JobFault.{JobFault}
 use Rattle.bk_cli.specs.declared.job_fault.JobFault.TheVariants as fault
 use Rattle.bk_jobs.specs.Faults.{AnswerIsOut, EndsBy}
+use Rattle.bk_jobs.specs.Flaws.{IsJudgedEnd}
 use Rattle.bk_jobs.specs.Gaps.{GapsAreTold}
 use Rattle.bk_jobs.specs.Sources.{AllWork, JobDevices, inputs_of}
 
--- the job ran over some sources, and standard output and error are as its answer or its fault says
-pub record RanOver (j : Job) (verbose : Bool) (end : Exit) (out out' err err' : Device) : Type 0 where
+-- how a job ran: how it ended by itself, with its answer or its fault and what was told of it, and how it ends at last, where
+-- its feed is judged
+pub record RanSo (j : Job) (strict verbose : Bool) (last : Exit) (old new : JobDevices) (err err' : Device) : Type 0 where
+  pub end : Exit
+  pub between : Device
+  pub answer : is_answer j end ≡ true → AnswerIsOut j end old new × AllWork old new
+  pub quiet : is_answer j end ≡ true → verbose ≡ false → between ≡ err
+  pub gaps : is_answer j end ≡ true → verbose ≡ true → GapsAreTold j (inputs_of old) err between
+  pub fault : is_answer j end ≡ false → (e : JobFault) × EndsBy j (told verbose j) e end old new err between
+  pub judged : IsJudgedEnd strict j old new end last between err'
+
+-- the job ran so over some sources
+pub record RanOver (j : Job) (strict verbose : Bool) (last : Exit) (out out' err err' : Device) : Type 0 where
   pub old : JobDevices
   pub new : JobDevices
   pub begins : old.out ≡ out
   pub ends : new.out ≡ out'
-  pub answer : is_answer j end ≡ true → AnswerIsOut j end old new × AllWork old new
-  pub quiet : is_answer j end ≡ true → verbose ≡ false → err' ≡ err
-  pub gaps : is_answer j end ≡ true → verbose ≡ true → GapsAreTold j (inputs_of old) err err'
-  pub fault : is_answer j end ≡ false → (e : JobFault) × EndsBy j (told verbose j) e end old new err err'
+  pub ran : RanSo j strict verbose last old new err err'
 
 -- a path is that of a file which the job reads
 abbrev pub IsFileOf : Job → List ℕ → Type 0
 IsFileOf j path = (file_of j ≡ Some path) ⊎ (second_file_of j ≡ Some path)
 
--- a file of the job could not be opened, which is reported with its path
+-- a file of the job could not be opened, which is reported with its path and, in words, with a reason
 abbrev pub HasNoFile : Job → Bool → Device → Device → Type 0
 HasNoFile j verbose err err' =
-    (path : List ℕ) × IsFileOf j path × Reports (told_of verbose path (fault.Text text.Read)) err err'
+    (path : List ℕ) × IsFileOf j path × (why : Unopened) × Reports (told_unopened verbose path why) err err'
 
 -- there was no memory to read ahead, which is reported
 abbrev pub HasNoMemory : Job → Bool → Device → Device → Type 0
@@ -47,5 +57,6 @@ pub record BeganNot (j : Job) (verbose : Bool) (end : Exit) (out out' err err' :
   pub line : HasNoFile j verbose err err' ⊎ HasNoMemory j verbose err err'
 
 -- the one or the other
-abbrev pub Ran : Job → Bool → Exit → Device → Device → Device → Device → Type 0
-Ran j verbose end out out' err err' = RanOver j verbose end out out' err err' ⊎ BeganNot j verbose end out out' err err'
+abbrev pub Ran : Job → Bool → Bool → Exit → Device → Device → Device → Device → Type 0
+Ran j strict verbose end out out' err err' =
+    RanOver j strict verbose end out out' err err' ⊎ BeganNot j verbose end out out' err err'

@@ -1,5 +1,5 @@
 -- The sources and the sink of a job.
-use Rattle.std.specs.Prelude.{ℕ, List, Option}
+use Rattle.std.specs.Prelude.{ℕ, ◌+◌, ◌<◌, ◌^◌, List, Option}
 use Rattle.bk_frames.specs.Device.{Device, Works}
 use Rattle.bk_frames.specs.FirstFault.{HasFault}
 use Rattle.bk_frames.specs.declared.fault.FeedFault.{FeedFault}
@@ -18,6 +18,10 @@ job_devices first second out = record { first = first; second = second; out = ou
 -- the first source and standard output
 abbrev pub first_devices : JobDevices → Devices
 first_devices d = devices d.first d.out
+
+-- a device can be used though one more of its calls has failed by then
+abbrev pub CanBeUsedAgain : Device → Type 0
+CanBeUsedAgain device = device.failures + 1 < 2 ^ 62
 
 -- from one moment to a later one no call failed
 abbrev pub AllWork : JobDevices → JobDevices → Type 0

@@ -3,10 +3,11 @@
 //! The jobs are in four groups, by what they read and by whether they execute on threads: two of the functions do not wait
 //! for any, and a function that has an arm for each job takes a minute to be proved.
 
-ghost use Rattle.std.specs.Prelude.{◌≡◌, true, false, OnOk, IfOk, IfErr};
+ghost use Rattle.std.specs.Prelude.{◌≡◌, None, true, false, OnOk, IfOk, IfErr};
 ghost use Rattle.bk_frames.specs.Device.{CanBeUsed};
 ghost use Rattle.bk_cli.specs.Exits.{is_answer, may_end, reads_second};
 ghost use Rattle.bk_jobs.specs.Faults.{JobFailsBy, AnswerIsOut};
+ghost use Rattle.bk_jobs.specs.Flaws.{IsAbsence, IsFlawOf};
 ghost use Rattle.bk_jobs.specs.Gaps.{AreGapsOf};
 ghost use Rattle.bk_jobs.specs.Sources.{AllWork, inputs, job_devices};
 ghost use Rattle.bk_jobs.specs.private.Groups.{replays_one, replays_two, reads_frames, reads_texts};
@@ -15,6 +16,7 @@ use crate::diagnosing::diagnose;
 use crate::drawing::draw_rounds;
 use crate::end::End;
 use crate::following::follow;
+use crate::judging::Judge;
 use crate::listing::list;
 use crate::queries::reply;
 use crate::replaying::{apply_all, run, sum_up};
@@ -31,6 +33,7 @@ use std::thread::Threads;
 fn answer_of_run<R, G: Gate + Sync, S1: Source, S2: Source, O: Sink>(
     rt: &R,
     job: &Job,
+    judge: &mut Judge,
     gate: &G,
     first: &mut S1,
     second: &mut S2,
@@ -42,9 +45,18 @@ where
     requires first { CanBeUsed (S1.state first.old) }
     requires second { reads_second job.now ≡ true → CanBeUsed (S2.state second.old) }
     requires out { CanBeUsed (O.state out.old) }
+    requires none { judge.old.flaw ≡ None }
     ensures report { IfOk result (λ end. AnswerIsOut job.now end.exit
         (job_devices (S1.state first.old) (S2.state second.old) (O.state out.old))
         (job_devices (S1.state first.new) (S2.state second.new) (O.state out.new))) }
+    ensures flaw { judge.old.strict ≡ true → OnOk result (IsFlawOf job.now
+        (job_devices (S1.state first.old) (S2.state second.old) (O.state out.old))
+        (job_devices (S1.state first.new) (S2.state second.new) (O.state out.new))
+        judge.new.flaw) }
+    ensures absent { judge.old.strict ≡ true → IfErr result (λ e. IsAbsence e → IsFlawOf job.now
+        (job_devices (S1.state first.old) (S2.state second.old) (O.state out.old))
+        (job_devices (S1.state first.new) (S2.state second.new) (O.state out.new))
+        judge.new.flaw) }
     ensures gaps { IfOk result (λ end. AreGapsOf job.now
         (inputs (S1.state first.old).bytes (S2.state second.old).bytes) end.gaps) }
     ensures answer { IfOk result (λ end. (is_answer job.now end.exit ≡ true)
@@ -59,7 +71,7 @@ where
 {
     match job {
         Job::Run { workers, .. } => {
-            let end = run(rt, gate, *workers, first, out)?;
+            let end = run(rt, judge, gate, *workers, first, out)?;
             Ok(End {
                 exit: end,
                 gaps: Gaps {
@@ -69,11 +81,11 @@ where
             })
         }
         Job::Ask { workers, asked, .. } => {
-            let end = reply(rt, gate, asked, *workers, first, out)?;
+            let end = reply(rt, judge, gate, asked, *workers, first, out)?;
             Ok(end)
         }
         Job::Summary { workers, .. } => {
-            let end = sum_up(rt, gate, *workers, first, out)?;
+            let end = sum_up(rt, judge, gate, *workers, first, out)?;
             Ok(End {
                 exit: end,
                 gaps: Gaps {
@@ -83,7 +95,7 @@ where
             })
         }
         Job::Show { workers, shown, .. } => {
-            let end = show(rt, gate, *shown, *workers, first, out)?;
+            let end = show(rt, judge, gate, *shown, *workers, first, out)?;
             Ok(End {
                 exit: end,
                 gaps: Gaps {
@@ -98,7 +110,7 @@ where
             accounts: None,
             ..
         } => {
-            let end = follow(rt, gate, *shown, *workers, first, out)?;
+            let end = follow(rt, judge, gate, *shown, *workers, first, out)?;
             Ok(End {
                 exit: end,
                 gaps: Gaps {
@@ -126,6 +138,7 @@ where
 fn answer_of_frames<R, S1: Source, S2: Source, O: Sink>(
     rt: &R,
     job: &Job,
+    judge: &mut Judge,
     first: &mut S1,
     second: &mut S2,
     out: &mut O,
@@ -136,9 +149,18 @@ where
     requires first { CanBeUsed (S1.state first.old) }
     requires second { reads_second job.now ≡ true → CanBeUsed (S2.state second.old) }
     requires out { CanBeUsed (O.state out.old) }
+    requires none { judge.old.flaw ≡ None }
     ensures report { IfOk result (λ end. AnswerIsOut job.now end.exit
         (job_devices (S1.state first.old) (S2.state second.old) (O.state out.old))
         (job_devices (S1.state first.new) (S2.state second.new) (O.state out.new))) }
+    ensures flaw { judge.old.strict ≡ true → OnOk result (IsFlawOf job.now
+        (job_devices (S1.state first.old) (S2.state second.old) (O.state out.old))
+        (job_devices (S1.state first.new) (S2.state second.new) (O.state out.new))
+        judge.new.flaw) }
+    ensures absent { judge.old.strict ≡ true → IfErr result (λ e. IsAbsence e → IsFlawOf job.now
+        (job_devices (S1.state first.old) (S2.state second.old) (O.state out.old))
+        (job_devices (S1.state first.new) (S2.state second.new) (O.state out.new))
+        judge.new.flaw) }
     ensures gaps { IfOk result (λ end. AreGapsOf job.now
         (inputs (S1.state first.old).bytes (S2.state second.old).bytes) end.gaps) }
     ensures answer { IfOk result (λ end. (is_answer job.now end.exit ≡ true)
@@ -153,7 +175,7 @@ where
 {
     match job {
         Job::Frames { .. } => {
-            let end = list(rt, first, out)?;
+            let end = list(rt, judge, first, out)?;
             Ok(End {
                 exit: end,
                 gaps: Gaps {
@@ -163,7 +185,7 @@ where
             })
         }
         Job::Dag { window, .. } => {
-            let end = draw_rounds(rt, *window, first, out)?;
+            let end = draw_rounds(rt, judge, *window, first, out)?;
             Ok(End {
                 exit: end,
                 gaps: Gaps {
@@ -173,7 +195,7 @@ where
             })
         }
         Job::Diagnose { sought, .. } => {
-            let end = diagnose(rt, *sought, first, out)?;
+            let end = diagnose(rt, judge, *sought, first, out)?;
             Ok(End {
                 exit: end,
                 gaps: Gaps {
@@ -211,6 +233,7 @@ where
 pub(crate) fn answer<R, G: Gate + Sync, S1: Source, S2: Source, O: Sink>(
     rt: &R,
     job: &Job,
+    judge: &mut Judge,
     gate: &G,
     first: &mut S1,
     second: &mut S2,
@@ -221,9 +244,18 @@ where
     requires first { CanBeUsed (S1.state first.old) }
     requires second { reads_second job.now ≡ true → CanBeUsed (S2.state second.old) }
     requires out { CanBeUsed (O.state out.old) }
+    requires none { judge.old.flaw ≡ None }
     ensures report { IfOk result (λ end. AnswerIsOut job.now end.exit
         (job_devices (S1.state first.old) (S2.state second.old) (O.state out.old))
         (job_devices (S1.state first.new) (S2.state second.new) (O.state out.new))) }
+    ensures flaw { judge.old.strict ≡ true → OnOk result (IsFlawOf job.now
+        (job_devices (S1.state first.old) (S2.state second.old) (O.state out.old))
+        (job_devices (S1.state first.new) (S2.state second.new) (O.state out.new))
+        judge.new.flaw) }
+    ensures absent { judge.old.strict ≡ true → IfErr result (λ e. IsAbsence e → IsFlawOf job.now
+        (job_devices (S1.state first.old) (S2.state second.old) (O.state out.old))
+        (job_devices (S1.state first.new) (S2.state second.new) (O.state out.new))
+        judge.new.flaw) }
     ensures gaps { IfOk result (λ end. AreGapsOf job.now
         (inputs (S1.state first.old).bytes (S2.state second.old).bytes) end.gaps) }
     ensures answer { IfOk result (λ end. (is_answer job.now end.exit ≡ true)
@@ -241,18 +273,20 @@ where
         | Job::Ask { .. }
         | Job::Summary { .. }
         | Job::Show { .. }
-        | Job::Follow { accounts: None, .. } => answer_of_run(rt, job, gate, first, second, out),
+        | Job::Follow { accounts: None, .. } => answer_of_run(
+            rt, job, judge, gate, first, second, out,
+        ),
         Job::Frames { .. } | Job::Dag { .. } | Job::Apply { .. } | Job::Diagnose { .. } => {
-            answer_of_frames(rt, job, first, second, out)
+            answer_of_frames(rt, job, judge, first, second, out)
         }
         Job::Make { .. } | Job::CheckProof { .. } | Job::Schedule { .. } | Job::CheckChain { .. } =>
-            { answer_of_text(rt, job, first, second, out) }
+            { answer_of_text(rt, job, judge, first, second, out) }
         Job::CheckReport { .. }
         | Job::Compare { .. }
         | Job::Pick { .. }
         | Job::Follow {
             accounts: Some(_),
             ..
-        } => answer_of_two(rt, job, gate, first, second, out),
+        } => answer_of_two(rt, job, judge, gate, first, second, out),
     }
 }

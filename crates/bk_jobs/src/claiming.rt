@@ -1,12 +1,14 @@
 //! The job that checks whether a text is the report of a feed.
 
-ghost use Rattle.std.specs.Prelude.{◌≡◌, OnOk, IfOk, IfErr};
+ghost use Rattle.std.specs.Prelude.{◌≡◌, true, OnOk, IfOk, IfErr};
 ghost use Rattle.bk_frames.specs.Device.{CanBeUsed};
 ghost use Rattle.bk_claim.specs.declared.verdict.Verdict.{Verdict as AnyVerdict};
 ghost use Rattle.bk_jobs.specs.Faults.{ClaimIsOut};
+ghost use Rattle.bk_jobs.specs.Flaws.{IsFlawGiven};
 ghost use Rattle.bk_jobs.specs.Reports.{ClaimCheckFailsBy, exit_by_verdict, fault_by_stop};
 ghost use Rattle.bk_jobs.specs.Sources.{AllWork, job_devices};
 
+use crate::judging::Judge;
 use bk_claim::{ClaimStop, Verdict, check_report};
 use bk_cli::{Exit, JobFault, Workers};
 use bk_frames::{Sink, Source};
@@ -39,6 +41,7 @@ fn fault_of(stop: ClaimStop) -> JobFault
 /// Writes the verdict on whether a text is the report of a feed. The text is read once the feed's report is made.
 pub(crate) fn check_claim<R, G: Gate + Sync, S1: Source, S2: Source, O: Sink>(
     rt: &R,
+    judge: &mut Judge,
     gate: &G,
     workers: Workers,
     feed: &mut S1,
@@ -53,6 +56,8 @@ where
     ensures verdict { IfOk result (λ end. ClaimIsOut end
         (job_devices (S1.state feed.old) (S2.state claimed.old) (O.state out.old))
         (job_devices (S1.state feed.new) (S2.state claimed.new) (O.state out.new))) }
+    ensures flaw { judge.old.strict ≡ true → OnOk result
+        (IsFlawGiven (S1.state feed.old) (S1.state feed.new) judge.new.flaw) }
     ensures answer { IfOk result (λ end. (v : AnyVerdict) × (end ≡ exit_by_verdict v)) }
     ensures sound { OnOk result (AllWork
         (job_devices (S1.state feed.old) (S2.state claimed.old) (O.state out.old))
@@ -61,8 +66,13 @@ where
         (job_devices (S1.state feed.old) (S2.state claimed.old) (O.state out.old))
         (job_devices (S1.state feed.new) (S2.state claimed.new) (O.state out.new))) }
 {
-    match check_report(rt, rt.alloc(), feed, claimed, out, workers.count(), gate) {
-        Ok(verdict) => Ok(exit_by(verdict)),
+    let strict = judge.strict;
+    let count = workers.count();
+    match check_report(rt, rt.alloc(), feed, claimed, out, count, gate, strict) {
+        Ok(ended) => {
+            judge.flaw = ended.flaw;
+            Ok(exit_by(ended.end))
+        }
         Err(stop) => Err(fault_of(stop)),
     }
 }

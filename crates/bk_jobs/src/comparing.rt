@@ -1,18 +1,20 @@
 //! Jobs that compare two feeds.
 
-ghost use Rattle.std.specs.Prelude.{◌≡◌, OnOk, IfOk, IfErr};
+ghost use Rattle.std.specs.Prelude.{◌≡◌, true, OnOk, IfOk, IfErr};
 ghost use Rattle.bk_frames.specs.Device.{CanBeUsed};
 ghost use Rattle.bk_answer.specs.Gaps.{IsGap};
 ghost use Rattle.bk_jobs.specs.Comparisons.{AgreementIsOut, CompareFailsBy, IfBothGive, agree_text};
+ghost use Rattle.bk_jobs.specs.Flaws.{IsFlawOfBoth, or_flaw};
 ghost use Rattle.bk_jobs.specs.Sources.{AllWork, inputs, job_devices};
 
 use crate::end::End;
+use crate::judging::Judge;
 use crate::machine::all_workers;
 use bk_cli::{Exit, Gaps, JobFault, ShortLine, put_number, put_text};
 use bk_compare::compare_with_gaps;
 use bk_frames::{Sink, Source, push_all};
 use bk_pool::Gate;
-use bk_results::{Agreed, Fault};
+use bk_results::{Agreed, Fault, Flaw};
 use std::sync::Wait;
 use std::thread::Threads;
 
@@ -28,9 +30,20 @@ fn agree_line(agreed: Agreed) -> ShortLine
     line
 }
 
+// The first flaw, else the second.
+fn first_of(first: Option<Flaw>, second: Option<Flaw>) -> Option<Flaw>
+    ensures { result ≡ or_flaw first second }
+{
+    match first {
+        Some(flaw) => Some(flaw),
+        None => second,
+    }
+}
+
 /// Writes how far the feeds of two sources agree. The second is read once the first was followed to its end.
 pub(crate) fn compare_feeds<R, G: Gate + Sync, S1: Source, S2: Source, O: Sink>(
     rt: &R,
+    judge: &mut Judge,
     gate: &G,
     first: &mut S1,
     second: &mut S2,
@@ -44,6 +57,10 @@ where
     ensures agree { IfOk result (λ end. AgreementIsOut end.exit
         (job_devices (S1.state first.old) (S2.state second.old) (O.state out.old))
         (job_devices (S1.state first.new) (S2.state second.new) (O.state out.new))) }
+    ensures flaw { judge.old.strict ≡ true → OnOk result (IsFlawOfBoth
+        (job_devices (S1.state first.old) (S2.state second.old) (O.state out.old))
+        (job_devices (S1.state first.new) (S2.state second.new) (O.state out.new))
+        judge.new.flaw) }
     ensures gaps { IfOk result (λ end. IfBothGive
         (inputs (S1.state first.old).bytes (S2.state second.old).bytes)
         (λ bytes more. IsGap bytes end.gaps.first × IsGap more end.gaps.second)) }
@@ -56,7 +73,9 @@ where
         (job_devices (S1.state first.new) (S2.state second.new) (O.state out.new))) }
 {
     let workers = all_workers(rt);
-    let compared = compare_with_gaps(rt, rt.alloc(), first, second, workers, gate)?;
+    let strict = judge.strict;
+    let compared = compare_with_gaps(rt, rt.alloc(), first, second, workers, gate, strict)?;
+    judge.flaw = first_of(compared.first_flaw, compared.second_flaw);
     match push_all(out, agree_line(compared.agreed).as_slice()) {
         Ok(()) => Ok(End {
             exit: Exit::Whole,

@@ -4,12 +4,16 @@ ghost use Rattle.std.specs.Prelude.{◌≡◌, true, None, OnOk, IfOk, IfErr};
 ghost use Rattle.bk_frames.specs.Device.{CanBeUsed, Works};
 ghost use Rattle.bk_results.specs.Devices.{devices};
 ghost use Rattle.bk_answer.specs.Answers.{IsAnswered};
+ghost use Rattle.bk_answer.specs.Flaws.{judged_text};
 ghost use Rattle.bk_tail.specs.Tailing.{TailFailsBy};
 ghost use Rattle.bk_cli.specs.Exits.{is_report};
+ghost use Rattle.bk_jobs.specs.Flaws.{IsFlawGiven};
 ghost use Rattle.bk_jobs.specs.Sources.{AllWork, job_devices};
 ghost use Rattle.bk_jobs.specs.Views.{FollowFailsBy, FollowIsOut, RowsAreOut, table_text};
 
+use crate::judging::Judge;
 use crate::showing::fault_of;
+use bk_answer::Ended;
 use bk_cli::{Exit, JobFault, Table, Workers};
 use bk_frames::{Sink, Source};
 use bk_pool::Gate;
@@ -19,9 +23,46 @@ use bk_tail::{tail_postings, tail_transactions};
 use std::sync::Wait;
 use std::thread::Threads;
 
+// Writes the rows of a table as they become final, those that have one of these accounts alone, where there is a list, and
+// finds what keeps the feed from counting whole, where this is asked for.
+fn tail_of<R, G: Gate + Sync, S: Source, O: Sink>(
+    rt: &R,
+    gate: &G,
+    shown: Table,
+    workers: Workers,
+    source: &mut S,
+    accounts: Option<Accounts>,
+    out: &mut O,
+    strict: bool,
+) -> Result<Ended<Status>, Fault>
+where
+    R: Threads + Wait + Sync + AllocGlobal,
+    requires source { CanBeUsed (S.state source.old) }
+    requires out { CanBeUsed (O.state out.old) }
+    ensures rows { IfOk result (λ ended. IsAnswered (judged_text strict (table_text shown accounts)) ended
+        (devices (S.state source.old) (O.state out.old))
+        (devices (S.state source.new) (O.state out.new))) }
+    ensures fault { IfErr result (λ e. TailFailsBy (table_text shown accounts) e
+        (devices (S.state source.old) (O.state out.old))
+        (devices (S.state source.new) (O.state out.new))) }
+{
+    let count = workers.count();
+    match shown {
+        Table::Transactions => {
+            let rows = Transactions { accounts };
+            tail_transactions(rt, rt.alloc(), source, out, count, gate, &rows, strict)
+        }
+        Table::Postings => {
+            let rows = Postings { accounts };
+            tail_postings(rt, rt.alloc(), source, out, count, gate, &rows, strict)
+        }
+    }
+}
+
 // Writes the rows of a table as they become final, those that have one of these accounts alone, where there is a list.
 fn follow_table<R, G: Gate + Sync, S: Source, O: Sink>(
     rt: &R,
+    judge: &mut Judge,
     gate: &G,
     shown: Table,
     workers: Workers,
@@ -36,26 +77,34 @@ where
     ensures rows { IfOk result (λ end. IsAnswered (table_text shown accounts) end
         (devices (S.state source.old) (O.state out.old))
         (devices (S.state source.new) (O.state out.new))) }
+    ensures flaw { judge.old.strict ≡ true → OnOk result
+        (IsFlawGiven (S.state source.old) (S.state source.new) judge.new.flaw) }
     ensures fault { IfErr result (λ e. TailFailsBy (table_text shown accounts) e
         (devices (S.state source.old) (O.state out.old))
         (devices (S.state source.new) (O.state out.new))) }
 {
-    let count = workers.count();
-    match shown {
-        Table::Transactions => {
-            let rows = Transactions { accounts };
-            tail_transactions(rt, rt.alloc(), source, out, count, gate, &rows)
+    match tail_of(
+        rt,
+        gate,
+        shown,
+        workers,
+        source,
+        accounts,
+        out,
+        judge.strict,
+    ) {
+        Ok(ended) => {
+            judge.flaw = ended.flaw;
+            Ok(ended.end)
         }
-        Table::Postings => {
-            let rows = Postings { accounts };
-            tail_postings(rt, rt.alloc(), source, out, count, gate, &rows)
-        }
+        Err(fault) => Err(fault),
     }
 }
 
 /// Writes the rows of a table as they become final.
 pub(crate) fn follow<R, G: Gate + Sync, S: Source, O: Sink>(
     rt: &R,
+    judge: &mut Judge,
     gate: &G,
     shown: Table,
     workers: Workers,
@@ -69,6 +118,8 @@ where
     ensures rows { IfOk result (λ end. RowsAreOut shown None end
         (devices (S.state source.old) (O.state out.old))
         (devices (S.state source.new) (O.state out.new))) }
+    ensures flaw { judge.old.strict ≡ true → OnOk result
+        (IsFlawGiven (S.state source.old) (S.state source.new) judge.new.flaw) }
     ensures answer { IfOk result (λ end. is_report end ≡ true) }
     ensures sound { OnOk result (Works (S.state source.old) (S.state source.new)
         × Works (O.state out.old) (O.state out.new)) }
@@ -76,7 +127,7 @@ where
         (devices (S.state source.old) (O.state out.old))
         (devices (S.state source.new) (O.state out.new))) }
 {
-    let status = follow_table(rt, gate, shown, workers, source, None, out)?;
+    let status = follow_table(rt, judge, gate, shown, workers, source, None, out)?;
     Ok(Exit::at(status))
 }
 
@@ -84,6 +135,7 @@ where
 /// feed is.
 pub(crate) fn follow_some<R, G: Gate + Sync, S1: Source, S2: Source, O: Sink>(
     rt: &R,
+    judge: &mut Judge,
     gate: &G,
     shown: Table,
     workers: Workers,
@@ -99,6 +151,8 @@ where
     ensures rows { IfOk result (λ end. FollowIsOut shown true end
         (job_devices (S1.state feed.old) (S2.state list.old) (O.state out.old))
         (job_devices (S1.state feed.new) (S2.state list.new) (O.state out.new))) }
+    ensures flaw { judge.old.strict ≡ true → OnOk result
+        (IsFlawGiven (S1.state feed.old) (S1.state feed.new) judge.new.flaw) }
     ensures answer { IfOk result (λ end. is_report end ≡ true) }
     ensures sound { OnOk result (AllWork
         (job_devices (S1.state feed.old) (S2.state list.old) (O.state out.old))
@@ -111,6 +165,6 @@ where
         Ok(accounts) => Some(accounts),
         Err(fault) => return Err(fault_of(fault)),
     };
-    let status = follow_table(rt, gate, shown, workers, feed, accounts, out)?;
+    let status = follow_table(rt, judge, gate, shown, workers, feed, accounts, out)?;
     Ok(Exit::at(status))
 }

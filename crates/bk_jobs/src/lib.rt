@@ -13,6 +13,7 @@ mod drawing;
 mod end;
 mod following;
 mod inputs;
+mod judging;
 mod listing;
 mod machine;
 mod opening;

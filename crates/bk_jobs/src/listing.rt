@@ -5,16 +5,29 @@ ghost use Rattle.bk_frames.specs.Device.{CanBeUsed, Works};
 ghost use Rattle.bk_results.specs.Devices.{devices};
 ghost use Rattle.bk_listing.specs.Answers.{ListFails};
 ghost use Rattle.bk_jobs.specs.Faults.{FramesAreOut};
+ghost use Rattle.bk_jobs.specs.Flaws.{IsFrameFlaw, flaw_by_rejected};
 
+use crate::judging::Judge;
 use bk_cli::Exit;
 use bk_frames::{Sink, Source};
 use bk_listing::list_frames;
-use bk_results::Fault;
+use bk_results::{Fault, Flaw};
 use std::thread::Threads;
 
-/// Writes a line for each frame.
+// That so many frames are rejected, where some are.
+fn flaw_of(rejected: u64) -> Option<Flaw>
+    ensures { result ≡ flaw_by_rejected rejected }
+{
+    if rejected == 0 {
+        return None;
+    }
+    Some(Flaw::Rejected { frames: rejected })
+}
+
+/// Writes a line for each frame, and finds whether some are rejected.
 pub(crate) fn list<R: Threads + Sync + AllocGlobal, S: Source, O: Sink>(
     rt: &R,
+    judge: &mut Judge,
     source: &mut S,
     out: &mut O,
 ) -> Result<Exit, Fault>
@@ -23,12 +36,14 @@ pub(crate) fn list<R: Threads + Sync + AllocGlobal, S: Source, O: Sink>(
     ensures frames { IfOk result (λ end. FramesAreOut end
         (devices (S.state source.old) (O.state out.old))
         (devices (S.state source.new) (O.state out.new))) }
+    ensures flaw { OnOk result (IsFrameFlaw (S.state source.old) (S.state source.new) judge.new.flaw) }
     ensures answer { IfOk result (λ end. end ≡ Exit.Whole) }
     ensures sound { OnOk result (Works (S.state source.old) (S.state source.new)
         × Works (O.state out.old) (O.state out.new)) }
     ensures fault { IfErr result (λ e. ListFails e (devices (S.state source.old) (O.state out.old))
         (devices (S.state source.new) (O.state out.new))) }
 {
-    list_frames(rt, rt.alloc(), source, out)?;
+    let rejected = list_frames(rt, rt.alloc(), source, out)?;
+    judge.flaw = flaw_of(rejected);
     Ok(Exit::Whole)
 }

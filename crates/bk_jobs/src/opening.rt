@@ -3,18 +3,18 @@
 ghost use Rattle.std.specs.Prelude.{◌≡◌, true, false};
 ghost use Rattle.bk_frames.specs.Device.{CanBeUsed};
 ghost use Rattle.bk_results.specs.Devices.{IsUntouched};
-ghost use Rattle.bk_cli.specs.Exits.{is_refusal, may_end, writes_ahead};
+ghost use Rattle.bk_cli.specs.Exits.{is_refusal, may_end_if, writes_ahead};
 ghost use Rattle.bk_jobs.specs.Openings.{HasNoFile, HasNoMemory, IsFileOf, Ran};
+ghost use Rattle.bk_jobs.specs.Sources.{CanBeUsedAgain};
 
 use crate::inputs::Inputs;
 use crate::running::{Watch, run_watched};
-use bk_cli::{Exit, Job, JobFault, Line, tell, tell_of};
+use bk_cli::{Exit, Job, JobFault, Line, Unopened, tell, tell_unopened};
 use bk_frames::{Counted, Sink};
 use bk_progress::{Metered, Progress};
 use bk_results::Fault;
-use bk_script::ScriptFault;
 use bk_tail::Waiting;
-use std::io::{BufReader, Read};
+use std::io::{self, BufReader, Read};
 use std::rt::Files;
 use std::sync::Wait;
 use std::thread::Threads;
@@ -23,15 +23,23 @@ use std::time::Clock;
 // How many bytes are read ahead, so that small pulls cost little. The number is none of the format's.
 const AHEAD: usize = 65_536;
 
+// Why the system did not open a file, as far as it says it.
+fn reason_of(error: &io::Error) -> Unopened {
+    match error.kind() {
+        io::ErrorKind::NotFound => Unopened::Absent,
+        io::ErrorKind::PermissionDenied => Unopened::Denied,
+        _ => Unopened::Other,
+    }
+}
+
 // Reports a file that cannot be opened.
-fn not_opened<E: Sink>(line: &Line, path: &str, err: &mut E) -> Exit
+fn not_opened<E: Sink>(line: &Line, path: &str, error: &io::Error, err: &mut E) -> Exit
     requires path { IsFileOf line.now.job path.now }
     requires err { CanBeUsed (E.state err.old) }
     ensures failed { result ≡ Exit.Failed }
     ensures told { HasNoFile line.now.job line.now.notes.verbose (E.state err.old) (E.state err.new) }
 {
-    let fault = JobFault::Text(ScriptFault::Read);
-    tell_of(path, line.notes.verbose, &fault, err);
+    tell_unopened(path, line.notes.verbose, reason_of(error), err);
     Exit::Failed
 }
 
@@ -87,17 +95,17 @@ where
     R: AllocGlobal + Clock + Threads + Wait + Sync,
     P: Clock + Eprint + Sync,
     requires out { CanBeUsed (O.state out.old) }
-    requires err { CanBeUsed (E.state err.old) }
+    requires err { CanBeUsedAgain (E.state err.old) }
     ensures unwritten { is_refusal result ≡ true → writes_ahead line.now.job ≡ false
         → IsUntouched (O.state out.old) (O.state out.new) }
-    ensures ends { may_end line.now.job result ≡ true }
-    ensures ran { Ran line.now.job line.now.notes.verbose result
+    ensures ends { may_end_if line.now.strict line.now.job result ≡ true }
+    ensures ran { Ran line.now.job line.now.strict line.now.notes.verbose result
         (O.state out.old) (O.state out.new) (E.state err.old) (E.state err.new) }
 {
     match line.job.file() {
         Some(path) => match files.open(path) {
             Ok(feed) => run_over(rt, line, progress, feed, text, out, err),
-            Err(_) => not_opened(line, path, err),
+            Err(error) => not_opened(line, path, &error, err),
         },
         None => run_over(rt, line, progress, files.standard(), text, out, err),
     }
@@ -119,16 +127,16 @@ where
     P: Clock + Eprint + Sync,
     requires path { IsFileOf line.now.job text.now }
     requires out { CanBeUsed (O.state out.old) }
-    requires err { CanBeUsed (E.state err.old) }
+    requires err { CanBeUsedAgain (E.state err.old) }
     ensures unwritten { is_refusal result ≡ true → writes_ahead line.now.job ≡ false
         → IsUntouched (O.state out.old) (O.state out.new) }
-    ensures ends { may_end line.now.job result ≡ true }
-    ensures ran { Ran line.now.job line.now.notes.verbose result
+    ensures ends { may_end_if line.now.strict line.now.job result ≡ true }
+    ensures ran { Ran line.now.job line.now.strict line.now.notes.verbose result
         (O.state out.old) (O.state out.new) (E.state err.old) (E.state err.new) }
 {
     match files.open(text) {
         Ok(text) => open_feed(files, rt, line, progress, text, out, err),
-        Err(_) => not_opened(line, text, err),
+        Err(error) => not_opened(line, text, &error, err),
     }
 }
 
@@ -150,11 +158,11 @@ where
     R: AllocGlobal + Clock + Threads + Wait + Sync,
     P: Clock + Eprint + Sync,
     requires out { CanBeUsed (O.state out.old) }
-    requires err { CanBeUsed (E.state err.old) }
+    requires err { CanBeUsedAgain (E.state err.old) }
     ensures unwritten { is_refusal result ≡ true → writes_ahead line.now.job ≡ false
         → IsUntouched (O.state out.old) (O.state out.new) }
-    ensures ends { may_end line.now.job result ≡ true }
-    ensures ran { Ran line.now.job line.now.notes.verbose result
+    ensures ends { may_end_if line.now.strict line.now.job result ≡ true }
+    ensures ran { Ran line.now.job line.now.strict line.now.notes.verbose result
         (O.state out.old) (O.state out.new) (E.state err.old) (E.state err.new) }
 {
     expect_files(files, &line.job, progress);
@@ -191,17 +199,17 @@ where
     R: AllocGlobal + Clock + Threads + Wait + Sync,
     P: Clock + Eprint + Sync,
     requires out { CanBeUsed (O.state out.old) }
-    requires err { CanBeUsed (E.state err.old) }
+    requires err { CanBeUsedAgain (E.state err.old) }
     ensures unwritten { is_refusal result ≡ true → writes_ahead line.now.job ≡ false
         → IsUntouched (O.state out.old) (O.state out.new) }
-    ensures ends { may_end line.now.job result ≡ true }
-    ensures ran { Ran line.now.job line.now.notes.verbose result
+    ensures ends { may_end_if line.now.strict line.now.job result ≡ true }
+    ensures ran { Ran line.now.job line.now.strict line.now.notes.verbose result
         (O.state out.old) (O.state out.new) (E.state err.old) (E.state err.new) }
 {
     match line.job.file() {
         Some(path) => match files.open(path) {
             Ok(first) => open_second(files, rt, line, progress, first, out, err),
-            Err(_) => not_opened(line, path, err),
+            Err(error) => not_opened(line, path, &error, err),
         },
         None => open_second(files, rt, line, progress, files.standard(), out, err),
     }
@@ -222,18 +230,18 @@ where
     R: AllocGlobal + Clock + Threads + Wait + Sync,
     P: Clock + Eprint + Sync,
     requires out { CanBeUsed (O.state out.old) }
-    requires err { CanBeUsed (E.state err.old) }
+    requires err { CanBeUsedAgain (E.state err.old) }
     ensures unwritten { is_refusal result ≡ true → writes_ahead line.now.job ≡ false
         → IsUntouched (O.state out.old) (O.state out.new) }
-    ensures ends { may_end line.now.job result ≡ true }
-    ensures ran { Ran line.now.job line.now.notes.verbose result
+    ensures ends { may_end_if line.now.strict line.now.job result ≡ true }
+    ensures ran { Ran line.now.job line.now.strict line.now.notes.verbose result
         (O.state out.old) (O.state out.new) (E.state err.old) (E.state err.new) }
 {
     let nothing: &[u8] = b"";
     match line.job.second_file() {
         Some(path) => match files.open(path) {
             Ok(second) => run_over(rt, line, progress, first, second, out, err),
-            Err(_) => not_opened(line, path, err),
+            Err(error) => not_opened(line, path, &error, err),
         },
         None => run_over(rt, line, progress, first, nothing, out, err),
     }
@@ -253,11 +261,11 @@ where
     R: AllocGlobal + Clock + Threads + Wait + Sync,
     P: Clock + Eprint + Sync,
     requires out { CanBeUsed (O.state out.old) }
-    requires err { CanBeUsed (E.state err.old) }
+    requires err { CanBeUsedAgain (E.state err.old) }
     ensures unwritten { is_refusal result ≡ true → writes_ahead line.now.job ≡ false
         → IsUntouched (O.state out.old) (O.state out.new) }
-    ensures ends { may_end line.now.job result ≡ true }
-    ensures ran { Ran line.now.job line.now.notes.verbose result
+    ensures ends { may_end_if line.now.strict line.now.job result ≡ true }
+    ensures ran { Ran line.now.job line.now.strict line.now.notes.verbose result
         (O.state out.old) (O.state out.new) (E.state err.old) (E.state err.new) }
 {
     let Ok(reader) = BufReader::with_capacity(rt.alloc(), AHEAD, first) else {
@@ -267,6 +275,7 @@ where
     let watch = Watch {
         watcher: progress,
         verbose: line.notes.verbose,
+        strict: line.strict,
     };
     run_watched(
         rt,

@@ -8,10 +8,12 @@ ghost use Rattle.bk_ask.specs.Asking.{can_reply};
 ghost use Rattle.bk_answer.specs.Gaps.{IsGap};
 ghost use Rattle.bk_cli.specs.Exits.{absence, ending};
 ghost use Rattle.bk_jobs.specs.Faults.{QueryFailsBy, ReplyIsOut};
+ghost use Rattle.bk_jobs.specs.Flaws.{IsAbsence, IsFlawGiven};
 
 use crate::end::End;
+use crate::judging::Judge;
 use crate::machine::all_workers;
-use bk_ask::{Replied, ask};
+use bk_ask::{Replied, ask_judged};
 use bk_cli::{Exit, Gaps, JobFault, Workers};
 use bk_digest::Digest32;
 use bk_frames::{Sink, Source};
@@ -64,6 +66,7 @@ fn workers_for<R: Threads>(rt: &R, asked: &Query, workers: Workers) -> usize
 /// Writes the reply to a query.
 pub(crate) fn reply<R, G: Gate + Sync, S: Source, O: Sink>(
     rt: &R,
+    judge: &mut Judge,
     gate: &G,
     asked: &Query,
     workers: Workers,
@@ -79,6 +82,10 @@ where
         (devices (S.state source.new) (O.state out.new))) }
     ensures gap { IfOk result (λ end. IfKnown (S.state source.old)
         (λ bytes. IsGap bytes end.gaps.first)) }
+    ensures flaw { judge.old.strict ≡ true → OnOk result
+        (IsFlawGiven (S.state source.old) (S.state source.new) judge.new.flaw) }
+    ensures absent { judge.old.strict ≡ true → IfErr result (λ e. IsAbsence e
+        → IsFlawGiven (S.state source.old) (S.state source.new) judge.new.flaw) }
     ensures one { IfOk result (λ end. end.gaps.second ≡ None) }
     ensures answer { IfOk result (λ end. (answer : AnyReply) × (missing : AnyOption (AnyList ℕ))
         × (can_reply asked.now answer ≡ true) × (Ok end.exit ≡ ending asked.now missing answer)) }
@@ -89,7 +96,10 @@ where
         (devices (S.state source.new) (O.state out.new))) }
 {
     let workers = workers_for(rt, asked, workers);
-    let replied = ask(rt, rt.alloc(), source, out, *asked, workers, gate)?;
+    let strict = judge.strict;
+    let ended = ask_judged(rt, rt.alloc(), source, out, *asked, workers, gate, strict)?;
+    judge.flaw = ended.flaw;
+    let replied = ended.end;
     match exit_of(asked, &replied) {
         Ok(exit) => Ok(End {
             exit,

@@ -9,10 +9,12 @@ ghost use Rattle.bk_answer.specs.RunReport.{report_text};
 ghost use Rattle.bk_cli.specs.Exits.{is_report};
 ghost use Rattle.bk_summary.specs.Summarizing.{IsSummaryText};
 ghost use Rattle.bk_jobs.specs.Faults.{RunIsOut, ApplyIsOut, SummaryIsOut};
+ghost use Rattle.bk_jobs.specs.Flaws.{IsFlawGiven};
 
+use crate::judging::{Judge, judge_by_ledger};
+use bk_answer::Report;
 use bk_apply::apply;
 use bk_cli::{Exit, Workers};
-use bk_follow::{answer_by_ledger, replay};
 use bk_frames::{Sink, Source};
 use bk_pool::Gate;
 use bk_results::Fault;
@@ -23,6 +25,7 @@ use std::thread::Threads;
 /// Writes the report of a run.
 pub(crate) fn run<R, G: Gate + Sync, S: Source, O: Sink>(
     rt: &R,
+    judge: &mut Judge,
     gate: &G,
     workers: Workers,
     source: &mut S,
@@ -35,6 +38,8 @@ where
     ensures report { IfOk result (λ end. RunIsOut end
         (devices (S.state source.old) (O.state out.old))
         (devices (S.state source.new) (O.state out.new))) }
+    ensures flaw { judge.old.strict ≡ true → OnOk result
+        (IsFlawGiven (S.state source.old) (S.state source.new) judge.new.flaw) }
     ensures answer { IfOk result (λ end. is_report end ≡ true) }
     ensures sound { OnOk result (Works (S.state source.old) (S.state source.new)
         × Works (O.state out.old) (O.state out.new)) }
@@ -42,13 +47,15 @@ where
         (devices (S.state source.old) (O.state out.old))
         (devices (S.state source.new) (O.state out.new))) }
 {
-    let status = replay(rt, rt.alloc(), source, out, workers.count(), gate)?;
+    let count = workers.count();
+    let status = judge_by_ledger(rt, judge, source, out, count, gate, &Report)?;
     Ok(Exit::at(status))
 }
 
 /// Writes the summary of a feed.
 pub(crate) fn sum_up<R, G: Gate + Sync, S: Source, O: Sink>(
     rt: &R,
+    judge: &mut Judge,
     gate: &G,
     workers: Workers,
     source: &mut S,
@@ -61,6 +68,8 @@ where
     ensures report { IfOk result (λ end. SummaryIsOut end
         (devices (S.state source.old) (O.state out.old))
         (devices (S.state source.new) (O.state out.new))) }
+    ensures flaw { judge.old.strict ≡ true → OnOk result
+        (IsFlawGiven (S.state source.old) (S.state source.new) judge.new.flaw) }
     ensures answer { IfOk result (λ end. is_report end ≡ true) }
     ensures sound { OnOk result (Works (S.state source.old) (S.state source.new)
         × Works (O.state out.old) (O.state out.new)) }
@@ -68,15 +77,8 @@ where
         (devices (S.state source.old) (O.state out.old))
         (devices (S.state source.new) (O.state out.new))) }
 {
-    let status = answer_by_ledger(
-        rt,
-        rt.alloc(),
-        source,
-        out,
-        workers.count(),
-        gate,
-        &Summarize,
-    )?;
+    let count = workers.count();
+    let status = judge_by_ledger(rt, judge, source, out, count, gate, &Summarize)?;
     Ok(Exit::at(status))
 }
 

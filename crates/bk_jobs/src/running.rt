@@ -1,18 +1,22 @@
 //! Runs a job over sources and sinks.
 
-ghost use Rattle.std.specs.Prelude.{◌≡◌, true, false, OnOk, IfOk, IfErr};
+ghost use Rattle.std.specs.Prelude.{◌≡◌, ◌≤◌, ◌+◌, None, true, false, OnOk, IfOk, IfErr};
 ghost use Rattle.bk_frames.specs.Device.{CanBeUsed};
 ghost use Rattle.bk_results.specs.Devices.{IsUntouched};
 ghost use Rattle.bk_cli.specs.declared.job_fault.JobFault.{JobFault as AnyFault};
 ghost use Rattle.bk_cli.specs.Explanations.{told};
 ghost use Rattle.bk_cli.specs.FaultLines.{line_of};
-ghost use Rattle.bk_cli.specs.Exits.{is_answer, is_refusal, may_end, reads_second, writes_ahead};
+ghost use Rattle.bk_cli.specs.Exits.{is_answer, is_refusal, may_end, may_end_if, reads_second, writes_ahead};
 ghost use Rattle.bk_jobs.specs.Faults.{EndsBy, JobFailsBy, AnswerIsOut, AreToBlame};
+ghost use Rattle.bk_cli.specs.Strictness.{is_judged};
+ghost use Rattle.bk_jobs.specs.Flaws.{IsFlawOf};
+ghost use Rattle.bk_jobs.specs.Openings.{RanSo};
 ghost use Rattle.bk_jobs.specs.Gaps.{AreGapsOf, GapsAreTold};
-ghost use Rattle.bk_jobs.specs.Sources.{AllWork, inputs, job_devices};
+ghost use Rattle.bk_jobs.specs.Sources.{AllWork, CanBeUsedAgain, inputs, job_devices};
 
 use crate::answering::answer;
-use bk_cli::{Exit, Gaps, Job, JobFault, tell, tell_gaps};
+use crate::judging::Judge;
+use bk_cli::{Exit, Gaps, Job, JobFault, judge, tell, tell_gaps};
 use bk_frames::{Sink, Source};
 use bk_pool::{Gate, Open};
 use bk_progress::Watcher;
@@ -26,11 +30,76 @@ pub struct Watch<'a, W> {
     pub watcher: &'a W,
     /// Whether a fault is reported in words too, and the missing batches at which orders stop.
     pub verbose: bool,
+    /// Whether a feed that does not count whole is turned down.
+    pub strict: bool,
+}
+
+// Runs a job, and reports its fault; or, where this is verbose, the missing batches beside its answer.
+fn run_told<R, W: Watcher + Sync, S1: Source, S2: Source, O: Sink, E: Sink>(
+    rt: &R,
+    job: &Job,
+    watch: &Watch<'_, W>,
+    judge: &mut Judge,
+    first: &mut S1,
+    second: &mut S2,
+    out: &mut O,
+    err: &mut E,
+) -> Exit
+where
+    R: Threads + Wait + Sync + AllocGlobal,
+    requires none { judge.old.flaw ≡ None }
+    requires first { CanBeUsed (S1.state first.old) }
+    requires second { reads_second job.now ≡ true → CanBeUsed (S2.state second.old) }
+    requires out { CanBeUsed (O.state out.old) }
+    requires err { CanBeUsed (E.state err.old) }
+    ensures whole { is_answer job.now result ≡ true → AnswerIsOut job.now result
+        (job_devices (S1.state first.old) (S2.state second.old) (O.state out.old))
+        (job_devices (S1.state first.new) (S2.state second.new) (O.state out.new)) }
+    ensures sound { is_answer job.now result ≡ true → AllWork
+        (job_devices (S1.state first.old) (S2.state second.old) (O.state out.old))
+        (job_devices (S1.state first.new) (S2.state second.new) (O.state out.new)) }
+    ensures flaw { judge.old.strict ≡ true → is_judged result ≡ true → IsFlawOf job.now
+        (job_devices (S1.state first.old) (S2.state second.old) (O.state out.old))
+        (job_devices (S1.state first.new) (S2.state second.new) (O.state out.new))
+        judge.new.flaw }
+    ensures quiet { is_answer job.now result ≡ true → watch.now.verbose ≡ false
+        → err.new ≡ err.old }
+    ensures gaps { is_answer job.now result ≡ true → watch.now.verbose ≡ true
+        → GapsAreTold job.now (inputs (S1.state first.old).bytes (S2.state second.old).bytes)
+        (E.state err.old) (E.state err.new) }
+    ensures fault { is_answer job.now result ≡ false → (e : AnyFault)
+        × EndsBy job.now (told watch.now.verbose job.now) e result
+        (job_devices (S1.state first.old) (S2.state second.old) (O.state out.old))
+        (job_devices (S1.state first.new) (S2.state second.new) (O.state out.new))
+        (E.state err.old) (E.state err.new) }
+    ensures told { (E.state err.new).failures ≤ (E.state err.old).failures + 1 }
+    ensures ends { may_end job.now result ≡ true }
+    ensures blame { is_refusal result ≡ true → AreToBlame job.now result
+        (inputs (S1.state first.old).bytes (S2.state second.old).bytes) }
+    ensures unwritten { is_refusal result ≡ true → writes_ahead job.now ≡ false
+        → IsUntouched (O.state out.old) (O.state out.new) }
+    ensures second { reads_second job.now ≡ false → second.new ≡ second.old }
+{
+    let found = answer(rt, job, judge, watch.watcher, first, second, out);
+    watch.watcher.ended();
+    match found {
+        Ok(end) => {
+            if watch.verbose {
+                tell_gaps(job, &end.gaps, err);
+            }
+            end.exit
+        }
+        Err(fault) => {
+            tell(job, watch.verbose, &fault, err);
+            Exit::after(&fault)
+        }
+    }
 }
 
 /// Runs a job as [`run_job`] does, and lets it be watched. Where the watch is verbose, the line of a fault has one more
 /// after it, which says in words what is wrong and where, with the name of the file; and after the answer to a query or of
-/// a comparison a line on `err` names each missing batch at which an order stops.
+/// a comparison a line on `err` names each missing batch at which an order stops. Where it is strict, and the end would be
+/// `Whole`, `No` or `Missing`, what keeps a feed from counting whole is one more line, and the end is `Flawed`.
 pub fn run_watched<R, W: Watcher + Sync, S1: Source, S2: Source, O: Sink, E: Sink>(
     rt: &R,
     job: &Job,
@@ -45,43 +114,27 @@ where
     requires first { CanBeUsed (S1.state first.old) }
     requires second { reads_second job.now ≡ true → CanBeUsed (S2.state second.old) }
     requires out { CanBeUsed (O.state out.old) }
-    requires err { CanBeUsed (E.state err.old) }
-    ensures whole { is_answer job.now result ≡ true → AnswerIsOut job.now result
-        (job_devices (S1.state first.old) (S2.state second.old) (O.state out.old))
-        (job_devices (S1.state first.new) (S2.state second.new) (O.state out.new)) }
-    ensures sound { is_answer job.now result ≡ true → AllWork
-        (job_devices (S1.state first.old) (S2.state second.old) (O.state out.old))
-        (job_devices (S1.state first.new) (S2.state second.new) (O.state out.new)) }
-    ensures quiet { is_answer job.now result ≡ true → watch.now.verbose ≡ false
-        → err.new ≡ err.old }
-    ensures gaps { is_answer job.now result ≡ true → watch.now.verbose ≡ true
-        → GapsAreTold job.now (inputs (S1.state first.old).bytes (S2.state second.old).bytes)
-        (E.state err.old) (E.state err.new) }
-    ensures fault { is_answer job.now result ≡ false → (e : AnyFault)
-        × EndsBy job.now (told watch.now.verbose job.now) e result
+    requires err { CanBeUsedAgain (E.state err.old) }
+    ensures ran { RanSo job.now watch.now.strict watch.now.verbose result
         (job_devices (S1.state first.old) (S2.state second.old) (O.state out.old))
         (job_devices (S1.state first.new) (S2.state second.new) (O.state out.new))
         (E.state err.old) (E.state err.new) }
-    ensures ends { may_end job.now result ≡ true }
+    ensures ends { may_end_if watch.now.strict job.now result ≡ true }
     ensures blame { is_refusal result ≡ true → AreToBlame job.now result
         (inputs (S1.state first.old).bytes (S2.state second.old).bytes) }
     ensures unwritten { is_refusal result ≡ true → writes_ahead job.now ≡ false
         → IsUntouched (O.state out.old) (O.state out.new) }
     ensures second { reads_second job.now ≡ false → second.new ≡ second.old }
 {
-    let found = answer(rt, job, watch.watcher, first, second, out);
-    watch.watcher.ended();
-    match found {
-        Ok(end) => {
-            if watch.verbose {
-                tell_gaps(job, &end.gaps, err);
-            }
-            end.exit
-        }
-        Err(fault) => {
-            tell(job, watch.verbose, &fault, err);
-            Exit::after(&fault)
-        }
+    let mut judged = Judge {
+        strict: watch.strict,
+        flaw: None,
+    };
+    let end = run_told(rt, job, watch, &mut judged, first, second, out, err);
+    if watch.strict {
+        judge(end, &judged.flaw, err)
+    } else {
+        end
     }
 }
 
@@ -132,6 +185,11 @@ pub fn run_job<R: Threads + Wait + Sync + AllocGlobal, S1: Source, S2: Source, O
     let watch = Watch {
         watcher: &Open,
         verbose: false,
+        strict: false,
     };
-    run_watched(rt, job, &watch, first, second, out, err)
+    let mut judged = Judge {
+        strict: false,
+        flaw: None,
+    };
+    run_told(rt, job, &watch, &mut judged, first, second, out, err)
 }

@@ -1,15 +1,17 @@
 //! The answers of jobs that read a script, a proof, links or a list of events.
 
-ghost use Rattle.std.specs.Prelude.{◌≡◌, true, false, OnOk, IfOk, IfErr};
+ghost use Rattle.std.specs.Prelude.{◌≡◌, None, true, false, OnOk, IfOk, IfErr};
 ghost use Rattle.bk_frames.specs.Device.{CanBeUsed};
 ghost use Rattle.bk_cli.specs.Exits.{is_answer, may_end, reads_second};
 ghost use Rattle.bk_jobs.specs.Faults.{JobFailsBy, AnswerIsOut};
+ghost use Rattle.bk_jobs.specs.Flaws.{IsAbsence, IsFlawOf};
 ghost use Rattle.bk_jobs.specs.Gaps.{AreGapsOf};
 ghost use Rattle.bk_jobs.specs.Sources.{AllWork, inputs, job_devices};
 ghost use Rattle.bk_jobs.specs.private.Groups.{reads_texts};
 
 use crate::chaining::check_links;
 use crate::end::End;
+use crate::judging::Judge;
 use crate::scheduling::schedule;
 use crate::texts::{check, make_feed};
 use bk_cli::{Gaps, Job, JobFault};
@@ -20,6 +22,7 @@ use std::thread::Threads;
 pub(crate) fn answer_of_text<R, S1: Source, S2: Source, O: Sink>(
     rt: &R,
     job: &Job,
+    judge: &mut Judge,
     first: &mut S1,
     second: &mut S2,
     out: &mut O,
@@ -30,9 +33,18 @@ where
     requires first { CanBeUsed (S1.state first.old) }
     requires second { reads_second job.now ≡ true → CanBeUsed (S2.state second.old) }
     requires out { CanBeUsed (O.state out.old) }
+    requires none { judge.old.flaw ≡ None }
     ensures report { IfOk result (λ end. AnswerIsOut job.now end.exit
         (job_devices (S1.state first.old) (S2.state second.old) (O.state out.old))
         (job_devices (S1.state first.new) (S2.state second.new) (O.state out.new))) }
+    ensures flaw { judge.old.strict ≡ true → OnOk result (IsFlawOf job.now
+        (job_devices (S1.state first.old) (S2.state second.old) (O.state out.old))
+        (job_devices (S1.state first.new) (S2.state second.new) (O.state out.new))
+        judge.new.flaw) }
+    ensures absent { judge.old.strict ≡ true → IfErr result (λ e. IsAbsence e → IsFlawOf job.now
+        (job_devices (S1.state first.old) (S2.state second.old) (O.state out.old))
+        (job_devices (S1.state first.new) (S2.state second.new) (O.state out.new))
+        judge.new.flaw) }
     ensures gaps { IfOk result (λ end. AreGapsOf job.now
         (inputs (S1.state first.old).bytes (S2.state second.old).bytes) end.gaps) }
     ensures answer { IfOk result (λ end. (is_answer job.now end.exit ≡ true)

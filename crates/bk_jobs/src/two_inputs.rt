@@ -1,9 +1,10 @@
 //! The answers of jobs that replay a feed and have two inputs.
 
-ghost use Rattle.std.specs.Prelude.{◌≡◌, true, false, OnOk, IfOk, IfErr};
+ghost use Rattle.std.specs.Prelude.{◌≡◌, None, true, false, OnOk, IfOk, IfErr};
 ghost use Rattle.bk_frames.specs.Device.{CanBeUsed};
 ghost use Rattle.bk_cli.specs.Exits.{is_answer, may_end, reads_second};
 ghost use Rattle.bk_jobs.specs.Faults.{JobFailsBy, AnswerIsOut};
+ghost use Rattle.bk_jobs.specs.Flaws.{IsAbsence, IsFlawOf};
 ghost use Rattle.bk_jobs.specs.Gaps.{AreGapsOf};
 ghost use Rattle.bk_jobs.specs.Sources.{AllWork, inputs, job_devices};
 ghost use Rattle.bk_jobs.specs.private.Groups.{replays_two};
@@ -12,6 +13,7 @@ use crate::claiming::check_claim;
 use crate::comparing::compare_feeds;
 use crate::end::End;
 use crate::following::follow_some;
+use crate::judging::Judge;
 use crate::showing::pick;
 use bk_cli::{Gaps, Job, JobFault};
 use bk_frames::{Sink, Source};
@@ -23,6 +25,7 @@ use std::thread::Threads;
 pub(crate) fn answer_of_two<R, G: Gate + Sync, S1: Source, S2: Source, O: Sink>(
     rt: &R,
     job: &Job,
+    judge: &mut Judge,
     gate: &G,
     first: &mut S1,
     second: &mut S2,
@@ -34,9 +37,18 @@ where
     requires first { CanBeUsed (S1.state first.old) }
     requires second { reads_second job.now ≡ true → CanBeUsed (S2.state second.old) }
     requires out { CanBeUsed (O.state out.old) }
+    requires none { judge.old.flaw ≡ None }
     ensures report { IfOk result (λ end. AnswerIsOut job.now end.exit
         (job_devices (S1.state first.old) (S2.state second.old) (O.state out.old))
         (job_devices (S1.state first.new) (S2.state second.new) (O.state out.new))) }
+    ensures flaw { judge.old.strict ≡ true → OnOk result (IsFlawOf job.now
+        (job_devices (S1.state first.old) (S2.state second.old) (O.state out.old))
+        (job_devices (S1.state first.new) (S2.state second.new) (O.state out.new))
+        judge.new.flaw) }
+    ensures absent { judge.old.strict ≡ true → IfErr result (λ e. IsAbsence e → IsFlawOf job.now
+        (job_devices (S1.state first.old) (S2.state second.old) (O.state out.old))
+        (job_devices (S1.state first.new) (S2.state second.new) (O.state out.new))
+        judge.new.flaw) }
     ensures gaps { IfOk result (λ end. AreGapsOf job.now
         (inputs (S1.state first.old).bytes (S2.state second.old).bytes) end.gaps) }
     ensures answer { IfOk result (λ end. (is_answer job.now end.exit ≡ true)
@@ -51,7 +63,7 @@ where
 {
     match job {
         Job::CheckReport { workers, .. } => {
-            let end = check_claim(rt, gate, *workers, first, second, out)?;
+            let end = check_claim(rt, judge, gate, *workers, first, second, out)?;
             Ok(End {
                 exit: end,
                 gaps: Gaps {
@@ -61,11 +73,11 @@ where
             })
         }
         Job::Compare { .. } => {
-            let end = compare_feeds(rt, gate, first, second, out)?;
+            let end = compare_feeds(rt, judge, gate, first, second, out)?;
             Ok(end)
         }
         Job::Pick { workers, shown, .. } => {
-            let end = pick(rt, gate, *shown, *workers, first, second, out)?;
+            let end = pick(rt, judge, gate, *shown, *workers, first, second, out)?;
             Ok(End {
                 exit: end,
                 gaps: Gaps {
@@ -80,7 +92,7 @@ where
             accounts: Some(_),
             ..
         } => {
-            let end = follow_some(rt, gate, *shown, *workers, first, second, out)?;
+            let end = follow_some(rt, judge, gate, *shown, *workers, first, second, out)?;
             Ok(End {
                 exit: end,
                 gaps: Gaps {

@@ -16,6 +16,11 @@ impl<'a, P: Clock + Eprint> Display<'a, P> {
         Display { shows, terminal }
     }
 
+    /// Says that what is typed is read. A line that cannot be written is reported nowhere.
+    pub fn typed(&self) {
+        let _ = eprintln!(self.shows; "bkreplay: reading what is typed, up to Ctrl-D");
+    }
+
     /// The progress of a job, which is hidden where it is not wanted.
     pub fn progress(&self, wanted: bool) -> Progress<'a, P> {
         let manner = match (wanted, self.terminal) {

@@ -1,16 +1,17 @@
 -- How the program ends, by its words.
-use Rattle.std.specs.Prelude.{◌≡◌, ◌≢◌, ◌⊎◌, List, [], true, false}
+use Rattle.std.specs.Prelude.{◌≡◌, ◌≢◌, ◌⊎◌, Bool, List, [], true, false}
 use Rattle.clap.specs.Words.{HasKind, Text, fault_of, kind_of, subcommand_of}
 use Rattle.clap.specs.declared.error.Error.{Error}
 use Rattle.clap.specs.declared.error.kind.ErrorKind.TheVariants as kind
 use Rattle.bk_frames.specs.Device.{Device}
 use Rattle.bk_results.specs.Devices.{IsUntouched}
-use Rattle.bk_cli.specs.CommandLine.{AreNotesOf, IsJobOf, IsOfValues, command_line}
-use Rattle.bk_cli.specs.Exits.{has_fault, is_refusal, is_report, may_end, writes_ahead}
+use Rattle.bk_cli.specs.CommandLine.{AreNotesOf, IsJobOf, IsOfValues, IsStrictOf, command_line}
+use Rattle.bk_cli.specs.Exits.{has_fault, is_refusal, is_report, may_end_if, writes_ahead}
 use Rattle.bk_cli.specs.declared.exit.Exit.{Exit}
 use Rattle.bk_cli.specs.declared.exit.Exit.TheVariants as exit
 use Rattle.bk_cli.specs.declared.job.Job.{Job}
 use Rattle.bk_cli.specs.declared.notes.Notes.{Notes}
+use Rattle.bk_cli.specs.Words.{settled}
 use Rattle.bk_jobs.specs.Faults.{EndsWithLine}
 use Rattle.bk_jobs.specs.Openings.{Ran}
 
@@ -31,9 +32,11 @@ pub record RanJob (words : List Text) (end : Exit) (out out' err err' : Device) 
   pub good : fault_of command_line words ≡ []
   pub names : IsJobOf (subcommand_of command_line words) job
   pub noted : AreNotesOf (subcommand_of command_line words) notes
-  pub ends : may_end job end ≡ true
+  pub strict : Bool
+  pub asked : IsStrictOf (subcommand_of command_line words) strict
+  pub ends : may_end_if strict job end ≡ true
   pub blame : is_refusal end ≡ true → writes_ahead job ≡ false → IsUntouched out out'
-  pub ran : Ran job notes.verbose end out out' err err'
+  pub ran : Ran job strict notes.verbose end out out' err err'
 
 -- the words have a fault, or ask for help or the version, or memory ran out: that decides how the program ends, nothing is
 -- written of an answer, and one line says what failed
@@ -55,7 +58,7 @@ pub record ReadNoWords (end : Exit) (out out' err err' : Device) : Type 0 where
   pub unwritten : out' ≡ out
   pub line : has_fault end ≡ true → EndsWithLine false end err err'
 
--- some words were read and are answered, or none could be read
+-- some words were read and are answered, as they are read, or none could be read
 abbrev pub RanProgram : Exit → Device → Device → Device → Device → Type 0
 RanProgram end out out' err err' =
-    ((words : List Text) × RanWords words end out out' err err') ⊎ ReadNoWords end out out' err err'
+    ((words : List Text) × RanWords (settled words) end out out' err err') ⊎ ReadNoWords end out out' err err'

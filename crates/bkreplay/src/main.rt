@@ -15,10 +15,12 @@ use std::process::ExitCode;
 fn main(rt: HostRuntime) -> ExitCode {
     let mut out = Counted::new(rt.stdout());
     let terminal = rt.stderr().is_terminal();
+    let typed = rt.stdin().is_terminal();
     let mut err = Counted::new(rt.stderr());
     let system = System {
         inputs: Inputs::new(&rt),
         display: Display::new(&rt, terminal),
+        typed,
         speaker: Speaker::new(&rt),
     };
     ExitCode::from(program(&rt, &system, &mut out, &mut err).number())

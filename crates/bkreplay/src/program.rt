@@ -3,11 +3,13 @@
 ghost use Rattle.std.specs.Prelude.{◌≡◌, ◌⊎◌, map, true, false};
 ghost use Rattle.bk_frames.specs.Device.{CanBeUsed};
 ghost use Rattle.bk_cli.specs.Exits.{has_fault};
+ghost use Rattle.bk_cli.specs.Words.{settled};
 ghost use Rattle.bk_jobs.specs.Faults.{EndsWithLine};
+ghost use Rattle.bk_jobs.specs.Sources.{CanBeUsedAgain};
 ghost use Rattle.bkreplay.specs.Endings.{RanProgram, RanWords};
 
 use crate::speaker::Speaker;
-use bk_cli::{Exit, JobFault, parse_line, report};
+use bk_cli::{Exit, JobFault, Line, parse_line, report};
 use bk_frames::{Sink, push_all};
 use bk_jobs::{Inputs, open_and_run};
 use bk_progress::Display;
@@ -26,6 +28,8 @@ pub(crate) struct System<'a, F, P, Q> {
     pub(crate) inputs: Inputs<'a, F>,
     /// Where it shows how far it is.
     pub(crate) display: Display<'a, P>,
+    /// Whether standard input is a terminal.
+    pub(crate) typed: bool,
     /// Where it answers its words.
     pub(crate) speaker: Speaker<'a, Q>,
 }
@@ -43,12 +47,19 @@ where
     P: Clock + Eprint + Sync,
     Q: Print + Eprint,
     requires out { CanBeUsed (O.state out.old) }
-    requires err { CanBeUsed (E.state err.old) }
+    requires err { CanBeUsedAgain (E.state err.old) }
     ensures ran { RanProgram result (O.state out.old) (O.state out.new) (E.state err.old) (E.state err.new) }
 {
     match words(rt) {
         Ok(words) => run_words(rt, system, words.as_slice(), out, err),
         Err(error) => refuse_words(&error, err),
+    }
+}
+
+// Says that what is typed is read, where the words ask for words.
+fn tell_typed<F, P: Clock + Eprint, Q>(system: &System<'_, F, P, Q>, line: &Line) {
+    if line.notes.verbose && system.typed && line.job.reads_input() {
+        system.display.typed();
     }
 }
 
@@ -66,12 +77,13 @@ where
     P: Clock + Eprint + Sync,
     Q: Print + Eprint,
     requires out { CanBeUsed (O.state out.old) }
-    requires err { CanBeUsed (E.state err.old) }
-    ensures ran { RanWords (map S.text words.now) result
+    requires err { CanBeUsedAgain (E.state err.old) }
+    ensures ran { RanWords (settled (map S.text words.now)) result
         (O.state out.old) (O.state out.new) (E.state err.old) (E.state err.new) }
 {
     match parse_line(rt.alloc(), words) {
         Ok(line) => {
+            tell_typed(system, &line);
             let progress = system.display.progress(line.notes.progress);
             open_and_run(&system.inputs, rt, &line, &progress, out, err)
         }

@@ -26,3 +26,12 @@ returns-in_ok-end-in-Diagnose-clause-answer g c = rw c.in-Diagnose.is (job_of_di
 
 pub returns-in_ok-end-in-Diagnose-clause-gaps : goal.returns-in_ok-end-in-Diagnose-clause-gaps
 returns-in_ok-end-in-Diagnose-clause-gaps g c = rw c.in-Diagnose.is refl
+
+pub returns-in_ok-end-in-Frames-clause-flaw : goal.returns-in_ok-end-in-Frames-clause-flaw
+returns-in_ok-end-in-Frames-clause-flaw g c = λ asked. rw c.in-Frames.is c.in_ok-end-in-Frames.ensures.flaw
+
+pub returns-in_ok-end-in-Dag-clause-flaw : goal.returns-in_ok-end-in-Dag-clause-flaw
+returns-in_ok-end-in-Dag-clause-flaw g c = λ asked. rw c.in-Dag.is (c.in_ok-end-in-Dag.ensures.flaw asked)
+
+pub returns-in_ok-end-in-Apply-clause-flaw : goal.returns-in_ok-end-in-Apply-clause-flaw
+returns-in_ok-end-in-Apply-clause-flaw g c = λ asked. rw c.in-Apply.is c.requires.none

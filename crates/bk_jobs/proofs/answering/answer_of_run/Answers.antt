@@ -34,3 +34,18 @@ returns-in_ok-end-in-Follow-default-default-None-default-default-clause-answer g
 
 pub returns-in_ok-end-in-Follow-default-default-None-default-default-clause-gaps : goal.returns-in_ok-end-in-Follow-default-default-None-default-default-clause-gaps
 returns-in_ok-end-in-Follow-default-default-None-default-default-clause-gaps g c = rw c.in-Follow-default-default-None-default-default.is refl
+
+pub returns-in_ok-end-in-Run-clause-flaw : goal.returns-in_ok-end-in-Run-clause-flaw
+returns-in_ok-end-in-Run-clause-flaw g c = λ asked. rw c.in-Run.is (c.in_ok-end-in-Run.ensures.flaw asked)
+
+pub returns-in_ok-end-in-Ask-clause-flaw : goal.returns-in_ok-end-in-Ask-clause-flaw
+returns-in_ok-end-in-Ask-clause-flaw g c = λ asked. rw c.in-Ask.is (c.in_ok-end-in-Ask.ensures.flaw asked)
+
+pub returns-in_ok-end-in-Summary-clause-flaw : goal.returns-in_ok-end-in-Summary-clause-flaw
+returns-in_ok-end-in-Summary-clause-flaw g c = λ asked. rw c.in-Summary.is (c.in_ok-end-in-Summary.ensures.flaw asked)
+
+pub returns-in_ok-end-in-Show-clause-flaw : goal.returns-in_ok-end-in-Show-clause-flaw
+returns-in_ok-end-in-Show-clause-flaw g c = λ asked. rw c.in-Show.is (c.in_ok-end-in-Show.ensures.flaw asked)
+
+pub returns-in_ok-end-in-Follow-default-default-None-default-default-clause-flaw : goal.returns-in_ok-end-in-Follow-default-default-None-default-default-clause-flaw
+returns-in_ok-end-in-Follow-default-default-None-default-default-clause-flaw g c = λ asked. rw c.in-Follow-default-default-None-default-default.is (c.in_ok-end-in-Follow-default-default-None-default-default.ensures.flaw asked)

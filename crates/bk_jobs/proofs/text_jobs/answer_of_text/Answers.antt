@@ -37,3 +37,15 @@ returns-in_ok-end-in-CheckChain-clause-gaps g c = rw c.in-CheckChain.is refl
 
 pub returns-in_ok-end-in-Schedule-clause-report : goal.returns-in_ok-end-in-Schedule-clause-report
 returns-in_ok-end-in-Schedule-clause-report g c = rw c.in-Schedule.is c.in_ok-end-in-Schedule.ensures.report
+
+pub returns-in_ok-end-in-Make-clause-flaw : goal.returns-in_ok-end-in-Make-clause-flaw
+returns-in_ok-end-in-Make-clause-flaw g c = λ asked. rw c.in-Make.is c.requires.none
+
+pub returns-in_ok-end-in-CheckProof-clause-flaw : goal.returns-in_ok-end-in-CheckProof-clause-flaw
+returns-in_ok-end-in-CheckProof-clause-flaw g c = λ asked. rw c.in-CheckProof.is c.requires.none
+
+pub returns-in_ok-end-in-Schedule-clause-flaw : goal.returns-in_ok-end-in-Schedule-clause-flaw
+returns-in_ok-end-in-Schedule-clause-flaw g c = λ asked. rw c.in-Schedule.is c.requires.none
+
+pub returns-in_ok-end-in-CheckChain-clause-flaw : goal.returns-in_ok-end-in-CheckChain-clause-flaw
+returns-in_ok-end-in-CheckChain-clause-flaw g c = λ asked. rw c.in-CheckChain.is c.requires.none

@@ -30,3 +30,15 @@ returns-in_ok-end-in-Follow-default-default-Some-default-default-clause-answer g
 
 pub returns-in_ok-end-in-Follow-default-default-Some-default-default-clause-gaps : goal.returns-in_ok-end-in-Follow-default-default-Some-default-default-clause-gaps
 returns-in_ok-end-in-Follow-default-default-Some-default-default-clause-gaps g c = rw c.in-Follow-default-default-Some-default-default.is refl
+
+pub returns-in_ok-end-in-CheckReport-clause-flaw : goal.returns-in_ok-end-in-CheckReport-clause-flaw
+returns-in_ok-end-in-CheckReport-clause-flaw g c = λ asked. rw c.in-CheckReport.is (c.in_ok-end-in-CheckReport.ensures.flaw asked)
+
+pub returns-in_ok-end-in-Compare-clause-flaw : goal.returns-in_ok-end-in-Compare-clause-flaw
+returns-in_ok-end-in-Compare-clause-flaw g c = λ asked. rw c.in-Compare.is (c.in_ok-end-in-Compare.ensures.flaw asked)
+
+pub returns-in_ok-end-in-Pick-clause-flaw : goal.returns-in_ok-end-in-Pick-clause-flaw
+returns-in_ok-end-in-Pick-clause-flaw g c = λ asked. rw c.in-Pick.is (c.in_ok-end-in-Pick.ensures.flaw asked)
+
+pub returns-in_ok-end-in-Follow-default-default-Some-default-default-clause-flaw : goal.returns-in_ok-end-in-Follow-default-default-Some-default-default-clause-flaw
+returns-in_ok-end-in-Follow-default-default-Some-default-default-clause-flaw g c = λ asked. rw c.in-Follow-default-default-Some-default-default.is (c.in_ok-end-in-Follow-default-default-Some-default-default.ensures.flaw asked)

@@ -4,7 +4,7 @@ use Rattle.bk_jobs.specs.Sources.{job_devices}
 use Rattle.bk_cli.specs.Exits.{is_answer}
 use Rattle.bk_jobs.proofs.BlameLemmas.{bytes_to_blame}
 use Rattle.bk_jobs.proofs.StatusLemmas.{ends_by_fault, fault_is_none}
-use Rattle.bk_jobs.proofs.running.run_watched.Goals as goal
+use Rattle.bk_jobs.proofs.running.run_told.Goals as goal
 
 pub returns-in-Err-clause-whole : goal.returns-in-Err-clause-whole
 returns-in-Err-clause-whole g c = λ r.
