@@ -39,10 +39,12 @@ impl<'a> Example<'a> {
         })
     }
 
-    /// Whether both standard output and standard error may get something: `frames` writes while it reads, and with
-    /// `--verbose` an answer may be followed by the name of a missing batch.
+    /// Whether both standard output and standard error may get something: `frames` writes while it reads, with
+    /// `--verbose` an answer may be followed by the name of a missing batch, and with `--strict` by what is wrong.
     pub(crate) fn writes_both(&self) -> bool {
-        self.command == "frames" || self.words.contains(&"--verbose")
+        self.command == "frames"
+            || self.words.contains(&"--verbose")
+            || self.words.contains(&"--strict")
     }
 
     /// Whether it is a run without a number of workers.

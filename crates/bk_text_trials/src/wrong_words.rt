@@ -7,7 +7,7 @@ use bk_cli::parse;
 use clap::error::ErrorKind;
 use std::alloc::Global;
 
-const WRONG: [(&[&str], ErrorKind); 39] = [
+const WRONG: [(&[&str], ErrorKind); 51] = [
     (&["bkreplay"], ErrorKind::MissingSubcommand),
     (&["bkreplay", "replay"], ErrorKind::InvalidSubcommand),
     (&["bkreplay", "run", "a", "b"], ErrorKind::UnknownArgument),
@@ -142,6 +142,47 @@ const WRONG: [(&[&str], ErrorKind); 39] = [
             "a0f73141eeeda4cb3f115f1ee0468dde8a3de31db5fd987f0eec1df811bce063",
         ],
         ErrorKind::ValueValidation,
+    ),
+    // These have no order to judge.
+    (
+        &["bkreplay", "make", "--strict"],
+        ErrorKind::UnknownArgument,
+    ),
+    (
+        &["bkreplay", "evidence", "--strict"],
+        ErrorKind::UnknownArgument,
+    ),
+    (
+        &["bkreplay", "apply", "--strict"],
+        ErrorKind::UnknownArgument,
+    ),
+    (
+        &["bkreplay", "check-proof", "--strict", "a"],
+        ErrorKind::UnknownArgument,
+    ),
+    (
+        &["bkreplay", "schedule", "--strict", "a", "b"],
+        ErrorKind::UnknownArgument,
+    ),
+    (
+        &["bkreplay", "check-chain", "--strict"],
+        ErrorKind::UnknownArgument,
+    ),
+    // Only the options that every command has come before its name.
+    (
+        &["bkreplay", "--strict", "run", "a"],
+        ErrorKind::UnknownArgument,
+    ),
+    (
+        &["bkreplay", "--workers", "2", "run", "a"],
+        ErrorKind::UnknownArgument,
+    ),
+    (&["bkreplay", "--verbose"], ErrorKind::UnknownArgument),
+    (&["bkreplay", "help"], ErrorKind::DisplayHelp),
+    (&["bkreplay", "help", "run"], ErrorKind::DisplayHelp),
+    (
+        &["bkreplay", "help", "nothing"],
+        ErrorKind::InvalidSubcommand,
     ),
 ];
 
