@@ -36,7 +36,7 @@ pub record IsFlawIn (feed : FeedValue) (found : Option Flaw) : Type 0 where
 abbrev pub IsFlaw : List ℕ → Option Flaw → Type 0
 IsFlaw bytes found = AreFeedWith bytes (λ feed. IsFlawIn feed found)
 
--- the same where it is asked for; else none is told
+-- the same, where it is asked for; where it is not, nothing is found
 abbrev pub IsFlawIf : Bool → FeedValue → Option Flaw → Type 0
 IsFlawIf true feed found = IsFlawIn feed found
 IsFlawIf false feed found = found ≡ None

@@ -256,7 +256,7 @@ exit_after_list (list.Unfinished place) = exit.Failed
 
 -- after two feeds that differ
 abbrev pub exit_after_differ : Differ → Exit
-exit_after_differ differ.Setup = exit.WrongInput
+exit_after_differ (differ.Setup part) = exit.WrongInput
 exit_after_differ (differ.Collision id) = exit.Stopped
 exit_after_differ (differ.Twins round author first second) = exit.Stopped
 exit_after_differ differ.Memory = exit.Failed

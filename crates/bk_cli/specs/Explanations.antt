@@ -4,6 +4,9 @@ use Rattle.bk_frames.specs.declared.fault.FaultCode.{FaultCode}
 use Rattle.bk_frames.specs.declared.fault.FaultCode.TheVariants as code
 use Rattle.bk_results.specs.declared.compare_stop.CompareStop.{CompareStop}
 use Rattle.bk_results.specs.declared.compare_stop.CompareStop.TheVariants as compared
+use Rattle.bk_results.specs.declared.wrong_tag.WrongTag.{WrongTag}
+use Rattle.bk_results.specs.declared.differ.SetupPart.{SetupPart}
+use Rattle.bk_results.specs.declared.differ.SetupPart.TheVariants as part
 use Rattle.bk_results.specs.declared.differ.Differ.{Differ}
 use Rattle.bk_results.specs.declared.differ.Differ.TheVariants as differ
 use Rattle.bk_results.specs.declared.events_fault.EventsFault.{EventsFault}
@@ -20,7 +23,7 @@ use Rattle.bk_base.specs.declared.refused.Refused.TheVariants as reason
 use Rattle.bk_cli.specs.FaultLines.{digits_of, line_of}
 use Rattle.bk_cli.specs.Files.{about_of, name_of}
 use Rattle.bk_cli.specs.declared.about.About.TheVariants as about
-use Rattle.bk_cli.specs.declared.gaps.Gaps.{Gaps}
+use Rattle.bk_cli.specs.declared.remarks.Remarks.{Remarks}
 use Rattle.bk_cli.specs.declared.job.Job.{Job}
 use Rattle.bk_cli.specs.declared.job_fault.JobFault.{JobFault}
 use Rattle.bk_cli.specs.declared.job_fault.JobFault.TheVariants as fault
@@ -119,10 +122,16 @@ list_words (list.Unfinished place) =
 
 -- ---- two feeds
 
+-- in which part the setup of the second feed differs
+abbrev pub setup_words : SetupPart → List ℕ
+setup_words part.Absent = codes "not both feeds have a committee and a genesis"
+setup_words part.Version = codes "its version is not that of the first feed"
+setup_words part.Committee = codes "its committee is not that of the first feed: the keys, the weights or their number"
+setup_words part.Accounts = codes "its opening accounts are not those of the first feed"
+
 -- two feeds that differ
 abbrev pub differ_words : Differ → List ℕ
-differ_words differ.Setup =
-    codes "its version, committee or opening accounts are not those of the first feed: see `summary` of both"
+differ_words (differ.Setup part) = setup_words part
 differ_words (differ.Collision id) = codes "with the first feed, " ++ collision_words id
 differ_words (differ.Twins round author first second) = codes "with the first feed, " ++ twins_words round author
 differ_words differ.Memory = codes "memory ran out"
@@ -135,9 +144,9 @@ compare_words (compared.Differ e) = differ_words e
 
 -- ---- missing batches
 
--- no order stops at a missing batch, or none is reported
-abbrev pub no_gaps : Gaps
-no_gaps = record { first = None; second = None }
+-- nothing is remarked
+abbrev pub no_remarks : Remarks
+no_remarks = record { first = None; second = None; forged = None }
 
 -- at which missing batch an order stops
 abbrev pub gap_words : List ℕ → List ℕ
@@ -157,9 +166,22 @@ abbrev pub gap_note : List ℕ → Option (List ℕ) → List ℕ
 gap_note name None = []
 gap_note name (Some digest) = gap_line name digest
 
--- the lines for both feeds of a job
-abbrev pub gaps_told : Job → Gaps → List ℕ
-gaps_told j gaps = gap_note (name_of j about.First) gaps.first ++ gap_note (name_of j about.Second) gaps.second
+-- whose tag of a certificate is wrong
+abbrev pub tag_words : WrongTag → List ℕ
+tag_words wrong =
+    codes "of the certificate in frame" ++ spaced wrong.frame ++ codes " the tag of signer" ++ spaced wrong.signer
+    ++ codes " is not that of its key"
+
+-- the line of a feed of this name that has it, nothing where none has
+abbrev pub tag_note : List ℕ → Option WrongTag → List ℕ
+tag_note name None = []
+tag_note name (Some wrong) = codes "bkreplay: " ++ (name ++ (codes ": " ++ tag_words wrong ++ codes "\n"))
+
+-- the lines for the feeds of a job
+abbrev pub remarks_told : Job → Remarks → List ℕ
+remarks_told j r =
+    gap_note (name_of j about.First) r.first ++ (gap_note (name_of j about.Second) r.second
+    ++ tag_note (name_of j about.First) r.forged)
 
 -- ---- the line
 

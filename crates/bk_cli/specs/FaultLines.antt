@@ -61,7 +61,7 @@ list_text (list.Unfinished place) = codes "unfinished" ++ spaced place
 
 -- what reports two feeds that differ
 abbrev pub differ_text : Differ → List ℕ
-differ_text differ.Setup = codes "differ setup"
+differ_text (differ.Setup part) = codes "differ setup"
 differ_text (differ.Collision id) = codes "collision" ++ digits_of id
 differ_text (differ.Twins round author first second) = twins_text round author first second
 differ_text differ.Memory = codes "memory"

@@ -1,4 +1,4 @@
--- What is told of a file that could not be opened.
+-- What the program reports of a file that it could not open.
 use Rattle.std.specs.Prelude.{ℕ, Bool, List, ◌++◌, codes, if◌then◌else◌}
 use Rattle.bk_results.specs.declared.script_fault.ScriptFault.TheVariants as text
 use Rattle.bk_cli.specs.FaultLines.{line_of}

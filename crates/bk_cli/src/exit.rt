@@ -135,7 +135,7 @@ impl Exit {
         ensures { result ≡ exit_after_differ differ.now }
     {
         match differ {
-            Differ::Setup => Exit::WrongInput,
+            Differ::Setup { .. } => Exit::WrongInput,
             Differ::Collision { .. } | Differ::Twins { .. } => Exit::Stopped,
             Differ::Memory => Exit::Failed,
         }

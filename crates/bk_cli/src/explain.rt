@@ -3,9 +3,9 @@
 ghost use Rattle.std.specs.Prelude.{◌≡◌, ◌+◌, ◌≤◌, ◌++◌, length, codes};
 ghost use Rattle.arrayvec.specs.ArrayVec.{array_vec_len};
 ghost use Rattle.bk_cli.specs.Explanations.{back_words, front_words, hint_words, refused_words, script_words};
-ghost use Rattle.bk_cli.specs.Explanations.{collision_words, compare_words, differ_words, feed_words, list_words};
+ghost use Rattle.bk_cli.specs.Explanations.{collision_words, compare_words, differ_words, feed_words, list_words, setup_words};
 ghost use Rattle.bk_cli.specs.Explanations.{replay_words, text_words, twins_words, unread_words, words_of};
-ghost use Rattle.bk_cli.specs.Explanations.{and_gap, gap_words};
+ghost use Rattle.bk_cli.specs.Explanations.{and_gap, gap_words, tag_words};
 
 use crate::fault_line::put_digest;
 use crate::job_fault::JobFault;
@@ -14,7 +14,7 @@ use crate::list_fault::ListFault;
 use bk_base::Refused;
 use bk_digest::Digest32;
 use bk_frames::{FaultCode, FeedFault};
-use bk_results::{CompareStop, Differ, EventsFault, Fault, ScriptCode, ScriptFault};
+use bk_results::{CompareStop, Differ, EventsFault, Fault, ScriptCode, ScriptFault, SetupPart, WrongTag};
 
 // What is in front of the byte at which the fault of a feed is.
 fn front(code: FaultCode) -> &'static [u8]
@@ -212,6 +212,23 @@ fn put_list(line: &mut ShortLine, fault: &ListFault)
     }
 }
 
+// Puts in which part the setup of the second feed differs where there is room for 100 bytes.
+fn put_setup(line: &mut ShortLine, part: SetupPart)
+    requires { array_vec_len line.old + 100 ≤ 192 }
+    ensures items { line.new.items ≡ line.old.items ++ setup_words part }
+    ensures len { array_vec_len line.new ≤ array_vec_len line.old + 100 }
+{
+    match part {
+        SetupPart::Absent => put_text(line, b"not both feeds have a committee and a genesis"),
+        SetupPart::Version => put_text(line, b"its version is not that of the first feed"),
+        SetupPart::Committee => put_text(
+            line,
+            b"its committee is not that of the first feed: the keys, the weights or their number",
+        ),
+        SetupPart::Accounts => put_text(line, b"its opening accounts are not those of the first feed"),
+    }
+}
+
 // Puts how two feeds differ where there is room for 180 bytes.
 fn put_differ(line: &mut ShortLine, differ: &Differ)
     requires { array_vec_len line.old + 180 ≤ 192 }
@@ -219,12 +236,7 @@ fn put_differ(line: &mut ShortLine, differ: &Differ)
     ensures len { array_vec_len line.new ≤ array_vec_len line.old + 180 }
 {
     match differ {
-        Differ::Setup => {
-            put_text(
-                line,
-                b"its version, committee or opening accounts are not those of the first feed: see `summary` of both",
-            );
-        }
+        Differ::Setup { part } => put_setup(line, *part),
         Differ::Collision { id } => {
             put_text(line, b"with the first feed, ");
             put_collision(line, id);
@@ -247,6 +259,19 @@ fn put_compare(line: &mut ShortLine, stop: &CompareStop)
         CompareStop::First(fault) | CompareStop::Second(fault) => put_replay(line, fault),
         CompareStop::Differ(differ) => put_differ(line, differ),
     }
+}
+
+/// Puts whose tag of a certificate is wrong where there is room for 110 bytes.
+pub(crate) fn put_wrong_tag(line: &mut ShortLine, wrong: &WrongTag)
+    requires { array_vec_len line.old + 110 ≤ 192 }
+    ensures items { line.new.items ≡ line.old.items ++ tag_words wrong.now }
+    ensures len { array_vec_len line.new ≤ array_vec_len line.old + 110 }
+{
+    put_text(line, b"of the certificate in frame");
+    put_number(line, wrong.frame);
+    put_text(line, b" the tag of signer");
+    put_number(line, u64::from(wrong.signer));
+    put_text(line, b" is not that of its key");
 }
 
 /// Puts at which missing batch an order stops where there is room for 110 bytes.

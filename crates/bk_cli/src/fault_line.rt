@@ -136,7 +136,7 @@ fn put_differ(line: &mut ShortLine, differ: &Differ)
     ensures len { array_vec_len line.new ≤ array_vec_len line.old + 184 }
 {
     match differ {
-        Differ::Setup => put_text(line, b"differ setup"),
+        Differ::Setup { .. } => put_text(line, b"differ setup"),
         Differ::Collision { id } => {
             put_text(line, b"collision");
             put_digest(line, id);

@@ -17,7 +17,7 @@ pub(crate) const PROGRESS: &str =
     "Show on standard error how many bytes are read, and how many transactions are executed";
 
 pub(crate) const VERBOSE: &str =
-    "Say in one more line what a fault is, in words, and name the file; queries and `compare` also name a missing batch";
+    "Say in one more line what a fault is, in words, and name the file; queries and `compare` also name a missing batch, and `frames` whose tag is wrong";
 
 pub(crate) const FROM: &str = "The first round that is drawn, 1 to 1,000,000; 1 by default";
 

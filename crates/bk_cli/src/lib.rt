@@ -1,8 +1,8 @@
 //! The command line: from words to a job, and from the fault of a job to its line and its exit status.
 //!
 //! [`parse_line`] reads the words of a command line, and [`parse`] only the job that they name. [`report`] writes the one
-//! line of a fault, [`tell`] the same and what is wrong in words, [`tell_gaps`] where an order stops, and [`Exit::after`] is the exit status that goes with
-//! it. Nothing here reads a file or does a job.
+//! line of a fault, [`tell`] the same and what is wrong in words, [`tell_remarks`] what there is to remark beside an
+//! answer, and [`Exit::after`] is the exit status that goes with it. Nothing here reads a file or does a job.
 #![tactic(auto)]
 
 mod about;
@@ -11,8 +11,6 @@ mod diagnosis_help;
 mod exit;
 mod explain;
 mod fault_line;
-mod gap_notes;
-mod gaps;
 mod help;
 mod job;
 mod job_fault;
@@ -23,6 +21,8 @@ mod making;
 mod more_help;
 mod notes;
 mod parsing;
+mod remarking;
+mod remarks;
 mod shaped;
 mod strict;
 mod table_help;
@@ -37,8 +37,6 @@ mod workers;
 
 pub use exit::Exit;
 pub use fault_line::report;
-pub use gap_notes::tell_gaps;
-pub use gaps::Gaps;
 pub use job::{Job, is_input};
 pub use job_fault::JobFault;
 pub use line::{ShortLine, put_number, put_text};
@@ -46,6 +44,8 @@ pub use links::Links;
 pub use list_fault::ListFault;
 pub use notes::Notes;
 pub use parsing::{Line, parse, parse_line};
+pub use remarking::tell_remarks;
+pub use remarks::Remarks;
 pub use strict::judge;
 pub use telling::{tell, tell_of, tell_unopened};
 pub use unopened::Unopened;

@@ -26,7 +26,7 @@ use Rattle.bk_results.specs.Devices.{AreFeed}
 use Rattle.bk_answer.specs.Outcomes.{IsOutcomeOf}
 use Rattle.bk_compare.specs.FeedAgreement.{FeedsAgree, FeedsCompared, FeedsDiffer, OfTheirFeeds, BothGave, Sources, FollowFails, ComparisonStops, sources}
 use Rattle.bk_compare.specs.declared.compared.Compared.{Compared}
-use Rattle.bk_answer.specs.Gaps.{IsGap, IsGapIn}
+use Rattle.bk_answer.specs.Gaps.{IsGapIn}
 use Rattle.bk_follow.specs.Queries.{missing_in}
 use Rattle.bk_follow.specs.Finishing.{OfFeed, Closes, CloseFails}
 use Rattle.bk_follow.specs.Follower.{BookValue, Followed, Follows, FollowsBy, IsBookOf, IsCurrent, ordered_in, receipts_of_executed}
@@ -244,7 +244,7 @@ module _ (one other : Followed) (bytes more : List ℕ) (x : HasEnded bytes one)
       })
 
   pub ended_differ : (d : Differ) → FollowersDiffer one other d → OfTheirFeeds bytes more (FeedsDiffer d)
-  ended_differ differ.Setup h = spelled_so (FeedsDiffer differ.Setup) (h bytes more x.frames y.frames x.version y.version x.come y.come x.known y.known)
+  ended_differ (differ.Setup part) h = spelled_so (FeedsDiffer (differ.Setup part)) (h bytes more x.frames y.frames x.version y.version x.come y.come x.known y.known)
   ended_differ (differ.Collision id) h = spelled_so (FeedsDiffer (differ.Collision id)) (both_feeds one other (λ f g. HaveStop f g (stop.Collision id)) bytes more h x y)
   ended_differ (differ.Twins round author first second) h =
       spelled_so (FeedsDiffer (differ.Twins round author first second))
@@ -301,34 +301,6 @@ both_known old new holds h =
     known_of old.first new.first (λ bytes. IfKnown old.second (λ more. OfTheirFeeds bytes more holds))
     (gave_all old.first new.first (λ bytes. GaveAll old.second new.second (λ more. OfTheirFeeds bytes more holds)) (λ bytes. IfKnown old.second (λ more. OfTheirFeeds bytes more holds)) h
     (λ bytes k. known_of old.second new.second (λ more. OfTheirFeeds bytes more holds) k))
-
--- and what follows from that of both byte strings
-both_bytes : (old new : Sources) (holds : FeedValue → FeedValue → Type 0) (so : List ℕ → List ℕ → Type 0) → ((bytes more : List ℕ) → OfTheirFeeds bytes more holds → so bytes more) → BothGave old new holds → IfKnown old.first (λ bytes. IfKnown old.second (λ more. so bytes more))
-both_bytes old new holds so f h =
-    known_of old.first new.first (λ bytes. IfKnown old.second (λ more. so bytes more))
-    (gave_all old.first new.first (λ bytes. GaveAll old.second new.second (λ more. OfTheirFeeds bytes more holds)) (λ bytes. IfKnown old.second (λ more. so bytes more)) h
-    (λ bytes k. known_of old.second new.second (λ more. so bytes more)
-    (gave_all old.second new.second (λ more. OfTheirFeeds bytes more holds) (λ more. so bytes more) k (λ more x. f bytes more x))))
-
--- the bytes of both stop at the missing batches of both
-pub gaps_too : (strict : Bool) (old new : Sources) (c : Compared) → BothGave old new (λ f g. FeedsCompared strict f g c) → IfKnown old.first (λ bytes. IfKnown old.second (λ more. IsGap bytes c.first × IsGap more c.second))
-gaps_too strict old new c h = both_bytes old new (λ f g. FeedsCompared strict f g c) (λ bytes more. IsGap bytes c.first × IsGap more c.second) gaps_of h
-  where
-    gaps_of : (bytes more : List ℕ) → OfTheirFeeds bytes more (λ f g. FeedsCompared strict f g c) → IsGap bytes c.first × IsGap more c.second
-    gaps_of bytes more x = (
-      record { feed = x.one; good = x.good; spelled = x.spelled; holds = x.holds.first },
-      record { feed = x.other; good = x.other_good; spelled = x.other_spelled; holds = x.holds.second },
-    )
-
--- and this keeps both from counting whole, where that was asked for
-pub flaws_too : (old new : Sources) (c : Compared) → BothGave old new (λ f g. FeedsCompared true f g c) → IfKnown old.first (λ bytes. IfKnown old.second (λ more. IsFlaw bytes c.first_flaw × IsFlaw more c.second_flaw))
-flaws_too old new c h = both_bytes old new (λ f g. FeedsCompared true f g c) (λ bytes more. IsFlaw bytes c.first_flaw × IsFlaw more c.second_flaw) flaws_of h
-  where
-    flaws_of : (bytes more : List ℕ) → OfTheirFeeds bytes more (λ f g. FeedsCompared true f g c) → IsFlaw bytes c.first_flaw × IsFlaw more c.second_flaw
-    flaws_of bytes more x = (
-      record { feed = x.one; good = x.good; spelled = x.spelled; holds = x.holds.first_flaw },
-      record { feed = x.other; good = x.other_good; spelled = x.other_spelled; holds = x.holds.second_flaw },
-    )
 
 -- a feed that has ended is a feed
 is_feed : (old new : Device) (one : Followed) → GaveAll old new (λ bytes. HasEnded bytes one) → GaveAll old new AreFeed

@@ -14,7 +14,7 @@ use Rattle.bk_results.specs.declared.fault.Fault.TheVariants as fault
 use Rattle.bk_compare.specs.declared.compared.Compared.{Compared}
 use Rattle.bk_answer.specs.Flaws.{IsFlawIf}
 use Rattle.bk_answer.specs.Gaps.{IsGapIn}
-use Rattle.bk_follow.specs.Agreement.{HaveOneSetup, HaveNoStop, HaveStop, Agree}
+use Rattle.bk_follow.specs.Agreement.{HaveOneSetup, HaveNoStop, HaveStop, SetupsDiffer, Agree}
 use Rattle.bk_results.specs.Devices.{AreFeed}
 use Rattle.bk_answer.specs.Outcomes.{Outcome, IsOutcomeOf}
 use Rattle.bk_answer.specs.RunReport.{HasPlace}
@@ -40,9 +40,9 @@ pub record FeedsCompared (strict : Bool) (one other : FeedValue) (c : Compared) 
   pub first_flaw : IsFlawIf strict one c.first_flaw
   pub second_flaw : IsFlawIf strict other c.second_flaw
 
--- why they do not: they have no one setup; or they have one, and the frames of both together are stopped so, or memory ran out
+-- why they do not: their setups differ, first in this part; or they have one, and the frames of both together are stopped so, or memory ran out
 abbrev pub FeedsDiffer : Differ → FeedValue → FeedValue → Type 0
-FeedsDiffer differ.Setup one other = HaveOneSetup one other → ⊥
+FeedsDiffer (differ.Setup part) one other = SetupsDiffer part one other
 FeedsDiffer (differ.Collision id) one other = HaveStop one other (stop.Collision id)
 FeedsDiffer (differ.Twins round author first second) one other =
     HaveStop one other

@@ -185,7 +185,8 @@ fn compare_both<R: Threads + Wait + Sync, S: Source, T: Source, G: Gate + Sync>(
 ///
 /// Where both have one version, committee and genesis and their frames together have neither a collision nor twins, the
 /// order of one begins that of the other and so do the receipts: the answer says how far, at which missing batch each
-/// order stops and, where `strict` is set, what keeps each feed from counting whole. A collision or twins are those of both feeds together, be they in one of them alone.
+/// order stops and, where `strict` is set, what keeps each feed from counting whole. A collision or twins are those of
+/// both feeds together, be they in one of them alone.
 pub fn compare_with_gaps<R: Threads + Wait + Sync, S: Source, T: Source, G: Gate + Sync>(
     rt: &R,
     alloc: Global,

@@ -154,6 +154,26 @@ module _ (f g : FeedValue) (b c : BookValue) (good : IsGoodBook f b) (also : IsG
     opening = good.book.opening ∙ h.genesis ∙ sym also.book.opening;
   }
 
+  version_forth : b.taken.committee.version ≡ c.taken.committee.version → f.version ≡ g.version
+  version_forth e = sym (committee_version f.version _) ∙ ap (λ (k : CommitteeValue). k.version) (sym good.book.committee) ∙ e
+      ∙ ap (λ (k : CommitteeValue). k.version) also.book.committee ∙ committee_version g.version _
+
+  version_back : f.version ≡ g.version → b.taken.committee.version ≡ c.taken.committee.version
+  version_back e = ap (λ (k : CommitteeValue). k.version) good.book.committee ∙ committee_version f.version _ ∙ e
+      ∙ sym (committee_version g.version _) ∙ ap (λ (k : CommitteeValue). k.version) (sym also.book.committee)
+
+  -- the setups of the feeds differ in the part in which those of the books do
+  pub setups_differ : (part : SetupPart) → BooksUnlike b c part → SetupsDiffer part f g
+  setups_differ part.Absent h = absurd h
+  setups_differ part.Version h = ((good.opened, also.opened), λ e. h (version_back e))
+  setups_differ part.Committee h = ((good.opened, also.opened), version_forth h.0, λ e. h.1 (good.book.committee ∙ e ∙ sym also.book.committee))
+  setups_differ part.Accounts h = (
+    (good.opened, also.opened),
+    version_forth (ap (λ (k : CommitteeValue). k.version) h.0),
+    sym good.book.committee ∙ h.0 ∙ also.book.committee,
+    λ e. h.1 (good.book.opening ∙ e ∙ sym also.book.opening),
+  )
+
   -- what holds of all that was taken holds of the frames of both feeds
   pub of_feeds : (P : CommitteeValue → List Frame → Type 0) → OfTaken b c (P b.taken.committee) → P (committee_in f) (frames_together f g)
   of_feeds P h = subst (λ (k : CommitteeValue). P k (frames_together f g)) good.book.committee (h (later_frames f) (later_frames g) good.book.taken also.book.taken)
@@ -283,11 +303,11 @@ pub version_is : (v w : Version) (known : Option Version) → known ≡ Some v �
 version_is v w known e g = let same : Some v ≡ Some w = sym e ∙ g in cc
 
 pub followers_differ : (one other : Followed) (b c : BookValue) (d : Differ) → one.book ≡ Some b → other.book ≡ Some c → BooksDiffer b c d → FollowersDiffer one other d
-followers_differ one other b c differ.Setup is also h = λ bytes more fs gs v w come came known named setup.
+followers_differ one other b c (differ.Setup part) is also h = λ bytes more fs gs v w come came known named.
     let x = good_of bytes fs one b come is in
     let y = good_of more gs other c came also in
-    h (setup_back (feed_of x.version fs) (feed_of y.version gs) b c x.good y.good
-    (subst (λ (p : Version × Version). HaveOneSetup (feed_of p.0 fs) (feed_of p.1 gs)) (λ i. (version_is v x.version one.cut.version known x.known i, version_is w y.version other.cut.version named y.known i)) setup))
+    subst (λ (p : Version × Version). SetupsDiffer part (feed_of p.0 fs) (feed_of p.1 gs)) (λ i. (version_is x.version v one.cut.version x.known known i, version_is y.version w other.cut.version y.known named i))
+    (setups_differ (feed_of x.version fs) (feed_of y.version gs) b c x.good y.good part h)
 followers_differ one other b c (differ.Collision id) is also h =
     of_both one other b c (λ f g. HaveStop f g (stop.Collision id)) is also
     (λ f g good fine. (one_setup f g b c good fine h.0, of_feeds f g b c good fine (λ k fs. IsStop k fs (stop.Collision id)) h.1))
@@ -306,11 +326,11 @@ unopened v bytes frames version none come known two =
     no_book version (f ∷ []) le h = absurd (omega (arith, le))
     no_book version (f ∷ g ∷ more) le h = absurd (let e = h.1 in cc)
 
-pub first_unopened : (one other : Followed) → one.book ≡ None → FollowersDiffer one other differ.Setup
-first_unopened one other none = λ bytes more fs gs v w come came known named setup. unopened one bytes fs v none come known setup.opened
+pub first_unopened : (one other : Followed) → one.book ≡ None → FollowersDiffer one other (differ.Setup part.Absent)
+first_unopened one other none = λ bytes more fs gs v w come came known named opened. unopened one bytes fs v none come known opened.0
 
-pub second_unopened : (one other : Followed) → other.book ≡ None → FollowersDiffer one other differ.Setup
-second_unopened one other none = λ bytes more fs gs v w come came known named setup. unopened other more gs w none came named setup.also_opened
+pub second_unopened : (one other : Followed) → other.book ≡ None → FollowersDiffer one other (differ.Setup part.Absent)
+second_unopened one other none = λ bytes more fs gs v w come came known named opened. unopened other more gs w none came named opened.1
 
 -- what has come to a Follower, in which no fault is kept
 pub record HasSomething (v : Followed) : Type 0 where

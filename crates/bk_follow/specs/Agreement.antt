@@ -1,5 +1,5 @@
 -- When two feeds agree, and two Followers; and when they differ.
-use Rattle.std.specs.Prelude.{◌≡◌, ◌≤◌, ◌⊎◌, ℕ, List, ◌++◌, length, Option, Some}
+use Rattle.std.specs.Prelude.{◌≡◌, ◌≢◌, ◌≤◌, ◌⊎◌, ℕ, List, ◌++◌, length, Option, Some}
 use Rattle.bk_base.specs.declared.version.Version.{Version}
 use Rattle.bk_base.specs.Feed.{Frame, FeedValue, feed_of, genesis_of}
 use Rattle.bk_commit.specs.Growth.{IsPrefix}
@@ -10,6 +10,8 @@ use Rattle.bk_order.specs.declared.stop.Stop.{Stop}
 use Rattle.bk_order.specs.declared.stop.Stop.TheVariants as stop
 use Rattle.bk_answer.specs.Outcomes.{Outcome}
 use Rattle.bk_results.specs.declared.differ.Agreed.{Agreed}
+use Rattle.bk_results.specs.declared.differ.SetupPart.{SetupPart}
+use Rattle.bk_results.specs.declared.differ.SetupPart.TheVariants as part
 use Rattle.bk_results.specs.declared.differ.Differ.{Differ}
 use Rattle.bk_results.specs.declared.differ.Differ.TheVariants as differ
 use Rattle.bk_follow.specs.Follower.{BookValue, Followed, HasCome, OfFrames, ordered_in, receipts_in}
@@ -32,6 +34,21 @@ pub record HaveOneSetup (one other : FeedValue) : Type 0 where
   pub version : one.version ≡ other.version
   pub committee : committee_in one ≡ committee_in other
   pub genesis : genesis_of one.frames ≡ genesis_of other.frames
+
+-- each of two feeds has its committee and its genesis
+abbrev pub AreOpened : FeedValue → FeedValue → Type 0
+AreOpened one other = (2 ≤ length one.frames) × (2 ≤ length other.frames)
+
+-- the first part in which the setups of two feeds differ: not both have one; their versions; their committees; or their
+-- opening accounts
+abbrev pub SetupsDiffer : SetupPart → FeedValue → FeedValue → Type 0
+SetupsDiffer part.Absent one other = ¬ AreOpened one other
+SetupsDiffer part.Version one other = AreOpened one other × (one.version ≢ other.version)
+SetupsDiffer part.Committee one other =
+    AreOpened one other × (one.version ≡ other.version) × (committee_in one ≢ committee_in other)
+SetupsDiffer part.Accounts one other =
+    AreOpened one other × (one.version ≡ other.version) × (committee_in one ≡ committee_in other)
+    × (genesis_of one.frames ≢ genesis_of other.frames)
 
 -- the frames of both after the genesis
 abbrev pub frames_together : FeedValue → FeedValue → List Frame
@@ -92,9 +109,9 @@ pub record FollowersAgree (one other : Followed) (a : Agreed) : Type 0 where
   pub places : OneBeginsFor a.places (receipts_in one.book) (receipts_in other.book)
   pub rows : length (receipts_in one.book) ≡ length (receipts_in other.book) → rows_in one.book ≡ rows_in other.book
 
--- why they do not: they have no one setup; or the frames of both together are stopped so; or memory ran out
+-- why they do not: their setups differ, first in this part; or the frames of both together are stopped so; or memory ran out
 abbrev pub FollowersDiffer : Followed → Followed → Differ → Type 0
-FollowersDiffer one other differ.Setup = OfBothKnown one other (λ f g. HaveOneSetup f g → ⊥)
+FollowersDiffer one other (differ.Setup part) = OfBothKnown one other (SetupsDiffer part)
 FollowersDiffer one other (differ.Collision id) = OfBoth one other (λ f g. HaveStop f g (stop.Collision id))
 FollowersDiffer one other (differ.Twins round author first second) =
     OfBoth one other (λ f g. HaveStop f g

@@ -1,12 +1,12 @@
 //! Whether two Followers agree.
 
-ghost use Rattle.std.specs.Prelude.{◌≡◌, ◌<◌, ◌↔◌, [], ◌∷◌, None, Some, length, slice_get, IfOk, IfErr, IsTrue};
+ghost use Rattle.std.specs.Prelude.{◌≡◌, ◌<◌, ◌↔◌, [], ◌∷◌, None, Some, length, slice_get, MatchOption, IfOk, IfErr, IsTrue};
 ghost use Rattle.bk_follow.specs.Agreement.{FollowersAgree, FollowersDiffer};
 ghost use Rattle.bk_follow.specs.Follower.{receipts_of_executed};
-ghost use Rattle.bk_follow.specs.private.Comparing.{BooksAgree, BooksDiffer, HaveSameSetup, IsLesser};
+ghost use Rattle.bk_follow.specs.private.Comparing.{BooksAgree, BooksDiffer, BooksUnlike, HaveSameSetup, IsLesser};
 
 use crate::book::Book;
-use crate::differ::{Agreed, Differ, differing};
+use crate::differ::{Agreed, Differ, SetupPart, differing};
 use crate::follower::Follower;
 use bk_base::{Row, Version};
 use bk_committee::Committee;
@@ -112,12 +112,22 @@ fn same_committee(one: &Committee, other: &Committee) -> bool
 }
 
 impl Book {
-    // Whether both are of one committee, with its version, and of the same opening accounts.
-    fn has_setup_of(&self, other: &Book) -> bool
-        ensures { IsTrue result ↔ HaveSameSetup self.now other.now }
+    // The first part in which the setups of both differ, none where they have one setup.
+    fn setup_unlike(&self, other: &Book) -> Option<SetupPart>
+        ensures { MatchOption result (HaveSameSetup self.now other.now) (BooksUnlike self.now other.now) }
     {
-        same_committee(self.intake.committee(), other.intake.committee())
-            && same_rows(&self.opening, &other.opening)
+        let one = self.intake.committee();
+        let two = other.intake.committee();
+        if !same_version(one.version(), two.version()) {
+            return Some(SetupPart::Version);
+        }
+        if !same_committee(one, two) {
+            return Some(SetupPart::Committee);
+        }
+        if !same_rows(&self.opening, &other.opening) {
+            return Some(SetupPart::Accounts);
+        }
+        None
     }
 
     // How many places were executed.
@@ -135,8 +145,8 @@ impl Book {
         ensures agree { IfOk result (BooksAgree self.now other.now) }
         ensures differ { IfErr result (BooksDiffer self.now other.now) }
     {
-        if !self.has_setup_of(other) {
-            return Err(Differ::Setup);
+        if let Some(part) = self.setup_unlike(other) {
+            return Err(Differ::Setup { part });
         }
         if let Some(stop) = self.intake.stop_with(&other.intake)? {
             return Err(differing(stop));
@@ -164,10 +174,14 @@ impl Follower {
         ensures differ { IfErr result (FollowersDiffer self.now other.now) }
     {
         let Some(one) = &self.gathered.opened.book else {
-            return Err(Differ::Setup);
+            return Err(Differ::Setup {
+                part: SetupPart::Absent,
+            });
         };
         let Some(two) = &other.gathered.opened.book else {
-            return Err(Differ::Setup);
+            return Err(Differ::Setup {
+                part: SetupPart::Absent,
+            });
         };
         let agreed = one.compare(two)?;
         Ok(agreed)

@@ -5,7 +5,7 @@ ghost use Rattle.bk_follow.specs.private.Comparing.{differ_of};
 
 use bk_evidence::Evidence;
 use bk_order::Stop;
-pub use bk_results::{Agreed, Differ};
+pub use bk_results::{Agreed, Differ, SetupPart};
 
 /// The difference of two feeds that are stopped together.
 pub(crate) fn differing(stop: Stop) -> Differ

@@ -148,8 +148,8 @@ compare_blames first second (compared.Second (replay.Equivocation round author o
 compare_blames first second (compared.Second (replay.Unfinished place)) old new h r = absurd (cc)
 compare_blames first second (compared.Second (replay.Write written)) old new h r = absurd (cc)
 compare_blames first second (compared.Second replay.Memory) old new h r = absurd (cc)
-compare_blames first second (compared.Differ differ.Setup) old new h r =
-    (inr (inr (both_known (both_sources old) (both_sources new) (FeedsDiffer differ.Setup) h.why.1)), h.untouched)
+compare_blames first second (compared.Differ (differ.Setup part)) old new h r =
+    (inr (inr (part, both_known (both_sources old) (both_sources new) (FeedsDiffer (differ.Setup part)) h.why.1)), h.untouched)
 compare_blames first second (compared.Differ (differ.Collision id)) old new h r = (
   stopped_together (FeedsDiffer (differ.Collision id)) old.first.bytes old.second.bytes (λ f g k. (stop.Collision id, k))
       (both_known (both_sources old) (both_sources new) (FeedsDiffer (differ.Collision id)) h.why.1),

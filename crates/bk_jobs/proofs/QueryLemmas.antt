@@ -1,7 +1,12 @@
 -- Why a query whose reply came has no answer.
-use Rattle.std.proofs.Common.{◌≡◌, ℕ, List, Option, refl, subst}
+use Rattle.std.proofs.Common.{◌≡◌, ℕ, Bool, List, Option, refl, subst}
 use Rattle.std.specs.Prelude.{Result, Err}
+use Rattle.bk_frames.specs.Device.{GaveAll}
+use Rattle.bk_frames.proofs.Devices.{gave_all}
 use Rattle.bk_answer.specs.Answers.{IsAnswered}
+use Rattle.bk_answer.specs.Flaws.{judged_text}
+use Rattle.bk_answer.specs.Gaps.{IsGap}
+use Rattle.bk_answer.specs.declared.strict.Ended.{Ended}
 use Rattle.bk_ask.specs.Asking.{IsRepliedOf}
 use Rattle.bk_ask.specs.declared.replied.Replied.{Replied}
 use Rattle.bk_ask.proofs.ReplyAnswers.{quiet_of}
@@ -38,3 +43,9 @@ absent_fails asked end e old new answered is = by_reply end.reply refl is
     by_reply reply.Wrong same is = absurd cc
     by_reply reply.Absent same is =
         by_query asked e end.missing old new is (λ f h. record { answer = end; absent = same; fault_is = h; answered = answered; untouched = quiet_of asked end old new answered same })
+
+-- the order of the feed that the source gave stops at the batch that a reply names
+pub reply_gap : (strict : Bool) (asked : Query) (ended : Ended Replied) (old new : Devices) → IsAnswered (judged_text strict (IsRepliedOf asked)) ended old new
+    → GaveAll old.source new.source (λ bytes. IsGap bytes ended.end.missing)
+reply_gap strict asked ended old new a =
+    gave_all old.source new.source _ _ a.out (λ bytes o. record { feed = o.1.feed; good = o.1.good; spelled = o.1.spelled; holds = o.1.holds.0.gap })

@@ -86,7 +86,7 @@ replay_may_end j replay.Memory right halt = refl
 compare_may_end : (first second : _) (e : CompareStop) → may_end (job.Compare first second) (exit_after_compare e) ≡ true
 compare_may_end first second (compared.First e) = replay_may_end (job.Compare first second) e refl refl
 compare_may_end first second (compared.Second e) = replay_may_end (job.Compare first second) e refl refl
-compare_may_end first second (compared.Differ differ.Setup) = refl
+compare_may_end first second (compared.Differ (differ.Setup part)) = refl
 compare_may_end first second (compared.Differ (differ.Collision id)) = refl
 compare_may_end first second (compared.Differ (differ.Twins round author one other)) = refl
 compare_may_end first second (compared.Differ differ.Memory) = refl
@@ -355,7 +355,7 @@ fault_is_none (job.Compare first second) (fault.AbsentAccount id missing) old ne
 fault_is_none (job.Compare first second) (fault.AbsentPlace place missing) old new h = absurd h
 fault_is_none j (fault.Compared (compared.First e)) old new h = replay_is_none j e
 fault_is_none j (fault.Compared (compared.Second e)) old new h = replay_is_none j e
-fault_is_none j (fault.Compared (compared.Differ differ.Setup)) old new h = refl
+fault_is_none j (fault.Compared (compared.Differ (differ.Setup part))) old new h = refl
 fault_is_none j (fault.Compared (compared.Differ (differ.Collision id))) old new h = refl
 fault_is_none j (fault.Compared (compared.Differ (differ.Twins round author first second))) old new h = refl
 fault_is_none j (fault.Compared (compared.Differ differ.Memory)) old new h = refl

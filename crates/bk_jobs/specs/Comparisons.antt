@@ -7,6 +7,7 @@ use Rattle.bk_follow.specs.Agreement.{HaveStop}
 use Rattle.bk_results.specs.Devices.{AreFeed, IsUntouched}
 use Rattle.bk_compare.specs.FeedAgreement.{BothGave, BothWork, ComparisonStops, FeedsAgree, FeedsDiffer, OfTheirFeeds, Sources, sources}
 use Rattle.bk_results.specs.declared.compare_stop.CompareStop.{CompareStop}
+use Rattle.bk_results.specs.declared.differ.SetupPart.{SetupPart}
 use Rattle.bk_results.specs.declared.differ.Agreed.{Agreed}
 use Rattle.bk_results.specs.declared.differ.Differ.TheVariants as differ
 use Rattle.bk_results.specs.declared.fault.Fault.{Fault}
@@ -73,11 +74,11 @@ CompareFailsBy other old new = ⊥
 -- ---- bytes to blame
 
 -- the sources of a comparison are wrong: the first is no feed; the first is one, and the second is none; or both
--- are, and have no one setup
+-- are, and their setups differ
 abbrev pub AreWrongTogether : Inputs → Type 0
 AreWrongTogether given =
     IfSome given.first AreBroken ⊎ (IfSome given.first AreFeed × IfSome given.second AreBroken)
-    ⊎ IfBothGive given (λ bytes more. OfTheirFeeds bytes more (FeedsDiffer differ.Setup))
+    ⊎ ((part : SetupPart) × IfBothGive given (λ bytes more. OfTheirFeeds bytes more (FeedsDiffer (differ.Setup part))))
 
 -- two feeds have one setup, and a collision or twins stop the frames of both together
 abbrev pub HaveSomeStop : FeedValue → FeedValue → Type 0

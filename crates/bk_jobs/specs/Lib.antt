@@ -1,7 +1,7 @@
 pub mod Comparisons
 pub mod Drawn
 pub mod Faults
-pub mod Gaps
+pub mod Remarks
 pub mod Openings
 pub mod Reports
 pub mod private

@@ -15,7 +15,7 @@ use Rattle.bk_cli.specs.declared.job_fault.JobFault.{JobFault}
 use Rattle.bk_cli.specs.declared.job_fault.JobFault.TheVariants as fault
 use Rattle.bk_jobs.specs.Faults.{AnswerIsOut, EndsBy}
 use Rattle.bk_jobs.specs.Flaws.{IsJudgedEnd}
-use Rattle.bk_jobs.specs.Gaps.{GapsAreTold}
+use Rattle.bk_jobs.specs.Remarks.{RemarksAreTold}
 use Rattle.bk_jobs.specs.Sources.{AllWork, JobDevices, inputs_of}
 
 -- how a job ran: how it ended by itself, with its answer or its fault and what was told of it, and how it ends at last, where
@@ -25,7 +25,7 @@ pub record RanSo (j : Job) (strict verbose : Bool) (last : Exit) (old new : JobD
   pub between : Device
   pub answer : is_answer j end ≡ true → AnswerIsOut j end old new × AllWork old new
   pub quiet : is_answer j end ≡ true → verbose ≡ false → between ≡ err
-  pub gaps : is_answer j end ≡ true → verbose ≡ true → GapsAreTold j (inputs_of old) err between
+  pub remarks : is_answer j end ≡ true → verbose ≡ true → RemarksAreTold j old new err between
   pub fault : is_answer j end ≡ false → (e : JobFault) × EndsBy j (told verbose j) e end old new err between
   pub judged : IsJudgedEnd strict j old new end last between err'
 

@@ -8,8 +8,8 @@ ghost use Rattle.bk_frames.specs.Device.{CanBeUsed};
 ghost use Rattle.bk_cli.specs.Exits.{is_answer, may_end, reads_second};
 ghost use Rattle.bk_jobs.specs.Faults.{JobFailsBy, AnswerIsOut};
 ghost use Rattle.bk_jobs.specs.Flaws.{IsAbsence, IsFlawOf};
-ghost use Rattle.bk_jobs.specs.Gaps.{AreGapsOf};
-ghost use Rattle.bk_jobs.specs.Sources.{AllWork, inputs, job_devices};
+ghost use Rattle.bk_jobs.specs.Remarks.{AreRemarksOf};
+ghost use Rattle.bk_jobs.specs.Sources.{AllWork, job_devices};
 ghost use Rattle.bk_jobs.specs.private.Groups.{replays_one, replays_two, reads_frames, reads_texts};
 
 use crate::diagnosing::diagnose;
@@ -23,7 +23,7 @@ use crate::replaying::{apply_all, run, sum_up};
 use crate::showing::show;
 use crate::text_jobs::answer_of_text;
 use crate::two_inputs::answer_of_two;
-use bk_cli::{Gaps, Job, JobFault};
+use bk_cli::{Remarks, Job, JobFault};
 use bk_frames::{Sink, Source};
 use bk_pool::Gate;
 use std::sync::Wait;
@@ -57,8 +57,9 @@ where
         (job_devices (S1.state first.old) (S2.state second.old) (O.state out.old))
         (job_devices (S1.state first.new) (S2.state second.new) (O.state out.new))
         judge.new.flaw) }
-    ensures gaps { IfOk result (λ end. AreGapsOf job.now
-        (inputs (S1.state first.old).bytes (S2.state second.old).bytes) end.gaps) }
+    ensures remarks { IfOk result (λ end. AreRemarksOf job.now
+        (job_devices (S1.state first.old) (S2.state second.old) (O.state out.old))
+        (job_devices (S1.state first.new) (S2.state second.new) (O.state out.new)) end.remarks) }
     ensures answer { IfOk result (λ end. (is_answer job.now end.exit ≡ true)
         × (may_end job.now end.exit ≡ true)) }
     ensures sound { OnOk result (AllWork
@@ -74,10 +75,7 @@ where
             let end = run(rt, judge, gate, *workers, first, out)?;
             Ok(End {
                 exit: end,
-                gaps: Gaps {
-                    first: None,
-                    second: None,
-                },
+                remarks: Remarks::none(),
             })
         }
         Job::Ask { workers, asked, .. } => {
@@ -88,20 +86,14 @@ where
             let end = sum_up(rt, judge, gate, *workers, first, out)?;
             Ok(End {
                 exit: end,
-                gaps: Gaps {
-                    first: None,
-                    second: None,
-                },
+                remarks: Remarks::none(),
             })
         }
         Job::Show { workers, shown, .. } => {
             let end = show(rt, judge, gate, *shown, *workers, first, out)?;
             Ok(End {
                 exit: end,
-                gaps: Gaps {
-                    first: None,
-                    second: None,
-                },
+                remarks: Remarks::none(),
             })
         }
         Job::Follow {
@@ -113,10 +105,7 @@ where
             let end = follow(rt, judge, gate, *shown, *workers, first, out)?;
             Ok(End {
                 exit: end,
-                gaps: Gaps {
-                    first: None,
-                    second: None,
-                },
+                remarks: Remarks::none(),
             })
         }
         Job::Make { .. }
@@ -161,8 +150,9 @@ where
         (job_devices (S1.state first.old) (S2.state second.old) (O.state out.old))
         (job_devices (S1.state first.new) (S2.state second.new) (O.state out.new))
         judge.new.flaw) }
-    ensures gaps { IfOk result (λ end. AreGapsOf job.now
-        (inputs (S1.state first.old).bytes (S2.state second.old).bytes) end.gaps) }
+    ensures remarks { IfOk result (λ end. AreRemarksOf job.now
+        (job_devices (S1.state first.old) (S2.state second.old) (O.state out.old))
+        (job_devices (S1.state first.new) (S2.state second.new) (O.state out.new)) end.remarks) }
     ensures answer { IfOk result (λ end. (is_answer job.now end.exit ≡ true)
         × (may_end job.now end.exit ≡ true)) }
     ensures sound { OnOk result (AllWork
@@ -176,42 +166,27 @@ where
     match job {
         Job::Frames { .. } => {
             let end = list(rt, judge, first, out)?;
-            Ok(End {
-                exit: end,
-                gaps: Gaps {
-                    first: None,
-                    second: None,
-                },
-            })
+            Ok(end)
         }
         Job::Dag { window, .. } => {
             let end = draw_rounds(rt, judge, *window, first, out)?;
             Ok(End {
                 exit: end,
-                gaps: Gaps {
-                    first: None,
-                    second: None,
-                },
+                remarks: Remarks::none(),
             })
         }
         Job::Diagnose { sought, .. } => {
             let end = diagnose(rt, judge, *sought, first, out)?;
             Ok(End {
                 exit: end,
-                gaps: Gaps {
-                    first: None,
-                    second: None,
-                },
+                remarks: Remarks::none(),
             })
         }
         Job::Apply { .. } => {
             let end = apply_all(rt, first, out)?;
             Ok(End {
                 exit: end,
-                gaps: Gaps {
-                    first: None,
-                    second: None,
-                },
+                remarks: Remarks::none(),
             })
         }
         Job::Run { .. }
@@ -256,8 +231,9 @@ where
         (job_devices (S1.state first.old) (S2.state second.old) (O.state out.old))
         (job_devices (S1.state first.new) (S2.state second.new) (O.state out.new))
         judge.new.flaw) }
-    ensures gaps { IfOk result (λ end. AreGapsOf job.now
-        (inputs (S1.state first.old).bytes (S2.state second.old).bytes) end.gaps) }
+    ensures remarks { IfOk result (λ end. AreRemarksOf job.now
+        (job_devices (S1.state first.old) (S2.state second.old) (O.state out.old))
+        (job_devices (S1.state first.new) (S2.state second.new) (O.state out.new)) end.remarks) }
     ensures answer { IfOk result (λ end. (is_answer job.now end.exit ≡ true)
         × (may_end job.now end.exit ≡ true)) }
     ensures sound { OnOk result (AllWork

@@ -2,15 +2,16 @@
 
 ghost use Rattle.std.specs.Prelude.{◌≡◌, true, OnOk, IfOk, IfErr};
 ghost use Rattle.bk_frames.specs.Device.{CanBeUsed};
-ghost use Rattle.bk_answer.specs.Gaps.{IsGap};
-ghost use Rattle.bk_jobs.specs.Comparisons.{AgreementIsOut, CompareFailsBy, IfBothGive, agree_text};
+ghost use Rattle.bk_answer.specs.Gaps.{IsGapIn};
+ghost use Rattle.bk_compare.specs.FeedAgreement.{BothGave, sources};
+ghost use Rattle.bk_jobs.specs.Comparisons.{AgreementIsOut, CompareFailsBy, agree_text};
 ghost use Rattle.bk_jobs.specs.Flaws.{IsFlawOfBoth, or_flaw};
-ghost use Rattle.bk_jobs.specs.Sources.{AllWork, inputs, job_devices};
+ghost use Rattle.bk_jobs.specs.Sources.{AllWork, job_devices};
 
 use crate::end::End;
 use crate::judging::Judge;
 use crate::machine::all_workers;
-use bk_cli::{Exit, Gaps, JobFault, ShortLine, put_number, put_text};
+use bk_cli::{Exit, Remarks, JobFault, ShortLine, put_number, put_text};
 use bk_compare::compare_with_gaps;
 use bk_frames::{Sink, Source, push_all};
 use bk_pool::Gate;
@@ -61,9 +62,11 @@ where
         (job_devices (S1.state first.old) (S2.state second.old) (O.state out.old))
         (job_devices (S1.state first.new) (S2.state second.new) (O.state out.new))
         judge.new.flaw) }
-    ensures gaps { IfOk result (λ end. IfBothGive
-        (inputs (S1.state first.old).bytes (S2.state second.old).bytes)
-        (λ bytes more. IsGap bytes end.gaps.first × IsGap more end.gaps.second)) }
+    ensures remarks { IfOk result (λ end. BothGave
+        (sources (S1.state first.old) (S2.state second.old))
+        (sources (S1.state first.new) (S2.state second.new))
+        (λ f g. IsGapIn f end.remarks.first × IsGapIn g end.remarks.second)
+        × (end.remarks.forged ≡ None)) }
     ensures answer { IfOk result (λ end. end.exit ≡ Exit.Whole) }
     ensures sound { OnOk result (AllWork
         (job_devices (S1.state first.old) (S2.state second.old) (O.state out.old))
@@ -79,9 +82,10 @@ where
     match push_all(out, agree_line(compared.agreed).as_slice()) {
         Ok(()) => Ok(End {
             exit: Exit::Whole,
-            gaps: Gaps {
+            remarks: Remarks {
                 first: compared.first,
                 second: compared.second,
+                forged: None,
             },
         }),
         Err(fault) => Err(JobFault::Replay(Fault::from(fault))),

@@ -1,4 +1,4 @@
-use bk_cli::{Exit, Gaps};
+use bk_cli::{Exit, Remarks};
 
 /// How a job ends that has an answer.
 #[derive(Clone, Copy)]
@@ -6,5 +6,5 @@ pub(crate) struct End {
     /// The exit of the program.
     pub(crate) exit: Exit,
     /// At which missing batches the orders of the feeds stop, of a query and of a comparison.
-    pub(crate) gaps: Gaps,
+    pub(crate) remarks: Remarks,
 }

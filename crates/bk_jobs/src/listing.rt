@@ -2,13 +2,14 @@
 
 ghost use Rattle.std.specs.Prelude.{◌≡◌, OnOk, IfOk, IfErr};
 ghost use Rattle.bk_frames.specs.Device.{CanBeUsed, Works};
-ghost use Rattle.bk_results.specs.Devices.{devices};
-ghost use Rattle.bk_listing.specs.Answers.{ListFails};
+ghost use Rattle.bk_results.specs.Devices.{OfGiven, devices};
+ghost use Rattle.bk_listing.specs.Answers.{HasForged, ListFails};
 ghost use Rattle.bk_jobs.specs.Faults.{FramesAreOut};
 ghost use Rattle.bk_jobs.specs.Flaws.{IsFrameFlaw, flaw_by_rejected};
 
+use crate::end::End;
 use crate::judging::Judge;
-use bk_cli::Exit;
+use bk_cli::{Exit, Remarks};
 use bk_frames::{Sink, Source};
 use bk_listing::list_frames;
 use bk_results::{Fault, Flaw};
@@ -24,26 +25,37 @@ fn flaw_of(rejected: u64) -> Option<Flaw>
     Some(Flaw::Rejected { frames: rejected })
 }
 
-/// Writes a line for each frame, and finds whether some are rejected.
+/// Writes a line for each frame, and finds whether some are rejected, and whose tag is wrong of the first that is rejected
+/// for its tags.
 pub(crate) fn list<R: Threads + Sync + AllocGlobal, S: Source, O: Sink>(
     rt: &R,
     judge: &mut Judge,
     source: &mut S,
     out: &mut O,
-) -> Result<Exit, Fault>
+) -> Result<End, Fault>
     requires source { CanBeUsed (S.state source.old) }
     requires out { CanBeUsed (O.state out.old) }
-    ensures frames { IfOk result (λ end. FramesAreOut end
+    ensures frames { IfOk result (λ end. FramesAreOut end.exit
         (devices (S.state source.old) (O.state out.old))
         (devices (S.state source.new) (O.state out.new))) }
     ensures flaw { OnOk result (IsFrameFlaw (S.state source.old) (S.state source.new) judge.new.flaw) }
-    ensures answer { IfOk result (λ end. end ≡ Exit.Whole) }
+    ensures forged { IfOk result (λ end. OfGiven (S.state source.old) (S.state source.new)
+        (HasForged end.remarks.forged)) }
+    ensures one { IfOk result (λ end. (end.remarks.first ≡ None) × (end.remarks.second ≡ None)) }
+    ensures answer { IfOk result (λ end. end.exit ≡ Exit.Whole) }
     ensures sound { OnOk result (Works (S.state source.old) (S.state source.new)
         × Works (O.state out.old) (O.state out.new)) }
     ensures fault { IfErr result (λ e. ListFails e (devices (S.state source.old) (O.state out.old))
         (devices (S.state source.new) (O.state out.new))) }
 {
-    let rejected = list_frames(rt, rt.alloc(), source, out)?;
-    judge.flaw = flaw_of(rejected);
-    Ok(Exit::Whole)
+    let listed = list_frames(rt, rt.alloc(), source, out)?;
+    judge.flaw = flaw_of(listed.rejected);
+    Ok(End {
+        exit: Exit::Whole,
+        remarks: Remarks {
+            first: None,
+            second: None,
+            forged: listed.forged,
+        },
+    })
 }

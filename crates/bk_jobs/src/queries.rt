@@ -1,7 +1,7 @@
 //! Queries of a feed.
 
 ghost use Rattle.std.specs.Prelude.{◌≡◌, ◌≤◌, ℕ, List as AnyList, Option as AnyOption, None, true, Ok, OnOk, IfOk, IfErr};
-ghost use Rattle.bk_frames.specs.Device.{CanBeUsed, Works, IfKnown};
+ghost use Rattle.bk_frames.specs.Device.{CanBeUsed, GaveAll, Works};
 ghost use Rattle.bk_results.specs.Devices.{devices};
 ghost use Rattle.bk_results.specs.declared.query.Reply.{Reply as AnyReply};
 ghost use Rattle.bk_ask.specs.Asking.{can_reply};
@@ -14,7 +14,7 @@ use crate::end::End;
 use crate::judging::Judge;
 use crate::machine::all_workers;
 use bk_ask::{Replied, ask_judged};
-use bk_cli::{Exit, Gaps, JobFault, Workers};
+use bk_cli::{Exit, Remarks, JobFault, Workers};
 use bk_digest::Digest32;
 use bk_frames::{Sink, Source};
 use bk_pool::Gate;
@@ -80,13 +80,13 @@ where
     ensures reply { IfOk result (λ end. ReplyIsOut asked.now end.exit
         (devices (S.state source.old) (O.state out.old))
         (devices (S.state source.new) (O.state out.new))) }
-    ensures gap { IfOk result (λ end. IfKnown (S.state source.old)
-        (λ bytes. IsGap bytes end.gaps.first)) }
+    ensures gap { IfOk result (λ end. GaveAll (S.state source.old) (S.state source.new)
+        (λ bytes. IsGap bytes end.remarks.first)) }
     ensures flaw { judge.old.strict ≡ true → OnOk result
         (IsFlawGiven (S.state source.old) (S.state source.new) judge.new.flaw) }
     ensures absent { judge.old.strict ≡ true → IfErr result (λ e. IsAbsence e
         → IsFlawGiven (S.state source.old) (S.state source.new) judge.new.flaw) }
-    ensures one { IfOk result (λ end. end.gaps.second ≡ None) }
+    ensures one { IfOk result (λ end. (end.remarks.second ≡ None) × (end.remarks.forged ≡ None)) }
     ensures answer { IfOk result (λ end. (answer : AnyReply) × (missing : AnyOption (AnyList ℕ))
         × (can_reply asked.now answer ≡ true) × (Ok end.exit ≡ ending asked.now missing answer)) }
     ensures sound { OnOk result (Works (S.state source.old) (S.state source.new)
@@ -103,9 +103,10 @@ where
     match exit_of(asked, &replied) {
         Ok(exit) => Ok(End {
             exit,
-            gaps: Gaps {
+            remarks: Remarks {
                 first: replied.missing,
                 second: None,
+                forged: None,
             },
         }),
         Err(fault) => Err(fault),

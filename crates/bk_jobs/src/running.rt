@@ -11,12 +11,12 @@ ghost use Rattle.bk_jobs.specs.Faults.{EndsBy, JobFailsBy, AnswerIsOut, AreToBla
 ghost use Rattle.bk_cli.specs.Strictness.{is_judged};
 ghost use Rattle.bk_jobs.specs.Flaws.{IsFlawOf};
 ghost use Rattle.bk_jobs.specs.Openings.{RanSo};
-ghost use Rattle.bk_jobs.specs.Gaps.{AreGapsOf, GapsAreTold};
+ghost use Rattle.bk_jobs.specs.Remarks.{AreRemarksOf, RemarksAreTold};
 ghost use Rattle.bk_jobs.specs.Sources.{AllWork, CanBeUsedAgain, inputs, job_devices};
 
 use crate::answering::answer;
 use crate::judging::Judge;
-use bk_cli::{Exit, Gaps, Job, JobFault, judge, tell, tell_gaps};
+use bk_cli::{Exit, Remarks, Job, JobFault, judge, tell, tell_remarks};
 use bk_frames::{Sink, Source};
 use bk_pool::{Gate, Open};
 use bk_progress::Watcher;
@@ -64,8 +64,10 @@ where
         judge.new.flaw }
     ensures quiet { is_answer job.now result ≡ true → watch.now.verbose ≡ false
         → err.new ≡ err.old }
-    ensures gaps { is_answer job.now result ≡ true → watch.now.verbose ≡ true
-        → GapsAreTold job.now (inputs (S1.state first.old).bytes (S2.state second.old).bytes)
+    ensures remarks { is_answer job.now result ≡ true → watch.now.verbose ≡ true
+        → RemarksAreTold job.now
+        (job_devices (S1.state first.old) (S2.state second.old) (O.state out.old))
+        (job_devices (S1.state first.new) (S2.state second.new) (O.state out.new))
         (E.state err.old) (E.state err.new) }
     ensures fault { is_answer job.now result ≡ false → (e : AnyFault)
         × EndsBy job.now (told watch.now.verbose job.now) e result
@@ -85,7 +87,7 @@ where
     match found {
         Ok(end) => {
             if watch.verbose {
-                tell_gaps(job, &end.gaps, err);
+                tell_remarks(job, &end.remarks, err);
             }
             end.exit
         }

@@ -5,8 +5,8 @@ ghost use Rattle.bk_frames.specs.Device.{CanBeUsed};
 ghost use Rattle.bk_cli.specs.Exits.{is_answer, may_end, reads_second};
 ghost use Rattle.bk_jobs.specs.Faults.{JobFailsBy, AnswerIsOut};
 ghost use Rattle.bk_jobs.specs.Flaws.{IsAbsence, IsFlawOf};
-ghost use Rattle.bk_jobs.specs.Gaps.{AreGapsOf};
-ghost use Rattle.bk_jobs.specs.Sources.{AllWork, inputs, job_devices};
+ghost use Rattle.bk_jobs.specs.Remarks.{AreRemarksOf};
+ghost use Rattle.bk_jobs.specs.Sources.{AllWork, job_devices};
 ghost use Rattle.bk_jobs.specs.private.Groups.{reads_texts};
 
 use crate::chaining::check_links;
@@ -14,7 +14,7 @@ use crate::end::End;
 use crate::judging::Judge;
 use crate::scheduling::schedule;
 use crate::texts::{check, make_feed};
-use bk_cli::{Gaps, Job, JobFault};
+use bk_cli::{Remarks, Job, JobFault};
 use bk_frames::{Sink, Source};
 use std::thread::Threads;
 
@@ -45,8 +45,9 @@ where
         (job_devices (S1.state first.old) (S2.state second.old) (O.state out.old))
         (job_devices (S1.state first.new) (S2.state second.new) (O.state out.new))
         judge.new.flaw) }
-    ensures gaps { IfOk result (λ end. AreGapsOf job.now
-        (inputs (S1.state first.old).bytes (S2.state second.old).bytes) end.gaps) }
+    ensures remarks { IfOk result (λ end. AreRemarksOf job.now
+        (job_devices (S1.state first.old) (S2.state second.old) (O.state out.old))
+        (job_devices (S1.state first.new) (S2.state second.new) (O.state out.new)) end.remarks) }
     ensures answer { IfOk result (λ end. (is_answer job.now end.exit ≡ true)
         × (may_end job.now end.exit ≡ true)) }
     ensures sound { OnOk result (AllWork
@@ -62,40 +63,28 @@ where
             let end = make_feed(rt, first, out)?;
             Ok(End {
                 exit: end,
-                gaps: Gaps {
-                    first: None,
-                    second: None,
-                },
+                remarks: Remarks::none(),
             })
         }
         Job::CheckProof { root, account, .. } => {
             let end = check(rt, root.as_bytes(), *account, first, out)?;
             Ok(End {
                 exit: end,
-                gaps: Gaps {
-                    first: None,
-                    second: None,
-                },
+                remarks: Remarks::none(),
             })
         }
         Job::Schedule { workers, .. } => {
             let end = schedule(rt, *workers, first, second, out)?;
             Ok(End {
                 exit: end,
-                gaps: Gaps {
-                    first: None,
-                    second: None,
-                },
+                remarks: Remarks::none(),
             })
         }
         Job::CheckChain { .. } => {
             let end = check_links(rt, first, out)?;
             Ok(End {
                 exit: end,
-                gaps: Gaps {
-                    first: None,
-                    second: None,
-                },
+                remarks: Remarks::none(),
             })
         }
         Job::Run { .. }

@@ -5,8 +5,8 @@ ghost use Rattle.bk_frames.specs.Device.{CanBeUsed};
 ghost use Rattle.bk_cli.specs.Exits.{is_answer, may_end, reads_second};
 ghost use Rattle.bk_jobs.specs.Faults.{JobFailsBy, AnswerIsOut};
 ghost use Rattle.bk_jobs.specs.Flaws.{IsAbsence, IsFlawOf};
-ghost use Rattle.bk_jobs.specs.Gaps.{AreGapsOf};
-ghost use Rattle.bk_jobs.specs.Sources.{AllWork, inputs, job_devices};
+ghost use Rattle.bk_jobs.specs.Remarks.{AreRemarksOf};
+ghost use Rattle.bk_jobs.specs.Sources.{AllWork, job_devices};
 ghost use Rattle.bk_jobs.specs.private.Groups.{replays_two};
 
 use crate::claiming::check_claim;
@@ -15,7 +15,7 @@ use crate::end::End;
 use crate::following::follow_some;
 use crate::judging::Judge;
 use crate::showing::pick;
-use bk_cli::{Gaps, Job, JobFault};
+use bk_cli::{Remarks, Job, JobFault};
 use bk_frames::{Sink, Source};
 use bk_pool::Gate;
 use std::sync::Wait;
@@ -49,8 +49,9 @@ where
         (job_devices (S1.state first.old) (S2.state second.old) (O.state out.old))
         (job_devices (S1.state first.new) (S2.state second.new) (O.state out.new))
         judge.new.flaw) }
-    ensures gaps { IfOk result (λ end. AreGapsOf job.now
-        (inputs (S1.state first.old).bytes (S2.state second.old).bytes) end.gaps) }
+    ensures remarks { IfOk result (λ end. AreRemarksOf job.now
+        (job_devices (S1.state first.old) (S2.state second.old) (O.state out.old))
+        (job_devices (S1.state first.new) (S2.state second.new) (O.state out.new)) end.remarks) }
     ensures answer { IfOk result (λ end. (is_answer job.now end.exit ≡ true)
         × (may_end job.now end.exit ≡ true)) }
     ensures sound { OnOk result (AllWork
@@ -66,10 +67,7 @@ where
             let end = check_claim(rt, judge, gate, *workers, first, second, out)?;
             Ok(End {
                 exit: end,
-                gaps: Gaps {
-                    first: None,
-                    second: None,
-                },
+                remarks: Remarks::none(),
             })
         }
         Job::Compare { .. } => {
@@ -80,10 +78,7 @@ where
             let end = pick(rt, judge, gate, *shown, *workers, first, second, out)?;
             Ok(End {
                 exit: end,
-                gaps: Gaps {
-                    first: None,
-                    second: None,
-                },
+                remarks: Remarks::none(),
             })
         }
         Job::Follow {
@@ -95,10 +90,7 @@ where
             let end = follow_some(rt, judge, gate, *shown, *workers, first, second, out)?;
             Ok(End {
                 exit: end,
-                gaps: Gaps {
-                    first: None,
-                    second: None,
-                },
+                remarks: Remarks::none(),
             })
         }
         Job::Run { .. }

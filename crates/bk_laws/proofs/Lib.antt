@@ -16,6 +16,7 @@ pub mod Replying
 pub mod Growing
 pub mod Following
 pub mod Comparing
+pub mod Counting
 pub mod Rejecting
 pub mod Scheduling
 pub mod Runnable

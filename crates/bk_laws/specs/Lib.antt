@@ -4,3 +4,4 @@ pub mod Following
 pub mod Hashed
 pub mod Binding
 pub mod Chained
+pub mod Counting

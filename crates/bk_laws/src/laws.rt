@@ -1,5 +1,6 @@
 //! The laws, each the contract of a function that does nothing.
 
+ghost use Rattle.bk_laws.specs.Counting.{RejectsAreCounted};
 ghost use Rattle.bk_laws.specs.Claims.{ExactlyOneVerdict, GoodIsTheReport};
 ghost use Rattle.bk_laws.specs.Following.{ExecutedIsFold, NamesFirstFault, OrderSoFarStays, ReceiptsStay};
 ghost use Rattle.bk_laws.specs.Laws.{AccountsFit, ExactlyOneAnswer, ExactlyOneComparison, ExactlyOneReply, ExactlyOneScheduleAnswer, FaultOrApplyReport, FewPlaces, OrderedIsFinal, ReportIgnoresFrameOrder, ProofsOfFeedsAreGood, RejectedAreBroken, RejectedStay, StopsStay};
@@ -57,6 +58,11 @@ pub fn report_ignores_frame_order()
 /// it breaks, and nothing else.
 pub fn rejected_are_broken()
     ensures { RejectedAreBroken }
+{}
+
+/// As many frames are rejected in the listing of a feed as its report has lines of rejected certificates.
+pub fn rejects_are_counted()
+    ensures { RejectsAreCounted }
 {}
 
 /// A certificate that is rejected of a feed is rejected of every larger one with its setup, by the same rule.

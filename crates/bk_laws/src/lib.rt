@@ -18,5 +18,6 @@ pub use laws::{
     accounts_fit, claims_have_one_verdict, exactly_one_answer, exactly_one_comparison,
     exactly_one_reply, exactly_one_schedule_answer, executed_is_fold, fault_or_apply_report,
     few_places, names_first_fault, order_so_far_stays, ordered_is_final, proofs_of_feeds_are_good,
-    receipts_stay, rejected_are_broken, rejected_stay, report_ignores_frame_order, stops_stay,
+    receipts_stay, rejected_are_broken, rejected_stay, rejects_are_counted,
+    report_ignores_frame_order, stops_stay,
 };

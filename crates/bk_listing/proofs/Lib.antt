@@ -9,3 +9,5 @@ pub mod Refusals
 pub mod Rejected
 pub mod LineTexts
 pub mod ShownSoFar
+pub mod FirstForged
+pub mod Forgeries

@@ -16,7 +16,10 @@ use Rattle.bk_listing.specs.declared.lines.Place.{Place}
 use Rattle.bk_listing.specs.declared.lister.Lister.{Lister}
 use Rattle.bk_listing.specs.Rejects.{AreRejectedBy, IsRejectedCount}
 use Rattle.bk_certcheck.specs.declared.rule.Rule.{Rule}
-use Rattle.bk_listing.specs.private.Shown.{IsRow, PutsLines, IsCommitteeOf, HasListed, OpensBy, GoesOn, is_rejected, row_rules, row_words}
+use Rattle.bk_listing.specs.private.Shown.{IsRow, PutsLines, IsCommitteeOf, HasListed, OpensBy, GoesOn, else_later, is_rejected, row_rules, row_words}
+use Rattle.bk_results.specs.declared.wrong_tag.WrongTag.{WrongTag}
+use Rattle.bk_listing.specs.Forged.{IsFirstForged, IsFirstForgedOf}
+use Rattle.bk_listing.proofs.FirstForged.{first_then, none_of_none}
 use Rattle.bk_listing.proofs.PartsOf.{frames_append}
 use Rattle.bk_listing.proofs.Frames.{zip_push}
 use Rattle.bk_listing.proofs.Rejected.{rejected_then, rows_counted, rows_rejected}
@@ -46,7 +49,7 @@ one_line k i o f words is = (words, [], is, refl, refl)
 long_frame : (f : Frame) → length (frame_text f) ≡ 5 + length f.payload
 long_frame f = omega arith
 
-frames_more : (xs : List (Kind × Vec ℕ)) (i : ℕ) (x : Kind × Vec ℕ) → i < length xs → x ≡ get_or xs i x → frames_in (take (i + 1) xs) ≡ frames_in (take i xs) ++ frame_of x.0 x.1.items ∷ []
+pub frames_more : (xs : List (Kind × Vec ℕ)) (i : ℕ) (x : Kind × Vec ℕ) → i < length xs → x ≡ get_or xs i x → frames_in (take (i + 1) xs) ≡ frames_in (take i xs) ++ frame_of x.0 x.1.items ∷ []
 frames_more xs i x low is =
     ap frames_in (take_more xs i x low) ∙ frames_append (take i xs) (get_or xs i x ∷ []) ∙ ap (λ (y : Kind × Vec ℕ). frames_in (take i xs) ++ frame_of y.0 y.1.items ∷ []) (sym is)
 
@@ -132,8 +135,8 @@ known_one : (k m : CommitteeValue) → Some k ≡ Some m → k ≡ m
 known_one k m e = cc
 
 -- a listing that no committee stands for yet goes on with no frame
-pub goes_on_none : (version : Version) (frames : List Frame) (old new : Lister) (lines : List ℕ) → OpensBy version frames old.committee new.committee → new.committee ≡ None → new.place ≡ old.place → new.rejected ≡ old.rejected → lines ≡ [] → GoesOn version frames old new lines
-goes_on_none version frames old new lines opens none place rejected empty before text h = by_old old.committee refl
+pub goes_on_none : (version : Version) (frames : List Frame) (old new : Lister) (lines : List ℕ) → OpensBy version frames old.committee new.committee → new.committee ≡ None → new.place ≡ old.place → new.rejected ≡ old.rejected → new.forged ≡ old.forged → lines ≡ [] → GoesOn version frames old new lines
+goes_on_none version frames old new lines opens none place rejected forged empty before text h = by_old old.committee refl
   where
     no_frames : (fs : List Frame) → IsCommitteeOf version fs None → fs ≡ []
     no_frames [] e = refl
@@ -152,11 +155,13 @@ goes_on_none version frames old new lines opens none place rejected empty before
           index = rw place h.index;
           offset = rw place h.offset;
           rejected = rw rejected h.rejected;
+          forged = rw forged h.forged;
         }))
 
 -- and else with the lines of the frames
-pub goes_on : (version : Version) (frames : List Frame) (old new : Lister) (k : CommitteeValue) (rows : List Shown) (lines : List ℕ) → OpensBy version frames old.committee new.committee → new.committee ≡ Some k → PutsLines k old.place new.place frames [] lines → AllZip (IsRow k) frames rows → new.rejected ≡ old.rejected + count_by is_rejected rows → GoesOn version frames old new lines
-goes_on version frames old new k rows lines opens known puts zipped counted before text h = by_old old.committee refl before h.listing h.committee h.index h.offset h.rejected
+pub goes_on : (version : Version) (frames : List Frame) (old new : Lister) (k : CommitteeValue) (rows : List Shown) (lines : List ℕ) (found : Option WrongTag) → OpensBy version frames old.committee new.committee → new.committee ≡ Some k → PutsLines k old.place new.place frames [] lines → AllZip (IsRow k) frames rows → new.rejected ≡ old.rejected + count_by is_rejected rows
+    → IsFirstForged k frames found → new.forged ≡ else_later old.forged old.place.index found → GoesOn version frames old new lines
+goes_on version frames old new k rows lines found opens known puts zipped counted first_is forged_is before text h = by_old old.committee refl before h.listing h.committee h.index h.offset h.rejected h.forged
   where
     added : (p : ℕ) (o : ℕ) → old.place.index ≡ p → old.place.offset ≡ o → AreLinesFrom k p o frames lines
     added p o i j = subst (λ (q : ℕ × ℕ × List ℕ). AreLinesFrom k q.0 q.1 frames q.2) (λ t. (i t, j t, sym puts.put t)) puts.lines
@@ -188,13 +193,24 @@ goes_on version frames old new k rows lines opens known puts zipped counted befo
       omega (arith, counted, rows_counted rows, e, length-append rules more_rules),
     )
 
+    first_forged : (fs : List Frame) → IsCommitteeOf version fs (Some k) → IsFirstForged k fs found → old.forged ≡ None → old.place.index ≡ 0 → IsFirstForgedOf version fs new.forged
+    first_forged [] e first none index = absurd cc
+    first_forged (f ∷ fs) e first none index =
+        subst (λ (m : CommitteeValue). IsFirstForged m (f ∷ fs) new.forged) (known_one k (committee_of version f.payload) e)
+        (subst (IsFirstForged k (f ∷ fs)) (sym (forged_is ∙ (λ j. else_later (none j) (index j) found))) (first_then k [] (f ∷ fs) None found (none_of_none k) first))
+
+    later_forged : (b : Frame) (bs : List Frame) → k ≡ committee_of version b.payload → old.place.index ≡ length (b ∷ bs) → IsFirstForgedOf version (b ∷ bs) old.forged → IsFirstForgedOf version ((b ∷ bs) ++ frames) new.forged
+    later_forged b bs same index first =
+        subst (IsFirstForged (committee_of version b.payload) ((b ∷ bs) ++ frames)) (sym (forged_is ∙ ap (λ (n : ℕ). else_later old.forged n found) index))
+        (first_then (committee_of version b.payload) (b ∷ bs) frames old.forged found first (subst (λ (m : CommitteeValue). IsFirstForged m frames found) same first_is))
+
     -- the frames that follow none
     first_frames : (fs : List Frame) → IsCommitteeOf version fs (Some k) → AreLinesFrom k 0 4 fs lines → IsListing version fs lines
     first_frames [] e l = absurd cc
     first_frames (f ∷ fs) e l = subst (λ (m : CommitteeValue). AreLinesFrom m 0 4 (f ∷ fs) lines) (known_one k (committee_of version f.payload) e) l
 
-    by_old : (o : Option CommitteeValue) → o ≡ old.committee → (bs : List Frame) → IsListing version bs text → IsCommitteeOf version bs old.committee → old.place.index ≡ length bs → old.place.offset ≡ 4 + length (flat_map frame_text bs) → IsRejectedCount version bs old.rejected → HasListed version (bs ++ frames) (text ++ lines) new
-    by_old None e [] listing committee index offset rejected =
+    by_old : (o : Option CommitteeValue) → o ≡ old.committee → (bs : List Frame) → IsListing version bs text → IsCommitteeOf version bs old.committee → old.place.index ≡ length bs → old.place.offset ≡ 4 + length (flat_map frame_text bs) → IsRejectedCount version bs old.rejected → IsFirstForgedOf version bs old.forged → HasListed version (bs ++ frames) (text ++ lines) new
+    by_old None e [] listing committee index offset rejected forged =
         let is : IsCommitteeOf version frames (Some k) = subst (IsCommitteeOf version frames) known (subst (λ (w : Option CommitteeValue). OpensBy version frames w new.committee) (sym e) opens) in
         record {
           listing = subst (IsListing version frames) (ap (λ (t : List ℕ). t ++ lines) (sym listing)) (first_frames frames is (added 0 4 index offset));
@@ -202,10 +218,11 @@ goes_on version frames old new k rows lines opens known puts zipped counted befo
           index = index_then [] index;
           offset = offset_then [] offset;
           rejected = first_rejected frames is more_rejected rejected;
+          forged = first_forged frames is first_is forged index;
         }
-    by_old None e (b ∷ bs) listing committee index offset rejected = absurd (let clash = e ∙ committee in cc)
-    by_old (Some m) e [] listing committee index offset rejected = absurd (let clash = e ∙ committee in cc)
-    by_old (Some m) e (b ∷ bs) listing committee index offset rejected =
+    by_old None e (b ∷ bs) listing committee index offset rejected forged = absurd (let clash = e ∙ committee in cc)
+    by_old (Some m) e [] listing committee index offset rejected forged = absurd (let clash = e ∙ committee in cc)
+    by_old (Some m) e (b ∷ bs) listing committee index offset rejected forged =
         let stays : new.committee ≡ Some m = subst (λ (w : Option CommitteeValue). OpensBy version frames w new.committee) (sym e) opens in
         let same : k ≡ committee_of version b.payload = known_one k (committee_of version b.payload) (sym known ∙ stays ∙ e ∙ committee) in
         record {
@@ -215,4 +232,5 @@ goes_on version frames old new k rows lines opens known puts zipped counted befo
           index = index_then (b ∷ bs) index;
           offset = offset_then (b ∷ bs) offset;
           rejected = later_rejected b bs same rejected;
+          forged = later_forged b bs same index forged;
         }

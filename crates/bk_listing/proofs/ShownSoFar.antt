@@ -25,7 +25,7 @@ use Rattle.bk_results.specs.declared.fault.Fault.{Fault}
 use Rattle.bk_results.specs.declared.fault.Fault.TheVariants as fault
 use Rattle.bk_results.specs.Devices.{Devices, IsUntouched, OfGiven}
 use Rattle.bk_listing.specs.Listing.{IsListing}
-use Rattle.bk_listing.specs.Answers.{IsListingTo, no_frames, of_frames, AllIsListed, HasRejected, IsListedTo, FailsOnceAtMost, ListFails}
+use Rattle.bk_listing.specs.Answers.{IsListingTo, no_frames, of_frames, AllIsListed, HasForged, HasRejected, IsListedTo, FailsOnceAtMost, ListFails}
 use Rattle.bk_listing.specs.declared.reader.FrameReader.{FrameReader}
 use Rattle.bk_listing.specs.declared.lister.Lister.{Lister}
 use Rattle.bk_listing.specs.private.Reading.{AreFront, CanBe, HasCut, HasRead}
@@ -211,6 +211,13 @@ pub feed_rejected : (old now later : Devices) (r : FrameReader) (l m : Lister) �
 feed_rejected old now later r l m h w ends whole come =
     let z = ends_as_feed whole (h.taken ++ waiting r) r.cutter come.cuts ends.0 ends.1 in
     record { feed = feed_of z.0 (h.taken ++ waiting r); good = z.2; spelled = z.3; holds = (w.listed z.0 (subst (λ (o : Option Version). CanBe o z.0) (sym (come.version ∙ z.1)) refl)).rejected }
+
+-- and the first that is rejected for its tags is found
+pub feed_forged : (old now later : Devices) (r : FrameReader) (l m : Lister) → (h : HasShown old now r l) → ListsWaiting h.taken h.text r m now.sink later.sink → (r.cutter.kept ≡ []) × (2 ≤ r.cutter.index)
+    → (whole : List ℕ) → HasCut whole h.taken r → HasForged m.forged whole
+feed_forged old now later r l m h w ends whole come =
+    let z = ends_as_feed whole (h.taken ++ waiting r) r.cutter come.cuts ends.0 ends.1 in
+    record { feed = feed_of z.0 (h.taken ++ waiting r); good = z.2; spelled = z.3; holds = (w.listed z.0 (subst (λ (o : Option Version). CanBe o z.0) (sym (come.version ∙ z.1)) refl)).forged }
 
 -- what holds where all bytes came holds of those that the source gave, and of all that it had
 pub of_given : (old now later : Devices) (r : FrameReader) (l : Lister) (P : List ℕ → Type 0) → (h : HasShown old now r l) → later.source ≡ now.source → IfKnown old.source (λ whole. HasCut whole h.taken r)

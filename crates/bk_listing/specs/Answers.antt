@@ -1,5 +1,5 @@
 -- What a call that lists the frames of a source leaves.
-use Rattle.std.specs.Prelude.{◌≡◌, ◌⊎◌, ℕ, ◌<◌, List, [], length, take}
+use Rattle.std.specs.Prelude.{◌≡◌, ◌⊎◌, ℕ, ◌<◌, List, [], length, take, Option}
 use Rattle.bk_frames.specs.Device.{Device, Works, Fails, Receives}
 use Rattle.bk_base.specs.Feed.{FeedValue, IsFeed, spelling}
 use Rattle.bk_frames.specs.FirstFault.{Begins}
@@ -7,7 +7,9 @@ use Rattle.bk_frames.specs.Pulling.{Refuses, Gave}
 use Rattle.bk_results.specs.declared.fault.Fault.{Fault}
 use Rattle.bk_results.specs.declared.fault.Fault.TheVariants as fault
 use Rattle.bk_results.specs.Devices.{AreFeedWith, Devices}
+use Rattle.bk_results.specs.declared.wrong_tag.WrongTag.{WrongTag}
 use Rattle.bk_listing.specs.Listing.{IsListing}
+use Rattle.bk_listing.specs.Forged.{IsFirstForgedOf}
 use Rattle.bk_listing.specs.Rejects.{IsRejectedCount}
 
 -- the listing of the good frames that bytes begin with and that end at this offset; no text at 0, where the magic is not
@@ -26,6 +28,10 @@ AllIsListed old new bytes =
 -- the bytes are a feed, and this many of its frames are rejected
 abbrev pub HasRejected : ℕ → List ℕ → Type 0
 HasRejected rejected bytes = AreFeedWith bytes (λ feed. IsRejectedCount feed.version feed.frames rejected)
+
+-- the bytes are a feed, and this is its first certificate that is rejected for its tags, if any, with whose tag is wrong
+abbrev pub HasForged : Option WrongTag → List ℕ → Type 0
+HasForged found bytes = AreFeedWith bytes (λ feed. IsFirstForgedOf feed.version feed.frames found)
 
 -- of the bytes that came the sink received the listing of the frames before this offset
 abbrev pub IsListedTo : ℕ → Device → Device → List ℕ → Type 0

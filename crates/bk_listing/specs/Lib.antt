@@ -1,4 +1,5 @@
 pub mod Listing
 pub mod Rejects
+pub mod Forged
 pub mod Answers
 pub mod private

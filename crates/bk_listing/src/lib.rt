@@ -6,6 +6,7 @@
 #![tactic(auto)]
 
 mod finding;
+mod forged;
 mod judging;
 mod lines;
 mod lister;
@@ -14,4 +15,4 @@ mod parts;
 mod reader;
 mod rows;
 
-pub use listing::list_frames;
+pub use listing::{Listed, list_frames};

@@ -9,13 +9,14 @@ ghost use Rattle.bk_frames.specs.Writing.{Writes};
 ghost use Rattle.bk_committee.specs.Payload.{committee_of};
 ghost use Rattle.bk_listing.specs.private.Shown.{GoesOn, HasListed, ListsMore, MoreFails, OpensBy, PushFails};
 
+use crate::forged::{first_forged, or_later};
 use crate::judging::all_rows;
 use crate::lines::{Place, put_lines};
 use crate::rows::count_rejected;
 use bk_base::{Kind, Version};
 use bk_committee::Committee;
 use bk_frames::{Sink, push_all};
-use bk_results::Fault;
+use bk_results::{Fault, WrongTag};
 use std::alloc::{AllocError, Global};
 use std::thread::Threads;
 
@@ -29,6 +30,8 @@ pub(crate) struct Lister {
     pub(crate) place: Place,
     /// How many of the frames that were listed are rejected.
     pub(crate) rejected: u64,
+    /// The first of them that is rejected for its tags, and whose tag is wrong.
+    pub(crate) forged: Option<WrongTag>,
     /// How many bytes of text are out.
     written: u64,
 }
@@ -57,6 +60,7 @@ impl Lister {
                 offset: 4,
             },
             rejected: 0,
+            forged: None,
             written: 0,
         }
     }
@@ -67,6 +71,7 @@ impl Lister {
             self.old.committee self.new.committee) }
         ensures place { self.new.place ≡ self.old.place }
         ensures rejected { self.new.rejected ≡ self.old.rejected }
+        ensures forged { self.new.forged ≡ self.old.forged }
         ensures written { self.new.written ≡ self.old.written }
     {
         if self.committee.is_some() {
@@ -100,6 +105,8 @@ impl Lister {
             return Ok(text);
         };
         let rows = all_rows(rt, self.alloc, committee, frames)?;
+        let found = first_forged(committee, frames, &rows);
+        self.forged = or_later(self.forged, self.place.index, found);
         put_lines(&mut text, &mut self.place, committee, frames, &rows)?;
         self.rejected += count_rejected(&rows) as u64;
         Ok(text)
@@ -113,6 +120,7 @@ impl Lister {
         ensures committee { self.new.committee ≡ self.old.committee }
         ensures place { self.new.place ≡ self.old.place }
         ensures rejected { self.new.rejected ≡ self.old.rejected }
+        ensures forged { self.new.forged ≡ self.old.forged }
         ensures fault { IfErr result (λ f. PushFails f self.old.written lines.now
             (K.state sink.old) (K.state sink.new)) }
     {

@@ -7,16 +7,25 @@ ghost use Rattle.bk_frames.specs.Cutting.{frames_in};
 ghost use Rattle.bk_frames.specs.Device.{Device, CanBeUsed, Works};
 ghost use Rattle.bk_base.specs.Feed.{Frame};
 ghost use Rattle.bk_results.specs.Devices.{OfGiven, devices};
-ghost use Rattle.bk_listing.specs.Answers.{AllIsListed, HasRejected, ListFails};
+ghost use Rattle.bk_listing.specs.Answers.{AllIsListed, HasForged, HasRejected, ListFails};
 ghost use Rattle.bk_listing.specs.private.Listed.{CanList, EndsBy, HasShown, IsEmptied, LeavesBy, ListsWaiting, WaitingFails};
 
 use crate::lister::Lister;
 use crate::reader::{FrameReader, Unread};
 use bk_frames::{FeedFault, PIECE, Sink, Source};
-use bk_results::Fault;
+use bk_results::{Fault, WrongTag};
 use std::alloc::Global;
 use std::mem::replace;
 use std::thread::Threads;
+
+/// What is found of the frames of a feed that were listed.
+#[derive(Clone, Copy, Debug, PartialEq, Eq)]
+pub struct Listed {
+    /// How many are certificates that break a rule, with those whose bytes are no certificate.
+    pub rejected: u64,
+    /// The first certificate that is rejected for its tags, and its first signer whose tag is wrong.
+    pub forged: Option<WrongTag>,
+}
 
 // How many bytes wait before their frames are listed: enough to share among processors.
 const ENOUGH: u64 = 1 << 22;
@@ -95,8 +104,9 @@ fn list_last<R: Threads + Sync, K: Sink>(
     Ok(())
 }
 
-// Whether so many bytes that wait are listed after a pull of so many with so much room: many wait, or there was no more to
-// pull, and what is there is listed before more is waited for.
+// Whether the frames that wait are listed now. `waiting` is how many bytes they have, `count` how many the last pull gave,
+// and `room` how many it could have given. They are where many bytes wait, or where the source had no more to give, so
+// that a reader of a pipe sees each frame before the next one comes.
 fn is_due(waiting: u64, count: usize, room: usize) -> bool {
     ENOUGH <= waiting || count < room
 }
@@ -121,6 +131,8 @@ fn list_all<R: Threads + Sync, S: Source, K: Sink>(
         (AllIsListed (K.state sink.old) (K.state sink.new))) }
     ensures rejected { OnOk result (OfGiven (S.state source.old) (S.state source.new)
         (HasRejected lister.new.rejected)) }
+    ensures forged { OnOk result (OfGiven (S.state source.old) (S.state source.new)
+        (HasForged lister.new.forged)) }
     ensures sound { OnOk result (Works (S.state source.old) (S.state source.new)
         × Works (K.state sink.old) (K.state sink.new)) }
     ensures fault { IfErr result (λ f. ListFails f
@@ -146,10 +158,11 @@ fn list_all<R: Threads + Sync, S: Source, K: Sink>(
 }
 
 /// Writes a line for each whole frame of a feed that comes before any fault, in the order of the feed; where a pull gives
-/// less than there is room for, before more is waited for. Certificates are
-/// judged by the local rules of the feed's version, on all processors. Memory is that of one group of frames.
+/// less than there is room for, before more is waited for. Certificates are judged by the local rules of the feed's
+/// version, on all processors. Memory is that of one group of frames.
 ///
-/// Returns how many of the frames are certificates that break a rule, with those whose bytes are no certificate.
+/// Returns how many of the frames are certificates that break a rule, with those whose bytes are no certificate; and of
+/// the first one that is rejected for its tags, whose tag is wrong.
 ///
 /// Where the feed has a fault, the lines of the whole frames before it are out. Where the sink fails, exactly the first
 /// `written` bytes of such lines are.
@@ -158,12 +171,15 @@ pub fn list_frames<R: Threads + Sync, S: Source, K: Sink>(
     alloc: Global,
     source: &mut S,
     sink: &mut K,
-) -> Result<u64, Fault>
+) -> Result<Listed, Fault>
     requires source { CanBeUsed (S.state source.old) }
     requires sink { CanBeUsed (K.state sink.old) }
     ensures listed { OnOk result (OfGiven (S.state source.old) (S.state source.new)
         (AllIsListed (K.state sink.old) (K.state sink.new))) }
-    ensures rejected { IfOk result (λ n. OfGiven (S.state source.old) (S.state source.new) (HasRejected n)) }
+    ensures rejected { IfOk result (λ l. OfGiven (S.state source.old) (S.state source.new)
+        (HasRejected l.rejected)) }
+    ensures forged { IfOk result (λ l. OfGiven (S.state source.old) (S.state source.new)
+        (HasForged l.forged)) }
     ensures sound { OnOk result (Works (S.state source.old) (S.state source.new)
         × Works (K.state sink.old) (K.state sink.new)) }
     ensures fault { IfErr result (λ f. ListFails f
@@ -182,5 +198,8 @@ pub fn list_frames<R: Threads + Sync, S: Source, K: Sink>(
         &mut reader,
         &mut lister,
     )?;
-    Ok(lister.rejected)
+    Ok(Listed {
+        rejected: lister.rejected,
+        forged: lister.forged,
+    })
 }

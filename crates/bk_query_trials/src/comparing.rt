@@ -11,7 +11,7 @@ use anyhow::Result;
 use bk_digest::Digest32;
 use bk_frames::{Counted, FaultCode};
 use bk_pool::Open;
-use bk_replay::{Agreed, CompareStop, Compared, Differ, Fault, compare_with_gaps};
+use bk_replay::{Agreed, CompareStop, Compared, Differ, Fault, SetupPart, compare_with_gaps};
 use std::sync::Wait;
 use std::thread::Threads;
 
@@ -254,14 +254,19 @@ fn differ_of(fault: Fault) -> Differ {
     }
 }
 
-const SETUPS: [&str; 3] = [OTHER_MONEY, OTHER_MEMBERS, OTHER_VERSION];
+const SETUPS: [(&str, SetupPart); 3] = [
+    (OTHER_MONEY, SetupPart::Accounts),
+    (OTHER_MEMBERS, SetupPart::Committee),
+    (OTHER_VERSION, SetupPart::Version),
+];
 
-fn try_setups<R>(rt: &R, others: &[&str], tally: &mut Tally) -> Result<()>
+fn try_setups<R>(rt: &R, others: &[(&str, SetupPart)], tally: &mut Tally) -> Result<()>
 where
     R: AllocGlobal + Eprint + Threads + Wait + Sync,
 {
     for other in others {
-        let is_right = differs(rt, NOTHING, other, &Differ::Setup)?;
+        let differ = Differ::Setup { part: other.1 };
+        let is_right = differs(rt, NOTHING, other.0, &differ)?;
         tally.note(rt, "feeds of another setup", is_right);
     }
     Ok(())

@@ -10,5 +10,5 @@ pub use bk_ask::{Replied, ask};
 pub use bk_compare::{Compared, Nowhere, compare, compare_with_gaps};
 pub use bk_follow::{Follower, Order, replay};
 pub use bk_report::{Line, MOST_PROOF, Proof, check_proof, made_proofs_are_good};
-pub use bk_results::{Agreed, CompareStop, Differ, Fault, Flaw, Query, Reply, Status};
+pub use bk_results::{Agreed, CompareStop, Differ, Fault, Flaw, Query, Reply, SetupPart, Status};
 pub use laws::{one_answer, run_keeps_money};

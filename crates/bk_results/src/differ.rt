@@ -16,12 +16,27 @@ pub struct Agreed {
     pub places: usize,
 }
 
+/// In what the setups of two feeds differ: the first of these that is so.
+#[derive(Clone, Copy, Debug, PartialEq, Eq)]
+pub enum SetupPart {
+    /// Not both have their committee and their genesis.
+    Absent,
+    /// Their versions are not the same.
+    Version,
+    /// Their committees are not: the number of members, a key or a weight.
+    Committee,
+    /// Their opening accounts are not.
+    Accounts,
+}
+
 /// Why two feeds do not agree. The text of each is the line that the program prints.
 #[derive(Clone, Copy, Debug, PartialEq, Eq, Error)]
 pub enum Differ {
     /// Not both have a genesis, or their versions, committees or opening accounts differ.
     #[error("differ setup")]
-    Setup,
+    Setup {
+        part: SetupPart,
+    },
     /// The least id of two different headers or digest of two different payloads, over both together.
     #[error("collision {id}")]
     Collision {

@@ -11,12 +11,14 @@ mod flaw;
 mod query;
 mod script_fault;
 mod status;
+mod wrong_tag;
 
 pub use compare_stop::CompareStop;
-pub use differ::{Agreed, Differ};
+pub use differ::{Agreed, Differ, SetupPart};
 pub use events_fault::EventsFault;
 pub use fault::Fault;
 pub use flaw::Flaw;
 pub use query::{Query, Reply};
 pub use script_fault::{ScriptCode, ScriptFault};
 pub use status::Status;
+pub use wrong_tag::WrongTag;

@@ -1,6 +1,7 @@
 pub mod RowTexts
 pub mod Lists
 pub mod Places
+pub mod NamedRows
 pub mod Names
 pub mod BatchRows
 pub mod Done

@@ -29,7 +29,7 @@ asked_place at item (a ∷ asked) row h = ⊎_elim
     (λ (later : Contains (rows_of at (item + 1) asked) row). asked_place at (item + 1) asked row later)
     (contains_cases (row_of at item a) (rows_of at (item + 1) asked) row h)
 
-row_place : (at : At) (t : Option Transaction) (row : PaymentRow) → Contains (rows_at at t) row → row.place ≡ at.place
+pub row_place : (at : At) (t : Option Transaction) (row : PaymentRow) → Contains (rows_at at t) row → row.place ≡ at.place
 row_place at None row h = ⊎_elim
     (λ (e : _ ≡ row). ap (λ (r : PaymentRow). r.place) (sym e))
     (λ (later : Contains [] row). absurd (none_in_nil row later))
@@ -37,7 +37,7 @@ row_place at None row h = ⊎_elim
 row_place at (Some t) row h = asked_place at 0 (asked_of t) row h
 
 module _ (receipts : List Receipt) where
-  in_batch : (batch place : ℕ) (txs : List (Option Transaction)) (row : PaymentRow) → Contains (rows_in receipts batch place txs) row → (place ≤ row.place) × (row.place < place + length txs)
+  pub in_batch : (batch place : ℕ) (txs : List (Option Transaction)) (row : PaymentRow) → Contains (rows_in receipts batch place txs) row → (place ≤ row.place) × (row.place < place + length txs)
   in_batch batch place [] row h = absurd (none_in_nil row h)
   in_batch batch place (t ∷ txs) row h = ⊎_elim
       (λ (here : Contains (rows_at (at_with place batch (receipt_at receipts place)) t) row).

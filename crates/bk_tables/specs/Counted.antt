@@ -51,3 +51,16 @@ RowsCountOnce = (v : Version) (opening : List Row) (payloads : List (List ℕ)) 
     → IsLedger opening
     → let rows = rows_from (receipts_of v (transactions_of payloads) opening) 0 0 payloads in
     IsCountedRow rows from seq one → IsCountedRow rows from seq other → one.place ≡ other.place
+
+-- place and item name one row of a table
+abbrev pub RowsNamedByPlace : Type 0
+RowsNamedByPlace = (receipts : List Receipt) (payloads : List (List ℕ)) (one other : PaymentRow)
+    → let rows = rows_from receipts 0 0 payloads in
+    Contains rows one → Contains rows other → one.place ≡ other.place → one.item ≡ other.item → one ≡ other
+
+-- and sender, sequence number and item name one of the rows that count
+abbrev pub RowsNamedOnce : Type 0
+RowsNamedOnce = (v : Version) (opening : List Row) (payloads : List (List ℕ)) (from seq : ℕ) (one other : PaymentRow)
+    → IsLedger opening
+    → let rows = rows_from (receipts_of v (transactions_of payloads) opening) 0 0 payloads in
+    IsCountedRow rows from seq one → IsCountedRow rows from seq other → one.item ≡ other.item → one ≡ other

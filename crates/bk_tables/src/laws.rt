@@ -1,6 +1,6 @@
 //! Laws of the definitions, each the contract of a function that does nothing.
 
-ghost use Rattle.bk_tables.specs.Counted.{CountsOnce, RowsCountOnce};
+ghost use Rattle.bk_tables.specs.Counted.{CountsOnce, RowsCountOnce, RowsNamedByPlace, RowsNamedOnce};
 ghost use Rattle.bk_tables.specs.Laws.{ListPicksPostings, ListPicksRows, OutIsAllIn, PaidAddsUp, PayloadsHoldTransactions, PlacesAreRows, PostingsAreEntries, RowsAreBatchLines, RowsHaveStatus};
 ghost use Rattle.bk_tables.specs.TextLaws.{BatchesReadBack, OneBatchTable, OnePaymentTable, OnePostingTable, PaymentsReadBack, PostingsReadBack};
 
@@ -27,10 +27,13 @@ pub fn places_are_rows()
 
 /// Of the places with one `from` and `seq` at most one has status 0, 5 or 6, in a feed and in a chain
 /// of feeds. So the rows of `transactions` with such a status and one `from` and `seq` are of one
-/// place.
+/// place, and `from`, `seq` and `item` name one of them, as `place` and `item` name one of all rows
+/// of a feed.
 pub fn counts_once()
     ensures places { CountsOnce }
     ensures rows { RowsCountOnce }
+    ensures named { RowsNamedByPlace }
+    ensures once { RowsNamedOnce }
 {}
 
 /// The rows of `transactions` with a list are those without it that name an account of the list.

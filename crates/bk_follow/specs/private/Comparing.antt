@@ -1,11 +1,13 @@
 -- What comparing two books finds.
-use Rattle.std.specs.Prelude.{◌≡◌, ◌≤◌, ◌⊎◌, ℕ, false, List, ◌++◌, length}
+use Rattle.std.specs.Prelude.{◌≡◌, ◌≢◌, ◌≤◌, ◌⊎◌, ℕ, false, List, ◌++◌, length}
 use Rattle.bk_base.specs.Feed.{Frame}
 use Rattle.bk_order.specs.Intake.{HasAsOrder, HasTaken}
 use Rattle.bk_order.specs.Stops.{HasNoStop, IsStop}
 use Rattle.bk_order.specs.declared.stop.Stop.{Stop}
 use Rattle.bk_order.specs.declared.stop.Stop.TheVariants as stop
 use Rattle.bk_results.specs.declared.differ.Agreed.{Agreed}
+use Rattle.bk_results.specs.declared.differ.SetupPart.{SetupPart}
+use Rattle.bk_results.specs.declared.differ.SetupPart.TheVariants as part
 use Rattle.bk_results.specs.declared.differ.Differ.{Differ}
 use Rattle.bk_results.specs.declared.differ.Differ.TheVariants as differ
 use Rattle.bk_follow.specs.Follower.{BookValue, receipts_of_executed}
@@ -45,9 +47,17 @@ pub record BooksAgree (b c : BookValue) (a : Agreed) : Type 0 where
   pub certs : IsLesser a.certs first second
   pub places : IsLesser a.places (length (receipts_of_executed b.executed)) (length (receipts_of_executed c.executed))
 
+-- the first part in which their setups differ
+abbrev pub BooksUnlike : BookValue → BookValue → SetupPart → Type 0
+BooksUnlike b c part.Absent = ⊥
+BooksUnlike b c part.Version = b.taken.committee.version ≢ c.taken.committee.version
+BooksUnlike b c part.Committee =
+    (b.taken.committee.version ≡ c.taken.committee.version) × (b.taken.committee ≢ c.taken.committee)
+BooksUnlike b c part.Accounts = (b.taken.committee ≡ c.taken.committee) × (b.opening ≢ c.opening)
+
 -- why they differ
 abbrev pub BooksDiffer : BookValue → BookValue → Differ → Type 0
-BooksDiffer b c differ.Setup = HaveSameSetup b c → ⊥
+BooksDiffer b c (differ.Setup part) = BooksUnlike b c part
 BooksDiffer b c (differ.Collision id) =
     HaveSameSetup b c × OfTaken b c (λ fs. IsStop b.taken.committee fs (stop.Collision id))
 BooksDiffer b c (differ.Twins round author first second) =

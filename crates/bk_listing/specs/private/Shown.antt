@@ -12,7 +12,9 @@ use Rattle.bk_committee.specs.Payload.{CommitteeValue, committee_of}
 use Rattle.bk_certcheck.specs.declared.rule.Rule.{Rule}
 use Rattle.bk_certcheck.specs.declared.rule.Rule.TheVariants as rule
 use Rattle.bk_listing.specs.Listing.{AreWords, AreLinesFrom, IsListing, committee_words, genesis_words, cert_words, rule_words, batch_words}
+use Rattle.bk_listing.specs.Forged.{IsFirstForgedOf}
 use Rattle.bk_listing.specs.Rejects.{IsRejectedBy, IsRejectedCount}
+use Rattle.bk_results.specs.declared.wrong_tag.WrongTag.{WrongTag}
 use Rattle.bk_listing.specs.declared.rows.Shown.{Shown}
 use Rattle.bk_listing.specs.declared.rows.Shown.TheVariants as shown
 use Rattle.bk_listing.specs.declared.lines.Place.{Place}
@@ -48,6 +50,17 @@ is_rejected (shown.Broken row r) = true
 is_rejected (shown.Batch digest count) = false
 is_rejected (shown.Void digest) = false
 
+-- the frame of a row is a certificate that is rejected for its tags
+abbrev pub is_forged : Shown → Bool
+is_forged (shown.Broken row rule.Tag) = true
+is_forged other = false
+
+-- what was found of earlier frames, else what was found of those after so many
+abbrev pub else_later : Option WrongTag → ℕ → Option WrongTag → Option WrongTag
+else_later (Some first) count found = Some first
+else_later None count None = None
+else_later None count (Some found) = Some (record { frame = count + found.frame; signer = found.signer })
+
 -- a row has the words of the frame, and the rule by which it is rejected
 abbrev pub IsRow : CommitteeValue → Frame → Shown → Type 0
 IsRow k f row =
@@ -77,6 +90,7 @@ pub record HasListed (version : Version) (frames : List Frame) (text : List ℕ)
   pub index : l.place.index ≡ length frames
   pub offset : l.place.offset ≡ 4 + length (flat_map frame_text frames)
   pub rejected : IsRejectedCount version frames l.rejected
+  pub forged : IsFirstForgedOf version frames l.forged
 
 -- a committee is that of the first of these frames where none was known, and else stays
 abbrev pub OpensBy : Version → List Frame → Option CommitteeValue → Option CommitteeValue → Type 0

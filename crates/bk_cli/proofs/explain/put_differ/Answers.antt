@@ -6,8 +6,8 @@ use Rattle.bk_cli.proofs.explain.put_differ.Goals as goal
 
 pub returns-in-Collision-clause-items : goal.returns-in-Collision-clause-items
 returns-in-Collision-clause-items c =
-    in_two c.args.line.now.items c.put_text-in-Collision.new.line.items c.put_collision.new.line.items
-    (codes "with the first feed, ") (collision_words c.in-Collision.id) c.put_text-in-Collision.ensures.items c.put_collision.ensures.items
+    in_two c.args.line.now.items c.put_text.new.line.items c.put_collision.new.line.items
+    (codes "with the first feed, ") (collision_words c.in-Collision.id) c.put_text.ensures.items c.put_collision.ensures.items
     ∙ ap (λ e. c.args.line.now.items ++ differ_words e) (sym c.in-Collision.is)
 
 pub returns-in-Twins-clause-items : goal.returns-in-Twins-clause-items

@@ -12,28 +12,28 @@ returns-in_ok-end-in-Summary-clause-answer g c = rw c.in-Summary.is (summary_ans
 pub returns-in_ok-end-in-Ask-clause-answer : goal.returns-in_ok-end-in-Ask-clause-answer
 returns-in_ok-end-in-Ask-clause-answer g c = rw c.in-Ask.is (query_ends c.in-Ask.workers c.in-Ask.asked c.in-Ask.file _ c.in_ok-end-in-Ask.ensures.answer)
 
-pub returns-in_ok-end-in-Run-clause-gaps : goal.returns-in_ok-end-in-Run-clause-gaps
-returns-in_ok-end-in-Run-clause-gaps g c = rw c.in-Run.is refl
+pub returns-in_ok-end-in-Run-clause-remarks : goal.returns-in_ok-end-in-Run-clause-remarks
+returns-in_ok-end-in-Run-clause-remarks g c = rw c.in-Run.is refl
 
-pub returns-in_ok-end-in-Summary-clause-gaps : goal.returns-in_ok-end-in-Summary-clause-gaps
-returns-in_ok-end-in-Summary-clause-gaps g c = rw c.in-Summary.is refl
+pub returns-in_ok-end-in-Summary-clause-remarks : goal.returns-in_ok-end-in-Summary-clause-remarks
+returns-in_ok-end-in-Summary-clause-remarks g c = rw c.in-Summary.is refl
 
-pub returns-in_ok-end-in-Ask-clause-gaps : goal.returns-in_ok-end-in-Ask-clause-gaps
-returns-in_ok-end-in-Ask-clause-gaps g c = rw c.in-Ask.is (c.in_ok-end-in-Ask.ensures.gap, c.in_ok-end-in-Ask.ensures.one)
+pub returns-in_ok-end-in-Ask-clause-remarks : goal.returns-in_ok-end-in-Ask-clause-remarks
+returns-in_ok-end-in-Ask-clause-remarks g c = rw c.in-Ask.is (c.in_ok-end-in-Ask.ensures.gap, c.in_ok-end-in-Ask.ensures.one.0, c.in_ok-end-in-Ask.ensures.one.1)
 
 pub returns-in_ok-end-in-Show-clause-answer : goal.returns-in_ok-end-in-Show-clause-answer
 returns-in_ok-end-in-Show-clause-answer g c = rw c.in-Show.is (show_answers c.in-Show.workers c.in-Show.shown c.in-Show.file _ c.in_ok-end-in-Show.ensures.answer)
 
-pub returns-in_ok-end-in-Show-clause-gaps : goal.returns-in_ok-end-in-Show-clause-gaps
-returns-in_ok-end-in-Show-clause-gaps g c = rw c.in-Show.is refl
+pub returns-in_ok-end-in-Show-clause-remarks : goal.returns-in_ok-end-in-Show-clause-remarks
+returns-in_ok-end-in-Show-clause-remarks g c = rw c.in-Show.is refl
 
 pub returns-in_ok-end-in-Follow-default-default-None-default-default-clause-answer : goal.returns-in_ok-end-in-Follow-default-default-None-default-default-clause-answer
 returns-in_ok-end-in-Follow-default-default-None-default-default-clause-answer g c =
     rw c.in-Follow-default-default-None-default-default.is (follow_answers c.in-Follow-default-default-None-default-default.workers c.in-Follow-default-default-None-default-default.shown c.in-Follow-default-default-None-default-default.accounts c.in-Follow-default-default-None-default-default.wait c.in-Follow-default-default-None-default-default.file _
     c.in_ok-end-in-Follow-default-default-None-default-default.ensures.answer)
 
-pub returns-in_ok-end-in-Follow-default-default-None-default-default-clause-gaps : goal.returns-in_ok-end-in-Follow-default-default-None-default-default-clause-gaps
-returns-in_ok-end-in-Follow-default-default-None-default-default-clause-gaps g c = rw c.in-Follow-default-default-None-default-default.is refl
+pub returns-in_ok-end-in-Follow-default-default-None-default-default-clause-remarks : goal.returns-in_ok-end-in-Follow-default-default-None-default-default-clause-remarks
+returns-in_ok-end-in-Follow-default-default-None-default-default-clause-remarks g c = rw c.in-Follow-default-default-None-default-default.is refl
 
 pub returns-in_ok-end-in-Run-clause-flaw : goal.returns-in_ok-end-in-Run-clause-flaw
 returns-in_ok-end-in-Run-clause-flaw g c = λ asked. rw c.in-Run.is (c.in_ok-end-in-Run.ensures.flaw asked)

@@ -1,8 +1,9 @@
 -- Of a line that is out whole, and of one that is not: the feeds agree.
 use Rattle.std.proofs.Common.{◌∙◌, refl, subst, Bool, true}
 use Rattle.bk_answer.specs.Flaws.{IsFlawIn}
+use Rattle.bk_answer.specs.Gaps.{IsGapIn}
 use Rattle.bk_compare.specs.FeedAgreement.{BothGave, FeedsCompared, sources}
-use Rattle.bk_compare.proofs.FeedEnds.{agree_too, both_so, gaps_too}
+use Rattle.bk_compare.proofs.FeedEnds.{agree_too, both_so}
 use Rattle.bk_jobs.proofs.comparing.compare_feeds.Goals as goal
 
 pub returns-in-Ok-clause-agree : goal.returns-in-Ok-clause-agree
@@ -16,11 +17,12 @@ returns-in-Ok-clause-agree g c =
       gave = rw (c.as_slice.ensures.value ∙ c.agree_line.ensures) at c.in-Ok.ensures.ok.1;
     }
 
-pub returns-in-Ok-clause-gaps : goal.returns-in-Ok-clause-gaps
-returns-in-Ok-clause-gaps g c =
+pub returns-in-Ok-clause-remarks : goal.returns-in-Ok-clause-remarks
+returns-in-Ok-clause-remarks g c =
     let old = sources (g.S1.Source.state c.args.first.now) (g.S2.Source.state c.args.second.now) in
     let new = sources (g.S1.Source.state c.compare_with_gaps.new.first) (g.S2.Source.state c.compare_with_gaps.new.second) in
-    gaps_too c.args.judge.now.strict old new c.in_ok-compared.compared c.in_ok-compared.ensures.agree
+    let compared = c.in_ok-compared.compared in
+    (both_so old new (λ f g. FeedsCompared c.args.judge.now.strict f g compared) (λ f g. IsGapIn f compared.first × IsGapIn g compared.second) (λ f g x. (x.first, x.second)) c.in_ok-compared.ensures.agree, refl)
 
 pub returns-in-Ok-clause-flaw : goal.returns-in-Ok-clause-flaw
 returns-in-Ok-clause-flaw g c = λ asked.

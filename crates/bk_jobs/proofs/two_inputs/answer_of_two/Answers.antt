@@ -11,25 +11,25 @@ returns-in_ok-end-in-CheckReport-clause-answer g c =
     let (v, e) = c.in_ok-end-in-CheckReport.ensures.answer in
     rw c.in-CheckReport.is (claim_answers c.in-CheckReport.workers c.in-CheckReport.report c.in-CheckReport.file v _ e)
 
-pub returns-in_ok-end-in-CheckReport-clause-gaps : goal.returns-in_ok-end-in-CheckReport-clause-gaps
-returns-in_ok-end-in-CheckReport-clause-gaps g c = rw c.in-CheckReport.is refl
+pub returns-in_ok-end-in-CheckReport-clause-remarks : goal.returns-in_ok-end-in-CheckReport-clause-remarks
+returns-in_ok-end-in-CheckReport-clause-remarks g c = rw c.in-CheckReport.is refl
 
-pub returns-in_ok-end-in-Compare-clause-gaps : goal.returns-in_ok-end-in-Compare-clause-gaps
-returns-in_ok-end-in-Compare-clause-gaps g c = rw c.in-Compare.is c.in_ok-end-in-Compare.ensures.gaps
+pub returns-in_ok-end-in-Compare-clause-remarks : goal.returns-in_ok-end-in-Compare-clause-remarks
+returns-in_ok-end-in-Compare-clause-remarks g c = rw c.in-Compare.is c.in_ok-end-in-Compare.ensures.remarks
 
 pub returns-in_ok-end-in-Pick-clause-answer : goal.returns-in_ok-end-in-Pick-clause-answer
 returns-in_ok-end-in-Pick-clause-answer g c = rw c.in-Pick.is (pick_answers c.in-Pick.workers c.in-Pick.shown c.in-Pick.accounts c.in-Pick.file _ c.in_ok-end-in-Pick.ensures.answer)
 
-pub returns-in_ok-end-in-Pick-clause-gaps : goal.returns-in_ok-end-in-Pick-clause-gaps
-returns-in_ok-end-in-Pick-clause-gaps g c = rw c.in-Pick.is refl
+pub returns-in_ok-end-in-Pick-clause-remarks : goal.returns-in_ok-end-in-Pick-clause-remarks
+returns-in_ok-end-in-Pick-clause-remarks g c = rw c.in-Pick.is refl
 
 pub returns-in_ok-end-in-Follow-default-default-Some-default-default-clause-answer : goal.returns-in_ok-end-in-Follow-default-default-Some-default-default-clause-answer
 returns-in_ok-end-in-Follow-default-default-Some-default-default-clause-answer g c =
     rw c.in-Follow-default-default-Some-default-default.is (follow_answers c.in-Follow-default-default-Some-default-default.workers c.in-Follow-default-default-Some-default-default.shown c.in-Follow-default-default-Some-default-default.accounts c.in-Follow-default-default-Some-default-default.wait c.in-Follow-default-default-Some-default-default.file _
     c.in_ok-end-in-Follow-default-default-Some-default-default.ensures.answer)
 
-pub returns-in_ok-end-in-Follow-default-default-Some-default-default-clause-gaps : goal.returns-in_ok-end-in-Follow-default-default-Some-default-default-clause-gaps
-returns-in_ok-end-in-Follow-default-default-Some-default-default-clause-gaps g c = rw c.in-Follow-default-default-Some-default-default.is refl
+pub returns-in_ok-end-in-Follow-default-default-Some-default-default-clause-remarks : goal.returns-in_ok-end-in-Follow-default-default-Some-default-default-clause-remarks
+returns-in_ok-end-in-Follow-default-default-Some-default-default-clause-remarks g c = rw c.in-Follow-default-default-Some-default-default.is refl
 
 pub returns-in_ok-end-in-CheckReport-clause-flaw : goal.returns-in_ok-end-in-CheckReport-clause-flaw
 returns-in_ok-end-in-CheckReport-clause-flaw g c = λ asked. rw c.in-CheckReport.is (c.in_ok-end-in-CheckReport.ensures.flaw asked)

@@ -1,10 +1,10 @@
 use Rattle.std.proofs.Common.{refl, ◌∙◌, subst, arith}
 use Rattle.std.proofs.lemmas.Result.{err_from_is_err_and}
 use Rattle.bk_results.specs.Devices.{devices}
-use Rattle.bk_listing.specs.Answers.{AllIsListed, HasRejected}
+use Rattle.bk_listing.specs.Answers.{AllIsListed, HasForged, HasRejected}
 use Rattle.bk_listing.specs.declared.reader.Unread.{Unread}
 use Rattle.bk_listing.specs.private.Reading.{ReadFails}
-use Rattle.bk_listing.proofs.ShownSoFar.{before_fault, can_list, can_list_front, end_fault, err_on, feed_listed, feed_rejected, list_on, memory_fault, midst_fault, of_given, ok_two, read_on}
+use Rattle.bk_listing.proofs.ShownSoFar.{before_fault, can_list, can_list_front, end_fault, err_on, feed_forged, feed_listed, feed_rejected, list_on, memory_fault, midst_fault, of_given, ok_two, read_on}
 use Rattle.bk_listing.proofs.listing.list_all.Goals as goal
 
 pub returns-in-Err-Memory-clause-fault : goal.returns-in-Err-Memory-clause-fault
@@ -68,6 +68,21 @@ returns-then-count-eq0-clause-rejected g c =
     ok_two c.list_last.result _ _ _ c.list_last.ensures.listed c.list_last.ensures.whole (λ listed whole.
     of_given old read later c.pull.new.self c.pieces.lister (HasRejected c.list_last.new.lister.rejected) shown refl all
     (λ bytes come. feed_rejected old read later c.pull.new.self c.pieces.lister c.list_last.new.lister shown (listed h.taken h.text can) whole bytes come))
+
+pub returns-then-count-eq0-clause-forged : goal.returns-then-count-eq0-clause-forged
+returns-then-count-eq0-clause-forged g c =
+    let old = devices (g.S.Source.state c.args.source.now) (g.K.Sink.state c.args.sink.now) in
+    let now = devices (g.S.Source.state c.pieces.source) (g.K.Sink.state c.pieces.sink) in
+    let read = devices (g.S.Source.state c.pull.new.source) (g.K.Sink.state c.pieces.sink) in
+    let h = c.pieces.invariant.shown in
+    let r = c.in-Ok.ensures.come (g.S.Source.state c.args.source.now) h.taken h.come in
+    let all = c.in-Ok.ensures.all c.if-count-eq0.true (g.S.Source.state c.args.source.now) h.taken h.come in
+    let shown = read_on old now read c.pieces.reader c.pull.new.self c.pieces.lister h r c.pull.ensures.version refl in
+    let later = devices (g.S.Source.state c.pull.new.source) (g.K.Sink.state c.list_last.new.sink) in
+    let can = can_list r.bytes h.taken h.text c.pull.new.self c.pieces.lister r.come (λ v can. h.listed v (c.pull.ensures.version v can)) h.written in
+    ok_two c.list_last.result _ _ _ c.list_last.ensures.listed c.list_last.ensures.whole (λ listed whole.
+    of_given old read later c.pull.new.self c.pieces.lister (HasForged c.list_last.new.lister.forged) shown refl all
+    (λ bytes come. feed_forged old read later c.pull.new.self c.pieces.lister c.list_last.new.lister shown (listed h.taken h.text can) whole bytes come))
 
 pub returns-then-count-eq0-clause-sound : goal.returns-then-count-eq0-clause-sound
 returns-then-count-eq0-clause-sound g c =

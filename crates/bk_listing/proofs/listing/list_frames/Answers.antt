@@ -18,3 +18,6 @@ list_all-requires-clause-first g c = λ lives within.
 
 pub returns-clause-rejected : goal.returns-clause-rejected
 returns-clause-rejected g c = c.in_ok-list_all.ensures.rejected
+
+pub returns-clause-forged : goal.returns-clause-forged
+returns-clause-forged g c = c.in_ok-list_all.ensures.forged

@@ -1,0 +1,103 @@
+//! The lines on standard error that report what a job remarks beside its answer.
+
+ghost use Rattle.std.specs.Prelude.{◌≡◌, ◌++◌, codes, OnOk, IfErr};
+ghost use Rattle.bk_frames.specs.Device.{CanBeUsed};
+ghost use Rattle.bk_frames.specs.Writing.{Writes};
+ghost use Rattle.bk_cli.specs.Explanations.{gap_note, gap_words, remarks_told, tag_note, tag_words};
+ghost use Rattle.bk_cli.specs.FaultLines.{Reports, StopsReport};
+
+use crate::about::About;
+use crate::explain::{put_gap, put_wrong_tag};
+use crate::job::Job;
+use crate::line::{ShortLine, put_text};
+use crate::remarks::Remarks;
+use bk_digest::Digest32;
+use bk_frames::{Sink, WriteFault, push_all};
+use bk_results::WrongTag;
+
+// What comes after the name of a feed whose order stops at a missing batch.
+fn gap_end(digest: &Digest32) -> ShortLine
+    ensures { result.items ≡ codes ": " ++ gap_words digest.now ++ codes "\n" }
+{
+    let mut line = ShortLine::new();
+    put_text(&mut line, b": ");
+    put_gap(&mut line, digest);
+    put_text(&mut line, b"\n");
+    line
+}
+
+// What comes after the name of a feed that has a wrong tag.
+fn tag_end(wrong: &WrongTag) -> ShortLine
+    ensures { result.items ≡ codes ": " ++ tag_words wrong.now ++ codes "\n" }
+{
+    let mut line = ShortLine::new();
+    put_text(&mut line, b": ");
+    put_wrong_tag(&mut line, wrong);
+    put_text(&mut line, b"\n");
+    line
+}
+
+// Writes the line of a feed of this name with this end.
+fn push_line<E: Sink>(name: &str, end: &ShortLine, err: &mut E) -> Result<(), WriteFault>
+    requires { CanBeUsed (E.state err.old) }
+    ensures whole { OnOk result (Writes (codes "bkreplay: " ++ (name.now ++ end.now.items))
+        (E.state err.old) (E.state err.new)) }
+    ensures part { IfErr result (λ _. StopsReport (codes "bkreplay: " ++ (name.now ++ end.now.items))
+        (E.state err.old) (E.state err.new)) }
+{
+    push_all(err, b"bkreplay: ")?;
+    push_all(err, name.as_bytes())?;
+    push_all(err, end.as_slice())?;
+    Ok(())
+}
+
+// Writes the line of a feed whose order stops at a missing batch, nothing where none is missing.
+fn push_gap<E: Sink>(name: &str, missing: &Option<Digest32>, err: &mut E) -> Result<(), WriteFault>
+    requires { CanBeUsed (E.state err.old) }
+    ensures whole { OnOk result (Writes (gap_note name.now missing.now)
+        (E.state err.old) (E.state err.new)) }
+    ensures part { IfErr result (λ _. StopsReport (gap_note name.now missing.now)
+        (E.state err.old) (E.state err.new)) }
+{
+    match missing {
+        Some(digest) => push_line(name, &gap_end(digest), err),
+        None => Ok(()),
+    }
+}
+
+// Writes the line of a feed that has a wrong tag, nothing where none is wrong.
+fn push_tag<E: Sink>(name: &str, forged: &Option<WrongTag>, err: &mut E) -> Result<(), WriteFault>
+    requires { CanBeUsed (E.state err.old) }
+    ensures whole { OnOk result (Writes (tag_note name.now forged.now)
+        (E.state err.old) (E.state err.new)) }
+    ensures part { IfErr result (λ _. StopsReport (tag_note name.now forged.now)
+        (E.state err.old) (E.state err.new)) }
+{
+    match forged {
+        Some(wrong) => push_line(name, &tag_end(wrong), err),
+        None => Ok(()),
+    }
+}
+
+// Writes all lines of a job.
+fn push_remarks<E: Sink>(job: &Job, remarks: &Remarks, err: &mut E) -> Result<(), WriteFault>
+    requires { CanBeUsed (E.state err.old) }
+    ensures whole { OnOk result (Writes (remarks_told job.now remarks.now)
+        (E.state err.old) (E.state err.new)) }
+    ensures part { IfErr result (λ _. StopsReport (remarks_told job.now remarks.now)
+        (E.state err.old) (E.state err.new)) }
+{
+    push_gap(About::First.name(job), &remarks.first, err)?;
+    push_gap(About::Second.name(job), &remarks.second, err)?;
+    push_tag(About::First.name(job), &remarks.forged, err)?;
+    Ok(())
+}
+
+/// Reports what a job remarks beside its answer, a line for each, with the name of the file. A sink that fails is ignored.
+pub fn tell_remarks<E: Sink>(job: &Job, remarks: &Remarks, err: &mut E)
+    requires { CanBeUsed (E.state err.old) }
+    ensures { Reports (remarks_told job.now remarks.now) (E.state err.old) (E.state err.new) }
+{
+    // A line that cannot be written is reported nowhere.
+    let _ = push_remarks(job, remarks, err);
+}
