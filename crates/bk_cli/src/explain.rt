@@ -14,7 +14,9 @@ use crate::list_fault::ListFault;
 use bk_base::Refused;
 use bk_digest::Digest32;
 use bk_frames::{FaultCode, FeedFault};
-use bk_results::{CompareStop, Differ, EventsFault, Fault, ScriptCode, ScriptFault, SetupPart, WrongTag};
+use bk_results::{
+    CompareStop, Differ, EventsFault, Fault, ScriptCode, ScriptFault, SetupPart, WrongTag,
+};
 
 // What is in front of the byte at which the fault of a feed is.
 fn front(code: FaultCode) -> &'static [u8]
@@ -225,7 +227,10 @@ fn put_setup(line: &mut ShortLine, part: SetupPart)
             line,
             b"its committee is not that of the first feed: the keys, the weights or their number",
         ),
-        SetupPart::Accounts => put_text(line, b"its opening accounts are not those of the first feed"),
+        SetupPart::Accounts => put_text(
+            line,
+            b"its opening accounts are not those of the first feed",
+        ),
     }
 }
 

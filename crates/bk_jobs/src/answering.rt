@@ -23,7 +23,7 @@ use crate::replaying::{apply_all, run, sum_up};
 use crate::showing::show;
 use crate::text_jobs::answer_of_text;
 use crate::two_inputs::answer_of_two;
-use bk_cli::{Remarks, Job, JobFault};
+use bk_cli::{Job, JobFault, Remarks};
 use bk_frames::{Sink, Source};
 use bk_pool::Gate;
 use std::sync::Wait;

@@ -11,7 +11,7 @@ ghost use Rattle.bk_jobs.specs.Sources.{AllWork, job_devices};
 use crate::end::End;
 use crate::judging::Judge;
 use crate::machine::all_workers;
-use bk_cli::{Exit, Remarks, JobFault, ShortLine, put_number, put_text};
+use bk_cli::{Exit, JobFault, Remarks, ShortLine, put_number, put_text};
 use bk_compare::compare_with_gaps;
 use bk_frames::{Sink, Source, push_all};
 use bk_pool::Gate;

@@ -14,7 +14,7 @@ use crate::end::End;
 use crate::judging::Judge;
 use crate::machine::all_workers;
 use bk_ask::{Replied, ask_judged};
-use bk_cli::{Exit, Remarks, JobFault, Workers};
+use bk_cli::{Exit, JobFault, Remarks, Workers};
 use bk_digest::Digest32;
 use bk_frames::{Sink, Source};
 use bk_pool::Gate;

@@ -16,7 +16,7 @@ ghost use Rattle.bk_jobs.specs.Sources.{AllWork, CanBeUsedAgain, inputs, job_dev
 
 use crate::answering::answer;
 use crate::judging::Judge;
-use bk_cli::{Exit, Remarks, Job, JobFault, judge, tell, tell_remarks};
+use bk_cli::{Exit, Job, JobFault, Remarks, judge, tell, tell_remarks};
 use bk_frames::{Sink, Source};
 use bk_pool::{Gate, Open};
 use bk_progress::Watcher;

@@ -14,7 +14,7 @@ use crate::end::End;
 use crate::judging::Judge;
 use crate::scheduling::schedule;
 use crate::texts::{check, make_feed};
-use bk_cli::{Remarks, Job, JobFault};
+use bk_cli::{Job, JobFault, Remarks};
 use bk_frames::{Sink, Source};
 use std::thread::Threads;
 

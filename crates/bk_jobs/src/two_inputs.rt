@@ -15,7 +15,7 @@ use crate::end::End;
 use crate::following::follow_some;
 use crate::judging::Judge;
 use crate::showing::pick;
-use bk_cli::{Remarks, Job, JobFault};
+use bk_cli::{Job, JobFault, Remarks};
 use bk_frames::{Sink, Source};
 use bk_pool::Gate;
 use std::sync::Wait;

@@ -14,13 +14,13 @@ none_of_none k f there = absurd (omega (arith, there.1))
 pub first_then : (k : CommitteeValue) (xs ys : List Frame) (a b : Option WrongTag) → IsFirstForged k xs a → IsFirstForged k ys b → IsFirstForged k (xs ++ ys) (else_later a (length xs) b)
 first_then k xs ys (Some w) b (before, f, after, all, none, is, at, c, read, wrong) j =
     (before, f, after ++ ys, ap (λ (t : List Frame). t ++ ys) all ∙ append_assoc before (f ∷ after) ys, none, is, at, c, read, wrong)
-first_then k xs ys None None h j = λ f t. elim (Contains-append_cases xs ys f t) [ | inl here ↦ h f here | inr later ↦ j f later ]
+first_then k xs ys None None h j = λ f t. elim (Contains-append_cases xs ys f t) [ inl here ↦ h f here | inr later ↦ j f later ]
 first_then k xs ys None (Some w) h (before, f, after, all, none, is, at, c, read, wrong) = (
   xs ++ before,
   f,
   after,
   ap (λ (t : List Frame). xs ++ t) all ∙ sym (append_assoc xs before (f ∷ after)),
-  λ g t. elim (Contains-append_cases xs before g t) [ | inl here ↦ h g here | inr later ↦ none g later ],
+  λ g t. elim (Contains-append_cases xs before g t) [ inl here ↦ h g here | inr later ↦ none g later ],
   is,
   omega (arith, at, length-append xs before),
   c,
