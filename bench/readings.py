@@ -1,6 +1,7 @@
 """A plain reading of the commands that show what is in a feed: the lines of `frames`, `summary`, `anchors` and `statement`,
 from the bytes of the feed by the definitions alone, and of `check-report`. `summary`, `statement` and `check-report` also
 take lines of the report of `run`."""
+import hmac
 import os
 import struct
 from hashlib import sha256
@@ -76,6 +77,22 @@ def frames_lines(data):
     frames = whole_frames(data)
     committee = committee_of(data[3] - 48, frames[0][2]) if frames else None
     return [f"frame {k} at {at} {frame_words(committee, kind, payload)}" for k, (at, kind, payload) in enumerate(frames)]
+
+
+def wrong_tag(data):
+    """The first frame that is rejected for its tags, with its first signer whose tag is wrong; None where there is none."""
+    frames = whole_frames(data)
+    committee = committee_of(data[3] - 48, frames[0][2]) if frames else None
+    for k, (_, kind, payload) in enumerate(frames):
+        if kind == 3 and verdict(committee, payload)[0] == 7:
+            head, _, _ = parts_of(payload)
+            mask = int.from_bytes(payload[len(head) : len(head) + 16], "little")
+            signers = [member for member in range(128) if mask >> member & 1]
+            for place, member in enumerate(signers):
+                tag = payload[len(head) + 16 + 32 * place :][:32]
+                if tag != hmac.digest(committee.keys[member], id_of(head), "sha256"):
+                    return k, member
+    return None
 
 
 # ---- anchors
