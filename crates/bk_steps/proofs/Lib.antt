@@ -9,7 +9,7 @@ pub mod Finishes
 pub mod Running
 pub mod Judging
 mod Hands
-mod Reached
+pub mod Reached
 mod Placed
 pub mod Settled
 mod Seated
@@ -21,5 +21,7 @@ mod Receipted
 mod Carried
 mod Opening
 mod Scheduled
-mod Outcomes
+pub mod Outcomes
+pub mod Leaving
+pub mod InOrder
 mod Answering

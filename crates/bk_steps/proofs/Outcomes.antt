@@ -88,18 +88,18 @@ status_again status.Stale = refl
 status_again status.Guard = refl
 status_again status.Funds = refl
 
-one_number : (a b : Status) → number_of a ≡ number_of b → a ≡ b
+pub one_number : (a b : Status) → number_of a ≡ number_of b → a ≡ b
 one_number a b e = let same : Some a ≡ Some b = sym (status_again a) ∙ (ap status_with e ∙ status_again b) in cc
 
 -- what a place does on the rows before it
-same_on : (plan : PlanValue) (ledger : Ledger) → IsPlan plan → CanRunOn plan ledger → (p : ℕ)
+pub same_on : (plan : PlanValue) (ledger : Ledger) → IsPlan plan → CanRunOn plan ledger → (p : ℕ)
     → DoesSame plan.version (tx_at plan p) (account_at (rows_before plan.version plan.txs p ledger.rows))
     (accounts_by plan.version plan.ids ((scene_of plan ledger).fold p))
 same_on plan ledger is runs p = does_same plan.version (tx_at plan p) (account_at (rows_before plan.version plan.txs p ledger.rows))
     (accounts_by plan.version plan.ids (word_by plan.ids (account_at (rows_before plan.version plan.txs p ledger.rows))))
     (λ t here. said_agrees plan.version plan.ids plan.txs p ledger.rows runs.is_ledger runs.has_room (all_there plan ledger runs) is.covered t here)
 
-receipt_on : (v : Version) (o : Option Transaction) (rows : List Row)
+pub receipt_on : (v : Version) (o : Option Transaction) (rows : List Row)
     → (outcome_of v o rows).receipt ≡ record { status = status_on v o (account_at rows); moved = moved_on v o (account_at rows) }
 receipt_on v None rows = refl
 receipt_on v (Some t) rows = refl
@@ -119,7 +119,7 @@ receipt_is m rs z is p e l =
     let two : (get_or rs p e).moved ≡ moved_on m.plan.version (tx_at m.plan p) (account_at (rows_before m.plan.version m.plan.txs p m.opening.rows)) = mv ∙ sym on.moved in
     (λ i. record { status = one i; moved = two i }) ∙ sym (receipt_on m.plan.version (tx_at m.plan p) (rows_before m.plan.version m.plan.txs p m.opening.rows))
 
-get_some : (xs : List Receipt) (p : ℕ) (e r : Receipt) → p < length xs → slice_get xs p ≡ Some r → get_or xs p e ≡ r
+pub get_some : (xs : List Receipt) (p : ℕ) (e r : Receipt) → p < length xs → slice_get xs p ≡ Some r → get_or xs p e ≡ r
 get_some xs p e r l g = let same : Some (get_or xs p e) ≡ Some r = sym (slice_get-get_or xs p e l) ∙ g in cc
 
 pub receipts_are : (m : MachineValue) (rs : List Receipt) → IsMachine m → map (λ r. Done r) rs ≡ m.stages

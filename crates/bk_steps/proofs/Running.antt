@@ -1,8 +1,8 @@
 -- Runs keep what holds of a course, and whole runs end with the fold.
-use Rattle.std.proofs.Common.{◌≡◌, ℕ, ◌≤◌, List, [], ◌∷◌, true, sym, refl, ◌∙◌, subst, arith}
+use Rattle.std.proofs.Common.{◌≡◌, ℕ, ◌≤◌, List, [], ◌∷◌, ◌++◌, true, sym, refl, ◌∙◌, subst, arith}
 use Rattle.bk_conflicts.specs.Scene.{Scene, IsSound, Chain, status_at, moved_at}
 use Rattle.bk_steps.specs.Course.{Course, Phase, waiting, held, done, busy, found, opened, IsDone, IsSettled}
-use Rattle.bk_steps.specs.Moves.{after_write, after_finish, HasReadAll, HasWrittenAll, Moves, claims, reads_one, writes_one, finishes, Runs, AllAreDone, IsWholeRun}
+use Rattle.bk_steps.specs.Moves.{after_write, after_finish, HasReadAll, HasWrittenAll, Moves, claims, reads_one, writes_one, finishes, Runs, IsReached, AllAreDone, IsWholeRun}
 use Rattle.bk_steps.specs.Kept.{IsKept, IsFold}
 use Rattle.bk_steps.specs.Laws.{EdgesAreConflicts, EndAlike}
 use Rattle.bk_steps.specs.declared.event.Event.{Event}
@@ -42,6 +42,15 @@ pub keeps_run : (s : Scene) → IsSound s → (es : List Event) (d end : Course)
     → IsKept s end
 keeps_run s z [] d end k r = subst (IsKept s) (sym r) k
 keeps_run s z (e ∷ es) d end k (next, move, rest) = keeps_run s z es next end (keeps_event s z d next e k move) rest
+
+-- one event more
+pub runs_then : (s : Scene) (es : List Event) (d end next : Course) (e : Event) → Runs s d es end → Moves s end e next
+    → Runs s d (es ++ e ∷ []) next
+runs_then s [] d end next e is move = (next, subst (λ (c : Course). Moves s c e next) is move, refl)
+runs_then s (f ∷ fs) d end next e (mid, first, rest) move = (mid, first, runs_then s fs mid end next e rest move)
+
+pub reached_then : (s : Scene) (d next : Course) (e : Event) → IsReached s d → Moves s d e next → IsReached s next
+reached_then s d next e (es, runs) move = (es ++ e ∷ [], runs_then s es (opened s) d next e runs move)
 
 -- where every place is done, each word is the fold's
 pub values_at_end : (s : Scene) → IsSound s → (d : Course) (x : ℕ) → IsKept s d → AllAreDone s d

@@ -1,9 +1,17 @@
 -- The laws of interleavings.
 use Rattle.std.specs.Prelude.{◌≡◌, ◌≢◌, ◌⊎◌, ℕ, ◌<◌, List, [], Bool, true}
+use Rattle.bk_base.specs.declared.genesis.Row.{Row}
+use Rattle.bk_rules.specs.declared.receipt.Receipt.{Receipt}
+use Rattle.bk_rules.specs.Fold.{state_after, receipts_of}
+use Rattle.bk_rules.specs.Ledger.{Ledger}
+use Rattle.bk_rules.specs.Rows.{account_at}
+use Rattle.bk_conflicts.specs.Plan.{PlanValue, IsPlan}
 use Rattle.bk_conflicts.specs.Scene.{Scene, IsSound, IsEdge, Chain}
+use Rattle.bk_conflicts.specs.SceneOf.{CanRunOn}
 use Rattle.bk_steps.specs.Course.{Course, waiting, free, busy, found, opened, IsDone, IsSettled}
 use Rattle.bk_steps.specs.Moves.{after_claim, after_read, after_write, after_finish, HasReadAll, HasWrittenAll, EarlierAreDone, Moves, Runs, IsWholeRun}
 use Rattle.bk_steps.specs.Kept.{IsKept, IsFold}
+use Rattle.bk_steps.specs.Left.{RunLeaves}
 use Rattle.bk_steps.specs.Refusals.{Allows, Refuses}
 use Rattle.bk_steps.specs.Schedule.{RunsAmong, IsWholeAmong, IsFault}
 use Rattle.bk_steps.specs.declared.event.Event.{Event}
@@ -78,6 +86,17 @@ DoneAreClosed = (s : Scene) → IsSound s → EdgesAreConflicts s → (d : Cours
 abbrev pub WholeRunsAreFold : Type 0
 WholeRunsAreFold = (s : Scene) → IsSound s → (es : List Event) (end : Course)
     → IsWholeRun s es end → IsFold s end
+
+-- and there is one, in which worker 0 takes the places in their order
+abbrev pub WholeRunsExist : Type 0
+WholeRunsExist = (s : Scene) → IsSound s → (es : List Event) × (end : Course) × IsWholeRun s es end
+
+-- what a whole run leaves are the receipts and the accounts of the transactions one at a time
+abbrev pub RunsLeaveFold : Type 0
+RunsLeaveFold = (plan : PlanValue) (ledger : Ledger) → IsPlan plan → CanRunOn plan ledger
+    → (receipts : List Receipt) (rows : List Row) → RunLeaves plan ledger receipts rows
+    → (receipts ≡ receipts_of plan.version plan.txs ledger.rows)
+    × ((id : ℕ) → account_at rows id ≡ account_at (state_after plan.version plan.txs ledger.rows) id)
 
 -- every word and every receipt is the same at the end of either
 pub record EndAlike (s : Scene) (d c : Course) : Type 0 where

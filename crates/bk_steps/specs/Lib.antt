@@ -2,6 +2,7 @@ pub mod Course
 pub mod Moves
 pub mod Refusals
 pub mod Kept
+pub mod Left
 pub mod Laws
 pub mod Machine
 pub mod Settling

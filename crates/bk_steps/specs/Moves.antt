@@ -71,6 +71,10 @@ abbrev pub Runs : Scene → Course → List Event → Course → Type 0
 Runs s d [] end = end ≡ d
 Runs s d (e ∷ es) end = (next : Course) × Moves s d e next × Runs s next es end
 
+-- allowed events lead from the opening course to this one
+abbrev pub IsReached : Scene → Course → Type 0
+IsReached s d = (es : List Event) × Runs s (opened s) es d
+
 -- every place is done
 abbrev pub AllAreDone : Scene → Course → Type 0
 AllAreDone s d = (p : ℕ) → p < s.places → IsDone (d.phase p)

@@ -1,6 +1,6 @@
 //! The laws of interleavings, as functions that do nothing: their clauses are the laws.
 
-ghost use Rattle.bk_steps.specs.Laws.{OpeningIsKept, ClaimKeeps, ReadKeeps, WriteKeeps, FinishKeeps, EventKeeps, DoneAreClosed, ChainsAreClosed, ConflictsAreClosed, RunsKeep, WholeRunsAreFold, OrderMakesNoDifference, EventsAreJudged, AllowedIsNotRefused, OneRefusal, RunsAmongAreRuns, WholeRunsHaveNoFault, OneFault};
+ghost use Rattle.bk_steps.specs.Laws.{OpeningIsKept, ClaimKeeps, ReadKeeps, WriteKeeps, FinishKeeps, EventKeeps, DoneAreClosed, ChainsAreClosed, ConflictsAreClosed, RunsKeep, WholeRunsAreFold, WholeRunsExist, RunsLeaveFold, OrderMakesNoDifference, EventsAreJudged, AllowedIsNotRefused, OneRefusal, RunsAmongAreRuns, WholeRunsHaveNoFault, OneFault};
 
 /// What holds of every course holds of the opening one.
 pub fn opening_is_kept()
@@ -28,6 +28,17 @@ pub fn closed_under_chains()
 /// A whole run ends with the words of the places one at a time, and with their receipts.
 pub fn whole_runs_are_fold()
     ensures { WholeRunsAreFold }
+{}
+
+/// So what it leaves of the accounts of a plan is what the transactions leave one at a time, with
+/// their receipts.
+pub fn runs_leave_fold()
+    ensures { RunsLeaveFold }
+{}
+
+/// There is a whole run: one worker can always take the places in their order.
+pub fn whole_runs_exist()
+    ensures { WholeRunsExist }
 {}
 
 /// Two whole runs, of whatever workers in whatever order, end alike.

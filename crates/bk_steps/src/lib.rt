@@ -16,7 +16,7 @@ mod waits;
 pub use event::Event;
 pub use laws::{
     closed_under_chains, events_keep_course, one_answer, one_verdict, opening_is_kept,
-    order_makes_no_difference, whole_runs_are_fold,
+    order_makes_no_difference, runs_leave_fold, whole_runs_are_fold, whole_runs_exist,
 };
 pub use machine::Machine;
 pub use outcome::{Outcome, ScheduleFault};
