@@ -20,7 +20,7 @@ use Rattle.bk_bank.specs.Plays.{at_rest, Learns, claimed}
 use Rattle.bk_bank.specs.Steps.{Turns}
 use Rattle.bk_bank.proofs.Places.{zero_waits, settled_owes, paid_done, waiting_undone, list_done_later}
 use Rattle.bk_bank.proofs.Stages.{rest_unspent, rest_free}
-use Rattle.bk_bank.proofs.Stepping.{Table, Sat, IsStep, step_ok, still_ok, state_changes}
+use Rattle.bk_bank.proofs.Stepping.{Table, Sat, IsStep, step_ok, still_ok, state_changes, reached_by}
 use Rattle.bk_bank.proofs.Looking.{seeing, learns, same_place}
 
 -- where nothing is owed to p, each earlier place in conflict with it is done
@@ -151,10 +151,10 @@ claims_word : (s : Scene) (slots id : ℕ) (me : Sat) (p : ℕ) → at_rest (vie
 claims_word s slots id me p rest l t k deep at small =
     let i : ℕ = state_word s p in
     let x : ℕ = get_or t.words i 0 in ⊎_elim
-    (λ (hit : x ≡ 0). let u = claim_turn s k.0 t k.1 slots id me p at rest l hit in
-    (u.0, keeps, tt, subst (λ b. IsOrdered s (stepped t i (either b (2 ^ 62) x) id me.1 u.0 keeps)) (sym (eq-eqb x 0 hit)) (u.1, u.3), u.4))
-    (λ (miss : x ≢ 0). let u = refuse_turn s k.0 t k.1 slots id me p at rest l miss in
-    (u.0, keeps, tt, subst (λ b. IsOrdered s (stepped t i (either b (2 ^ 62) x) id me.1 u.0 keeps)) (sym (ne_eqb x 0 miss)) (u.1, u.3), u.4))
+    (λ (hit : x ≡ 0). let u = claim_turn s k.0 t k.2 slots id me p at rest l hit in
+    (u.0, keeps, tt, subst (λ b. IsOrdered s (stepped t i (either b (2 ^ 62) x) id me.1 u.0 keeps)) (sym (eq-eqb x 0 hit)) (u.1, reached_by s k.0 u.1 (Some (Claim id p)) k.1 u.2, u.3), u.4))
+    (λ (miss : x ≢ 0). let u = refuse_turn s k.0 t k.2 slots id me p at rest l miss in
+    (u.0, keeps, tt, subst (λ b. IsOrdered s (stepped t i (either b (2 ^ 62) x) id me.1 u.0 keeps)) (sym (ne_eqb x 0 miss)) (u.1, reached_by s k.0 u.1 None k.1 u.2, u.3), u.4))
     (cases_eq x 0)
 
 pub claims_at : (s : Scene) (slots id : ℕ) (me : Sat) (p i : ℕ) → i ≡ state_word s p

@@ -17,7 +17,7 @@ use Rattle.bk_bank.specs.Rule.{state_word, moved_word, view_scene, IsOrdered, Sh
 use Rattle.bk_bank.specs.Plays.{stay, finished}
 use Rattle.bk_bank.specs.Steps.{Turns}
 use Rattle.bk_bank.proofs.Places.{held_owes, held_undone, list_done_later}
-use Rattle.bk_bank.proofs.Stepping.{Table, Sat, step_ok, state_changes, holding_busy}
+use Rattle.bk_bank.proofs.Stepping.{Table, Sat, step_ok, state_changes, holding_busy, reached_by}
 
 pub finishes_turn : (s : Scene) (d : Course) (t : Table) (r : Shows s d t) (slots id : ℕ) (me : Sat) (p i st : ℕ) (rs : List (ℕ × ℕ)) (ws : List ℕ)
     → i ≡ state_word s p → me.0.stage ≡ Holding p rs ws true → view_scene me.0 ≡ s → HasReadAll s p rs → HasWrittenAll s p ws
@@ -75,4 +75,4 @@ pub finishes_at : (s : Scene) (slots id : ℕ) (me : Sat) (p i st : ℕ) (rs : L
     → st ≡ status_at s p
     → Allows (IsOrdered s) slots id me i (λ _. 2 ^ 63 + st) (λ _. finished (step slots i (2 ^ 63 + st) 0 none) me (2 ^ 63 + st))
 finishes_at s slots id me p i st rs ws where_ holds same all wrote is t k deep at small =
-    let u = finishes_turn s k.0 t k.1 slots id me p i st rs ws where_ holds same all wrote is at in (u.0, keeps, tt, (u.1, u.3), u.4)
+    let u = finishes_turn s k.0 t k.2 slots id me p i st rs ws where_ holds same all wrote is at in (u.0, keeps, tt, (u.1, reached_by s k.0 u.1 (Some (Finish id)) k.1 u.2, u.3), u.4)

@@ -18,7 +18,7 @@ use Rattle.bk_bank.specs.declared.view.View.{View}
 use Rattle.bk_bank.specs.Rule.{state_word, moved_word, view_scene, PlaceOk, IsOrdered, Shows}
 use Rattle.bk_bank.specs.Plays.{stay, has_read, has_written, has_moved}
 use Rattle.bk_bank.specs.Steps.{Turns}
-use Rattle.bk_bank.proofs.Stepping.{Table, Sat, step_ok, holding_busy, account_word}
+use Rattle.bk_bank.proofs.Stepping.{Table, Sat, step_ok, holding_busy, account_word, reached_by}
 
 pub reads_turn : (s : Scene) (d : Course) (t : Table) (r : Shows s d t) (slots id : ℕ) (me : Sat) (p i : ℕ) (rs : List (ℕ × ℕ))
     → me.0.stage ≡ Holding p rs [] false → view_scene me.0 ≡ s → s.declares p i ≡ true → get_elem? t.views id ≡ some me.0
@@ -69,7 +69,7 @@ pub reads_at : (s : Scene) (slots id : ℕ) (me : Sat) (p i : ℕ) (rs : List (�
     → view_scene me.0 ≡ s → s.declares p i ≡ true
     → Allows (IsOrdered s) slots id me i (λ x. x) (has_read (step slots i 0 0 none) me)
 reads_at s slots id me p i rs holds same decl t k deep at small =
-    let u = reads_turn s k.0 t k.1 slots id me p i rs holds same decl at in (u.0, keeps, tt, (u.1, u.3), u.4)
+    let u = reads_turn s k.0 t k.2 slots id me p i rs holds same decl at in (u.0, keeps, tt, (u.1, reached_by s k.0 u.1 (Some (Read id i)) k.1 u.2, u.3), u.4)
 
 pub writes_turn : (s : Scene) (d : Course) (t : Table) (r : Shows s d t) (slots id : ℕ) (me : Sat) (p i n : ℕ) (rs : List (ℕ × ℕ)) (ws : List ℕ) (mv : Bool)
     → me.0.stage ≡ Holding p rs ws mv → view_scene me.0 ≡ s → s.writes p i ≡ true → n ≡ s.fold (suc p) i
@@ -122,7 +122,7 @@ pub writes_at : (s : Scene) (slots id : ℕ) (me : Sat) (p i n : ℕ) (rs : List
     → HasReadAll s p rs → ¬ Has ws i
     → Allows (IsOrdered s) slots id me i (λ _. n) (λ _. has_written (step slots i n 0 none) me n)
 writes_at s slots id me p i n rs ws mv holds same wr is all fresh t k deep at small =
-    let u = writes_turn s k.0 t k.1 slots id me p i n rs ws mv holds same wr is all fresh at in (u.0, keeps, tt, (u.1, u.3), u.4)
+    let u = writes_turn s k.0 t k.2 slots id me p i n rs ws mv holds same wr is all fresh at in (u.0, keeps, tt, (u.1, reached_by s k.0 u.1 (Some (Write id i)) k.1 u.2, u.3), u.4)
 
 -- the moved word of a place shows nothing before the place is done
 moved_places : (s : Scene) (d : Course) (t : Table) (r : Shows s d t) (id p i n : ℕ) → i ≡ moved_word s p → d.phase p ≡ held id
@@ -186,4 +186,4 @@ pub moves_at : (s : Scene) (slots id : ℕ) (me : Sat) (p i n : ℕ) (rs : List 
     → i ≡ moved_word s p → me.0.stage ≡ Holding p rs ws mv → view_scene me.0 ≡ s → n ≡ moved_at s p
     → Allows (IsOrdered s) slots id me i (λ _. n) (λ _. has_moved (step slots i n 0 none) me n)
 moves_at s slots id me p i n rs ws mv where_ holds same is t k deep at small =
-    let u = moves_turn s k.0 t k.1 slots id me p i n rs ws mv where_ holds same is at in (u.0, keeps, tt, (u.1, u.3), u.4)
+    let u = moves_turn s k.0 t k.2 slots id me p i n rs ws mv where_ holds same is at in (u.0, keeps, tt, (u.1, reached_by s k.0 u.1 None k.1 u.2, u.3), u.4)

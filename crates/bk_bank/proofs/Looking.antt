@@ -14,7 +14,7 @@ use Rattle.bk_bank.specs.Steps.{Turns}
 use Rattle.bk_bank.proofs.Lists.{has_left, has_right}
 use Rattle.bk_bank.proofs.Places.{big_done, list_done_at, list_done_both}
 use Rattle.bk_bank.proofs.Stages.{rest_unspent}
-use Rattle.bk_bank.proofs.Stepping.{Table, Sat, still_ok, words_of_done, owes_little}
+use Rattle.bk_bank.proofs.Stepping.{Table, Sat, still_ok, words_of_done, owes_little, reached_by}
 
 -- a view with these places seen, at this stage
 abbrev pub seeing : View → List ℕ → Stage → View
@@ -84,4 +84,4 @@ pub looks_at : (s : Scene) (slots id : ℕ) (me : Sat) (p i : ℕ) → i ≡ sta
     → Allows (IsOrdered s) slots id me i (λ x. x) (looked (step slots i 0 0 none) me)
 looks_at s slots id me p i e rest l =
     subst (λ (i : ℕ). Allows (IsOrdered s) slots id me i (λ x. x) (looked (step slots i 0 0 none) me)) (sym e)
-    (λ t k deep at small. let u = look_turn s k.0 t k.1 slots id me p at rest l in (u.0, keeps, tt, (u.1, u.3), u.4))
+    (λ t k deep at small. let u = look_turn s k.0 t k.2 slots id me p at rest l in (u.0, keeps, tt, (u.1, reached_by s k.0 u.1 None k.1 u.2, u.3), u.4))

@@ -15,7 +15,7 @@ use Rattle.bk_bank.specs.Rule.{state_word, moved_word, view_scene, PlaceOk, Stag
 use Rattle.bk_bank.specs.Plays.{stay, released}
 use Rattle.bk_bank.specs.Steps.{Turns}
 use Rattle.bk_bank.proofs.Places.{owing_waits}
-use Rattle.bk_bank.proofs.Stepping.{Table, Sat, step_ok}
+use Rattle.bk_bank.proofs.Stepping.{Table, Sat, step_ok, reached_by}
 
 leaving_stage : (s : Scene) (d : Course) (paid leaver : ℕ → ℕ) (words : List ℕ) (id p k f : ℕ) (st : Stage) → st ≡ Leaving p k f
     → StageOk s d paid leaver words id st → StageOk s d paid leaver words id (Leaving p k f)
@@ -101,4 +101,4 @@ pub releases_at : (s : Scene) (slots id : ℕ) (me : Sat) (p k f i : ℕ) → i 
     → me.0.stage ≡ Leaving p k f → view_scene me.0 ≡ s → k < length (s.next p)
     → Allows (IsOrdered s) slots id me i (λ x. (x + (2 ^ 64 - 1)) % 2 ^ 64) (released (step slots i 1 0 none) me)
 releases_at s slots id me p k f i where_ leaves same room t y deep at small =
-    let u = releases_turn s y.0 t y.1 slots id me p k f i where_ leaves same room at small in (u.0, keeps, tt, (u.1, u.3), u.4)
+    let u = releases_turn s y.0 t y.2 slots id me p k f i where_ leaves same room at small in (u.0, keeps, tt, (u.1, reached_by s y.0 u.1 None y.1 u.2, u.3), u.4)

@@ -49,7 +49,7 @@ split_shows s d t r id v at rest =
     (at_end vs (rested v) u j e))
 
 pub splits : (s : Scene) (id : ℕ) (v : View) → at_rest (view_scene v) v.stage ≡ true → Splits (IsOrdered s) id v (rested v) (rested v)
-splits s id v rest t k at = (k.0, split_shows s k.0 t k.1 id v at rest)
+splits s id v rest t k at = (k.0, k.1, split_shows s k.0 t k.2 id v at rest)
 
 pub join_shows : (s : Scene) (d : Course) (t : Table) (r : Shows s d t) (id other : ℕ) (v o : View) → get_elem? t.views id ≡ some v
     → get_elem? t.views other ≡ some o → at_rest (view_scene v) v.stage ≡ true → at_rest (view_scene o) o.stage ≡ true
@@ -72,4 +72,4 @@ join_shows s d t r id other v o at there rest rest' =
 pub joins : (s : Scene) (id : ℕ) (v : View) (other : ℕ) (o : View) → at_rest (view_scene v) v.stage ≡ true
     → at_rest (view_scene o) o.stage ≡ true → Joins (IsOrdered s) id v other o (pooled v o) spent
 joins s id v other o rest rest' t k at apart there =
-    (k.0, join_shows s k.0 t k.1 id other v o at (sym (set_else t.views id other (pooled v o) apart) ∙ there) rest rest')
+    (k.0, k.1, join_shows s k.0 t k.2 id other v o at (sym (set_else t.views id other (pooled v o) apart) ∙ there) rest rest')

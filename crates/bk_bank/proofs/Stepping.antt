@@ -1,5 +1,5 @@
 -- A step of one seat on one word, and what it leaves as it was.
-use Rattle.std.proofs.Common.{◌≡◌, ◌≢◌, ⊎_elim, ℕ, ◌+◌, ◌^◌, ◌<◌, List, length, get_or, set, Bool, true, sym, refl, ap, ◌∙◌, subst, arith, length-set, get_or-set_other, get_or-set_same}
+use Rattle.std.proofs.Common.{◌≡◌, ◌≢◌, ⊎_elim, ℕ, ◌+◌, ◌^◌, ◌<◌, List, length, get_or, set, Bool, true, Option, Some, None, sym, refl, ap, ◌∙◌, subst, arith, length-set, get_or-set_other, get_or-set_same}
 use Rattle.std.proofs.lemmas.Bool.{cases_eq}
 use mathlib.Core.Option.{some}
 use lib.ListN.{get_elem?}
@@ -7,15 +7,17 @@ use lib.Seq.{set-get_or}
 use Rattle.atomic_table.specs.Table.{State, Me}
 use Rattle.bk_conflicts.specs.Scene.{Scene, owed, status_at, moved_at}
 use Rattle.bk_steps.specs.Course.{Course, Phase, busy, put, IsDone}
+use Rattle.bk_steps.specs.Moves.{IsReached}
 use Rattle.bk_steps.specs.Kept.{IsKept}
+use Rattle.bk_steps.specs.declared.event.Event.{Event}
 use Rattle.bk_steps.proofs.Owing.{owed_most}
-use Rattle.bk_steps.proofs.Running.{done_parts}
+use Rattle.bk_steps.proofs.Running.{done_parts, reached_then}
 use Rattle.bk_steps.proofs.Tables.{put_here, put_else}
 use Rattle.bk_bank.specs.declared.view.Stage.{Stage}
 use Rattle.bk_bank.specs.declared.view.Stage.TheVariants.{Holding}
 use Rattle.bk_bank.specs.declared.view.View.{View}
 use Rattle.bk_bank.specs.Rule.{state_word, moved_word, PlaceOk, StageOk, ViewOk, Shows}
-use Rattle.bk_bank.specs.Steps.{table_with}
+use Rattle.bk_bank.specs.Steps.{MovesBy, table_with}
 use Rattle.bk_bank.proofs.Lists.{elem_inside, each_stays}
 use Rattle.bk_bank.proofs.Places.{done_words, list_done_later}
 use Rattle.bk_bank.proofs.Stages.{stage_stays}
@@ -25,6 +27,11 @@ Table = State (Unit {0}) View
 
 abbrev pub Sat : Type 0
 Sat = Me (Unit {0}) View
+
+-- a step's event leads on
+pub reached_by : (s : Scene) (d next : Course) (e : Option Event) → IsReached s d → MovesBy s d e next → IsReached s next
+reached_by s d next None reached stays = subst (IsReached s) (sym stays) reached
+reached_by s d next (Some e) reached move = reached_then s d next e reached move
 
 -- what a step of the seat id on the word i owes, where the word becomes n, the view w and the course next
 pub record IsStep (s : Scene) (t : Table) (d : Course) (r : Shows s d t) (i n id : ℕ) (w : View) (next : Course) (paid leaver : ℕ → ℕ) : Type 0 where

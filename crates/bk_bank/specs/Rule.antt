@@ -5,6 +5,7 @@ use lib.ListN.{get_elem?}
 use Rattle.atomic_table.specs.Table.{State}
 use Rattle.bk_conflicts.specs.Scene.{Scene, owed, IsSound, moved_at}
 use Rattle.bk_steps.specs.Course.{Course, Phase, waiting, held, done, free, busy, IsDone}
+use Rattle.bk_steps.specs.Moves.{IsReached}
 use Rattle.bk_steps.specs.Kept.{IsKept}
 use Rattle.bk_bank.specs.Setting.{scene_of}
 use Rattle.bk_bank.specs.declared.setting.Setting.{Setting}
@@ -78,6 +79,6 @@ pub record Shows (s : Scene) (course : Course) (t : State (Unit {0}) View) : Typ
       → ViewOk s course paid leaver t.words id v
   pub beyond : (id : ℕ) → length t.views ≤ id → course.hand id ≡ free
 
--- the rule of the words: they and the views show a course that is kept
+-- the rule of the words: they and the views show a course that events of the seats have led to
 abbrev pub IsOrdered : Scene → State (Unit {0}) View → Type 0
-IsOrdered s t = (d : Course) × Shows s d t
+IsOrdered s t = (d : Course) × IsReached s d × Shows s d t

@@ -2,8 +2,8 @@
 use Rattle.std.specs.Prelude.{◌≡◌, ℕ, ◌+◌, ◌^◌, ◌<◌, ◌≤◌, List, length, Option, Some, None, slice_index, slice_set}
 use Rattle.atomic_table.specs.Table.{State}
 use Rattle.bk_conflicts.specs.Scene.{Scene, status_at, moved_at}
-use Rattle.bk_steps.specs.Course.{Course}
-use Rattle.bk_steps.specs.Moves.{Moves}
+use Rattle.bk_steps.specs.Course.{Course, done, IsDone}
+use Rattle.bk_steps.specs.Moves.{Moves, IsReached}
 use Rattle.bk_steps.specs.declared.event.Event.{Event}
 use Rattle.bk_bank.specs.Rule.{Shows, state_word, moved_word, width}
 use Rattle.bk_bank.specs.declared.view.View.{View}
@@ -33,9 +33,17 @@ pub record IsLaid (s : Scene) (words : List ℕ) : Type 0 where
   pub values : (x : ℕ) → x < s.words → slice_index words x ≡ s.fold 0 x
   pub counts : (q : ℕ) → q < s.places → slice_index words (state_word s q) ≡ s.before q
 
--- the words at the end: a place that is done shows its receipt, and where all are done the words
--- are the fold's
+-- the words are those of the course: of each account, and of each place that is done there
+pub record AreWordsOf (s : Scene) (d : Course) (words : List ℕ) : Type 0 where
+  pub values : (x : ℕ) → x < s.words → slice_index words x ≡ d.value x
+  pub is_done : (p : ℕ) → p < s.places → 2 ^ 63 ≤ slice_index words (state_word s p) → IsDone (d.phase p)
+  pub receipts : (p st mv : ℕ) → p < s.places → d.phase p ≡ done st mv
+      → (slice_index words (state_word s p) ≡ 2 ^ 63 + st) × (slice_index words (moved_word s p) ≡ mv)
+
+-- the words at the end: they are those of the course that the events of a run led to; a place that
+-- is done shows its receipt, and where all are done the words are the fold's
 pub record Ends (s : Scene) (words : List ℕ) : Type 0 where
+  pub ran : (d : Course) × IsReached s d × AreWordsOf s d words
   pub done : (p : ℕ) → p < s.places → 2 ^ 63 ≤ slice_index words (state_word s p)
       → (slice_index words (state_word s p) ≡ 2 ^ 63 + status_at s p)
       × (slice_index words (moved_word s p) ≡ moved_at s p)
