@@ -1,4 +1,5 @@
 pub mod WordsOfPlace
 pub mod Ended
 pub mod Folds
+pub mod Left
 pub mod Prepared

@@ -4,6 +4,7 @@ use Rattle.bk_rules.specs.declared.receipt.Receipt.{Receipt}
 use Rattle.bk_rules.specs.Fold.{state_after, receipts_of}
 use Rattle.bk_rules.specs.Ledger.{Ledger, ledger_of}
 use Rattle.bk_conflicts.specs.Plan.{PlanValue}
+use Rattle.bk_steps.specs.Left.{RunLeaves}
 use Rattle.bk_bank.specs.Setting.{scene_of, setting_with}
 use Rattle.bk_bank.specs.Steps.{Ends}
 use Rattle.bk_bank.specs.Words.{WordsData, IsFirstUnfinished}
@@ -19,6 +20,11 @@ IsBelow places (Unfinished p) = p < places
 pub record IsFoldOnto (plan : PlanValue) (ledger : Ledger) (old new : List Receipt) (after : Ledger) : Type 0 where
   pub state : after ≡ ledger_of ledger.version ledger.slots (state_after ledger.version plan.txs ledger.rows)
   pub receipts : new ≡ old ++ receipts_of ledger.version plan.txs ledger.rows
+
+-- a whole run of worker events leaves the accounts, and the receipts after those of a list
+abbrev pub RunLeavesOnto : PlanValue → Ledger → List Receipt → List Receipt → Ledger → Type 0
+RunLeavesOnto plan ledger old new after = (added : List Receipt) × (new ≡ old ++ added)
+    × RunLeaves plan ledger added after.rows
 
 -- ---- of the words that are left
 

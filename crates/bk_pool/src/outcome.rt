@@ -6,7 +6,8 @@ ghost use Rattle.bk_conflicts.specs.SceneOf.{CanRunOn};
 ghost use Rattle.bk_bank.specs.Words.{state_at, moved_word_at, AllFinished, IsFirstUnfinished};
 ghost use Rattle.bk_pool.specs.declared.outcome.ExecFault.TheVariants.{OutOfMemory};
 ghost use Rattle.bk_steps.specs.Schedule.{IsFoldOf};
-ghost use Rattle.bk_pool.specs.Outcomes.{IsClosed, IsFoldOnto, IsLeft, IsBelow};
+ghost use Rattle.bk_steps.specs.Left.{RunLeaves};
+ghost use Rattle.bk_pool.specs.Outcomes.{IsClosed, IsFoldOnto, IsLeft, IsBelow, RunLeavesOnto};
 ghost use Rattle.bk_pool.specs.private.Receipts.{AreAdded, AreStatuses, AreNumbers};
 
 use bk_bank::Words;
@@ -32,8 +33,8 @@ impl From<AllocError> for ExecFault {
     }
 }
 
-/// `Ok` where every place is done, with the accounts and receipts of the places one at a time; else
-/// the least place that is not done. The words are those of a bank of this plan, closed, and the
+/// `Ok` where every place is done, with the accounts and receipts of the places one at a time, which
+/// are those that the run of the workers left; else the least place that is not done. The words are those of a bank of this plan, closed, and the
 /// state is the one that it was made of: it is written over.
 pub fn outcome_of(
     alloc: Global,
@@ -45,6 +46,7 @@ pub fn outcome_of(
     requires closed { IsClosed plan.now state words.now }
     ensures done { IfOk result (λ o. AllFinished words.now) }
     ensures fold { IfOk result (λ o. IsFoldOf plan.now state o) }
+    ensures ran { IfOk result (λ o. RunLeaves plan.now state o.receipts.items o.state.rows) }
     ensures left { IfErr result (λ e. IsLeft words.now e) }
     ensures below { IfErr result (λ e. IsBelow (length plan.now.txs) e) }
 {
@@ -65,6 +67,8 @@ pub fn outcome_onto(
     ensures done { IfOk result (λ s. AllFinished words.now) }
     ensures fold { IfOk result
         (IsFoldOnto plan.now state receipts.old.items receipts.new.items) }
+    ensures ran { IfOk result
+        (RunLeavesOnto plan.now state receipts.old.items receipts.new.items) }
     ensures unchanged { IfErr result (λ e. receipts.new.items ≡ receipts.old.items) }
     ensures left { IfErr result (λ e. IsLeft words.now e) }
     ensures below { IfErr result (λ e. IsBelow (length plan.now.txs) e) }

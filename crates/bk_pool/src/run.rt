@@ -6,8 +6,10 @@ ghost use Rattle.bk_rules.specs.Ledger.{are_covered};
 ghost use Rattle.bk_conflicts.specs.SceneOf.{CanRunOn};
 ghost use Rattle.bk_bank.specs.Bank.{bank_scene, IsPassOf};
 ghost use Rattle.bk_pool.specs.Reads.{IsBankOf};
+ghost use Rattle.bk_conflicts.specs.Plan.{IsPlan};
 ghost use Rattle.bk_steps.specs.Schedule.{IsFoldOf};
-ghost use Rattle.bk_pool.specs.Outcomes.{IsBelow, IsClosed, IsFoldOnto};
+ghost use Rattle.bk_steps.specs.Left.{RunLeaves, LeaveByRun};
+ghost use Rattle.bk_pool.specs.Outcomes.{IsBelow, IsClosed, IsFoldOnto, RunLeavesOnto};
 ghost use Rattle.bk_pool.specs.private.Prepared.{IsPlanOf};
 
 use crate::deques::ends_for;
@@ -52,6 +54,8 @@ pub fn execute_all<R: Threads + Wait + Sync, G: Gate + Sync>(
         ≡ state_after state.version txs.items state.rows) }
     ensures receipts { IfOk result (λ o. o.receipts.items
         ≡ receipts_of state.version txs.items state.rows) }
+    ensures ran { IfOk result (λ o.
+        LeaveByRun txs.items state o.receipts.items o.state.rows) }
     ensures unfinished { IfErr result (λ e. IsBelow (length txs.items) e) }
 {
     let plan = plan_of(alloc, &state, txs)?;
@@ -65,6 +69,7 @@ fn plan_of(alloc: Global, state: &State, txs: Vec<Option<Tx>>) -> Result<Arc<Pla
     requires few_slots { length state.now.slots < 2 ^ 31 }
     requires room { HasRoom state.now.version (length txs.items) state.now.rows }
     ensures plan { IfOk result (λ p. IsPlanOf txs.items state.now (arc_value p)) }
+    ensures is_plan { IfOk result (λ p. IsPlan (arc_value p)) }
     ensures runs { IfOk result (λ p. CanRunOn (arc_value p) state.now) }
 {
     let plan = Plan::make(alloc, state.version(), state.ids(), txs)?;
@@ -86,6 +91,8 @@ pub fn execute_with<R: Threads + Wait + Sync, G: Gate + Sync, H: Hints + Send + 
     requires runs { CanRunOn (arc_value plan.now) state }
     requires ends { (1 ≤ vec_len ends) × (vec_len ends ≤ 64) }
     ensures fold { IfOk result (λ o. IsFoldOf (arc_value plan.now) state o) }
+    ensures ran { IfOk result (λ o.
+        RunLeaves (arc_value plan.now) state o.receipts.items o.state.rows) }
     ensures unfinished { IfErr result (λ e. IsBelow (length (arc_value plan.now).txs) e) }
 {
     let mut ends = ends;
@@ -105,6 +112,8 @@ pub fn execute_here<G: Gate>(
 ) -> Result<Outcome, ExecFault>
     requires runs { CanRunOn (arc_value plan.now) state }
     ensures fold { IfOk result (λ o. IsFoldOf (arc_value plan.now) state o) }
+    ensures ran { IfOk result (λ o.
+        RunLeaves (arc_value plan.now) state o.receipts.items o.state.rows) }
     ensures unfinished { IfErr result (λ e. IsBelow (length (arc_value plan.now).txs) e) }
 {
     let done = run_here(alloc, plan, &state, gate)?;
@@ -122,6 +131,8 @@ pub fn execute_here_onto<G: Gate>(
     requires runs { CanRunOn (arc_value plan.now) state }
     ensures fold { IfOk result
         (IsFoldOnto (arc_value plan.now) state receipts.old.items receipts.new.items) }
+    ensures ran { IfOk result
+        (RunLeavesOnto (arc_value plan.now) state receipts.old.items receipts.new.items) }
     ensures unchanged { IfErr result (λ e. receipts.new.items ≡ receipts.old.items) }
     ensures unfinished { IfErr result (λ e. IsBelow (length (arc_value plan.now).txs) e) }
 {
@@ -142,6 +153,8 @@ pub fn execute<R: Threads + Wait + Sync, G: Gate + Sync>(
     requires runs { CanRunOn (arc_value plan.now) state }
     requires workers { (1 ≤ workers) × (workers ≤ 64) }
     ensures fold { IfOk result (λ o. IsFoldOf (arc_value plan.now) state o) }
+    ensures ran { IfOk result (λ o.
+        RunLeaves (arc_value plan.now) state o.receipts.items o.state.rows) }
     ensures unfinished { IfErr result (λ e. IsBelow (length (arc_value plan.now).txs) e) }
 {
     let ends = ends_for(rt, alloc, plan.len() as u32, workers)?;
@@ -163,6 +176,8 @@ pub fn execute_onto<R: Threads + Wait + Sync, G: Gate + Sync>(
     requires workers { (1 ≤ workers) × (workers ≤ 64) }
     ensures fold { IfOk result
         (IsFoldOnto (arc_value plan.now) state receipts.old.items receipts.new.items) }
+    ensures ran { IfOk result
+        (RunLeavesOnto (arc_value plan.now) state receipts.old.items receipts.new.items) }
     ensures unchanged { IfErr result (λ e. receipts.new.items ≡ receipts.old.items) }
     ensures unfinished { IfErr result (λ e. IsBelow (length (arc_value plan.now).txs) e) }
 {

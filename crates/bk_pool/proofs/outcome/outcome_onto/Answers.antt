@@ -7,6 +7,7 @@ use Rattle.bk_rules.specs.Ledger.{ledger_of, rows_shown}
 use Rattle.bk_pool.specs.private.Receipts.{AreAdded, AreNumbers}
 use Rattle.bk_pool.proofs.Ended.{statuses_shown, last_words, numbers_long}
 use Rattle.bk_pool.proofs.Folds.{within, is_fold}
+use Rattle.bk_pool.proofs.Left.{ran_onto}
 use Rattle.bk_pool.proofs.outcome.outcome_onto.Goals as goal
 
 pub push_receipts-requires-clause-statuses : goal.push_receipts-requires-clause-statuses
@@ -56,3 +57,7 @@ returns-clause-fold c =
     c.of_numbers.result
     ((rw (take_at c.write_numbers.new.numbers _ c.into_numbers-ids.result.1.len same) at c.of_numbers.ensures)
     ∙ (λ j. ledger_of (c.version-version.ensures.version j) (c.into_numbers-ids.ensures.ids j) (rows_shown (c.version-version.ensures.version j) (c.into_numbers-ids.ensures.ids j) (n.numbers_are j))))
+
+pub returns-clause-ran : goal.returns-clause-ran
+returns-clause-ran c = ran_onto c.args.plan.now c.args.state c.len-2.ensures.plan c.requires.runs c.args.words.now c.requires.closed c.in_default.ensures
+    c.args.receipts.now.items c.push_receipts.new.receipts.items c.of_numbers.result (returns-clause-fold c)
