@@ -9,3 +9,6 @@ pub mod Growth
 pub mod Enough
 pub mod Covering
 pub mod MadeSlots
+pub mod Sliced
+pub mod Alone
+pub mod ReadInOrder

@@ -20,6 +20,8 @@ use Rattle.bk_ledger.specs.Executing.{HasRun, Leaves}
 use Rattle.bk_ledger.specs.Naming.{named_by}
 use Rattle.bk_ledger.specs.private.Slices.{CanRunPart, IsAheadOf, IsNextFrom, IsNoneAhead, IsPlannedOn, IsReadOf, IsReady, IsSame, ahead_of, counts_of, txs_of}
 use Rattle.bk_pool.specs.declared.outcome.ExecFault.{ExecFault}
+use Rattle.bk_ledger.specs.Sliced.{RunInSlices}
+use Rattle.bk_ledger.proofs.Alone.{all_alone}
 use Rattle.bk_ledger.proofs.Growth.{slots_long}
 use Rattle.bk_ledger.proofs.SliceLemmas.{slice_none}
 
@@ -103,6 +105,7 @@ same_ran counts txs a b c same grown still ran = record {
   receipts = ran.receipts ∙ (λ i. same.receipts i ++ receipts_of (same.version i) txs (same.rows i));
   rows = ran.rows ∙ (λ i. state_after (same.version i) txs (same.rows i));
   slots = omega (arith, grown, ap length still);
+  ran = λ few. subst (λ (y : Version × List Row). RunInSlices y.0 txs y.1 (receipts_of y.0 txs y.1) c.state.rows) (λ i. (same.version i, same.rows i)) (ran.ran few);
 }
 
 -- what it gives, by the names of its parts
@@ -121,13 +124,16 @@ ready_leaves first version slots counts txs r x ready left = subst (λ (n : ℕ)
 
 -- transactions in their order, once slots are made for them
 pub run_is : (counts : List (Option ℕ)) (txs : List (Option Transaction)) (a : LedgerValue) (mid : rules.Ledger) (b : LedgerValue) → rules.IsPrepared txs a.state mid → b.counts ≡ a.counts ++ counts → b.receipts ≡ a.receipts ++ receipts_of mid.version txs mid.rows
-    → b.state ≡ rules.ledger_of mid.version mid.slots (state_after mid.version txs mid.rows) → HasRun counts txs a b
-run_is counts txs a mid b p counted received after = record {
+    → b.state ≡ rules.ledger_of mid.version mid.slots (state_after mid.version txs mid.rows) → IsLedger a.state.rows → HasRoom a.state.version (length txs) a.state.rows → HasRun counts txs a b
+run_is counts txs a mid b p counted received after ledger room = record {
   version = ap (λ (l : rules.Ledger). l.version) after ∙ p.version;
   counts_are = counted;
   receipts = received ∙ (λ i. a.receipts ++ receipts_of (p.version i) txs (p.rows i));
   rows = ap (λ (l : rules.Ledger). l.rows) after ∙ (λ i. state_after (p.version i) txs (p.rows i));
   slots = omega (arith, ap (λ (l : rules.Ledger). length l.slots) after, slots_long txs a.state mid p);
+  ran = λ few. subst (RunInSlices a.state.version txs a.state.rows (receipts_of a.state.version txs a.state.rows))
+      (sym (ap (λ (l : rules.Ledger). l.rows) after ∙ (λ i. state_after (p.version i) txs (p.rows i))))
+      (all_alone a.state.version txs a.state.rows ledger room few);
 }
 
 -- ---- the slices after the one whose turn it is

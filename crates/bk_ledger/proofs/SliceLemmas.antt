@@ -15,9 +15,12 @@ use Rattle.bk_ledger.specs.declared.batches.Batches.{Batches}
 use Rattle.bk_tx.specs.Batches.{count_in, transactions_in, transactions_of}
 use Rattle.bk_pool.specs.declared.outcome.ExecFault.{ExecFault}
 use Rattle.bk_pool.specs.declared.outcome.ExecFault.TheVariants.{OutOfMemory, Unfinished}
-use Rattle.bk_ledger.specs.Executing.{HasRun, HasExecuted, Leaves}
+use Rattle.bk_ledger.specs.Executing.{HasRun, HasExecuted, HasRunInSlices, Leaves}
 use Rattle.bk_ledger.specs.private.Slices.{IsSliceOf, IsOnTheWay}
+use Rattle.bk_ledger.specs.Sliced.{RunInSlices}
 use Rattle.bk_ledger.proofs.Growth.{named-append}
+use Rattle.bk_ledger.proofs.ReadInOrder.{read_in_order}
+use Rattle.bk_ledger.proofs.Sliced.{in_order_first, in_order_rest, no_slices, sliced_then}
 
 -- ---- lists
 
@@ -50,6 +53,16 @@ lent_count (p ∷ payloads) = ap suc (lent_count payloads)
 
 -- ---- a ledger after batches
 
+-- after two courses of runs
+ran_then : (v w : Version) (txs others : List (Option Transaction)) (rows mid after : List Row) → w ≡ v → mid ≡ state_after v txs rows
+    → RunInSlices v txs rows (receipts_of v txs rows) mid → RunInSlices w others mid (receipts_of w others mid) after
+    → RunInSlices v (txs ++ others) rows (receipts_of v (txs ++ others) rows) after
+ran_then v w txs others rows mid after version left first second =
+    let on = subst (λ (u : Version). RunInSlices u others mid (receipts_of u others mid) after) version second in
+    subst (λ (rs : List Receipt). RunInSlices v (txs ++ others) rows rs after)
+    (ap (λ (xs : List Row). receipts_of v txs rows ++ receipts_of v others xs) left ∙ sym (receipts_append v txs others rows))
+    (sliced_then v txs others rows mid after (receipts_of v txs rows) (receipts_of v others mid) first on)
+
 -- after two runs
 run_then : (counts more : List (Option ℕ)) (txs others : List (Option Transaction)) (a b c : LedgerValue) → HasRun counts txs a b → HasRun more others b c → HasRun (counts ++ more) (txs ++ others) a c
 run_then counts more txs others a b c first second =
@@ -62,6 +75,8 @@ run_then counts more txs others a b c first second =
           ∙ ap (λ (rs : List Receipt). a.receipts ++ rs) (sym (receipts_append v txs others a.state.rows));
       rows = second.rows ∙ (λ i. state_after (first.version i) others (first.rows i)) ∙ sym (state_append v txs others a.state.rows);
       slots = omega (arith, first.slots, second.slots, named-append txs others);
+      ran = λ few. ran_then a.state.version b.state.version txs others a.state.rows b.state.rows c.state.rows first.version first.rows
+          (first.ran (in_order_first txs others few)) (second.ran (in_order_rest txs others few));
     }
 
 pub executed_then : (xs ys : List (List ℕ)) (a b c : LedgerValue) → HasExecuted xs a b → HasExecuted ys b c → HasExecuted (xs ++ ys) a c
@@ -117,7 +132,7 @@ pub way_begins : (payloads : List (List ℕ)) (l : LedgerValue) → IsOnTheWay p
 way_begins payloads l = record {
   done = [];
   split = refl;
-  ran = record { version = refl; counts_are = sym (append-nil l.counts); receipts = sym (append-nil l.receipts); rows = refl; slots = omega arith };
+  ran = record { version = refl; counts_are = sym (append-nil l.counts); receipts = sym (append-nil l.receipts); rows = refl; slots = omega arith; ran = λ _. no_slices l.state.version l.state.rows };
 }
 
 -- the batches of a slice that is executed
@@ -164,3 +179,8 @@ room_for_slice payloads at counts txs first now way slice room =
 pub leaves_weaker : (first end start stop : ℕ) (e : ExecFault) → start ≤ first → end ≤ stop → Leaves first end e → Leaves start stop e
 leaves_weaker first end start stop OutOfMemory low high h = tt
 leaves_weaker first end start stop (Unfinished place) low high h = let from = h.0 in let to = h.1 in (omega arith, omega arith)
+
+-- ---- in slices by runs
+
+pub executed_in_slices : (payloads : List (List ℕ)) (a : LedgerValue) → (b : LedgerValue) → HasExecuted payloads a b → HasRunInSlices payloads a b
+executed_in_slices payloads a b ran = (receipts_of a.state.version (transactions_of payloads) a.state.rows, ran.receipts, ran.ran (read_in_order payloads))

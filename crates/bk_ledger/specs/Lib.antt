@@ -1,4 +1,5 @@
 pub mod Ledger
+pub mod Sliced
 pub mod Executing
 pub mod private
 pub mod Naming

@@ -13,9 +13,9 @@ ghost use Rattle.bk_conflicts.specs.SceneOf.{CanRunOn};
 ghost use Rattle.bk_pool.specs.Outcomes.{IsBelow, IsFoldOnto};
 ghost use Rattle.bk_pool.specs.declared.outcome.ExecFault.TheVariants.{OutOfMemory};
 ghost use Rattle.bk_tx.specs.Batches.{transactions_of};
-ghost use Rattle.bk_ledger.specs.Executing.{HasExecuted, HasRun, Leaves};
+ghost use Rattle.bk_ledger.specs.Executing.{HasExecuted, HasRun, HasRunInSlices, Leaves};
 ghost use Rattle.bk_ledger.specs.Naming.{named_by};
-ghost use Rattle.bk_ledger.specs.private.Slices.{CanRunPart, IsAheadOf, IsNoneAhead, IsOnTheWay, IsPartFold, IsReadOf, counts_of, is_plannable, txs_of};
+ghost use Rattle.bk_ledger.specs.private.Slices.{CanRunPart, IsAheadOf, IsNoneAhead, IsOnTheWay, IsPartFold, IsPartRun, IsReadOf, IsRunOnto, counts_of, is_plannable, txs_of};
 
 use crate::batches::Batches;
 use crate::ledger::Ledger;
@@ -44,6 +44,8 @@ fn run_plan<R: Threads + Wait + Sync, G: Gate + Sync>(
     requires workers { (1 ≤ workers) × (workers ≤ 64) }
     ensures fold { IfOk result
         (IsFoldOnto (arc_value plan.now) state receipts.old.items receipts.new.items) }
+    ensures ran { IfOk result (IsRunOnto (arc_value plan.now).txs state
+        receipts.old.items receipts.new.items) }
     ensures unfinished { IfErr result (λ e. IsBelow (length (arc_value plan.now).txs) e) }
 {
     if plan.len() < WORTH_THREADS {
@@ -66,6 +68,8 @@ fn run_part<R: Threads + Wait + Sync, G: Gate + Sync>(
     requires workers { (1 ≤ workers) × (workers ≤ 64) }
     ensures fold { IfOk result
         (IsPartFold ready.now state.now receipts.old.items receipts.new.items) }
+    ensures ran { IfOk result
+        (IsPartRun ready.now state.now receipts.old.items receipts.new.items) }
     ensures unfinished { IfErr result (IsBelow (length (arc_value ready.now.plan).txs)) }
 {
     let part = state.part(alloc, &ready.list, ready.plan.ids())?;
@@ -368,8 +372,7 @@ impl Ledger {
     ///
     /// Opening accounts have room for fewer than 2^63 transactions in all (`bk_rules::room_is_left`).
     ///
-    /// `OutOfMemory` where memory was refused. `Unfinished` names a place that a worker took and did not finish, counted
-    /// from the first batch of the ledger.
+    /// `OutOfMemory`: memory was refused. `Unfinished`: a place, counted from the ledger's first batch, was not finished.
     pub fn execute<R: Threads + Wait + Sync, G: Gate + Sync>(
         self,
         rt: &R,
@@ -386,6 +389,7 @@ impl Ledger {
             + named_by (transactions_of (map (λ p. p.now) payloads.now)) < 2 ^ 31 }
         requires workers { (1 ≤ workers) × (workers ≤ 64) }
         ensures executed { IfOk result (HasExecuted (map (λ p. p.now) payloads.now) self) }
+        ensures ran { IfOk result (HasRunInSlices (map (λ p. p.now) payloads.now) self) }
         ensures fault { let first = length self.receipts in
             let added = transactions_of (map (λ p. p.now) payloads.now) in
             IfErr result (Leaves first (first + length added)) }

@@ -165,6 +165,8 @@ impl Ledger {
         ensures counts { OnOk result (batches.new.counts.items ≡ []) }
         ensures txs { OnOk result (batches.new.txs.items ≡ []) }
     {
+        // Its contract says that the accounts are those of a ledger.
+        let _ = self.state.version();
         self.state.prepare(alloc, &batches.txs)?;
         let receipts = run_in_order(alloc, &mut self.state, &batches.txs)?;
         self.receipts.extend_from_slice(&receipts)?;

@@ -9,6 +9,7 @@ mod batches;
 mod executing;
 mod feeds;
 mod held;
+mod laws;
 mod ledger;
 mod ready;
 mod slice;
@@ -20,6 +21,7 @@ mod workers;
 
 pub use batches::Batches;
 pub use bk_pool::{ExecFault, Gate, Open};
+pub use laws::slices_leave_fold;
 pub use ledger::Ledger;
 pub use summary::Summary;
 pub use touched::Touched;

@@ -12,6 +12,7 @@ use Rattle.bk_rules.specs.Rows.{IsLedger}
 use Rattle.bk_rules.specs.Ledger as rules
 use Rattle.bk_rules.specs.Part.{AreIndexes, HaveSlots, are_held, ids_at, part_of}
 use Rattle.bk_conflicts.specs.declared.planner.Planner.{Planner}
+use Rattle.bk_steps.specs.Left.{LeaveByRun}
 use Rattle.bk_pool.specs.Outcomes.{IsFoldOnto}
 use Rattle.bk_ledger.specs.declared.ready.Ready.{Ready}
 use Rattle.bk_ledger.specs.declared.ready.Ahead.{Ahead}
@@ -79,6 +80,14 @@ pub record CanRunPart (r : Ready) (l : rules.Ledger) : Type 0 where
   pub is_ledger : IsLedger l.rows
   pub have_slots : HaveSlots l.slots l.rows
   pub has_room : HasRoom l.version (length (arc_value r.plan).txs) l.rows
+
+-- a whole run of the transactions on these accounts leaves them, and its receipts after those of a list
+abbrev pub IsRunOnto : List (Option Transaction) → rules.Ledger → List Receipt → List Receipt → rules.Ledger → Type 0
+IsRunOnto txs l old new after = (added : List Receipt) × (new ≡ old ++ added) × LeaveByRun txs l added after.rows
+
+-- a whole run of the slice, on the accounts that it touches
+abbrev pub IsPartRun : Ready → rules.Ledger → List Receipt → List Receipt → rules.Ledger → Type 0
+IsPartRun r l old new after = IsRunOnto (arc_value r.plan).txs (part_of (arc_value r.plan).ids l) old new after
 
 -- what the slice gives on the accounts that it touches, with its receipts after those of a list
 abbrev pub IsPartFold : Ready → rules.Ledger → List Receipt → List Receipt → rules.Ledger → Type 0

@@ -11,4 +11,4 @@ put_back-requires-clause-within g c = back_within c.args.ready.now c.self.inside
 pub returns-in_ok-extend_from_slice-in-Ok-clause-ran : goal.returns-in_ok-extend_from_slice-in-Ok-clause-ran
 returns-in_ok-extend_from_slice-in-Ok-clause-ran g c = rw (← c.self.view_is) (part_ran c.args.ready.now c.self.inside.state (subst (λ (l : LedgerValue). CanRunPart c.args.ready.now l.state) (sym c.self.view_is) c.requires.runs) _ refl
     c.self.inside.receipts.items c.run_part.new.receipts.items c.in-Ok.part c.in-Ok.ensures.fold c.args.ready.now.counts.items _ _ refl refl
-    (rw c.deref.ensures.value at c.in_ok-extend_from_slice-in-Ok.ensures.items) refl c.put_back.ensures.version c.put_back.ensures.rows c.put_back.ensures.slots)
+    (rw c.deref.ensures.value at c.in_ok-extend_from_slice-in-Ok.ensures.items) refl c.put_back.ensures.version c.put_back.ensures.rows c.put_back.ensures.slots c.in-Ok.ensures.ran)
