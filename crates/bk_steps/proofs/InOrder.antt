@@ -3,7 +3,7 @@ use Rattle.std.proofs.Common.{◌≡◌, ◌≢◌, inl, inr, ⊎_elim, ℕ, zer
 use Rattle.std.proofs.lemmas.Bool.{cases_eq, cases_Bool, both_ways}
 use Rattle.bk_conflicts.specs.Scene.{Scene, IsSound}
 use Rattle.bk_steps.specs.Course.{Course, Phase, waiting, held, done, free, busy, put, Has, HasRead, found, opened, IsDone}
-use Rattle.bk_steps.specs.Moves.{after_claim, after_read, after_write, after_finish, HasReadAll, HasWrittenAll, Moves, claims, reads_one, writes_one, finishes, IsReached, IsWholeRun}
+use Rattle.bk_steps.specs.Moves.{after_claim, after_read, after_write, after_finish, HasReadAll, HasWrittenAll, claims, reads_one, writes_one, finishes, IsReached, IsWholeRun}
 use Rattle.bk_steps.specs.declared.event.Event.{Event}
 use Rattle.bk_steps.proofs.Tables.{put_here, put_else}
 use Rattle.bk_steps.proofs.Running.{reached_then}
