@@ -1,20 +1,16 @@
 //! Each read and each write of a job fails in turn, and a feed ends at each of its bytes.
 
-use crate::devices::{Devices, Given, MOST_CALLS, feed_alone, job_with, run_by_two};
+use crate::devices::{Devices, Given, all_good, feed_alone, job_with, run_by_two};
 use crate::outcome::Outcome;
 use anyhow::Result;
 use bk_cli::Job;
+use bk_trial_kit::{Device, ends_of};
 use std::alloc::Global;
 use std::sync::Wait;
 use std::thread::Threads;
 
-/// Devices that do not fail.
-pub(crate) const GOOD: Devices = Devices {
-    read_size: usize::MAX,
-    reads: MOST_CALLS,
-    write_size: usize::MAX,
-    writes: MOST_CALLS,
-};
+/// More calls than any run of an example makes.
+pub(crate) const MOST_CALLS: usize = 1_000_000;
 
 /// How many bytes a call reads or writes at most: pieces that end within lines and frames.
 pub(crate) const SIZE: usize = 97;
@@ -47,9 +43,8 @@ where
 {
     for reads in 0..MOST_CALLS {
         let devices = Devices {
-            read_size: SIZE,
-            reads,
-            ..GOOD
+            feed: Device::lost_after(reads, SIZE),
+            ..all_good(SIZE)
         };
         let found = job_with(rt, job, given, devices);
         if found.is_same(whole) {
@@ -76,9 +71,8 @@ where
 {
     for writes in 0..MOST_CALLS {
         let devices = Devices {
-            write_size,
-            writes,
-            ..GOOD
+            out: Device::lost_after(writes, write_size),
+            ..all_good(usize::MAX)
         };
         let found = job_with(rt, job, given, devices);
         if found.is_same(whole) {
@@ -86,28 +80,12 @@ where
         }
         let is_fault = found.status == 4 && found.err.as_slice() == b"write failed\n".as_slice();
         let is_first = whole.out.starts_with(&found.out)
-            && (write_size == usize::MAX
-                || found.out.len() == (writes as usize).saturating_mul(write_size));
+            && (write_size == usize::MAX || found.out.len() == writes.saturating_mul(write_size));
         if !is_fault || !is_first {
             return false;
         }
     }
     false
-}
-
-// Where the magic and each frame of a feed end, by the lengths in its headers.
-fn ends_of(alloc: Global, feed: &[u8]) -> Result<Vec<usize>> {
-    let mut ends = vec![in alloc; 4usize]?;
-    let mut end = 4usize;
-    for _ in 0..feed.len() {
-        let Some([_, a, b, c, d]) = feed.get(end..).and_then(|rest| rest.first_chunk::<5>()) else {
-            break;
-        };
-        let length = u32::from_be_bytes([*a, *b, *c, *d]) as usize;
-        end = end.saturating_add(5).saturating_add(length);
-        ends.push(end)?;
-    }
-    Ok(ends)
 }
 
 // What a feed leaves that ends inside the frame that begins at an offset.
@@ -133,7 +111,7 @@ where
         if kept > EACH && kept % 41 != 0 && end.is_none() {
             continue;
         }
-        let found = job_with(rt, &job, feed_alone(&feed[..kept]), GOOD);
+        let found = job_with(rt, &job, feed_alone(&feed[..kept]), all_good(usize::MAX));
         if let Some(index) = end {
             frame = kept;
             if index >= 2 {

@@ -1,13 +1,14 @@
 //! Jobs that have an answer, with devices that fail.
 
-use crate::devices::{Devices, Given, MOST_CALLS, job_with};
+use crate::devices::{Devices, Given, all_good, job_with};
 use crate::example::Example;
 use crate::failing::{
-    GOOD, SIZE, UNREAD_FEED, UNREAD_TEXT, is_unread, reads_fail_well, writes_fail_well,
+    MOST_CALLS, SIZE, UNREAD_FEED, UNREAD_TEXT, is_unread, reads_fail_well, writes_fail_well,
 };
 use crate::outcome::Outcome;
 use anyhow::{Result, bail};
 use bk_cli::{Job, Workers, parse};
+use bk_trial_kit::Device;
 use std::alloc::Global;
 use std::fs;
 use std::rt::Files;
@@ -42,18 +43,14 @@ fn second_reads_fail_well<R>(
 where
     R: AllocGlobal + Threads + Wait + Sync,
 {
-    let devices = Devices {
-        read_size: SIZE,
-        ..GOOD
-    };
-    for second_reads in 0..MOST_CALLS {
-        let failing = Given {
-            second_reads,
-            ..given
+    for reads in 0..MOST_CALLS {
+        let devices = Devices {
+            second: Device::lost_after(reads, SIZE),
+            ..all_good(SIZE)
         };
-        let found = job_with(rt, job, failing, devices);
+        let found = job_with(rt, job, given, devices);
         if found.is_same(whole) {
-            return second_reads > 0 || job.second_file().is_none();
+            return reads > 0 || job.second_file().is_none();
         }
         if !is_unread(job, &found, whole, fault) {
             return false;
@@ -75,7 +72,7 @@ fn ends_well<R>(rt: &R, job: &Job, given: Given<'_>, command: &str) -> bool
 where
     R: AllocGlobal + Threads + Wait + Sync,
 {
-    let whole = job_with(rt, job, given, GOOD);
+    let whole = job_with(rt, job, given, all_good(usize::MAX));
     reads_fail_well(rt, job, given, &whole, first_fault(command))
         && second_reads_fail_well(rt, job, given, &whole, second_fault(command))
         && writes_fail_well(rt, job, given, &whole, SIZE)
@@ -103,7 +100,6 @@ where
     let given = Given {
         feed: &feed,
         second: &second,
-        second_reads: MOST_CALLS,
     };
     Ok(ends_well(rt, &job, given, example.command))
 }
@@ -138,9 +134,8 @@ where
     let given = Given {
         feed: &feed,
         second: &claimed,
-        second_reads: MOST_CALLS,
     };
-    let found = job_with(rt, &job, given, GOOD);
+    let found = job_with(rt, &job, given, all_good(usize::MAX));
     let wanted = long_verdict(alloc)?;
     Ok(found.status == 1 && found.out.as_slice() == wanted.as_slice() && found.err.is_empty())
 }

@@ -21,7 +21,8 @@ use crate::following::{Pieces, followed};
 use crate::jobs::{is_answered, job_fails_well, long_line_is_told};
 use crate::outcome::{Outcome, outcome_of};
 use crate::telling::progress_is_told;
-use anyhow::{Result, bail};
+use anyhow::Result;
+use bk_trial_kit::Tally;
 use std::alloc::Global;
 use std::fs;
 use std::rt::Files;
@@ -52,34 +53,28 @@ const PIECES: [Pieces; 4] = [
     },
 ];
 
-// How many command lines did what their example says, and how many did not.
-#[derive(Clone, Copy)]
-struct Tally {
-    passed: u32,
-    failed: u32,
-}
-
-impl Tally {
-    fn add(self, is_right: bool) -> Tally {
-        if is_right {
-            let passed = self.passed.saturating_add(1);
-            return Tally { passed, ..self };
-        }
-        let failed = self.failed.saturating_add(1);
-        Tally { failed, ..self }
-    }
-}
-
-// Says on standard error what an example did wrong.
-fn judge<R: Eprint>(rt: &R, example: &Example<'_>, what: &str, is_right: bool) -> Result<bool> {
+// Counts a comparison, and says on standard error what an example did wrong.
+fn note<R: Eprint>(
+    rt: &R,
+    example: &Example<'_>,
+    what: &str,
+    is_right: bool,
+    tally: &mut Tally,
+) -> Result<()> {
+    tally.count(is_right);
     if !is_right {
         eprintln!(rt; "{} {}: {what}", example.command, example.name)?;
     }
-    Ok(is_right)
+    Ok(())
 }
 
 // Runs the command line of an example with these words more.
-fn run_words<'a, R>(rt: &R, example: &Example<'a>, more: &[&'a str]) -> Result<bool>
+fn run_words<'a, R>(
+    rt: &R,
+    example: &Example<'a>,
+    more: &[&'a str],
+    tally: &mut Tally,
+) -> Result<()>
 where
     R: AllocGlobal + Files + Input + Eprint + Clock + Threads + Wait + Sync,
 {
@@ -89,7 +84,13 @@ where
     let wanted = fs::read(rt, example.wanted)?;
     let is_right = found.status == example.status
         && found.has_printed(&wanted, example.writes_both());
-    judge(rt, example, "another status or another text", is_right)
+    note(
+        rt,
+        example,
+        "another status or another text",
+        is_right,
+        tally,
+    )
 }
 
 // Runs a feed in pieces.
@@ -98,17 +99,16 @@ fn run_in_pieces<R>(
     example: &Example<'_>,
     feed: &[u8],
     whole: &Outcome,
-    tally: Tally,
-) -> Result<Tally>
+    tally: &mut Tally,
+) -> Result<()>
 where
     R: AllocGlobal + Eprint + Threads + Wait + Sync,
 {
-    let mut tally = tally;
     for pieces in PIECES {
         let is_right = followed(rt, feed, pieces).is_same(whole);
-        tally = tally.add(judge(rt, example, "pieces change the answer", is_right)?);
+        note(rt, example, "pieces change the answer", is_right, tally)?;
     }
-    Ok(tally)
+    Ok(())
 }
 
 // Runs a feed that is good as far as it goes with devices that fail, and cut.
@@ -117,53 +117,52 @@ fn run_failing<R>(
     example: &Example<'_>,
     feed: &[u8],
     whole: &Outcome,
-    tally: Tally,
-) -> Result<Tally>
+    tally: &mut Tally,
+) -> Result<()>
 where
     R: AllocGlobal + Eprint + Threads + Wait + Sync,
 {
     let (job, given) = (run_by_two(), feed_alone(feed));
     let reads = reads_fail_well(rt, &job, given, whole, UNREAD_FEED);
-    let tally = tally.add(judge(rt, example, "a failed read", reads)?);
+    note(rt, example, "a failed read", reads, tally)?;
     let writes = writes_fail_well(rt, &job, given, whole, 7)
         && writes_fail_well(rt, &job, given, whole, usize::MAX);
-    let tally = tally.add(judge(rt, example, "a failed write", writes)?);
+    note(rt, example, "a failed write", writes, tally)?;
     let cuts = cuts_are_right(rt, feed)?;
-    Ok(tally.add(judge(rt, example, "a feed that is cut", cuts)?))
+    note(rt, example, "a feed that is cut", cuts, tally)
 }
 
 // Runs a job that has an answer with devices that fail.
-fn run_answered<R>(rt: &R, example: &Example<'_>, tally: Tally) -> Result<Tally>
+fn run_answered<R>(rt: &R, example: &Example<'_>, tally: &mut Tally) -> Result<()>
 where
     R: AllocGlobal + Files + Eprint + Threads + Wait + Sync,
 {
     if !is_answered(example) {
-        return Ok(tally);
+        return Ok(());
     }
     let is_right = job_fails_well(rt, example)?;
-    Ok(tally.add(judge(rt, example, "a device that fails", is_right)?))
+    note(rt, example, "a device that fails", is_right, tally)
 }
 
 // Runs an example in each way that its command has.
-fn run_example<R>(rt: &R, example: &Example<'_>, tally: Tally) -> Result<Tally>
+fn run_example<R>(rt: &R, example: &Example<'_>, tally: &mut Tally) -> Result<()>
 where
     R: AllocGlobal + Files + Input + Eprint + Clock + Threads + Wait + Sync,
 {
     if !example.has_free_workers() {
-        let tally = tally.add(run_words(rt, example, &[])?);
+        run_words(rt, example, &[], tally)?;
         return run_answered(rt, example, tally);
     }
-    let mut tally = tally;
     for count in WORKERS {
-        tally = tally.add(run_words(rt, example, &["--workers", count])?);
+        run_words(rt, example, &["--workers", count], tally)?;
     }
     let Ok(feed) = fs::read(rt, example.name) else {
-        return Ok(tally);
+        return Ok(());
     };
     let whole = outcome_of(rt, &example.words)?;
-    let tally = run_in_pieces(rt, example, &feed, &whole, tally)?;
+    run_in_pieces(rt, example, &feed, &whole, tally)?;
     if whole.status == 2 {
-        return Ok(tally);
+        return Ok(());
     }
     run_failing(rt, example, &feed, &whole, tally)
 }
@@ -174,23 +173,17 @@ where
     R: AllocGlobal + Files + Input + Eprint + Clock + Threads + Wait + Sync,
 {
     let table = fs::read_to_string(rt, "commands")?;
-    let mut tally = Tally {
-        passed: 0,
-        failed: 0,
-    };
+    let mut tally = Tally::new();
     for line in table.lines() {
         let example = Example::of(rt.alloc(), line)?;
-        tally = run_example(rt, &example, tally)?;
+        run_example(rt, &example, &mut tally)?;
     }
-    let tally = tally.add(long_line_is_told(rt)?);
-    Ok(tally.add(progress_is_told(rt.alloc())))
+    tally.note(rt, "a claim of a long line", long_line_is_told(rt)?);
+    tally.note(rt, "progress", progress_is_told(rt.alloc()));
+    Ok(tally)
 }
 
 fn main(rt: HostRuntime) -> Result<()> {
     let tally = run_all(&rt)?;
-    println!(rt; "{} passed, {} failed", tally.passed, tally.failed)?;
-    if tally.failed > 0 {
-        bail!("examples failed");
-    }
-    Ok(())
+    tally.report(&rt)
 }

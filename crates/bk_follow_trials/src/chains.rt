@@ -1,11 +1,11 @@
 //! Chains of rounds of which nothing is committed for long, settled after each frame.
 
 use crate::ended::{replays, reports, takes};
-use crate::made::{ends_of, frame, made, part};
-use crate::tally::Tally;
+use crate::made::made;
 use anyhow::Result;
 use bk_pool::Open;
 use bk_replay::Follower;
+use bk_trial_kit::{Tally, ends_of, frame, part};
 use std::alloc::Global;
 use std::fmt::Write;
 use std::sync::Wait;

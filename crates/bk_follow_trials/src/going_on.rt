@@ -2,11 +2,11 @@
 
 use crate::ended::{reports, takes, takes_each};
 use crate::feeds::{BOTH, FIRST, REPEATED, REPEATED_LINES, REPORTS, TWO_COMMITS, report};
-use crate::made::{made, part, with_frames};
-use crate::tally::Tally;
+use crate::made::made;
 use anyhow::Result;
 use bk_pool::Open;
 use bk_replay::Follower;
+use bk_trial_kit::{Tally, part, with_frames};
 use std::alloc::Global;
 use std::sync::Wait;
 use std::thread::Threads;

@@ -16,7 +16,6 @@ mod pieces;
 mod slices;
 mod standing;
 mod stopped;
-mod tally;
 mod twins;
 
 use crate::chains::try_chains;
@@ -26,9 +25,9 @@ use crate::meeting::try_meetings;
 use crate::pieces::try_pieces;
 use crate::slices::try_slices;
 use crate::standing::try_standing;
-use crate::tally::Tally;
 use crate::twins::try_twins;
-use anyhow::{Result, bail};
+use anyhow::Result;
+use bk_trial_kit::Tally;
 use std::sync::Wait;
 use std::thread::Threads;
 
@@ -50,9 +49,5 @@ where
 
 fn main(rt: HostRuntime) -> Result<()> {
     let tally = run_all(&rt)?;
-    println!(rt; "{} passed, {} failed", tally.passed, tally.failed)?;
-    if tally.failed > 0 {
-        bail!("trials failed");
-    }
-    Ok(())
+    tally.report(&rt)
 }

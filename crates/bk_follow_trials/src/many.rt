@@ -1,12 +1,12 @@
 //! Forty batches, settled as they come and replayed, against the same batches one transaction at a time.
 
 use crate::ended::{Ended, finished, replayed, takes};
-use crate::made::{ends_of, frame, made, part};
-use crate::tally::Tally;
+use crate::made::made;
 use anyhow::Result;
 use bk_frames::Counted;
 use bk_pool::Open;
 use bk_replay::{Follower, Status, apply};
+use bk_trial_kit::{Tally, ends_of, frame, part};
 use std::alloc::Global;
 use std::fmt::Write;
 use std::str;

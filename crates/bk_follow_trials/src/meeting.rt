@@ -1,11 +1,11 @@
 //! Workers that are inside two places at once.
 
 use crate::made::made;
-use crate::tally::Tally;
 use anyhow::Result;
 use bk_frames::Counted;
 use bk_pool::Gate;
 use bk_replay::{Follower, Status, replay};
+use bk_trial_kit::Tally;
 use std::alloc::Global;
 use std::fmt::Write;
 use std::sync::Wait;

@@ -2,10 +2,10 @@
 
 use crate::ended::{cut_at, ends_in_fault, refuses, replayed, replays, reports, takes};
 use crate::feeds::{BOTH, ENDS, REPORTS, TWO_COMMITS, TWO_COMMITS_DIGEST, report};
-use crate::made::{has_digest, made, part};
-use crate::tally::Tally;
+use crate::made::{has_digest, made};
 use anyhow::Result;
 use bk_replay::{Fault, Follower};
+use bk_trial_kit::{Tally, part};
 use std::sync::Wait;
 use std::thread::Threads;
 

@@ -1,11 +1,11 @@
 //! Orders of batches that grow while they are executed, and that have more transactions than a slice.
 
 use crate::ended::{replays, reports, takes};
-use crate::made::{ends_of, frame, made, part, with_frames};
-use crate::tally::Tally;
+use crate::made::made;
 use anyhow::Result;
 use bk_pool::Open;
 use bk_replay::Follower;
+use bk_trial_kit::{Tally, ends_of, frame, part, with_frames};
 use std::alloc::Global;
 use std::fmt::Write;
 use std::sync::Wait;

@@ -2,13 +2,13 @@
 
 use crate::ended::{broken, refuses, takes, takes_each};
 use crate::feeds::TWO_COMMITS;
-use crate::made::{made, part};
+use crate::made::made;
 use crate::stopped::is_refused;
-use crate::tally::Tally;
 use anyhow::Result;
 use bk_frames::{Counted, FaultCode};
 use bk_pool::Open;
 use bk_replay::{Fault, Follower};
+use bk_trial_kit::{Tally, part};
 use std::io::{self, ErrorKind, Write};
 use std::sync::Wait;
 use std::thread::Threads;

@@ -1,14 +1,14 @@
 //! Twins, after which a feed may go on. Their ids were worked out by another program.
 
 use crate::ended::{broken, cut_at, ends_in_fault, refuses, takes, takes_each};
-use crate::made::{ends_of, frame, has_digest, made, part, with_frames};
+use crate::made::{has_digest, made};
 use crate::stopped::{is_refused, is_stopped};
-use crate::tally::Tally;
 use anyhow::{Result, bail};
 use bk_digest::Digest32;
 use bk_frames::FaultCode;
 use bk_pool::Open;
 use bk_replay::{Fault, Follower};
+use bk_trial_kit::{Tally, ends_of, frame, part, with_frames};
 use std::alloc::Global;
 use std::sync::Wait;
 use std::thread::Threads;

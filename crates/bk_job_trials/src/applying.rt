@@ -1,13 +1,12 @@
 //! `apply` over devices of which one call fails, whichever it is, and then works again. What comes out is the whole report,
 //! or the fault of that call with exactly the first bytes of the report, and nothing else.
 
-use crate::devices::{Manner, Reader, Writer, fails_once, good};
-use crate::feeds::{ACCOUNT_COMES, TWO_PAYMENTS, ends_of, frame_at, made};
-use crate::tally::Tally;
+use crate::feeds::{ACCOUNT_COMES, TWO_PAYMENTS, frame_at, made};
 use anyhow::Result;
 use bk_apply::apply;
 use bk_frames::{Counted, FaultCode, FeedFault, Sink, Source};
 use bk_results::Fault;
+use bk_trial_kit::{Device, Reader, Tally, Writer, ends_of};
 use std::alloc::Global;
 
 const PAID: &[u8] =
@@ -17,7 +16,7 @@ const COME: &[u8] =
     b"batch 0 3\ntx 0 0 30\ntx 1 0 10\ntx 2 3 0\naccount 1 80 1\naccount 9 20 1\nmoney 100\n";
 
 // More calls than any report here takes.
-const MOST_CALLS: u32 = 1_000;
+const MOST_CALLS: usize = 1_000;
 
 // What `apply` leaves, and how many calls of its devices failed.
 #[derive(Drop)]
@@ -53,7 +52,7 @@ impl Applied {
     }
 }
 
-fn apply_with(alloc: Global, feed: &[u8], reader: Manner, writer: Manner) -> Applied {
+fn apply_with(alloc: Global, feed: &[u8], reader: Device, writer: Device) -> Applied {
     let mut source = Counted::new(Reader::new(feed, reader));
     let mut sink = Counted::new(Writer::new(alloc, writer));
     let fault = apply(alloc, &mut source, &mut sink).err();
@@ -61,14 +60,14 @@ fn apply_with(alloc: Global, feed: &[u8], reader: Manner, writer: Manner) -> App
     Applied {
         fault,
         failures,
-        out: sink.into_inner().held,
+        out: sink.into_inner().into_bytes(),
     }
 }
 
 // ---- reads
 
-fn read_with(alloc: Global, feed: &[u8], reader: Manner) -> Applied {
-    apply_with(alloc, feed, reader, good(usize::MAX))
+fn read_with(alloc: Global, feed: &[u8], reader: Device) -> Applied {
+    apply_with(alloc, feed, reader, Device::good(usize::MAX))
 }
 
 // What a reading comes to of which a call fails.
@@ -94,7 +93,7 @@ fn judge(found: &Applied, begin: usize, report: &[u8]) -> Reading {
 fn read_failing(
     alloc: Global,
     feed: &[u8],
-    reader: Manner,
+    reader: Device,
     begin: usize,
     report: &[u8],
 ) -> Reading {
@@ -107,9 +106,15 @@ fn read_failing(
 fn each_read_fails(alloc: Global, feed: &[u8], ends: &[usize], report: &[u8], size: usize) -> bool {
     let mut has_ended = false;
     for calls in 0..MOST_CALLS {
-        let count = (calls as usize).saturating_mul(size).min(feed.len());
+        let count = calls.saturating_mul(size).min(feed.len());
         let begin = frame_at(ends, count);
-        match read_failing(alloc, feed, fails_once(calls, size), begin, report) {
+        match read_failing(
+            alloc,
+            feed,
+            Device::failing_once(calls, size),
+            begin,
+            report,
+        ) {
             Reading::Whole => return has_ended,
             Reading::Wrong => return false,
             Reading::Unread => {}
@@ -128,14 +133,14 @@ fn small_reads_fail(alloc: Global, feed: &[u8], report: &[u8], size: usize) -> R
 }
 
 // Whether a source that gives all that is asked for cannot read the frame that begins here, where this call fails.
-fn fails_at(alloc: Global, feed: &[u8], calls: u32, begin: usize) -> bool {
-    let found = read_with(alloc, feed, fails_once(calls, usize::MAX));
+fn fails_at(alloc: Global, feed: &[u8], calls: usize, begin: usize) -> bool {
+    let found = read_with(alloc, feed, Device::failing_once(calls, usize::MAX));
     found.is_unread(begin)
 }
 
 // Whether it reads all where the third call fails.
 fn reads_in_two(alloc: Global, feed: &[u8], report: &[u8]) -> bool {
-    let whole = read_with(alloc, feed, fails_once(2, usize::MAX));
+    let whole = read_with(alloc, feed, Device::failing_once(2, usize::MAX));
     whole.is_whole(report)
 }
 
@@ -156,8 +161,8 @@ enum Writing {
     Wrong,
 }
 
-fn write_failing(alloc: Global, feed: &[u8], writer: Manner, report: &[u8]) -> Writing {
-    let found = apply_with(alloc, feed, good(usize::MAX), writer);
+fn write_failing(alloc: Global, feed: &[u8], writer: Device, report: &[u8]) -> Writing {
+    let found = apply_with(alloc, feed, Device::good(usize::MAX), writer);
     if found.is_whole(report) {
         return Writing::Whole;
     }
@@ -169,16 +174,16 @@ fn write_failing(alloc: Global, feed: &[u8], writer: Manner, report: &[u8]) -> W
 
 // How many calls a report takes of a sink that takes at most `most` bytes a call. Before, each call fails in turn, and the
 // more calls there were, the more bytes are out. None where one of them does not fail well.
-fn calls_of(alloc: Global, feed: &[u8], report: &[u8], most: usize) -> Option<u32> {
+fn calls_of(alloc: Global, feed: &[u8], report: &[u8], most: usize) -> Option<usize> {
     let mut before = 0usize;
     for calls in 0..MOST_CALLS {
-        let count = match write_failing(alloc, feed, fails_once(calls, most), report) {
+        let count = match write_failing(alloc, feed, Device::failing_once(calls, most), report) {
             Writing::Whole => return Some(calls),
             Writing::Wrong => return None,
             Writing::Begun(count) => count,
         };
         let is_more = calls == 0 || before < count;
-        let is_exact = most > 1 || count == calls as usize;
+        let is_exact = most > 1 || count == calls;
         if !is_more || !is_exact {
             return None;
         }
@@ -190,7 +195,7 @@ fn calls_of(alloc: Global, feed: &[u8], report: &[u8], most: usize) -> Option<u3
 // Whether a report takes at least so many calls.
 fn takes_calls(alloc: Global, feed: &[u8], report: &[u8], most: usize, least: usize) -> bool {
     match calls_of(alloc, feed, report, most) {
-        Some(calls) => least <= calls as usize,
+        Some(calls) => least <= calls,
         None => false,
     }
 }

@@ -3,12 +3,12 @@
 use crate::devices::{Given, Printed, leaves_of_one};
 use crate::failing::{Answer, nothing_is_taken, writes_fail};
 use crate::feeds::{EMPTY, MISSING, ONE_COMMIT, made};
-use crate::tally::Tally;
 use crate::texts::{FIRST, ROOT, SECOND};
 use anyhow::{Result, bail};
 use bk_cli::{Job, Workers};
 use bk_digest::Digest32;
 use bk_results::Query;
+use bk_trial_kit::Tally;
 use std::sync::Wait;
 use std::thread::Threads;
 

@@ -1,12 +1,10 @@
 //! Two feeds that are compared. The answers were worked out by hand, the ids of twins by another program.
 
-use crate::devices::{
-    Devices, Given, Manner, Printed, all_good, answer, fault, good, leaves, lost_after,
-};
+use crate::devices::{Devices, Given, Printed, all_good, answer, fault, leaves};
 use crate::feeds::{ONE_COMMIT, REPEATED, made, made_with};
-use crate::tally::Tally;
 use anyhow::Result;
 use bk_cli::Job;
+use bk_trial_kit::{Device, Tally};
 use std::alloc::Global;
 use std::sync::Wait;
 use std::thread::Threads;
@@ -161,7 +159,7 @@ fn try_unread<R>(
     rt: &R,
     job: &Job,
     feed: &[u8],
-    (first, second): (Manner, Manner),
+    (first, second): (Device, Device),
     line: &str,
     tally: &mut Tally,
 )
@@ -175,7 +173,7 @@ where
     let devices = Devices {
         first,
         second,
-        out: good(64),
+        out: Device::good(64),
     };
     let is_right = leaves(rt, job, given, devices, fault(4, line));
     tally.note(rt, "a feed that cannot be read", is_right);
@@ -200,7 +198,11 @@ fn try_lost<R>(rt: &R, job: &Job, one: &[u8], tally: &mut Tally)
 where
     R: AllocGlobal + Eprint + Threads + Wait + Sync,
 {
-    let (sound, lost, end) = (good(64), lost_after(0, 64), lost_after(20, 64));
+    let (sound, lost, end) = (
+        Device::good(64),
+        Device::lost_after(0, 64),
+        Device::lost_after(20, 64),
+    );
     try_unread(rt, job, one, (sound, lost), "feed fault 8 at 0\n", tally);
     try_unread(rt, job, one, (lost, sound), "feed fault 8 at 0\n", tally);
     try_unread(rt, job, one, (end, lost), "feed fault 8 at 1230\n", tally);

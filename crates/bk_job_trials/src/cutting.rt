@@ -1,13 +1,11 @@
 //! Feeds that are cut into pieces: the frames that their headers say, the fault of a feed that ends too early, and for
 //! broken bytes the fault that reading them has.
 
-use crate::feeds::{
-    ACCOUNT_COMES, EMPTY, ONE_COMMIT, REPEATED, TWO_PAYMENTS, ends_of, frame, frame_at, made,
-};
-use crate::tally::Tally;
+use crate::feeds::{ACCOUNT_COMES, EMPTY, ONE_COMMIT, REPEATED, TWO_PAYMENTS, frame_at, made};
 use anyhow::Result;
 use bk_base::Kind;
 use bk_frames::{Counted, Cutter, FaultCode, Feed, FeedFault};
+use bk_trial_kit::{Tally, ends_of, frame};
 use std::alloc::Global;
 
 // One member or four, of both versions, with certificates, batches, and neither.

@@ -1,124 +1,12 @@
-//! Devices that move few bytes a call and fail, and jobs over them.
+//! Jobs over devices that move few bytes a call and fail.
 
 use bk_cli::Job;
 use bk_frames::Counted;
 use bk_jobs::run_job;
+use bk_trial_kit::{Device, Reader, Writer};
 use std::alloc::Global;
-use std::io::{self, ErrorKind, Read, Write};
 use std::sync::Wait;
 use std::thread::Threads;
-
-// More calls than any trial makes.
-const MOST_CALLS: u32 = u32::MAX;
-
-/// How a device works: it moves at most `most` bytes a call, `calls` calls succeed before one that fails, and `later` calls
-/// after that before the next one fails.
-#[derive(Clone, Copy)]
-pub(crate) struct Manner {
-    pub(crate) most: usize,
-    pub(crate) calls: u32,
-    pub(crate) later: u32,
-}
-
-/// A device that does not fail.
-pub(crate) fn good(most: usize) -> Manner {
-    Manner {
-        most,
-        calls: MOST_CALLS,
-        later: MOST_CALLS,
-    }
-}
-
-/// A device of which all calls fail after the first ones.
-pub(crate) fn lost_after(calls: u32, most: usize) -> Manner {
-    Manner {
-        most,
-        calls,
-        later: 0,
-    }
-}
-
-/// A device of which the one call after the first ones fails.
-pub(crate) fn fails_once(calls: u32, most: usize) -> Manner {
-    Manner {
-        most,
-        calls,
-        later: MOST_CALLS,
-    }
-}
-
-/// Gives these bytes.
-#[derive(Drop)]
-pub(crate) struct Reader<'a> {
-    rest: &'a [u8],
-    most: usize,
-    calls: u32,
-    later: u32,
-}
-
-impl<'a> Reader<'a> {
-    /// A reader of these bytes.
-    pub(crate) fn new(bytes: &'a [u8], manner: Manner) -> Reader<'a> {
-        Reader {
-            rest: bytes,
-            most: manner.most,
-            calls: manner.calls,
-            later: manner.later,
-        }
-    }
-}
-
-impl Read for Reader<'_> {
-    fn read(&mut self, buf: &mut [u8]) -> io::Result<usize> {
-        if self.calls == 0 {
-            self.calls = self.later;
-            return Err(io::Error::from(ErrorKind::Other));
-        }
-        self.calls -= 1;
-        let count = self.rest.len().min(buf.len()).min(self.most);
-        buf[..count].copy_from_slice(&self.rest[..count]);
-        self.rest = &self.rest[count..];
-        Ok(count)
-    }
-}
-
-/// Keeps what is written.
-#[derive(Drop)]
-pub(crate) struct Writer {
-    pub(crate) held: Vec<u8>,
-    most: usize,
-    calls: u32,
-    later: u32,
-}
-
-impl Writer {
-    /// A writer that keeps nothing yet.
-    pub(crate) fn new(alloc: Global, manner: Manner) -> Writer {
-        Writer {
-            held: Vec::new(alloc),
-            most: manner.most,
-            calls: manner.calls,
-            later: manner.later,
-        }
-    }
-}
-
-impl Write for Writer {
-    fn write(&mut self, buf: &[u8]) -> io::Result<usize> {
-        if self.calls == 0 {
-            self.calls = self.later;
-            return Err(io::Error::from(ErrorKind::Other));
-        }
-        self.calls -= 1;
-        let count = buf.len().min(self.most);
-        self.held.extend_from_slice(&buf[..count])?;
-        Ok(count)
-    }
-
-    fn flush(&mut self) -> io::Result<()> {
-        Ok(())
-    }
-}
 
 /// What a job reads: the first file and, for a job of two files, the second.
 #[derive(Clone, Copy)]
@@ -130,17 +18,17 @@ pub(crate) struct Given<'a> {
 /// How the devices of a job work.
 #[derive(Clone, Copy)]
 pub(crate) struct Devices {
-    pub(crate) first: Manner,
-    pub(crate) second: Manner,
-    pub(crate) out: Manner,
+    pub(crate) first: Device,
+    pub(crate) second: Device,
+    pub(crate) out: Device,
 }
 
 /// Devices that do not fail, and move at most this many bytes a call.
 pub(crate) fn all_good(most: usize) -> Devices {
     Devices {
-        first: good(most),
-        second: good(most),
-        out: good(most),
+        first: Device::good(most),
+        second: Device::good(most),
+        out: Device::good(most),
     }
 }
 
@@ -200,7 +88,7 @@ where
     let exit = run_job(rt, job, &mut first, &mut second, &mut out, &mut err);
     Outcome {
         status: exit.number(),
-        out: out.into_inner().held,
+        out: out.into_inner().into_bytes(),
         err: err.into_inner(),
     }
 }

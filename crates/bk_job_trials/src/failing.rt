@@ -1,13 +1,12 @@
 //! Each read and each write of a job fails in turn: for good, or once, after which the device works again.
 
 use crate::devices::{
-    Devices, Given, Manner, Outcome, Printed, fails_once, fault, good, job_with, leaves,
-    leaves_of_one, lost_after,
+    Devices, Given, Outcome, Printed, fault, job_with, leaves, leaves_of_one, lost_after,
 };
 use crate::feeds::{MISSING, MISSING_REPORT, made};
-use crate::tally::Tally;
 use anyhow::{Result, bail};
 use bk_cli::{Job, Workers};
+use bk_trial_kit::{Device, Tally};
 use std::sync::Wait;
 use std::thread::Threads;
 
@@ -18,7 +17,7 @@ const WORKERS: [u8; 2] = [1, 8];
 const TAKEN: [usize; 3] = [usize::MAX, 20, 7];
 
 // More calls than any answer here takes.
-const MOST_WRITES: u32 = 1_000;
+const MOST_WRITES: usize = 1_000;
 
 // ---- reads
 
@@ -39,7 +38,7 @@ const UNREAD: [&str; 11] = [
 ];
 
 // Whether a run leaves just this whose reader works like this.
-fn run_leaves<R>(rt: &R, job: &Job, feed: &[u8], first: Manner, printed: Printed<'_>) -> bool
+fn run_leaves<R>(rt: &R, job: &Job, feed: &[u8], first: Device, printed: Printed<'_>) -> bool
 where
     R: AllocGlobal + Threads + Wait + Sync,
 {
@@ -49,19 +48,25 @@ where
     };
     let devices = Devices {
         first,
-        second: good(40),
-        out: good(40),
+        second: Device::good(40),
+        out: Device::good(40),
     };
     leaves(rt, job, given, devices, printed)
 }
 
 // Whether a run ends with this fault where a read fails after so many.
-fn is_unread<R>(rt: &R, job: &Job, feed: &[u8], reads: u32, line: &str) -> bool
+fn is_unread<R>(rt: &R, job: &Job, feed: &[u8], reads: usize, line: &str) -> bool
 where
     R: AllocGlobal + Threads + Wait + Sync,
 {
-    run_leaves(rt, job, feed, lost_after(reads, 40), fault(4, line))
-        && run_leaves(rt, job, feed, fails_once(reads, 40), fault(4, line))
+    run_leaves(rt, job, feed, Device::lost_after(reads, 40), fault(4, line))
+        && run_leaves(
+            rt,
+            job,
+            feed,
+            Device::failing_once(reads, 40),
+            fault(4, line),
+        )
 }
 
 // Whether each read fails well, and the run is whole with one read more.
@@ -69,7 +74,7 @@ fn reads_fail<R>(rt: &R, job: &Job, feed: &[u8], unread: &[&str]) -> bool
 where
     R: AllocGlobal + Threads + Wait + Sync,
 {
-    let mut reads = 0u32;
+    let mut reads = 0usize;
     for line in unread {
         if !is_unread(rt, job, feed, reads, line) {
             return false;
@@ -81,7 +86,7 @@ where
         out: MISSING_REPORT,
         err: "",
     };
-    run_leaves(rt, job, feed, lost_after(reads, 40), whole)
+    run_leaves(rt, job, feed, Device::lost_after(reads, 40), whole)
 }
 
 // ---- writes
@@ -102,14 +107,14 @@ enum Written {
 }
 
 // Whether these are the first bytes of an answer, as many as so many writes take.
-fn is_begun(found: &Outcome, answer: Answer<'_>, writes: u32, most: usize) -> bool {
+fn is_begun(found: &Outcome, answer: Answer<'_>, writes: usize, most: usize) -> bool {
     found.status == 4
         && found.err.as_slice() == b"write failed\n".as_slice()
         && answer.out.starts_with(&found.out)
-        && (most == usize::MAX || found.out.len() == (writes as usize).saturating_mul(most))
+        && (most == usize::MAX || found.out.len() == writes.saturating_mul(most))
 }
 
-fn judge(found: &Outcome, answer: Answer<'_>, writes: u32, most: usize) -> Written {
+fn judge(found: &Outcome, answer: Answer<'_>, writes: usize, most: usize) -> Written {
     if found.is(answer.status, answer.out, b"") {
         return Written::Whole;
     }
@@ -119,13 +124,13 @@ fn judge(found: &Outcome, answer: Answer<'_>, writes: u32, most: usize) -> Writt
     Written::Wrong
 }
 
-fn job_writing<R>(rt: &R, job: &Job, given: Given<'_>, out: Manner) -> Outcome
+fn job_writing<R>(rt: &R, job: &Job, given: Given<'_>, out: Device) -> Outcome
 where
     R: AllocGlobal + Threads + Wait + Sync,
 {
     let devices = Devices {
-        first: good(64),
-        second: good(64),
+        first: Device::good(64),
+        second: Device::good(64),
         out,
     };
     job_with(rt, job, given, devices)
@@ -137,14 +142,14 @@ fn written_by<R>(
     job: &Job,
     given: Given<'_>,
     answer: Answer<'_>,
-    writes: u32,
-    out: Manner,
+    writes: usize,
+    out: Device,
 ) -> Written
 where
     R: AllocGlobal + Threads + Wait + Sync,
 {
     let found = job_writing(rt, job, given, out);
-    judge(&found, answer, writes, out.most)
+    judge(&found, answer, writes, out.most())
 }
 
 // What a job has written where the writer fails after so many writes, for good or once: the same.
@@ -153,13 +158,27 @@ fn written_after<R>(
     job: &Job,
     given: Given<'_>,
     answer: Answer<'_>,
-    (writes, most): (u32, usize),
+    (writes, most): (usize, usize),
 ) -> Written
 where
     R: AllocGlobal + Threads + Wait + Sync,
 {
-    let lost = written_by(rt, job, given, answer, writes, lost_after(writes, most));
-    let once = written_by(rt, job, given, answer, writes, fails_once(writes, most));
+    let lost = written_by(
+        rt,
+        job,
+        given,
+        answer,
+        writes,
+        Device::lost_after(writes, most),
+    );
+    let once = written_by(
+        rt,
+        job,
+        given,
+        answer,
+        writes,
+        Device::failing_once(writes, most),
+    );
     match (lost, once) {
         (Written::Whole, Written::Whole) => Written::Whole,
         (Written::Begun, Written::Begun) => Written::Begun,
@@ -194,7 +213,7 @@ pub(crate) fn nothing_is_taken<R>(rt: &R, job: &Job, given: Given<'_>) -> bool
 where
     R: AllocGlobal + Threads + Wait + Sync,
 {
-    let found = job_writing(rt, job, given, good(0));
+    let found = job_writing(rt, job, given, Device::good(0));
     found.is(4, b"", b"write failed\n")
 }
 
@@ -230,7 +249,7 @@ where
     let is_right = leaves_of_one(rt, job, b"", 40, fault(2, "feed fault 2 at 0\n"));
     tally.note(rt, "a run of no byte", is_right);
     let line = fault(4, "feed fault 8 at 0\n");
-    let is_right = run_leaves(rt, job, b"", lost_after(0, 40), line);
+    let is_right = run_leaves(rt, job, b"", Device::lost_after(0, 40), line);
     tally.note(rt, "a run of a reader that fails", is_right);
 }
 

@@ -3,6 +3,7 @@
 use anyhow::{Result, bail};
 use bk_frames::Counted;
 use bk_script::make;
+use bk_trial_kit::{ends_of, with_frames};
 use std::alloc::Global;
 
 /// One member, no account.
@@ -51,21 +52,6 @@ pub(crate) fn made_with(alloc: Global, script: &str, more: &str) -> Result<Vec<u
     made(alloc, &whole)
 }
 
-/// Where the magic and each frame of a feed end, by the lengths in its headers.
-pub(crate) fn ends_of(alloc: Global, feed: &[u8]) -> Result<Vec<usize>> {
-    let mut ends = vec![in alloc; 4usize]?;
-    let mut end = 4usize;
-    for _ in 0..feed.len() {
-        let Some([_, a, b, c, d]) = feed.get(end..).and_then(|rest| rest.first_chunk::<5>()) else {
-            break;
-        };
-        let length = u32::from_be_bytes([*a, *b, *c, *d]) as usize;
-        end = end.saturating_add(5).saturating_add(length);
-        ends.push(end)?;
-    }
-    Ok(ends)
-}
-
 /// Where the frame begins that is read once so many bytes were read: 0 in the magic, the end after all frames.
 pub(crate) fn frame_at(ends: &[usize], count: usize) -> usize {
     let mut begin = 0usize;
@@ -77,22 +63,18 @@ pub(crate) fn frame_at(ends: &[usize], count: usize) -> usize {
     begin
 }
 
-/// The bytes from one end to the next.
-pub(crate) fn frame<'a>(feed: &'a [u8], ends: &[usize], index: usize) -> &'a [u8] {
-    let first = ends.get(index).copied().unwrap_or(0);
-    let last = ends.get(index.saturating_add(1)).copied().unwrap_or(0);
-    feed.get(first..last).unwrap_or(&[])
+// The frames after the genesis, the last one first: those from 2 to n - 2, where n ends are known.
+fn put_backwards(order: &mut Vec<usize>, count: usize) -> Result<()> {
+    for index in 2..count.saturating_sub(1) {
+        order.push(count.saturating_sub(index))?;
+    }
+    Ok(())
 }
 
 /// A feed whose frames after the genesis come backwards.
 pub(crate) fn backwards(alloc: Global, feed: &[u8]) -> Result<Vec<u8>> {
     let ends = ends_of(alloc, feed)?;
-    let head = ends.get(2).copied().unwrap_or(0);
-    let mut turned = Vec::from_slice(alloc, feed.get(..head).unwrap_or(&[]))?;
-    // The frames after the genesis begin at ends 2 to n - 2, of n.
-    for index in 2..ends.len().saturating_sub(1) {
-        let other = ends.len().saturating_sub(index);
-        turned.extend_from_slice(frame(feed, &ends, other))?;
-    }
-    Ok(turned)
+    let mut order = Vec::new(alloc);
+    put_backwards(&mut order, ends.len())?;
+    Ok(with_frames(alloc, feed, &order)?)
 }

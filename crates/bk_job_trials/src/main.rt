@@ -12,7 +12,6 @@ mod devices;
 mod failing;
 mod feeds;
 mod runs;
-mod tally;
 mod texts;
 
 use crate::applying::try_applying;
@@ -21,9 +20,9 @@ use crate::comparing::try_comparing;
 use crate::cutting::try_cutting;
 use crate::failing::try_failing;
 use crate::runs::try_runs;
-use crate::tally::Tally;
 use crate::texts::try_texts;
-use anyhow::{Result, bail};
+use anyhow::Result;
+use bk_trial_kit::Tally;
 use std::sync::Wait;
 use std::thread::Threads;
 
@@ -44,9 +43,5 @@ where
 
 fn main(rt: HostRuntime) -> Result<()> {
     let tally = run_all(&rt)?;
-    println!(rt; "{} passed, {} failed", tally.passed, tally.failed)?;
-    if tally.failed > 0 {
-        bail!("trials failed");
-    }
-    Ok(())
+    tally.report(&rt)
 }

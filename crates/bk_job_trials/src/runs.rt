@@ -5,9 +5,9 @@ use crate::devices::{Printed, answer, fault, leaves_of_one};
 use crate::feeds::{
     ACCOUNT_COMES, EMPTY, LINKED, MISSING, MISSING_REPORT, ONE_COMMIT, backwards, made, made_with,
 };
-use crate::tally::Tally;
 use anyhow::Result;
 use bk_cli::{Job, Workers};
+use bk_trial_kit::Tally;
 use std::alloc::Global;
 use std::sync::Wait;
 use std::thread::Threads;

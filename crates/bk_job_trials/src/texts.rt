@@ -3,9 +3,9 @@
 use crate::devices::{Given, answer, fault, leaves_of_one};
 use crate::failing::{Answer, nothing_is_taken, writes_fail};
 use crate::feeds::{EMPTY, made};
-use crate::tally::Tally;
 use anyhow::Result;
 use bk_cli::{Job, Workers};
+use bk_trial_kit::Tally;
 use std::alloc::Global;
 use std::sync::Wait;
 use std::thread::Threads;

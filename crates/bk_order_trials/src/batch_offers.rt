@@ -1,9 +1,9 @@
 //! Batches that are offered by hand, and many short lists of drawn ones beside a plain slow body.
 
 use crate::offers::{Offered, id_of, next, slow_collision};
-use crate::tally::Tally;
 use anyhow::Result;
 use bk_evidence::{BatchOffer, BatchRef, Batches};
+use bk_trial_kit::Tally;
 use std::alloc::Global;
 
 // Offers a payload of one byte under a digest.

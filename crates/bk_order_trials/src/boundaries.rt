@@ -3,10 +3,10 @@
 use crate::certs::place;
 use crate::checks::{GOOD, WEIGHTS, found, made};
 use crate::members::{EVERYBODY, Members};
-use crate::tally::Tally;
 use anyhow::{Result, bail};
 use bk_base::Version;
 use bk_committee::Committee;
+use bk_trial_kit::Tally;
 use std::alloc::Global;
 
 // A certificate by its round and author, its parents and its signers, and what a check finds.

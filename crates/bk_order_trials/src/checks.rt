@@ -2,13 +2,13 @@
 
 use crate::certs::{Parts, place, sealed};
 use crate::members::{EVERYBODY, Members};
-use crate::tally::Tally;
 use anyhow::Result;
 use bk_base::Version;
 use bk_cert::CertRef;
 use bk_certcheck::{Verdict, check, check_all};
 use bk_committee::Committee;
 use bk_digest::Digest32;
+use bk_trial_kit::Tally;
 use std::alloc::Global;
 use std::thread::Threads;
 

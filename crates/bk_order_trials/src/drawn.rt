@@ -1,7 +1,6 @@
 //! Graphs of certificates drawn at random.
 
 use crate::certs::place;
-use crate::chance::Chance;
 use crate::members::Members;
 use crate::row::{Row, row_id};
 use crate::set::Set;
@@ -9,6 +8,7 @@ use anyhow::Result;
 use bk_base::Version;
 use bk_cert::CertRef;
 use bk_digest::Digest32;
+use bk_trial_kit::Chance;
 use std::alloc::Global;
 
 /// How many batches there are.

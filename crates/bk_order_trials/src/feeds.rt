@@ -1,19 +1,18 @@
 //! Drawn feeds in several orders and in pieces, against the plain reading.
 
-use crate::chance::Chance;
 use crate::drawn::{Style, drawn_rows};
 use crate::frames::{Frame, drawn_held, frames_of};
 use crate::members::Members;
 use crate::plain::{Expected, read_plainly, skipped};
 use crate::row::{Row, digest, payload};
 use crate::taking::{Way, discard, numbers, rejects, take_all};
-use crate::tally::Tally;
 use anyhow::Result;
 use bk_base::Version;
 use bk_commit::committed;
 use bk_flatten::whole_order;
 use bk_order::Intake;
 use bk_rounds::Rounds;
+use bk_trial_kit::{Chance, Tally};
 use std::alloc::Global;
 use std::thread::Threads;
 

@@ -1,7 +1,6 @@
 //! The frames of a drawn graph: its certificates, some of them twice, others that break a rule, and batches.
 
 use crate::certs::{Parts, place, sealed};
-use crate::chance::Chance;
 use crate::drawn::BATCHES;
 use crate::members::{EVERYBODY, Members};
 use crate::row::{Row, payload, sealed_row};
@@ -9,6 +8,7 @@ use anyhow::Result;
 use bk_base::Kind;
 use bk_committee::Committee;
 use bk_digest::Digest32;
+use bk_trial_kit::Chance;
 use std::alloc::Global;
 
 /// A frame that breaks no rule.

@@ -3,12 +3,12 @@
 use crate::certs::place;
 use crate::checks::{GOOD, found, made, number};
 use crate::members::{EVERYBODY, Members};
-use crate::tally::Tally;
 use anyhow::Result;
 use bk_base::Version;
 use bk_certcheck::{Verdict, check, check_all, check_each, one_verdict};
 use bk_committee::Committee;
 use bk_digest::Digest32;
+use bk_trial_kit::Tally;
 use std::alloc::Global;
 use std::thread::Threads;
 

@@ -7,7 +7,6 @@
 mod batch_offers;
 mod boundaries;
 mod certs;
-mod chance;
 mod checks;
 mod drawn;
 mod feeds;
@@ -20,7 +19,6 @@ mod row;
 mod set;
 mod story;
 mod taking;
-mod tally;
 mod twins;
 mod votes;
 
@@ -30,10 +28,10 @@ use crate::checks::try_checks;
 use crate::feeds::try_feeds;
 use crate::judging::try_judging;
 use crate::offers::try_offers;
-use crate::tally::Tally;
 use crate::twins::try_twins;
 use crate::votes::try_votes;
-use anyhow::{Result, bail};
+use anyhow::Result;
+use bk_trial_kit::Tally;
 use std::thread::Threads;
 
 fn run_all<R>(rt: &R, tally: &mut Tally)
@@ -53,9 +51,5 @@ where
 fn main(rt: HostRuntime) -> Result<()> {
     let mut tally = Tally::new();
     run_all(&rt, &mut tally);
-    println!(rt; "{} passed, {} failed", tally.passed, tally.failed)?;
-    if tally.failed > 0 {
-        bail!("trials failed");
-    }
-    Ok(())
+    tally.report(&rt)
 }

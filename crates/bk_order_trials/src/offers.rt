@@ -2,11 +2,11 @@
 //! and ids are drawn, so that many of them meet and ids collide.
 
 use crate::certs::{Parts, header_of, place};
-use crate::tally::Tally;
 use anyhow::Result;
 use bk_cert::SharedCert;
 use bk_digest::Digest32;
 use bk_evidence::{Evidence, Held, Offer};
+use bk_trial_kit::Tally;
 use std::alloc::Global;
 
 /// A certificate of one batch under an id.

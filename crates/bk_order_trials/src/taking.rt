@@ -2,11 +2,11 @@
 
 ghost use Rattle.std.specs.Prelude.{◌≡◌};
 
-use crate::chance::Chance;
 use crate::frames::{Frame, GOOD};
 use anyhow::{Result, bail};
 use bk_base::Kind;
 use bk_order::Intake;
+use bk_trial_kit::Chance;
 use std::alloc::Global;
 use std::thread::Threads;
 

@@ -3,13 +3,11 @@
 ghost use Rattle.std.specs.Prelude.{◌≡◌};
 
 use crate::certs::{Parts, id_of, sealed};
-use crate::chance::Chance;
 use crate::drawn::{Style, drawn_rows};
 use crate::frames::{Frame, drawn_held, frames_of, good};
 use crate::members::{EVERYBODY, Members};
 use crate::row::{Row, digest};
 use crate::taking::{Way, discard, numbers, take_all};
-use crate::tally::Tally;
 use anyhow::Result;
 use bk_base::Version;
 use bk_cert::CertRef;
@@ -17,6 +15,7 @@ use bk_committee::Committee;
 use bk_digest::Digest32;
 use bk_evidence::Evidence;
 use bk_order::{Intake, Stop};
+use bk_trial_kit::{Chance, Tally};
 use std::alloc::Global;
 use std::thread::Threads;
 

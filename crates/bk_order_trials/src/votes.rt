@@ -2,8 +2,8 @@
 
 use crate::members::Members;
 use crate::story::{Story, is_told};
-use crate::tally::Tally;
 use bk_base::Version;
+use bk_trial_kit::Tally;
 
 const FOUR: Members<'static> = Members {
     version: Version::One,

@@ -2,11 +2,11 @@
 
 use crate::certs::{Parts, place, sealed};
 use crate::members::{EVERYBODY, Members, heads, weighted};
-use crate::tally::Tally;
 use crate::verdicts::{GOOD, found};
 use anyhow::Result;
 use bk_committee::Committee;
 use bk_digest::Digest32;
+use bk_trial_kit::Tally;
 use std::alloc::Global;
 
 // A certificate by its round and author, the bytes that its parents have as their ids, and its signers; and the number
@@ -37,12 +37,12 @@ where
     for case in cases {
         let bytes = made(alloc, &all, *case)?;
         let is_right = found(alloc, &committee, &bytes)? == Some(case.4);
-        tally.note(
+        tally.note_part(
             rt,
             "a certificate at a boundary",
             "verdict by hand",
             is_right,
-        )?;
+        );
     }
     Ok(())
 }
@@ -103,16 +103,17 @@ where
     let mut bytes = made(alloc, &committee, (1, 3, &[], &[0, 1, 2], GOOD))?;
     bytes.push(0)?;
     let is_right = found(alloc, &committee, &bytes)? == Some(0);
-    tally.note(rt, "a byte more", "verdict by hand", is_right)?;
+    tally.note_part(rt, "a byte more", "verdict by hand", is_right);
     let _last = bytes.pop();
     if let Some(last) = bytes.last_mut() {
         *last ^= 1;
     }
     let is_right = found(alloc, &committee, &bytes)? == Some(7);
-    tally.note(rt, "a bit of a tag turned", "verdict by hand", is_right)?;
+    tally.note_part(rt, "a bit of a tag turned", "verdict by hand", is_right);
     let _last = bytes.pop();
     let is_right = found(alloc, &committee, &bytes)? == Some(0);
-    tally.note(rt, "a byte less", "verdict by hand", is_right)
+    tally.note_part(rt, "a byte less", "verdict by hand", is_right);
+    Ok(())
 }
 
 /// Certificates that just break no rule, and those that just break one.

@@ -1,12 +1,12 @@
 //! Graphs of certificates drawn at random.
 
 use crate::certs::{Parts, id_of, place, sealed};
-use crate::chance::Chance;
 use crate::members::Members;
 use anyhow::Result;
 use bk_cert::CertRef;
 use bk_committee::Committee;
 use bk_digest::Digest32;
+use bk_trial_kit::Chance;
 use std::alloc::Global;
 
 /// How many batches there are.

@@ -1,9 +1,9 @@
 //! What certificates and batches give, and how it is compared.
 
-use crate::tally::Tally;
 use anyhow::Result;
 use bk_cert::CertRef;
 use bk_digest::Digest32;
+use bk_trial_kit::Tally;
 
 /// What some certificates and batches give.
 #[derive(Drop)]
@@ -40,15 +40,15 @@ impl Given {
         what: &str,
         found: &Given,
         tally: &mut Tally,
-    ) -> Result<()> {
+    ) {
         let is_same = self.admitted.as_slice() == found.admitted.as_slice();
-        tally.note(rt, what, "admission", is_same)?;
+        tally.note_part(rt, what, "admission", is_same);
         let is_same = self.anchors.as_slice() == found.anchors.as_slice();
-        tally.note(rt, what, "anchors", is_same)?;
+        tally.note_part(rt, what, "anchors", is_same);
         let is_same = self.order.as_slice() == found.order.as_slice();
-        tally.note(rt, what, "order", is_same)?;
+        tally.note_part(rt, what, "order", is_same);
         let is_same = are_same(&self.payloads, &found.payloads);
-        tally.note(rt, what, "batches", is_same)?;
-        tally.note(rt, what, "missing batch", self.missing == found.missing)
+        tally.note_part(rt, what, "batches", is_same);
+        tally.note_part(rt, what, "missing batch", self.missing == found.missing);
     }
 }

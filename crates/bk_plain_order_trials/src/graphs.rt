@@ -1,6 +1,5 @@
 //! Drawn graphs of certificates: the plain bodies against the product.
 
-use crate::chance::Chance;
 use crate::drawn::{BATCHES, Drawing, Style, drawn_certs, shuffle};
 use crate::given::Given;
 use crate::members::{EVERYBODY, Members, heads, weighted};
@@ -8,10 +7,10 @@ use crate::plain::given_plainly;
 use crate::product::{given_by_product, held_of, stored_of};
 use crate::shown::Shown;
 use crate::strays::drawn_strays;
-use crate::tally::Tally;
 use crate::verdicts::found;
 use anyhow::Result;
 use bk_committee::Committee;
+use bk_trial_kit::{Chance, Tally};
 use std::alloc::Global;
 
 // Compares the verdicts on certificates.
@@ -30,7 +29,7 @@ where
         if let Some(rule) = rule {
             shown.add_verdict(rule);
         }
-        tally.note(rt, "a drawn certificate", "verdict", rule.is_some())?;
+        tally.note_part(rt, "a drawn certificate", "verdict", rule.is_some());
     }
     Ok(())
 }
@@ -65,7 +64,8 @@ where
     let given: Given = given_plainly(alloc, &committee, &held, &stored)?;
     shown.add(members, &held, &given);
     let found = given_by_product(alloc, &committee, &held, batches)?;
-    given.note_same(rt, "a drawn graph", &found, tally)
+    given.note_same(rt, "a drawn graph", &found, tally);
+    Ok(())
 }
 
 // Draws a graph, and certificates that break a rule.
@@ -134,7 +134,8 @@ where
     try_members(rt, heads(&[1; 1]), (9, 1), &mut shown, tally)?;
     try_members(rt, heads(&[1; 4]), (9, 3), &mut shown, tally)?;
     try_members(rt, heads(&[1; 7]), (6, 1), &mut shown, tally)?;
-    shown.note(rt, "version One", tally)
+    shown.note(rt, "version One", tally);
+    Ok(())
 }
 
 fn try_weighted<R>(rt: &R, tally: &mut Tally) -> Result<()>
@@ -148,7 +149,8 @@ where
     }
     let seven = weighted(&[3, 1, 4, 1, 5, 9, 2]);
     try_members(rt, seven, (6, 1), &mut shown, tally)?;
-    shown.note(rt, "version Two", tally)
+    shown.note(rt, "version Two", tally);
+    Ok(())
 }
 
 /// Drawn graphs of one, four and seven members, of both versions.

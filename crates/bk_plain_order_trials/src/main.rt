@@ -8,7 +8,6 @@
 
 mod boundaries;
 mod certs;
-mod chance;
 mod drawn;
 mod given;
 mod graphs;
@@ -19,14 +18,13 @@ mod shown;
 mod stories;
 mod story;
 mod strays;
-mod tally;
 mod verdicts;
 
 use crate::boundaries::try_boundaries;
 use crate::graphs::try_graphs;
 use crate::stories::try_stories;
-use crate::tally::Tally;
-use anyhow::{Result, bail};
+use anyhow::Result;
+use bk_trial_kit::Tally;
 
 fn run_all<R>(rt: &R) -> Result<Tally>
 where
@@ -41,9 +39,5 @@ where
 
 fn main(rt: HostRuntime) -> Result<()> {
     let tally = run_all(&rt)?;
-    println!(rt; "{} passed, {} failed", tally.passed, tally.failed)?;
-    if tally.failed > 0 {
-        bail!("trials failed");
-    }
-    Ok(())
+    tally.report(&rt)
 }

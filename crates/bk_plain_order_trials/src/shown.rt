@@ -3,9 +3,9 @@
 use crate::given::Given;
 use crate::members::Members;
 use crate::product::place_of;
-use crate::tally::Tally;
 use anyhow::Result;
 use bk_certcheck::Checked;
+use bk_trial_kit::Tally;
 
 /// How often each verdict was found, and how much was ordered, waited and was missing.
 #[derive(Clone, Copy)]
@@ -80,13 +80,13 @@ impl Shown {
 
     /// Each verdict has to be found, and some certificates have to be ordered and to wait, some anchors to be skipped,
     /// and some batches to be missing.
-    pub(crate) fn note<R: Eprint>(&self, rt: &R, what: &str, tally: &mut Tally) -> Result<()> {
+    pub(crate) fn note<R: Eprint>(&self, rt: &R, what: &str, tally: &mut Tally) {
         for count in self.verdicts {
-            tally.note(rt, what, "a verdict that is found too seldom", count > 2)?;
+            tally.note_part(rt, what, "a verdict that is found too seldom", count > 2);
         }
-        tally.note(rt, what, "little is ordered", self.ordered > 100)?;
-        tally.note(rt, what, "little waits", self.waiting > 20)?;
-        tally.note(rt, what, "few anchors are skipped", self.skipped > 1)?;
-        tally.note(rt, what, "little is missing", self.missing > 3)
+        tally.note_part(rt, what, "little is ordered", self.ordered > 100);
+        tally.note_part(rt, what, "little waits", self.waiting > 20);
+        tally.note_part(rt, what, "few anchors are skipped", self.skipped > 1);
+        tally.note_part(rt, what, "little is missing", self.missing > 3);
     }
 }

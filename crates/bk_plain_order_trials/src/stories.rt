@@ -2,8 +2,8 @@
 
 use crate::members::{heads, weighted};
 use crate::story::{Step, Story, try_story};
-use crate::tally::Tally;
 use anyhow::Result;
+use bk_trial_kit::Tally;
 
 // ---- one member
 

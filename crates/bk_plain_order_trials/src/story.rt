@@ -6,11 +6,11 @@ use crate::given::Given;
 use crate::members::{EVERYBODY, Members};
 use crate::plain::given_plainly;
 use crate::product::{given_by_product, held_of, stored_of};
-use crate::tally::Tally;
 use anyhow::Result;
 use bk_cert::CertRef;
 use bk_committee::Committee;
 use bk_digest::Digest32;
+use bk_trial_kit::Tally;
 use std::alloc::Global;
 
 /// A round and an author.
@@ -141,11 +141,12 @@ where
     let committee = story.members.committee(alloc)?;
     let certs = certs_of(alloc, story)?;
     let held = held_of(alloc, &committee, &certs)?;
-    tally.note(rt, story.name, "held", held.len() == certs.len())?;
+    tally.note_part(rt, story.name, "held", held.len() == certs.len());
     let stored = stored_of(alloc, story.held)?;
     let given = given_plainly(alloc, &committee, &held, &stored)?;
     let wanted = wanted_of(alloc, story)?;
-    given.note_same(rt, story.name, &wanted, tally)?;
+    given.note_same(rt, story.name, &wanted, tally);
     let found = given_by_product(alloc, &committee, &held, story.held)?;
-    given.note_same(rt, story.name, &found, tally)
+    given.note_same(rt, story.name, &found, tally);
+    Ok(())
 }

@@ -1,10 +1,10 @@
 //! Certificates that break some rules, drawn at random.
 
 use crate::certs::{Parts, place, sealed};
-use crate::chance::Chance;
 use crate::drawn::{Drawing, absent_id};
 use anyhow::Result;
 use bk_digest::Digest32;
+use bk_trial_kit::Chance;
 use std::alloc::Global;
 
 const ROUNDS: [u32; 8] = [1, 1, 1, 2, 2, 0, 1_000_000, 1_000_001];

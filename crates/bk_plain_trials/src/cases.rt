@@ -4,10 +4,10 @@ use crate::feeds::feed_with;
 use crate::given::Given;
 use crate::plain::given_alone;
 use crate::product::given_applied;
-use crate::tally::Tally;
 use anyhow::Result;
 use bk_base::{Row, Version};
 use bk_rules::Receipt;
+use bk_trial_kit::Tally;
 use bk_tx::Tx;
 use std::alloc::Global;
 use std::thread::Threads;
@@ -38,9 +38,9 @@ where
     let feed = feed_with(alloc, case.version, case.opening, case.text)?;
     let given = given_of(alloc, case)?;
     let is_right = given.receipts.first().copied() == Some(case.wanted);
-    tally.note(rt, case.name, "receipt by hand", is_right)?;
+    tally.note_part(rt, case.name, "receipt by hand", is_right);
     let found = given_applied(rt, alloc, &feed)?;
-    given.note_same(rt, case.name, &found, tally)?;
+    given.note_same(rt, case.name, &found, tally);
     let Given { rows, .. } = given;
     Ok(rows)
 }

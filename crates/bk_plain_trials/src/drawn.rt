@@ -1,10 +1,10 @@
 //! Opening accounts and transactions, drawn so that every status comes up often.
 
-use crate::chance::Chance;
 use anyhow::Result;
 use bk_base::Row;
 use bk_plain::account_at;
 use bk_rules::Account;
+use bk_trial_kit::Chance;
 use bk_tx::{Body, Declarations, Declared, Payment, Payments, Tx};
 use std::alloc::Global;
 

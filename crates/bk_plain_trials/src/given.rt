@@ -1,10 +1,10 @@
 //! What transactions give, and how it is compared.
 
-use crate::tally::Tally;
 use anyhow::Result;
 use bk_base::Row;
 use bk_digest::Digest32;
 use bk_rules::Receipt;
+use bk_trial_kit::Tally;
 
 /// The receipt of each transaction, the rows after all of them, and the digest of these rows.
 #[derive(Drop)]
@@ -48,13 +48,13 @@ impl Given {
         what: &str,
         found: &Given,
         tally: &mut Tally,
-    ) -> Result<()> {
+    ) {
         let are_same = are_same_statuses(&self.receipts, &found.receipts);
-        tally.note(rt, what, "status", are_same)?;
+        tally.note_part(rt, what, "status", are_same);
         let are_same = are_same_amounts(&self.receipts, &found.receipts);
-        tally.note(rt, what, "moved amount", are_same)?;
+        tally.note_part(rt, what, "moved amount", are_same);
         let are_same = self.rows.as_slice() == found.rows.as_slice();
-        tally.note(rt, what, "rows", are_same)?;
-        tally.note(rt, what, "state digest", self.digest == found.digest)
+        tally.note_part(rt, what, "rows", are_same);
+        tally.note_part(rt, what, "state digest", self.digest == found.digest);
     }
 }

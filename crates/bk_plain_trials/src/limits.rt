@@ -1,11 +1,11 @@
 //! Transactions at limits, whose receipts were computed by hand.
 
 use crate::cases::{Case, try_case};
-use crate::tally::Tally;
 use crate::texts::text_of;
 use anyhow::{Result, bail};
 use bk_base::{Row, Version};
 use bk_rules::{Receipt, Status};
+use bk_trial_kit::Tally;
 use bk_tx::{Body, Declared, Payment, Payments};
 use std::alloc::Global;
 use std::thread::Threads;

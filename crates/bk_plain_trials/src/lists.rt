@@ -1,18 +1,17 @@
 //! Drawn lists of transactions, executed one at a time, in slices, and by several workers.
 
-use crate::chance::Chance;
 use crate::drawn::drawn_opening;
 use crate::feeds::feed_of;
 use crate::given::Given;
 use crate::plain::given_in_order;
 use crate::product::{given_by_ledger, given_by_workers, given_in_slices};
 use crate::shown::Shown;
-use crate::tally::Tally;
 use crate::texts::drawn_texts;
 use anyhow::Result;
 use bk_base::Version;
 use bk_frames::Feed;
 use bk_ledger::Batches;
+use bk_trial_kit::{Chance, Tally};
 use std::alloc::Global;
 use std::sync::Wait;
 use std::thread::Threads;
@@ -53,9 +52,10 @@ where
 {
     let alloc: Global = rt.alloc();
     let found = given_in_slices(rt, alloc, feed, LEAST, workers)?;
-    wanted.note_same(rt, "a list in slices", &found, tally)?;
+    wanted.note_same(rt, "a list in slices", &found, tally);
     let found = given_by_workers(rt, alloc, feed, workers)?;
-    wanted.note_same(rt, "a list by workers", &found, tally)
+    wanted.note_same(rt, "a list by workers", &found, tally);
+    Ok(())
 }
 
 // The transactions of a feed in every way.
@@ -64,7 +64,7 @@ where
     R: AllocGlobal + Eprint + Threads + Wait + Sync,
 {
     let found = given_by_ledger(rt, rt.alloc(), feed)?;
-    wanted.note_same(rt, "a list one at a time", &found, tally)?;
+    wanted.note_same(rt, "a list one at a time", &found, tally);
     for workers in WORKERS {
         try_workers(rt, feed, workers, wanted, tally)?;
     }
@@ -98,7 +98,8 @@ where
     for _ in 0..LISTS {
         try_list(rt, version, &mut chance, &mut shown, tally)?;
     }
-    shown.note(rt, version, tally)
+    shown.note(rt, version, tally);
+    Ok(())
 }
 
 /// Drawn lists of both versions.

@@ -7,7 +7,6 @@
 #![tactic(auto)]
 
 mod cases;
-mod chance;
 mod drawn;
 mod feeds;
 mod given;
@@ -18,7 +17,6 @@ mod product;
 mod rows;
 mod shown;
 mod singles;
-mod tally;
 mod texts;
 mod trees;
 
@@ -26,9 +24,9 @@ use crate::limits::try_limits;
 use crate::lists::try_lists;
 use crate::rows::try_rows;
 use crate::singles::try_singles;
-use crate::tally::Tally;
 use crate::trees::try_trees;
-use anyhow::{Result, bail};
+use anyhow::Result;
+use bk_trial_kit::Tally;
 use std::sync::Wait;
 use std::thread::Threads;
 
@@ -47,9 +45,5 @@ where
 
 fn main(rt: HostRuntime) -> Result<()> {
     let tally = run_all(&rt)?;
-    println!(rt; "{} passed, {} failed", tally.passed, tally.failed)?;
-    if tally.failed > 0 {
-        bail!("trials failed");
-    }
-    Ok(())
+    tally.report(&rt)
 }

@@ -1,10 +1,10 @@
 //! How often drawn transactions show what they have to show.
 
 use crate::given::Given;
-use crate::tally::Tally;
 use anyhow::Result;
 use bk_base::{Row, Version};
 use bk_rules::{Receipt, Status};
+use bk_trial_kit::Tally;
 use bk_tx::{Body, Tx};
 
 // Everything comes more than this often.
@@ -90,23 +90,23 @@ impl Shown {
     }
 
     /// Everything has to have come, and accounts come to be in version Two alone.
-    pub(crate) fn note<R: Eprint>(self, rt: &R, version: Version, tally: &mut Tally) -> Result<()> {
+    pub(crate) fn note<R: Eprint>(self, rt: &R, version: Version, tally: &mut Tally) {
         for (name, count) in STATUSES.iter().zip(&self.statuses) {
-            tally.note(
+            tally.note_part(
                 rt,
                 "a status that is drawn too seldom",
                 *name,
                 *count > LEAST,
-            )?;
+            );
         }
         for (name, count) in KINDS.iter().zip(&self.kinds) {
-            tally.note(rt, "a kind that is drawn too seldom", *name, *count > LEAST)?;
+            tally.note_part(rt, "a kind that is drawn too seldom", *name, *count > LEAST);
         }
-        tally.note(rt, "drawn too seldom", "empty", self.empty > LEAST)?;
+        tally.note_part(rt, "drawn too seldom", "empty", self.empty > LEAST);
         let is_right = match version {
             Version::One => self.grown == 0,
             Version::Two => self.grown > LEAST,
         };
-        tally.note(rt, "accounts that come to be", "count", is_right)
+        tally.note_part(rt, "accounts that come to be", "count", is_right);
     }
 }

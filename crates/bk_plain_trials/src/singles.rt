@@ -1,17 +1,16 @@
 //! Drawn transactions, each on its own opening accounts, applied to a state.
 
-use crate::chance::Chance;
 use crate::drawn::drawn_opening;
 use crate::feeds::feed_with;
 use crate::given::Given;
 use crate::plain::given_alone;
 use crate::product::given_applied;
 use crate::shown::Shown;
-use crate::tally::Tally;
 use crate::texts::drawn_text;
 use anyhow::Result;
 use bk_base::Version;
 use bk_frames::Feed;
+use bk_trial_kit::{Chance, Tally};
 use bk_tx::Tx;
 use std::alloc::Global;
 use std::thread::Threads;
@@ -44,7 +43,8 @@ where
     let feed = feed_with(alloc, version, &rows, &text)?;
     let wanted = wanted(alloc, &feed, &text, shown)?;
     let found = given_applied(rt, alloc, &feed)?;
-    wanted.note_same(rt, "a drawn transaction", &found, tally)
+    wanted.note_same(rt, "a drawn transaction", &found, tally);
+    Ok(())
 }
 
 // Transactions of one version.
@@ -57,7 +57,8 @@ where
     for _ in 0..TRANSACTIONS {
         try_single(rt, version, &mut chance, &mut shown, tally)?;
     }
-    shown.note(rt, version, tally)
+    shown.note(rt, version, tally);
+    Ok(())
 }
 
 /// Drawn transactions of both versions.

@@ -1,10 +1,10 @@
 //! Texts of transactions, some of them with a fault that makes them malformed.
 
-use crate::chance::Chance;
 use crate::drawn::drawn_tx;
 use crate::plain::rows_after;
 use anyhow::{Result, bail};
 use bk_base::{Row, Version};
+use bk_trial_kit::Chance;
 use bk_tx::{Body, Declarations, Declared, Tx};
 use std::alloc::Global;
 

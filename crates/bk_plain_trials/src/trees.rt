@@ -1,12 +1,11 @@
 //! The leaves and the root of drawn rows.
 
-use crate::chance::Chance;
-use crate::tally::Tally;
 use anyhow::Result;
 use bk_base::Row;
 use bk_digest::tree_root_with;
 use bk_plain::{root_of, row_text, state_of};
 use bk_report::leaves_of;
+use bk_trial_kit::{Chance, Tally};
 use std::alloc::Global;
 use std::thread::Threads;
 
@@ -47,10 +46,11 @@ where
 {
     let alloc: Global = rt.alloc();
     let leaves = leaves_of(alloc, rows)?;
-    tally.note(rt, "a tree", "leaves", are_leaves(rows, &leaves))?;
+    tally.note_part(rt, "a tree", "leaves", are_leaves(rows, &leaves));
     let root = tree_root_with(rt, &leaves);
-    tally.note(rt, "a tree", "root", root_of(&leaves) == root)?;
-    tally.note(rt, "a tree", "state", state_of(alloc, rows)? == root)
+    tally.note_part(rt, "a tree", "root", root_of(&leaves) == root);
+    tally.note_part(rt, "a tree", "state", state_of(alloc, rows)? == root);
+    Ok(())
 }
 
 // A tree over this many rows.

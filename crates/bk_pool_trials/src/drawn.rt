@@ -2,10 +2,10 @@
 
 ghost use Rattle.std.specs.Prelude.{◌≡◌, ◌<◌, ◌≤◌};
 
-use crate::chance::Chance;
 use crate::making::{reading, row, writing};
 use anyhow::Result;
 use bk_base::Row;
+use bk_trial_kit::Chance;
 use bk_tx::{Body, Declarations, Declared, Payment, Payments, Tx};
 use std::alloc::Global;
 

@@ -5,11 +5,11 @@ use crate::deeds::{Deed, txs_of};
 use crate::drawn::drawn_opening;
 use crate::executing::planned_by;
 use crate::making::feed_with;
-use crate::tally::Tally;
 use anyhow::Result;
 use bk_base::Version;
 use bk_conflicts::{Plan, Planner, WordRef};
 use bk_frames::Feed;
+use bk_trial_kit::Tally;
 use std::alloc::Global;
 
 // Which transactions, on accounts 1 to 6.

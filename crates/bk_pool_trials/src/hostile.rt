@@ -2,11 +2,11 @@
 
 use crate::cases::{Case, NAMES, Name, case_of, feed_of_case, gives_case};
 use crate::executing::{executed, executed_by};
-use crate::tally::Tally;
 use anyhow::Result;
 use bk_base::Version;
 use bk_frames::Feed;
 use bk_pool::{Hints, Open};
+use bk_trial_kit::Tally;
 use std::alloc::Global;
 use std::sync::Wait;
 use std::sync::atomic::{AtomicU64, Ordering};

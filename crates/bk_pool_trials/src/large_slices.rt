@@ -4,12 +4,12 @@
 use crate::lists::{opening, payments};
 use crate::making::{Batch, batch_of, feed_of};
 use crate::slices::{in_slices, is_same};
-use crate::tally::Tally;
 use anyhow::{Result, bail};
 use bk_base::Version;
 use bk_frames::Feed;
 use bk_ledger::Ledger;
 use bk_pool::Gate;
+use bk_trial_kit::Tally;
 use bk_tx::Tx;
 use std::alloc::Global;
 use std::sync::Wait;

@@ -1,16 +1,15 @@
 //! Drawn lists, short and long, by several numbers of workers.
 
-use crate::chance::Chance;
 use crate::drawn::{drawn_list, drawn_opening};
 use crate::executing::{executed, is_same};
 use crate::making::{feed_with, pay, row};
-use crate::tally::Tally;
 use anyhow::Result;
 use bk_base::{Row, Version};
 use bk_frames::Feed;
 use bk_ledger::Ledger;
 use bk_pool::Open;
 use bk_rules::Receipt;
+use bk_trial_kit::{Chance, Tally};
 use bk_tx::Tx;
 use std::alloc::Global;
 use std::sync::Wait;

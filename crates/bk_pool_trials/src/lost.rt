@@ -6,12 +6,12 @@ ghost use Rattle.bk_pool.specs.Reads.{IsFresh, IsBankOf};
 
 use crate::cases::{Name, VERSIONS, feed_named};
 use crate::executing::prepared;
-use crate::tally::Tally;
 use anyhow::Result;
 use bk_bank::{Bank, Hold, Leaving, Pass, Step};
 use bk_conflicts::Plan;
 use bk_frames::Feed;
 use bk_pool::{Open, run_place};
+use bk_trial_kit::Tally;
 use std::alloc::Global;
 
 /// The word of a place that is held.

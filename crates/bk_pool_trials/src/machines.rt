@@ -3,11 +3,11 @@
 use crate::cases::{Name, VERSIONS, feed_named};
 use crate::executing::planned;
 use crate::schedules::{claim, read, write};
-use crate::tally::Tally;
 use anyhow::Result;
 use bk_base::Refused;
 use bk_frames::Feed;
 use bk_steps::{Event, Machine};
+use bk_trial_kit::Tally;
 use std::alloc::Global;
 
 // An event, and the value that is read or written, or why the event is refused. Then nothing has changed.

@@ -7,7 +7,6 @@
 #![tactic(auto)]
 
 mod cases;
-mod chance;
 mod deeds;
 mod drawn;
 mod edges;
@@ -23,7 +22,6 @@ mod passes;
 mod plans;
 mod schedules;
 mod slices;
-mod tally;
 mod touching;
 mod waits;
 mod words;
@@ -39,10 +37,10 @@ use crate::passes::try_passes;
 use crate::plans::try_plans;
 use crate::schedules::try_schedules;
 use crate::slices::try_all_slices;
-use crate::tally::Tally;
 use crate::touching::try_touching;
 use crate::words::try_words;
-use anyhow::{Result, bail};
+use anyhow::Result;
+use bk_trial_kit::Tally;
 use std::sync::Wait;
 use std::thread::Threads;
 
@@ -68,9 +66,5 @@ where
 fn main(rt: HostRuntime) -> Result<()> {
     let mut tally = Tally::new();
     run_all(&rt, &mut tally);
-    println!(rt; "{} passed, {} failed", tally.passed, tally.failed)?;
-    if tally.failed > 0 {
-        bail!("trials failed");
-    }
-    Ok(())
+    tally.report(&rt)
 }

@@ -1,18 +1,17 @@
 //! Plans of drawn lists, also with wrong likely slots and by a planner that made others, and their waits and words.
 
-use crate::chance::Chance;
 use crate::drawn::{drawn_opening, drawn_payments};
 use crate::edges::plan_by;
 use crate::executing::{executed_near, is_same, planned};
 use crate::lists::drawn_feed;
 use crate::making::feed_with;
-use crate::tally::Tally;
 use crate::waits::{count_waits, is_right};
 use anyhow::Result;
 use bk_base::Version;
 use bk_conflicts::{Plan, Planner};
 use bk_frames::Feed;
 use bk_ledger::Ledger;
+use bk_trial_kit::{Chance, Tally};
 use std::alloc::Global;
 use std::sync::Wait;
 use std::thread::Threads;

@@ -2,11 +2,11 @@
 
 use crate::cases::{Case, Name, VERSIONS, case_of, feed_of_case, gives_case};
 use crate::executing::planned;
-use crate::tally::Tally;
 use anyhow::Result;
 use bk_base::{Refused, Version};
 use bk_frames::Feed;
 use bk_steps::{Event, Outcome, ScheduleFault, run_schedule};
+use bk_trial_kit::Tally;
 use std::alloc::Global;
 
 // How many events do both places, and how many of them the first one.

@@ -1,16 +1,15 @@
 //! Feeds of many batches, executed in slices of several lengths, against the same transactions one at a time.
 
 use crate::cases::VERSIONS;
-use crate::chance::Chance;
 use crate::deeds::{Deed, txs_of};
 use crate::drawn::{drawn_list, drawn_opening};
 use crate::lists::{opening, payments};
 use crate::making::{Batch, feed_of, pay};
-use crate::tally::Tally;
 use anyhow::{Result, bail};
 use bk_base::{Row, Version};
 use bk_frames::Feed;
 use bk_ledger::{ExecFault, Gate, Ledger, Open};
+use bk_trial_kit::{Chance, Tally};
 use bk_tx::Tx;
 use std::alloc::Global;
 use std::sync::Wait;

@@ -3,10 +3,10 @@
 ghost use Rattle.std.specs.Prelude.{◌≡◌};
 ghost use Rattle.bk_base.specs.Numbers.{is_ascending};
 
-use crate::tally::Tally;
 use anyhow::{Result, bail};
 use bk_ledger::Touched;
 use bk_rules::Ids;
+use bk_trial_kit::Tally;
 use std::alloc::Global;
 
 const SLOTS: usize = 200;

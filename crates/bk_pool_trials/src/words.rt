@@ -8,13 +8,13 @@ ghost use Rattle.bk_pool.specs.Reads.{IsBankOf};
 use crate::cases::{Name, feed_named};
 use crate::executing::prepared;
 use crate::lost::{DONE, left, makes_ready, taken};
-use crate::tally::Tally;
 use anyhow::Result;
 use bk_bank::{Bank, Pass, Words};
 use bk_base::Version;
 use bk_conflicts::Plan;
 use bk_frames::Feed;
 use bk_pool::{Open, run_place};
+use bk_trial_kit::Tally;
 use std::alloc::Global;
 
 // More accounts and places than any bank here has.

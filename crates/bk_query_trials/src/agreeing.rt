@@ -4,10 +4,10 @@ ghost use Rattle.std.specs.Prelude.{◌≡◌, None};
 
 use crate::feeds::{FOUR_ROUNDS, THREE_ROUNDS};
 use crate::made::made;
-use crate::tally::Tally;
 use anyhow::Result;
 use bk_pool::Open;
 use bk_replay::{Agreed, Follower};
+use bk_trial_kit::Tally;
 use std::sync::Wait;
 use std::thread::Threads;
 

@@ -2,12 +2,12 @@
 
 use crate::feeds::{ONE_COMMIT, TWO_COMMITS};
 use crate::made::made;
-use crate::tally::Tally;
 use anyhow::Result;
 use bk_cert::CertRef;
 use bk_pool::Open;
 use bk_replay::{Follower, Order};
 use bk_rules::{Account, Receipt, Status};
+use bk_trial_kit::Tally;
 use std::alloc::Global;
 use std::sync::Wait;
 use std::thread::Threads;

@@ -1,17 +1,16 @@
 //! Two feeds, compared.
 
-use crate::devices::{MOST_CALLS, Reader};
 use crate::feeds::{
     FOUR_ROUNDS, MISSING, NOTHING, ONE_COMMIT, ROUND_ONE, THREE_ROUNDS, broken, cut_at,
     twins_of_round_one,
 };
-use crate::made::{made, part};
-use crate::tally::Tally;
+use crate::made::made;
 use anyhow::Result;
 use bk_digest::Digest32;
 use bk_frames::{Counted, FaultCode};
 use bk_pool::Open;
 use bk_replay::{Agreed, CompareStop, Compared, Differ, Fault, SetupPart, compare_with_gaps};
+use bk_trial_kit::{Device, EVER, Reader, Tally, part};
 use std::sync::Wait;
 use std::thread::Threads;
 
@@ -72,13 +71,13 @@ fn compared<R>(rt: &R, one: &[u8], other: &[u8], calls: (usize, usize)) -> Left
 where
     R: AllocGlobal + Threads + Wait + Sync,
 {
-    let mut first = Counted::new(Reader::new(one, 7, calls.0));
-    let mut second = Counted::new(Reader::new(other, 7, calls.1));
+    let mut first = Counted::new(Reader::new(one, Device::lost_after(calls.0, 7)));
+    let mut second = Counted::new(Reader::new(other, Device::lost_after(calls.1, 7)));
     let end = compare_with_gaps(rt, rt.alloc(), &mut first, &mut second, 2, &Open, false);
-    Left::new(end, second.into_inner().rest.len())
+    Left::new(end, second.into_inner().left())
 }
 
-const ALL: (usize, usize) = (MOST_CALLS, MOST_CALLS);
+const ALL: (usize, usize) = (EVER, EVER);
 
 // ---- feeds that agree
 
@@ -299,7 +298,7 @@ fn first_faults<R>(rt: &R, bad: &[u8], reads: usize, whole: &[u8], fault: &Fault
 where
     R: AllocGlobal + Threads + Wait + Sync,
 {
-    let left = compared(rt, bad, whole, (reads, MOST_CALLS));
+    let left = compared(rt, bad, whole, (reads, EVER));
     left.is_stop(&CompareStop::First(*fault)) && left.unread == whole.len()
 }
 
@@ -308,7 +307,7 @@ fn second_faults<R>(rt: &R, bad: &[u8], reads: usize, whole: &[u8], fault: &Faul
 where
     R: AllocGlobal + Threads + Wait + Sync,
 {
-    let left = compared(rt, whole, bad, (MOST_CALLS, reads));
+    let left = compared(rt, whole, bad, (EVER, reads));
     left.is_stop(&CompareStop::Second(*fault))
 }
 
@@ -336,7 +335,7 @@ where
 {
     let whole = made(rt.alloc(), ONE_COMMIT)?;
     let cut = part(&whole, 0, 345);
-    let is_right = faults_in_turn(rt, cut, MOST_CALLS, &whole, &cut_at(253));
+    let is_right = faults_in_turn(rt, cut, EVER, &whole, &cut_at(253));
     tally.note(rt, "a feed that is cut", is_right);
     // Six reads of 7 bytes get the committee, and nothing of the genesis.
     try_unread(rt, &whole, 0, 0, tally);

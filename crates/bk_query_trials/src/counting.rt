@@ -1,13 +1,12 @@
 //! Sources that keep count of what they are asked for: at most 65,536 bytes at once, and all bytes to the end.
 
-use crate::devices::{MOST_CALLS, Reader};
 use crate::feeds::{NOTHING, ONE_COMMIT};
-use crate::made::{made, part};
-use crate::tally::Tally;
+use crate::made::made;
 use anyhow::Result;
 use bk_frames::Counted;
 use bk_pool::Open;
 use bk_replay::{Agreed, Query, Reply, Status, ask, compare, replay};
+use bk_trial_kit::{Device, Reader, Tally, part};
 use std::alloc::Global;
 use std::sync::Wait;
 use std::thread::Threads;
@@ -48,9 +47,9 @@ fn wide(alloc: Global) -> Result<Vec<u8>> {
 }
 
 // Whether the source was read to its end, and little at a time.
-fn is_little(source: Counted<Reader<'_>>, length: usize) -> bool {
+fn is_little(source: Counted<Reader<'_>>) -> bool {
     let reader = source.into_inner();
-    reader.asked <= MOST && reader.rest.is_empty() && reader.given == length
+    reader.most_asked() <= MOST && reader.left() == 0
 }
 
 fn replays_little<R>(rt: &R, feed: &[u8], most: usize) -> bool
@@ -58,11 +57,11 @@ where
     R: AllocGlobal + Threads + Wait + Sync,
 {
     let alloc: Global = rt.alloc();
-    let mut source = Counted::new(Reader::new(feed, most, MOST_CALLS));
+    let mut source = Counted::new(Reader::new(feed, Device::good(most)));
     let mut sink = Counted::new(Vec::new(alloc));
     let end = replay(rt, alloc, &mut source, &mut sink, 2, &Open);
     let text = sink.into_inner();
-    let is_little = is_little(source, feed.len());
+    let is_little = is_little(source);
     is_little && end.ok() == Some(Status::Whole) && text.as_slice() == REPORT.as_bytes()
 }
 
@@ -71,11 +70,11 @@ where
     R: AllocGlobal + Threads + Wait + Sync,
 {
     let alloc: Global = rt.alloc();
-    let mut source = Counted::new(Reader::new(feed, most, MOST_CALLS));
+    let mut source = Counted::new(Reader::new(feed, Device::good(most)));
     let mut sink = Counted::new(Vec::new(alloc));
     let replied = ask(rt, alloc, &mut source, &mut sink, *query, 2, &Open);
     let text = sink.into_inner();
-    let is_little = is_little(source, feed.len());
+    let is_little = is_little(source);
     let is_reply = match replied {
         Ok(replied) => replied.reply == wanted.0,
         Err(_) => false,
@@ -91,11 +90,11 @@ fn compares_little<R>(rt: &R, one: &[u8], other: &[u8], most: usize, wanted: Agr
 where
     R: AllocGlobal + Threads + Wait + Sync,
 {
-    let mut first = Counted::new(Reader::new(one, most, MOST_CALLS));
-    let mut second = Counted::new(Reader::new(other, most, MOST_CALLS));
+    let mut first = Counted::new(Reader::new(one, Device::good(most)));
+    let mut second = Counted::new(Reader::new(other, Device::good(most)));
     let agreed = compare(rt, rt.alloc(), &mut first, &mut second, 2, &Open);
-    let first = is_little(first, one.len());
-    let second = is_little(second, other.len());
+    let first = is_little(first);
+    let second = is_little(second);
     first && second && agreed.ok() == Some(wanted)
 }
 

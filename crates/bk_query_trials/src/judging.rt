@@ -1,14 +1,13 @@
 //! What keeps feeds that are compared from counting whole.
 
-use crate::devices::{MOST_CALLS, Reader};
 use crate::feeds::{MISSING, NOTHING, ONE_COMMIT};
 use crate::made::made;
-use crate::tally::Tally;
 use anyhow::Result;
 use bk_digest::Digest32;
 use bk_frames::Counted;
 use bk_pool::Open;
 use bk_replay::{Flaw, compare_with_gaps};
+use bk_trial_kit::{Device, Reader, Tally};
 use std::sync::Wait;
 use std::thread::Threads;
 
@@ -31,8 +30,8 @@ fn found<R>(rt: &R, one: &[u8], other: &[u8], strict: bool) -> Option<Flaws>
 where
     R: AllocGlobal + Threads + Wait + Sync,
 {
-    let mut first = Counted::new(Reader::new(one, 7, MOST_CALLS));
-    let mut second = Counted::new(Reader::new(other, 7, MOST_CALLS));
+    let mut first = Counted::new(Reader::new(one, Device::good(7)));
+    let mut second = Counted::new(Reader::new(other, Device::good(7)));
     let alloc = rt.alloc();
     match compare_with_gaps(rt, alloc, &mut first, &mut second, 2, &Open, strict) {
         Ok(compared) => Some(Flaws {

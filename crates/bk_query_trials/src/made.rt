@@ -15,11 +15,6 @@ pub(crate) fn made(alloc: Global, script: &str) -> Result<Vec<u8>> {
     }
 }
 
-/// The bytes between two offsets, none where there are not so many.
-pub(crate) fn part(bytes: &[u8], from: usize, to: usize) -> &[u8] {
-    bytes.get(from..to).unwrap_or(&[])
-}
-
 /// Whether the digest of these bytes is this.
 pub(crate) fn has_digest(bytes: &[u8], digest: &str) -> bool {
     Digest32::parse_hex(digest.as_bytes()) == Some(Digest32::of(bytes))

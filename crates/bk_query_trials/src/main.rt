@@ -9,13 +9,11 @@ mod agreeing;
 mod between;
 mod comparing;
 mod counting;
-mod devices;
 mod feeds;
 mod judging;
 mod made;
 mod queries;
 mod scheduling;
-mod tally;
 
 use crate::agreeing::try_agreeing;
 use crate::between::try_between;
@@ -24,8 +22,8 @@ use crate::counting::try_counting;
 use crate::judging::try_judging;
 use crate::queries::try_queries;
 use crate::scheduling::try_schedules;
-use crate::tally::Tally;
-use anyhow::{Result, bail};
+use anyhow::Result;
+use bk_trial_kit::Tally;
 use std::sync::Wait;
 use std::thread::Threads;
 
@@ -46,9 +44,5 @@ where
 
 fn main(rt: HostRuntime) -> Result<()> {
     let tally = run_all(&rt)?;
-    println!(rt; "{} passed, {} failed", tally.passed, tally.failed)?;
-    if tally.failed > 0 {
-        bail!("trials failed");
-    }
-    Ok(())
+    tally.report(&rt)
 }

@@ -1,17 +1,16 @@
 //! Queries of feeds, with devices that fail.
 
-use crate::devices::{MOST_CALLS, Reader, Writer};
 use crate::feeds::{
     ENDS, MISSING, NOTHING, ONE_COMMIT, ONE_COMMIT_DIGEST, ROUND_ONE, broken, cut_at,
     twins_of_round_one,
 };
-use crate::made::{has_digest, made, part};
-use crate::tally::Tally;
+use crate::made::{has_digest, made};
 use anyhow::Result;
 use bk_digest::Digest32;
 use bk_frames::{Counted, FaultCode};
 use bk_pool::Open;
 use bk_replay::{Fault, Query, Replied, Reply, ask};
+use bk_trial_kit::{Device, EVER, Reader, Tally, Writer, part};
 use std::alloc::Global;
 use std::sync::Wait;
 use std::thread::Threads;
@@ -97,14 +96,11 @@ where
     R: AllocGlobal + Threads + Wait + Sync,
 {
     let alloc: Global = rt.alloc();
-    let mut source = Counted::new(Reader::new(feed, 7, reads));
-    let mut sink = Counted::new(Writer {
-        held: Vec::new(alloc),
-        calls: writes,
-    });
+    let mut source = Counted::new(Reader::new(feed, Device::lost_after(reads, 7)));
+    let mut sink = Counted::new(Writer::new(alloc, Device::lost_after(writes, 1)));
     let workers = workers.clamp(1, 64);
     let replied = ask(rt, alloc, &mut source, &mut sink, *query, workers, &Open);
-    Left::new(replied, sink.into_inner().held)
+    Left::new(replied, sink.into_inner().into_bytes())
 }
 
 // Whether a query with devices that do not fail leaves just this.
@@ -137,11 +133,11 @@ fn fails<R>(rt: &R, feed: &[u8], query: &Query, reads: usize, fault: &Fault) -> 
 where
     R: AllocGlobal + Threads + Wait + Sync,
 {
-    let left = asked(rt, feed, query, 2, (reads, MOST_CALLS));
+    let left = asked(rt, feed, query, 2, (reads, EVER));
     left.is_fault(fault)
 }
 
-const ALL: (usize, usize) = (MOST_CALLS, MOST_CALLS);
+const ALL: (usize, usize) = (EVER, EVER);
 
 // ---- replies
 
@@ -226,7 +222,7 @@ where
     R: AllocGlobal + Eprint + Threads + Wait + Sync,
 {
     for (query, text) in FOUND.iter() {
-        let is_right = fails(rt, feed, query, MOST_CALLS, fault);
+        let is_right = fails(rt, feed, query, EVER, fault);
         tally.note(rt, text, is_right);
     }
 }
@@ -264,7 +260,7 @@ where
         let is_right = fails(rt, feed, query, reads, &fault);
         tally.note(rt, "a read that fails", is_right);
     }
-    let is_right = is_replied(rt, feed, query, 2, (51, MOST_CALLS), (Reply::Found, text));
+    let is_right = is_replied(rt, feed, query, 2, (51, EVER), (Reply::Found, text));
     tally.note(rt, "just enough reads", is_right);
 }
 
@@ -273,7 +269,7 @@ fn is_begun<R>(rt: &R, feed: &[u8], query: &Query, writes: usize, text: &str) ->
 where
     R: AllocGlobal + Threads + Wait + Sync,
 {
-    let left = asked(rt, feed, query, 1, (MOST_CALLS, writes));
+    let left = asked(rt, feed, query, 1, (EVER, writes));
     let written = writes as u64;
     left.fault == Some(Fault::Write { written })
         && left.text.as_slice() == part(text.as_bytes(), 0, writes)
@@ -288,7 +284,7 @@ where
         let is_right = is_begun(rt, feed, query, writes, text);
         tally.note(rt, "a write that fails", is_right);
     }
-    let calls = (MOST_CALLS, text.len());
+    let calls = (EVER, text.len());
     let is_right = is_replied(rt, feed, query, 1, calls, (Reply::Found, text));
     tally.note(rt, "just enough writes", is_right);
 }

@@ -1,14 +1,13 @@
 //! Schedules of two payments in conflict.
 
-use crate::devices::{Reader, Writer};
 use crate::feeds::{broken, cut_at};
-use crate::made::{made, part};
-use crate::tally::Tally;
+use crate::made::made;
 use anyhow::Result;
 use bk_base::Refused;
 use bk_frames::{Counted, FaultCode};
 use bk_replay::{Fault, ScheduleStop, apply_schedule};
 use bk_steps::{Event, ScheduleFault};
+use bk_trial_kit::{Device, Reader, Tally, Writer, part};
 use std::alloc::Global;
 
 // Account 1 pays 10 to account 3 if account 2 has 50, and then account 2 pays 50 to account 1. The batch begins at 123.
@@ -217,7 +216,7 @@ where
 
 // A source that fails at once.
 fn is_unread(alloc: Global, feed: &[u8], events: &[Event]) -> bool {
-    let mut source = Counted::new(Reader::new(feed, 7, 0));
+    let mut source = Counted::new(Reader::new(feed, Device::lost_after(0, 7)));
     let mut sink = Counted::new(Vec::new(alloc));
     let stop = apply_schedule(alloc, &mut source, &mut sink, 1, events).err();
     let unread = ScheduleStop::Fault(broken(0, FaultCode::Read));
@@ -227,13 +226,10 @@ fn is_unread(alloc: Global, feed: &[u8], events: &[Event]) -> bool {
 
 // A sink that fails after five bytes.
 fn is_unwritten(alloc: Global, feed: &[u8], events: &[Event]) -> bool {
-    let mut sink = Counted::new(Writer {
-        held: Vec::new(alloc),
-        calls: 5,
-    });
+    let mut sink = Counted::new(Writer::new(alloc, Device::lost_after(5, 1)));
     let stop = apply_schedule(alloc, &mut Counted::new(feed), &mut sink, 1, events).err();
     let unwritten = ScheduleStop::Fault(Fault::Write { written: 5 });
-    let text = sink.into_inner().held;
+    let text = sink.into_inner().into_bytes();
     stop == Some(unwritten) && text.as_slice() == b"batch".as_slice()
 }
 

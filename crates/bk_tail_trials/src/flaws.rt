@@ -5,12 +5,12 @@ use crate::feeds::{
     WAITING, WHOLE,
 };
 use crate::made::made;
-use crate::tables::{Asked, Table, WIDE, followed, in_pieces, judged};
-use crate::tally::Tally;
+use crate::tables::{Asked, Table, followed, in_pieces, judged, wide};
 use crate::trials::{PIECES, TABLES};
 use anyhow::Result;
 use bk_digest::Digest32;
 use bk_results::Flaw;
+use bk_trial_kit::Tally;
 use std::alloc::Global;
 use std::sync::Wait;
 use std::thread::Threads;
@@ -30,8 +30,8 @@ where
     let asked = Asked { table, named: None };
     let feed = made(alloc, script)?;
     for most in PIECES {
-        let left = judged(rt, asked, true, in_pieces(&feed, most), WIDE)?;
-        let unjudged = followed(rt, asked, in_pieces(&feed, most), WIDE)?;
+        let left = judged(rt, asked, true, in_pieces(&feed, most), wide())?;
+        let unjudged = followed(rt, asked, in_pieces(&feed, most), wide())?;
         tally.note(rt, "flaw", left.flaw == *wanted);
         tally.note(rt, "flaw that is not asked for", unjudged.flaw.is_none());
         let is_same = left.text == unjudged.text && left.end == unjudged.end;

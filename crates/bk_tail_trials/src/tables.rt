@@ -1,6 +1,5 @@
 //! A feed's table, followed and whole.
 
-use crate::devices::{MOST, Reader, Writer};
 use anyhow::Result;
 use bk_follow::answer_by_ledger;
 use bk_frames::Counted;
@@ -8,6 +7,7 @@ use bk_pool::Open;
 use bk_results::{Fault, Flaw, Status};
 use bk_tables::{Accounts, Postings, Transactions};
 use bk_tail::{tail_postings, tail_transactions};
+use bk_trial_kit::{Device, Reader, Writer};
 use std::alloc::Global;
 use std::sync::Wait;
 use std::thread::Threads;
@@ -34,18 +34,10 @@ pub(crate) struct Left {
     pub(crate) text: Vec<u8>,
 }
 
-/// What a sink takes a call, and how many calls it takes.
-#[derive(Clone, Copy)]
-pub(crate) struct Room {
-    pub(crate) most: usize,
-    pub(crate) calls: usize,
+/// The device of a sink that takes all.
+pub(crate) fn wide() -> Device {
+    Device::good(usize::MAX)
 }
-
-/// A sink that takes all.
-pub(crate) const WIDE: Room = Room {
-    most: MOST,
-    calls: MOST,
-};
 
 fn accounts_of(alloc: Global, named: Option<u64>) -> Result<Option<Accounts>> {
     let Some(id) = named else {
@@ -62,16 +54,14 @@ pub(crate) fn judged<R>(
     asked: Asked,
     strict: bool,
     reader: Reader<'_>,
-    room: Room,
+    device: Device,
 ) -> Result<Left>
 where
     R: AllocGlobal + Threads + Wait + Sync,
 {
     let alloc: Global = rt.alloc();
-    let Room { most, calls } = room;
-    let held = Vec::new(alloc);
     let mut source = Counted::new(reader);
-    let mut sink = Counted::new(Writer { held, most, calls });
+    let mut sink = Counted::new(Writer::new(alloc, device));
     let accounts = accounts_of(alloc, asked.named)?;
     let ended = match asked.table {
         Table::Transactions => {
@@ -83,7 +73,7 @@ where
             tail_postings(rt, alloc, &mut source, &mut sink, 2, &Open, &asked, strict)
         }
     };
-    let text = sink.into_inner().held;
+    let text = sink.into_inner().into_bytes();
     let (end, flaw) = match ended {
         Ok(ended) => (Ok(ended.end), ended.flaw),
         Err(fault) => (Err(fault), None),
@@ -92,11 +82,11 @@ where
 }
 
 /// Follows a feed without judging it.
-pub(crate) fn followed<R>(rt: &R, asked: Asked, reader: Reader<'_>, room: Room) -> Result<Left>
+pub(crate) fn followed<R>(rt: &R, asked: Asked, reader: Reader<'_>, device: Device) -> Result<Left>
 where
     R: AllocGlobal + Threads + Wait + Sync,
 {
-    judged(rt, asked, false, reader, room)
+    judged(rt, asked, false, reader, device)
 }
 
 /// Reads a feed whole, and writes its table then.
@@ -125,9 +115,5 @@ where
 
 /// A source that returns at most `most` bytes per call.
 pub(crate) fn in_pieces(feed: &[u8], most: usize) -> Reader<'_> {
-    Reader {
-        rest: feed,
-        most,
-        calls: MOST,
-    }
+    Reader::new(feed, Device::good(most))
 }

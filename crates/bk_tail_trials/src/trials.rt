@@ -1,15 +1,14 @@
 //! Feeds that are followed in pieces, cut, broken and stopped, and over devices that fail.
 
-use crate::devices::{MOST, Reader};
 use crate::feeds::{
     MISSING, NOTHING, ONE_COMMIT, ONE_COMMIT_TWO, TWINS_LATER, TWO_COMMITS, TWO_COMMITS_TWO,
 };
 use crate::made::made;
-use crate::tables::{Asked, Room, Table, WIDE, followed, in_pieces, whole};
-use crate::tally::Tally;
+use crate::tables::{Asked, Table, followed, in_pieces, whole, wide};
 use anyhow::Result;
 use bk_frames::{FaultCode, FeedFault};
 use bk_results::Fault;
+use bk_trial_kit::{Device, Reader, Tally};
 use std::alloc::Global;
 use std::sync::Wait;
 use std::thread::Threads;
@@ -41,7 +40,7 @@ where
     let feed = made(alloc, script)?;
     let wanted = whole(rt, asked, &feed)?;
     for most in PIECES {
-        let left = followed(rt, asked, in_pieces(&feed, most), WIDE)?;
+        let left = followed(rt, asked, in_pieces(&feed, most), wide())?;
         tally.note(
             rt,
             "table in pieces",
@@ -90,14 +89,10 @@ where
     let mut before = 0;
     for end in 0..feed.len() {
         let part = feed.get(..end).unwrap_or(&[]);
-        let cut = followed(rt, asked, in_pieces(part, 1), WIDE)?;
-        let at_once = followed(rt, asked, in_pieces(part, MOST), WIDE)?;
-        let failing = Reader {
-            rest: &feed,
-            most: 1,
-            calls: end,
-        };
-        let failed = followed(rt, asked, failing, WIDE)?;
+        let cut = followed(rt, asked, in_pieces(part, 1), wide())?;
+        let at_once = followed(rt, asked, in_pieces(part, usize::MAX), wide())?;
+        let failing = Reader::new(&feed, Device::lost_after(end, 1));
+        let failed = followed(rt, asked, failing, wide())?;
         let is_whole = cut.end.is_ok() && cut.text == whole(rt, asked, part)?.text;
         let is_short = is_fault(&cut.end, FaultCode::Truncated) && cut.text == failed.text;
         tally.note(rt, "cut ends", is_whole || is_short);
@@ -123,13 +118,13 @@ where
     let mut feed = made(alloc, script)?;
     let wanted = whole(rt, asked, &feed)?;
     feed.push(9)?;
-    let slow = followed(rt, asked, in_pieces(&feed, 1), WIDE)?;
+    let slow = followed(rt, asked, in_pieces(&feed, 1), wide())?;
     tally.note(
         rt,
         "fault later",
         is_fault(&slow.end, FaultCode::Kind) && slow.text == wanted.text,
     );
-    let fast = followed(rt, asked, in_pieces(&feed, MOST), WIDE)?;
+    let fast = followed(rt, asked, in_pieces(&feed, usize::MAX), wide())?;
     tally.note(
         rt,
         "fault at once",
@@ -146,11 +141,11 @@ where
     let alloc: Global = rt.alloc();
     let feed = made(alloc, TWINS_LATER)?;
     let header = whole(rt, asked, &made(alloc, NOTHING)?)?;
-    let slow = followed(rt, asked, in_pieces(&feed, 7), WIDE)?;
+    let slow = followed(rt, asked, in_pieces(&feed, 7), wide())?;
     let is_stop = matches!(&slow.end, Err(Fault::Equivocation { .. }));
     let is_row = slow.text.starts_with(&header.text) && header.text.len() < slow.text.len();
     tally.note(rt, "twins later", is_stop && is_row);
-    let fast = followed(rt, asked, in_pieces(&feed, MOST), WIDE)?;
+    let fast = followed(rt, asked, in_pieces(&feed, usize::MAX), wide())?;
     let is_stop = matches!(&fast.end, Err(Fault::Equivocation { .. }));
     tally.note(rt, "twins at once", is_stop && fast.text.is_empty());
     Ok(())
@@ -165,8 +160,8 @@ where
     let feed = made(alloc, script)?;
     let wanted = whole(rt, asked, &feed)?;
     for calls in 0..wanted.text.len() {
-        let room = Room { most: 1, calls };
-        let left = followed(rt, asked, in_pieces(&feed, 7), room)?;
+        let sink = Device::lost_after(calls, 1);
+        let left = followed(rt, asked, in_pieces(&feed, 7), sink)?;
         let written = calls as u64;
         let is_failed = left.end == Err(Fault::Write { written });
         tally.note(

@@ -1,10 +1,10 @@
 //! Large frames in small pieces: a quadratic cutter would not end.
 
 use crate::made::EMPTY_LEDGER;
-use crate::tally::Tally;
 use anyhow::Result;
 use bk_base::Kind;
 use bk_frames::Cutter;
+use bk_trial_kit::Tally;
 use std::alloc::Global;
 
 // A cutter that got an empty ledger and the head of a batch frame of this length.

@@ -1,10 +1,10 @@
 //! Lists of events: all numbers, what is skipped, and lines of other forms.
 
-use crate::tally::Tally;
 use anyhow::Result;
 use bk_frames::Counted;
 use bk_script::{Events, EventsFault, read_events};
 use bk_steps::Event;
+use bk_trial_kit::Tally;
 use std::alloc::Global;
 
 fn read(alloc: Global, text: &[u8]) -> Result<Events, EventsFault> {

@@ -1,11 +1,11 @@
 //! The lines that report faults, and the exit statuses after them.
 
-use crate::tally::Tally;
 use bk_base::Refused;
 use bk_cli::{Exit, JobFault, ListFault, report};
 use bk_digest::Digest32;
 use bk_frames::{Counted, FaultCode, FeedFault};
 use bk_results::{EventsFault, Fault, ScriptCode, ScriptFault, Status};
+use bk_trial_kit::Tally;
 use std::alloc::Global;
 
 // Whether a fault is reported by this line, and the program ends with this status.

@@ -4,10 +4,10 @@
 
 use crate::events::has_events_fault;
 use crate::made::{has_fault, makes_empty_ledger};
-use crate::tally::Tally;
 use anyhow::Result;
 use bk_frames::Counted;
 use bk_script::{MOST_SCRIPT, ScriptCode, make, read_events};
+use bk_trial_kit::Tally;
 use std::alloc::Global;
 
 // A comment that leaves room for this many bytes, and then the rest.

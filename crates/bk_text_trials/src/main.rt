@@ -14,7 +14,6 @@ mod many;
 mod options;
 mod script_faults;
 mod scripts;
-mod tally;
 mod words;
 mod wrong_words;
 
@@ -26,10 +25,10 @@ use crate::many::try_many;
 use crate::options::try_options;
 use crate::script_faults::try_script_faults;
 use crate::scripts::try_scripts;
-use crate::tally::Tally;
 use crate::words::try_words;
 use crate::wrong_words::try_wrong_words;
-use anyhow::{Result, bail};
+use anyhow::Result;
+use bk_trial_kit::Tally;
 
 fn run_all<R: AllocGlobal + Eprint>(rt: &R) -> Result<Tally> {
     let mut tally = Tally::new();
@@ -48,9 +47,5 @@ fn run_all<R: AllocGlobal + Eprint>(rt: &R) -> Result<Tally> {
 
 fn main(rt: HostRuntime) -> Result<()> {
     let tally = run_all(&rt)?;
-    println!(rt; "{} passed, {} failed", tally.passed, tally.failed)?;
-    if tally.failed > 0 {
-        bail!("trials failed");
-    }
-    Ok(())
+    tally.report(&rt)
 }

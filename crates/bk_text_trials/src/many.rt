@@ -1,10 +1,10 @@
 //! Scripts of some thousand accounts and of some thousand names.
 
 use crate::made::{has_fault, made};
-use crate::tally::Tally;
 use anyhow::Result;
 use bk_digest::Digest32;
 use bk_script::ScriptCode;
+use bk_trial_kit::Tally;
 use std::alloc::Global;
 
 const ACCOUNTS: u64 = 4_000;

@@ -1,9 +1,9 @@
 //! Command lines with options that change no answer.
 
-use crate::tally::Tally;
 use crate::words::note_words;
 use anyhow::Result;
 use bk_cli::parse_line;
+use bk_trial_kit::Tally;
 use std::alloc::Global;
 
 // Words, and whether they ask for a feed to be judged, for words and for progress.

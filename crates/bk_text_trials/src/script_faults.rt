@@ -1,8 +1,8 @@
 //! Scripts with one fault each, and the line of it. Faults of scripts that are examples too are left out.
 
 use crate::made::has_fault;
-use crate::tally::Tally;
 use bk_script::ScriptCode;
+use bk_trial_kit::Tally;
 
 const WORDS: [(&str, u64); 9] = [
     ("# caf\u{e9}\nmembers 1", 1),

@@ -1,10 +1,10 @@
 //! Scripts of all kinds of lines, and the lines of their faults.
 
 use crate::made::{EMPTY_LEDGER, made, makes_empty_ledger};
-use crate::tally::Tally;
 use anyhow::Result;
 use bk_digest::Digest32;
 use bk_script::{ScriptCode, ScriptFault};
+use bk_trial_kit::Tally;
 use std::alloc::Global;
 
 // A batch of `pay 1 2 30 0`.

@@ -1,9 +1,9 @@
 //! Command lines that name a job.
 
-use crate::tally::Tally;
 use anyhow::Result;
 use bk_cli::{Diagnosis, Job, Table, parse};
 use bk_results::Query;
+use bk_trial_kit::Tally;
 use std::alloc::Global;
 
 // Words, the files that they name, and the number of workers of a job that has one.

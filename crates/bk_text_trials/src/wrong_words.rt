@@ -1,9 +1,9 @@
 //! Command lines that name no job, and what kind of error they give.
 
-use crate::tally::Tally;
 use crate::words::note_words;
 use anyhow::Result;
 use bk_cli::parse;
+use bk_trial_kit::Tally;
 use clap::error::ErrorKind;
 use std::alloc::Global;
 

@@ -1,43 +1,8 @@
 //! The frames of a feed in another order.
 
-use crate::chance::Chance;
 use anyhow::Result;
+use bk_trial_kit::{Chance, ends_of, frame, part};
 use std::alloc::Global;
-
-// Where the frame that begins here ends, if it begins in the feed.
-fn end_of(feed: &[u8], begin: usize) -> Option<usize> {
-    let [_, a, b, c, d] = feed.get(begin..)?.first_chunk::<5>()?;
-    let length = u32::from_be_bytes([*a, *b, *c, *d]) as usize;
-    Some(begin.saturating_add(5).saturating_add(length))
-}
-
-// The list is lent: a function that owns it drops it at each of its exits.
-fn put_ends(ends: &mut Vec<usize>, feed: &[u8]) -> Result<()> {
-    let mut end = 4usize;
-    ends.push(end)?;
-    for _ in 0..feed.len() {
-        match end_of(feed, end) {
-            Some(next) => end = next,
-            None => break,
-        }
-        ends.push(end)?;
-    }
-    Ok(())
-}
-
-// Where the magic, and each frame after it, ends.
-fn ends_of(alloc: Global, feed: &[u8]) -> Result<Vec<usize>> {
-    let mut ends = Vec::new(alloc);
-    put_ends(&mut ends, feed)?;
-    Ok(ends)
-}
-
-// The bytes from one end to the next.
-fn frame<'a>(feed: &'a [u8], ends: &[usize], index: usize) -> &'a [u8] {
-    let first = ends.get(index).copied().unwrap_or(0);
-    let last = ends.get(index.saturating_add(1)).copied().unwrap_or(0);
-    feed.get(first..last).unwrap_or(&[])
-}
 
 fn put_indices(left: &mut Vec<usize>, count: usize) -> Result<()> {
     for index in 2..count.saturating_sub(1) {
@@ -77,7 +42,7 @@ fn with_left(
     (feed, ends): (&[u8], &[usize]),
 ) -> Result<Vec<u8>> {
     let head = ends.get(2).copied().unwrap_or(0);
-    let mut made = Vec::from_slice(alloc, feed.get(..head).unwrap_or(&[]))?;
+    let mut made = Vec::from_slice(alloc, part(feed, 0, head))?;
     put_frames(&mut made, chance, left, (feed, ends))?;
     Ok(made)
 }

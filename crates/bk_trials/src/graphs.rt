@@ -1,8 +1,8 @@
 //! Scripts of several members, whose certificates come to more than one order of their arrival.
 
-use crate::chance::Chance;
 use anyhow::Result;
 use bk_base::Version;
+use bk_trial_kit::Chance;
 use std::alloc::Global;
 use std::fmt::Write;
 

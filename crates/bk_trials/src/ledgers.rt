@@ -2,9 +2,9 @@
 
 ghost use Rattle.std.specs.Prelude.{◌<◌, ◌≤◌};
 
-use crate::chance::Chance;
 use anyhow::Result;
 use bk_base::Version;
+use bk_trial_kit::Chance;
 use std::alloc::Global;
 use std::fmt::Write;
 

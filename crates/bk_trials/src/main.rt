@@ -1,22 +1,21 @@
 //! Draws feeds and runs each of them in several ways that have to come to one answer.
 //!
 //! The transactions of a feed are executed by several numbers of workers and one at a time; the frames of a feed come in
-//! several orders. The last line is `N passed, M failed`.
+//! several orders. What failed is named on standard error. The last line is `N passed, M failed`.
 #![tactic(auto)]
 
-mod chance;
 mod frames;
 mod graphs;
 mod jobs;
 mod ledgers;
 
-use crate::chance::Chance;
 use crate::frames::shuffled;
 use crate::graphs::graph;
 use crate::jobs::{applied, made, replayed};
 use crate::ledgers::ledger;
-use anyhow::{Result, bail};
+use anyhow::Result;
 use bk_base::Version;
+use bk_trial_kit::{Chance, Tally};
 use std::alloc::Global;
 use std::str;
 use std::sync::Wait;
@@ -27,24 +26,6 @@ const LEDGERS: u64 = 16;
 const GRAPHS: u64 = 6;
 
 const ORDERS: u64 = 3;
-
-// How many trials ended as they have to, and how many did not.
-#[derive(Clone, Copy)]
-struct Tally {
-    passed: u64,
-    failed: u64,
-}
-
-impl Tally {
-    fn add(self, is_right: bool) -> Tally {
-        if is_right {
-            let passed = self.passed.saturating_add(1);
-            return Tally { passed, ..self };
-        }
-        let failed = self.failed.saturating_add(1);
-        Tally { failed, ..self }
-    }
-}
 
 // Whether the report of a run ends in that of `apply` and one line more.
 fn ends_in(run: &[u8], apply: &[u8]) -> bool {
@@ -66,26 +47,25 @@ where
     }
 }
 
-fn try_workers<R>(rt: &R, feed: &[u8], apply: &[u8], workers: &[u8], tally: Tally) -> Tally
+fn try_workers<R>(rt: &R, feed: &[u8], apply: &[u8], workers: &[u8], tally: &mut Tally)
 where
-    R: AllocGlobal + Threads + Wait + Sync,
+    R: AllocGlobal + Eprint + Threads + Wait + Sync,
 {
-    let mut tally = tally;
     for count in workers {
-        tally = tally.add(is_executed(rt, feed, *count, apply));
+        let is_right = is_executed(rt, feed, *count, apply);
+        tally.note(rt, "a drawn ledger by several workers", is_right);
     }
-    tally
 }
 
 // A feed, executed by each of these numbers of workers. Of the values on the way to an answer each function owns one: every
 // way out of a function drops all that it owns.
-fn try_applied<R>(rt: &R, feed: &[u8], tally: Tally) -> Tally
+fn try_applied<R>(rt: &R, feed: &[u8], tally: &mut Tally)
 where
-    R: AllocGlobal + Threads + Wait + Sync,
+    R: AllocGlobal + Eprint + Threads + Wait + Sync,
 {
     match applied(rt, feed) {
         Some(apply) => try_workers(rt, feed, &apply, &[1, 2, 3, 8, 64], tally),
-        None => tally.add(false),
+        None => tally.note(rt, "a drawn ledger that is applied", false),
     }
 }
 
@@ -97,14 +77,15 @@ where
     Ok(made(rt, &script))
 }
 
-fn try_ledger<R>(rt: &R, chance: &mut Chance, version: Version, tally: Tally) -> Result<Tally>
+fn try_ledger<R>(rt: &R, chance: &mut Chance, version: Version, tally: &mut Tally) -> Result<()>
 where
-    R: AllocGlobal + Threads + Wait + Sync,
+    R: AllocGlobal + Eprint + Threads + Wait + Sync,
 {
     match drawn_ledger(rt, chance, version)? {
-        Some(feed) => Ok(try_applied(rt, &feed, tally)),
-        None => Ok(tally.add(false)),
+        Some(feed) => try_applied(rt, &feed, tally),
+        None => tally.note(rt, "a drawn ledger", false),
     }
+    Ok(())
 }
 
 // The lines but those that name a rejected frame by its index.
@@ -154,16 +135,16 @@ fn try_orders<R>(
     chance: &mut Chance,
     feed: &[u8],
     wanted: &[u8],
-    tally: Tally,
-) -> Result<Tally>
+    tally: &mut Tally,
+) -> Result<()>
 where
-    R: AllocGlobal + Threads + Wait + Sync,
+    R: AllocGlobal + Eprint + Threads + Wait + Sync,
 {
-    let mut tally = tally;
     for _ in 0..ORDERS {
-        tally = tally.add(is_same_shuffled(rt, chance, feed, wanted)?);
+        let is_right = is_same_shuffled(rt, chance, feed, wanted)?;
+        tally.note(rt, "a drawn graph in another order", is_right);
     }
-    Ok(tally)
+    Ok(())
 }
 
 fn try_lines<R>(
@@ -171,23 +152,24 @@ fn try_lines<R>(
     chance: &mut Chance,
     feed: &[u8],
     report: &[u8],
-    tally: Tally,
-) -> Result<Tally>
+    tally: &mut Tally,
+) -> Result<()>
 where
-    R: AllocGlobal + Threads + Wait + Sync,
+    R: AllocGlobal + Eprint + Threads + Wait + Sync,
 {
     let wanted = without_rejects(rt.alloc(), report)?;
     try_orders(rt, chance, feed, &wanted, tally)
 }
 
-fn try_reported<R>(rt: &R, chance: &mut Chance, feed: &[u8], tally: Tally) -> Result<Tally>
+fn try_reported<R>(rt: &R, chance: &mut Chance, feed: &[u8], tally: &mut Tally) -> Result<()>
 where
-    R: AllocGlobal + Threads + Wait + Sync,
+    R: AllocGlobal + Eprint + Threads + Wait + Sync,
 {
     match replayed(rt, feed, 2) {
-        Some(report) => try_lines(rt, chance, feed, &report, tally),
-        None => Ok(tally.add(false)),
+        Some(report) => try_lines(rt, chance, feed, &report, tally)?,
+        None => tally.note(rt, "a drawn graph that is replayed", false),
     }
+    Ok(())
 }
 
 fn drawn_graph<R>(
@@ -209,26 +191,26 @@ fn try_graph<R>(
     chance: &mut Chance,
     version: Version,
     members: u64,
-    tally: Tally,
-) -> Result<Tally>
+    tally: &mut Tally,
+) -> Result<()>
 where
-    R: AllocGlobal + Threads + Wait + Sync,
+    R: AllocGlobal + Eprint + Threads + Wait + Sync,
 {
     match drawn_graph(rt, chance, version, members)? {
-        Some(feed) => try_reported(rt, chance, &feed, tally),
-        None => Ok(tally.add(false)),
+        Some(feed) => try_reported(rt, chance, &feed, tally)?,
+        None => tally.note(rt, "a drawn graph", false),
     }
+    Ok(())
 }
 
-fn try_ledgers<R>(rt: &R, chance: &mut Chance, version: Version, tally: Tally) -> Result<Tally>
+fn try_ledgers<R>(rt: &R, chance: &mut Chance, version: Version, tally: &mut Tally) -> Result<()>
 where
-    R: AllocGlobal + Threads + Wait + Sync,
+    R: AllocGlobal + Eprint + Threads + Wait + Sync,
 {
-    let mut tally = tally;
     for _ in 0..LEDGERS {
-        tally = try_ledger(rt, chance, version, tally)?;
+        try_ledger(rt, chance, version, tally)?;
     }
-    Ok(tally)
+    Ok(())
 }
 
 // A graph of each of these numbers of members.
@@ -237,47 +219,40 @@ fn try_members<R>(
     chance: &mut Chance,
     version: Version,
     members: &[u64],
-    tally: Tally,
-) -> Result<Tally>
+    tally: &mut Tally,
+) -> Result<()>
 where
-    R: AllocGlobal + Threads + Wait + Sync,
+    R: AllocGlobal + Eprint + Threads + Wait + Sync,
 {
-    let mut tally = tally;
     for count in members {
-        tally = try_graph(rt, chance, version, *count, tally)?;
+        try_graph(rt, chance, version, *count, tally)?;
     }
-    Ok(tally)
+    Ok(())
 }
 
-fn try_version<R>(rt: &R, chance: &mut Chance, version: Version, tally: Tally) -> Result<Tally>
+fn try_version<R>(rt: &R, chance: &mut Chance, version: Version, tally: &mut Tally) -> Result<()>
 where
-    R: AllocGlobal + Threads + Wait + Sync,
+    R: AllocGlobal + Eprint + Threads + Wait + Sync,
 {
-    let mut tally = try_ledgers(rt, chance, version, tally)?;
+    try_ledgers(rt, chance, version, tally)?;
     for _ in 0..GRAPHS {
-        tally = try_members(rt, chance, version, &[1, 4, 5, 7], tally)?;
+        try_members(rt, chance, version, &[1, 4, 5, 7], tally)?;
     }
-    Ok(tally)
+    Ok(())
 }
 
 fn run_all<R>(rt: &R) -> Result<Tally>
 where
-    R: AllocGlobal + Threads + Wait + Sync,
+    R: AllocGlobal + Eprint + Threads + Wait + Sync,
 {
     let mut chance = Chance::new(11);
-    let tally = Tally {
-        passed: 0,
-        failed: 0,
-    };
-    let tally = try_version(rt, &mut chance, Version::One, tally)?;
-    try_version(rt, &mut chance, Version::Two, tally)
+    let mut tally = Tally::new();
+    try_version(rt, &mut chance, Version::One, &mut tally)?;
+    try_version(rt, &mut chance, Version::Two, &mut tally)?;
+    Ok(tally)
 }
 
 fn main(rt: HostRuntime) -> Result<()> {
     let tally = run_all(&rt)?;
-    println!(rt; "{} passed, {} failed", tally.passed, tally.failed)?;
-    if tally.failed > 0 {
-        bail!("trials failed");
-    }
-    Ok(())
+    tally.report(&rt)
 }
