@@ -52,6 +52,12 @@ class Function:
         return f"{self.owner}::{self.name}" if self.owner else self.name
 
 
+def is_law(function):
+    """Whether a function is a law: it is public, has no parameters and no result, and requires nothing."""
+    only_ensures = bool(function.clauses) and all(clause.kind == "ensures" for clause in function.clauses)
+    return only_ensures and not function.owner and function.signature == f"pub fn {function.name}()"
+
+
 class Source:
     """A file of src/: its functions in their order, and the definitions of specs/ that it names, each with its module."""
 
@@ -59,12 +65,15 @@ class Source:
         self.crate, self.path = crate, os.path.relpath(path, os.path.join(CRATES, crate))
         self.text = read(path)
         self.named = dict(definitions_in(self.text))
-        self.traits = set(re.findall(r"^pub trait (\w+)", self.text, re.M))
+        self.implemented = list(implemented_in(self.text))
         self.functions = list(functions_in(self))
 
     def cited(self, function):
         """The definitions of specs/ in the clauses of a function, as pairs of name and module, in their order."""
-        words = re.findall(r"[^\s(){};,.]+", " ".join(clause.text for clause in function.clauses))
+        return self.cited_in(" ".join(clause.text for clause in function.clauses))
+
+    def cited_in(self, text):
+        words = re.findall(r"[^\s(){};,.]+", text)
         return [(word, self.named[word]) for word in dict.fromkeys(words) if word in self.named]
 
 
@@ -76,6 +85,16 @@ def definitions_in(text):
         for name in names.split(","):
             name, _, own = name.strip().partition(" as ")
             yield (own or name).strip(), module
+
+
+def implemented_in(text):
+    """The implementations of traits that define something for contracts: the trait, the type, and the definitions, each
+    with its text."""
+    for head, body in re.findall(r"^impl\b([^\n]*?(?:\n[^{}\n]*)*?)\{\n(.*?)^\}", text, re.M | re.S):
+        found = re.search(r"([\w:]+)(?:<[^>]*>)? for ([\w:]+)", head)
+        ghosts = dict(re.findall(r"^    ghost (\w+) = \{(.*?)\};", body, re.M | re.S))
+        if found and ghosts:
+            yield found[1].rsplit("::", 1)[-1], found[2], ghosts
 
 
 def owner_of(block):
