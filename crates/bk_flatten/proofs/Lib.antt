@@ -5,3 +5,4 @@ pub mod Parts
 pub mod Whole
 pub mod Taken
 pub mod Listing
+pub mod Entered

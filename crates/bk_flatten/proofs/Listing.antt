@@ -1,5 +1,5 @@
 -- The list of digests and the set of them, where one is added or taken out.
-use Rattle.std.proofs.Common.{◌≡◌, ℕ, ◌-◌, ◌<◌, ◌≤◌, Bool, true, false, cond, List, [], ◌∷◌, ◌++◌, length, take, refl, sym, ap, subst, ◌∙◌, arith}
+use Rattle.std.proofs.Common.{◌≡◌, ℕ, ◌-◌, ◌<◌, ◌≤◌, Bool, true, false, cond, List, [], ◌∷◌, ◌++◌, length, take, refl, sym, ap, ◌∙◌, arith}
 use Rattle.std.specs.Prelude.{◌||◌}
 use Rattle.std.specs.Bool.{OnFalse}
 use Rattle.std.specs.Str.{bytes_eq}
@@ -47,11 +47,6 @@ added_or true false = refl
 added_or false true = refl
 added_or false false = refl
 
-taken_or : (b c : Bool) → (b ≡ true → c ≡ false) → cond b false (c || b) ≡ c
-taken_or true c h = sym (h refl)
-taken_or false true h = refl
-taken_or false false h = refl
-
 any_push : (p : List ℕ → Bool) (xs : List (List ℕ)) (d : List ℕ) → list_any p (xs ++ d ∷ []) ≡ (list_any p xs || p d)
 any_push p xs d = list_any-append p xs (d ∷ []) ∙ or_false (list_any p xs) (p d)
 
@@ -63,15 +58,6 @@ once_more (x ∷ xs) d h new = (
   any_push (bytes_eq x) xs d ∙ both_false _ _ h.0 (same_back d x false (left_false _ _ new)),
   once_more xs d h.1 (right_false (bytes_eq d x) _ new),
 )
-
-once_before : (xs : List (List ℕ)) (d : List ℕ) → AreOnce (xs ++ d ∷ []) → AreOnce xs
-once_before [] d h = tt
-once_before (x ∷ xs) d h = (left_false _ (bytes_eq x d) (sym (any_push (bytes_eq x) xs d) ∙ h.0), once_before xs d h.1)
-
-once_last : (xs : List (List ℕ)) (d : List ℕ) → AreOnce (xs ++ d ∷ []) → list_any (bytes_eq d) xs ≡ false
-once_last [] d h = refl
-once_last (x ∷ xs) d h =
-    both_false _ _ (same_back x d false (right_false (list_any (bytes_eq x) xs) _ (sym (any_push (bytes_eq x) xs d) ∙ h.0))) (once_last xs d h.1)
 
 -- ---- the set
 
@@ -96,16 +82,6 @@ known_more xs s t d h new added = record {
   once = once_more xs d h.once (sym (h.same d) ∙ new);
   same = λ q. added q ∙ ((λ i. cond (ties d q i) true (h.same q i))
       ∙ (added_or (bytes_eq q d) (list_any (bytes_eq q) xs) ∙ sym (any_push (bytes_eq q) xs d)));
-}
-
--- the last one is taken out of both
-pub known_less : (xs : List (List ℕ)) (s t : BTreeSet (List ℕ)) (d : List ℕ) → AreKnown (xs ++ d ∷ []) s
-    → ((q : List ℕ) → contains id_cmp t q ≡ cond (is_eq (id_cmp d q)) false (contains id_cmp s q)) → AreKnown xs t
-known_less xs s t d h taken = record {
-  once = once_before xs d h.once;
-  same = λ q. taken q ∙ ((λ i. cond (ties d q i) false ((h.same q ∙ any_push (bytes_eq q) xs d) i))
-      ∙ taken_or (bytes_eq q d) (list_any (bytes_eq q) xs)
-      (λ t. subst (λ (r : List ℕ). list_any (bytes_eq r) xs ≡ false) (sym ((bytes_eq-Decides q d).0 t)) (once_last xs d h.once)));
 }
 
 -- ---- what is added is taken out again

@@ -34,10 +34,38 @@ from_reverse (x ∷ xs) c h = ⊎_elim
 pub listed_push : (out : List CertRef) (c : CertRef) → IsListed (reverse out) → ((d : CertRef) → Contains out d → IsBefore c d) → IsListed (reverse (out ++ c ∷ []))
 listed_push out c listed first = subst IsListed (sym (reverse-append out (c ∷ []))) ((λ d h. first d (from_reverse out d h)), listed)
 
-pub gains_none : (out : List CertRef) (fresh round : ℕ) → ((x : ℕ) → Has fresh x → x < 128) → Gains out out (IsNewAt fresh round 128)
-gains_none out fresh round few = record {
+-- ---- the end of a set, whose members are taken out from the least on
+
+pub taken_low : (x : ℕ) → x < 128 → x + 1 ≤ 128
+taken_low x h = omega arith
+
+past : (x y : ℕ) → x ≤ y → y ≢ x → x + 1 ≤ y
+past x y h n = omega arith
+
+-- what is left is past the one that was taken out
+pub left_past : (left next x : ℕ) → ((y : ℕ) → Has left y → x ≤ y) → ((y : ℕ) → Has next y ↔ (Has left y × (y ≢ x))) → (y : ℕ) → Has next y → x + 1 ≤ y
+left_past left next x least rest y h = let l = (rest y).0 h in past x y (least y l.0) l.1
+
+below_next : (x y end : ℕ) → end ≤ x → y < end → y < x + 1
+below_next x y end low h = omega arith
+
+same_below : (x y : ℕ) → y ≡ x → y < x + 1
+same_below x y e = omega arith
+
+-- each member is below the end, or left
+pub above_taken : (set left next x end : ℕ) → ((y : ℕ) → Has set y → (y < end) ⊎ Has left y) → end ≤ x → ((y : ℕ) → Has next y ↔ (Has left y × (y ≢ x)))
+    → (y : ℕ) → Has set y → (y < x + 1) ⊎ Has next y
+above_taken set left next x end above low rest y h = ⊎_elim
+    (λ below. inl (below_next x y end low below))
+    (λ l. ⊎_elim (λ e. inl (same_below x y e)) (λ n. inr ((rest y).1 (l, n))) (cases_eq y x))
+    (above y h)
+
+-- ---- levels
+
+pub gains_none : (out : List CertRef) (fresh round end : ℕ) → ((x : ℕ) → Has fresh x → x < end) → Gains out out (IsNewAt fresh round end)
+gains_none out fresh round end above = record {
   keeps = λ c h. h;
-  gains = λ c h. absurd (let l = few c.author h.marked in let f = h.from_on in omega arith);
+  gains = λ c h. absurd (let l = above c.author h.marked in let f = h.from_on in omega arith);
   only = λ c h. inl h;
 }
 

@@ -4,27 +4,28 @@ ghost use Rattle.std.specs.Prelude.{◌≡◌, ◌-◌, [], length, take, OnOk, 
 ghost use Rattle.bk_flatten.specs.private.Listing.{with_digest, with_digests};
 
 use bk_digest::Digest32;
+use bk_index::Index;
 use std::alloc::{AllocError, Global};
-use std::collections::BTreeSet;
 use std::marker::Model;
 
-/// Digests in the order in which they came, each once. One is found in O(log n) of them, whatever
-/// its bytes: they come from a feed. Contracts see the list.
+/// Digests in the order in which they came, each once. One is mostly found in constant time, and in
+/// O(log n) of them whatever its bytes: they come from a feed. Contracts see the list.
 #[derive(Drop)]
 pub(crate) struct Digests {
     list: Vec<Digest32>,
-    known: BTreeSet<Digest32>,
+    // Each digest with its index.
+    known: Index<Digest32>,
 }
 
 impl Model for Digests {
     ghost use Rattle.std.specs.Prelude.{ℕ, List};
-    ghost use Rattle.bk_flatten.specs.private.Listing.{AreKnown};
+    ghost use Rattle.bk_flatten.specs.private.Listing.{AreEntered};
 
     ghost Value = { List (List ℕ) };
 
     ghost view = { λ s. s.list.items };
 
-    ghost invariant = { λ s. AreKnown s.list.items s.known };
+    ghost invariant = { λ s. AreEntered s.list.items s.known };
 }
 
 impl Digests {
@@ -34,7 +35,7 @@ impl Digests {
     {
         Digests {
             list: Vec::new(alloc),
-            known: BTreeSet::new(alloc),
+            known: Index::new(alloc),
         }
     }
 
@@ -58,7 +59,7 @@ impl Digests {
         ensures err { OnErr result (self.new ≡ self.old) }
     {
         self.list.reserve(1)?;
-        if self.known.insert(digest)? {
+        if self.known.first_of(digest, self.list.len())?.is_none() {
             self.list.push_reserved(digest);
         }
         Ok(())
@@ -68,8 +69,8 @@ impl Digests {
     fn drop_last(&mut self)
         ensures { self.new ≡ take (length self.old - 1) self.old }
     {
-        if let Some(digest) = self.list.pop() {
-            let _ = self.known.remove(&digest);
+        if let Some(_) = self.list.pop() {
+            self.known.forget_last();
         }
     }
 }

@@ -1,6 +1,6 @@
 //! What an anchor adds to the order.
 
-ghost use Rattle.std.specs.Prelude.{◌≡◌, ℕ, ◌<◌, ◌↔◌, ◌⊎◌, reverse, Contains, length, OnOk};
+ghost use Rattle.std.specs.Prelude.{◌≡◌, ℕ, ◌<◌, ◌≤◌, ◌↔◌, ◌⊎◌, reverse, Contains, length, OnOk};
 ghost use Rattle.bk_cert.specs.Place.{IsListed};
 ghost use Rattle.bk_cert.specs.declared.place.CertRef.{CertRef};
 ghost use Rattle.bk_rounds.specs.Members.{Has};
@@ -20,6 +20,20 @@ pub(crate) fn marks_at(marks: &[Members], round: u32) -> Members
     }
 }
 
+// One more than the last of these members; 0 where there is none.
+fn end_of(set: Members) -> u8
+    requires few { (x : ℕ) → Has set x → x < 128 }
+    ensures above { (x : ℕ) → Has set x → x < result }
+    ensures few { result ≤ 128 }
+{
+    let mut left = set;
+    let mut end = 0u8;
+    while let Some(x) = left.pop() {
+        end = x + 1;
+    }
+    end
+}
+
 /// Adds the places of these authors in a round, the last author first.
 pub(crate) fn push_level(
     out: &mut Vec<CertRef>,
@@ -32,7 +46,7 @@ pub(crate) fn push_level(
     ensures listed { OnOk result (IsListed (reverse out.new.items)) }
     ensures gains { OnOk result (Gains out.old.items out.new.items (IsNewAt fresh round 0)) }
 {
-    let mut author = 128u8;
+    let mut author = end_of(fresh);
     while author > 0 {
         author -= 1;
         if fresh.has(author) {

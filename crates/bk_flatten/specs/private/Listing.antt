@@ -3,6 +3,7 @@ use Rattle.std.specs.Prelude.{◌≡◌, ℕ, List, [], ◌∷◌, ◌++◌, fal
 use Rattle.std.specs.List.{fold, list_any}
 use Rattle.std.specs.Str.{bytes_eq}
 use Rattle.std.specs.BTreeSet.{BTreeSet, contains}
+use Rattle.std.specs.Map.{keys_of}
 use Rattle.bk_evidence.specs.Collisions.{id_cmp}
 
 -- one digest more, unless it is there
@@ -22,3 +23,7 @@ AreOnce (d ∷ more) = (list_any (bytes_eq d) more ≡ false) × AreOnce more
 pub record AreKnown (list : List (List ℕ)) (known : BTreeSet (List ℕ)) : Type 0 where
   pub once : AreOnce list
   pub same : (q : List ℕ) → contains id_cmp known q ≡ list_any (bytes_eq q) list
+
+-- the keys of an index are the digests of the list, in its order
+abbrev pub AreEntered : List (List ℕ) → List (List ℕ × ℕ) → Type 0
+AreEntered list entries = keys_of entries ≡ list

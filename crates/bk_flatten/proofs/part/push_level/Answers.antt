@@ -6,7 +6,7 @@ use Rattle.bk_flatten.proofs.Parts.{gains_none, gains_push, gains_skip, listed_p
 use Rattle.bk_flatten.proofs.part.push_level.Goals as goal
 
 pub loop-author-init : goal.loop-author-init
-loop-author-init c = record { low = omega arith; listed = c.requires.listed; gains = gains_none c.args.out.now.items c.args.fresh c.args.round c.requires.few }
+loop-author-init c = record { low = omega arith; listed = c.requires.listed; gains = gains_none c.args.out.now.items c.args.fresh c.args.round c.end_of-author.result c.end_of-author.ensures.above }
 
 pub loop-author-preserved-in-Continue-1 : goal.loop-author-preserved-in-Continue-1
 loop-author-preserved-in-Continue-1 c =

@@ -1,18 +1,16 @@
-use Rattle.std.proofs.Common.{sym, ◌∙◌}
-use Rattle.std.proofs.lemmas.Bool.{not-true}
-use Rattle.bk_flatten.proofs.Listing.{known_same, known_again, known_more}
+use Rattle.std.proofs.Common.{true, false, sym, ap, ◌∙◌}
+use Rattle.std.specs.Prelude.{is_some}
+use Rattle.bk_flatten.proofs.Entered.{entered_found}
 use Rattle.bk_flatten.proofs.digests.Digests.add.Goals as goal
 
-pub invariant_of-self-in_err-insert : goal.invariant_of-self-in_err-insert
-invariant_of-self-in_err-insert c =
-    rw c.in_ok-reserve.ensures.items (known_same c.self.inside.list.items c.self.inside.known c.insert.new.self c.self.invariant c.in_err-insert.ensures.err)
+pub returns-then-is_none-clause-ok : goal.returns-then-is_none-clause-ok
+returns-then-is_none-clause-ok c =
+    rw (← c.self.view_is, c.push_reserved.ensures.items, c.in_ok-reserve.ensures.items)
+    (sym (entered_found c.self.inside.list.items c.self.inside.known c.args.digest false c.self.invariant
+    (ap is_some (sym c.in_ok-first_of.ensures.found) ∙ c.if-is_none.ensures)))
 
-pub invariant_of-self-then-branch : goal.invariant_of-self-then-branch
-invariant_of-self-then-branch c =
-    rw c.push_reserved.ensures.items (rw c.in_ok-reserve.ensures.items (known_more c.self.inside.list.items c.self.inside.known c.insert.new.self c.args.digest c.self.invariant
-    (not-true _ (sym c.in_ok-insert.ensures.added ∙ c.if-branch.true)) c.in_ok-insert.ensures.updates.0))
-
-pub invariant_of-self-else-branch : goal.invariant_of-self-else-branch
-invariant_of-self-else-branch c =
-    rw c.in_ok-reserve.ensures.items (known_again c.self.inside.list.items c.self.inside.known c.insert.new.self c.in_ok-insert.field-0 c.self.invariant
-    c.in_ok-insert.ensures.unchanged c.if-branch.false)
+pub returns-else-is_none-clause-ok : goal.returns-else-is_none-clause-ok
+returns-else-is_none-clause-ok c =
+    rw (← c.self.view_is, c.in_ok-reserve.ensures.items)
+    (sym (entered_found c.self.inside.list.items c.self.inside.known c.args.digest true c.self.invariant
+    (ap is_some (sym c.in_ok-first_of.ensures.found) ∙ c.if-is_none.ensures)))
