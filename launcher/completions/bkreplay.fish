@@ -54,51 +54,51 @@ complete -c bkreplay -n "__bkreplay_at ''" -a check-chain -d 'Check that feeds a
 complete -c bkreplay -n '__bkreplay_at run' -l workers -x -a '(seq 1 64)' -d 'How many threads execute at most, 1 to 64; 1 by default. The output is the same for any number'
 complete -c bkreplay -n '__bkreplay_at run' -l strict -d 'End with status 6, and say why in one more line, where the feed does not count whole'
 complete -c bkreplay -n '__bkreplay_at run' -l progress -d 'Show on standard error how many bytes are read, and how many transactions are executed'
-complete -c bkreplay -n '__bkreplay_at run' -l verbose -d 'Say in one more line what a fault is, in words, and name the file; queries and `compare` also name a missing batch'
+complete -c bkreplay -n '__bkreplay_at run' -l verbose -d 'Say in one more line what a fault is, in words, and name the file; queries and `compare` also name a missing batch, and `frames` whose tag is wrong'
 complete -c bkreplay -n '__bkreplay_at run 0' -F
 complete -c bkreplay -n '__bkreplay_at make' -l progress -d 'Show on standard error how many bytes are read, and how many transactions are executed'
-complete -c bkreplay -n '__bkreplay_at make' -l verbose -d 'Say in one more line what a fault is, in words, and name the file; queries and `compare` also name a missing batch'
+complete -c bkreplay -n '__bkreplay_at make' -l verbose -d 'Say in one more line what a fault is, in words, and name the file; queries and `compare` also name a missing batch, and `frames` whose tag is wrong'
 complete -c bkreplay -n '__bkreplay_at make 0' -F
 complete -c bkreplay -n '__bkreplay_at order' -l strict -d 'End with status 6, and say why in one more line, where the feed does not count whole'
 complete -c bkreplay -n '__bkreplay_at order' -l progress -d 'Show on standard error how many bytes are read, and how many transactions are executed'
-complete -c bkreplay -n '__bkreplay_at order' -l verbose -d 'Say in one more line what a fault is, in words, and name the file; queries and `compare` also name a missing batch'
+complete -c bkreplay -n '__bkreplay_at order' -l verbose -d 'Say in one more line what a fault is, in words, and name the file; queries and `compare` also name a missing batch, and `frames` whose tag is wrong'
 complete -c bkreplay -n '__bkreplay_at order 0' -F
 complete -c bkreplay -n '__bkreplay_at account' -l strict -d 'End with status 6, and say why in one more line, where the feed does not count whole'
 complete -c bkreplay -n '__bkreplay_at account' -l progress -d 'Show on standard error how many bytes are read, and how many transactions are executed'
-complete -c bkreplay -n '__bkreplay_at account' -l verbose -d 'Say in one more line what a fault is, in words, and name the file; queries and `compare` also name a missing batch'
+complete -c bkreplay -n '__bkreplay_at account' -l verbose -d 'Say in one more line what a fault is, in words, and name the file; queries and `compare` also name a missing batch, and `frames` whose tag is wrong'
 complete -c bkreplay -n '__bkreplay_at account 1' -F
 complete -c bkreplay -n '__bkreplay_at receipt' -l strict -d 'End with status 6, and say why in one more line, where the feed does not count whole'
 complete -c bkreplay -n '__bkreplay_at receipt' -l progress -d 'Show on standard error how many bytes are read, and how many transactions are executed'
-complete -c bkreplay -n '__bkreplay_at receipt' -l verbose -d 'Say in one more line what a fault is, in words, and name the file; queries and `compare` also name a missing batch'
+complete -c bkreplay -n '__bkreplay_at receipt' -l verbose -d 'Say in one more line what a fault is, in words, and name the file; queries and `compare` also name a missing batch, and `frames` whose tag is wrong'
 complete -c bkreplay -n '__bkreplay_at receipt 1' -F
 complete -c bkreplay -n '__bkreplay_at prove' -l strict -d 'End with status 6, and say why in one more line, where the feed does not count whole'
 complete -c bkreplay -n '__bkreplay_at prove' -l progress -d 'Show on standard error how many bytes are read, and how many transactions are executed'
-complete -c bkreplay -n '__bkreplay_at prove' -l verbose -d 'Say in one more line what a fault is, in words, and name the file; queries and `compare` also name a missing batch'
+complete -c bkreplay -n '__bkreplay_at prove' -l verbose -d 'Say in one more line what a fault is, in words, and name the file; queries and `compare` also name a missing batch, and `frames` whose tag is wrong'
 complete -c bkreplay -n '__bkreplay_at prove 1' -F
 complete -c bkreplay -n '__bkreplay_at frames' -l strict -d 'End with status 6, and say why in one more line, where the feed does not count whole'
 complete -c bkreplay -n '__bkreplay_at frames' -l progress -d 'Show on standard error how many bytes are read, and how many transactions are executed'
-complete -c bkreplay -n '__bkreplay_at frames' -l verbose -d 'Say in one more line what a fault is, in words, and name the file; queries and `compare` also name a missing batch'
+complete -c bkreplay -n '__bkreplay_at frames' -l verbose -d 'Say in one more line what a fault is, in words, and name the file; queries and `compare` also name a missing batch, and `frames` whose tag is wrong'
 complete -c bkreplay -n '__bkreplay_at frames 0' -F
 complete -c bkreplay -n '__bkreplay_at summary' -l workers -x -a '(seq 1 64)' -d 'How many threads execute at most, 1 to 64; 1 by default. The output is the same for any number'
 complete -c bkreplay -n '__bkreplay_at summary' -l strict -d 'End with status 6, and say why in one more line, where the feed does not count whole'
 complete -c bkreplay -n '__bkreplay_at summary' -l progress -d 'Show on standard error how many bytes are read, and how many transactions are executed'
-complete -c bkreplay -n '__bkreplay_at summary' -l verbose -d 'Say in one more line what a fault is, in words, and name the file; queries and `compare` also name a missing batch'
+complete -c bkreplay -n '__bkreplay_at summary' -l verbose -d 'Say in one more line what a fault is, in words, and name the file; queries and `compare` also name a missing batch, and `frames` whose tag is wrong'
 complete -c bkreplay -n '__bkreplay_at summary 0' -F
 complete -c bkreplay -n '__bkreplay_at anchors' -l strict -d 'End with status 6, and say why in one more line, where the feed does not count whole'
 complete -c bkreplay -n '__bkreplay_at anchors' -l progress -d 'Show on standard error how many bytes are read, and how many transactions are executed'
-complete -c bkreplay -n '__bkreplay_at anchors' -l verbose -d 'Say in one more line what a fault is, in words, and name the file; queries and `compare` also name a missing batch'
+complete -c bkreplay -n '__bkreplay_at anchors' -l verbose -d 'Say in one more line what a fault is, in words, and name the file; queries and `compare` also name a missing batch, and `frames` whose tag is wrong'
 complete -c bkreplay -n '__bkreplay_at anchors 0' -F
 complete -c bkreplay -n '__bkreplay_at dag' -l from -x -d 'The first round that is drawn, 1 to 1,000,000; 1 by default'
 complete -c bkreplay -n '__bkreplay_at dag' -l rounds -x -d 'How many rounds are drawn, 1 to 1,000; 40 by default'
 complete -c bkreplay -n '__bkreplay_at dag' -l links -x -a 'all votes none' -d 'Which lines to parents are drawn; without it all up to 16 members, and votes above'
 complete -c bkreplay -n '__bkreplay_at dag' -l strict -d 'End with status 6, and say why in one more line, where the feed does not count whole'
 complete -c bkreplay -n '__bkreplay_at dag' -l progress -d 'Show on standard error how many bytes are read, and how many transactions are executed'
-complete -c bkreplay -n '__bkreplay_at dag' -l verbose -d 'Say in one more line what a fault is, in words, and name the file; queries and `compare` also name a missing batch'
+complete -c bkreplay -n '__bkreplay_at dag' -l verbose -d 'Say in one more line what a fault is, in words, and name the file; queries and `compare` also name a missing batch, and `frames` whose tag is wrong'
 complete -c bkreplay -n '__bkreplay_at dag 0' -F
 complete -c bkreplay -n '__bkreplay_at statement' -l workers -x -a '(seq 1 64)' -d 'How many threads execute at most, 1 to 64; 1 by default. The output is the same for any number'
 complete -c bkreplay -n '__bkreplay_at statement' -l strict -d 'End with status 6, and say why in one more line, where the feed does not count whole'
 complete -c bkreplay -n '__bkreplay_at statement' -l progress -d 'Show on standard error how many bytes are read, and how many transactions are executed'
-complete -c bkreplay -n '__bkreplay_at statement' -l verbose -d 'Say in one more line what a fault is, in words, and name the file; queries and `compare` also name a missing batch'
+complete -c bkreplay -n '__bkreplay_at statement' -l verbose -d 'Say in one more line what a fault is, in words, and name the file; queries and `compare` also name a missing batch, and `frames` whose tag is wrong'
 complete -c bkreplay -n '__bkreplay_at statement 1' -F
 complete -c bkreplay -n '__bkreplay_at transactions' -l workers -x -a '(seq 1 64)' -d 'How many threads execute at most, 1 to 64; 1 by default. The output is the same for any number'
 complete -c bkreplay -n '__bkreplay_at transactions' -l accounts -r -F -d 'The path of a list of accounts, an id on each line: only rows that have one of them are written'
@@ -106,7 +106,7 @@ complete -c bkreplay -n '__bkreplay_at transactions' -l follow -d 'Write each ro
 complete -c bkreplay -n '__bkreplay_at transactions' -l wait -d 'With `--follow` and a FILE: at the end of the file, wait for more of it, without end'
 complete -c bkreplay -n '__bkreplay_at transactions' -l strict -d 'End with status 6, and say why in one more line, where the feed does not count whole'
 complete -c bkreplay -n '__bkreplay_at transactions' -l progress -d 'Show on standard error how many bytes are read, and how many transactions are executed'
-complete -c bkreplay -n '__bkreplay_at transactions' -l verbose -d 'Say in one more line what a fault is, in words, and name the file; queries and `compare` also name a missing batch'
+complete -c bkreplay -n '__bkreplay_at transactions' -l verbose -d 'Say in one more line what a fault is, in words, and name the file; queries and `compare` also name a missing batch, and `frames` whose tag is wrong'
 complete -c bkreplay -n '__bkreplay_at transactions 0' -F
 complete -c bkreplay -n '__bkreplay_at postings' -l workers -x -a '(seq 1 64)' -d 'How many threads execute at most, 1 to 64; 1 by default. The output is the same for any number'
 complete -c bkreplay -n '__bkreplay_at postings' -l accounts -r -F -d 'The path of a list of accounts, an id on each line: only rows that have one of them are written'
@@ -114,56 +114,56 @@ complete -c bkreplay -n '__bkreplay_at postings' -l follow -d 'Write each row as
 complete -c bkreplay -n '__bkreplay_at postings' -l wait -d 'With `--follow` and a FILE: at the end of the file, wait for more of it, without end'
 complete -c bkreplay -n '__bkreplay_at postings' -l strict -d 'End with status 6, and say why in one more line, where the feed does not count whole'
 complete -c bkreplay -n '__bkreplay_at postings' -l progress -d 'Show on standard error how many bytes are read, and how many transactions are executed'
-complete -c bkreplay -n '__bkreplay_at postings' -l verbose -d 'Say in one more line what a fault is, in words, and name the file; queries and `compare` also name a missing batch'
+complete -c bkreplay -n '__bkreplay_at postings' -l verbose -d 'Say in one more line what a fault is, in words, and name the file; queries and `compare` also name a missing batch, and `frames` whose tag is wrong'
 complete -c bkreplay -n '__bkreplay_at postings 0' -F
 complete -c bkreplay -n '__bkreplay_at batches' -l strict -d 'End with status 6, and say why in one more line, where the feed does not count whole'
 complete -c bkreplay -n '__bkreplay_at batches' -l progress -d 'Show on standard error how many bytes are read, and how many transactions are executed'
-complete -c bkreplay -n '__bkreplay_at batches' -l verbose -d 'Say in one more line what a fault is, in words, and name the file; queries and `compare` also name a missing batch'
+complete -c bkreplay -n '__bkreplay_at batches' -l verbose -d 'Say in one more line what a fault is, in words, and name the file; queries and `compare` also name a missing batch, and `frames` whose tag is wrong'
 complete -c bkreplay -n '__bkreplay_at batches 0' -F
 complete -c bkreplay -n '__bkreplay_at waiting' -l strict -d 'End with status 6, and say why in one more line, where the feed does not count whole'
 complete -c bkreplay -n '__bkreplay_at waiting' -l progress -d 'Show on standard error how many bytes are read, and how many transactions are executed'
-complete -c bkreplay -n '__bkreplay_at waiting' -l verbose -d 'Say in one more line what a fault is, in words, and name the file; queries and `compare` also name a missing batch'
+complete -c bkreplay -n '__bkreplay_at waiting' -l verbose -d 'Say in one more line what a fault is, in words, and name the file; queries and `compare` also name a missing batch, and `frames` whose tag is wrong'
 complete -c bkreplay -n '__bkreplay_at waiting 0' -F
 complete -c bkreplay -n '__bkreplay_at missing' -l strict -d 'End with status 6, and say why in one more line, where the feed does not count whole'
 complete -c bkreplay -n '__bkreplay_at missing' -l progress -d 'Show on standard error how many bytes are read, and how many transactions are executed'
-complete -c bkreplay -n '__bkreplay_at missing' -l verbose -d 'Say in one more line what a fault is, in words, and name the file; queries and `compare` also name a missing batch'
+complete -c bkreplay -n '__bkreplay_at missing' -l verbose -d 'Say in one more line what a fault is, in words, and name the file; queries and `compare` also name a missing batch, and `frames` whose tag is wrong'
 complete -c bkreplay -n '__bkreplay_at missing 0' -F
 complete -c bkreplay -n '__bkreplay_at evidence' -l progress -d 'Show on standard error how many bytes are read, and how many transactions are executed'
-complete -c bkreplay -n '__bkreplay_at evidence' -l verbose -d 'Say in one more line what a fault is, in words, and name the file; queries and `compare` also name a missing batch'
+complete -c bkreplay -n '__bkreplay_at evidence' -l verbose -d 'Say in one more line what a fault is, in words, and name the file; queries and `compare` also name a missing batch, and `frames` whose tag is wrong'
 complete -c bkreplay -n '__bkreplay_at evidence 0' -F
 complete -c bkreplay -n '__bkreplay_at check-proof' -l account -x -d 'The id of an account: the proof is good only where its `account` line shows this id'
 complete -c bkreplay -n '__bkreplay_at check-proof' -l progress -d 'Show on standard error how many bytes are read, and how many transactions are executed'
-complete -c bkreplay -n '__bkreplay_at check-proof' -l verbose -d 'Say in one more line what a fault is, in words, and name the file; queries and `compare` also name a missing batch'
+complete -c bkreplay -n '__bkreplay_at check-proof' -l verbose -d 'Say in one more line what a fault is, in words, and name the file; queries and `compare` also name a missing batch, and `frames` whose tag is wrong'
 complete -c bkreplay -n '__bkreplay_at check-proof 1' -F
 complete -c bkreplay -n '__bkreplay_at check-state' -l workers -x -a '(seq 1 64)' -d 'How many threads execute at most, 1 to 64; 1 by default. The output is the same for any number'
 complete -c bkreplay -n '__bkreplay_at check-state' -l strict -d 'End with status 6, and say why in one more line, where the feed does not count whole'
 complete -c bkreplay -n '__bkreplay_at check-state' -l progress -d 'Show on standard error how many bytes are read, and how many transactions are executed'
-complete -c bkreplay -n '__bkreplay_at check-state' -l verbose -d 'Say in one more line what a fault is, in words, and name the file; queries and `compare` also name a missing batch'
+complete -c bkreplay -n '__bkreplay_at check-state' -l verbose -d 'Say in one more line what a fault is, in words, and name the file; queries and `compare` also name a missing batch, and `frames` whose tag is wrong'
 complete -c bkreplay -n '__bkreplay_at check-state 1' -F
 complete -c bkreplay -n '__bkreplay_at check-report' -l workers -x -a '(seq 1 64)' -d 'How many threads execute at most, 1 to 64; 1 by default. The output is the same for any number'
 complete -c bkreplay -n '__bkreplay_at check-report' -l strict -d 'End with status 6, and say why in one more line, where the feed does not count whole'
 complete -c bkreplay -n '__bkreplay_at check-report' -l progress -d 'Show on standard error how many bytes are read, and how many transactions are executed'
-complete -c bkreplay -n '__bkreplay_at check-report' -l verbose -d 'Say in one more line what a fault is, in words, and name the file; queries and `compare` also name a missing batch'
+complete -c bkreplay -n '__bkreplay_at check-report' -l verbose -d 'Say in one more line what a fault is, in words, and name the file; queries and `compare` also name a missing batch, and `frames` whose tag is wrong'
 complete -c bkreplay -n '__bkreplay_at check-report 0' -F
 complete -c bkreplay -n '__bkreplay_at check-report 1' -F
 complete -c bkreplay -n '__bkreplay_at apply' -l progress -d 'Show on standard error how many bytes are read, and how many transactions are executed'
-complete -c bkreplay -n '__bkreplay_at apply' -l verbose -d 'Say in one more line what a fault is, in words, and name the file; queries and `compare` also name a missing batch'
+complete -c bkreplay -n '__bkreplay_at apply' -l verbose -d 'Say in one more line what a fault is, in words, and name the file; queries and `compare` also name a missing batch, and `frames` whose tag is wrong'
 complete -c bkreplay -n '__bkreplay_at apply 0' -F
 complete -c bkreplay -n '__bkreplay_at schedule' -l workers -x -a '(seq 1 64)' -d 'The number of workers in the list of events, 1 to 64; 2 by default. The first is worker 0'
 complete -c bkreplay -n '__bkreplay_at schedule' -l progress -d 'Show on standard error how many bytes are read, and how many transactions are executed'
-complete -c bkreplay -n '__bkreplay_at schedule' -l verbose -d 'Say in one more line what a fault is, in words, and name the file; queries and `compare` also name a missing batch'
+complete -c bkreplay -n '__bkreplay_at schedule' -l verbose -d 'Say in one more line what a fault is, in words, and name the file; queries and `compare` also name a missing batch, and `frames` whose tag is wrong'
 complete -c bkreplay -n '__bkreplay_at schedule 0' -F
 complete -c bkreplay -n '__bkreplay_at schedule 1' -F
 complete -c bkreplay -n '__bkreplay_at compare' -l strict -d 'End with status 6, and say why in one more line, where the feed does not count whole'
 complete -c bkreplay -n '__bkreplay_at compare' -l progress -d 'Show on standard error how many bytes are read, and how many transactions are executed'
-complete -c bkreplay -n '__bkreplay_at compare' -l verbose -d 'Say in one more line what a fault is, in words, and name the file; queries and `compare` also name a missing batch'
+complete -c bkreplay -n '__bkreplay_at compare' -l verbose -d 'Say in one more line what a fault is, in words, and name the file; queries and `compare` also name a missing batch, and `frames` whose tag is wrong'
 complete -c bkreplay -n '__bkreplay_at compare 0' -F
 complete -c bkreplay -n '__bkreplay_at compare 1' -F
 complete -c bkreplay -n '__bkreplay_at link' -l workers -x -a '(seq 1 64)' -d 'How many threads execute at most, 1 to 64; 1 by default. The output is the same for any number'
 complete -c bkreplay -n '__bkreplay_at link' -l strict -d 'End with status 6, and say why in one more line, where the feed does not count whole'
 complete -c bkreplay -n '__bkreplay_at link' -l progress -d 'Show on standard error how many bytes are read, and how many transactions are executed'
-complete -c bkreplay -n '__bkreplay_at link' -l verbose -d 'Say in one more line what a fault is, in words, and name the file; queries and `compare` also name a missing batch'
+complete -c bkreplay -n '__bkreplay_at link' -l verbose -d 'Say in one more line what a fault is, in words, and name the file; queries and `compare` also name a missing batch, and `frames` whose tag is wrong'
 complete -c bkreplay -n '__bkreplay_at link 0' -F
 complete -c bkreplay -n '__bkreplay_at check-chain' -l progress -d 'Show on standard error how many bytes are read, and how many transactions are executed'
-complete -c bkreplay -n '__bkreplay_at check-chain' -l verbose -d 'Say in one more line what a fault is, in words, and name the file; queries and `compare` also name a missing batch'
+complete -c bkreplay -n '__bkreplay_at check-chain' -l verbose -d 'Say in one more line what a fault is, in words, and name the file; queries and `compare` also name a missing batch, and `frames` whose tag is wrong'
 complete -c bkreplay -n '__bkreplay_at check-chain 0' -F
