@@ -24,7 +24,7 @@ pub use laws::{
 pub use local::Local;
 pub use receipt::{Receipt, Status};
 pub use rule::{Effect, apply_local, settle};
-pub use run::run_in_order;
+pub use run::{run_in_order, run_near};
 pub use state::State;
 
 #[cfg(test)]

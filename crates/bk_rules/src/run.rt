@@ -27,19 +27,80 @@ pub fn run_in_order(
         (state_after state.old.version txs.now state.old.rows)) }
     ensures unchanged { OnErr result (state.new ≡ state.old) }
 {
+    run_near(alloc, state, txs, &[])
+}
+
+/// The same, where likely indexes of all accounts that the transactions declare were found before, by
+/// `Ids::push_likely`; none where they were not. No result depends on them.
+pub fn run_near(
+    alloc: Global,
+    state: &mut State,
+    txs: &[Option<Tx>],
+    known: &[u32],
+) -> Result<Vec<Receipt>, AllocError>
+    requires covers { are_covered state.old.version state.old.slots txs.now ≡ true }
+    requires room { HasRoom state.old.version (length txs.now) state.old.rows }
+    ensures receipts { IfOk result (λ receipts.
+        receipts.items ≡ receipts_of state.old.version txs.now state.old.rows) }
+    ensures after { OnOk result (state.new ≡ ledger_of state.old.version state.old.slots
+        (state_after state.old.version txs.now state.old.rows)) }
+    ensures unchanged { OnErr result (state.new ≡ state.old) }
+{
     let mut receipts = Vec::with_capacity(alloc, txs.len())?;
-    let most = txs.len().min(BLOCK).saturating_mul(MOST_DECLARED);
-    let mut near = Vec::with_capacity(alloc, most.saturating_add(1))?;
+    let mut found = Vec::with_capacity(alloc, room_to_find(txs, known))?;
     let mut at = 0usize;
     for (i, tx) in txs.iter().enumerate() {
         if i % BLOCK == 0 {
-            look_up(&mut near, state, &txs[i..]);
-            at = 0;
+            at = begin_block(&mut found, state, &txs[i..], known, at);
         }
-        receipts.push(state.apply_near(tx.as_ref(), near_from(&near, at)))?;
+        let near = near_from(either(known, &found), at);
+        receipts.push(state.apply_near(tx.as_ref(), near))?;
         at = at.saturating_add(count_of(tx.as_ref()));
     }
     Ok(receipts)
+}
+
+// How many indexes of a block are found here at most, and one more.
+fn room_to_find(txs: &[Option<Tx>], known: &[u32]) -> usize {
+    if known.is_empty() {
+        txs.len()
+            .min(BLOCK)
+            .saturating_mul(MOST_DECLARED)
+            .saturating_add(1)
+    } else {
+        1
+    }
+}
+
+// The indexes that are known, or else those that were found.
+fn either<'a>(known: &'a [u32], found: &'a [u32]) -> &'a [u32] {
+    if known.is_empty() { found } else { known }
+}
+
+// Begins a block, and returns where its indexes begin: loads the rows at those that are known, or finds them.
+fn begin_block(
+    found: &mut Vec<u32>,
+    state: &State,
+    txs: &[Option<Tx>],
+    known: &[u32],
+    at: usize,
+) -> usize {
+    if known.is_empty() {
+        look_up(found, state, txs);
+        return 0;
+    }
+    let sum = sum_of_seqs(state.numbers(), block_of(known, at));
+    found.clear();
+    let _ = found.push(sum);
+    at
+}
+
+// The indexes of a block that begin here, where each transaction declares two accounts, as most do.
+fn block_of(known: &[u32], at: usize) -> &[u32] {
+    match known.get(at..at.saturating_add(2 * BLOCK)) {
+        Some(block) => block,
+        None => near_from(known, at),
+    }
 }
 
 // Finds the likely indexes of all accounts that the first transactions declare, and loads the rows there. The sum of

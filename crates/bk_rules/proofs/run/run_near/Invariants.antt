@@ -1,7 +1,7 @@
 use Rattle.std.proofs.Common.{◌≡◌, ◌≤◌, length, take, vec_len, vec_capacity}
 use Rattle.bk_rules.specs.Fold.{state_after, receipts_of}
 use Rattle.bk_rules.specs.Ledger.{ledger_of}
-use Rattle.bk_rules.proofs.run.run_in_order.Given as goal
+use Rattle.bk_rules.proofs.run.run_near.Given as goal
 
 abbrev pub invariant-loop-i : goal.invariant-loop-i
 invariant-loop-i l = record {

@@ -1,6 +1,6 @@
 use Rattle.std.proofs.Common.{arith}
 use Rattle.bk_rules.proofs.Folding.{state_turn, receipts_turn, room_turn, covered_turn}
-use Rattle.bk_rules.proofs.run.run_in_order.Goals as goal
+use Rattle.bk_rules.proofs.run.run_near.Goals as goal
 
 pub apply_near-requires-clause-covers : goal.apply_near-requires-clause-covers
 apply_near-requires-clause-covers c = covered_turn c.args.txs.now c.loop-i.i c.index-txs-i.result _ c.args.state.now c.loop-i.state c.loop-i-test.true c.as_ref.ensures.value c.index-txs-i.is c.loop-i.invariant.state c.requires.covers
