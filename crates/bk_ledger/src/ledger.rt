@@ -11,7 +11,7 @@ use crate::batches::Batches;
 use crate::summary::Summary;
 use bk_base::{Row, Version};
 use bk_frames::Feed;
-use bk_rules::{Receipt, State, run_in_order};
+use bk_rules::{Receipt, State, run_near};
 use bk_steps::Outcome;
 use std::alloc::{AllocError, Global};
 use std::marker::Model;
@@ -168,11 +168,17 @@ impl Ledger {
         // Its contract says that the accounts are those of a ledger.
         let _ = self.state.version();
         self.state.prepare(alloc, &batches.txs)?;
-        let receipts = run_in_order(alloc, &mut self.state, &batches.txs)?;
+        let receipts = run_near(
+            alloc,
+            &mut self.state,
+            &batches.txs,
+            batches.near.as_slice(),
+        )?;
         self.receipts.extend_from_slice(&receipts)?;
         self.counts.extend_from_slice(&batches.counts)?;
         batches.txs.clear();
         batches.counts.clear();
+        batches.near.clear();
         Ok(())
     }
 

@@ -1,6 +1,7 @@
 //! Batches, executed by one worker: one transaction after another, in their order.
 //!
-//! While a slice is executed, the one after it is read and decoded in a thread of its own.
+//! While a slice is executed, the one after it is read and decoded in a thread of its own, and in version One its
+//! accounts are looked up there.
 
 ghost use Rattle.std.specs.Prelude.{◌≡◌, ◌+◌, ◌^◌, ◌<◌, ◌≤◌, map, length, IfOk};
 ghost use Rattle.std.specs.Thread.{IsSync};
@@ -11,9 +12,10 @@ ghost use Rattle.bk_ledger.specs.private.Slices.{IsReadOf};
 
 use crate::batches::Batches;
 use crate::ledger::Ledger;
-use crate::slice::{gather, least_of};
+use crate::slice::{gather, gather_near, least_of};
 use bk_base::Version;
 use bk_pool::Gate;
+use bk_rules::Ids;
 use std::alloc::{AllocError, Global};
 use std::sync::Wait;
 use std::thread::{Threads, join};
@@ -28,6 +30,26 @@ fn both(
     let ledger = ran?;
     let read = read?;
     Ok((ledger, read))
+}
+
+// Reads a slice. In version Two the slots of its accounts may be made only when it is its turn, so none is looked up.
+fn read_turn(
+    alloc: Global,
+    payloads: &[&[u8]],
+    version: Version,
+    ids: &Ids,
+    from: usize,
+    least: usize,
+) -> Result<Batches, AllocError>
+    requires within { from ≤ length payloads.now }
+    requires least { least < 2 ^ 30 }
+    ensures { IfOk result (λ b. IsReadOf (map (λ p. p.now) payloads.now) from
+        b.counts.items b.txs.items) }
+{
+    match version {
+        Version::One => gather_near(alloc, payloads, ids, from, least),
+        Version::Two => gather(alloc, payloads, from, least),
+    }
 }
 
 // Enters and leaves each place of a slice that was executed, in their order.
@@ -57,7 +79,7 @@ impl Ledger {
     {
         let mut ledger = self;
         let mut from = 0usize;
-        let mut read = gather(alloc, payloads, 0, ledger.worth_a_turn(fewest))?;
+        let mut read = ledger.read_first(alloc, payloads, fewest)?;
         while from < payloads.len() {
             let later = from + read.counts.len();
             let (after, next) = ledger.run_turn(rt, alloc, payloads, read, later, fewest, gate)?;
@@ -66,6 +88,22 @@ impl Ledger {
             from = later;
         }
         Ok(ledger)
+    }
+
+    // Reads the first slice.
+    fn read_first(
+        &self,
+        alloc: Global,
+        payloads: &[&[u8]],
+        fewest: usize,
+    ) -> Result<Batches, AllocError>
+        requires fewest { fewest < 2 ^ 30 }
+        ensures { IfOk result (λ b. IsReadOf (map (λ p. p.now) payloads.now) 0
+            b.counts.items b.txs.items) }
+    {
+        let version = self.state.version();
+        let least = self.worth_a_turn(fewest);
+        read_turn(alloc, payloads, version, self.state.ids(), 0, least)
     }
 
     // How many transactions a slice has at least. In version Two it may declare accounts without a slot, and to make
@@ -104,13 +142,15 @@ impl Ledger {
             return Ok((ledger, Batches::new(alloc)));
         }
         let least = self.worth_a_turn(fewest);
+        let version = self.state.version();
+        let ids = self.state.ids().share(alloc)?;
         let (next, ran) = join(
             rt,
             || -> Result<Batches, AllocError>
                 requires { (least < 2 ^ 30) × (later ≤ length payloads.now) }
                 ensures { IfOk result (λ b. IsReadOf (map (λ p. p.now) payloads.entry.now)
                     later b.counts.items b.txs.items) }
-            { gather(alloc, payloads, later, least) },
+            { read_turn(alloc, payloads, version, &ids, later, least) },
             || -> Result<Ledger, AllocError>
                 requires { IsSync G.row
                     × HasRoom self.state.version (length read.txs.items) self.state.rows
