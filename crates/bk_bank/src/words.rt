@@ -33,8 +33,9 @@ impl Model for Words {
 }
 
 impl Bank {
-    /// Closes the bank. What is done shows its receipt, and where all places are done the words are
-    /// those of the one-at-a-time fold. What the pass saw done is done.
+    /// Closes the bank. The words are those of a course that allowed events of its passes led to: what
+    /// is done shows its receipt, and where all places are done the words are those of the
+    /// one-at-a-time fold. What the pass saw done is done.
     pub fn close(self, pass: Pass) -> Words
         requires own { IsPassOf self pass }
         ensures ends { Ends (bank_scene self) result.items }

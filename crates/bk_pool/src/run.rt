@@ -142,6 +142,7 @@ pub fn execute_here_onto<G: Gate>(
 
 /// Executes a plan from a state that it can run on, with so many workers, the last of them in the
 /// calling thread. They take the places in order, a range at a time, and steal from each other what becomes ready later.
+/// The accounts and the receipts are those that the whole run of their events left.
 pub fn execute<R: Threads + Wait + Sync, G: Gate + Sync>(
     rt: &R,
     alloc: Global,
