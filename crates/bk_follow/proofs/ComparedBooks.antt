@@ -28,13 +28,15 @@ use Rattle.bk_answer.specs.RunReport.{IsOrderIn, committee_in, later_frames}
 use Rattle.bk_follow.specs.Follower.{BookValue, Followed, OrdersPart, FollowsBy, Follows, HasCome, OfFrames, receipts_of_executed, receipts_in}
 use Rattle.bk_follow.specs.Queries.{rows_of_executed, rows_in}
 use Rattle.bk_results.specs.declared.differ.Agreed.{Agreed}
+use Rattle.bk_results.specs.declared.differ.SetupPart.{SetupPart}
+use Rattle.bk_results.specs.declared.differ.SetupPart.TheVariants as part
 use Rattle.bk_results.specs.declared.differ.Differ.{Differ}
 use Rattle.bk_results.specs.declared.differ.Differ.TheVariants as differ
 use Rattle.bk_results.specs.declared.fault.Fault.{Fault}
 use Rattle.bk_follow.specs.declared.opening.Opened.{Opened}
-use Rattle.bk_follow.specs.Agreement.{AgreeInOrder, HaveOneSetup, frames_together, HaveNoStop, HaveStop, OneBeginsFor, OfBoth, FollowersAgree, FollowersDiffer}
+use Rattle.bk_follow.specs.Agreement.{AgreeInOrder, HaveOneSetup, frames_together, HaveNoStop, HaveStop, OneBeginsFor, OfBoth, SetupsDiffer, FollowersAgree, FollowersDiffer}
 use Rattle.bk_follow.specs.private.Books.{IsGoodBook}
-use Rattle.bk_follow.specs.private.Comparing.{differ_of, HasOrderOf, IsLesser, HaveSameSetup, OfTaken, BooksAgree, BooksDiffer}
+use Rattle.bk_follow.specs.private.Comparing.{differ_of, HasOrderOf, IsLesser, HaveSameSetup, OfTaken, BooksAgree, BooksDiffer, BooksUnlike}
 use Rattle.bk_follow.specs.private.Parts.{followed}
 use Rattle.bk_follow.proofs.Books.{committee_version}
 use Rattle.bk_follow.proofs.Following.{follower_of, good_of, of_frames}
