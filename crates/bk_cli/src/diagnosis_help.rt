@@ -29,6 +29,7 @@ Exit status:
   2  feed fault CODE at OFFSET, CODE 1 to 7 (`bkreplay --help` names them): the bytes are not a feed
   3  collision ID, or equivocation ROUND AUTHOR ID ID: the feed is stopped
   4  feed fault 8 or 9, memory, read failed, or write failed
+  6  with `--strict`: the feed does not count whole, and one more line on standard error says why
 
 Example:
   ./bkreplay waiting examples/order/one_commit.feed",
@@ -51,6 +52,7 @@ Exit status:
   3  collision ID, or equivocation ROUND AUTHOR ID ID: the feed is stopped
   4  feed fault 8 or 9, memory, read failed, or write failed
   5  something is missing
+  6  with `--strict`: the feed does not count whole, and one more line on standard error says why
 
 Example:
   ./bkreplay missing examples/order/one_commit.feed",

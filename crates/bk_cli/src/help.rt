@@ -54,14 +54,14 @@ Output goes to standard output. A fault is one line on standard error.
 
 Exit status:
   0  the whole output is written
-  1  the command line is wrong, what was asked for is absent, the proof or the digest is bad, the report differs, or the
-     chain is broken
+  1  the command line is wrong, what was asked for is absent, the proof or the digest is bad, the report differs, the
+     chain is broken, or `waiting` or `evidence` writes a line
   2  a feed, the script, a list or the links are wrong, or two feeds differ in version, committee or opening accounts
   3  a feed, or two together, are stopped by a collision or an equivocation
   4  a read, a write or memory failed, or a worker did not finish
   5  the whole output of `run`, `summary`, `statement`, `transactions`, `postings`, `batches`, `check-state`,
-     `check-report` or `link` is written, and the order stops at a missing batch; or a chain is good and its last feed
-     is short
+     `check-report` or `link` is written, and the order stops at a missing batch; or `missing` writes a line, or a chain
+     is good and its last feed is short
   6  with `--strict`: the status would be 0, 1 or 5, and a feed does not count whole. The first of these that holds is
      one more line on standard error:
      strict: missing HEX      the order stops at this batch, which the feed lacks
@@ -108,6 +108,7 @@ Exit status:
   3  collision ID, or equivocation ROUND AUTHOR ID ID: the feed is stopped
   4  feed fault 8 or 9, memory, read failed, write failed, or unfinished PLACE
   5  the whole report is written, and stops at a missing batch
+  6  with `--strict`: the feed does not count whole, and one more line on standard error says why
 
 Example:
   ./bkreplay run --workers 4 examples/order/one_commit.feed",
@@ -157,6 +158,7 @@ Exit status:
   2  feed fault CODE at OFFSET, CODE 1 to 7 (`bkreplay --help` names them): the bytes are not a feed
   3  collision ID, or equivocation ROUND AUTHOR ID ID: the feed is stopped
   4  feed fault 8 or 9, memory, read failed, or write failed
+  6  with `--strict`: the feed does not count whole, and one more line on standard error says why
 
 Example:
   ./bkreplay order examples/order/one_commit.feed",
@@ -175,6 +177,7 @@ Exit status:
   2  feed fault CODE at OFFSET, CODE 1 to 7 (`bkreplay --help` names them): the bytes are not a feed
   3  collision ID, or equivocation ROUND AUTHOR ID ID: the feed is stopped
   4  feed fault 8 or 9, memory, read failed, write failed, or unfinished PLACE
+  6  with `--strict`: the feed does not count whole, and one more line on standard error says why
 
 Example:
   ./bkreplay account 1 examples/order/one_commit.feed",
@@ -195,6 +198,7 @@ Exit status:
   2  feed fault CODE at OFFSET, CODE 1 to 7 (`bkreplay --help` names them): the bytes are not a feed
   3  collision ID, or equivocation ROUND AUTHOR ID ID: the feed is stopped
   4  feed fault 8 or 9, memory, read failed, write failed, or unfinished PLACE
+  6  with `--strict`: the feed does not count whole, and one more line on standard error says why
 
 Example:
   ./bkreplay receipt 0 examples/order/one_commit.feed",
@@ -218,6 +222,7 @@ Exit status:
   2  feed fault CODE at OFFSET, CODE 1 to 7 (`bkreplay --help` names them): the bytes are not a feed
   3  collision ID, or equivocation ROUND AUTHOR ID ID: the feed is stopped
   4  feed fault 8 or 9, memory, read failed, write failed, or unfinished PLACE
+  6  with `--strict`: the feed does not count whole, and one more line on standard error says why
 
 Example:
   ./bkreplay prove 1 examples/order/one_commit.feed",
@@ -245,6 +250,7 @@ Exit status:
   1  the command line is wrong
   2  feed fault CODE at OFFSET, CODE 1 to 7 (`bkreplay --help` names them): the bytes are not a feed from there on
   4  feed fault 8 or 9, memory, or write failed
+  6  with `--strict`: a certificate breaks a rule, and one more line on standard error says how many do
 
 Example:
   ./bkreplay frames examples/order/one_commit.feed",
@@ -280,6 +286,7 @@ Exit status:
   3  collision ID, or equivocation ROUND AUTHOR ID ID: the feed is stopped
   4  feed fault 8 or 9, memory, read failed, write failed, or unfinished PLACE
   5  all lines are written, and the order stops at a missing batch
+  6  with `--strict`: the feed does not count whole, and one more line on standard error says why
 
 Example:
   ./bkreplay summary examples/order/one_commit.feed",
@@ -307,6 +314,7 @@ Exit status:
   2  feed fault CODE at OFFSET, CODE 1 to 7 (`bkreplay --help` names them): the bytes are not a feed
   3  collision ID, or equivocation ROUND AUTHOR ID ID: the feed is stopped
   4  feed fault 8 or 9, memory, read failed, or write failed
+  6  with `--strict`: the feed does not count whole, and one more line on standard error says why
 
 Example:
   ./bkreplay anchors examples/order/one_commit.feed",
@@ -332,6 +340,7 @@ Exit status:
   2  feed fault CODE at OFFSET, CODE 1 to 7 (`bkreplay --help` names them): the bytes are not a feed
   3  collision ID, or equivocation ROUND AUTHOR ID ID: the feed is stopped
   4  feed fault 8 or 9, memory, read failed, or write failed
+  6  with `--strict`: the feed does not count whole, and one more line on standard error says why
 
 Example:
   ./bkreplay dag --rounds 8 --links votes examples/order/one_commit.feed",
@@ -359,6 +368,7 @@ Exit status:
   3  collision ID, or equivocation ROUND AUTHOR ID ID: the feed is stopped
   4  feed fault 8 or 9, memory, read failed, write failed, or unfinished PLACE
   5  all lines are written, and the order stops at a missing batch
+  6  with `--strict`: the feed does not count whole, and one more line on standard error says why
 
 Example:
   ./bkreplay statement 1 examples/order/one_commit.feed",

@@ -41,6 +41,7 @@ Exit status:
   3  collision ID, or equivocation ROUND AUTHOR ID ID: the feed is stopped
   4  feed fault 8 or 9, memory, read failed, write failed, or unfinished PLACE
   5  state good, and the order stops at a missing batch
+  6  with `--strict`: the feed does not count whole, and one more line on standard error says why
 
 Example:
   ./bkreplay check-state a0f73141eeeda4cb3f115f1ee0468dde8a3de31db5fd987f0eec1df811bce063 examples/order/one_commit.feed",
@@ -64,6 +65,7 @@ Exit status:
   3  collision ID, or equivocation ROUND AUTHOR ID ID: the feed is stopped
   4  feed fault 8 or 9, memory, read failed, write failed, or unfinished PLACE
   5  report good, and the order stops at a missing batch
+  6  with `--strict`: the feed does not count whole, and one more line on standard error says why
 
 Example:
   ./bkreplay check-report examples/order/one_commit.out examples/order/one_commit.feed",
@@ -138,6 +140,7 @@ Exit status:
   2  differ setup: the versions, the committees or the opening accounts differ
   3  collision ID, or equivocation ROUND AUTHOR ID ID: in one of the feeds, or between the two
   4  feed fault 8 or 9, memory, read failed, write failed, or unfinished PLACE
+  6  with `--strict`: a feed does not count whole, and one more line on standard error says why
 
 Example:
   ./bkreplay compare examples/order/ahead.feed examples/order/behind.feed",

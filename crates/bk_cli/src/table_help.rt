@@ -39,6 +39,7 @@ Exit status:
   3  collision ID, or equivocation ROUND AUTHOR ID ID: the feed is stopped
   4  feed fault 8 or 9, memory, read failed, write failed, or unfinished PLACE
   5  all rows are written, and the order stops at a missing batch
+  6  with `--strict`: the feed does not count whole, and one more line on standard error says why
 
 Example:
   ./bkreplay transactions examples/order/one_commit.feed",
@@ -72,6 +73,7 @@ Exit status:
   3  collision ID, or equivocation ROUND AUTHOR ID ID: the feed is stopped
   4  feed fault 8 or 9, memory, read failed, write failed, or unfinished PLACE
   5  all rows are written, and the order stops at a missing batch
+  6  with `--strict`: the feed does not count whole, and one more line on standard error says why
 
 Example:
   ./bkreplay postings examples/order/one_commit.feed",
@@ -96,6 +98,7 @@ Exit status:
   3  collision ID, or equivocation ROUND AUTHOR ID ID: the feed is stopped
   4  feed fault 8 or 9, memory, read failed, or write failed
   5  all rows are written, and the order stops at a missing batch
+  6  with `--strict`: the feed does not count whole, and one more line on standard error says why
 
 Example:
   ./bkreplay batches examples/order/one_commit.feed",
@@ -121,6 +124,7 @@ Exit status:
   3  collision ID, or equivocation ROUND AUTHOR ID ID: the feed is stopped
   4  feed fault 8 or 9, memory, read failed, write failed, or unfinished PLACE
   5  the line is written, and the order stops at a missing batch
+  6  with `--strict`: the feed does not count whole, and one more line on standard error says why
 
 Example:
   ./bkreplay link examples/order/one_commit.feed",
