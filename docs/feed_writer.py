@@ -18,14 +18,21 @@ def need(test, what):
 
 def number(value, bits, what):
     """A number as so many bits, big-endian. A number of a data base, as a Decimal, is one too."""
-    whole = int(value)
-    need(whole == value and 0 <= whole < 1 << bits, f"{what} is {value}: it has to be a number from 0 to 2^{bits} - 1")
+    refusal = f"{what} is {value}: it has to be a number from 0 to 2^{bits} - 1"
+    try:
+        whole = int(value)
+    except (TypeError, ValueError, ArithmeticError):
+        raise ValueError(refusal) from None
+    need(whole == value and 0 <= whole < 1 << bits, refusal)
     return whole.to_bytes(bits // 8, "big")
 
 
 def of_32(value, what):
     """A key, a digest or an id, as bytes: of a data base it may come as a memoryview."""
-    found = bytes(memoryview(value))
+    try:
+        found = bytes(memoryview(value))
+    except TypeError:
+        raise ValueError(f"{what} is {value!r}: it has to be 32 bytes") from None
     need(len(found) == 32, f"{what} has {len(found)} bytes: it has to have 32")
     return found
 
@@ -48,12 +55,20 @@ class Feed:
         keys = [of_32(key, f"the key of member {member}") for member, key in enumerate(keys)]
         need(1 <= len(keys) <= 128, f"{len(keys)} members: 1 to 128 can be")
         need(weights is None or len(weights) == len(keys), "a weight for each key")
-        need(weights is None or min(weights) > 0, "a weight has to be above 0")
+        for member, weight in enumerate(weights or []):
+            need(int.from_bytes(number(weight, 32, f"the weight of member {member}"), "big") > 0,
+                 f"the weight of member {member} is 0: it has to be above 0")
+        for row in accounts:
+            for value, name in zip(row, ("the id", "the balance", "the sequence number")):
+                number(value, 64, f"{name} of the account {row!r}")
         accounts = sorted(accounts)
         need(len(accounts) <= 600_000, f"{len(accounts)} accounts: at most 600,000 can be")
-        need(ascending([id for id, _, _ in accounts]), "an account comes twice")
-        need(sum(balance for _, balance, _ in accounts) < 2**63, "the balances together are 2^63 or more")
-        need(all(seq < 2**63 for _, _, seq in accounts), "a sequence number is 2^63 or more")
+        for (low, _, _), (high, _, _) in zip(accounts, accounts[1:]):
+            need(low < high, f"the account {high} comes twice")
+        total = sum(balance for _, balance, _ in accounts)
+        need(total < 2**63, f"the balances together are {total}: they have to be below 2^63")
+        for id, _, seq in accounts:
+            need(seq < 2**63, f"the sequence number of account {id} is {seq}: it has to be below 2^63")
         self.out, self.keys, self.checked, self.size = out, keys, checked, 4
         self.weights = [int(weight) for weight in weights or [1] * len(keys)]
         # At most so much weight may be faulty; certificates take the rest of all weights.
@@ -92,8 +107,9 @@ class Feed:
         weight = self.weight_of(signers)
         need(weight >= self.quorum, f"{of}: its signers weigh {weight}, and a quorum {self.quorum}")
         need(round > 1 or not parents, f"{of}: a certificate of round 1 has no parents")
-        known = all(self.places.get(id, (0, 0))[0] == round - 1 for id in parents)
-        need(known, f"{of}: a parent is no earlier certificate of round {round - 1}")
+        for id in parents:
+            known = self.places.get(id, (0, 0))[0] == round - 1
+            need(known, f"{of}: its parent {id.hex()} is no earlier certificate of round {round - 1}")
         weight = self.weight_of(self.places[id][1] for id in parents)
         need(round == 1 or weight >= self.quorum, f"{of}: its parents weigh {weight}, and a quorum {self.quorum}")
 
@@ -109,9 +125,9 @@ class Feed:
             need(0 <= member < len(self.keys), f"there is no member {member}: there are {len(self.keys)}, from 0 on")
         need(len(batches) <= 1_000, f"{len(batches)} batches: at most 1,000 can be")
         need(len(parents) <= 128 and ascending(parents), "there are more than 128 parents, or one comes twice")
-        if self.checked:
-            self._check(author, round, parents, signers)
         header = number(author, 8, "an author") + number(round, 32, "a round")
+        if self.checked:
+            self._check(author, int(round), parents, signers)
         header += pack(">H", len(batches)) + b"".join(batches)
         header += pack(">B", len(parents)) + b"".join(parents)
         id = sha256(b"\x10" + header).digest()
