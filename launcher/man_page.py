@@ -20,7 +20,7 @@ FILES = [
 ]
 PIPES = ("The status of a pipe is that of its last command: write a report to a file to see its status, or use "
          "`set -o pipefail`.")
-PAGES = ["docs/how-it-works.md", "docs/assurance.md", "docs/performance.md"]
+PAGES = ["docs/tables.md", "docs/chains.md", "docs/troubleshooting.md", "docs/how-it-works.md", "docs/assurance.md", "docs/performance.md"]
 
 
 def escaped(text):
@@ -134,13 +134,21 @@ def body(after):
 
 def label(arg):
     """An argument as a synopsis shows it."""
-    name = f"--{arg['long']} {arg['value_name']}" if "long" in arg else arg.name
+    name = f"--{arg['long']}" if is_flag(arg) else f"--{arg['long']} {arg['value_name']}" if "long" in arg else arg.name
     return name if arg.get("required") else f"[{name}]"
+
+
+# The flags that every command has.
+COMMON = ("progress", "verbose")
+
+
+def is_common(arg):
+    return is_flag(arg) and arg["long"] in COMMON
 
 
 def own(command):
     """The arguments of a command that not every command has."""
-    return [it for it in command["arg"] if not is_flag(it)]
+    return [it for it in command["arg"] if not is_common(it)]
 
 
 def usage(command):
@@ -178,10 +186,17 @@ def tasks():
 
 
 def option_list(program):
-    pairs = [(f"--{it['long']} {it['value_name']}", f"`{command.name}`: {it['help']}.")
-             for command in program["subcommand"] for it in own(command) if "long" in it]
-    flags = [(f"--{it['long']}", f"Every command: {it['help']}.") for it in program["subcommand"][0]["arg"] if is_flag(it)]
-    return tagged(pairs + flags + [
+    found = {}
+    for command in program["subcommand"]:
+        for it in own(command):
+            if "long" in it:
+                found.setdefault((label(it).strip("[]"), it["help"]), []).append(f"`{command.name}`")
+        flags = [it for it in command["arg"] if is_common(it)]
+        if sorted(it["long"] for it in flags) != sorted(COMMON):
+            fail(f"`{command.name}` lacks a flag that the man page says every command has")
+    pairs = [(name, f"{', '.join(names)}: {words}.") for (name, words), names in found.items()]
+    every = [(f"--{it['long']}", f"Every command: {it['help']}.") for it in flags]
+    return tagged(pairs + every + [
         ("-h, --help", "Print help for the program, or for the command in front of it."),
         ("-V, --version", "Print the version, and the kit and the revision that the program was built from. This is an option of the program, "
          "not of its commands.")])
@@ -207,6 +222,12 @@ def paragraphs(words):
     return [line for it in words.split("\n\n") for line in (".PP", *text(it))]
 
 
+def opening(name):
+    """The first paragraph of the README, as one that nothing follows."""
+    words = readme(name).split("\n\n")[0]
+    return f"{words[:-1]}." if words.endswith(":") else words
+
+
 def page(program):
     lines, statuses, sample = body(program["after_help"])
     about = program["about"]
@@ -217,7 +238,7 @@ def page(program):
         NOTE, f".TH {head}", ".ad l",
         ".SH NAME", f"{program.name} \\- {escaped(about[0].lower() + about[1:])}",
         ".SH SYNOPSIS", *synopses(program),
-        ".SH DESCRIPTION", *paragraphs(readme(program.name).split("\n\n")[0])[1:], *lines,
+        ".SH DESCRIPTION", *paragraphs(opening(program.name))[1:], *lines,
         f'.SS "{source}"', *paragraphs(readme(source))[1:],
         ".SH COMMANDS", *(line for it in program["subcommand"] for line in section(it)),
         ".SH OPTIONS", *option_list(program),

@@ -64,10 +64,10 @@ Exit status:
      is good and its last feed is short
   6  with `--strict`: the status would be 0, 1 or 5, and a feed does not count whole. The first of these that holds is
      one more line on standard error:
-     strict: missing HEX      the order stops at this batch, which the feed lacks
-     strict: rejected N       N frames of certificates break a rule
-     strict: waiting N        N certificates wait
-     strict: nothing ordered  no certificate is ordered
+    strict: missing HEX      the order stops at this batch, which the feed lacks
+    strict: rejected N       N frames of certificates break a rule
+    strict: waiting N        N certificates wait
+    strict: nothing ordered  no certificate is ordered
 
 Codes:
   feed fault  1 the first bytes are not `BKF1` or `BKF2`, 2 cut short, 3 kind of frame, 4 length, 5 committee,
