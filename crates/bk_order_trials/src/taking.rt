@@ -2,8 +2,7 @@
 
 ghost use Rattle.std.specs.Prelude.{◌≡◌};
 
-use crate::frames::Frame;
-use crate::verdicts::GOOD;
+use crate::frames::{Frame, GOOD};
 use anyhow::{Result, bail};
 use bk_base::Kind;
 use bk_order::Intake;
@@ -39,9 +38,16 @@ pub(crate) fn numbers(
     match way {
         Way::AsDrawn => {}
         Way::Reversed => numbers.reverse(),
-        Way::Shuffled => chance.shuffle(&mut numbers),
+        Way::Shuffled => shuffle(chance, &mut numbers),
     }
     Ok(numbers)
+}
+
+fn shuffle(chance: &mut Chance, numbers: &mut [usize]) {
+    for index in 1..numbers.len() {
+        let other = chance.below(index as u64 + 1) as usize;
+        numbers.swap(index, other);
+    }
 }
 
 fn piece_of(alloc: Global, frames: &[Frame], part: &[usize]) -> Result<Piece> {
@@ -114,11 +120,11 @@ pub(crate) fn rejects(intake: &Intake, frames: &[Frame], taken: &[usize]) -> boo
         let Some(frame) = frames.get(*index) else {
             return false;
         };
-        if frame.rule != Some(GOOD) {
+        if frame.rule != GOOD {
             let Some(found) = rejected.get(count) else {
                 return false;
             };
-            if found.frame != number || Some(found.rule as u8) != frame.rule {
+            if found.frame != number || found.rule as u8 != frame.rule {
                 return false;
             }
             count = count.saturating_add(1);

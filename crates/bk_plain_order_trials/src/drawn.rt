@@ -1,0 +1,271 @@
+//! Graphs of certificates drawn at random.
+
+use crate::certs::{Parts, id_of, place, sealed};
+use crate::members::Members;
+use anyhow::Result;
+use bk_cert::CertRef;
+use bk_committee::Committee;
+use bk_digest::Digest32;
+use bk_trial_kit::Chance;
+use std::alloc::Global;
+
+/// How many batches there are.
+pub(crate) const BATCHES: u8 = 20;
+
+/// Which parents a certificate names.
+#[derive(Clone, Copy, PartialEq, Eq)]
+pub(crate) enum Style {
+    /// Most that were made.
+    Most,
+    /// As many as are a quorum, or nearly, so that votes are scarce.
+    Tight,
+    /// Two thirds of those that were made.
+    Any,
+}
+
+/// Whose certificates are drawn, with keys for any number that a signer can have.
+#[derive(Clone, Copy)]
+pub(crate) struct Drawing<'a> {
+    pub(crate) members: Members<'a>,
+    pub(crate) all: &'a Committee,
+    pub(crate) style: Style,
+}
+
+// A certificate of the round before.
+#[derive(Clone, Copy)]
+struct Made {
+    author: u8,
+    id: Digest32,
+}
+
+/// The payload of a batch.
+pub(crate) fn payload(batch: u8) -> [u8; 3] {
+    [batch; 3]
+}
+
+/// The digest of a batch.
+pub(crate) fn digest(batch: u8) -> Digest32 {
+    Digest32::of(&payload(batch))
+}
+
+/// The id of a certificate that nobody made.
+pub(crate) fn absent_id(author: u8) -> Digest32 {
+    Digest32::of(&[author; 5])
+}
+
+// ---- parents
+
+fn takes(chance: &mut Chance, style: Style, is_enough: bool) -> bool {
+    match style {
+        Style::Most => !chance.is_one_in(10),
+        Style::Tight => !is_enough || chance.is_one_in(4),
+        Style::Any => !chance.is_one_in(3),
+    }
+}
+
+// The parents of a certificate, and whether they ascend and are a quorum of the round before.
+#[derive(Drop)]
+struct Parents {
+    ids: Vec<Digest32>,
+    are_sound: bool,
+}
+
+// Those of a round, from a drawn one on. The leader of an odd round comes last.
+fn in_turn(
+    alloc: Global,
+    chance: &mut Chance,
+    drawing: Drawing<'_>,
+    round: u32,
+    before: &[Made],
+) -> Result<Vec<Made>> {
+    let count = (before.len() as u64).max(1);
+    let first = chance.below(count);
+    let mut turned = Vec::new(alloc);
+    for may_lead in [false, true] {
+        for step in 0..count {
+            let index = (first.wrapping_add(step) % count) as usize;
+            if let Some(made) = before.get(index) {
+                if drawing.members.leads(made.author, round) == may_lead {
+                    turned.push(*made)?;
+                }
+            }
+        }
+    }
+    Ok(turned)
+}
+
+// Some of these, which are of the round before.
+fn some_of(
+    alloc: Global,
+    chance: &mut Chance,
+    drawing: Drawing<'_>,
+    turned: &[Made],
+) -> Result<Parents> {
+    let mut ids = Vec::new(alloc);
+    let mut sum = 0u64;
+    for made in turned {
+        let is_enough = sum >= drawing.members.quorum();
+        if takes(chance, drawing.style, is_enough) {
+            ids.push(made.id)?;
+            sum = sum.saturating_add(drawing.members.weight(made.author));
+        }
+    }
+    let are_sound = sum >= drawing.members.quorum();
+    Ok(Parents { ids, are_sound })
+}
+
+// All of the round before.
+fn all_of(alloc: Global, drawing: Drawing<'_>, before: &[Made]) -> Result<Parents> {
+    let mut ids = Vec::new(alloc);
+    let mut sum = 0u64;
+    for made in before {
+        ids.push(made.id)?;
+        sum = sum.saturating_add(drawing.members.weight(made.author));
+    }
+    let are_sound = sum >= drawing.members.quorum();
+    Ok(Parents { ids, are_sound })
+}
+
+// Some of a round, mostly a quorum where there is one.
+fn enough_of(
+    alloc: Global,
+    chance: &mut Chance,
+    drawing: Drawing<'_>,
+    round: u32,
+    before: &[Made],
+) -> Result<Parents> {
+    let turned = in_turn(alloc, chance, drawing, round, before)?;
+    let some = some_of(alloc, chance, drawing, &turned)?;
+    if some.are_sound || chance.is_one_in(8) {
+        return Ok(some);
+    }
+    all_of(alloc, drawing, before)
+}
+
+// The same, and at times one that nobody made. Mostly they ascend.
+fn draw_parents(
+    alloc: Global,
+    chance: &mut Chance,
+    drawing: Drawing<'_>,
+    round: u32,
+    before: &[Made],
+) -> Result<Parents> {
+    let Parents {
+        mut ids,
+        mut are_sound,
+    } = enough_of(alloc, chance, drawing, round, before)?;
+    if chance.is_one_in(40) {
+        ids.push(absent_id(0))?;
+        are_sound = false;
+    }
+    if chance.is_one_in(60) {
+        are_sound = false;
+    } else {
+        ids.sort()?;
+    }
+    Ok(Parents { ids, are_sound })
+}
+
+// ---- certificates
+
+// None to three batches.
+fn names(alloc: Global, chance: &mut Chance) -> Result<Vec<Digest32>> {
+    let mut names = Vec::new(alloc);
+    for _ in 0..chance.below(4) {
+        names.push(digest(chance.below(u64::from(BATCHES)) as u8))?;
+    }
+    Ok(names)
+}
+
+// Draws a certificate of a place with these parents, and says what its id is.
+fn draw_one(
+    alloc: Global,
+    chance: &mut Chance,
+    drawing: Drawing<'_>,
+    at: CertRef,
+    parents: &[Digest32],
+    certs: &mut Vec<Vec<u8>>,
+) -> Result<Digest32> {
+    let batches = names(alloc, chance)?;
+    let parts = Parts {
+        at,
+        batches: &batches,
+        parents,
+    };
+    let signers = drawing.members.signers(alloc)?;
+    certs.push(sealed(alloc, drawing.all, parts, &signers)?)?;
+    id_of(alloc, parts)
+}
+
+// Draws a certificate of a place, at times two, and says what the next round can name: seldom one that is not sound.
+fn draw_place(
+    alloc: Global,
+    chance: &mut Chance,
+    drawing: Drawing<'_>,
+    at: CertRef,
+    before: &[Made],
+    certs: &mut Vec<Vec<u8>>,
+) -> Result<Option<Digest32>> {
+    let mut ids = Vec::new(alloc);
+    let mut are_sound = true;
+    if at.round > 1 {
+        let before_it = at.round.saturating_sub(1);
+        let parents = draw_parents(alloc, chance, drawing, before_it, before)?;
+        ids = parents.ids;
+        are_sound = parents.are_sound;
+    }
+    let id = draw_one(alloc, chance, drawing, at, &ids, certs)?;
+    if chance.is_one_in(30) {
+        let _other = draw_one(alloc, chance, drawing, at, &ids, certs)?;
+    }
+    if are_sound || chance.is_one_in(5) {
+        Ok(Some(id))
+    } else {
+        Ok(None)
+    }
+}
+
+// Draws the certificates of a round.
+fn draw_round(
+    alloc: Global,
+    chance: &mut Chance,
+    drawing: Drawing<'_>,
+    round: u32,
+    before: &[Made],
+    certs: &mut Vec<Vec<u8>>,
+) -> Result<Vec<Made>> {
+    let mut now = Vec::new(alloc);
+    for author in 0..drawing.members.count() {
+        if chance.is_one_in(16) {
+            continue;
+        }
+        let at = place(round, author);
+        if let Some(id) = draw_place(alloc, chance, drawing, at, before, certs)? {
+            now.push(Made { author, id })?;
+        }
+    }
+    Ok(now)
+}
+
+/// The bytes of certificates of the first rounds.
+pub(crate) fn drawn_certs(
+    alloc: Global,
+    chance: &mut Chance,
+    drawing: Drawing<'_>,
+    last: u32,
+) -> Result<Vec<Vec<u8>>> {
+    let mut certs = Vec::new(alloc);
+    let mut before = Vec::new(alloc);
+    for round in 1..=last {
+        before = draw_round(alloc, chance, drawing, round, &before, &mut certs)?;
+    }
+    Ok(certs)
+}
+
+/// Brings certificates into another order.
+pub(crate) fn shuffle(chance: &mut Chance, certs: &mut [Vec<u8>]) {
+    for index in 1..certs.len() {
+        let other = chance.below(index as u64 + 1) as usize;
+        certs.swap(index, other);
+    }
+}
