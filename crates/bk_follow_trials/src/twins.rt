@@ -155,7 +155,7 @@ where
 // The pairs, with the batch at the end.
 fn pairs(alloc: Global) -> Result<Vec<u8>> {
     let feed = made(alloc, PAIRS)?;
-    with_frames(alloc, &feed, &[3, 4, 5, 6, 2])
+    Ok(with_frames(alloc, &feed, &[3, 4, 5, 6, 2])?)
 }
 
 const PAIRS_STEPS: [Step; 5] = [

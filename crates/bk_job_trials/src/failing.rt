@@ -1,8 +1,6 @@
 //! Each read and each write of a job fails in turn: for good, or once, after which the device works again.
 
-use crate::devices::{
-    Devices, Given, Outcome, Printed, fault, job_with, leaves, leaves_of_one, lost_after,
-};
+use crate::devices::{Devices, Given, Outcome, Printed, fault, job_with, leaves, leaves_of_one};
 use crate::feeds::{MISSING, MISSING_REPORT, made};
 use anyhow::{Result, bail};
 use bk_cli::{Job, Workers};
