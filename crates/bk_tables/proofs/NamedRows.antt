@@ -59,12 +59,12 @@ only : (x r : PaymentRow) → Contains (x ∷ []) r → x ≡ r
 only x r h = ⊎_elim (λ (e : x ≡ r). e) (λ (later : Contains [] r). absurd (none_in_nil r later)) (contains_cases x [] r h)
 
 place_named : (at : At) (t : Option Transaction) → AreNamed (rows_at at t)
-place_named at None one other h k place item = sym (only _ one h) ∙ only _ other k
+place_named at None = λ one other h k place item. sym (only _ one h) ∙ only _ other k
 place_named at (Some t) = asked_named at 0 (asked_of t)
 
 module _ (receipts : List Receipt) where
   batch_named : (batch place : ℕ) (txs : List (Option Transaction)) → AreNamed (rows_in receipts batch place txs)
-  batch_named batch place [] one other h k at item = absurd (none_in_nil one h)
+  batch_named batch place [] = λ one other h k at item. absurd (none_in_nil one h)
   batch_named batch place (t ∷ txs) =
       let here : At = at_with place batch (receipt_at receipts place) in
       two_named (place + 1) (rows_at here t) (rows_in receipts batch (place + 1) txs)
@@ -81,7 +81,7 @@ module _ (receipts : List Receipt) where
       (Contains-append_cases (rows_in receipts batch place (transactions_in p)) (rows_from receipts (batch + 1) (place + length (transactions_in p)) payloads) row h)
 
   batches_named : (batch place : ℕ) (payloads : List (List ℕ)) → AreNamed (rows_from receipts batch place payloads)
-  batches_named batch place [] one other h k at item = absurd (none_in_nil one h)
+  batches_named batch place [] = λ one other h k at item. absurd (none_in_nil one h)
   batches_named batch place (p ∷ payloads) =
       two_named (place + length (transactions_in p)) (rows_in receipts batch place (transactions_in p)) (rows_from receipts (batch + 1) (place + length (transactions_in p)) payloads)
       (λ r h. (in_batch receipts batch place (transactions_in p) r h).1)
