@@ -1,14 +1,13 @@
 -- As many frames are rejected in the listing as in the report.
-use Rattle.std.proofs.Common.{◌≡◌, ℕ, ◌+◌, ◌≤◌, Bool, true, false, List, [], ◌∷◌, ◌++◌, length, refl, sym, ap, subst, ◌∙◌, arith, length-append}
+use Rattle.std.proofs.Common.{◌≡◌, ℕ, zero, suc, ◌+◌, ◌≤◌, true, false, List, [], ◌∷◌, length, refl, sym, ap, ◌∙◌, arith, length-append}
 use Rattle.bk_base.specs.declared.kind.Kind.{Kind}
 use Rattle.bk_base.specs.declared.kind.Kind.TheVariants as kind
 use Rattle.bk_base.specs.declared.version.Version.{Version}
-use Rattle.bk_base.specs.Feed.{AreGoodFrom, Frame, FeedValue, IsFeed, feed_of, stands_at}
+use Rattle.bk_base.specs.Feed.{AreGoodFrom, Frame, feed_of, stands_at}
 use Rattle.bk_committee.specs.Payload.{CommitteeValue, committee_of}
 use Rattle.bk_certcheck.specs.declared.rule.Rule.{Rule}
 use Rattle.bk_certcheck.specs.declared.verdict.Verdict.{Verdict}
 use Rattle.bk_certcheck.specs.declared.verdict.Verdict.TheVariants as verdict
-use Rattle.bk_certcheck.specs.Verdicts.{IsVerdict}
 use Rattle.bk_certcheck.proofs.Rules.{one_verdict}
 use Rattle.bk_order.specs.declared.reject.Reject.{Reject}
 use Rattle.bk_order.specs.Frames.{id_in, rejects_by, IsRejectOf, AreRejects}
@@ -41,7 +40,9 @@ module _ (k : CommitteeValue) where
   none_of : (index : ℕ) (payload : List ℕ) (c : Kind) (rules : List Rule) → index ≤ 1 → stands_at index c ≡ true → IsRejectedBy k c payload rules → rules ≡ []
   none_of index payload kind.Committee rules low there e = e
   none_of index payload kind.Genesis rules low there e = e
-  none_of index payload kind.Certificate rules low there h = absurd (let past : 2 ≤ index = omega (arith, there) in omega (arith, past, low))
+  none_of zero payload kind.Certificate rules low there h = absurd (let clash : false ≡ true = there in cc)
+  none_of (suc zero) payload kind.Certificate rules low there h = absurd (let clash : false ≡ true = there in cc)
+  none_of (suc (suc n)) payload kind.Certificate rules low there h = absurd (omega (arith, low))
   none_of index payload kind.Batch rules low there e = e
 
   of_later : (v : Version) (f g : Frame) (more : List Frame) (rules : List Rule) (rejects : List Reject) → AreGoodFrom v 0 4 (f ∷ g ∷ more) → AreRejectedBy k (f ∷ g ∷ more) rules → AreRejects k first_later_frame more rejects → length rules ≡ length rejects
