@@ -13,19 +13,19 @@ pub returns-in_ok-end-in-Dag-clause-answer : goal.returns-in_ok-end-in-Dag-claus
 returns-in_ok-end-in-Dag-clause-answer g c = rw (c.in-Dag.is, c.in_ok-end-in-Dag.ensures.answer) (refl, refl)
 
 pub returns-in_ok-end-in-Apply-clause-remarks : goal.returns-in_ok-end-in-Apply-clause-remarks
-returns-in_ok-end-in-Apply-clause-remarks g c = rw c.in-Apply.is refl
+returns-in_ok-end-in-Apply-clause-remarks g c = rw c.in-Apply.is c.none-in-Apply.ensures
 
 pub returns-in_ok-end-in-Frames-clause-remarks : goal.returns-in_ok-end-in-Frames-clause-remarks
 returns-in_ok-end-in-Frames-clause-remarks g c = rw c.in-Frames.is (c.in_ok-end-in-Frames.ensures.forged, c.in_ok-end-in-Frames.ensures.one.0, c.in_ok-end-in-Frames.ensures.one.1)
 
 pub returns-in_ok-end-in-Dag-clause-remarks : goal.returns-in_ok-end-in-Dag-clause-remarks
-returns-in_ok-end-in-Dag-clause-remarks g c = rw c.in-Dag.is refl
+returns-in_ok-end-in-Dag-clause-remarks g c = rw c.in-Dag.is c.none.ensures
 
 pub returns-in_ok-end-in-Diagnose-clause-answer : goal.returns-in_ok-end-in-Diagnose-clause-answer
 returns-in_ok-end-in-Diagnose-clause-answer g c = rw c.in-Diagnose.is (job_of_diagnosis c.in-Diagnose.sought c.in-Diagnose.file _ c.in_ok-end-in-Diagnose.ensures.diagnosis.0 c.in_ok-end-in-Diagnose.ensures.diagnosis.1)
 
 pub returns-in_ok-end-in-Diagnose-clause-remarks : goal.returns-in_ok-end-in-Diagnose-clause-remarks
-returns-in_ok-end-in-Diagnose-clause-remarks g c = rw c.in-Diagnose.is refl
+returns-in_ok-end-in-Diagnose-clause-remarks g c = rw c.in-Diagnose.is c.none-in-Diagnose.ensures
 
 pub returns-in_ok-end-in-Frames-clause-flaw : goal.returns-in_ok-end-in-Frames-clause-flaw
 returns-in_ok-end-in-Frames-clause-flaw g c = λ asked. rw c.in-Frames.is c.in_ok-end-in-Frames.ensures.flaw

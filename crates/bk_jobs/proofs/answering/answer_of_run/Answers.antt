@@ -1,5 +1,4 @@
 -- How each of these jobs may end with an answer.
-use Rattle.std.proofs.Common.{refl}
 use Rattle.bk_jobs.proofs.StatusLemmas.{follow_answers, run_answers, query_ends, show_answers, summary_answers}
 use Rattle.bk_jobs.proofs.answering.answer_of_run.Goals as goal
 
@@ -13,10 +12,10 @@ pub returns-in_ok-end-in-Ask-clause-answer : goal.returns-in_ok-end-in-Ask-claus
 returns-in_ok-end-in-Ask-clause-answer g c = rw c.in-Ask.is (query_ends c.in-Ask.workers c.in-Ask.asked c.in-Ask.file _ c.in_ok-end-in-Ask.ensures.answer)
 
 pub returns-in_ok-end-in-Run-clause-remarks : goal.returns-in_ok-end-in-Run-clause-remarks
-returns-in_ok-end-in-Run-clause-remarks g c = rw c.in-Run.is refl
+returns-in_ok-end-in-Run-clause-remarks g c = rw c.in-Run.is c.none.ensures
 
 pub returns-in_ok-end-in-Summary-clause-remarks : goal.returns-in_ok-end-in-Summary-clause-remarks
-returns-in_ok-end-in-Summary-clause-remarks g c = rw c.in-Summary.is refl
+returns-in_ok-end-in-Summary-clause-remarks g c = rw c.in-Summary.is c.none-in-Summary.ensures
 
 pub returns-in_ok-end-in-Ask-clause-remarks : goal.returns-in_ok-end-in-Ask-clause-remarks
 returns-in_ok-end-in-Ask-clause-remarks g c = rw c.in-Ask.is (c.in_ok-end-in-Ask.ensures.gap, c.in_ok-end-in-Ask.ensures.one.0, c.in_ok-end-in-Ask.ensures.one.1)
@@ -25,7 +24,7 @@ pub returns-in_ok-end-in-Show-clause-answer : goal.returns-in_ok-end-in-Show-cla
 returns-in_ok-end-in-Show-clause-answer g c = rw c.in-Show.is (show_answers c.in-Show.workers c.in-Show.shown c.in-Show.file _ c.in_ok-end-in-Show.ensures.answer)
 
 pub returns-in_ok-end-in-Show-clause-remarks : goal.returns-in_ok-end-in-Show-clause-remarks
-returns-in_ok-end-in-Show-clause-remarks g c = rw c.in-Show.is refl
+returns-in_ok-end-in-Show-clause-remarks g c = rw c.in-Show.is c.none-in-Show.ensures
 
 pub returns-in_ok-end-in-Follow-default-default-None-default-default-clause-answer : goal.returns-in_ok-end-in-Follow-default-default-None-default-default-clause-answer
 returns-in_ok-end-in-Follow-default-default-None-default-default-clause-answer g c =
@@ -33,7 +32,7 @@ returns-in_ok-end-in-Follow-default-default-None-default-default-clause-answer g
     c.in_ok-end-in-Follow-default-default-None-default-default.ensures.answer)
 
 pub returns-in_ok-end-in-Follow-default-default-None-default-default-clause-remarks : goal.returns-in_ok-end-in-Follow-default-default-None-default-default-clause-remarks
-returns-in_ok-end-in-Follow-default-default-None-default-default-clause-remarks g c = rw c.in-Follow-default-default-None-default-default.is refl
+returns-in_ok-end-in-Follow-default-default-None-default-default-clause-remarks g c = rw c.in-Follow-default-default-None-default-default.is c.none-in-Follow-default-default-None-default-default.ensures
 
 pub returns-in_ok-end-in-Run-clause-flaw : goal.returns-in_ok-end-in-Run-clause-flaw
 returns-in_ok-end-in-Run-clause-flaw g c = λ asked. rw c.in-Run.is (c.in_ok-end-in-Run.ensures.flaw asked)

@@ -16,16 +16,16 @@ pub returns-in_ok-end-in-CheckProof-clause-report : goal.returns-in_ok-end-in-Ch
 returns-in_ok-end-in-CheckProof-clause-report g c = rw c.in-CheckProof.is (rw (← c.as_bytes.ensures.value) c.in_ok-end-in-CheckProof.ensures.verdict)
 
 pub returns-in_ok-end-in-Make-clause-remarks : goal.returns-in_ok-end-in-Make-clause-remarks
-returns-in_ok-end-in-Make-clause-remarks g c = rw c.in-Make.is refl
+returns-in_ok-end-in-Make-clause-remarks g c = rw c.in-Make.is c.none.ensures
 
 pub returns-in_ok-end-in-CheckProof-clause-remarks : goal.returns-in_ok-end-in-CheckProof-clause-remarks
-returns-in_ok-end-in-CheckProof-clause-remarks g c = rw c.in-CheckProof.is refl
+returns-in_ok-end-in-CheckProof-clause-remarks g c = rw c.in-CheckProof.is c.none-in-CheckProof.ensures
 
 pub returns-in_ok-end-in-Schedule-clause-answer : goal.returns-in_ok-end-in-Schedule-clause-answer
 returns-in_ok-end-in-Schedule-clause-answer g c = rw (c.in-Schedule.is, c.in_ok-end-in-Schedule.ensures.answer) (refl, refl)
 
 pub returns-in_ok-end-in-Schedule-clause-remarks : goal.returns-in_ok-end-in-Schedule-clause-remarks
-returns-in_ok-end-in-Schedule-clause-remarks g c = rw c.in-Schedule.is refl
+returns-in_ok-end-in-Schedule-clause-remarks g c = rw c.in-Schedule.is c.none-in-Schedule.ensures
 
 pub returns-in_ok-end-in-CheckChain-clause-answer : goal.returns-in_ok-end-in-CheckChain-clause-answer
 returns-in_ok-end-in-CheckChain-clause-answer g c =
@@ -33,7 +33,7 @@ returns-in_ok-end-in-CheckChain-clause-answer g c =
     rw c.in-CheckChain.is (chain_answers c.in-CheckChain.file v _ e)
 
 pub returns-in_ok-end-in-CheckChain-clause-remarks : goal.returns-in_ok-end-in-CheckChain-clause-remarks
-returns-in_ok-end-in-CheckChain-clause-remarks g c = rw c.in-CheckChain.is refl
+returns-in_ok-end-in-CheckChain-clause-remarks g c = rw c.in-CheckChain.is c.none-in-CheckChain.ensures
 
 pub returns-in_ok-end-in-Schedule-clause-report : goal.returns-in_ok-end-in-Schedule-clause-report
 returns-in_ok-end-in-Schedule-clause-report g c = rw c.in-Schedule.is c.in_ok-end-in-Schedule.ensures.report

@@ -12,7 +12,7 @@ returns-in_ok-end-in-CheckReport-clause-answer g c =
     rw c.in-CheckReport.is (claim_answers c.in-CheckReport.workers c.in-CheckReport.report c.in-CheckReport.file v _ e)
 
 pub returns-in_ok-end-in-CheckReport-clause-remarks : goal.returns-in_ok-end-in-CheckReport-clause-remarks
-returns-in_ok-end-in-CheckReport-clause-remarks g c = rw c.in-CheckReport.is refl
+returns-in_ok-end-in-CheckReport-clause-remarks g c = rw c.in-CheckReport.is c.none.ensures
 
 pub returns-in_ok-end-in-Compare-clause-remarks : goal.returns-in_ok-end-in-Compare-clause-remarks
 returns-in_ok-end-in-Compare-clause-remarks g c = rw c.in-Compare.is c.in_ok-end-in-Compare.ensures.remarks
@@ -21,7 +21,7 @@ pub returns-in_ok-end-in-Pick-clause-answer : goal.returns-in_ok-end-in-Pick-cla
 returns-in_ok-end-in-Pick-clause-answer g c = rw c.in-Pick.is (pick_answers c.in-Pick.workers c.in-Pick.shown c.in-Pick.accounts c.in-Pick.file _ c.in_ok-end-in-Pick.ensures.answer)
 
 pub returns-in_ok-end-in-Pick-clause-remarks : goal.returns-in_ok-end-in-Pick-clause-remarks
-returns-in_ok-end-in-Pick-clause-remarks g c = rw c.in-Pick.is refl
+returns-in_ok-end-in-Pick-clause-remarks g c = rw c.in-Pick.is c.none-in-Pick.ensures
 
 pub returns-in_ok-end-in-Follow-default-default-Some-default-default-clause-answer : goal.returns-in_ok-end-in-Follow-default-default-Some-default-default-clause-answer
 returns-in_ok-end-in-Follow-default-default-Some-default-default-clause-answer g c =
@@ -29,7 +29,7 @@ returns-in_ok-end-in-Follow-default-default-Some-default-default-clause-answer g
     c.in_ok-end-in-Follow-default-default-Some-default-default.ensures.answer)
 
 pub returns-in_ok-end-in-Follow-default-default-Some-default-default-clause-remarks : goal.returns-in_ok-end-in-Follow-default-default-Some-default-default-clause-remarks
-returns-in_ok-end-in-Follow-default-default-Some-default-default-clause-remarks g c = rw c.in-Follow-default-default-Some-default-default.is refl
+returns-in_ok-end-in-Follow-default-default-Some-default-default-clause-remarks g c = rw c.in-Follow-default-default-Some-default-default.is c.none-in-Follow-default-default-Some-default-default.ensures
 
 pub returns-in_ok-end-in-CheckReport-clause-flaw : goal.returns-in_ok-end-in-CheckReport-clause-flaw
 returns-in_ok-end-in-CheckReport-clause-flaw g c = λ asked. rw c.in-CheckReport.is (c.in_ok-end-in-CheckReport.ensures.flaw asked)
