@@ -22,7 +22,7 @@ use Rattle.bk_answer.specs.Answers.{IsMadeOf, IsOrderMadeOf, TextIsOut, TextStop
 use Rattle.bk_report.specs.Lines.{text_of}
 use Rattle.bk_tx.specs.Batches.{transactions_of, count_in}
 use Rattle.bk_report.specs.RunLines.{Reading, head_lines, order_lines, batches_lines, ledger_lines, run_lines}
-use Rattle.bk_answer.specs.RunReport.{committee_in, later_frames, Reads, reach_of, report_text}
+use Rattle.bk_answer.specs.RunReport.{committee_in, later_frames, Reads, reach_of, IsReportOf}
 use Rattle.bk_report.specs.Pages.{PageValue, blank, Puts, Stops}
 use Rattle.bk_answer.proofs.Counting.{few_places, few_named, few_ordered_batches, few_waiting, few_anchors, few_in_order, few_rejects}
 use Rattle.bk_report.proofs.Putting.{all_out, part_out, part_size}
@@ -59,7 +59,8 @@ reads feed c waiting rows closed s = record {
   rejected = rejected_is feed c closed;
   waiting = waiting_is feed c waiting rows closed s;
   ordered = closed.order.ordered;
-  folded = record { receipts = closed.executed.receipts; rows = s.rows_are ∙ closed.executed.rows };
+  receipts = closed.executed.receipts;
+  rows = s.rows_are ∙ closed.executed.rows;
 }
 
 text_is : (feed : FeedValue) (c : ClosedValue) (waiting : List CertRef) (rows : List Row) → IsFeed feed → IsClosedFor feed c → IsShownOf c waiting rows
@@ -72,7 +73,7 @@ text_is feed c waiting rows good closed s =
     ∙ run_text_is (committee_in feed) (length feed.frames) (reading_of c waiting rows) c.ledger.counts c.order.taken.ordered.payloads.missing closed.executed.counts refl
 
 report_is : (feed : FeedValue) (c : ClosedValue) (waiting : List CertRef) (rows : List Row) (answer : Status) → IsMadeOf c feed → IsShownOf c waiting rows
-    → answer ≡ reach_of c.order.taken.ordered.payloads.missing → report_text feed answer (shown_text c waiting rows)
+    → answer ≡ reach_of c.order.taken.ordered.payloads.missing → IsReportOf feed answer (shown_text c waiting rows)
 report_is feed c waiting rows answer (good, closed) s status = record {
   clear = closed.order.clear;
   reading = reading_of c waiting rows;
@@ -86,7 +87,7 @@ report_is feed c waiting rows answer (good, closed) s status = record {
 -- the whole report is out
 pub report_out : (c : ClosedValue) (waiting : List CertRef) (rows : List Row) (answer : Status) (old new : Device) (page after : PageValue) → page ≡ blank → after.bytes ≡ [] → IsShownOf c waiting rows
     → answer ≡ reach_of c.order.taken.ordered.payloads.missing → Puts old new page after (shown_text c waiting rows)
-    → (feed : FeedValue) → IsMadeOf c feed → TextIsOut (report_text feed answer) old new
+    → (feed : FeedValue) → IsMadeOf c feed → TextIsOut (IsReportOf feed answer) old new
 report_out c waiting rows answer old new page after empty out s status put feed made = (
   shown_text c waiting rows,
   report_is feed c waiting rows answer made s status,
@@ -95,7 +96,7 @@ report_out c waiting rows answer old new page after empty out s status put feed 
 
 -- the front of the report is out where the sink stopped
 pub report_front : (c : ClosedValue) (waiting : List CertRef) (rows : List Row) (written : ℕ) (old new : Device) (page : PageValue) → page ≡ blank → IsShownOf c waiting rows
-    → Stops old new page (shown_text c waiting rows) written → (feed : FeedValue) → IsMadeOf c feed → (answer : Status) × TextStops (report_text feed answer) written old new
+    → Stops old new page (shown_text c waiting rows) written → (feed : FeedValue) → IsMadeOf c feed → (answer : Status) × TextStops (IsReportOf feed answer) written old new
 report_front c waiting rows written old new page empty s stop feed made =
     let at_first : Stops old new blank (shown_text c waiting rows) written = subst (λ (p : PageValue). Stops old new p (shown_text c waiting rows) written) empty stop in (
       reach_of c.order.taken.ordered.payloads.missing,

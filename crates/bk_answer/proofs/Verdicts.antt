@@ -7,7 +7,7 @@ use Rattle.bk_results.specs.Devices.{AreFeedWith, Devices}
 use Rattle.bk_results.specs.declared.fault.Fault.{Fault}
 use Rattle.bk_results.specs.declared.fault.Fault.TheVariants as fault
 use Rattle.bk_results.specs.declared.flaw.Flaw.{Flaw}
-use Rattle.bk_answer.specs.Answers.{AnswerFailsBy, AnswerIsOut, IsAnswered, IsAnswerOf, PartIsOut, TextIsOut, TextStops, WritesAnswer, WritesNot}
+use Rattle.bk_answer.specs.Answers.{AnswerFailsBy, IsAnswered, PartIsOut, TextIsOut, TextStops, WritesAnswer, WritesNot}
 use Rattle.bk_answer.specs.Flaws.{IsFlaw, IsFlawIf, IsFlawIn, judged_text}
 use Rattle.bk_answer.specs.declared.strict.Ended.{Ended}
 

@@ -1,6 +1,7 @@
 -- What is written of a feed, and what a call leaves that reads a feed and writes what was asked of it. `text` stands for
 -- any answer: which texts, with which end, answer it of a feed.
 use Rattle.std.specs.Prelude.{◌≡◌, ℕ, ◌<◌, Bool, true, List, length, take}
+use Rattle.std.specs.Io.KnownBytes.{Appends}
 use Rattle.bk_base.specs.Feed.{FeedValue, IsFeed}
 use Rattle.bk_frames.specs.Device.{Device, Works, Fails, Receives, GaveAll}
 use Rattle.bk_frames.specs.Pulling.{Refuses}
@@ -48,23 +49,17 @@ WritesNot of text other old new = ⊥
 
 -- ---- what a call leaves
 
--- bytes are the encoding of a feed that has this answer
-abbrev pub IsAnswerOf : {E : Type 0} → (FeedValue → E → List ℕ → Type 0) → List ℕ → E → List ℕ → Type 0
-IsAnswerOf text bytes end t = AreFeedWith bytes (λ feed. text feed end t)
-
--- the sink received exactly the answer of the bytes
-abbrev pub AnswerIsOut : {E : Type 0} → (FeedValue → E → List ℕ → Type 0) → E → Device → Device → List ℕ → Type 0
-AnswerIsOut text end old new bytes = TextIsOut (IsAnswerOf text bytes end) old new
-
 -- the first bytes of an answer of the bytes are out, and not all
 abbrev pub PartIsOut : {E : Type 0} → (FeedValue → E → List ℕ → Type 0) → ℕ → Device → Device → List ℕ → Type 0
-PartIsOut {E} text written old new bytes = (end : E) × TextStops (IsAnswerOf text bytes end) written old new
+PartIsOut {E} text written old new bytes =
+    (end : E) × TextStops (λ t. AreFeedWith bytes (λ feed. text feed end t)) written old new
 
 -- no call failed, the source was read to its end, and the sink received exactly the answer of the bytes that it gave
 pub record IsAnswered {E : Type 0} (text : FeedValue → E → List ℕ → Type 0) (end : E) (old new : Devices) : Type 0 where
   pub source : Works old.source new.source
   pub sink : Works old.sink new.sink
-  pub out : GaveAll old.source new.source (AnswerIsOut text end old.sink new.sink)
+  pub out : GaveAll old.source new.source
+      (λ bytes. (t : List ℕ) × AreFeedWith bytes (λ feed. text feed end t) × Appends old.sink.bytes new.sink.bytes t)
 
 -- why there is no answer, by the fault: the source is refused; the feed is stopped; a worker took a place and did not
 -- finish it, where places are executed; a call of the sink failed, and exactly the first bytes of an answer are out; or

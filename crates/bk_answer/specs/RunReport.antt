@@ -2,11 +2,10 @@
 -- certificates and the number of frames, all of it is read off the frames as a set.
 use Rattle.std.specs.Prelude.{◌≡◌, ℕ, ◌<◌, List, [], length, drop, Option, Some, None, option_map, unwrap_or, slice_get}
 use Rattle.bk_base.specs.Feed.{Frame, FeedValue, genesis_of}
-use Rattle.bk_committee.specs.Payload.{CommitteeValue, committee_of}
-use Rattle.bk_order.specs.Frames.{AreRejects}
-use Rattle.bk_order.specs.Intake.{first_later_frame}
-use Rattle.bk_order.specs.Orders.{Ordered, AreWaiting, IsOrderOf}
-use Rattle.bk_order.specs.Stops.{IsStop, HasNoStop}
+use Rattle.bk_committee.specs.Payload.{CommitteeValue, committee_of, sizes_of}
+use Rattle.bk_order.specs.Frames.{AreRejects, OfHeld}
+use Rattle.bk_order.specs.Orders.{Ordered, AreOrdered, AreWaiting}
+use Rattle.bk_order.specs.Stops.{IsStop, AreClear}
 use Rattle.bk_order.specs.declared.stop.Stop.{Stop}
 use Rattle.bk_order.specs.declared.stop.Stop.TheVariants as stop
 use Rattle.bk_rules.specs.Fold.{state_after, receipts_of}
@@ -30,25 +29,23 @@ later_frames feed = drop 2 feed.frames
 
 -- what the frames of a feed hold has neither a collision nor twins
 abbrev pub HasNoStopIn : FeedValue → Type 0
-HasNoStopIn feed = HasNoStop (committee_in feed) (later_frames feed)
+HasNoStopIn feed = OfHeld (committee_in feed) (later_frames feed) (λ certs batches. AreClear certs batches)
 
 -- the order of what the frames of a feed hold
 abbrev pub IsOrderIn : FeedValue → Ordered → Type 0
-IsOrderIn feed o = IsOrderOf (committee_in feed) (later_frames feed) o
+IsOrderIn feed o =
+    OfHeld (committee_in feed) (later_frames feed) (λ certs batches. AreOrdered (sizes_of (committee_in feed)) certs batches o)
 
--- the transactions of an order, in version and from opening accounts of a feed, give these receipts and accounts
-pub record IsFoldIn (feed : FeedValue) (r : Reading) : Type 0 where
+-- what the rules read off the frames of a feed; the receipts and the accounts are those of the order's transactions, one at a
+-- time from the feed's opening accounts
+pub record Reads (feed : FeedValue) (r : Reading) : Type 0 where
+  pub rejected : AreRejects (committee_in feed) 2 (later_frames feed) r.rejected
+  pub waiting : AreWaiting (committee_in feed) (later_frames feed) r.waiting
+  pub ordered : IsOrderIn feed r.ordered
   pub receipts : r.receipts
       ≡ receipts_of feed.version (transactions_of r.ordered.payloads.list) (genesis_of feed.frames)
   pub rows : r.rows
       ≡ state_after feed.version (transactions_of r.ordered.payloads.list) (genesis_of feed.frames)
-
--- what the rules read off the frames of a feed
-pub record Reads (feed : FeedValue) (r : Reading) : Type 0 where
-  pub rejected : AreRejects (committee_in feed) first_later_frame (later_frames feed) r.rejected
-  pub waiting : AreWaiting (committee_in feed) (later_frames feed) r.waiting
-  pub ordered : IsOrderIn feed r.ordered
-  pub folded : IsFoldIn feed r
 
 -- how far the transactions of a report go: to the end of the order, or to its first batch that is missing
 abbrev pub reach_of : Option (List ℕ) → Status
@@ -57,20 +54,16 @@ reach_of (Some digest) = status.Missing
 
 -- a text and a status are the report of a feed: nothing stops it, and the text is that of the lines that the rules read
 -- off its frames
-pub record IsReportOf (feed : FeedValue) (text : List ℕ) (answer : Status) : Type 0 where
+pub record IsReportOf (feed : FeedValue) (answer : Status) (text : List ℕ) : Type 0 where
   pub clear : HasNoStopIn feed
   pub reading : Reading
   pub reads : Reads feed reading
   pub report : text ≡ text_of (run_lines (committee_in feed) (length feed.frames) reading)
   pub status_is : answer ≡ reach_of reading.ordered.payloads.missing
 
--- the report as what a feed answers: it ends with whether a batch is missing
-abbrev pub report_text : FeedValue → Status → List ℕ → Type 0
-report_text feed answer text = IsReportOf feed text answer
-
 -- a text and a status are the report of bytes, where these are the encoding of a feed that has that report
 abbrev pub IsReport : List ℕ → List ℕ → Status → Type 0
-IsReport bytes text answer = AreFeedWith bytes (λ feed. IsReportOf feed text answer)
+IsReport bytes text answer = AreFeedWith bytes (λ feed. IsReportOf feed answer text)
 
 -- the fault of a stop
 abbrev pub fault_of : Stop → Fault

@@ -10,7 +10,7 @@ ghost use Rattle.bk_order.specs.Stops.{HasNoStop};
 ghost use Rattle.bk_report.specs.Leaves.{leaves_of};
 ghost use Rattle.bk_report.specs.Lines.{text_of};
 ghost use Rattle.bk_report.specs.RunLines.{head_lines, order_lines, batches_lines, ledger_lines};
-ghost use Rattle.bk_answer.specs.RunReport.{report_text};
+ghost use Rattle.bk_answer.specs.RunReport.{IsReportOf};
 ghost use Rattle.bk_report.specs.Pages.{Written, blank};
 
 use crate::answer::Answer;
@@ -112,7 +112,7 @@ impl Answer for Report {
 
     ghost can_ask = { λ _. Unit {0} };
 
-    ghost text = { λ _. report_text };
+    ghost text = { λ _. IsReportOf };
 
     fn write<R: Threads + Sync, K: Sink>(
         &self,

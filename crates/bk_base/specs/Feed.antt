@@ -1,5 +1,5 @@
 -- A feed: four bytes of magic that name its version, then frames. What a feed is, and how it is encoded.
-use Rattle.std.specs.Prelude.{◌≡◌, ℕ, ◌+◌, ◌≤◌, Bool, List, [], ◌∷◌, ◌++◌, length, IsTrue, nat_le, ◌==◌, slice_get, unwrap_or, option_and_then}
+use Rattle.std.specs.Prelude.{◌≡◌, ℕ, ◌+◌, ◌≤◌, Bool, List, [], ◌∷◌, ◌++◌, length, IsTrue, is_some, nat_le, ◌==◌, slice_get, unwrap_or, option_and_then}
 use Rattle.std.specs.Int.{w32, to_be_bytes}
 use Rattle.std.specs.List.{flat_map}
 use Rattle.bk_base.specs.declared.limits.TheConstants.{MOST_FEED, MOST_PAYLOAD}
@@ -9,7 +9,7 @@ use Rattle.bk_base.specs.declared.kind.Kind.{Kind}
 use Rattle.bk_base.specs.declared.kind.Kind.TheVariants as kind
 use Rattle.bk_base.specs.declared.genesis.Row.{Row}
 use Rattle.bk_base.specs.Committee.{is_committee}
-use Rattle.bk_base.specs.Genesis.{is_genesis, rows_of}
+use Rattle.bk_base.specs.Genesis.{rows_of}
 
 -- a frame of a feed
 pub record Frame : Type 0 where
@@ -69,7 +69,7 @@ pub record IsFramedAt (index offset : ℕ) (f : Frame) : Type 0 where
 pub record IsGoodAt (version : Version) (index offset : ℕ) (f : Frame) : Type 0 where
   pub framed : IsFramedAt index offset f
   pub committee : index ≡ 0 → IsTrue (is_committee version f.payload)
-  pub genesis : index ≡ 1 → IsTrue (is_genesis f.payload)
+  pub genesis : index ≡ 1 → IsTrue (is_some (rows_of f.payload))
 
 -- each of these frames is good, the first with this index and offset and each further one right after the one before it
 abbrev pub AreGoodFrom : Version → ℕ → ℕ → List Frame → Type 0

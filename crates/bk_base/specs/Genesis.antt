@@ -22,7 +22,8 @@ pub record AreAccounts (rows : List Row) : Type 0 where
 
 -- the same as a test
 abbrev pub are_accounts : List Row → Bool
-are_accounts rows = is_ascending (ids_of rows) && list_all (λ (r : Row). nat_lt r.seq (2 ^ 63)) rows && nat_lt (total_of rows) (2 ^ 63)
+are_accounts rows =
+    is_ascending (map (λ (r : Row). r.id) rows) && list_all (λ (r : Row). nat_lt r.seq (2 ^ 63)) rows && nat_lt (total_of rows) (2 ^ 63)
 
 -- ---- the encoding
 

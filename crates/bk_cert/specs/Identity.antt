@@ -16,7 +16,7 @@ tag_of key id = hmac_of key id
 
 -- the tags of a header by these members, each under its own key
 abbrev pub tags_by : List (List ℕ) → HeaderValue → List ℕ → List (List ℕ)
-tags_by keys header members = map (λ member. tag_of (slice_index_or keys member []) (id_of header)) members
+tags_by keys header members = map (λ member. hmac_of (slice_index_or keys member []) (id_of header)) members
 
 -- the certificate seals the header by exactly these signers, with the tag of each by ascending member
 pub record IsSealOf (keys : List (List ℕ)) (header : HeaderValue) (signers : List ℕ) (cert : CertValue) : Type 0 where

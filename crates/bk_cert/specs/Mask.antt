@@ -9,7 +9,7 @@ is_signer mask member = bit_at (slice_index mask (member / 8)) (member % 8) == 1
 
 -- the members 0 to 127 that the mask marks, ascending
 unfoldable pub signers_of : List ℕ → List ℕ
-signers_of mask = filter (is_signer mask) (range_with_len 0 128)
+signers_of mask = filter (λ member. bit_at (slice_index mask (member / 8)) (member % 8) == 1) (range_with_len 0 128)
 
 -- how many members the mask marks
 abbrev pub signer_count : List ℕ → ℕ

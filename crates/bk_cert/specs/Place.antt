@@ -20,7 +20,8 @@ IsBefore a b = (a.round < b.round) ⊎ ((a.round ≡ b.round) × (a.author < b.a
 -- each before all that follow it
 abbrev pub IsListed : List CertRef → Type 0
 IsListed [] = Unit {0}
-IsListed (a ∷ rest) = ((b : CertRef) → Contains rest b → IsBefore a b) × IsListed rest
+IsListed (a ∷ rest) =
+    ((b : CertRef) → Contains rest b → (a.round < b.round) ⊎ ((a.round ≡ b.round) × (a.author < b.author))) × IsListed rest
 
 -- xs lists exactly what has P, by round and author
 pub record Lists (xs : List CertRef) (P : CertRef → Type 0) : Type 0 where

@@ -3,8 +3,8 @@ use Rattle.std.specs.Prelude.{ℕ, ◌*◌, List, length, Option, Some, None, na
 use Rattle.std.specs.Simd.{first_chunks}
 use Rattle.std.specs.Int.{w8, w16, w32}
 use Rattle.bk_base.specs.Numbers.{◌>>=◌, number_at, bytes_at}
-use Rattle.bk_cert.specs.Values.{HeaderValue, CertValue, header_with, cert_with}
-use Rattle.bk_cert.specs.Mask.{signer_count}
+use Rattle.bk_cert.specs.Values.{HeaderValue, CertValue}
+use Rattle.bk_cert.specs.Mask.{signers_of}
 
 -- this many digests at the front, and the bytes after them
 unfoldable pub digests_at : ℕ → List ℕ → Option (List (List ℕ) × List ℕ)
@@ -21,12 +21,12 @@ header_at bytes = do
   batches ← (if nat_le batch_count.0 1000 then digests_at batch_count.0 batch_count.1 else None)
   parent_count ← number_at w8 batches.1
   parents ← (if nat_le parent_count.0 128 then digests_at parent_count.0 parent_count.1 else None)
-  Some (header_with author.0 round.0 batches.0 parents.0, parents.1)
+  Some (record { author = author.0; round = round.0; batches = batches.0; parents = parents.0 }, parents.1)
 
 -- the certificate that the bytes encode, all of them
 unfoldable pub certificate_of : List ℕ → Option CertValue
 certificate_of bytes = do
   header ← header_at bytes
   mask ← bytes_at 16 header.1
-  tags ← digests_at (signer_count mask.0) mask.1
-  if length tags.1 == 0 then Some (cert_with header.0 mask.0 tags.0) else None
+  tags ← digests_at (length (signers_of mask.0)) mask.1
+  if length tags.1 == 0 then Some (record { header = header.0; mask = mask.0; tags = tags.0 }) else None

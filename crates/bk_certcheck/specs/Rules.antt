@@ -6,7 +6,7 @@ use Rattle.std.specs.Cmp.Lexicographic.{slice_cmp}
 use Rattle.bk_base.specs.declared.version.Version.{Version}
 use Rattle.bk_base.specs.declared.version.Version.TheVariants as version
 use Rattle.bk_committee.specs.Payload.{CommitteeValue, sizes_of}
-use Rattle.bk_committee.specs.Sizes.{quorum, weight_of}
+use Rattle.bk_committee.specs.Sizes.{Sizes, quorum, weight_of}
 use Rattle.bk_cert.specs.Values.{HeaderValue, CertValue}
 use Rattle.bk_cert.specs.Mask.{signers_of}
 use Rattle.bk_cert.specs.Identity.{tags_by}
@@ -27,18 +27,15 @@ rule_number rule.Tag = 7
 
 -- how many parents a certificate of a later round has at least: in version One as many as make a quorum, in version
 -- Two one; whether they weigh a quorum, admission asks in both
-abbrev pub least_parents : CommitteeValue → ℕ
-least_parents k = by_version k.version
-  where
-    by_version : Version → ℕ
-    by_version version.One = quorum (sizes_of k)
-    by_version version.Two = 1
+abbrev pub least_parents : Version → Sizes → ℕ
+least_parents version.One z = quorum z
+least_parents version.Two z = 1
 
 -- the header has a wrong number of parents: any in round 1, or too few or more than there are members in a later one
 abbrev pub wrong_parents : CommitteeValue → HeaderValue → Bool
 wrong_parents k h =
     if h.round == 1 then nat_lt 0 (length h.parents)
-    else nat_lt (length h.parents) (least_parents k) || nat_lt (length k.keys) (length h.parents)
+    else nat_lt (length h.parents) (least_parents k.version (sizes_of k)) || nat_lt (length k.keys) (length h.parents)
 
 -- a certificate breaks this rule; it has a shape, so that it does not break the first
 abbrev pub Breaks : CommitteeValue → CertValue → Rule → Type 0

@@ -1,5 +1,5 @@
 -- What the bytes of a certificate are found to be: good, or broken by the least rule that they break.
-use Rattle.std.specs.Prelude.{◌≡◌, ℕ, List, Some, None}
+use Rattle.std.specs.Prelude.{◌≡◌, ℕ, ◌<◌, List, Some, None}
 use Rattle.bk_committee.specs.Payload.{CommitteeValue}
 use Rattle.bk_cert.specs.Values.{CertValue}
 use Rattle.bk_cert.specs.Reading.{certificate_of}
@@ -8,7 +8,7 @@ use Rattle.bk_certcheck.specs.declared.rule.Rule.{Rule}
 use Rattle.bk_certcheck.specs.declared.rule.Rule.TheVariants as rule
 use Rattle.bk_certcheck.specs.declared.verdict.Verdict.{Verdict}
 use Rattle.bk_certcheck.specs.declared.verdict.Verdict.TheVariants as verdict
-use Rattle.bk_certcheck.specs.Rules.{Breaks, BreaksNoneBelow, rule_number}
+use Rattle.bk_certcheck.specs.Rules.{Breaks, rule_number}
 
 -- the bytes are a certificate of this header that breaks no rule
 pub record IsGood (k : CommitteeValue) (bytes : List ℕ) (node : Node) : Type 0 where
@@ -22,7 +22,7 @@ pub record BreaksFirst (k : CommitteeValue) (bytes : List ℕ) (r : Rule) : Type
   pub cert : CertValue
   pub read : certificate_of bytes ≡ Some cert
   pub breaks : Breaks k cert r
-  pub none_before : BreaksNoneBelow k cert (rule_number r)
+  pub none_before : (other : Rule) → rule_number other < rule_number r → ¬ Breaks k cert other
 
 -- the least rule that the bytes break: the first where they are no certificate
 abbrev pub IsBroken : CommitteeValue → List ℕ → Rule → Type 0

@@ -18,7 +18,7 @@ use std::cmp::Ordering;
 
 // How many parents a certificate of a later round has at least.
 fn fewest_parents(committee: &Committee) -> u64
-    ensures { result ≡ least_parents committee.now }
+    ensures { result ≡ least_parents committee.now.version (sizes_of committee.now) }
 {
     match committee.version() {
         Version::One => committee.quorum(),

@@ -53,8 +53,9 @@ weights_of version.Two n bytes = weights_at n bytes
 
 -- the committee that a payload encodes: after the number of members a key of 32 bytes for each, and then the weights
 abbrev pub committee_of : Version → List ℕ → CommitteeValue
-committee_of version [] = committee_with version [] []
-committee_of version (n ∷ bytes) = committee_with version (first_chunks 32 n bytes) (weights_of version n bytes)
+committee_of version [] = record { version = version; keys = []; weights = [] }
+committee_of version (n ∷ bytes) =
+    record { version = version; keys = first_chunks 32 n bytes; weights = weights_of version n bytes }
 
 -- how many bytes a payload has for each member
 abbrev pub member_size : Version → ℕ

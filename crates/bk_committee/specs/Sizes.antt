@@ -28,7 +28,7 @@ weight z x = slice_index_or z.weights x 0
 
 -- the weight of these together
 abbrev pub weight_of : Sizes → List ℕ → ℕ
-weight_of z xs = sum_by (weight z) xs
+weight_of z xs = sum_by (λ x. slice_index_or z.weights x 0) xs
 
 -- the leader of an odd round: each member in turn, from the first
 abbrev pub leader : Sizes → ℕ → ℕ

@@ -14,7 +14,7 @@ use Rattle.bk_evidence.specs.Batches.{Batch, has_digest, payload_of}
 use Rattle.bk_flatten.specs.Batches.{Payloads, batches_of, before_missing, cons_payload, digests_of, named_at, once}
 use Rattle.bk_flatten.proofs.Growth.{finds, names_same}
 use Rattle.bk_flatten.proofs.Orders.{order_present}
-use Rattle.bk_order.specs.Frames.{AreCerts, IsBatchIn, OfHeld, batch_of}
+use Rattle.bk_order.specs.Frames.{AreCerts, IsBatchIn, OfHeld}
 use Rattle.bk_order.specs.Orders.{IsOrderOf, Ordered, ordered_with}
 use Rattle.bk_order.specs.Stops.{HasNoStop}
 use Rattle.bk_order.proofs.OneReading.{one_ordered}
@@ -25,6 +25,7 @@ use Rattle.bk_diagnosis.specs.Missing.{Naming, first_namings, is_lacking, is_non
 use Rattle.bk_diagnosis.specs.private.Lacking.{digests_in}
 use Rattle.bk_diagnosis.specs.declared.line.Line.{Line}
 use Rattle.bk_diagnosis.proofs.FirstMissing.{digests_named, digests_once}
+use Rattle.bk_order.specs.private.Digested.{batch_of}
 
 -- ---- payloads
 

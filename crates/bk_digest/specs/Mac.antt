@@ -12,4 +12,5 @@ padded_with pad block = map (λ b. bit_xor b pad) block
 
 -- the tag of a text under a key: the outer pad is 0x5c and the inner pad is 0x36 (section 2)
 unfoldable pub hmac_of : List ℕ → List ℕ → List ℕ
-hmac_of key text = sha256 (padded_with 0x5c (key_block key) ++ sha256 (padded_with 0x36 (key_block key) ++ text))
+hmac_of key text =
+    sha256 (map (λ b. bit_xor b 0x5c) (key_block key) ++ sha256 (map (λ b. bit_xor b 0x36) (key_block key) ++ text))

@@ -21,7 +21,7 @@ root_within zero [] = sha256 []
 root_within zero (leaf ∷ rest) = tagged_of 0x00 leaf
 root_within (suc depth) leaves =
     if nat_le (length leaves) (2 ^ depth) then root_within depth leaves
-    else node_of (root_within depth (take (2 ^ depth) leaves)) (root_within depth (drop (2 ^ depth) leaves))
+    else tagged_of 0x01 (root_within depth (take (2 ^ depth) leaves) ++ root_within depth (drop (2 ^ depth) leaves))
 
 -- the root over a list of leaf data
 unfoldable pub root_of : List (List ℕ) → List ℕ

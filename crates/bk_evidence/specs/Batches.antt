@@ -2,7 +2,7 @@
 use Rattle.std.specs.Prelude.{◌≡◌, ◌≢◌, ℕ, Bool, List, [], ◌∷◌, ◌++◌, Option, Contains, option_map}
 use Rattle.std.specs.List.{find}
 use Rattle.std.specs.Str.{bytes_eq}
-use Rattle.bk_evidence.specs.Collisions.{IsCollisionBy, NoCollisionBy}
+use Rattle.bk_evidence.specs.Collisions.{IsCollisionBy}
 use Rattle.bk_evidence.specs.declared.batches.BatchOffer.{BatchOffer}
 use Rattle.bk_evidence.specs.declared.batches.BatchOffer.TheVariants as offer
 
@@ -21,11 +21,11 @@ has_digest digest b = bytes_eq b.digest digest
 
 -- the payload that is held under a digest: the one that was offered first
 abbrev pub payload_of : List Batch → List ℕ → Option (List ℕ)
-payload_of batches digest = option_map (λ (b : Batch). b.payload) (find (has_digest digest) batches)
+payload_of batches digest = option_map (λ (b : Batch). b.payload) (find (λ (b : Batch). bytes_eq b.digest digest) batches)
 
 -- one digest is of one payload
 abbrev pub AreApart : List Batch → Type 0
-AreApart batches = NoCollisionBy (λ (b : Batch). b.digest) batches
+AreApart batches = (b c : Batch) → Contains batches b → Contains batches c → b.digest ≡ c.digest → b ≡ c
 
 -- the least digest that has two payloads
 abbrev pub IsBatchCollision : List Batch → List ℕ → Type 0

@@ -13,7 +13,8 @@ stands a c = (c.header.round == a.round) && (c.header.author == a.author)
 
 -- the batches that the certificate at a place names, in its order
 abbrev pub named_at : List Node → CertRef → List (List ℕ)
-named_at held a = unwrap_or (option_map (λ (c : Node). c.header.batches) (find (stands a) held)) []
+named_at held a = unwrap_or (option_map (λ (c : Node). c.header.batches)
+    (find (λ (c : Node). (c.header.round == a.round) && (c.header.author == a.author)) held)) []
 
 -- digests in their order, without later repeats
 abbrev pub once : List (List ℕ) → List (List ℕ)
@@ -43,7 +44,7 @@ digests_of held order = once (flat_map (named_at held) order)
 
 -- the payloads of the batches that an order names, before the first that is missing
 abbrev pub batches_of : List Node → List Batch → List CertRef → Payloads
-batches_of held batches order = before_missing batches (digests_of held order)
+batches_of held batches order = before_missing batches (once (flat_map (named_at held) order))
 
 -- ---- the list that is kept from step to step
 

@@ -14,7 +14,7 @@ use Rattle.bk_results.specs.declared.fault.Fault.TheVariants as fault
 use Rattle.bk_results.specs.declared.status.Status.{Status}
 use Rattle.bk_results.specs.Devices.{IsUntouched}
 use Rattle.bk_answer.specs.Answers.{TextIsOut, TextStops}
-use Rattle.bk_answer.specs.RunReport.{report_text, IsStopIn, HasPlaceIn}
+use Rattle.bk_answer.specs.RunReport.{IsReportOf, IsStopIn, HasPlaceIn}
 use Rattle.bk_follow.specs.Follower.{BookValue, Followed, IsBookOf, IsCurrent, FollowsBy, Follows, HasCome, Settles, SettleFails, OfFrames, IsSettledBy, receipts_of_executed, receipts_in}
 use Rattle.bk_follow.specs.Finishing.{OfFeed, Closes, CloseFails, Finishes, FinishFails}
 use Rattle.bk_follow.specs.private.Books.{IsGoodBook, BookSettleFails, WritesBook, WriteFails}
@@ -206,7 +206,7 @@ end_write_fails (fault.Feed found) old new b before after closed is h = absurd h
 end_write_fails (fault.Collision id) old new b before after closed is h = absurd h
 end_write_fails (fault.Equivocation round author first second) old new b before after closed is h = absurd h
 end_write_fails (fault.Unfinished place) old new b before after closed is h = absurd h
-end_write_fails (fault.Write written) old new b before after closed is h = (on_closed old new b (λ feed. (answer : Status) × TextStops (report_text feed answer) written before after) closed is (λ feed good current. h.0 feed (good, current)), h.1)
+end_write_fails (fault.Write written) old new b before after closed is h = (on_closed old new b (λ feed. (answer : Status) × TextStops (IsReportOf feed answer) written before after) closed is (λ feed good current. h.0 feed (good, current)), h.1)
 end_write_fails fault.Memory old new b before after closed is h = h
 
 -- a report of the book is that of the feed
@@ -214,7 +214,7 @@ pub finishes : (old new : Followed) (b : BookValue) (before after : Device) (ans
 finishes old new b before after answer closed is h = record {
   settled = closed.settled;
   cut = closed.cut;
-  report = on_closed old new b (λ feed. TextIsOut (report_text feed answer) before after) closed is (λ feed good current. h.0 feed (good, current));
+  report = on_closed old new b (λ feed. TextIsOut (IsReportOf feed answer) before after) closed is (λ feed good current. h.0 feed (good, current));
   works = h.1;
 }
 

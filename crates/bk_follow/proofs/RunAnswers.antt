@@ -13,8 +13,8 @@ use Rattle.bk_frames.proofs.CutJoining.{ends_cut_short}
 use Rattle.bk_frames.proofs.Devices.{gave_all, known_of}
 use Rattle.bk_results.specs.declared.fault.Fault.{Fault}
 use Rattle.bk_results.specs.declared.fault.Fault.TheVariants as fault
-use Rattle.bk_results.specs.Devices.{devices, IsUntouched}
-use Rattle.bk_answer.specs.Answers.{AnswerFailsBy, AnswerIsOut, IsAnswered, IsMadeOf, IsOrderMadeOf, PartIsOut, TextIsOut, TextStops, WritesAnswer, WritesNot}
+use Rattle.bk_results.specs.Devices.{devices, AreFeedWith, IsUntouched}
+use Rattle.bk_answer.specs.Answers.{AnswerFailsBy, IsAnswered, IsMadeOf, IsOrderMadeOf, PartIsOut, TextIsOut, TextStops, WritesAnswer, WritesNot}
 use Rattle.bk_answer.specs.Closed.{ClosedValue, OrderValue}
 use Rattle.bk_answer.specs.RunReport.{IsStopIn, IsStopped, HasPlaceIn, HasPlace}
 use Rattle.bk_follow.specs.Follower.{BookValue, Followed, IsCurrent, executed_in}
@@ -171,7 +171,7 @@ module _ {E : Type 0} (text : FeedValue → E → List ℕ → Type 0) where
   call_answers known now old new v end works come h = record {
     source = works;
     sink = h.1;
-    out = of_given known now v (λ feed. TextIsOut (text feed end) old new) (AnswerIsOut text end old new) come h.0
+    out = of_given known now v (λ feed. TextIsOut (text feed end) old new) (λ bytes. TextIsOut (λ t. AreFeedWith bytes (λ feed. text feed end t)) old new) come h.0
         (λ bytes feed good spelled out. (out.0, record { feed = feed; good = good; spelled = spelled; holds = out.1 }, out.2));
   }
 

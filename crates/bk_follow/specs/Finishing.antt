@@ -9,7 +9,7 @@ use Rattle.bk_results.specs.declared.fault.Fault.TheVariants as fault
 use Rattle.bk_results.specs.declared.status.Status.{Status}
 use Rattle.bk_results.specs.Devices.{IsUntouched}
 use Rattle.bk_answer.specs.Answers.{TextIsOut, TextStops}
-use Rattle.bk_answer.specs.RunReport.{report_text, IsStopIn, HasPlaceIn}
+use Rattle.bk_answer.specs.RunReport.{IsReportOf, IsStopIn, HasPlaceIn}
 use Rattle.bk_follow.specs.Follower.{BookValue, Followed, HasCome, IsCurrent, IsSettled, executed_in}
 use Rattle.bk_follow.specs.Ordering.{IsOrdered}
 
@@ -65,7 +65,7 @@ pub record Finishes (old new : Followed) (before after : Device) (answer : Statu
   pub settled : (bytes : List ℕ) (frames : List Frame) → HasCome bytes frames old
       → HasCome bytes frames new × IsSettled frames new
   pub cut : new.cut ≡ old.cut
-  pub report : OfFeed old (λ feed. TextIsOut (report_text feed answer) before after)
+  pub report : OfFeed old (λ feed. TextIsOut (IsReportOf feed answer) before after)
   pub works : Works before after
 
 -- why there is no report, and what it leaves: the bytes end too early; the stop of the feed, and then all is as it was; a
@@ -78,7 +78,7 @@ FinishFails old new before after (fault.Unfinished place) =
     OfFeed old (λ feed. HasPlaceIn feed place) × (new.fault ≡ Some (fault.Unfinished place))
     × IsUntouched before after
 FinishFails old new before after (fault.Write written) =
-    OfFeed old (λ feed. (answer : Status) × TextStops (report_text feed answer) written before after) × (new.fault ≡ Some (fault.Write written))
+    OfFeed old (λ feed. (answer : Status) × TextStops (IsReportOf feed answer) written before after) × (new.fault ≡ Some (fault.Write written))
     × Fails before after
 FinishFails old new before after fault.Memory = (new.fault ≡ Some fault.Memory) × IsUntouched before after
 FinishFails old new before after stop =

@@ -1,6 +1,6 @@
 ghost use Rattle.std.specs.Prelude.{◌≡◌, ℕ, ◌<◌, ◌≤◌, [], List, length, true, None, Some, OnOk, IfOk, IfErr};
 ghost use Rattle.bk_answer.specs.Answers.{AnswerFailsBy, IsAnswered};
-ghost use Rattle.bk_answer.specs.RunReport.{report_text};
+ghost use Rattle.bk_answer.specs.RunReport.{IsReportOf};
 ghost use Rattle.bk_frames.specs.Device.{CanBeUsed, Works, GaveAll};
 ghost use Rattle.bk_base.specs.Feed.{Frame};
 ghost use Rattle.bk_follow.specs.Follower.{unfed};
@@ -93,10 +93,10 @@ pub fn replay<R: Threads + Wait + Sync, S: Source, K: Sink, G: Gate + Sync>(
     requires source { CanBeUsed (S.state source.old) }
     requires sink { CanBeUsed (K.state sink.old) }
     requires workers { (1 ≤ workers) × (workers ≤ 64) }
-    ensures report { IfOk result (λ status. IsAnswered report_text status
+    ensures report { IfOk result (λ status. IsAnswered IsReportOf status
         (devices (S.state source.old) (K.state sink.old))
         (devices (S.state source.new) (K.state sink.new))) }
-    ensures fault { IfErr result (λ f. AnswerFailsBy report_text true f
+    ensures fault { IfErr result (λ f. AnswerFailsBy IsReportOf true f
         (devices (S.state source.old) (K.state sink.old))
         (devices (S.state source.new) (K.state sink.new))) }
 {

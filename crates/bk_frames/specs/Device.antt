@@ -39,4 +39,4 @@ IfKnown device holds = IfSome device.bytes holds
 -- a source gave bytes of which this holds, all that it had where that is known
 abbrev pub GaveAll : Device → Device → (List ℕ → Type 0) → Type 0
 GaveAll old new holds =
-    (given : List ℕ) × Gives old new given × IfKnown old (λ whole. whole ≡ given) × holds given
+    (given : List ℕ) × Consumes old.bytes new.bytes given × IfSome old.bytes (λ whole. whole ≡ given) × holds given

@@ -49,7 +49,7 @@ use Rattle.bk_tables.specs.Listing.{ids_of}
 use Rattle.std.specs.Prelude.{Bool}
 use Rattle.bk_results.specs.Devices.{Devices}
 use Rattle.bk_answer.specs.Answers.{AnswerFailsBy}
-use Rattle.bk_answer.specs.RunReport.{report_text}
+use Rattle.bk_answer.specs.RunReport.{IsReportOf}
 use Rattle.bk_ask.specs.Asking.{IsRepliedOf, executes}
 use Rattle.bk_jobs.specs.Drawn.{window_text}
 use Rattle.bk_summary.specs.Summarizing.{IsSummaryText}
@@ -179,7 +179,7 @@ answer_blames T x j replay.Memory given old new right halt h r = absurd (cc)
 blames : (j : Job) (e : JobFault) (old new : JobDevices) → writes_ahead j ≡ false → JobFailsBy j e old new → is_refusal (exit_after e) ≡ true
     → AreToBlame j (exit_after e) (inputs_of old) × IsUntouched old.out new.out
 blames (job.Run workers file) (fault.Replay e) old new w h r =
-    answer_blames report_text true (job.Run workers file) e (inputs_of old) (first_devices old) (first_devices new) (λ b. b) (λ b. b) h r
+    answer_blames IsReportOf true (job.Run workers file) e (inputs_of old) (first_devices old) (first_devices new) (λ b. b) (λ b. b) h r
 blames (job.Run workers file) (fault.Text e) old new w h r = absurd h
 blames (job.Make file) (fault.Replay e) old new w h r = absurd h
 blames (job.Make file) (fault.Text (text.Script line found)) old new w h r = (no_feed _ old.first.bytes h.1.1, h.2)

@@ -19,7 +19,7 @@ use Rattle.bk_results.specs.declared.query.Reply.TheVariants as reply
 use Rattle.bk_claim.specs.Claims as claim
 use Rattle.bk_claim.specs.Claims.{OfBoth}
 use Rattle.bk_claim.specs.declared.verdict.Verdict.{Verdict}
-use Rattle.bk_answer.specs.RunReport.{IsStopIn, IsStopped, report_text}
+use Rattle.bk_answer.specs.RunReport.{IsStopIn, IsStopped, IsReportOf}
 use Rattle.bk_script.specs.Answers as script
 use Rattle.bk_script.specs.Script.{LineFault, feed_of}
 use Rattle.bk_results.specs.declared.script_fault.ScriptFault.{ScriptFault}
@@ -50,7 +50,7 @@ use Rattle.bk_cli.specs.declared.list_fault.ListFault.{ListFault}
 
 -- the output got the whole report of a run over the bytes that the source gave, and the exit is the report's
 abbrev pub RunIsOut : Exit → Devices → Devices → Type 0
-RunIsOut end old new = (answer : Status) × (end ≡ exit_at answer) × IsAnswered report_text answer old new
+RunIsOut end old new = (answer : Status) × (end ≡ exit_at answer) × IsAnswered IsReportOf answer old new
 
 -- the output got the whole apply report of the bytes that the source gave
 abbrev pub ApplyIsOut : Exit → Devices → Devices → Type 0
@@ -166,7 +166,7 @@ CheckFailsBy root account text.Memory old new =
 -- why a feed was not replayed for a job
 abbrev pub ReplayFailsBy : Job → Fault → JobDevices → JobDevices → Type 0
 ReplayFailsBy (job.Run workers file) e old new =
-    AnswerFailsBy report_text true e (first_devices old) (first_devices new)
+    AnswerFailsBy IsReportOf true e (first_devices old) (first_devices new)
 ReplayFailsBy (job.Ask workers asked file) e old new =
     AnswerFailsBy (IsRepliedOf asked) (executes asked) e (first_devices old) (first_devices new)
 ReplayFailsBy (job.CheckReport workers report file) e old new = ClaimCheckFailsBy (fault.Replay e) old new

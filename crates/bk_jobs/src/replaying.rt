@@ -5,7 +5,7 @@ ghost use Rattle.bk_frames.specs.Device.{CanBeUsed, Works};
 ghost use Rattle.bk_results.specs.Devices.{devices};
 ghost use Rattle.bk_apply.specs.Answers.{FailsBy};
 ghost use Rattle.bk_answer.specs.Answers.{AnswerFailsBy};
-ghost use Rattle.bk_answer.specs.RunReport.{report_text};
+ghost use Rattle.bk_answer.specs.RunReport.{IsReportOf};
 ghost use Rattle.bk_cli.specs.Exits.{is_report};
 ghost use Rattle.bk_summary.specs.Summarizing.{IsSummaryText};
 ghost use Rattle.bk_jobs.specs.Faults.{RunIsOut, ApplyIsOut, SummaryIsOut};
@@ -43,7 +43,7 @@ where
     ensures answer { IfOk result (λ end. is_report end ≡ true) }
     ensures sound { OnOk result (Works (S.state source.old) (S.state source.new)
         × Works (O.state out.old) (O.state out.new)) }
-    ensures fault { IfErr result (λ e. AnswerFailsBy report_text true e
+    ensures fault { IfErr result (λ e. AnswerFailsBy IsReportOf true e
         (devices (S.state source.old) (O.state out.old))
         (devices (S.state source.new) (O.state out.new))) }
 {

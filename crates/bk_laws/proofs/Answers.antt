@@ -54,7 +54,8 @@ reading_exists feed =
           are_batches = batches.1;
           holds = record { committed = anchors.1; ordered = order.1; payloads_are = refl };
         };
-        folded = record { receipts = refl; rows = refl };
+        receipts = refl;
+        rows = refl;
       },
     )
 

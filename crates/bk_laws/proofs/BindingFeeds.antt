@@ -105,7 +105,7 @@ module _ (bytes digest : List ℕ) (rows : List Row) (h : ReportsState bytes row
   rows_rise =
       let feed = h.reported.feed in
       let r = h.reported.holds.reading in
-      subst IsLedger (sym (h.rows_are ∙ h.reported.holds.reads.folded.rows))
+      subst IsLedger (sym (h.rows_are ∙ h.reported.holds.reads.rows))
       (ledger_kept_by_fold feed.version (transactions_of r.ordered.payloads.list) (genesis_of feed.frames) (ledger_of_accounts (genesis_of feed.frames) (genesis_accounts feed.version feed.frames h.reported.good)))
 
 -- ---- the laws of states

@@ -149,7 +149,7 @@ outcome_exists : (feed : FeedValue) → HasNoStopIn feed → (end : Outcome) × 
 outcome_exists feed clear =
     let r = reading_exists feed in (
       record { ordered = r.0.ordered; receipts = r.0.receipts; rows = r.0.rows },
-      record { clear = clear; ordered = r.1.ordered; receipts = r.1.folded.receipts; rows = r.1.folded.rows },
+      record { clear = clear; ordered = r.1.ordered; receipts = r.1.receipts; rows = r.1.rows },
     )
 
 module _ (one other : FeedValue) (setup : HaveOneSetup one other) (none : HasNoStop (committee_in one) (frames_together one other)) where

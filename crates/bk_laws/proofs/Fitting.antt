@@ -174,4 +174,4 @@ opening_fits feed are good =
 
 pub accounts_fit : (feed : FeedValue) (r : Reading) → IsBytes (spelling feed) → IsFeed feed → Reads feed r → All IsRow r.rows × (length r.rows < 2 ^ 64)
 accounts_fit feed r are good reads =
-    subst (λ (xs : List Row). All IsRow xs × (length xs < 2 ^ 64)) (sym reads.folded.rows) (rows_after_fit feed r.ordered are good reads.ordered)
+    subst (λ (xs : List Row). All IsRow xs × (length xs < 2 ^ 64)) (sym reads.rows) (rows_after_fit feed r.ordered are good reads.ordered)

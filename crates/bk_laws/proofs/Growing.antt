@@ -74,13 +74,13 @@ module _ (small large : FeedValue) (s : Reading) (part : IsPartOfFeed small larg
   receipts_large =
       let version : large.version ≡ small.version = sym part.setup.version in
       let genesis : genesis_of large.frames ≡ genesis_of small.frames = sym part.setup.genesis in
-      y.folded.receipts ∙ (λ i. receipts_of (version i) (transactions_of s.ordered.payloads.list) (genesis i))
+      y.receipts ∙ (λ i. receipts_of (version i) (transactions_of s.ordered.payloads.list) (genesis i))
 
   rows_large : s.rows ≡ state_after small.version (transactions_of s.ordered.payloads.list) (genesis_of small.frames)
   rows_large =
       let version : large.version ≡ small.version = sym part.setup.version in
       let genesis : genesis_of large.frames ≡ genesis_of small.frames = sym part.setup.genesis in
-      y.folded.rows ∙ (λ i. state_after (version i) (transactions_of s.ordered.payloads.list) (genesis i))
+      y.rows ∙ (λ i. state_after (version i) (transactions_of s.ordered.payloads.list) (genesis i))
 
 pub ordered_is_final : (small large : FeedValue) (r s : Reading) → IsPartOfFeed small large → HasNoStopIn large → Reads small r → Reads large s → Continues r s
 ordered_is_final small large r s part clear x y =
@@ -91,7 +91,7 @@ ordered_is_final small large r s part clear x y =
       anchors = grown.0;
       order = grown.1;
       batches = grown.2;
-      receipts = (receipts.0, receipts_large small large s part y ∙ (receipts.1 ∙ ap (λ (l : List Receipt). l ++ receipts.0) (sym x.folded.receipts)));
+      receipts = (receipts.0, receipts_large small large s part y ∙ (receipts.1 ∙ ap (λ (l : List Receipt). l ++ receipts.0) (sym x.receipts)));
     }
 
 pub report_ignores_frame_order : (one other : FeedValue) (r s : Reading) → IsPartOfFeed one other → IsPartOfFeed other one → HasNoStopIn one → Reads one r → Reads other s → AreAlike r s
@@ -104,10 +104,10 @@ report_ignores_frame_order one other r s part back clear x y =
     record {
       waiting = one_waiting k (later_frames other) r.waiting s.waiting (waiting_in k (later_frames one) (later_frames other) r.waiting part.frames back.frames x.waiting) (waiting_large one other s part y);
       ordered = ordered;
-      receipts = x.folded.receipts
+      receipts = x.receipts
           ∙ (ap (λ (o : Ordered). receipts_of one.version (transactions_of o.payloads.list) (genesis_of one.frames)) ordered
           ∙ sym (receipts_large one other s part y));
-      rows = x.folded.rows
+      rows = x.rows
           ∙ (ap (λ (o : Ordered). state_after one.version (transactions_of o.payloads.list) (genesis_of one.frames)) ordered
           ∙ sym (rows_large one other s part y));
     }

@@ -43,7 +43,7 @@ report_exists feed good clear =
 pub same_rows : (feed : FeedValue) (end : Outcome) (r : Reading) → IsOutcomeOf feed end → Reads feed r → r.rows ≡ end.rows
 same_rows feed end r is reads =
     let same : r.ordered ≡ end.ordered = one_ordered (committee_in feed) (later_frames feed) r.ordered end.ordered is.clear reads.ordered is.ordered in
-    reads.folded.rows
+    reads.rows
     ∙ ap (λ (o : Ordered). state_after feed.version (transactions_of o.payloads.list) (genesis_of feed.frames)) same
     ∙ sym is.rows
 

@@ -294,7 +294,7 @@ ending_of_report bytes text status h =
         committee = refl;
         opening = refl;
         certs = reads.ordered.are_certs;
-        outcome = record { clear = h.holds.clear; ordered = reads.ordered; receipts = reads.folded.receipts; rows = reads.folded.rows };
+        outcome = record { clear = h.holds.clear; ordered = reads.ordered; receipts = reads.receipts; rows = reads.rows };
       },
       reads.ordered.holds.committed,
     )

@@ -29,8 +29,9 @@ use Rattle.bk_certcheck.proofs.Rules.{last_number, none_below_next, broken_later
 use Rattle.bk_cert.proofs.Lists.{none_in_nil, contains_cases, contains_first, contains_later}
 use Rattle.bk_evidence.specs.Batches.{Batch}
 use Rattle.bk_order.specs.declared.reject.Reject.{Reject}
-use Rattle.bk_order.specs.Frames.{AreCerts, batch_of, AreBatches, certs_by, id_in, rejects_by, IsRejectOf, AreRejects}
+use Rattle.bk_order.specs.Frames.{AreCerts, AreBatches, certs_by, id_in, rejects_by, IsRejectOf, AreRejects}
 use Rattle.bk_laws.proofs.Deciding.{Decided, decided_any, decided_below, decided_both, decided_by, decided_not, decided_test, same_number}
+use Rattle.bk_order.specs.private.Digested.{batch_of}
 
 -- ---- what can be decided of numbers and lists
 

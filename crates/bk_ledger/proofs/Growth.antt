@@ -21,7 +21,7 @@ use Rattle.bk_tx.specs.declared.declared.Declared.{Declared}
 use Rattle.bk_tx.specs.declared.payments.Payment.{Payment}
 use Rattle.bk_tx.specs.Transaction.{Transaction}
 use Rattle.bk_tx.specs.Spelling.{payments_of, receivers_of}
-use Rattle.bk_tx.specs.Reading.{writable_of, declared_at, declarations_at, is_count, pay_at, pay_if_at, sweep_at, payment_at, split_at, body_at, pays, transaction_of, text_at, texts_of}
+use Rattle.bk_tx.specs.Reading.{writable_of, declared_at, declarations_at, pay_at, pay_if_at, sweep_at, payment_at, split_at, body_at, pays, transaction_of, text_at, texts_of}
 use Rattle.bk_tx.specs.Batches.{is_batch, transactions_in, transactions_of, feed_transactions}
 use Rattle.bk_rules.specs.declared.receipt.Status.{Status}
 use Rattle.bk_rules.specs.declared.receipt.Status.TheVariants as status
@@ -31,6 +31,7 @@ use Rattle.bk_rules.specs.Fold.{state_after}
 use Rattle.bk_rules.specs.Ledger.{Ledger, has_slot, has_slot_after, is_declared_by, IsPrepared}
 use Rattle.bk_ledger.specs.Naming.{named_in, named_by}
 use Rattle.bk_ledger.proofs.Runs.{feed_transactions-append, good_size}
+use Rattle.bk_tx.specs.private.Counts.{is_count}
 
 -- ---- rows
 

@@ -10,11 +10,12 @@ use Rattle.bk_base.proofs.FieldLemmas.{bind_some, if_some, length-list_at}
 use Rattle.bk_tx.specs.declared.declared.Declared.{Declared}
 use Rattle.bk_tx.specs.Access.{declared_ids}
 use Rattle.bk_tx.specs.Batches.{transactions_in, transactions_of}
-use Rattle.bk_tx.specs.Reading.{is_count, declared_at, declarations_at, body_at, pays, transaction_of, texts_of}
+use Rattle.bk_tx.specs.Reading.{declared_at, declarations_at, body_at, pays, transaction_of, texts_of}
 use Rattle.bk_tx.specs.Transaction.{Transaction}
 use Rattle.bk_conflicts.specs.Conflicts.{declared_by}
 use Rattle.bk_conflicts.specs.Plan.{AreDeclared}
 use Rattle.bk_ledger.specs.Sliced.{DeclareInOrder}
+use Rattle.bk_tx.specs.private.Counts.{is_count}
 
 count_fits : {A : Type 0} (n : ℕ) (o : Option A) (x : A) → cond (is_count 8 n) o None ≡ Some x → (n ≤ 8) × (o ≡ Some x)
 count_fits n o x e =

@@ -18,9 +18,10 @@ use Rattle.bk_evidence.specs.Laws.{HaveSame}
 use Rattle.bk_evidence.proofs.Members.{same_itself}
 use Rattle.bk_cert.proofs.Lists.{none_in_nil, contains_cases, contains_first}
 use Rattle.bk_order.specs.declared.reject.Reject.{Reject}
-use Rattle.bk_order.specs.Frames.{IsCertIn, AreCerts, batch_of, IsBatchIn, AreBatches, certs_by, id_in, rejects_by, IsRejectOf, AreRejects}
+use Rattle.bk_order.specs.Frames.{IsCertIn, AreCerts, IsBatchIn, AreBatches, certs_by, id_in, rejects_by, IsRejectOf, AreRejects}
 use Rattle.bk_order.specs.Intake.{Kept, IsKeptOf, first_later_frame}
 use Rattle.bk_order.specs.Tally.{IsTallyOf}
+use Rattle.bk_order.specs.private.Digested.{batch_of}
 
 -- the only member of a list of one
 pub lone : {X : Type 0} (x y : X) → Contains (x ∷ []) y → x ≡ y

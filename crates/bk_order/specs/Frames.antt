@@ -14,7 +14,7 @@ use Rattle.bk_cert.specs.Values.{CertValue}
 use Rattle.bk_certcheck.specs.declared.verdict.Verdict.{Verdict}
 use Rattle.bk_certcheck.specs.declared.verdict.Verdict.TheVariants as verdict
 use Rattle.bk_certcheck.specs.Verdicts.{IsGood, IsVerdict}
-use Rattle.bk_evidence.specs.Batches.{Batch, batch_with}
+use Rattle.bk_evidence.specs.Batches.{Batch}
 use Rattle.bk_order.specs.declared.reject.Reject.{Reject}
 
 -- a frame holds this certificate, and it breaks no rule of the committee
@@ -27,14 +27,10 @@ pub record AreCerts (k : CommitteeValue) (frames : List Frame) (certs : List Nod
   pub sound : (c : Node) → Contains certs c → IsCertIn k frames c
   pub complete : (c : Node) → IsCertIn k frames c → Contains certs c
 
--- the batch of a payload: its digest is the payload's SHA-256
-abbrev pub batch_of : List ℕ → Batch
-batch_of payload = batch_with (sha256 payload) payload
-
--- a frame holds this batch
+-- a frame holds this batch: a payload under its SHA-256
 abbrev pub IsBatchIn : List Frame → Batch → Type 0
 IsBatchIn frames b =
-    (payload : List ℕ) × Contains frames (frame_of kind.Batch payload) × (b ≡ batch_of payload)
+    (payload : List ℕ) × Contains frames (frame_of kind.Batch payload) × (b ≡ record { digest = sha256 payload; payload = payload })
 
 -- these are the batches of the frames
 pub record AreBatches (frames : List Frame) (batches : List Batch) : Type 0 where
@@ -67,7 +63,8 @@ rejects_by number id (verdict.Broken r) = record { frame = number; rule = r; id 
 -- what is rejected of a frame with this kind, payload and number: certificates alone
 abbrev pub IsRejectOf : CommitteeValue → ℕ → List ℕ → Kind → List Reject → Type 0
 IsRejectOf k number payload kind.Certificate found =
-    (v : Verdict) × IsVerdict k payload v × (found ≡ rejects_by number (id_in payload) v)
+    (v : Verdict) × IsVerdict k payload v
+    × (found ≡ rejects_by number (option_map (λ (c : CertValue). id_of c.header) (certificate_of payload)) v)
 IsRejectOf k number payload other found = found ≡ []
 
 -- what is rejected of these frames, in their order; the first has this number

@@ -1,3 +1,4 @@
+pub mod Digested
 pub mod Judging
 pub mod Joined
 pub mod Tallies

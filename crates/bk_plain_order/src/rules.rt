@@ -5,6 +5,7 @@ ghost use Rattle.std.specs.List.Sorted.{IsStrictlySortedBy};
 ghost use Rattle.std.specs.Ordering.{nat_cmp};
 ghost use Rattle.std.specs.Cmp.Lexicographic.{slice_cmp};
 ghost use Rattle.bk_cert.specs.Identity.{tags_by};
+ghost use Rattle.bk_committee.specs.Payload.{sizes_of};
 ghost use Rattle.bk_certcheck.specs.Rules.{wrong_parents, least_parents};
 
 use crate::members::quorum_of;
@@ -18,7 +19,7 @@ use std::cmp::Ordering;
 
 // How many parents a certificate of a later round has at least.
 fn least_parents(committee: &Committee) -> u64
-    ensures { result ≡ least_parents committee.now }
+    ensures { result ≡ least_parents committee.now.version (sizes_of committee.now) }
 {
     match committee.version() {
         Version::One => quorum_of(committee),

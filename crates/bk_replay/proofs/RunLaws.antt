@@ -31,15 +31,16 @@ use Rattle.bk_report.specs.Leaves.{state_of}
 use Rattle.bk_report.specs.Lines.{text_of}
 use Rattle.bk_tx.specs.Batches.{transactions_of, count_in}
 use Rattle.bk_report.specs.Report.{batch_line, batch_lines, tx_lines, account_lines}
-use Rattle.bk_report.specs.RunLines.{Reading, members_line, head_lines, reject_lines, waiting_lines, anchor_lines, cert_lines, missing_lines, order_lines, batches_lines, ending_lines, run_lines}
+use Rattle.bk_report.specs.RunLines.{Reading, members_line, head_lines, reject_lines, waiting_lines, anchor_lines, cert_lines, missing_lines, order_lines, batches_lines, run_lines}
 use Rattle.bk_answer.specs.RunReport.{committee_in, later_frames, HasNoStopIn, Reads, fault_of, reach_of, IsReportOf, IsReport, IsStopIn}
 use Rattle.bk_replay.specs.RunLaws.{EndsWithMoney, Answer, ComesTo, faulty, stopped, reported}
+use Rattle.bk_report.specs.private.Ending.{ending_lines}
 
 -- ---- money
 
 pub run_keeps_money : (feed : FeedValue) (r : Reading) → IsFeed feed → Reads feed r → total_of r.rows ≡ total_of (genesis_of feed.frames)
 run_keeps_money feed r good reads =
-    ap total_of reads.folded.rows
+    ap total_of reads.rows
     ∙ total_kept_by_fold feed.version (transactions_of r.ordered.payloads.list) (genesis_of feed.frames) (ledger_of_accounts (genesis_of feed.frames) (genesis_accounts feed.version feed.frames good))
 
 -- no line of these is one of money
@@ -128,7 +129,7 @@ ends_with_money k frames total r text same e = record {
 pub money_line_is_genesis : (feed : FeedValue) (text : List ℕ) (answer : Status) → IsFeed feed → IsReport (spelling feed) text answer
     → (r : Reading) × Reads feed r × EndsWithMoney text (total_of (genesis_of feed.frames)) (state_of r.rows)
 money_line_is_genesis feed text answer good h =
-    let report : IsReportOf feed text answer = subst (λ (f : FeedValue). IsReportOf f text answer) (one_feed h.feed feed h.good good (sym h.spelled)) h.holds in
+    let report : IsReportOf feed answer text = subst (λ (f : FeedValue). IsReportOf f answer text) (one_feed h.feed feed h.good good (sym h.spelled)) h.holds in
     let r = report.reading in
     (r, report.reads, ends_with_money (committee_in feed) (length feed.frames) (total_of (genesis_of feed.frames)) r text (run_keeps_money feed r good report.reads) report.report)
 
@@ -142,12 +143,12 @@ one_reading feed r s none h g =
     let rejected = one_rejects k first_later_frame frames r.rejected s.rejected h.rejected g.rejected in
     let waiting = one_waiting k frames r.waiting s.waiting h.waiting g.waiting in
     let ordered = one_ordered k frames r.ordered s.ordered none h.ordered g.ordered in
-    let receipts : r.receipts ≡ s.receipts = h.folded.receipts ∙ ap (λ (o : Ordered). receipts_of feed.version (transactions_of o.payloads.list) (genesis_of feed.frames)) ordered ∙ sym g.folded.receipts in
-    let rows : r.rows ≡ s.rows = h.folded.rows ∙ ap (λ (o : Ordered). state_after feed.version (transactions_of o.payloads.list) (genesis_of feed.frames)) ordered ∙ sym g.folded.rows in
+    let receipts : r.receipts ≡ s.receipts = h.receipts ∙ ap (λ (o : Ordered). receipts_of feed.version (transactions_of o.payloads.list) (genesis_of feed.frames)) ordered ∙ sym g.receipts in
+    let rows : r.rows ≡ s.rows = h.rows ∙ ap (λ (o : Ordered). state_after feed.version (transactions_of o.payloads.list) (genesis_of feed.frames)) ordered ∙ sym g.rows in
     λ i. record { rejected = rejected i; waiting = waiting i; ordered = ordered i; receipts = receipts i; rows = rows i }
 
 -- and so it has one report
-one_report_of : (feed : FeedValue) (text other : List ℕ) (a b : Status) → IsReportOf feed text a → IsReportOf feed other b → reported text a ≡ reported other b
+one_report_of : (feed : FeedValue) (text other : List ℕ) (a b : Status) → IsReportOf feed a text → IsReportOf feed b other → reported text a ≡ reported other b
 one_report_of feed text other a b h g =
     let same = one_reading feed h.reading g.reading h.clear h.reads g.reads in
     let texts : text ≡ other = h.report ∙ ap (λ (r : Reading). text_of (run_lines (committee_in feed) (length feed.frames) r)) same ∙ sym g.report in
@@ -197,4 +198,4 @@ one_answer bytes (reported text answer) (stopped y) h g =
     absurd (no_stop_in g.feed y (subst HasNoStopIn same h.holds.clear) g.holds)
 one_answer bytes (reported text answer) (reported other status) h g =
     let same = one_feed h.feed g.feed h.good g.good (sym h.spelled ∙ g.spelled) in
-    one_report_of g.feed text other answer status (subst (λ (f : FeedValue). IsReportOf f text answer) same h.holds) g.holds
+    one_report_of g.feed text other answer status (subst (λ (f : FeedValue). IsReportOf f answer text) same h.holds) g.holds

@@ -14,10 +14,10 @@ use Rattle.bk_report.specs.declared.line.Line.TheVariants as line
 use Rattle.bk_report.specs.Leaves.{state_of}
 use Rattle.bk_report.specs.Lines.{line_text, text_of}
 use Rattle.bk_report.specs.Report.{batch_line, batch_lines, tx_lines}
-use Rattle.bk_report.specs.RunLines.{ending_lines}
 use Rattle.bk_report.specs.Pages.{PageValue, Puts, Stops, Written}
 use Rattle.bk_report.proofs.Putting.{line_put, line_stops, puts_then, stops_then, stops_more}
 use Rattle.bk_report.proofs.ReportLines.{get-batch_lines, get-tx_lines}
+use Rattle.bk_report.specs.private.Ending.{ending_lines}
 
 -- the text of lines was put, and no call of the sink failed
 pub record HasPut (a b : Device) (p q : PageValue) (text : List ℕ) : Type 0 where

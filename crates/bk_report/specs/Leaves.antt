@@ -10,4 +10,4 @@ leaves_of rows = map row_text rows
 
 -- the digest of a state: the root of the tree of its accounts
 abbrev pub state_of : List Row → List ℕ
-state_of rows = root_of (leaves_of rows)
+state_of rows = root_of (map row_text rows)

@@ -6,3 +6,4 @@ pub mod Proofs
 pub mod ProofLaws
 pub mod Pages
 pub mod Sheets
+pub mod private

@@ -1,17 +1,17 @@
 -- Anchors and their votes.
-use Rattle.std.specs.Prelude.{◌≡◌, ◌==◌, ℕ, ◌+◌, ◌%◌, ◌≤◌, ◌↔◌, List, Contains}
+use Rattle.std.specs.Prelude.{◌≡◌, ◌==◌, ℕ, ◌+◌, ◌-◌, ◌/◌, ◌%◌, ◌≤◌, ◌↔◌, List, Contains}
 use Rattle.std.specs.List.{IsDistinct}
-use Rattle.bk_committee.specs.Sizes.{Sizes, faulty, leader, weight_of, Weigh}
+use Rattle.bk_committee.specs.Sizes.{Sizes, members, faulty, weight_of, Weigh}
 use Rattle.bk_cert.specs.Node.{Node}
 use Rattle.bk_cert.specs.declared.place.CertRef.{CertRef}
-use Rattle.bk_rounds.specs.Admission.{IsPresent}
+use Rattle.bk_rounds.specs.Admission.{StandsAt}
 use Rattle.bk_rounds.specs.Links.{Links}
 
 -- the admitted certificate of an odd round by the round's leader
 pub record IsAnchor (z : Sizes) (held : List Node) (a : CertRef) : Type 0 where
   pub odd : a.round % 2 ≡ 1
-  pub led : a.author ≡ leader z a.round
-  pub present : IsPresent z held a
+  pub led : a.author ≡ ((a.round - 1) / 2) % members z
+  pub present : (c : Node) × StandsAt z held a c
 
 -- the anchor of this round
 abbrev pub IsAnchorOf : Sizes → List Node → ℕ → CertRef → Type 0
@@ -24,7 +24,7 @@ VotesFor z held a x = Links z held (record { round = a.round + 1; author = x }) 
 -- an anchor whose voters weigh at least f + 1
 pub record IsVoted (z : Sizes) (held : List Node) (a : CertRef) : Type 0 where
   pub anchor : IsAnchor z held a
-  pub votes : Weigh z (VotesFor z held a) (faulty z + 1)
+  pub votes : Weigh z (λ x. Links z held (record { round = a.round + 1; author = x }) a) (faulty z + 1)
 
 -- the voted anchor of the greatest round
 pub record IsLast (z : Sizes) (held : List Node) (a : CertRef) : Type 0 where

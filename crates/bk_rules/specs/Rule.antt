@@ -33,11 +33,11 @@ seq_of account = unwrap_or (option_map (λ (a : Account). a.seq) account) 0
 
 -- the balance of the account of this id
 abbrev pub balance_at : Accounts → ℕ → ℕ
-balance_at accounts id = balance_of (accounts id)
+balance_at accounts id = unwrap_or (option_map (λ (a : Account). a.balance) (accounts id)) 0
 
 -- its sequence number
 abbrev pub seq_at : Accounts → ℕ → ℕ
-seq_at accounts id = seq_of (accounts id)
+seq_at accounts id = unwrap_or (option_map (λ (a : Account). a.seq) (accounts id)) 0
 
 -- ---- what a body asks for
 
@@ -76,7 +76,9 @@ can_receive Two account = true
 
 -- the sender and the guard have accounts, and each receiver can be paid
 abbrev pub are_known : Version → Accounts → Transaction → Bool
-are_known version accounts t = is_known accounts t.from && list_all (λ (to : ℕ). can_receive version (accounts to)) (receivers_of t.body) && guard_passes (λ (g : Guard). is_known accounts g.id) t.body
+are_known version accounts t =
+    is_some (accounts t.from) && list_all (λ (to : ℕ). can_receive version (accounts to)) (receivers_of t.body)
+    && guard_passes (λ (g : Guard). is_some (accounts g.id)) t.body
 
 -- the status is the first of these that applies
 abbrev pub status_of : Version → Accounts → Transaction → Status
@@ -110,11 +112,11 @@ received amount a = record { balance = a.balance + amount; seq = a.seq }
 
 -- the change of the sender
 abbrev pub send : ℕ → ℕ → Change
-send id paid = record { id = id; makes = sent paid }
+send id paid = record { id = id; makes = λ (a : Account). record { balance = a.balance - paid; seq = a.seq + 1 } }
 
 -- the change of a receiver
 abbrev pub receive : Payment → Change
-receive p = record { id = p.to; makes = received p.amount }
+receive p = record { id = p.to; makes = λ (a : Account). record { balance = a.balance + p.amount; seq = a.seq } }
 
 -- the changes, one after another: the payments, or the sender's sequence number alone, or none
 abbrev pub changes_of : Status → Accounts → Transaction → List Change

@@ -78,7 +78,8 @@ module _ (feed : FeedValue) (x : ClosedValue) (rounds : RoundsValue) (waiting : 
     rejected = subst (λ (k : CommitteeValue). AreRejects k first_later_frame (later_frames feed) taken.kept.rejected) closed.order.committee closed.order.taken.rejected;
     waiting = waits;
     ordered = closed.order.ordered;
-    folded = record { receipts = closed.executed.receipts; rows = closed.executed.rows };
+    receipts = closed.executed.receipts;
+    rows = closed.executed.rows;
   }
 
   tally : IsTallyOf (committee_in feed) (later_frames feed) taken.kept.tally

@@ -37,8 +37,8 @@ use Rattle.bk_tables.proofs.Places.{added, certs_added, nobody}
 
 -- ---- payments and postings
 
-outcome_is : (feed : FeedValue) (report : List ℕ) (end : Status) (h : IsReportOf feed report end) → IsOutcomeOf feed (record { ordered = h.reading.ordered; receipts = h.reading.receipts; rows = h.reading.rows })
-outcome_is feed report end h = record { clear = h.clear; ordered = h.reads.ordered; receipts = h.reads.folded.receipts; rows = h.reads.folded.rows }
+outcome_is : (feed : FeedValue) (report : List ℕ) (end : Status) (h : IsReportOf feed end report) → IsOutcomeOf feed (record { ordered = h.reading.ordered; receipts = h.reading.receipts; rows = h.reading.rows })
+outcome_is feed report end h = record { clear = h.clear; ordered = h.reads.ordered; receipts = h.reads.receipts; rows = h.reads.rows }
 
 pub some_payments : (ids : Option (List ℕ)) → HasText (IsPaymentTable ids)
 some_payments ids feed report end h =

@@ -19,7 +19,7 @@ use Rattle.bk_tables.specs.declared.posting.Posting.{Posting}
 -- a feed that has a report has a text of this kind, and it ends as the report does
 abbrev pub HasText : (FeedValue → Status → List ℕ → Type 0) → Type 0
 HasText IsTable = (feed : FeedValue) (report : List ℕ) (end : Status)
-    → IsReportOf feed report end → (text : List ℕ) × IsTable feed end text
+    → IsReportOf feed end report → (text : List ℕ) × IsTable feed end text
 
 -- a feed has no two of them, and no two ends
 abbrev pub HasNoOther : (FeedValue → Status → List ℕ → Type 0) → Type 0

@@ -11,8 +11,9 @@ use Rattle.bk_tx.specs.declared.body.Body.{Body}
 use Rattle.bk_tx.specs.declared.body.Body.TheVariants.{Sweep, Split}
 use Rattle.bk_tx.specs.Access.{receivers_in}
 use Rattle.bk_tx.specs.Spelling.{wide, payment_text, kind_of, body_text, ArePayments, BodyFits}
-use Rattle.bk_tx.specs.Reading.{sweep_at, payment_at, is_count, split_at}
+use Rattle.bk_tx.specs.Reading.{sweep_at, payment_at, split_at}
 use Rattle.bk_base.proofs.FieldLemmas.{list_takes, list_again, bind_some, if_some, some_is, Takes, Takes-then, byte_takes, byte_again, wide64, number_takes, number_again}
+use Rattle.bk_tx.specs.private.Counts.{is_count}
 
 -- ---- a sweep
 

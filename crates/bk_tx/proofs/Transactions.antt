@@ -13,9 +13,10 @@ use Rattle.bk_tx.specs.declared.body.Body.{Body}
 use Rattle.bk_tx.specs.declared.body.Body.TheVariants.{Pay, PayIf, Sweep, Split}
 use Rattle.bk_tx.specs.Access.{declared_ids, IdsFit}
 use Rattle.bk_tx.specs.Spelling.{wide, declared_text, kind_of, body_text, receivers_of, BodyFits, transaction_text, IsTransaction}
-use Rattle.bk_tx.specs.Reading.{writable_of, declared_at, is_count, declarations_at, pay_at, pay_if_at, sweep_at, split_at, body_at, pays, transaction_of}
+use Rattle.bk_tx.specs.Reading.{writable_of, declared_at, declarations_at, pay_at, pay_if_at, sweep_at, split_at, body_at, pays, transaction_of}
 use Rattle.bk_base.proofs.FieldLemmas.{list_takes, list_again, bind_some, if_some, some_is, Takes, Takes-then, byte_takes, byte_again, wide64, number_takes, number_again}
 use Rattle.bk_tx.proofs.Bodies.{sweep_takes, sweep_steps, split_takes, split_again}
+use Rattle.bk_tx.specs.private.Counts.{is_count}
 
 -- ---- one declared account
 

@@ -22,7 +22,7 @@ transactions_in payload = map transaction_of (unwrap_or (texts_of payload) [])
 
 -- the transactions of batches, one batch after another; a place is an index in this list
 abbrev pub transactions_of : List (List ℕ) → List (Option Transaction)
-transactions_of payloads = flat_map transactions_in payloads
+transactions_of payloads = flat_map (λ payload. map transaction_of (unwrap_or (texts_of payload) [])) payloads
 
 -- how many transactions a batch holds, None where it is void
 abbrev pub count_in : List ℕ → Option ℕ

@@ -1,5 +1,5 @@
 -- How the bytes of a transaction and of a batch are read: what they encode, or nothing.
-use Rattle.std.specs.Prelude.{ℕ, zero, suc, Bool, true, false, List, length, Option, Some, None, nat_le, ◌==◌, ◌&&◌, not, if◌then◌else◌}
+use Rattle.std.specs.Prelude.{ℕ, zero, suc, Bool, true, false, List, length, map, Option, Some, None, nat_le, ◌==◌, ◌&&◌, not, if◌then◌else◌}
 use Rattle.std.specs.List.{list_any}
 use Rattle.std.specs.Int.{w8, w16, w64}
 use Rattle.bk_base.specs.Numbers.{◌>>=◌, number_at, bytes_at, list_at, is_ascending}
@@ -8,7 +8,7 @@ use Rattle.bk_tx.specs.declared.payments.Payment.{Payment}
 use Rattle.bk_tx.specs.Transaction.{Transaction}
 use Rattle.bk_tx.specs.declared.body.Body.{Body}
 use Rattle.bk_tx.specs.declared.body.Body.TheVariants.{Pay, PayIf, Sweep, Split}
-use Rattle.bk_tx.specs.Access.{declared_ids, receivers_in}
+use Rattle.bk_tx.specs.Access.{receivers_in}
 use Rattle.bk_tx.specs.Spelling.{receivers_of}
 
 -- whether an account of this mode is writable: 0 for reading, 1 for writing
@@ -25,16 +25,12 @@ declared_at bytes = do
   id ← number_at w64 mode.1
   Some (record { id = id.0; writable = writable }, id.1)
 
--- a count from one to this
-abbrev pub is_count : ℕ → ℕ → Bool
-is_count most n = nat_le 1 n && nat_le n most
-
 -- a count and so many declared accounts by ascending id at the front
 unfoldable pub declarations_at : List ℕ → Option (List Declared × List ℕ)
 declarations_at bytes = do
   count ← number_at w8 bytes
-  entries ← (if is_count 8 count.0 then list_at declared_at count.0 count.1 else None)
-  if is_ascending (declared_ids entries.0) then Some entries else None
+  entries ← (if nat_le 1 count.0 && nat_le count.0 8 then list_at declared_at count.0 count.1 else None)
+  if is_ascending (map (λ (d : Declared). d.id) entries.0) then Some entries else None
 
 -- receiver and amount at the front
 unfoldable pub pay_at : List ℕ → Option (Body × List ℕ)
@@ -70,7 +66,7 @@ payment_at bytes = do
 unfoldable pub split_at : List ℕ → Option (Body × List ℕ)
 split_at bytes = do
   count ← number_at w8 bytes
-  payments ← (if is_count 6 count.0 then list_at payment_at count.0 count.1 else None)
+  payments ← (if nat_le 1 count.0 && nat_le count.0 6 then list_at payment_at count.0 count.1 else None)
   if is_ascending (receivers_in payments.0) then Some (Split payments.0, payments.1) else None
 
 -- the body of a transaction of this kind at the front
@@ -94,7 +90,8 @@ transaction_of bytes = do
   seq ← number_at w64 declared.1
   from ← number_at w64 seq.1
   body ← body_at kind.0 from.1
-  if length body.1 == 0 && not (pays body.0 from.0) then Some (record { declared = declared.0; seq = seq.0; from = from.0; body = body.0 }) else None
+  if length body.1 == 0 && not (list_any (λ to. to == from.0) (receivers_of body.0))
+      then Some (record { declared = declared.0; seq = seq.0; from = from.0; body = body.0 }) else None
 
 -- a text after its length at the front
 unfoldable pub text_at : List ℕ → Option (List ℕ × List ℕ)

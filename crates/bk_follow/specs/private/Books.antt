@@ -9,7 +9,7 @@ use Rattle.bk_results.specs.declared.fault.Fault.TheVariants as fault
 use Rattle.bk_results.specs.declared.status.Status.{Status}
 use Rattle.bk_answer.specs.Answers.{WritesAnswer, WritesNot}
 use Rattle.bk_follow.specs.Follower.{BookValue, FollowsBy, IsBookOf, IsCurrent}
-use Rattle.bk_answer.specs.RunReport.{report_text, IsStopIn, HasPlaceIn}
+use Rattle.bk_answer.specs.RunReport.{IsReportOf, IsStopIn, HasPlaceIn}
 
 -- this is made of the good frames of a feed
 pub record IsGoodBook (feed : FeedValue) (b : BookValue) : Type 0 where
@@ -38,8 +38,8 @@ IsCurrentOf b feed = IsFeed feed × IsCurrent feed b
 
 -- a report was written of a book that is settled
 abbrev pub WritesBook : BookValue → Device → Device → Status → Type 0
-WritesBook b before after answer = WritesAnswer (IsCurrentOf b) report_text answer before after
+WritesBook b before after answer = WritesAnswer (IsCurrentOf b) IsReportOf answer before after
 
 -- why it was not, and how much of it is out
 abbrev pub WriteFails : BookValue → Device → Device → Fault → Type 0
-WriteFails b before after f = WritesNot (IsCurrentOf b) report_text f before after
+WriteFails b before after f = WritesNot (IsCurrentOf b) IsReportOf f before after

@@ -10,7 +10,7 @@ use Rattle.bk_results.specs.Devices.{IsUntouched}
 use Rattle.bk_follow.specs.Finishing.{OfFeed}
 use Rattle.bk_follow.specs.Follower.{Followed}
 use Rattle.bk_answer.specs.Answers.{TextStops}
-use Rattle.bk_answer.specs.RunReport.{report_text, IsStopIn, HasPlaceIn}
+use Rattle.bk_answer.specs.RunReport.{IsReportOf, IsStopIn, HasPlaceIn}
 
 -- a Follower of these parts, in which no fault is kept
 abbrev pub followed : Cut → Opened → Followed
@@ -38,7 +38,7 @@ EndFails old new before after (fault.Feed found) = EndsShort old.cut found × Is
 EndFails old new before after (fault.Unfinished place) =
     OfFeed old (λ feed. HasPlaceIn feed place) × IsUntouched before after
 EndFails old new before after (fault.Write written) =
-    OfFeed old (λ feed. (answer : Status) × TextStops (report_text feed answer) written before after) × Fails before after
+    OfFeed old (λ feed. (answer : Status) × TextStops (IsReportOf feed answer) written before after) × Fails before after
 EndFails old new before after fault.Memory = IsUntouched before after
 EndFails old new before after stop =
     OfFeed old (λ feed. IsStopIn feed stop) × (new ≡ old) × IsUntouched before after

@@ -1,9 +1,10 @@
 use Rattle.std.proofs.Common.{ap, ◌∙◌}
 use Rattle.std.proofs.lemmas.Result.{err_from_is_err_and}
 use Rattle.bk_digest.specs.Tree.{root_of}
-use Rattle.bk_report.specs.RunLines.{rows_lines, ending_lines}
+use Rattle.bk_report.specs.RunLines.{rows_lines}
 use Rattle.bk_report.proofs.LineGroups.{stops_before, written_then, ending_is, written_ok, written_err}
 use Rattle.bk_report.proofs.report.put_ledger.Goals as goal
+use Rattle.bk_report.specs.private.Ending.{ending_lines}
 
 pub returns-in_err-put-clause-written : goal.returns-in_err-put-clause-written
 returns-in_err-put-clause-written g c =

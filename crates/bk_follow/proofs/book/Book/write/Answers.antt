@@ -1,7 +1,7 @@
 use Rattle.std.proofs.Common.{◌≡◌, None, Some, sym, ◌∙◌}
 use Rattle.std.proofs.lemmas.Result.{IfOk-weaker, IfErr-weaker}
 use Rattle.bk_answer.specs.Values.{closed_value}
-use Rattle.bk_answer.specs.RunReport.{report_text}
+use Rattle.bk_answer.specs.RunReport.{IsReportOf}
 use Rattle.bk_answer.specs.Answers.{IsMadeOf}
 use Rattle.bk_follow.specs.private.Books.{IsCurrentOf}
 use Rattle.bk_follow.proofs.ClosedBooks.{closed_for, writes_fewer, writes_not_fewer}
@@ -16,11 +16,11 @@ write-requires-clause-closed g c = (c.requires.current.0, (c.requires.current.1,
 pub returns-clause-report : goal.returns-clause-report
 returns-clause-report g c =
     IfOk-weaker c.write.result _ _
-    (λ end w. writes_fewer report_text (IsMadeOf (closed_value c.in-Some.closed)) (IsCurrentOf c.args.self.now) (λ feed k. (k.0, closed_for feed c.args.self.now (closed_value c.in-Some.closed) k.1 c.in-Some.ensures)) _ _ end w)
+    (λ end w. writes_fewer IsReportOf (IsMadeOf (closed_value c.in-Some.closed)) (IsCurrentOf c.args.self.now) (λ feed k. (k.0, closed_for feed c.args.self.now (closed_value c.in-Some.closed) k.1 c.in-Some.ensures)) _ _ end w)
     c.write.ensures.out
 
 pub returns-clause-fault : goal.returns-clause-fault
 returns-clause-fault g c =
     IfErr-weaker c.write.result _ _
-    (λ f w. writes_not_fewer report_text (IsMadeOf (closed_value c.in-Some.closed)) (IsCurrentOf c.args.self.now) (λ feed k. (k.0, closed_for feed c.args.self.now (closed_value c.in-Some.closed) k.1 c.in-Some.ensures)) _ _ f w)
+    (λ f w. writes_not_fewer IsReportOf (IsMadeOf (closed_value c.in-Some.closed)) (IsCurrentOf c.args.self.now) (λ feed k. (k.0, closed_for feed c.args.self.now (closed_value c.in-Some.closed) k.1 c.in-Some.ensures)) _ _ f w)
     c.write.ensures.fault
