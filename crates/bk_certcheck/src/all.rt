@@ -1,10 +1,11 @@
 //! Certificates, judged on many threads.
 
-ghost use Rattle.std.specs.Prelude.{◌≡◌, IfOk};
-ghost use Rattle.std.specs.List.{AllZip, flat_map};
+ghost use Rattle.std.specs.Prelude.{IfOk};
+ghost use Rattle.std.specs.List.{AllZip};
 ghost use Rattle.bk_certcheck.specs.Verdicts.{IsVerdict};
 
 use crate::each::check_each;
+use crate::joining::joined;
 use crate::verdict::Verdict;
 use bk_committee::Committee;
 use rayon::prelude::*;
@@ -17,17 +18,6 @@ const GROUPS: usize = 32;
 const FEWEST: usize = 8;
 
 const MOST: usize = 64;
-
-// The verdicts of each group, after one another.
-fn joined(alloc: Global, groups: Vec<Vec<Verdict>>) -> Result<Vec<Verdict>, AllocError>
-    ensures { IfOk result (λ all. all.items ≡ flat_map (λ group. group.items) groups.items) }
-{
-    let mut all = Vec::new(alloc);
-    for mut group in groups {
-        all.append(&mut group)?;
-    }
-    Ok(all)
-}
 
 /// The verdict on each payload, in their order, found on as many threads as there are processors. It fails only where
 /// memory runs out. O(n) in all bytes together.

@@ -1,6 +1,3 @@
-pub mod Frames
-pub mod FoundOf
-pub mod PartsOf
 pub mod Puts
 pub mod Words
 pub mod Openness

@@ -20,8 +20,8 @@ use Rattle.bk_listing.specs.private.Shown.{IsRow, PutsLines, IsCommitteeOf, HasL
 use Rattle.bk_results.specs.declared.wrong_tag.WrongTag.{WrongTag}
 use Rattle.bk_listing.specs.Forged.{IsFirstForged, IsFirstForgedOf}
 use Rattle.bk_listing.proofs.FirstForged.{first_then, none_of_none}
-use Rattle.bk_listing.proofs.PartsOf.{frames_append}
-use Rattle.bk_listing.proofs.Frames.{zip_push}
+use Rattle.bk_certcheck.proofs.PartsOf.{frames_append}
+use Rattle.bk_certcheck.proofs.Zips.{zip_push}
 use Rattle.bk_listing.proofs.Rejected.{rejected_then, rows_counted, rows_rejected}
 
 -- ---- lines in turn

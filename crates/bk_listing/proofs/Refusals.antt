@@ -26,7 +26,7 @@ use Rattle.bk_listing.specs.declared.reader.FrameReader.{FrameReader}
 use Rattle.bk_listing.specs.declared.reader.Unread.{Unread}
 use Rattle.bk_listing.specs.declared.reader.Unread.TheVariants as unread
 use Rattle.bk_listing.specs.private.Reading.{AreFront, CanBe, FeedFails, HasCut, HasRead, PieceFails, ReadFails, RefusesAll, end_of}
-use Rattle.bk_listing.proofs.PartsOf.{frames_append}
+use Rattle.bk_certcheck.proofs.PartsOf.{frames_append}
 use Rattle.bk_listing.proofs.Openness.{kept_short}
 use Rattle.bk_listing.proofs.Edges.{Stays, never_past, none_long, refused_here}
 

@@ -1,4 +1,3 @@
 pub mod Reading
-pub mod Rows
 pub mod Shown
 pub mod Listed

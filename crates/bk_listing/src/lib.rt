@@ -5,13 +5,10 @@
 //! feed's certificates, its twins and its collisions are not looked at.
 #![tactic(auto)]
 
-mod finding;
 mod forged;
-mod judging;
 mod lines;
 mod lister;
 mod listing;
-mod parts;
 mod reader;
 mod rows;
 

@@ -10,9 +10,8 @@ ghost use Rattle.bk_committee.specs.Payload.{committee_of};
 ghost use Rattle.bk_listing.specs.private.Shown.{GoesOn, HasListed, ListsMore, MoreFails, OpensBy, PushFails};
 
 use crate::forged::{first_forged, or_later};
-use crate::judging::all_rows;
 use crate::lines::{Place, put_lines};
-use crate::rows::count_rejected;
+use crate::rows::{all_rows, count_rejected};
 use bk_base::{Kind, Version};
 use bk_committee::Committee;
 use bk_frames::{Sink, push_all};

@@ -9,22 +9,22 @@ ghost use Rattle.bk_base.specs.Genesis.{total_of};
 ghost use Rattle.bk_base.specs.declared.kind.Kind.{Kind};
 ghost use Rattle.bk_committee.specs.Payload.{CommitteeValue};
 ghost use Rattle.bk_cert.specs.Identity.{id_of};
+ghost use Rattle.bk_certcheck.specs.Frames.{IsFound};
 ghost use Rattle.bk_certcheck.specs.Verdicts.{IsVerdict};
 ghost use Rattle.bk_listing.specs.Listing.{accounts_in, batch_words, cert_row, judged_words};
-ghost use Rattle.bk_listing.specs.private.Rows.{IsFound};
 ghost use Rattle.bk_listing.specs.Rejects.{rules_by};
 ghost use Rattle.bk_listing.specs.private.Shown.{IsRow, is_rejected, row_rules, row_words};
 ghost use Rattle.bk_listing.specs.declared.rows.Shown.TheVariants as shown;
 ghost use Rattle.bk_tx.specs.Batches.{count_in};
 
-use crate::finding::Found;
 use bk_base::{Kind, Row, read_genesis};
 use bk_cert::{CertView, id_of_bytes};
-use bk_certcheck::{Rule, Verdict};
+use bk_certcheck::{Found, Rule, Verdict, find_all};
 use bk_committee::Committee;
 use bk_digest::Digest32;
 use bk_tx::read_batch;
 use std::alloc::{AllocError, Global};
+use std::thread::Threads;
 
 /// What a line says of a certificate before the verdict.
 #[derive(Clone, Copy)]
@@ -182,8 +182,8 @@ pub(crate) fn count_rejected(rows: &[Shown]) -> usize
         .count()
 }
 
-/// The rows of frames, with what was found of each.
-pub(crate) fn rows_of(
+// The rows of frames, with what was found of each.
+fn rows_of(
     alloc: Global,
     committee: &Committee,
     frames: &[(Kind, Vec<u8>)],
@@ -200,4 +200,17 @@ pub(crate) fn rows_of(
         rows.push(row)?;
     }
     Ok(rows)
+}
+
+/// The row of each frame. They are judged on as many threads as there are processors.
+pub(crate) fn all_rows(
+    rt: &(impl Threads + Sync),
+    alloc: Global,
+    committee: &Committee,
+    frames: &[(Kind, Vec<u8>)],
+) -> Result<Vec<Shown>, AllocError>
+    ensures { IfOk result (λ rows. AllZip (IsRow committee.now) (frames_in frames.now) rows.items) }
+{
+    let found = find_all(rt, alloc, committee, frames)?;
+    rows_of(alloc, committee, frames, &found)
 }

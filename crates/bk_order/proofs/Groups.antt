@@ -15,8 +15,8 @@ use Rattle.bk_order.specs.declared.judging.Judged.{Judged}
 use Rattle.bk_order.specs.Intake.{IsKeptOf}
 use Rattle.bk_order.specs.private.Judging.{IsJudged}
 use Rattle.bk_order.specs.private.Joined.{CanKeep, GoesOn, HasKept, IsJoined, IsTaking, kept_in}
-use Rattle.bk_order.proofs.Frames.{zip_length, empty_of}
-use Rattle.bk_order.proofs.PartsOf.{frames_append}
+use Rattle.bk_certcheck.proofs.Zips.{zip_length, empty_of}
+use Rattle.bk_certcheck.proofs.PartsOf.{frames_append}
 use Rattle.bk_order.proofs.Tables.{goes_nowhere, goes_on_on}
 
 pub groups_split : (xs ys zs : List (Kind × Vec ℕ)) → xs ≡ ys ++ zs → frames_in xs ≡ frames_in ys ++ frames_in zs

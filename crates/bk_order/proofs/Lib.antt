@@ -8,8 +8,6 @@ pub mod Sets
 pub mod OneReading
 pub mod Agreeing
 pub mod Together
-pub mod FoundOf
-pub mod PartsOf
 pub mod Groups
 pub mod OnceMore
 pub mod Tallying

@@ -24,7 +24,8 @@ use Rattle.bk_cert.specs.Node.{Node}
 use Rattle.bk_order.specs.Frames.{certs_by, id_in, rejects_by}
 use Rattle.bk_order.specs.declared.reject.Reject.{Reject}
 use Rattle.bk_order.specs.Intake.{IsKeptOf}
-use Rattle.bk_order.specs.private.Judging.{IsJudged, IsOther}
+use Rattle.bk_certcheck.specs.Frames.{IsOther}
+use Rattle.bk_order.specs.private.Judging.{IsJudged}
 use Rattle.bk_order.specs.private.Joined.{GoesOn, IsJoined, IsKeeping, kept_in}
 use Rattle.bk_order.specs.declared.tally.Tally.{Tally}
 use Rattle.bk_order.specs.private.Tallies.{CountsBatch, CountsVerdict, HasRoom, IsNewDigest}

@@ -17,11 +17,13 @@ use Rattle.bk_certcheck.specs.Verdicts.{IsVerdict}
 use Rattle.bk_evidence.specs.Batches.{Batch}
 use Rattle.bk_evidence.specs.Laws.{HaveSame}
 use Rattle.bk_flatten.specs.Batches.{once}
-use Rattle.bk_order.specs.Frames.{AreBatches, AreCerts, batch_in, batches_in, certificate_in, certificates_in, certs_by}
+use Rattle.bk_certcheck.specs.Frames.{batch_in, batches_in, certificate_in, certificates_in}
+use Rattle.bk_order.specs.Frames.{AreBatches, AreCerts, certs_by}
 use Rattle.bk_order.specs.Tally.{AreVerdicts, IsTallyOf, digests_in, ids_by}
 use Rattle.bk_order.specs.declared.tally.Tally.{Tally}
 use Rattle.bk_order.specs.private.Tallies.{CountsBatch, CountsVerdict, HasRoom, IsNewBy, IsNewDigest, IsNewId, after_batch, after_broken, after_good, one_if}
-use Rattle.bk_order.proofs.Frames.{length_mapped, zip_length, zip_push}
+use Rattle.bk_certcheck.proofs.Zips.{zip_length, zip_push}
+use Rattle.bk_order.proofs.Frames.{length_mapped}
 use Rattle.bk_order.proofs.Keeping.{lone, good_certs, certs_good}
 use Rattle.bk_order.proofs.OnceMore.{new_named, once_counts, once_short}
 use Rattle.bk_order.specs.private.Digested.{batch_of}

@@ -1,7 +1,6 @@
 -- What frames hold: the certificates that break no rule and the batches, of which only counts what a
 -- list contains, not in which order or how often; and what is rejected, in the order of the frames.
 use Rattle.std.specs.Prelude.{◌≡◌, ℕ, ◌+◌, List, [], ◌∷◌, ◌++◌, Contains, Option, option_map}
-use Rattle.std.specs.List.{flat_map}
 use Rattle.sha2.specs.Sha256.{sha256}
 use Rattle.bk_base.specs.declared.kind.Kind.{Kind}
 use Rattle.bk_base.specs.declared.kind.Kind.TheVariants as kind
@@ -73,23 +72,3 @@ AreRejects k number [] rejects = rejects ≡ []
 AreRejects k number (f ∷ more) rejects =
     (first : List Reject) × (later : List Reject) × IsRejectOf k number f.payload f.kind first
     × AreRejects k (number + 1) more later × (rejects ≡ first ++ later)
-
--- ---- the payloads of a kind, in the order of the frames and as often as they come
-
--- the payload of a frame of this kind, if it is a certificate
-abbrev pub certificate_in : Kind → List ℕ → List (List ℕ)
-certificate_in kind.Certificate payload = payload ∷ []
-certificate_in other payload = []
-
--- the payload of a frame of this kind, if it is a batch
-abbrev pub batch_in : Kind → List ℕ → List (List ℕ)
-batch_in kind.Batch payload = payload ∷ []
-batch_in other payload = []
-
--- the payloads of the certificates of frames
-abbrev pub certificates_in : List Frame → List (List ℕ)
-certificates_in frames = flat_map (λ f. certificate_in f.kind f.payload) frames
-
--- the payloads of the batches of frames
-abbrev pub batches_in : List Frame → List (List ℕ)
-batches_in frames = flat_map (λ f. batch_in f.kind f.payload) frames

@@ -8,7 +8,8 @@ use Rattle.bk_cert.specs.Node.{Node}
 use Rattle.bk_certcheck.specs.declared.verdict.Verdict.{Verdict}
 use Rattle.bk_certcheck.specs.Verdicts.{IsVerdict}
 use Rattle.bk_flatten.specs.Batches.{once}
-use Rattle.bk_order.specs.Frames.{batches_in, certificates_in, certs_by}
+use Rattle.bk_certcheck.specs.Frames.{batches_in, certificates_in}
+use Rattle.bk_order.specs.Frames.{certs_by}
 use Rattle.bk_order.specs.declared.tally.Tally.{Tally}
 
 -- the ids of the good certificates of these verdicts, as often as they come

@@ -6,11 +6,9 @@
 //! set: their order counts for nothing but the numbers of the rejected.
 #![tactic(auto)]
 
-mod finding;
 mod intake;
 mod judging;
 mod laws;
-mod parts;
 mod reject;
 mod settling;
 mod stop;

@@ -11,7 +11,8 @@ use Rattle.bk_committee.specs.Payload.{CommitteeValue}
 use Rattle.bk_evidence.specs.Batches.{Batch, has_digest, payload_of}
 use Rattle.bk_flatten.specs.Batches.{Payloads, before_missing, cons_payload, digests_of, once}
 use Rattle.bk_flatten.specs.private.Listing.{AreOnce}
-use Rattle.bk_order.specs.Frames.{AreBatches, batches_in}
+use Rattle.bk_certcheck.specs.Frames.{batches_in}
+use Rattle.bk_order.specs.Frames.{AreBatches}
 use Rattle.bk_order.specs.Orders.{Ordered, IsOrderOf}
 use Rattle.bk_order.specs.Tally.{digests_in}
 use Rattle.bk_order.proofs.Frames.{length_mapped}

@@ -10,7 +10,8 @@ use Rattle.bk_committee.specs.Sizes.{Sizes, faulty, members, quorum}
 use Rattle.bk_cert.specs.Node.{Node}
 use Rattle.bk_certcheck.specs.declared.verdict.Verdict.{Verdict}
 use Rattle.bk_flatten.specs.Batches.{once}
-use Rattle.bk_order.specs.Frames.{AreCerts, batches_in, certificates_in}
+use Rattle.bk_certcheck.specs.Frames.{batches_in, certificates_in}
+use Rattle.bk_order.specs.Frames.{AreCerts}
 use Rattle.bk_order.specs.Orders.{Ordered}
 use Rattle.bk_order.specs.Tally.{AreVerdicts, digests_in, ids_by}
 use Rattle.bk_tx.specs.Batches.{count_in}

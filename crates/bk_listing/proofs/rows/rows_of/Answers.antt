@@ -1,9 +1,9 @@
 use Rattle.std.proofs.Common.{ℕ, List, ◌<◌, length, sym, subst, arith, rules}
 use Rattle.bk_base.specs.Feed.{frame_of}
 use Rattle.bk_frames.specs.Cutting.{frames_in}
-use Rattle.bk_listing.specs.private.Rows.{IsFound}
+use Rattle.bk_certcheck.specs.Frames.{IsFound}
 use Rattle.bk_listing.specs.private.Shown.{IsRow}
-use Rattle.bk_listing.proofs.Frames.{zip_length}
+use Rattle.bk_certcheck.proofs.Zips.{zip_length}
 use Rattle.bk_listing.proofs.LineTexts.{long_frames, rows_all, rows_on, zip_frame}
 use Rattle.bk_listing.proofs.rows.rows_of.Goals as goal
 

@@ -2,7 +2,8 @@ use Rattle.std.proofs.Common.{ap, arith}
 use Rattle.std.specs.Vec.Iter.{into_iter_items}
 use Rattle.bk_base.specs.Feed.{frame_of}
 use Rattle.bk_frames.specs.Cutting.{frames_in}
-use Rattle.bk_order.proofs.Frames.{empty_of, judging_on, none_without}
+use Rattle.bk_certcheck.proofs.Zips.{empty_of}
+use Rattle.bk_order.proofs.Frames.{judging_on, none_without}
 use Rattle.bk_order.proofs.judging.judge_all.Goals as goal
 
 pub unreachable-requires : goal.unreachable-requires

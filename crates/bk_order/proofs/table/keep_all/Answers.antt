@@ -1,6 +1,6 @@
 use Rattle.std.proofs.Common.{arith}
 use Rattle.std.specs.Vec.Iter.{into_iter_items}
-use Rattle.bk_order.proofs.Frames.{empty_of}
+use Rattle.bk_certcheck.proofs.Zips.{empty_of}
 use Rattle.bk_order.proofs.Tables.{keeping_starts, one_judged, one_room, keeping_on, keeping_ends, keeping_next}
 use Rattle.bk_order.proofs.table.keep_all.Goals as goal
 

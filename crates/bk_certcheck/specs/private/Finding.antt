@@ -1,0 +1,38 @@
+-- Frames of which the first are found, from verdicts and digests in the order of the frames.
+use Rattle.std.specs.Prelude.{◌≡◌, ◌≢◌, ℕ, List, [], ◌∷◌, ◌++◌, length, map}
+use Rattle.std.specs.List.{AllZip}
+use Rattle.sha2.specs.Sha256.{sha256}
+use Rattle.bk_base.specs.declared.kind.Kind.{Kind}
+use Rattle.bk_base.specs.declared.kind.Kind.TheVariants as kind
+use Rattle.bk_base.specs.Feed.{Frame}
+use Rattle.bk_committee.specs.Payload.{CommitteeValue}
+use Rattle.bk_certcheck.specs.declared.verdict.Verdict.{Verdict}
+use Rattle.bk_certcheck.specs.Verdicts.{IsVerdict}
+use Rattle.bk_certcheck.specs.Frames.{IsFound, certificates_in, batches_in}
+use Rattle.bk_certcheck.specs.declared.finding.Found.{Found}
+use Rattle.bk_certcheck.specs.declared.finding.Found.TheVariants as found
+
+-- for a frame of this kind a verdict or a digest is left, where it needs one
+abbrev pub CanTakeNext : Kind → List Verdict → List (List ℕ) → Type 0
+CanTakeNext kind.Committee verdicts digests = Unit {0}
+CanTakeNext kind.Genesis verdicts digests = Unit {0}
+CanTakeNext kind.Certificate verdicts digests = verdicts ≢ []
+CanTakeNext kind.Batch verdicts digests = digests ≢ []
+
+-- what is found of a frame of this kind is the next of its verdicts or its digests, and the others are left
+abbrev pub TakesNext : Kind → List Verdict → List Verdict → List (List ℕ) → List (List ℕ) → Found → Type 0
+TakesNext kind.Committee vs vs' ds ds' one = (vs' ≡ vs) × (ds' ≡ ds) × (one ≡ found.Other)
+TakesNext kind.Genesis vs vs' ds ds' one = (vs' ≡ vs) × (ds' ≡ ds) × (one ≡ found.Other)
+TakesNext kind.Certificate vs vs' ds ds' one =
+    (v : Verdict) × (vs ≡ v ∷ vs') × (ds' ≡ ds) × (one ≡ found.Certificate v)
+TakesNext kind.Batch vs vs' ds ds' one =
+    (d : List ℕ) × (vs' ≡ vs) × (ds ≡ d ∷ ds') × (one ≡ found.Batch d)
+
+-- the first of the frames are found to be this, from the first of the verdicts and the digests, and the others are left
+pub record IsPutting (all frames : List Frame) (verdicts left : List Verdict) (digests : List (List ℕ))
+    (out : List Found) : Type 0 where
+  pub counted : length left ≡ length (certificates_in frames)
+  pub hashed : digests ≡ map sha256 (batches_in frames)
+  pub is_found : (k : CommitteeValue) → AllZip (IsVerdict k) (certificates_in all) verdicts
+      → (done : List Frame) × (all ≡ done ++ frames)
+      × AllZip (IsVerdict k) (certificates_in frames) left × AllZip (IsFound k) done out
