@@ -1,5 +1,5 @@
 -- The transactions of a feed by a list of events.
-use Rattle.std.proofs.Common.{◌≡◌, ℕ, ◌+◌, ◌^◌, ◌<◌, List, [], length, Option, Some, None, sym, ap, subst, ◌∙◌, arith}
+use Rattle.std.proofs.Common.{◌≡◌, ℕ, ◌+◌, ◌^◌, ◌<◌, List, [], length, Option, sym, ap, subst, ◌∙◌, arith}
 use Rattle.bk_frames.proofs.Devices.{gave_all}
 use Rattle.bk_base.specs.declared.genesis.Row.{Row}
 use Rattle.bk_base.specs.declared.version.Version.{Version}
@@ -12,20 +12,18 @@ use Rattle.bk_rules.specs.Ledger.{Ledger, ledger_of, IsPrepared, rows_shown, slo
 use Rattle.bk_rules.specs.Rows.{IsLedger}
 use Rattle.bk_rules.proofs.Room.{room_left}
 use Rattle.bk_conflicts.specs.Plan.{PlanValue, IsPlan}
-use Rattle.bk_conflicts.specs.Scene.{Scene}
 use Rattle.bk_conflicts.specs.SceneOf.{CanRunOn, scene_of}
 use Rattle.bk_steps.specs.Schedule.{IsWholeAmong, IsFoldOf, IsFault}
 use Rattle.bk_steps.specs.declared.event.Event.{Event}
 use Rattle.bk_steps.specs.declared.outcome.Outcome.{Outcome}
 use Rattle.bk_steps.specs.declared.outcome.ScheduleFault.{ScheduleFault}
 use Rattle.bk_steps.specs.declared.outcome.ScheduleFault.TheVariants.{Refused, Unfinished, OutOfMemory}
-use Rattle.bk_pool.proofs.Prepared.{can_run}
 use Rattle.bk_results.specs.declared.fault.Fault.TheVariants as fault
 use Rattle.bk_apply.specs.declared.scheduling.ScheduleStop.{ScheduleStop}
 use Rattle.bk_apply.specs.declared.scheduling.ScheduleStop.TheVariants as stop
 use Rattle.bk_results.specs.Devices.{devices}
 use Rattle.bk_tx.specs.Batches.{feed_transactions}
-use Rattle.bk_apply.specs.Scheduling.{opening_of, IsPlanOfFeed, InExecution, InExecutionOf, StopsBy}
+use Rattle.bk_apply.specs.Scheduling.{opening_of, IsPlanOfFeed, InExecutionOf, StopsBy}
 use Rattle.bk_apply.specs.private.Schedules.{stop_of, Unscheduled, IsScheduled}
 use Rattle.std.proofs.lemmas.List.{length-map}
 use Rattle.bk_base.proofs.Accounts.{genesis_few}
@@ -73,8 +71,13 @@ feed_room feed txs opening ledger good accounts all opened prepared =
 
 pub runs_on : (txs : List (Option Transaction)) (ledger : Ledger) (plan : PlanValue) → plan.version ≡ ledger.version → plan.ids ≡ ledger.slots → plan.txs ≡ txs → IsLedger ledger.rows
     → rows_shown ledger.version ledger.slots (slot_numbers ledger) ≡ ledger.rows → HasRoom ledger.version (length txs) ledger.rows → CanRunOn plan ledger
-runs_on txs ledger plan version ids same is_ledger shown room =
-    can_run txs ledger plan (record { version = version; ids = ids; txs_are = same }) is_ledger shown room
+runs_on txs ledger plan version ids same is_ledger shown room = record {
+  same_version = sym version;
+  same_slots = sym ids;
+  is_ledger = is_ledger;
+  has_room = subst (λ (y : Version × ℕ). HasRoom y.0 y.1 ledger.rows) (λ j. (sym version j, ap length (sym same) j)) room;
+  slots_show = (λ j. rows_shown (version j) (ids j) (slot_numbers ledger)) ∙ shown;
+}
 
 pub few_places : (feed : FeedValue) (txs : List (Option Transaction)) → IsFeed feed → txs ≡ feed_transactions feed.frames → length txs < 2 ^ 31
 few_places feed txs good all = omega (arith, ap length all, few_feed_transactions feed good)

@@ -1,5 +1,5 @@
 -- What was made of a feed replies what the feed does.
-use Rattle.std.proofs.Common.{◌≡◌, ℕ, ◌<◌, ◌^◌, List, [], length, append-nil, Option, Some, None, true, false, refl, sym, subst, ◌∙◌, arith}
+use Rattle.std.proofs.Common.{◌≡◌, ℕ, List, [], append-nil, Option, Some, None, true, refl, sym, subst, ◌∙◌, arith}
 use Rattle.std.specs.Io.KnownBytes.{Appends, Keeps}
 use Rattle.bk_frames.specs.Device.{Device, Receives}
 use Rattle.bk_base.specs.Feed.{FeedValue, IsFeed, genesis_of}
@@ -8,7 +8,6 @@ use Rattle.bk_base.proofs.Accounts.{genesis_accounts}
 use Rattle.bk_committee.specs.Payload.{CommitteeValue}
 use Rattle.bk_committee.specs.Sizes.{Sizes}
 use Rattle.bk_order.specs.Frames.{AreCerts}
-use Rattle.bk_order.specs.Intake.{Taken}
 use Rattle.bk_order.specs.Orders.{AreRoundsOf}
 use Rattle.bk_rounds.specs.Rounds.{RoundsValue}
 use Rattle.bk_tx.specs.Batches.{transactions_of}
@@ -28,7 +27,7 @@ use Rattle.bk_answer.specs.Gaps.{IsGapIn}
 use Rattle.bk_answer.specs.RunReport.{committee_in, later_frames}
 use Rattle.bk_answer.proofs.Counting.{few_places}
 use Rattle.bk_answer.proofs.Reports.{later_part}
-use Rattle.bk_ask.specs.Asking.{Ending, IsEndingOf, IsRepliedOf, Replies, HasText, ShowsFound, can_reply, executes}
+use Rattle.bk_ask.specs.Asking.{Ending, IsEndingOf, IsRepliedOf, Replies, HasText, ShowsFound, can_reply}
 use Rattle.bk_ask.specs.declared.ordered.View.{View}
 use Rattle.bk_ask.specs.declared.ordered.View.TheVariants as view
 use Rattle.bk_ask.specs.declared.replied.Replied.{Replied}

@@ -86,14 +86,6 @@ impl<'a> Fields<'a> {
         ]))
     }
 
-    /// Thirty-two bytes, as they are.
-    pub fn bytes32(&mut self) -> Option<&'a [u8]>
-        ensures found { option_map (λ s. (s.now, self.new)) result ≡ bytes_at 32 self.old }
-        ensures none { IfNone result (self.new ≡ self.old) }
-    {
-        self.take(32)
-    }
-
     /// This many bytes, as they are.
     pub fn take(&mut self, len: usize) -> Option<&'a [u8]>
         ensures found { option_map (λ s. (s.now, self.new)) result ≡ bytes_at len self.old }

@@ -33,7 +33,7 @@ use Rattle.bk_follow.specs.Follower.{BookValue, Followed, Follows, FollowsBy, Is
 use Rattle.bk_follow.specs.Queries.{rows_of_executed}
 use Rattle.bk_follow.specs.Replaying.{AllHasCome, ReadFails}
 use Rattle.bk_answer.specs.RunReport.{committee_in, later_frames, IsOrderIn, IsStopIn, HasPlaceIn, HasPlace}
-use Rattle.bk_answer.specs.Flaws.{IsFlaw, IsFlawIf}
+use Rattle.bk_answer.specs.Flaws.{IsFlawIf}
 use Rattle.bk_compare.specs.private.Ends.{HasStopIn, HasEnded, Ends, EndsNot, HasOrderOf, OfEnded, ComparisonStopsWith, IsDifferOf}
 use Rattle.bk_follow.specs.Stopping.{stops}
 use Rattle.bk_follow.proofs.ComparedBooks.{version_is}

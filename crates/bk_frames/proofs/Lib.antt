@@ -4,7 +4,6 @@ pub mod OneReading
 pub mod FrontAndWhole
 pub mod CutJoining
 pub mod CutParts
-pub mod CutPieces
 pub mod PulledBytes
 pub mod Pulls
 mod EarlyGenesis

@@ -24,10 +24,6 @@ pub record Cut : Type 0 where
 abbrev pub frames_in : List (Kind × Vec ℕ) → List Frame
 frames_in out = map (λ (f : Kind × Vec ℕ). record { kind = f.0; payload = f.1.items }) out
 
--- the bytes of pieces in turn
-abbrev pub bytes_in : List (Vec ℕ) → List ℕ
-bytes_in pieces = flat_map (λ (p : Vec ℕ). p.items) pieces
-
 -- before the first byte
 abbrev pub fresh : Cut
 fresh = record { version = None; index = 0; offset = 0; kept = []; fault = None }

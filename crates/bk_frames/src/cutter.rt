@@ -1,9 +1,5 @@
 ghost use Rattle.std.specs.Prelude.{◌≡◌, ◌≢◌, ℕ, ◌+◌, ◌<◌, ◌≤◌, [], ◌∷◌, ◌++◌, length, take, IfOk, IfErr, IfSome, OnOk, OnErr, Some, None, Err, map};
-ghost use Rattle.bk_base.specs.declared.version.Version.{Version};
-ghost use Rattle.bk_base.specs.Feed.{feed_of, spelling, IsFeed};
-ghost use Rattle.bk_frames.specs.FirstFault.{HasFault};
-ghost use Rattle.bk_frames.specs.Pulling.{ByCode};
-ghost use Rattle.bk_frames.specs.Cutting.{Cut, fresh, Cuts, CutsInto, IsOpen, RefusesPiece, EndsShort, bytes_in, frames_in};
+ghost use Rattle.bk_frames.specs.Cutting.{Cut, fresh, Cuts, CutsInto, IsOpen, RefusesPiece, EndsShort, frames_in};
 ghost use Rattle.bk_frames.specs.private.Parts.{IsPart, IsShort, FailsSoon, cut_of};
 
 use crate::fault::{FaultCode, FeedFault};
@@ -192,26 +188,4 @@ impl Cutter {
     {
         self.part.version
     }
-}
-
-/// The frames of a feed that comes in these pieces.
-///
-/// However the feed was cut into pieces, they are those that [`crate::Feed::read`] reads of all the bytes, or its fault.
-pub fn frames_of_pieces(
-    alloc: Global,
-    pieces: &[Vec<u8>],
-) -> Result<Vec<(Kind, Vec<u8>)>, FeedFault>
-    ensures feed { IfOk result (λ out. (version : Version)
-        × IsFeed (feed_of version (frames_in out.items))
-        × (bytes_in pieces.now ≡ spelling (feed_of version (frames_in out.items)))) }
-    ensures fault { IfErr result (λ f. ByCode f.code ⊥ (Unit {0})
-        (HasFault (bytes_in pieces.now) f)) }
-{
-    let mut cutter = Cutter::new(alloc);
-    let mut out = Vec::new(alloc);
-    for piece in pieces {
-        cutter.feed_into(piece, &mut out)?;
-    }
-    cutter.end()?;
-    Ok(out)
 }

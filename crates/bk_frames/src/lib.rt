@@ -14,7 +14,7 @@ mod pulling;
 mod writing;
 
 pub use counted::Counted;
-pub use cutter::{Cutter, frames_of_pieces};
+pub use cutter::Cutter;
 pub use device::{Failed, Sink, Source};
 pub use fault::{FaultCode, FeedFault};
 pub use feed::Feed;

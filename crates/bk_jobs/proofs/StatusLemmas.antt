@@ -1,5 +1,5 @@
 -- How a job may end.
-use Rattle.std.proofs.Common.{◌≡◌, ℕ, Bool, List, Option, Some, true, false, ◌||◌, refl, sym, subst}
+use Rattle.std.proofs.Common.{◌≡◌, ℕ, Bool, List, Option, true, false, ◌||◌, refl, sym, subst}
 use Rattle.bk_frames.specs.declared.fault.FaultCode.{FaultCode}
 use Rattle.bk_frames.specs.declared.fault.FaultCode.TheVariants as code
 use Rattle.bk_results.specs.declared.compare_stop.CompareStop.{CompareStop}

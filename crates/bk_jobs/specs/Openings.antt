@@ -16,7 +16,7 @@ use Rattle.bk_cli.specs.declared.job_fault.JobFault.TheVariants as fault
 use Rattle.bk_jobs.specs.Faults.{AnswerIsOut, EndsBy}
 use Rattle.bk_jobs.specs.Flaws.{IsJudgedEnd}
 use Rattle.bk_jobs.specs.Remarks.{RemarksAreTold}
-use Rattle.bk_jobs.specs.Sources.{AllWork, JobDevices, inputs_of}
+use Rattle.bk_jobs.specs.Sources.{AllWork, JobDevices}
 
 -- how a job ran: how it ended by itself, with its answer or its fault and what was told of it, and how it ends at last, where
 -- its feed is judged

@@ -1,6 +1,6 @@
 -- A plan of a feed can be run: each list of events is a whole run of its transactions, or has a fault.
-use Rattle.std.proofs.Common.{◌≡◌, ◌⊎◌, ℕ, zero, suc, ◌+◌, ◌<◌, ◌≤◌, List, [], ◌∷◌, map, length, Bool, true, false, ◌||◌, cond, not, eqb, Option, None, Some, refl, sym, ap, subst, ◌∙◌, inl, inr, ⊎_elim, arith}
-use Rattle.std.proofs.lemmas.Bool.{both_ways, eqb-true, cases_lt}
+use Rattle.std.proofs.Common.{◌≡◌, ◌⊎◌, ℕ, zero, suc, ◌<◌, ◌≤◌, List, [], ◌∷◌, length, Bool, true, false, ◌||◌, Option, None, Some, refl, sym, ap, subst, ◌∙◌, inl, inr, ⊎_elim, arith}
+use Rattle.std.proofs.lemmas.Bool.{both_ways, cases_lt}
 use Rattle.std.proofs.lemmas.List.{length-map}
 use Rattle.bk_base.specs.declared.version.Version.{Version}
 use Rattle.bk_base.specs.declared.version.Version.TheVariants.{One, Two}
@@ -8,11 +8,9 @@ use Rattle.bk_base.specs.Feed.{FeedValue, IsFeed, genesis_of}
 use Rattle.bk_base.specs.Genesis.{AreAccounts, ids_of}
 use Rattle.bk_base.proofs.Accounts.{genesis_accounts}
 use Rattle.bk_tx.specs.Transaction.{Transaction}
-use Rattle.bk_rules.specs.declared.account.Account.{Account}
 use Rattle.bk_rules.specs.Fold.{HasRoom}
 use Rattle.bk_rules.specs.Ledger.{Ledger, has_slot, has_slot_after, is_declared_by, numbers_of, shown_by, rows_shown, slot_numbers}
 use Rattle.bk_rules.specs.Rows.{IsLedger, account_at}
-use Rattle.bk_rules.specs.private.Slots.{index_or_len, shown_at}
 use Rattle.bk_rules.proofs.Kept.{known_by_ids}
 use Rattle.bk_rules.proofs.Slots.{account_at-shown, ascend-shown}
 use Rattle.bk_rules.proofs.Storing.{rows_same}
@@ -32,32 +30,13 @@ use Rattle.bk_base.specs.declared.refused.Refused as reason
 use Rattle.bk_steps.specs.declared.outcome.ScheduleFault.TheVariants.{Refused, Unfinished}
 use Rattle.bk_steps.proofs.Judging.{events_judged}
 use Rattle.bk_tx.specs.Batches.{feed_transactions}
+use Rattle.bk_ledger.proofs.Alone.{at_ids}
 use Rattle.bk_apply.specs.Scheduling.{opening_of, IsPlanOfFeed}
 use Rattle.bk_apply.proofs.Schedules.{feed_room, runs_on}
 use Rattle.bk_laws.specs.Laws.{HasPlan, ScheduleAnswer, SchedulesTo, whole, not_whole}
 use Rattle.bk_laws.proofs.Scheduling.{one_schedule_fault, same_ids, whole_schedules_have_no_fault}
 
 -- ---- the slots of a ledger show its rows
-
--- the numbers of the slots show the account of each id
-at_ids : (v : Version) (accounts : ℕ → Option Account) (ids : List ℕ) (id : ℕ) → (has_slot ids id ≡ true → shown_by v (numbers_of (accounts id)) ≡ accounts id)
-    → (has_slot ids id ≡ false → accounts id ≡ None) → shown_at v (map (λ (i : ℕ). numbers_of (accounts i)) ids) (index_or_len ids id) ≡ accounts id
-at_ids v accounts [] id some none = sym (none refl)
-at_ids v accounts (i ∷ ids) id some none = by_test (eqb i id) refl (at_ids v accounts ids id)
-  where
-    later : shown_at v (map (λ (j : ℕ). numbers_of (accounts j)) (i ∷ ids)) (1 + index_or_len ids id) ≡ shown_at v (map (λ (j : ℕ). numbers_of (accounts j)) ids) (index_or_len ids id)
-    later = let e : 1 + index_or_len ids id ≡ suc (index_or_len ids id) = omega arith in ap (shown_at v (map (λ (j : ℕ). numbers_of (accounts j)) (i ∷ ids))) e
-
-    by_test : (b : Bool) → b ≡ eqb i id
-        → ((has_slot ids id ≡ true → shown_by v (numbers_of (accounts id)) ≡ accounts id) → (has_slot ids id ≡ false → accounts id ≡ None)
-        → shown_at v (map (λ (j : ℕ). numbers_of (accounts j)) ids) (index_or_len ids id) ≡ accounts id)
-        → shown_at v (map (λ (j : ℕ). numbers_of (accounts j)) (i ∷ ids)) (cond (not b) (1 + index_or_len ids id) 0) ≡ accounts id
-    by_test true e rest =
-        let same : i ≡ id = eqb-true i id (sym e) in
-        subst (λ (j : ℕ). shown_by v (numbers_of (accounts j)) ≡ accounts id) (sym same) (some (ap (λ (b : Bool). b || has_slot ids id) (sym e)))
-    by_test false e rest = later ∙ rest
-        (λ h. some (ap (λ (b : Bool). b || has_slot ids id) (sym e) ∙ h))
-        (λ h. none (ap (λ (b : Bool). b || has_slot ids id) (sym e) ∙ h))
 
 -- an id without a slot afterwards had none before
 none_before : (v : Version) (slots : List ℕ) (txs : List (Option Transaction)) (id : ℕ) → has_slot_after v slots txs id ≡ false → has_slot slots id ≡ false

@@ -1,10 +1,9 @@
 -- Whose tag of a certificate is wrong, and which frame is the first such.
-use Rattle.std.proofs.Common.{◌≡◌, ◌≢◌, ℕ, zero, suc, ◌+◌, ◌-◌, ◌<◌, ◌≤◌, ◌^◌, ◌⊎◌, inl, inr, Bool, true, false, cond, List, [], ◌∷◌, ◌++◌, length, map, take, drop, get_or, Option, Some, None, Contains, IsTrue, refl, sym, ap, subst, ◌∙◌, arith, append_assoc, length-append}
-use Rattle.std.specs.Prelude.{IfSome, slice_get, slice_index_or}
-use Rattle.std.specs.List.{AllZip, range_with_len}
+use Rattle.std.proofs.Common.{◌≡◌, ◌≢◌, ℕ, zero, suc, ◌+◌, ◌-◌, ◌<◌, ◌≤◌, inl, inr, true, false, cond, List, [], ◌∷◌, ◌++◌, length, map, take, drop, get_or, Some, None, Contains, refl, sym, ap, subst, ◌∙◌, arith, append_assoc, length-append}
+use Rattle.std.specs.Prelude.{slice_get, slice_index_or}
 use Rattle.std.specs.Global.{Vec}
 use Rattle.std.proofs.lemmas.List.{append-nil, take_more, take_all, map-append, take-append-drop}
-use Rattle.std.proofs.lemmas.List.Elements.{Contains-append_cases, Contains-push_cases}
+use Rattle.std.proofs.lemmas.List.Elements.{Contains-push_cases}
 use Rattle.std.proofs.lemmas.Option.{get_or_from_slice_get, slice_get_within}
 use Rattle.bk_base.specs.declared.kind.Kind.{Kind}
 use Rattle.bk_base.specs.declared.kind.Kind.TheVariants as kind
@@ -22,12 +21,11 @@ use Rattle.bk_certcheck.specs.declared.verdict.Verdict.{Verdict}
 use Rattle.bk_certcheck.specs.declared.verdict.Verdict.TheVariants as verdict
 use Rattle.bk_certcheck.specs.Verdicts.{IsVerdict}
 use Rattle.bk_certcheck.proofs.Rules.{one_verdict}
-use Rattle.bk_results.specs.declared.wrong_tag.WrongTag.{WrongTag}
 use Rattle.bk_listing.specs.Rejects.{IsRejectedBy, rules_by}
 use Rattle.bk_listing.specs.Forged.{HasWrongTag, IsForged, IsFirstForged}
 use Rattle.bk_listing.specs.declared.rows.Shown.{Shown}
 use Rattle.bk_listing.specs.declared.rows.Shown.TheVariants as shown
-use Rattle.bk_listing.specs.private.Shown.{IsRow, is_forged, row_rules, else_later}
+use Rattle.bk_listing.specs.private.Shown.{IsRow, is_forged, row_rules}
 use Rattle.bk_listing.proofs.LineTexts.{frames_more}
 
 -- ---- the signers of a mask

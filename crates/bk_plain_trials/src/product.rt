@@ -1,19 +1,22 @@
 //! What the program's own code gives of the transactions of a feed.
 
-ghost use Rattle.std.specs.Prelude.{◌≤◌};
+ghost use Rattle.std.specs.Prelude.{◌≤◌, IfOk};
+ghost use Rattle.std.specs.Arc.{arc_value};
 ghost use Rattle.bk_rules.specs.Fold.{HasRoom};
+ghost use Rattle.bk_conflicts.specs.SceneOf.{CanRunOn};
 
 use crate::given::Given;
 use anyhow::{Result, bail};
+use bk_conflicts::Plan;
 use bk_digest::tree_root_with;
 use bk_frames::Feed;
 use bk_ledger::{Batches, Ledger};
-use bk_pool::{ExecFault, Open, Outcome, execute_all};
+use bk_pool::{ExecFault, Open, Outcome, execute};
 use bk_report::leaves_of;
 use bk_rules::{Receipt, State};
 use bk_tx::Tx;
 use std::alloc::Global;
-use std::sync::Wait;
+use std::sync::{Arc, Wait};
 use std::thread::Threads;
 
 const MOST: usize = 1 << 31;
@@ -99,6 +102,28 @@ pub(crate) fn given_in_slices<R: Threads + Wait + Sync>(
     }
 }
 
+// The plan of the transactions of a feed, and the opening accounts.
+fn planned(alloc: Global, feed: &Feed) -> Result<(Plan, State)>
+    ensures { IfOk result (λ r. CanRunOn r.0 r.1) }
+{
+    let Batches { txs, .. } = Batches::of(alloc, feed)?;
+    let mut state = State::new(alloc, feed.version(), feed.genesis())?;
+    state.prepare(alloc, &txs)?;
+    if txs.len() >= MOST || state.ids().len() >= MOST {
+        bail!("too many");
+    }
+    let plan = Plan::make(alloc, state.version(), state.ids(), txs)?;
+    Ok((plan, state))
+}
+
+// The same with a plan that threads can share.
+fn prepared(alloc: Global, feed: &Feed) -> Result<(Arc<Plan>, State)>
+    ensures { IfOk result (λ r. CanRunOn (arc_value r.0) r.1) }
+{
+    let (plan, state) = planned(alloc, feed)?;
+    Ok((Arc::new(alloc, plan)?, state))
+}
+
 // All transactions of a feed at once, by this many workers.
 fn executed<R: Threads + Wait + Sync>(
     rt: &R,
@@ -108,13 +133,8 @@ fn executed<R: Threads + Wait + Sync>(
 ) -> Result<Outcome>
     requires workers { (1 ≤ workers) × (workers ≤ 64) }
 {
-    let Batches { txs, .. } = Batches::of(alloc, feed)?;
-    let mut state = State::new(alloc, feed.version(), feed.genesis())?;
-    state.prepare(alloc, &txs)?;
-    if txs.len() >= MOST || state.ids().len() >= MOST {
-        bail!("too many");
-    }
-    match execute_all(rt, alloc, state, txs, workers, &Open) {
+    let (plan, state) = prepared(alloc, feed)?;
+    match execute(rt, alloc, &plan, state, workers, &Open) {
         Ok(outcome) => Ok(outcome),
         Err(ExecFault::OutOfMemory) => bail!("out of memory"),
         Err(ExecFault::Unfinished(place)) => bail!("place {place} is not done"),

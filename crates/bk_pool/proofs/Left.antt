@@ -1,8 +1,7 @@
 -- What the words of a closed bank say of the run that left them.
-use Rattle.std.proofs.Common.{◌≡◌, ℕ, ◌+◌, ◌*◌, ◌^◌, ◌≤◌, List, [], ◌++◌, get_or, Option, sym, ap, ◌∙◌, subst, arith}
+use Rattle.std.proofs.Common.{◌≡◌, ℕ, ◌+◌, ◌*◌, ◌^◌, ◌≤◌, List, [], ◌++◌, get_or, sym, ap, ◌∙◌, subst, arith}
 use Rattle.bk_base.specs.declared.genesis.Row.{Row}
 use Rattle.bk_base.specs.declared.version.Version.{Version}
-use Rattle.bk_tx.specs.Transaction.{Transaction}
 use Rattle.bk_rules.specs.declared.receipt.Receipt.{Receipt}
 use Rattle.bk_rules.specs.Fold.{state_after, receipts_of}
 use Rattle.bk_rules.specs.Ledger.{Ledger}
@@ -11,15 +10,13 @@ use Rattle.bk_conflicts.specs.SceneOf.{CanRunOn}
 use Rattle.bk_conflicts.specs.SceneOf as executions
 use Rattle.bk_steps.specs.Course.{Course}
 use Rattle.bk_steps.specs.Moves.{IsWholeRun}
-use Rattle.bk_steps.specs.Left.{LeaveByRun, RunLeaves}
+use Rattle.bk_steps.specs.Left.{RunLeaves}
 use Rattle.bk_steps.specs.declared.event.Event.{Event}
-use Rattle.bk_steps.specs.declared.outcome.Outcome.{Outcome}
 use Rattle.bk_steps.proofs.Leaving.{run_leaves}
 use Rattle.bk_bank.specs.Setting.{scene_of, setting_with}
 use Rattle.bk_bank.specs.Words.{WordsData, AllFinished}
 use Rattle.bk_bank.proofs.Settings.{scene_places, scene_words}
 use Rattle.bk_pool.specs.Outcomes.{IsClosed, IsFoldOnto, RunLeavesOnto}
-use Rattle.bk_pool.specs.private.Prepared.{IsPlanOf}
 
 -- where all places are done, the events that led to the words are a whole run
 pub whole_run : (plan : PlanValue) (ledger : Ledger) (w : WordsData) → IsClosed plan ledger w → AllFinished w
@@ -62,8 +59,3 @@ pub ran_alone : (plan : PlanValue) (ledger : Ledger) (old : List Receipt) → ol
     → RunLeavesOnto plan ledger old new after → RunLeaves plan ledger new after.rows
 ran_alone plan ledger old none new after (added, is, left) =
     subst (λ (rs : List Receipt). RunLeaves plan ledger rs after.rows) (sym (is ∙ ap (λ (rs : List Receipt). rs ++ added) none)) left
-
--- by the plan that was made of transactions
-pub ran_all : (txs : List (Option Transaction)) (ledger : Ledger) (plan : PlanValue) → IsPlanOf txs ledger plan → IsPlan plan → CanRunOn plan ledger
-    → (o : Outcome) → RunLeaves plan ledger o.receipts.items o.state.rows → LeaveByRun txs ledger o.receipts.items o.state.rows
-ran_all txs ledger plan made is runs o left = record { plan = plan; is_plan = is; txs_are = made.txs_are; can_run = runs; left = left }

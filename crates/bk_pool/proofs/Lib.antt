@@ -2,4 +2,3 @@ pub mod WordsOfPlace
 pub mod Ended
 pub mod Folds
 pub mod Left
-pub mod Prepared

@@ -17,4 +17,4 @@ pub use hints::{Hints, Nobody};
 pub use laws::scenes_show_receipts;
 pub use outcome::{ExecFault, outcome_of, outcome_onto};
 pub use place::{Gate, Open, run_place};
-pub use run::{execute, execute_all, execute_here, execute_here_onto, execute_onto, execute_with};
+pub use run::{execute, execute_here_onto, execute_onto, execute_with};

@@ -1,16 +1,12 @@
 //! All places of a plan, by any number of workers.
-ghost use Rattle.std.specs.Prelude.{◌≡◌, ◌^◌, ◌<◌, ◌≤◌, true, IfOk, IfErr, length, vec_len};
+ghost use Rattle.std.specs.Prelude.{◌≡◌, ◌≤◌, IfOk, IfErr, length, vec_len};
 ghost use Rattle.std.specs.Arc.{arc_value};
-ghost use Rattle.bk_rules.specs.Fold.{state_after, receipts_of, HasRoom};
-ghost use Rattle.bk_rules.specs.Ledger.{are_covered};
 ghost use Rattle.bk_conflicts.specs.SceneOf.{CanRunOn};
 ghost use Rattle.bk_bank.specs.Bank.{bank_scene, IsPassOf};
 ghost use Rattle.bk_pool.specs.Reads.{IsBankOf};
-ghost use Rattle.bk_conflicts.specs.Plan.{IsPlan};
 ghost use Rattle.bk_steps.specs.Schedule.{IsFoldOf};
-ghost use Rattle.bk_steps.specs.Left.{RunLeaves, LeaveByRun};
+ghost use Rattle.bk_steps.specs.Left.{RunLeaves};
 ghost use Rattle.bk_pool.specs.Outcomes.{IsBelow, IsClosed, IsFoldOnto, RunLeavesOnto};
-ghost use Rattle.bk_pool.specs.private.Prepared.{IsPlanOf};
 
 use crate::deques::ends_for;
 use crate::hints::{Hints, Nobody};
@@ -22,59 +18,9 @@ use bk_bank::{Bank, Pass, Words};
 use bk_conflicts::Plan;
 use bk_rules::{Receipt, State};
 use bk_steps::Outcome;
-use bk_tx::Tx;
 use std::alloc::{AllocError, Global};
 use std::sync::{Arc, Wait};
 use std::thread::Threads;
-
-/// Executes transactions from a state, with 1 to 64 workers. The accounts and the receipts are what
-/// the transactions give one at a time, however the workers run.
-///
-/// Each account that they declare has a slot in version Two: `State::prepare` makes them. A plan has fewer than
-/// `bk_conflicts::SLOTS_END` slots. Opening accounts have room for fewer than 2^63 transactions in all
-/// (`bk_rules::room_is_left`).
-///
-/// `OutOfMemory` where the plan, the words of its execution, the workers' queues or the receipts get no memory;
-/// `Unfinished` where a worker took a place and did not finish it.
-pub fn execute_all<R: Threads + Wait + Sync, G: Gate + Sync>(
-    rt: &R,
-    alloc: Global,
-    state: State,
-    txs: Vec<Option<Tx>>,
-    workers: usize,
-    gate: &G,
-) -> Result<Outcome, ExecFault>
-    requires covered { are_covered state.version state.slots txs.items ≡ true }
-    requires room { HasRoom state.version (length txs.items) state.rows }
-    requires few { length txs.items < 2 ^ 31 }
-    requires few_slots { length state.slots < 2 ^ 31 }
-    requires workers { (1 ≤ workers) × (workers ≤ 64) }
-    ensures version { IfOk result (λ o. o.state.version ≡ state.version) }
-    ensures rows { IfOk result (λ o. o.state.rows
-        ≡ state_after state.version txs.items state.rows) }
-    ensures receipts { IfOk result (λ o. o.receipts.items
-        ≡ receipts_of state.version txs.items state.rows) }
-    ensures ran { IfOk result (λ o.
-        LeaveByRun txs.items state o.receipts.items o.state.rows) }
-    ensures unfinished { IfErr result (λ e. IsBelow (length txs.items) e) }
-{
-    let plan = plan_of(alloc, &state, txs)?;
-    execute(rt, alloc, &plan, state, workers, gate)
-}
-
-// The plan of transactions, all of whose accounts have a slot. It can run on the state.
-fn plan_of(alloc: Global, state: &State, txs: Vec<Option<Tx>>) -> Result<Arc<Plan>, AllocError>
-    requires covered { are_covered state.now.version state.now.slots txs.items ≡ true }
-    requires few { length txs.items < 2 ^ 31 }
-    requires few_slots { length state.now.slots < 2 ^ 31 }
-    requires room { HasRoom state.now.version (length txs.items) state.now.rows }
-    ensures plan { IfOk result (λ p. IsPlanOf txs.items state.now (arc_value p)) }
-    ensures is_plan { IfOk result (λ p. IsPlan (arc_value p)) }
-    ensures runs { IfOk result (λ p. CanRunOn (arc_value p) state.now) }
-{
-    let plan = Plan::make(alloc, state.version(), state.ids(), txs)?;
-    Ok(Arc::new(alloc, plan)?)
-}
 
 /// Executes a plan from a state that it can run on, with one worker for each end. Nothing is asked
 /// of the hints: what the workers leave, the calling thread executes after them.
@@ -101,26 +47,10 @@ pub fn execute_with<R: Threads + Wait + Sync, G: Gate + Sync, H: Hints + Send + 
     outcome_of(alloc, plan, state, &words)
 }
 
-/// Executes a plan from a state that it can run on, in the calling thread. No thread is started.
+/// Executes a plan from a state that it can run on, in the calling thread, and puts the receipts at the end of a list. No
+/// thread is started. On an `Err` the list has what it had before.
 ///
 /// `Unfinished` names a place that was taken and not finished.
-pub fn execute_here<G: Gate>(
-    alloc: Global,
-    plan: &Arc<Plan>,
-    state: State,
-    gate: &G,
-) -> Result<Outcome, ExecFault>
-    requires runs { CanRunOn (arc_value plan.now) state }
-    ensures fold { IfOk result (λ o. IsFoldOf (arc_value plan.now) state o) }
-    ensures ran { IfOk result (λ o.
-        RunLeaves (arc_value plan.now) state o.receipts.items o.state.rows) }
-    ensures unfinished { IfErr result (λ e. IsBelow (length (arc_value plan.now).txs) e) }
-{
-    let done = run_here(alloc, plan, &state, gate)?;
-    outcome_of(alloc, plan, state, &done)
-}
-
-/// The same, with the receipts at the end of a list. On an `Err` the list has what it had before.
 pub fn execute_here_onto<G: Gate>(
     alloc: Global,
     plan: &Arc<Plan>,

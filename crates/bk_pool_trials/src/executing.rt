@@ -9,7 +9,7 @@ use bk_base::Row;
 use bk_conflicts::{Plan, Planner};
 use bk_frames::Feed;
 use bk_ledger::{Batches, Ledger};
-use bk_pool::{ExecFault, Gate, Hints, Open, Outcome, execute, execute_all, execute_with};
+use bk_pool::{ExecFault, Gate, Hints, Open, Outcome, execute, execute_with};
 use bk_rules::{Receipt, State};
 use std::alloc::Global;
 use std::sync::{Arc, Wait};
@@ -71,13 +71,8 @@ pub(crate) fn executed<R: Threads + Wait + Sync, G: Gate + Sync>(
 ) -> Result<Outcome>
     requires workers { (1 ≤ workers) × (workers ≤ 64) }
 {
-    let Batches { txs, .. } = Batches::of(alloc, feed)?;
-    let mut state = State::new(alloc, feed.version(), feed.genesis())?;
-    state.prepare(alloc, &txs)?;
-    if txs.len() >= MOST || state.ids().len() >= MOST {
-        bail!("too many");
-    }
-    whole(execute_all(rt, alloc, state, txs, workers, gate))
+    let (plan, state) = prepared(alloc, feed, &[])?;
+    whole(execute(rt, alloc, &plan, state, workers, gate))
 }
 
 /// The same by the plan, which was made with these likely slots.

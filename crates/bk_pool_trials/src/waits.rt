@@ -7,8 +7,9 @@ use bk_tx::Tx;
 fn are_in_conflict(plan: &Plan, first: &Tx, second: &Tx) -> bool {
     let (a, b) = (first.declared(), second.declared());
     for id in 1..9u64 {
-        let is_shared = plan.ids().contains(id) && a.declares(id) && b.declares(id);
-        if is_shared && (a.writes(id) || b.writes(id)) {
+        let is_shared = a.declared_at(id).is_some() && b.declared_at(id).is_some();
+        let is_written = a.writable_at(id).is_some() || b.writable_at(id).is_some();
+        if plan.ids().contains(id) && is_shared && is_written {
             return true;
         }
     }
@@ -118,8 +119,12 @@ fn words_declared(plan: &Plan, tx: &Tx) -> usize {
 
 // Whether a word is of an account that the transaction declares in this way.
 fn is_declared(plan: &Plan, tx: &Tx, word: &WordRef) -> bool {
+    let declared = tx.declared();
     match plan.accounts().get(word.word as usize / 2) {
-        Some(id) => tx.declared().declares(*id) && tx.declared().writes(*id) == word.writable,
+        Some(id) => {
+            declared.declared_at(*id).is_some()
+                && declared.writable_at(*id).is_some() == word.writable
+        }
         None => false,
     }
 }

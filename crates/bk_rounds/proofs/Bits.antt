@@ -19,7 +19,7 @@ has_union s t y = (
     either : ((Has s y → ⊥) → Has t y) → Has s y ⊎ Has t y
     either h = ⊎_elim (λ e. inl e) (λ n. inr (h n)) (cases_eq (bit_at s y) 1)
 
-pub has_common : (s t y : ℕ) → Has (bit_and s t) y ↔ (Has s y × Has t y)
+has_common : (s t y : ℕ) → Has (bit_and s t) y ↔ (Has s y × Has t y)
 has_common s t y = (
   (λ h. (omega (arith, bit_at_and s t y, bit_at-lt s y, bit_at-lt t y, h), omega (arith, bit_at_and s t y, bit_at-lt s y, bit_at-lt t y, h))),
   (λ h. omega (arith, bit_at_and s t y, h.0, h.1)),

@@ -57,15 +57,6 @@ impl Members {
         }
     }
 
-    /// Who is in both.
-    pub fn common(self, other: Self) -> Self
-        ensures { (y : ℕ) → Has result y ↔ (Has self y × Has other y) }
-    {
-        Members {
-            bits: self.bits & other.bits,
-        }
-    }
-
     /// Who is in this set and not in the other.
     pub fn without(self, other: Self) -> Self
         ensures { (y : ℕ) → Has result y ↔ (Has self y × (Has other y → ⊥)) }

@@ -5,7 +5,7 @@ ghost use Rattle.bk_conflicts.specs.SceneOf.{CanRunOn, scene_of, in_words};
 ghost use Rattle.bk_steps.specs.Course.{Course, opened};
 ghost use Rattle.bk_steps.specs.Moves.{AllAreDone};
 ghost use Rattle.bk_steps.specs.Schedule.{IsFoldOf, IsUndone};
-ghost use Rattle.bk_steps.specs.Machine.{Shows, scene_in, IsMachine};
+ghost use Rattle.bk_steps.specs.Machine.{Shows, scene_in};
 ghost use Rattle.bk_steps.specs.Steps.{Steps, IsRefused, word_of, learned};
 ghost use Rattle.bk_steps.specs.declared.event.Event.TheVariants.{Claim, Read, Write, Finish};
 
@@ -69,14 +69,6 @@ impl Machine {
             seats,
             waits,
         })
-    }
-
-    /// How many workers there are.
-    pub fn workers(&self) -> usize
-        ensures count { result ≡ length self.now.seats }
-        ensures machine { IsMachine self.now }
-    {
-        self.seats.len()
     }
 
     /// The worker takes the place. Where it may not, nothing changes.

@@ -1,5 +1,5 @@
 -- The summary of what was made of a feed is that of the feed.
-use Rattle.std.proofs.Common.{◌≡◌, ℕ, suc, ◌+◌, ◌-◌, ◌^◌, ◌<◌, ◌≤◌, Bool, true, false, cond, List, [], ◌∷◌, length, drop, map, Option, Some, refl, sym, ap, subst, ◌∙◌, arith}
+use Rattle.std.proofs.Common.{◌≡◌, ℕ, suc, ◌+◌, ◌-◌, ◌^◌, ◌<◌, ◌≤◌, Bool, true, false, cond, List, [], ◌∷◌, length, drop, map, Option, refl, sym, ap, subst, ◌∙◌, arith}
 use Rattle.std.specs.Prelude.{count_by, filter, is_some, not}
 use Rattle.std.proofs.lemmas.List.{length-drop}
 use Rattle.std.proofs.lemmas.List.Sums.{length-filter}
@@ -11,12 +11,10 @@ use Rattle.bk_base.specs.declared.version.Version.{Version}
 use Rattle.bk_committee.specs.Payload.{CommitteeValue, committee_bytes, committee_of, sizes_of}
 use Rattle.bk_committee.specs.Sizes.{Sizes}
 use Rattle.bk_cert.specs.declared.place.CertRef.{CertRef}
-use Rattle.bk_order.specs.Frames.{AreCerts, AreRejects}
-use Rattle.bk_order.specs.Intake.{HasTaken, Taken, first_later_frame}
-use Rattle.bk_order.specs.Orders.{AreRoundsOf, AreWaiting, IsOrderOf}
-use Rattle.bk_order.specs.Stops.{HasNoStop}
+use Rattle.bk_order.specs.Frames.{AreRejects}
+use Rattle.bk_order.specs.Intake.{Taken, first_later_frame}
+use Rattle.bk_order.specs.Orders.{AreRoundsOf, AreWaiting}
 use Rattle.bk_order.specs.Tally.{IsTallyOf, digests_in}
-use Rattle.bk_commit.specs.Ordering.{IsCommitted}
 use Rattle.bk_rounds.specs.Rounds.{RoundsValue}
 use Rattle.bk_tx.specs.Batches.{count_in}
 use Rattle.bk_report.specs.RunLines.{Reading}

@@ -7,7 +7,7 @@ use Rattle.sha2.specs.Sha256.{sha256}
 use Rattle.bk_cert.specs.declared.place.CertRef.{CertRef}
 use Rattle.bk_cert.proofs.Lists.{contains_first, contains_later, in_map}
 use Rattle.bk_commit.specs.Ordering.{IsCommitted}
-use Rattle.bk_flatten.specs.Batches.{digests_of, once}
+use Rattle.bk_flatten.specs.Batches.{once}
 use Rattle.bk_flatten.specs.Batches as flatten
 use Rattle.bk_flatten.proofs.Orders.{one_order, order_present}
 use Rattle.bk_order.specs.Orders.{Ordered}

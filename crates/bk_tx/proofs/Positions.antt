@@ -1,25 +1,9 @@
 -- The index that a search gives.
-use Rattle.std.proofs.Common.{◌≡◌, ℕ, suc, ◌+◌, ◌<◌, Bool, true, false, cond, not, ◌||◌, ltb, List, [], ◌∷◌, length, map, get_or, Some, None, is_some, refl, ap, ◌∙◌, arith}
-use Rattle.std.specs.List.{list_any, position, position_or_len}
+use Rattle.std.proofs.Common.{◌≡◌, ℕ, ◌+◌, ◌<◌, Bool, true, false, cond, not, ltb, List, [], ◌∷◌, length, map, get_or, Some, None, refl, ap, arith}
+use Rattle.std.specs.List.{position, position_or_len}
 use Rattle.std.proofs.lemmas.Bool.Decides.{nat_tests}
 use Rattle.std.proofs.lemmas.List.{length-map}
 use Rattle.std.proofs.lemmas.List.Sums.{position_or_len_is}
-
--- an index is found exactly where one passes
-found_by_len : {X : Type 0} (p : X → Bool) (xs : List X) → ltb (position_or_len p xs) (length xs) ≡ list_any p xs
-found_by_len p [] = refl
-found_by_len p (x ∷ xs) = by_test (p x) (found_by_len p xs)
-  where
-    by_test : (b : Bool) → ltb (position_or_len p xs) (length xs) ≡ list_any p xs → ltb (cond (not b) (1 + position_or_len p xs) 0) (suc (length xs)) ≡ (b || list_any p xs)
-    by_test true rest = grind (arith, nat_tests)
-    by_test false rest = (let same : ltb (1 + position_or_len p xs) (suc (length xs)) ≡ ltb (position_or_len p xs) (length xs) = grind (arith, nat_tests) in same) ∙ rest
-
-pub position_is : {X : Type 0} (p : X → Bool) (xs : List X) → is_some (position p xs) ≡ list_any p xs
-position_is p xs = by_test (ltb (position_or_len p xs) (length xs)) ∙ found_by_len p xs
-  where
-    by_test : (b : Bool) → is_some (cond b (Some (position_or_len p xs)) None) ≡ b
-    by_test true = refl
-    by_test false = refl
 
 first-map : {X Y : Type 0} (f : X → Y) (p : Y → Bool) (xs : List X) → position_or_len p (map f xs) ≡ position_or_len (λ x. p (f x)) xs
 first-map f p [] = refl

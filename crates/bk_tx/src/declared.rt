@@ -1,7 +1,7 @@
 ghost use Rattle.std.specs.Prelude.{◌≡◌, ◌==◌, ◌&&◌, ◌^◌, ◌<◌, ◌≤◌, ℕ, false, [], ◌∷◌, ◌++◌, length, IfSome, IsSome, ◌↔◌, slice_index, slice_index_or};
 ghost use Rattle.std.specs.List.{position};
 ghost use Rattle.bk_base.specs.Numbers.{is_ascending};
-ghost use Rattle.bk_tx.specs.Access.{writes, declares, declared_ids, no_declared, IdsFit};
+ghost use Rattle.bk_tx.specs.Access.{declared_ids, no_declared, IdsFit};
 
 use std::marker::Model;
 
@@ -155,20 +155,6 @@ impl Declarations {
         ensures { result ≡ position (λ d. d.id == id) self.now }
     {
         index_of(self.ids(), id)
-    }
-
-    /// Whether the account is declared for writing.
-    pub fn writes(&self, id: u64) -> bool
-        ensures { result ≡ writes self.now id }
-    {
-        self.writable_at(id).is_some()
-    }
-
-    /// Whether the account is declared at all.
-    pub fn declares(&self, id: u64) -> bool
-        ensures { result ≡ declares self.now id }
-    {
-        self.declared_at(id).is_some()
     }
 
     // Whether each id is below the one after it.

@@ -135,7 +135,8 @@ fn expect_one_length(rt: &impl Abort, alloc: Global, text: &[u8]) -> Result<(), 
 fn pay_is_read(rt: HostRuntime) -> Result<(), Fail> {
     let tx = Tx::decode(&PAY).ok_or("the bytes are a payment")?;
     assert!(rt; tx.declared().ids() == [1, 2].as_slice());
-    assert!(rt; tx.declared().writes(1) && tx.declared().writes(2));
+    assert!(rt; tx.declared().writable_at(1) == Some(0));
+    assert!(rt; tx.declared().writable_at(2) == Some(1));
     assert!(rt; tx.seq() == 0 && tx.from() == 1);
     assert!(rt; matches!(tx.body(), Body::Pay { to: 2, amount: 30 }));
     expect_bytes(&rt, rt.alloc(), &tx, &PAY)
@@ -169,10 +170,10 @@ fn pay_if_is_read(rt: HostRuntime) -> Result<(), Fail> {
 fn a_guard_is_declared_for_reading(rt: HostRuntime) -> Result<(), Fail> {
     let tx = Tx::decode(&PAY_IF).ok_or("the bytes are a payment")?;
     let declared = tx.declared();
-    assert!(rt; declared.writes(258) && !declared.writes(7));
-    assert!(rt; declared.declares(7) && !declared.declares(2));
-    assert!(rt; declared.declared_at(258) == Some(2));
+    assert!(rt; declared.writable_at(258) == Some(2));
     assert!(rt; declared.writable_at(7).is_none());
+    assert!(rt; declared.declared_at(7).is_some() && declared.declared_at(2).is_none());
+    assert!(rt; declared.declared_at(258) == Some(2));
     Ok(())
 }
 

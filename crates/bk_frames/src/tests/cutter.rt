@@ -1,5 +1,5 @@
 use super::{EMPTY_LEDGER, offset_of_cut, read};
-use crate::{Cutter, FaultCode, Feed, FeedFault, frames_of_pieces};
+use crate::{Cutter, FaultCode, Feed, FeedFault};
 use bk_base::{Kind, Version};
 use std::alloc::{AllocError, Global};
 use std::process::Abort;
@@ -172,16 +172,5 @@ fn cuts_the_longest_frame_byte_by_byte(rt: HostRuntime) -> Result<(), Fail> {
     let frames = cutter.feed(b"a")?;
     assert!(rt; frames.len() == 1 && frames[0].1.len() == 16_777_216);
     assert!(rt; cutter.end().is_ok());
-    Ok(())
-}
-
-#[test]
-fn joins_the_frames_of_pieces(rt: HostRuntime) -> Result<(), Fail> {
-    let alloc = rt.alloc();
-    let mut pieces = Vec::new(alloc);
-    for piece in EMPTY_LEDGER.chunks(10) {
-        pieces.push(Vec::from_slice(alloc, piece)?)?;
-    }
-    assert_eq!(rt; frames_of_pieces(alloc, &pieces)?.len(), 2);
     Ok(())
 }

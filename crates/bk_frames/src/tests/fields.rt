@@ -15,8 +15,8 @@ fn reads_numbers(rt: HostRuntime) {
 fn reads_parts(rt: HostRuntime) {
     let text = [7u8; 33];
     let mut fields = Fields::new(&text);
-    assert!(rt; fields.bytes32() == Some([7u8; 32].as_slice()));
-    assert!(rt; fields.bytes32().is_none());
+    assert!(rt; fields.take(32) == Some([7u8; 32].as_slice()));
+    assert!(rt; fields.take(32).is_none());
     assert!(rt; fields.take(1) == Some([7u8].as_slice()));
     assert!(rt; fields.rest().is_empty());
 }

@@ -1,5 +1,5 @@
 -- What writing a summary leaves.
-use Rattle.std.specs.Prelude.{ℕ, ◌<◌, length, take}
+use Rattle.std.specs.Prelude.{◌<◌, length, take}
 use Rattle.bk_frames.specs.Device.{Device, Fails, Receives}
 use Rattle.bk_results.specs.declared.fault.Fault.{Fault}
 use Rattle.bk_results.specs.declared.fault.Fault.TheVariants as fault

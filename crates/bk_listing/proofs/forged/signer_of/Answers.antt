@@ -1,5 +1,5 @@
-use Rattle.std.proofs.Common.{◌≡◌, ◌≢◌, ℕ, ◌+◌, ◌<◌, ◌≤◌, ◌^◌, List, [], length, get_or, Option, Some, IsTrue, refl, sym, ap, subst, ◌∙◌, arith, rules}
-use Rattle.bk_cert.specs.Mask.{is_signer, signers_of}
+use Rattle.std.proofs.Common.{◌≡◌, ◌≢◌, ℕ, ◌+◌, List, [], length, Some, refl, sym, ap, ◌∙◌, arith}
+use Rattle.bk_cert.specs.Mask.{is_signer}
 use Rattle.bk_cert.specs.Identity.{tag_of}
 use Rattle.std.specs.Prelude.{slice_index_or}
 use Rattle.bk_cert.proofs.Marks.{marked, marked_below, count_short}

@@ -1,8 +1,6 @@
-use Rattle.std.proofs.Common.{◌≡◌, ◌≢◌, ℕ, ◌+◌, ◌<◌, ◌≤◌, ◌^◌, List, [], length, get_or, Option, Some, IsTrue, refl, sym, ap, subst, ◌∙◌, arith, rules}
-use Rattle.std.specs.Prelude.{IfSome}
+use Rattle.std.proofs.Common.{◌≡◌, ℕ, ◌<◌, length, Some, IsTrue, sym, ap, subst, ◌∙◌, arith}
 use Rattle.bk_cert.specs.Mask.{is_signer}
 use Rattle.bk_cert.specs.Values.{CertValue}
-use Rattle.bk_cert.specs.Spelling.{IsCertificate}
 use Rattle.bk_certcheck.specs.declared.rule.Rule.TheVariants as rule
 use Rattle.bk_certcheck.proofs.Signers.{signers_are_members}
 use Rattle.bk_listing.proofs.forged.wrong_signer.Goals as goal
