@@ -22,7 +22,7 @@ use Rattle.bk_base.specs.declared.refused.Refused as refused
 use Rattle.bk_base.specs.declared.refused.Refused.TheVariants as reason
 use Rattle.bk_cli.specs.FaultLines.{digits_of, line_of}
 use Rattle.bk_cli.specs.Files.{about_of, name_of}
-use Rattle.bk_cli.specs.declared.about.About.TheVariants as about
+use Rattle.bk_cli.specs.declared.about.FaultSubject.TheVariants as about
 use Rattle.bk_cli.specs.declared.remarks.Remarks.{Remarks}
 use Rattle.bk_cli.specs.declared.job.Job.{Job}
 use Rattle.bk_cli.specs.declared.job_fault.JobFault.{JobFault}

@@ -7,8 +7,8 @@ use Rattle.bk_results.specs.declared.fault.Fault.{Fault}
 use Rattle.bk_results.specs.declared.fault.Fault.TheVariants as replay
 use Rattle.bk_results.specs.declared.script_fault.ScriptFault.{ScriptFault}
 use Rattle.bk_results.specs.declared.script_fault.ScriptFault.TheVariants as text
-use Rattle.bk_cli.specs.declared.about.About.{About}
-use Rattle.bk_cli.specs.declared.about.About.TheVariants as about
+use Rattle.bk_cli.specs.declared.about.FaultSubject.{FaultSubject}
+use Rattle.bk_cli.specs.declared.about.FaultSubject.TheVariants as about
 use Rattle.bk_cli.specs.declared.job.Job.{Job}
 use Rattle.bk_cli.specs.declared.job.Job.TheVariants as job
 use Rattle.bk_cli.specs.declared.job_fault.JobFault.{JobFault}
@@ -85,7 +85,7 @@ reads_beside (job.Follow workers shown accounts wait file) = true
 reads_beside other = false
 
 -- a feed that was not replayed: a failed write is about the output
-abbrev pub replay_about : Fault → About
+abbrev pub replay_about : Fault → FaultSubject
 replay_about (replay.Feed found) = about.First
 replay_about (replay.Collision id) = about.First
 replay_about (replay.Equivocation round author first second) = about.First
@@ -94,20 +94,20 @@ replay_about (replay.Write written) = about.Output
 replay_about replay.Memory = about.First
 
 -- a text that was not read or answered: of a text beside a feed only reading fails
-abbrev pub text_about : Job → ScriptFault → About
+abbrev pub text_about : Job → ScriptFault → FaultSubject
 text_about j (text.Script line found) = about.First
 text_about j text.Read = if reads_beside j then about.Second else about.First
 text_about j (text.Write written) = about.Output
 text_about j text.Memory = about.First
 
 -- two feeds: what only both together show is said of the second
-abbrev pub compare_about : CompareStop → About
+abbrev pub compare_about : CompareStop → FaultSubject
 compare_about (compared.First e) = replay_about e
 compare_about (compared.Second e) = about.Second
 compare_about (compared.Differ e) = about.Second
 
 -- what a fault of a job is about
-abbrev pub about_of : Job → JobFault → About
+abbrev pub about_of : Job → JobFault → FaultSubject
 about_of j (fault.Replay e) = replay_about e
 about_of j (fault.Text e) = text_about j e
 about_of j (fault.Events e) = about.Second
@@ -118,7 +118,7 @@ about_of j (fault.AbsentAccount id missing) = about.First
 about_of j (fault.AbsentPlace place missing) = about.First
 
 -- its name: a path, or standard input or output
-abbrev pub name_of : Job → About → List ℕ
+abbrev pub name_of : Job → FaultSubject → List ℕ
 name_of j about.First = input_name (file_of j)
 name_of j about.Second = input_name (second_file_of j)
 name_of j about.Output = codes "standard output"

@@ -9,7 +9,7 @@ use bk_results::{CompareStop, Fault, ScriptFault};
 
 /// What a fault is about.
 #[derive(Clone, Copy)]
-pub(crate) enum About {
+pub(crate) enum FaultSubject {
     /// The first file of the job, or standard input.
     First,
     /// The second.
@@ -19,34 +19,34 @@ pub(crate) enum About {
 }
 
 // What is wrong where a feed was not replayed.
-fn about_replay(fault: &Fault) -> About
+fn about_replay(fault: &Fault) -> FaultSubject
     ensures { result ≡ replay_about fault.now }
 {
     match fault {
-        Fault::Write { .. } => About::Output,
-        _ => About::First,
+        Fault::Write { .. } => FaultSubject::Output,
+        _ => FaultSubject::First,
     }
 }
 
 // What is wrong where a text was not read or answered.
-fn about_text(job: &Job, fault: &ScriptFault) -> About
+fn about_text(job: &Job, fault: &ScriptFault) -> FaultSubject
     ensures { result ≡ text_about job.now fault.now }
 {
     match (fault, job) {
-        (ScriptFault::Write { .. }, _) => About::Output,
+        (ScriptFault::Write { .. }, _) => FaultSubject::Output,
         (ScriptFault::Read, Job::CheckReport { .. } | Job::Pick { .. } | Job::Follow { .. }) =>
-            About::Second,
-        _ => About::First,
+            FaultSubject::Second,
+        _ => FaultSubject::First,
     }
 }
 
 // What is wrong where two feeds do not agree.
-fn about_compare(stop: &CompareStop) -> About
+fn about_compare(stop: &CompareStop) -> FaultSubject
     ensures { result ≡ compare_about stop.now }
 {
     match stop {
         CompareStop::First(fault) => about_replay(fault),
-        CompareStop::Second(_) | CompareStop::Differ(_) => About::Second,
+        CompareStop::Second(_) | CompareStop::Differ(_) => FaultSubject::Second,
     }
 }
 
@@ -60,19 +60,19 @@ fn input_name(path: Option<&str>) -> &str
     }
 }
 
-impl About {
+impl FaultSubject {
     /// What a fault of a job is about.
-    pub(crate) fn of(job: &Job, fault: &JobFault) -> About
+    pub(crate) fn of(job: &Job, fault: &JobFault) -> FaultSubject
         ensures { result ≡ about_of job.now fault.now }
     {
         match fault {
             JobFault::Replay(fault) => about_replay(fault),
             JobFault::Text(fault) => about_text(job, fault),
-            JobFault::Events(_) | JobFault::Accounts { .. } => About::Second,
+            JobFault::Events(_) | JobFault::Accounts { .. } => FaultSubject::Second,
             JobFault::Compared(stop) => about_compare(stop),
             JobFault::Links { .. }
             | JobFault::AbsentAccount { .. }
-            | JobFault::AbsentPlace { .. } => About::First,
+            | JobFault::AbsentPlace { .. } => FaultSubject::First,
         }
     }
 
@@ -81,9 +81,9 @@ impl About {
         ensures { result.now ≡ name_of job.now self }
     {
         match self {
-            About::First => input_name(job.file()),
-            About::Second => input_name(job.second_file()),
-            About::Output => "standard output",
+            FaultSubject::First => input_name(job.file()),
+            FaultSubject::Second => input_name(job.second_file()),
+            FaultSubject::Output => "standard output",
         }
     }
 }

@@ -6,7 +6,7 @@ ghost use Rattle.bk_frames.specs.Writing.{Writes};
 ghost use Rattle.bk_cli.specs.Explanations.{gap_note, gap_words, remarks_told, tag_note, tag_words};
 ghost use Rattle.bk_cli.specs.FaultLines.{Reports, StopsReport};
 
-use crate::about::About;
+use crate::about::FaultSubject;
 use crate::explain::{put_gap, put_wrong_tag};
 use crate::job::Job;
 use crate::line::{ShortLine, put_text};
@@ -87,9 +87,9 @@ fn push_remarks<E: Sink>(job: &Job, remarks: &Remarks, err: &mut E) -> Result<()
     ensures part { IfErr result (λ _. StopsReport (remarks_told job.now remarks.now)
         (E.state err.old) (E.state err.new)) }
 {
-    push_gap(About::First.name(job), &remarks.first, err)?;
-    push_gap(About::Second.name(job), &remarks.second, err)?;
-    push_tag(About::First.name(job), &remarks.forged, err)?;
+    push_gap(FaultSubject::First.name(job), &remarks.first, err)?;
+    push_gap(FaultSubject::Second.name(job), &remarks.second, err)?;
+    push_tag(FaultSubject::First.name(job), &remarks.forged, err)?;
     Ok(())
 }
 

@@ -6,7 +6,7 @@ ghost use Rattle.bk_cli.specs.Explanations.{told, told_of};
 ghost use Rattle.bk_cli.specs.FaultLines.{Reports};
 ghost use Rattle.bk_cli.specs.Unopened.{told_unopened};
 
-use crate::about::About;
+use crate::about::FaultSubject;
 use crate::explain::in_words;
 use crate::fault_line::{fault_line, report};
 use crate::job::Job;
@@ -76,7 +76,7 @@ pub fn tell<E: Sink>(job: &Job, verbose: bool, fault: &JobFault, err: &mut E)
     requires { CanBeUsed (E.state err.old) }
     ensures { Reports (told verbose job.now fault.now) (E.state err.old) (E.state err.new) }
 {
-    tell_of(About::of(job, fault).name(job), verbose, fault, err);
+    tell_of(FaultSubject::of(job, fault).name(job), verbose, fault, err);
 }
 
 /// Reports that a file of this name could not be opened and, where `verbose` asks for words, for what reason.

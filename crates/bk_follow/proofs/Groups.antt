@@ -13,7 +13,7 @@ use Rattle.bk_frames.specs.Pulling.{Refuses}
 use Rattle.bk_frames.specs.Reading.{IsPulled, Pulls, room_of}
 use Rattle.bk_frames.proofs.CutJoining.{cuts_then}
 use Rattle.bk_frames.proofs.Pulls.{at_end}
-use Rattle.bk_follow.specs.declared.gathering.Gathered.{Gathered}
+use Rattle.bk_follow.specs.declared.gathering.Inbox.{Inbox}
 use Rattle.bk_follow.specs.private.Gathering.{HasGathered, HasPulled, CanTake, TakesWaiting, CanPull, OfPulled, PullsGroup, HasPulledGroup}
 use Rattle.bk_follow.proofs.Waiting.{can_take, took_all, took_none}
 use Rattle.bk_follow.proofs.Pulled.{cut_so_far, gathered_more, piece_came, taken_now}
@@ -123,37 +123,37 @@ can_pull_next a b before mid c0 c1 s =
 
 -- ---- the frames that waited, taken beside it
 
-pub can_take_waiting : (start now : Device) (g : Gathered) → HasPulled start now g → (version : Option Version) → g.cutter.version ≡ version → CanTake version (frames_in g.frames.items) g.opened
+pub can_take_waiting : (start now : Device) (g : Inbox) → HasPulled start now g → (version : Option Version) → g.cutter.version ≡ version → CanTake version (frames_in g.frames.items) g.opened
 can_take_waiting start now g p None known = tt
 can_take_waiting start now g p (Some version) known = (p.taken, can_take p.bytes p.taken g p.come version known)
 
 -- the same of the bytes and the frames that came
-pub can_take_all : (bytes : List ℕ) (taken : List Frame) (g : Gathered) → HasGathered bytes taken g → (version : Option Version) → g.cutter.version ≡ version → CanTake version (frames_in g.frames.items) g.opened
+pub can_take_all : (bytes : List ℕ) (taken : List Frame) (g : Inbox) → HasGathered bytes taken g → (version : Option Version) → g.cutter.version ≡ version → CanTake version (frames_in g.frames.items) g.opened
 can_take_all bytes taken g h None known = tt
 can_take_all bytes taken g h (Some version) known = (taken, can_take bytes taken g h version known)
 
 -- they were taken, and no others wait
-pub takes_waiting : (g new : Gathered) (version : Option Version) → g.cutter.version ≡ version → new.cutter ≡ g.cutter → new.frames.items ≡ [] → TakesWaiting version (frames_in g.frames.items) g.opened new.opened
+pub takes_waiting : (g new : Inbox) (version : Option Version) → g.cutter.version ≡ version → new.cutter ≡ g.cutter → new.frames.items ≡ [] → TakesWaiting version (frames_in g.frames.items) g.opened new.opened
     → (bytes : List ℕ) (taken : List Frame) → HasGathered bytes taken g → HasGathered bytes (taken ++ frames_in g.frames.items) new
 takes_waiting g new None known cut none same bytes taken h = took_none bytes taken g h new known cut same none
 takes_waiting g new (Some version) known cut none takes bytes taken h = took_all bytes taken g h new version known cut none takes
 
 -- the bytes so far, where the frames that waited are taken out
-pub taken_out : (start now : Device) (g : Gathered) (none : List (Kind × Vec ℕ)) (p : HasPulled start now g) → none ≡ [] → IsPulled start now p.bytes ((p.taken ++ frames_in g.frames.items) ++ frames_in none) g.cutter
+pub taken_out : (start now : Device) (g : Inbox) (none : List (Kind × Vec ℕ)) (p : HasPulled start now g) → none ≡ [] → IsPulled start now p.bytes ((p.taken ++ frames_in g.frames.items) ++ frames_in none) g.cutter
 taken_out start now g none p is =
     subst (λ (t : List (Kind × Vec ℕ)). IsPulled start now p.bytes ((p.taken ++ frames_in g.frames.items) ++ frames_in t) g.cutter) (sym is)
     (subst (λ (fs : List Frame). IsPulled start now p.bytes fs g.cutter) (sym (append-nil (p.taken ++ frames_in g.frames.items))) (cut_so_far start now g p))
 
-pub can_pull_behind : (start now : Device) (g : Gathered) (none : List (Kind × Vec ℕ)) (p : HasPulled start now g) → none ≡ [] → CanPull now none g.cutter
+pub can_pull_behind : (start now : Device) (g : Inbox) (none : List (Kind × Vec ℕ)) (p : HasPulled start now g) → none ≡ [] → CanPull now none g.cutter
 can_pull_behind start now g none p is = (start, p.bytes, p.taken ++ frames_in g.frames.items, taken_out start now g none p is)
 
 -- the pull was refused
-pub pull_refused : (start now later : Device) (g : Gathered) (none : List (Kind × Vec ℕ)) (fault : FeedFault) → HasPulled start now g → none ≡ [] → OfPulled now none g.cutter (λ start bytes taken. Refuses fault start later) → Refuses fault start later
+pub pull_refused : (start now later : Device) (g : Inbox) (none : List (Kind × Vec ℕ)) (fault : FeedFault) → HasPulled start now g → none ≡ [] → OfPulled now none g.cutter (λ start bytes taken. Refuses fault start later) → Refuses fault start later
 pull_refused start now later g none fault p is refused = refused start p.bytes (p.taken ++ frames_in g.frames.items) (taken_out start now g none p is)
 
-module _ (now later : Device) (g new : Gathered) (empty : Vec (Kind × Vec ℕ)) (none : empty.items ≡ []) (end : Bool) (group : PullsGroup now later empty.items new.frames.items g.cutter new.cutter end) where
+module _ (now later : Device) (g new : Inbox) (empty : Vec (Kind × Vec ℕ)) (none : empty.items ≡ []) (end : Bool) (group : PullsGroup now later empty.items new.frames.items g.cutter new.cutter end) where
   -- the frames are taken, and no others wait
-  abbrev between : Gathered
+  abbrev between : Inbox
   between = record { cutter = g.cutter; opened = new.opened; frames = empty }
 
   takes_them : (version : Option Version) → g.cutter.version ≡ version → TakesWaiting version (frames_in g.frames.items) g.opened new.opened → (bytes : List ℕ) (taken : List Frame) → HasGathered bytes taken g → HasGathered bytes (taken ++ frames_in g.frames.items) between

@@ -12,7 +12,7 @@ use Rattle.bk_follow.specs.Follower.{BookValue, FollowsBy, Follows, Followed, Ha
 use Rattle.bk_follow.specs.private.Books.{HasFollowed}
 use Rattle.bk_follow.specs.private.Gathering.{HasGathered}
 use Rattle.bk_follow.specs.private.Parts.{followed}
-use Rattle.bk_follow.specs.declared.gathering.Gathered.{Gathered}
+use Rattle.bk_follow.specs.declared.gathering.Inbox.{Inbox}
 use Rattle.bk_follow.proofs.Openings.{version_stays, no_version_before}
 
 front_empty : {X : Type 0} (xs ys : List X) → xs ++ ys ≡ [] → xs ≡ []
@@ -31,7 +31,7 @@ frames_more (x ∷ xs) ys = ap (λ (t : List Frame). frame_of x.0 x.1.items ∷ 
 follows_none : (o : Option Version) (taken : List Frame) (k : Option CommitteeValue) (b : Option BookValue) → o ≡ None → Follows o taken k b → (k ≡ None) × (b ≡ None)
 follows_none o taken k b none h = subst (λ (w : Option Version). Follows w taken k b) none h
 
-module _ (bytes : List ℕ) (taken : List Frame) (g : Gathered) (h : HasGathered bytes taken g) where
+module _ (bytes : List ℕ) (taken : List Frame) (g : Inbox) (h : HasGathered bytes taken g) where
   none_taken : g.cutter.version ≡ None → taken ≡ []
   none_taken none = front_empty taken (frames_in g.frames.items) (none_before_magic bytes (taken ++ frames_in g.frames.items) g.cutter h.cuts none).0
 
@@ -59,11 +59,11 @@ module _ (bytes : List ℕ) (taken : List Frame) (g : Gathered) (h : HasGathered
     good = (bytes_so_far bytes (taken ++ frames_in g.frames.items) g.cutter version h.cuts known).0.good;
   }
 
-  moved : (new : Gathered) → new.cutter ≡ g.cutter → new.frames.items ≡ [] → Cuts fresh bytes ((taken ++ frames_in g.frames.items) ++ frames_in new.frames.items) new.cutter
+  moved : (new : Inbox) → new.cutter ≡ g.cutter → new.frames.items ≡ [] → Cuts fresh bytes ((taken ++ frames_in g.frames.items) ++ frames_in new.frames.items) new.cutter
   moved new same none = rw same (rw none (subst (λ (fs : List Frame). Cuts fresh bytes fs g.cutter) (sym (append-nil (taken ++ frames_in g.frames.items))) h.cuts))
 
   -- they are taken
-  pub took_all : (new : Gathered) (version : Version) → g.cutter.version ≡ Some version → new.cutter ≡ g.cutter → new.frames.items ≡ []
+  pub took_all : (new : Inbox) (version : Version) → g.cutter.version ≡ Some version → new.cutter ≡ g.cutter → new.frames.items ≡ []
       → ((before : List Frame) → FollowsBy version before g.opened.committee g.opened.book → FollowsBy version (before ++ frames_in g.frames.items) new.opened.committee new.opened.book)
       → HasGathered bytes (taken ++ frames_in g.frames.items) new
   took_all new version known same none follows = record {
@@ -74,7 +74,7 @@ module _ (bytes : List ℕ) (taken : List Frame) (g : Gathered) (h : HasGathered
   }
 
   -- none wait before the magic is whole
-  pub took_none : (new : Gathered) → g.cutter.version ≡ None → new.cutter ≡ g.cutter → new.opened ≡ g.opened → new.frames.items ≡ [] → HasGathered bytes (taken ++ frames_in g.frames.items) new
+  pub took_none : (new : Inbox) → g.cutter.version ≡ None → new.cutter ≡ g.cutter → new.opened ≡ g.opened → new.frames.items ≡ [] → HasGathered bytes (taken ++ frames_in g.frames.items) new
   took_none new unknown same opened none = record {
     cuts = moved new same none;
     is_open = rw same h.is_open;
@@ -93,7 +93,7 @@ module _ (bytes : List ℕ) (taken : List Frame) (g : Gathered) (h : HasGathered
   })
 
 -- before the first byte
-pub none_gathered : (g : Gathered) → g.cutter ≡ fresh → g.opened.committee ≡ None → g.opened.book ≡ None → g.frames.items ≡ [] → HasGathered [] [] g
+pub none_gathered : (g : Inbox) → g.cutter ≡ fresh → g.opened.committee ≡ None → g.opened.book ≡ None → g.frames.items ≡ [] → HasGathered [] [] g
 none_gathered g cut committee book none = record {
   cuts = subst (λ (c : Cut). Cuts fresh [] (frames_in g.frames.items) c) (sym cut) (subst (λ (fs : List (Kind × Vec ℕ)). Cuts fresh [] (frames_in fs) fresh) (sym none) (in_magic refl refl refl refl refl refl));
   is_open = subst IsOpen (sym cut) (λ some. absurd (omega (arith, some)));

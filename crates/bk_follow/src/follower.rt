@@ -11,7 +11,7 @@ ghost use Rattle.bk_follow.specs.Stopping.{kept_fault, stops};
 
 use crate::book::Book;
 use crate::fault::Fault;
-use crate::gathering::Gathered;
+use crate::gathering::Inbox;
 use crate::opening::{Opened, advance};
 use bk_frames::{Cutter, Sink};
 use bk_pool::Gate;
@@ -29,7 +29,7 @@ use std::thread::Threads;
 pub struct Follower {
     pub(crate) alloc: Global,
     pub(crate) workers: usize,
-    pub(crate) gathered: Gathered,
+    pub(crate) gathered: Inbox,
     pub(crate) fault: Option<Fault>,
 }
 
@@ -65,7 +65,7 @@ pub fn is_stop(fault: &Fault) -> bool
 }
 
 /// Keeps a fault: every later call returns it.
-pub(crate) fn stand(standing: &mut Option<Fault>, fault: Fault) -> Fault
+pub(crate) fn latch(standing: &mut Option<Fault>, fault: Fault) -> Fault
     ensures standing { standing.new ≡ Some fault }
     ensures same { result ≡ fault }
 {
@@ -75,7 +75,7 @@ pub(crate) fn stand(standing: &mut Option<Fault>, fault: Fault) -> Fault
 }
 
 /// The same of a fault that is no stop.
-pub(crate) fn keep(standing: &mut Option<Fault>, fault: Fault) -> Fault
+pub(crate) fn latch_unless_stop(standing: &mut Option<Fault>, fault: Fault) -> Fault
     requires none { standing.old ≡ None }
     ensures standing { standing.new ≡ kept_fault fault }
     ensures same { result ≡ fault }
@@ -83,7 +83,7 @@ pub(crate) fn keep(standing: &mut Option<Fault>, fault: Fault) -> Fault
     if is_stop(&fault) {
         return fault;
     }
-    stand(standing, fault)
+    latch(standing, fault)
 }
 
 // Settles, where the feed may end here.
@@ -145,7 +145,7 @@ impl Follower {
         Follower {
             alloc,
             workers,
-            gathered: Gathered::new(alloc),
+            gathered: Inbox::new(alloc),
             fault: None,
         }
     }
@@ -186,10 +186,10 @@ impl Follower {
         if let Some(fault) = self.fault {
             return Err(fault);
         }
-        let Gathered { cutter, opened, .. } = &mut self.gathered;
+        let Inbox { cutter, opened, .. } = &mut self.gathered;
         match advance(rt, self.alloc, cutter, opened, piece) {
             Ok(()) => Ok(()),
-            Err(fault) => Err(stand(&mut self.fault, fault)),
+            Err(fault) => Err(latch(&mut self.fault, fault)),
         }
     }
 
@@ -217,7 +217,7 @@ impl Follower {
         };
         match book.settle(rt, self.workers, gate) {
             Ok(count) => Ok(count),
-            Err(fault) => Err(keep(&mut self.fault, fault)),
+            Err(fault) => Err(latch_unless_stop(&mut self.fault, fault)),
         }
     }
 
@@ -235,10 +235,10 @@ impl Follower {
         if let Some(fault) = self.fault {
             return Err(fault);
         }
-        let Gathered { cutter, opened, .. } = &mut self.gathered;
+        let Inbox { cutter, opened, .. } = &mut self.gathered;
         match settle_at_end(rt, cutter, opened, self.workers, gate) {
             Ok(()) => Ok(()),
-            Err(fault) => Err(keep(&mut self.fault, fault)),
+            Err(fault) => Err(latch_unless_stop(&mut self.fault, fault)),
         }
     }
 
@@ -263,10 +263,10 @@ impl Follower {
         if let Some(fault) = self.fault {
             return Err(fault);
         }
-        let Gathered { cutter, opened, .. } = &mut self.gathered;
+        let Inbox { cutter, opened, .. } = &mut self.gathered;
         match end(rt, cutter, opened, self.workers, gate, sink) {
             Ok(status) => Ok(status),
-            Err(fault) => Err(keep(&mut self.fault, fault)),
+            Err(fault) => Err(latch_unless_stop(&mut self.fault, fault)),
         }
     }
 }

@@ -21,7 +21,7 @@ use std::thread::{Threads, join_mut};
 
 /// What a feed has come to. Its bytes are cut at once; of its whole frames the first are taken, and the others wait.
 #[derive(Drop)]
-pub(crate) struct Gathered {
+pub(crate) struct Inbox {
     pub(crate) cutter: Cutter,
     pub(crate) opened: Opened,
     /// The frames that wait.
@@ -92,9 +92,9 @@ fn pull_beside<R: Threads + Sync, S: Source>(
     )
 }
 
-impl Gathered {
+impl Inbox {
     /// Before the first byte. Takes no memory.
-    pub(crate) fn new(alloc: Global) -> Gathered
+    pub(crate) fn new(alloc: Global) -> Inbox
         ensures cut { result.cutter ≡ fresh }
         ensures committee { result.opened.committee ≡ None }
         ensures book { result.opened.book ≡ None }
@@ -106,7 +106,7 @@ impl Gathered {
             committee: None,
             book: None,
         };
-        Gathered {
+        Inbox {
             cutter,
             opened,
             frames,
@@ -161,7 +161,7 @@ impl Gathered {
     {
         let mut waiting = replace(&mut self.frames, Vec::new(alloc));
         let version = self.cutter.version();
-        let Gathered {
+        let Inbox {
             cutter,
             opened,
             frames,

@@ -11,8 +11,8 @@ ghost use Rattle.bk_follow.specs.private.Parts.{followed, OrdersNot};
 
 use crate::book::Book;
 use crate::fault::{Fault, stopped};
-use crate::follower::{Follower, keep};
-use crate::gathering::Gathered;
+use crate::follower::{Follower, latch_unless_stop};
+use crate::gathering::Inbox;
 use crate::opening::Opened;
 use bk_cert::CertRef;
 use bk_frames::Cutter;
@@ -79,7 +79,7 @@ impl Follower {
         };
         match book.settle_order() {
             Ok(()) => Ok(()),
-            Err(fault) => Err(keep(&mut self.fault, fault)),
+            Err(fault) => Err(latch_unless_stop(&mut self.fault, fault)),
         }
     }
 
@@ -95,10 +95,10 @@ impl Follower {
         if let Some(fault) = self.fault {
             return Err(fault);
         }
-        let Gathered { cutter, opened, .. } = &mut self.gathered;
+        let Inbox { cutter, opened, .. } = &mut self.gathered;
         match order_at_end(cutter, opened) {
             Ok(()) => Ok(()),
-            Err(fault) => Err(keep(&mut self.fault, fault)),
+            Err(fault) => Err(latch_unless_stop(&mut self.fault, fault)),
         }
     }
 

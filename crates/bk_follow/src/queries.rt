@@ -11,7 +11,7 @@ ghost use Rattle.bk_answer.specs.Values.{closed_value, order_value};
 ghost use Rattle.bk_follow.specs.Ordering.{OrderFails};
 
 use crate::fault::Fault;
-use crate::follower::{Follower, stand};
+use crate::follower::{Follower, latch};
 use bk_answer::{Closed, ClosedOrder};
 use bk_base::Row;
 use bk_digest::Digest32;
@@ -173,7 +173,7 @@ impl Follower {
         self.ready()?;
         match self.find_proof(rt, id) {
             Ok(found) => Ok(found),
-            Err(_) => Err(stand(&mut self.fault, Fault::Memory)),
+            Err(_) => Err(latch(&mut self.fault, Fault::Memory)),
         }
     }
 }

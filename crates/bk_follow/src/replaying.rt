@@ -11,8 +11,8 @@ ghost use Rattle.bk_frames.specs.declared.pulling.TheConstants.{PIECE};
 
 use crate::answering::answer_by_ledger;
 use crate::fault::Fault;
-use crate::follower::{Follower, stand};
-use crate::gathering::Gathered;
+use crate::follower::{Follower, latch};
+use crate::gathering::Inbox;
 use bk_answer::Report;
 use bk_frames::{Sink, Source};
 use bk_pool::Gate;
@@ -27,7 +27,7 @@ fn pull_all<R: Threads + Sync, S: Source>(
     alloc: Global,
     source: &mut S,
     piece: &mut [u8],
-    gathered: &mut Gathered,
+    gathered: &mut Inbox,
 ) -> Result<(), Fault>
     requires sound { CanBeUsed (S.state source.old) }
     requires some { 0 < length piece.old }
@@ -71,7 +71,7 @@ impl Follower {
     {
         match pull_all(rt, self.alloc, source, piece, &mut self.gathered) {
             Ok(()) => Ok(()),
-            Err(fault) => Err(stand(&mut self.fault, fault)),
+            Err(fault) => Err(latch(&mut self.fault, fault)),
         }
     }
 }

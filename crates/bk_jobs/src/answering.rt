@@ -14,7 +14,7 @@ ghost use Rattle.bk_jobs.specs.private.Groups.{replays_one, replays_two, reads_f
 
 use crate::diagnosing::diagnose;
 use crate::drawing::draw_rounds;
-use crate::end::End;
+use crate::end::JobEnd;
 use crate::following::follow;
 use crate::judging::Judge;
 use crate::listing::list;
@@ -38,7 +38,7 @@ fn answer_of_run<R, G: Gate + Sync, S1: Source, S2: Source, O: Sink>(
     first: &mut S1,
     second: &mut S2,
     out: &mut O,
-) -> Result<End, JobFault>
+) -> Result<JobEnd, JobFault>
 where
     R: Threads + Wait + Sync + AllocGlobal,
     requires group { replays_one job.now ≡ true }
@@ -73,7 +73,7 @@ where
     match job {
         Job::Run { workers, .. } => {
             let end = run(rt, judge, gate, *workers, first, out)?;
-            Ok(End {
+            Ok(JobEnd {
                 exit: end,
                 remarks: Remarks::none(),
             })
@@ -84,14 +84,14 @@ where
         }
         Job::Summary { workers, .. } => {
             let end = sum_up(rt, judge, gate, *workers, first, out)?;
-            Ok(End {
+            Ok(JobEnd {
                 exit: end,
                 remarks: Remarks::none(),
             })
         }
         Job::Show { workers, shown, .. } => {
             let end = show(rt, judge, gate, *shown, *workers, first, out)?;
-            Ok(End {
+            Ok(JobEnd {
                 exit: end,
                 remarks: Remarks::none(),
             })
@@ -103,7 +103,7 @@ where
             ..
         } => {
             let end = follow(rt, judge, gate, *shown, *workers, first, out)?;
-            Ok(End {
+            Ok(JobEnd {
                 exit: end,
                 remarks: Remarks::none(),
             })
@@ -131,7 +131,7 @@ fn answer_of_frames<R, S1: Source, S2: Source, O: Sink>(
     first: &mut S1,
     second: &mut S2,
     out: &mut O,
-) -> Result<End, JobFault>
+) -> Result<JobEnd, JobFault>
 where
     R: Threads + Sync + AllocGlobal,
     requires group { reads_frames job.now ≡ true }
@@ -170,21 +170,21 @@ where
         }
         Job::Dag { window, .. } => {
             let end = draw_rounds(rt, judge, *window, first, out)?;
-            Ok(End {
+            Ok(JobEnd {
                 exit: end,
                 remarks: Remarks::none(),
             })
         }
         Job::Diagnose { sought, .. } => {
             let end = diagnose(rt, judge, *sought, first, out)?;
-            Ok(End {
+            Ok(JobEnd {
                 exit: end,
                 remarks: Remarks::none(),
             })
         }
         Job::Apply { .. } => {
             let end = apply_all(rt, first, out)?;
-            Ok(End {
+            Ok(JobEnd {
                 exit: end,
                 remarks: Remarks::none(),
             })
@@ -213,7 +213,7 @@ pub(crate) fn answer<R, G: Gate + Sync, S1: Source, S2: Source, O: Sink>(
     first: &mut S1,
     second: &mut S2,
     out: &mut O,
-) -> Result<End, JobFault>
+) -> Result<JobEnd, JobFault>
 where
     R: Threads + Wait + Sync + AllocGlobal,
     requires first { CanBeUsed (S1.state first.old) }

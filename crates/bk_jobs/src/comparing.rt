@@ -8,7 +8,7 @@ ghost use Rattle.bk_jobs.specs.Comparisons.{AgreementIsOut, CompareFailsBy, agre
 ghost use Rattle.bk_jobs.specs.Flaws.{IsFlawOfBoth, or_flaw};
 ghost use Rattle.bk_jobs.specs.Sources.{AllWork, job_devices};
 
-use crate::end::End;
+use crate::end::JobEnd;
 use crate::judging::Judge;
 use crate::machine::all_workers;
 use bk_cli::{Exit, JobFault, Remarks, ShortLine, put_number, put_text};
@@ -49,7 +49,7 @@ pub(crate) fn compare_feeds<R, G: Gate + Sync, S1: Source, S2: Source, O: Sink>(
     first: &mut S1,
     second: &mut S2,
     out: &mut O,
-) -> Result<End, JobFault>
+) -> Result<JobEnd, JobFault>
 where
     R: Threads + Wait + Sync + AllocGlobal,
     requires first { CanBeUsed (S1.state first.old) }
@@ -80,7 +80,7 @@ where
     let compared = compare_with_gaps(rt, rt.alloc(), first, second, workers, gate, strict)?;
     judge.flaw = first_of(compared.first_flaw, compared.second_flaw);
     match push_all(out, agree_line(compared.agreed).as_slice()) {
-        Ok(()) => Ok(End {
+        Ok(()) => Ok(JobEnd {
             exit: Exit::Whole,
             remarks: Remarks {
                 first: compared.first,

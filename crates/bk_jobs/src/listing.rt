@@ -7,7 +7,7 @@ ghost use Rattle.bk_listing.specs.Answers.{HasForged, ListFails};
 ghost use Rattle.bk_jobs.specs.Faults.{FramesAreOut};
 ghost use Rattle.bk_jobs.specs.Flaws.{IsFrameFlaw, flaw_by_rejected};
 
-use crate::end::End;
+use crate::end::JobEnd;
 use crate::judging::Judge;
 use bk_cli::{Exit, Remarks};
 use bk_frames::{Sink, Source};
@@ -32,7 +32,7 @@ pub(crate) fn list<R: Threads + Sync + AllocGlobal, S: Source, O: Sink>(
     judge: &mut Judge,
     source: &mut S,
     out: &mut O,
-) -> Result<End, Fault>
+) -> Result<JobEnd, Fault>
     requires source { CanBeUsed (S.state source.old) }
     requires out { CanBeUsed (O.state out.old) }
     ensures frames { IfOk result (λ end. FramesAreOut end.exit
@@ -50,7 +50,7 @@ pub(crate) fn list<R: Threads + Sync + AllocGlobal, S: Source, O: Sink>(
 {
     let listed = list_frames(rt, rt.alloc(), source, out)?;
     judge.flaw = flaw_of(listed.rejected);
-    Ok(End {
+    Ok(JobEnd {
         exit: Exit::Whole,
         remarks: Remarks {
             first: None,

@@ -10,7 +10,7 @@ ghost use Rattle.bk_cli.specs.Exits.{absence, ending};
 ghost use Rattle.bk_jobs.specs.Faults.{QueryFailsBy, ReplyIsOut};
 ghost use Rattle.bk_jobs.specs.Flaws.{IsAbsence, IsFlawGiven};
 
-use crate::end::End;
+use crate::end::JobEnd;
 use crate::judging::Judge;
 use crate::machine::all_workers;
 use bk_ask::{Replied, ask_judged};
@@ -72,7 +72,7 @@ pub(crate) fn reply<R, G: Gate + Sync, S: Source, O: Sink>(
     workers: Workers,
     source: &mut S,
     out: &mut O,
-) -> Result<End, JobFault>
+) -> Result<JobEnd, JobFault>
 where
     R: Threads + Wait + Sync + AllocGlobal,
     requires source { CanBeUsed (S.state source.old) }
@@ -101,7 +101,7 @@ where
     judge.flaw = ended.flaw;
     let replied = ended.end;
     match exit_of(asked, &replied) {
-        Ok(exit) => Ok(End {
+        Ok(exit) => Ok(JobEnd {
             exit,
             remarks: Remarks {
                 first: replied.missing,

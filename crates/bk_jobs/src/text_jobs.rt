@@ -10,7 +10,7 @@ ghost use Rattle.bk_jobs.specs.Sources.{AllWork, job_devices};
 ghost use Rattle.bk_jobs.specs.private.Groups.{reads_texts};
 
 use crate::chaining::check_links;
-use crate::end::End;
+use crate::end::JobEnd;
 use crate::judging::Judge;
 use crate::scheduling::schedule;
 use crate::texts::{check, make_feed};
@@ -26,7 +26,7 @@ pub(crate) fn answer_of_text<R, S1: Source, S2: Source, O: Sink>(
     first: &mut S1,
     second: &mut S2,
     out: &mut O,
-) -> Result<End, JobFault>
+) -> Result<JobEnd, JobFault>
 where
     R: Threads + Sync + AllocGlobal,
     requires group { reads_texts job.now ≡ true }
@@ -61,28 +61,28 @@ where
     match job {
         Job::Make { .. } => {
             let end = make_feed(rt, first, out)?;
-            Ok(End {
+            Ok(JobEnd {
                 exit: end,
                 remarks: Remarks::none(),
             })
         }
         Job::CheckProof { root, account, .. } => {
             let end = check(rt, root.as_bytes(), *account, first, out)?;
-            Ok(End {
+            Ok(JobEnd {
                 exit: end,
                 remarks: Remarks::none(),
             })
         }
         Job::Schedule { workers, .. } => {
             let end = schedule(rt, *workers, first, second, out)?;
-            Ok(End {
+            Ok(JobEnd {
                 exit: end,
                 remarks: Remarks::none(),
             })
         }
         Job::CheckChain { .. } => {
             let end = check_links(rt, first, out)?;
-            Ok(End {
+            Ok(JobEnd {
                 exit: end,
                 remarks: Remarks::none(),
             })

@@ -11,7 +11,7 @@ ghost use Rattle.bk_jobs.specs.private.Groups.{replays_two};
 
 use crate::claiming::check_claim;
 use crate::comparing::compare_feeds;
-use crate::end::End;
+use crate::end::JobEnd;
 use crate::following::follow_some;
 use crate::judging::Judge;
 use crate::showing::pick;
@@ -30,7 +30,7 @@ pub(crate) fn answer_of_two<R, G: Gate + Sync, S1: Source, S2: Source, O: Sink>(
     first: &mut S1,
     second: &mut S2,
     out: &mut O,
-) -> Result<End, JobFault>
+) -> Result<JobEnd, JobFault>
 where
     R: Threads + Wait + Sync + AllocGlobal,
     requires group { replays_two job.now ≡ true }
@@ -65,7 +65,7 @@ where
     match job {
         Job::CheckReport { workers, .. } => {
             let end = check_claim(rt, judge, gate, *workers, first, second, out)?;
-            Ok(End {
+            Ok(JobEnd {
                 exit: end,
                 remarks: Remarks::none(),
             })
@@ -76,7 +76,7 @@ where
         }
         Job::Pick { workers, shown, .. } => {
             let end = pick(rt, judge, gate, *shown, *workers, first, second, out)?;
-            Ok(End {
+            Ok(JobEnd {
                 exit: end,
                 remarks: Remarks::none(),
             })
@@ -88,7 +88,7 @@ where
             ..
         } => {
             let end = follow_some(rt, judge, gate, *shown, *workers, first, second, out)?;
-            Ok(End {
+            Ok(JobEnd {
                 exit: end,
                 remarks: Remarks::none(),
             })

@@ -6,7 +6,7 @@ use Rattle.bk_base.specs.Feed.{Frame}
 use Rattle.bk_committee.specs.Payload.{CommitteeValue}
 use Rattle.bk_results.specs.declared.wrong_tag.WrongTag.{WrongTag}
 use Rattle.bk_listing.specs.Forged.{IsFirstForged}
-use Rattle.bk_listing.specs.private.Shown.{else_later}
+use Rattle.bk_listing.specs.private.FrameRow.{else_later}
 
 pub none_of_none : (k : CommitteeValue) → IsFirstForged k [] None
 none_of_none k f there = absurd (omega (arith, there.1))

@@ -23,9 +23,9 @@ use Rattle.bk_certcheck.specs.Verdicts.{IsVerdict}
 use Rattle.bk_certcheck.proofs.Rules.{one_verdict}
 use Rattle.bk_listing.specs.Rejects.{IsRejectedBy, rules_by}
 use Rattle.bk_listing.specs.Forged.{HasWrongTag, IsForged, IsFirstForged}
-use Rattle.bk_listing.specs.declared.rows.Shown.{Shown}
-use Rattle.bk_listing.specs.declared.rows.Shown.TheVariants as shown
-use Rattle.bk_listing.specs.private.Shown.{IsRow, is_forged, row_rules}
+use Rattle.bk_listing.specs.declared.rows.FrameRow.{FrameRow}
+use Rattle.bk_listing.specs.declared.rows.FrameRow.TheVariants as shown
+use Rattle.bk_listing.specs.private.FrameRow.{IsRow, is_forged, row_rules}
 use Rattle.bk_listing.proofs.LineTexts.{frames_more}
 
 -- ---- the signers of a mask
@@ -109,7 +109,7 @@ by_kind k kind.Genesis payload e = absurd cc
 by_kind k kind.Certificate payload (v, is, e) = (refl, by_verdict k payload v is e)
 by_kind k kind.Batch payload e = absurd cc
 
-forged_rules : (row : Shown) → is_forged row ≡ true → row_rules row ≡ rule.Tag ∷ []
+forged_rules : (row : FrameRow) → is_forged row ≡ true → row_rules row ≡ rule.Tag ∷ []
 forged_rules (shown.Committee digest) e = absurd cc
 forged_rules (shown.Genesis digest accounts money) e = absurd cc
 forged_rules shown.Malformed e = absurd cc
@@ -125,7 +125,7 @@ forged_rules (shown.Broken row rule.Tag) e = refl
 forged_rules (shown.Batch digest count) e = absurd cc
 forged_rules (shown.Void digest) e = absurd cc
 
-rules_forged : (row : Shown) → row_rules row ≡ rule.Tag ∷ [] → is_forged row ≡ true
+rules_forged : (row : FrameRow) → row_rules row ≡ rule.Tag ∷ [] → is_forged row ≡ true
 rules_forged (shown.Committee digest) e = absurd cc
 rules_forged (shown.Genesis digest accounts money) e = absurd cc
 rules_forged shown.Malformed e = absurd cc
@@ -134,10 +134,10 @@ rules_forged (shown.Broken row r) e = let same : r ≡ rule.Tag = cc in subst (�
 rules_forged (shown.Batch digest count) e = absurd cc
 rules_forged (shown.Void digest) e = absurd cc
 
-pub forged_row : (k : CommitteeValue) (f : Frame) (row : Shown) → IsRow k f row → is_forged row ≡ true → IsForged k f
+pub forged_row : (k : CommitteeValue) (f : Frame) (row : FrameRow) → IsRow k f row → is_forged row ≡ true → IsForged k f
 forged_row k f row h e = by_kind k f.kind f.payload (subst (IsRejectedBy k f.kind f.payload) (forged_rules row e) h.1)
 
-pub other_row : (k : CommitteeValue) (f : Frame) (row : Shown) → IsRow k f row → is_forged row ≡ false → IsForged k f → ⊥
+pub other_row : (k : CommitteeValue) (f : Frame) (row : FrameRow) → IsRow k f row → is_forged row ≡ false → IsForged k f → ⊥
 other_row k f row h e (is, broken) = by_rules (subst (λ (of : Kind). IsRejectedBy k of f.payload (row_rules row)) is h.1)
   where
     by_rules : (v : Verdict) × IsVerdict k f.payload v × (row_rules row ≡ rules_by v) → ⊥
@@ -155,7 +155,7 @@ NoneForged k frames = (f : Frame) → Contains frames f → IsForged k f → ⊥
 pub none_yet : (k : CommitteeValue) → NoneForged k []
 none_yet k f there = absurd (omega (arith, there.1))
 
-pub none_more : (k : CommitteeValue) (xs : List (Kind × Vec ℕ)) (i : ℕ) (x : Kind × Vec ℕ) (row : Shown) → i < length xs → x ≡ get_or xs i x → IsRow k (frame_of x.0 x.1.items) row → is_forged row ≡ false → NoneForged k (frames_in (take i xs)) → NoneForged k (frames_in (take (i + 1) xs))
+pub none_more : (k : CommitteeValue) (xs : List (Kind × Vec ℕ)) (i : ℕ) (x : Kind × Vec ℕ) (row : FrameRow) → i < length xs → x ≡ get_or xs i x → IsRow k (frame_of x.0 x.1.items) row → is_forged row ≡ false → NoneForged k (frames_in (take i xs)) → NoneForged k (frames_in (take (i + 1) xs))
 none_more k xs i x row low there is e h = subst (NoneForged k) (sym (frames_more xs i x low there)) by_case
   where
     by_case : NoneForged k (frames_in (take i xs) ++ frame_of x.0 x.1.items ∷ [])
@@ -168,7 +168,7 @@ none_more k xs i x row low there is e h = subst (NoneForged k) (sym (frames_more
 pub none_at_all : (k : CommitteeValue) (xs : List (Kind × Vec ℕ)) (i : ℕ) → length xs ≤ i → NoneForged k (frames_in (take i xs)) → IsFirstForged k (frames_in xs) None
 none_at_all k xs i past h = subst (λ (ys : List (Kind × Vec ℕ)). NoneForged k (frames_in ys)) (take_all i xs past) h
 
-pub first_here : (k : CommitteeValue) (xs : List (Kind × Vec ℕ)) (i signer : ℕ) (x : Kind × Vec ℕ) (row : Shown) → i < length xs → x ≡ get_or xs i x → IsRow k (frame_of x.0 x.1.items) row → is_forged row ≡ true → NoneForged k (frames_in (take i xs))
+pub first_here : (k : CommitteeValue) (xs : List (Kind × Vec ℕ)) (i signer : ℕ) (x : Kind × Vec ℕ) (row : FrameRow) → i < length xs → x ≡ get_or xs i x → IsRow k (frame_of x.0 x.1.items) row → is_forged row ≡ true → NoneForged k (frames_in (take i xs))
     → (c : CertValue) × (certificate_of x.1.items ≡ Some c) × HasWrongTag k c signer → IsFirstForged k (frames_in xs) (Some (record { frame = i; signer = signer }))
 first_here k xs i signer x row low there is e none wrong = (
   frames_in (take i xs),

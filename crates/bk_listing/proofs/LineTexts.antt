@@ -11,12 +11,12 @@ use Rattle.bk_base.specs.Feed.{Frame, frame_of, frame_text}
 use Rattle.bk_frames.specs.Cutting.{frames_in}
 use Rattle.bk_committee.specs.Payload.{CommitteeValue, committee_of}
 use Rattle.bk_listing.specs.Listing.{AreWords, AreLinesFrom, IsListing, line_with}
-use Rattle.bk_listing.specs.declared.rows.Shown.{Shown}
+use Rattle.bk_listing.specs.declared.rows.FrameRow.{FrameRow}
 use Rattle.bk_listing.specs.declared.lines.Place.{Place}
 use Rattle.bk_listing.specs.declared.lister.Lister.{Lister}
 use Rattle.bk_listing.specs.Rejects.{AreRejectedBy, IsRejectedCount}
 use Rattle.bk_certcheck.specs.declared.rule.Rule.{Rule}
-use Rattle.bk_listing.specs.private.Shown.{IsRow, PutsLines, IsCommitteeOf, HasListed, OpensBy, GoesOn, else_later, is_rejected, row_rules, row_words}
+use Rattle.bk_listing.specs.private.FrameRow.{IsRow, PutsLines, IsCommitteeOf, HasListed, OpensBy, GoesOn, else_later, is_rejected, row_rules, row_words}
 use Rattle.bk_results.specs.declared.wrong_tag.WrongTag.{WrongTag}
 use Rattle.bk_listing.specs.Forged.{IsFirstForged, IsFirstForgedOf}
 use Rattle.bk_listing.proofs.FirstForged.{first_then, none_of_none}
@@ -93,16 +93,16 @@ zip_frame {Y = Y} R xs ys i x y h low there beside =
     subst (λ (p : Frame × Y). R p.0 p.1) (λ j. (same j, sym beside j)) here
 
 -- a row more, and all rows
-pub rows_on : (k : CommitteeValue) (xs : List (Kind × Vec ℕ)) (i : ℕ) (x : Kind × Vec ℕ) (rows new : List Shown) (row : Shown) → i < length xs → x ≡ get_or xs i x → AllZip (IsRow k) (frames_in (take i xs)) rows → IsRow k (frame_of x.0 x.1.items) row → new ≡ rows ++ row ∷ [] → AllZip (IsRow k) (frames_in (take (i + 1) xs)) new
+pub rows_on : (k : CommitteeValue) (xs : List (Kind × Vec ℕ)) (i : ℕ) (x : Kind × Vec ℕ) (rows new : List FrameRow) (row : FrameRow) → i < length xs → x ≡ get_or xs i x → AllZip (IsRow k) (frames_in (take i xs)) rows → IsRow k (frame_of x.0 x.1.items) row → new ≡ rows ++ row ∷ [] → AllZip (IsRow k) (frames_in (take (i + 1) xs)) new
 rows_on k xs i x rows new row low there h is pushed =
-    subst (λ (p : List Frame × List Shown). AllZip (IsRow k) p.0 p.1) (λ j. (sym (frames_more xs i x low there) j, sym pushed j)) (zip_push (IsRow k) (frames_in (take i xs)) rows (frame_of x.0 x.1.items) row h is)
+    subst (λ (p : List Frame × List FrameRow). AllZip (IsRow k) p.0 p.1) (λ j. (sym (frames_more xs i x low there) j, sym pushed j)) (zip_push (IsRow k) (frames_in (take i xs)) rows (frame_of x.0 x.1.items) row h is)
 
-pub rows_all : (k : CommitteeValue) (xs : List (Kind × Vec ℕ)) (i : ℕ) (rows : List Shown) → length xs ≤ i → AllZip (IsRow k) (frames_in (take i xs)) rows → AllZip (IsRow k) (frames_in xs) rows
+pub rows_all : (k : CommitteeValue) (xs : List (Kind × Vec ℕ)) (i : ℕ) (rows : List FrameRow) → length xs ≤ i → AllZip (IsRow k) (frames_in (take i xs)) rows → AllZip (IsRow k) (frames_in xs) rows
 rows_all k xs i rows low h = subst (λ (ys : List (Kind × Vec ℕ)). AllZip (IsRow k) (frames_in ys) rows) (take_all i xs low) h
 
 -- ---- lines that are put
 
-pub puts_on : (k : CommitteeValue) (start place next : Place) (xs : List (Kind × Vec ℕ)) (i : ℕ) (x : Kind × Vec ℕ) (row : Shown) (old now new : List ℕ) → i < length xs → x ≡ get_or xs i x → IsRow k (frame_of x.0 x.1.items) row → PutsLines k start place (frames_in (take i xs)) old now
+pub puts_on : (k : CommitteeValue) (start place next : Place) (xs : List (Kind × Vec ℕ)) (i : ℕ) (x : Kind × Vec ℕ) (row : FrameRow) (old now new : List ℕ) → i < length xs → x ≡ get_or xs i x → IsRow k (frame_of x.0 x.1.items) row → PutsLines k start place (frames_in (take i xs)) old now
     → new ≡ now ++ (line_with place.index place.offset (row_words k row) ++ 10 ∷ []) → next.index ≡ place.index + 1 → next.offset ≡ place.offset + (length x.1.items + 5) → PutsLines k start next (frames_in (take (i + 1) xs)) old new
 puts_on k start place next xs i x row old now new low there is h pushed index offset =
     subst (λ (fs : List Frame). PutsLines k start next fs old new) (sym (frames_more xs i x low there)) (record {
@@ -159,7 +159,7 @@ goes_on_none version frames old new lines opens none place rejected forged empty
         }))
 
 -- and else with the lines of the frames
-pub goes_on : (version : Version) (frames : List Frame) (old new : Lister) (k : CommitteeValue) (rows : List Shown) (lines : List ℕ) (found : Option WrongTag) → OpensBy version frames old.committee new.committee → new.committee ≡ Some k → PutsLines k old.place new.place frames [] lines → AllZip (IsRow k) frames rows → new.rejected ≡ old.rejected + count_by is_rejected rows
+pub goes_on : (version : Version) (frames : List Frame) (old new : Lister) (k : CommitteeValue) (rows : List FrameRow) (lines : List ℕ) (found : Option WrongTag) → OpensBy version frames old.committee new.committee → new.committee ≡ Some k → PutsLines k old.place new.place frames [] lines → AllZip (IsRow k) frames rows → new.rejected ≡ old.rejected + count_by is_rejected rows
     → IsFirstForged k frames found → new.forged ≡ else_later old.forged old.place.index found → GoesOn version frames old new lines
 goes_on version frames old new k rows lines found opens known puts zipped counted first_is forged_is before text h = by_old old.committee refl before h.listing h.committee h.index h.offset h.rejected h.forged
   where

@@ -12,12 +12,12 @@ use Rattle.bk_certcheck.specs.declared.rule.Rule.{Rule}
 use Rattle.bk_certcheck.specs.declared.verdict.Verdict.{Verdict}
 use Rattle.bk_certcheck.specs.declared.verdict.Verdict.TheVariants as verdict
 use Rattle.bk_listing.specs.Rejects.{rules_by, IsRejectedBy, AreRejectedBy, IsRejectedCount}
-use Rattle.bk_listing.specs.declared.rows.Shown.{Shown}
-use Rattle.bk_listing.specs.declared.rows.Shown.TheVariants as shown
-use Rattle.bk_listing.specs.private.Shown.{IsRow, is_rejected, row_rules}
+use Rattle.bk_listing.specs.declared.rows.FrameRow.{FrameRow}
+use Rattle.bk_listing.specs.declared.rows.FrameRow.TheVariants as shown
+use Rattle.bk_listing.specs.private.FrameRow.{IsRow, is_rejected, row_rules}
 
 -- the rows of frames have the rules by which these are rejected
-pub rows_rejected : (k : CommitteeValue) (frames : List Frame) (rows : List Shown) → AllZip (IsRow k) frames rows → AreRejectedBy k frames (flat_map row_rules rows)
+pub rows_rejected : (k : CommitteeValue) (frames : List Frame) (rows : List FrameRow) → AllZip (IsRow k) frames rows → AreRejectedBy k frames (flat_map row_rules rows)
 rows_rejected k [] [] h = refl
 rows_rejected k [] (row ∷ rows) h = absurd h
 rows_rejected k (f ∷ more) [] h = absurd h
@@ -54,7 +54,7 @@ few_rejected version (first ∷ more) n (rules, are, e) = let few = few_rules (c
 
 -- ---- how many rows are of such frames
 
-one_each : (row : Shown) → cond (is_rejected row) 1 0 ≡ length (row_rules row)
+one_each : (row : FrameRow) → cond (is_rejected row) 1 0 ≡ length (row_rules row)
 one_each (shown.Committee digest) = refl
 one_each (shown.Genesis digest accounts money) = refl
 one_each shown.Malformed = refl
@@ -63,8 +63,8 @@ one_each (shown.Broken row r) = refl
 one_each (shown.Batch digest count) = refl
 one_each (shown.Void digest) = refl
 
-pub rows_counted : (rows : List Shown) → count_by is_rejected rows ≡ length (flat_map row_rules rows)
-rows_counted rows = ap (λ (f : Shown → ℕ). sum_by f rows) (λ j row. one_each row j) ∙ sym (length-flat_map row_rules rows)
+pub rows_counted : (rows : List FrameRow) → count_by is_rejected rows ≡ length (flat_map row_rules rows)
+rows_counted rows = ap (λ (f : FrameRow → ℕ). sum_by f rows) (λ j row. one_each row j) ∙ sym (length-flat_map row_rules rows)
 
-pub rules_at_most : (k : CommitteeValue) (frames : List Frame) (rows : List Shown) → AllZip (IsRow k) frames rows → count_by is_rejected rows ≤ length frames
+pub rules_at_most : (k : CommitteeValue) (frames : List Frame) (rows : List FrameRow) → AllZip (IsRow k) frames rows → count_by is_rejected rows ≤ length frames
 rules_at_most k frames rows h = let few = few_rules k frames (flat_map row_rules rows) (rows_rejected k frames rows h) in omega (arith, few, rows_counted rows)

@@ -29,7 +29,7 @@ use Rattle.bk_listing.specs.Answers.{IsListingTo, no_frames, of_frames, AllIsLis
 use Rattle.bk_listing.specs.declared.reader.FrameReader.{FrameReader}
 use Rattle.bk_listing.specs.declared.lister.Lister.{Lister}
 use Rattle.bk_listing.specs.private.Reading.{AreFront, CanBe, HasCut, HasRead}
-use Rattle.bk_listing.specs.private.Shown.{HasListed, ListsMore, MoreFails, GoesOn, PushFails}
+use Rattle.bk_listing.specs.private.FrameRow.{HasListed, ListsMore, MoreFails, GoesOn, PushFails}
 use Rattle.bk_listing.specs.private.Listed.{AreListed, CanList, IsEmptied, ListsWaiting, WaitingFails, LeavesBy, EndsBy, HasShown, waiting}
 use Rattle.bk_listing.proofs.Refusals.{front_here, none_read}
 use Rattle.bk_listing.proofs.Rejected.{few_rejected}

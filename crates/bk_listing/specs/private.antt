@@ -1,3 +1,3 @@
 pub mod Reading
-pub mod Shown
+pub mod FrameRow
 pub mod Listed

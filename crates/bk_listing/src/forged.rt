@@ -11,9 +11,9 @@ ghost use Rattle.bk_certcheck.specs.Verdicts.{IsVerdict};
 ghost use Rattle.bk_certcheck.specs.declared.rule.Rule.TheVariants as rule;
 ghost use Rattle.bk_certcheck.specs.declared.verdict.Verdict.TheVariants as verdict;
 ghost use Rattle.bk_listing.specs.Forged.{HasWrongTag, IsFirstForged};
-ghost use Rattle.bk_listing.specs.private.Shown.{IsRow, else_later, is_forged};
+ghost use Rattle.bk_listing.specs.private.FrameRow.{IsRow, else_later, is_forged};
 
-use crate::rows::Shown;
+use crate::rows::FrameRow;
 use bk_base::Kind;
 use bk_cert::{CertView, id_of_bytes};
 use bk_certcheck::Rule;
@@ -76,18 +76,18 @@ fn wrong_signer(committee: &Committee, payload: &[u8]) -> u8
 }
 
 // Whether a row is of a certificate that is rejected for its tags.
-fn is_forged(row: &Shown) -> bool
+fn is_forged(row: &FrameRow) -> bool
     ensures { result ≡ is_forged row.now }
 {
     match row {
-        Shown::Broken(_, Rule::Tag) => true,
-        Shown::Broken(_, _)
-        | Shown::Malformed
-        | Shown::Committee(_)
-        | Shown::Genesis(_, _, _)
-        | Shown::Good(_)
-        | Shown::Batch(_, _)
-        | Shown::Void(_) => false,
+        FrameRow::Broken(_, Rule::Tag) => true,
+        FrameRow::Broken(_, _)
+        | FrameRow::Malformed
+        | FrameRow::Committee(_)
+        | FrameRow::Genesis(_, _, _)
+        | FrameRow::Good(_)
+        | FrameRow::Batch(_, _)
+        | FrameRow::Void(_) => false,
     }
 }
 
@@ -96,7 +96,7 @@ fn is_forged(row: &Shown) -> bool
 pub(crate) fn first_forged(
     committee: &Committee,
     frames: &[(Kind, Vec<u8>)],
-    rows: &[Shown],
+    rows: &[FrameRow],
 ) -> Option<WrongTag>
     requires { AllZip (IsRow committee.now) (frames_in frames.now) rows.now }
     ensures { IsFirstForged committee.now (frames_in frames.now) result }

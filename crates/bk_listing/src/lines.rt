@@ -7,9 +7,9 @@ ghost use Rattle.bk_frames.specs.Cutting.{frames_in};
 ghost use Rattle.bk_base.specs.Feed.{frame_text};
 ghost use Rattle.bk_results.specs.Lines.{spaced};
 ghost use Rattle.bk_listing.specs.Listing.{cert_words, committee_words, genesis_words, rule_words, batch_words, line_with};
-ghost use Rattle.bk_listing.specs.private.Shown.{IsRow, PutsLines, row_words};
+ghost use Rattle.bk_listing.specs.private.FrameRow.{IsRow, PutsLines, row_words};
 
-use crate::rows::{CertRow, Shown};
+use crate::rows::{CertRow, FrameRow};
 use bk_base::{Kind, Version};
 use bk_certcheck::Rule;
 use bk_committee::Committee;
@@ -135,17 +135,17 @@ fn put_void(text: &mut Vec<u8>, digest: Digest32) -> Result<(), AllocError>
 }
 
 // Puts the words of a row.
-fn put_words(text: &mut Vec<u8>, committee: &Committee, row: &Shown) -> Result<(), AllocError>
+fn put_words(text: &mut Vec<u8>, committee: &Committee, row: &FrameRow) -> Result<(), AllocError>
     ensures { OnOk result (text.new.items ≡ text.old.items ++ row_words committee.now row.now) }
 {
     match row {
-        Shown::Committee(digest) => put_committee(text, committee, *digest),
-        Shown::Genesis(digest, accounts, money) => put_genesis(text, *digest, *accounts, *money),
-        Shown::Malformed => put_number(text, b"cert broken", 0),
-        Shown::Good(row) => put_judged(text, row, None),
-        Shown::Broken(row, rule) => put_judged(text, row, Some(*rule)),
-        Shown::Batch(digest, count) => put_batch(text, *digest, *count),
-        Shown::Void(digest) => put_void(text, *digest),
+        FrameRow::Committee(digest) => put_committee(text, committee, *digest),
+        FrameRow::Genesis(digest, accounts, money) => put_genesis(text, *digest, *accounts, *money),
+        FrameRow::Malformed => put_number(text, b"cert broken", 0),
+        FrameRow::Good(row) => put_judged(text, row, None),
+        FrameRow::Broken(row, rule) => put_judged(text, row, Some(*rule)),
+        FrameRow::Batch(digest, count) => put_batch(text, *digest, *count),
+        FrameRow::Void(digest) => put_void(text, *digest),
     }
 }
 
@@ -154,7 +154,7 @@ fn put_line(
     text: &mut Vec<u8>,
     place: Place,
     committee: &Committee,
-    row: &Shown,
+    row: &FrameRow,
 ) -> Result<(), AllocError>
     ensures { OnOk result (text.new.items ≡ text.old.items
         ++ (line_with place.index place.offset (row_words committee.now row.now) ++ 10 ∷ [])) }
@@ -174,7 +174,7 @@ pub(crate) fn put_lines(
     place: &mut Place,
     committee: &Committee,
     frames: &[(Kind, Vec<u8>)],
-    rows: &[Shown],
+    rows: &[FrameRow],
 ) -> Result<(), AllocError>
     requires rows { AllZip (IsRow committee.now) (frames_in frames.now) rows.now }
     requires index { place.old.index + length frames.now < 2 ^ 64 }

@@ -7,7 +7,7 @@ ghost use Rattle.bk_frames.specs.Device.{CanBeUsed, Works, Fails, Receives};
 ghost use Rattle.bk_base.specs.Feed.{Frame, frame_text};
 ghost use Rattle.bk_frames.specs.Writing.{Writes};
 ghost use Rattle.bk_committee.specs.Payload.{committee_of};
-ghost use Rattle.bk_listing.specs.private.Shown.{GoesOn, HasListed, ListsMore, MoreFails, OpensBy, PushFails};
+ghost use Rattle.bk_listing.specs.private.FrameRow.{GoesOn, HasListed, ListsMore, MoreFails, OpensBy, PushFails};
 
 use crate::forged::{first_forged, or_later};
 use crate::lines::{Place, put_lines};

@@ -13,8 +13,8 @@ ghost use Rattle.bk_certcheck.specs.Frames.{IsFound};
 ghost use Rattle.bk_certcheck.specs.Verdicts.{IsVerdict};
 ghost use Rattle.bk_listing.specs.Listing.{accounts_in, batch_words, cert_row, judged_words};
 ghost use Rattle.bk_listing.specs.Rejects.{rules_by};
-ghost use Rattle.bk_listing.specs.private.Shown.{IsRow, is_rejected, row_rules, row_words};
-ghost use Rattle.bk_listing.specs.declared.rows.Shown.TheVariants as shown;
+ghost use Rattle.bk_listing.specs.private.FrameRow.{IsRow, is_rejected, row_rules, row_words};
+ghost use Rattle.bk_listing.specs.declared.rows.FrameRow.TheVariants as shown;
 ghost use Rattle.bk_tx.specs.Batches.{count_in};
 
 use bk_base::{Kind, Row, read_genesis};
@@ -45,7 +45,7 @@ pub struct CertRow {
 
 /// What the line of a frame says.
 #[derive(Clone, Copy)]
-pub(crate) enum Shown {
+pub(crate) enum FrameRow {
     /// The digest of the committee.
     Committee(Digest32),
     /// The digest of the genesis, how many accounts it has, and their balances added up.
@@ -87,19 +87,19 @@ fn cert_row(view: &CertView<'_>, id: Digest32) -> CertRow
 }
 
 // What a line says of the bytes of a certificate on which this is the verdict.
-fn judged(payload: &[u8], verdict: &Verdict) -> Shown
+fn judged(payload: &[u8], verdict: &Verdict) -> FrameRow
     requires { (k : CommitteeValue) × IsVerdict k payload.now verdict.now }
     ensures words { (k : CommitteeValue) → row_words k result ≡ judged_words payload.now verdict.now }
     ensures rules { row_rules result ≡ rules_by verdict.now }
 {
     let Some(view) = CertView::of(payload) else {
-        return Shown::Malformed;
+        return FrameRow::Malformed;
     };
     match verdict {
-        Verdict::Good(checked) => Shown::Good(cert_row(&view, checked.id())),
+        Verdict::Good(checked) => FrameRow::Good(cert_row(&view, checked.id())),
         Verdict::Broken(rule) => {
             let id = id_of_bytes(view.header_bytes());
-            Shown::Broken(cert_row(&view, id), *rule)
+            FrameRow::Broken(cert_row(&view, id), *rule)
         }
     }
 }
@@ -113,31 +113,31 @@ fn money_of(rows: &[Row]) -> u64
 }
 
 // What a line says of a genesis.
-fn genesis(alloc: Global, payload: &[u8]) -> Result<Shown, AllocError>
+fn genesis(alloc: Global, payload: &[u8]) -> Result<FrameRow, AllocError>
     ensures { IfOk result (λ row. row ≡ shown.Genesis (sha256 payload.now)
         (length (accounts_in payload.now)) (total_of (accounts_in payload.now))) }
 {
     let digest = Digest32::of(payload);
     match read_genesis(alloc, payload)? {
-        Some(rows) => Ok(Shown::Genesis(digest, rows.len(), money_of(&rows))),
-        None => Ok(Shown::Genesis(digest, 0, 0)),
+        Some(rows) => Ok(FrameRow::Genesis(digest, rows.len(), money_of(&rows))),
+        None => Ok(FrameRow::Genesis(digest, 0, 0)),
     }
 }
 
 // What a line says of a batch with this digest.
-fn batch(alloc: Global, payload: &[u8], digest: Digest32) -> Result<Shown, AllocError>
+fn batch(alloc: Global, payload: &[u8], digest: Digest32) -> Result<FrameRow, AllocError>
     ensures words { IfOk result (λ row. (k : CommitteeValue)
         → row_words k row ≡ batch_words digest (count_in payload.now)) }
     ensures rules { IfOk result (λ row. row_rules row ≡ []) }
 {
     match read_batch(alloc, payload)? {
-        Some(slices) => Ok(Shown::Batch(digest, slices.len())),
-        None => Ok(Shown::Void(digest)),
+        Some(slices) => Ok(FrameRow::Batch(digest, slices.len())),
+        None => Ok(FrameRow::Void(digest)),
     }
 }
 
 // What the line of a frame says, with what was found of it.
-fn row_of(alloc: Global, kind: Kind, payload: &[u8], found: &Found) -> Result<Shown, AllocError>
+fn row_of(alloc: Global, kind: Kind, payload: &[u8], found: &Found) -> Result<FrameRow, AllocError>
     requires { (k : CommitteeValue) × IsFound k (frame_of kind payload.now) found.now }
     ensures { IfOk result (λ row. (k : CommitteeValue)
         → IsFound k (frame_of kind payload.now) found.now
@@ -149,33 +149,33 @@ fn row_of(alloc: Global, kind: Kind, payload: &[u8], found: &Found) -> Result<Sh
         Found::Other => match kind {
             Kind::Genesis => genesis(alloc, payload),
             Kind::Committee | Kind::Certificate | Kind::Batch => {
-                Ok(Shown::Committee(Digest32::of(payload)))
+                Ok(FrameRow::Committee(Digest32::of(payload)))
             }
         },
     }
 }
 
 // Whether a row is of a frame that is rejected.
-fn is_rejected(row: &Shown) -> bool
+fn is_rejected(row: &FrameRow) -> bool
     ensures { result ≡ is_rejected row.now }
 {
     match row {
-        Shown::Malformed | Shown::Broken(_, _) => true,
-        Shown::Committee(_)
-        | Shown::Genesis(_, _, _)
-        | Shown::Good(_)
-        | Shown::Batch(_, _)
-        | Shown::Void(_) => false,
+        FrameRow::Malformed | FrameRow::Broken(_, _) => true,
+        FrameRow::Committee(_)
+        | FrameRow::Genesis(_, _, _)
+        | FrameRow::Good(_)
+        | FrameRow::Batch(_, _)
+        | FrameRow::Void(_) => false,
     }
 }
 
 /// How many of these rows are of frames that are rejected.
-pub(crate) fn count_rejected(rows: &[Shown]) -> usize
+pub(crate) fn count_rejected(rows: &[FrameRow]) -> usize
     ensures { result ≡ count_by is_rejected rows.now }
 {
     rows.iter()
         .filter(
-            |row: &&Shown| -> bool
+            |row: &&FrameRow| -> bool
                 ensures { result ≡ is_rejected row.now.now }
             { is_rejected(*row) },
         )
@@ -188,7 +188,7 @@ fn rows_of(
     committee: &Committee,
     frames: &[(Kind, Vec<u8>)],
     found: &[Found],
-) -> Result<Vec<Shown>, AllocError>
+) -> Result<Vec<FrameRow>, AllocError>
     requires { AllZip (IsFound committee.now) (frames_in frames.now) found.now }
     ensures { IfOk result (λ rows. AllZip (IsRow committee.now) (frames_in frames.now) rows.items) }
 {
@@ -208,7 +208,7 @@ pub(crate) fn all_rows(
     alloc: Global,
     committee: &Committee,
     frames: &[(Kind, Vec<u8>)],
-) -> Result<Vec<Shown>, AllocError>
+) -> Result<Vec<FrameRow>, AllocError>
     ensures { IfOk result (λ rows. AllZip (IsRow committee.now) (frames_in frames.now) rows.items) }
 {
     let found = find_all(rt, alloc, committee, frames)?;

@@ -9,20 +9,20 @@ use Rattle.bk_frames.specs.declared.fault.FeedFault.{FeedFault}
 use Rattle.bk_base.specs.declared.kind.Kind.{Kind}
 use Rattle.bk_base.specs.declared.version.Version.{Version}
 use Rattle.std.specs.Global.{Vec}
-use Rattle.bk_follow.specs.declared.gathering.Gathered.{Gathered}
+use Rattle.bk_follow.specs.declared.gathering.Inbox.{Inbox}
 use Rattle.bk_follow.specs.declared.opening.Opened.{Opened}
 use Rattle.bk_follow.specs.Follower.{Follows, FollowsBy}
 use Rattle.bk_follow.specs.private.Books.{HasFollowed}
 
 -- these bytes came and are cut: of the frames that they make whole these are taken, and the others wait
-pub record HasGathered (bytes : List ℕ) (taken : List Frame) (g : Gathered) : Type 0 where
+pub record HasGathered (bytes : List ℕ) (taken : List Frame) (g : Inbox) : Type 0 where
   pub cuts : Cuts fresh bytes (taken ++ frames_in g.frames.items) g.cutter
   pub is_open : IsOpen g.cutter
   pub reads : g.cutter.fault ≡ None
   pub follows : Follows g.cutter.version taken g.opened.committee g.opened.book
 
 -- since `start` a source gave bytes that have all come here, and no call of it failed
-pub record HasPulled (start now : Device) (g : Gathered) : Type 0 where
+pub record HasPulled (start now : Device) (g : Inbox) : Type 0 where
   pub bytes : List ℕ
   pub taken : List Frame
   pub works : Works start now
@@ -30,7 +30,7 @@ pub record HasPulled (start now : Device) (g : Gathered) : Type 0 where
   pub come : HasGathered bytes taken g
 
 -- all bytes of the source have come, and all of their frames are taken
-pub record IsAllOf (start now : Device) (g : Gathered) : Type 0 where
+pub record IsAllOf (start now : Device) (g : Inbox) : Type 0 where
   pub none_waits : g.frames.items ≡ []
   pub all : GaveAll start now (λ bytes. (taken : List Frame) × HasGathered bytes taken g)
 

@@ -13,7 +13,7 @@ use Rattle.bk_listing.specs.Listing.{IsListing}
 use Rattle.bk_listing.specs.declared.reader.FrameReader.{FrameReader}
 use Rattle.bk_listing.specs.declared.lister.Lister.{Lister}
 use Rattle.bk_listing.specs.private.Reading.{CanBe, HasRead}
-use Rattle.bk_listing.specs.private.Shown.{HasListed}
+use Rattle.bk_listing.specs.private.FrameRow.{HasListed}
 
 -- the frames that wait
 abbrev pub waiting : FrameReader → List Frame

@@ -3,7 +3,7 @@ use Rattle.std.proofs.Common.{◌++◌, List, ℕ, refl}
 use Rattle.std.proofs.lemmas.Result.{err_from_is_err_and}
 use Rattle.bk_cli.specs.Explanations.{gap_note, tag_note}
 use Rattle.bk_cli.specs.Files.{name_of}
-use Rattle.bk_cli.specs.declared.about.About.TheVariants as about
+use Rattle.bk_cli.specs.declared.about.FaultSubject.TheVariants as about
 use Rattle.bk_cli.proofs.ReportLemmas.{stops_before, then_stops}
 use Rattle.bk_cli.proofs.remarking.push_remarks.Goals as goal
 

@@ -7,7 +7,7 @@ use Rattle.bk_certcheck.specs.Verdicts.{IsVerdict}
 use Rattle.bk_certcheck.specs.declared.rule.Rule.TheVariants as rule
 use Rattle.bk_certcheck.specs.declared.verdict.Verdict.TheVariants as verdict
 use Rattle.bk_listing.specs.Forged.{HasWrongTag}
-use Rattle.bk_listing.specs.private.Shown.{IsRow}
+use Rattle.bk_listing.specs.private.FrameRow.{IsRow}
 use Rattle.bk_certcheck.proofs.Zips.{zip_length}
 use Rattle.bk_listing.proofs.LineTexts.{long_frames, zip_frame}
 use Rattle.bk_listing.proofs.Forgeries.{none_yet, none_more, none_at_all, first_here, forged_row}

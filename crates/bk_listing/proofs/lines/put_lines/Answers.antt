@@ -1,6 +1,6 @@
 use Rattle.std.proofs.Common.{◌<◌, length, refl, arith, rules}
 use Rattle.bk_frames.specs.Cutting.{frames_in}
-use Rattle.bk_listing.specs.private.Shown.{IsRow}
+use Rattle.bk_listing.specs.private.FrameRow.{IsRow}
 use Rattle.bk_certcheck.proofs.Zips.{zip_length}
 use Rattle.bk_listing.proofs.LineTexts.{long_frames, place_fits, puts_on, zip_frame}
 use Rattle.bk_listing.proofs.lines.put_lines.Goals as goal

@@ -1,6 +1,6 @@
 use Rattle.std.proofs.Common.{take}
 use Rattle.bk_frames.specs.Cutting.{frames_in}
-use Rattle.bk_listing.specs.private.Shown.{PutsLines}
+use Rattle.bk_listing.specs.private.FrameRow.{PutsLines}
 use Rattle.bk_listing.proofs.lines.put_lines.Given as goal
 
 abbrev pub invariant-loop-i : goal.invariant-loop-i

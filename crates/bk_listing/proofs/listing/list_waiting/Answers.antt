@@ -7,7 +7,7 @@ use Rattle.bk_base.specs.declared.kind.Kind.{Kind}
 use Rattle.bk_base.specs.Feed.{frame_text}
 use Rattle.bk_frames.specs.Cutting.{frames_in}
 use Rattle.bk_listing.specs.private.Reading.{CanBe}
-use Rattle.bk_listing.specs.private.Shown.{ListsMore, MoreFails}
+use Rattle.bk_listing.specs.private.FrameRow.{ListsMore, MoreFails}
 use Rattle.bk_listing.specs.private.Listed.{waiting}
 use Rattle.bk_listing.proofs.LineTexts.{long_frames}
 use Rattle.bk_listing.proofs.ShownSoFar.{all_listed, more_fails, none_listed, waiting_fits}

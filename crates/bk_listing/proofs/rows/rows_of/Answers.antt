@@ -2,7 +2,7 @@ use Rattle.std.proofs.Common.{ℕ, List, ◌<◌, length, sym, subst, arith, rul
 use Rattle.bk_base.specs.Feed.{frame_of}
 use Rattle.bk_frames.specs.Cutting.{frames_in}
 use Rattle.bk_certcheck.specs.Frames.{IsFound}
-use Rattle.bk_listing.specs.private.Shown.{IsRow}
+use Rattle.bk_listing.specs.private.FrameRow.{IsRow}
 use Rattle.bk_certcheck.proofs.Zips.{zip_length}
 use Rattle.bk_listing.proofs.LineTexts.{long_frames, rows_all, rows_on, zip_frame}
 use Rattle.bk_listing.proofs.rows.rows_of.Goals as goal

@@ -22,7 +22,7 @@ invariant_of-self-in-Err c = (
   c.self.invariant.1,
   λ none.
       let inv = c.self.invariant.2 c.in_default.is in
-      let same = order_stop_same c.in-Err.fault (followed c.self.inside.gathered.cutter c.self.inside.gathered.opened) (followed c.self.inside.gathered.cutter c.order_at_end.new.opened) (sym c.keep.ensures.standing ∙ none) c.in-Err.ensures.fault in
+      let same = order_stop_same c.in-Err.fault (followed c.self.inside.gathered.cutter c.self.inside.gathered.opened) (followed c.self.inside.gathered.cutter c.order_at_end.new.opened) (sym c.latch_unless_stop.ensures.standing ∙ none) c.in-Err.ensures.fault in
       (inv.0, inv.1, subst (HasCome inv.0 inv.1) (sym same) inv.2),
   λ none. c.self.invariant.3 c.in_default.is,
 )
@@ -38,6 +38,6 @@ pub returns-in-Err-clause-fault : goal.returns-in-Err-clause-fault
 returns-in-Err-clause-fault c = λ _.
     let none = c.in_default.is in
     let old : followed c.self.inside.gathered.cutter c.self.inside.gathered.opened ≡ c.args.self.now = (λ i. follower_of c.self.inside.gathered.cutter c.self.inside.gathered.opened.committee c.self.inside.gathered.opened.book (sym none i)) ∙ c.self.view_is in
-    rw c.keep.ensures.same
-    (subst (λ (p : Followed). CloseOrderFails p (follower_of c.self.inside.gathered.cutter c.order_at_end.new.opened.committee c.order_at_end.new.opened.book c.keep.new.standing) c.in-Err.fault) old
-    (close_order_fails c.in-Err.fault (followed c.self.inside.gathered.cutter c.self.inside.gathered.opened) (followed c.self.inside.gathered.cutter c.order_at_end.new.opened) c.keep.new.standing refl c.keep.ensures.standing c.in-Err.ensures.fault))
+    rw c.latch_unless_stop.ensures.same
+    (subst (λ (p : Followed). CloseOrderFails p (follower_of c.self.inside.gathered.cutter c.order_at_end.new.opened.committee c.order_at_end.new.opened.book c.latch_unless_stop.new.standing) c.in-Err.fault) old
+    (close_order_fails c.in-Err.fault (followed c.self.inside.gathered.cutter c.self.inside.gathered.opened) (followed c.self.inside.gathered.cutter c.order_at_end.new.opened) c.latch_unless_stop.new.standing refl c.latch_unless_stop.ensures.standing c.in-Err.ensures.fault))

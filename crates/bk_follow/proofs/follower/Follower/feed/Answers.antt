@@ -19,8 +19,8 @@ pub invariant_of-self-in-Err : goal.invariant_of-self-in-Err
 invariant_of-self-in-Err g c = (
   c.self.invariant.0,
   c.self.invariant.1,
-  λ none. absurd (let e : None ≡ Some c.in-Err.fault = sym none ∙ c.stand.ensures.standing in cc),
-  λ none. absurd (let e : None ≡ Some c.in-Err.fault = sym none ∙ c.stand.ensures.standing in cc),
+  λ none. absurd (let e : None ≡ Some c.in-Err.fault = sym none ∙ c.latch.ensures.standing in cc),
+  λ none. absurd (let e : None ≡ Some c.in-Err.fault = sym none ∙ c.latch.ensures.standing in cc),
 )
 
 pub returns-in-Ok-clause-takes : goal.returns-in-Ok-clause-takes
@@ -34,4 +34,4 @@ pub returns-in-Err-clause-fault : goal.returns-in-Err-clause-fault
 returns-in-Err-clause-fault g c = λ _.
     let none = c.in_default.is in
     let old : followed c.self.inside.gathered.cutter c.self.inside.gathered.opened ≡ c.args.self.now = (λ i. follower_of c.self.inside.gathered.cutter c.self.inside.gathered.opened.committee c.self.inside.gathered.opened.book (sym none i)) ∙ c.self.view_is in
-    rw c.stand.ensures.same (subst (λ (p : Followed). FeedFails p c.args.piece.now c.in-Err.fault) old c.in-Err.ensures.fault)
+    rw c.latch.ensures.same (subst (λ (p : Followed). FeedFails p c.args.piece.now c.in-Err.fault) old c.in-Err.ensures.fault)

@@ -21,7 +21,7 @@ invariant_of-self-in-Err g c = (
   c.self.invariant.1,
   λ none.
       let inv = c.self.invariant.2 c.in_default.is in
-      let same = end_stop_same c.in-Err.fault (followed c.self.inside.gathered.cutter c.self.inside.gathered.opened) (followed c.self.inside.gathered.cutter c.end.new.opened) _ _ (sym c.keep.ensures.standing ∙ none) c.in-Err.ensures.fault in
+      let same = end_stop_same c.in-Err.fault (followed c.self.inside.gathered.cutter c.self.inside.gathered.opened) (followed c.self.inside.gathered.cutter c.end.new.opened) _ _ (sym c.latch_unless_stop.ensures.standing ∙ none) c.in-Err.ensures.fault in
       (inv.0, inv.1, subst (HasCome inv.0 inv.1) (sym same) inv.2),
   λ none. c.self.invariant.3 c.in_default.is,
 )
@@ -37,6 +37,6 @@ pub returns-in-Err-clause-fault : goal.returns-in-Err-clause-fault
 returns-in-Err-clause-fault g c = λ _.
     let none = c.in_default.is in
     let old : followed c.self.inside.gathered.cutter c.self.inside.gathered.opened ≡ c.args.self.now = (λ i. follower_of c.self.inside.gathered.cutter c.self.inside.gathered.opened.committee c.self.inside.gathered.opened.book (sym none i)) ∙ c.self.view_is in
-    rw c.keep.ensures.same
-    (subst (λ (p : Followed). FinishFails p (follower_of c.self.inside.gathered.cutter c.end.new.opened.committee c.end.new.opened.book c.keep.new.standing) (g.K.Sink.state c.args.sink.now) (g.K.Sink.state c.end.new.sink) c.in-Err.fault) old
-    (finish_fails c.in-Err.fault (followed c.self.inside.gathered.cutter c.self.inside.gathered.opened) (followed c.self.inside.gathered.cutter c.end.new.opened) c.keep.new.standing _ _ refl c.keep.ensures.standing c.in-Err.ensures.fault))
+    rw c.latch_unless_stop.ensures.same
+    (subst (λ (p : Followed). FinishFails p (follower_of c.self.inside.gathered.cutter c.end.new.opened.committee c.end.new.opened.book c.latch_unless_stop.new.standing) (g.K.Sink.state c.args.sink.now) (g.K.Sink.state c.end.new.sink) c.in-Err.fault) old
+    (finish_fails c.in-Err.fault (followed c.self.inside.gathered.cutter c.self.inside.gathered.opened) (followed c.self.inside.gathered.cutter c.end.new.opened) c.latch_unless_stop.new.standing _ _ refl c.latch_unless_stop.ensures.standing c.in-Err.ensures.fault))

@@ -25,8 +25,8 @@ pub invariant_of-self-in-Err : goal.invariant_of-self-in-Err
 invariant_of-self-in-Err g c = (
   c.self.invariant.0,
   c.self.invariant.1,
-  λ none. absurd (let e : None ≡ Some c.in-Err.fault = sym none ∙ c.stand.ensures.standing in cc),
-  λ none. absurd (let e : None ≡ Some c.in-Err.fault = sym none ∙ c.stand.ensures.standing in cc),
+  λ none. absurd (let e : None ≡ Some c.in-Err.fault = sym none ∙ c.latch.ensures.standing in cc),
+  λ none. absurd (let e : None ≡ Some c.in-Err.fault = sym none ∙ c.latch.ensures.standing in cc),
 )
 
 pub returns-in-Ok-clause-come : goal.returns-in-Ok-clause-come

@@ -33,7 +33,7 @@ invariant_of-self-in-Err g c = (
   λ none.
       let inv = c.self.invariant.2 c.in_default.is in
       let good = good_of inv.0 inv.1 (followed c.self.inside.gathered.cutter c.self.inside.gathered.opened) c.in-Some-book.book inv.2 c.in-Some-book.is in
-      let same = stop_same c.in-Err.fault c.in-Some-book.book c.settle.new.self (sym c.keep.ensures.standing ∙ none) c.in-Err.ensures.fault in (
+      let same = stop_same c.in-Err.fault c.in-Some-book.book c.settle.new.self (sym c.latch_unless_stop.ensures.standing ∙ none) c.in-Err.ensures.fault in (
         inv.0,
         inv.1,
         come_on inv.0 inv.1 c.self.inside.gathered.cutter c.self.inside.gathered.opened.committee c.settle.new.self None (followed c.self.inside.gathered.cutter c.self.inside.gathered.opened) c.in-Some-book.book refl inv.2 good refl
@@ -49,6 +49,6 @@ returns-in-Ok-clause-settled g c =
 
 pub returns-in-Err-clause-fault : goal.returns-in-Err-clause-fault
 returns-in-Err-clause-fault g c = λ none.
-    rw c.keep.ensures.same
-    (subst (λ (old : Followed). SettleFails old (follower_of c.self.inside.gathered.cutter c.self.inside.gathered.opened.committee (Some c.settle.new.self) c.keep.new.standing) c.in-Err.fault) c.self.view_is
-    (settle_fails c.in-Err.fault c.self.inside.gathered.cutter c.self.inside.gathered.opened.committee c.self.inside.gathered.opened.book c.self.inside.fault c.keep.new.standing c.in-Some-book.book c.settle.new.self c.in-Some-book.is c.in_default.is c.keep.ensures.standing c.in-Err.ensures.fault))
+    rw c.latch_unless_stop.ensures.same
+    (subst (λ (old : Followed). SettleFails old (follower_of c.self.inside.gathered.cutter c.self.inside.gathered.opened.committee (Some c.settle.new.self) c.latch_unless_stop.new.standing) c.in-Err.fault) c.self.view_is
+    (settle_fails c.in-Err.fault c.self.inside.gathered.cutter c.self.inside.gathered.opened.committee c.self.inside.gathered.opened.book c.self.inside.fault c.latch_unless_stop.new.standing c.in-Some-book.book c.settle.new.self c.in-Some-book.is c.in_default.is c.latch_unless_stop.ensures.standing c.in-Err.ensures.fault))

@@ -15,13 +15,13 @@ use Rattle.bk_listing.specs.Listing.{AreWords, AreLinesFrom, IsListing, committe
 use Rattle.bk_listing.specs.Forged.{IsFirstForgedOf}
 use Rattle.bk_listing.specs.Rejects.{IsRejectedBy, IsRejectedCount}
 use Rattle.bk_results.specs.declared.wrong_tag.WrongTag.{WrongTag}
-use Rattle.bk_listing.specs.declared.rows.Shown.{Shown}
-use Rattle.bk_listing.specs.declared.rows.Shown.TheVariants as shown
+use Rattle.bk_listing.specs.declared.rows.FrameRow.{FrameRow}
+use Rattle.bk_listing.specs.declared.rows.FrameRow.TheVariants as shown
 use Rattle.bk_listing.specs.declared.lines.Place.{Place}
 use Rattle.bk_listing.specs.declared.lister.Lister.{Lister}
 
 -- the words of a row
-abbrev pub row_words : CommitteeValue → Shown → List ℕ
+abbrev pub row_words : CommitteeValue → FrameRow → List ℕ
 row_words k (shown.Committee digest) = committee_words k digest
 row_words k (shown.Genesis digest accounts money) = genesis_words digest accounts money
 row_words k shown.Malformed = codes "cert" ++ rule_words (Some rule.Shape)
@@ -31,7 +31,7 @@ row_words k (shown.Batch digest count) = batch_words digest (Some count)
 row_words k (shown.Void digest) = batch_words digest None
 
 -- the rule by which the frame of a row is rejected, if it is
-abbrev pub row_rules : Shown → List Rule
+abbrev pub row_rules : FrameRow → List Rule
 row_rules (shown.Committee digest) = []
 row_rules (shown.Genesis digest accounts money) = []
 row_rules shown.Malformed = rule.Shape ∷ []
@@ -41,7 +41,7 @@ row_rules (shown.Batch digest count) = []
 row_rules (shown.Void digest) = []
 
 -- the frame of a row is rejected
-abbrev pub is_rejected : Shown → Bool
+abbrev pub is_rejected : FrameRow → Bool
 is_rejected (shown.Committee digest) = false
 is_rejected (shown.Genesis digest accounts money) = false
 is_rejected shown.Malformed = true
@@ -51,7 +51,7 @@ is_rejected (shown.Batch digest count) = false
 is_rejected (shown.Void digest) = false
 
 -- the frame of a row is a certificate that is rejected for its tags
-abbrev pub is_forged : Shown → Bool
+abbrev pub is_forged : FrameRow → Bool
 is_forged (shown.Broken row rule.Tag) = true
 is_forged other = false
 
@@ -62,7 +62,7 @@ else_later None count None = None
 else_later None count (Some found) = Some (record { frame = count + found.frame; signer = found.signer })
 
 -- a row has the words of the frame, and the rule by which it is rejected
-abbrev pub IsRow : CommitteeValue → Frame → Shown → Type 0
+abbrev pub IsRow : CommitteeValue → Frame → FrameRow → Type 0
 IsRow k f row =
     AreWords k f.kind f.payload (row_words k row) × IsRejectedBy k f.kind f.payload (row_rules row)
 

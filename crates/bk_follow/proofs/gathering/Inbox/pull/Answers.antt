@@ -3,7 +3,7 @@ use Rattle.std.proofs.lemmas.Result.{err_from_is_err_and}
 use Rattle.bk_frames.specs.Cutting.{frames_in}
 use Rattle.bk_follow.specs.private.Gathering.{TakesWaiting}
 use Rattle.bk_follow.proofs.Groups.{can_pull_behind, pull_refused, group_came, all_gathered, group_works, pulled_ok, pulled_err, got_ok}
-use Rattle.bk_follow.proofs.gathering.Gathered.pull.Goals as goal
+use Rattle.bk_follow.proofs.gathering.Inbox.pull.Goals as goal
 
 pub pull_beside-took-requires-clause-pulled : goal.pull_beside-took-requires-clause-pulled
 pull_beside-took-requires-clause-pulled g c = λ κs within.

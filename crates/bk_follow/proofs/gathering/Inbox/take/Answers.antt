@@ -2,7 +2,7 @@ use Rattle.std.proofs.Common.{refl, sym, ap, subst, ◌∙◌}
 use Rattle.bk_frames.specs.Cutting.{frames_in}
 use Rattle.bk_follow.specs.private.Gathering.{CanTake, TakesWaiting}
 use Rattle.bk_follow.proofs.Groups.{takes_waiting, can_take_all}
-use Rattle.bk_follow.proofs.gathering.Gathered.take.Goals as goal
+use Rattle.bk_follow.proofs.gathering.Inbox.take.Goals as goal
 
 pub take_waiting-requires-clause-come : goal.take_waiting-requires-clause-come
 take_waiting-requires-clause-come g c κs within =
