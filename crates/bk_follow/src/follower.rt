@@ -18,6 +18,7 @@ use bk_pool::Gate;
 use bk_results::Status;
 use std::alloc::Global;
 use std::marker::Model;
+use std::mem::forget;
 use std::sync::Wait;
 use std::thread::Threads;
 
@@ -153,6 +154,12 @@ impl Follower {
     /// Gives its memory back. A caller that owns a Follower ends with this call: its own proof then need not go through
     /// all that a Follower holds.
     pub fn discard(self) {}
+
+    /// Leaves its memory to the end of the process, which gives all of it back at once: a deep feed takes longer to give
+    /// back a certificate at a time than to write its report. For a runner, whose caller ends when it returns.
+    pub(crate) fn abandon(self) {
+        forget(self);
+    }
 
     /// The fault that every later call returns, if there is one.
     pub fn fault(&self) -> Option<Fault>
