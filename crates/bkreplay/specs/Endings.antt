@@ -1,18 +1,20 @@
 -- How the program ends, by its words.
-use Rattle.std.specs.Prelude.{◌≡◌, ◌≢◌, ◌⊎◌, Bool, List, [], true, false}
+use Rattle.std.specs.Prelude.{◌≡◌, ◌≢◌, ◌⊎◌, ℕ, Bool, List, [], true, false, codes}
 use Rattle.clap.specs.Words.{HasKind, Text, fault_of, kind_of, subcommand_of}
 use Rattle.clap.specs.declared.error.Error.{Error}
 use Rattle.clap.specs.declared.error.kind.ErrorKind.TheVariants as kind
 use Rattle.bk_frames.specs.Device.{Device}
 use Rattle.bk_results.specs.Devices.{IsUntouched}
+use Rattle.bk_results.specs.declared.fault.Fault.TheVariants as replay
 use Rattle.bk_cli.specs.CommandLine.{AreNotesOf, IsJobOf, IsOfValues, IsStrictOf, command_line}
-use Rattle.bk_cli.specs.Exits.{has_fault, is_refusal, is_report, may_end_if, writes_ahead}
+use Rattle.bk_cli.specs.Exits.{has_fault, is_refusal, may_end_if, writes_ahead}
+use Rattle.bk_cli.specs.FaultLines.{Reports, line_of}
 use Rattle.bk_cli.specs.declared.exit.Exit.{Exit}
 use Rattle.bk_cli.specs.declared.exit.Exit.TheVariants as exit
 use Rattle.bk_cli.specs.declared.job.Job.{Job}
+use Rattle.bk_cli.specs.declared.job_fault.JobFault.TheVariants as fault
 use Rattle.bk_cli.specs.declared.notes.Notes.{Notes}
 use Rattle.bk_cli.specs.Words.{settled}
-use Rattle.bk_jobs.specs.Faults.{EndsWithLine}
 use Rattle.bk_jobs.specs.Openings.{Ran}
 
 -- where the words name no job: with Failed where memory ran out; with Whole after help and the version, or with Failed where
@@ -23,6 +25,18 @@ pub record EndsByKind (e : Error) (end : Exit) : Type 0 where
       → (end ≡ exit.Whole) ⊎ (end ≡ exit.Failed)
   pub mistake : kind_of e ≢ kind.OutOfMemory → kind_of e ≢ kind.DisplayHelp → kind_of e ≢ kind.DisplayVersion
       → end ≡ exit.No
+
+-- one line says that memory ran out
+abbrev pub SaysNoMemory : Device → Device → Type 0
+SaysNoMemory err err' = Reports (line_of (fault.Replay replay.Memory)) err err'
+
+-- one line says that nothing could be written
+abbrev pub SaysUnwritten : Device → Device → Type 0
+SaysUnwritten err err' = Reports (line_of (fault.Replay (replay.Write 0))) err err'
+
+-- what is said of words that are no text
+abbrev pub unread_words : List ℕ
+unread_words = codes "error: a word of the command line is not UTF-8\n"
 
 -- the words have no fault, and the job that they name ran, reported as their notes say; where the bytes are to blame nothing is
 -- written, but by a job that writes ahead
@@ -39,24 +53,26 @@ pub record RanJob (words : List Text) (end : Exit) (out out' err err' : Device) 
   pub ran : Ran job strict notes.verbose end out out' err err'
 
 -- the words have a fault, or ask for help or the version, or memory ran out: that decides how the program ends, nothing is
--- written of an answer, and one line says what failed
+-- written of an answer, and where it ends with Failed one line says why
 pub record RanNone (words : List Text) (end : Exit) (out out' err err' : Device) : Type 0 where
   pub error : Error
   pub names : HasKind (fault_of command_line words) error ⊎ IsOfValues error (subcommand_of command_line words)
   pub ends : EndsByKind error end
   pub unwritten : out' ≡ out
-  pub quiet : is_report end ≡ true → err' ≡ err
-  pub line : has_fault end ≡ true → EndsWithLine false end err err'
+  pub quiet : has_fault end ≡ false → err' ≡ err
+  pub memory : kind_of error ≡ kind.OutOfMemory → SaysNoMemory err err'
+  pub unsaid : kind_of error ≢ kind.OutOfMemory → end ≡ exit.Failed → SaysUnwritten err err'
 
 -- the one or the other
 abbrev pub RanWords : List Text → Exit → Device → Device → Device → Device → Type 0
 RanWords words end out out' err err' = RanJob words end out out' err err' ⊎ RanNone words end out out' err err'
 
--- the words could not be read: no answer is written
+-- the words could not be read: no answer is written, and one line says why
 pub record ReadNoWords (end : Exit) (out out' err err' : Device) : Type 0 where
   pub ends : (end ≡ exit.No) ⊎ (end ≡ exit.Failed)
   pub unwritten : out' ≡ out
-  pub line : has_fault end ≡ true → EndsWithLine false end err err'
+  pub said : end ≡ exit.No → Reports unread_words err err'
+  pub memory : end ≡ exit.Failed → SaysNoMemory err err'
 
 -- some words were read and are answered, as they are read, or none could be read
 abbrev pub RanProgram : Exit → Device → Device → Device → Device → Type 0

@@ -1,12 +1,11 @@
 //! From the words of the command line to the exit status.
 
-ghost use Rattle.std.specs.Prelude.{◌≡◌, ◌⊎◌, map, true, false};
+ghost use Rattle.std.specs.Prelude.{◌≡◌, ◌⊎◌, map};
 ghost use Rattle.bk_frames.specs.Device.{CanBeUsed};
-ghost use Rattle.bk_cli.specs.Exits.{has_fault};
+ghost use Rattle.bk_cli.specs.FaultLines.{Reports};
 ghost use Rattle.bk_cli.specs.Words.{settled};
-ghost use Rattle.bk_jobs.specs.Faults.{EndsWithLine};
 ghost use Rattle.bk_jobs.specs.Sources.{CanBeUsedAgain};
-ghost use Rattle.bkreplay.specs.Endings.{RanProgram, RanWords};
+ghost use Rattle.bkreplay.specs.Endings.{RanProgram, RanWords, SaysNoMemory, unread_words};
 
 use crate::speaker::Speaker;
 use bk_cli::{Exit, JobFault, Line, parse_line, report};
@@ -100,8 +99,8 @@ fn words<R: Env + AllocGlobal>(rt: &R) -> io::Result<Vec<String>> {
 fn refuse_words<E: Sink>(error: &io::Error, err: &mut E) -> Exit
     requires { CanBeUsed (E.state err.old) }
     ensures ends { (result ≡ Exit.No) ⊎ (result ≡ Exit.Failed) }
-    ensures line { has_fault result ≡ true
-        → EndsWithLine false result (E.state err.old) (E.state err.new) }
+    ensures said { result ≡ Exit.No → Reports unread_words (E.state err.old) (E.state err.new) }
+    ensures memory { result ≡ Exit.Failed → SaysNoMemory (E.state err.old) (E.state err.new) }
 {
     if error.kind() == io::ErrorKind::OutOfMemory {
         report(&JobFault::Replay(Fault::Memory), err);

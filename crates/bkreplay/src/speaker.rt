@@ -1,10 +1,10 @@
 //! What the program says of its words.
 
-ghost use Rattle.std.specs.Prelude.{◌≡◌, ◌⊎◌, false, true};
+ghost use Rattle.std.specs.Prelude.{◌≡◌, ◌≢◌, ◌⊎◌, false};
 ghost use Rattle.bk_frames.specs.Device.{CanBeUsed};
-ghost use Rattle.bk_cli.specs.Exits.{has_fault, is_report};
-ghost use Rattle.bk_jobs.specs.Faults.{EndsWithLine};
-ghost use Rattle.bkreplay.specs.Endings.{EndsByKind};
+ghost use Rattle.bk_cli.specs.Exits.{has_fault};
+ghost use Rattle.bkreplay.specs.Endings.{EndsByKind, SaysNoMemory, SaysUnwritten};
+ghost use Rattle.clap.specs.Words.{kind_of};
 
 use bk_cli::{Exit, JobFault, report};
 use bk_frames::Sink;
@@ -28,9 +28,11 @@ impl<'a, Q: Print + Eprint> Speaker<'a, Q> {
     pub(crate) fn answer<E: Sink>(&self, error: &Error, err: &mut E) -> Exit
         requires { CanBeUsed (E.state err.old) }
         ensures kind { EndsByKind error.now result }
-        ensures quiet { is_report result ≡ true → err.new ≡ err.old }
-        ensures line { has_fault result ≡ true
-            → EndsWithLine false result (E.state err.old) (E.state err.new) }
+        ensures quiet { has_fault result ≡ false → err.new ≡ err.old }
+        ensures memory { kind_of error.now ≡ ErrorKind.OutOfMemory
+            → SaysNoMemory (E.state err.old) (E.state err.new) }
+        ensures unsaid { kind_of error.now ≢ ErrorKind.OutOfMemory → result ≡ Exit.Failed
+            → SaysUnwritten (E.state err.old) (E.state err.new) }
         ensures ends { (result ≡ Exit.Whole) ⊎ (result ≡ Exit.No) ⊎ (result ≡ Exit.Failed) }
     {
         if error.kind() == ErrorKind::OutOfMemory {

@@ -10,6 +10,7 @@ returns-in-Err g c = record {
   ran = inr (record {
     ends = c.refuse_words.ensures.ends;
     unwritten = refl;
-    line = c.refuse_words.ensures.line;
+    said = c.refuse_words.ensures.said;
+    memory = c.refuse_words.ensures.memory;
   });
 }

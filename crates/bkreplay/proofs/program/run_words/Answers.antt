@@ -26,6 +26,7 @@ returns-in-Err g c = record {
     ends = c.answer.ensures.kind;
     unwritten = refl;
     quiet = λ r. ap g.E.Sink.state (c.answer.ensures.quiet r);
-    line = c.answer.ensures.line;
+    memory = c.answer.ensures.memory;
+    unsaid = c.answer.ensures.unsaid;
   });
 }
