@@ -9,8 +9,8 @@ use Rattle.bk_results.specs.declared.differ.SetupPart.{SetupPart}
 use Rattle.bk_results.specs.declared.differ.SetupPart.TheVariants as part
 use Rattle.bk_results.specs.declared.differ.Differ.{Differ}
 use Rattle.bk_results.specs.declared.differ.Differ.TheVariants as differ
-use Rattle.bk_results.specs.declared.events_fault.EventsFault.{EventsFault}
-use Rattle.bk_results.specs.declared.events_fault.EventsFault.TheVariants as events
+use Rattle.bk_results.specs.declared.lines_fault.LinesFault.{LinesFault}
+use Rattle.bk_results.specs.declared.lines_fault.LinesFault.TheVariants as events
 use Rattle.bk_results.specs.declared.fault.Fault.{Fault}
 use Rattle.bk_results.specs.declared.fault.Fault.TheVariants as replay
 use Rattle.bk_results.specs.declared.script_fault.ScriptCode.{ScriptCode}
@@ -100,7 +100,7 @@ text_words (text.Write written) = codes "it could not be written"
 text_words text.Memory = codes "memory ran out"
 
 -- a list of events that was not read
-abbrev pub unread_words : EventsFault → List ℕ
+abbrev pub unread_words : LinesFault → List ℕ
 unread_words (events.Line line) = codes "line" ++ spaced line ++ codes " is not an event"
 unread_words events.Read = codes "it could not be opened or read"
 unread_words events.Memory = codes "memory ran out"

@@ -12,8 +12,8 @@ use Rattle.bk_results.specs.declared.fault.Fault.TheVariants as replay
 use Rattle.bk_results.specs.Lines.{spaced}
 use Rattle.bk_base.specs.Refusals.{code_of}
 use Rattle.bk_results.specs.Codes.{code_number}
-use Rattle.bk_results.specs.declared.events_fault.EventsFault.{EventsFault}
-use Rattle.bk_results.specs.declared.events_fault.EventsFault.TheVariants as events
+use Rattle.bk_results.specs.declared.lines_fault.LinesFault.{LinesFault}
+use Rattle.bk_results.specs.declared.lines_fault.LinesFault.TheVariants as events
 use Rattle.bk_results.specs.declared.script_fault.ScriptFault.{ScriptFault}
 use Rattle.bk_results.specs.declared.script_fault.ScriptFault.TheVariants as text
 use Rattle.bk_cli.specs.declared.job_fault.JobFault.{JobFault}
@@ -47,7 +47,7 @@ script_text (text.Write written) = codes "write failed"
 script_text text.Memory = codes "memory"
 
 -- what reports a list of events that was not read
-abbrev pub unread_text : EventsFault → List ℕ
+abbrev pub unread_text : LinesFault → List ℕ
 unread_text (events.Line line) = codes "events fault at line" ++ spaced line
 unread_text events.Read = codes "read failed"
 unread_text events.Memory = codes "memory"

@@ -8,7 +8,7 @@ use crate::job_fault::JobFault;
 use crate::list_fault::ListFault;
 use crate::view::Diagnosis;
 use bk_frames::FaultCode;
-use bk_results::{CompareStop, Differ, EventsFault, Fault, ScriptFault, Status};
+use bk_results::{CompareStop, Differ, Fault, LinesFault, ScriptFault, Status};
 
 /// How the program ends.
 #[derive(Clone, Copy, Debug, PartialEq, Eq)]
@@ -111,11 +111,11 @@ impl Exit {
         ensures { result ≡ exit_after_list fault.now }
     {
         match fault {
-            ListFault::Unread(EventsFault::Line { .. }) | ListFault::Refused { .. } => {
+            ListFault::Unread(LinesFault::Line { .. }) | ListFault::Refused { .. } => {
                 Exit::WrongInput
             }
-            ListFault::Unread(EventsFault::Read)
-            | ListFault::Unread(EventsFault::Memory)
+            ListFault::Unread(LinesFault::Read)
+            | ListFault::Unread(LinesFault::Memory)
             | ListFault::Unfinished { .. } => Exit::Failed,
         }
     }

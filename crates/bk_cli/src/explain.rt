@@ -15,7 +15,7 @@ use bk_base::Refused;
 use bk_digest::Digest32;
 use bk_frames::{FaultCode, FeedFault};
 use bk_results::{
-    CompareStop, Differ, EventsFault, Fault, ScriptCode, ScriptFault, SetupPart, WrongTag,
+    CompareStop, Differ, Fault, LinesFault, ScriptCode, ScriptFault, SetupPart, WrongTag,
 };
 
 // What is in front of the byte at which the fault of a feed is.
@@ -163,19 +163,19 @@ fn put_script(line: &mut ShortLine, fault: &ScriptFault)
 }
 
 // Puts why a list of events was not read where there is room for 150 bytes.
-fn put_unread(line: &mut ShortLine, fault: &EventsFault)
+fn put_unread(line: &mut ShortLine, fault: &LinesFault)
     requires { array_vec_len line.old + 150 ≤ 192 }
     ensures items { line.new.items ≡ line.old.items ++ unread_words fault.now }
     ensures len { array_vec_len line.new ≤ array_vec_len line.old + 150 }
 {
     match fault {
-        EventsFault::Line { line: number } => {
+        LinesFault::Line { line: number } => {
             put_text(line, b"line");
             put_number(line, u64::from(*number));
             put_text(line, b" is not an event");
         }
-        EventsFault::Read => put_text(line, b"it could not be opened or read"),
-        EventsFault::Memory => put_text(line, b"memory ran out"),
+        LinesFault::Read => put_text(line, b"it could not be opened or read"),
+        LinesFault::Memory => put_text(line, b"memory ran out"),
     }
 }
 

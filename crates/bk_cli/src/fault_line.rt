@@ -11,7 +11,7 @@ use crate::line::{ShortLine, put_number, put_text};
 use crate::list_fault::ListFault;
 use bk_digest::Digest32;
 use bk_frames::{Sink, push_all};
-use bk_results::{CompareStop, Differ, EventsFault, Fault, ScriptFault};
+use bk_results::{CompareStop, Differ, Fault, LinesFault, ScriptFault};
 
 /// Puts a space and the digits of a digest where there is room for 65 bytes.
 pub(crate) fn put_digest(line: &mut ShortLine, digest: &Digest32)
@@ -93,18 +93,18 @@ fn put_script(line: &mut ShortLine, fault: &ScriptFault)
 }
 
 // Puts what reports a list of events that was not read where there is room for 184 bytes.
-fn put_unread(line: &mut ShortLine, fault: &EventsFault)
+fn put_unread(line: &mut ShortLine, fault: &LinesFault)
     requires { array_vec_len line.old + 184 ≤ 192 }
     ensures items { line.new.items ≡ line.old.items ++ unread_text fault.now }
     ensures len { array_vec_len line.new ≤ array_vec_len line.old + 184 }
 {
     match fault {
-        EventsFault::Line { line: number } => {
+        LinesFault::Line { line: number } => {
             put_text(line, b"events fault at line");
             put_number(line, u64::from(*number));
         }
-        EventsFault::Read => put_text(line, b"read failed"),
-        EventsFault::Memory => put_text(line, b"memory"),
+        LinesFault::Read => put_text(line, b"read failed"),
+        LinesFault::Memory => put_text(line, b"memory"),
     }
 }
 

@@ -6,7 +6,7 @@ ghost use Rattle.bk_cli.specs.declared.list_fault.ListFault.TheVariants as list;
 
 use crate::list_fault::ListFault;
 use bk_digest::Digest32;
-use bk_results::{CompareStop, EventsFault, Fault, ScriptFault};
+use bk_results::{CompareStop, Fault, LinesFault, ScriptFault};
 
 /// Why a job has no answer. The program prints each as one line on standard error.
 #[derive(Clone, Copy)]
@@ -55,10 +55,10 @@ impl From<ScriptFault> for JobFault {
     }
 }
 
-impl From<EventsFault> for JobFault {
+impl From<LinesFault> for JobFault {
     ghost from_gives = { λ f e. e ≡ fault.Events (list.Unread f) };
 
-    fn from(f: EventsFault) -> JobFault {
+    fn from(f: LinesFault) -> JobFault {
         JobFault::Events(ListFault::Unread(f))
     }
 }

@@ -34,7 +34,7 @@ use Rattle.bk_cli.specs.declared.job.Job.{Job}
 use Rattle.bk_cli.specs.declared.job.Job.TheVariants as job
 use Rattle.bk_cli.specs.declared.job_fault.JobFault.{JobFault}
 use Rattle.bk_cli.specs.declared.job_fault.JobFault.TheVariants as fault
-use Rattle.bk_results.specs.declared.events_fault.EventsFault.TheVariants as unread
+use Rattle.bk_results.specs.declared.lines_fault.LinesFault.TheVariants as unread
 use Rattle.bk_cli.specs.declared.list_fault.ListFault.TheVariants as list
 use Rattle.bk_jobs.specs.Schedules.{AreNoEvents, AreRefused, IsListed, IsRefusedAt}
 use Rattle.bk_jobs.specs.Sources.{AreBroken, Inputs, JobDevices, inputs_of}

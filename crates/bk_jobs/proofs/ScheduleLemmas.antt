@@ -11,7 +11,7 @@ use Rattle.bk_apply.specs.declared.scheduling.ScheduleStop.{ScheduleStop}
 use Rattle.bk_apply.specs.declared.scheduling.ScheduleStop.TheVariants as stop
 use Rattle.bk_script.specs.Events.{AreEvents, EventList, HasNoEvents, event_list, events_of}
 use Rattle.bk_script.specs.declared.events.Events.{Events}
-use Rattle.bk_results.specs.declared.events_fault.EventsFault.{EventsFault}
+use Rattle.bk_results.specs.declared.lines_fault.LinesFault.{LinesFault}
 use Rattle.bk_jobs.specs.Faults.{ScheduleIsOut}
 use Rattle.bk_jobs.specs.Schedules.{IsList, ScheduleFailsBy, fault_at}
 use Rattle.bk_jobs.specs.Sources.{job_devices}
@@ -40,7 +40,7 @@ schedule_is_out workers events feed feed' source source' out out' are report = (
 -- ---- why there is none
 
 -- the list was not read: the feed and standard output are as they were
-pub not_listed : (workers : ℕ) (e : EventsFault) (feed source source' out : Device) → HasNoEvents e source source'
+pub not_listed : (workers : ℕ) (e : LinesFault) (feed source source' out : Device) → HasNoEvents e source source'
     → ScheduleFailsBy workers (fault.Events (list.Unread e)) (job_devices feed source out) (job_devices feed source' out)
 not_listed workers e feed source source' out h = (h, refl, (refl, keeps_all out.bytes))
 

@@ -20,7 +20,7 @@ use Rattle.bk_results.specs.declared.query.Query.TheVariants as query
 use Rattle.bk_results.specs.declared.query.Reply.{Reply}
 use Rattle.bk_results.specs.declared.query.Reply.TheVariants as reply
 use Rattle.bk_ask.specs.Asking.{can_reply}
-use Rattle.bk_results.specs.declared.events_fault.EventsFault.TheVariants as unread
+use Rattle.bk_results.specs.declared.lines_fault.LinesFault.TheVariants as unread
 use Rattle.bk_cli.specs.declared.list_fault.ListFault.TheVariants as list
 use Rattle.bk_jobs.specs.Schedules.{ScheduleFailsBy}
 use Rattle.bk_jobs.specs.Sources.{JobDevices, first_devices}

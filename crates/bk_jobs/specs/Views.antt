@@ -16,8 +16,8 @@ use Rattle.bk_chain.specs.declared.verdict.ChainEnd.TheVariants as verdict
 use Rattle.bk_tail.specs.Tailing.{TailFailsBy}
 use Rattle.bk_tables.specs.Listing.{AreNamedIn, HasNoAccounts}
 use Rattle.bk_tables.specs.Tables.{IsBatchTable, IsPaymentTable, IsPostingTable}
-use Rattle.bk_tables.specs.declared.listing.AccountsFault.{AccountsFault}
-use Rattle.bk_tables.specs.declared.listing.AccountsFault.TheVariants as list
+use Rattle.bk_results.specs.declared.lines_fault.LinesFault.{LinesFault}
+use Rattle.bk_results.specs.declared.lines_fault.LinesFault.TheVariants as list
 use Rattle.bk_cli.specs.Exits.{exit_at}
 use Rattle.bk_cli.specs.declared.exit.Exit.{Exit}
 use Rattle.bk_cli.specs.declared.exit.Exit.TheVariants as exit
@@ -71,13 +71,13 @@ PickIsOut shown end old new =
     × IsAnswered (table_text shown (Some accounts)) answer (first_devices old) (first_devices new))
 
 -- the fault of a list of accounts
-abbrev pub fault_by_list : AccountsFault → JobFault
+abbrev pub fault_by_list : LinesFault → JobFault
 fault_by_list (list.Line line) = fault.Accounts line
 fault_by_list list.Read = fault.Text text.Read
 fault_by_list list.Memory = fault.Text text.Memory
 
 -- the list was not read, and the feed is as it was
-abbrev pub ListIsUnread : AccountsFault → JobDevices → JobDevices → Type 0
+abbrev pub ListIsUnread : LinesFault → JobDevices → JobDevices → Type 0
 ListIsUnread e old new =
     HasNoAccounts e old.second new.second × (new.first ≡ old.first) × IsUntouched old.out new.out
 

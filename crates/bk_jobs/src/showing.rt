@@ -14,9 +14,9 @@ use bk_chain::Link;
 use bk_cli::{Exit, JobFault, Table, View, Workers};
 use bk_frames::{Sink, Source};
 use bk_pool::Gate;
-use bk_results::{Fault, Status};
+use bk_results::{Fault, LinesFault, Status};
 use bk_script::ScriptFault;
-use bk_tables::{Accounts, AccountsFault, Batches, Postings, Transactions, read_accounts};
+use bk_tables::{Accounts, Batches, Postings, Transactions, read_accounts};
 use std::sync::Wait;
 use std::thread::Threads;
 
@@ -89,13 +89,13 @@ where
 }
 
 /// The fault of a list of accounts.
-pub(crate) fn fault_of(fault: AccountsFault) -> JobFault
+pub(crate) fn fault_of(fault: LinesFault) -> JobFault
     ensures { result ≡ fault_by_list fault }
 {
     match fault {
-        AccountsFault::Line { line } => JobFault::Accounts { line },
-        AccountsFault::Read => JobFault::Text(ScriptFault::Read),
-        AccountsFault::Memory => JobFault::Text(ScriptFault::Memory),
+        LinesFault::Line { line } => JobFault::Accounts { line },
+        LinesFault::Read => JobFault::Text(ScriptFault::Read),
+        LinesFault::Memory => JobFault::Text(ScriptFault::Memory),
     }
 }
 

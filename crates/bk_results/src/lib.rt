@@ -5,9 +5,9 @@
 
 mod compare_stop;
 mod differ;
-mod events_fault;
 mod fault;
 mod flaw;
+mod lines_fault;
 mod query;
 mod script_fault;
 mod status;
@@ -15,9 +15,9 @@ mod wrong_tag;
 
 pub use compare_stop::CompareStop;
 pub use differ::{Agreed, Differ, SetupPart};
-pub use events_fault::EventsFault;
 pub use fault::Fault;
 pub use flaw::Flaw;
+pub use lines_fault::LinesFault;
 pub use query::{Query, Reply};
 pub use script_fault::{ScriptCode, ScriptFault};
 pub use status::Status;

@@ -10,5 +10,6 @@ pub mod Sorted
 pub mod Masks
 pub mod TextLines
 pub mod WholeTexts
-pub mod EventLines
-pub mod WholeEvents
+pub mod ListLines
+pub mod WholeLists
+pub mod EventPairs

@@ -1,18 +1,16 @@
 -- What the text of a list of events says: the events, each with its line, or the first line with a fault.
-use Rattle.std.specs.Prelude.{◌≡◌, ℕ, ◌+◌, List, [], ◌∷◌, ◌++◌, length, take, nat_le, if◌then◌else◌, Option, Some, None, Result, Ok, Err, codes}
+use Rattle.std.specs.Prelude.{ℕ, List, [], ◌∷◌, ◌++◌, if◌then◌else◌, Option, Some, None, Result, Ok, Err, codes}
 use Rattle.std.specs.Str.{bytes_eq}
-use Rattle.bk_frames.specs.Device.{Device, Works, Fails}
-use Rattle.bk_results.specs.Devices.{OfGiven}
+use Rattle.bk_frames.specs.Device.{Device}
 use Rattle.bk_steps.specs.declared.event.Event.{Event}
 use Rattle.bk_steps.specs.declared.event.Event.TheVariants.{Claim, Read, Write, Finish}
 use Rattle.bk_script.specs.declared.events.Events.{Events}
-use Rattle.bk_results.specs.declared.events_fault.EventsFault.{EventsFault}
-use Rattle.bk_results.specs.declared.events_fault.EventsFault.TheVariants as fault
+use Rattle.bk_results.specs.declared.lines_fault.LinesFault.{LinesFault}
 use Rattle.bk_results.specs.declared.script_fault.ScriptCode.{ScriptCode}
 use Rattle.bk_script.specs.declared.making.TheConstants.{MOST_SCRIPT}
 use Rattle.bk_script.specs.Words.{numbers_of}
 use Rattle.bk_script.specs.Lines.{is_ascii, is_skipped, words_of}
-use Rattle.bk_script.specs.Script.{ended_lines, lines_of}
+use Rattle.bk_script.specs.Listing.{listed_within, HasList, HasNoList}
 
 -- events, and the number of the line of each, lines being counted from 1
 pub record EventList : Type 0 where
@@ -59,42 +57,18 @@ unfoldable pub with_event_line : EventList → ℕ → List ℕ → Result Event
 with_event_line events n line =
     if is_ascii line then (if is_skipped line then Ok events else with_event events n (event_of (words_of line))) else Err n
 
--- ---- one line after another
-
--- what follows from the events so far, unless a line has a fault
-abbrev pub then_list : Result EventList ℕ → (EventList → Result EventList ℕ) → Result EventList ℕ
-then_list (Ok events) next = next events
-then_list (Err line) next = Err line
-
--- the events with those of these lines, where the first has this number; or the first line that has a fault
-unfoldable pub listed : EventList → ℕ → List (List ℕ) → Result EventList ℕ
-listed events n [] = Ok events
-listed events n (line ∷ lines) = then_list (with_event_line events n line) (λ more. listed more (n + 1) lines)
-
 -- ---- the whole text
-
--- a text that crosses the limit in its last line: this line has a fault, unless one that a line feed ends has one
-abbrev pub crossing_events : List ℕ → Result EventList ℕ
-crossing_events text = then_list (listed no_events 1 (ended_lines text)) (λ _. Err (length (lines_of text)))
-
--- the events of a text that may have this many bytes; of one that is too long, these and one byte more are looked at
-unfoldable pub events_within : ℕ → List ℕ → Result EventList ℕ
-events_within most text =
-    if nat_le (length text) most then listed no_events 1 (lines_of text) else crossing_events (take (most + 1) text)
 
 -- the events of a text, or the first line with a fault
 abbrev pub events_of : List ℕ → Result EventList ℕ
-events_of text = events_within MOST_SCRIPT text
+events_of text = listed_within with_event_line no_events MOST_SCRIPT text
 
 -- ---- from a source
 
 -- no call of the source failed, and its text says these events
 abbrev pub AreEvents : Device → Device → Events → Type 0
-AreEvents old new events = Works old new × OfGiven old new (λ text. events_of text ≡ Ok (event_list events))
+AreEvents old new events = HasList events_of (event_list events) old new
 
--- why there is no list of events, by the fault: this is the first line of the text with a fault; a call of the source
--- failed; or memory ran out
-abbrev pub HasNoEvents : EventsFault → Device → Device → Type 0
-HasNoEvents (fault.Line line) old new = Works old new × OfGiven old new (λ text. events_of text ≡ Err line)
-HasNoEvents fault.Read old new = Fails old new
-HasNoEvents fault.Memory old new = Works old new
+-- why there is no list of events, by the fault
+abbrev pub HasNoEvents : LinesFault → Device → Device → Type 0
+HasNoEvents e old new = HasNoList events_of e old new

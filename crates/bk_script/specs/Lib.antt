@@ -7,6 +7,7 @@ pub mod Sealing
 pub mod Judging
 pub mod Feeds
 pub mod Script
+pub mod Listing
 pub mod Events
 pub mod Answers
 pub mod private

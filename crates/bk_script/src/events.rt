@@ -1,20 +1,17 @@
 //! Lists of events: the text of an execution's events, one a line.
 
-ghost use Rattle.std.specs.Prelude.{◌≡◌, ◌+◌, ◌≤◌, ◌<◌, ◌^◌, length, drop, map, IfOk, IfErr};
+ghost use Rattle.std.specs.Prelude.{◌≡◌, ◌+◌, length, map, IfOk, IfErr};
 ghost use Rattle.bk_frames.specs.Device.{CanBeUsed};
-ghost use Rattle.bk_script.specs.Script.{ended_lines, last_line};
-ghost use Rattle.bk_script.specs.Events.{AreEvents, HasNoEvents, no_events, event_list, event_named, event_of, with_event, with_event_line, listed, events_within};
-ghost use Rattle.bk_script.specs.private.Listing.{Lists, HasNoText};
-ghost use Rattle.bk_script.specs.Answers.{HasRead};
-ghost use Rattle.bk_results.specs.declared.events_fault.EventsFault.TheVariants as fault;
+ghost use Rattle.bk_script.specs.Events.{AreEvents, EventList, HasNoEvents, no_events, event_list, event_named, event_of, with_event, with_event_line};
+ghost use Rattle.bk_script.specs.Listing.{Lists};
 
-use crate::fault::{ScriptFault, Stop};
+use crate::fault::Stop;
 use crate::line::{is_ascii, is_skipped};
-use crate::making::{Ended, MOST_SCRIPT, PIECE};
-use crate::reading::read_text;
+use crate::listing::{LineList, read_list};
+use crate::making::MOST_SCRIPT;
 use crate::words::{numbers, pieces};
 use bk_frames::Source;
-use bk_results::EventsFault;
+use bk_results::LinesFault;
 use bk_steps::Event;
 use std::alloc::{AllocError, Global};
 
@@ -88,26 +85,30 @@ impl Events {
     }
 
     // Takes one more event, or a fault of its line where there is none.
-    fn push(&mut self, number: u32, event: Option<Event>) -> Result<(), EventsFault>
+    fn push(&mut self, number: u32, event: Option<Event>) -> Result<(), LinesFault>
         ensures { Lists (λ _. event_list self.new) result
             (with_event (event_list self.old) number event) }
     {
         let Some(event) = event else {
-            return Err(EventsFault::Line { line: number });
+            return Err(LinesFault::Line { line: number });
         };
         self.list.push(event)?;
         self.lines.push(number)?;
         Ok(())
     }
+}
 
-    // Takes the line of this number.
+impl LineList for Events {
+    ghost Value = { EventList };
+
+    ghost value = { event_list };
+
+    ghost with_line = { with_event_line };
+
     #[tactic(auto, unfolding(crate::specs::Events::with_event_line))]
-    fn take_line(&mut self, alloc: Global, number: u32, line: &[u8]) -> Result<(), EventsFault>
-        ensures { Lists (λ _. event_list self.new) result
-            (with_event_line (event_list self.old) number line.now) }
-    {
+    fn take_line(&mut self, alloc: Global, number: u32, line: &[u8]) -> Result<(), LinesFault> {
         if !is_ascii(line) {
-            return Err(EventsFault::Line { line: number });
+            return Err(LinesFault::Line { line: number });
         }
         if is_skipped(line) {
             return Ok(());
@@ -116,75 +117,6 @@ impl Events {
         let event = event_of(alloc, &words)?;
         self.push(number, event)
     }
-
-    // Takes the lines that a line feed ends.
-    fn take_ended(&mut self, alloc: Global, text: &[u8]) -> Result<Ended, EventsFault>
-        requires few { length text.now < 2 ^ 32 }
-        ensures lines { Lists (λ _. event_list self.new) result
-            (listed (event_list self.old) 1 (ended_lines text.now)) }
-        ensures count { IfOk result (λ ended. (ended.count ≡ length (ended_lines text.now))
-            × (ended.count ≤ length text.now)) }
-        ensures rest { IfOk result (λ ended. (ended.end ≤ length text.now)
-            × (drop ended.end text.now ≡ last_line text.now)) }
-    {
-        let mut count: u64 = 0;
-        let mut start = 0;
-        for end in 0..text.len() {
-            if text[end] == b'\n' {
-                count += 1;
-                self.take_line(alloc, count as u32, &text[start..end])?;
-                start = end + 1;
-            }
-        }
-        Ok(Ended { count, end: start })
-    }
-}
-
-/// The events of a text that may have `most` bytes. Of a longer one, these and one byte more are enough.
-#[tactic(auto, unfolding(crate::specs::Events::events_within))]
-pub(crate) fn events_within(alloc: Global, text: &[u8], most: usize) -> Result<Events, EventsFault>
-    requires few { length text.now ≤ most + 1 }
-    requires most { most < 2 ^ 31 }
-    ensures { Lists event_list result (events_within most text.now) }
-{
-    let mut events = Events::new(alloc);
-    let ended = events.take_ended(alloc, text)?;
-    let last = &text[ended.end..];
-    if last.is_empty() {
-        if text.len() > most {
-            return Err(EventsFault::Line {
-                line: ended.count as u32,
-            });
-        }
-        return Ok(events);
-    }
-    let line = ended.count as u32 + 1;
-    if text.len() > most {
-        return Err(EventsFault::Line { line });
-    }
-    events.take_line(alloc, line, last)?;
-    Ok(events)
-}
-
-// The text that a source gives, as far as it is looked at.
-fn text_of<S: Source>(
-    alloc: Global,
-    source: &mut S,
-    piece: &mut [u8],
-    most: usize,
-) -> Result<Vec<u8>, EventsFault>
-    requires sound { CanBeUsed (S.state source.old) }
-    requires piece { 0 < length piece.old }
-    requires most { most < 2 ^ 31 }
-    ensures text { IfOk result (λ text.
-        HasRead most (S.state source.old) (S.state source.new) text.items) }
-    ensures fault { IfErr result (λ e. HasNoText e (S.state source.old) (S.state source.new)) }
-{
-    match read_text(alloc, source, piece, most) {
-        Ok(text) => Ok(text),
-        Err(ScriptFault::Memory) => Err(EventsFault::Memory),
-        Err(_) => Err(EventsFault::Read),
-    }
 }
 
 /// Reads the text of a list of events to its end. O(n).
@@ -192,15 +124,12 @@ fn text_of<S: Source>(
 /// The lines are those of a script: ASCII, those that are empty or begin with `#` are skipped but counted. Every other
 /// line is `claim W P`, `read W X`, `write W X` or `finish W`, with the numbers of a script, below 2^64. Of a text of
 /// more than [`MOST_SCRIPT`] bytes, one byte more than these is read.
-pub fn read_events<S: Source>(alloc: Global, source: &mut S) -> Result<Events, EventsFault>
+pub fn read_events<S: Source>(alloc: Global, source: &mut S) -> Result<Events, LinesFault>
     requires source { CanBeUsed (S.state source.old) }
     ensures events { IfOk result (λ events.
         AreEvents (S.state source.old) (S.state source.new) events) }
     ensures lines { IfOk result (λ events. length events.lines.items ≡ length events.list.items) }
     ensures fault { IfErr result (λ e. HasNoEvents e (S.state source.old) (S.state source.new)) }
 {
-    let mut piece = vec![in alloc; 0u8; PIECE]?;
-    let text = text_of(alloc, source, piece.as_mut_slice(), MOST_SCRIPT)?;
-    let events = events_within(alloc, &text, MOST_SCRIPT)?;
-    Ok(events)
+    read_list(alloc, source, Events::new(alloc), MOST_SCRIPT)
 }

@@ -12,7 +12,6 @@ pub mod PageOut
 pub mod Fronts
 pub mod BatchWalks
 pub mod PaymentTables
-pub mod AccountLines
 pub mod WholeLists
 pub mod PaidSums
 pub mod RowLaws

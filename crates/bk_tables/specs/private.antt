@@ -6,5 +6,4 @@ pub mod Rows
 pub mod Runs
 pub mod Shows
 pub mod Sheets
-pub mod Listed
 pub mod Walking

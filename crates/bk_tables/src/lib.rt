@@ -30,7 +30,7 @@ pub use laws::{
     one_payment_table, one_posting_table, out_is_all_in, paid_adds_up, payloads_hold_transactions,
     places_are_rows, postings_are_entries, rows_are_batch_lines, rows_have_status,
 };
-pub use listing::{AccountsFault, MOST_LIST, read_accounts};
+pub use listing::{MOST_LIST, read_accounts};
 pub use payment::{Asked, Kind, PaymentRow};
 pub use posting::Posting;
 pub use postings::{PostingRows, Postings};

@@ -2,7 +2,7 @@
 
 use crate::batches::BatchRow;
 use crate::line::Line;
-use crate::listing::{AccountsFault, read_accounts};
+use crate::listing::read_accounts;
 use crate::payment::{Asked, Kind, PaymentRow, make_row};
 use crate::posting::{Posting, make_row as make_posting};
 use crate::text::put_batches;
@@ -10,6 +10,7 @@ use bk_cert::CertRef;
 use bk_digest::Digest32;
 use bk_frames::Counted;
 use bk_report::Page;
+use bk_results::LinesFault;
 use bk_rules::{Account, Status};
 use bk_views::{Entry, Role};
 use std::test::Fail;
@@ -124,6 +125,6 @@ fn faults_of_lists_have_lines(rt: HostRuntime) {
     ];
     for (text, line) in faults {
         let found = read_accounts(rt.alloc(), &mut Counted::new(text));
-        assert!(rt; found.err() == Some(AccountsFault::Line { line }));
+        assert!(rt; found.err() == Some(LinesFault::Line { line }));
     }
 }

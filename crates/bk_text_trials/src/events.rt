@@ -2,18 +2,18 @@
 
 use anyhow::Result;
 use bk_frames::Counted;
-use bk_script::{Events, EventsFault, read_events};
+use bk_script::{Events, LinesFault, read_events};
 use bk_steps::Event;
 use bk_trial_kit::Tally;
 use std::alloc::Global;
 
-fn read(alloc: Global, text: &[u8]) -> Result<Events, EventsFault> {
+fn read(alloc: Global, text: &[u8]) -> Result<Events, LinesFault> {
     read_events(alloc, &mut Counted::new(text))
 }
 
 /// Whether a list has a fault in this line.
-pub(crate) fn has_events_fault(alloc: Global, text: &[u8], line: u32) -> bool {
-    read(alloc, text).err() == Some(EventsFault::Line { line })
+pub(crate) fn has_lines_fault(alloc: Global, text: &[u8], line: u32) -> bool {
+    read(alloc, text).err() == Some(LinesFault::Line { line })
 }
 
 // Whether a list has these events, in these lines.
@@ -80,14 +80,14 @@ const WRONG: [&str; 19] = [
 
 // A line with a fault alone, after others, and between others.
 fn is_wrong(alloc: Global, line: &str) -> Result<bool> {
-    if !has_events_fault(alloc, line.as_bytes(), 1) {
+    if !has_lines_fault(alloc, line.as_bytes(), 1) {
         return Ok(false);
     }
     let mut text = Vec::from_slice(alloc, b"finish 0\n\n# 3\n")?;
     text.extend_from_slice(line.as_bytes())?;
-    let is_last = has_events_fault(alloc, &text, 4);
+    let is_last = has_lines_fault(alloc, &text, 4);
     text.extend_from_slice(b"\nread\n")?;
-    Ok(is_last && has_events_fault(alloc, &text, 4))
+    Ok(is_last && has_lines_fault(alloc, &text, 4))
 }
 
 fn try_wrong<R: AllocGlobal + Eprint>(rt: &R, lines: &[&str], tally: &mut Tally) -> Result<()> {
@@ -102,9 +102,9 @@ fn try_wrong<R: AllocGlobal + Eprint>(rt: &R, lines: &[&str], tally: &mut Tally)
 pub(crate) fn try_events<R: AllocGlobal + Eprint>(rt: &R, tally: &mut Tally) -> Result<()> {
     try_lists(rt, tally);
     try_wrong(rt, &WRONG, tally)?;
-    let is_right = has_events_fault(rt.alloc(), b"# \xc3\xa9\nfinish 0\n", 1);
+    let is_right = has_lines_fault(rt.alloc(), b"# \xc3\xa9\nfinish 0\n", 1);
     tally.note(rt, "a comment that is not ASCII", is_right);
-    let is_right = has_events_fault(rt.alloc(), b"finish 0\nfinish \x80", 2);
+    let is_right = has_lines_fault(rt.alloc(), b"finish 0\nfinish \x80", 2);
     tally.note(rt, "an event that is not ASCII", is_right);
     Ok(())
 }

@@ -4,7 +4,7 @@ use bk_base::Refused;
 use bk_cli::{Exit, JobFault, ListFault, report};
 use bk_digest::Digest32;
 use bk_frames::{Counted, FaultCode, FeedFault};
-use bk_results::{EventsFault, Fault, ScriptCode, ScriptFault, Status};
+use bk_results::{Fault, LinesFault, ScriptCode, ScriptFault, Status};
 use bk_trial_kit::Tally;
 use std::alloc::Global;
 
@@ -103,7 +103,7 @@ fn try_texts<R: AllocGlobal + Eprint>(rt: &R, tally: &mut Tally) {
 }
 
 // A list of events that is not read.
-fn unread(fault: EventsFault) -> JobFault {
+fn unread(fault: LinesFault) -> JobFault {
     JobFault::Events(ListFault::Unread(fault))
 }
 
@@ -114,12 +114,12 @@ fn try_events<R: AllocGlobal + Eprint>(rt: &R, tally: &mut Tally) {
     let unfinished = ListFault::Unfinished { place: u32::MAX };
     let rows = [
         (
-            unread(EventsFault::Line { line }),
+            unread(LinesFault::Line { line }),
             2u8,
             "events fault at line 4294967295\n",
         ),
-        (unread(EventsFault::Read), 4, "read failed\n"),
-        (unread(EventsFault::Memory), 4, "memory\n"),
+        (unread(LinesFault::Read), 4, "read failed\n"),
+        (unread(LinesFault::Memory), 4, "memory\n"),
         (JobFault::Events(refused), 2, "event 4294967295 refused 5\n"),
         (JobFault::Events(unfinished), 4, "unfinished 4294967295\n"),
     ];

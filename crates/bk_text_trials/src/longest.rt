@@ -2,7 +2,7 @@
 //!
 //! Each begins with a comment that leaves room for this many bytes, so the lines of the rest are counted from 2.
 
-use crate::events::has_events_fault;
+use crate::events::has_lines_fault;
 use crate::made::{has_fault, makes_empty_ledger};
 use anyhow::Result;
 use bk_frames::Counted;
@@ -107,7 +107,7 @@ fn try_lists<R: AllocGlobal + Eprint>(
 ) -> Result<()> {
     for (rest, room, line) in rows {
         let text = long_text(rt.alloc(), *room, rest)?;
-        let is_right = has_events_fault(rt.alloc(), &text, *line);
+        let is_right = has_lines_fault(rt.alloc(), &text, *line);
         tally.note(rt, rest, is_right);
     }
     Ok(())

@@ -1,19 +1,11 @@
--- What the private functions that read a list of events say.
-use Rattle.std.specs.Prelude.{◌≡◌, ℕ, Result, Ok, Err}
+-- Why a text was not read.
+use Rattle.std.specs.Prelude.{ℕ}
 use Rattle.bk_frames.specs.Device.{Device, Works, Fails}
-use Rattle.bk_results.specs.declared.events_fault.EventsFault.{EventsFault}
-use Rattle.bk_results.specs.declared.events_fault.EventsFault.TheVariants as fault
-use Rattle.bk_script.specs.Events.{EventList}
+use Rattle.bk_results.specs.declared.lines_fault.LinesFault.{LinesFault}
+use Rattle.bk_results.specs.declared.lines_fault.LinesFault.TheVariants as fault
 
--- a function that uses no device and may be refused memory answers as defined: with this list, or with the line at fault
-abbrev pub Lists : {A : Type 0} → (A → EventList) → Result A EventsFault → Result EventList ℕ → Type 0
-Lists view (Ok a) defined = defined ≡ Ok (view a)
-Lists view (Err (fault.Line line)) defined = defined ≡ Err line
-Lists view (Err fault.Read) defined = ⊥
-Lists view (Err fault.Memory) defined = Unit {0}
-
--- why a text was not read: a call of the source failed, or memory ran out
-abbrev pub HasNoText : EventsFault → Device → Device → Type 0
+-- a call of the source failed, or memory ran out
+abbrev pub HasNoText : LinesFault → Device → Device → Type 0
 HasNoText (fault.Line line) old new = ⊥
 HasNoText fault.Read old new = Fails old new
 HasNoText fault.Memory old new = Works old new
