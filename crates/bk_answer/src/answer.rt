@@ -25,6 +25,12 @@ pub trait Answer {
     // Which texts, with which end, answer it of a feed.
     ghost text: { Self → FeedValue → Self.End → List ℕ → Type 0 };
 
+    /// Whether nothing is done after it, as where a program ends. What was read of the feed then stays in memory: the end of
+    /// the process gives it back at once.
+    fn is_last(&self) -> bool {
+        false
+    }
+
     /// Writes the answer of a feed that ended. The error is `Write` or `Memory`; with `Memory` nothing is written.
     fn write<R: Threads + Sync, K: Sink>(
         &self,
@@ -53,6 +59,12 @@ pub trait OrderAnswer {
 
     // Which texts, with which end, answer it of a feed.
     ghost text: { Self → FeedValue → Self.End → List ℕ → Type 0 };
+
+    /// Whether nothing is done after it, as where a program ends. What was read of the feed then stays in memory: the end of
+    /// the process gives it back at once.
+    fn is_last(&self) -> bool {
+        false
+    }
 
     /// Writes the answer of a feed that ended. The error is `Write` or `Memory`; with `Memory` nothing is written.
     fn write<K: Sink>(

@@ -30,6 +30,8 @@ pub struct Judged<'a, A> {
     pub answer: &'a A,
     /// Whether the feed is judged.
     pub strict: bool,
+    /// Whether nothing is done after it.
+    pub last: bool,
 }
 
 impl<'a> ClosedOrder<'a> {
@@ -60,8 +62,8 @@ impl<'a> ClosedOrder<'a> {
         Ok(None)
     }
 
-    // The same where it is asked for.
-    fn flaw_if(&self, strict: bool) -> Result<Option<Flaw>, AllocError>
+    /// The same where it is asked for.
+    pub fn flaw_if(&self, strict: bool) -> Result<Option<Flaw>, AllocError>
         requires { (feed : FeedValue) × IsOrderMadeOf (order_value self.now) feed }
         ensures { IfOk result (λ found. (feed : FeedValue)
             → IsOrderMadeOf (order_value self.now) feed → IsFlawIf strict feed found) }
@@ -76,6 +78,10 @@ impl<'a, A: Answer> Answer for Judged<'a, A> {
     ghost can_ask = { λ j. A.can_ask j.answer.now };
 
     ghost text = { λ j. judged_text j.strict (A.text j.answer.now) };
+
+    fn is_last(&self) -> bool {
+        self.last
+    }
 
     fn write<R: Threads + Sync, K: Sink>(
         &self,
@@ -96,6 +102,10 @@ impl<'a, A: OrderAnswer> OrderAnswer for Judged<'a, A> {
     ghost can_ask = { λ j. A.can_ask j.answer.now };
 
     ghost text = { λ j. judged_text j.strict (A.text j.answer.now) };
+
+    fn is_last(&self) -> bool {
+        self.last
+    }
 
     fn write<K: Sink>(
         &self,

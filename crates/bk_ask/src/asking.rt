@@ -77,6 +77,7 @@ pub fn ask_judged<R: Threads + Wait + Sync, S: Source, K: Sink, G: Gate + Sync>(
             let asked = Judged {
                 answer: &view,
                 strict,
+                last: false,
             };
             answer_by_order(rt, alloc, source, sink, &asked)
         }
@@ -84,6 +85,7 @@ pub fn ask_judged<R: Threads + Wait + Sync, S: Source, K: Sink, G: Gate + Sync>(
             let asked = Judged {
                 answer: &Executed { query },
                 strict,
+                last: false,
             };
             answer_by_ledger(rt, alloc, source, sink, workers, gate, &asked)
         }

@@ -43,6 +43,7 @@ fn hold_report<R: Threads + Wait + Sync, S: Source, G: Gate + Sync>(
     let asked = Judged {
         answer: &Report,
         strict,
+        last: false,
     };
     match answer_by_ledger(rt, alloc, feed, &mut held, workers, gate, &asked) {
         Ok(ended) => Ok((held.into_inner(), ended)),

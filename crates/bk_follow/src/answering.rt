@@ -99,8 +99,7 @@ where
 /// and the transactions one at a time. The whole feed is read before anything is written, and with every fault but
 /// `Write` nothing is written.
 ///
-/// What was read stays in memory to the end of the process, which gives it back at once. A process that is to go on
-/// takes a [`Follower`], and discards it.
+/// What was read is given back, or stays in memory where the answer is the last.
 pub fn answer_by_ledger<R, S: Source, K: Sink, G: Gate + Sync, A: Answer>(
     rt: &R,
     alloc: Global,
@@ -134,7 +133,7 @@ where
         gate,
         asked,
     );
-    follower.abandon();
+    follower.end(asked.is_last());
     end
 }
 
@@ -209,7 +208,7 @@ fn follow_order_and_answer<R: Threads + Sync, S: Source, K: Sink, A: OrderAnswer
 /// Reads a feed, finds its committed order, and writes what is asked of the order. Nothing is executed, and nothing waits.
 ///
 /// The whole feed is read before anything is written, and with every fault but `Write` nothing is written. `Unfinished`
-/// does not come. What was read stays in memory, as after [`answer_by_ledger`].
+/// does not come. What was read is given back, or stays in memory where the answer is the last.
 pub fn answer_by_order<R: Threads + Sync, S: Source, K: Sink, A: OrderAnswer>(
     rt: &R,
     alloc: Global,
@@ -230,6 +229,6 @@ pub fn answer_by_order<R: Threads + Sync, S: Source, K: Sink, A: OrderAnswer>(
     let mut piece = vec![in alloc; 0u8; PIECE]?;
     let mut follower = Follower::new(alloc, 1);
     let end = follow_order_and_answer(rt, source, sink, piece.as_mut_slice(), &mut follower, asked);
-    follower.abandon();
+    follower.end(asked.is_last());
     end
 }

@@ -155,10 +155,14 @@ impl Follower {
     /// all that a Follower holds.
     pub fn discard(self) {}
 
-    /// Leaves its memory to the end of the process, which gives all of it back at once: a deep feed takes longer to give
-    /// back a certificate at a time than to write its report. For a runner, whose caller ends when it returns.
-    pub(crate) fn abandon(self) {
-        forget(self);
+    /// Gives its memory back; or leaves it to the end of the process, which gives all of it back at once: a deep feed takes
+    /// longer to give back a certificate at a time than to write its report.
+    pub(crate) fn end(self, is_last: bool) {
+        if is_last {
+            forget(self);
+        } else {
+            self.discard();
+        }
     }
 
     /// The fault that every later call returns, if there is one.

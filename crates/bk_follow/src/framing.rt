@@ -95,7 +95,7 @@ fn follow_frames_and_answer<R: Threads + Sync, S: Source, K: Sink, A: FrameAnswe
 /// executed.
 ///
 /// The whole feed is read before anything is written, and with every fault but `Write` nothing is written. `Collision`,
-/// `Equivocation` and `Unfinished` do not come. What was read stays in memory, as after `answer_by_ledger`.
+/// `Equivocation` and `Unfinished` do not come.
 pub fn answer_by_frames<R: Threads + Sync, S: Source, K: Sink, A: FrameAnswer>(
     rt: &R,
     alloc: Global,
@@ -124,6 +124,6 @@ pub fn answer_by_frames<R: Threads + Sync, S: Source, K: Sink, A: FrameAnswer>(
         &mut follower,
         asked,
     );
-    follower.abandon();
+    follower.discard();
     end
 }

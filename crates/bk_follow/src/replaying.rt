@@ -81,7 +81,7 @@ impl Follower {
 ///
 /// However many workers there are, and however they run, the report is the one that the definitions read off the feed's
 /// frames as a set and the transactions one at a time. The whole feed is read before anything is written, and with
-/// every fault but `Write` nothing is written. What was read stays in memory, as after [`answer_by_ledger`].
+/// every fault but `Write` nothing is written.
 pub fn replay<R: Threads + Wait + Sync, S: Source, K: Sink, G: Gate + Sync>(
     rt: &R,
     alloc: Global,

@@ -51,6 +51,7 @@ where
     let asked = Judged {
         answer,
         strict: judge.strict,
+        last: true,
     };
     match answer_by_ledger(rt, rt.alloc(), source, out, workers, gate, &asked) {
         Ok(ended) => {
@@ -86,6 +87,7 @@ where
     let asked = Judged {
         answer,
         strict: judge.strict,
+        last: true,
     };
     match answer_by_order(rt, rt.alloc(), source, out, &asked) {
         Ok(ended) => {
