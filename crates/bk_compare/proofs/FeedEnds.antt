@@ -21,6 +21,7 @@ use Rattle.bk_results.specs.declared.differ.Differ.{Differ}
 use Rattle.bk_results.specs.declared.differ.Differ.TheVariants as differ
 use Rattle.bk_results.specs.declared.fault.Fault.{Fault}
 use Rattle.bk_results.specs.declared.fault.Fault.TheVariants as fault
+use Rattle.bk_follow.specs.Ordering.{HasOrderOf}
 use Rattle.bk_follow.specs.Agreement.{Agree, AgreeInOrder, OneBeginsFor, HaveOneSetup, frames_together, HaveNoStop, HaveStop, settled_in, OfBoth, FollowersAgree, FollowersDiffer}
 use Rattle.bk_results.specs.Devices.{AreFeed}
 use Rattle.bk_answer.specs.Outcomes.{IsOutcomeOf}
@@ -34,7 +35,7 @@ use Rattle.bk_follow.specs.Queries.{rows_of_executed}
 use Rattle.bk_follow.specs.Replaying.{AllHasCome, ReadFails}
 use Rattle.bk_answer.specs.RunReport.{committee_in, later_frames, IsOrderIn, IsStopIn, HasPlaceIn, HasPlace}
 use Rattle.bk_answer.specs.Flaws.{IsFlawIf}
-use Rattle.bk_compare.specs.private.Ends.{HasStopIn, HasEnded, Ends, EndsNot, HasOrderOf, OfEnded, ComparisonStopsWith, IsDifferOf}
+use Rattle.bk_compare.specs.private.Ends.{HasStopIn, HasEnded, Ends, EndsNot, OfEnded, ComparisonStopsWith, IsDifferOf}
 use Rattle.bk_follow.specs.Stopping.{stops}
 use Rattle.bk_follow.proofs.ComparedBooks.{version_is}
 use Rattle.bk_frames.proofs.Devices.{gave_all, known_of}
@@ -244,7 +245,7 @@ module _ (one other : Followed) (bytes more : List ℕ) (x : HasEnded bytes one)
       })
 
   pub ended_differ : (d : Differ) → FollowersDiffer one other d → OfTheirFeeds bytes more (FeedsDiffer d)
-  ended_differ (differ.Setup part) h = spelled_so (FeedsDiffer (differ.Setup part)) (h bytes more x.frames y.frames x.version y.version x.come y.come x.known y.known)
+  ended_differ (differ.Setup part) h = spelled_so (FeedsDiffer (differ.Setup part)) (h.0 bytes more x.frames y.frames x.version y.version x.come y.come x.known y.known)
   ended_differ (differ.Collision id) h = spelled_so (FeedsDiffer (differ.Collision id)) (both_feeds one other (λ f g. HaveStop f g (stop.Collision id)) bytes more h x y)
   ended_differ (differ.Twins round author first second) h =
       spelled_so (FeedsDiffer (differ.Twins round author first second))

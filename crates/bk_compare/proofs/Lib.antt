@@ -1,2 +1,1 @@
 pub mod FeedEnds
-pub mod Flawed

@@ -10,7 +10,6 @@ ghost use Rattle.bk_compare.specs.private.Ends.{BothHaveEnded, ComparisonStopsWi
 ghost use Rattle.bk_results.specs.declared.differ.Differ.TheVariants as differ;
 
 use crate::compared::Compared;
-use crate::flaws::flaw_if;
 use bk_follow::{Follower, is_stop};
 use bk_frames::{PIECE, Source};
 use bk_pool::Gate;
@@ -132,8 +131,8 @@ fn found_of(
 {
     let first = one.missing();
     let second = other.missing();
-    let first_flaw = flaw_if(one, strict)?;
-    let second_flaw = flaw_if(other, strict)?;
+    let first_flaw = one.flaw_if(strict)?;
+    let second_flaw = other.flaw_if(strict)?;
     Ok(Compared {
         agreed,
         first,

@@ -3,7 +3,6 @@
 
 mod agreeing;
 mod compared;
-mod flaws;
 mod nowhere;
 
 pub use agreeing::{compare, compare_with_gaps};

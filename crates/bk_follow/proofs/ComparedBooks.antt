@@ -304,19 +304,28 @@ followers_agree one other b c bytes more fs gs a come came is also h =
 pub version_is : (v w : Version) (known : Option Version) → known ≡ Some v → known ≡ Some w → v ≡ w
 version_is v w known e g = let same : Some v ≡ Some w = sym e ∙ g in cc
 
-pub followers_differ : (one other : Followed) (b c : BookValue) (d : Differ) → one.book ≡ Some b → other.book ≡ Some c → BooksDiffer b c d → FollowersDiffer one other d
-followers_differ one other b c (differ.Setup part) is also h = λ bytes more fs gs v w come came known named.
-    let x = good_of bytes fs one b come is in
-    let y = good_of more gs other c came also in
-    subst (λ (p : Version × Version). SetupsDiffer part (feed_of p.0 fs) (feed_of p.1 gs)) (λ i. (version_is x.version v one.cut.version x.known known i, version_is y.version w other.cut.version y.known named i))
-    (setups_differ (feed_of x.version fs) (feed_of y.version gs) b c x.good y.good part h)
-followers_differ one other b c (differ.Collision id) is also h =
+-- where there is a book there is a version
+has_version : (v : Followed) (b : BookValue) (bytes : List ℕ) (frames : List Frame) → HasCome bytes frames v → v.book ≡ Some b → v.cut.version ≡ None → ⊥
+has_version v b bytes frames come is none =
+    let h = subst (λ (w : Option Version). Follows w frames v.committee v.book) none come.follows in
+    let e : None ≡ Some b = sym h.1 ∙ is in cc
+
+pub followers_differ : (one other : Followed) (b c : BookValue) (bytes more : List ℕ) (fs gs : List Frame) (d : Differ) → HasCome bytes fs one → HasCome more gs other → one.book ≡ Some b → other.book ≡ Some c → BooksDiffer b c d → FollowersDiffer one other d
+followers_differ one other b c begun past hs ks (differ.Setup part) first second is also h = (
+  λ bytes more fs gs v w come came known named.
+      let x = good_of bytes fs one b come is in
+      let y = good_of more gs other c came also in
+      subst (λ (p : Version × Version). SetupsDiffer part (feed_of p.0 fs) (feed_of p.1 gs)) (λ i. (version_is x.version v one.cut.version x.known known i, version_is y.version w other.cut.version y.known named i))
+      (setups_differ (feed_of x.version fs) (feed_of y.version gs) b c x.good y.good part h),
+  λ lack. absurd (⊎_elim (has_version one b begun hs first is) (has_version other c past ks second also) lack),
+)
+followers_differ one other b c begun past hs ks (differ.Collision id) first second is also h =
     of_both one other b c (λ f g. HaveStop f g (stop.Collision id)) is also
     (λ f g good fine. (one_setup f g b c good fine h.0, of_feeds f g b c good fine (λ k fs. IsStop k fs (stop.Collision id)) h.1))
-followers_differ one other b c (differ.Twins round author first second) is also h =
-    of_both one other b c (λ f g. HaveStop f g (stop.Twins (record { round = round; author = author; first = first; second = second }))) is also
-    (λ f g good fine. (one_setup f g b c good fine h.0, of_feeds f g b c good fine (λ k fs. IsStop k fs (stop.Twins (record { round = round; author = author; first = first; second = second }))) h.1))
-followers_differ one other b c differ.Memory is also h = of_both one other b c HaveOneSetup is also (λ f g good fine. one_setup f g b c good fine h)
+followers_differ one other b c begun past hs ks (differ.Twins round author least next) first second is also h =
+    of_both one other b c (λ f g. HaveStop f g (stop.Twins (record { round = round; author = author; first = least; second = next }))) is also
+    (λ f g good fine. (one_setup f g b c good fine h.0, of_feeds f g b c good fine (λ k fs. IsStop k fs (stop.Twins (record { round = round; author = author; first = least; second = next }))) h.1))
+followers_differ one other b c begun past hs ks differ.Memory first second is also h = of_both one other b c HaveOneSetup is also (λ f g good fine. one_setup f g b c good fine h)
 
 -- where there is no book the genesis is not whole
 pub unopened : (v : Followed) (bytes : List ℕ) (frames : List Frame) (version : Version) → v.book ≡ None → HasCome bytes frames v → v.cut.version ≡ Some version → 2 ≤ length frames → ⊥
@@ -329,10 +338,10 @@ unopened v bytes frames version none come known two =
     no_book version (f ∷ g ∷ more) le h = absurd (let e = h.1 in cc)
 
 pub first_unopened : (one other : Followed) → one.book ≡ None → FollowersDiffer one other (differ.Setup part.Absent)
-first_unopened one other none = λ bytes more fs gs v w come came known named opened. unopened one bytes fs v none come known opened.0
+first_unopened one other none = (λ bytes more fs gs v w come came known named opened. unopened one bytes fs v none come known opened.0, λ lack. refl)
 
 pub second_unopened : (one other : Followed) → other.book ≡ None → FollowersDiffer one other (differ.Setup part.Absent)
-second_unopened one other none = λ bytes more fs gs v w come came known named opened. unopened other more gs w none came named opened.1
+second_unopened one other none = (λ bytes more fs gs v w come came known named opened. unopened other more gs w none came named opened.1, λ lack. refl)
 
 -- what has come to a Follower, in which no fault is kept
 pub record HasSomething (v : Followed) : Type 0 where

@@ -11,3 +11,4 @@ pub mod ClosedOrders
 pub mod ComparedBooks
 pub mod Groups
 pub mod Frames
+pub mod Flawed

@@ -1,5 +1,5 @@
 -- When two feeds agree, and two Followers; and when they differ.
-use Rattle.std.specs.Prelude.{◌≡◌, ◌≢◌, ◌≤◌, ◌⊎◌, ℕ, List, ◌++◌, length, Option, Some}
+use Rattle.std.specs.Prelude.{◌≡◌, ◌≢◌, ◌≤◌, ◌⊎◌, ℕ, List, ◌++◌, length, Option, Some, None}
 use Rattle.bk_base.specs.declared.version.Version.{Version}
 use Rattle.bk_base.specs.Feed.{Frame, FeedValue, feed_of, genesis_of}
 use Rattle.bk_commit.specs.Growth.{IsPrefix}
@@ -109,9 +109,15 @@ pub record FollowersAgree (one other : Followed) (a : Agreed) : Type 0 where
   pub places : OneBeginsFor a.places (receipts_in one.book) (receipts_in other.book)
   pub rows : length (receipts_in one.book) ≡ length (receipts_in other.book) → rows_in one.book ≡ rows_in other.book
 
--- why they do not: their setups differ, first in this part; or the frames of both together are stopped so; or memory ran out
+-- one of two Followers has not come to a version yet
+abbrev pub LackVersion : Followed → Followed → Type 0
+LackVersion one other = (one.cut.version ≡ None) ⊎ (other.cut.version ≡ None)
+
+-- why they do not: their setups differ, first in this part, and where one has no version the setup is absent; or the
+-- frames of both together are stopped so; or memory ran out
 abbrev pub FollowersDiffer : Followed → Followed → Differ → Type 0
-FollowersDiffer one other (differ.Setup part) = OfBothKnown one other (SetupsDiffer part)
+FollowersDiffer one other (differ.Setup found) =
+    OfBothKnown one other (SetupsDiffer found) × (LackVersion one other → found ≡ part.Absent)
 FollowersDiffer one other (differ.Collision id) = OfBoth one other (λ f g. HaveStop f g (stop.Collision id))
 FollowersDiffer one other (differ.Twins round author first second) =
     OfBoth one other (λ f g. HaveStop f g

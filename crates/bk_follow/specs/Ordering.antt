@@ -1,7 +1,7 @@
 -- What a Follower's order is between its pieces.
 use Rattle.std.specs.Prelude.{◌≡◌, ℕ, ◌<◌, ◌≤◌, List, [], length, Option, Some, None}
 use Rattle.bk_base.specs.declared.version.Version.{Version}
-use Rattle.bk_base.specs.Feed.{Frame, FeedValue, feed_of}
+use Rattle.bk_base.specs.Feed.{Frame, FeedValue, IsFeed, feed_of}
 use Rattle.bk_order.specs.Orders.{Ordered}
 use Rattle.bk_cert.specs.declared.place.CertRef.{CertRef}
 use Rattle.bk_results.specs.declared.fault.Fault.{Fault}
@@ -14,6 +14,10 @@ pub record IsOrdered (feed : FeedValue) (b : BookValue) : Type 0 where
   pub book : IsBookOf feed b
   pub clear : HasNoStopIn feed
   pub ordered : IsOrderIn feed b.taken.ordered
+
+-- a Follower's order is that of all frames of this feed, which nothing stops
+abbrev pub HasOrderOf : Followed → FeedValue → Type 0
+HasOrderOf v feed = IsFeed feed × ((b : BookValue) × (v.book ≡ Some b) × IsOrdered feed b)
 
 -- nothing stops a feed, and these are the anchors and the certificates of its order
 pub record AreOrderedIn (feed : FeedValue) (anchors certs : List CertRef) : Type 0 where

@@ -173,15 +173,14 @@ impl Follower {
         ensures agree { IfOk result (FollowersAgree self.now other.now) }
         ensures differ { IfErr result (FollowersDiffer self.now other.now) }
     {
+        let absent = Differ::Setup {
+            part: SetupPart::Absent,
+        };
         let Some(one) = &self.gathered.opened.book else {
-            return Err(Differ::Setup {
-                part: SetupPart::Absent,
-            });
+            return Err(absent);
         };
         let Some(two) = &other.gathered.opened.book else {
-            return Err(Differ::Setup {
-                part: SetupPart::Absent,
-            });
+            return Err(absent);
         };
         let agreed = one.compare(two)?;
         Ok(agreed)

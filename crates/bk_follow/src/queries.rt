@@ -8,7 +8,9 @@ ghost use Rattle.bk_answer.specs.Closed.{executed_of};
 ghost use Rattle.bk_follow.specs.Queries.{IsClosedBook, order_of, opening_in, rows_in, NothingStops, IsStopSoFar};
 ghost use Rattle.bk_follow.specs.Queries.{IsClosedBook, order_of, missing_in};
 ghost use Rattle.bk_answer.specs.Values.{closed_value, order_value};
-ghost use Rattle.bk_follow.specs.Ordering.{OrderFails};
+ghost use Rattle.bk_follow.specs.Ordering.{HasOrderOf, OrderFails};
+ghost use Rattle.bk_base.specs.Feed.{FeedValue};
+ghost use Rattle.bk_answer.specs.Flaws.{IsFlawIf};
 
 use crate::fault::Fault;
 use crate::follower::{Follower, latch};
@@ -18,6 +20,7 @@ use bk_digest::Digest32;
 use bk_ledger::Ledger;
 use bk_order::Intake;
 use bk_report::{Proof, proof_of};
+use bk_results::Flaw;
 use bk_rules::{Account, Receipt};
 use std::alloc::AllocError;
 use std::thread::Threads;
@@ -96,6 +99,18 @@ impl Follower {
             Some(book) => Some(book.order()),
             None => None,
         }
+    }
+
+    /// What keeps the feed from counting whole, where it is asked for. The feed came to its end, and its order was settled.
+    pub fn flaw_if(&self, strict: bool) -> Result<Option<Flaw>, AllocError>
+        requires { (feed : FeedValue) × HasOrderOf self.now feed }
+        ensures { IfOk result (λ found. (feed : FeedValue)
+            → HasOrderOf self.now feed → IsFlawIf strict feed found) }
+    {
+        let Some(order) = self.closed_order() else {
+            unreachable!()
+        };
+        order.flaw_if(strict)
     }
 
     /// The order of the feed and what was executed, as of the last settle; `None` before the genesis is whole.

@@ -2,22 +2,20 @@
 
 ghost use Rattle.std.specs.Prelude.{◌≡◌, ◌<◌, ◌≤◌, ℕ, List, length, take, false, IfOk, IfErr};
 ghost use Rattle.std.specs.Io.KnownBytes.{IsAtEnd, Keeps};
-ghost use Rattle.bk_answer.specs.Flaws.{IsFlawIf};
 ghost use Rattle.bk_answer.specs.RunReport.{reach_of};
-ghost use Rattle.bk_base.specs.Feed.{FeedValue, Frame};
+ghost use Rattle.bk_base.specs.Feed.{Frame};
 ghost use Rattle.bk_follow.specs.Queries.{missing_in};
 ghost use Rattle.bk_frames.specs.Device.{CanBeUsed, Device, Fails, Gives, Works};
 ghost use Rattle.bk_frames.specs.Reading.{room_of};
 ghost use Rattle.bk_frames.specs.declared.fault.FaultCode.TheVariants as code;
 ghost use Rattle.bk_frames.specs.declared.pulling.TheConstants.{PIECE};
 ghost use Rattle.bk_results.specs.declared.fault.Fault.TheVariants as fault;
-ghost use Rattle.bk_tail.specs.private.Steps.{AdvanceFails, Advanced, HasFollowed, HasOrderOf};
+ghost use Rattle.bk_tail.specs.private.Steps.{AdvanceFails, Advanced, HasFollowed};
 
 use bk_follow::Follower;
 use bk_frames::{FaultCode, FeedFault, Source};
 use bk_pool::Gate;
-use bk_results::{Fault, Flaw, Status};
-use std::alloc::AllocError;
+use bk_results::{Fault, Status};
 use std::sync::Wait;
 use std::thread::Threads;
 
@@ -89,19 +87,4 @@ pub(crate) fn reach(follower: &Follower) -> Status
         Some(_) => Status::Missing,
         None => Status::Whole,
     }
-}
-
-/// What keeps a feed that is followed to its end from counting whole, where it is asked for.
-pub(crate) fn flaw_if(follower: &Follower, strict: bool) -> Result<Option<Flaw>, AllocError>
-    requires { (feed : FeedValue) × HasOrderOf follower.now feed }
-    ensures { IfOk result (λ found. (feed : FeedValue)
-        → HasOrderOf follower.now feed → IsFlawIf strict feed found) }
-{
-    if !strict {
-        return Ok(None);
-    }
-    let Some(order) = follower.closed_order() else {
-        unreachable!()
-    };
-    order.flaw()
 }

@@ -15,7 +15,7 @@ ghost use Rattle.bk_tables.specs.Growing.{none_shown};
 ghost use Rattle.bk_tail.specs.Tailing.{TailFailsBy};
 ghost use Rattle.bk_tail.specs.private.Putting.{IsPutOn, PutNot};
 
-use crate::piece::{advance, flaw_if, reach};
+use crate::piece::{advance, reach};
 use crate::rows::TableRows;
 use bk_answer::Ended;
 use bk_follow::Follower;
@@ -92,7 +92,7 @@ where
         let ended = advance(rt, source, piece, follower, gate)?;
         put_new(alloc, rows, sink, accounts, follower)?;
         if ended {
-            let flaw = flaw_if(follower, strict)?;
+            let flaw = follower.flaw_if(strict)?;
             rows.put_end(sink)?;
             let end = reach(follower);
             return Ok(Ended { end, flaw });

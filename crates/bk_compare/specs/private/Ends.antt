@@ -43,10 +43,6 @@ EndsNot v (fault.Unfinished place) = OfFeed v (λ feed. HasPlaceIn feed place)
 EndsNot v fault.Memory = Unit {0}
 EndsNot v other = ⊥
 
--- a Follower's order is that of all frames of this feed, which nothing stops
-abbrev pub HasOrderOf : Followed → FeedValue → Type 0
-HasOrderOf v feed = IsFeed feed × ((b : BookValue) × (v.book ≡ Some b) × IsOrdered feed b)
-
 -- two Followers have followed feeds to their ends
 abbrev pub BothHaveEnded : Followed → Followed → Type 0
 BothHaveEnded one other = (bytes : List ℕ) × (more : List ℕ) × HasEnded bytes one × HasEnded more other

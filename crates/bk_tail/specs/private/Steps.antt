@@ -22,10 +22,6 @@ pub record HasFollowed (start now : Device) (bytes : List ℕ) (frames : List Fr
 abbrev pub IsWholeFeed : List ℕ → List Frame → Followed → Type 0
 IsWholeFeed bytes frames v = EndsAs bytes frames v (λ feed. (b : BookValue) × (v.book ≡ Some b) × IsCurrent feed b)
 
--- a Follower's order is that of all frames of this feed, which nothing stops
-abbrev pub HasOrderOf : Followed → FeedValue → Type 0
-HasOrderOf v feed = IsFeed feed × ((b : BookValue) × (v.book ≡ Some b) × IsOrdered feed b)
-
 -- more came after these bytes and frames, and all of it is settled; at its end the source had no more, and it is a feed
 pub record Advanced (start now : Device) (bytes : List ℕ) (frames : List Frame) (v : Followed) (ended : Bool) : Type 0 where
   pub all : List ℕ

@@ -1,15 +1,12 @@
 -- The order of which it is found what keeps a feed from counting whole.
-use Rattle.std.proofs.Common.{◌≡◌, Bool, true, false, Option, Some, None, sym, subst, ◌∙◌}
+use Rattle.std.proofs.Common.{◌≡◌, Option, Some, None, sym, subst, ◌∙◌}
 use Rattle.bk_base.specs.Feed.{FeedValue}
 use Rattle.bk_answer.specs.Answers.{IsOrderMadeOf}
 use Rattle.bk_answer.specs.Closed.{OrderValue}
-use Rattle.bk_answer.specs.Flaws.{IsFlawIf, IsFlawIn}
-use Rattle.bk_results.specs.declared.flaw.Flaw.{Flaw}
 use Rattle.bk_follow.specs.Follower.{BookValue, Followed}
-use Rattle.bk_follow.specs.Ordering.{IsOrdered}
+use Rattle.bk_follow.specs.Ordering.{HasOrderOf, IsOrdered}
 use Rattle.bk_follow.specs.Queries.{order_of}
 use Rattle.bk_follow.proofs.ClosedBooks.{ordered_for}
-use Rattle.bk_compare.specs.private.Ends.{HasOrderOf}
 
 same_book : (b c : BookValue) → Some b ≡ Some c → b ≡ c
 same_book b c same = cc
@@ -21,7 +18,3 @@ made_of v b o feed same is (good, (d, there, ordered)) = (good, ordered_for feed
 -- there is one
 pub some_book : (v : Followed) (feed : FeedValue) → HasOrderOf v feed → v.book ≡ None → ⊥
 some_book v feed (good, (d, there, ordered)) none = absurd (let e : None ≡ Some d = sym none ∙ there in cc)
-
-pub flaw_asked : (strict : Bool) (feed : FeedValue) (found : Option Flaw) → strict ≡ true → IsFlawIn feed found → IsFlawIf strict feed found
-flaw_asked true feed found e h = h
-flaw_asked false feed found e h = absurd cc
