@@ -47,8 +47,8 @@ fn find_parts(
     found
 }
 
-/// What is found of each frame, in their order, on as many threads as there are processors; few frames are judged on this
-/// one. Certificates are judged by this committee. It fails only where memory runs out. O(n) in all bytes together.
+/// What is found of each frame, in their order, on as many threads as there are processors; few frames are judged on
+/// the calling one. Certificates are judged by this committee. It fails only where memory runs out. O(n) in all bytes together.
 pub fn find_all(
     rt: &(impl Threads + Sync),
     alloc: Global,

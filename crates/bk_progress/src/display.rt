@@ -3,7 +3,8 @@
 use crate::progress::{Manner, Progress};
 use std::time::Clock;
 
-/// Standard error and the clock, for progress alone: what has a `Display` can write nothing but the lines of a [`Progress`].
+/// Standard error and the clock, for progress. What has a `Display` writes the lines of a [`Progress`] and the line of
+/// [`Display::typed`].
 #[derive(Drop)]
 pub struct Display<'a, P> {
     shows: &'a P,

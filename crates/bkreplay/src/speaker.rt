@@ -12,7 +12,8 @@ use bk_results::Fault;
 use clap::Error;
 use clap::error::ErrorKind;
 
-/// The standard streams for help, the version and faults of the words alone: what has a `Speaker` can print nothing else.
+/// The standard streams, for help, the version and faults of the words. What has a `Speaker` prints by errors of `clap` alone;
+/// which error it is, its one caller decides.
 #[derive(Drop)]
 pub(crate) struct Speaker<'a, Q> {
     prints: &'a Q,
