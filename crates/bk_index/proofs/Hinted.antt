@@ -1,5 +1,5 @@
 -- Hints: what stays found, and that what is not found is not there.
-use Rattle.std.proofs.Common.{◌≡◌, ◌≢◌, ℕ, ◌+◌, ◌-◌, ◌<◌, ◌≤◌, ◌⊎◌, inl, inr, Bool, true, cond, List, [], ◌∷◌, ◌++◌, length, Option, Some, None, get_or, set, slice_get, refl, sym, ap, ◌∙◌, subst, arith}
+use Rattle.std.proofs.Common.{◌≡◌, ◌≢◌, ℕ, ◌+◌, ◌-◌, ◌%◌, ◌^◌, ◌<◌, ◌≤◌, ◌⊎◌, inl, inr, Bool, true, cond, List, [], ◌∷◌, ◌++◌, length, Option, Some, None, get_or, set, slice_get, refl, sym, ap, ◌∙◌, subst, arith}
 use Rattle.std.specs.BTreeMap.{BTreeMap, get}
 use Rattle.std.specs.Cmp.{IsTotalOrder}
 use Rattle.std.specs.Ordering.{is_eq}
@@ -10,14 +10,24 @@ use Rattle.std.specs.Option.{IfNone}
 use Rattle.std.proofs.lemmas.List.{length-map, map-append, length-set, get_or-set_same, get_or-set_other}
 use Rattle.std.proofs.lemmas.Option.{slice_get_within}
 use Rattle.bk_index.specs.declared.hints.TheConstants.{MOST_TRIES}
-use Rattle.bk_index.specs.private.Hints.{slot_in, hint_at, AreTaken, IsKept, near, beyond, IsFree, AreDistinct, IsKeptIn, AreKept, IsIndex, IsPut, IsPassed}
+use Rattle.bk_index.specs.private.Hints.{slot_in, base_in, hint_at, AreTaken, IsKept, near, beyond, IsFree, AreDistinct, IsKeptIn, AreKept, IsIndex, IsPut, IsPassed}
 use Rattle.bk_index.proofs.Found.{same_some, get_left, get_pushed, distinct_pushed, distinct_before, is_itself, differs}
 
-zero_next : (n : ℕ) → 0 ≡ n + 1 → ⊥
-zero_next n e = omega (arith, e)
+next_positive : (n b : ℕ) → 0 ≡ n + (b + 1) → ⊥
+next_positive n b e = omega (arith, e)
 
-next_back : (n : ℕ) → n + 1 - 1 ≡ n
-next_back n = omega arith
+-- the hint of an entry is not 0
+zero_hint : (len number index : ℕ) → 0 ≡ index + base_in len number → ⊥
+zero_hint len number index e = next_positive index _ e
+
+-- what is left of a hint is the index
+likely_is : (hint base index likely : ℕ) → likely ≡ (hint + (2 ^ 64 - base)) % 2 ^ 64 → hint < 2 ^ 32 → hint ≡ index + base → likely ≡ index
+likely_is hint base index likely e low is = omega (arith, e, low, is)
+
+-- what is put together is a hint
+pub hint_is : (index base hint n number len key_number : ℕ) → hint ≡ index + base → base ≡ base_in n number → n ≡ len → number ≡ key_number → hint ≡ index + base_in len key_number
+hint_is index base hint n number len key_number e base_is same_len same_number =
+    e ∙ ap (λ b. index + b) (base_is ∙ (ap (λ l. base_in l number) same_len ∙ ap (base_in len) same_number))
 
 -- what a try finds stays where a free slot is written
 pub hint_stays : (table : List ℕ) (slot h number i : ℕ) → get_or table slot 0 ≡ 0 → hint_at table number i ≢ 0 → hint_at (set table slot h) number i ≡ hint_at table number i
@@ -31,15 +41,17 @@ taken_stays table slot h number count free taken = λ i low e. taken i low (sym 
 -- and what is found is still found
 pub kept_stays : (table : List ℕ) (slot h number : ℕ) (other : Option ℕ) (index : ℕ) → get_or table slot 0 ≡ 0 → IsKept table number other index → IsKept (set table slot h) number other index
 kept_stays table slot h number other index free (near i low taken is) =
-    near i low (taken_stays table slot h number i free taken) (hint_stays table slot h number i free (λ e. zero_next index (sym e ∙ is)) ∙ is)
+    near i low (taken_stays table slot h number i free taken)
+    (hint_stays table slot h number i free (λ e. zero_hint (length table) number index (sym e ∙ is))
+    ∙ (is ∙ ap (λ n. index + base_in n number) (sym (length-set table slot h))))
 kept_stays table slot h number other index free (beyond taken is) = beyond (taken_stays table slot h number MOST_TRIES free taken) is
 
 -- what is written into the first free slot of its number is found
-pub kept_here : (table : List ℕ) (slot h number : ℕ) (other : Option ℕ) (index : ℕ) → IsFree table number slot → h ≡ index + 1 → IsKept (set table slot h) number other index
+pub kept_here : (table : List ℕ) (slot h number : ℕ) (other : Option ℕ) (index : ℕ) → IsFree table number slot → h ≡ index + base_in (length table) number → IsKept (set table slot h) number other index
 kept_here table slot h number other index f e =
     near f.at f.low (taken_stays table slot h number f.at f.free f.taken)
     (ap (λ n. get_or (set table slot h) (slot_in n number f.at) 0) (length-set table slot h)
-    ∙ (ap (λ j. get_or (set table slot h) j 0) (sym f.slot_is) ∙ (get_or-set_same table slot h 0 f.inside ∙ e)))
+    ∙ (ap (λ j. get_or (set table slot h) j 0) (sym f.slot_is) ∙ (get_or-set_same table slot h 0 f.inside ∙ (e ∙ ap (λ n. index + base_in n number) (sym (length-set table slot h))))))
 
 -- one more try
 pub taken_more : (table : List ℕ) (number count : ℕ) → AreTaken table number count → hint_at table number count ≢ 0 → AreTaken table number (count + 1)
@@ -54,15 +66,23 @@ taken_none table number i low = absurd (omega (arith, low))
 
 module _ {K : Type 0} where
   pub passed_none : (keys : List K) (table : List ℕ) (number : ℕ) (key : K) → IsPassed keys table number key 0
-  passed_none keys table number key = record { taken = taken_none table number; others = λ i low. absurd (omega (arith, low)) }
+  passed_none keys table number key = record { taken = taken_none table number; others = λ i index low. absurd (omega (arith, low)) }
 
   pub passed_more : (keys : List K) (table : List ℕ) (number : ℕ) (key : K) (count : ℕ) → IsPassed keys table number key count → hint_at table number count ≢ 0
-      → slice_get keys (hint_at table number count - 1) ≢ Some key → IsPassed keys table number key (count + 1)
-  passed_more keys table number key count passed here other = record { taken = taken_more table number count passed.taken here; others = λ i low. by i low (cases_eq i count) }
+      → ((index : ℕ) → hint_at table number count ≡ index + base_in (length table) number → slice_get keys index ≢ Some key) → IsPassed keys table number key (count + 1)
+  passed_more keys table number key count passed here other = record { taken = taken_more table number count passed.taken here; others = λ i index low is. by i index low is (cases_eq i count) }
     where
-      by : (i : ℕ) → i < count + 1 → (i ≡ count) ⊎ (i ≡ count → ⊥) → slice_get keys (hint_at table number i - 1) ≢ Some key
-      by i low (inl e) = λ z. other (ap (λ j. slice_get keys (hint_at table number j - 1)) (sym e) ∙ z)
-      by i low (inr apart) = passed.others i (omega (arith, low, apart))
+      by : (i index : ℕ) → i < count + 1 → hint_at table number i ≡ index + base_in (length table) number → (i ≡ count) ⊎ (i ≡ count → ⊥) → slice_get keys index ≢ Some key
+      by i index low is (inl e) = other index (ap (hint_at table number) (sym e) ∙ is)
+      by i index low is (inr apart) = passed.others i index (omega (arith, low, apart)) is
+
+  -- one more hint, whose entry has another key
+  pub passed_next : (keys : List K) (table : List ℕ) (number : ℕ) (key : K) (count hint base likely : ℕ) → IsPassed keys table number key count
+      → hint ≡ hint_at table number count → (hint ≡ 0 → ⊥) → hint < 2 ^ 32 → base ≡ base_in (length table) number → likely ≡ (hint + (2 ^ 64 - base)) % 2 ^ 64 → slice_get keys likely ≢ Some key
+      → IsPassed keys table number key (count + 1)
+  passed_next keys table number key count hint base likely passed is taken low base_is likely_at other =
+      passed_more keys table number key count passed (λ z. taken (is ∙ z))
+      (λ index at there. other (ap (slice_get keys) (likely_is hint base index likely likely_at low (is ∙ (at ∙ ap (λ b. index + b) (sym base_is)))) ∙ there))
 
 module _ {K : Type 0} (cmp : K → K → Ordering) (number : K → ℕ) where
   -- a key that was not met before a free slot is not there
@@ -74,8 +94,8 @@ module _ {K : Type 0} (cmp : K → K → Ordering) (number : K → ℕ) where
       by (near j in_low taken is) = order (cases_order j tries)
         where
           order : (j ≡ tries) ⊎ ((j < tries) ⊎ (tries < j)) → ⊥
-          order (inl e) = zero_next i (sym free ∙ (ap (hint_at table (number key)) (sym e) ∙ is))
-          order (inr (inl before)) = passed.others j before (ap (λ n. slice_get keys (n - 1)) is ∙ (ap (slice_get keys) (next_back i) ∙ there))
+          order (inl e) = zero_hint (length table) (number key) i (sym free ∙ (ap (hint_at table (number key)) (sym e) ∙ is))
+          order (inr (inl before)) = passed.others j i before is there
           order (inr (inr after)) = taken tries after free
       by (beyond taken is) = taken tries low free
 
@@ -85,11 +105,11 @@ module _ {K : Type 0} (cmp : K → K → Ordering) (number : K → ℕ) where
   absent_beyond keys table rest key index passed none i there = by (index.kept i key (slice_get_within keys i key there) there)
     where
       by : IsKept table (number key) (get cmp rest key) i → ⊥
-      by (near j low taken is) = passed.others j low (ap (λ n. slice_get keys (n - 1)) is ∙ (ap (slice_get keys) (next_back i) ∙ there))
+      by (near j low taken is) = passed.others j i low is there
       by (beyond taken is) = none i is there
 
   -- a new key in a slot
-  pub put_near : (table : List ℕ) (rest : BTreeMap K ℕ) (slot h : ℕ) (key : K) (index : ℕ) → IsFree table (number key) slot → h ≡ index + 1
+  pub put_near : (table : List ℕ) (rest : BTreeMap K ℕ) (slot h : ℕ) (key : K) (index : ℕ) → IsFree table (number key) slot → h ≡ index + base_in (length table) (number key)
       → IsPut cmp number table rest (set table slot h) rest key index
   put_near table rest slot h key index f e = record {
     sized = length-set table slot h;

@@ -3,7 +3,7 @@
 ghost use Rattle.std.specs.Prelude.{◌≡◌, ◌≢◌, ℕ, ◌+◌, ◌-◌, ◌<◌, ◌≤◌, length, IfSome, IfNone, IfOk, OnOk, OnErr, Some};
 ghost use Rattle.std.specs.BTreeMap.{IsUnchanged};
 ghost use Rattle.std.specs.Map.{keys_of};
-ghost use Rattle.bk_index.specs.private.Hints.{slot_in, hint_at, AreTaken, IsFree, AreDistinct, IsIndex, IsPut};
+ghost use Rattle.bk_index.specs.private.Hints.{slot_in, base_in, hint_at, AreTaken, IsFree, AreDistinct, IsIndex, IsPut};
 
 use crate::spread::Spread;
 use std::alloc::{AllocError, Global};
@@ -20,7 +20,19 @@ fn slot_in(len: usize, number: usize, tries: usize) -> usize
     number.wrapping_add(tries) & len.saturating_sub(1)
 }
 
-/// The hint that a try finds: the index of an entry and 1, or 0.
+/// The hint of the entry at index 0, if its key has this number: 1, and the bits of the number above
+/// those that choose the slot. The hint of another entry is this and its index.
+///
+/// At most half of the slots are taken, so an index never reaches the bits above. A hint with other
+/// bits there, less this, is past all entries: a search reads no entry for it.
+pub(crate) fn base_in(len: usize, number: usize) -> usize
+    ensures { result ≡ base_in len number }
+{
+    let above = !len.saturating_sub(1) & 0xFFFF_FFFF;
+    (number & above).saturating_add(1)
+}
+
+/// The hint that a try finds, or 0 where the slot is free.
 pub(crate) fn hint_at(table: &[u32], number: usize, tries: usize) -> u32
     ensures { result ≡ hint_at table.now number tries }
 {
@@ -45,10 +57,10 @@ fn free_slot(table: &[u32], number: usize) -> Option<usize>
 }
 
 // The hint for the entry at an index.
-fn hint_for(index: usize) -> Result<u32, AllocError>
-    ensures { IfOk result (λ hint. hint ≡ index + 1) }
+fn hint_for(base: usize, index: usize) -> Result<u32, AllocError>
+    ensures { IfOk result (λ hint. hint ≡ index + base) }
 {
-    match u32::try_from(index.saturating_add(1)) {
+    match u32::try_from(index.saturating_add(base)) {
         Ok(hint) => Ok(hint),
         Err(_) => Err(AllocError),
     }
@@ -70,8 +82,9 @@ pub(crate) fn put<K: Spread>(
     ensures err { OnErr result (table.new.items ≡ table.old.items) }
     ensures same { OnErr result (IsUnchanged rest.old rest.new) }
 {
-    let hint = hint_for(index)?;
-    match free_slot(table, key.spread()) {
+    let number = key.spread();
+    let hint = hint_for(base_in(table.len(), number), index)?;
+    match free_slot(table, number) {
         Some(slot) => {
             table[slot] = hint;
         }

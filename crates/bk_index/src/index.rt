@@ -23,7 +23,7 @@ use std::marker::Model;
 pub struct Index<K: Spread> {
     alloc: Global,
     entries: Vec<(K, usize)>,
-    // The index of an entry and 1, or 0. The length is a power of two.
+    // Hints of entries, or 0. The length is a power of two, and at least twice that of the entries.
     table: Vec<u32>,
     // The indices of entries that have no slot near their number.
     rest: BTreeMap<K, usize>,

@@ -1,8 +1,8 @@
 //! A map from what a feed names to an index: digests, and places of certificates.
 //!
-//! A look-up mostly costs one access to a table of hints and one to the entry. A feed chooses the
-//! bytes of its names, so it can make many meet: those that do not fit near their slot are in an
-//! ordered map, and no look-up costs more than the logarithm of what is there.
+//! A look-up mostly costs one access to a table of hints, and one to the entry if the key is there.
+//! A feed chooses the bytes of its names, so it can make many meet: those that do not fit near their
+//! slot are in an ordered map, and no look-up costs more than the logarithm of what is there.
 #![tactic(auto)]
 
 mod hints;

@@ -5,7 +5,7 @@ ghost use Rattle.std.specs.BTreeMap.{get};
 ghost use Rattle.std.specs.Map.{keys_of};
 ghost use Rattle.bk_index.specs.private.Hints.{IsIndex};
 
-use crate::hints::{MOST_TRIES, hint_at};
+use crate::hints::{MOST_TRIES, base_in, hint_at};
 use crate::spread::Spread;
 use std::collections::BTreeMap;
 
@@ -21,13 +21,16 @@ pub(crate) fn search<K: Spread>(
     ensures none { IfNone result ((i : ℕ) → slice_get (keys_of entries.now) i ≢ Some key.now) }
 {
     let number = key.spread();
+    let base = base_in(table.len(), number);
     for tries in 0..MOST_TRIES {
         let hint = hint_at(table, number, tries) as usize;
         if hint == 0 {
             return None;
         }
-        if has_key(entries, hint - 1, key) {
-            return Some(hint - 1);
+        // Past all entries where the number of that key has other bits above those of the slot.
+        let likely = hint.wrapping_sub(base);
+        if has_key(entries, likely, key) {
+            return Some(likely);
         }
     }
     search_rest(entries, rest, key)

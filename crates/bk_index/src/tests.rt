@@ -3,9 +3,9 @@ use bk_cert::CertRef;
 use bk_digest::Digest32;
 use std::test::Fail;
 
-// A digest with this first byte and this last one.
+// A digest with this first byte and this last one. The others are 255, which makes the greatest hints.
 fn digest(first: u8, last: u8) -> Digest32 {
-    let mut bytes = [0; 32];
+    let mut bytes = [255; 32];
     bytes[0] = first;
     bytes[31] = last;
     Digest32::new(bytes)

@@ -1,5 +1,6 @@
 -- A table of hints: where an entry is looked for, and what is in the ordered map.
 use Rattle.std.specs.Prelude.{◌≡◌, ◌≢◌, ℕ, ◌+◌, ◌-◌, ◌%◌, ◌^◌, ◌<◌, List, Option, Some, length, bit_and, slice_get, slice_index_or}
+use Rattle.std.specs.Int.{w64, bit_not}
 use Rattle.std.specs.BTreeMap.{BTreeMap, get}
 use Rattle.std.specs.declared.cmp.Ordering.{Ordering}
 use Rattle.bk_index.specs.declared.hints.TheConstants.{MOST_TRIES}
@@ -8,7 +9,12 @@ use Rattle.bk_index.specs.declared.hints.TheConstants.{MOST_TRIES}
 abbrev pub slot_in : ℕ → ℕ → ℕ → ℕ
 slot_in len number i = bit_and ((number + i) % 2 ^ 64) (len - 1)
 
--- the hint that a try finds: the index of an entry and 1, or 0 where the slot is free
+-- the hint of the entry at index 0, for a key with this number: the bits of the number above those
+-- that choose the slot, and 1
+abbrev pub base_in : ℕ → ℕ → ℕ
+base_in len number = bit_and number (bit_and (bit_not w64 (len - 1)) 4294967295) + 1
+
+-- the hint that a try finds, or 0 where the slot is free
 abbrev pub hint_at : List ℕ → ℕ → ℕ → ℕ
 hint_at table number i = slice_index_or table (slot_in (length table) number i) 0
 
@@ -20,7 +26,7 @@ AreTaken table number count = (i : ℕ) → i < count → hint_at table number i
 -- ordered map where all its slots are taken.
 pub data IsKept (table : List ℕ) (number : ℕ) (other : Option ℕ) (index : ℕ) : Type 0 where
   near : (i : ℕ) → i < MOST_TRIES → AreTaken table number i
-      → hint_at table number i ≡ index + 1 → IsKept table number other index
+      → hint_at table number i ≡ index + base_in (length table) number → IsKept table number other index
   beyond : AreTaken table number MOST_TRIES → other ≡ Some index → IsKept table number other index
 
 -- the first free slot of this number
@@ -63,4 +69,6 @@ module _ {K : Type 0} (cmp : K → K → Ordering) (number : K → ℕ) where
 pub record IsPassed {K : Type 0} (keys : List K) (table : List ℕ) (number : ℕ) (key : K)
     (count : ℕ) : Type 0 where
   pub taken : AreTaken table number count
-  pub others : (i : ℕ) → i < count → slice_get keys (hint_at table number i - 1) ≢ Some key
+  pub others : (i index : ℕ) → i < count
+      → hint_at table number i ≡ index + base_in (length table) number
+      → slice_get keys index ≢ Some key

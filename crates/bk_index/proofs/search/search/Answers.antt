@@ -1,8 +1,9 @@
-use Rattle.std.proofs.Common.{◌≡◌, ◌∙◌, ℕ, sym, subst, arith}
+use Rattle.std.proofs.Common.{◌≡◌, ◌∙◌, ℕ, refl, sym, subst, arith}
 use Rattle.std.specs.Map.{keys_of}
+use Rattle.std.proofs.lemmas.Bool.{false≢true}
 use Rattle.bk_index.specs.declared.hints.TheConstants.{MOST_TRIES}
 use Rattle.bk_index.specs.private.Hints.{IsPassed, hint_at}
-use Rattle.bk_index.proofs.Hinted.{absent_free, absent_beyond, none_gives}
+use Rattle.bk_index.proofs.Hinted.{passed_next, absent_free, absent_beyond, none_gives}
 use Rattle.bk_index.proofs.search.search.Goals as goal
 
 free_is : (a b : ℕ) → a ≡ b → a ≡ 0 → b ≡ 0
@@ -20,3 +21,7 @@ returns-clause-none g c =
     let all : IsPassed (keys_of c.args.entries.now) c.args.table.now (g.K.Spread.number c.args.key.now) c.args.key.now MOST_TRIES =
     subst (λ (n : ℕ). IsPassed (keys_of c.args.entries.now) c.args.table.now (g.K.Spread.number c.args.key.now) c.args.key.now n) count (rw (← c.spread-number.ensures) c.loop-tries.invariant) in
     none_gives c.search_rest.result (absent_beyond g.K.Ord.cmp g.K.Spread.number (keys_of c.args.entries.now) c.args.table.now c.args.rest.now c.args.key.now c.requires all) c.search_rest.ensures.none
+
+pub loop-tries-preserved : goal.loop-tries-preserved
+loop-tries-preserved g c = passed_next (keys_of c.args.entries.now) c.args.table.now c.spread-number.result c.args.key.now c.loop-tries.tries c.hint_at-hint.result c.base_in-base.result _
+    c.loop-tries.invariant c.hint_at-hint.ensures c.if-hint-eq0.false c.hint_at-hint.type_inv c.base_in-base.ensures refl (λ there. false≢true (sym c.if-has_key.false ∙ c.has_key.ensures.1 there))
