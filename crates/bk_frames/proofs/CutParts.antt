@@ -19,7 +19,7 @@ use Rattle.bk_frames.specs.declared.part.Part.{Part}
 use Rattle.bk_base.specs.Feed.{Frame, IsFramedAt, feed_of, frame_text, kind_number, spelling, stands_at, magic}
 use Rattle.bk_frames.specs.FirstFault.{start_fault, kind_fault, length_fault, payload_fault, frame_fault}
 use Rattle.bk_frames.specs.Pulling.{ByCode, IsPartAt}
-use Rattle.bk_frames.specs.Cutting.{Cut, CutsInto, Cuts, in_magic, past_magic, in_frames, IsOpen, IsBegun, ShowsFault, Reaches, RefusesPiece, fault_at, frames_in}
+use Rattle.bk_frames.specs.Cutting.{Cut, CutsInto, Cuts, in_magic, past_magic, in_frames, IsOpen, IsBegun, ShowsFault, Reaches, RefusesInto, RefusesPiece, fault_at, frames_in}
 use Rattle.bk_frames.specs.private.Parts.{IsPart, IsShort, IsInFrame, FailsSoon, kept_of, cut_of, len_of}
 use Rattle.bk_frames.proofs.Devices.{take_parts}
 use Rattle.bk_frames.proofs.FrameFaults.{length_limits, judged, good, by_code, part_of_frame}
@@ -232,21 +232,19 @@ begun_if p part full bytes = by_version p.version refl
 
 -- ---- in a piece
 
--- a part whose later bytes are not looked at yet
-with_rest : Part → List ℕ → Cut
-with_rest p rest = record { version = p.version; index = p.index; offset = p.offset; kept = kept_of p ++ rest; fault = None }
+-- what is being read, with later bytes that are not looked at yet
+with_rest : Cut → List ℕ → Cut
+with_rest c rest = record { version = c.version; index = c.index; offset = c.offset; kept = c.kept ++ rest; fault = c.fault }
 
-keep_part : (p : Part) (rest : List ℕ) → IsPart p → Cuts (cut_of p) rest [] (with_rest p rest)
+rest_kept : (old c : Cut) (came rest : List ℕ) (out : List Frame) → Cuts old came out c → Cuts old (came ++ rest) out (with_rest c rest)
 unfolding with_rest
-keep_part p rest part = by_version p.version refl
+rest_kept old c came rest out cuts =
+    subst (λ (o : List Frame). Cuts old (came ++ rest) o (with_rest c rest)) (append-nil out) (cuts_then old c (with_rest c rest) came rest out [] cuts (by_place cuts))
   where
-    by_version : (o : Option Version) → p.version ≡ o → Cuts (cut_of p) rest [] (with_rest p rest)
-    by_version None e = let first = part.first e in in_magic e e first.0 first.1 refl refl
-    by_version (Some v) e = in_frames v e e refl tt (omega arith) (omega arith)
-
-rest_of : (at : ℕ) (piece : List ℕ) (c a : Cut) (out : List Frame) → Cuts c (take at piece) out a → (b : Cut) → Cuts a (drop at piece) [] b → Cuts c piece out b
-rest_of at piece c a out before b after =
-    subst (λ (t : List ℕ). Cuts c t out b) (take-append-drop at piece) (subst (λ (o : List Frame). Cuts c (take at piece ++ drop at piece) o b) (append-nil out) (cuts_then c a b (take at piece) (drop at piece) out [] before after))
+    by_place : Cuts old came out c → Cuts c rest [] (with_rest c rest)
+    by_place (in_magic ov cv ci co none text) = in_magic cv cv ci co refl refl
+    by_place (past_magic v ov cv text good index offset) = in_frames v cv cv refl tt (omega arith) (omega arith)
+    by_place (in_frames v ov cv text good index offset) = in_frames v cv cv refl tt (omega arith) (omega arith)
 
 -- one byte or more was taken
 pub taken : (c a b : Cut) (at n : ℕ) (piece : List ℕ) (out : List Frame) → Cuts c (take at piece) out a → Cuts a (take n (drop at piece)) [] b → Cuts c (take (at + n) piece) out b
@@ -257,50 +255,52 @@ taken c a b at n piece out before after =
 pub handed : (c a b : Cut) (bytes : List ℕ) (out : List Frame) (f : Frame) → Cuts c bytes out a → Cuts a [] (f ∷ []) b → Cuts c bytes (out ++ f ∷ []) b
 handed c a b bytes out f before after = subst (λ (t : List ℕ). Cuts c t (out ++ f ∷ []) b) (append-nil bytes) (cuts_then c a b bytes [] out (f ∷ []) before after)
 
--- memory ran out
-pub refused : (c : Cut) (at : ℕ) (piece : List ℕ) (out : List Frame) (p : Part) → Cuts c (take at piece) out (cut_of p) → IsBegun (cut_of p) → Reaches c piece p.offset
-refused c at piece out p before begun = record {
+-- the rest of a piece is refused where a part is being read
+pub refused : (c : Cut) (at : ℕ) (piece : List ℕ) (before after more : List (Kind × Vec ℕ)) (p q : Part) (e : FaultCode) → after ≡ before ++ more → (q.offset ≡ p.offset) × (q.version ≡ p.version) → Cuts c (take at piece) (frames_in more) (cut_of p)
+    → e ≢ code.Truncated → ByCode e ⊥ (IsBegun (cut_of p)) (fault_at p.version p.index p.offset (kept_of p ++ drop at piece) ≡ Some e) → RefusesInto c piece before after q.version (record { offset = q.offset; code = e })
+refused c at piece before after more p q e put same cuts other cause = record {
   used = take at piece;
   ahead = drop at piece;
   parts = sym (take-append-drop at piece);
-  out = out;
+  more = more;
+  put = put;
   at = cut_of p;
-  cuts = before;
-  begun = begun;
-  place = refl;
+  cuts = cuts;
+  cause = cause;
+  shown_already = other;
+  place = same.0;
+  known = same.1;
 }
-
--- a fault shows
-pub shows : (c : Cut) (at : ℕ) (piece front rest : List ℕ) (out : List Frame) (p : Part) (fault : FeedFault) → drop at piece ≡ front ++ rest → fault.code ≢ code.Truncated → fault.offset ≡ p.offset
-    → Cuts c (take at piece) out (cut_of p) → IsPart p → fault_at p.version p.index p.offset (kept_of p ++ front) ≡ Some fault.code → ShowsFault c piece fault
-unfolding with_rest
-shows c at piece front rest out p fault parts other place before part shown =
-    let grown = fault_grows p.version p.index p.offset (kept_of p ++ front) rest fault.code other shown in
-    let same : (kept_of p ++ front) ++ rest ≡ kept_of p ++ drop at piece = append_assoc (kept_of p) front rest ∙ ap (λ (t : List ℕ). kept_of p ++ t) (sym parts) in
-    record {
-      out = out;
-      at = with_rest p (drop at piece);
-      cuts = rest_of at piece c (cut_of p) out before _ (keep_part p (drop at piece) part);
-      shown = subst (λ (t : List ℕ). fault_at p.version p.index p.offset t ≡ Some fault.code) same grown;
-      place = place;
-    }
 
 -- taking from the rest of a piece failed
-pub fails_soon : (c : Cut) (at : ℕ) (piece : List ℕ) (out : List Frame) (p : Part) (e : FaultCode) (offset : ℕ) → offset ≡ p.offset → Cuts c (take at piece) out (cut_of p) → IsPart p → FailsSoon (cut_of p) (drop at piece) e
-    → RefusesPiece c piece (record { offset = offset; code = e })
-fails_soon c at piece out p e offset place before part fails = record {
-  cause = by_code e ⊥ (IsBegun (cut_of p)) _ ⊥ (Reaches c piece offset) (ShowsFault c piece (record { offset = offset; code = e })) (λ h. h) (λ h. subst (λ (n : ℕ). Reaches c piece n) (sym place) (refused c at piece out p before h))
-      (λ (b, more, parts, shown). shows c at piece (b ∷ []) more out p (record { offset = offset; code = e }) parts fails.0 place before part shown) fails.1;
-  shown_already = fails.0;
-}
+pub fails_soon : (c : Cut) (at : ℕ) (piece : List ℕ) (before after more : List (Kind × Vec ℕ)) (p q : Part) (e : FaultCode) → after ≡ before ++ more → (q.offset ≡ p.offset) × (q.version ≡ p.version) → Cuts c (take at piece) (frames_in more) (cut_of p)
+    → FailsSoon (cut_of p) (drop at piece) e → RefusesInto c piece before after q.version (record { offset = q.offset; code = e })
+fails_soon c at piece before after more p q e put same cuts fails =
+    refused c at piece before after more p q e put same cuts fails.0 (by_code e ⊥ (IsBegun (cut_of p)) _ ⊥ (IsBegun (cut_of p)) (fault_at p.version p.index p.offset (kept_of p ++ drop at piece) ≡ Some e) (λ h. h) (λ h. h)
+    (λ (b, rest, parts, shown).
+    subst (λ (t : List ℕ). fault_at p.version p.index p.offset t ≡ Some e) (append_assoc (kept_of p) (b ∷ []) rest ∙ ap (λ (t : List ℕ). kept_of p ++ t) (sym parts)) (fault_grows p.version p.index p.offset (kept_of p ++ b ∷ []) rest e fails.0 shown)) fails.1)
 
 -- the payload of a whole frame shows a fault, or memory was refused
-pub fails_here : (c : Cut) (at : ℕ) (piece : List ℕ) (out : List Frame) (p : Part) (e : FaultCode) (offset : ℕ) → offset ≡ p.offset → Cuts c (take at piece) out (cut_of p) → IsPart p
-    → (e ≢ code.Truncated) × ByCode e ⊥ (IsBegun (cut_of p)) (fault_at p.version p.index p.offset (kept_of p) ≡ Some e) → RefusesPiece c piece (record { offset = offset; code = e })
-fails_here c at piece out p e offset place before part fails = record {
-  cause = by_code e ⊥ (IsBegun (cut_of p)) _ ⊥ (Reaches c piece offset) (ShowsFault c piece (record { offset = offset; code = e })) (λ h. h) (λ h. subst (λ (n : ℕ). Reaches c piece n) (sym place) (refused c at piece out p before h))
-      (λ shown. shows c at piece [] (drop at piece) out p (record { offset = offset; code = e }) refl fails.0 place before part (ap (fault_at p.version p.index p.offset) (append-nil (kept_of p)) ∙ shown)) fails.1;
-  shown_already = fails.0;
+pub fails_here : (c : Cut) (at : ℕ) (piece : List ℕ) (before after more : List (Kind × Vec ℕ)) (p q : Part) (e : FaultCode) → after ≡ before ++ more → (q.offset ≡ p.offset) × (q.version ≡ p.version) → Cuts c (take at piece) (frames_in more) (cut_of p)
+    → (e ≢ code.Truncated) × ByCode e ⊥ (IsBegun (cut_of p)) (fault_at p.version p.index p.offset (kept_of p) ≡ Some e) → RefusesInto c piece before after q.version (record { offset = q.offset; code = e })
+fails_here c at piece before after more p q e put same cuts fails =
+    refused c at piece before after more p q e put same cuts fails.0 (by_code e ⊥ (IsBegun (cut_of p)) _ ⊥ (IsBegun (cut_of p)) (fault_at p.version p.index p.offset (kept_of p ++ drop at piece) ≡ Some e) (λ h. h) (λ h. h)
+    (λ shown. fault_grows p.version p.index p.offset (kept_of p) (drop at piece) e fails.0 shown) fails.1)
+
+-- where the rest is refused the whole is
+pub refuses_piece : (c : Cut) (came : List ℕ) (before after : List (Kind × Vec ℕ)) (version : Option Version) (fault : FeedFault) → RefusesInto c came before after version fault → RefusesPiece c came fault
+unfolding with_rest
+refuses_piece c came before after version fault r = record {
+  cause = by_code fault.code ⊥ (IsBegun r.at) _ ⊥ (Reaches c came fault.offset) (ShowsFault c came fault) (λ h. h)
+      (λ h. record { used = r.used; ahead = r.ahead; parts = r.parts; out = frames_in r.more; at = r.at; cuts = r.cuts; begun = h; place = r.place })
+      (λ h. record {
+        out = frames_in r.more;
+        at = with_rest r.at r.ahead;
+        cuts = subst (λ (t : List ℕ). Cuts c t (frames_in r.more) (with_rest r.at r.ahead)) (sym r.parts) (rest_kept c r.at r.used r.ahead (frames_in r.more) r.cuts);
+        shown = h;
+        place = r.place;
+      }) r.cause;
+  shown_already = r.shown_already;
 }
 
 -- one frame more is handed out
@@ -341,6 +341,12 @@ seen p fault = record { version = p.version; index = p.index; offset = p.offset;
 pub cuts_seen : (p q : Part) (fault : Option FeedFault) (now : Cut) (piece : List ℕ) (out : List Frame) → fault ≡ None → seen p fault ≡ now → Cuts (cut_of p) piece out (cut_of q) → Cuts now piece out (seen q fault)
 cuts_seen p q fault now piece out none is cuts =
     subst (λ (c : Cut). Cuts c piece out (seen q fault)) is (subst (λ (f : Option FeedFault). Cuts (seen p f) piece out (seen q f)) (sym none) cuts)
+
+pub refuses_seen : (p : Part) (fault : Option FeedFault) (now : Cut) (piece : List ℕ) (before after : List (Kind × Vec ℕ)) (version : Option Version) (found : FeedFault) → seen p fault ≡ now → RefusesInto (cut_of p) piece before after version found
+    → now.fault ≡ None → RefusesInto now piece before after version found
+refuses_seen p fault now piece before after version found is r none =
+    let was : fault ≡ None = ap (λ (c : Cut). c.fault) is ∙ none in
+    subst (λ (c : Cut). RefusesInto c piece before after version found) is (subst (λ (f : Option FeedFault). RefusesInto (seen p f) piece before after version found) (sym was) r)
 
 -- ---- steps of the loop
 

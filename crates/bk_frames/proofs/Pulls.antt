@@ -6,19 +6,20 @@ use Rattle.std.specs.Io.KnownBytes.{Consumes, Keeps, IsAtEnd}
 use Rattle.std.proofs.KnownBytes.{Consumes-nil, Consumes-kept}
 use Rattle.std.proofs.lemmas.List.{append-nil, map-append}
 use Rattle.bk_base.specs.declared.kind.Kind.{Kind}
+use Rattle.bk_base.specs.declared.version.Version.{Version}
 use Rattle.bk_frames.specs.declared.pulling.TheConstants.{PIECE}
 use Rattle.bk_frames.specs.declared.fault.FaultCode.TheVariants as code
 use Rattle.bk_frames.specs.declared.fault.FeedFault.{FeedFault}
 use Rattle.bk_frames.specs.Device.{Device, Works, Fails, Gives, IfKnown, GaveAll}
-use Rattle.bk_base.specs.Feed.{Frame, spelling, FeedValue}
+use Rattle.bk_base.specs.Feed.{Frame, feed_of, spelling, FeedValue}
 use Rattle.bk_frames.specs.FirstFault.{HasFault}
 use Rattle.bk_frames.specs.Pulling.{Gave, StopsAt, FrontCallsForMemoryAt, Refuses}
-use Rattle.bk_frames.specs.Cutting.{Cut, Cuts, CutsInto, IsOpen, ShowsFault, Reaches, RefusesPiece, EndsShort, fresh, in_magic, frames_in}
-use Rattle.bk_frames.specs.Reading.{IsPulled, room_of}
+use Rattle.bk_frames.specs.Cutting.{Cut, Cuts, CutsInto, IsOpen, ShowsFault, Reaches, RefusesInto, RefusesPiece, EndsShort, fresh, in_magic, past_magic, in_frames, frames_in}
+use Rattle.bk_frames.specs.Reading.{AreFront, IsPulled, room_of}
 use Rattle.bk_frames.proofs.Devices.{consumes_then}
 use Rattle.bk_frames.proofs.FrameFaults.{by_code}
-use Rattle.bk_frames.proofs.CutJoining.{cuts_then, fault_is_the_feeds, memory_is_the_feeds, stops, ends_cut_short}
-use Rattle.bk_frames.proofs.FrontAndWhole.{fault_stays}
+use Rattle.bk_frames.proofs.CutJoining.{bytes_so_far, none_before_magic, cuts_then, fault_is_the_feeds, memory_is_the_feeds, stops, ends_cut_short}
+use Rattle.bk_frames.proofs.FrontAndWhole.{fault_stays, frames_stay}
 use Rattle.bk_frames.proofs.PulledBytes.{so_long, open_short}
 
 -- before the first byte
@@ -88,6 +89,39 @@ pub pull_failed : (start now later : Device) (bytes : List ℕ) (frames : List F
 pull_failed start now later bytes frames c offset p kept fails is =
     subst (λ (o : ℕ). Refuses (record { offset = o; code = code.Read }) start later) (sym is)
     (fails ∙ ap (λ (n : ℕ). n + 1) p.works, (bytes, Consumes-kept start.bytes now.bytes later.bytes bytes p.gave kept, stops bytes frames c p.cuts p.is_open))
+
+-- the frames that were cut off are those before what is being read
+pub front_of : (bytes rest : List ℕ) (frames : List Frame) (c : Cut) (offset : ℕ) → Cuts fresh bytes frames c → offset ≡ c.offset → AreFront (bytes ++ rest) offset c.version frames
+front_of bytes rest frames c offset cuts place = by_version c.version refl
+  where
+    by_version : (o : Option Version) → c.version ≡ o → AreFront (bytes ++ rest) offset o frames
+    by_version None e = let z = none_before_magic bytes frames c cuts e in (place ∙ z.3, z.0)
+    by_version (Some v) e = let z = bytes_so_far bytes frames c v cuts e in (c.kept ++ rest, frames_stay bytes c.kept rest (feed_of v frames) z.0, place ∙ z.2)
+
+pub front_here : (bytes : List ℕ) (frames : List Frame) (c : Cut) (offset : ℕ) → Cuts fresh bytes frames c → offset ≡ c.offset → AreFront bytes offset c.version frames
+front_here bytes frames c offset cuts place = subst (λ (t : List ℕ). AreFront t offset c.version frames) (append-nil bytes) (front_of bytes [] frames c offset cuts place)
+
+-- they are where a piece was refused
+pub front_refused : (start now later : Device) (bytes piece : List ℕ) (taken : List Frame) (before after : List (Kind × Vec ℕ)) (c : Cut) (version : Option Version) (found : FeedFault) → IsPulled start now bytes (taken ++ frames_in before) c → Gives now later piece
+    → RefusesInto c piece before after version found → Gave start later (λ given. AreFront given found.offset version (taken ++ frames_in after))
+front_refused start now later bytes piece taken before after c version found p gave r =
+    (bytes ++ piece, consumes_then start.bytes now.bytes later.bytes bytes piece p.gave gave, subst (λ (o : Option Version). AreFront (bytes ++ piece) found.offset o (taken ++ frames_in after)) (sym r.known) front)
+  where
+    cuts : Cuts fresh (bytes ++ r.used) (taken ++ frames_in after) r.at
+    cuts = subst (λ (fs : List Frame). Cuts fresh (bytes ++ r.used) fs r.at) (frames_joined taken before r.more after r.put) (cuts_then fresh c r.at bytes r.used (taken ++ frames_in before) (frames_in r.more) p.cuts r.cuts)
+
+    front : AreFront (bytes ++ piece) found.offset r.at.version (taken ++ frames_in after)
+    front = subst (λ (t : List ℕ). AreFront t found.offset r.at.version (taken ++ frames_in after)) (append_assoc bytes r.used r.ahead ∙ ap (λ (t : List ℕ). bytes ++ t) (sym r.parts)) (front_of (bytes ++ r.used) r.ahead (taken ++ frames_in after) r.at found.offset cuts r.place)
+
+-- and where the source failed
+pub front_failed : (start now later : Device) (bytes : List ℕ) (frames : List Frame) (c : Cut) (offset : ℕ) → IsPulled start now bytes frames c → Keeps now.bytes later.bytes → offset ≡ c.offset → Gave start later (λ given. AreFront given offset c.version frames)
+front_failed start now later bytes frames c offset p kept place = (bytes, Consumes-kept start.bytes now.bytes later.bytes bytes p.gave kept, front_here bytes frames c offset p.cuts place)
+
+-- a version that is known stays
+pub version_stays : (a b : Cut) (piece : List ℕ) (more : List Frame) (v : Version) → Cuts a piece more b → a.version ≡ Some v → b.version ≡ Some v
+version_stays a b piece more v (in_magic old new i o none text) is = absurd cc
+version_stays a b piece more v (past_magic known old new text good i o) is = absurd cc
+version_stays a b piece more v (in_frames known old new text good i o) is = new ∙ sym old ∙ is
 
 -- the last piece was empty
 pub at_end : (start : Device) (bytes came : List ℕ) → length came ≡ 0 → IfKnown start (λ whole. whole ≡ bytes) → IfKnown start (λ whole. whole ≡ bytes ++ came)

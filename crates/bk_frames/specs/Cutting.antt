@@ -85,6 +85,21 @@ pub record RefusesPiece (old : Cut) (came : List ℕ) (fault : FeedFault) : Type
   pub cause : ByCode fault.code ⊥ (Reaches old came fault.offset) (ShowsFault old came fault)
   pub shown_already : fault.code ≢ code.Truncated
 
+-- the same with the frames: those that a front of what came was cut into were put behind others, and what follows in
+-- what came is refused; this is the version then
+pub record RefusesInto (old : Cut) (came : List ℕ) (before after : List (Kind × Vec ℕ)) (version : Option Version) (fault : FeedFault) : Type 0 where
+  pub used : List ℕ
+  pub ahead : List ℕ
+  pub parts : came ≡ used ++ ahead
+  pub more : List (Kind × Vec ℕ)
+  pub put : after ≡ before ++ more
+  pub at : Cut
+  pub cuts : Cuts old used (frames_in more) at
+  pub cause : ByCode fault.code ⊥ (IsBegun at) (fault_at at.version at.index at.offset (at.kept ++ ahead) ≡ Some fault.code)
+  pub shown_already : fault.code ≢ code.Truncated
+  pub place : fault.offset ≡ at.offset
+  pub known : version ≡ at.version
+
 -- the feed that ends here is cut short
 pub record EndsShort (c : Cut) (fault : FeedFault) : Type 0 where
   pub is : fault ≡ record { offset = c.offset; code = code.Truncated }

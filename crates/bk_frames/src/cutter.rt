@@ -1,5 +1,5 @@
 ghost use Rattle.std.specs.Prelude.{◌≡◌, ◌≢◌, ℕ, ◌+◌, ◌<◌, ◌≤◌, [], ◌∷◌, ◌++◌, length, take, IfOk, IfErr, IfSome, OnOk, OnErr, Some, None, Err, map};
-ghost use Rattle.bk_frames.specs.Cutting.{Cut, fresh, Cuts, CutsInto, IsOpen, RefusesPiece, EndsShort, frames_in};
+ghost use Rattle.bk_frames.specs.Cutting.{Cut, fresh, Cuts, CutsInto, IsOpen, RefusesInto, RefusesPiece, EndsShort, frames_in};
 ghost use Rattle.bk_frames.specs.private.Parts.{IsPart, IsShort, FailsSoon, cut_of};
 
 use crate::fault::{FaultCode, FeedFault};
@@ -13,7 +13,8 @@ fn advance(part: &mut Part, piece: &[u8]) -> Result<usize, FaultCode>
     requires part { IsPart part.old }
     requires short { IsShort part.old }
     requires more { 0 < length piece.now }
-    ensures place { OnErr result (part.new.offset ≡ part.old.offset) }
+    ensures place { OnErr result ((part.new.offset ≡ part.old.offset)
+        × (part.new.version ≡ part.old.version)) }
     ensures count { IfOk result (λ n. (0 < n) × (n ≤ length piece.now)) }
     ensures part { OnOk result (IsPart part.new) }
     ensures cuts { IfOk result (λ n. Cuts (cut_of part.old) (take n piece.now) []
@@ -43,7 +44,8 @@ fn cut(
     ensures part { OnOk result (IsPart part.new × IsShort part.new) }
     ensures cuts { OnOk result (CutsInto (cut_of part.old) piece.now
         out.old.items out.new.items (cut_of part.new)) }
-    ensures refused { IfErr result (λ e. RefusesPiece (cut_of part.old) piece.now
+    ensures refused { IfErr result (λ e. RefusesInto (cut_of part.old) piece.now
+        out.old.items out.new.items part.new.version
         (record { offset = part.new.offset; code = e })) }
 {
     let mut at = 0;
@@ -104,7 +106,7 @@ impl Cutter {
     /// together.
     ///
     /// A fault comes with the first byte that shows it; each later call returns it again. Bytes that are only cut short
-    /// are no fault here. With a fault nothing is promised of `frames`.
+    /// are no fault here. With a fault `frames` has the whole frames before it.
     pub fn feed_into(
         &mut self,
         piece: &[u8],
@@ -118,6 +120,9 @@ impl Cutter {
         ensures stays { IfErr result (λ f. self.new.fault ≡ Some f) }
         ensures refused { IfErr result (λ f. self.old.fault ≡ None
             → RefusesPiece self.old piece.now f) }
+        ensures before { IfErr result (λ f. self.old.fault ≡ None → RefusesInto self.old piece.now
+            frames.old.items frames.new.items self.new.version f) }
+        ensures none_again { IfSome self.old.fault (λ _. frames.new.items ≡ frames.old.items) }
     {
         if let Some(fault) = self.fault {
             return Err(fault);

@@ -46,7 +46,8 @@ pub(crate) fn take_magic(part: &mut Part, byte: u8) -> Result<(), FaultCode>
     requires start { part.old.version ≡ None }
     ensures part { OnOk result (IsPart part.new × IsShort part.new) }
     ensures cuts { OnOk result (Cuts (cut_of part.old) (byte ∷ []) [] (cut_of part.new)) }
-    ensures place { OnErr result (part.new.offset ≡ part.old.offset) }
+    ensures place { OnErr result ((part.new.offset ≡ part.old.offset)
+        × (part.new.version ≡ part.old.version)) }
     ensures err { IfErr result (λ e. (e ≡ code.Magic)
         × (fault_at part.old.version part.old.index part.old.offset
         (kept_of part.old ++ byte ∷ []) ≡ Some code.Magic)) }
@@ -75,7 +76,8 @@ pub(crate) fn take_head(part: &mut Part, byte: u8) -> Result<(), FaultCode>
     requires head { part.old.filled < 5 }
     ensures part { OnOk result (IsPart part.new) }
     ensures cuts { OnOk result (Cuts (cut_of part.old) (byte ∷ []) [] (cut_of part.new)) }
-    ensures place { OnErr result (part.new.offset ≡ part.old.offset) }
+    ensures place { OnErr result ((part.new.offset ≡ part.old.offset)
+        × (part.new.version ≡ part.old.version)) }
     ensures err { IfErr result (λ e. (e ≢ code.Truncated) × ByCode e ⊥ ⊥
         (fault_at part.old.version part.old.index part.old.offset (kept_of part.old ++ byte ∷ [])
         ≡ Some e)) }
@@ -110,7 +112,7 @@ pub(crate) fn take_payload(part: &mut Part, piece: &[u8]) -> Result<usize, Alloc
     requires full { part.old.filled ≡ 5 }
     requires short { IsShort part.old }
     requires more { 0 < length piece.now }
-    ensures place { part.new.offset ≡ part.old.offset }
+    ensures place { (part.new.offset ≡ part.old.offset) × (part.new.version ≡ part.old.version) }
     ensures count { IfOk result (λ n. (0 < n) × (n ≤ length piece.now)) }
     ensures part { OnOk result (IsPart part.new) }
     ensures cuts { IfOk result (λ n. Cuts (cut_of part.old) (take n piece.now) []
@@ -152,7 +154,8 @@ pub(crate) fn take_frame(
     ensures next { OnOk result (part.new.filled ≡ 0) }
     ensures cuts { IfOk result (λ f. Cuts (cut_of part.old) [] (frame_of f.0 f.1.items ∷ [])
         (cut_of part.new)) }
-    ensures place { OnErr result (part.new.offset ≡ part.old.offset) }
+    ensures place { OnErr result ((part.new.offset ≡ part.old.offset)
+        × (part.new.version ≡ part.old.version)) }
     ensures err { IfErr result (λ e. (e ≢ code.Truncated) × ByCode e ⊥ (IsBegun (cut_of part.old))
         (fault_at part.old.version part.old.index part.old.offset (kept_of part.old) ≡ Some e)) }
 {

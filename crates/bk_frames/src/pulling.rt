@@ -1,12 +1,13 @@
 //! A feed that is pulled from a source, a piece at a time.
 
-ghost use Rattle.std.specs.Prelude.{◌≡◌, ℕ, ◌<◌, ◌≤◌, ◌++◌, List, length, IfOk, IfErr, OnOk};
+ghost use Rattle.std.specs.Prelude.{◌≡◌, ℕ, ◌<◌, ◌≤◌, ◌++◌, List, length, IfOk, IfErr, OnOk, Some};
 ghost use Rattle.bk_frames.specs.declared.fault.FaultCode.TheVariants as code;
+ghost use Rattle.bk_base.specs.declared.version.Version.{Version};
 ghost use Rattle.bk_frames.specs.Device.{Device, CanBeUsed, IfKnown};
 ghost use Rattle.bk_base.specs.Feed.{Frame};
 ghost use Rattle.bk_frames.specs.Cutting.{CutsInto, frames_in};
-ghost use Rattle.bk_frames.specs.Pulling.{Refuses};
-ghost use Rattle.bk_frames.specs.Reading.{IsPulled, Pulls, room_of};
+ghost use Rattle.bk_frames.specs.Pulling.{Gave, Refuses};
+ghost use Rattle.bk_frames.specs.Reading.{AreFront, IsPulled, Pulls, room_of};
 
 use crate::cutter::Cutter;
 use crate::device::Source;
@@ -37,7 +38,8 @@ impl<T: Drop> From<AllocFailed<T>> for FaultCode {
 /// it behind those of `frames`. Returns how many bytes came: 0 at the end of the source.
 ///
 /// The error is the first fault of the bytes so far, `Read` where the source failed, or `Memory` where memory ran out,
-/// with the offset of the frame that has it or that was being read. With an error nothing is promised of `frames`.
+/// with the offset of the frame that has it or that was being read. With an error `frames` has the whole frames before
+/// that one.
 pub fn pull_frames<S: Source>(
     source: &mut S,
     piece: &mut [u8],
@@ -64,6 +66,12 @@ pub fn pull_frames<S: Source>(
     ensures refused { IfErr result (λ f. (start : Device) (bytes : List ℕ) (before : List Frame)
         → IsPulled start (S.state source.old) bytes before cutter.old
         → Refuses f start (S.state source.new)) }
+    ensures before { IfErr result (λ f. (start : Device) (bytes : List ℕ) (taken : List Frame)
+        → IsPulled start (S.state source.old) bytes
+        (taken ++ frames_in frames.old.items) cutter.old
+        → Gave start (S.state source.new) (λ given. AreFront given f.offset cutter.new.version
+        (taken ++ frames_in frames.new.items))) }
+    ensures version { (v : Version) → cutter.old.version ≡ Some v → cutter.new.version ≡ Some v }
 {
     let offset = cutter.offset();
     match source.pull(piece) {

@@ -149,6 +149,18 @@ fn hands_out_no_frame_with_a_fault(rt: HostRuntime) -> Result<(), Fail> {
 }
 
 #[test]
+fn keeps_the_frames_before_a_fault(rt: HostRuntime) -> Result<(), Fail> {
+    let mut bytes = Vec::from_slice(rt.alloc(), EMPTY_LEDGER.as_slice())?;
+    bytes.push(9)?;
+    let mut frames = Vec::new(rt.alloc());
+    let found = Cutter::new(rt.alloc()).feed_into(&bytes, &mut frames);
+    let offset = 51;
+    let code = FaultCode::Kind;
+    assert!(rt; found == Err(FeedFault { offset, code }) && frames.len() == 2);
+    Ok(())
+}
+
+#[test]
 fn reports_a_length_before_its_payload(rt: HostRuntime) -> Result<(), Fail> {
     let fault = FeedFault {
         offset: 51,

@@ -1,7 +1,7 @@
-use Rattle.std.proofs.Common.{take, length-take, arith}
+use Rattle.std.proofs.Common.{take, length-take, arith, ◌∙◌}
 use Rattle.std.proofs.lemmas.Result.{err_from_is_err_and}
 use Rattle.bk_frames.specs.Cutting.{frames_in}
-use Rattle.bk_frames.proofs.Pulls.{piece_pulled, room_falls, refused_piece, pull_failed}
+use Rattle.bk_frames.proofs.Pulls.{piece_pulled, room_falls, refused_piece, pull_failed, front_refused, front_failed, version_stays}
 use Rattle.bk_frames.proofs.pulling.pull_frames.Goals as goal
 
 pub returns-in_err-feed_into-in-Ok-clause-refused :
@@ -29,3 +29,23 @@ returns-in_ok-feed_into-in-Ok-clause-nearer g c = λ some.
 pub returns-in-Err-clause-refused : goal.returns-in-Err-clause-refused
 returns-in-Err-clause-refused g c = λ start bytes before h.
     pull_failed start (g.S.Source.state c.args.source.now) (g.S.Source.state c.pull.new.self) bytes before c.args.cutter.now _ h c.in-Err.ensures.bytes c.in-Err.ensures.count c.offset-offset.ensures
+
+pub returns-in_err-feed_into-in-Ok-clause-before : goal.returns-in_err-feed_into-in-Ok-clause-before
+returns-in_err-feed_into-in-Ok-clause-before g c =
+    let p = err_from_is_err_and c.from_residual.result c.from_residual.ensures.1 in
+    rw (p.1, p.2) (λ start bytes taken h.
+    front_refused start (g.S.Source.state c.args.source.now) (g.S.Source.state c.pull.new.self) bytes _ taken c.args.frames.now.items c.feed_into.new.frames.items c.args.cutter.now c.feed_into.new.self.version _ h c.in-Ok.ensures.bytes.0 (c.in_err-feed_into-in-Ok.ensures.before h.reads))
+
+pub returns-in-Err-clause-before : goal.returns-in-Err-clause-before
+returns-in-Err-clause-before g c = λ start bytes taken h.
+    front_failed start (g.S.Source.state c.args.source.now) (g.S.Source.state c.pull.new.self) bytes _ c.args.cutter.now _ h c.in-Err.ensures.bytes c.offset-offset.ensures
+
+pub returns-in_err-feed_into-in-Ok-clause-version : goal.returns-in_err-feed_into-in-Ok-clause-version
+returns-in_err-feed_into-in-Ok-clause-version g c = λ v is.
+    let r = c.in_err-feed_into-in-Ok.ensures.before c.requires.pulled.3.reads in
+    r.known ∙ version_stays c.args.cutter.now r.at r.used _ v r.cuts is
+
+pub returns-in_ok-feed_into-in-Ok-clause-version : goal.returns-in_ok-feed_into-in-Ok-clause-version
+returns-in_ok-feed_into-in-Ok-clause-version g c = λ v is.
+    let cuts = c.in_ok-feed_into-in-Ok.ensures.cuts in
+    version_stays c.args.cutter.now c.feed_into.new.self _ _ v cuts.2 is
