@@ -116,6 +116,11 @@ module _ {K : Type 0} (cmp : K → K → Ordering) (total : IsTotalOrder cmp) (e
       ap (λ (c : Bool). cond c (Some e.1) (find cmp es key)) (differs key e.0 (λ s. absent zero (ap Some (sym s))))
       ∙ find_absent es key (λ i. absent (suc i))
 
+  -- the same where the list was made longer first
+  pub find_kept : (es same_es : List (K × ℕ)) (i : ℕ) (key : K) (x : K × ℕ) → same_es ≡ es → AreDistinct (keys_of es) → slice_get (keys_of same_es) i ≡ Some key → x ≡ get_or same_es i x → find cmp es key ≡ Some x.1
+  find_kept es same_es i key x e distinct there is =
+      find_there es i key x distinct (ap (λ (l : List (K × ℕ)). slice_get (keys_of l) i) (sym e) ∙ there) (is ∙ ap (λ (l : List (K × ℕ)). get_or l i x) e)
+
   -- a new key has its value, and each other key has what it had
   pub find_pushed : (es : List (K × ℕ)) (key : K) (v : ℕ) (q : K) → ((i : ℕ) → slice_get (keys_of es) i ≢ Some key)
       → find cmp (es ++ (key, v) ∷ []) q ≡ cond (is_eq (cmp key q)) (Some v) (find cmp es q)
@@ -146,6 +151,10 @@ module _ {K : Type 0} (cmp : K → K → Ordering) (total : IsTotalOrder cmp) (e
       by : (is_eq (cmp key q) ≡ true) ⊎ (is_eq (cmp key q) ≡ false) → find cmp es q ≡ cond (is_eq (cmp key q)) (Some v) (find cmp es q)
       by (inl t) = ap (find cmp es) (sym (exact key q t)) ∙ (known ∙ sym (ap (λ (c : Bool). cond c (Some v) (find cmp es q)) t))
       by (inr f) = sym (ap (λ (c : Bool). cond c (Some v) (find cmp es q)) f)
+
+-- what is not in a list is not in the same list
+pub absent_kept : {K : Type 0} (es same_es : List (K × ℕ)) (key : K) → same_es ≡ es → ((i : ℕ) → slice_get (keys_of same_es) i ≢ Some key) → (i : ℕ) → slice_get (keys_of es) i ≢ Some key
+absent_kept {K} es same_es key e absent i there = absent i (ap (λ (l : List (K × ℕ)). slice_get (keys_of l) i) e ∙ there)
 
 -- the key of an entry that is read
 pub key_at : {K : Type 0} (es : List (K × ℕ)) (i : ℕ) (e : K × ℕ) → i < length es → e ≡ get_or es i e → slice_get (keys_of es) i ≡ Some e.0

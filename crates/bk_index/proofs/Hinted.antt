@@ -1,12 +1,11 @@
 -- Hints: what stays found, and that what is not found is not there.
-use Rattle.std.proofs.Common.{◌≡◌, ◌≢◌, ℕ, ◌+◌, ◌-◌, ◌%◌, ◌^◌, ◌<◌, ◌≤◌, ◌⊎◌, inl, inr, Bool, true, cond, List, [], ◌∷◌, ◌++◌, length, Option, Some, None, get_or, set, slice_get, refl, sym, ap, ◌∙◌, subst, arith}
+use Rattle.std.proofs.Common.{◌≡◌, ◌≢◌, ℕ, ◌+◌, ◌-◌, ◌%◌, ◌^◌, ◌<◌, ◌≤◌, ◌⊎◌, inl, inr, Bool, true, cond, List, [], ◌∷◌, ◌++◌, length, Option, Some, get_or, set, slice_get, refl, sym, ap, ◌∙◌, subst, arith}
 use Rattle.std.specs.BTreeMap.{BTreeMap, get}
 use Rattle.std.specs.Cmp.{IsTotalOrder}
 use Rattle.std.specs.Ordering.{is_eq}
 use Rattle.std.specs.declared.cmp.Ordering.{Ordering}
 use Rattle.std.proofs.lemmas.Bool.{cases_order, cases_eq}
 use Rattle.std.specs.Map.{keys_of, lookup}
-use Rattle.std.specs.Option.{IfNone}
 use Rattle.std.proofs.lemmas.List.{length-map, map-append, length-set, get_or-set_same, get_or-set_other}
 use Rattle.std.proofs.lemmas.Option.{slice_get_within}
 use Rattle.bk_index.specs.declared.hints.TheConstants.{MOST_TRIES}
@@ -83,6 +82,18 @@ module _ {K : Type 0} where
   passed_next keys table number key count hint base likely passed is taken low base_is likely_at other =
       passed_more keys table number key count passed (λ z. taken (is ∙ z))
       (λ index at there. other (ap (slice_get keys) (likely_is hint base index likely likely_at low (is ∙ (at ∙ ap (λ b. index + b) (sym base_is)))) ∙ there))
+
+  -- the slot where a search stops
+  pub free_here : (keys : List K) (table : List ℕ) (number : ℕ) (key : K) (tries slot : ℕ) → IsPassed keys table number key tries → tries < MOST_TRIES
+      → slot ≡ slot_in (length table) number tries → slot < length table → hint_at table number tries ≡ 0 → IsFree table number slot
+  free_here keys table number key tries slot passed low slot_at inside free = record {
+    at = tries;
+    low = low;
+    taken = passed.taken;
+    slot_is = slot_at;
+    inside = inside;
+    free = ap (λ j. get_or table j 0) slot_at ∙ free;
+  }
 
 module _ {K : Type 0} (cmp : K → K → Ordering) (number : K → ℕ) where
   -- a key that was not met before a free slot is not there
@@ -181,8 +192,3 @@ module _ {K : Type 0} (cmp : K → K → Ordering) (number : K → ℕ) where
       subst (λ (ks : List K). IsIndex cmp number ks after more) (sym (ap keys_of e ∙ map-append (λ (x : K × ℕ). x.0) es ((key, v) ∷ [])))
       (index_pushed (keys_of es) key table after rest more index new
       (subst (λ (k : ℕ). IsPut cmp number table rest after more key k) (f ∙ sym (length-map es (λ (x : K × ℕ). x.0))) put))
-
--- what holds where nothing is found
-pub none_gives : {A B : Type 0} (o : Option ℕ) → (A → B) → IfNone o A → IfNone o B
-none_gives None f h = f h
-none_gives (Some k) f h = tt

@@ -3,6 +3,7 @@
 ghost use Rattle.std.specs.Prelude.{◌≡◌, ◌≢◌, ℕ, ◌+◌, ◌-◌, ◌<◌, ◌≤◌, length, IfSome, IfNone, IfOk, OnOk, OnErr, Some};
 ghost use Rattle.std.specs.BTreeMap.{IsUnchanged};
 ghost use Rattle.std.specs.Map.{keys_of};
+ghost use Rattle.std.specs.Option.{ForSome, ForNone};
 ghost use Rattle.bk_index.specs.private.Hints.{slot_in, base_in, hint_at, AreTaken, IsFree, AreDistinct, IsIndex, IsPut};
 
 use crate::spread::Spread;
@@ -12,8 +13,8 @@ use std::collections::BTreeMap;
 /// How many slots are tried for a key.
 pub(crate) const MOST_TRIES: usize = 16;
 
-// The slot of a try. The length is a power of two.
-fn slot_in(len: usize, number: usize, tries: usize) -> usize
+/// The slot of a try. The length is a power of two.
+pub(crate) fn slot_in(len: usize, number: usize, tries: usize) -> usize
     ensures is { result ≡ slot_in len number tries }
     ensures inside { 1 ≤ len → result < len }
 {
@@ -66,25 +67,27 @@ fn hint_for(base: usize, index: usize) -> Result<u32, AllocError>
     }
 }
 
-/// Puts the index of a new key into the table, or into the ordered map.
+/// Puts the index of a new key into this slot, the first free one of its number, or into the ordered
+/// map where there is none.
 ///
 /// An `Err` comes where memory runs out, or the index is above what a hint can say. Nothing changes
 /// then.
 pub(crate) fn put<K: Spread>(
     table: &mut Vec<u32>,
     rest: &mut BTreeMap<K, usize>,
+    free: Option<usize>,
     key: K,
     index: usize,
 ) -> Result<(), AllocError>
-    requires { 1 ≤ length table.old.items }
+    requires free { ForSome free (IsFree table.old.items (K.number key)) }
+    requires taken { ForNone free (AreTaken table.old.items (K.number key) MOST_TRIES) }
     ensures ok { OnOk result (IsPut K.cmp K.number
         table.old.items rest.old table.new.items rest.new key index) }
     ensures err { OnErr result (table.new.items ≡ table.old.items) }
     ensures same { OnErr result (IsUnchanged rest.old rest.new) }
 {
-    let number = key.spread();
-    let hint = hint_for(base_in(table.len(), number), index)?;
-    match free_slot(table, number) {
+    let hint = hint_for(base_in(table.len(), key.spread()), index)?;
+    match free {
         Some(slot) => {
             table[slot] = hint;
         }
@@ -111,7 +114,9 @@ pub(crate) fn make_anew<K: Spread>(
     table.resize(len, 0)?;
     let mut rest = BTreeMap::new(alloc);
     for index in 0..entries.len() {
-        put(&mut table, &mut rest, entries[index].0, index)?;
+        let key = entries[index].0;
+        let free = free_slot(&table, key.spread());
+        put(&mut table, &mut rest, free, key, index)?;
     }
     Ok((table, rest))
 }

@@ -59,8 +59,10 @@ impl<K: Spread> Index<K> {
     pub fn get(&self, key: &K) -> Option<usize>
         ensures { result ≡ find K.cmp self.now key.now }
     {
-        let at = search(&self.entries, &self.table, &self.rest, key)?;
-        Some(self.entries[at].1)
+        match search(&self.entries, &self.table, &self.rest, key) {
+            Ok(at) => Some(self.entries[at].1),
+            Err(_) => None,
+        }
     }
 
     /// The number that a key has. `None`: it had none, and has this one now.
@@ -74,19 +76,22 @@ impl<K: Spread> Index<K> {
             ≡ cond (is_eq (K.cmp key q)) (Some (unwrap_or found value)) (find K.cmp self.old q)) }
         ensures err { OnErr result (self.new ≡ self.old) }
     {
-        let found = search(&self.entries, &self.table, &self.rest, &key);
-        if let Some(at) = found {
-            return Ok(Some(self.entries[at].1));
-        }
+        // Before the search, since that finds the slot for a new key.
         make_room(
             self.alloc,
             &mut self.entries,
             &mut self.table,
             &mut self.rest,
         )?;
-        put(&mut self.table, &mut self.rest, key, self.entries.len())?;
-        self.entries.push_reserved((key, value));
-        Ok(None)
+        match search(&self.entries, &self.table, &self.rest, &key) {
+            Ok(at) => Ok(Some(self.entries[at].1)),
+            Err(free) => {
+                let index = self.entries.len();
+                put(&mut self.table, &mut self.rest, free, key, index)?;
+                self.entries.push_reserved((key, value));
+                Ok(None)
+            }
+        }
     }
 
     /// Gives another number to a key that has one. It takes no memory.
@@ -95,7 +100,7 @@ impl<K: Spread> Index<K> {
         ensures { (q : K) → find K.cmp self.new q
             ≡ cond (is_eq (K.cmp key q)) (Some value) (find K.cmp self.old q) }
     {
-        if let Some(at) = search(&self.entries, &self.table, &self.rest, &key) {
+        if let Ok(at) = search(&self.entries, &self.table, &self.rest, &key) {
             self.entries[at] = (key, value);
         }
     }

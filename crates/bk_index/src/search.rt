@@ -1,39 +1,48 @@
 //! The search for a key.
 
-ghost use Rattle.std.specs.Prelude.{◌≡◌, ◌≢◌, ◌↔◌, ℕ, IfSome, IfNone, IsTrue, Some, slice_get};
+ghost use Rattle.std.specs.Prelude.{◌≡◌, ◌≢◌, ◌↔◌, ◌≤◌, ℕ, IfSome, IfNone, IfOk, IfErr, OnErr, IsTrue, Some, length, slice_get};
 ghost use Rattle.std.specs.BTreeMap.{get};
 ghost use Rattle.std.specs.Map.{keys_of};
-ghost use Rattle.bk_index.specs.private.Hints.{IsIndex};
+ghost use Rattle.bk_index.specs.private.Hints.{IsFree, AreTaken, IsIndex};
 
-use crate::hints::{MOST_TRIES, base_in, hint_at};
+use crate::hints::{MOST_TRIES, base_in, hint_at, slot_in};
 use crate::spread::Spread;
 use std::collections::BTreeMap;
 
 /// The index of the entry with this key. A hint is compared with its entry before it is believed.
+///
+/// `Err`: no entry has it, and this is the first free slot of its number, if it has one.
 pub(crate) fn search<K: Spread>(
     entries: &[(K, usize)],
     table: &[u32],
     rest: &BTreeMap<K, usize>,
     key: &K,
-) -> Option<usize>
+) -> Result<usize, Option<usize>>
     requires { IsIndex K.cmp K.number (keys_of entries.now) table.now rest.now }
-    ensures found { IfSome result (λ i. slice_get (keys_of entries.now) i ≡ Some key.now) }
-    ensures none { IfNone result ((i : ℕ) → slice_get (keys_of entries.now) i ≢ Some key.now) }
+    ensures found { IfOk result (λ i. slice_get (keys_of entries.now) i ≡ Some key.now) }
+    ensures none { OnErr result ((i : ℕ) → slice_get (keys_of entries.now) i ≢ Some key.now) }
+    ensures free { 1 ≤ length table.now
+        → IfErr result (λ free. IfSome free (IsFree table.now (K.number key.now))) }
+    ensures taken { IfErr result (λ free.
+        IfNone free (AreTaken table.now (K.number key.now) MOST_TRIES)) }
 {
     let number = key.spread();
     let base = base_in(table.len(), number);
     for tries in 0..MOST_TRIES {
         let hint = hint_at(table, number, tries) as usize;
         if hint == 0 {
-            return None;
+            return Err(Some(slot_in(table.len(), number, tries)));
         }
         // Past all entries where the number of that key has other bits above those of the slot.
         let likely = hint.wrapping_sub(base);
         if has_key(entries, likely, key) {
-            return Some(likely);
+            return Ok(likely);
         }
     }
-    search_rest(entries, rest, key)
+    match search_rest(entries, rest, key) {
+        Some(at) => Ok(at),
+        None => Err(None),
+    }
 }
 
 // Whether the entry at an index has this key.

@@ -10,12 +10,12 @@ not_some o e h = false≢true (subst (λ (x : Option ℕ). IsSome x) e h)
 
 pub invariant_of-self : goal.invariant_of-self
 invariant_of-self g c =
-    let there : slice_get (keys_of c.self.inside.entries.items) c.in-Some.at ≡ Some c.args.key = rw (← c.deref.ensures.value) c.in-Some.ensures.found in
-    rw (keys_set c.self.inside.entries.items c.in-Some.at c.args.key c.args.value there) c.self.invariant
+    let there : slice_get (keys_of c.self.inside.entries.items) c.in-Ok.at ≡ Some c.args.key = rw (← c.deref.ensures.value) c.in-Ok.ensures.found in
+    rw (keys_set c.self.inside.entries.items c.in-Ok.at c.args.key c.args.value there) c.self.invariant
 
-pub returns-in-Some : goal.returns-in-Some
-returns-in-Some g c = λ q. rw (← c.self.view_is)
-    (find_set g.K.Ord.cmp g.met.K.Ord.total g.met.K.Spread.exact c.self.inside.entries.items c.in-Some.at c.args.key c.args.value q c.self.invariant.distinct (rw (← c.deref.ensures.value) c.in-Some.ensures.found))
+pub returns-in-Ok : goal.returns-in-Ok
+returns-in-Ok g c = λ q. rw (← c.self.view_is)
+    (find_set g.K.Ord.cmp g.met.K.Ord.total g.met.K.Spread.exact c.self.inside.entries.items c.in-Ok.at c.args.key c.args.value q c.self.invariant.distinct (rw (← c.deref.ensures.value) c.in-Ok.ensures.found))
 
 pub returns-in_default : goal.returns-in_default
 returns-in_default g c = λ q.
