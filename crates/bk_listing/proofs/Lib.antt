@@ -1,8 +1,5 @@
 pub mod Puts
 pub mod Words
-pub mod Openness
-pub mod Edges
-pub mod Refusals
 pub mod Rejected
 pub mod LineTexts
 pub mod ShownSoFar

@@ -15,23 +15,23 @@ use Rattle.bk_frames.specs.declared.fault.FaultCode.{FaultCode}
 use Rattle.bk_frames.specs.declared.fault.FaultCode.TheVariants as code
 use Rattle.bk_frames.specs.declared.fault.FeedFault.{FeedFault}
 use Rattle.bk_frames.specs.Device.{Device, Works, Fails, Gives, Receives, IfKnown}
-use Rattle.bk_base.specs.Feed.{Frame, feed_of, spelling, frame_text, AreGoodFrom}
+use Rattle.bk_base.specs.Feed.{Frame, feed_of, spelling, frame_text, AreGoodFrom, IsFeed}
 use Rattle.bk_frames.specs.FirstFault.{HasFault}
 use Rattle.bk_frames.specs.Pulling.{ByCode, FrontCallsForMemoryAt, Gave, Refuses, StopsAt}
-use Rattle.bk_frames.specs.Cutting.{Cut, EndsShort, frames_in}
+use Rattle.bk_frames.specs.Cutting.{Cut, fresh, frames_in}
+use Rattle.bk_frames.specs.Reading.{AreFront, IsPulled, Pulls}
 use Rattle.bk_frames.proofs.Devices.{appends_then, take_past}
-use Rattle.bk_frames.proofs.CutJoining.{bytes_so_far, none_before_magic, ends_as_feed, ends_cut_short, spelling_then}
+use Rattle.bk_frames.proofs.CutJoining.{bytes_so_far, none_before_magic, ends_as_feed, spelling_then}
+use Rattle.bk_frames.proofs.Pulls.{ended_short, front_here, none_pulled}
 use Rattle.bk_results.specs.declared.fault.Fault.{Fault}
 use Rattle.bk_results.specs.declared.fault.Fault.TheVariants as fault
 use Rattle.bk_results.specs.Devices.{Devices, IsUntouched, OfGiven}
 use Rattle.bk_listing.specs.Listing.{IsListing}
 use Rattle.bk_listing.specs.Answers.{IsListingTo, no_frames, of_frames, AllIsListed, HasForged, HasRejected, IsListedTo, FailsOnceAtMost, ListFails}
-use Rattle.bk_listing.specs.declared.reader.FrameReader.{FrameReader}
+use Rattle.bk_listing.specs.declared.listing.FrameReader.{FrameReader}
 use Rattle.bk_listing.specs.declared.lister.Lister.{Lister}
-use Rattle.bk_listing.specs.private.Reading.{AreFront, CanBe, HasCut, HasRead}
 use Rattle.bk_listing.specs.private.FrameRow.{HasListed, ListsMore, MoreFails, GoesOn, PushFails}
-use Rattle.bk_listing.specs.private.Listed.{AreListed, CanList, IsEmptied, ListsWaiting, WaitingFails, LeavesBy, EndsBy, HasShown, waiting}
-use Rattle.bk_listing.proofs.Refusals.{front_here, none_read}
+use Rattle.bk_listing.specs.private.Listed.{AreListed, CanBe, CanList, IsEmptied, ListsWaiting, WaitingFails, LeavesBy, EndsBy, HasShown, waiting}
 use Rattle.bk_listing.proofs.Rejected.{few_rejected}
 
 back_empty : {X : Type 0} (xs ys : List X) → xs ++ ys ≡ [] → ys ≡ []
@@ -59,7 +59,7 @@ waiting_fits v taken ws text l h good =
 
 -- ---- the frames that wait are listed
 
-pub none_listed : (taken : List Frame) (text : List ℕ) (r : FrameReader) (l m : Lister) (old new : Device) → CanList taken text r l → r.version ≡ None → m ≡ l → new ≡ old → ListsWaiting taken text r m old new
+pub none_listed : (taken : List Frame) (text : List ℕ) (r : FrameReader) (l m : Lister) (old new : Device) → CanList taken text r l → r.cutter.version ≡ None → m ≡ l → new ≡ old → ListsWaiting taken text r m old new
 none_listed taken text r l m old new h none same kept =
     let nothing : waiting r ≡ [] = h.none none in
     let frames : taken ++ waiting r ≡ taken = ap (λ (fs : List Frame). taken ++ fs) nothing ∙ append-nil taken in
@@ -71,7 +71,7 @@ none_listed taken text r l m old new h none same kept =
       written = rw whole (ap (λ (x : Lister). x.written) same ∙ h.written);
     }
 
-pub all_listed : (taken : List Frame) (text : List ℕ) (r : FrameReader) (l m : Lister) (v : Version) (old new : Device) → CanList taken text r l → r.version ≡ Some v → ListsMore v (waiting r) l m old new → ListsWaiting taken text r m old new
+pub all_listed : (taken : List Frame) (text : List ℕ) (r : FrameReader) (l m : Lister) (v : Version) (old new : Device) → CanList taken text r l → r.cutter.version ≡ Some v → ListsMore v (waiting r) l m old new → ListsWaiting taken text r m old new
 all_listed taken text r l m v old new h known (lines, next, out, written) = record {
   lines = lines;
   out = out;
@@ -80,7 +80,7 @@ all_listed taken text r l m v old new h known (lines, next, out, written) = reco
   written = written ∙ ap (λ (n : ℕ). n + length lines) h.written ∙ sym (length-append text lines);
 }
 
-pub more_fails : (f : Fault) (taken : List Frame) (text : List ℕ) (r : FrameReader) (l : Lister) (v : Version) (old new : Device) → CanList taken text r l → r.version ≡ Some v → MoreFails f v (waiting r) l old new → WaitingFails f taken text r old new
+pub more_fails : (f : Fault) (taken : List Frame) (text : List ℕ) (r : FrameReader) (l : Lister) (v : Version) (old new : Device) → CanList taken text r l → r.cutter.version ≡ Some v → MoreFails f v (waiting r) l old new → WaitingFails f taken text r old new
 more_fails (fault.Feed found) taken text r l v old new h known no_way = absurd no_way
 more_fails (fault.Collision id) taken text r l v old new h known no_way = absurd no_way
 more_fails (fault.Equivocation round author first second) taken text r l v old new h known no_way = absurd no_way
@@ -121,12 +121,12 @@ ends_fault taken text r l old new fault.Memory h = h
 
 -- ---- the whole call
 
-pub can_list : (bytes : List ℕ) (taken : List Frame) (text : List ℕ) (r : FrameReader) (l : Lister) → HasCut bytes taken r → AreListed taken text r l → l.written ≡ length text → CanList taken text r l
-can_list bytes taken text r l come listed written = record {
-  listed = listed;
-  written = written;
-  good = λ v known. (bytes_so_far bytes (taken ++ waiting r) r.cutter v come.cuts (sym come.version ∙ known)).0.good;
-  none = λ none. back_empty taken (waiting r) (none_before_magic bytes (taken ++ waiting r) r.cutter come.cuts (sym come.version ∙ none)).0;
+pub can_list : (old now : Devices) (r : FrameReader) (l : Lister) → (h : HasShown old now r l) → CanList h.taken h.text r l
+can_list old now r l h = record {
+  listed = h.listed;
+  written = h.written;
+  good = λ v known. (bytes_so_far h.bytes (h.taken ++ waiting r) r.cutter v h.pulled.cuts known).0.good;
+  none = λ none. back_empty h.taken (waiting r) (none_before_magic h.bytes (h.taken ++ waiting r) r.cutter h.pulled.cuts none).0;
 }
 
 front_good : (given : List ℕ) (offset : ℕ) (o : Option Version) (frames : List Frame) (v : Version) → o ≡ Some v → AreFront given offset o frames → AreGoodFrom v 0 4 frames
@@ -136,12 +136,12 @@ front_none : (given : List ℕ) (offset : ℕ) (o : Option Version) (frames : Li
 front_none given offset o frames none h = (subst (λ (w : Option Version). AreFront given offset w frames) none h).1
 
 -- the frames before a fault can be listed
-pub can_list_front : (given : List ℕ) (offset : ℕ) (taken : List Frame) (text : List ℕ) (r : FrameReader) (l : Lister) → AreFront given offset r.version (taken ++ waiting r) → AreListed taken text r l → l.written ≡ length text → CanList taken text r l
+pub can_list_front : (given : List ℕ) (offset : ℕ) (taken : List Frame) (text : List ℕ) (r : FrameReader) (l : Lister) → AreFront given offset r.cutter.version (taken ++ waiting r) → AreListed taken text r l → l.written ≡ length text → CanList taken text r l
 can_list_front given offset taken text r l front listed written = record {
   listed = listed;
   written = written;
-  good = λ v known. front_good given offset r.version (taken ++ waiting r) v known front;
-  none = λ none. back_empty taken (waiting r) (front_none given offset r.version (taken ++ waiting r) none front);
+  good = λ v known. front_good given offset r.cutter.version (taken ++ waiting r) v known front;
+  none = λ none. back_empty taken (waiting r) (front_none given offset r.cutter.version (taken ++ waiting r) none front);
 }
 
 any_version : (o : Option Version) → (v : Version) × CanBe o v
@@ -156,78 +156,70 @@ listing_to given offset frames text (Some v) front listed = of_frames (feed_of v
 received : (a b c : Device) (text lines : List ℕ) → Receives a b text → Receives b c lines → Receives a c (text ++ lines)
 received a b c text lines one two = appends_then a.bytes b.bytes c.bytes text lines one two
 
+-- what can be the version later can be it now, where a version that is known stays
+pub can_stay : (o p : Option Version) → ((v : Version) → o ≡ Some v → p ≡ Some v) → (v : Version) → CanBe p v → CanBe o v
+can_stay None p stays v can = tt
+can_stay (Some known) p stays v can = subst (λ (q : Option Version). CanBe q v) (stays known refl) can
+
 -- more was read
-abbrev pub read_on : (old now later : Devices) (r s : FrameReader) (l : Lister) → (h : HasShown old now r l) → HasRead old.source later.source h.taken s → ((v : Version) → CanBe s.version v → CanBe r.version v) → later.sink ≡ now.sink → HasShown old later s l
-read_on old now later r s l h come stays same = record {
+abbrev pub read_on : (old now later : Devices) (r s : FrameReader) (l : Lister) (count : ℕ) → (h : HasShown old now r l) → Pulls old.source later.source h.bytes (h.taken ++ waiting s) s.cutter count
+    → ((v : Version) → r.cutter.version ≡ Some v → s.cutter.version ≡ Some v) → later.sink ≡ now.sink → HasShown old later s l
+read_on old now later r s l count h more stays same = record {
   taken = h.taken;
   text = h.text;
-  come = come;
-  listed = λ v can. h.listed v (stays v can);
+  bytes = h.bytes ++ more.came;
+  pulled = more.pulled;
+  listed = λ v can. h.listed v (can_stay r.cutter.version s.cutter.version stays v can);
   written = h.written;
   works = subst (λ (d : Device). Works old.sink d) (sym same) h.works;
   out = subst (λ (d : Device). Receives old.sink d h.text) (sym same) h.out;
 }
 
-emptied_cut : (bytes : List ℕ) (taken : List Frame) (r s : FrameReader) → IsEmptied r s → HasCut bytes taken r → HasCut bytes (taken ++ waiting r) s
-emptied_cut bytes taken r s e h =
-    let frames : (taken ++ waiting r) ++ waiting s ≡ taken ++ waiting r = ap (λ (fs : List (Kind × Vec ℕ)). (taken ++ waiting r) ++ frames_in fs) e.none_waits ∙ append-nil (taken ++ waiting r) in
-    record {
-      cuts = rw frames (rw e.cutter h.cuts);
-      is_open = rw e.cutter h.is_open;
-      reads = ap (λ (c : Cut). c.fault) e.cutter ∙ h.reads;
-      version = e.version ∙ h.version ∙ sym (ap (λ (c : Cut). c.version) e.cutter);
-      head = ap (λ (t : Vec ℕ). t.items) e.head ∙ h.head ∙ sym (ap (λ (c : Cut). take 5 c.kept) e.cutter);
-      seen = e.seen ∙ h.seen;
-    }
-
 -- the frames that waited are listed
 pub list_on : (old now later : Devices) (r s : FrameReader) (l m : Lister) → (h : HasShown old now r l) → ListsWaiting h.taken h.text r m now.sink later.sink → IsEmptied r s → later.source ≡ now.source → HasShown old later s m
-list_on old now later r s l m h w e same = record {
-  taken = h.taken ++ waiting r;
-  text = h.text ++ w.lines;
-  come = subst (λ (d : Device). HasRead old.source d (h.taken ++ waiting r) s) (sym same) (record { bytes = h.come.bytes; works = h.come.works; gave = h.come.gave; come = emptied_cut h.come.bytes h.taken r s e h.come.come });
-  listed = λ v can. w.listed v (subst (λ (o : Option Version). CanBe o v) e.version can);
-  written = w.written;
-  works = w.out.0 ∙ h.works;
-  out = received old.sink now.sink later.sink h.text w.lines h.out w.out.1;
-}
+list_on old now later r s l m h w e same =
+    let frames : (h.taken ++ waiting r) ++ waiting s ≡ h.taken ++ waiting r = ap (λ (fs : List (Kind × Vec ℕ)). (h.taken ++ waiting r) ++ frames_in fs) e.none_waits ∙ append-nil (h.taken ++ waiting r) in
+    record {
+      taken = h.taken ++ waiting r;
+      text = h.text ++ w.lines;
+      bytes = h.bytes;
+      pulled = subst (λ (p : Device × List Frame × Cut). IsPulled old.source p.0 h.bytes p.1 p.2) (λ j. (sym same j, sym frames j, sym e.cutter j)) h.pulled;
+      listed = λ v can. w.listed v (subst (λ (c : Cut). CanBe c.version v) e.cutter can);
+      written = w.written;
+      works = w.out.0 ∙ h.works;
+      out = received old.sink now.sink later.sink h.text w.lines h.out w.out.1;
+    }
 
--- of a feed whose bytes all came all frames are listed
-pub feed_listed : (old now later : Devices) (r : FrameReader) (l m : Lister) → (h : HasShown old now r l) → ListsWaiting h.taken h.text r m now.sink later.sink → (r.cutter.kept ≡ []) × (2 ≤ r.cutter.index)
-    → (whole : List ℕ) → HasCut whole h.taken r → AllIsListed old.sink later.sink whole
-feed_listed old now later r l m h w ends whole come =
-    let z = ends_as_feed whole (h.taken ++ waiting r) r.cutter come.cuts ends.0 ends.1 in (
-      feed_of z.0 (h.taken ++ waiting r),
-      z.2,
-      z.3,
-      h.text ++ w.lines,
-      (w.listed z.0 (subst (λ (o : Option Version). CanBe o z.0) (sym (come.version ∙ z.1)) refl)).listing,
-      received old.sink now.sink later.sink h.text w.lines h.out w.out.1,
-    )
-
--- and counted where they are rejected
-pub feed_rejected : (old now later : Devices) (r : FrameReader) (l m : Lister) → (h : HasShown old now r l) → ListsWaiting h.taken h.text r m now.sink later.sink → (r.cutter.kept ≡ []) × (2 ≤ r.cutter.index)
-    → (whole : List ℕ) → HasCut whole h.taken r → HasRejected m.rejected whole
-feed_rejected old now later r l m h w ends whole come =
-    let z = ends_as_feed whole (h.taken ++ waiting r) r.cutter come.cuts ends.0 ends.1 in
-    record { feed = feed_of z.0 (h.taken ++ waiting r); good = z.2; spelled = z.3; holds = (w.listed z.0 (subst (λ (o : Option Version). CanBe o z.0) (sym (come.version ∙ z.1)) refl)).rejected }
-
--- and the first that is rejected for its tags is found
-pub feed_forged : (old now later : Devices) (r : FrameReader) (l m : Lister) → (h : HasShown old now r l) → ListsWaiting h.taken h.text r m now.sink later.sink → (r.cutter.kept ≡ []) × (2 ≤ r.cutter.index)
-    → (whole : List ℕ) → HasCut whole h.taken r → HasForged m.forged whole
-feed_forged old now later r l m h w ends whole come =
-    let z = ends_as_feed whole (h.taken ++ waiting r) r.cutter come.cuts ends.0 ends.1 in
-    record { feed = feed_of z.0 (h.taken ++ waiting r); good = z.2; spelled = z.3; holds = (w.listed z.0 (subst (λ (o : Option Version). CanBe o z.0) (sym (come.version ∙ z.1)) refl)).forged }
-
--- what holds where all bytes came holds of those that the source gave, and of all that it had
-pub of_given : (old now later : Devices) (r : FrameReader) (l : Lister) (P : List ℕ → Type 0) → (h : HasShown old now r l) → later.source ≡ now.source → IfKnown old.source (λ whole. HasCut whole h.taken r)
-    → ((whole : List ℕ) → HasCut whole h.taken r → P whole) → OfGiven old.source later.source P
-of_given old now later r l P h same all so =
-    ((h.come.bytes, subst (λ (d : Device). Gives old.source d h.come.bytes) (sym same) h.come.gave, so h.come.bytes h.come.come), by_known old.source.bytes all)
+-- what holds of the bytes that came, where they are all, holds of those that the source gave, and of all that it had
+of_given : (start now : Device) (bytes : List ℕ) (P : List ℕ → Type 0) → Gives start now bytes → IfKnown start (λ whole. whole ≡ bytes) → P bytes → OfGiven start now P
+of_given start now bytes P gave all so = ((bytes, gave, so), by_known start.bytes all)
   where
-    by_known : (a : Option (List ℕ)) → IfSome a (λ whole. HasCut whole h.taken r) → IfSome a P
-    by_known None come = tt
-    by_known (Some whole) come = so whole come
+    by_known : (a : Option (List ℕ)) → IfSome a (λ whole. whole ≡ bytes) → IfSome a P
+    by_known None is = tt
+    by_known (Some whole) is = subst P (sym is) so
+
+-- of a feed whose bytes all came all frames are listed, and counted where they are rejected, and the first that is
+-- rejected for its tags is found
+pub all_shown : (old now later : Devices) (r : FrameReader) (l m : Lister) → (h : HasShown old now r l) → ListsWaiting h.taken h.text r m now.sink later.sink → (r.cutter.kept ≡ []) × (2 ≤ r.cutter.index) → later.source ≡ now.source
+    → IfKnown old.source (λ whole. whole ≡ h.bytes)
+    → OfGiven old.source later.source (AllIsListed old.sink later.sink) × OfGiven old.source later.source (HasRejected m.rejected) × OfGiven old.source later.source (HasForged m.forged)
+all_shown old now later r l m h w ends same all = (
+  of_given old.source later.source h.bytes (AllIsListed old.sink later.sink) gave all (feed_of z.0 frames, z.2, z.3, h.text ++ w.lines, listed.listing, received old.sink now.sink later.sink h.text w.lines h.out w.out.1),
+  of_given old.source later.source h.bytes (HasRejected m.rejected) gave all (record { feed = feed_of z.0 frames; good = z.2; spelled = z.3; holds = listed.rejected }),
+  of_given old.source later.source h.bytes (HasForged m.forged) gave all (record { feed = feed_of z.0 frames; good = z.2; spelled = z.3; holds = listed.forged }),
+)
+  where
+    frames : List Frame
+    frames = h.taken ++ waiting r
+
+    gave : Gives old.source later.source h.bytes
+    gave = subst (λ (d : Device). Gives old.source d h.bytes) (sym same) h.pulled.gave
+
+    z : (v : Version) × (r.cutter.version ≡ Some v) × IsFeed (feed_of v frames) × (h.bytes ≡ spelling (feed_of v frames))
+    z = ends_as_feed h.bytes frames r.cutter h.pulled.cuts ends.0 ends.1
+
+    listed : HasListed z.0 frames (h.text ++ w.lines) m
+    listed = w.listed z.0 (subst (λ (o : Option Version). CanBe o z.0) (sym z.1) refl)
 
 -- ---- faults
 
@@ -267,7 +259,7 @@ listing_of_front given offset taken ws text (Some v) (rest, begins, place) liste
   }) refl (listed v refl),
 )
 
-module _ (old now later : Devices) (taken : List Frame) (text : List ℕ) (r : FrameReader) (l : Lister) (given : List ℕ) (offset : ℕ) (front : AreFront given offset r.version (taken ++ waiting r)) (gave : Gives old.source later.source given)
+module _ (old now later : Devices) (taken : List Frame) (text : List ℕ) (r : FrameReader) (l : Lister) (given : List ℕ) (offset : ℕ) (front : AreFront given offset r.cutter.version (taken ++ waiting r)) (gave : Gives old.source later.source given)
     (once : FailsOnceAtMost old.source later.source) (listed : AreListed taken text r l) (works : Works old.sink now.sink) (out : Receives old.sink now.sink text) where
   -- frames that were to be listed are not
   pub waiting_fault : (f : Fault) → WaitingFails f taken text r now.sink later.sink → ListFails f old later
@@ -292,24 +284,24 @@ module _ (old now later : Devices) (taken : List Frame) (text : List ℕ) (r : F
         ),
       )
   waiting_fault fault.Memory (kept, none) =
-      let to = listing_of_front given offset taken (waiting r) text r.version front (λ v can. (listed v can).listing) in
+      let to = listing_of_front given offset taken (waiting r) text r.cutter.version front (λ v can. (listed v can).listing) in
       (once, kept ∙ works, (given, gave, (to.0, (text, to.1, Appends-kept old.sink.bytes now.sink.bytes later.sink.bytes text out none))))
 
   -- all frames before the fault are listed
   pub front_listed : (m : Lister) → ListsWaiting taken text r m now.sink later.sink → Works old.sink later.sink × Gave old.source later.source (IsListedTo offset old.sink later.sink)
   front_listed m w =
-      (w.out.0 ∙ works, (given, gave, (text ++ w.lines, listing_to given offset (taken ++ waiting r) (text ++ w.lines) r.version front (λ v can. (w.listed v can).listing), received old.sink now.sink later.sink text w.lines out w.out.1)))
+      (w.out.0 ∙ works, (given, gave, (text ++ w.lines, listing_to given offset (taken ++ waiting r) (text ++ w.lines) r.cutter.version front (λ v can. (w.listed v can).listing), received old.sink now.sink later.sink text w.lines out w.out.1)))
 
 -- before a fault that was read
-pub before_fault : (old now later : Devices) (r s : FrameReader) (l m : Lister) (found : FeedFault) (f : Fault) → (h : HasShown old now r l) → Refuses found old.source later.source × Gave old.source later.source (λ given. AreFront given found.offset s.version (h.taken ++ waiting s))
-    → ((v : Version) → CanBe s.version v → CanBe r.version v) → LeavesBy found f h.taken h.text s m now.sink later.sink → ListFails f old later
+pub before_fault : (old now later : Devices) (r s : FrameReader) (l m : Lister) (found : FeedFault) (f : Fault) → (h : HasShown old now r l) → Refuses found old.source later.source × Gave old.source later.source (λ given. AreFront given found.offset s.cutter.version (h.taken ++ waiting s))
+    → ((v : Version) → r.cutter.version ≡ Some v → s.cutter.version ≡ Some v) → LeavesBy found f h.taken h.text s m now.sink later.sink → ListFails f old later
 before_fault old now later r s l m found f h (refused, (given, gave, front)) stays leaves = by_fault f leaves
   where
     once : FailsOnceAtMost old.source later.source
     once = refuses_once found old.source later.source refused
 
     listed : AreListed h.taken h.text s l
-    listed v can = h.listed v (stays v can)
+    listed v can = h.listed v (can_stay r.cutter.version s.cutter.version stays v can)
 
     by_fault : (g : Fault) → LeavesBy found g h.taken h.text s m now.sink later.sink → ListFails g old later
     by_fault (fault.Feed g) (same, w) =
@@ -321,53 +313,34 @@ before_fault old now later r s l m found f h (refused, (given, gave, front)) sta
     by_fault (fault.Write written) fails = waiting_fault old now later h.taken h.text s l given found.offset front gave once listed h.works h.out (fault.Write written) fails
     by_fault fault.Memory fails = waiting_fault old now later h.taken h.text s l given found.offset front gave once listed h.works h.out fault.Memory fails
 
-own_front : (old now : Devices) (r : FrameReader) (l : Lister) → (h : HasShown old now r l) → AreFront h.come.bytes r.cutter.offset r.version (h.taken ++ waiting r)
-own_front old now r l h = subst (λ (t : List ℕ). AreFront t r.cutter.offset r.version (h.taken ++ waiting r)) (append-nil h.come.bytes) (front_here h.come.bytes h.taken r h.come.come [] r.cutter.offset r refl refl refl)
+own_front : (old now : Devices) (r : FrameReader) (l : Lister) → (h : HasShown old now r l) → AreFront h.bytes r.cutter.offset r.cutter.version (h.taken ++ waiting r)
+own_front old now r l h = front_here h.bytes (h.taken ++ waiting r) r.cutter r.cutter.offset h.pulled.cuts refl
 
 -- in the midst of the feed
 pub midst_fault : (old now later : Devices) (r : FrameReader) (l : Lister) (f : Fault) → (h : HasShown old now r l) → later.source ≡ now.source → WaitingFails f h.taken h.text r now.sink later.sink → ListFails f old later
 midst_fault old now later r l f h same fails =
-    waiting_fault old now later h.taken h.text r l h.come.bytes r.cutter.offset (own_front old now r l h) (subst (λ (d : Device). Gives old.source d h.come.bytes) (sym same) h.come.gave) (inl (subst (λ (d : Device). Works old.source d) (sym same) h.come.works)) h.listed h.works h.out f fails
+    waiting_fault old now later h.taken h.text r l h.bytes r.cutter.offset (own_front old now r l h) (subst (λ (d : Device). Gives old.source d h.bytes) (sym same) h.pulled.gave) (inl (subst (λ (d : Device). Works old.source d) (sym same) h.pulled.works)) h.listed h.works h.out f fails
 
 -- at the end of the feed
-pub end_fault : (old now later : Devices) (r : FrameReader) (l m : Lister) (f : Fault) → (h : HasShown old now r l) → later.source ≡ now.source → IfKnown old.source (λ whole. HasCut whole h.taken r) → EndsBy f h.taken h.text r m now.sink later.sink → ListFails f old later
-end_fault old now later r l m f h same all ends = by_fault f ends
-  where
-    gave : Gives old.source later.source h.come.bytes
-    gave = subst (λ (d : Device). Gives old.source d h.come.bytes) (sym same) h.come.gave
-
-    works : Works old.source later.source
-    works = subst (λ (d : Device). Works old.source d) (sym same) h.come.works
-
-    cut_short : (found : FeedFault) → EndsShort r.cutter found → (a : Option (List ℕ)) → IfSome a (λ whole. HasCut whole h.taken r) → IfSome a (λ whole. HasFault whole found)
-    cut_short found short None come = tt
-    cut_short found short (Some whole) come = ends_cut_short whole (h.taken ++ waiting r) r.cutter found come.cuts short
-
-    by_fault : (g : Fault) → EndsBy g h.taken h.text r m now.sink later.sink → ListFails g old later
-    by_fault (fault.Feed found) (short, w) =
-        let refused : Refuses found old.source later.source = subst (λ (x : FeedFault). Refuses x old.source later.source) (sym short.is) (works, (h.come.bytes, gave, subst (HasFault h.come.bytes) short.is (ends_cut_short h.come.bytes (h.taken ++ waiting r) r.cutter found h.come.come.cuts short)), subst (λ (x : FeedFault). IfKnown old.source (λ whole. HasFault whole x)) short.is (cut_short found short old.source.bytes all)) in
-        let listed = front_listed old now later h.taken h.text r l h.come.bytes r.cutter.offset (own_front old now r l h) gave (inl works) h.listed h.works h.out m w in
-        (refused, listed.0, subst (λ (n : ℕ). Gave old.source later.source (IsListedTo n old.sink later.sink)) (sym (ap (λ (x : FeedFault). x.offset) short.is)) listed.1)
-    by_fault (fault.Collision id) no_way = absurd no_way
-    by_fault (fault.Equivocation round author first second) no_way = absurd no_way
-    by_fault (fault.Unfinished place) no_way = absurd no_way
-    by_fault (fault.Write written) fails = waiting_fault old now later h.taken h.text r l h.come.bytes r.cutter.offset (own_front old now r l h) gave (inl works) h.listed h.works h.out (fault.Write written) fails
-    by_fault fault.Memory fails = waiting_fault old now later h.taken h.text r l h.come.bytes r.cutter.offset (own_front old now r l h) gave (inl works) h.listed h.works h.out fault.Memory fails
-
--- memory ran out while a piece was read
-pub memory_fault : (old now later : Devices) (r : FrameReader) (l : Lister) → (h : HasShown old now r l) → later.sink ≡ now.sink → Works old.source later.source × Gave old.source later.source (λ given. (bytes : List ℕ) × (more : List ℕ) × (given ≡ bytes ++ more) × HasCut bytes h.taken r)
-    → ListFails fault.Memory old later
-memory_fault old now later r l h same (works, (given, gave, (bytes, more, is, come))) =
-    let front : AreFront given r.cutter.offset r.version (h.taken ++ waiting r) = subst (λ (t : List ℕ). AreFront t r.cutter.offset r.version (h.taken ++ waiting r)) (sym is) (front_here bytes h.taken r come more r.cutter.offset r refl refl refl) in
-    let to = listing_of_front given r.cutter.offset h.taken (waiting r) h.text r.version front (λ v can. (h.listed v can).listing) in
-    (inl works, subst (λ (d : Device). Works old.sink d) (sym same) h.works, (given, gave, (to.0, (h.text, to.1, subst (λ (d : Device). Receives old.sink d h.text) (sym same) h.out))))
+pub end_fault : (old now later : Devices) (r : FrameReader) (l m : Lister) (f : Fault) → (h : HasShown old now r l) → later.source ≡ now.source → IfKnown old.source (λ whole. whole ≡ h.bytes) → EndsBy f h.taken h.text r m now.sink later.sink → ListFails f old later
+end_fault old now later r l m (fault.Feed found) h same all (short, w) =
+    let refused : Refuses found old.source later.source = subst (λ (d : Device). Refuses found old.source d) (sym same) (ended_short old.source now.source h.bytes (h.taken ++ waiting r) r.cutter found h.pulled all short) in
+    let gave = subst (λ (d : Device). Gives old.source d h.bytes) (sym same) h.pulled.gave in
+    let listed = front_listed old now later h.taken h.text r l h.bytes r.cutter.offset (own_front old now r l h) gave (refuses_once found old.source later.source refused) h.listed h.works h.out m w in
+    (refused, listed.0, subst (λ (n : ℕ). Gave old.source later.source (IsListedTo n old.sink later.sink)) (sym (ap (λ (x : FeedFault). x.offset) short.is)) listed.1)
+end_fault old now later r l m (fault.Collision id) h same all no_way = absurd no_way
+end_fault old now later r l m (fault.Equivocation round author first second) h same all no_way = absurd no_way
+end_fault old now later r l m (fault.Unfinished place) h same all no_way = absurd no_way
+end_fault old now later r l m (fault.Write written) h same all fails = midst_fault old now later r l (fault.Write written) h same fails
+end_fault old now later r l m fault.Memory h same all fails = midst_fault old now later r l fault.Memory h same fails
 
 -- before the first byte
-pub none_shown : (old : Devices) (r : FrameReader) (l : Lister) → HasCut [] [] r → ((v : Version) → HasListed v [] [] l) → l.written ≡ 0 → HasShown old old r l
-none_shown old r l come listed written = record {
+pub none_shown : (old : Devices) (r : FrameReader) (l : Lister) → r.cutter ≡ fresh → r.frames.items ≡ [] → ((v : Version) → HasListed v [] [] l) → l.written ≡ 0 → HasShown old old r l
+none_shown old r l begun none listed written = record {
   taken = [];
   text = [];
-  come = none_read old.source r come;
+  bytes = [];
+  pulled = subst (λ (fs : List (Kind × Vec ℕ)). IsPulled old.source old.source [] (frames_in fs) r.cutter) (sym none) (none_pulled old.source r.cutter begun);
   listed = λ v can. listed v;
   written = written;
   works = refl;

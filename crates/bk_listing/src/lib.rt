@@ -9,7 +9,6 @@ mod forged;
 mod lines;
 mod lister;
 mod listing;
-mod reader;
 mod rows;
 
 pub use listing::{Listed, list_frames};

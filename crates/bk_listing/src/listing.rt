@@ -11,8 +11,8 @@ ghost use Rattle.bk_listing.specs.Answers.{AllIsListed, HasForged, HasRejected, 
 ghost use Rattle.bk_listing.specs.private.Listed.{CanList, EndsBy, HasShown, IsEmptied, LeavesBy, ListsWaiting, WaitingFails};
 
 use crate::lister::Lister;
-use crate::reader::{FrameReader, Unread};
-use bk_frames::{FeedFault, PIECE, Sink, Source};
+use bk_base::Kind;
+use bk_frames::{Cutter, FeedFault, PIECE, Sink, Source, pull_frames};
 use bk_results::{Fault, WrongTag};
 use std::alloc::Global;
 use std::mem::replace;
@@ -25,6 +25,13 @@ pub struct Listed {
     pub rejected: u64,
     /// The first certificate that is rejected for its tags, and its first signer whose tag is wrong.
     pub forged: Option<WrongTag>,
+}
+
+/// The frames of a feed that came and wait to be listed.
+#[derive(Drop)]
+pub(crate) struct FrameReader {
+    cutter: Cutter,
+    frames: Vec<(Kind, Vec<u8>)>,
 }
 
 // How many bytes wait before their frames are listed: enough to share among processors.
@@ -50,7 +57,7 @@ fn list_waiting<R: Threads + Sync, K: Sink>(
         → WaitingFails f taken text reader.old (K.state sink.old) (K.state sink.new)) }
 {
     let frames = replace(&mut reader.frames, Vec::new(alloc));
-    let Some(version) = reader.version else {
+    let Some(version) = reader.cutter.version() else {
         return Ok(());
     };
     lister.list(rt, sink, version, &frames)?;
@@ -141,17 +148,15 @@ fn list_all<R: Threads + Sync, S: Source, K: Sink>(
 {
     // The label names the loop for its proof.
     'pieces: loop {
-        let count = match reader.pull(source, piece) {
+        let count = match pull_frames(source, piece, &mut reader.cutter, &mut reader.frames) {
             Ok(count) => count,
-            Err(Unread::Memory) => return Err(Fault::Memory),
-            Err(Unread::Feed(found)) => {
-                return Err(list_before(rt, alloc, sink, reader, lister, found));
-            }
+            Err(found) => return Err(list_before(rt, alloc, sink, reader, lister, found)),
         };
         if count == 0 {
             return list_last(rt, alloc, sink, reader, lister);
         }
-        if is_due(reader.waiting(lister.place.offset), count, piece.len()) {
+        let waiting = reader.cutter.offset().saturating_sub(lister.place.offset);
+        if is_due(waiting, count, piece.len()) {
             list_waiting(rt, alloc, sink, reader, lister)?;
         }
     }
@@ -187,7 +192,10 @@ pub fn list_frames<R: Threads + Sync, S: Source, K: Sink>(
         (devices (S.state source.new) (K.state sink.new))) }
 {
     let mut piece = vec![in alloc; 0u8; PIECE]?;
-    let mut reader = FrameReader::new(alloc);
+    let mut reader = FrameReader {
+        cutter: Cutter::new(alloc),
+        frames: Vec::new(alloc),
+    };
     let mut lister = Lister::new(alloc);
     list_all(
         rt,

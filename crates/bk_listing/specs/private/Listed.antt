@@ -1,19 +1,24 @@
 -- What was read of a source and listed to a sink.
-use Rattle.std.specs.Prelude.{◌≡◌, ℕ, ◌+◌, ◌<◌, List, [], ◌++◌, length, take, Some, None}
+use Rattle.std.specs.Prelude.{◌≡◌, ℕ, ◌+◌, ◌<◌, List, [], ◌++◌, length, take, Option, Some, None}
 use Rattle.bk_base.specs.declared.version.Version.{Version}
 use Rattle.bk_frames.specs.declared.fault.FeedFault.{FeedFault}
 use Rattle.bk_frames.specs.Device.{Device, Works, Fails, Receives}
 use Rattle.bk_frames.specs.Writing.{Writes}
 use Rattle.bk_base.specs.Feed.{Frame, AreGoodFrom}
 use Rattle.bk_frames.specs.Cutting.{EndsShort, frames_in}
+use Rattle.bk_frames.specs.Reading.{IsPulled}
 use Rattle.bk_results.specs.declared.fault.Fault.{Fault}
 use Rattle.bk_results.specs.declared.fault.Fault.TheVariants as fault
 use Rattle.bk_results.specs.Devices.{Devices, IsUntouched}
 use Rattle.bk_listing.specs.Listing.{IsListing}
-use Rattle.bk_listing.specs.declared.reader.FrameReader.{FrameReader}
+use Rattle.bk_listing.specs.declared.listing.FrameReader.{FrameReader}
 use Rattle.bk_listing.specs.declared.lister.Lister.{Lister}
-use Rattle.bk_listing.specs.private.Reading.{CanBe, HasRead}
 use Rattle.bk_listing.specs.private.FrameRow.{HasListed}
+
+-- a version that is known, or any while none is
+abbrev pub CanBe : Option Version → Version → Type 0
+CanBe None version = Unit {0}
+CanBe (Some known) version = known ≡ version
 
 -- the frames that wait
 abbrev pub waiting : FrameReader → List Frame
@@ -21,21 +26,18 @@ waiting r = frames_in r.frames.items
 
 -- these frames are listed in this text, in the version of the feed, once that is known
 abbrev pub AreListed : List Frame → List ℕ → FrameReader → Lister → Type 0
-AreListed taken text r l = (v : Version) → CanBe r.version v → HasListed v taken text l
+AreListed taken text r l = (v : Version) → CanBe r.cutter.version v → HasListed v taken text l
 
 -- after these frames those that wait can be listed
 pub record CanList (taken : List Frame) (text : List ℕ) (r : FrameReader) (l : Lister) : Type 0 where
   pub listed : AreListed taken text r l
   pub written : l.written ≡ length text
-  pub good : (v : Version) → r.version ≡ Some v → AreGoodFrom v 0 4 (taken ++ waiting r)
-  pub none : r.version ≡ None → waiting r ≡ []
+  pub good : (v : Version) → r.cutter.version ≡ Some v → AreGoodFrom v 0 4 (taken ++ waiting r)
+  pub none : r.cutter.version ≡ None → waiting r ≡ []
 
--- no frame waits any more, and all else is as it was
+-- no frame waits any more
 pub record IsEmptied (old new : FrameReader) : Type 0 where
   pub cutter : new.cutter ≡ old.cutter
-  pub version : new.version ≡ old.version
-  pub head : new.head ≡ old.head
-  pub seen : new.seen ≡ old.seen
   pub none_waits : new.frames.items ≡ []
 
 -- the frames that waited are listed: after a text that is out these lines are
@@ -48,7 +50,7 @@ pub record ListsWaiting (taken : List Frame) (text : List ℕ) (r : FrameReader)
 -- why they are not: the sink failed in these lines, or memory ran out and nothing more is out
 abbrev pub WaitingFails : Fault → List Frame → List ℕ → FrameReader → Device → Device → Type 0
 WaitingFails (fault.Write written) taken text r old new =
-    Fails old new × (v : Version) × (r.version ≡ Some v) × (lines : List ℕ) × IsListing v (taken ++ waiting r) (text ++ lines)
+    Fails old new × (v : Version) × (r.cutter.version ≡ Some v) × (lines : List ℕ) × IsListing v (taken ++ waiting r) (text ++ lines)
     × (part : ℕ) × (written ≡ length text + part) × (part < length lines) × Receives old new (take part lines)
 WaitingFails fault.Memory taken text r old new = IsUntouched old new
 WaitingFails other taken text r old new = ⊥
@@ -72,7 +74,8 @@ EndsBy other taken text r l old new = ⊥
 pub record HasShown (old now : Devices) (r : FrameReader) (l : Lister) : Type 0 where
   pub taken : List Frame
   pub text : List ℕ
-  pub come : HasRead old.source now.source taken r
+  pub bytes : List ℕ
+  pub pulled : IsPulled old.source now.source bytes (taken ++ waiting r) r.cutter
   pub listed : AreListed taken text r l
   pub written : l.written ≡ length text
   pub works : Works old.sink now.sink

@@ -14,7 +14,7 @@ list_all-requires-clause-some g c = λ lives within. rw c.as_mut_slice.ensures.v
 
 pub list_all-requires-clause-first : goal.list_all-requires-clause-first
 list_all-requires-clause-first g c = λ lives within.
-    none_shown (devices (g.S.Source.state c.args.source.now) (g.K.Sink.state c.args.sink.now)) c.new-reader.result c.new-lister.result c.new-reader.ensures.cut c.new-lister.ensures.listed c.new-lister.ensures.written
+    none_shown (devices (g.S.Source.state c.args.source.now) (g.K.Sink.state c.args.sink.now)) (record { cutter = c.new.result; frames = c.new-2.result }) c.new-lister.result c.new.ensures c.new-2.ensures.items c.new-lister.ensures.listed c.new-lister.ensures.written
 
 pub returns-clause-rejected : goal.returns-clause-rejected
 returns-clause-rejected g c = c.in_ok-list_all.ensures.rejected
