@@ -1,10 +1,10 @@
 //! Certificates at the boundary of a rule, in committees of 1 to 128 members, by heads and by weights.
 
 use crate::certs::place;
-use crate::checks::{GOOD, WEIGHTS, found, made};
-use crate::members::{EVERYBODY, Members};
+use crate::checks::{WEIGHTS, finds, made};
+use crate::members::{EVERYBODY, Members, heads, weighted};
+use crate::verdicts::GOOD;
 use anyhow::{Result, bail};
-use bk_base::Version;
 use bk_committee::Committee;
 use bk_trial_kit::Tally;
 use std::alloc::Global;
@@ -15,7 +15,7 @@ type Case<'a> = (u32, u8, &'a [u8], &'a [u8], u8);
 fn is_found(alloc: Global, committee: &Committee, all: &Committee, case: Case<'_>) -> Result<bool> {
     let (round, author, parents, signers, wanted) = case;
     let bytes = made(alloc, all, place(round, author), parents, signers)?;
-    Ok(found(alloc, committee, &bytes)? == wanted)
+    finds(alloc, committee, &bytes, wanted)
 }
 
 fn try_each<R>(
@@ -56,6 +56,8 @@ where
 // Three of four are a quorum. The last two rows break two rules.
 const FOUR: &[Case<'static>] = &[
     (1, 0, &[], &[0, 1, 2], GOOD),
+    (1, 3, &[], &[0, 1, 2], GOOD),
+    (1, 3, &[], &[0, 1, 2, 3], GOOD),
     (1, 3, &[], &[1, 2, 3], GOOD),
     (1, 4, &[], &[0, 1, 2], 1),
     (0, 0, &[], &[0, 1, 2], 2),
@@ -69,8 +71,10 @@ const FOUR: &[Case<'static>] = &[
     (2, 0, &[1, 3, 2], &[0, 1, 2], 4),
     (2, 0, &[1, 2, 2], &[0, 1, 2], 4),
     (1, 0, &[], &[0, 1, 2, 4], 5),
+    (2, 0, &[1, 2, 3], &[0, 1, 2, 4], 5),
     (1, 0, &[], &[127], 5),
     (1, 0, &[], &[0, 1], 6),
+    (2, 0, &[1, 2, 3], &[0, 3], 6),
     (0, 9, &[], &[0, 1], 1),
     (2, 0, &[3, 2, 1], &[0, 9], 4),
 ];
@@ -106,6 +110,7 @@ const WEIGHED: &[Case<'static>] = &[
     (2, 0, &[2, 1], &[0, 3], 4),
     (2, 0, &[1], &[0, 3, 4], 5),
     (2, 0, &[1], &[0], 6),
+    (2, 0, &[1], &[1, 2, 3], 6),
     (2, 0, &[1], &[], 6),
     (1, 1, &[], &[0, 1], GOOD),
     (1, 1, &[], &[1, 2, 3], 6),
@@ -114,20 +119,6 @@ const WEIGHED: &[Case<'static>] = &[
     (2, 1, &[], &[0, 1], 3),
     (2, 1, &[1, 2, 3, 4, 5], &[0, 1], 3),
 ];
-
-fn heads(weights: &[u32]) -> Members<'_> {
-    Members {
-        version: Version::One,
-        weights,
-    }
-}
-
-fn weighted(weights: &[u32]) -> Members<'_> {
-    Members {
-        version: Version::Two,
-        weights,
-    }
-}
 
 fn try_few<R>(rt: &R, all: &Committee, tally: &mut Tally)
 where
@@ -312,6 +303,40 @@ where
 {
     try_few(rt, all, tally);
     try_many(rt, all, tally);
+    try_bytes(rt, tally);
+}
+
+// ---- bytes
+
+// One byte more, a bit of the last tag turned, and one byte less.
+fn are_bytes_found(alloc: Global, four: &Committee) -> Result<[bool; 3]> {
+    let mut bytes = made(alloc, four, place(1, 3), &[], &[0, 1, 2])?;
+    bytes.push(0)?;
+    let is_more = finds(alloc, four, &bytes, 0)?;
+    let _last = bytes.pop();
+    if let Some(last) = bytes.last_mut() {
+        *last ^= 1;
+    }
+    let is_turned = finds(alloc, four, &bytes, 7)?;
+    let _last = bytes.pop();
+    let is_less = finds(alloc, four, &bytes, 0)?;
+    Ok([is_more, is_turned, is_less])
+}
+
+fn note_bytes<R: Eprint>(rt: &R, found: Result<[bool; 3]>, tally: &mut Tally) {
+    for is_right in found.unwrap_or([false; 3]) {
+        tally.note(rt, "a byte more, turned or less", is_right);
+    }
+}
+
+fn try_bytes<R>(rt: &R, tally: &mut Tally)
+where
+    R: AllocGlobal + Eprint,
+{
+    match heads(&[1; 4]).committee(rt.alloc()) {
+        Ok(four) => note_bytes(rt, are_bytes_found(rt.alloc(), &four), tally),
+        Err(_) => tally.miss(rt),
+    }
 }
 
 /// Certificates that just break no rule, and those that just break one.

@@ -1,24 +1,22 @@
-//! Certificates that break any of the eight rules, and what a check finds in them.
+//! Certificates that break any of the eight rules, and what the plain body and a check find in them.
 
 use crate::certs::{Parts, place, sealed};
-use crate::members::{EVERYBODY, Members};
+use crate::members::{EVERYBODY, Members, weighted};
+use crate::verdicts::{GOOD, found};
 use anyhow::Result;
 use bk_base::Version;
 use bk_cert::CertRef;
-use bk_certcheck::{Verdict, check, check_all};
+use bk_certcheck::{Verdict, check_all};
 use bk_committee::Committee;
 use bk_digest::Digest32;
 use bk_trial_kit::Tally;
 use std::alloc::Global;
 use std::thread::Threads;
 
-/// What a check finds in a certificate that breaks no rule.
-pub(crate) const GOOD: u8 = 8;
-
 /// The weights of four members, of which 6 are a quorum.
 pub(crate) const WEIGHTS: [u32; 4] = [5, 1, 1, 1];
 
-/// The number of the rule that is broken.
+/// The number of the rule that the product finds broken.
 pub(crate) fn number(verdict: &Verdict) -> u8 {
     match verdict {
         Verdict::Good(_) => GOOD,
@@ -118,14 +116,14 @@ fn all_breaking(alloc: Global, version: Version) -> Result<Vec<Vec<u8>>> {
     Ok(certs)
 }
 
-/// The number of the rule that a check finds broken.
-pub(crate) fn found(alloc: Global, committee: &Committee, bytes: &[u8]) -> Result<u8> {
-    let verdict = check(alloc, committee, bytes)?;
-    Ok(number(&verdict))
-}
-
-fn finds(alloc: Global, committee: &Committee, bytes: &[u8], wanted: u8) -> Result<bool> {
-    Ok(found(alloc, committee, bytes)? == wanted)
+/// Whether this rule is found broken, by the plain body and by the product.
+pub(crate) fn finds(
+    alloc: Global,
+    committee: &Committee,
+    bytes: &[u8],
+    wanted: u8,
+) -> Result<bool> {
+    Ok(found(alloc, committee, bytes)? == Some(wanted))
 }
 
 // Each certificate alone.
@@ -231,7 +229,7 @@ fn finds_turned(
 ) -> Result<bool> {
     let bytes = turned(alloc, good, index)?;
     let found = found(alloc, committee, &bytes)?;
-    Ok(found >= least && found <= most)
+    Ok(found.is_some_and(|rule| rule >= least && rule <= most))
 }
 
 // Of a good certificate each byte is turned in turn: no byte can be changed, though not each is covered by a tag.
@@ -270,10 +268,7 @@ fn try_turned<R>(rt: &R, tally: &mut Tally)
 where
     R: AllocGlobal + Eprint,
 {
-    let four = Members {
-        version: Version::Two,
-        weights: &WEIGHTS,
-    };
+    let four = weighted(&WEIGHTS);
     match four.committee(rt.alloc()) {
         Ok(committee) => try_one(rt, &committee, tally),
         Err(_) => tally.miss(rt),

@@ -1,231 +1,303 @@
 //! Graphs of certificates drawn at random.
 
-use crate::certs::place;
+use crate::certs::{Parts, id_of, place, sealed};
 use crate::members::Members;
-use crate::row::{Row, row_id};
-use crate::set::Set;
 use anyhow::Result;
-use bk_base::Version;
 use bk_cert::CertRef;
+use bk_committee::Committee;
 use bk_digest::Digest32;
 use bk_trial_kit::Chance;
 use std::alloc::Global;
 
 /// How many batches there are.
-pub(crate) const BATCHES: u64 = 40;
+pub(crate) const BATCHES: u8 = 20;
 
 /// Which parents a certificate names.
 #[derive(Clone, Copy, PartialEq, Eq)]
 pub(crate) enum Style {
-    /// Most that are admitted.
+    /// Most that were made.
     Most,
     /// As many as are a quorum, or nearly, so that votes are scarce.
     Tight,
     /// The same in rounds of few certificates: those of the heavy members, of the leader, and of some others.
     Few,
-    /// Any, also of certificates that nobody made.
+    /// Two thirds of those that were made.
     Any,
 }
 
-// Whether a member makes a certificate in a round.
-fn comes(chance: &mut Chance, members: Members<'_>, style: Style, at: CertRef) -> bool {
-    if style != Style::Few || members.leads(at.author, at.round) {
-        return !chance.is_one_in(12);
-    }
-    members.weight(at.author) > 1 || chance.is_one_in(80)
+/// Whose certificates are drawn, with keys for any number that a signer can have.
+#[derive(Clone, Copy)]
+pub(crate) struct Drawing<'a> {
+    pub(crate) members: Members<'a>,
+    pub(crate) all: &'a Committee,
+    pub(crate) style: Style,
 }
 
-// Most of a set.
-fn most_of(chance: &mut Chance, members: Members<'_>, set: Set) -> Set {
-    let mut some = Set::none();
-    for author in 0..members.count() {
-        if set.has(author) && !chance.is_one_in(4) {
-            some.insert(author);
-        }
-    }
-    some
+/// A certificate: where it stands, its id and its bytes.
+#[derive(Drop)]
+pub(crate) struct Drawn {
+    pub(crate) at: CertRef,
+    pub(crate) id: Digest32,
+    pub(crate) bytes: Vec<u8>,
 }
 
-// Most that are admitted, at times also one that waits or that nobody made. It is mostly a quorum.
-fn most(chance: &mut Chance, members: Members<'_>, admitted: Set) -> Set {
-    let mut all = admitted;
-    if chance.is_one_in(16) {
-        all.insert(chance.below(u64::from(members.count().max(1))) as u8);
-    }
-    let some = most_of(chance, members, all);
-    if members.is_quorum(some) || chance.is_one_in(8) {
-        return some;
-    }
-    all
+// A certificate of the round before.
+#[derive(Clone, Copy)]
+struct Made {
+    author: u8,
+    id: Digest32,
 }
 
-// Any but one in four.
-fn any(chance: &mut Chance, members: Members<'_>) -> Set {
-    let mut all = Set::none();
-    for author in 0..members.count() {
-        all.insert(author);
-    }
-    most_of(chance, members, all)
+/// The payload of a batch.
+pub(crate) fn payload(batch: u8) -> [u8; 3] {
+    [batch; 3]
 }
 
-// One that is admitted, if it leads its round, one time in three.
-fn leader(chance: &mut Chance, members: Members<'_>, round: u32, admitted: Set) -> Option<u8> {
-    for author in 0..members.count() {
-        if members.leads(author, round) && admitted.has(author) && chance.is_one_in(3) {
-            return Some(author);
-        }
-    }
-    None
+/// The digest of a batch.
+pub(crate) fn digest(batch: u8) -> Digest32 {
+    Digest32::of(&payload(batch))
 }
 
-// From a drawn one on, as many as are a quorum with these, and up to three more. The leader of their round comes last.
-fn filled(chance: &mut Chance, members: Members<'_>, round: u32, admitted: Set, some: Set) -> Set {
-    let count = u64::from(members.count().max(1));
+/// The id of a certificate that nobody made.
+pub(crate) fn absent_id(author: u8) -> Digest32 {
+    Digest32::of(&[author; 5])
+}
+
+// ---- parents
+
+fn takes(chance: &mut Chance, style: Style, is_enough: bool) -> bool {
+    match style {
+        Style::Most => !chance.is_one_in(10),
+        Style::Tight | Style::Few => !is_enough || chance.is_one_in(4),
+        Style::Any => !chance.is_one_in(3),
+    }
+}
+
+// The parents of a certificate, and whether they ascend and are a quorum of the round before.
+#[derive(Drop)]
+struct Parents {
+    ids: Vec<Digest32>,
+    are_sound: bool,
+}
+
+// Those of a round, from a drawn one on. The leader of an odd round comes last.
+fn in_turn(
+    alloc: Global,
+    chance: &mut Chance,
+    drawing: Drawing<'_>,
+    round: u32,
+    before: &[Made],
+) -> Result<Vec<Made>> {
+    let count = (before.len() as u64).max(1);
     let first = chance.below(count);
-    let mut more = chance.below(4);
-    let mut set = some;
+    let mut turned = Vec::new(alloc);
     for may_lead in [false, true] {
         for step in 0..count {
-            let author = (first.wrapping_add(step) % count) as u8;
-            if !admitted.has(author)
-                || set.has(author)
-                || members.leads(author, round) != may_lead
-            {
-                continue;
-            }
-            if members.is_quorum(set) {
-                if more == 0 || may_lead {
-                    return set;
+            let index = (first.wrapping_add(step) % count) as usize;
+            if let Some(made) = before.get(index) {
+                if drawing.members.leads(made.author, round) == may_lead {
+                    turned.push(*made)?;
                 }
-                more -= 1;
             }
-            set.insert(author);
         }
     }
-    set
+    Ok(turned)
 }
 
-// Takes the first one out of a set, and may put another in.
-fn spoiled(chance: &mut Chance, members: Members<'_>, set: Set) -> Set {
-    let mut left = Set::none();
-    let mut is_first = true;
-    for author in 0..members.count() {
-        if set.has(author) {
-            if !is_first {
-                left.insert(author);
-            }
-            is_first = false;
-        }
-    }
-    if chance.is_one_in(2) {
-        left.insert(chance.below(u64::from(members.count().max(1))) as u8);
-    }
-    left
-}
-
-// As many as are a quorum, and at times others.
-fn tight(
+// Some of these, which are of the round before.
+fn some_of(
+    alloc: Global,
     chance: &mut Chance,
-    members: Members<'_>,
-    style: Style,
+    drawing: Drawing<'_>,
+    turned: &[Made],
+) -> Result<Parents> {
+    let mut ids = Vec::new(alloc);
+    let mut sum = 0u64;
+    for made in turned {
+        let is_enough = sum >= drawing.members.quorum();
+        if takes(chance, drawing.style, is_enough) {
+            ids.push(made.id)?;
+            sum = sum.saturating_add(drawing.members.weight(made.author));
+        }
+    }
+    let are_sound = sum >= drawing.members.quorum();
+    Ok(Parents { ids, are_sound })
+}
+
+// All of the round before.
+fn all_of(alloc: Global, drawing: Drawing<'_>, before: &[Made]) -> Result<Parents> {
+    let mut ids = Vec::new(alloc);
+    let mut sum = 0u64;
+    for made in before {
+        ids.push(made.id)?;
+        sum = sum.saturating_add(drawing.members.weight(made.author));
+    }
+    let are_sound = sum >= drawing.members.quorum();
+    Ok(Parents { ids, are_sound })
+}
+
+// Some of a round, mostly a quorum where there is one.
+fn enough_of(
+    alloc: Global,
+    chance: &mut Chance,
+    drawing: Drawing<'_>,
+    round: u32,
+    before: &[Made],
+) -> Result<Parents> {
+    let turned = in_turn(alloc, chance, drawing, round, before)?;
+    let some = some_of(alloc, chance, drawing, &turned)?;
+    if some.are_sound || chance.is_one_in(8) {
+        return Ok(some);
+    }
+    all_of(alloc, drawing, before)
+}
+
+// The same, and at times one that nobody made. Mostly they ascend.
+fn draw_parents(
+    alloc: Global,
+    chance: &mut Chance,
+    drawing: Drawing<'_>,
+    round: u32,
+    before: &[Made],
+) -> Result<Parents> {
+    let Parents {
+        mut ids,
+        mut are_sound,
+    } = enough_of(alloc, chance, drawing, round, before)?;
+    if chance.is_one_in(40) {
+        ids.push(absent_id(0))?;
+        are_sound = false;
+    }
+    if chance.is_one_in(60) {
+        are_sound = false;
+    } else {
+        ids.sort()?;
+    }
+    Ok(Parents { ids, are_sound })
+}
+
+// ---- certificates
+
+// None to three batches.
+fn names(alloc: Global, chance: &mut Chance) -> Result<Vec<Digest32>> {
+    let mut names = Vec::new(alloc);
+    for _ in 0..chance.below(4) {
+        names.push(digest(chance.below(u64::from(BATCHES)) as u8))?;
+    }
+    Ok(names)
+}
+
+// The certificate of a place with these parents.
+fn drawn_cert(
+    alloc: Global,
+    chance: &mut Chance,
+    drawing: Drawing<'_>,
     at: CertRef,
-    admitted: Set,
-) -> Set {
+    parents: &[Digest32],
+) -> Result<Drawn> {
+    let batches = names(alloc, chance)?;
+    let parts = Parts {
+        at,
+        batches: &batches,
+        parents,
+    };
+    let signers = drawing.members.signers(alloc)?;
+    let bytes = sealed(alloc, drawing.all, parts, &signers)?;
+    let id = id_of(alloc, parts)?;
+    Ok(Drawn { at, id, bytes })
+}
+
+// The parents of a certificate of this place, which in round 1 are none.
+fn parents_at(
+    alloc: Global,
+    chance: &mut Chance,
+    drawing: Drawing<'_>,
+    at: CertRef,
+    before: &[Made],
+) -> Result<Parents> {
+    if at.round == 1 {
+        return Ok(Parents {
+            ids: Vec::new(alloc),
+            are_sound: true,
+        });
+    }
     let round = at.round.saturating_sub(1);
-    let mut some = Set::none();
-    if let Some(author) = leader(chance, members, round, admitted) {
-        some.insert(author);
-    }
-    let set = filled(chance, members, round, admitted, some);
-    let is_steady = style == Style::Few && members.weight(at.author) > 1;
-    if !is_steady && chance.is_one_in(12) {
-        return spoiled(chance, members, set);
-    }
-    set
+    draw_parents(alloc, chance, drawing, round, before)
 }
 
-fn parents(
+// Draws a certificate of a place, and says what the next round can name: seldom one that is not sound.
+fn draw_place(
+    alloc: Global,
     chance: &mut Chance,
-    members: Members<'_>,
-    style: Style,
+    drawing: Drawing<'_>,
     at: CertRef,
-    admitted: Set,
-) -> Set {
-    match style {
-        Style::Most => most(chance, members, admitted),
-        Style::Tight | Style::Few => tight(chance, members, style, at, admitted),
-        Style::Any => any(chance, members),
+    before: &[Made],
+    certs: &mut Vec<Drawn>,
+) -> Result<Option<Digest32>> {
+    let parents = parents_at(alloc, chance, drawing, at, before)?;
+    let drawn = drawn_cert(alloc, chance, drawing, at, &parents.ids)?;
+    let id = drawn.id;
+    certs.push(drawn)?;
+    if parents.are_sound || chance.is_one_in(5) {
+        Ok(Some(id))
+    } else {
+        Ok(None)
     }
 }
 
-// Whether a certificate with these parents breaks no rule: in version One they are a quorum.
-fn is_good(members: Members<'_>, round: u32, parents: Set) -> bool {
-    if round == 1 {
-        return true;
+// Whether a member makes a certificate in a round.
+fn comes(chance: &mut Chance, drawing: Drawing<'_>, at: CertRef) -> bool {
+    let members = drawing.members;
+    if drawing.style != Style::Few || members.leads(at.author, at.round) {
+        return !chance.is_one_in(14);
     }
-    match members.version {
-        Version::One => members.is_quorum(parents),
-        Version::Two => !parents.is_empty(),
-    }
-}
-
-// A batch, one time in three.
-fn name(chance: &mut Chance) -> Option<u8> {
-    if chance.is_one_in(3) {
-        return Some(chance.below(BATCHES) as u8);
-    }
-    None
+    members.weight(at.author) > 1 || chance.is_one_in(80)
 }
 
 // Draws the certificates of a round.
 fn draw_round(
     alloc: Global,
     chance: &mut Chance,
-    members: Members<'_>,
-    style: Style,
+    drawing: Drawing<'_>,
     round: u32,
-    admitted: Set,
-    rows: &mut Vec<Row>,
-) -> Result<Set> {
-    let mut now = Set::none();
-    for author in 0..members.count() {
+    before: &[Made],
+    certs: &mut Vec<Drawn>,
+) -> Result<Vec<Made>> {
+    let mut now = Vec::new(alloc);
+    for author in 0..drawing.members.count() {
         let at = place(round, author);
-        if !comes(chance, members, style, at) {
+        if !comes(chance, drawing, at) {
             continue;
         }
-        let mut row = Row {
-            at,
-            parents: Set::none(),
-            names: [name(chance), name(chance)],
-            id: Digest32::new([0; 32]),
-        };
-        if round > 1 {
-            row.parents = parents(chance, members, style, at, admitted);
-        }
-        if is_good(members, round, row.parents) {
-            row.id = row_id(alloc, rows, &row)?;
-            rows.push(row)?;
-            let is_heavy = round == 1 || members.is_quorum(row.parents);
-            if is_heavy && row.parents.is_within(admitted) {
-                now.insert(author);
-            }
+        if let Some(id) = draw_place(alloc, chance, drawing, at, before, certs)? {
+            now.push(Made { author, id })?;
         }
     }
     Ok(now)
 }
 
-/// The certificates of the first rounds, by round and author.
-pub(crate) fn drawn_rows(
+/// The certificates of the first rounds, one of each place at most, by round and author.
+pub(crate) fn drawn_certs(
     alloc: Global,
     chance: &mut Chance,
-    members: Members<'_>,
-    style: Style,
+    drawing: Drawing<'_>,
     last: u32,
-) -> Result<Vec<Row>> {
-    let mut rows = Vec::new(alloc);
-    let mut admitted = Set::none();
+) -> Result<Vec<Drawn>> {
+    let mut certs = Vec::new(alloc);
+    let mut before = Vec::new(alloc);
     for round in 1..=last {
-        admitted = draw_round(alloc, chance, members, style, round, admitted, &mut rows)?;
+        before = draw_round(alloc, chance, drawing, round, &before, &mut certs)?;
     }
-    Ok(rows)
+    Ok(certs)
+}
+
+/// Which batches a feed holds: most of them.
+pub(crate) fn drawn_batches(alloc: Global, chance: &mut Chance) -> Result<Vec<u8>> {
+    let mut batches = Vec::new(alloc);
+    for batch in 0..BATCHES {
+        if !chance.is_one_in(10) {
+            batches.push(batch)?;
+        }
+    }
+    Ok(batches)
 }

@@ -1,10 +1,10 @@
 //! Certificates that are checked together, bytes that are none, and what is known of one that was checked.
 
 use crate::certs::place;
-use crate::checks::{GOOD, found, made, number};
-use crate::members::{EVERYBODY, Members};
+use crate::checks::{finds, made, number};
+use crate::members::{EVERYBODY, heads};
+use crate::verdicts::GOOD;
 use anyhow::Result;
-use bk_base::Version;
 use bk_certcheck::{Verdict, check, check_all, check_each, one_verdict};
 use bk_committee::Committee;
 use bk_digest::Digest32;
@@ -73,7 +73,7 @@ const ZEROS: &[(usize, u8)] = &[(0, 0), (24, 2), (25, 0)];
 
 fn is_found(alloc: Global, four: &Committee, count: usize, rule: u8) -> Result<bool> {
     let zeros = vec![in alloc; 0u8; count]?;
-    Ok(found(alloc, four, &zeros)? == rule)
+    finds(alloc, four, &zeros, rule)
 }
 
 fn try_zeros<R>(rt: &R, four: &Committee, tally: &mut Tally)
@@ -151,7 +151,7 @@ fn are_as_alone(
     verdicts: &[Verdict],
 ) -> Result<bool> {
     for (verdict, bytes) in verdicts.iter().zip(payloads) {
-        if number(verdict) != found(alloc, four, *bytes)? {
+        if !finds(alloc, four, *bytes, number(verdict))? {
             return Ok(false);
         }
     }
@@ -267,12 +267,8 @@ pub(crate) fn try_judging<R>(rt: &R, tally: &mut Tally)
 where
     R: AllocGlobal + Eprint + Threads + Sync,
 {
-    let members = Members {
-        version: Version::One,
-        weights: &[1; 4],
-    };
     one_verdict();
-    match members.committee(rt.alloc()) {
+    match heads(&[1; 4]).committee(rt.alloc()) {
         Ok(four) => try_four(rt, &four, tally),
         Err(_) => tally.miss(rt),
     }

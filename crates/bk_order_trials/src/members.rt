@@ -1,6 +1,5 @@
 //! Committees, and what their members weigh.
 
-use crate::set::Set;
 use anyhow::{Result, bail};
 use bk_base::Version;
 use bk_committee::Committee;
@@ -19,6 +18,22 @@ pub(crate) const EVERYBODY: Members<'static> = Members {
     weights: &[1; 128],
 };
 
+/// A committee of version One.
+pub(crate) fn heads(weights: &[u32]) -> Members<'_> {
+    Members {
+        version: Version::One,
+        weights,
+    }
+}
+
+/// A committee of version Two.
+pub(crate) fn weighted(weights: &[u32]) -> Members<'_> {
+    Members {
+        version: Version::Two,
+        weights,
+    }
+}
+
 impl<'a> Members<'a> {
     /// How many there are, 128 at most.
     pub(crate) fn count(self) -> u8 {
@@ -33,54 +48,29 @@ impl<'a> Members<'a> {
         }
     }
 
-    /// What the members of a set weigh together.
-    pub(crate) fn weigh(self, set: Set) -> u64 {
-        let mut sum = 0u64;
-        for member in 0..self.count() {
-            if set.has(member) {
-                sum = sum.saturating_add(self.weight(member));
-            }
-        }
-        sum
-    }
-
-    fn total(self) -> u64 {
-        let mut sum = 0u64;
-        for weight in self.weights {
-            sum = sum.saturating_add(u64::from(*weight));
-        }
-        sum
-    }
-
-    /// Less than a third of the weight may be faulty.
-    pub(crate) fn faulty(self) -> u64 {
-        self.total().saturating_sub(1) / 3
-    }
-
-    /// What all weigh but the faulty.
-    pub(crate) fn quorum(self) -> u64 {
-        self.total().saturating_sub(self.faulty())
-    }
-
-    /// Whether a set weighs as much as a quorum.
-    pub(crate) fn is_quorum(self, set: Set) -> bool {
-        self.weigh(set) >= self.quorum()
-    }
-
     /// The members lead the odd rounds in turn.
     pub(crate) fn leads(self, member: u8, round: u32) -> bool {
         let turn = u64::from(round.saturating_sub(1) / 2);
         round % 2 == 1 && u64::from(member) == turn % u64::from(self.count().max(1))
     }
 
+    /// What all weigh but the faulty, which are less than a third.
+    pub(crate) fn quorum(self) -> u64 {
+        let mut total = 0u64;
+        for weight in self.weights {
+            total = total.saturating_add(u64::from(*weight));
+        }
+        total.saturating_sub(total.saturating_sub(1) / 3)
+    }
+
     /// The fewest of the heavy ones, and then of the light ones, that are a quorum.
     pub(crate) fn signers(self, alloc: Global) -> Result<Vec<u8>> {
         let mut signers = Vec::new(alloc);
-        let mut set = Set::none();
+        let mut sum = 0u64;
         for is_heavy in [true, false] {
             for member in 0..self.count() {
-                if (self.weight(member) > 1) == is_heavy && !self.is_quorum(set) {
-                    set.insert(member);
+                if (self.weight(member) > 1) == is_heavy && sum < self.quorum() {
+                    sum = sum.saturating_add(self.weight(member));
                     signers.push(member)?;
                 }
             }

@@ -1,233 +1,192 @@
-//! Tries a graph beside which what each certificate makes admitted, who votes, and what is committed is written down.
+//! Tries a graph beside which what it gives is written down.
 
-use crate::certs::{Parts, header_of, place};
-use crate::members::Members;
+use crate::certs::{Parts, id_of, place, sealed};
+use crate::drawn::{absent_id, digest, payload};
+use crate::given::Given;
+use crate::members::{EVERYBODY, Members};
+use crate::plain::plainly;
+use crate::product::{given_by_product, held_of};
 use anyhow::Result;
-use bk_cert::{CertRef, SharedCert};
-use bk_commit::{anchor, committed, reaches, votes};
+use bk_cert::CertRef;
+use bk_certcheck::Checked;
+use bk_committee::Committee;
 use bk_digest::Digest32;
-use bk_flatten::whole_order;
-use bk_rounds::Rounds;
+use bk_trial_kit::Tally;
 use std::alloc::Global;
 
 /// A round and an author.
 pub(crate) type Place = (u32, u8);
 
-/// A certificate by its place, the authors of its parents, and what it makes admitted.
-pub(crate) type Step<'a> = (Place, &'a [u8], &'a [Place]);
+/// A certificate by its place, the authors of its parents, and the batches that it names.
+pub(crate) type Step<'a> = (Place, &'a [u8], &'a [u8]);
 
-/// Two places, and whether the second is in the history of the first.
-pub(crate) type Path = (Place, Place, bool);
-
-/// Steps after which `first` vote for the anchor of round 1 and nothing is committed, and one more, after which `all`
-/// vote for it and `third` for the anchor of round 3, these wait, and these anchors and this order are committed.
+/// Certificates and the batches that are held, and what they have to give.
 #[derive(Clone, Copy)]
 pub(crate) struct Story<'a> {
+    pub(crate) name: &'a str,
     pub(crate) members: Members<'a>,
     pub(crate) steps: &'a [Step<'a>],
-    pub(crate) last: Step<'a>,
-    pub(crate) first: &'a [u8],
-    pub(crate) all: &'a [u8],
-    pub(crate) third: &'a [u8],
-    pub(crate) paths: &'a [Path],
+    pub(crate) held: &'a [u8],
     pub(crate) waiting: &'a [Place],
     pub(crate) anchors: &'a [Place],
     pub(crate) order: &'a [Place],
+    pub(crate) payloads: &'a [u8],
+    pub(crate) missing: Option<u8>,
 }
 
-fn are_places(found: &[CertRef], wanted: &[Place]) -> bool {
-    if found.len() != wanted.len() {
-        return false;
-    }
-    for (one, (round, author)) in found.iter().zip(wanted) {
-        if *one != place(*round, *author) {
-            return false;
+// ---- certificates
+
+// The id of the certificate of a place.
+fn id_at(made: &[(Place, Digest32)], round: u32, author: u8) -> Digest32 {
+    for (at, id) in made {
+        if *at == (round, author) {
+            return *id;
         }
     }
-    true
+    absent_id(author)
 }
 
-// ---- adding
-
-// Each certificate has its round and its author in its id.
-fn id_of(round: u32, author: u8) -> Digest32 {
-    let [_, _, high, low] = round.to_be_bytes();
-    let mut bytes = [0u8; 32];
-    bytes[0] = high;
-    bytes[1] = low;
-    bytes[2] = author;
-    Digest32::new(bytes)
-}
-
-fn cert_of(alloc: Global, (round, author): Place, parents: &[u8]) -> Result<SharedCert> {
+fn parents_of(
+    alloc: Global,
+    made: &[(Place, Digest32)],
+    round: u32,
+    authors: &[u8],
+) -> Result<Vec<Digest32>> {
     let mut ids = Vec::new(alloc);
-    for parent in parents {
-        ids.push(id_of(round.saturating_sub(1), *parent))?;
+    for author in authors {
+        ids.push(id_at(made, round.saturating_sub(1), *author))?;
     }
+    ids.sort()?;
+    Ok(ids)
+}
+
+fn digests_of(alloc: Global, batches: &[u8]) -> Result<Vec<Digest32>> {
+    let mut digests = Vec::new(alloc);
+    for batch in batches {
+        digests.push(digest(*batch))?;
+    }
+    Ok(digests)
+}
+
+// Puts the certificate of a step at the end, and its id beside it.
+fn put_step(
+    alloc: Global,
+    all: &Committee,
+    signers: &[u8],
+    step: Step<'_>,
+    made: &mut Vec<(Place, Digest32)>,
+    certs: &mut Vec<Vec<u8>>,
+) -> Result<()> {
+    let ((round, author), authors, batches) = step;
+    let parents = parents_of(alloc, made, round, authors)?;
+    let batches = digests_of(alloc, batches)?;
     let parts = Parts {
         at: place(round, author),
-        batches: &[],
-        parents: &ids,
+        batches: &batches,
+        parents: &parents,
     };
-    let header = header_of(alloc, parts)?;
-    Ok(SharedCert::new(alloc, id_of(round, author), header)?)
+    certs.push(sealed(alloc, all, parts, signers)?)?;
+    made.push(((round, author), id_of(alloc, parts)?))?;
+    Ok(())
 }
 
-// Adds the certificate of a step: whether this makes admitted what it has to.
-fn adds(alloc: Global, rounds: &mut Rounds, step: Step<'_>) -> Result<bool> {
-    let (at, parents, wanted) = step;
-    let cert = cert_of(alloc, at, parents)?;
-    if rounds.can_add(&cert) {
-        let admitted = rounds.add(cert)?;
-        Ok(are_places(&admitted, wanted))
-    } else {
-        Ok(false)
+fn certs_of(alloc: Global, story: &Story<'_>) -> Result<Vec<Vec<u8>>> {
+    let all = EVERYBODY.committee(alloc)?;
+    let signers = story.members.signers(alloc)?;
+    let mut made = Vec::new(alloc);
+    let mut certs = Vec::new(alloc);
+    for step in story.steps {
+        put_step(alloc, &all, &signers, *step, &mut made, &mut certs)?;
     }
+    Ok(certs)
 }
 
-// ---- votes
+// ---- what is wanted
 
-// What is kept of the votes is what the voters weigh.
-fn are_weighed(members: Members<'_>, rounds: &Rounds) -> bool {
-    for round in 0..6u32 {
-        let voters = votes(rounds, round);
-        let mut sum = 0u64;
-        for member in 0..4u8 {
-            if voters.has(member) {
-                sum = sum.saturating_add(members.weight(member));
-            }
-        }
-        if rounds.votes_weight(round) != sum {
-            return false;
-        }
+fn places_of(alloc: Global, places: &[Place]) -> Result<Vec<CertRef>> {
+    let mut refs = Vec::new(alloc);
+    for (round, author) in places {
+        refs.push(place(*round, *author))?;
     }
-    true
+    Ok(refs)
 }
 
-// Whether these vote for the anchor of a round.
-fn are_voters(rounds: &Rounds, round: u32, wanted: &[u8]) -> bool {
-    let voters = votes(rounds, round);
-    for member in 0..4u8 {
-        if voters.has(member) != wanted.contains(&member) {
-            return false;
-        }
+fn payloads_of(alloc: Global, batches: &[u8]) -> Result<Vec<Vec<u8>>> {
+    let mut payloads = Vec::new(alloc);
+    for batch in batches {
+        payloads.push(Vec::from_slice(alloc, &payload(*batch))?)?;
     }
-    true
+    Ok(payloads)
 }
 
-// ---- anchors
-
-// The certificate of the leader of an odd round, where it is admitted.
-fn anchor_of(members: Members<'_>, rounds: &Rounds, round: u32) -> Option<CertRef> {
-    for author in 0..members.count() {
-        let at = place(round, author);
-        if members.leads(author, round) && rounds.at(at).is_some() {
-            return Some(at);
-        }
+fn wanted_of(alloc: Global, story: &Story<'_>) -> Result<Given> {
+    let mut admitted = Vec::new(alloc);
+    for (at, _, _) in story.steps {
+        admitted.push(!story.waiting.contains(at))?;
     }
-    None
-}
-
-fn are_anchors(members: Members<'_>, rounds: &Rounds) -> bool {
-    for round in 0..6u32 {
-        if anchor(rounds, round) != anchor_of(members, rounds, round) {
-            return false;
-        }
-    }
-    true
-}
-
-fn are_paths(rounds: &Rounds, wanted: &[Path]) -> bool {
-    for (from, to, is_path) in wanted {
-        if reaches(rounds, place(from.0, from.1), place(to.0, to.1)) != *is_path {
-            return false;
-        }
-    }
-    true
-}
-
-// Whether none of these is admitted, though each is in the table.
-fn are_held_back(rounds: &Rounds, wanted: &[Place]) -> bool {
-    for (round, author) in wanted {
-        let at = place(*round, *author);
-        if rounds.at(at).is_some() || !rounds.has(at) {
-            return false;
-        }
-    }
-    true
-}
-
-// Whether these are all that wait.
-fn are_waiting(rounds: &Rounds, wanted: &[Place]) -> Result<bool> {
-    let waiting = rounds.waiting()?;
-    Ok(are_places(&waiting, wanted))
-}
-
-// Whether these anchors are committed.
-fn has_anchors(alloc: Global, rounds: &Rounds, wanted: &[Place]) -> Result<bool> {
-    let found = committed(alloc, rounds)?;
-    Ok(are_places(&found, wanted))
-}
-
-fn has_order(alloc: Global, rounds: &Rounds, anchors: &[Place], order: &[Place]) -> Result<bool> {
-    if !has_anchors(alloc, rounds, anchors)? {
-        return Ok(false);
-    }
-    let flat = whole_order(alloc, rounds)?;
-    Ok(are_places(flat.order(), order))
+    Ok(Given {
+        admitted,
+        anchors: places_of(alloc, story.anchors)?,
+        order: places_of(alloc, story.order)?,
+        payloads: payloads_of(alloc, story.payloads)?,
+        missing: story.missing.map(digest),
+    })
 }
 
 // ---- stories
 
-// Whether a step makes admitted what it has to, and commits nothing.
-fn is_early(alloc: Global, rounds: &mut Rounds, step: Step<'_>) -> Result<bool> {
-    if !adds(alloc, rounds, step)? || rounds.newest_voted().is_some() {
-        return Ok(false);
-    }
-    has_order(alloc, rounds, &[], &[])
+fn try_wanted<R>(rt: &R, story: &Story<'_>, given: &Given, tally: &mut Tally) -> Result<()>
+where
+    R: AllocGlobal + Eprint,
+{
+    let wanted = wanted_of(rt.alloc(), story)?;
+    given.note_same(rt, story.name, &wanted, tally);
+    Ok(())
 }
 
-// The first steps.
-fn begins(alloc: Global, story: &Story<'_>, rounds: &mut Rounds) -> Result<bool> {
-    for step in story.steps {
-        if !is_early(alloc, rounds, *step)? {
-            return Ok(false);
-        }
-    }
-    Ok(are_weighed(story.members, rounds) && are_voters(rounds, 1, story.first))
+fn try_product<R>(
+    rt: &R,
+    story: &Story<'_>,
+    committee: &Committee,
+    held: &[Checked],
+    given: &Given,
+    tally: &mut Tally,
+) -> Result<()>
+where
+    R: AllocGlobal + Eprint,
+{
+    let found = given_by_product(rt.alloc(), committee, held, story.held)?;
+    given.note_same(rt, story.name, &found, tally);
+    Ok(())
 }
 
-// What is known of votes, anchors and admission after the last step.
-fn has_votes(story: &Story<'_>, rounds: &Rounds) -> bool {
-    are_weighed(story.members, rounds)
-        && are_voters(rounds, 1, story.all)
-        && are_voters(rounds, 3, story.third)
-        && are_anchors(story.members, rounds)
-        && are_paths(rounds, story.paths)
-        && are_held_back(rounds, story.waiting)
+fn try_held<R>(
+    rt: &R,
+    story: &Story<'_>,
+    committee: &Committee,
+    held: &[Checked],
+    tally: &mut Tally,
+) -> Result<()>
+where
+    R: AllocGlobal + Eprint,
+{
+    tally.note_part(rt, story.name, "held", held.len() == story.steps.len());
+    let given = plainly(rt.alloc(), committee, held, story.held)?;
+    try_wanted(rt, story, &given, tally)?;
+    try_product(rt, story, committee, held, &given, tally)
 }
 
-// The last step, and what it commits.
-fn ends(alloc: Global, story: &Story<'_>, rounds: &mut Rounds) -> Result<bool> {
-    if !adds(alloc, rounds, story.last)? || !has_votes(story, rounds) {
-        return Ok(false);
-    }
-    if !are_waiting(rounds, story.waiting)? {
-        return Ok(false);
-    }
-    has_order(alloc, rounds, story.anchors, story.order)
+fn held_by(alloc: Global, story: &Story<'_>, committee: &Committee) -> Result<Vec<Checked>> {
+    let certs = certs_of(alloc, story)?;
+    held_of(alloc, committee, &certs)
 }
 
-fn is_told_in(alloc: Global, story: &Story<'_>, rounds: &mut Rounds) -> Result<bool> {
-    if !begins(alloc, story, rounds)? {
-        return Ok(false);
-    }
-    ends(alloc, story, rounds)
-}
-
-/// Whether a graph gives what is written down.
-pub(crate) fn is_told(alloc: Global, story: &Story<'_>) -> Result<bool> {
-    let committee = story.members.committee(alloc)?;
-    let mut rounds = Rounds::new(alloc, &committee)?;
-    is_told_in(alloc, story, &mut rounds)
+/// Compares what the plain bodies give with what was found by hand, and with what the product gives.
+pub(crate) fn try_story<R>(rt: &R, story: &Story<'_>, tally: &mut Tally) -> Result<()>
+where
+    R: AllocGlobal + Eprint,
+{
+    let committee = story.members.committee(rt.alloc())?;
+    let held = held_by(rt.alloc(), story, &committee)?;
+    try_held(rt, story, &committee, &held, tally)
 }

@@ -2,7 +2,8 @@
 
 ghost use Rattle.std.specs.Prelude.{◌≡◌};
 
-use crate::frames::{Frame, GOOD};
+use crate::frames::Frame;
+use crate::verdicts::GOOD;
 use anyhow::{Result, bail};
 use bk_base::Kind;
 use bk_order::Intake;
@@ -38,16 +39,9 @@ pub(crate) fn numbers(
     match way {
         Way::AsDrawn => {}
         Way::Reversed => numbers.reverse(),
-        Way::Shuffled => shuffle(chance, &mut numbers),
+        Way::Shuffled => chance.shuffle(&mut numbers),
     }
     Ok(numbers)
-}
-
-fn shuffle(chance: &mut Chance, numbers: &mut [usize]) {
-    for index in 1..numbers.len() {
-        let other = chance.below(index as u64 + 1) as usize;
-        numbers.swap(index, other);
-    }
 }
 
 fn piece_of(alloc: Global, frames: &[Frame], part: &[usize]) -> Result<Piece> {
@@ -120,11 +114,11 @@ pub(crate) fn rejects(intake: &Intake, frames: &[Frame], taken: &[usize]) -> boo
         let Some(frame) = frames.get(*index) else {
             return false;
         };
-        if frame.rule != GOOD {
+        if frame.rule != Some(GOOD) {
             let Some(found) = rejected.get(count) else {
                 return false;
             };
-            if found.frame != number || found.rule as u8 != frame.rule {
+            if found.frame != number || Some(found.rule as u8) != frame.rule {
                 return false;
             }
             count = count.saturating_add(1);

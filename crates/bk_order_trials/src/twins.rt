@@ -3,13 +3,11 @@
 ghost use Rattle.std.specs.Prelude.{◌≡◌};
 
 use crate::certs::{Parts, id_of, sealed};
-use crate::drawn::{Style, drawn_rows};
-use crate::frames::{Frame, drawn_held, frames_of, good};
-use crate::members::{EVERYBODY, Members};
-use crate::row::{Row, digest};
+use crate::drawn::{Drawing, Drawn, Style, digest, drawn_certs};
+use crate::frames::{Frame, good, put_frames};
+use crate::members::{EVERYBODY, Members, heads, weighted};
 use crate::taking::{Way, discard, numbers, take_all};
 use anyhow::Result;
-use bk_base::Version;
 use bk_cert::CertRef;
 use bk_committee::Committee;
 use bk_digest::Digest32;
@@ -23,6 +21,9 @@ const FEEDS: u64 = 6;
 
 const WAYS: &[Way] = &[Way::AsDrawn, Way::Reversed, Way::Shuffled];
 
+// The batches of a feed.
+const BATCHES: [u8; 3] = [0, 1, 2];
+
 // How many frames are taken at once.
 const PIECE: usize = 16;
 
@@ -32,20 +33,19 @@ type Made = (CertRef, Digest32);
 // One more certificate of a place in round 1, that names a batch some times.
 fn put_twin(
     alloc: Global,
-    members: Members<'_>,
+    drawing: Drawing<'_>,
     at: CertRef,
     times: usize,
     frames: &mut Vec<Frame>,
 ) -> Result<Digest32> {
-    let all = EVERYBODY.committee(alloc)?;
-    let signers = members.signers(alloc)?;
+    let signers = drawing.members.signers(alloc)?;
     let batches = [digest(1); 4];
     let parts = Parts {
         at,
         batches: &batches[..times.min(4)],
         parents: &[],
     };
-    frames.push(good(sealed(alloc, &all, parts, &signers)?))?;
+    frames.push(good(sealed(alloc, drawing.all, parts, &signers)?))?;
     id_of(alloc, parts)
 }
 
@@ -53,19 +53,19 @@ fn put_twin(
 fn put_twins(
     alloc: Global,
     chance: &mut Chance,
-    members: Members<'_>,
-    rows: &[Row],
+    drawing: Drawing<'_>,
+    certs: &[Drawn],
     frames: &mut Vec<Frame>,
 ) -> Result<Vec<Made>> {
     let mut made = Vec::new(alloc);
-    for row in rows {
-        if row.at.round > 1 || chance.is_one_in(2) {
+    for cert in certs {
+        if cert.at.round > 1 || chance.is_one_in(2) {
             continue;
         }
-        made.push((row.at, row.id))?;
+        made.push((cert.at, cert.id))?;
         for times in 3..5 {
-            let id = put_twin(alloc, members, row.at, times, frames)?;
-            made.push((row.at, id))?;
+            let id = put_twin(alloc, drawing, cert.at, times, frames)?;
+            made.push((cert.at, id))?;
         }
     }
     Ok(made)
@@ -226,100 +226,77 @@ where
     }
 }
 
-// All frames in each order stop with these twins.
-fn try_orders<R>(
-    rt: &R,
-    chance: &mut Chance,
-    members: Members<'_>,
-    frames: &[Frame],
-    wanted: &Option<Stop>,
-    tally: &mut Tally,
-)
-where
-    R: AllocGlobal + Eprint + Threads + Sync,
-{
-    match members.committee(rt.alloc()) {
-        Ok(committee) => try_ways(rt, chance, &committee, frames, wanted, tally),
-        Err(_) => tally.miss(rt),
-    }
-}
-
-fn drawn_frames(
-    alloc: Global,
-    chance: &mut Chance,
-    members: Members<'_>,
-    rows: &[Row],
-) -> Result<Vec<Frame>> {
-    let held = drawn_held(alloc, chance)?;
-    frames_of(alloc, chance, members, rows, &held)
-}
-
 // Adds twins to the frames of a graph, and says what all stop with.
-fn wanted_of(
+fn put_stop(
     alloc: Global,
     chance: &mut Chance,
-    members: Members<'_>,
-    rows: &[Row],
+    drawing: Drawing<'_>,
+    certs: &[Drawn],
     frames: &mut Vec<Frame>,
 ) -> Result<Option<Stop>> {
-    let made = put_twins(alloc, chance, members, rows, frames)?;
+    let made = put_twins(alloc, chance, drawing, certs, frames)?;
     Ok(stop_of(least_twins(&made)))
 }
 
-fn try_frames<R>(
-    rt: &R,
+// Puts the frames of a graph with twins and of some batches at the end, and says what all stop with.
+fn put_drawn(
+    alloc: Global,
     chance: &mut Chance,
-    members: Members<'_>,
-    rows: &[Row],
+    drawing: Drawing<'_>,
+    committee: &Committee,
     frames: &mut Vec<Frame>,
-    tally: &mut Tally,
-)
-where
-    R: AllocGlobal + Eprint + Threads + Sync,
-{
-    match wanted_of(rt.alloc(), chance, members, rows, frames) {
-        Ok(wanted) => try_orders(rt, chance, members, frames, &wanted, tally),
-        Err(_) => tally.miss(rt),
-    }
+) -> Result<Option<Stop>> {
+    let certs = drawn_certs(alloc, chance, drawing, 5)?;
+    put_frames(alloc, chance, drawing, committee, &certs, &BATCHES, frames)?;
+    put_stop(alloc, chance, drawing, &certs, frames)
 }
 
-fn try_rows<R>(rt: &R, chance: &mut Chance, members: Members<'_>, rows: &[Row], tally: &mut Tally)
+fn try_drawing<R>(
+    rt: &R,
+    chance: &mut Chance,
+    drawing: Drawing<'_>,
+    committee: &Committee,
+    tally: &mut Tally,
+) -> Result<()>
 where
     R: AllocGlobal + Eprint + Threads + Sync,
 {
-    match drawn_frames(rt.alloc(), chance, members, rows) {
-        Ok(mut frames) => try_frames(rt, chance, members, rows, &mut frames, tally),
-        Err(_) => tally.miss(rt),
-    }
+    let mut frames = Vec::new(rt.alloc());
+    let wanted = put_drawn(rt.alloc(), chance, drawing, committee, &mut frames)?;
+    try_ways(rt, chance, committee, &frames, &wanted, tally);
+    Ok(())
 }
 
 // A feed of four members with twins.
-fn try_feed<R>(rt: &R, chance: &mut Chance, members: Members<'_>, tally: &mut Tally)
+fn try_feed<R>(
+    rt: &R,
+    chance: &mut Chance,
+    members: Members<'_>,
+    all: &Committee,
+    tally: &mut Tally,
+) -> Result<()>
 where
     R: AllocGlobal + Eprint + Threads + Sync,
 {
-    match drawn_rows(rt.alloc(), chance, members, Style::Most, 5) {
-        Ok(rows) => try_rows(rt, chance, members, &rows, tally),
-        Err(_) => tally.miss(rt),
-    }
+    let committee = members.committee(rt.alloc())?;
+    let drawing = Drawing {
+        members,
+        all,
+        style: Style::Most,
+    };
+    try_drawing(rt, chance, drawing, &committee, tally)
 }
 
 /// Drawn feeds with twins, by heads and by weights.
-pub(crate) fn try_twins<R>(rt: &R, tally: &mut Tally)
+pub(crate) fn try_twins<R>(rt: &R, tally: &mut Tally) -> Result<()>
 where
     R: AllocGlobal + Eprint + Threads + Sync,
 {
+    let all = EVERYBODY.committee(rt.alloc())?;
     let mut chance = Chance::new(3);
-    let heads = Members {
-        version: Version::One,
-        weights: &[1; 4],
-    };
-    let heavy = Members {
-        version: Version::Two,
-        weights: &[5, 1, 1, 1],
-    };
     for _ in 0..FEEDS {
-        try_feed(rt, &mut chance, heads, tally);
-        try_feed(rt, &mut chance, heavy, tally);
+        try_feed(rt, &mut chance, heads(&[1; 4]), &all, tally)?;
+        try_feed(rt, &mut chance, weighted(&[5, 1, 1, 1]), &all, tally)?;
     }
+    Ok(())
 }

@@ -1,7 +1,7 @@
 //! Graphs that were worked out by hand: which certificates each one makes admitted, who votes, and what is committed.
 
 use crate::members::Members;
-use crate::story::{Story, is_told};
+use crate::steps::{Steps, are_told};
 use bk_base::Version;
 use bk_trial_kit::Tally;
 
@@ -28,7 +28,7 @@ const HALF: Members<'static> = Members {
 };
 
 // Two votes are enough, and (2, 1) waits for (1, 3).
-const WAITING: Story<'static> = Story {
+const WAITING: Steps<'static> = Steps {
     members: FOUR,
     steps: &[
         ((2, 1), &[0, 1, 3], &[]),
@@ -48,7 +48,7 @@ const WAITING: Story<'static> = Story {
 };
 
 // The anchor itself comes last: all that name it are admitted with it.
-const ANCHOR_LAST: Story<'static> = Story {
+const ANCHOR_LAST: Steps<'static> = Steps {
     members: FOUR,
     steps: &[
         ((2, 0), &[0, 1, 2], &[]),
@@ -69,7 +69,7 @@ const ANCHOR_LAST: Story<'static> = Story {
 };
 
 // The parents of (2, 2) and of (2, 3) are too light, so these wait for good, and their votes do not count.
-const LIGHT: Story<'static> = Story {
+const LIGHT: Steps<'static> = Steps {
     members: HEAVY,
     steps: &[
         ((1, 0), &[], &[(1, 0)]),
@@ -90,7 +90,7 @@ const LIGHT: Story<'static> = Story {
 };
 
 // Three light parents are no quorum, and the vote of member 0 alone is enough.
-const LIGHT_PARENTS: Story<'static> = Story {
+const LIGHT_PARENTS: Steps<'static> = Steps {
     members: HALF,
     steps: &[
         ((1, 0), &[], &[(1, 0)]),
@@ -110,7 +110,7 @@ const LIGHT_PARENTS: Story<'static> = Story {
 };
 
 // The votes of members 1 and 2 are not enough, and that of member 0 is.
-const HEAVY_VOTE: Story<'static> = Story {
+const HEAVY_VOTE: Steps<'static> = Steps {
     members: HEAVY,
     steps: &[
         ((1, 0), &[], &[(1, 0)]),
@@ -131,7 +131,7 @@ const HEAVY_VOTE: Story<'static> = Story {
 };
 
 // The anchor of round 1 has one vote, and the one of round 3 does not reach it.
-const SKIPPED: Story<'static> = Story {
+const SKIPPED: Steps<'static> = Steps {
     members: FOUR,
     steps: &[
         ((1, 0), &[], &[(1, 0)]),
@@ -158,7 +158,7 @@ const SKIPPED: Story<'static> = Story {
 };
 
 // The anchor of round 1 has one vote, and that of round 3 reaches it.
-const LINKED: Story<'static> = Story {
+const LINKED: Steps<'static> = Steps {
     members: FOUR,
     steps: &[
         ((1, 0), &[], &[(1, 0)]),
@@ -193,7 +193,7 @@ const LINKED: Story<'static> = Story {
 };
 
 // The same in reverse: the last round comes first.
-const REVERSED: Story<'static> = Story {
+const REVERSED: Steps<'static> = Steps {
     steps: &[
         ((4, 1), &[0, 1, 2], &[]),
         ((4, 0), &[0, 1, 2], &[]),
@@ -216,17 +216,17 @@ const REVERSED: Story<'static> = Story {
     ..LINKED
 };
 
-const SKIPPED_BY_WEIGHTS: Story<'static> = Story {
+const SKIPPED_BY_WEIGHTS: Steps<'static> = Steps {
     members: ALIKE,
     ..SKIPPED
 };
 
-const REVERSED_BY_WEIGHTS: Story<'static> = Story {
+const REVERSED_BY_WEIGHTS: Steps<'static> = Steps {
     members: ALIKE,
     ..REVERSED
 };
 
-const STORIES: &[(&'static str, Story<'static>)] = &[
+const ALL: &[(&'static str, Steps<'static>)] = &[
     ("a waiting certificate that votes later", WAITING),
     ("an anchor that comes last", ANCHOR_LAST),
     ("a heavy vote that comes later", LIGHT),
@@ -244,7 +244,7 @@ pub(crate) fn try_votes<R>(rt: &R, tally: &mut Tally)
 where
     R: AllocGlobal + Eprint,
 {
-    for (what, story) in STORIES {
-        tally.judge(rt, what, is_told(rt.alloc(), story));
+    for (what, steps) in ALL {
+        tally.judge(rt, what, are_told(rt.alloc(), steps));
     }
 }

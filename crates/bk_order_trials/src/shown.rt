@@ -60,7 +60,10 @@ impl Shown {
     }
 
     /// Counts a verdict.
-    pub(crate) fn add_verdict(&mut self, rule: u8) {
+    pub(crate) fn add_verdict(&mut self, rule: Option<u8>) {
+        let Some(rule) = rule else {
+            return;
+        };
         if let Some(count) = self.verdicts.get_mut(rule as usize) {
             *count = count.saturating_add(1);
         }
@@ -82,11 +85,11 @@ impl Shown {
     /// and some batches to be missing.
     pub(crate) fn note<R: Eprint>(&self, rt: &R, what: &str, tally: &mut Tally) {
         for count in self.verdicts {
-            tally.note_part(rt, what, "a verdict that is found too seldom", count > 2);
+            tally.note_part(rt, what, "a verdict that is found too seldom", count > 10);
         }
-        tally.note_part(rt, what, "little is ordered", self.ordered > 100);
-        tally.note_part(rt, what, "little waits", self.waiting > 20);
-        tally.note_part(rt, what, "few anchors are skipped", self.skipped > 1);
-        tally.note_part(rt, what, "little is missing", self.missing > 3);
+        tally.note_part(rt, what, "little is ordered", self.ordered > 500);
+        tally.note_part(rt, what, "little waits", self.waiting > 50);
+        tally.note_part(rt, what, "few anchors are skipped", self.skipped > 10);
+        tally.note_part(rt, what, "little is missing", self.missing > 10);
     }
 }

@@ -1,7 +1,7 @@
 use Rattle.std.proofs.Common.{List, subst}
 use Rattle.std.specs.List.{Contains}
 use Rattle.bk_cert.specs.declared.place.CertRef.{CertRef}
-use Rattle.bk_plain_order_trials.proofs.product.batches_in.Goals as goal
+use Rattle.bk_order_trials.proofs.product.batches_in.Goals as goal
 
 pub batches_of-requires : goal.batches_of-requires
 batches_of-requires c = record {

@@ -1,5 +1,5 @@
-use Rattle.bk_plain_order_trials.proofs.Were.{were_more, were_now}
-use Rattle.bk_plain_order_trials.proofs.product.add.Goals as goal
+use Rattle.bk_order_trials.proofs.Were.{were_more, were_now}
+use Rattle.bk_order_trials.proofs.product.add.Goals as goal
 
 pub add-requires-clause-new : goal.add-requires-clause-new
 add-requires-clause-new c = c.can_add.ensures.new c.if-not-can_add.false

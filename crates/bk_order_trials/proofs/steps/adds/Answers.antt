@@ -1,4 +1,4 @@
-use Rattle.bk_order_trials.proofs.story.adds.Goals as goal
+use Rattle.bk_order_trials.proofs.steps.adds.Goals as goal
 
 pub add-requires-clause-new : goal.add-requires-clause-new
 add-requires-clause-new c = c.can_add.ensures.new c.if-can_add.true

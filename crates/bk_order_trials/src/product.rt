@@ -4,8 +4,10 @@ ghost use Rattle.std.specs.Prelude.{◌≡◌, OnOk};
 ghost use Rattle.bk_commit.specs.Growth.{WereCommitted};
 
 use crate::drawn::{digest, payload};
+use crate::frames::Frame;
 use crate::given::Given;
 use anyhow::{Result, bail};
+use bk_base::Kind;
 use bk_cert::{CertRef, SharedCert};
 use bk_certcheck::{Checked, Verdict, check};
 use bk_commit::Walk;
@@ -39,18 +41,44 @@ fn is_taken(held: &[Checked], cert: &Checked) -> bool {
     false
 }
 
+// Puts a certificate at the end, if it breaks no rule and its place is free.
+fn put_held(
+    alloc: Global,
+    committee: &Committee,
+    bytes: &[u8],
+    held: &mut Vec<Checked>,
+) -> Result<()> {
+    if let Verdict::Good(cert) = check(alloc, committee, bytes)? {
+        if !is_taken(held, &cert) {
+            held.push(cert)?;
+        }
+    }
+    Ok(())
+}
+
 /// The certificates among these bytes that break no rule, the first of each place.
 pub(crate) fn held_of(
     alloc: Global,
     committee: &Committee,
     certs: &[Vec<u8>],
 ) -> Result<Vec<Checked>> {
-    let mut held: Vec<Checked> = Vec::new(alloc);
+    let mut held = Vec::new(alloc);
     for bytes in certs {
-        if let Verdict::Good(cert) = check(alloc, committee, bytes)? {
-            if !is_taken(&held, &cert) {
-                held.push(cert)?;
-            }
+        put_held(alloc, committee, bytes, &mut held)?;
+    }
+    Ok(held)
+}
+
+/// Those among the frames.
+pub(crate) fn held_in(
+    alloc: Global,
+    committee: &Committee,
+    frames: &[Frame],
+) -> Result<Vec<Checked>> {
+    let mut held = Vec::new(alloc);
+    for frame in frames {
+        if frame.kind == Kind::Certificate {
+            put_held(alloc, committee, &frame.bytes, &mut held)?;
         }
     }
     Ok(held)

@@ -86,20 +86,15 @@ fn spoil(chance: &mut Chance, bytes: &mut Vec<u8>) -> Result<()> {
     Ok(())
 }
 
-/// The bytes of some certificates, most of which break a rule.
-pub(crate) fn drawn_strays(
+/// The bytes of a certificate, which mostly breaks a rule.
+pub(crate) fn drawn_stray(
     alloc: Global,
     chance: &mut Chance,
     drawing: Drawing<'_>,
-    count: u64,
-) -> Result<Vec<Vec<u8>>> {
-    let mut strays = Vec::new(alloc);
-    for _ in 0..count {
-        let mut bytes = stray(alloc, chance, drawing)?;
-        if chance.is_one_in(3) {
-            spoil(chance, &mut bytes)?;
-        }
-        strays.push(bytes)?;
+) -> Result<Vec<u8>> {
+    let mut bytes = stray(alloc, chance, drawing)?;
+    if chance.is_one_in(3) {
+        spoil(chance, &mut bytes)?;
     }
-    Ok(strays)
+    Ok(bytes)
 }
