@@ -1,0 +1,9 @@
+pub mod Local
+pub mod Receipts
+pub mod Sound
+pub mod Last
+pub mod Edges
+pub mod Unions
+pub mod Runs
+pub mod Plans
+pub mod Merged

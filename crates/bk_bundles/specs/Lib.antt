@@ -1,0 +1,3 @@
+pub mod Bundled
+pub mod Planned
+pub mod Merged
