@@ -12,7 +12,7 @@ use Rattle.bk_answer.specs.RunReport.{IsStopIn}
 use Rattle.bk_follow.specs.Stopping.{kept_fault}
 use Rattle.bk_follow.specs.private.Books.{IsGoodBook}
 use Rattle.bk_follow.specs.private.Ordered.{BookOrderFails}
-use Rattle.bk_follow.specs.private.Parts.{OrdersNot}
+use Rattle.bk_follow.specs.private.Parts.{OrdersNot, after_fault}
 use Rattle.bk_follow.proofs.Following.{follower_of, good_of, come_on, of_feed}
 
 -- the order of a book that was settled is that of the feed
@@ -50,10 +50,10 @@ order_stop_same (fault.Write written) old new none h = absurd h
 order_stop_same fault.Memory old new none h = absurd cc
 
 -- with the fault that is kept after it
-pub close_order_fails : (f : Fault) (old new : Followed) (kept : Option Fault) → old.fault ≡ None → kept ≡ kept_fault f → OrdersNot old new f → CloseOrderFails old (follower_of new.cut new.committee new.book kept) f
-close_order_fails (fault.Feed found) old new kept none e h = (h, e)
-close_order_fails (fault.Collision id) old new kept none e h = (h.0, (λ i. follower_of (h.1 i).cut (h.1 i).committee (h.1 i).book ((e ∙ sym none) i)))
-close_order_fails (fault.Equivocation round author first second) old new kept none e h = (h.0, (λ i. follower_of (h.1 i).cut (h.1 i).committee (h.1 i).book ((e ∙ sym none) i)))
-close_order_fails (fault.Unfinished place) old new kept none e h = absurd h
-close_order_fails (fault.Write written) old new kept none e h = absurd h
-close_order_fails fault.Memory old new kept none e h = e
+pub close_order_fails : (f : Fault) (old new now : Followed) → now ≡ after_fault f new → OrdersNot old new f → CloseOrderFails old now f
+close_order_fails (fault.Feed found) old new now e h = (h, e)
+close_order_fails (fault.Collision id) old new now e h = (h.0, e ∙ h.1)
+close_order_fails (fault.Equivocation round author first second) old new now e h = (h.0, e ∙ h.1)
+close_order_fails (fault.Unfinished place) old new now e h = absurd h
+close_order_fails (fault.Write written) old new now e h = absurd h
+close_order_fails fault.Memory old new now e h = e

@@ -1,5 +1,5 @@
 -- The order of which it is found what keeps a feed from counting whole.
-use Rattle.std.proofs.Common.{◌≡◌, Option, Some, None, sym, subst, ◌∙◌}
+use Rattle.std.proofs.Common.{◌≡◌, Some, None, sym, subst, ◌∙◌}
 use Rattle.bk_base.specs.Feed.{FeedValue}
 use Rattle.bk_answer.specs.Answers.{IsOrderMadeOf}
 use Rattle.bk_answer.specs.Closed.{OrderValue}

@@ -15,10 +15,10 @@ use Rattle.bk_results.specs.declared.status.Status.{Status}
 use Rattle.bk_results.specs.Devices.{IsUntouched}
 use Rattle.bk_answer.specs.Answers.{TextIsOut, TextStops}
 use Rattle.bk_answer.specs.RunReport.{IsReportOf, IsStopIn, HasPlaceIn}
-use Rattle.bk_follow.specs.Follower.{BookValue, Followed, IsBookOf, IsCurrent, FollowsBy, Follows, HasCome, Settles, SettleFails, OfFrames, IsSettledBy, receipts_of_executed, receipts_in}
+use Rattle.bk_follow.specs.Follower.{BookValue, Followed, IsBookOf, IsCurrent, FollowsBy, Follows, HasCome, Settles, SettleFails, OfFrames, IsSettledBy, receipts_of_executed, receipts_in, broken, unfed}
 use Rattle.bk_follow.specs.Finishing.{OfFeed, Closes, CloseFails, Finishes, FinishFails}
 use Rattle.bk_follow.specs.private.Books.{IsGoodBook, BookSettleFails, WritesBook, WriteFails}
-use Rattle.bk_follow.specs.private.Parts.{ClosesNot, EndFails}
+use Rattle.bk_follow.specs.private.Parts.{ClosesNot, EndFails, after_fault}
 use Rattle.bk_follow.specs.Stopping.{kept_fault}
 use Rattle.bk_follow.proofs.Openings.{with_book, follows_book}
 
@@ -100,16 +100,16 @@ pub of_frames : (v : Followed) (b : BookValue) (holds : FeedValue → Type 0) �
 of_frames v b holds is h = λ bytes frames come. let g = good_of bytes frames v b come is in (g.version, g.known, h (feed_of g.version frames) g.good)
 
 -- why the book was not settled is why the Follower was not
-pub settle_fails : (f : Fault) (cut : Cut) (committee : Option CommitteeValue) (book : Option BookValue) (stands kept : Option Fault) (b new : BookValue) → book ≡ Some b → stands ≡ None → kept ≡ kept_fault f → BookSettleFails b new f
-    → SettleFails (follower_of cut committee book stands) (follower_of cut committee (Some new) kept) f
-settle_fails (fault.Feed found) cut committee book stands kept b new is none e h = absurd h
-settle_fails (fault.Collision id) cut committee book stands kept b new is none e h =
-    (λ i. follower_of cut committee ((ap Some h.0 ∙ sym is) i) ((e ∙ sym none) i), of_frames (follower_of cut committee book stands) b (λ feed. IsStopIn feed (fault.Collision id)) is h.1)
-settle_fails (fault.Equivocation round author first second) cut committee book stands kept b new is none e h =
-    (λ i. follower_of cut committee ((ap Some h.0 ∙ sym is) i) ((e ∙ sym none) i), of_frames (follower_of cut committee book stands) b (λ feed. IsStopIn feed (fault.Equivocation round author first second)) is h.1)
-settle_fails (fault.Unfinished place) cut committee book stands kept b new is none e h = (e, of_frames (follower_of cut committee book stands) b (λ feed. HasPlaceIn feed place) is h)
-settle_fails (fault.Write written) cut committee book stands kept b new is none e h = absurd h
-settle_fails fault.Memory cut committee book stands kept b new is none e h = e
+pub settle_fails : (f : Fault) (cut : Cut) (committee : Option CommitteeValue) (book : Option BookValue) (stands : Option Fault) (b new : BookValue) (now : Followed) → book ≡ Some b → stands ≡ None → now ≡ after_fault f (follower_of cut committee (Some new) None) → BookSettleFails b new f
+    → SettleFails (follower_of cut committee book stands) now f
+settle_fails (fault.Feed found) cut committee book stands b new now is none e h = absurd h
+settle_fails (fault.Collision id) cut committee book stands b new now is none e h =
+    (e ∙ (λ i. follower_of cut committee ((ap Some h.0 ∙ sym is) i) (sym none i)), of_frames (follower_of cut committee book stands) b (λ feed. IsStopIn feed (fault.Collision id)) is h.1)
+settle_fails (fault.Equivocation round author first second) cut committee book stands b new now is none e h =
+    (e ∙ (λ i. follower_of cut committee ((ap Some h.0 ∙ sym is) i) (sym none i)), of_frames (follower_of cut committee book stands) b (λ feed. IsStopIn feed (fault.Equivocation round author first second)) is h.1)
+settle_fails (fault.Unfinished place) cut committee book stands b new now is none e h = (e, of_frames (follower_of cut committee book stands) b (λ feed. HasPlaceIn feed place) is h)
+settle_fails (fault.Write written) cut committee book stands b new now is none e h = absurd h
+settle_fails fault.Memory cut committee book stands b new now is none e h = e
 
 -- ---- the end of a feed
 
@@ -228,13 +228,13 @@ close_stop_same (fault.Write written) old new none h = absurd cc
 close_stop_same fault.Memory old new none h = absurd cc
 
 -- with the fault that is kept after it
-pub close_fails : (f : Fault) (old new : Followed) (kept : Option Fault) → old.fault ≡ None → kept ≡ kept_fault f → ClosesNot old new f → CloseFails old (follower_of new.cut new.committee new.book kept) f
-close_fails (fault.Feed found) old new kept none e h = (h, e)
-close_fails (fault.Collision id) old new kept none e h = (h.0, (λ i. follower_of (h.1 i).cut (h.1 i).committee (h.1 i).book ((e ∙ sym none) i)))
-close_fails (fault.Equivocation round author first second) old new kept none e h = (h.0, (λ i. follower_of (h.1 i).cut (h.1 i).committee (h.1 i).book ((e ∙ sym none) i)))
-close_fails (fault.Unfinished place) old new kept none e h = (h, e)
-close_fails (fault.Write written) old new kept none e h = absurd h
-close_fails fault.Memory old new kept none e h = e
+pub close_fails : (f : Fault) (old new now : Followed) → now ≡ after_fault f new → ClosesNot old new f → CloseFails old now f
+close_fails (fault.Feed found) old new now e h = (h, e)
+close_fails (fault.Collision id) old new now e h = (h.0, e ∙ h.1)
+close_fails (fault.Equivocation round author first second) old new now e h = (h.0, e ∙ h.1)
+close_fails (fault.Unfinished place) old new now e h = (h, e)
+close_fails (fault.Write written) old new now e h = absurd h
+close_fails fault.Memory old new now e h = e
 
 -- after a fault that is not kept everything is as it was
 pub end_stop_same : (f : Fault) (old new : Followed) (before after : Device) → kept_fault f ≡ None → EndFails old new before after f → new ≡ old
@@ -246,10 +246,38 @@ end_stop_same (fault.Write written) old new before after none h = absurd cc
 end_stop_same fault.Memory old new before after none h = absurd cc
 
 -- with the fault that is kept after it
-pub finish_fails : (f : Fault) (old new : Followed) (kept : Option Fault) (before after : Device) → old.fault ≡ None → kept ≡ kept_fault f → EndFails old new before after f → FinishFails old (follower_of new.cut new.committee new.book kept) before after f
-finish_fails (fault.Feed found) old new kept before after none e h = (h.0, e, h.1)
-finish_fails (fault.Collision id) old new kept before after none e h = (h.0, (λ i. follower_of (h.1 i).cut (h.1 i).committee (h.1 i).book ((e ∙ sym none) i)), h.2)
-finish_fails (fault.Equivocation round author first second) old new kept before after none e h = (h.0, (λ i. follower_of (h.1 i).cut (h.1 i).committee (h.1 i).book ((e ∙ sym none) i)), h.2)
-finish_fails (fault.Unfinished place) old new kept before after none e h = (h.0, e, h.1)
-finish_fails (fault.Write written) old new kept before after none e h = (h.0, e, h.1)
-finish_fails fault.Memory old new kept before after none e h = (e, h)
+pub finish_fails : (f : Fault) (old new now : Followed) (before after : Device) → now ≡ after_fault f new → EndFails old new before after f → FinishFails old now before after f
+finish_fails (fault.Feed found) old new now before after e h = (h.0, e, h.1)
+finish_fails (fault.Collision id) old new now before after e h = (h.0, e ∙ h.1, h.2)
+finish_fails (fault.Equivocation round author first second) old new now before after e h = (h.0, e ∙ h.1, h.2)
+finish_fails (fault.Unfinished place) old new now before after e h = (h.0, e, h.1)
+finish_fails (fault.Write written) old new now before after e h = (h.0, e, h.1)
+finish_fails fault.Memory old new now before after e h = (e, h)
+
+-- a stop leaves all as it was
+unkept : (f : Fault) (left : Followed) → kept_fault f ≡ None → after_fault f left ≡ left
+unkept (fault.Feed found) left none = absurd cc
+unkept (fault.Collision id) left none = refl
+unkept (fault.Equivocation round author first second) left none = refl
+unkept (fault.Unfinished place) left none = absurd cc
+unkept (fault.Write written) left none = absurd cc
+unkept fault.Memory left none = absurd cc
+
+-- where no fault is kept
+pub left_now : (f : Fault) (left : Followed) (cut : Cut) (committee : Option CommitteeValue) (book : Option BookValue) (stands : Option Fault) → stands ≡ None → stands ≡ kept_fault f → follower_of cut committee book stands ≡ after_fault f left → follower_of cut committee book None ≡ left
+left_now f left cut committee book stands none kept e = (λ i. follower_of cut committee book (sym none i)) ∙ (e ∙ unkept f left (sym kept ∙ none))
+
+-- a Follower that works keeps no fault, so it need not be empty
+pub works_unbroken : (stands : Option Fault) (v : Followed) → stands ≡ None → IfSome stands (λ _. v ≡ unfed)
+works_unbroken stands v none = subst (λ (o : Option Fault). IfSome o (λ _. v ≡ unfed)) (sym none) tt
+
+-- one that keeps a fault holds nothing else
+pub broken_by : (stands : Option Fault) (f : Fault) (cut : Cut) (committee : Option CommitteeValue) (book : Option BookValue) → follower_of cut committee book None ≡ unfed → stands ≡ Some f → follower_of cut committee book stands ≡ broken f
+broken_by stands f cut committee book empty kept = λ i. follower_of (empty i).cut (empty i).committee (empty i).book (kept i)
+
+pub all_broken : (stands : Option Fault) (cut : Cut) (committee : Option CommitteeValue) (book : Option BookValue) (v : Followed) → follower_of cut committee book stands ≡ v → IfSome stands (λ _. follower_of cut committee book None ≡ unfed) → IfSome stands (λ f. v ≡ broken f)
+all_broken None cut committee book v is empty = tt
+all_broken (Some f) cut committee book v is empty = sym is ∙ broken_by (Some f) f cut committee book empty refl
+
+pub kept_broken : (stands : Option Fault) (f : Fault) (cut : Cut) (committee : Option CommitteeValue) (book : Option BookValue) → stands ≡ Some f → IfSome stands (λ _. follower_of cut committee book None ≡ unfed) → follower_of cut committee book stands ≡ broken f
+kept_broken stands f cut committee book kept empty = broken_by stands f cut committee book (subst (λ (o : Option Fault). IfSome o (λ _. follower_of cut committee book None ≡ unfed)) kept empty) kept

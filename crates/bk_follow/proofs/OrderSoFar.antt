@@ -17,7 +17,7 @@ use Rattle.bk_follow.specs.Ordering.{FindsOrder, IsOrdered, OrderFails, anchors_
 use Rattle.bk_follow.specs.private.Books.{IsGoodBook, BookSettleFails}
 use Rattle.bk_follow.specs.private.Ledgers.{book_with}
 use Rattle.bk_follow.specs.private.Ordered.{BookOrderFails}
-use Rattle.bk_follow.specs.Stopping.{kept_fault}
+use Rattle.bk_follow.specs.private.Parts.{after_fault}
 use Rattle.bk_follow.proofs.Books.{IsSettling, clear_in, order_in_feed, whole_part}
 use Rattle.bk_follow.proofs.Following.{follower_of, good_of, come_on, settle_fails}
 
@@ -110,11 +110,11 @@ as_settle (fault.Write written) old new h = absurd h
 as_settle fault.Memory old new h = h
 
 -- and why the Follower has no order
-pub order_fails : (f : Fault) (cut : Cut) (committee : Option CommitteeValue) (book : Option BookValue) (stands kept : Option Fault) (b new : BookValue) → book ≡ Some b → stands ≡ None → kept ≡ kept_fault f → BookOrderFails b new f
-    → OrderFails (follower_of cut committee book stands) (follower_of cut committee (Some new) kept) f
-order_fails (fault.Feed found) cut committee book stands kept b new is none e h = absurd h
-order_fails (fault.Collision id) cut committee book stands kept b new is none e h = settle_fails (fault.Collision id) cut committee book stands kept b new is none e h
-order_fails (fault.Equivocation round author first second) cut committee book stands kept b new is none e h = settle_fails (fault.Equivocation round author first second) cut committee book stands kept b new is none e h
-order_fails (fault.Unfinished place) cut committee book stands kept b new is none e h = absurd h
-order_fails (fault.Write written) cut committee book stands kept b new is none e h = absurd h
-order_fails fault.Memory cut committee book stands kept b new is none e h = e
+pub order_fails : (f : Fault) (cut : Cut) (committee : Option CommitteeValue) (book : Option BookValue) (stands : Option Fault) (b new : BookValue) (now : Followed) → book ≡ Some b → stands ≡ None → now ≡ after_fault f (follower_of cut committee (Some new) None) → BookOrderFails b new f
+    → OrderFails (follower_of cut committee book stands) now f
+order_fails (fault.Feed found) cut committee book stands b new now is none e h = absurd h
+order_fails (fault.Collision id) cut committee book stands b new now is none e h = settle_fails (fault.Collision id) cut committee book stands b new now is none e h
+order_fails (fault.Equivocation round author first second) cut committee book stands b new now is none e h = settle_fails (fault.Equivocation round author first second) cut committee book stands b new now is none e h
+order_fails (fault.Unfinished place) cut committee book stands b new now is none e h = absurd h
+order_fails (fault.Write written) cut committee book stands b new now is none e h = absurd h
+order_fails fault.Memory cut committee book stands b new now is none e h = e

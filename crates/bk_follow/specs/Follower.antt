@@ -33,6 +33,10 @@ pub record Followed : Type 0 where
 abbrev pub unfed : Followed
 unfed = record { cut = fresh; committee = None; book = None; fault = None }
 
+-- after a fault that every later call returns: it holds that fault, and nothing else
+abbrev pub broken : Fault → Followed
+broken f = record { cut = fresh; committee = None; book = None; fault = Some f }
+
 -- the order of a part of the frames of a feed
 pub record OrdersPart (feed : FeedValue) (o : Ordered) : Type 0 where
   pub part : List Frame
@@ -138,11 +142,11 @@ OfFrames v holds =
     → (version : Version) × (v.cut.version ≡ Some version) × holds (feed_of version frames)
 
 -- why there was no settle, and what it leaves: the stop of the whole frames so far, and then all is as it was; a place that
--- a worker took and did not finish; or memory ran out. The last two are returned by every later call
+-- a worker took and did not finish; or memory ran out. After the last two the Follower holds nothing but the fault
 abbrev pub SettleFails : Followed → Followed → Fault → Type 0
 SettleFails old new (fault.Feed found) = ⊥
 SettleFails old new (fault.Unfinished place) =
-    (new.fault ≡ Some (fault.Unfinished place)) × OfFrames old (λ feed. HasPlaceIn feed place)
+    (new ≡ broken (fault.Unfinished place)) × OfFrames old (λ feed. HasPlaceIn feed place)
 SettleFails old new (fault.Write written) = ⊥
-SettleFails old new fault.Memory = new.fault ≡ Some fault.Memory
+SettleFails old new fault.Memory = new ≡ broken fault.Memory
 SettleFails old new stop = (new ≡ old) × OfFrames old (λ feed. IsStopIn feed stop)

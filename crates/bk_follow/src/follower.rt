@@ -1,12 +1,12 @@
 //! A feed that is followed as it comes.
 
-ghost use Rattle.std.specs.Prelude.{◌≡◌, ◌≤◌, ℕ, List, None, Some, Err, OnOk, IfOk, IfErr, IfSome};
+ghost use Rattle.std.specs.Prelude.{◌≡◌, ◌≤◌, ℕ, List, [], None, Some, Err, OnOk, IfOk, IfErr, IfSome};
 ghost use Rattle.bk_frames.specs.Device.{CanBeUsed};
 ghost use Rattle.bk_base.specs.Feed.{Frame};
-ghost use Rattle.bk_follow.specs.Follower.{unfed, HasCome, Takes, FeedFails, Settles, SettleFails, ordered_in, receipts_in, executed_in};
+ghost use Rattle.bk_follow.specs.Follower.{unfed, broken, HasCome, Takes, FeedFails, Settles, SettleFails, ordered_in, receipts_in, executed_in};
 ghost use Rattle.bk_follow.specs.Finishing.{Closes, CloseFails, Finishes, FinishFails};
 ghost use Rattle.bk_results.specs.Devices.{IsUntouched};
-ghost use Rattle.bk_follow.specs.private.Parts.{followed, ClosesNot, EndFails};
+ghost use Rattle.bk_follow.specs.private.Parts.{followed, followed_with, after_fault, ClosesNot, EndFails};
 ghost use Rattle.bk_follow.specs.Stopping.{kept_fault, stops};
 
 use crate::book::Book;
@@ -24,8 +24,8 @@ use std::thread::Threads;
 
 /// Follows a feed that comes in pieces: its frames, their order and the accounts after its batches.
 ///
-/// A fault of kind `Feed`, `Memory`, `Unfinished` or `Write` is returned again by every later call. A `Collision` or an
-/// `Equivocation` leaves everything as it was, and more pieces may be fed.
+/// A fault of kind `Feed`, `Memory`, `Unfinished` or `Write` is returned again by every later call, and the Follower holds
+/// nothing else from then on. A `Collision` or an `Equivocation` leaves everything as it was, and more pieces may be fed.
 #[derive(Drop)]
 pub struct Follower {
     pub(crate) alloc: Global,
@@ -35,9 +35,9 @@ pub struct Follower {
 }
 
 impl Model for Follower {
-    ghost use Rattle.std.specs.Prelude.{◌≡◌, ◌≤◌, ℕ, List, [], None};
+    ghost use Rattle.std.specs.Prelude.{◌≡◌, ◌≤◌, ℕ, List, [], None, IfSome};
     ghost use Rattle.bk_base.specs.Feed.{Frame};
-    ghost use Rattle.bk_follow.specs.Follower.{Followed, HasCome};
+    ghost use Rattle.bk_follow.specs.Follower.{Followed, HasCome, unfed};
     ghost use Rattle.bk_follow.specs.private.Parts.{followed};
 
     ghost Value = { Followed };
@@ -52,7 +52,8 @@ impl Model for Follower {
     ghost invariant = { λ f. (1 ≤ f.workers) × (f.workers ≤ 64) × (f.fault ≡ None
         → (bytes : List ℕ) × (frames : List Frame)
         × HasCome bytes frames (followed f.gathered.cutter f.gathered.opened))
-        × (f.fault ≡ None → f.gathered.frames.items ≡ []) };
+        × (f.fault ≡ None → f.gathered.frames.items ≡ [])
+        × IfSome f.fault (λ _. followed f.gathered.cutter f.gathered.opened ≡ unfed) };
 }
 
 /// Whether a fault is a stop of the feed, which may go on.
@@ -65,26 +66,45 @@ pub fn is_stop(fault: &Fault) -> bool
     }
 }
 
-/// Keeps a fault: every later call returns it.
-pub(crate) fn latch(standing: &mut Option<Fault>, fault: Fault) -> Fault
+/// Keeps a fault, which every later call returns, and gives back all else.
+pub(crate) fn latch(
+    alloc: Global,
+    gathered: &mut Inbox,
+    standing: &mut Option<Fault>,
+    fault: Fault,
+) -> Fault
+    ensures emptied { followed gathered.new.cutter gathered.new.opened ≡ unfed }
+    ensures none_waits { gathered.new.frames.items ≡ [] }
     ensures standing { standing.new ≡ Some fault }
     ensures same { result ≡ fault }
 {
+    *gathered = Inbox::new(alloc);
     let again = fault;
     *standing = Some(again);
     fault
 }
 
-/// The same of a fault that is no stop.
-pub(crate) fn latch_unless_stop(standing: &mut Option<Fault>, fault: Fault) -> Fault
+/// Keeps a fault that is no stop, and gives back all else. A stop changes nothing.
+pub(crate) fn latch_unless_stop(
+    alloc: Global,
+    gathered: &mut Inbox,
+    standing: &mut Option<Fault>,
+    fault: Fault,
+) -> Fault
     requires none { standing.old ≡ None }
+    requires none_waits { gathered.old.frames.items ≡ [] }
+    ensures left { followed_with gathered.new.cutter gathered.new.opened standing.new
+        ≡ after_fault fault (followed gathered.old.cutter gathered.old.opened) }
+    ensures emptied { IfSome standing.new
+        (λ _. followed gathered.new.cutter gathered.new.opened ≡ unfed) }
+    ensures none_waits { gathered.new.frames.items ≡ [] }
     ensures standing { standing.new ≡ kept_fault fault }
     ensures same { result ≡ fault }
 {
     if is_stop(&fault) {
         return fault;
     }
-    latch(standing, fault)
+    latch(alloc, gathered, standing, fault)
 }
 
 // Settles, where the feed may end here.
@@ -165,9 +185,11 @@ impl Follower {
         }
     }
 
-    /// The fault that every later call returns, if there is one.
+    /// The fault that every later call returns, if there is one. Then the Follower holds nothing else: no order, no
+    /// accounts, and its offset is 0.
     pub fn fault(&self) -> Option<Fault>
-        ensures { result ≡ self.now.fault }
+        ensures is { result ≡ self.now.fault }
+        ensures broken { IfSome result (λ f. self.now ≡ broken f) }
     {
         self.fault
     }
@@ -191,7 +213,7 @@ impl Follower {
             (λ b. executed_in self.new.book ≡ b.executed)) }
         ensures works { OnOk result ((self.old.fault ≡ None) × (self.new.fault ≡ None)) }
         ensures again { IfSome self.old.fault (λ f. (result ≡ Err f) × (self.new ≡ self.old)) }
-        ensures stays { IfErr result (λ f. self.new.fault ≡ Some f) }
+        ensures broken { IfErr result (λ f. self.new ≡ broken f) }
         ensures fault { IfErr result (λ f. self.old.fault ≡ None → FeedFails self.old piece.now f) }
     {
         if let Some(fault) = self.fault {
@@ -200,7 +222,7 @@ impl Follower {
         let Inbox { cutter, opened, .. } = &mut self.gathered;
         match advance(rt, self.alloc, cutter, opened, piece) {
             Ok(()) => Ok(()),
-            Err(fault) => Err(latch(&mut self.fault, fault)),
+            Err(fault) => Err(latch(self.alloc, &mut self.gathered, &mut self.fault, fault)),
         }
     }
 
@@ -228,7 +250,12 @@ impl Follower {
         };
         match book.settle(rt, self.workers, gate) {
             Ok(count) => Ok(count),
-            Err(fault) => Err(latch_unless_stop(&mut self.fault, fault)),
+            Err(fault) => Err(latch_unless_stop(
+                self.alloc,
+                &mut self.gathered,
+                &mut self.fault,
+                fault,
+            )),
         }
     }
 
@@ -249,7 +276,12 @@ impl Follower {
         let Inbox { cutter, opened, .. } = &mut self.gathered;
         match settle_at_end(rt, cutter, opened, self.workers, gate) {
             Ok(()) => Ok(()),
-            Err(fault) => Err(latch_unless_stop(&mut self.fault, fault)),
+            Err(fault) => Err(latch_unless_stop(
+                self.alloc,
+                &mut self.gathered,
+                &mut self.fault,
+                fault,
+            )),
         }
     }
 
@@ -277,7 +309,12 @@ impl Follower {
         let Inbox { cutter, opened, .. } = &mut self.gathered;
         match end(rt, cutter, opened, self.workers, gate, sink) {
             Ok(status) => Ok(status),
-            Err(fault) => Err(latch_unless_stop(&mut self.fault, fault)),
+            Err(fault) => Err(latch_unless_stop(
+                self.alloc,
+                &mut self.gathered,
+                &mut self.fault,
+                fault,
+            )),
         }
     }
 }

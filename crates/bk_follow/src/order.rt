@@ -79,7 +79,12 @@ impl Follower {
         };
         match book.settle_order() {
             Ok(()) => Ok(()),
-            Err(fault) => Err(latch_unless_stop(&mut self.fault, fault)),
+            Err(fault) => Err(latch_unless_stop(
+                self.alloc,
+                &mut self.gathered,
+                &mut self.fault,
+                fault,
+            )),
         }
     }
 
@@ -98,7 +103,12 @@ impl Follower {
         let Inbox { cutter, opened, .. } = &mut self.gathered;
         match order_at_end(cutter, opened) {
             Ok(()) => Ok(()),
-            Err(fault) => Err(latch_unless_stop(&mut self.fault, fault)),
+            Err(fault) => Err(latch_unless_stop(
+                self.alloc,
+                &mut self.gathered,
+                &mut self.fault,
+                fault,
+            )),
         }
     }
 

@@ -188,7 +188,12 @@ impl Follower {
         self.ready()?;
         match self.find_proof(rt, id) {
             Ok(found) => Ok(found),
-            Err(_) => Err(latch(&mut self.fault, Fault::Memory)),
+            Err(_) => Err(latch(
+                self.alloc,
+                &mut self.gathered,
+                &mut self.fault,
+                Fault::Memory,
+            )),
         }
     }
 }

@@ -3,7 +3,7 @@ ghost use Rattle.bk_answer.specs.Answers.{AnswerFailsBy, IsAnswered};
 ghost use Rattle.bk_answer.specs.RunReport.{IsReportOf};
 ghost use Rattle.bk_frames.specs.Device.{CanBeUsed, Works, GaveAll};
 ghost use Rattle.bk_base.specs.Feed.{Frame};
-ghost use Rattle.bk_follow.specs.Follower.{unfed};
+ghost use Rattle.bk_follow.specs.Follower.{broken, unfed};
 ghost use Rattle.bk_results.specs.Devices.{devices};
 ghost use Rattle.bk_follow.specs.Replaying.{ReadFails, AllHasCome};
 ghost use Rattle.bk_follow.specs.private.Gathering.{HasGathered, IsAllOf};
@@ -66,12 +66,12 @@ impl Follower {
             × (self.new.fault ≡ None)) }
         ensures come { OnOk result (GaveAll (S.state source.old) (S.state source.new)
             (λ bytes. AllHasCome bytes self.new)) }
-        ensures stays { IfErr result (λ f. self.new.fault ≡ Some f) }
+        ensures broken { IfErr result (λ f. self.new ≡ broken f) }
         ensures fault { IfErr result (λ f. ReadFails f (S.state source.old) (S.state source.new)) }
     {
         match pull_all(rt, self.alloc, source, piece, &mut self.gathered) {
             Ok(()) => Ok(()),
-            Err(fault) => Err(latch(&mut self.fault, fault)),
+            Err(fault) => Err(latch(self.alloc, &mut self.gathered, &mut self.fault, fault)),
         }
     }
 }

@@ -1,5 +1,5 @@
 -- What is known of a Follower's parts.
-use Rattle.std.specs.Prelude.{◌≡◌, None}
+use Rattle.std.specs.Prelude.{◌≡◌, Option, None}
 use Rattle.bk_frames.specs.Device.{Device, Fails}
 use Rattle.bk_frames.specs.Cutting.{Cut, EndsShort}
 use Rattle.bk_results.specs.declared.fault.Fault.{Fault}
@@ -8,13 +8,25 @@ use Rattle.bk_follow.specs.declared.opening.Opened.{Opened}
 use Rattle.bk_results.specs.declared.status.Status.{Status}
 use Rattle.bk_results.specs.Devices.{IsUntouched}
 use Rattle.bk_follow.specs.Finishing.{OfFeed}
-use Rattle.bk_follow.specs.Follower.{Followed}
+use Rattle.bk_follow.specs.Follower.{Followed, broken}
 use Rattle.bk_answer.specs.Answers.{TextStops}
 use Rattle.bk_answer.specs.RunReport.{IsReportOf, IsStopIn, HasPlaceIn}
 
 -- a Follower of these parts, in which no fault is kept
 abbrev pub followed : Cut → Opened → Followed
 followed cut opened = record { cut = cut; committee = opened.committee; book = opened.book; fault = None }
+
+-- a Follower of these parts, with the fault that is kept
+abbrev pub followed_with : Cut → Opened → Option Fault → Followed
+followed_with cut opened stands = record { cut = cut; committee = opened.committee; book = opened.book; fault = stands }
+
+-- what a fault makes of a Follower: nothing of one that a stop met, else it holds that fault alone
+abbrev pub after_fault : Fault → Followed → Followed
+after_fault (fault.Feed found) left = broken (fault.Feed found)
+after_fault (fault.Unfinished place) left = broken (fault.Unfinished place)
+after_fault (fault.Write written) left = broken (fault.Write written)
+after_fault fault.Memory left = broken fault.Memory
+after_fault stop left = left
 
 -- why a feed that is followed was not closed, but for the fault that is kept after it
 abbrev pub ClosesNot : Followed → Followed → Fault → Type 0

@@ -1,8 +1,8 @@
-use Rattle.std.proofs.Common.{◌≡◌, refl, sym, subst, ◌∙◌}
+use Rattle.std.proofs.Common.{◌≡◌, sym, subst, ◌∙◌}
 use Rattle.bk_follow.specs.Follower.{Followed, HasCome}
 use Rattle.bk_follow.specs.Finishing.{Closes, CloseFails}
 use Rattle.bk_follow.specs.private.Parts.{followed}
-use Rattle.bk_follow.proofs.Following.{follower_of, close_stop_same, close_fails}
+use Rattle.bk_follow.proofs.Following.{follower_of, close_stop_same, close_fails, works_unbroken, left_now}
 use Rattle.bk_follow.proofs.follower.Follower.close.Goals as goal
 
 pub invariant_of-self : goal.invariant_of-self
@@ -13,6 +13,7 @@ invariant_of-self g c = (
       let inv = c.self.invariant.2 c.in_default.is in
       (inv.0, inv.1, (c.in-Ok.ensures.closed.settled inv.0 inv.1 inv.2).0),
   λ none. c.self.invariant.3 c.in_default.is,
+  works_unbroken c.self.inside.fault (followed c.self.inside.gathered.cutter c.settle_at_end.new.opened) c.in_default.is,
 )
 
 pub invariant_of-self-in-Err : goal.invariant_of-self-in-Err
@@ -22,8 +23,9 @@ invariant_of-self-in-Err g c = (
   λ none.
       let inv = c.self.invariant.2 c.in_default.is in
       let same = close_stop_same c.in-Err.fault (followed c.self.inside.gathered.cutter c.self.inside.gathered.opened) (followed c.self.inside.gathered.cutter c.settle_at_end.new.opened) (sym c.latch_unless_stop.ensures.standing ∙ none) c.in-Err.ensures.fault in
-      (inv.0, inv.1, subst (HasCome inv.0 inv.1) (sym same) inv.2),
-  λ none. c.self.invariant.3 c.in_default.is,
+      (inv.0, inv.1, subst (HasCome inv.0 inv.1) (sym (left_now c.in-Err.fault (followed c.self.inside.gathered.cutter c.settle_at_end.new.opened) c.latch_unless_stop.new.gathered.cutter c.latch_unless_stop.new.gathered.opened.committee c.latch_unless_stop.new.gathered.opened.book c.latch_unless_stop.new.standing none c.latch_unless_stop.ensures.standing c.latch_unless_stop.ensures.left ∙ same)) inv.2),
+  λ none. c.latch_unless_stop.ensures.none_waits,
+  c.latch_unless_stop.ensures.emptied,
 )
 
 pub returns-in-Ok-clause-closed : goal.returns-in-Ok-clause-closed
@@ -38,5 +40,5 @@ returns-in-Err-clause-fault g c = λ _.
     let none = c.in_default.is in
     let old : followed c.self.inside.gathered.cutter c.self.inside.gathered.opened ≡ c.args.self.now = (λ i. follower_of c.self.inside.gathered.cutter c.self.inside.gathered.opened.committee c.self.inside.gathered.opened.book (sym none i)) ∙ c.self.view_is in
     rw c.latch_unless_stop.ensures.same
-    (subst (λ (p : Followed). CloseFails p (follower_of c.self.inside.gathered.cutter c.settle_at_end.new.opened.committee c.settle_at_end.new.opened.book c.latch_unless_stop.new.standing) c.in-Err.fault) old
-    (close_fails c.in-Err.fault (followed c.self.inside.gathered.cutter c.self.inside.gathered.opened) (followed c.self.inside.gathered.cutter c.settle_at_end.new.opened) c.latch_unless_stop.new.standing refl c.latch_unless_stop.ensures.standing c.in-Err.ensures.fault))
+    (subst (λ (p : Followed). CloseFails p (follower_of c.latch_unless_stop.new.gathered.cutter c.latch_unless_stop.new.gathered.opened.committee c.latch_unless_stop.new.gathered.opened.book c.latch_unless_stop.new.standing) c.in-Err.fault) old
+    (close_fails c.in-Err.fault (followed c.self.inside.gathered.cutter c.self.inside.gathered.opened) (followed c.self.inside.gathered.cutter c.settle_at_end.new.opened) (follower_of c.latch_unless_stop.new.gathered.cutter c.latch_unless_stop.new.gathered.opened.committee c.latch_unless_stop.new.gathered.opened.book c.latch_unless_stop.new.standing) c.latch_unless_stop.ensures.left c.in-Err.ensures.fault))

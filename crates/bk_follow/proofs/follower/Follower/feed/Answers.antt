@@ -1,7 +1,9 @@
-use Rattle.std.proofs.Common.{◌≡◌, ◌++◌, Some, None, sym, subst, ◌∙◌}
-use Rattle.bk_follow.specs.Follower.{Followed, Takes, FeedFails}
+use Rattle.std.proofs.Common.{◌≡◌, ◌++◌, Some, None, sym, subst, ◌∙◌, Option}
+use Rattle.std.specs.Prelude.{IfSome}
+use Rattle.bk_results.specs.declared.fault.Fault.{Fault}
+use Rattle.bk_follow.specs.Follower.{Followed, Takes, FeedFails, unfed}
 use Rattle.bk_follow.specs.private.Parts.{followed}
-use Rattle.bk_follow.proofs.Following.{follower_of}
+use Rattle.bk_follow.proofs.Following.{follower_of, works_unbroken, broken_by, kept_broken}
 use Rattle.bk_follow.proofs.follower.Follower.feed.Goals as goal
 
 pub invariant_of-self : goal.invariant_of-self
@@ -13,6 +15,7 @@ invariant_of-self g c = (
       let took = c.in-Ok.ensures.takes inv.0 inv.1 inv.2 in
       (inv.0 ++ c.args.piece.now, inv.1 ++ took.0, took.1),
   λ none. c.self.invariant.3 c.in_default.is,
+  works_unbroken c.self.inside.fault (followed c.advance.new.cutter c.advance.new.opened) c.in_default.is,
 )
 
 pub invariant_of-self-in-Err : goal.invariant_of-self-in-Err
@@ -20,7 +23,8 @@ invariant_of-self-in-Err g c = (
   c.self.invariant.0,
   c.self.invariant.1,
   λ none. absurd (let e : None ≡ Some c.in-Err.fault = sym none ∙ c.latch.ensures.standing in cc),
-  λ none. absurd (let e : None ≡ Some c.in-Err.fault = sym none ∙ c.latch.ensures.standing in cc),
+  λ none. c.latch.ensures.none_waits,
+  subst (λ (o : Option Fault). IfSome o (λ _. followed c.latch.new.gathered.cutter c.latch.new.gathered.opened ≡ unfed)) (sym c.latch.ensures.standing) c.latch.ensures.emptied,
 )
 
 pub returns-in-Ok-clause-takes : goal.returns-in-Ok-clause-takes
@@ -35,3 +39,10 @@ returns-in-Err-clause-fault g c = λ _.
     let none = c.in_default.is in
     let old : followed c.self.inside.gathered.cutter c.self.inside.gathered.opened ≡ c.args.self.now = (λ i. follower_of c.self.inside.gathered.cutter c.self.inside.gathered.opened.committee c.self.inside.gathered.opened.book (sym none i)) ∙ c.self.view_is in
     rw c.latch.ensures.same (subst (λ (p : Followed). FeedFails p c.args.piece.now c.in-Err.fault) old c.in-Err.ensures.fault)
+
+pub returns-in-Some-clause-broken : goal.returns-in-Some-clause-broken
+returns-in-Some-clause-broken g c = sym c.self.view_is ∙ kept_broken c.self.inside.fault c.in-Some.fault c.self.inside.gathered.cutter c.self.inside.gathered.opened.committee c.self.inside.gathered.opened.book c.in-Some.is c.self.invariant.4
+
+pub returns-in-Err-clause-broken : goal.returns-in-Err-clause-broken
+returns-in-Err-clause-broken g c =
+    rw c.latch.ensures.same (broken_by c.latch.new.standing c.in-Err.fault c.latch.new.gathered.cutter c.latch.new.gathered.opened.committee c.latch.new.gathered.opened.book c.latch.ensures.emptied c.latch.ensures.standing)
