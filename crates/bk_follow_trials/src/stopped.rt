@@ -35,12 +35,23 @@ where
         && finds_nothing(rt, follower, fault)
 }
 
+// Whether nothing is left of what came before.
+fn holds_nothing(follower: &Follower) -> bool {
+    let order = follower.last_order();
+    follower.opening().is_empty()
+        && order.anchors.is_empty()
+        && order.certs.is_empty()
+        && follower.closed().is_none()
+        && follower.offset() == 0
+}
+
 // Whether every call gives this fault.
 fn is_refused_once<R>(rt: &R, follower: &mut Follower, fault: &Fault) -> bool
 where
     R: AllocGlobal + Threads + Wait + Sync,
 {
     follower.fault() == Some(*fault)
+        && holds_nothing(follower)
         && refuses(rt, follower, b"", fault)
         && is_stopped(rt, follower, fault)
         && refuses(rt, follower, b"BKF1", fault)
