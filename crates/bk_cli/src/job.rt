@@ -198,7 +198,9 @@ impl Job {
     }
 
     // Gives its memory back. A caller that ends with this call need not go through all that a job holds in its own proof.
-    fn discard(self) {}
+    fn discard(self) {
+        drop(self);
+    }
 }
 
 /// Whether standard input is read in place of a file.

@@ -18,7 +18,7 @@ use bk_pool::Gate;
 use bk_results::Status;
 use std::alloc::Global;
 use std::marker::Model;
-use std::mem::forget;
+use std::mem::{forget, replace};
 use std::sync::Wait;
 use std::thread::Threads;
 
@@ -78,7 +78,7 @@ pub(crate) fn latch(
     ensures standing { standing.new ≡ Some fault }
     ensures same { result ≡ fault }
 {
-    *gathered = Inbox::new(alloc);
+    drop(replace(gathered, Inbox::new(alloc)));
     let again = fault;
     *standing = Some(again);
     fault
@@ -173,7 +173,10 @@ impl Follower {
 
     /// Gives its memory back. A caller that owns a Follower ends with this call: its own proof then need not go through
     /// all that a Follower holds.
-    pub fn discard(self) {}
+    pub fn discard(self) {
+        let Follower { gathered, .. } = self;
+        drop(gathered);
+    }
 
     /// Gives its memory back; or leaves it to the end of the process, which gives all of it back at once: a deep feed takes
     /// longer to give back a certificate at a time than to write its report.

@@ -18,6 +18,7 @@ use bk_base::{Kind, Row, Version, read_genesis};
 use bk_committee::{Bad, Committee};
 use bk_frames::Cutter;
 use std::alloc::{AllocError, Global};
+use std::mem::{forget, replace};
 use std::thread::Threads;
 
 /// What is made of the frames so far: the committee after frame 0, and the book from frame 1 on.
@@ -101,11 +102,12 @@ fn book_of(alloc: Global, committee: Committee, payload: &[u8]) -> Result<Book, 
     Ok(book)
 }
 
-// Puts a book where none is. To drop what is there costs proof, so it is done here alone.
+// Puts a book where none is. So nothing is there to be dropped, which would cost proof.
 fn put_book(slot: &mut Option<Book>, book: Book)
+    requires { slot.old ≡ None }
     ensures { slot.new ≡ Some book }
 {
-    *slot = Some(book);
+    forget(replace(slot, Some(book)));
 }
 
 // Opens the book, where frame 1 is the next one.

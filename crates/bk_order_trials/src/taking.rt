@@ -86,7 +86,9 @@ fn take<R: Threads + Sync>(
 }
 
 /// Lets an Intake go. It is a function of its own so that those that own one have no other way out.
-pub(crate) fn discard(_intake: Intake) {}
+pub(crate) fn discard(intake: Intake) {
+    drop(intake);
+}
 
 /// Takes these frames in pieces of this size, and settles after each.
 pub(crate) fn take_all<R: Threads + Sync>(
