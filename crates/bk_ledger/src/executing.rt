@@ -318,7 +318,7 @@ impl Ledger {
         let mut ahead = look_first(alloc, payloads, ledger.state(), fewest)?;
         while ahead.from < end {
             if !ahead.next.is_plannable(ledger.state()) {
-                return Ok((ledger, ahead.from));
+                return Ok((ledger, ahead.into_from()));
             }
             let (after, later) = ledger.run_next(
                 rt, alloc, payloads, ahead, fewest, workers, gate,
@@ -326,7 +326,7 @@ impl Ledger {
             ledger = after;
             ahead = later;
         }
-        Ok((ledger, ahead.from))
+        Ok((ledger, ahead.into_from()))
     }
 
     /// Executes further batches, in slices of at least so many transactions. One worker needs no plan: it executes them in

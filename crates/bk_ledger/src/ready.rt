@@ -144,6 +144,15 @@ impl Ahead {
             planner,
         }
     }
+
+    /// The index of the first batch of the next slice. All else is given back.
+    pub(crate) fn into_from(self) -> usize
+        ensures { result ≡ self.from }
+    {
+        let from = self.from;
+        drop(self);
+        from
+    }
 }
 
 /// Reads the first two slices, and plans the first.
