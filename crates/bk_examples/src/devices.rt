@@ -1,4 +1,4 @@
-//! Devices that fail.
+//! Devices that move few bytes a call, and fail.
 
 use crate::outcome::Outcome;
 use bk_cli::{Job, Workers};
@@ -33,6 +33,15 @@ pub(crate) fn all_good(read_size: usize) -> Devices {
     }
 }
 
+/// Devices that do not fail, and move at most this many bytes a call.
+pub(crate) fn all_few(most: usize) -> Devices {
+    Devices {
+        feed: Device::good(most),
+        second: Device::good(most),
+        out: Device::good(most),
+    }
+}
+
 /// What a job leaves with these devices.
 pub(crate) fn job_with<R>(rt: &R, job: &Job, given: Given<'_>, devices: Devices) -> Outcome
 where
@@ -56,10 +65,10 @@ pub(crate) fn feed_alone(feed: &[u8]) -> Given<'_> {
     Given { feed, second: b"" }
 }
 
-/// A run by two workers.
-pub(crate) fn run_by_two() -> Job {
+/// A run by so many workers.
+pub(crate) fn run_by(workers: Workers) -> Job {
     Job::Run {
-        workers: Workers::two(),
+        workers,
         file: None,
     }
 }

@@ -1,6 +1,7 @@
 //! A line of the table of examples.
 
 use anyhow::{Context, Result, bail};
+use bk_trial_kit::Tally;
 use std::alloc::Global;
 
 /// A command line, and what the program has to do with it.
@@ -42,13 +43,34 @@ impl<'a> Example<'a> {
     /// Whether both standard output and standard error may get something: `frames` writes while it reads, with
     /// `--verbose` an answer may be followed by the name of a missing batch, and with `--strict` by what is wrong.
     pub(crate) fn writes_both(&self) -> bool {
-        self.command == "frames"
-            || self.words.contains(&"--verbose")
-            || self.words.contains(&"--strict")
+        self.command == "frames" || self.has_notes()
+    }
+
+    /// Whether more may be printed than the job alone prints.
+    pub(crate) fn has_notes(&self) -> bool {
+        self.words.contains(&"--verbose") || self.words.contains(&"--strict")
+    }
+
+    /// Whether the job gets an answer, and writes nothing before it unless it follows a feed.
+    pub(crate) fn is_answered(&self) -> bool {
+        matches!(self.status, 0 | 1 | 5) && self.command != "frames"
+    }
+
+    /// Whether the first file is a feed.
+    pub(crate) fn reads_feed(&self) -> bool {
+        !matches!(self.command, "make" | "check-proof" | "check-chain")
     }
 
     /// Whether it is a run without a number of workers.
     pub(crate) fn has_free_workers(&self) -> bool {
         matches!(self.words.as_slice(), [_, "run", _])
+    }
+
+    /// Counts a comparison, and says on standard error what the example did wrong.
+    pub(crate) fn note<R: Eprint>(&self, rt: &R, what: &str, is_right: bool, tally: &mut Tally) {
+        tally.count(is_right);
+        if !is_right {
+            let _ = eprintln!(rt; "{} {}: {what}", self.command, self.name);
+        }
     }
 }

@@ -1,62 +1,151 @@
-//! Jobs that have an answer, with devices that fail.
+//! Jobs over the files of an example in memory, with devices that move few bytes a call, or fail.
 
-use crate::devices::{Devices, Given, all_good, job_with};
+use crate::applying::is_applied_well;
+use crate::devices::{Devices, Given, all_few, all_good, feed_alone, job_with, run_by};
 use crate::example::Example;
-use crate::failing::{
-    MOST_CALLS, SIZE, UNREAD_FEED, UNREAD_TEXT, is_unread, reads_fail_well, writes_fail_well,
-};
-use crate::outcome::Outcome;
-use anyhow::{Result, bail};
+use crate::failing::{Input, Tried, reads_fail_well, writes_fail_well};
+use crate::proofs::is_tight;
+use anyhow::Result;
 use bk_cli::{Job, Workers, parse};
-use bk_trial_kit::Device;
-use std::alloc::Global;
+use bk_trial_kit::{Device, Tally, ends_of};
 use std::fs;
 use std::rt::Files;
 use std::sync::Wait;
 use std::thread::Threads;
 
-// The fault of a failed read of the first file of a command.
-fn first_fault(command: &str) -> &'static [u8] {
-    match command {
-        "make" | "check-proof" | "check-chain" => UNREAD_TEXT,
-        _ => UNREAD_FEED,
+// How many bytes a call moves at most.
+const FEW: [usize; 6] = [1, 3, 7, 40, 50, 64];
+
+// ---- few bytes a call
+
+// Whether a job prints what its example has to, by devices that do not fail, and move few bytes a call.
+fn moves_few<R>(rt: &R, example: &Example<'_>, job: &Job, given: Given<'_>) -> Result<bool>
+where
+    R: AllocGlobal + Files + Threads + Wait + Sync,
+{
+    let wanted = fs::read(rt, example.wanted)?;
+    for most in FEW {
+        let found = job_with(rt, job, given, all_few(most));
+        if found.status != example.status || !found.has_printed(&wanted, example.writes_both()) {
+            return Ok(false);
+        }
     }
+    Ok(true)
 }
 
-// The fault of a failed read of the second file of a command.
-fn second_fault(command: &str) -> &'static [u8] {
-    match command {
-        "compare" => UNREAD_FEED,
-        _ => UNREAD_TEXT,
-    }
-}
+// ---- devices that fail
 
-// Whether a failed read of the second file gives this fault and writes nothing, whichever read it is; and one of them
-// fails, where there is a second file.
-fn second_reads_fail_well<R>(
-    rt: &R,
-    job: &Job,
-    given: Given<'_>,
-    whole: &Outcome,
-    fault: &[u8],
-) -> bool
+// Whether each read of one of the files fails well.
+fn file_fails_well<R>(rt: &R, tried: Tried<'_>, is_second: bool, is_feed: bool) -> Result<bool>
 where
     R: AllocGlobal + Threads + Wait + Sync,
 {
-    for reads in 0..MOST_CALLS {
-        let devices = Devices {
-            second: Device::lost_after(reads, SIZE),
-            ..all_good(SIZE)
-        };
-        let found = job_with(rt, job, given, devices);
-        if found.is_same(whole) {
-            return reads > 0 || job.second_file().is_none();
-        }
-        if !is_unread(job, &found, whole, fault) {
-            return false;
-        }
+    let Given { feed, second } = tried.given;
+    let bytes = if is_second { second } else { feed };
+    let ends = ends_of(rt.alloc(), bytes)?;
+    let input = Input {
+        is_second,
+        length: bytes.len(),
+        ends: if is_feed { Some(&ends) } else { None },
+    };
+    reads_fail_well(rt, tried, input)
+}
+
+// Whether each read of each file fails well.
+fn files_fail_well<R>(rt: &R, example: &Example<'_>, tried: Tried<'_>) -> Result<bool>
+where
+    R: AllocGlobal + Threads + Wait + Sync,
+{
+    if !file_fails_well(rt, tried, false, example.reads_feed())? {
+        return Ok(false);
     }
-    false
+    if tried.job.second_file().is_none() {
+        return Ok(true);
+    }
+    file_fails_well(rt, tried, true, example.command == "compare")
+}
+
+// Whether a job that gets an answer ends well with each read and each write failing in turn.
+fn fails_well<R>(rt: &R, example: &Example<'_>, job: &Job, given: Given<'_>) -> Result<bool>
+where
+    R: AllocGlobal + Threads + Wait + Sync,
+{
+    let whole = job_with(rt, job, given, all_good(usize::MAX));
+    let tried = Tried {
+        job,
+        given,
+        whole: &whole,
+    };
+    Ok(writes_fail_well(rt, tried) && files_fail_well(rt, example, tried)?)
+}
+
+// Whether a job has the fault of a read that fails, and not that of the file, where it reads one file and the first read
+// fails.
+fn fails_at_once<R>(rt: &R, example: &Example<'_>, job: &Job, given: Given<'_>) -> bool
+where
+    R: AllocGlobal + Threads + Wait + Sync,
+{
+    let devices = Devices {
+        feed: Device::lost_after(0, 40),
+        ..all_few(40)
+    };
+    let found = job_with(rt, job, given, devices);
+    let line = if example.reads_feed() {
+        "feed fault 8 at 0\n"
+    } else {
+        "read failed\n"
+    };
+    let is_fault = found.status == 4 && found.err.as_slice() == line.as_bytes();
+    job.second_file().is_some() || is_fault && found.out.is_empty()
+}
+
+// ---- jobs of examples
+
+// What the commands alone have whose answers are good.
+fn try_command<R>(
+    rt: &R,
+    example: &Example<'_>,
+    job: &Job,
+    bytes: &[u8],
+    tally: &mut Tally,
+) -> Result<()>
+where
+    R: AllocGlobal + Files + Eprint + Threads + Wait + Sync,
+{
+    if example.status == 0 && example.command == "check-proof" {
+        let is_right = is_tight(rt, job, bytes)?;
+        example.note(rt, "a proof that is changed", is_right, tally);
+    }
+    if example.status == 0 && example.command == "apply" {
+        let report = fs::read(rt, example.wanted)?;
+        let is_right = is_applied_well(rt.alloc(), bytes, &report)?;
+        example.note(rt, "the fault of apply", is_right, tally);
+    }
+    Ok(())
+}
+
+/// Runs the job of an example by these devices.
+pub(crate) fn try_job<R>(
+    rt: &R,
+    example: &Example<'_>,
+    job: &Job,
+    given: Given<'_>,
+    tally: &mut Tally,
+) -> Result<()>
+where
+    R: AllocGlobal + Files + Eprint + Threads + Wait + Sync,
+{
+    if !example.has_notes() {
+        let is_right = moves_few(rt, example, job, given)?;
+        example.note(rt, "few bytes a call", is_right, tally);
+    }
+    let is_right = if example.is_answered() {
+        fails_well(rt, example, job, given)?
+    } else {
+        fails_at_once(rt, example, job, given)
+    };
+    example.note(rt, "a device that fails", is_right, tally);
+    Ok(())
 }
 
 // The bytes of a file of a job, none where it has none.
@@ -67,75 +156,94 @@ fn bytes_of<R: AllocGlobal + Files>(rt: &R, path: Option<&str>) -> Result<Vec<u8
     Ok(fs::read(rt, path)?)
 }
 
-// Whether a job of these files ends well with each read and each write failing in turn.
-fn ends_well<R>(rt: &R, job: &Job, given: Given<'_>, command: &str) -> bool
+// The same of a job that is known.
+fn try_parsed<R>(rt: &R, example: &Example<'_>, job: &Job, tally: &mut Tally) -> Result<()>
 where
-    R: AllocGlobal + Threads + Wait + Sync,
+    R: AllocGlobal + Files + Eprint + Threads + Wait + Sync,
 {
-    let whole = job_with(rt, job, given, all_good(usize::MAX));
-    reads_fail_well(rt, job, given, &whole, first_fault(command))
-        && second_reads_fail_well(rt, job, given, &whole, second_fault(command))
-        && writes_fail_well(rt, job, given, &whole, SIZE)
-}
-
-/// Whether it is a job that gets an answer and writes nothing before it.
-pub(crate) fn is_answered(example: &Example<'_>) -> bool {
-    match example.status {
-        0 | 5 => !matches!(example.command, "run" | "frames"),
-        1 => matches!(example.command, "waiting" | "evidence"),
-        _ => false,
-    }
-}
-
-/// Whether such a job ends well with each read and each write failing in turn.
-pub(crate) fn job_fails_well<R>(rt: &R, example: &Example<'_>) -> Result<bool>
-where
-    R: AllocGlobal + Files + Threads + Wait + Sync,
-{
-    let Ok(job) = parse(rt.alloc(), &example.words) else {
-        bail!("an example that has an answer is parsed");
+    let Ok(feed) = bytes_of(rt, job.file()) else {
+        return Ok(());
     };
-    let feed = bytes_of(rt, job.file())?;
-    let second = bytes_of(rt, job.second_file())?;
+    let Ok(second) = bytes_of(rt, job.second_file()) else {
+        return Ok(());
+    };
     let given = Given {
         feed: &feed,
         second: &second,
     };
-    Ok(ends_well(rt, &job, given, example.command))
+    try_job(rt, example, job, given, tally)?;
+    try_command(rt, example, job, given.feed, tally)
 }
 
-// How many bytes the last line of a claim has that is longer than any line of a report.
-const LONG: usize = 1 << 24;
-
-// The verdict on the report of `order/one_commit.feed`, which has ten lines, with one line more.
-fn long_verdict(alloc: Global) -> Result<Vec<u8>> {
-    let mut text = Vec::from_slice(alloc, b"report differs at line 11\nfeed end\nclaimed ")?;
-    let shown = [b'a'; 200];
-    text.extend_from_slice(&shown)?;
-    text.push(b'\n')?;
-    Ok(text)
+/// Runs the job of an example by devices that move few bytes a call, or fail; unless its words are refused, or a file is
+/// absent.
+pub(crate) fn try_words<R>(rt: &R, example: &Example<'_>, tally: &mut Tally) -> Result<()>
+where
+    R: AllocGlobal + Files + Eprint + Threads + Wait + Sync,
+{
+    match parse(rt.alloc(), &example.words) {
+        Ok(job) => try_parsed(rt, example, &job, tally),
+        Err(_) => Ok(()),
+    }
 }
 
-/// Whether a claim is rejected at its last line: it is the report and one line more, of 16 MiB and without a line feed.
-pub(crate) fn long_line_is_told<R>(rt: &R) -> Result<bool>
+/// The same of a run by so many workers.
+pub(crate) fn try_run<R>(
+    rt: &R,
+    example: &Example<'_>,
+    feed: &[u8],
+    workers: Workers,
+    tally: &mut Tally,
+) -> Result<()>
+where
+    R: AllocGlobal + Files + Eprint + Threads + Wait + Sync,
+{
+    let job = run_by(workers);
+    try_job(rt, example, &job, feed_alone(feed), tally)
+}
+
+// ---- offsets that were worked out by hand
+
+// Whether a run cannot read a feed that begins a frame here, where the read fails after so many others of 40 bytes.
+fn is_unread_at<R>(rt: &R, feed: &[u8], reads: usize, offset: &str) -> Result<bool>
+where
+    R: AllocGlobal + Threads + Wait + Sync,
+{
+    let line = format!(in rt.alloc(); "feed fault 8 at {offset}\n")?;
+    let devices = Devices {
+        feed: Device::lost_after(reads, 40),
+        ..all_good(40)
+    };
+    let found = job_with(rt, &run_by(Workers::two()), feed_alone(feed), devices);
+    Ok(found.status == 4 && found.out.is_empty() && found.err.as_slice() == line.as_bytes())
+}
+
+// Whether this line of the table holds: a feed, and where the frame begins that cannot be read at each of its reads.
+fn is_line_right<R>(rt: &R, line: &str) -> Result<bool>
 where
     R: AllocGlobal + Files + Threads + Wait + Sync,
 {
-    let alloc: Global = rt.alloc();
-    let feed = fs::read(rt, "order/one_commit.feed")?;
-    let mut claimed = fs::read(rt, "order/one_commit.out")?;
-    let more = vec![in alloc; b'a'; LONG]?;
-    claimed.extend_from_slice(&more)?;
-    let job = Job::CheckReport {
-        workers: Workers::one(),
-        report: String::new(alloc),
-        file: None,
-    };
-    let given = Given {
-        feed: &feed,
-        second: &claimed,
-    };
-    let found = job_with(rt, &job, given, all_good(usize::MAX));
-    let wanted = long_verdict(alloc)?;
-    Ok(found.status == 1 && found.out.as_slice() == wanted.as_slice() && found.err.is_empty())
+    let (name, offsets) = line.split_once(' ').unwrap_or((line, ""));
+    let feed = fs::read(rt, name)?;
+    let mut reads = 0usize;
+    for offset in offsets.split(' ') {
+        if !is_unread_at(rt, &feed, reads, offset)? {
+            return Ok(false);
+        }
+        reads = reads.saturating_add(1);
+    }
+    Ok(reads > 0)
+}
+
+/// Whether each feed of the table `unread` is unread where the table says it.
+pub(crate) fn unread_is_right<R>(rt: &R, table: &str) -> Result<bool>
+where
+    R: AllocGlobal + Files + Threads + Wait + Sync,
+{
+    for line in table.lines() {
+        if !is_line_right(rt, line)? {
+            return Ok(false);
+        }
+    }
+    Ok(true)
 }

@@ -1,29 +1,37 @@
 //! Runs every example through the program's own `parse` and `run_job`, and compares what is written with a file.
 //!
 //! The folder that it is run in has the examples and the table `commands`. A run of a feed that names no number of
-//! workers is done by 1, 2, 8 and 64, by a Follower that gets the feed in pieces, with each read and each write failing
-//! in turn, and with the feed cut. Each other job that has an answer is done with each read and each write failing. A
-//! clock of its own makes progress tell. The last line is `N passed, M failed`.
+//! workers is done by 1, 2, 8 and 64, by a Follower that gets the feed in pieces, and with the feed cut. Each job is done
+//! over devices that move few bytes a call; and one that has an answer with each read and each write failing in turn, for
+//! good and once, and to a sink that takes nothing. Each feed that is made is cut into pieces, and broken; each good proof
+//! is changed. The table `unread` has the offsets of reads that fail. A clock of its own makes progress tell. The last line
+//! is `N passed, M failed`.
 #![tactic(auto)]
 
+mod applying;
+mod cutting;
 mod devices;
+mod ending;
 mod example;
 mod failing;
 mod following;
 mod jobs;
+mod long;
 mod outcome;
+mod proofs;
 mod telling;
 
-use crate::devices::{feed_alone, run_by_two};
+use crate::cutting::is_cut_well;
+use crate::ending::cuts_are_right;
 use crate::example::Example;
-use crate::failing::{UNREAD_FEED, cuts_are_right, reads_fail_well, writes_fail_well};
 use crate::following::{Pieces, followed};
-use crate::jobs::{is_answered, job_fails_well, long_line_is_told};
+use crate::jobs::{try_run, try_words, unread_is_right};
+use crate::long::{long_line_is_told, long_report_is_written};
 use crate::outcome::{Outcome, outcome_of};
 use crate::telling::progress_is_told;
 use anyhow::Result;
+use bk_cli::Workers;
 use bk_trial_kit::Tally;
-use std::alloc::Global;
 use std::fs;
 use std::rt::Files;
 use std::sync::Wait;
@@ -53,21 +61,6 @@ const PIECES: [Pieces; 4] = [
     },
 ];
 
-// Counts a comparison, and says on standard error what an example did wrong.
-fn note<R: Eprint>(
-    rt: &R,
-    example: &Example<'_>,
-    what: &str,
-    is_right: bool,
-    tally: &mut Tally,
-) -> Result<()> {
-    tally.count(is_right);
-    if !is_right {
-        eprintln!(rt; "{} {}: {what}", example.command, example.name)?;
-    }
-    Ok(())
-}
-
 // Runs the command line of an example with these words more.
 fn run_words<'a, R>(
     rt: &R,
@@ -84,64 +77,62 @@ where
     let wanted = fs::read(rt, example.wanted)?;
     let is_right = found.status == example.status
         && found.has_printed(&wanted, example.writes_both());
-    note(
-        rt,
-        example,
-        "another status or another text",
-        is_right,
-        tally,
-    )
+    example.note(rt, "another status or another text", is_right, tally);
+    Ok(())
 }
 
 // Runs a feed in pieces.
-fn run_in_pieces<R>(
-    rt: &R,
-    example: &Example<'_>,
-    feed: &[u8],
-    whole: &Outcome,
-    tally: &mut Tally,
-) -> Result<()>
+fn run_in_pieces<R>(rt: &R, example: &Example<'_>, feed: &[u8], whole: &Outcome, tally: &mut Tally)
 where
     R: AllocGlobal + Eprint + Threads + Wait + Sync,
 {
     for pieces in PIECES {
         let is_right = followed(rt, feed, pieces).is_same(whole);
-        note(rt, example, "pieces change the answer", is_right, tally)?;
+        example.note(rt, "pieces change the answer", is_right, tally);
+    }
+}
+
+// Runs a feed in pieces and, if it is good as far as it goes, cut.
+fn run_parts<R>(rt: &R, example: &Example<'_>, feed: &[u8], tally: &mut Tally) -> Result<()>
+where
+    R: AllocGlobal + Files + Input + Eprint + Clock + Threads + Wait + Sync,
+{
+    let whole = outcome_of(rt, &example.words)?;
+    run_in_pieces(rt, example, feed, &whole, tally);
+    if whole.status != 2 {
+        let is_right = cuts_are_right(rt, feed)?;
+        example.note(rt, "a feed that is cut", is_right, tally);
     }
     Ok(())
 }
 
-// Runs a feed that is good as far as it goes with devices that fail, and cut.
-fn run_failing<R>(
-    rt: &R,
-    example: &Example<'_>,
-    feed: &[u8],
-    whole: &Outcome,
-    tally: &mut Tally,
-) -> Result<()>
+// Runs a feed in each way.
+fn run_feed<R>(rt: &R, example: &Example<'_>, tally: &mut Tally) -> Result<()>
 where
-    R: AllocGlobal + Eprint + Threads + Wait + Sync,
+    R: AllocGlobal + Files + Input + Eprint + Clock + Threads + Wait + Sync,
 {
-    let (job, given) = (run_by_two(), feed_alone(feed));
-    let reads = reads_fail_well(rt, &job, given, whole, UNREAD_FEED);
-    note(rt, example, "a failed read", reads, tally)?;
-    let writes = writes_fail_well(rt, &job, given, whole, 7)
-        && writes_fail_well(rt, &job, given, whole, usize::MAX);
-    note(rt, example, "a failed write", writes, tally)?;
-    let cuts = cuts_are_right(rt, feed)?;
-    note(rt, example, "a feed that is cut", cuts, tally)
+    for count in WORKERS {
+        run_words(rt, example, &["--workers", count], tally)?;
+    }
+    let Ok(feed) = fs::read(rt, example.name) else {
+        return Ok(());
+    };
+    run_parts(rt, example, &feed, tally)?;
+    for workers in [Workers::one(), Workers::two()] {
+        try_run(rt, example, &feed, workers, tally)?;
+    }
+    Ok(())
 }
 
-// Runs a job that has an answer with devices that fail.
-fn run_answered<R>(rt: &R, example: &Example<'_>, tally: &mut Tally) -> Result<()>
+// Cuts the feed that is made into pieces.
+fn cut_made<R>(rt: &R, example: &Example<'_>, tally: &mut Tally) -> Result<()>
 where
-    R: AllocGlobal + Files + Eprint + Threads + Wait + Sync,
+    R: AllocGlobal + Files + Eprint,
 {
-    if !is_answered(example) {
-        return Ok(());
-    }
-    let is_right = job_fails_well(rt, example)?;
-    note(rt, example, "a device that fails", is_right, tally)
+    let feed = fs::read(rt, example.wanted)?;
+    let is_right = is_cut_well(rt.alloc(), &feed)?;
+    example.note(rt, "pieces change the frames", is_right, tally);
+    Ok(())
 }
 
 // Runs an example in each way that its command has.
@@ -149,36 +140,40 @@ fn run_example<R>(rt: &R, example: &Example<'_>, tally: &mut Tally) -> Result<()
 where
     R: AllocGlobal + Files + Input + Eprint + Clock + Threads + Wait + Sync,
 {
-    if !example.has_free_workers() {
-        run_words(rt, example, &[], tally)?;
-        return run_answered(rt, example, tally);
+    if example.has_free_workers() {
+        return run_feed(rt, example, tally);
     }
-    for count in WORKERS {
-        run_words(rt, example, &["--workers", count], tally)?;
+    run_words(rt, example, &[], tally)?;
+    if example.command == "make" && example.status == 0 {
+        cut_made(rt, example, tally)?;
     }
-    let Ok(feed) = fs::read(rt, example.name) else {
-        return Ok(());
-    };
-    let whole = outcome_of(rt, &example.words)?;
-    run_in_pieces(rt, example, &feed, &whole, tally)?;
-    if whole.status == 2 {
-        return Ok(());
-    }
-    run_failing(rt, example, &feed, &whole, tally)
+    try_words(rt, example, tally)
 }
 
 // Runs all examples of the table.
-fn run_all<R>(rt: &R) -> Result<Tally>
+fn run_table<R>(rt: &R, tally: &mut Tally) -> Result<()>
 where
     R: AllocGlobal + Files + Input + Eprint + Clock + Threads + Wait + Sync,
 {
     let table = fs::read_to_string(rt, "commands")?;
-    let mut tally = Tally::new();
     for line in table.lines() {
         let example = Example::of(rt.alloc(), line)?;
-        run_example(rt, &example, &mut tally)?;
+        run_example(rt, &example, tally)?;
     }
-    tally.note(rt, "a claim of a long line", long_line_is_told(rt)?);
+    Ok(())
+}
+
+// Runs all examples, and what is too long for one or is no command line.
+fn run_all<R>(rt: &R) -> Result<Tally>
+where
+    R: AllocGlobal + Files + Input + Eprint + Clock + Threads + Wait + Sync,
+{
+    let mut tally = Tally::new();
+    run_table(rt, &mut tally)?;
+    let unread = fs::read_to_string(rt, "unread")?;
+    tally.judge(rt, "offsets of reads", unread_is_right(rt, &unread));
+    tally.judge(rt, "a claim of a long line", long_line_is_told(rt));
+    tally.judge(rt, "a long report", long_report_is_written(rt));
     tally.note(rt, "progress", progress_is_told(rt.alloc()));
     Ok(tally)
 }
