@@ -1,7 +1,10 @@
 -- What the scene of a plan says of it: this file alone, beside `Setting`, knows how a plan is made.
-use Rattle.std.proofs.Common.{◌≡◌, ◌==◌, ◌&&◌, ℕ, ◌+◌, ◌*◌, ◌<◌, suc, List, [], ◌∷◌, ◌++◌, length, map, get_or, true, eq-eqb, sym, refl, ap, ◌∙◌, arith, length-append, append_assoc}
+use mathlib.Core.Logic.{dite}
+use native.Mathlib.Decide.{ℕ_discrete}
+use Rattle.std.proofs.Common.{◌≡◌, ◌==◌, ◌&&◌, ℕ, ◌+◌, ◌*◌, ◌<◌, suc, List, [], ◌∷◌, ◌++◌, length, map, get_or, true, eq-eqb, sym, subst, refl, ap, ◌∙◌, arith, length-append, append_assoc}
 use Rattle.std.proofs.lemmas.Bool.{and_from}
 use Rattle.std.proofs.lemmas.List.{get_or_append_left, length-map}
+use Rattle.std.proofs.Math.Seq.{get_or-append_seam}
 use Rattle.std.proofs.lemmas.List.Folds.{list_any_at}
 use Rattle.std.proofs.Math.Seq.{take-suc}
 use Rattle.std.specs.Prelude.{take}
@@ -10,7 +13,7 @@ use Rattle.bk_rules.specs.Ledger.{Ledger, numbers_of, slot_numbers}
 use Rattle.bk_rules.specs.Rows.{account_at}
 use Rattle.bk_conflicts.specs.Scene.{IsSound}
 use Rattle.bk_conflicts.specs.SceneOf.{CanRunOn, in_words}
-use Rattle.bk_conflicts.specs.Plan.{PlanValue, IsPlan, after_of}
+use Rattle.bk_conflicts.specs.Plan.{PlanValue, IsPlan, after_of, before_of}
 use Rattle.bk_conflicts.specs.Laws.{ScenesAreSound}
 use Rattle.bk_conflicts.specs.declared.words.WordRef.{WordRef}
 use Rattle.bk_bank.specs.declared.setting.Setting.{Setting}
@@ -77,6 +80,35 @@ laid_none plan ledger runs = record {
   values = λ x l. refl;
   counts = λ q l. absurd (omega arith);
 }
+
+-- the count of a place that was just put at the end, or of one before it
+laid_here : (plan : PlanValue) (ledger : Ledger) (words : List ℕ) (n q b : ℕ) → Laid plan ledger words n → q ≡ n → b ≡ before_of plan n
+    → get_or (words ++ b ∷ []) (2 * length plan.ids + 2 * q) 0 ≡ before_of plan q
+laid_here plan ledger words n q b k e is =
+    let wide = k.wide in
+    let at : length words ≡ 2 * length plan.ids + 2 * q = omega arith in
+    subst (λ (x : ℕ). get_or (words ++ b ∷ []) x 0 ≡ b) at (get_or-append_seam words b [] 0) ∙ (is ∙ ap (before_of plan) (sym e))
+
+laid_at : (plan : PlanValue) (ledger : Ledger) (words : List ℕ) (n q b : ℕ) → Laid plan ledger words n → b ≡ before_of plan n → q < n + 1
+    → get_or (words ++ b ∷ []) (2 * length plan.ids + 2 * q) 0 ≡ before_of plan q
+laid_at plan ledger words n q b k is l =
+    let wide = k.wide in
+    dite (ℕ_discrete q n)
+    (λ e. laid_here plan ledger words n q b k e is)
+    (λ other. get_or_append_left words (b ∷ []) 0 (2 * length plan.ids + 2 * q) (omega arith) ∙ k.counts q (omega arith))
+
+pub laid_more : (plan : PlanValue) (ledger : Ledger) (words : List ℕ) (n b : ℕ) → Laid plan ledger words n → b ≡ before_of plan n
+    → Laid plan ledger ((words ++ b ∷ []) ++ 0 ∷ []) (n + 1)
+laid_more plan ledger words n b k is =
+    let wide = k.wide in
+    let one : length (words ++ b ∷ []) ≡ length words + 1 = length-append words (b ∷ []) in
+    let two : length ((words ++ b ∷ []) ++ 0 ∷ []) ≡ length (words ++ b ∷ []) + 1 = length-append (words ++ b ∷ []) (0 ∷ []) in record {
+      wide = omega arith;
+      values = λ x l. get_or_append_left (words ++ b ∷ []) (0 ∷ []) 0 x (omega arith)
+          ∙ (get_or_append_left words (b ∷ []) 0 x (omega arith) ∙ k.values x l);
+      counts = λ q l. get_or_append_left (words ++ b ∷ []) (0 ∷ []) 0 (2 * length plan.ids + 2 * q) (omega arith)
+          ∙ laid_at plan ledger words n q b k is l;
+    }
 
 pub laid_all : (plan : PlanValue) (ledger : Ledger) (words : List ℕ) → CanRunOn plan ledger → Laid plan ledger words (length plan.txs)
     → IsLaid (scene_of (setting_with plan ledger)) (words ++ 0 ∷ [])

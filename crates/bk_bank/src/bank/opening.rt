@@ -1,5 +1,6 @@
 //! How a bank is made.
-ghost use Rattle.std.specs.Prelude.{◌≡◌, ◌++◌, ℕ, ◌+◌, ◌*◌, ◌^◌, ◌<◌, IfOk, OnOk, length};
+ghost use Rattle.std.specs.Prelude.{◌≡◌, ◌++◌, ℕ, ◌+◌, ◌*◌, ◌^◌, ◌<◌, ◌≤◌, IfOk, length, vec_len};
+ghost use Rattle.std.specs.Vec.{vec_capacity};
 ghost use Rattle.std.specs.Arc.{arc_value};
 ghost use Rattle.bk_conflicts.specs.SceneOf.{CanRunOn, in_words};
 ghost use Rattle.bk_conflicts.specs.Plan.{IsPlan};
@@ -17,15 +18,17 @@ use std::alloc::{AllocError, Global};
 use std::snapshot::Snapshot;
 use std::sync::Arc;
 
-// Puts the two words of each account at the end.
-fn push_accounts(words: &mut Vec<u64>, numbers: &[Account]) -> Result<(), AllocError>
-    ensures { OnOk result (words.new.items ≡ words.old.items ++ in_words numbers.now) }
+// Puts the two words of each account at the end of a list that has room for them.
+fn push_accounts(words: &mut Vec<u64>, numbers: &[Account])
+    requires room { vec_len words.old + 2 * length numbers.now ≤ vec_capacity words.old }
+    ensures items { words.new.items ≡ words.old.items ++ in_words numbers.now }
+    ensures len { vec_len words.new ≡ vec_len words.old + 2 * length numbers.now }
+    ensures capacity { vec_capacity words.new ≡ vec_capacity words.old }
 {
     for account in numbers {
-        words.push(account.balance)?;
-        words.push(account.seq)?;
+        words.push_reserved(account.balance);
+        words.push_reserved(account.seq);
     }
-    Ok(())
 }
 
 // The opening words.
@@ -37,10 +40,10 @@ fn lay(alloc: Global, plan: &Plan, state: &State) -> Result<Vec<u64>, AllocError
 {
     let numbers = state.numbers();
     let mut words = Vec::with_capacity(alloc, 2 * numbers.len() + 2 * plan.len() + 1)?;
-    push_accounts(&mut words, numbers)?;
+    push_accounts(&mut words, numbers);
     for place in 0..plan.len() {
-        words.push(plan.before(place as u32) as u64)?;
-        words.push(0)?;
+        words.push_reserved(plan.before(place as u32) as u64);
+        words.push_reserved(0);
     }
     words.push(0)?;
     Ok(words)
