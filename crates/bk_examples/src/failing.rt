@@ -22,13 +22,12 @@ const READ_SIZES: [(usize, usize); 4] = [
 ];
 
 // How many bytes a call writes at most, and how long the answer is at most that is written so.
-const WRITE_SIZES: [(usize, usize); 8] = [
-    (1, 100),
-    (3, 100),
-    (7, 1_000),
+const WRITE_SIZES: [(usize, usize); 7] = [
+    (3, 80),
     (9, 100),
-    (20, 1_000),
-    (64, 1_000),
+    (64, 100),
+    (7, 300),
+    (20, 300),
     (97, usize::MAX),
     (usize::MAX, usize::MAX),
 ];

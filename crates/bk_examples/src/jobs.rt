@@ -124,8 +124,8 @@ where
     Ok(())
 }
 
-/// Runs the job of an example by these devices.
-pub(crate) fn try_job<R>(
+// Runs the job of an example by devices that move few bytes a call.
+fn try_few<R>(
     rt: &R,
     example: &Example<'_>,
     job: &Job,
@@ -139,6 +139,21 @@ where
         let is_right = moves_few(rt, example, job, given)?;
         example.note(rt, "few bytes a call", is_right, tally);
     }
+    Ok(())
+}
+
+// Runs the job of an example by devices that move few bytes a call, and by those that fail.
+fn try_job<R>(
+    rt: &R,
+    example: &Example<'_>,
+    job: &Job,
+    given: Given<'_>,
+    tally: &mut Tally,
+) -> Result<()>
+where
+    R: AllocGlobal + Files + Eprint + Threads + Wait + Sync,
+{
+    try_few(rt, example, job, given, tally)?;
     let is_right = if example.is_answered() {
         fails_well(rt, example, job, given)?
     } else {
@@ -187,18 +202,26 @@ where
     }
 }
 
-/// The same of a run by so many workers.
+fn try_run_by_one<R>(rt: &R, example: &Example<'_>, feed: &[u8], tally: &mut Tally) -> Result<()>
+where
+    R: AllocGlobal + Files + Eprint + Threads + Wait + Sync,
+{
+    let job = run_by(Workers::one());
+    try_few(rt, example, &job, feed_alone(feed), tally)
+}
+
+/// Runs a feed by two workers, with these devices, and by one, with those that do not fail.
 pub(crate) fn try_run<R>(
     rt: &R,
     example: &Example<'_>,
     feed: &[u8],
-    workers: Workers,
     tally: &mut Tally,
 ) -> Result<()>
 where
     R: AllocGlobal + Files + Eprint + Threads + Wait + Sync,
 {
-    let job = run_by(workers);
+    try_run_by_one(rt, example, feed, tally)?;
+    let job = run_by(Workers::two());
     try_job(rt, example, &job, feed_alone(feed), tally)
 }
 

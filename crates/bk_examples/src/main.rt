@@ -30,7 +30,6 @@ use crate::long::{long_line_is_told, long_report_is_written};
 use crate::outcome::{Outcome, outcome_of};
 use crate::telling::progress_is_told;
 use anyhow::Result;
-use bk_cli::Workers;
 use bk_trial_kit::Tally;
 use std::fs;
 use std::rt::Files;
@@ -118,10 +117,7 @@ where
         return Ok(());
     };
     run_parts(rt, example, &feed, tally)?;
-    for workers in [Workers::one(), Workers::two()] {
-        try_run(rt, example, &feed, workers, tally)?;
-    }
-    Ok(())
+    try_run(rt, example, &feed, tally)
 }
 
 // Cuts the feed that is made into pieces.
