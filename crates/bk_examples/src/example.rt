@@ -56,6 +56,11 @@ impl<'a> Example<'a> {
         matches!(self.status, 0 | 1 | 5) && self.command != "frames"
     }
 
+    /// Whether the same is printed whatever the pieces are that a feed comes in. With `--follow` rows are out before a fault.
+    pub(crate) fn is_steady(&self) -> bool {
+        self.is_answered() || !self.words.contains(&"--follow")
+    }
+
     /// Whether the first file is a feed.
     pub(crate) fn reads_feed(&self) -> bool {
         !matches!(self.command, "make" | "check-proof" | "check-chain")

@@ -135,7 +135,7 @@ fn try_few<R>(
 where
     R: AllocGlobal + Files + Eprint + Threads + Wait + Sync,
 {
-    if !example.has_notes() {
+    if !example.has_notes() && example.is_steady() {
         let is_right = moves_few(rt, example, job, given)?;
         example.note(rt, "few bytes a call", is_right, tally);
     }
