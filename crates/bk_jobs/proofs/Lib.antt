@@ -1,5 +1,6 @@
 mod BlameLemmas
 mod ScheduleLemmas
 mod StatusLemmas
+mod Opened
 mod VerdictLemmas
 pub mod QueryLemmas

@@ -1,5 +1,5 @@
 -- How a job ends whose files are opened first.
-use Rattle.std.specs.Prelude.{◌≡◌, ◌⊎◌, ℕ, Bool, List, Some, true, false}
+use Rattle.std.specs.Prelude.{◌≡◌, ◌⊎◌, ℕ, Bool, List, Option, Some, None, true, false}
 use Rattle.bk_frames.specs.Device.{Device}
 use Rattle.bk_results.specs.declared.fault.Fault.TheVariants as replay
 use Rattle.bk_cli.specs.Exits.{is_answer}
@@ -29,10 +29,23 @@ pub record RanSo (j : Job) (strict verbose : Bool) (last : Exit) (old new : JobD
   pub fault : is_answer j end ≡ false → (e : JobFault) × EndsBy j (told verbose j) e end old new err between
   pub judged : IsJudgedEnd strict j old new end last between err'
 
--- the job ran so over some sources
-pub record RanOver (j : Job) (strict verbose : Bool) (last : Exit) (out out' err err' : Device) : Type 0 where
+-- the first file of a job, or standard input where it names none, gives these bytes, by what files hold
+abbrev pub IsFirst : (List ℕ → Option (List ℕ) → Type 0) → (Option (List ℕ) → Type 0) → Option (List ℕ) → Option (List ℕ) → Type 0
+IsFirst holds feeds (Some path) bytes = holds path bytes
+IsFirst holds feeds None bytes = feeds bytes
+
+-- the second gives these, where the job names one
+abbrev pub IsSecond : (List ℕ → Option (List ℕ) → Type 0) → Option (List ℕ) → Option (List ℕ) → Type 0
+IsSecond holds (Some path) bytes = holds path bytes
+IsSecond holds None bytes = Unit {0}
+
+-- the job ran so over its files, each from its beginning on
+pub record RanOver (holds : List ℕ → Option (List ℕ) → Type 0) (feeds : Option (List ℕ) → Type 0) (j : Job) (strict verbose : Bool)
+    (last : Exit) (out out' err err' : Device) : Type 0 where
   pub old : JobDevices
   pub new : JobDevices
+  pub first : IsFirst holds feeds (file_of j) old.first.bytes
+  pub second : IsSecond holds (second_file_of j) old.second.bytes
   pub begins : old.out ≡ out
   pub ends : new.out ≡ out'
   pub ran : RanSo j strict verbose last old new err err'
@@ -57,6 +70,7 @@ pub record BeganNot (j : Job) (verbose : Bool) (end : Exit) (out out' err err' :
   pub line : HasNoFile j verbose err err' ⊎ HasNoMemory j verbose err err'
 
 -- the one or the other
-abbrev pub Ran : Job → Bool → Bool → Exit → Device → Device → Device → Device → Type 0
-Ran j strict verbose end out out' err err' =
-    RanOver j strict verbose end out out' err err' ⊎ BeganNot j verbose end out out' err err'
+abbrev pub Ran : (List ℕ → Option (List ℕ) → Type 0) → (Option (List ℕ) → Type 0) → Job → Bool → Bool → Exit → Device → Device → Device
+    → Device → Type 0
+Ran holds feeds j strict verbose end out out' err err' =
+    RanOver holds feeds j strict verbose end out out' err err' ⊎ BeganNot j verbose end out out' err err'

@@ -1,24 +1,58 @@
 //! Where the files of a job come from.
 
+ghost use Rattle.std.specs.Prelude.{ℕ, List, Option, IfOk};
+
 use bk_cli::is_input;
 use either::{Either, Left, Right};
+use std::io::Read;
 use std::rt::Files;
 use std::{fs, io};
 
-/// The files of the system and standard input, for reading alone: what has `Inputs` can open files and write none.
+/// What opens files and standard input, for reading alone.
+pub trait Opens {
+    /// What is read.
+    type File: Read + Drop;
+
+    /// A file of this path gives these bytes from its beginning to its end, where they are known.
+    ghost holds: { Self → List ℕ → Option (List ℕ) → Type 0 };
+
+    /// Standard input gives these.
+    ghost feeds: { Self → Option (List ℕ) → Type 0 };
+
+    /// Opens a file at its beginning.
+    fn open(&self, path: &str) -> io::Result<Self::File>
+        ensures { IfOk result (λ file. holds self.now path.now (Self.File.remaining file)) };
+
+    /// Standard input.
+    fn standard(&self) -> Self::File
+        ensures { feeds self.now (Self.File.remaining result) };
+
+    /// How many bytes a file has, where that is known.
+    fn size_of(&self, path: &str) -> Option<u64>;
+}
+
+/// The files of the system and standard input: what has `Inputs` can open files and write none.
 #[derive(Drop)]
 pub struct Inputs<'a, F> {
     system: &'a F,
 }
 
-impl<'a, F: Files + Input> Inputs<'a, F> {
+impl<'a, F> Inputs<'a, F> {
     /// Those of this system.
     pub fn new(system: &'a F) -> Self {
         Inputs { system }
     }
+}
 
-    // Opens a file for reading, or standard input, where the path stands for it.
-    pub(crate) fn open(&self, path: &str) -> io::Result<Either<F::File, F::Reader>> {
+/// What a file of the system holds is in no contract. The path `-` stands for standard input.
+impl<'a, F: Files + Input> Opens for Inputs<'a, F> {
+    type File = Either<F::File, F::Reader>;
+
+    ghost holds = { λ _ path bytes. Unit {0} };
+
+    ghost feeds = { λ _ bytes. Unit {0} };
+
+    fn open(&self, path: &str) -> io::Result<Either<F::File, F::Reader>> {
         if is_input(path) {
             return Ok(Right(self.system.reader()));
         }
@@ -28,13 +62,11 @@ impl<'a, F: Files + Input> Inputs<'a, F> {
         }
     }
 
-    // Standard input.
-    pub(crate) fn standard(&self) -> F::Reader {
-        self.system.reader()
+    fn standard(&self) -> Either<F::File, F::Reader> {
+        Right(self.system.reader())
     }
 
-    // How many bytes a file has, where that is known.
-    pub(crate) fn size_of(&self, path: &str) -> Option<u64> {
+    fn size_of(&self, path: &str) -> Option<u64> {
         match fs::metadata(self.system, path) {
             Ok(found) if found.is_file() => Some(found.len()),
             _ => None,

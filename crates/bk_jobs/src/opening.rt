@@ -1,13 +1,15 @@
 //! Opens the files that a job names.
 
-ghost use Rattle.std.specs.Prelude.{◌≡◌, true, false};
+ghost use Rattle.std.specs.Prelude.{◌≡◌, Some, true, false};
 ghost use Rattle.bk_frames.specs.Device.{CanBeUsed};
 ghost use Rattle.bk_results.specs.Devices.{IsUntouched};
 ghost use Rattle.bk_cli.specs.Exits.{is_refusal, may_end_if, writes_ahead};
-ghost use Rattle.bk_jobs.specs.Openings.{HasNoFile, HasNoMemory, IsFileOf, Ran};
+ghost use Rattle.bk_cli.specs.Files.{file_of, second_file_of};
+ghost use Rattle.bk_jobs.specs.Openings.{HasNoFile, HasNoMemory, IsFileOf, IsFirst, IsSecond, Ran};
+ghost use Rattle.bk_jobs.specs.private.Opened.{RanOn};
 ghost use Rattle.bk_jobs.specs.Sources.{CanBeUsedAgain};
 
-use crate::inputs::Inputs;
+use crate::inputs::Opens;
 use crate::running::{Watch, run_watched};
 use bk_cli::{Exit, Job, JobFault, Line, Unopened, tell, tell_unopened};
 use bk_frames::{Counted, Sink};
@@ -15,7 +17,6 @@ use bk_progress::{Metered, Progress};
 use bk_results::Fault;
 use bk_tail::Waiting;
 use std::io::{self, BufReader, Read};
-use std::rt::Files;
 use std::sync::Wait;
 use std::thread::Threads;
 use std::time::Clock;
@@ -63,11 +64,7 @@ fn is_waited(job: &Job) -> bool {
 }
 
 // Counts the bytes that are going to be read.
-fn expect_files<F: Files + Input, P: Clock + Eprint>(
-    files: &Inputs<'_, F>,
-    job: &Job,
-    progress: &Progress<'_, P>,
-) {
+fn expect_files<N: Opens, P: Clock + Eprint>(files: &N, job: &Job, progress: &Progress<'_, P>) {
     if !progress.is_shown() {
         return;
     }
@@ -81,8 +78,8 @@ fn expect_files<F: Files + Input, P: Clock + Eprint>(
 }
 
 // Opens the feed, after the text beside it, and runs the job.
-fn open_feed<F, R, P, J: Read + Drop, O: Sink, E: Sink>(
-    files: &Inputs<'_, F>,
+fn open_feed<N, R, P, J: Read + Drop, O: Sink, E: Sink>(
+    files: &N,
     rt: &R,
     line: &Line,
     progress: &Progress<'_, P>,
@@ -91,15 +88,17 @@ fn open_feed<F, R, P, J: Read + Drop, O: Sink, E: Sink>(
     err: &mut E,
 ) -> Exit
 where
-    F: Files + Input,
+    N: Opens,
     R: AllocGlobal + Clock + Threads + Wait + Sync,
     P: Clock + Eprint + Sync,
+    requires text { IsSecond (N.holds files.now) (second_file_of line.now.job) (J.remaining text) }
     requires out { CanBeUsed (O.state out.old) }
     requires err { CanBeUsedAgain (E.state err.old) }
     ensures unwritten { is_refusal result ≡ true → writes_ahead line.now.job ≡ false
         → IsUntouched (O.state out.old) (O.state out.new) }
     ensures ends { may_end_if line.now.strict line.now.job result ≡ true }
-    ensures ran { Ran line.now.job line.now.strict line.now.notes.verbose result
+    ensures ran { Ran (N.holds files.now) (N.feeds files.now)
+        line.now.job line.now.strict line.now.notes.verbose result
         (O.state out.old) (O.state out.new) (E.state err.old) (E.state err.new) }
 {
     match line.job.file() {
@@ -112,8 +111,8 @@ where
 }
 
 // Opens the text beside a feed, a claimed report or a list of accounts, and then the feed, and runs the job.
-fn open_beside<F, R, P, O: Sink, E: Sink>(
-    files: &Inputs<'_, F>,
+fn open_beside<N, R, P, O: Sink, E: Sink>(
+    files: &N,
     rt: &R,
     line: &Line,
     progress: &Progress<'_, P>,
@@ -122,16 +121,17 @@ fn open_beside<F, R, P, O: Sink, E: Sink>(
     err: &mut E,
 ) -> Exit
 where
-    F: Files + Input,
+    N: Opens,
     R: AllocGlobal + Clock + Threads + Wait + Sync,
     P: Clock + Eprint + Sync,
-    requires path { IsFileOf line.now.job text.now }
+    requires path { second_file_of line.now.job ≡ Some text.now }
     requires out { CanBeUsed (O.state out.old) }
     requires err { CanBeUsedAgain (E.state err.old) }
     ensures unwritten { is_refusal result ≡ true → writes_ahead line.now.job ≡ false
         → IsUntouched (O.state out.old) (O.state out.new) }
     ensures ends { may_end_if line.now.strict line.now.job result ≡ true }
-    ensures ran { Ran line.now.job line.now.strict line.now.notes.verbose result
+    ensures ran { Ran (N.holds files.now) (N.feeds files.now)
+        line.now.job line.now.strict line.now.notes.verbose result
         (O.state out.old) (O.state out.new) (E.state err.old) (E.state err.new) }
 {
     match files.open(text) {
@@ -140,13 +140,13 @@ where
     }
 }
 
-/// Opens what the job names, in the order of its words and before anything is read, and runs it, watched by `progress`.
+/// Opens what the job names and runs it over that, from its beginning on, watched by `progress`.
 ///
-/// Standard input is read where no file is named, and for the path `-`. A file that cannot be opened ends with `Failed` and `read failed`. An
+/// Standard input is read where no file is named. A file that cannot be opened ends with `Failed` and `read failed`. An
 /// end that is no answer has the line of its fault on `err`, and where the notes are verbose one more line in words; an
 /// answer to a query or of a comparison has a line then for each missing batch at which an order stops.
-pub fn open_and_run<F, R, P, O: Sink, E: Sink>(
-    files: &Inputs<'_, F>,
+pub fn open_and_run<N, R, P, O: Sink, E: Sink>(
+    files: &N,
     rt: &R,
     line: &Line,
     progress: &Progress<'_, P>,
@@ -154,7 +154,7 @@ pub fn open_and_run<F, R, P, O: Sink, E: Sink>(
     err: &mut E,
 ) -> Exit
 where
-    F: Files + Input,
+    N: Opens,
     R: AllocGlobal + Clock + Threads + Wait + Sync,
     P: Clock + Eprint + Sync,
     requires out { CanBeUsed (O.state out.old) }
@@ -162,7 +162,8 @@ where
     ensures unwritten { is_refusal result ≡ true → writes_ahead line.now.job ≡ false
         → IsUntouched (O.state out.old) (O.state out.new) }
     ensures ends { may_end_if line.now.strict line.now.job result ≡ true }
-    ensures ran { Ran line.now.job line.now.strict line.now.notes.verbose result
+    ensures ran { Ran (N.holds files.now) (N.feeds files.now)
+        line.now.job line.now.strict line.now.notes.verbose result
         (O.state out.old) (O.state out.new) (E.state err.old) (E.state err.new) }
 {
     expect_files(files, &line.job, progress);
@@ -186,8 +187,8 @@ where
 }
 
 // Opens the first file, where the job names one, then the second, and runs the job.
-fn open_first<F, R, P, O: Sink, E: Sink>(
-    files: &Inputs<'_, F>,
+fn open_first<N, R, P, O: Sink, E: Sink>(
+    files: &N,
     rt: &R,
     line: &Line,
     progress: &Progress<'_, P>,
@@ -195,7 +196,7 @@ fn open_first<F, R, P, O: Sink, E: Sink>(
     err: &mut E,
 ) -> Exit
 where
-    F: Files + Input,
+    N: Opens,
     R: AllocGlobal + Clock + Threads + Wait + Sync,
     P: Clock + Eprint + Sync,
     requires out { CanBeUsed (O.state out.old) }
@@ -203,7 +204,8 @@ where
     ensures unwritten { is_refusal result ≡ true → writes_ahead line.now.job ≡ false
         → IsUntouched (O.state out.old) (O.state out.new) }
     ensures ends { may_end_if line.now.strict line.now.job result ≡ true }
-    ensures ran { Ran line.now.job line.now.strict line.now.notes.verbose result
+    ensures ran { Ran (N.holds files.now) (N.feeds files.now)
+        line.now.job line.now.strict line.now.notes.verbose result
         (O.state out.old) (O.state out.new) (E.state err.old) (E.state err.new) }
 {
     match line.job.file() {
@@ -216,8 +218,8 @@ where
 }
 
 // Opens the second file, where the job names one, and runs the job.
-fn open_second<F, R, P, I: Read + Drop, O: Sink, E: Sink>(
-    files: &Inputs<'_, F>,
+fn open_second<N, R, P, I: Read + Drop, O: Sink, E: Sink>(
+    files: &N,
     rt: &R,
     line: &Line,
     progress: &Progress<'_, P>,
@@ -226,15 +228,18 @@ fn open_second<F, R, P, I: Read + Drop, O: Sink, E: Sink>(
     err: &mut E,
 ) -> Exit
 where
-    F: Files + Input,
+    N: Opens,
     R: AllocGlobal + Clock + Threads + Wait + Sync,
     P: Clock + Eprint + Sync,
+    requires first { IsFirst (N.holds files.now) (N.feeds files.now)
+        (file_of line.now.job) (I.remaining first) }
     requires out { CanBeUsed (O.state out.old) }
     requires err { CanBeUsedAgain (E.state err.old) }
     ensures unwritten { is_refusal result ≡ true → writes_ahead line.now.job ≡ false
         → IsUntouched (O.state out.old) (O.state out.new) }
     ensures ends { may_end_if line.now.strict line.now.job result ≡ true }
-    ensures ran { Ran line.now.job line.now.strict line.now.notes.verbose result
+    ensures ran { Ran (N.holds files.now) (N.feeds files.now)
+        line.now.job line.now.strict line.now.notes.verbose result
         (O.state out.old) (O.state out.new) (E.state err.old) (E.state err.new) }
 {
     let nothing: &[u8] = b"";
@@ -265,7 +270,8 @@ where
     ensures unwritten { is_refusal result ≡ true → writes_ahead line.now.job ≡ false
         → IsUntouched (O.state out.old) (O.state out.new) }
     ensures ends { may_end_if line.now.strict line.now.job result ≡ true }
-    ensures ran { Ran line.now.job line.now.strict line.now.notes.verbose result
+    ensures ran { RanOn (I.remaining first) (J.remaining second)
+        line.now.job line.now.strict line.now.notes.verbose result
         (O.state out.old) (O.state out.new) (E.state err.old) (E.state err.new) }
 {
     let Ok(reader) = BufReader::with_capacity(rt.alloc(), AHEAD, first) else {
