@@ -1,5 +1,5 @@
 -- How the program ends, by its words.
-use Rattle.std.specs.Prelude.{◌≡◌, ◌≢◌, ◌⊎◌, ℕ, Bool, List, [], true, false, codes}
+use Rattle.std.specs.Prelude.{◌≡◌, ◌≢◌, ◌⊎◌, ℕ, Bool, List, [], Option, true, false, codes}
 use Rattle.clap.specs.Words.{HasKind, Text, fault_of, kind_of, subcommand_of}
 use Rattle.clap.specs.declared.error.Error.{Error}
 use Rattle.clap.specs.declared.error.kind.ErrorKind.TheVariants as kind
@@ -9,6 +9,7 @@ use Rattle.bk_results.specs.declared.fault.Fault.TheVariants as replay
 use Rattle.bk_cli.specs.CommandLine.{AreNotesOf, IsJobOf, IsOfValues, IsStrictOf, command_line}
 use Rattle.bk_cli.specs.Exits.{has_fault, is_refusal, may_end_if, writes_ahead}
 use Rattle.bk_cli.specs.FaultLines.{Reports, line_of}
+use Rattle.bk_cli.specs.Files.{reads_input_twice}
 use Rattle.bk_cli.specs.declared.exit.Exit.{Exit}
 use Rattle.bk_cli.specs.declared.exit.Exit.TheVariants as exit
 use Rattle.bk_cli.specs.declared.job.Job.{Job}
@@ -38,9 +39,10 @@ SaysUnwritten err err' = Reports (line_of (fault.Replay (replay.Write 0))) err e
 abbrev pub unread_words : List ℕ
 unread_words = codes "error: a word of the command line is not UTF-8\n"
 
--- the words have no fault, and the job that they name ran, reported as their notes say; where the bytes are to blame nothing is
+-- the words have no fault, and the job that they name ran over the files that it names, reported as their notes say; where the bytes are to blame nothing is
 -- written, but by a job that writes ahead
-pub record RanJob (words : List Text) (end : Exit) (out out' err err' : Device) : Type 0 where
+pub record RanJob (holds : List ℕ → Option (List ℕ) → Type 0) (feeds : Option (List ℕ) → Type 0) (words : List Text) (end : Exit)
+    (out out' err err' : Device) : Type 0 where
   pub job : Job
   pub notes : Notes
   pub good : fault_of command_line words ≡ []
@@ -50,7 +52,8 @@ pub record RanJob (words : List Text) (end : Exit) (out out' err err' : Device) 
   pub asked : IsStrictOf (subcommand_of command_line words) strict
   pub ends : may_end_if strict job end ≡ true
   pub blame : is_refusal end ≡ true → writes_ahead job ≡ false → IsUntouched out out'
-  pub ran : Ran job strict notes.verbose end out out' err err'
+  pub once : reads_input_twice job ≡ false
+  pub ran : Ran holds feeds job strict notes.verbose end out out' err err'
 
 -- the words have a fault, or ask for help or the version, or memory ran out: that decides how the program ends, nothing is
 -- written of an answer, and where it ends with Failed one line says why
@@ -64,8 +67,9 @@ pub record RanNone (words : List Text) (end : Exit) (out out' err err' : Device)
   pub unsaid : kind_of error ≢ kind.OutOfMemory → end ≡ exit.Failed → SaysUnwritten err err'
 
 -- the one or the other
-abbrev pub RanWords : List Text → Exit → Device → Device → Device → Device → Type 0
-RanWords words end out out' err err' = RanJob words end out out' err err' ⊎ RanNone words end out out' err err'
+abbrev pub RanWords : (List ℕ → Option (List ℕ) → Type 0) → (Option (List ℕ) → Type 0) → List Text → Exit → Device → Device → Device
+    → Device → Type 0
+RanWords holds feeds words end out out' err err' = RanJob holds feeds words end out out' err err' ⊎ RanNone words end out out' err err'
 
 -- the words could not be read: no answer is written, and one line says why
 pub record ReadNoWords (end : Exit) (out out' err err' : Device) : Type 0 where
@@ -75,6 +79,7 @@ pub record ReadNoWords (end : Exit) (out out' err err' : Device) : Type 0 where
   pub memory : end ≡ exit.Failed → SaysNoMemory err err'
 
 -- some words were read and are answered, as they are read, or none could be read
-abbrev pub RanProgram : Exit → Device → Device → Device → Device → Type 0
-RanProgram end out out' err err' =
-    ((words : List Text) × RanWords (settled words) end out out' err err') ⊎ ReadNoWords end out out' err err'
+abbrev pub RanProgram : (List ℕ → Option (List ℕ) → Type 0) → (Option (List ℕ) → Type 0) → Exit → Device → Device → Device → Device
+    → Type 0
+RanProgram holds feeds end out out' err err' =
+    ((words : List Text) × RanWords holds feeds (settled words) end out out' err err') ⊎ ReadNoWords end out out' err err'

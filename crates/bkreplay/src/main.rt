@@ -17,8 +17,9 @@ fn main(rt: HostRuntime) -> ExitCode {
     let terminal = rt.stderr().is_terminal();
     let typed = rt.stdin().is_terminal();
     let mut err = Counted::new(rt.stderr());
+    let inputs = Inputs::new(&rt);
     let system = System {
-        inputs: Inputs::new(&rt),
+        inputs: &inputs,
         display: Display::new(&rt, terminal),
         typed,
         speaker: Speaker::new(&rt),

@@ -10,11 +10,11 @@ ghost use Rattle.bkreplay.specs.Endings.{RanProgram, RanWords, SaysNoMemory, unr
 use crate::speaker::Speaker;
 use bk_cli::{Exit, JobFault, Line, parse_line, report};
 use bk_frames::{Sink, push_all};
-use bk_jobs::{Inputs, open_and_run};
+use bk_jobs::{Opens, open_and_run};
 use bk_progress::Display;
 use bk_results::Fault;
 use std::convert::AsStr;
-use std::rt::{Env, Files};
+use std::rt::Env;
 use std::sync::Wait;
 use std::thread::Threads;
 use std::time::Clock;
@@ -22,9 +22,9 @@ use std::{env, io};
 
 /// What the program has of the system beside its memory and its threads.
 #[derive(Drop)]
-pub(crate) struct System<'a, F, P, Q> {
+pub(crate) struct System<'a, N, P, Q> {
     /// What it reads.
-    pub(crate) inputs: Inputs<'a, F>,
+    pub(crate) inputs: &'a N,
     /// Where it shows how far it is.
     pub(crate) display: Display<'a, P>,
     /// Whether standard input is a terminal.
@@ -34,20 +34,21 @@ pub(crate) struct System<'a, F, P, Q> {
 }
 
 /// Reads the words, opens the files and runs the job; returns how the program ends.
-pub(crate) fn program<R, F, P, Q, O: Sink, E: Sink>(
+pub(crate) fn program<R, N, P, Q, O: Sink, E: Sink>(
     rt: &R,
-    system: &System<'_, F, P, Q>,
+    system: &System<'_, N, P, Q>,
     out: &mut O,
     err: &mut E,
 ) -> Exit
 where
     R: Env + AllocGlobal + Clock + Threads + Wait + Sync,
-    F: Files + Input,
+    N: Opens,
     P: Clock + Eprint + Sync,
     Q: Print + Eprint,
     requires out { CanBeUsed (O.state out.old) }
     requires err { CanBeUsedAgain (E.state err.old) }
-    ensures ran { RanProgram result (O.state out.old) (O.state out.new) (E.state err.old) (E.state err.new) }
+    ensures ran { RanProgram (N.holds system.now.inputs.now) (N.feeds system.now.inputs.now) result
+        (O.state out.old) (O.state out.new) (E.state err.old) (E.state err.new) }
 {
     match words(rt) {
         Ok(words) => run_words(rt, system, words.as_slice(), out, err),
@@ -56,35 +57,36 @@ where
 }
 
 // Says that what is typed is read, where the words ask for words.
-fn tell_typed<F, P: Clock + Eprint, Q>(system: &System<'_, F, P, Q>, line: &Line) {
+fn tell_typed<N, P: Clock + Eprint, Q>(system: &System<'_, N, P, Q>, line: &Line) {
     if line.notes.verbose && system.typed && line.job.reads_input() {
         system.display.typed();
     }
 }
 
 // Runs the job of the words.
-fn run_words<R, F, P, Q, S: AsStr, O: Sink, E: Sink>(
+fn run_words<R, N, P, Q, S: AsStr, O: Sink, E: Sink>(
     rt: &R,
-    system: &System<'_, F, P, Q>,
+    system: &System<'_, N, P, Q>,
     words: &[S],
     out: &mut O,
     err: &mut E,
 ) -> Exit
 where
     R: AllocGlobal + Clock + Threads + Wait + Sync,
-    F: Files + Input,
+    N: Opens,
     P: Clock + Eprint + Sync,
     Q: Print + Eprint,
     requires out { CanBeUsed (O.state out.old) }
     requires err { CanBeUsedAgain (E.state err.old) }
-    ensures ran { RanWords (settled (map S.text words.now)) result
+    ensures ran { RanWords (N.holds system.now.inputs.now) (N.feeds system.now.inputs.now)
+        (settled (map S.text words.now)) result
         (O.state out.old) (O.state out.new) (E.state err.old) (E.state err.new) }
 {
     match parse_line(rt.alloc(), words) {
         Ok(line) => {
             tell_typed(system, &line);
             let progress = system.display.progress(line.notes.progress);
-            open_and_run(&system.inputs, rt, &line, &progress, out, err)
+            open_and_run(system.inputs, rt, &line, &progress, out, err)
         }
         Err(error) => system.speaker.answer(&error, err),
     }

@@ -14,6 +14,7 @@ returns-in-Ok g c = record {
     asked = c.in-Ok.ensures.strict;
     ends = c.open_and_run.ensures.ends;
     blame = c.open_and_run.ensures.unwritten;
+    once = c.in-Ok.ensures.once;
     ran = c.open_and_run.ensures.ran;
   });
 }
