@@ -372,7 +372,8 @@ impl Ledger {
     ///
     /// Opening accounts have room for fewer than 2^63 transactions in all (`bk_rules::room_is_left`).
     ///
-    /// `OutOfMemory`: memory was refused. `Unfinished`: a place, counted from the ledger's first batch, was not finished.
+    /// `OutOfMemory`: memory was refused. `Unfinished`: a place of these batches, counted from the ledger's first batch, is
+    /// not done; the contract says that it is a place of these batches.
     pub fn execute<R: Threads + Wait + Sync, G: Gate + Sync>(
         self,
         rt: &R,

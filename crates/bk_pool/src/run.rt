@@ -25,7 +25,7 @@ use std::thread::Threads;
 /// Executes a plan from a state that it can run on, with one worker for each end. Nothing is asked
 /// of the hints: what the workers leave, the calling thread executes after them.
 ///
-/// `Unfinished` names a place that a worker took and did not finish.
+/// `Unfinished` names the first place that is not done; the contract says that it is a place of the plan.
 pub fn execute_with<R: Threads + Wait + Sync, G: Gate + Sync, H: Hints + Send + Drop>(
     rt: &R,
     alloc: Global,
@@ -50,7 +50,7 @@ pub fn execute_with<R: Threads + Wait + Sync, G: Gate + Sync, H: Hints + Send + 
 /// Executes a plan from a state that it can run on, in the calling thread, and puts the receipts at the end of a list. No
 /// thread is started. On an `Err` the list has what it had before.
 ///
-/// `Unfinished` names a place that was taken and not finished.
+/// `Unfinished` names the first place that is not done; the contract says that it is a place of the plan.
 pub fn execute_here_onto<G: Gate>(
     alloc: Global,
     plan: &Arc<Plan>,

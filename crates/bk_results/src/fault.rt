@@ -25,7 +25,7 @@ pub enum Fault {
         first: Digest32,
         second: Digest32,
     },
-    /// A worker took this place and did not finish it. Nothing is written.
+    /// This place of the order was taken and is not done. Nothing is written.
     #[error("unfinished {place}")]
     Unfinished {
         place: u32,
