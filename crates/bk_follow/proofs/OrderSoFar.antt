@@ -13,7 +13,7 @@ use Rattle.bk_results.specs.declared.fault.Fault.TheVariants as fault
 use Rattle.bk_ledger.specs.Ledger.{LedgerValue}
 use Rattle.bk_follow.specs.Follower.{BookValue, Followed, FollowsBy, Follows, HasCome, executed_in}
 use Rattle.bk_answer.specs.RunReport.{later_frames}
-use Rattle.bk_follow.specs.Ordering.{FindsOrder, IsOrdered, OrderFails, anchors_in, certs_in}
+use Rattle.bk_follow.specs.Ordering.{FindsOrder, IsOrdered, IsOrderedBy, OrderFails, anchors_in, certs_in}
 use Rattle.bk_follow.specs.private.Books.{IsGoodBook, BookSettleFails}
 use Rattle.bk_follow.specs.private.Ledgers.{book_with}
 use Rattle.bk_follow.specs.private.Ordered.{BookOrderFails}
@@ -58,7 +58,10 @@ finds_order cut committee book stands b new is h same =
     record {
       come = λ bytes frames come.
           let g = good_of bytes frames old b come is in
-          come_on bytes frames cut committee new stands old b refl come g come.works (h (feed_of g.version frames) g.good).book;
+          let o = h (feed_of g.version frames) g.good in (
+            come_on bytes frames cut committee new stands old b refl come g come.works o.book,
+            subst (λ (w : Option Version). IsOrderedBy w frames (Some new)) (sym g.known) o,
+          );
       order = record {
         none = λ bytes frames come few. let g = good_of bytes frames old b come is in absurd (few_opened frames few g.good.opened);
         ordered = λ bytes frames come two.
@@ -86,10 +89,18 @@ no_genesis bytes frames v come none two = by_version v.cut.version refl
     by_version None e = let at = none_before_magic bytes frames v.cut come.cuts e in omega (arith, two, ap length at.0)
     by_version (Some version) e = no_book version frames two (subst (FollowsBy version frames v.committee) none (subst (λ (w : Option Version). Follows w frames v.committee v.book) e come.follows))
 
+-- nothing is to be ordered where there is no book
+of_none : (version : Option Version) (frames : List Frame) → IsOrderedBy version frames None
+of_none None frames = tt
+of_none (Some version) frames = tt
+
 -- nothing is ordered then
 pub none_ordered_yet : (v : Followed) → v.book ≡ None → FindsOrder v v (anchors_in v.book) (certs_in v.book)
 none_ordered_yet v none = record {
-  come = λ bytes frames come. come;
+  come = λ bytes frames come. (
+    come,
+    subst (λ (b : Option BookValue). IsOrderedBy v.cut.version frames b) (sym none) (of_none v.cut.version frames),
+  );
   order = record {
     none = λ bytes frames come few. (ap anchors_in none, ap certs_in none);
     ordered = λ bytes frames come two. absurd (no_genesis bytes frames v come none two);

@@ -141,8 +141,8 @@ OfFrames v holds =
     (bytes : List ℕ) (frames : List Frame) → HasCome bytes frames v
     → (version : Version) × (v.cut.version ≡ Some version) × holds (feed_of version frames)
 
--- why there was no settle, and what it leaves: the stop of the whole frames so far, and then all is as it was; a place that
--- a worker took and did not finish; or memory ran out. After the last two the Follower holds nothing but the fault
+-- why there was no settle, and what it leaves: the stop of the whole frames so far, and then all is as it was; a place of
+-- the order was not done; or memory ran out. After the last two the Follower holds nothing but the fault
 abbrev pub SettleFails : Followed → Followed → Fault → Type 0
 SettleFails old new (fault.Feed found) = ⊥
 SettleFails old new (fault.Unfinished place) =

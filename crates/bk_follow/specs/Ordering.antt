@@ -1,5 +1,5 @@
 -- What a Follower's order is between its pieces.
-use Rattle.std.specs.Prelude.{◌≡◌, ℕ, ◌<◌, ◌≤◌, List, [], length, Option, Some, None}
+use Rattle.std.specs.Prelude.{◌≡◌, ℕ, ◌<◌, ◌≤◌, List, [], length, Option, Some, None, IfSome}
 use Rattle.bk_base.specs.declared.version.Version.{Version}
 use Rattle.bk_base.specs.Feed.{Frame, FeedValue, IsFeed, feed_of}
 use Rattle.bk_order.specs.Orders.{Ordered}
@@ -35,9 +35,16 @@ pub record IsOrderSoFar (v : Followed) (anchors certs : List CertRef) : Type 0 w
   pub ordered : (bytes : List ℕ) (frames : List Frame) → HasCome bytes frames v → 2 ≤ length frames
       → (version : Version) × (v.cut.version ≡ Some version) × AreOrderedIn (feed_of version frames) anchors certs
 
--- the order was settled: what had come has come, nothing was executed, and this is the order of the whole frames so far
+-- what is made of the frames has the order of all of these, which nothing stops
+abbrev pub IsOrderedBy : Option Version → List Frame → Option BookValue → Type 0
+IsOrderedBy None frames book = Unit {0}
+IsOrderedBy (Some version) frames book = IfSome book (λ b. IsOrdered (feed_of version frames) b)
+
+-- the order was settled: what had come has come and is ordered, nothing was executed, and this is the order of the whole
+-- frames so far
 pub record FindsOrder (old new : Followed) (anchors certs : List CertRef) : Type 0 where
-  pub come : (bytes : List ℕ) (frames : List Frame) → HasCome bytes frames old → HasCome bytes frames new
+  pub come : (bytes : List ℕ) (frames : List Frame) → HasCome bytes frames old
+      → HasCome bytes frames new × IsOrderedBy new.cut.version frames new.book
   pub order : IsOrderSoFar old anchors certs
   pub executed : executed_in new.book ≡ executed_in old.book
   pub cut : new.cut ≡ old.cut
