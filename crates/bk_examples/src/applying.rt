@@ -33,7 +33,7 @@ impl Applied {
         self.fault == Some(fault) && self.failures == 1 && self.out.is_empty()
     }
 
-    // Whether the first bytes of a report are out, so many.
+    // Whether exactly the first `count` bytes of a report are out.
     fn is_begun(&self, report: &[u8], count: usize) -> bool {
         let fault = Fault::Write {
             written: count as u64,

@@ -13,7 +13,7 @@ const SIZES: [usize; 6] = [1, 2, 3, 7, 64, 4_096];
 // The bits of a byte.
 const BITS: [u8; 8] = [1, 2, 4, 8, 16, 32, 64, 128];
 
-/// Where the frame begins that is read once so many bytes were read: 0 in the magic, the end after all frames.
+/// Where the frame begins that is read once `count` bytes were read: 0 in the magic, the end after all frames.
 pub(crate) fn frame_at(ends: &[usize], count: usize) -> usize {
     let mut begin = 0usize;
     for end in ends {

@@ -65,7 +65,7 @@ pub(crate) fn feed_alone(feed: &[u8]) -> Given<'_> {
     Given { feed, second: b"" }
 }
 
-/// A run by so many workers.
+/// A run by this number of workers.
 pub(crate) fn run_by(workers: Workers) -> Job {
     Job::Run {
         workers,

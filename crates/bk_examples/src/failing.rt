@@ -48,7 +48,7 @@ impl Tried<'_> {
         matches!(self.job, Job::Follow { .. })
     }
 
-    // Whether so many bytes may be out after so many writes: all that these can take, if all is written as one piece.
+    // Whether `count` bytes may be out after `writes` writes of `most` bytes: all that these can take, if all is one piece.
     fn may_be_out(&self, count: usize, writes: usize, most: usize) -> bool {
         let taken = writes.saturating_mul(most);
         if self.is_followed() || self.whole.out.len() > ONE_PIECE || most == usize::MAX {
@@ -82,12 +82,12 @@ impl Input<'_> {
         }
     }
 
-    // Whether so many reads find the end.
+    // Whether `reads` reads of at most `most` bytes find the end.
     fn is_read_by(&self, reads: usize, most: usize) -> bool {
         reads > 0 && reads.saturating_sub(1).saturating_mul(most) >= self.length
     }
 
-    // The fault of a read that fails after so many others: that of a feed says where the frame begins that is not whole.
+    // The fault of a read that fails after `reads` others: that of a feed says where the frame begins that is not whole.
     fn fault_after(&self, alloc: Global, reads: usize, most: usize) -> Result<String> {
         let Some(ends) = self.ends else {
             return Ok(String::from_str(alloc, "read failed\n")?);
@@ -163,7 +163,7 @@ where
     leaves(rt, tried, both, lost)
 }
 
-// What a job comes to where a read fails after so many others.
+// What a job comes to where a read fails after `reads` others.
 fn reading_of<R>(
     rt: &R,
     tried: Tried<'_>,
@@ -182,7 +182,7 @@ where
     Ok(judge_reading(tried, &lost, &line))
 }
 
-// Whether each read of a file fails well, of at most so many bytes. A feed is read to its end, and not after it.
+// Whether each read of a file, of at most `most` bytes, fails well. A feed is read to its end, and not after it.
 fn each_read_fails<R>(rt: &R, tried: Tried<'_>, input: Input<'_>, most: usize) -> Result<bool>
 where
     R: AllocGlobal + Threads + Wait + Sync,
@@ -217,7 +217,7 @@ where
 
 // ---- writes
 
-// What a job comes to of which a write fails: its first bytes alone are out, so many of them.
+// What a job comes to of which a write fails: the first bytes of its answer alone are out, and how many.
 #[derive(Clone, Copy)]
 enum Writing {
     Whole,
@@ -244,7 +244,7 @@ fn writing_by(device: Device) -> Devices {
     }
 }
 
-// What a job comes to where a write fails after so many others, for good or once: the same.
+// What a job comes to where a write fails after `writes` others, for good or once: the same.
 fn writing_of<R>(rt: &R, tried: Tried<'_>, writes: usize, most: usize) -> Writing
 where
     R: AllocGlobal + Threads + Wait + Sync,

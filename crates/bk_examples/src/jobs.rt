@@ -227,7 +227,8 @@ where
 
 // ---- offsets that were worked out by hand
 
-// Whether a run cannot read a feed that begins a frame here, where the read fails after so many others of 40 bytes.
+// Whether a run names `offset` as where the frame begins that it cannot read, where a read fails after `reads` others of 40
+// bytes.
 fn is_unread_at<R>(rt: &R, feed: &[u8], reads: usize, offset: &str) -> Result<bool>
 where
     R: AllocGlobal + Threads + Wait + Sync,

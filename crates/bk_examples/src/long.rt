@@ -86,7 +86,7 @@ fn long_report(alloc: Global) -> Result<Outcome> {
     })
 }
 
-// Whether an answer takes at least so many calls of a sink that takes at most `most` bytes a call, each of which fails well.
+// Whether an answer takes at least `least` calls of a sink that takes at most `most` bytes a call, and each fails well.
 fn takes_calls<R>(rt: &R, tried: Tried<'_>, most: usize, least: usize) -> bool
 where
     R: AllocGlobal + Threads + Wait + Sync,
