@@ -1,5 +1,7 @@
 -- How a job ends whose files are opened first.
 use Rattle.std.specs.Prelude.{◌≡◌, ◌⊎◌, ℕ, Bool, List, Option, Some, None, true, false}
+use Rattle.std_io.specs.declared.io.kind.ErrorKind.{ErrorKind}
+use Rattle.std_io.specs.declared.io.kind.ErrorKind.TheVariants as kind
 use Rattle.bk_frames.specs.Device.{Device}
 use Rattle.bk_results.specs.declared.fault.Fault.TheVariants as replay
 use Rattle.bk_cli.specs.Exits.{is_answer}
@@ -8,6 +10,7 @@ use Rattle.bk_cli.specs.FaultLines.{Reports}
 use Rattle.bk_cli.specs.Files.{file_of, second_file_of}
 use Rattle.bk_cli.specs.Unopened.{told_unopened}
 use Rattle.bk_cli.specs.declared.unopened.Unopened.{Unopened}
+use Rattle.bk_cli.specs.declared.unopened.Unopened.TheVariants as reason
 use Rattle.bk_cli.specs.declared.exit.Exit.{Exit}
 use Rattle.bk_cli.specs.declared.exit.Exit.TheVariants as exit
 use Rattle.bk_cli.specs.declared.job.Job.{Job}
@@ -54,23 +57,29 @@ pub record RanOver (holds : List ℕ → Option (List ℕ) → Type 0) (feeds : 
 abbrev pub IsFileOf : Job → List ℕ → Type 0
 IsFileOf j path = (file_of j ≡ Some path) ⊎ (second_file_of j ≡ Some path)
 
--- a file of the job could not be opened, which is reported with its path and, in words, with a reason
-abbrev pub HasNoFile : Job → Bool → Device → Device → Type 0
-HasNoFile j verbose err err' =
-    (path : List ℕ) × IsFileOf j path × (why : Unopened) × Reports (told_unopened verbose path why) err err'
+-- a file of the job could not be opened, which is reported with its path and, in words, with the reason
+abbrev pub HasNoFile : (List ℕ → Unopened → Type 0) → Job → Bool → Device → Device → Type 0
+HasNoFile lacks j verbose err err' =
+    (path : List ℕ) × IsFileOf j path × (why : Unopened) × lacks path why × Reports (told_unopened verbose path why) err err'
 
 -- there was no memory to read ahead, which is reported
 abbrev pub HasNoMemory : Job → Bool → Device → Device → Type 0
 HasNoMemory j verbose err err' = Reports (told verbose j (fault.Replay replay.Memory)) err err'
 
 -- the job did not begin
-pub record BeganNot (j : Job) (verbose : Bool) (end : Exit) (out out' err err' : Device) : Type 0 where
+pub record BeganNot (lacks : List ℕ → Unopened → Type 0) (j : Job) (verbose : Bool) (end : Exit) (out out' err err' : Device) : Type 0 where
   pub failed : end ≡ exit.Failed
   pub untouched : out' ≡ out
-  pub line : HasNoFile j verbose err err' ⊎ HasNoMemory j verbose err err'
+  pub line : HasNoFile lacks j verbose err err' ⊎ HasNoMemory j verbose err err'
 
 -- the one or the other
-abbrev pub Ran : (List ℕ → Option (List ℕ) → Type 0) → (Option (List ℕ) → Type 0) → Job → Bool → Bool → Exit → Device → Device → Device
-    → Device → Type 0
-Ran holds feeds j strict verbose end out out' err err' =
-    RanOver holds feeds j strict verbose end out out' err err' ⊎ BeganNot j verbose end out out' err err'
+abbrev pub Ran : (List ℕ → Option (List ℕ) → Type 0) → (Option (List ℕ) → Type 0) → (List ℕ → Unopened → Type 0) → Job → Bool → Bool
+    → Exit → Device → Device → Device → Device → Type 0
+Ran holds feeds lacks j strict verbose end out out' err err' =
+    RanOver holds feeds j strict verbose end out out' err err' ⊎ BeganNot lacks j verbose end out out' err err'
+
+-- why a file was not opened, by the kind of the system's error
+abbrev pub reason_by : ErrorKind → Unopened
+reason_by kind.NotFound = reason.Absent
+reason_by kind.PermissionDenied = reason.Denied
+reason_by other = reason.Other

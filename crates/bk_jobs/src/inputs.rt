@@ -1,8 +1,11 @@
 //! Where the files of a job come from.
 
-ghost use Rattle.std.specs.Prelude.{ℕ, List, Option, IfOk};
+ghost use Rattle.std.specs.Prelude.{◌≡◌, ℕ, List, Option, IfErr, IfOk};
+ghost use Rattle.std.specs.IoError.{error_kind};
+ghost use Rattle.bk_cli.specs.declared.unopened.Unopened.{Unopened};
+ghost use Rattle.bk_jobs.specs.Openings.{reason_by};
 
-use bk_cli::is_input;
+use bk_cli::{Unopened, is_input};
 use either::{Either, Left, Right};
 use std::io::Read;
 use std::rt::Files;
@@ -19,9 +22,13 @@ pub trait Opens {
     /// Standard input gives these.
     ghost feeds: { Self → Option (List ℕ) → Type 0 };
 
+    /// A file of this path cannot be opened, for this reason.
+    ghost lacks: { Self → List ℕ → Unopened → Type 0 };
+
     /// Opens a file at its beginning.
-    fn open(&self, path: &str) -> io::Result<Self::File>
-        ensures { IfOk result (λ file. holds self.now path.now (Self.File.remaining file)) };
+    fn open(&self, path: &str) -> Result<Self::File, Unopened>
+        ensures opened { IfOk result (λ file. holds self.now path.now (Self.File.remaining file)) }
+        ensures unopened { IfErr result (λ why. lacks self.now path.now why) };
 
     /// Standard input.
     fn standard(&self) -> Self::File
@@ -44,7 +51,18 @@ impl<'a, F> Inputs<'a, F> {
     }
 }
 
-/// What a file of the system holds is in no contract. The path `-` stands for standard input.
+// Why the system did not open a file, as far as it says it.
+fn reason_of(error: &io::Error) -> Unopened
+    ensures { result ≡ reason_by (error_kind error.now) }
+{
+    match error.kind() {
+        io::ErrorKind::NotFound => Unopened::Absent,
+        io::ErrorKind::PermissionDenied => Unopened::Denied,
+        _ => Unopened::Other,
+    }
+}
+
+/// What a file of the system holds, and why it is not opened, is in no contract. The path `-` stands for standard input.
 impl<'a, F: Files + Input> Opens for Inputs<'a, F> {
     type File = Either<F::File, F::Reader>;
 
@@ -52,13 +70,15 @@ impl<'a, F: Files + Input> Opens for Inputs<'a, F> {
 
     ghost feeds = { λ _ bytes. Unit {0} };
 
-    fn open(&self, path: &str) -> io::Result<Either<F::File, F::Reader>> {
+    ghost lacks = { λ _ path why. Unit {0} };
+
+    fn open(&self, path: &str) -> Result<Either<F::File, F::Reader>, Unopened> {
         if is_input(path) {
             return Ok(Right(self.system.reader()));
         }
         match fs::open(self.system, path) {
             Ok(file) => Ok(Left(file)),
-            Err(error) => Err(error),
+            Err(error) => Err(reason_of(&error)),
         }
     }
 

@@ -15,7 +15,7 @@ use bk_listing::list_frames;
 use bk_results::{Fault, Flaw};
 use std::thread::Threads;
 
-// That so many frames are rejected, where some are.
+// That this number of frames is rejected, where some are.
 fn flaw_of(rejected: u64) -> Option<Flaw>
     ensures { result ≡ flaw_by_rejected rejected }
 {

@@ -6,7 +6,7 @@ ghost use Rattle.bk_results.specs.Devices.{IsUntouched};
 ghost use Rattle.bk_cli.specs.Exits.{is_refusal, may_end_if, writes_ahead};
 ghost use Rattle.bk_cli.specs.Files.{file_of, second_file_of};
 ghost use Rattle.bk_jobs.specs.Openings.{HasNoFile, HasNoMemory, IsFileOf, IsFirst, IsSecond, Ran};
-ghost use Rattle.bk_jobs.specs.private.Opened.{RanOn};
+ghost use Rattle.bk_jobs.specs.private.Opened.{RanOn, waits_at_end};
 ghost use Rattle.bk_jobs.specs.Sources.{CanBeUsedAgain};
 
 use crate::inputs::Opens;
@@ -16,7 +16,7 @@ use bk_frames::{Counted, Sink};
 use bk_progress::{Metered, Progress};
 use bk_results::Fault;
 use bk_tail::Waiting;
-use std::io::{self, BufReader, Read};
+use std::io::{BufReader, Read};
 use std::sync::Wait;
 use std::thread::Threads;
 use std::time::Clock;
@@ -24,23 +24,22 @@ use std::time::Clock;
 // How many bytes are read ahead, so that small pulls cost little. The number is none of the format's.
 const AHEAD: usize = 65_536;
 
-// Why the system did not open a file, as far as it says it.
-fn reason_of(error: &io::Error) -> Unopened {
-    match error.kind() {
-        io::ErrorKind::NotFound => Unopened::Absent,
-        io::ErrorKind::PermissionDenied => Unopened::Denied,
-        _ => Unopened::Other,
-    }
-}
-
 // Reports a file that cannot be opened.
-fn not_opened<E: Sink>(line: &Line, path: &str, error: &io::Error, err: &mut E) -> Exit
+fn not_opened<N: Opens, E: Sink>(
+    files: &N,
+    line: &Line,
+    path: &str,
+    why: Unopened,
+    err: &mut E,
+) -> Exit
     requires path { IsFileOf line.now.job path.now }
+    requires why { N.lacks files.now path.now why }
     requires err { CanBeUsed (E.state err.old) }
     ensures failed { result ≡ Exit.Failed }
-    ensures told { HasNoFile line.now.job line.now.notes.verbose (E.state err.old) (E.state err.new) }
+    ensures told { HasNoFile (N.lacks files.now) line.now.job line.now.notes.verbose
+        (E.state err.old) (E.state err.new) }
 {
-    tell_unopened(path, line.notes.verbose, reason_of(error), err);
+    tell_unopened(path, line.notes.verbose, why, err);
     Exit::Failed
 }
 
@@ -56,7 +55,9 @@ fn no_memory<E: Sink>(line: &Line, err: &mut E) -> Exit
 }
 
 // Whether the end of the first file is waited at for more.
-fn is_waited(job: &Job) -> bool {
+fn is_waited(job: &Job) -> bool
+    ensures { result ≡ waits_at_end job.now }
+{
     match job {
         Job::Follow { wait, .. } => *wait,
         _ => false,
@@ -97,14 +98,14 @@ where
     ensures unwritten { is_refusal result ≡ true → writes_ahead line.now.job ≡ false
         → IsUntouched (O.state out.old) (O.state out.new) }
     ensures ends { may_end_if line.now.strict line.now.job result ≡ true }
-    ensures ran { Ran (N.holds files.now) (N.feeds files.now)
+    ensures ran { Ran (N.holds files.now) (N.feeds files.now) (N.lacks files.now)
         line.now.job line.now.strict line.now.notes.verbose result
         (O.state out.old) (O.state out.new) (E.state err.old) (E.state err.new) }
 {
     match line.job.file() {
         Some(path) => match files.open(path) {
             Ok(feed) => run_over(rt, line, progress, feed, text, out, err),
-            Err(error) => not_opened(line, path, &error, err),
+            Err(why) => not_opened(files, line, path, why, err),
         },
         None => run_over(rt, line, progress, files.standard(), text, out, err),
     }
@@ -130,13 +131,13 @@ where
     ensures unwritten { is_refusal result ≡ true → writes_ahead line.now.job ≡ false
         → IsUntouched (O.state out.old) (O.state out.new) }
     ensures ends { may_end_if line.now.strict line.now.job result ≡ true }
-    ensures ran { Ran (N.holds files.now) (N.feeds files.now)
+    ensures ran { Ran (N.holds files.now) (N.feeds files.now) (N.lacks files.now)
         line.now.job line.now.strict line.now.notes.verbose result
         (O.state out.old) (O.state out.new) (E.state err.old) (E.state err.new) }
 {
     match files.open(text) {
         Ok(text) => open_feed(files, rt, line, progress, text, out, err),
-        Err(error) => not_opened(line, text, &error, err),
+        Err(why) => not_opened(files, line, text, why, err),
     }
 }
 
@@ -162,7 +163,7 @@ where
     ensures unwritten { is_refusal result ≡ true → writes_ahead line.now.job ≡ false
         → IsUntouched (O.state out.old) (O.state out.new) }
     ensures ends { may_end_if line.now.strict line.now.job result ≡ true }
-    ensures ran { Ran (N.holds files.now) (N.feeds files.now)
+    ensures ran { Ran (N.holds files.now) (N.feeds files.now) (N.lacks files.now)
         line.now.job line.now.strict line.now.notes.verbose result
         (O.state out.old) (O.state out.new) (E.state err.old) (E.state err.new) }
 {
@@ -204,14 +205,14 @@ where
     ensures unwritten { is_refusal result ≡ true → writes_ahead line.now.job ≡ false
         → IsUntouched (O.state out.old) (O.state out.new) }
     ensures ends { may_end_if line.now.strict line.now.job result ≡ true }
-    ensures ran { Ran (N.holds files.now) (N.feeds files.now)
+    ensures ran { Ran (N.holds files.now) (N.feeds files.now) (N.lacks files.now)
         line.now.job line.now.strict line.now.notes.verbose result
         (O.state out.old) (O.state out.new) (E.state err.old) (E.state err.new) }
 {
     match line.job.file() {
         Some(path) => match files.open(path) {
             Ok(first) => open_second(files, rt, line, progress, first, out, err),
-            Err(error) => not_opened(line, path, &error, err),
+            Err(why) => not_opened(files, line, path, why, err),
         },
         None => open_second(files, rt, line, progress, files.standard(), out, err),
     }
@@ -238,7 +239,7 @@ where
     ensures unwritten { is_refusal result ≡ true → writes_ahead line.now.job ≡ false
         → IsUntouched (O.state out.old) (O.state out.new) }
     ensures ends { may_end_if line.now.strict line.now.job result ≡ true }
-    ensures ran { Ran (N.holds files.now) (N.feeds files.now)
+    ensures ran { Ran (N.holds files.now) (N.feeds files.now) (N.lacks files.now)
         line.now.job line.now.strict line.now.notes.verbose result
         (O.state out.old) (O.state out.new) (E.state err.old) (E.state err.new) }
 {
@@ -246,7 +247,7 @@ where
     match line.job.second_file() {
         Some(path) => match files.open(path) {
             Ok(second) => run_over(rt, line, progress, first, second, out, err),
-            Err(error) => not_opened(line, path, &error, err),
+            Err(why) => not_opened(files, line, path, why, err),
         },
         None => run_over(rt, line, progress, first, nothing, out, err),
     }

@@ -1,9 +1,11 @@
 -- How a job ends over the two sources that it is given.
-use Rattle.std.specs.Prelude.{◌≡◌, ◌⊎◌, ℕ, Bool, List, Option}
+use Rattle.std.specs.Prelude.{◌≡◌, ◌⊎◌, ℕ, Bool, false, List, Option}
 use Rattle.bk_frames.specs.Device.{Device}
 use Rattle.bk_cli.specs.declared.exit.Exit.{Exit}
 use Rattle.bk_cli.specs.declared.job.Job.{Job}
-use Rattle.bk_jobs.specs.Openings.{BeganNot, RanSo}
+use Rattle.bk_cli.specs.declared.job.Job.TheVariants as job
+use Rattle.bk_cli.specs.declared.exit.Exit.TheVariants as exit
+use Rattle.bk_jobs.specs.Openings.{HasNoMemory, RanSo}
 use Rattle.bk_jobs.specs.Sources.{JobDevices}
 
 -- the job ran over two sources that had these bytes
@@ -17,7 +19,18 @@ pub record RanOverThese (first second : Option (List ℕ)) (j : Job) (strict ver
   pub ends : new.out ≡ out'
   pub ran : RanSo j strict verbose last old new err err'
 
--- or it did not begin
+-- there was no memory to read ahead
+pub record LacksMemory (j : Job) (verbose : Bool) (end : Exit) (out out' err err' : Device) : Type 0 where
+  pub failed : end ≡ exit.Failed
+  pub untouched : out' ≡ out
+  pub line : HasNoMemory j verbose err err'
+
+-- the one or the other
 abbrev pub RanOn : Option (List ℕ) → Option (List ℕ) → Job → Bool → Bool → Exit → Device → Device → Device → Device → Type 0
 RanOn first second j strict verbose end out out' err err' =
-    RanOverThese first second j strict verbose end out out' err err' ⊎ BeganNot j verbose end out out' err err'
+    RanOverThese first second j strict verbose end out out' err err' ⊎ LacksMemory j verbose end out out' err err'
+
+-- the end of the first file of a job is waited at for more
+abbrev pub waits_at_end : Job → Bool
+waits_at_end (job.Follow workers shown accounts wait file) = wait
+waits_at_end other = false
