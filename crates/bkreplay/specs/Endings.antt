@@ -16,7 +16,10 @@ use Rattle.bk_cli.specs.declared.job.Job.{Job}
 use Rattle.bk_cli.specs.declared.job_fault.JobFault.TheVariants as fault
 use Rattle.bk_cli.specs.declared.notes.Notes.{Notes}
 use Rattle.bk_cli.specs.Words.{settled}
+use Rattle.bk_cli.specs.declared.unopened.Unopened.{Unopened}
 use Rattle.bk_jobs.specs.Openings.{Ran}
+use Rattle.bkreplay.specs.declared.arguments.Unread.{Unread}
+use Rattle.bkreplay.specs.declared.arguments.Unread.TheVariants as unread
 
 -- where the words name no job: with Failed where memory ran out; with Whole after help and the version, or with Failed where
 -- these could not be written; and with No where the words have a fault
@@ -41,8 +44,8 @@ unread_words = codes "error: a word of the command line is not UTF-8\n"
 
 -- the words have no fault, and the job that they name ran over the files that it names, reported as their notes say; where the bytes are to blame nothing is
 -- written, but by a job that writes ahead
-pub record RanJob (holds : List ℕ → Option (List ℕ) → Type 0) (feeds : Option (List ℕ) → Type 0) (words : List Text) (end : Exit)
-    (out out' err err' : Device) : Type 0 where
+pub record RanJob (holds : List ℕ → Option (List ℕ) → Type 0) (feeds : Option (List ℕ) → Type 0) (lacks : List ℕ → Unopened → Type 0)
+    (words : List Text) (end : Exit) (out out' err err' : Device) : Type 0 where
   pub job : Job
   pub notes : Notes
   pub good : fault_of command_line words ≡ []
@@ -53,7 +56,7 @@ pub record RanJob (holds : List ℕ → Option (List ℕ) → Type 0) (feeds : O
   pub ends : may_end_if strict job end ≡ true
   pub blame : is_refusal end ≡ true → writes_ahead job ≡ false → IsUntouched out out'
   pub once : reads_input_twice job ≡ false
-  pub ran : Ran holds feeds job strict notes.verbose end out out' err err'
+  pub ran : Ran holds feeds lacks job strict notes.verbose end out out' err err'
 
 -- the words have a fault, or ask for help or the version, or memory ran out: that decides how the program ends, nothing is
 -- written of an answer, and where it ends with Failed one line says why
@@ -67,19 +70,26 @@ pub record RanNone (words : List Text) (end : Exit) (out out' err err' : Device)
   pub unsaid : kind_of error ≢ kind.OutOfMemory → end ≡ exit.Failed → SaysUnwritten err err'
 
 -- the one or the other
-abbrev pub RanWords : (List ℕ → Option (List ℕ) → Type 0) → (Option (List ℕ) → Type 0) → List Text → Exit → Device → Device → Device
-    → Device → Type 0
-RanWords holds feeds words end out out' err err' = RanJob holds feeds words end out out' err err' ⊎ RanNone words end out out' err err'
+abbrev pub RanWords : (List ℕ → Option (List ℕ) → Type 0) → (Option (List ℕ) → Type 0) → (List ℕ → Unopened → Type 0) → List Text → Exit
+    → Device → Device → Device → Device → Type 0
+RanWords holds feeds lacks words end out out' err err' =
+    RanJob holds feeds lacks words end out out' err err' ⊎ RanNone words end out out' err err'
 
--- the words could not be read: no answer is written, and one line says why
-pub record ReadNoWords (end : Exit) (out out' err err' : Device) : Type 0 where
-  pub ends : (end ≡ exit.No) ⊎ (end ≡ exit.Failed)
+-- one line says why the words could not be read, with the status that goes with it
+abbrev pub SaysUnread : Unread → Exit → Device → Device → Type 0
+SaysUnread unread.NoMemory end err err' = (end ≡ exit.Failed) × SaysNoMemory err err'
+SaysUnread unread.NotText end err err' = (end ≡ exit.No) × Reports unread_words err err'
+
+-- the words could not be read, for a reason for which they cannot be: no answer is written, and one line says why
+pub record ReadNoWords (fails : Unread → Type 0) (end : Exit) (out out' err err' : Device) : Type 0 where
+  pub why : Unread
+  pub is_so : fails why
   pub unwritten : out' ≡ out
-  pub said : end ≡ exit.No → Reports unread_words err err'
-  pub memory : end ≡ exit.Failed → SaysNoMemory err err'
+  pub said : SaysUnread why end err err'
 
--- some words were read and are answered, as they are read, or none could be read
-abbrev pub RanProgram : (List ℕ → Option (List ℕ) → Type 0) → (Option (List ℕ) → Type 0) → Exit → Device → Device → Device → Device
-    → Type 0
-RanProgram holds feeds end out out' err err' =
-    ((words : List Text) × RanWords holds feeds (settled words) end out out' err err') ⊎ ReadNoWords end out out' err err'
+-- the words that there are were read and are answered, by what files hold and why they are not opened; or they cannot be read
+abbrev pub RanProgram : (List Text → Type 0) → (Unread → Type 0) → (List ℕ → Option (List ℕ) → Type 0) → (Option (List ℕ) → Type 0)
+    → (List ℕ → Unopened → Type 0) → Exit → Device → Device → Device → Device → Type 0
+RanProgram gives fails holds feeds lacks end out out' err err' =
+    ((words : List Text) × gives words × RanWords holds feeds lacks (settled words) end out out' err err')
+    ⊎ ReadNoWords fails end out out' err err'

@@ -1,9 +1,11 @@
 //! The program `bkreplay`: reads the command line and runs the job that it names.
 #![tactic(auto)]
 
+mod arguments;
 mod program;
 mod speaker;
 
+use crate::arguments::Given;
 use crate::program::{System, program};
 use crate::speaker::Speaker;
 use bk_frames::Counted;
@@ -18,7 +20,9 @@ fn main(rt: HostRuntime) -> ExitCode {
     let typed = rt.stdin().is_terminal();
     let mut err = Counted::new(rt.stderr());
     let inputs = Inputs::new(&rt);
+    let given = Given::new(&rt);
     let system = System {
+        arguments: &given,
         inputs: &inputs,
         display: Display::new(&rt, terminal),
         typed,

@@ -1,12 +1,12 @@
 //! From the words of the command line to the exit status.
 
-ghost use Rattle.std.specs.Prelude.{◌≡◌, ◌⊎◌, map};
+ghost use Rattle.std.specs.Prelude.{map};
 ghost use Rattle.bk_frames.specs.Device.{CanBeUsed};
-ghost use Rattle.bk_cli.specs.FaultLines.{Reports};
 ghost use Rattle.bk_cli.specs.Words.{settled};
 ghost use Rattle.bk_jobs.specs.Sources.{CanBeUsedAgain};
-ghost use Rattle.bkreplay.specs.Endings.{RanProgram, RanWords, SaysNoMemory, unread_words};
+ghost use Rattle.bkreplay.specs.Endings.{RanProgram, RanWords, SaysUnread};
 
+use crate::arguments::{Arguments, Unread};
 use crate::speaker::Speaker;
 use bk_cli::{Exit, JobFault, Line, parse_line, report};
 use bk_frames::{Sink, push_all};
@@ -14,15 +14,15 @@ use bk_jobs::{Opens, open_and_run};
 use bk_progress::Display;
 use bk_results::Fault;
 use std::convert::AsStr;
-use std::rt::Env;
 use std::sync::Wait;
 use std::thread::Threads;
 use std::time::Clock;
-use std::{env, io};
 
 /// What the program has of the system beside its memory and its threads.
 #[derive(Drop)]
-pub(crate) struct System<'a, N, P, Q> {
+pub(crate) struct System<'a, W, N, P, Q> {
+    /// What gives it its words.
+    pub(crate) arguments: &'a W,
     /// What it reads.
     pub(crate) inputs: &'a N,
     /// Where it shows how far it is.
@@ -34,39 +34,42 @@ pub(crate) struct System<'a, N, P, Q> {
 }
 
 /// Reads the words, opens the files and runs the job; returns how the program ends.
-pub(crate) fn program<R, N, P, Q, O: Sink, E: Sink>(
+pub(crate) fn program<R, W, N, P, Q, O: Sink, E: Sink>(
     rt: &R,
-    system: &System<'_, N, P, Q>,
+    system: &System<'_, W, N, P, Q>,
     out: &mut O,
     err: &mut E,
 ) -> Exit
 where
-    R: Env + AllocGlobal + Clock + Threads + Wait + Sync,
+    R: AllocGlobal + Clock + Threads + Wait + Sync,
+    W: Arguments,
     N: Opens,
     P: Clock + Eprint + Sync,
     Q: Print + Eprint,
     requires out { CanBeUsed (O.state out.old) }
     requires err { CanBeUsedAgain (E.state err.old) }
-    ensures ran { RanProgram (N.holds system.now.inputs.now) (N.feeds system.now.inputs.now) result
+    ensures ran { RanProgram (W.gives system.now.arguments.now) (W.lacks system.now.arguments.now)
+        (N.holds system.now.inputs.now) (N.feeds system.now.inputs.now)
+        (N.lacks system.now.inputs.now) result
         (O.state out.old) (O.state out.new) (E.state err.old) (E.state err.new) }
 {
-    match words(rt) {
+    match system.arguments.words() {
         Ok(words) => run_words(rt, system, words.as_slice(), out, err),
-        Err(error) => refuse_words(&error, err),
+        Err(why) => refuse_words(why, err),
     }
 }
 
 // Says that what is typed is read, where the words ask for words.
-fn tell_typed<N, P: Clock + Eprint, Q>(system: &System<'_, N, P, Q>, line: &Line) {
+fn tell_typed<W, N, P: Clock + Eprint, Q>(system: &System<'_, W, N, P, Q>, line: &Line) {
     if line.notes.verbose && system.typed && line.job.reads_input() {
         system.display.typed();
     }
 }
 
 // Runs the job of the words.
-fn run_words<R, N, P, Q, S: AsStr, O: Sink, E: Sink>(
+fn run_words<R, W, N, P, Q, S: AsStr, O: Sink, E: Sink>(
     rt: &R,
-    system: &System<'_, N, P, Q>,
+    system: &System<'_, W, N, P, Q>,
     words: &[S],
     out: &mut O,
     err: &mut E,
@@ -79,7 +82,7 @@ where
     requires out { CanBeUsed (O.state out.old) }
     requires err { CanBeUsedAgain (E.state err.old) }
     ensures ran { RanWords (N.holds system.now.inputs.now) (N.feeds system.now.inputs.now)
-        (settled (map S.text words.now)) result
+        (N.lacks system.now.inputs.now) (settled (map S.text words.now)) result
         (O.state out.old) (O.state out.new) (E.state err.old) (E.state err.new) }
 {
     match parse_line(rt.alloc(), words) {
@@ -92,23 +95,20 @@ where
     }
 }
 
-fn words<R: Env + AllocGlobal>(rt: &R) -> io::Result<Vec<String>> {
-    let words = env::args(rt)?.collect(rt.alloc())?;
-    Ok(words)
-}
-
-// Words that could not be read: memory was refused, or a word is not text.
-fn refuse_words<E: Sink>(error: &io::Error, err: &mut E) -> Exit
+// Words that could not be read: memory ran out, or a word is not text.
+fn refuse_words<E: Sink>(why: Unread, err: &mut E) -> Exit
     requires { CanBeUsed (E.state err.old) }
-    ensures ends { (result ≡ Exit.No) ⊎ (result ≡ Exit.Failed) }
-    ensures said { result ≡ Exit.No → Reports unread_words (E.state err.old) (E.state err.new) }
-    ensures memory { result ≡ Exit.Failed → SaysNoMemory (E.state err.old) (E.state err.new) }
+    ensures { SaysUnread why result (E.state err.old) (E.state err.new) }
 {
-    if error.kind() == io::ErrorKind::OutOfMemory {
-        report(&JobFault::Replay(Fault::Memory), err);
-        return Exit::Failed;
+    match why {
+        Unread::NoMemory => {
+            report(&JobFault::Replay(Fault::Memory), err);
+            Exit::Failed
+        }
+        Unread::NotText => {
+            // A line that cannot be written is reported nowhere.
+            let _ = push_all(err, b"error: a word of the command line is not UTF-8\n");
+            Exit::No
+        }
     }
-    // A line that cannot be written is reported nowhere.
-    let _ = push_all(err, b"error: a word of the command line is not UTF-8\n");
-    Exit::No
 }

@@ -3,14 +3,14 @@ use Rattle.std.proofs.Common.{inl, inr, refl}
 use Rattle.bkreplay.proofs.program.program.Goals as goal
 
 pub returns-in-Ok : goal.returns-in-Ok
-returns-in-Ok g c = record { ran = inl (_, c.run_words.ensures.ran) }
+returns-in-Ok g c = record { ran = inl (_, c.in-Ok.ensures.given, c.run_words.ensures.ran) }
 
 pub returns-in-Err : goal.returns-in-Err
 returns-in-Err g c = record {
   ran = inr (record {
-    ends = c.refuse_words.ensures.ends;
+    why = c.in-Err.why;
+    is_so = c.in-Err.ensures.unread;
     unwritten = refl;
-    said = c.refuse_words.ensures.said;
-    memory = c.refuse_words.ensures.memory;
+    said = c.refuse_words.ensures;
   });
 }

@@ -1,5 +1,5 @@
 -- The line is out, or its first bytes are.
-use Rattle.std.proofs.Common.{ℕ, List, Ok, Err, inl, inr}
+use Rattle.std.proofs.Common.{ℕ, List, Ok, Err, inl, inr, refl}
 use Rattle.std.specs.Prelude.{IfErr, OnOk}
 use Rattle.std.specs.declared.result.Result.{Result}
 use Rattle.bk_frames.specs.Device.{Device}
@@ -13,5 +13,5 @@ reports : {T : Type 0} (r : Result T WriteFault) (text : List ℕ) (old new : De
 reports (Ok x) text old new ok err = inl ok
 reports (Err e) text old new ok err = inr (err.fails, (e.written, err.short, err.out))
 
-pub returns-clause-said : goal.returns-clause-said
-returns-clause-said g c = λ _. reports c.push_all.result unread_words (g.E.Sink.state c.args.err.now) (g.E.Sink.state c.push_all.new.sink) c.push_all.ensures.ok c.push_all.ensures.fault
+pub returns-in-NotText : goal.returns-in-NotText
+returns-in-NotText g c = (refl, reports c.push_all.result unread_words (g.E.Sink.state c.args.err.now) (g.E.Sink.state c.push_all.new.sink) c.push_all.ensures.ok c.push_all.ensures.fault)
