@@ -1,6 +1,6 @@
 //! Transactions at limits, whose receipts were computed by hand.
 
-use crate::cases::{Case, try_case};
+use crate::one_text::{Case, try_case};
 use crate::texts::text_of;
 use anyhow::{Result, bail};
 use bk_base::{Row, Version};

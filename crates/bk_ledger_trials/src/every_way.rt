@@ -1,6 +1,6 @@
 //! Drawn lists of transactions, executed one at a time, in slices, and by several workers.
 
-use crate::drawn::drawn_opening;
+use crate::drawn_txs::drawn_opening;
 use crate::feeds::feed_of;
 use crate::given::Given;
 use crate::plain::given_in_order;

@@ -3,7 +3,7 @@ use Rattle.std.proofs.lemmas.List.{map-id}
 use Rattle.std.proofs.lemmas.List.Sorted.{answers_always}
 use Rattle.bk_base.specs.Numbers.{is_ascending}
 use Rattle.bk_tx.proofs.Ascending.{ascending_answer}
-use Rattle.bk_pool_trials.proofs.touching.ascends.Goals as goal
+use Rattle.bk_ledger_trials.proofs.touching.ascends.Goals as goal
 
 pub returns : goal.returns
 returns c =

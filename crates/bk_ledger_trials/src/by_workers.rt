@@ -1,6 +1,6 @@
 //! Drawn lists, short and long, by several numbers of workers.
 
-use crate::drawn::{drawn_list, drawn_opening};
+use crate::drawn_lists::{drawn_list, drawn_opening};
 use crate::executing::{executed, is_same};
 use crate::making::{feed_with, pay, row};
 use anyhow::Result;

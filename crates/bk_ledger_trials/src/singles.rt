@@ -1,6 +1,6 @@
 //! Drawn transactions, each on its own opening accounts, applied to a state.
 
-use crate::drawn::drawn_opening;
+use crate::drawn_txs::drawn_opening;
 use crate::feeds::feed_with;
 use crate::given::Given;
 use crate::plain::given_alone;

@@ -1,9 +1,9 @@
 //! Feeds of many batches, executed in slices of several lengths, against the same transactions one at a time.
 
+use crate::by_workers::{opening, payments};
 use crate::cases::VERSIONS;
 use crate::deeds::{Deed, txs_of};
-use crate::drawn::{drawn_list, drawn_opening};
-use crate::lists::{opening, payments};
+use crate::drawn_lists::{drawn_list, drawn_opening};
 use crate::making::{Batch, feed_of, pay};
 use anyhow::{Result, bail};
 use bk_base::{Row, Version};

@@ -1,7 +1,7 @@
 //! Slices that are worth the start of threads: a batch that is as full as a batch can be, and batches that together
 //! are exactly as long as a slice has to be. Against the same transactions one at a time.
 
-use crate::lists::{opening, payments};
+use crate::by_workers::{opening, payments};
 use crate::making::{Batch, batch_of, feed_of};
 use crate::slices::{in_slices, is_same};
 use anyhow::{Result, bail};

@@ -1,9 +1,9 @@
 //! Plans of drawn lists, also with wrong likely slots and by a planner that made others, and their waits and words.
 
-use crate::drawn::{drawn_opening, drawn_payments};
+use crate::by_workers::drawn_feed;
+use crate::drawn_lists::{drawn_opening, drawn_payments};
 use crate::edges::plan_by;
 use crate::executing::{executed_near, is_same, planned};
-use crate::lists::drawn_feed;
 use crate::making::feed_with;
 use crate::waits::{count_waits, is_right};
 use anyhow::Result;

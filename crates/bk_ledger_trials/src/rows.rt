@@ -1,6 +1,6 @@
 //! Transactions on chosen accounts, whose receipts and rows were computed by hand.
 
-use crate::cases::{Case, try_case};
+use crate::one_text::{Case, try_case};
 use crate::texts::{name_twice, text_of};
 use anyhow::{Result, bail};
 use bk_base::{Row, Version};

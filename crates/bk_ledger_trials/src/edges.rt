@@ -2,7 +2,7 @@
 
 use crate::cases::{Name, feed_named};
 use crate::deeds::{Deed, txs_of};
-use crate::drawn::drawn_opening;
+use crate::drawn_lists::drawn_opening;
 use crate::executing::planned_by;
 use crate::making::feed_with;
 use anyhow::Result;

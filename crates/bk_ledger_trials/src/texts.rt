@@ -1,6 +1,6 @@
 //! Texts of transactions, some of them with a fault that makes them malformed.
 
-use crate::drawn::drawn_tx;
+use crate::drawn_txs::drawn_tx;
 use crate::plain::rows_after;
 use anyhow::{Result, bail};
 use bk_base::{Row, Version};
