@@ -1,8 +1,8 @@
 //! Transactions as rows of tables, so that one loop makes all of them.
 
-use crate::making::{pay, reading, split, tx, writing};
+use crate::making::{pay, payment, reading, split, tx, writing};
 use anyhow::Result;
-use bk_tx::{Body, Payment, Tx};
+use bk_tx::{Body, Tx};
 use std::alloc::Global;
 
 /// A transaction of a table.
@@ -53,15 +53,8 @@ fn pay_if(from: u64, to: u64, amount: u64, guard: (u64, u64), seq: u64) -> Resul
 
 // From account 1 to 2 and 3.
 fn split_between(seq: u64, second: u64, third: u64) -> Result<Option<Tx>> {
-    let second = Payment {
-        to: 2,
-        amount: second,
-    };
-    let third = Payment {
-        to: 3,
-        amount: third,
-    };
-    split(1, seq, &[second, third])
+    let declared = [writing(1), writing(2), writing(3)];
+    split(&declared, 1, seq, &[payment(2, second), payment(3, third)])
 }
 
 fn look(is_written: bool) -> Result<Option<Tx>> {

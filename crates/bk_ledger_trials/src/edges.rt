@@ -2,8 +2,8 @@
 
 use crate::cases::{Name, feed_named};
 use crate::deeds::{Deed, txs_of};
-use crate::drawn_lists::drawn_opening;
 use crate::executing::planned_by;
+use crate::long_lists::opening;
 use crate::making::feed_with;
 use anyhow::Result;
 use bk_base::Version;
@@ -101,7 +101,7 @@ fn feed_of_list(alloc: Global, version: Version, list: Chosen) -> Result<Feed> {
     if let Chosen::Four = list {
         return feed_named(alloc, version, Name::FourConflicts);
     }
-    let rows = drawn_opening(alloc)?;
+    let rows = opening(alloc, 6)?;
     let txs = txs_of(alloc, deeds_of(list))?;
     feed_with(alloc, version, &rows, &txs)
 }

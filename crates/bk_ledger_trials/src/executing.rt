@@ -1,6 +1,6 @@
 //! Executions of the transactions of a feed, and what they have to give.
 
-ghost use Rattle.std.specs.Prelude.{◌≤◌, IfOk};
+ghost use Rattle.std.specs.Prelude.{IfOk};
 ghost use Rattle.std.specs.Arc.{arc_value};
 ghost use Rattle.bk_conflicts.specs.SceneOf.{CanRunOn};
 
@@ -9,7 +9,7 @@ use bk_base::Row;
 use bk_conflicts::{Plan, Planner};
 use bk_frames::Feed;
 use bk_ledger::{Batches, Ledger};
-use bk_pool::{ExecFault, Gate, Hints, Open, Outcome, execute, execute_with};
+use bk_pool::{ExecFault, Gate, Hints, Outcome, execute, execute_with};
 use bk_rules::{Receipt, State};
 use std::alloc::Global;
 use std::sync::{Arc, Wait};
@@ -52,41 +52,26 @@ pub(crate) fn prepared(alloc: Global, feed: &Feed, near: &[u32]) -> Result<(Arc<
     Ok((Arc::new(alloc, plan)?, state))
 }
 
-// The outcome, which has to be one.
-fn whole(ran: Result<Outcome, ExecFault>) -> Result<Outcome> {
+// What an execution gave, which has to be something.
+fn whole<T>(ran: Result<T, ExecFault>) -> Result<T> {
     match ran {
-        Ok(outcome) => Ok(outcome),
+        Ok(given) => Ok(given),
         Err(ExecFault::OutOfMemory) => bail!("out of memory"),
         Err(ExecFault::Unfinished(place)) => bail!("place {place} is not done"),
     }
 }
 
-/// What this many workers make of the transactions of a feed.
+/// What this many workers make of the transactions of a feed, by the plan that is made with these likely slots.
 pub(crate) fn executed<R: Threads + Wait + Sync, G: Gate + Sync>(
-    rt: &R,
-    alloc: Global,
-    feed: &Feed,
-    workers: usize,
-    gate: &G,
-) -> Result<Outcome>
-    requires workers { (1 ≤ workers) × (workers ≤ 64) }
-{
-    let (plan, state) = prepared(alloc, feed, &[])?;
-    whole(execute(rt, alloc, &plan, state, workers, gate))
-}
-
-/// The same by the plan, which was made with these likely slots.
-pub(crate) fn executed_near<R: Threads + Wait + Sync>(
     rt: &R,
     alloc: Global,
     feed: &Feed,
     near: &[u32],
     workers: usize,
-) -> Result<Outcome>
-    requires workers { (1 ≤ workers) × (workers ≤ 64) }
-{
+    gate: &G,
+) -> Result<Outcome> {
     let (plan, state) = prepared(alloc, feed, near)?;
-    whole(execute(rt, alloc, &plan, state, workers, &Open))
+    whole(execute(rt, alloc, &plan, state, workers.clamp(1, 64), gate))
 }
 
 /// What one worker for each end makes of them.
@@ -109,6 +94,19 @@ where
     whole(execute_with(rt, alloc, &plan, state, gate, ends))
 }
 
+/// What this many workers make of a feed in slices of at least so many transactions.
+pub(crate) fn in_slices<R: Threads + Wait + Sync, G: Gate + Sync>(
+    rt: &R,
+    alloc: Global,
+    feed: &Feed,
+    least: usize,
+    workers: usize,
+    gate: &G,
+) -> Result<Ledger> {
+    let (least, workers) = (least.min(8_192), workers.clamp(1, 64));
+    whole(Ledger::of_slices(rt, alloc, feed, least, workers, gate))
+}
+
 /// Whether these are all receipts and all accounts.
 pub(crate) fn gives(
     alloc: Global,
@@ -118,10 +116,4 @@ pub(crate) fn gives(
 ) -> Result<bool> {
     let rows = outcome.state.rows(alloc)?;
     Ok(outcome.receipts.as_slice() == receipts && rows.as_slice() == accounts)
-}
-
-/// Whether the outcome is what the transactions give one at a time.
-pub(crate) fn is_same(alloc: Global, outcome: &Outcome, wanted: &Ledger) -> Result<bool> {
-    let accounts = wanted.state().rows(alloc)?;
-    gives(alloc, outcome, wanted.receipts(), &accounts)
 }

@@ -1,14 +1,16 @@
 //! Slices that are worth the start of threads: a batch that is as full as a batch can be, and batches that together
 //! are exactly as long as a slice has to be. Against the same transactions one at a time.
 
-use crate::by_workers::{opening, payments};
-use crate::making::{Batch, batch_of, feed_of};
-use crate::slices::{in_slices, is_same};
+use crate::executing::in_slices;
+use crate::long_lists::{opening, payments};
+use crate::making::{Batch, batch_of, feed_of, text_of, texts_of};
+use crate::ways::is_summed;
 use anyhow::{Result, bail};
 use bk_base::Version;
 use bk_frames::Feed;
-use bk_ledger::Ledger;
+use bk_ledger::{Ledger, Summary};
 use bk_pool::Gate;
+use bk_rules::{Receipt, Status};
 use bk_trial_kit::Tally;
 use bk_tx::Tx;
 use std::alloc::Global;
@@ -109,7 +111,7 @@ fn counted<R>(
     rt: &R,
     alloc: Global,
     feed: &Feed,
-    wanted: &Ledger,
+    wanted: &Summary,
     workers: usize,
 ) -> (Result<bool>, Count)
 where
@@ -137,7 +139,7 @@ fn gives<R>(
     rt: &R,
     alloc: Global,
     feed: &Feed,
-    wanted: &Ledger,
+    wanted: &Summary,
     workers: usize,
     gate: &Counting<'_>,
 ) -> Result<bool>
@@ -145,7 +147,7 @@ where
     R: Threads + Wait + Sync,
 {
     let ledger = in_slices(rt, alloc, feed, LEAST, workers, gate)?;
-    is_same(alloc, &ledger, wanted)
+    is_summed(alloc, ledger, wanted)
 }
 
 // Slices of a feed by a number of workers: what they give, that each place was done once, and that two workers were at
@@ -153,7 +155,7 @@ where
 fn try_workers<R>(
     rt: &R,
     feed: &Feed,
-    wanted: &Ledger,
+    wanted: &Summary,
     places: u64,
     workers: usize,
     tally: &mut Tally,
@@ -170,33 +172,35 @@ where
 }
 
 // How many transactions have this status.
-fn with_status(ledger: &Ledger, status: u8) -> u64 {
+fn with_status(receipts: &[Receipt], status: Status) -> u64 {
     let mut count = 0u64;
-    for receipt in ledger.receipts() {
-        if receipt.status.number() == status {
+    for receipt in receipts {
+        if receipt.status == status {
             count = count.saturating_add(1);
         }
     }
     count
 }
 
-// Whether it has these batches and all the money, and all but the malformed ones were paid or lacked the funds.
-fn is_of(ledger: &Ledger, counts: &[Option<u16>], places: u64, malformed: u64) -> bool {
-    let others = with_status(ledger, 0).saturating_add(with_status(ledger, 6));
-    ledger.counts() == counts
-        && ledger.receipts().len() as u64 == places
-        && with_status(ledger, 1) == malformed
-        && others == places.saturating_sub(malformed)
-        && ledger.state().total() == MONEY
+// Whether these are the batches and all the money, and all but the malformed ones were paid or lacked the funds.
+fn is_of(wanted: &Summary, batches: &Batches<'_>) -> bool {
+    let receipts = &wanted.receipts;
+    let paid = with_status(receipts, Status::Ok);
+    let others = paid.saturating_add(with_status(receipts, Status::Funds));
+    wanted.counts.as_slice() == batches.counts
+        && receipts.len() as u64 == batches.places
+        && with_status(receipts, Status::Malformed) == batches.malformed
+        && others == batches.places.saturating_sub(batches.malformed)
+        && wanted.total == MONEY
 }
 
 // One text more: a payment, or an empty one.
 fn push_text(alloc: Global, batch: &mut Batch, txs: &[Option<Tx>], index: u16) -> Result<()> {
     if index % STRIDE != 0 {
-        return batch.push_text(&[]);
+        return batch.push(&[]);
     }
     match txs.get((index / STRIDE) as usize) {
-        Some(tx) => batch.push(alloc, tx),
+        Some(tx) => batch.push(&text_of(alloc, tx)?),
         None => bail!("too few payments"),
     }
 }
@@ -232,7 +236,7 @@ struct Batches<'a> {
 fn try_ledger<R>(
     rt: &R,
     feed: &Feed,
-    wanted: &Ledger,
+    wanted: &Summary,
     batches: &Batches<'_>,
     numbers: &[usize],
     tally: &mut Tally,
@@ -240,18 +244,23 @@ fn try_ledger<R>(
 where
     R: AllocGlobal + Eprint + Threads + Wait + Sync,
 {
-    let is_right = is_of(wanted, batches.counts, batches.places, batches.malformed);
+    let is_right = is_of(wanted, batches);
     tally.note(rt, "the batches of a large slice", is_right);
     for workers in numbers {
         try_workers(rt, feed, wanted, batches.places, *workers, tally);
     }
 }
 
+// What the batches of a feed give one at a time.
+fn summed(alloc: Global, feed: &Feed) -> Result<Summary> {
+    Ok(Ledger::of(alloc, feed)?.summary(alloc)?)
+}
+
 fn try_feed<R>(rt: &R, feed: &Feed, batches: &Batches<'_>, numbers: &[usize], tally: &mut Tally)
 where
     R: AllocGlobal + Eprint + Threads + Wait + Sync,
 {
-    match Ledger::of(rt.alloc(), feed) {
+    match summed(rt.alloc(), feed) {
         Ok(wanted) => try_ledger(rt, feed, &wanted, batches, numbers, tally),
         Err(_) => tally.miss(rt),
     }
@@ -281,10 +290,10 @@ fn push_full(alloc: Global, payloads: &mut Vec<Vec<u8>>) -> Result<()> {
 }
 
 // Three batches of these payments.
-fn push_three(alloc: Global, txs: &[Option<Tx>], payloads: &mut Vec<Vec<u8>>) -> Result<()> {
+fn push_three(alloc: Global, texts: &[Vec<u8>], payloads: &mut Vec<Vec<u8>>) -> Result<()> {
     for batch in 0..3usize {
         let from = batch.saturating_mul(IN_A_BATCH);
-        let texts = txs.get(from..from.saturating_add(IN_A_BATCH));
+        let texts = texts.get(from..from.saturating_add(IN_A_BATCH));
         payloads.push(batch_of(alloc, texts.unwrap_or(&[]))?)?;
     }
     Ok(())
@@ -298,7 +307,8 @@ fn full_feed(alloc: Global, version: Version) -> Result<Feed> {
 
 fn push_payments(alloc: Global, payloads: &mut Vec<Vec<u8>>) -> Result<()> {
     let txs = payments(alloc, ACCOUNTS, IN_THREE, false)?;
-    push_three(alloc, &txs, payloads)
+    let texts = texts_of(alloc, &txs)?;
+    push_three(alloc, &texts, payloads)
 }
 
 fn three_feed(alloc: Global, version: Version) -> Result<Feed> {

@@ -1,12 +1,12 @@
 //! Transactions at limits, whose receipts were computed by hand.
 
+use crate::making::{payment, reading, row, split, text_of, tx, writing};
 use crate::one_text::{Case, try_case};
-use crate::texts::text_of;
-use anyhow::{Result, bail};
+use anyhow::Result;
 use bk_base::{Row, Version};
 use bk_rules::{Receipt, Status};
 use bk_trial_kit::Tally;
-use bk_tx::{Body, Declared, Payment, Payments};
+use bk_tx::{Body, Tx};
 use std::alloc::Global;
 use std::thread::Threads;
 
@@ -20,273 +20,123 @@ const LAST_SEQ: u64 = (1 << 63) - 1;
 // reading.
 #[derive(Clone, Copy)]
 enum Ask {
-    // Pays account 2.
-    Pay { amount: u64 },
-    // Pays account 2, if the guard has at least this much.
-    PayIf { amount: u64, guard: u64, min: u64 },
+    // Pays account 2 so much.
+    Pay(u64),
+    // Pays account 2 the first, if the second, the guard, has at least the third.
+    PayIf(u64, u64, u64),
     // Pays account 2 all that it has above this.
-    Sweep { keep: u64 },
-    // Pays accounts 2 and 3.
-    Split { second: u64, third: u64 },
+    Sweep(u64),
+    // Pays the first to account 2 and the second to account 3.
+    Split(u64, u64),
 }
 
-// What account 1 asks for where it has this balance, and what that gives.
-#[derive(Clone, Copy)]
-struct Limit {
-    name: &'static str,
-    balance: u64,
-    ask: Ask,
-    status: Status,
-    moved: u64,
-}
+// Its name; and what account 1 has, what it asks for, and what that gives.
+type Limit = (&'static str, (u64, Ask, Status, u64));
 
-const LIMITS: [Limit; 20] = [
-    Limit {
-        name: "all the money that there can be",
-        balance: MOST,
-        ask: Ask::Pay { amount: MOST },
-        status: Status::Ok,
-        moved: MOST,
-    },
-    Limit {
-        name: "one more than that",
-        balance: MOST,
-        ask: Ask::Pay { amount: 1 << 63 },
-        status: Status::Funds,
-        moved: 0,
-    },
-    Limit {
-        name: "the largest amount",
-        balance: MOST,
-        ask: Ask::Pay { amount: u64::MAX },
-        status: Status::Funds,
-        moved: 0,
-    },
-    Limit {
-        name: "nothing from nothing",
-        balance: 0,
-        ask: Ask::Pay { amount: 0 },
-        status: Status::Ok,
-        moved: 0,
-    },
-    Limit {
-        name: "one from nothing",
-        balance: 0,
-        ask: Ask::Pay { amount: 1 },
-        status: Status::Funds,
-        moved: 0,
-    },
-    Limit {
-        name: "a sender that is its own guard",
-        balance: 5,
-        ask: Ask::PayIf {
-            amount: 5,
-            guard: 1,
-            min: 5,
-        },
-        status: Status::Ok,
-        moved: 5,
-    },
-    Limit {
-        name: "a sender that is its own guard and has one too few",
-        balance: 5,
-        ask: Ask::PayIf {
-            amount: 5,
-            guard: 1,
-            min: 6,
-        },
-        status: Status::Guard,
-        moved: 0,
-    },
-    Limit {
-        name: "a receiver that is the guard",
-        balance: 5,
-        ask: Ask::PayIf {
-            amount: 1,
-            guard: 2,
-            min: 7,
-        },
-        status: Status::Ok,
-        moved: 1,
-    },
-    Limit {
-        name: "a receiver that would be enough after the payment",
-        balance: 5,
-        ask: Ask::PayIf {
-            amount: 1,
-            guard: 2,
-            min: 8,
-        },
-        status: Status::Guard,
-        moved: 0,
-    },
-    Limit {
-        name: "the guard before the funds",
-        balance: MOST - 7,
-        ask: Ask::PayIf {
-            amount: u64::MAX,
-            guard: 2,
-            min: u64::MAX,
-        },
-        status: Status::Guard,
-        moved: 0,
-    },
-    Limit {
-        name: "the funds after the guard",
-        balance: MOST - 7,
-        ask: Ask::PayIf {
-            amount: u64::MAX,
-            guard: 2,
-            min: 0,
-        },
-        status: Status::Funds,
-        moved: 0,
-    },
-    Limit {
-        name: "an absent guard that needs nothing",
-        balance: 5,
-        ask: Ask::PayIf {
-            amount: 0,
-            guard: 9,
-            min: 0,
-        },
-        status: Status::Unknown,
-        moved: 0,
-    },
-    Limit {
-        name: "a sweep of everything",
-        balance: MOST,
-        ask: Ask::Sweep { keep: 0 },
-        status: Status::Ok,
-        moved: MOST,
-    },
-    Limit {
-        name: "a sweep of all but one",
-        balance: MOST,
-        ask: Ask::Sweep { keep: 1 },
-        status: Status::Ok,
-        moved: MOST - 1,
-    },
-    Limit {
-        name: "a sweep that keeps what there is",
-        balance: MOST,
-        ask: Ask::Sweep { keep: MOST },
-        status: Status::Ok,
-        moved: 0,
-    },
-    Limit {
-        name: "a sweep that keeps more than there is",
-        balance: 0,
-        ask: Ask::Sweep { keep: u64::MAX },
-        status: Status::Ok,
-        moved: 0,
-    },
-    Limit {
-        name: "two amounts that add up to 2^64",
-        balance: MOST,
-        ask: Ask::Split {
-            second: u64::MAX,
-            third: 1,
-        },
-        status: Status::Funds,
-        moved: 0,
-    },
-    Limit {
-        name: "two amounts that add up to all",
-        balance: MOST,
-        ask: Ask::Split {
-            second: MOST - 1,
-            third: 1,
-        },
-        status: Status::Ok,
-        moved: MOST,
-    },
-    Limit {
-        name: "two amounts that add up to one too many",
-        balance: 10,
-        ask: Ask::Split {
-            second: 5,
-            third: 6,
-        },
-        status: Status::Funds,
-        moved: 0,
-    },
-    Limit {
-        name: "two amounts of nothing",
-        balance: 0,
-        ask: Ask::Split {
-            second: 0,
-            third: 0,
-        },
-        status: Status::Ok,
-        moved: 0,
-    },
+const LIMITS: &[Limit] = &[
+    (
+        "all the money that there can be",
+        (MOST, Ask::Pay(MOST), Status::Ok, MOST),
+    ),
+    (
+        "one more than that",
+        (MOST, Ask::Pay(1 << 63), Status::Funds, 0),
+    ),
+    (
+        "the largest amount",
+        (MOST, Ask::Pay(u64::MAX), Status::Funds, 0),
+    ),
+    ("nothing from nothing", (0, Ask::Pay(0), Status::Ok, 0)),
+    ("one from nothing", (0, Ask::Pay(1), Status::Funds, 0)),
+    (
+        "a sender that is its own guard",
+        (5, Ask::PayIf(5, 1, 5), Status::Ok, 5),
+    ),
+    (
+        "a sender that is its own guard and has one too few",
+        (5, Ask::PayIf(5, 1, 6), Status::Guard, 0),
+    ),
+    (
+        "a receiver that is the guard",
+        (5, Ask::PayIf(1, 2, 7), Status::Ok, 1),
+    ),
+    (
+        "a receiver that would be enough after the payment",
+        (5, Ask::PayIf(1, 2, 8), Status::Guard, 0),
+    ),
+    (
+        "the guard before the funds",
+        (MOST - 7, BOTH_GREATEST, Status::Guard, 0),
+    ),
+    (
+        "the funds after the guard",
+        (MOST - 7, Ask::PayIf(u64::MAX, 2, 0), Status::Funds, 0),
+    ),
+    (
+        "an absent guard that needs nothing",
+        (5, Ask::PayIf(0, 9, 0), Status::Unknown, 0),
+    ),
+    (
+        "a sweep of everything",
+        (MOST, Ask::Sweep(0), Status::Ok, MOST),
+    ),
+    (
+        "a sweep of all but one",
+        (MOST, Ask::Sweep(1), Status::Ok, MOST - 1),
+    ),
+    (
+        "a sweep that keeps what there is",
+        (MOST, Ask::Sweep(MOST), Status::Ok, 0),
+    ),
+    (
+        "a sweep that keeps more than there is",
+        (0, Ask::Sweep(u64::MAX), Status::Ok, 0),
+    ),
+    (
+        "two amounts that add up to 2^64",
+        (MOST, Ask::Split(u64::MAX, 1), Status::Funds, 0),
+    ),
+    (
+        "two amounts that add up to all",
+        (MOST, Ask::Split(MOST - 1, 1), Status::Ok, MOST),
+    ),
+    (
+        "two amounts that add up to one too many",
+        (10, Ask::Split(5, 6), Status::Funds, 0),
+    ),
+    (
+        "two amounts of nothing",
+        (0, Ask::Split(0, 0), Status::Ok, 0),
+    ),
 ];
 
-fn body_of(ask: Ask) -> Option<Body> {
-    match ask {
-        Ask::Pay { amount } => Some(Body::Pay { to: 2, amount }),
-        Ask::PayIf { amount, guard, min } => Some(Body::PayIf {
-            to: 2,
+// The largest amount, if account 2 has as much.
+const BOTH_GREATEST: Ask = Ask::PayIf(u64::MAX, 2, u64::MAX);
+
+// The transaction of what account 1 asks for.
+fn tx_asking(ask: Ask) -> Result<Option<Tx>> {
+    let all = [writing(1), writing(2), writing(3), reading(9)];
+    let to = 2;
+    let body = match ask {
+        Ask::Pay(amount) => Body::Pay { to, amount },
+        Ask::PayIf(amount, guard, min) => Body::PayIf {
+            to,
             amount,
             guard,
             min,
-        }),
-        Ask::Sweep { keep } => Some(Body::Sweep { to: 2, keep }),
-        Ask::Split { second, third } => {
-            let second = Payment {
-                to: 2,
-                amount: second,
-            };
-            let third = Payment {
-                to: 3,
-                amount: third,
-            };
-            let payments = Payments::new(&[second, third])?;
-            Some(Body::Split { payments })
+        },
+        Ask::Sweep(keep) => Body::Sweep { to, keep },
+        Ask::Split(second, third) => {
+            return split(&all, 1, LAST_SEQ, &[payment(2, second), payment(3, third)]);
         }
-    }
-}
-
-// The text of what account 1 asks for.
-fn text_asking(alloc: Global, ask: Ask) -> Result<Vec<u8>> {
-    let mut declared = [Declared {
-        id: 9,
-        writable: false,
-    }; 4];
-    for (k, id) in [1u64, 2, 3].iter().enumerate() {
-        if let Some(entry) = declared.get_mut(k) {
-            *entry = Declared {
-                id: *id,
-                writable: true,
-            };
-        }
-    }
-    match body_of(ask) {
-        Some(body) => text_of(alloc, &declared, 1, LAST_SEQ, body),
-        None => bail!("more than six payments"),
-    }
+    };
+    tx(&all, 1, LAST_SEQ, body)
 }
 
 // Accounts 1 to 3. Account 2 has 7, where there is so much money besides that of account 1.
 fn opening(balance: u64) -> [Row; 3] {
-    [
-        Row {
-            id: 1,
-            balance,
-            seq: LAST_SEQ,
-        },
-        Row {
-            id: 2,
-            balance: MOST.saturating_sub(balance).min(7),
-            seq: 0,
-        },
-        Row {
-            id: 3,
-            balance: 0,
-            seq: 0,
-        },
-    ]
+    let second = MOST.saturating_sub(balance).min(7);
+    [row(1, balance, LAST_SEQ), row(2, second, 0), row(3, 0, 0)]
 }
 
 // A transaction in one version.
@@ -294,17 +144,14 @@ fn try_limit<R>(rt: &R, limit: Limit, version: Version, tally: &mut Tally) -> Re
 where
     R: AllocGlobal + Eprint + Threads + Sync,
 {
-    let text = text_asking(rt.alloc(), limit.ask)?;
-    let opening = opening(limit.balance);
+    let (name, (balance, ask, status, moved)) = limit;
+    let text = text_of(rt.alloc(), &tx_asking(ask)?)?;
     let case = Case {
-        name: limit.name,
+        name,
         version,
-        opening: &opening,
+        opening: &opening(balance),
         text: &text,
-        wanted: Receipt {
-            status: limit.status,
-            moved: limit.moved,
-        },
+        wanted: Receipt { status, moved },
     };
     let _rows = try_case(rt, case, tally)?;
     Ok(())
@@ -316,8 +163,8 @@ where
     R: AllocGlobal + Eprint + Threads + Sync,
 {
     for limit in LIMITS {
-        try_limit(rt, limit, Version::One, tally)?;
-        try_limit(rt, limit, Version::Two, tally)?;
+        try_limit(rt, *limit, Version::One, tally)?;
+        try_limit(rt, *limit, Version::Two, tally)?;
     }
     Ok(())
 }

@@ -1,6 +1,6 @@
 //! Executes drawn and chosen lists of transactions by threads and one at a time, and compares each outcome with that of
-//! the proved plain slow bodies of `bk_plain`, with the same transactions one at a time, or with one that was computed by
-//! hand.
+//! the proved plain slow bodies of `bk_plain`, or with one that was computed by hand. What is too long for both is compared
+//! with the same transactions one at a time.
 //!
 //! It draws lists, makes plans, gives wrong hints, loses holds, has workers wait for each other, cuts batches into slices,
 //! looks at the words of banks, takes lists of events, finds which slots are touched, and hashes states. Statuses, moved
@@ -12,19 +12,16 @@
 //! `N passed, M failed`.
 #![tactic(auto)]
 
-mod by_workers;
 mod cases;
 mod deeds;
+mod drawing;
 mod drawn_lists;
-mod drawn_txs;
 mod edges;
-mod every_way;
 mod executing;
-mod feeds;
-mod given;
 mod hostile;
 mod large_slices;
 mod limits;
+mod long_lists;
 mod lost;
 mod machines;
 mod making;
@@ -43,14 +40,15 @@ mod texts;
 mod touching;
 mod trees;
 mod waits;
+mod ways;
 mod words;
 
-use crate::by_workers::try_all_lists;
+use crate::drawn_lists::try_drawn_lists;
 use crate::edges::try_edges;
-use crate::every_way::try_lists;
 use crate::hostile::try_hints;
 use crate::large_slices::try_large_slices;
 use crate::limits::try_limits;
+use crate::long_lists::try_long_lists;
 use crate::lost::try_lost;
 use crate::machines::try_machines;
 use crate::meeting::try_meetings;
@@ -59,7 +57,7 @@ use crate::plans::try_plans;
 use crate::rows::try_rows;
 use crate::schedules::try_schedules;
 use crate::singles::try_singles;
-use crate::slices::try_all_slices;
+use crate::slices::try_slices;
 use crate::touching::try_touching;
 use crate::trees::try_trees;
 use crate::words::try_words;
@@ -68,18 +66,26 @@ use bk_trial_kit::Tally;
 use std::sync::Wait;
 use std::thread::Threads;
 
-// By threads.
-fn run_threads<R>(rt: &R, tally: &mut Tally)
+// Lists of transactions.
+fn try_lists<R>(rt: &R, tally: &mut Tally)
 where
     R: AllocGlobal + Eprint + Threads + Wait + Sync,
 {
-    try_all_lists(rt, tally);
-    try_plans(rt, tally);
-    try_edges(rt, tally);
+    try_drawn_lists(rt, tally);
+    try_long_lists(rt, tally);
+    try_slices(rt, tally);
+    try_large_slices(rt, tally);
     try_hints(rt, tally);
     try_meetings(rt, tally);
-    try_all_slices(rt, tally);
-    try_large_slices(rt, tally);
+}
+
+// What stands between the transactions and what they give.
+fn try_steps<R>(rt: &R, tally: &mut Tally)
+where
+    R: AllocGlobal + Eprint + Threads + Wait + Sync,
+{
+    try_plans(rt, tally);
+    try_edges(rt, tally);
     try_lost(rt, tally);
     try_words(rt, tally);
     try_passes(rt, tally);
@@ -88,21 +94,21 @@ where
     try_touching(rt, tally);
 }
 
-// Beside the plain bodies.
-fn run_plain<R>(rt: &R, tally: &mut Tally) -> Result<()>
+// Single transactions, and the digests of accounts.
+fn try_alone<R>(rt: &R, tally: &mut Tally) -> Result<()>
 where
-    R: AllocGlobal + Eprint + Threads + Wait + Sync,
+    R: AllocGlobal + Eprint + Threads + Sync,
 {
     try_limits(rt, tally)?;
     try_rows(rt, tally)?;
     try_singles(rt, tally)?;
-    try_lists(rt, tally)?;
     try_trees(rt, tally)
 }
 
 fn main(rt: HostRuntime) -> Result<()> {
     let mut tally = Tally::new();
-    run_threads(&rt, &mut tally);
-    run_plain(&rt, &mut tally)?;
+    try_lists(&rt, &mut tally);
+    try_steps(&rt, &mut tally);
+    try_alone(&rt, &mut tally)?;
     tally.report(&rt)
 }

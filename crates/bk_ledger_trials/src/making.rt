@@ -24,6 +24,11 @@ pub(crate) fn row(id: u64, balance: u64, seq: u64) -> Row {
     Row { id, balance, seq }
 }
 
+/// A payment of a split.
+pub(crate) fn payment(to: u64, amount: u64) -> Payment {
+    Payment { to, amount }
+}
+
 /// A transaction.
 pub(crate) fn tx(declared: &[Declared], from: u64, seq: u64, body: Body) -> Result<Option<Tx>> {
     let Some(declared) = Declarations::new(declared) else {
@@ -41,13 +46,34 @@ pub(crate) fn pay(from: u64, to: u64, amount: u64, seq: u64) -> Result<Option<Tx
     tx(&declared, from, seq, Body::Pay { to, amount })
 }
 
-/// A payment to two receivers.
-pub(crate) fn split(from: u64, seq: u64, payments: &[Payment]) -> Result<Option<Tx>> {
-    let Some(payments) = Payments::new(payments) else {
-        bail!("more than six payments");
-    };
-    let all = [writing(1), writing(2), writing(3)];
-    tx(&all, from, seq, Body::Split { payments })
+/// Payments to several receivers.
+pub(crate) fn split(
+    declared: &[Declared],
+    from: u64,
+    seq: u64,
+    payments: &[Payment],
+) -> Result<Option<Tx>> {
+    match Payments::new(payments) {
+        Some(payments) => tx(declared, from, seq, Body::Split { payments }),
+        None => bail!("more than six payments"),
+    }
+}
+
+/// The text of a transaction. One that is absent is a text that encodes none.
+pub(crate) fn text_of(alloc: Global, tx: &Option<Tx>) -> Result<Vec<u8>> {
+    match tx {
+        Some(tx) => Ok(tx.encode(alloc)?),
+        None => Ok(Vec::from_slice(alloc, &[0])?),
+    }
+}
+
+/// The texts of transactions.
+pub(crate) fn texts_of(alloc: Global, txs: &[Option<Tx>]) -> Result<Vec<Vec<u8>>> {
+    let mut texts = Vec::new(alloc);
+    for tx in txs {
+        texts.push(text_of(alloc, tx)?)?;
+    }
+    Ok(texts)
 }
 
 /// A batch that grows.
@@ -67,7 +93,7 @@ impl Batch {
     }
 
     /// One more text.
-    pub(crate) fn push_text(&mut self, text: &[u8]) -> Result<()> {
+    pub(crate) fn push(&mut self, text: &[u8]) -> Result<()> {
         let Some(count) = self.count.checked_add(1) else {
             bail!("a batch has at most 65,535 texts");
         };
@@ -80,14 +106,6 @@ impl Batch {
         Ok(())
     }
 
-    /// One more transaction. One that is absent is a text that encodes none.
-    pub(crate) fn push(&mut self, alloc: Global, tx: &Option<Tx>) -> Result<()> {
-        match tx {
-            Some(tx) => self.push_text(&tx.encode(alloc)?),
-            None => self.push_text(&[0]),
-        }
-    }
-
     /// The bytes of the batch.
     pub(crate) fn payload(&self, alloc: Global) -> Result<Vec<u8>> {
         let mut payload = Vec::from_slice(alloc, &self.count.to_be_bytes())?;
@@ -96,12 +114,19 @@ impl Batch {
     }
 }
 
-/// The batch of these transactions.
-pub(crate) fn batch_of(alloc: Global, txs: &[Option<Tx>]) -> Result<Vec<u8>> {
+/// The batch of these texts.
+pub(crate) fn batch_of(alloc: Global, texts: &[Vec<u8>]) -> Result<Vec<u8>> {
     let mut batch = Batch::new(alloc);
-    for tx in txs {
-        batch.push(alloc, tx)?;
+    for text in texts {
+        batch.push(text)?;
     }
+    batch.payload(alloc)
+}
+
+// The batch of one text.
+fn batch_with(alloc: Global, text: &[u8]) -> Result<Vec<u8>> {
+    let mut batch = Batch::new(alloc);
+    batch.push(text)?;
     batch.payload(alloc)
 }
 
@@ -192,14 +217,47 @@ pub(crate) fn feed_of(
     read(alloc, &bytes)
 }
 
-/// The feed of one batch.
+/// The feed of these texts in one batch.
+pub(crate) fn feed_in_one(
+    alloc: Global,
+    version: Version,
+    rows: &[Row],
+    texts: &[Vec<u8>],
+) -> Result<Feed> {
+    feed_of(alloc, version, rows, &[batch_of(alloc, texts)?])
+}
+
+/// The feed of these texts, each in a batch of its own.
+pub(crate) fn feed_of_each(
+    alloc: Global,
+    version: Version,
+    rows: &[Row],
+    texts: &[Vec<u8>],
+) -> Result<Feed> {
+    let mut payloads = Vec::new(alloc);
+    for text in texts {
+        payloads.push(batch_with(alloc, text)?)?;
+    }
+    feed_of(alloc, version, rows, &payloads)
+}
+
+/// The feed of one text.
+pub(crate) fn feed_alone(
+    alloc: Global,
+    version: Version,
+    rows: &[Row],
+    text: &[u8],
+) -> Result<Feed> {
+    feed_of(alloc, version, rows, &[batch_with(alloc, text)?])
+}
+
+/// The feed of these transactions in one batch.
 pub(crate) fn feed_with(
     alloc: Global,
     version: Version,
     rows: &[Row],
     txs: &[Option<Tx>],
 ) -> Result<Feed> {
-    let mut payloads = Vec::new(alloc);
-    payloads.push(batch_of(alloc, txs)?)?;
-    feed_of(alloc, version, rows, &payloads)
+    let texts = texts_of(alloc, txs)?;
+    feed_in_one(alloc, version, rows, &texts)
 }

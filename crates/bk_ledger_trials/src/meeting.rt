@@ -113,7 +113,7 @@ where
     if has_bad_hint {
         executed_by(rt, alloc, feed, gate, two_ends(alloc)?)
     } else {
-        executed(rt, alloc, feed, 2, gate)
+        executed(rt, alloc, feed, &[], 2, gate)
     }
 }
 

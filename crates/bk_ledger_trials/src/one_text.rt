@@ -1,11 +1,11 @@
 //! One text on chosen opening accounts, with what was computed by hand.
 
-use crate::feeds::feed_with;
-use crate::given::Given;
-use crate::plain::given_alone;
-use crate::product::given_applied;
+use crate::making::feed_alone;
+use crate::plain::folded;
+use crate::product::is_applied;
 use anyhow::Result;
 use bk_base::{Row, Version};
+use bk_plain::Folded;
 use bk_rules::Receipt;
 use bk_trial_kit::Tally;
 use bk_tx::Tx;
@@ -22,12 +22,6 @@ pub(crate) struct Case<'a> {
     pub(crate) wanted: Receipt,
 }
 
-// What the plain bodies give of a case.
-fn given_of(alloc: Global, case: Case<'_>) -> Result<Given> {
-    let tx = Tx::decode(case.text);
-    given_alone(alloc, case.version, tx.as_ref(), case.opening)
-}
-
 /// Compares the receipt of a case by the plain bodies with the one by hand, and the program with the plain bodies.
 /// It returns the rows after it.
 pub(crate) fn try_case<R>(rt: &R, case: Case<'_>, tally: &mut Tally) -> Result<Vec<Row>>
@@ -35,12 +29,13 @@ where
     R: AllocGlobal + Eprint + Threads + Sync,
 {
     let alloc: Global = rt.alloc();
-    let feed = feed_with(alloc, case.version, case.opening, case.text)?;
-    let given = given_of(alloc, case)?;
-    let is_right = given.receipts.first().copied() == Some(case.wanted);
+    let feed = feed_alone(alloc, case.version, case.opening, case.text)?;
+    let txs = [Tx::decode(case.text)];
+    let wanted = folded(alloc, case.version, &txs, case.opening)?;
+    let is_right = wanted.receipts.as_slice() == [case.wanted].as_slice();
     tally.note_part(rt, case.name, "receipt by hand", is_right);
-    let found = given_applied(rt, alloc, &feed)?;
-    given.note_same(rt, case.name, &found, tally);
-    let Given { rows, .. } = given;
-    Ok(rows)
+    let is_right = is_applied(rt, alloc, &feed, &wanted)?;
+    tally.note_part(rt, case.name, "applied", is_right);
+    let Folded { after, .. } = wanted;
+    Ok(after)
 }

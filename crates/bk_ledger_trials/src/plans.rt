@@ -1,16 +1,18 @@
 //! Plans of drawn lists, also with wrong likely slots and by a planner that made others, and their waits and words.
 
-use crate::by_workers::drawn_feed;
-use crate::drawn_lists::{drawn_opening, drawn_payments};
+use crate::drawing::{drawn_opening, drawn_payments};
+use crate::drawn_lists::drawn_feed;
 use crate::edges::plan_by;
-use crate::executing::{executed_near, is_same, planned};
+use crate::executing::{executed, gives, planned};
 use crate::making::feed_with;
+use crate::plain::wanted_of;
 use crate::waits::{count_waits, is_right};
 use anyhow::Result;
 use bk_base::Version;
 use bk_conflicts::{Plan, Planner};
 use bk_frames::Feed;
-use bk_ledger::Ledger;
+use bk_ledger::Summary;
+use bk_pool::Open;
 use bk_trial_kit::{Chance, Tally};
 use std::alloc::Global;
 use std::sync::Wait;
@@ -89,16 +91,22 @@ fn is_planned(alloc: Global, feed: &Feed, plan: &Plan, near: &[u32]) -> Result<b
 }
 
 // Whether the plan that is made with these likely slots gives what the transactions give one at a time.
-fn is_executed<R>(rt: &R, alloc: Global, feed: &Feed, near: &[u32], wanted: &Ledger) -> Result<bool>
+fn is_executed<R>(
+    rt: &R,
+    alloc: Global,
+    feed: &Feed,
+    near: &[u32],
+    wanted: &Summary,
+) -> Result<bool>
 where
     R: Threads + Wait + Sync,
 {
-    let outcome = executed_near(rt, alloc, feed, near, 2)?;
-    is_same(alloc, &outcome, wanted)
+    let outcome = executed(rt, alloc, feed, near, 2, &Open)?;
+    gives(alloc, &outcome, &wanted.receipts, &wanted.rows)
 }
 
 // A plan that is made with these likely slots, and what its execution gives.
-fn try_slots<R>(rt: &R, feed: &Feed, plan: &Plan, near: &[u32], wanted: &Ledger, tally: &mut Tally)
+fn try_slots<R>(rt: &R, feed: &Feed, plan: &Plan, near: &[u32], wanted: &Summary, tally: &mut Tally)
 where
     R: AllocGlobal + Eprint + Threads + Wait + Sync,
 {
@@ -114,7 +122,7 @@ fn try_near<R>(
     feed: &Feed,
     plan: &Plan,
     near: Near,
-    wanted: &Ledger,
+    wanted: &Summary,
     tally: &mut Tally,
 )
 where
@@ -132,7 +140,7 @@ fn try_nears<R>(
     chance: &mut Chance,
     feed: &Feed,
     plan: &Plan,
-    wanted: &Ledger,
+    wanted: &Summary,
     tally: &mut Tally,
 )
 where
@@ -148,7 +156,7 @@ where
     R: AllocGlobal + Eprint + Threads + Wait + Sync,
 {
     tally.note(rt, "the waits and words of a plan", is_right(plan));
-    match Ledger::of(rt.alloc(), feed) {
+    match wanted_of(rt.alloc(), feed) {
         Ok(wanted) => try_nears(rt, chance, feed, plan, &wanted, tally),
         Err(_) => tally.miss(rt),
     }
@@ -170,7 +178,7 @@ where
     R: AllocGlobal + Eprint + Threads + Wait + Sync,
 {
     for _ in 0..LISTS {
-        match drawn_feed(rt.alloc(), version, chance) {
+        match drawn_feed(rt.alloc(), version, chance, true) {
             Ok(feed) => try_plan(rt, chance, &feed, tally),
             Err(_) => tally.miss(rt),
         }
@@ -180,7 +188,7 @@ where
 // ---- one planner
 
 fn payments(alloc: Global, chance: &mut Chance, version: Version) -> Result<Feed> {
-    let rows = drawn_opening(alloc)?;
+    let rows = drawn_opening(alloc, chance)?;
     let txs = drawn_payments(alloc, chance)?;
     feed_with(alloc, version, &rows, &txs)
 }

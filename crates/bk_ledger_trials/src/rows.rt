@@ -1,40 +1,25 @@
 //! Transactions on chosen accounts, whose receipts and rows were computed by hand.
 
+use crate::making::{pay, payment, row, split, text_of, tx, writing};
 use crate::one_text::{Case, try_case};
-use crate::texts::{name_twice, text_of};
-use anyhow::{Result, bail};
+use crate::texts::name_twice;
+use anyhow::Result;
 use bk_base::{Row, Version};
 use bk_rules::{Receipt, Status};
 use bk_trial_kit::Tally;
-use bk_tx::{Body, Declared, Payment, Payments};
+use bk_tx::{Body, Declared, Payment};
 use std::alloc::Global;
 use std::thread::Threads;
 
-fn row(id: u64, balance: u64, seq: u64) -> Row {
-    Row { id, balance, seq }
-}
-
-fn writing(id: u64) -> Declared {
-    Declared { id, writable: true }
-}
-
-fn payment(to: u64, amount: u64) -> Payment {
-    Payment { to, amount }
-}
-
-// A payment with sequence number 0, whose two accounts are declared for writing.
-fn pay(alloc: Global, from: u64, to: u64, amount: u64) -> Result<Vec<u8>> {
-    let declared = [writing(from.min(to)), writing(from.max(to))];
-    text_of(alloc, &declared, from, 0, Body::Pay { to, amount })
+// A payment with sequence number 0.
+fn text_paying(alloc: Global, from: u64, to: u64, amount: u64) -> Result<Vec<u8>> {
+    text_of(alloc, &pay(from, to, amount, 0)?)
 }
 
 // Payments of account 5 with sequence number 0, whose receivers are declared for writing.
-fn split(alloc: Global, declared: &[u64], payments: &[Payment]) -> Result<Vec<u8>> {
+fn text_splitting(alloc: Global, declared: &[u64], payments: &[Payment]) -> Result<Vec<u8>> {
     let declared: Vec<Declared> = declared.iter().map(|id| writing(*id)).collect(alloc)?;
-    match Payments::new(payments) {
-        Some(payments) => text_of(alloc, &declared, 5, 0, Body::Split { payments }),
-        None => bail!("more than six payments"),
-    }
+    text_of(alloc, &split(&declared, 5, 0, payments)?)
 }
 
 // Compares the rows after a case with those by hand.
@@ -70,7 +55,7 @@ where
     R: AllocGlobal + Eprint + Threads + Sync,
 {
     let opening = [row(1, 10, 0), row(3, 0, 0)];
-    let text = pay(rt.alloc(), 1, 2, 0)?;
+    let text = text_paying(rt.alloc(), 1, 2, 0)?;
     let two = case_of("an account between others", &opening, &text, Status::Ok, 0);
     try_after(rt, two, &[row(1, 10, 1), row(2, 0, 0), row(3, 0, 0)], tally)?;
     let name = "an absent receiver in version One";
@@ -88,7 +73,7 @@ where
 {
     let opening = [row(5, 10, 0)];
     let payments = [payment(0, 1), payment(u64::MAX, 2)];
-    let text = split(rt.alloc(), &[0, 5, u64::MAX], &payments)?;
+    let text = text_splitting(rt.alloc(), &[0, 5, u64::MAX], &payments)?;
     let case = case_of("ids at both limits", &opening, &text, Status::Ok, 3);
     let after = [row(0, 1, 0), row(5, 7, 1), row(u64::MAX, 2, 0)];
     try_after(rt, case, &after, tally)
@@ -106,7 +91,7 @@ where
         payments[k as usize] = payment(k + 6, k + 1);
         after[k as usize + 1] = row(k + 6, k + 1, 0);
     }
-    let text = split(rt.alloc(), &[5, 6, 7, 8, 9, 10, 11], &payments)?;
+    let text = text_splitting(rt.alloc(), &[5, 6, 7, 8, 9, 10, 11], &payments)?;
     let case = case_of("six accounts at once", &opening, &text, Status::Ok, 21);
     try_after(rt, case, &after, tally)
 }
@@ -117,7 +102,7 @@ where
     R: AllocGlobal + Eprint + Threads + Sync,
 {
     let opening = [row(1, 10, 0)];
-    let text = pay(rt.alloc(), 1, 2, 11)?;
+    let text = text_paying(rt.alloc(), 1, 2, 11)?;
     let case = case_of("a refused payment", &opening, &text, Status::Funds, 0);
     try_after(rt, case, &[row(1, 10, 1)], tally)
 }
@@ -130,12 +115,12 @@ where
     let alloc: Global = rt.alloc();
     let opening = [row(1, 10, 0)];
     let body = Body::Pay { to: 1, amount: 1 };
-    let text = text_of(alloc, &[writing(1)], 9, 0, body)?;
+    let text = text_of(alloc, &tx(&[writing(1)], 9, 0, body)?)?;
     let name = "an absent sender that is not declared";
     let case = case_of(name, &opening, &text, Status::Undeclared, 0);
     try_after(rt, case, &opening, tally)?;
     let body = Body::Pay { to: 1, amount: 1 };
-    let text = text_of(alloc, &[writing(1), writing(9)], 9, 7, body)?;
+    let text = text_of(alloc, &tx(&[writing(1), writing(9)], 9, 7, body)?)?;
     let name = "an absent sender with a sequence number";
     let case = case_of(name, &opening, &text, Status::Unknown, 0);
     try_after(rt, case, &opening, tally)
@@ -148,7 +133,7 @@ where
 {
     let opening = [row(5, 10, 0), row(6, 0, 0)];
     let payments = [payment(6, 1), payment(7, 2)];
-    let mut text = split(rt.alloc(), &[5, 6, 7], &payments)?;
+    let mut text = text_splitting(rt.alloc(), &[5, 6, 7], &payments)?;
     name_twice(&mut text);
     let case = case_of(
         "a receiver that is named twice",

@@ -1,7 +1,5 @@
 //! How often drawn transactions show what they have to show.
 
-use crate::given::Given;
-use anyhow::Result;
 use bk_base::{Row, Version};
 use bk_rules::{Receipt, Status};
 use bk_trial_kit::Tally;
@@ -80,11 +78,17 @@ impl Shown {
     }
 
     /// Counts transactions, from these rows on, and what they gave.
-    pub(crate) fn count(&mut self, txs: &[Option<Tx>], before: &[Row], given: &Given) {
-        for (tx, receipt) in txs.iter().zip(given.receipts.as_slice()) {
+    pub(crate) fn count(
+        &mut self,
+        txs: &[Option<Tx>],
+        before: &[Row],
+        receipts: &[Receipt],
+        after: &[Row],
+    ) {
+        for (tx, receipt) in txs.iter().zip(receipts) {
             self.count_one(tx, *receipt);
         }
-        if given.rows.len() > before.len() {
+        if after.len() > before.len() {
             self.grown = self.grown.saturating_add(1);
         }
     }

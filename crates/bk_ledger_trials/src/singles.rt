@@ -1,15 +1,15 @@
 //! Drawn transactions, each on its own opening accounts, applied to a state.
 
-use crate::drawn_txs::drawn_opening;
-use crate::feeds::feed_with;
-use crate::given::Given;
-use crate::plain::given_alone;
-use crate::product::given_applied;
+use crate::drawing::drawn_opening;
+use crate::making::feed_alone;
+use crate::plain::folded;
+use crate::product::is_applied;
 use crate::shown::Shown;
 use crate::texts::drawn_text;
 use anyhow::Result;
 use bk_base::Version;
 use bk_frames::Feed;
+use bk_plain::Folded;
 use bk_trial_kit::{Chance, Tally};
 use bk_tx::Tx;
 use std::alloc::Global;
@@ -18,12 +18,12 @@ use std::thread::Threads;
 const TRANSACTIONS: u64 = 120;
 
 // What the text gives by the plain bodies, on the opening accounts of a feed.
-fn wanted(alloc: Global, feed: &Feed, text: &[u8], shown: &mut Shown) -> Result<Given> {
-    let tx = [Tx::decode(text)];
+fn wanted(alloc: Global, feed: &Feed, text: &[u8], shown: &mut Shown) -> Result<Folded> {
+    let txs = [Tx::decode(text)];
     let rows = feed.genesis();
-    let given = given_alone(alloc, feed.version(), tx[0].as_ref(), rows)?;
-    shown.count(&tx, rows, &given);
-    Ok(given)
+    let wanted = folded(alloc, feed.version(), &txs, rows)?;
+    shown.count(&txs, rows, &wanted.receipts, &wanted.after);
+    Ok(wanted)
 }
 
 // One drawn transaction.
@@ -40,10 +40,10 @@ where
     let alloc: Global = rt.alloc();
     let rows = drawn_opening(alloc, chance)?;
     let text = drawn_text(alloc, chance, &rows)?;
-    let feed = feed_with(alloc, version, &rows, &text)?;
+    let feed = feed_alone(alloc, version, &rows, &text)?;
     let wanted = wanted(alloc, &feed, &text, shown)?;
-    let found = given_applied(rt, alloc, &feed)?;
-    wanted.note_same(rt, "a drawn transaction", &found, tally);
+    let is_right = is_applied(rt, alloc, &feed, &wanted)?;
+    tally.note(rt, "a drawn transaction", is_right);
     Ok(())
 }
 

@@ -1,26 +1,18 @@
-//! Feeds of many batches, executed in slices of several lengths, against the same transactions one at a time.
+//! Payments of 130 accounts, each in a batch of its own, on the borders of words of marks, on all accounts and on none.
 
-use crate::by_workers::{opening, payments};
 use crate::cases::VERSIONS;
 use crate::deeds::{Deed, txs_of};
-use crate::drawn_lists::{drawn_list, drawn_opening};
-use crate::making::{Batch, feed_of, pay};
-use anyhow::{Result, bail};
-use bk_base::{Row, Version};
+use crate::long_lists::{opening, payments};
+use crate::making::{feed_of_each, pay, texts_of};
+use crate::ways::try_feed;
+use anyhow::Result;
+use bk_base::Version;
 use bk_frames::Feed;
-use bk_ledger::{ExecFault, Gate, Ledger, Open};
-use bk_trial_kit::{Chance, Tally};
+use bk_trial_kit::Tally;
 use bk_tx::Tx;
 use std::alloc::Global;
 use std::sync::Wait;
 use std::thread::Threads;
-
-// A slice has at least so many transactions: one, some, or all of a feed.
-const LEASTS: &[usize] = &[1, 2, 7, 8_192];
-
-const WORKERS: &[usize] = &[1, 2, 4];
-
-const LISTS: u64 = 20;
 
 // Marks of slots are in words of 64 bits. Account 64 has the last bit of the first word, 65 the first of the second.
 const ACCOUNTS: u64 = 130;
@@ -35,120 +27,6 @@ const BORDERS: &[Deed] = &[
     Deed::Pay(128, 129, 7, 0),
     Deed::Pay(129, 64, 7, 0),
 ];
-
-// The batch of one transaction.
-fn batch_with(alloc: Global, tx: &Option<Tx>) -> Result<Vec<u8>> {
-    let mut batch = Batch::new(alloc);
-    batch.push(alloc, tx)?;
-    batch.payload(alloc)
-}
-
-fn push_each(alloc: Global, txs: &[Option<Tx>], payloads: &mut Vec<Vec<u8>>) -> Result<()> {
-    for tx in txs {
-        payloads.push(batch_with(alloc, tx)?)?;
-    }
-    Ok(())
-}
-
-// The feed of these transactions, each in a batch of its own.
-fn feed_of_each(alloc: Global, version: Version, rows: &[Row], txs: &[Option<Tx>]) -> Result<Feed> {
-    let mut payloads = Vec::new(alloc);
-    push_each(alloc, txs, &mut payloads)?;
-    feed_of(alloc, version, rows, &payloads)
-}
-
-/// What this many workers make of a feed, in slices of at least so many transactions.
-pub(crate) fn in_slices<R, G>(
-    rt: &R,
-    alloc: Global,
-    feed: &Feed,
-    least: usize,
-    workers: usize,
-    gate: &G,
-) -> Result<Ledger>
-where
-    R: Threads + Wait + Sync,
-    G: Gate + Sync,
-{
-    let least = least.min(8_192);
-    match Ledger::of_slices(rt, alloc, feed, least, workers.clamp(1, 64), gate) {
-        Ok(ledger) => Ok(ledger),
-        Err(ExecFault::OutOfMemory) => bail!("out of memory"),
-        Err(ExecFault::Unfinished(place)) => bail!("place {place} is not done"),
-    }
-}
-
-fn has_rows(alloc: Global, ledger: &Ledger, wanted: &[Row]) -> Result<bool> {
-    let rows = ledger.state().rows(alloc)?;
-    Ok(rows.as_slice() == wanted)
-}
-
-/// Whether both have the same batches, receipts and accounts.
-pub(crate) fn is_same(alloc: Global, ledger: &Ledger, wanted: &Ledger) -> Result<bool> {
-    let rows = wanted.state().rows(alloc)?;
-    let have_rows = has_rows(alloc, ledger, &rows)?;
-    let is_counted = ledger.counts() == wanted.counts();
-    Ok(have_rows && is_counted && ledger.receipts() == wanted.receipts())
-}
-
-fn agrees<R>(
-    rt: &R,
-    alloc: Global,
-    feed: &Feed,
-    wanted: &Ledger,
-    least: usize,
-    workers: usize,
-) -> Result<bool>
-where
-    R: Threads + Wait + Sync,
-{
-    let ledger = in_slices(rt, alloc, feed, least, workers, &Open)?;
-    is_same(alloc, &ledger, wanted)
-}
-
-// Slices of one length, by each number of workers.
-fn try_least<R>(rt: &R, what: &str, feed: &Feed, wanted: &Ledger, least: usize, tally: &mut Tally)
-where
-    R: AllocGlobal + Eprint + Threads + Wait + Sync,
-{
-    for workers in WORKERS {
-        let is_right = agrees(rt, rt.alloc(), feed, wanted, least, *workers);
-        tally.judge(rt, what, is_right);
-    }
-}
-
-// Slices of each length.
-fn try_leasts<R>(rt: &R, what: &str, feed: &Feed, wanted: &Ledger, tally: &mut Tally)
-where
-    R: AllocGlobal + Eprint + Threads + Wait + Sync,
-{
-    for least in LEASTS {
-        try_least(rt, what, feed, wanted, *least, tally);
-    }
-}
-
-fn try_feed<R>(rt: &R, what: &str, feed: &Feed, tally: &mut Tally)
-where
-    R: AllocGlobal + Eprint + Threads + Wait + Sync,
-{
-    match Ledger::of(rt.alloc(), feed) {
-        Ok(wanted) => try_leasts(rt, what, feed, &wanted, tally),
-        Err(_) => tally.miss(rt),
-    }
-}
-
-// Slices of each length, in both versions.
-fn try_slices<R>(rt: &R, what: &str, rows: &[Row], txs: &[Option<Tx>], tally: &mut Tally)
-where
-    R: AllocGlobal + Eprint + Threads + Wait + Sync,
-{
-    for version in VERSIONS {
-        match feed_of_each(rt.alloc(), *version, rows, txs) {
-            Ok(feed) => try_feed(rt, what, &feed, tally),
-            Err(_) => tally.miss(rt),
-        }
-    }
-}
 
 // Which transactions of 130 accounts.
 #[derive(Clone, Copy)]
@@ -202,42 +80,31 @@ fn txs_on(alloc: Global, which: Which) -> Result<Vec<Option<Tx>>> {
     }
 }
 
-fn try_chosen<R>(rt: &R, rows: &[Row], tally: &mut Tally)
+fn feed_on(alloc: Global, version: Version, which: Which) -> Result<Feed> {
+    let rows = opening(alloc, ACCOUNTS)?;
+    let txs = txs_on(alloc, which)?;
+    let texts = texts_of(alloc, &txs)?;
+    feed_of_each(alloc, version, &rows, &texts)
+}
+
+fn try_version<R>(rt: &R, version: Version, tally: &mut Tally)
 where
     R: AllocGlobal + Eprint + Threads + Wait + Sync,
 {
     for (which, what) in WHICH {
-        match txs_on(rt.alloc(), *which) {
-            Ok(txs) => try_slices(rt, what, rows, &txs, tally),
-            Err(_) => tally.miss(rt),
-        }
-    }
-}
-
-fn try_drawn<R>(rt: &R, rows: &[Row], tally: &mut Tally)
-where
-    R: AllocGlobal + Eprint + Threads + Wait + Sync,
-{
-    let mut chance = Chance::new(17);
-    for _ in 0..LISTS {
-        match drawn_list(rt.alloc(), &mut chance) {
-            Ok(txs) => try_slices(rt, "slices of a drawn list", rows, &txs, tally),
+        match feed_on(rt.alloc(), version, *which) {
+            Ok(feed) => try_feed(rt, what, &feed, tally),
             Err(_) => tally.miss(rt),
         }
     }
 }
 
 /// Slices that touch some of the accounts, all of them, none, and accounts that come to be.
-pub(crate) fn try_all_slices<R>(rt: &R, tally: &mut Tally)
+pub(crate) fn try_slices<R>(rt: &R, tally: &mut Tally)
 where
     R: AllocGlobal + Eprint + Threads + Wait + Sync,
 {
-    match opening(rt.alloc(), ACCOUNTS) {
-        Ok(rows) => try_chosen(rt, &rows, tally),
-        Err(_) => tally.miss(rt),
-    }
-    match drawn_opening(rt.alloc()) {
-        Ok(rows) => try_drawn(rt, &rows, tally),
-        Err(_) => tally.miss(rt),
+    for version in VERSIONS {
+        try_version(rt, *version, tally);
     }
 }

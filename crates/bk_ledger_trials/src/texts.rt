@@ -1,11 +1,13 @@
 //! Texts of transactions, some of them with a fault that makes them malformed.
 
-use crate::drawn_txs::drawn_tx;
-use crate::plain::rows_after;
-use anyhow::{Result, bail};
+use crate::drawing::drawn_tx;
+use crate::making::text_of;
+use crate::plain::folded;
+use anyhow::Result;
 use bk_base::{Row, Version};
+use bk_plain::Folded;
 use bk_trial_kit::Chance;
-use bk_tx::{Body, Declarations, Declared, Tx};
+use bk_tx::Tx;
 use std::alloc::Global;
 
 // The kind of a split, as the first byte of its text.
@@ -45,11 +47,9 @@ fn spoil(chance: &mut Chance, text: &mut Vec<u8>) -> Result<()> {
 
 /// The text of a transaction for these rows, one time in ten with a fault.
 pub(crate) fn drawn_text(alloc: Global, chance: &mut Chance, rows: &[Row]) -> Result<Vec<u8>> {
-    let Some(tx) = drawn_tx(alloc, chance, rows)? else {
-        return Ok(Vec::from_slice(alloc, &[0])?);
-    };
-    let mut text = tx.encode(alloc)?;
-    if chance.is_one_in(10) {
+    let tx = drawn_tx(alloc, chance, rows)?;
+    let mut text = text_of(alloc, &tx)?;
+    if tx.is_some() && chance.is_one_in(10) {
         spoil(chance, &mut text)?;
     }
     Ok(text)
@@ -64,13 +64,13 @@ fn draw(
     texts: &mut Vec<Vec<u8>>,
 ) -> Result<()> {
     let text = drawn_text(alloc, chance, rows)?;
-    let tx = Tx::decode(&text);
-    *rows = rows_after(alloc, version, tx.as_ref(), rows)?;
+    let Folded { after, .. } = folded(alloc, version, &[Tx::decode(&text)], rows)?;
+    *rows = after;
     texts.push(text)?;
     Ok(())
 }
 
-/// Up to 19 texts, each for the rows after those before it.
+/// Up to 24 texts, each for the rows after those before it.
 pub(crate) fn drawn_texts(
     alloc: Global,
     chance: &mut Chance,
@@ -79,25 +79,8 @@ pub(crate) fn drawn_texts(
 ) -> Result<Vec<Vec<u8>>> {
     let mut rows = Vec::from_slice(alloc, opening)?;
     let mut texts = Vec::new(alloc);
-    for _ in 0..4 + chance.below(16) {
+    for _ in 0..1 + chance.below(24) {
         draw(alloc, chance, version, &mut rows, &mut texts)?;
     }
     Ok(texts)
-}
-
-/// The text of a transaction of these parts.
-pub(crate) fn text_of(
-    alloc: Global,
-    declared: &[Declared],
-    from: u64,
-    seq: u64,
-    body: Body,
-) -> Result<Vec<u8>> {
-    let Some(declared) = Declarations::new(declared) else {
-        bail!("more than eight accounts");
-    };
-    let Some(tx) = Tx::new(declared, seq, from, body) else {
-        bail!("it is no transaction");
-    };
-    Ok(tx.encode(alloc)?)
 }

@@ -1,12 +1,13 @@
 //! The waits of a plan against the conflicts of its transactions, and its words against what they declare.
 
+use crate::drawing::IDS;
 use bk_conflicts::{Plan, WordRef};
 use bk_tx::Tx;
 
 // Whether two transactions share an account that has a slot, at least one of them for writing.
 fn are_in_conflict(plan: &Plan, first: &Tx, second: &Tx) -> bool {
     let (a, b) = (first.declared(), second.declared());
-    for id in 1..9u64 {
+    for id in IDS {
         let is_shared = a.declared_at(id).is_some() && b.declared_at(id).is_some();
         let is_written = a.writable_at(id).is_some() || b.writable_at(id).is_some();
         if plan.ids().contains(id) && is_shared && is_written {

@@ -186,24 +186,6 @@ where
     tally.judge(rt, "the words of a bank that is done", is_right);
 }
 
-// The bank of a list, as it is opened and as it ends.
-fn try_bank<R>(
-    rt: &R,
-    version: Version,
-    name: Name,
-    opened: &Shown<'_>,
-    done: &Shown<'_>,
-    tally: &mut Tally,
-)
-where
-    R: AllocGlobal + Eprint,
-{
-    match feed_named(rt.alloc(), version, name) {
-        Ok(feed) => try_feed(rt, &feed, opened, done, tally),
-        Err(_) => tally.miss(rt),
-    }
-}
-
 const BOTH_OPENED: Shown<'static> = Shown {
     accounts: &[(100, 0), (50, 0), (10, 0)],
     places: &[(0, 0), (1, 0)],
@@ -215,21 +197,6 @@ pub(crate) const BOTH_PAID: Shown<'static> = Shown {
     places: &[(DONE, 10), (DONE, 50)],
 };
 
-// Two payments in conflict. Both versions give the same words, since each account is there.
-fn try_two<R>(rt: &R, version: Version, tally: &mut Tally)
-where
-    R: AllocGlobal + Eprint,
-{
-    try_bank(
-        rt,
-        version,
-        Name::GuardThenPayment,
-        &BOTH_OPENED,
-        &BOTH_PAID,
-        tally,
-    );
-}
-
 const ABSENT_OPENED: Shown<'static> = Shown {
     accounts: &[(100, 0)],
     places: &[(0, 0), (1, 0), (1, 0)],
@@ -239,15 +206,6 @@ const ABSENT_REFUSED: Shown<'static> = Shown {
     accounts: &[(100, 0)],
     places: &[(UNKNOWN, 0), (UNKNOWN, 0), (UNKNOWN, 0)],
 };
-
-// In version One the absent accounts 8 and 9 have no slot, and no payment finds its accounts.
-fn try_absent_one<R>(rt: &R, tally: &mut Tally)
-where
-    R: AllocGlobal + Eprint,
-{
-    let (opened, done) = (&ABSENT_OPENED, &ABSENT_REFUSED);
-    try_bank(rt, Version::One, Name::Absent, opened, done, tally);
-}
 
 const MADE_OPENED: Shown<'static> = Shown {
     accounts: &[(100, 0), (0, ABSENT), (0, ABSENT)],
@@ -259,22 +217,37 @@ const MADE_PAID: Shown<'static> = Shown {
     places: &[(DONE, 30), (DONE, 10), (UNKNOWN, 0)],
 };
 
-// In version Two they have one each. Account 9 comes to be, and 8 stays absent.
-fn try_absent_two<R>(rt: &R, tally: &mut Tally)
-where
-    R: AllocGlobal + Eprint,
-{
-    let (opened, done) = (&MADE_OPENED, &MADE_PAID);
-    try_bank(rt, Version::Two, Name::Absent, opened, done, tally);
-}
+// A version and a list, and the words of its bank as it is opened and as it ends.
+type Case = ((Version, Name), (Shown<'static>, Shown<'static>));
+
+// Of two payments in conflict both versions give the same words, since each account is there. In version One the absent
+// accounts 8 and 9 have no slot, and no payment finds its accounts. In version Two they have one each: account 9 comes to
+// be, and 8 stays absent.
+const CASES: [Case; 4] = [
+    (
+        (Version::One, Name::GuardThenPayment),
+        (BOTH_OPENED, BOTH_PAID),
+    ),
+    (
+        (Version::Two, Name::GuardThenPayment),
+        (BOTH_OPENED, BOTH_PAID),
+    ),
+    (
+        (Version::One, Name::Absent),
+        (ABSENT_OPENED, ABSENT_REFUSED),
+    ),
+    ((Version::Two, Name::Absent), (MADE_OPENED, MADE_PAID)),
+];
 
 /// Banks of two payments whose accounts are there, and of three some of whose accounts are absent.
 pub(crate) fn try_words<R>(rt: &R, tally: &mut Tally)
 where
     R: AllocGlobal + Eprint,
 {
-    try_two(rt, Version::One, tally);
-    try_two(rt, Version::Two, tally);
-    try_absent_one(rt, tally);
-    try_absent_two(rt, tally);
+    for ((version, name), (opened, done)) in CASES {
+        match feed_named(rt.alloc(), version, name) {
+            Ok(feed) => try_feed(rt, &feed, &opened, &done, tally),
+            Err(_) => tally.miss(rt),
+        }
+    }
 }

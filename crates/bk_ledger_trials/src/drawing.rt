@@ -1,15 +1,19 @@
-//! Opening accounts and transactions, drawn so that every status comes up often.
+//! Opening accounts and transactions, drawn so that every status comes up often. Some declare too few accounts, or only
+//! read what they have to write.
 
+ghost use Rattle.std.specs.Prelude.{◌≡◌, ◌<◌, ◌≤◌};
+
+use crate::making::{payment, reading, writing};
 use anyhow::Result;
 use bk_base::Row;
 use bk_plain::account_at;
 use bk_rules::Account;
 use bk_trial_kit::Chance;
-use bk_tx::{Body, Declarations, Declared, Payment, Payments, Tx};
+use bk_tx::{Body, Declarations, Declared, Payments, Tx};
 use std::alloc::Global;
 
-// The ids of all accounts: small ones, large ones and both limits.
-const IDS: [u64; 8] = [0, 1, 2, 255, 256, 1 << 32, 1 << 63, u64::MAX];
+/// The ids of all accounts: small ones, large ones and both limits.
+pub(crate) const IDS: [u64; 8] = [0, 1, 2, 255, 256, 1 << 32, 1 << 63, u64::MAX];
 
 // All the money that there can be.
 const MOST_MONEY: u64 = (1 << 63) - 1;
@@ -144,8 +148,7 @@ fn split(alloc: Global, chance: &mut Chance, rows: &[Row], from: u64) -> Result<
     let mut payments = Vec::new(alloc);
     for to in IDS {
         if to != from && payments.len() < 6 && takes_part(chance, rows, to) {
-            let amount = amount(chance, share);
-            payments.push(Payment { to, amount })?;
+            payments.push(payment(to, amount(chance, share)))?;
         }
     }
     match Payments::new(&payments) {
@@ -197,15 +200,10 @@ fn declared(chance: &mut Chance, body: &Body, from: u64, id: u64) -> Option<Decl
     let is_needed = is_written || guards(body, id);
     match chance.below(32) {
         0 => None,
-        1 => Some(Declared {
-            id,
-            writable: false,
-        }),
-        2 => Some(Declared { id, writable: true }),
-        _ if is_needed => Some(Declared {
-            id,
-            writable: is_written,
-        }),
+        1 => Some(reading(id)),
+        2 => Some(writing(id)),
+        _ if is_written => Some(writing(id)),
+        _ if is_needed => Some(reading(id)),
         _ => None,
     }
 }
@@ -248,4 +246,33 @@ pub(crate) fn drawn_tx(alloc: Global, chance: &mut Chance, rows: &[Row]) -> Resu
     };
     let seq = drawn_seq(chance, held_by(rows, from).seq);
     Ok(Tx::new(declared, seq, from, body))
+}
+
+// A payment of 1 that declares up to four accounts, whether or not it uses them; now and then none.
+fn drawn_payment(chance: &mut Chance) -> Option<Tx> {
+    if chance.is_one_in(8) {
+        return None;
+    }
+    let mut declared = [reading(0); 4];
+    let mut count = 0;
+    for id in IDS {
+        if count < 4 && chance.is_one_in(3) {
+            let writable = chance.is_one_in(3);
+            declared[count] = Declared { id, writable };
+            count += 1;
+        }
+    }
+    let from = any_id(chance);
+    let to = any_id(chance);
+    let declared = Declarations::new(declared.get(..count)?)?;
+    Tx::new(declared, 0, from, Body::Pay { to, amount: 1 })
+}
+
+/// Twelve payments, of which most are in conflict with some.
+pub(crate) fn drawn_payments(alloc: Global, chance: &mut Chance) -> Result<Vec<Option<Tx>>> {
+    let mut txs = Vec::new(alloc);
+    for _ in 0..12u64 {
+        txs.push(drawn_payment(chance))?;
+    }
+    Ok(txs)
 }
