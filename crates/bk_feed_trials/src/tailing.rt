@@ -1,10 +1,10 @@
 //! Feeds that are followed in pieces, cut, broken and stopped, and over devices that fail.
 
-use crate::feeds::{
-    MISSING, NOTHING, ONE_COMMIT, ONE_COMMIT_TWO, TWINS_LATER, TWO_COMMITS, TWO_COMMITS_TWO,
-};
 use crate::made::made;
 use crate::tables::{Asked, Table, followed, in_pieces, whole, wide};
+use crate::tailed::{
+    MISSING, NOTHING, ONE_COMMIT, ONE_COMMIT_TWO, TWINS_LATER, TWO_COMMITS, TWO_COMMITS_TWO,
+};
 use anyhow::Result;
 use bk_frames::{FaultCode, FeedFault};
 use bk_results::Fault;

@@ -1,8 +1,8 @@
 //! A feed in pieces of several sizes, among them empty ones, and a feed that ends at each of its bytes.
 
 use crate::ended::{cut_at, ends_in_fault, refuses, replayed, replays, reports, takes};
-use crate::feeds::{BOTH, ENDS, REPORTS, TWO_COMMITS, TWO_COMMITS_DIGEST, report};
 use crate::made::{has_digest, made};
+use crate::two_commits::{BOTH, ENDS, REPORTS, TWO_COMMITS, TWO_COMMITS_DIGEST, report};
 use anyhow::Result;
 use bk_replay::{Fault, Follower};
 use bk_trial_kit::{Tally, part};

@@ -1,12 +1,12 @@
 //! What keeps a feed that is followed from counting whole.
 
-use crate::feeds::{
+use crate::made::made;
+use crate::tables::{Asked, Table, followed, in_pieces, judged, wide};
+use crate::tailed::{
     MISSING, MISSING_AND_REJECTED, NOTHING, REJECTED, REJECTED_AND_WAITING, TWINS_LATER, UNVOTED,
     WAITING, WHOLE,
 };
-use crate::made::made;
-use crate::tables::{Asked, Table, followed, in_pieces, judged, wide};
-use crate::trials::{PIECES, TABLES};
+use crate::tailing::{PIECES, TABLES};
 use anyhow::Result;
 use bk_digest::Digest32;
 use bk_results::Flaw;

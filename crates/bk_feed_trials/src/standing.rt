@@ -1,9 +1,9 @@
 //! Faults of a feed and of a sink, which every later call gives again.
 
 use crate::ended::{broken, refuses, takes, takes_each};
-use crate::feeds::TWO_COMMITS;
 use crate::made::made;
 use crate::stopped::is_refused;
+use crate::two_commits::TWO_COMMITS;
 use anyhow::Result;
 use bk_frames::{Counted, FaultCode};
 use bk_pool::Open;

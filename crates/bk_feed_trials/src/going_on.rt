@@ -1,8 +1,8 @@
 //! Followers that settle after each byte and end after each frame, and go on.
 
 use crate::ended::{reports, takes, takes_each};
-use crate::feeds::{BOTH, FIRST, REPEATED, REPEATED_LINES, REPORTS, TWO_COMMITS, report};
 use crate::made::made;
+use crate::two_commits::{BOTH, FIRST, REPEATED, REPEATED_LINES, REPORTS, TWO_COMMITS, report};
 use anyhow::Result;
 use bk_pool::Open;
 use bk_replay::Follower;
