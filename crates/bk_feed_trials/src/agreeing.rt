@@ -67,28 +67,19 @@ where
     is_right
 }
 
-fn long_agrees<R>(rt: &R, long: &[u8]) -> Result<bool>
-where
-    R: AllocGlobal + Threads + Wait + Sync,
-{
-    let short = made(rt.alloc(), THREE_ROUNDS)?;
-    both_agree(rt, (long, &short))
-}
-
 fn followers_agree<R>(rt: &R) -> Result<bool>
 where
     R: AllocGlobal + Threads + Wait + Sync,
 {
     let long = made(rt.alloc(), FOUR_ROUNDS)?;
-    long_agrees(rt, &long)
+    let short = made(rt.alloc(), THREE_ROUNDS)?;
+    both_agree(rt, (&long, &short))
 }
 
 /// Followers that agree.
-pub(crate) fn try_agreeing<R>(rt: &R, tally: &mut Tally) -> Result<()>
+pub(crate) fn try_agreeing<R>(rt: &R, tally: &mut Tally)
 where
     R: AllocGlobal + Eprint + Threads + Wait + Sync,
 {
-    let is_right = followers_agree(rt)?;
-    tally.note(rt, "Followers that agree", is_right);
-    Ok(())
+    tally.judge(rt, "Followers that agree", followers_agree(rt));
 }

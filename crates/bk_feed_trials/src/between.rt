@@ -1,6 +1,6 @@
 //! What a Follower is asked after each byte of a feed.
 
-use crate::feeds::{ONE_COMMIT, TWO_COMMITS};
+use crate::feeds::{ONE_COMMIT, PROOF_OPENED, PROOF_PAID, TWO_COMMITS};
 use crate::made::made;
 use anyhow::Result;
 use bk_cert::CertRef;
@@ -11,13 +11,6 @@ use bk_trial_kit::Tally;
 use std::alloc::Global;
 use std::sync::Wait;
 use std::thread::Threads;
-
-// Proofs of account 2: of the opening, and of the first payment.
-const PROOF_OPENED: &str =
-    "state 58adcc856b347f0dd4813ad33cdb8253d78a0cd40d3f41ac066bce24d28a8a5d\nsize 2\nindex 1\naccount 2 50 0\npath 5b2d207a8426e99fad298132eb18de130e9a23498b86f98b5f1778476ede759d\n";
-
-const PROOF_FIRST: &str =
-    "state a0f73141eeeda4cb3f115f1ee0468dde8a3de31db5fd987f0eec1df811bce063\nsize 2\nindex 1\naccount 2 80 0\npath f093a6029918f49a04474a0923f5a6b557c6a332840ecb5dc8ea9172a15bde3b\n";
 
 const ANCHORS: [CertRef; 2] = [
     CertRef {
@@ -79,7 +72,7 @@ fn wanted_at(end: usize) -> Wanted {
     Wanted {
         balance: Some(80),
         moved: Some(30),
-        proof: PROOF_FIRST,
+        proof: PROOF_PAID,
         anchors,
         certs,
     }
@@ -197,22 +190,15 @@ where
     Ok(end == 625 && settles_last(rt, follower)?)
 }
 
-fn follower_gives<R>(rt: &R, feed: &[u8]) -> Result<bool>
-where
-    R: AllocGlobal + Threads + Wait + Sync,
-{
-    let mut follower = Follower::new(rt.alloc(), 2);
-    let is_right = gives_after_each(rt, &mut follower, feed);
-    follower.discard();
-    is_right
-}
-
 fn gives_all<R>(rt: &R, script: &str) -> Result<bool>
 where
     R: AllocGlobal + Threads + Wait + Sync,
 {
     let feed = made(rt.alloc(), script)?;
-    follower_gives(rt, &feed)
+    let mut follower = Follower::new(rt.alloc(), 2);
+    let is_right = gives_after_each(rt, &mut follower, &feed);
+    follower.discard();
+    is_right
 }
 
 // ---- orders alone
@@ -252,22 +238,15 @@ where
     Ok(feed.len() == 346 && is_unexecuted(follower)? && settles_one(rt, follower)?)
 }
 
-fn follower_orders<R>(rt: &R, feed: &[u8]) -> Result<bool>
-where
-    R: AllocGlobal + Threads + Wait + Sync,
-{
-    let mut follower = Follower::new(rt.alloc(), 1);
-    let is_right = orders_alone(rt, &mut follower, feed);
-    follower.discard();
-    is_right
-}
-
 fn orders_without_settling<R>(rt: &R, script: &str) -> Result<bool>
 where
     R: AllocGlobal + Threads + Wait + Sync,
 {
     let feed = made(rt.alloc(), script)?;
-    follower_orders(rt, &feed)
+    let mut follower = Follower::new(rt.alloc(), 1);
+    let is_right = orders_alone(rt, &mut follower, &feed);
+    follower.discard();
+    is_right
 }
 
 /// Accounts, receipts, proofs and orders after each byte.

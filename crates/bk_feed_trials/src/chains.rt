@@ -1,10 +1,10 @@
 //! Chains of rounds of which nothing is committed for long, settled after each frame.
 
-use crate::ended::{replays, reports, takes};
+use crate::ended::replays;
+use crate::feeds::OPENED;
 use crate::made::made;
+use crate::story::{Step, follows};
 use anyhow::Result;
-use bk_pool::Open;
-use bk_replay::Follower;
 use bk_trial_kit::{Tally, ends_of, frame, part};
 use std::alloc::Global;
 use std::fmt::Write;
@@ -14,10 +14,7 @@ use std::thread::Threads;
 // Opening accounts, and a batch of one payment.
 const OPENING: &str = "account 1 100\naccount 2 50\nbatch b\npay 1 2 30 0\n";
 
-// The last lines of a report before the batch is executed, and after it.
-const UNPAID: &str =
-    "account 1 100 0\naccount 2 50 0\nmoney 150\nstate 58adcc856b347f0dd4813ad33cdb8253d78a0cd40d3f41ac066bce24d28a8a5d\n";
-
+// The last lines of a report after the batch is executed.
 const PAID: &str =
     "batch 0 1\ntx 0 0 30\naccount 1 70 1\naccount 2 80 0\nmoney 150\nstate a0f73141eeeda4cb3f115f1ee0468dde8a3de31db5fd987f0eec1df811bce063\n";
 
@@ -95,10 +92,10 @@ fn put_unvoted(text: &mut String) -> Result<()> {
     put_vote(text, 1)
 }
 
-fn unvoted_script(alloc: Global) -> Result<String> {
+fn unvoted_feed(alloc: Global) -> Result<Vec<u8>> {
     let mut text = String::new(alloc);
     put_unvoted(&mut text)?;
-    Ok(text)
+    made(alloc, &text)
 }
 
 fn put_named(lines: &mut String, round: u64) -> Result<()> {
@@ -153,10 +150,10 @@ fn put_led_late(text: &mut String) -> Result<()> {
     Ok(())
 }
 
-fn led_late_script(alloc: Global) -> Result<String> {
+fn led_late_feed(alloc: Global) -> Result<Vec<u8>> {
     let mut text = String::new(alloc);
     put_led_late(&mut text)?;
-    Ok(text)
+    made(alloc, &text)
 }
 
 // Round 256 commits all before it.
@@ -177,103 +174,55 @@ fn led_late_lines(alloc: Global) -> Result<String> {
 
 // ---- runs
 
-// Whether a Follower takes a frame, and nothing is ordered after it.
-fn is_quiet<R>(rt: &R, follower: &mut Follower, bytes: &[u8]) -> bool
-where
-    R: AllocGlobal + Threads + Wait + Sync,
-{
-    if !takes(rt, follower, bytes) || follower.settle(rt, &Open).ok() != Some(0) {
-        return false;
-    }
-    let order = follower.last_order();
-    order.anchors.is_empty() && order.certs.is_empty()
-}
-
-// Whether each frame but the last is quiet, and the last settles the payment.
-fn ends_loud<R>(
-    rt: &R,
-    follower: &mut Follower,
-    feed: &[u8],
-    ends: &[usize],
-    texts: (&str, &str),
-) -> bool
-where
-    R: AllocGlobal + Threads + Wait + Sync,
-{
-    if !takes(rt, follower, part(feed, 0, 4)) {
-        return false;
-    }
+// Each frame but the last settles and orders nothing, and the last settles the payment.
+fn put_chain<'a>(
+    story: &mut Vec<Step<'a>>,
+    (feed, ends): (&'a [u8], &[usize]),
+    (before, after): (&'a str, &'a str),
+) -> Result<()> {
     let last = ends.len().saturating_sub(2);
+    story.push(Step::Takes(part(feed, 0, 4)))?;
     for index in 0..last {
-        if !is_quiet(rt, follower, frame(feed, ends, index)) {
-            return false;
-        }
+        story.push(Step::Takes(frame(feed, ends, index)))?;
+        story.push(Step::Settles(0))?;
+        story.push(Step::OrdersNothing)?;
     }
-    reports(rt, follower, texts.0)
-        && takes(rt, follower, frame(feed, ends, last))
-        && follower.settle(rt, &Open).ok() == Some(1)
-        && reports(rt, follower, texts.1)
+    story.push(Step::Reports(before.as_bytes()))?;
+    story.push(Step::Takes(frame(feed, ends, last)))?;
+    story.push(Step::Settles(1))?;
+    story.push(Step::Reports(after.as_bytes()))?;
+    Ok(())
 }
 
-fn is_followed<R>(rt: &R, feed: &[u8], ends: &[usize], texts: (&str, &str)) -> bool
+fn is_followed<R>(rt: &R, feed: (&[u8], &[usize]), texts: (&str, &str)) -> Result<bool>
 where
     R: AllocGlobal + Threads + Wait + Sync,
 {
-    let mut follower = Follower::new(rt.alloc(), 2);
-    let is_right = ends_loud(rt, &mut follower, feed, ends, texts);
-    follower.discard();
-    is_right
+    let mut story = Vec::new(rt.alloc());
+    put_chain(&mut story, feed, texts)?;
+    Ok(follows(rt, 2, &story))
 }
 
 // A chain, with its reports before its last frame and after it.
-fn try_followed<R>(rt: &R, feed: &[u8], ends: &[usize], texts: (&str, &str), tally: &mut Tally)
-where
-    R: AllocGlobal + Eprint + Threads + Wait + Sync,
-{
-    let is_right = is_followed(rt, feed, ends, texts);
-    tally.note(rt, "a long chain, frame by frame", is_right);
-    let last = ends.get(ends.len().saturating_sub(2)).copied().unwrap_or(0);
-    let is_right = replays(rt, part(feed, 0, last), 2, texts.0);
-    tally.note(rt, "a long chain that commits nothing", is_right);
-    let is_right = replays(rt, feed, 2, texts.1);
-    tally.note(rt, "a long chain, replayed", is_right);
-}
-
 fn try_feed<R>(rt: &R, feed: &[u8], texts: (&str, &str), tally: &mut Tally) -> Result<()>
 where
     R: AllocGlobal + Eprint + Threads + Wait + Sync,
 {
     let ends = ends_of(rt.alloc(), feed)?;
-    try_followed(rt, feed, &ends, texts, tally);
+    let is_right = is_followed(rt, (feed, &ends), texts);
+    tally.judge(rt, "a long chain, frame by frame", is_right);
+    let last = ends.get(ends.len().saturating_sub(2)).copied().unwrap_or(0);
+    let is_right = replays(rt, part(feed, 0, last), 2, texts.0.as_bytes());
+    tally.note(rt, "a long chain that commits nothing", is_right);
+    let is_right = replays(rt, feed, 2, texts.1.as_bytes());
+    tally.note(rt, "a long chain, replayed", is_right);
     Ok(())
 }
 
-fn try_script<R>(rt: &R, script: &str, texts: (&str, &str), tally: &mut Tally) -> Result<()>
-where
-    R: AllocGlobal + Eprint + Threads + Wait + Sync,
-{
-    let feed = made(rt.alloc(), script)?;
-    try_feed(rt, &feed, texts, tally)
-}
-
 // The lines of the report after so many frames, of which the last one commits all that came.
-fn try_after<R>(
-    rt: &R,
-    script: &str,
-    (committee, before): (&str, &str),
-    (frames, lines): (u64, &str),
-    tally: &mut Tally,
-) -> Result<()>
-where
-    R: AllocGlobal + Eprint + Threads + Wait + Sync,
-{
-    let after = report(rt.alloc(), committee, frames, lines)?;
-    try_script(rt, script, (before, after.as_str()), tally)
-}
-
 fn try_chain<R>(
     rt: &R,
-    script: &str,
+    feed: &[u8],
     committee: &str,
     (frames, lines): (u64, &str),
     tally: &mut Tally,
@@ -281,43 +230,29 @@ fn try_chain<R>(
 where
     R: AllocGlobal + Eprint + Threads + Wait + Sync,
 {
-    let before = report(rt.alloc(), committee, frames.saturating_sub(1), UNPAID)?;
-    let texts = (committee, before.as_str());
-    try_after(rt, script, texts, (frames, lines), tally)
+    let before = report(rt.alloc(), committee, frames.saturating_sub(1), OPENED)?;
+    let after = report(rt.alloc(), committee, frames, lines)?;
+    try_feed(rt, feed, (&before, &after), tally)
 }
 
 // The committee, the genesis, the batch, 804 certificates and two votes.
-fn try_four<R>(rt: &R, script: &str, tally: &mut Tally) -> Result<()>
-where
-    R: AllocGlobal + Eprint + Threads + Wait + Sync,
-{
-    let lines = unvoted_lines(rt.alloc())?;
-    try_chain(rt, script, FOUR, (809, lines.as_str()), tally)
-}
-
-// The committee, the genesis, the batch and 256 certificates.
-fn try_heavy<R>(rt: &R, script: &str, tally: &mut Tally) -> Result<()>
-where
-    R: AllocGlobal + Eprint + Threads + Wait + Sync,
-{
-    let lines = led_late_lines(rt.alloc())?;
-    try_chain(rt, script, HEAVY, (259, lines.as_str()), tally)
-}
-
 fn try_unvoted<R>(rt: &R, tally: &mut Tally) -> Result<()>
 where
     R: AllocGlobal + Eprint + Threads + Wait + Sync,
 {
-    let script = unvoted_script(rt.alloc())?;
-    try_four(rt, script.as_str(), tally)
+    let feed = unvoted_feed(rt.alloc())?;
+    let lines = unvoted_lines(rt.alloc())?;
+    try_chain(rt, &feed, FOUR, (809, &lines), tally)
 }
 
+// The committee, the genesis, the batch and 256 certificates.
 fn try_led_late<R>(rt: &R, tally: &mut Tally) -> Result<()>
 where
     R: AllocGlobal + Eprint + Threads + Wait + Sync,
 {
-    let script = led_late_script(rt.alloc())?;
-    try_heavy(rt, script.as_str(), tally)
+    let feed = led_late_feed(rt.alloc())?;
+    let lines = led_late_lines(rt.alloc())?;
+    try_chain(rt, &feed, HEAVY, (259, &lines), tally)
 }
 
 /// Rounds without votes and rounds without a leader's certificate, of which the last frame commits all that came.

@@ -1,15 +1,15 @@
 //! Two feeds, compared.
 
+use crate::faults::{broken, cut_at, twins};
 use crate::feeds::{
-    FOUR_ROUNDS, MISSING, NOTHING, ONE_COMMIT, ROUND_ONE, THREE_ROUNDS, broken, cut_at,
-    twins_of_round_one,
+    FOUR_ROUNDS, MISSING, NOTHING, ONE_COMMIT, ROUND_ONE, ROUND_ONE_IDS, THREE_ROUNDS,
 };
 use crate::made::made;
 use anyhow::Result;
 use bk_digest::Digest32;
 use bk_frames::{Counted, FaultCode};
 use bk_pool::Open;
-use bk_replay::{Agreed, CompareStop, Compared, Differ, Fault, SetupPart, compare_with_gaps};
+use bk_replay::{Agreed, CompareStop, Compared, Differ, Fault, Flaw, SetupPart, compare_with_gaps};
 use bk_trial_kit::{Device, EVER, Reader, Tally, part};
 use std::sync::Wait;
 use std::thread::Threads;
@@ -23,188 +23,200 @@ const OTHER_MEMBERS: &str = "members 2\naccount 1 100\naccount 2 50\n";
 
 const OTHER_VERSION: &str = "version 2\nmembers 1\naccount 1 100\naccount 2 50\n";
 
+// A certificate that no member signs.
+const REJECTED: &str = "members 1\naccount 1 100\naccount 2 50\ncert s 1 0 - - 1\n";
+
+// A certificate whose parent does not come.
+const WAITING: &str =
+    "members 1\naccount 1 100\naccount 2 50\ncert w 4 0 - ba7816bf8f01cfea414140de5dae2223b00361a396177a9cb410ff61f20015ad 0\n";
+
 // ---- what is left
 
-/// What comparing leaves.
-#[derive(Drop)]
+// What comparing leaves, and how many bytes of the second feed were not read.
+#[derive(Clone, Copy)]
 struct Left {
-    agreed: Option<Agreed>,
-    // The missing batch of each.
-    first: Option<Digest32>,
-    second: Option<Digest32>,
-    stop: Option<CompareStop>,
-    // How many bytes of the second feed were not read.
+    end: Result<Compared, CompareStop>,
     unread: usize,
 }
 
 impl Left {
-    fn new(end: Result<Compared, CompareStop>, unread: usize) -> Left {
-        match end {
-            Ok(compared) => Left {
-                agreed: Some(compared.agreed),
-                first: compared.first,
-                second: compared.second,
-                stop: None,
-                unread,
-            },
-            Err(stop) => Left {
-                agreed: None,
-                first: None,
-                second: None,
-                stop: Some(stop),
-                unread,
-            },
+    // Whether the feeds agree so, and the second is read to its end.
+    fn is_agreed(&self, wanted: &Compared) -> bool {
+        match &self.end {
+            Ok(found) => is_same(found, wanted) && self.unread == 0,
+            Err(_) => false,
         }
     }
 
-    fn is_agreed(&self, certs: usize, places: usize) -> bool {
-        self.agreed == Some(Agreed { certs, places })
-    }
-
-    fn is_stop(&self, stop: &CompareStop) -> bool {
-        self.stop == Some(*stop)
+    fn is_stop(&self, wanted: &CompareStop) -> bool {
+        match &self.end {
+            Ok(_) => false,
+            Err(stop) => stop == wanted,
+        }
     }
 }
 
-// Compares, with so many good reads of 7 bytes of each.
-fn compared<R>(rt: &R, one: &[u8], other: &[u8], calls: (usize, usize)) -> Left
+fn is_same(found: &Compared, wanted: &Compared) -> bool {
+    found.agreed == wanted.agreed
+        && found.first == wanted.first
+        && found.second == wanted.second
+        && found.first_flaw == wanted.first_flaw
+        && found.second_flaw == wanted.second_flaw
+}
+
+// Compares, with so many good reads of 7 bytes of each, and judges the feeds where `strict` is set.
+fn compared<R>(rt: &R, one: &[u8], other: &[u8], calls: (usize, usize), strict: bool) -> Left
 where
     R: AllocGlobal + Threads + Wait + Sync,
 {
     let mut first = Counted::new(Reader::new(one, Device::lost_after(calls.0, 7)));
     let mut second = Counted::new(Reader::new(other, Device::lost_after(calls.1, 7)));
-    let end = compare_with_gaps(rt, rt.alloc(), &mut first, &mut second, 2, &Open, false);
-    Left::new(end, second.into_inner().left())
+    let end = compare_with_gaps(rt, rt.alloc(), &mut first, &mut second, 2, &Open, strict);
+    let unread = second.into_inner().left();
+    Left { end, unread }
 }
 
 const ALL: (usize, usize) = (EVER, EVER);
 
 // ---- feeds that agree
 
-// Whether two feeds agree so far, and both are read to their ends.
-fn agrees<R>(rt: &R, one: &[u8], other: &[u8], certs: usize, places: usize) -> bool
-where
-    R: AllocGlobal + Threads + Wait + Sync,
-{
-    let left = compared(rt, one, other, ALL);
-    left.is_agreed(certs, places)
-        && left.first.is_none()
-        && left.second.is_none()
-        && left.unread == 0
-}
-
-// The feed of the first script is owned by one function, and that of the second by another: each way out of a function
-// drops all that it owns.
-fn agrees_with<R>(rt: &R, one: &[u8], row: &Row) -> Result<bool>
-where
-    R: AllocGlobal + Threads + Wait + Sync,
-{
-    let other = made(rt.alloc(), row.other)?;
-    Ok(agrees(rt, one, &other, row.certs, row.places))
-}
-
-fn is_agreed<R>(rt: &R, row: &Row) -> Result<bool>
-where
-    R: AllocGlobal + Threads + Wait + Sync,
-{
-    let one = made(rt.alloc(), row.one)?;
-    agrees_with(rt, &one, row)
-}
-
-// Two scripts, and how far their feeds agree.
-#[derive(Clone, Copy)]
-struct Row {
-    one: &'static str,
-    other: &'static str,
-    certs: usize,
-    places: usize,
-}
-
-fn agreeing(one: &'static str, other: &'static str, certs: usize, places: usize) -> Row {
-    Row {
-        one,
-        other,
-        certs,
-        places,
+// Feeds that agree so far, lack no batch and are not judged.
+fn agreed(certs: usize, places: usize) -> Compared {
+    Compared {
+        agreed: Agreed { certs, places },
+        first: None,
+        second: None,
+        first_flaw: None,
+        second_flaw: None,
     }
 }
 
-fn try_row<R>(rt: &R, row: &Row, tally: &mut Tally) -> Result<()>
-where
-    R: AllocGlobal + Eprint + Threads + Wait + Sync,
-{
-    let is_right = is_agreed(rt, row)?;
-    tally.note(rt, "feeds that agree", is_right);
-    Ok(())
-}
-
-// Round 3 is committed by round 4 alone, and brings the certificates of rounds 2 and 3.
-fn try_agreeing<R>(rt: &R, tally: &mut Tally) -> Result<()>
-where
-    R: AllocGlobal + Eprint + Threads + Wait + Sync,
-{
-    try_row(rt, &agreeing(FOUR_ROUNDS, FOUR_ROUNDS, 3, 1), tally)?;
-    try_row(rt, &agreeing(FOUR_ROUNDS, THREE_ROUNDS, 1, 1), tally)?;
-    try_row(rt, &agreeing(THREE_ROUNDS, FOUR_ROUNDS, 1, 1), tally)?;
-    try_row(rt, &agreeing(ONE_COMMIT, FOUR_ROUNDS, 1, 1), tally)?;
-    try_row(rt, &agreeing(NOTHING, NOTHING, 0, 0), tally)?;
-    try_row(rt, &agreeing(NOTHING, FOUR_ROUNDS, 0, 0), tally)?;
-    try_row(rt, &agreeing(FOUR_ROUNDS, NOTHING, 0, 0), tally)
-}
-
-// Whether it is the batch that does not come.
-fn is_abc(missing: &Option<Digest32>) -> bool {
-    *missing == Some(Digest32::of(b"abc"))
-}
-
-// Whether the orders of both stop at it.
-fn both_miss<R>(rt: &R, gap: &[u8]) -> bool
+// Whether the feeds of two scripts agree so.
+fn agrees<R>(rt: &R, one: &str, other: &str, strict: bool, wanted: &Compared) -> Result<bool>
 where
     R: AllocGlobal + Threads + Wait + Sync,
 {
-    let left = compared(rt, gap, gap, ALL);
-    left.is_agreed(1, 1) && is_abc(&left.first) && is_abc(&left.second)
+    let one = made(rt.alloc(), one)?;
+    let other = made(rt.alloc(), other)?;
+    let left = compared(rt, &one, &other, ALL, strict);
+    Ok(left.is_agreed(wanted))
 }
 
-// Whether that of the first does alone.
-fn first_misses<R>(rt: &R, gap: &[u8], none: &[u8]) -> bool
-where
-    R: AllocGlobal + Threads + Wait + Sync,
-{
-    let left = compared(rt, gap, none, ALL);
-    left.is_agreed(0, 0) && is_abc(&left.first) && left.second.is_none()
-}
+// Two scripts, and how far their feeds agree. Round 3 is committed by round 4 alone, and brings the certificates of rounds
+// 2 and 3.
+const AGREEING: [(&str, &str, usize, usize); 7] = [
+    (FOUR_ROUNDS, FOUR_ROUNDS, 3, 1),
+    (FOUR_ROUNDS, THREE_ROUNDS, 1, 1),
+    (THREE_ROUNDS, FOUR_ROUNDS, 1, 1),
+    (ONE_COMMIT, FOUR_ROUNDS, 1, 1),
+    (NOTHING, NOTHING, 0, 0),
+    (NOTHING, FOUR_ROUNDS, 0, 0),
+    (FOUR_ROUNDS, NOTHING, 0, 0),
+];
 
-// Whether that of the second does alone.
-fn second_misses<R>(rt: &R, none: &[u8], gap: &[u8]) -> bool
-where
-    R: AllocGlobal + Threads + Wait + Sync,
-{
-    let left = compared(rt, none, gap, ALL);
-    left.is_agreed(0, 0) && left.first.is_none() && is_abc(&left.second)
-}
-
-fn try_gap<R>(rt: &R, gap: &[u8], tally: &mut Tally) -> Result<()>
+fn try_agreeing<R>(rt: &R, tally: &mut Tally)
 where
     R: AllocGlobal + Eprint + Threads + Wait + Sync,
 {
-    let none = made(rt.alloc(), NOTHING)?;
-    let is_right = first_misses(rt, gap, &none);
-    tally.note(rt, "a missing batch of the first", is_right);
-    let is_right = second_misses(rt, &none, gap);
-    tally.note(rt, "a missing batch of the second", is_right);
-    Ok(())
+    for (one, other, certs, places) in AGREEING {
+        let is_right = agrees(rt, one, other, false, &agreed(certs, places));
+        tally.judge(rt, "feeds that agree", is_right);
+    }
 }
 
 // The order of one feed, or of both, stops at a missing batch.
-fn try_missing<R>(rt: &R, tally: &mut Tally) -> Result<()>
+fn try_missing<R>(rt: &R, missing: Option<Digest32>, tally: &mut Tally)
 where
     R: AllocGlobal + Eprint + Threads + Wait + Sync,
 {
-    let gap = made(rt.alloc(), MISSING)?;
-    let is_right = both_miss(rt, &gap);
-    tally.note(rt, "a missing batch of both", is_right);
-    try_gap(rt, &gap, tally)
+    let both = Compared {
+        first: missing,
+        second: missing,
+        ..agreed(1, 1)
+    };
+    let is_right = agrees(rt, MISSING, MISSING, false, &both);
+    tally.judge(rt, "a missing batch of both", is_right);
+    let first = Compared {
+        first: missing,
+        ..agreed(0, 0)
+    };
+    let is_right = agrees(rt, MISSING, NOTHING, false, &first);
+    tally.judge(rt, "a missing batch of the first", is_right);
+    let second = Compared {
+        second: missing,
+        ..agreed(0, 0)
+    };
+    let is_right = agrees(rt, NOTHING, MISSING, false, &second);
+    tally.judge(rt, "a missing batch of the second", is_right);
+}
+
+// ---- what keeps feeds from counting whole
+
+// Two scripts whose feeds are judged, and are not.
+fn try_judged<R>(rt: &R, one: &str, other: &str, wanted: &Compared, tally: &mut Tally)
+where
+    R: AllocGlobal + Eprint + Threads + Wait + Sync,
+{
+    let is_right = agrees(rt, one, other, true, wanted);
+    tally.judge(rt, "flaws of feeds that are compared", is_right);
+    let unjudged = Compared {
+        first_flaw: None,
+        second_flaw: None,
+        ..*wanted
+    };
+    let is_right = agrees(rt, one, other, false, &unjudged);
+    tally.judge(rt, "flaws that are not asked for", is_right);
+}
+
+// A feed that orders nothing and one with this missing batch and this flaw, in both orders.
+fn try_flaw<R>(
+    rt: &R,
+    other: &str,
+    missing: Option<Digest32>,
+    flaw: Option<Flaw>,
+    tally: &mut Tally,
+)
+where
+    R: AllocGlobal + Eprint + Threads + Wait + Sync,
+{
+    let nothing = Some(Flaw::NothingOrdered);
+    let wanted = Compared {
+        second: missing,
+        first_flaw: nothing,
+        second_flaw: flaw,
+        ..agreed(0, 0)
+    };
+    try_judged(rt, NOTHING, other, &wanted, tally);
+    let wanted = Compared {
+        first: missing,
+        first_flaw: flaw,
+        second_flaw: nothing,
+        ..agreed(0, 0)
+    };
+    try_judged(rt, other, NOTHING, &wanted, tally);
+}
+
+fn try_flaws<R>(rt: &R, digest: Digest32, tally: &mut Tally)
+where
+    R: AllocGlobal + Eprint + Threads + Wait + Sync,
+{
+    try_flaw(rt, ONE_COMMIT, None, None, tally);
+    try_flaw(rt, NOTHING, None, Some(Flaw::NothingOrdered), tally);
+    try_flaw(
+        rt,
+        MISSING,
+        Some(digest),
+        Some(Flaw::Missing { digest }),
+        tally,
+    );
+    try_flaw(
+        rt,
+        REJECTED,
+        None,
+        Some(Flaw::Rejected { frames: 1 }),
+        tally,
+    );
+    try_flaw(rt, WAITING, None, Some(Flaw::Waiting { certs: 1 }), tally);
 }
 
 // ---- feeds that differ
@@ -214,25 +226,18 @@ fn stops<R>(rt: &R, one: &[u8], other: &[u8], differ: &Differ) -> bool
 where
     R: AllocGlobal + Threads + Wait + Sync,
 {
-    let left = compared(rt, one, other, ALL);
+    let left = compared(rt, one, other, ALL, false);
     left.is_stop(&CompareStop::Differ(*differ)) && left.unread == 0
 }
 
-// The same in both orders.
-fn differs_from<R>(rt: &R, one: &[u8], other: &str, differ: &Differ) -> Result<bool>
-where
-    R: AllocGlobal + Threads + Wait + Sync,
-{
-    let other = made(rt.alloc(), other)?;
-    Ok(stops(rt, one, &other, differ) && stops(rt, &other, one, differ))
-}
-
+// Whether the feeds of two scripts do, in both orders.
 fn differs<R>(rt: &R, one: &str, other: &str, differ: &Differ) -> Result<bool>
 where
     R: AllocGlobal + Threads + Wait + Sync,
 {
     let one = made(rt.alloc(), one)?;
-    differs_from(rt, &one, other, differ)
+    let other = made(rt.alloc(), other)?;
+    Ok(stops(rt, &one, &other, differ) && stops(rt, &other, &one, differ))
 }
 
 // The same twins, of feeds that are compared.
@@ -259,18 +264,6 @@ const SETUPS: [(&str, SetupPart); 3] = [
     (OTHER_VERSION, SetupPart::Version),
 ];
 
-fn try_setups<R>(rt: &R, others: &[(&str, SetupPart)], tally: &mut Tally) -> Result<()>
-where
-    R: AllocGlobal + Eprint + Threads + Wait + Sync,
-{
-    for other in others {
-        let differ = Differ::Setup { part: other.1 };
-        let is_right = differs(rt, NOTHING, other.0, &differ)?;
-        tally.note(rt, "feeds of another setup", is_right);
-    }
-    Ok(())
-}
-
 // Of the first pair neither feed has twins; of the others one has, or both.
 const TWINS: [(&str, &str); 4] = [
     (ONE_COMMIT, OTHER_FIRST),
@@ -279,44 +272,34 @@ const TWINS: [(&str, &str); 4] = [
     (ROUND_ONE, ROUND_ONE),
 ];
 
-fn try_twins<R>(rt: &R, pairs: &[(&str, &str)], tally: &mut Tally) -> Result<()>
+fn try_differing<R>(rt: &R, tally: &mut Tally) -> Result<()>
 where
     R: AllocGlobal + Eprint + Threads + Wait + Sync,
 {
-    let twins = differ_of(twins_of_round_one()?);
-    for (one, other) in pairs {
-        let is_right = differs(rt, one, other, &twins)?;
-        tally.note(rt, "twins of feeds that are compared", is_right);
+    for (other, part) in SETUPS {
+        let is_right = differs(rt, NOTHING, other, &Differ::Setup { part });
+        tally.judge(rt, "feeds of another setup", is_right);
+    }
+    let twins = differ_of(twins(1, 0, ROUND_ONE_IDS)?);
+    for (one, other) in TWINS {
+        let is_right = differs(rt, one, other, &twins);
+        tally.judge(rt, "twins of feeds that are compared", is_right);
     }
     Ok(())
 }
 
 // ---- faults
 
-// Whether the first feed has this fault, and the second is not read.
-fn first_faults<R>(rt: &R, bad: &[u8], reads: usize, whole: &[u8], fault: &Fault) -> bool
-where
-    R: AllocGlobal + Threads + Wait + Sync,
-{
-    let left = compared(rt, bad, whole, (reads, EVER));
-    left.is_stop(&CompareStop::First(*fault)) && left.unread == whole.len()
-}
-
-// Whether the second feed has this fault.
-fn second_faults<R>(rt: &R, bad: &[u8], reads: usize, whole: &[u8], fault: &Fault) -> bool
-where
-    R: AllocGlobal + Threads + Wait + Sync,
-{
-    let left = compared(rt, whole, bad, (EVER, reads));
-    left.is_stop(&CompareStop::Second(*fault))
-}
-
-// Whether a feed has this fault as the first and as the second.
+// Whether a feed with so many good reads has this fault as the first, and the second is not read; and as the second.
 fn faults_in_turn<R>(rt: &R, bad: &[u8], reads: usize, whole: &[u8], fault: &Fault) -> bool
 where
     R: AllocGlobal + Threads + Wait + Sync,
 {
-    first_faults(rt, bad, reads, whole, fault) && second_faults(rt, bad, reads, whole, fault)
+    let first = compared(rt, bad, whole, (reads, EVER), false);
+    let second = compared(rt, whole, bad, (EVER, reads), false);
+    first.is_stop(&CompareStop::First(*fault))
+        && first.unread == whole.len()
+        && second.is_stop(&CompareStop::Second(*fault))
 }
 
 // A source that fails after so many reads, in the frame that begins here.
@@ -344,14 +327,15 @@ where
     Ok(())
 }
 
-/// Feeds that agree, that differ, and that have faults.
+/// Feeds that agree, that are judged, that differ, and that have faults.
 pub(crate) fn try_comparing<R>(rt: &R, tally: &mut Tally) -> Result<()>
 where
     R: AllocGlobal + Eprint + Threads + Wait + Sync,
 {
-    try_agreeing(rt, tally)?;
-    try_missing(rt, tally)?;
-    try_setups(rt, &SETUPS, tally)?;
-    try_twins(rt, &TWINS, tally)?;
+    let abc = Digest32::of(b"abc");
+    try_agreeing(rt, tally);
+    try_missing(rt, Some(abc), tally);
+    try_flaws(rt, abc, tally);
+    try_differing(rt, tally)?;
     try_faults(rt, tally)
 }

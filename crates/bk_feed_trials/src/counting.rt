@@ -1,11 +1,12 @@
 //! Sources that keep count of what they are asked for: at most 65,536 bytes at once, and all bytes to the end.
 
-use crate::feeds::{NOTHING, ONE_COMMIT};
+use crate::feeds::{NOTHING, ONE_COMMIT, PROOF_OPENED};
 use crate::made::made;
+use crate::queries::{Row, asked};
 use anyhow::Result;
 use bk_frames::Counted;
 use bk_pool::Open;
-use bk_replay::{Agreed, Query, Reply, Status, ask, compare, replay};
+use bk_replay::{Agreed, Query, Reply, Status, compare, replay};
 use bk_trial_kit::{Device, Reader, Tally, part};
 use std::alloc::Global;
 use std::sync::Wait;
@@ -26,9 +27,6 @@ const WIDE: &str =
 
 const REPORT: &str =
     "members 1 faulty 0 quorum 1\nframes 5\nanchor 1 0\ncert 1 0\nbatch 0 void\naccount 1 100 0\naccount 2 50 0\nmoney 150\nstate 58adcc856b347f0dd4813ad33cdb8253d78a0cd40d3f41ac066bce24d28a8a5d\n";
-
-const PROOF: &str =
-    "state 58adcc856b347f0dd4813ad33cdb8253d78a0cd40d3f41ac066bce24d28a8a5d\nsize 2\nindex 1\naccount 2 50 0\npath 5b2d207a8426e99fad298132eb18de130e9a23498b86f98b5f1778476ede759d\n";
 
 fn put_batch(alloc: Global, feed: &mut Vec<u8>) -> Result<()> {
     feed.extend_from_slice(b"\x04\x00\x03\x0d\x40")?;
@@ -65,21 +63,13 @@ where
     is_little && end.ok() == Some(Status::Whole) && text.as_slice() == REPORT.as_bytes()
 }
 
-fn asks_little<R>(rt: &R, feed: &[u8], most: usize, query: &Query, wanted: (Reply, &str)) -> bool
+fn asks_little<R>(rt: &R, feed: &[u8], most: usize, (query, reply, text): Row) -> bool
 where
     R: AllocGlobal + Threads + Wait + Sync,
 {
-    let alloc: Global = rt.alloc();
     let mut source = Counted::new(Reader::new(feed, Device::good(most)));
-    let mut sink = Counted::new(Vec::new(alloc));
-    let replied = ask(rt, alloc, &mut source, &mut sink, *query, 2, &Open);
-    let text = sink.into_inner();
-    let is_little = is_little(source);
-    let is_reply = match replied {
-        Ok(replied) => replied.reply == wanted.0,
-        Err(_) => false,
-    };
-    is_little && is_reply && text.as_slice() == wanted.1.as_bytes()
+    let left = asked(rt, &mut source, &query, 2, Device::good(usize::MAX));
+    is_little(source) && left.is_reply(reply, text)
 }
 
 fn agreed(certs: usize, places: usize) -> Agreed {
@@ -98,84 +88,50 @@ where
     first && second && agreed.ok() == Some(wanted)
 }
 
-const QUERIES: [(Query, Reply, &str); 5] = [
+const QUERIES: [Row; 5] = [
     (Query::Order, Reply::Found, "anchor 1 0\ncert 1 0\n"),
     (Query::Account { id: 1 }, Reply::Found, "account 1 100 0\n"),
     (Query::Receipt { place: 0 }, Reply::Absent, ""),
-    (Query::Proof { id: 2 }, Reply::Found, PROOF),
+    (Query::Proof { id: 2 }, Reply::Found, PROOF_OPENED),
     (Query::Proof { id: 3 }, Reply::Absent, ""),
 ];
 
-fn try_step<R>(
-    rt: &R,
-    wide: &[u8],
-    most: usize,
-    queries: &[(Query, Reply, &str)],
-    tally: &mut Tally,
-)
+fn try_wide<R>(rt: &R, wide: &[u8], tally: &mut Tally)
 where
     R: AllocGlobal + Eprint + Threads + Wait + Sync,
 {
-    let is_right = replays_little(rt, wide, most);
-    tally.note(rt, "a replay of a wide batch", is_right);
-    for (query, reply, text) in queries {
-        let is_right = asks_little(rt, wide, most, query, (*reply, text));
-        tally.note(rt, "a query of a wide batch", is_right);
-    }
-}
-
-fn try_wide<R>(rt: &R, wide: &[u8], steps: &[usize], tally: &mut Tally)
-where
-    R: AllocGlobal + Eprint + Threads + Wait + Sync,
-{
-    for most in steps {
-        try_step(rt, wide, *most, &QUERIES, tally);
+    for most in STEPS {
+        let is_right = replays_little(rt, wide, most);
+        tally.note(rt, "a replay of a wide batch", is_right);
+        for row in QUERIES {
+            let is_right = asks_little(rt, wide, most, row);
+            tally.note(rt, "a query of a wide batch", is_right);
+        }
     }
 }
 
 // Two feeds in pieces of each of these sizes.
-fn try_pair<R>(
-    rt: &R,
-    (one, other): (&[u8], &[u8]),
-    agreed: Agreed,
-    steps: &[usize],
-    tally: &mut Tally,
-)
+fn try_pair<R>(rt: &R, (one, other): (&[u8], &[u8]), agreed: Agreed, tally: &mut Tally)
 where
     R: AllocGlobal + Eprint + Threads + Wait + Sync,
 {
-    for most in steps {
-        let is_right = compares_little(rt, one, other, *most, agreed);
+    for most in STEPS {
+        let is_right = compares_little(rt, one, other, most, agreed);
         tally.note(rt, "two feeds in pieces", is_right);
     }
 }
 
 // The void batch holds no place, and a feed of no certificates has an order that begins each other one.
-fn try_pairs<R>(rt: &R, wide: &[u8], none: &[u8], tally: &mut Tally)
-where
-    R: AllocGlobal + Eprint + Threads + Wait + Sync,
-{
-    let (ordered, nothing) = (agreed(1, 0), agreed(0, 0));
-    try_pair(rt, (wide, wide), ordered, &STEPS, tally);
-    try_pair(rt, (wide, none), nothing, &STEPS, tally);
-    try_pair(rt, (none, wide), nothing, &STEPS, tally);
-}
-
-fn try_nothing<R>(rt: &R, wide: &[u8], tally: &mut Tally) -> Result<()>
+fn try_pairs<R>(rt: &R, wide: &[u8], tally: &mut Tally) -> Result<()>
 where
     R: AllocGlobal + Eprint + Threads + Wait + Sync,
 {
     let none = made(rt.alloc(), NOTHING)?;
-    try_pairs(rt, wide, &none, tally);
-    Ok(())
-}
-
-fn try_one_commit<R>(rt: &R, tally: &mut Tally) -> Result<()>
-where
-    R: AllocGlobal + Eprint + Threads + Wait + Sync,
-{
+    try_pair(rt, (wide, wide), agreed(1, 0), tally);
+    try_pair(rt, (wide, &none), agreed(0, 0), tally);
+    try_pair(rt, (&none, wide), agreed(0, 0), tally);
     let feed = made(rt.alloc(), ONE_COMMIT)?;
-    try_pair(rt, (&feed, &feed), agreed(1, 1), &STEPS, tally);
+    try_pair(rt, (&feed, &feed), agreed(1, 1), tally);
     Ok(())
 }
 
@@ -187,7 +143,6 @@ where
     let wide = wide(rt.alloc())?;
     let is_long = wide.len() == 99 + 93 + 200_005 + 93;
     tally.note(rt, "the length of a wide feed", is_long);
-    try_wide(rt, &wide, &STEPS, tally);
-    try_nothing(rt, &wide, tally)?;
-    try_one_commit(rt, tally)
+    try_wide(rt, &wide, tally);
+    try_pairs(rt, &wide, tally)
 }

@@ -1,8 +1,10 @@
 //! How a feed ends.
 
-use bk_frames::{Counted, FaultCode, FeedFault};
+use anyhow::Result;
+use bk_frames::Counted;
 use bk_pool::Open;
-use bk_replay::{Fault, Follower, Status, replay};
+use bk_replay::{Fault, Follower, Status, apply, replay};
+use bk_trial_kit::part;
 use std::alloc::Global;
 use std::sync::Wait;
 use std::thread::Threads;
@@ -10,35 +12,26 @@ use std::thread::Threads;
 /// What the end of a feed gives, and what is written of it.
 #[derive(Drop)]
 pub(crate) struct Ended {
-    pub(crate) status: Option<Status>,
-    pub(crate) fault: Option<Fault>,
+    pub(crate) end: Result<Status, Fault>,
     pub(crate) text: Vec<u8>,
 }
 
 impl Ended {
-    fn new(end: Result<Status, Fault>, text: Vec<u8>) -> Ended {
-        match end {
-            Ok(status) => Ended {
-                status: Some(status),
-                fault: None,
-                text,
-            },
-            Err(fault) => Ended {
-                status: None,
-                fault: Some(fault),
-                text,
-            },
-        }
-    }
-
     /// Whether it is a whole report, just this.
-    pub(crate) fn is_report(&self, wanted: &str) -> bool {
-        self.status == Some(Status::Whole) && self.text.as_slice() == wanted.as_bytes()
+    pub(crate) fn is_report(&self, wanted: &[u8]) -> bool {
+        self.end == Ok(Status::Whole) && self.text.as_slice() == wanted
     }
 
     /// Whether it is this fault, and nothing is written.
     pub(crate) fn is_fault(&self, fault: &Fault) -> bool {
-        self.fault == Some(*fault) && self.text.is_empty()
+        self.end == Err(*fault) && self.text.is_empty()
+    }
+
+    /// Whether it is a whole report that ends in that of `apply` and one line more.
+    pub(crate) fn ends_in(&self, apply: &[u8]) -> bool {
+        let state = b"state ".len() + 64 + 1;
+        let before = self.text.len().saturating_sub(state);
+        self.end == Ok(Status::Whole) && part(&self.text, 0, before).ends_with(apply)
     }
 }
 
@@ -50,7 +43,8 @@ where
     let alloc: Global = rt.alloc();
     let mut sink = Counted::new(Vec::new(alloc));
     let end = follower.finish(rt, &Open, &mut sink);
-    Ended::new(end, sink.into_inner())
+    let text = sink.into_inner();
+    Ended { end, text }
 }
 
 /// Replays a feed.
@@ -63,11 +57,12 @@ where
     let mut sink = Counted::new(Vec::new(alloc));
     let workers = workers.clamp(1, 64);
     let end = replay(rt, alloc, &mut source, &mut sink, workers, &Open);
-    Ended::new(end, sink.into_inner())
+    let text = sink.into_inner();
+    Ended { end, text }
 }
 
 /// Whether a replay of a feed has just this report.
-pub(crate) fn replays<R>(rt: &R, feed: &[u8], workers: usize, wanted: &str) -> bool
+pub(crate) fn replays<R>(rt: &R, feed: &[u8], workers: usize, wanted: &[u8]) -> bool
 where
     R: AllocGlobal + Threads + Wait + Sync,
 {
@@ -75,67 +70,14 @@ where
     ended.is_report(wanted)
 }
 
-/// Whether a Follower reports just this once.
-fn reports_once<R>(rt: &R, follower: &mut Follower, wanted: &str) -> bool
-where
-    R: AllocGlobal + Threads + Wait + Sync,
-{
-    let ended = finished(rt, follower);
-    ended.is_report(wanted)
+/// The report of the batches of a feed executed one transaction at a time, in the order of the feed.
+pub(crate) fn applied(alloc: Global, feed: &[u8]) -> Result<Vec<u8>> {
+    let mut sink = Counted::new(Vec::new(alloc));
+    apply(alloc, &mut Counted::new(feed), &mut sink)?;
+    Ok(sink.into_inner())
 }
 
-/// Whether a Follower that is ended here has this fault.
-pub(crate) fn ends_in_fault<R>(rt: &R, follower: &mut Follower, fault: &Fault) -> bool
-where
-    R: AllocGlobal + Threads + Wait + Sync,
-{
-    let ended = finished(rt, follower);
-    ended.is_fault(fault)
-}
-
-/// Whether a Follower reports just this, however often its feed is ended here.
-pub(crate) fn reports<R>(rt: &R, follower: &mut Follower, wanted: &str) -> bool
-where
-    R: AllocGlobal + Threads + Wait + Sync,
-{
-    reports_once(rt, follower, wanted) && reports_once(rt, follower, wanted)
-}
-
-/// Whether a Follower takes a piece.
-pub(crate) fn takes<R>(rt: &R, follower: &mut Follower, piece: &[u8]) -> bool
-where
-    R: Threads + Sync,
-{
-    follower.feed(rt, piece).is_ok()
-}
-
-/// Whether it takes these bytes one by one.
-pub(crate) fn takes_each<R>(rt: &R, follower: &mut Follower, bytes: &[u8]) -> bool
-where
-    R: Threads + Sync,
-{
-    for byte in bytes.chunks(1) {
-        if !takes(rt, follower, byte) {
-            return false;
-        }
-    }
-    true
-}
-
-/// Whether it refuses a piece with this fault.
-pub(crate) fn refuses<R>(rt: &R, follower: &mut Follower, piece: &[u8], fault: &Fault) -> bool
-where
-    R: Threads + Sync,
-{
-    follower.feed(rt, piece).err() == Some(*fault)
-}
-
-/// A fault of a feed.
-pub(crate) fn broken(offset: u64, code: FaultCode) -> Fault {
-    Fault::Feed(FeedFault { offset, code })
-}
-
-/// The fault of a feed that ends in its frame at an offset.
-pub(crate) fn cut_at(offset: u64) -> Fault {
-    broken(offset, FaultCode::Truncated)
+/// The report of one member's feed.
+pub(crate) fn report(alloc: Global, frames: u64, lines: &str) -> Result<String> {
+    Ok(format!(in alloc; "members 1 faulty 0 quorum 1\nframes {frames}\n{lines}")?)
 }

@@ -1,15 +1,15 @@
 //! What keeps a feed that is followed from counting whole.
 
+use crate::feeds::{MISSING, NOTHING, ONE_COMMIT};
 use crate::made::made;
 use crate::tables::{Asked, Table, followed, in_pieces, judged, wide};
 use crate::tailed::{
-    MISSING, MISSING_AND_REJECTED, NOTHING, REJECTED, REJECTED_AND_WAITING, TWINS_LATER, UNVOTED,
-    WAITING, WHOLE,
+    MISSING_AND_REJECTED, REJECTED, REJECTED_AND_WAITING, TWINS_LATER, UNVOTED, WAITING,
 };
 use crate::tailing::{PIECES, TABLES};
 use anyhow::Result;
 use bk_digest::Digest32;
-use bk_results::Flaw;
+use bk_replay::Flaw;
 use bk_trial_kit::Tally;
 use std::alloc::Global;
 use std::sync::Wait;
@@ -51,7 +51,7 @@ where
     let two = Some(Flaw::Rejected { frames: 2 });
     let waits = Some(Flaw::Waiting { certs: 1 });
     let nothing = Some(Flaw::NothingOrdered);
-    try_flaw(rt, tally, table, WHOLE, &None)?;
+    try_flaw(rt, tally, table, ONE_COMMIT, &None)?;
     try_flaw(rt, tally, table, MISSING, &missing)?;
     try_flaw(rt, tally, table, REJECTED, &two)?;
     try_flaw(rt, tally, table, WAITING, &waits)?;

@@ -12,10 +12,10 @@ mod chains;
 mod comparing;
 mod counting;
 mod ended;
+mod faults;
 mod feeds;
 mod flaws;
 mod going_on;
-mod judging;
 mod made;
 mod many;
 mod meeting;
@@ -25,11 +25,11 @@ mod scheduling;
 mod slices;
 mod standing;
 mod stopped;
+mod story;
 mod tables;
 mod tailed;
 mod tailing;
 mod twins;
-mod two_commits;
 
 use crate::agreeing::try_agreeing;
 use crate::between::try_between;
@@ -38,7 +38,6 @@ use crate::comparing::try_comparing;
 use crate::counting::try_counting;
 use crate::flaws::try_flaws;
 use crate::going_on::try_going_on;
-use crate::judging::try_judging;
 use crate::many::try_many;
 use crate::meeting::try_meetings;
 use crate::pieces::try_pieces;
@@ -46,7 +45,7 @@ use crate::queries::try_queries;
 use crate::scheduling::try_schedules;
 use crate::slices::try_slices;
 use crate::standing::try_standing;
-use crate::tailing::try_all;
+use crate::tailing::try_tailing;
 use crate::twins::try_twins;
 use anyhow::Result;
 use bk_trial_kit::Tally;
@@ -74,8 +73,7 @@ where
     try_queries(rt, tally)?;
     try_between(rt, tally)?;
     try_comparing(rt, tally)?;
-    try_judging(rt, tally)?;
-    try_agreeing(rt, tally)?;
+    try_agreeing(rt, tally);
     try_schedules(rt, tally)?;
     try_counting(rt, tally)
 }
@@ -87,7 +85,7 @@ where
     let mut tally = Tally::new();
     try_followed(rt, &mut tally)?;
     try_asked(rt, &mut tally)?;
-    try_all(rt, &mut tally)?;
+    try_tailing(rt, &mut tally)?;
     try_flaws(rt, &mut tally)?;
     Ok(tally)
 }

@@ -1,12 +1,10 @@
 //! Forty batches, settled as they come and replayed, against the same batches one transaction at a time.
 
-use crate::ended::{Ended, finished, replayed, takes};
+use crate::ended::{applied, replayed};
 use crate::made::made;
+use crate::story::settles_frames;
 use anyhow::Result;
-use bk_frames::Counted;
-use bk_pool::Open;
-use bk_replay::{Follower, Status, apply};
-use bk_trial_kit::{Tally, ends_of, frame, part};
+use bk_trial_kit::{Tally, ends_of, part};
 use std::alloc::Global;
 use std::fmt::Write;
 use std::str;
@@ -14,9 +12,6 @@ use std::sync::Wait;
 use std::thread::Threads;
 
 const BATCHES: u64 = 40;
-
-// The transactions of all of them: eight times 2, 2, 2 and 1, and 4, 9 and so on to 39.
-const PLACES: usize = 8 * 7 + 172;
 
 // Account 1 pays 2 to one that comes to be by that in version Two, and that one pays 1 to account 2.
 fn put_fresh(text: &mut String, k: u64, seq: u64) -> Result<()> {
@@ -103,35 +98,30 @@ fn feed_of(alloc: Global, version: u64, others: u64) -> Result<Vec<u8>> {
 }
 
 // The certificates first, so that each batch is executed when it comes.
-fn put_turned(made: &mut Vec<u8>, feed: &[u8], ends: &[usize]) -> Result<()> {
+fn turned(alloc: Global, feed: &[u8]) -> Result<Vec<u8>> {
+    let ends = ends_of(alloc, feed)?;
     let head = ends.get(2).copied().unwrap_or(0);
     let batches = ends.get(42).copied().unwrap_or(0);
-    made.extend_from_slice(part(feed, 0, head))?;
+    let mut made = Vec::from_slice(alloc, part(feed, 0, head))?;
     made.extend_from_slice(part(feed, batches, feed.len()))?;
     made.extend_from_slice(part(feed, head, batches))?;
-    Ok(())
-}
-
-fn turned(alloc: Global, feed: &[u8], ends: &[usize]) -> Result<Vec<u8>> {
-    let mut made = Vec::new(alloc);
-    put_turned(&mut made, feed, ends)?;
     Ok(made)
 }
 
+// How many places each of these frames settles: the certificates none, and then each batch its transactions.
+fn places(alloc: Global) -> Result<Vec<usize>> {
+    let mut places = vec![in alloc; 0usize; 2]?;
+    for k in 0..BATCHES {
+        places.push(match k % 5 {
+            0 | 1 | 2 => 2,
+            3 => 1,
+            _ => k as usize,
+        })?;
+    }
+    Ok(places)
+}
+
 // ---- reports
-
-// The report of the batches executed one transaction at a time, in the order of the feed.
-fn applied(alloc: Global, feed: &[u8]) -> Result<Vec<u8>> {
-    let mut sink = Counted::new(Vec::new(alloc));
-    apply(alloc, &mut Counted::new(feed), &mut sink)?;
-    Ok(sink.into_inner())
-}
-
-// Whether the report of a run ends in that of `apply` and one line more.
-fn ends_in(run: &[u8], apply: &[u8]) -> bool {
-    let state = b"state ".len() + 64 + 1;
-    part(run, 0, run.len().saturating_sub(state)).ends_with(apply)
-}
 
 fn has_line(text: &str, line: &str) -> bool {
     for found in text.lines() {
@@ -167,132 +157,29 @@ const LINES_TWO: [&str; 5] = [
 
 // ---- runs
 
-// How many places all frames settle, one after the other. None where a frame is not taken.
-fn settled<R>(rt: &R, follower: &mut Follower, feed: &[u8], ends: &[usize]) -> Result<Option<usize>>
+fn settles<R>(rt: &R, turned: &[u8], workers: usize, wanted: &[u8]) -> Result<bool>
 where
     R: AllocGlobal + Threads + Wait + Sync,
 {
-    if !takes(rt, follower, part(feed, 0, 4)) {
-        return Ok(None);
-    }
-    let mut places = 0usize;
-    for index in 0..ends.len().saturating_sub(1) {
-        if !takes(rt, follower, frame(feed, ends, index)) {
-            return Ok(None);
-        }
-        places = places.saturating_add(follower.settle(rt, &Open)?);
-    }
-    Ok(Some(places))
+    let places = places(rt.alloc())?;
+    settles_frames(rt, workers, turned, &places, wanted)
 }
 
-fn is_whole(ended: &Ended, wanted: &[u8]) -> bool {
-    ended.status == Some(Status::Whole) && ended.text.as_slice() == wanted
-}
-
-fn ends_whole<R>(rt: &R, follower: &mut Follower, wanted: &[u8]) -> bool
-where
-    R: AllocGlobal + Threads + Wait + Sync,
-{
-    let ended = finished(rt, follower);
-    is_whole(&ended, wanted)
-}
-
-// Whether a Follower that settles each frame comes to this report, and executes each transaction in one of the settles.
-fn settles_frames<R>(
+// A feed, and the same with its certificates first, by so many workers.
+fn try_run<R>(
     rt: &R,
-    follower: &mut Follower,
-    (feed, ends): (&[u8], &[usize]),
-    wanted: &[u8],
-) -> Result<bool>
-where
-    R: AllocGlobal + Threads + Wait + Sync,
-{
-    let places = settled(rt, follower, feed, ends)?;
-    Ok(places == Some(PLACES) && ends_whole(rt, follower, wanted))
-}
-
-// The Follower is owned here alone.
-fn is_settled<R>(rt: &R, feed: (&[u8], &[usize]), workers: usize, wanted: &[u8]) -> Result<bool>
-where
-    R: AllocGlobal + Threads + Wait + Sync,
-{
-    let mut follower = Follower::new(rt.alloc(), workers.clamp(1, 64));
-    let is_right = settles_frames(rt, &mut follower, feed, wanted);
-    follower.discard();
-    is_right
-}
-
-fn settles<R>(rt: &R, feed: &[u8], workers: usize, wanted: &[u8]) -> Result<bool>
-where
-    R: AllocGlobal + Threads + Wait + Sync,
-{
-    let ends = ends_of(rt.alloc(), feed)?;
-    is_settled(rt, (feed, &ends), workers, wanted)
-}
-
-// A feed, the same with its certificates first, and the report of its batches one transaction at a time.
-#[derive(Clone, Copy)]
-struct Case<'a> {
-    feed: &'a [u8],
-    turned: &'a [u8],
-    apply: &'a [u8],
-}
-
-fn try_run<R>(rt: &R, case: Case<'_>, workers: usize, tally: &mut Tally) -> Result<()>
-where
-    R: AllocGlobal + Eprint + Threads + Wait + Sync,
-{
-    let run = replayed(rt, case.feed, workers);
-    let is_right = run.status == Some(Status::Whole) && ends_in(&run.text, case.apply);
-    tally.note(rt, "forty batches replayed", is_right);
-    let is_right = settles(rt, case.turned, workers, &run.text)?;
-    tally.note(rt, "forty batches as they come", is_right);
-    Ok(())
-}
-
-fn try_case<R>(rt: &R, case: Case<'_>, lines: &[&str], tally: &mut Tally) -> Result<()>
-where
-    R: AllocGlobal + Eprint + Threads + Wait + Sync,
-{
-    let is_right = has_lines(case.apply, lines)?;
-    tally.note(rt, "forty batches one at a time", is_right);
-    try_run(rt, case, 1, tally)?;
-    try_run(rt, case, 8, tally)
-}
-
-fn try_turned<R>(
-    rt: &R,
-    feed: &[u8],
-    turned: &[u8],
-    lines: &[&str],
+    (feed, turned): (&[u8], &[u8]),
+    apply: &[u8],
+    workers: usize,
     tally: &mut Tally,
-) -> Result<()>
+)
 where
     R: AllocGlobal + Eprint + Threads + Wait + Sync,
 {
-    let apply = applied(rt.alloc(), feed)?;
-    let case = Case {
-        feed,
-        turned,
-        apply: &apply,
-    };
-    try_case(rt, case, lines, tally)
-}
-
-fn try_ends<R>(rt: &R, feed: &[u8], ends: &[usize], lines: &[&str], tally: &mut Tally) -> Result<()>
-where
-    R: AllocGlobal + Eprint + Threads + Wait + Sync,
-{
-    let turned = turned(rt.alloc(), feed, ends)?;
-    try_turned(rt, feed, &turned, lines, tally)
-}
-
-fn try_made<R>(rt: &R, feed: &[u8], lines: &[&str], tally: &mut Tally) -> Result<()>
-where
-    R: AllocGlobal + Eprint + Threads + Wait + Sync,
-{
-    let ends = ends_of(rt.alloc(), feed)?;
-    try_ends(rt, feed, &ends, lines, tally)
+    let run = replayed(rt, feed, workers);
+    tally.note(rt, "forty batches replayed", run.ends_in(apply));
+    let is_right = settles(rt, turned, workers, &run.text);
+    tally.judge(rt, "forty batches as they come", is_right);
 }
 
 fn try_feed<R>(rt: &R, version: u64, others: u64, lines: &[&str], tally: &mut Tally) -> Result<()>
@@ -300,7 +187,13 @@ where
     R: AllocGlobal + Eprint + Threads + Wait + Sync,
 {
     let feed = feed_of(rt.alloc(), version, others)?;
-    try_made(rt, &feed, lines, tally)
+    let turned = turned(rt.alloc(), &feed)?;
+    let apply = applied(rt.alloc(), &feed)?;
+    let is_right = has_lines(&apply, lines);
+    tally.judge(rt, "forty batches one at a time", is_right);
+    try_run(rt, (&feed, &turned), &apply, 1, tally);
+    try_run(rt, (&feed, &turned), &apply, 8, tally);
+    Ok(())
 }
 
 /// Both versions, with three accounts and with some hundred.

@@ -1,13 +1,13 @@
 //! Schedules of two payments in conflict.
 
-use crate::feeds::{broken, cut_at};
+use crate::faults::{broken, cut_at};
 use crate::made::made;
 use anyhow::Result;
 use bk_base::Refused;
 use bk_frames::{Counted, FaultCode};
 use bk_replay::{Fault, ScheduleStop, apply_schedule};
 use bk_steps::{Event, ScheduleFault};
-use bk_trial_kit::{Device, Reader, Tally, Writer, part};
+use bk_trial_kit::{Device, EVER, Reader, Tally, Writer, part};
 use std::alloc::Global;
 
 // Account 1 pays 10 to account 3 if account 2 has 50, and then account 2 pays 50 to account 1. The batch begins at 123.
@@ -64,21 +64,46 @@ fn whole(alloc: Global, first: u64, second: u64) -> Result<Vec<Event>> {
 
 // ---- runs
 
+// What a list of events leaves by so many workers.
+#[derive(Drop)]
+struct Left {
+    stop: Option<ScheduleStop>,
+    text: Vec<u8>,
+}
+
+impl Left {
+    fn is_stop(&self, wanted: ScheduleStop, text: &[u8]) -> bool {
+        self.stop == Some(wanted) && self.text.as_slice() == text
+    }
+}
+
+// With so many good reads of 7 bytes and so many good writes of one.
+fn scheduled(
+    alloc: Global,
+    feed: &[u8],
+    workers: u32,
+    events: &[Event],
+    (reads, writes): (usize, usize),
+) -> Left {
+    let mut source = Counted::new(Reader::new(feed, Device::lost_after(reads, 7)));
+    let mut sink = Counted::new(Writer::new(alloc, Device::lost_after(writes, 1)));
+    let stop = apply_schedule(alloc, &mut source, &mut sink, workers, events).err();
+    let text = sink.into_inner().into_bytes();
+    Left { stop, text }
+}
+
+const ALL: (usize, usize) = (EVER, EVER);
+
 // Whether a whole run by so many workers gives the report.
 fn gives_report(alloc: Global, feed: &[u8], workers: u32, events: &[Event]) -> bool {
-    let mut sink = Counted::new(Vec::new(alloc));
-    let ended = apply_schedule(alloc, &mut Counted::new(feed), &mut sink, workers, events);
-    let is_whole = ended.is_ok();
-    let text = sink.into_inner();
-    is_whole && text.as_slice() == REPORT.as_bytes()
+    let left = scheduled(alloc, feed, workers, events, ALL);
+    left.stop.is_none() && left.text.as_slice() == REPORT.as_bytes()
 }
 
 // Whether these events stop so, and nothing is written.
 fn stops(alloc: Global, feed: &[u8], workers: u32, events: &[Event], wanted: ScheduleStop) -> bool {
-    let mut sink = Counted::new(Vec::new(alloc));
-    let stop = apply_schedule(alloc, &mut Counted::new(feed), &mut sink, workers, events).err();
-    let text = sink.into_inner();
-    stop == Some(wanted) && text.is_empty()
+    let left = scheduled(alloc, feed, workers, events, ALL);
+    left.is_stop(wanted, b"")
 }
 
 fn try_whole<R>(
@@ -145,20 +170,37 @@ where
     note_stop(rt, kept, is_right, tally)
 }
 
-// One event after so many is refused.
-fn try_refused<R>(
-    rt: &R,
-    feed: &[u8],
-    (workers, kept): (u32, usize),
-    last: Event,
-    code: Refused,
-    tally: &mut Tally,
-) -> Result<()>
+fn refused(index: usize, code: Refused) -> ScheduleFault {
+    ScheduleFault::Refused { index, code }
+}
+
+// By so many workers, after so many events of the whole run, this event is refused, for this reason.
+fn rows() -> [(u32, usize, Event, Refused); 12] {
+    [
+        (2, 0, finish(0), Refused::NotHolder),
+        (2, 0, read(0, 0), Refused::NotHolder),
+        (2, 0, claim(2, 0), Refused::NotIdle),
+        (2, 0, claim(0, 7), Refused::NotReady),
+        (2, 1, claim(0, 1), Refused::NotIdle),
+        (2, 1, read(0, 99), Refused::NotDeclared),
+        (2, 1, write(0, 0), Refused::OutOfTurn),
+        (1, 7, write(0, 2), Refused::NotDeclared),
+        (2, 8, read(0, 1), Refused::OutOfTurn),
+        (2, 8, write(0, 0), Refused::OutOfTurn),
+        (2, 8, finish(0), Refused::OutOfTurn),
+        (2, 22, claim(0, 0), Refused::NotReady),
+    ]
+}
+
+fn try_refused<R>(rt: &R, feed: &[u8], tally: &mut Tally) -> Result<()>
 where
     R: AllocGlobal + Eprint,
 {
-    let wanted = refused(kept, code);
-    try_stop(rt, feed, workers, (kept, &[last]), wanted, tally)
+    for (workers, kept, last, code) in rows() {
+        let wanted = refused(kept, code);
+        try_stop(rt, feed, workers, (kept, &[last]), wanted, tally)?;
+    }
+    Ok(())
 }
 
 // The first place cannot end before another worker, or the same one, claims the second.
@@ -168,36 +210,6 @@ where
 {
     let early = [claim(1, 1), finish(0)];
     try_stop(rt, feed, workers, (11, &early), refused(11, code), tally)
-}
-
-fn refused(index: usize, code: Refused) -> ScheduleFault {
-    ScheduleFault::Refused { index, code }
-}
-
-fn try_first<R>(rt: &R, feed: &[u8], tally: &mut Tally) -> Result<()>
-where
-    R: AllocGlobal + Eprint,
-{
-    try_refused(rt, feed, (2, 0), finish(0), Refused::NotHolder, tally)?;
-    try_refused(rt, feed, (2, 0), read(0, 0), Refused::NotHolder, tally)?;
-    try_refused(rt, feed, (2, 0), claim(2, 0), Refused::NotIdle, tally)?;
-    try_refused(rt, feed, (2, 0), claim(0, 7), Refused::NotReady, tally)?;
-    try_refused(rt, feed, (2, 1), claim(0, 1), Refused::NotIdle, tally)?;
-    try_refused(rt, feed, (2, 1), read(0, 99), Refused::NotDeclared, tally)?;
-    try_refused(rt, feed, (2, 1), write(0, 0), Refused::OutOfTurn, tally)
-}
-
-fn try_later<R>(rt: &R, feed: &[u8], tally: &mut Tally) -> Result<()>
-where
-    R: AllocGlobal + Eprint,
-{
-    try_refused(rt, feed, (1, 7), write(0, 2), Refused::NotDeclared, tally)?;
-    try_refused(rt, feed, (2, 8), read(0, 1), Refused::OutOfTurn, tally)?;
-    try_refused(rt, feed, (2, 8), write(0, 0), Refused::OutOfTurn, tally)?;
-    try_refused(rt, feed, (2, 8), finish(0), Refused::OutOfTurn, tally)?;
-    try_early(rt, feed, 2, Refused::NotReady, tally)?;
-    try_early(rt, feed, 1, Refused::NotIdle, tally)?;
-    try_refused(rt, feed, (2, 22), claim(0, 0), Refused::NotReady, tally)
 }
 
 fn try_early_ends<R>(rt: &R, feed: &[u8], tally: &mut Tally) -> Result<()>
@@ -216,21 +228,15 @@ where
 
 // A source that fails at once.
 fn is_unread(alloc: Global, feed: &[u8], events: &[Event]) -> bool {
-    let mut source = Counted::new(Reader::new(feed, Device::lost_after(0, 7)));
-    let mut sink = Counted::new(Vec::new(alloc));
-    let stop = apply_schedule(alloc, &mut source, &mut sink, 1, events).err();
-    let unread = ScheduleStop::Fault(broken(0, FaultCode::Read));
-    let text = sink.into_inner();
-    stop == Some(unread) && text.is_empty()
+    let left = scheduled(alloc, feed, 1, events, (0, EVER));
+    left.is_stop(ScheduleStop::Fault(broken(0, FaultCode::Read)), b"")
 }
 
 // A sink that fails after five bytes.
 fn is_unwritten(alloc: Global, feed: &[u8], events: &[Event]) -> bool {
-    let mut sink = Counted::new(Writer::new(alloc, Device::lost_after(5, 1)));
-    let stop = apply_schedule(alloc, &mut Counted::new(feed), &mut sink, 1, events).err();
-    let unwritten = ScheduleStop::Fault(Fault::Write { written: 5 });
-    let text = sink.into_inner().into_bytes();
-    stop == Some(unwritten) && text.as_slice() == b"batch".as_slice()
+    let left = scheduled(alloc, feed, 1, events, (EVER, 5));
+    let fault = Fault::Write { written: 5 };
+    left.is_stop(ScheduleStop::Fault(fault), b"batch")
 }
 
 fn try_devices<R>(rt: &R, feed: &[u8], tally: &mut Tally) -> Result<()>
@@ -256,8 +262,9 @@ where
     try_whole(rt, feed, 1, (0, 0), tally)?;
     try_whole(rt, feed, 2, (1, 0), tally)?;
     try_whole(rt, feed, 64, (63, 17), tally)?;
-    try_first(rt, feed, tally)?;
-    try_later(rt, feed, tally)?;
+    try_refused(rt, feed, tally)?;
+    try_early(rt, feed, 2, Refused::NotReady, tally)?;
+    try_early(rt, feed, 1, Refused::NotIdle, tally)?;
     try_early_ends(rt, feed, tally)?;
     try_devices(rt, feed, tally)
 }

@@ -1,11 +1,10 @@
 //! Orders of batches that grow while they are executed, and that have more transactions than a slice.
 
-use crate::ended::{replays, reports, takes};
+use crate::ended::replays;
 use crate::made::made;
+use crate::story::settles_frames;
 use anyhow::Result;
-use bk_pool::Open;
-use bk_replay::Follower;
-use bk_trial_kit::{Tally, ends_of, frame, part, with_frames};
+use bk_trial_kit::{Tally, with_frames};
 use std::alloc::Global;
 use std::fmt::Write;
 use std::sync::Wait;
@@ -117,59 +116,7 @@ fn report_of(alloc: Global, malformed: usize) -> Result<String> {
 
 // ---- growing orders
 
-// Whether a frame settles so many places.
-fn settles_frame<R>(rt: &R, follower: &mut Follower, bytes: &[u8], places: usize) -> bool
-where
-    R: AllocGlobal + Threads + Wait + Sync,
-{
-    takes(rt, follower, bytes) && follower.settle(rt, &Open).ok() == Some(places)
-}
-
-// Whether each frame after the genesis settles so many places, and this report is written.
-fn settles_frames<R>(
-    rt: &R,
-    follower: &mut Follower,
-    (feed, ends): (&[u8], &[usize]),
-    places: &[usize],
-    wanted: &str,
-) -> bool
-where
-    R: AllocGlobal + Threads + Wait + Sync,
-{
-    let head = ends.get(2).copied().unwrap_or(0);
-    let mut index = 2usize;
-    if !takes(rt, follower, part(feed, 0, head)) {
-        return false;
-    }
-    for settled in places {
-        if !settles_frame(rt, follower, frame(feed, ends, index), *settled) {
-            return false;
-        }
-        index = index.saturating_add(1);
-    }
-    reports(rt, follower, wanted)
-}
-
-// The Follower is owned here alone.
-fn is_settled<R>(rt: &R, feed: (&[u8], &[usize]), places: &[usize], wanted: &str) -> bool
-where
-    R: AllocGlobal + Threads + Wait + Sync,
-{
-    let mut follower = Follower::new(rt.alloc(), 2);
-    let is_right = settles_frames(rt, &mut follower, feed, places, wanted);
-    follower.discard();
-    is_right
-}
-
-fn settles<R>(rt: &R, feed: &[u8], places: &[usize], wanted: &str) -> Result<bool>
-where
-    R: AllocGlobal + Threads + Wait + Sync,
-{
-    let ends = ends_of(rt.alloc(), feed)?;
-    Ok(is_settled(rt, (feed, &ends), places, wanted))
-}
-
-// The same with the frames in another order.
+// Whether these frames settle so many places, and this report is written.
 fn settles_turned<R>(
     rt: &R,
     feed: &[u8],
@@ -181,7 +128,7 @@ where
     R: AllocGlobal + Threads + Wait + Sync,
 {
     let turned = with_frames(rt.alloc(), feed, order)?;
-    settles(rt, &turned, places, wanted)
+    settles_frames(rt, 2, &turned, places, wanted.as_bytes())
 }
 
 // How many places the first batches have.
@@ -194,67 +141,22 @@ fn places_of(first: usize, malformed: usize) -> usize {
     }
 }
 
-// Batches that come before the certificates are settled with rounds 2 and 4.
-fn settles_late<R>(
-    rt: &R,
-    feed: &[u8],
-    (first, malformed): (usize, usize),
-    wanted: &str,
-) -> Result<bool>
-where
-    R: AllocGlobal + Threads + Wait + Sync,
-{
-    let front = places_of(first, malformed);
-    let back = places_of(4, malformed).saturating_sub(front);
-    let places = [0, 0, 0, 0, 0, front, 0, back];
-    settles_turned(rt, feed, &BATCHES_FIRST, &places, wanted)
-}
-
-// Those that come after them are settled at once.
-fn settles_at_once<R>(rt: &R, feed: &[u8], malformed: usize, wanted: &str) -> Result<bool>
-where
-    R: AllocGlobal + Threads + Wait + Sync,
-{
-    let places = [0, 0, 0, 0, 2, 0, malformed, 2];
-    settles_turned(rt, feed, &CERTS_FIRST, &places, wanted)
-}
-
-fn try_both<R>(
-    rt: &R,
-    feed: &[u8],
-    (first, malformed): (usize, usize),
-    wanted: &str,
-    tally: &mut Tally,
-) -> Result<()>
-where
-    R: AllocGlobal + Eprint + Threads + Wait + Sync,
-{
-    let is_right = settles_late(rt, feed, (first, malformed), wanted)?;
-    tally.note(rt, "batches before certificates", is_right);
-    let is_right = settles_at_once(rt, feed, malformed, wanted)?;
-    tally.note(rt, "batches after certificates", is_right);
-    Ok(())
-}
-
-fn try_feed<R>(
-    rt: &R,
-    feed: &[u8],
-    (first, malformed): (usize, usize),
-    tally: &mut Tally,
-) -> Result<()>
-where
-    R: AllocGlobal + Eprint + Threads + Wait + Sync,
-{
-    let wanted = report_of(rt.alloc(), malformed)?;
-    try_both(rt, feed, (first, malformed), wanted.as_str(), tally)
-}
-
+// Batches that come before the certificates are settled with rounds 2 and 4, and those that come after them at once.
 fn try_growing<R>(rt: &R, first: usize, malformed: usize, tally: &mut Tally) -> Result<()>
 where
     R: AllocGlobal + Eprint + Threads + Wait + Sync,
 {
     let feed = feed_of(rt.alloc(), first, malformed)?;
-    try_feed(rt, &feed, (first, malformed), tally)
+    let wanted = report_of(rt.alloc(), malformed)?;
+    let front = places_of(first, malformed);
+    let back = places_of(4, malformed).saturating_sub(front);
+    let late = [0, 0, 0, 0, 0, front, 0, back];
+    let is_right = settles_turned(rt, &feed, &BATCHES_FIRST, &late, &wanted);
+    tally.judge(rt, "batches before certificates", is_right);
+    let at_once = [0, 0, 0, 0, 2, 0, malformed, 2];
+    let is_right = settles_turned(rt, &feed, &CERTS_FIRST, &at_once, &wanted);
+    tally.judge(rt, "batches after certificates", is_right);
+    Ok(())
 }
 
 // ---- whole orders
@@ -264,18 +166,9 @@ where
     R: AllocGlobal + Eprint + Threads + Wait + Sync,
 {
     for count in workers {
-        let is_right = replays(rt, feed, *count, wanted);
+        let is_right = replays(rt, feed, *count, wanted.as_bytes());
         tally.note(rt, "a replay of four batches", is_right);
     }
-}
-
-fn try_whole_feed<R>(rt: &R, feed: &[u8], malformed: usize, tally: &mut Tally) -> Result<()>
-where
-    R: AllocGlobal + Eprint + Threads + Wait + Sync,
-{
-    let wanted = report_of(rt.alloc(), malformed)?;
-    try_workers(rt, feed, wanted.as_str(), &[1, 2, 8], tally);
-    Ok(())
 }
 
 fn try_whole<R>(rt: &R, malformed: usize, tally: &mut Tally) -> Result<()>
@@ -283,7 +176,9 @@ where
     R: AllocGlobal + Eprint + Threads + Wait + Sync,
 {
     let feed = feed_of(rt.alloc(), 4, malformed)?;
-    try_whole_feed(rt, &feed, malformed, tally)
+    let wanted = report_of(rt.alloc(), malformed)?;
+    try_workers(rt, &feed, &wanted, &[1, 2, 8], tally);
+    Ok(())
 }
 
 /// Few malformed transactions, and so many that they fill a slice.

@@ -1,15 +1,15 @@
 //! Faults of a feed and of a sink, which every later call gives again.
 
-use crate::ended::{broken, refuses, takes, takes_each};
+use crate::faults::broken;
+use crate::feeds::TWO_COMMITS;
 use crate::made::made;
 use crate::stopped::is_refused;
-use crate::two_commits::TWO_COMMITS;
+use crate::story::{Step, follows};
 use anyhow::Result;
 use bk_frames::{Counted, FaultCode};
 use bk_pool::Open;
 use bk_replay::{Fault, Follower};
-use bk_trial_kit::{Tally, part};
-use std::io::{self, ErrorKind, Write};
+use bk_trial_kit::{Device, Tally, Writer, part};
 use std::sync::Wait;
 use std::thread::Threads;
 
@@ -38,25 +38,28 @@ const TAILS: [(usize, &[u8], u64, FaultCode); 20] = [
     (625, b"\x04\xff\xff\xff\xff", 625, FaultCode::Length),
 ];
 
-// Whether these bytes are refused, and so are those that would have been right.
-fn refuses_both<R>(rt: &R, follower: &mut Follower, last: &[u8], rest: &[u8], fault: &Fault) -> bool
-where
-    R: AllocGlobal + Threads + Wait + Sync,
-{
-    refuses(rt, follower, last, fault)
-        && refuses(rt, follower, rest, fault)
-        && is_refused(rt, follower, fault)
-}
-
-// Whether the bytes of a tail are taken one by one up to the last one, which is refused.
-fn refuses_tail<R>(rt: &R, follower: &mut Follower, tail: &[u8], rest: &[u8], fault: &Fault) -> bool
+// Whether the bytes of a tail are taken one by one up to the last one, which is refused, and so are the bytes that would
+// have been right. This comes after the bytes that this step takes, and one more step.
+fn stands<R>(
+    rt: &R,
+    front: (Step<'_>, Step<'_>),
+    (tail, rest): (&[u8], &[u8]),
+    fault: Fault,
+) -> bool
 where
     R: AllocGlobal + Threads + Wait + Sync,
 {
     let last = tail.len().saturating_sub(1);
-    takes_each(rt, follower, part(tail, 0, last))
-        && takes(rt, follower, b"")
-        && refuses_both(rt, follower, part(tail, last, tail.len()), rest, fault)
+    let story = [
+        front.0,
+        front.1,
+        Step::TakesEach(part(tail, 0, last)),
+        Step::Takes(b""),
+        Step::Refuses(part(tail, last, tail.len()), fault),
+        Step::Refuses(rest, fault),
+        Step::Stands(fault),
+    ];
+    follows(rt, 2, &story)
 }
 
 // How many places a settle executes after so many bytes of the feed.
@@ -70,42 +73,6 @@ fn places_at(kept: usize) -> usize {
     2
 }
 
-// Whether the bytes before a tail are taken at once and settled, or one by one.
-fn takes_front<R>(rt: &R, follower: &mut Follower, front: &[u8], settles: bool) -> bool
-where
-    R: AllocGlobal + Threads + Wait + Sync,
-{
-    if settles {
-        return takes(rt, follower, front)
-            && follower.settle(rt, &Open).ok() == Some(places_at(front.len()));
-    }
-    takes_each(rt, follower, front)
-}
-
-fn is_standing<R>(
-    rt: &R,
-    follower: &mut Follower,
-    (front, tail, rest): (&[u8], &[u8], &[u8]),
-    settles: bool,
-    fault: &Fault,
-) -> bool
-where
-    R: AllocGlobal + Threads + Wait + Sync,
-{
-    takes_front(rt, follower, front, settles) && refuses_tail(rt, follower, tail, rest, fault)
-}
-
-// The Follower is owned here alone.
-fn stands<R>(rt: &R, pieces: (&[u8], &[u8], &[u8]), settles: bool, fault: &Fault) -> bool
-where
-    R: AllocGlobal + Threads + Wait + Sync,
-{
-    let mut follower = Follower::new(rt.alloc(), 2);
-    let is_right = is_standing(rt, &mut follower, pieces, settles, fault);
-    follower.discard();
-    is_right
-}
-
 fn note_tail<R>(rt: &R, kept: usize, is_right: bool, tally: &mut Tally) -> Result<()>
 where
     R: AllocGlobal + Eprint,
@@ -115,20 +82,23 @@ where
     Ok(())
 }
 
+// The bytes before a tail are taken one by one, or at once and settled.
 fn try_tail<R>(
     rt: &R,
     feed: &[u8],
     (kept, tail): (usize, &[u8]),
-    fault: &Fault,
+    fault: Fault,
     tally: &mut Tally,
 ) -> Result<()>
 where
     R: AllocGlobal + Eprint + Threads + Wait + Sync,
 {
-    let pieces = (part(feed, 0, kept), tail, part(feed, kept, feed.len()));
-    let is_right = stands(rt, pieces, false, fault);
+    let (front, rest) = (part(feed, 0, kept), part(feed, kept, feed.len()));
+    let slow = (Step::TakesEach(front), Step::Takes(b""));
+    let is_right = stands(rt, slow, (tail, rest), fault);
     note_tail(rt, kept, is_right, tally)?;
-    let is_right = stands(rt, pieces, true, fault);
+    let settled = (Step::Takes(front), Step::Settles(places_at(kept)));
+    let is_right = stands(rt, settled, (tail, rest), fault);
     note_tail(rt, kept, is_right, tally)
 }
 
@@ -143,38 +113,23 @@ where
 {
     for (kept, tail, offset, code) in tails {
         let fault = broken(*offset, *code);
-        try_tail(rt, feed, (*kept, tail), &fault, tally)?;
+        try_tail(rt, feed, (*kept, tail), fault, tally)?;
     }
     Ok(())
 }
 
 // ---- sinks
 
-// Takes nothing, and fails.
-#[derive(Clone, Copy)]
-struct Full;
-
-impl Write for Full {
-    fn write(&mut self, _buf: &[u8]) -> io::Result<usize> {
-        Err(io::Error::from(ErrorKind::Other))
-    }
-
-    fn flush(&mut self) -> io::Result<()> {
-        Ok(())
-    }
-}
-
 // Whether a report cannot be written to a sink that fails at once, and every later call gives that again.
 fn fails_to_write<R>(rt: &R, follower: &mut Follower, feed: &[u8]) -> bool
 where
     R: AllocGlobal + Threads + Wait + Sync,
 {
-    if !takes(rt, follower, feed) {
-        return false;
-    }
-    let mut sink = Counted::new(Full);
+    let is_taken = follower.feed(rt, feed).is_ok();
+    let mut sink = Counted::new(Writer::new(rt.alloc(), Device::lost_after(0, 1)));
     let fault = Fault::Write { written: 0 };
-    follower.finish(rt, &Open, &mut sink).err() == Some(fault) && is_refused(rt, follower, &fault)
+    let end = follower.finish(rt, &Open, &mut sink);
+    is_taken && end == Err(fault) && is_refused(rt, follower, &fault)
 }
 
 fn keeps_failure<R>(rt: &R, feed: &[u8]) -> bool

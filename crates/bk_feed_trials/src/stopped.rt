@@ -1,13 +1,30 @@
 //! Followers that give a fault.
 
-use crate::ended::{ends_in_fault, refuses};
+use crate::ended::finished;
 use bk_pool::Open;
 use bk_replay::{Fault, Follower};
 use std::sync::Wait;
 use std::thread::Threads;
 
-// Whether nothing is settled.
-fn settles_nothing<R>(rt: &R, follower: &mut Follower, fault: &Fault) -> bool
+/// Whether a Follower refuses a piece with this fault.
+pub(crate) fn refuses<R>(rt: &R, follower: &mut Follower, piece: &[u8], fault: &Fault) -> bool
+where
+    R: Threads + Sync,
+{
+    follower.feed(rt, piece).err() == Some(*fault)
+}
+
+/// Whether its feed, if it ends here, has this fault, and nothing is written.
+pub(crate) fn ends_in_fault<R>(rt: &R, follower: &mut Follower, fault: &Fault) -> bool
+where
+    R: AllocGlobal + Threads + Wait + Sync,
+{
+    let ended = finished(rt, follower);
+    ended.is_fault(fault)
+}
+
+/// Whether nothing is settled, with this fault.
+pub(crate) fn settles_nothing<R>(rt: &R, follower: &mut Follower, fault: &Fault) -> bool
 where
     R: AllocGlobal + Threads + Wait + Sync,
 {

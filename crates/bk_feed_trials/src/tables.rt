@@ -4,7 +4,7 @@ use anyhow::Result;
 use bk_follow::answer_by_ledger;
 use bk_frames::Counted;
 use bk_pool::Open;
-use bk_results::{Fault, Flaw, Status};
+use bk_replay::{Fault, Flaw, Status};
 use bk_tables::{Accounts, Postings, Transactions};
 use bk_tail::{tail_postings, tail_transactions};
 use bk_trial_kit::{Device, Reader, Writer};

@@ -1,13 +1,12 @@
 //! Feeds that are followed in pieces, cut, broken and stopped, and over devices that fail.
 
+use crate::feeds::{MISSING, NOTHING};
 use crate::made::made;
 use crate::tables::{Asked, Table, followed, in_pieces, whole, wide};
-use crate::tailed::{
-    MISSING, NOTHING, ONE_COMMIT, ONE_COMMIT_TWO, TWINS_LATER, TWO_COMMITS, TWO_COMMITS_TWO,
-};
+use crate::tailed::{FOUR_MEMBERS, FOUR_MEMBERS_TWO, SWEPT, SWEPT_TWO, TWINS_LATER};
 use anyhow::Result;
 use bk_frames::{FaultCode, FeedFault};
-use bk_results::Fault;
+use bk_replay::{Fault, Status};
 use bk_trial_kit::{Device, Reader, Tally};
 use std::alloc::Global;
 use std::sync::Wait;
@@ -23,11 +22,11 @@ const NAMED: [Option<u64>; 3] = [None, Some(9), Some(77)];
 pub(crate) const TABLES: [Table; 2] = [Table::Transactions, Table::Postings];
 
 const FEEDS: [&str; 6] = [
-    ONE_COMMIT,
-    ONE_COMMIT_TWO,
+    FOUR_MEMBERS,
+    FOUR_MEMBERS_TWO,
     NOTHING,
-    TWO_COMMITS,
-    TWO_COMMITS_TWO,
+    SWEPT,
+    SWEPT_TWO,
     MISSING,
 ];
 
@@ -65,7 +64,7 @@ where
 }
 
 // Whether a fault is this one of the feed.
-fn is_fault(end: &Result<bk_results::Status, Fault>, code: FaultCode) -> bool {
+fn is_fault(end: &Result<Status, Fault>, code: FaultCode) -> bool {
     match end {
         Err(Fault::Feed(FeedFault { code: found, .. })) => *found == code,
         _ => false,
@@ -179,17 +178,17 @@ where
     R: AllocGlobal + Eprint + Threads + Wait + Sync,
 {
     let asked = Asked { table, named: None };
-    try_cuts(rt, tally, asked, TWO_COMMITS)?;
-    try_cuts(rt, tally, asked, TWO_COMMITS_TWO)?;
-    try_fault(rt, tally, asked, TWO_COMMITS)?;
+    try_cuts(rt, tally, asked, SWEPT)?;
+    try_cuts(rt, tally, asked, SWEPT_TWO)?;
+    try_fault(rt, tally, asked, SWEPT)?;
     try_fault(rt, tally, asked, MISSING)?;
     try_twins(rt, tally, asked)?;
-    try_sinks(rt, tally, asked, TWO_COMMITS)?;
+    try_sinks(rt, tally, asked, SWEPT)?;
     Ok(())
 }
 
-/// All of them.
-pub(crate) fn try_all<R>(rt: &R, tally: &mut Tally) -> Result<()>
+/// Both tables of all feeds.
+pub(crate) fn try_tailing<R>(rt: &R, tally: &mut Tally) -> Result<()>
 where
     R: AllocGlobal + Eprint + Threads + Wait + Sync,
 {
