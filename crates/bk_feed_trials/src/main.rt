@@ -1,6 +1,7 @@
 //! Follows, replays, asks, compares and tails feeds that chosen scripts make: in pieces, with ends between them, past
 //! faults and twins, by several workers, and over devices that give little, fail and keep count; and compares what comes
-//! of them with what was worked out by hand.
+//! of them with what was worked out by hand. It draws feeds too, and runs each in several ways that have to come to one
+//! answer.
 //!
 //! The digests were worked out by another program. What failed is named on standard error. The last line is
 //! `N passed, M failed`.
@@ -11,11 +12,14 @@ mod between;
 mod chains;
 mod comparing;
 mod counting;
+mod drawn;
 mod ended;
 mod faults;
 mod feeds;
 mod flaws;
 mod going_on;
+mod graphs;
+mod ledgers;
 mod made;
 mod many;
 mod meeting;
@@ -36,6 +40,7 @@ use crate::between::try_between;
 use crate::chains::try_chains;
 use crate::comparing::try_comparing;
 use crate::counting::try_counting;
+use crate::drawn::try_drawn;
 use crate::flaws::try_flaws;
 use crate::going_on::try_going_on;
 use crate::many::try_many;
@@ -87,6 +92,7 @@ where
     try_asked(rt, &mut tally)?;
     try_tailing(rt, &mut tally)?;
     try_flaws(rt, &mut tally)?;
+    try_drawn(rt, &mut tally)?;
     Ok(tally)
 }
 

@@ -38,8 +38,8 @@ const TAILS: [(usize, &[u8], u64, FaultCode); 20] = [
     (625, b"\x04\xff\xff\xff\xff", 625, FaultCode::Length),
 ];
 
-// Whether the bytes of a tail are taken one by one up to the last one, which is refused, and so are the bytes that would
-// have been right. This comes after the bytes that this step takes, and one more step.
+// Whether, after two steps that give the bytes before a tail, the tail is taken byte by byte up to its last one, which is
+// refused, and so are the bytes that would have been right.
 fn stands<R>(
     rt: &R,
     front: (Step<'_>, Step<'_>),
