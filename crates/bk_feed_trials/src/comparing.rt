@@ -32,6 +32,11 @@ const WAITING: &str =
 
 // ---- what is left
 
+// The missing batch of each feed, and what keeps each from counting whole.
+type Gaps<'a> = (&'a Option<Digest32>, &'a Option<Digest32>);
+
+type Flaws<'a> = (&'a Option<Flaw>, &'a Option<Flaw>);
+
 // What comparing leaves, and how many bytes of the second feed were not read.
 #[derive(Clone, Copy)]
 struct Left {
@@ -40,10 +45,17 @@ struct Left {
 }
 
 impl Left {
-    // Whether the feeds agree so, and the second is read to its end.
-    fn is_agreed(&self, wanted: &Compared) -> bool {
+    // Whether the feeds agree so far, and the second is read to its end.
+    fn is_agreed(&self, certs: usize, places: usize, gaps: Gaps<'_>, flaws: Flaws<'_>) -> bool {
         match &self.end {
-            Ok(found) => is_same(found, wanted) && self.unread == 0,
+            Ok(found) => {
+                found.agreed == Agreed { certs, places }
+                    && found.first == *gaps.0
+                    && found.second == *gaps.1
+                    && found.first_flaw == *flaws.0
+                    && found.second_flaw == *flaws.1
+                    && self.unread == 0
+            }
             Err(_) => false,
         }
     }
@@ -54,14 +66,6 @@ impl Left {
             Err(stop) => stop == wanted,
         }
     }
-}
-
-fn is_same(found: &Compared, wanted: &Compared) -> bool {
-    found.agreed == wanted.agreed
-        && found.first == wanted.first
-        && found.second == wanted.second
-        && found.first_flaw == wanted.first_flaw
-        && found.second_flaw == wanted.second_flaw
 }
 
 // Compares, with so many good reads of 7 bytes of each, and judges the feeds where `strict` is set.
@@ -80,26 +84,34 @@ const ALL: (usize, usize) = (EVER, EVER);
 
 // ---- feeds that agree
 
-// Feeds that agree so far, lack no batch and are not judged.
-fn agreed(certs: usize, places: usize) -> Compared {
-    Compared {
-        agreed: Agreed { certs, places },
-        first: None,
-        second: None,
-        first_flaw: None,
-        second_flaw: None,
-    }
-}
-
-// Whether the feeds of two scripts agree so.
-fn agrees<R>(rt: &R, one: &str, other: &str, strict: bool, wanted: &Compared) -> Result<bool>
+// Whether the feeds of two scripts agree so far, where they are judged if `strict` is set.
+fn agrees<R>(
+    rt: &R,
+    (one, other): (&str, &str),
+    (certs, places): (usize, usize),
+    gaps: Gaps<'_>,
+    (strict, flaws): (bool, Flaws<'_>),
+) -> Result<bool>
 where
     R: AllocGlobal + Threads + Wait + Sync,
 {
     let one = made(rt.alloc(), one)?;
     let other = made(rt.alloc(), other)?;
     let left = compared(rt, &one, &other, ALL, strict);
-    Ok(left.is_agreed(wanted))
+    Ok(left.is_agreed(certs, places, gaps, flaws))
+}
+
+// The same of feeds that are not judged.
+fn agrees_unjudged<R>(
+    rt: &R,
+    scripts: (&str, &str),
+    agreed: (usize, usize),
+    gaps: Gaps<'_>,
+) -> Result<bool>
+where
+    R: AllocGlobal + Threads + Wait + Sync,
+{
+    agrees(rt, scripts, agreed, gaps, (false, (&None, &None)))
 }
 
 // Two scripts, and how far their feeds agree. Round 3 is committed by round 4 alone, and brings the certificates of rounds
@@ -119,52 +131,34 @@ where
     R: AllocGlobal + Eprint + Threads + Wait + Sync,
 {
     for (one, other, certs, places) in AGREEING {
-        let is_right = agrees(rt, one, other, false, &agreed(certs, places));
+        let is_right = agrees_unjudged(rt, (one, other), (certs, places), (&None, &None));
         tally.judge(rt, "feeds that agree", is_right);
     }
 }
 
 // The order of one feed, or of both, stops at a missing batch.
-fn try_missing<R>(rt: &R, missing: Option<Digest32>, tally: &mut Tally)
+fn try_missing<R>(rt: &R, missing: &Option<Digest32>, tally: &mut Tally)
 where
     R: AllocGlobal + Eprint + Threads + Wait + Sync,
 {
-    let both = Compared {
-        first: missing,
-        second: missing,
-        ..agreed(1, 1)
-    };
-    let is_right = agrees(rt, MISSING, MISSING, false, &both);
+    let is_right = agrees_unjudged(rt, (MISSING, MISSING), (1, 1), (missing, missing));
     tally.judge(rt, "a missing batch of both", is_right);
-    let first = Compared {
-        first: missing,
-        ..agreed(0, 0)
-    };
-    let is_right = agrees(rt, MISSING, NOTHING, false, &first);
+    let is_right = agrees_unjudged(rt, (MISSING, NOTHING), (0, 0), (missing, &None));
     tally.judge(rt, "a missing batch of the first", is_right);
-    let second = Compared {
-        second: missing,
-        ..agreed(0, 0)
-    };
-    let is_right = agrees(rt, NOTHING, MISSING, false, &second);
+    let is_right = agrees_unjudged(rt, (NOTHING, MISSING), (0, 0), (&None, missing));
     tally.judge(rt, "a missing batch of the second", is_right);
 }
 
 // ---- what keeps feeds from counting whole
 
 // Two scripts whose feeds are judged, and are not.
-fn try_judged<R>(rt: &R, one: &str, other: &str, wanted: &Compared, tally: &mut Tally)
+fn try_judged<R>(rt: &R, scripts: (&str, &str), gaps: Gaps<'_>, flaws: Flaws<'_>, tally: &mut Tally)
 where
     R: AllocGlobal + Eprint + Threads + Wait + Sync,
 {
-    let is_right = agrees(rt, one, other, true, wanted);
+    let is_right = agrees(rt, scripts, (0, 0), gaps, (true, flaws));
     tally.judge(rt, "flaws of feeds that are compared", is_right);
-    let unjudged = Compared {
-        first_flaw: None,
-        second_flaw: None,
-        ..*wanted
-    };
-    let is_right = agrees(rt, one, other, false, &unjudged);
+    let is_right = agrees_unjudged(rt, scripts, (0, 0), gaps);
     tally.judge(rt, "flaws that are not asked for", is_right);
 }
 
@@ -172,51 +166,46 @@ where
 fn try_flaw<R>(
     rt: &R,
     other: &str,
-    missing: Option<Digest32>,
-    flaw: Option<Flaw>,
+    missing: &Option<Digest32>,
+    flaw: &Option<Flaw>,
     tally: &mut Tally,
 )
 where
     R: AllocGlobal + Eprint + Threads + Wait + Sync,
 {
     let nothing = Some(Flaw::NothingOrdered);
-    let wanted = Compared {
-        second: missing,
-        first_flaw: nothing,
-        second_flaw: flaw,
-        ..agreed(0, 0)
-    };
-    try_judged(rt, NOTHING, other, &wanted, tally);
-    let wanted = Compared {
-        first: missing,
-        first_flaw: flaw,
-        second_flaw: nothing,
-        ..agreed(0, 0)
-    };
-    try_judged(rt, other, NOTHING, &wanted, tally);
+    try_judged(
+        rt,
+        (NOTHING, other),
+        (&None, missing),
+        (&nothing, flaw),
+        tally,
+    );
+    try_judged(
+        rt,
+        (other, NOTHING),
+        (missing, &None),
+        (flaw, &nothing),
+        tally,
+    );
 }
 
-fn try_flaws<R>(rt: &R, digest: Digest32, tally: &mut Tally)
+fn try_flaws<R>(rt: &R, missing: &Option<Digest32>, tally: &mut Tally)
 where
     R: AllocGlobal + Eprint + Threads + Wait + Sync,
 {
-    try_flaw(rt, ONE_COMMIT, None, None, tally);
-    try_flaw(rt, NOTHING, None, Some(Flaw::NothingOrdered), tally);
-    try_flaw(
-        rt,
-        MISSING,
-        Some(digest),
-        Some(Flaw::Missing { digest }),
-        tally,
-    );
+    let digest = Digest32::of(b"abc");
+    try_flaw(rt, ONE_COMMIT, &None, &None, tally);
+    try_flaw(rt, NOTHING, &None, &Some(Flaw::NothingOrdered), tally);
+    try_flaw(rt, MISSING, missing, &Some(Flaw::Missing { digest }), tally);
     try_flaw(
         rt,
         REJECTED,
-        None,
-        Some(Flaw::Rejected { frames: 1 }),
+        &None,
+        &Some(Flaw::Rejected { frames: 1 }),
         tally,
     );
-    try_flaw(rt, WAITING, None, Some(Flaw::Waiting { certs: 1 }), tally);
+    try_flaw(rt, WAITING, &None, &Some(Flaw::Waiting { certs: 1 }), tally);
 }
 
 // ---- feeds that differ
@@ -332,10 +321,10 @@ pub(crate) fn try_comparing<R>(rt: &R, tally: &mut Tally) -> Result<()>
 where
     R: AllocGlobal + Eprint + Threads + Wait + Sync,
 {
-    let abc = Digest32::of(b"abc");
+    let missing = Some(Digest32::of(b"abc"));
     try_agreeing(rt, tally);
-    try_missing(rt, Some(abc), tally);
-    try_flaws(rt, abc, tally);
+    try_missing(rt, &missing, tally);
+    try_flaws(rt, &missing, tally);
     try_differing(rt, tally)?;
     try_faults(rt, tally)
 }

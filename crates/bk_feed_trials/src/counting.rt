@@ -63,12 +63,18 @@ where
     is_little && end.ok() == Some(Status::Whole) && text.as_slice() == REPORT.as_bytes()
 }
 
-fn asks_little<R>(rt: &R, feed: &[u8], most: usize, (query, reply, text): Row) -> bool
+fn asks_little<R>(
+    rt: &R,
+    feed: &[u8],
+    most: usize,
+    query: &Query,
+    (reply, text): (Reply, &str),
+) -> bool
 where
     R: AllocGlobal + Threads + Wait + Sync,
 {
     let mut source = Counted::new(Reader::new(feed, Device::good(most)));
-    let left = asked(rt, &mut source, &query, 2, Device::good(usize::MAX));
+    let left = asked(rt, &mut source, query, 2, Device::good(usize::MAX));
     is_little(source) && left.is_reply(reply, text)
 }
 
@@ -103,8 +109,8 @@ where
     for most in STEPS {
         let is_right = replays_little(rt, wide, most);
         tally.note(rt, "a replay of a wide batch", is_right);
-        for row in QUERIES {
-            let is_right = asks_little(rt, wide, most, row);
+        for (query, reply, text) in QUERIES.iter() {
+            let is_right = asks_little(rt, wide, most, query, (*reply, *text));
             tally.note(rt, "a query of a wide batch", is_right);
         }
     }

@@ -13,12 +13,16 @@ use std::thread::Threads;
 
 // Each frame from the genesis on comes byte by byte, and then the feed is reported. A story is lent wherever it is written
 // to: a function that owns it drops it at each of its exits.
-fn put_reports<'a>(story: &mut Vec<Step<'a>>, feed: &'a [u8]) -> Result<()> {
+fn put_reports<'a>(
+    story: &mut Vec<Step<'a>>,
+    feed: &'a [u8],
+    rows: &'a [(usize, u64, &'a str)],
+) -> Result<()> {
     let mut start = 0usize;
-    for (end, frames, lines) in REPORTS {
-        story.push(Step::TakesEach(part(feed, start, end)))?;
-        story.push(Step::ReportsLines(frames, lines))?;
-        start = end;
+    for (end, frames, lines) in rows {
+        story.push(Step::TakesEach(part(feed, start, *end)))?;
+        story.push(Step::ReportsLines(*frames, lines))?;
+        start = *end;
     }
     Ok(())
 }
@@ -28,7 +32,7 @@ where
     R: AllocGlobal + Threads + Wait + Sync,
 {
     let mut story = Vec::new(rt.alloc());
-    put_reports(&mut story, feed)?;
+    put_reports(&mut story, feed, &REPORTS)?;
     Ok(follows(rt, 2, &story))
 }
 
@@ -73,7 +77,7 @@ fn put_bytes<'a>(story: &mut Vec<Step<'a>>, feed: &'a [u8], steps: &[(usize, u32
 }
 
 // Whether these steps are settled, where it settles after each byte, and this report is written.
-fn settles<R>(rt: &R, feed: &[u8], steps: &[(usize, u32)], wanted: &str) -> Result<bool>
+fn settles<'x, R>(rt: &R, feed: &'x [u8], steps: &[(usize, u32)], wanted: &'x str) -> Result<bool>
 where
     R: AllocGlobal + Threads + Wait + Sync,
 {

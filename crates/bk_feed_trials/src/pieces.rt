@@ -46,21 +46,26 @@ where
 }
 
 // Whether a feed that ends early has this fault, which its other bytes do not mend.
-fn stays_cut<R>(rt: &R, front: &[u8], rest: &[u8], fault: &Fault) -> bool
+fn stays_cut<'x, R>(rt: &R, front: &'x [u8], rest: &'x [u8], fault: &'x Fault) -> bool
 where
     R: AllocGlobal + Threads + Wait + Sync,
 {
     let story = [
         Step::Takes(front),
-        Step::Ends(*fault),
-        Step::Refuses(rest, *fault),
-        Step::Ends(*fault),
+        Step::Ends(fault),
+        Step::Refuses(rest, fault),
+        Step::Ends(fault),
     ];
     follows(rt, 2, &story) && replay_fails(rt, front, fault)
 }
 
 // Whether a feed is reported where it ends, and again after its other bytes.
-fn goes_on<R>(rt: &R, front: &[u8], rest: &[u8], (frames, lines): (u64, &str)) -> Result<bool>
+fn goes_on<'x, R>(
+    rt: &R,
+    front: &'x [u8],
+    rest: &'x [u8],
+    (frames, lines): (u64, &'x str),
+) -> Result<bool>
 where
     R: AllocGlobal + Threads + Wait + Sync,
 {

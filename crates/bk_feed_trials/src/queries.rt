@@ -123,7 +123,8 @@ where
 fn replies<R>(
     rt: &R,
     feed: &[u8],
-    (query, reply, text): Row,
+    query: &Query,
+    (reply, text): (Reply, &str),
     workers: usize,
     calls: (usize, usize),
     missing: &Option<Digest32>,
@@ -131,7 +132,7 @@ fn replies<R>(
 where
     R: AllocGlobal + Threads + Wait + Sync,
 {
-    let left = asked_over(rt, feed, &query, workers, calls);
+    let left = asked_over(rt, feed, query, workers, calls);
     left.is_reply(reply, text) && left.is_missing(missing)
 }
 
@@ -146,8 +147,9 @@ fn try_rows<R>(
 where
     R: AllocGlobal + Eprint + Threads + Wait + Sync,
 {
-    for row in rows {
-        let is_right = replies(rt, feed, *row, workers, (EVER, EVER), missing);
+    for (query, reply, text) in rows {
+        let wanted = (*reply, *text);
+        let is_right = replies(rt, feed, query, wanted, workers, (EVER, EVER), missing);
         tally.note(rt, "a reply to a query", is_right);
     }
 }
@@ -188,8 +190,8 @@ fn try_fault<R>(rt: &R, feed: &[u8], fault: &Fault, tally: &mut Tally)
 where
     R: AllocGlobal + Eprint + Threads + Wait + Sync,
 {
-    for (query, _, text) in FOUND {
-        let is_right = fails(rt, feed, &query, EVER, fault);
+    for (query, _, text) in FOUND.iter() {
+        let is_right = fails(rt, feed, query, EVER, fault);
         tally.note(rt, text, is_right);
     }
 }
@@ -206,17 +208,18 @@ where
 
 // The feed has 346 bytes: 50 reads, and one that finds its end. Each of them fails in turn, in the frame that begins
 // last among what was read.
-fn try_reads_of<R>(rt: &R, feed: &[u8], row: Row, tally: &mut Tally)
+fn try_reads_of<R>(rt: &R, feed: &[u8], query: &Query, text: &str, tally: &mut Tally)
 where
     R: AllocGlobal + Eprint + Threads + Wait + Sync,
 {
     for reads in 0..51usize {
         let read = feed.len().min(reads.saturating_mul(7));
         let fault = broken(begun_at(&ONE_COMMIT_ENDS, read), FaultCode::Read);
-        let is_right = fails(rt, feed, &row.0, reads, &fault);
+        let is_right = fails(rt, feed, query, reads, &fault);
         tally.note(rt, "a read that fails", is_right);
     }
-    let is_right = replies(rt, feed, row, 2, (51, EVER), &None);
+    let wanted = (Reply::Found, text);
+    let is_right = replies(rt, feed, query, wanted, 2, (51, EVER), &None);
     tally.note(rt, "just enough reads", is_right);
 }
 
@@ -231,16 +234,16 @@ where
 }
 
 // Each write fails in turn.
-fn try_writes_of<R>(rt: &R, feed: &[u8], row: Row, tally: &mut Tally)
+fn try_writes_of<R>(rt: &R, feed: &[u8], query: &Query, text: &str, tally: &mut Tally)
 where
     R: AllocGlobal + Eprint + Threads + Wait + Sync,
 {
-    let (query, _, text) = row;
     for writes in 0..text.len() {
-        let is_right = is_begun(rt, feed, &query, writes, text);
+        let is_right = is_begun(rt, feed, query, writes, text);
         tally.note(rt, "a write that fails", is_right);
     }
-    let is_right = replies(rt, feed, row, 1, (EVER, text.len()), &None);
+    let (wanted, calls) = ((Reply::Found, text), (EVER, text.len()));
+    let is_right = replies(rt, feed, query, wanted, 1, calls, &None);
     tally.note(rt, "just enough writes", is_right);
 }
 
@@ -252,9 +255,9 @@ where
     let is_right = has_digest(&feed, ONE_COMMIT_DIGEST);
     tally.note(rt, "the feed of one commit", is_right);
     try_fault(rt, part(&feed, 0, 345), &cut_at(253), tally);
-    for row in FOUND {
-        try_reads_of(rt, &feed, row, tally);
-        try_writes_of(rt, &feed, row, tally);
+    for (query, _, text) in FOUND.iter() {
+        try_reads_of(rt, &feed, query, text, tally);
+        try_writes_of(rt, &feed, query, text, tally);
     }
     Ok(())
 }

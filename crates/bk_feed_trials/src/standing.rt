@@ -38,21 +38,31 @@ const TAILS: [(usize, &[u8], u64, FaultCode); 20] = [
     (625, b"\x04\xff\xff\xff\xff", 625, FaultCode::Length),
 ];
 
-// Whether, after two steps that give the bytes before a tail, the tail is taken byte by byte up to its last one, which is
-// refused, and so are the bytes that would have been right.
-fn stands<R>(
+// Whether, after the bytes before a tail, which come at once and are settled, or come one by one, the tail is taken byte by
+// byte up to its last one, which is refused, and so are the bytes that would have been right.
+fn stands<'x, R>(
     rt: &R,
-    front: (Step<'_>, Step<'_>),
-    (tail, rest): (&[u8], &[u8]),
-    fault: Fault,
+    (front, tail, rest): (&'x [u8], &'x [u8], &'x [u8]),
+    settles: bool,
+    fault: &'x Fault,
 ) -> bool
 where
     R: AllocGlobal + Threads + Wait + Sync,
 {
     let last = tail.len().saturating_sub(1);
+    let first = if settles {
+        Step::Takes(front)
+    } else {
+        Step::TakesEach(front)
+    };
+    let second = if settles {
+        Step::Settles(places_at(front.len()))
+    } else {
+        Step::Takes(b"")
+    };
     let story = [
-        front.0,
-        front.1,
+        first,
+        second,
         Step::TakesEach(part(tail, 0, last)),
         Step::Takes(b""),
         Step::Refuses(part(tail, last, tail.len()), fault),
@@ -82,23 +92,20 @@ where
     Ok(())
 }
 
-// The bytes before a tail are taken one by one, or at once and settled.
 fn try_tail<R>(
     rt: &R,
     feed: &[u8],
     (kept, tail): (usize, &[u8]),
-    fault: Fault,
+    fault: &Fault,
     tally: &mut Tally,
 ) -> Result<()>
 where
     R: AllocGlobal + Eprint + Threads + Wait + Sync,
 {
-    let (front, rest) = (part(feed, 0, kept), part(feed, kept, feed.len()));
-    let slow = (Step::TakesEach(front), Step::Takes(b""));
-    let is_right = stands(rt, slow, (tail, rest), fault);
+    let pieces = (part(feed, 0, kept), tail, part(feed, kept, feed.len()));
+    let is_right = stands(rt, pieces, false, fault);
     note_tail(rt, kept, is_right, tally)?;
-    let settled = (Step::Takes(front), Step::Settles(places_at(kept)));
-    let is_right = stands(rt, settled, (tail, rest), fault);
+    let is_right = stands(rt, pieces, true, fault);
     note_tail(rt, kept, is_right, tally)
 }
 
@@ -113,7 +120,7 @@ where
 {
     for (kept, tail, offset, code) in tails {
         let fault = broken(*offset, *code);
-        try_tail(rt, feed, (*kept, tail), fault, tally)?;
+        try_tail(rt, feed, (*kept, tail), &fault, tally)?;
     }
     Ok(())
 }

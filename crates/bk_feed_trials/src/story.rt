@@ -19,11 +19,11 @@ pub(crate) enum Step<'a> {
     /// It takes these bytes in pieces of this size, and empty ones around them change nothing.
     TakesIn(&'a [u8], usize),
     /// It refuses a piece with this fault.
-    Refuses(&'a [u8], Fault),
+    Refuses(&'a [u8], &'a Fault),
     /// It settles so many places.
     Settles(usize),
     /// It settles nothing, with this fault.
-    SettlesNot(Fault),
+    SettlesNot(&'a Fault),
     /// There is a receipt just for the places before this one.
     HasReceipts(u32),
     /// Nothing is ordered.
@@ -33,11 +33,11 @@ pub(crate) enum Step<'a> {
     /// The same of a report of one member, with so many frames and these lines.
     ReportsLines(u64, &'a str),
     /// If its feed ends here, it has this fault, and nothing is written.
-    Ends(Fault),
+    Ends(&'a Fault),
     /// Every call but `feed` gives these twins, however often. The feed has no fault.
-    Stops(Fault),
+    Stops(&'a Fault),
     /// Every call gives this fault, however often.
-    Stands(Fault),
+    Stands(&'a Fault),
 }
 
 fn takes<R>(rt: &R, follower: &mut Follower, piece: &[u8]) -> bool
@@ -196,12 +196,12 @@ fn put_frames<'a>(
     Ok(())
 }
 
-fn settles_all<R>(
+fn settles_all<'x, R>(
     rt: &R,
     workers: usize,
-    feed: (&[u8], &[usize]),
+    feed: (&'x [u8], &[usize]),
     places: &[usize],
-    wanted: &[u8],
+    wanted: &'x [u8],
 ) -> Result<bool>
 where
     R: AllocGlobal + Threads + Wait + Sync,

@@ -46,15 +46,24 @@ const MEMBER_THREE: (&str, &str) = (
 type Shown = (usize, Option<usize>);
 
 // The step after a frame: these twins are shown, or where there are none, nothing is settled.
-fn shown<'a>(twins: Option<usize>, all: &[Fault]) -> Step<'a> {
+fn shown<'a>(twins: Option<usize>, all: &'a [Fault]) -> Step<'a> {
     let twins = match twins {
         Some(index) => all.get(index),
         None => None,
     };
     match twins {
-        Some(fault) => Step::Stops(*fault),
+        Some(fault) => Step::Stops(fault),
         None => Step::Settles(0),
     }
+}
+
+// Where these frames end after the head of the feed.
+fn end_of(feed: &[u8], ends: &[usize], frames: &[Shown]) -> u64 {
+    let mut end = ends.get(2).copied().unwrap_or(0);
+    for (index, _) in frames {
+        end = end.saturating_add(frame(feed, ends, *index).len());
+    }
+    end as u64
 }
 
 // Each frame, which comes byte by byte, shows the twins that are wanted; and then a frame of no kind is a fault.
@@ -62,28 +71,32 @@ fn put_shown<'a>(
     story: &mut Vec<Step<'a>>,
     (feed, ends): (&'a [u8], &[usize]),
     frames: &[Shown],
-    all: &[Fault],
+    all: &'a [Fault],
+    kind: &'a Fault,
 ) -> Result<()> {
-    let mut end = ends.get(2).copied().unwrap_or(0);
-    story.push(Step::Takes(part(feed, 0, end)))?;
+    let head = ends.get(2).copied().unwrap_or(0);
+    story.push(Step::Takes(part(feed, 0, head)))?;
     for (index, twins) in frames {
-        let bytes = frame(feed, ends, *index);
-        story.push(Step::TakesEach(bytes))?;
+        story.push(Step::TakesEach(frame(feed, ends, *index)))?;
         story.push(shown(*twins, all))?;
-        end = end.saturating_add(bytes.len());
     }
-    let fault = broken(end as u64, FaultCode::Kind);
-    story.push(Step::Refuses(b"\x09", fault))?;
-    story.push(Step::Stands(fault))?;
+    story.push(Step::Refuses(b"\x09", kind))?;
+    story.push(Step::Stands(kind))?;
     Ok(())
 }
 
-fn is_shown<R>(rt: &R, feed: (&[u8], &[usize]), frames: &[Shown], all: &[Fault]) -> Result<bool>
+fn is_shown<'x, R>(
+    rt: &R,
+    feed: (&'x [u8], &[usize]),
+    frames: &[Shown],
+    all: &'x [Fault],
+    kind: &'x Fault,
+) -> Result<bool>
 where
     R: AllocGlobal + Threads + Wait + Sync,
 {
     let mut story = Vec::new(rt.alloc());
-    put_shown(&mut story, feed, frames, all)?;
+    put_shown(&mut story, feed, frames, all, kind)?;
     Ok(follows(rt, 2, &story))
 }
 
@@ -92,7 +105,8 @@ where
     R: AllocGlobal + Threads + Wait + Sync,
 {
     let ends = ends_of(rt.alloc(), feed)?;
-    is_shown(rt, (feed, &ends), frames, all)
+    let kind = broken(end_of(feed, &ends, frames), FaultCode::Kind);
+    is_shown(rt, (feed, &ends), frames, all, &kind)
 }
 
 // The pairs, with the batch at the end.
@@ -123,15 +137,16 @@ where
 }
 
 // Whether the feed that ends one byte after twins, at 285, has the fault of its end, which is kept.
-fn is_cut<R>(rt: &R, feed: &[u8], twins: Fault) -> bool
+fn is_cut<'x, R>(rt: &R, feed: &'x [u8], twins: &'x Fault) -> bool
 where
     R: AllocGlobal + Threads + Wait + Sync,
 {
+    let cut = cut_at(285);
     let story = [
         Step::Takes(part(feed, 0, 286)),
         Step::SettlesNot(twins),
-        Step::Ends(cut_at(285)),
-        Step::Stands(cut_at(285)),
+        Step::Ends(&cut),
+        Step::Stands(&cut),
     ];
     follows(rt, 2, &story)
 }
@@ -146,7 +161,7 @@ where
     let all = [twins(2, 0, ON_EACH)?, twins(1, 0, ROUND_ONE_IDS)?];
     let is_right = shows_twins(rt, &feed, &PAIRS_SHOWN, &all);
     tally.judge(rt, "twins of one member", is_right);
-    let is_right = is_cut(rt, &feed, all[0]);
+    let is_right = is_cut(rt, &feed, &all[0]);
     tally.note(rt, "a feed that ends in a frame after twins", is_right);
     Ok(())
 }
