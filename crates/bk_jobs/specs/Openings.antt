@@ -1,7 +1,7 @@
 -- How a job ends whose files are opened first.
 use Rattle.std.specs.Prelude.{◌≡◌, ◌⊎◌, ℕ, Bool, List, Option, Some, None, true, false}
-use Rattle.std_io.specs.declared.io.kind.ErrorKind.{ErrorKind}
-use Rattle.std_io.specs.declared.io.kind.ErrorKind.TheVariants as kind
+use Rattle.std.specs.declared.io.ErrorKind.{ErrorKind}
+use Rattle.std.specs.declared.io.ErrorKind.TheVariants as kind
 use Rattle.bk_frames.specs.Device.{Device}
 use Rattle.bk_results.specs.declared.fault.Fault.TheVariants as replay
 use Rattle.bk_cli.specs.Exits.{is_answer}
@@ -82,4 +82,4 @@ Ran holds feeds lacks j strict verbose end out out' err err' =
 abbrev pub reason_by : ErrorKind → Unopened
 reason_by kind.NotFound = reason.Absent
 reason_by kind.PermissionDenied = reason.Denied
-reason_by other = reason.Other
+reason_by another = reason.Other
