@@ -4,22 +4,34 @@
 //! workers is done by 1, 2, 8 and 64, by a Follower that gets the feed in pieces, and with the feed cut. Each job is done
 //! over devices that move few bytes a call; and one that has an answer with each read and each write failing in turn, for
 //! good and once, and to a sink that takes nothing. Each feed that is made is cut into pieces, and broken; each good proof
-//! is changed. The table `unread` has the offsets of reads that fail. A clock of its own makes progress tell. The last line
-//! is `N passed, M failed`.
+//! is changed. The table `unread` has the offsets of reads that fail. A clock of its own makes progress tell. Texts that are
+//! no examples come first. What failed is named on standard error, and the last line is `N passed, M failed`.
 #![tactic(auto)]
 
 mod applying;
 mod cutting;
 mod devices;
 mod ending;
+mod events;
 mod example;
 mod failing;
+mod faults;
 mod following;
 mod jobs;
+mod large_frames;
 mod long;
+mod longest;
+mod made;
+mod many;
+mod options;
 mod outcome;
 mod proofs;
+mod script_faults;
+mod scripts;
 mod telling;
+mod texts;
+mod words;
+mod wrong_words;
 
 use crate::cutting::is_cut_well;
 use crate::ending::cuts_are_right;
@@ -29,6 +41,7 @@ use crate::jobs::{try_run, try_words, unread_is_right};
 use crate::long::{long_line_is_told, long_report_is_written};
 use crate::outcome::{Outcome, outcome_of};
 use crate::telling::progress_is_told;
+use crate::texts::try_texts;
 use anyhow::Result;
 use bk_trial_kit::Tally;
 use std::fs;
@@ -159,12 +172,13 @@ where
     Ok(())
 }
 
-// Runs all examples, and what is too long for one or is no command line.
+// Reads chosen texts, and runs all examples, and what is too long for one or is no command line.
 fn run_all<R>(rt: &R) -> Result<Tally>
 where
     R: AllocGlobal + Files + Input + Eprint + Clock + Threads + Wait + Sync,
 {
     let mut tally = Tally::new();
+    try_texts(rt, &mut tally)?;
     run_table(rt, &mut tally)?;
     let unread = fs::read_to_string(rt, "unread")?;
     tally.judge(rt, "offsets of reads", unread_is_right(rt, &unread));

@@ -342,6 +342,6 @@ fn try_rows<R: AllocGlobal + Eprint>(rt: &R, rows: &[Named], tally: &mut Tally) 
 }
 
 /// All of them.
-pub(crate) fn try_words<R: AllocGlobal + Eprint>(rt: &R, tally: &mut Tally) -> Result<()> {
+pub(crate) fn try_good_words<R: AllocGlobal + Eprint>(rt: &R, tally: &mut Tally) -> Result<()> {
     try_rows(rt, &NAMED, tally)
 }

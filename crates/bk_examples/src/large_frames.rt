@@ -61,7 +61,7 @@ fn frames_of_many(alloc: Global) -> Result<usize> {
 }
 
 /// All of them.
-pub(crate) fn try_cutting<R: AllocGlobal + Eprint>(rt: &R, tally: &mut Tally) -> Result<()> {
+pub(crate) fn try_large_frames<R: AllocGlobal + Eprint>(rt: &R, tally: &mut Tally) -> Result<()> {
     let is_right = gives_batch(rt.alloc(), 1 << 20, b"\x08", 1 << 20)?;
     tally.note(rt, "a frame byte by byte", is_right);
     let piece = b"\x07\x07\x07\x07\x07\x07\x07\x07\x07\x07\x07\x07\x07\x07\x07\x08";
