@@ -1,10 +1,10 @@
-//! The lines that report faults, and the exit statuses after them.
+//! The lines that report faults, and the exit statuses after them. Those that examples print are left out.
 
 use bk_base::Refused;
 use bk_cli::{Exit, JobFault, ListFault, report};
 use bk_digest::Digest32;
 use bk_frames::{Counted, FaultCode, FeedFault};
-use bk_results::{Fault, LinesFault, ScriptCode, ScriptFault, Status};
+use bk_results::{Fault, LinesFault, ScriptCode, ScriptFault};
 use bk_trial_kit::Tally;
 use std::alloc::Global;
 
@@ -23,21 +23,20 @@ fn try_all<R: AllocGlobal + Eprint>(rt: &R, rows: &[(JobFault, u8, &str)], tally
     }
 }
 
-// A fault of a feed.
-fn found(code: FaultCode, offset: u64) -> JobFault {
-    JobFault::Replay(Fault::Feed(FeedFault { offset, code }))
-}
-
-fn try_feeds<R: AllocGlobal + Eprint>(rt: &R, tally: &mut Tally) {
+fn try_replays<R: AllocGlobal + Eprint>(rt: &R, tally: &mut Tally) {
+    let memory = FeedFault {
+        offset: u64::MAX,
+        code: FaultCode::Memory,
+    };
+    let unfinished = Fault::Unfinished { place: u32::MAX };
     let rows = [
-        (found(FaultCode::Magic, 0), 2u8, "feed fault 1 at 0\n"),
-        (found(FaultCode::Extra, 51), 2, "feed fault 7 at 51\n"),
-        (found(FaultCode::Read, 4), 4, "feed fault 8 at 4\n"),
         (
-            found(FaultCode::Memory, u64::MAX),
-            4,
+            JobFault::Replay(Fault::Feed(memory)),
+            4u8,
             "feed fault 9 at 18446744073709551615\n",
         ),
+        (JobFault::Replay(unfinished), 4, "unfinished 4294967295\n"),
+        (JobFault::Replay(Fault::Memory), 4, "memory\n"),
     ];
     try_all(rt, &rows, tally);
 }
@@ -66,20 +65,6 @@ fn try_stops<R: AllocGlobal + Eprint>(rt: &R, tally: &mut Tally) {
     try_all(rt, &rows, tally);
 }
 
-fn try_failures<R: AllocGlobal + Eprint>(rt: &R, tally: &mut Tally) {
-    let unfinished = Fault::Unfinished { place: u32::MAX };
-    let rows = [
-        (JobFault::Replay(unfinished), 4u8, "unfinished 4294967295\n"),
-        (
-            JobFault::Replay(Fault::Write { written: 7 }),
-            4,
-            "write failed\n",
-        ),
-        (JobFault::Replay(Fault::Memory), 4, "memory\n"),
-    ];
-    try_all(rt, &rows, tally);
-}
-
 fn try_texts<R: AllocGlobal + Eprint>(rt: &R, tally: &mut Tally) {
     let fault = ScriptFault::Script {
         line: u64::MAX,
@@ -90,12 +75,6 @@ fn try_texts<R: AllocGlobal + Eprint>(rt: &R, tally: &mut Tally) {
             JobFault::Text(fault),
             2u8,
             "script fault 5 at line 18446744073709551615\n",
-        ),
-        (JobFault::Text(ScriptFault::Read), 4, "read failed\n"),
-        (
-            JobFault::Text(ScriptFault::Write { written: 7 }),
-            4,
-            "write failed\n",
         ),
         (JobFault::Text(ScriptFault::Memory), 4, "memory\n"),
     ];
@@ -118,7 +97,6 @@ fn try_events<R: AllocGlobal + Eprint>(rt: &R, tally: &mut Tally) {
             2u8,
             "events fault at line 4294967295\n",
         ),
-        (unread(LinesFault::Read), 4, "read failed\n"),
         (unread(LinesFault::Memory), 4, "memory\n"),
         (JobFault::Events(refused), 2, "event 4294967295 refused 5\n"),
         (JobFault::Events(unfinished), 4, "unfinished 4294967295\n"),
@@ -128,14 +106,8 @@ fn try_events<R: AllocGlobal + Eprint>(rt: &R, tally: &mut Tally) {
 
 /// All of them.
 pub(crate) fn try_faults<R: AllocGlobal + Eprint>(rt: &R, tally: &mut Tally) {
-    try_feeds(rt, tally);
+    try_replays(rt, tally);
     try_stops(rt, tally);
-    try_failures(rt, tally);
     try_texts(rt, tally);
     try_events(rt, tally);
-    let is_whole = Exit::at(Status::Whole).number() == 0;
-    tally.note(rt, "the status of a whole report", is_whole);
-    let is_missing = Exit::at(Status::Missing).number() == 5;
-    tally.note(rt, "the status where a batch is missing", is_missing);
-    tally.note(rt, "the status of a no", Exit::No.number() == 1);
 }

@@ -2,8 +2,9 @@
 
 use crate::devices::{Given, all_good, feed_alone, job_with};
 use crate::failing::{Tried, calls_of};
+use crate::made::made;
 use crate::outcome::Outcome;
-use anyhow::Result;
+use anyhow::{Result, bail};
 use bk_cli::{Job, Workers};
 use std::alloc::Global;
 use std::fs;
@@ -60,19 +61,12 @@ fn many_accounts(alloc: Global, first: &str) -> Result<String> {
 }
 
 // The feed of a script with these accounts.
-fn long_feed<R>(rt: &R) -> Result<Vec<u8>>
-where
-    R: AllocGlobal + Threads + Wait + Sync,
-{
-    let script = many_accounts(rt.alloc(), "members 1\n")?;
-    let job = Job::Make { file: None };
-    let made = job_with(
-        rt,
-        &job,
-        feed_alone(script.as_bytes()),
-        all_good(usize::MAX),
-    );
-    Ok(made.out)
+fn long_feed(alloc: Global) -> Result<Vec<u8>> {
+    let script = many_accounts(alloc, "members 1\n")?;
+    match made(alloc, script.as_bytes()) {
+        Ok(feed) => Ok(feed),
+        Err(_) => bail!("the script has a fault"),
+    }
 }
 
 // What `apply` has to leave of it: the accounts, and a line of 26 bytes more.
@@ -120,6 +114,6 @@ pub(crate) fn long_report_is_written<R>(rt: &R) -> Result<bool>
 where
     R: AllocGlobal + Threads + Wait + Sync,
 {
-    let feed = long_feed(rt)?;
+    let feed = long_feed(rt.alloc())?;
     is_long_report(rt, &feed)
 }

@@ -1,5 +1,6 @@
 //! What a script makes.
 
+use bk_digest::Digest32;
 use bk_frames::Counted;
 use bk_script::{ScriptCode, ScriptFault, make};
 use std::alloc::Global;
@@ -19,6 +20,14 @@ pub(crate) fn made(alloc: Global, text: &[u8]) -> Result<Vec<u8>, ScriptFault> {
 pub(crate) fn makes_empty_ledger(alloc: Global, text: &[u8]) -> bool {
     match made(alloc, text) {
         Ok(feed) => feed.as_slice() == EMPTY_LEDGER,
+        Err(_) => false,
+    }
+}
+
+/// Whether the feed that a script makes has this digest.
+pub(crate) fn makes(alloc: Global, text: &str, digest: &str) -> bool {
+    match made(alloc, text.as_bytes()) {
+        Ok(feed) => Digest32::parse_hex(digest.as_bytes()) == Some(Digest32::of(&feed)),
         Err(_) => false,
     }
 }

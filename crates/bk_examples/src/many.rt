@@ -1,8 +1,7 @@
 //! Scripts of some thousand accounts and of some thousand names.
 
-use crate::made::{has_fault, made};
+use crate::made::{has_fault, makes};
 use anyhow::Result;
-use bk_digest::Digest32;
 use bk_script::ScriptCode;
 use bk_trial_kit::Tally;
 use std::alloc::Global;
@@ -82,14 +81,6 @@ fn put_certs(alloc: Global, text: &mut String, count: u64) -> Result<()> {
         }
     }
     Ok(())
-}
-
-// Whether the digest of the feed that a script makes is this.
-fn makes(alloc: Global, text: &str, digest: &str) -> bool {
-    match made(alloc, text.as_bytes()) {
-        Ok(feed) => Digest32::parse_hex(digest.as_bytes()) == Some(Digest32::of(&feed)),
-        Err(_) => false,
-    }
 }
 
 // A line more, which has the fault, and a line after it.

@@ -4,13 +4,12 @@ use crate::made::has_fault;
 use bk_script::ScriptCode;
 use bk_trial_kit::Tally;
 
-const WORDS: [(&str, u64); 9] = [
+const WORDS: [(&str, u64); 8] = [
     ("# caf\u{e9}\nmembers 1", 1),
     ("members", 1),
     ("members  1", 1),
     ("members 1 ", 1),
     (" members 1", 1),
-    ("members 2 1,1", 1),
     ("version 1\nmembers 2 1,1", 2),
     ("members 1\nbatch b\nsplit 1 0 2", 3),
     ("Members 1", 1),
@@ -69,9 +68,8 @@ const NAMES: [(&str, u64); 11] = [
 
 // In the last of these a certificate is named twice: by its name, and by its id, as the certificate of round 1 by member 0
 // without batches and parents.
-const RANGES: [(&str, u64); 17] = [
+const RANGES: [(&str, u64); 16] = [
     ("members 0", 1),
-    ("members 129", 1),
     ("version 0\nmembers 1", 1),
     ("version 2\nmembers 4 5,1,1,1,1", 2),
     ("version 2\nmembers 4 5,1,1,4294967296", 2),

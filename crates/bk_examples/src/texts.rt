@@ -14,12 +14,11 @@ use crate::wrong_words::try_wrong_words;
 use anyhow::Result;
 use bk_trial_kit::Tally;
 
-fn try_lines<R: AllocGlobal + Eprint>(rt: &R, tally: &mut Tally) -> Result<()> {
-    try_good_words(rt, tally)?;
-    try_wrong_words(rt, tally)?;
-    try_options(rt, tally)?;
+fn try_lines<R: AllocGlobal + Eprint>(rt: &R, tally: &mut Tally) {
+    try_good_words(rt, tally);
+    try_wrong_words(rt, tally);
+    try_options(rt, tally);
     try_faults(rt, tally);
-    Ok(())
 }
 
 fn try_all_scripts<R: AllocGlobal + Eprint>(rt: &R, tally: &mut Tally) -> Result<()> {
@@ -30,7 +29,7 @@ fn try_all_scripts<R: AllocGlobal + Eprint>(rt: &R, tally: &mut Tally) -> Result
 
 /// All of them.
 pub(crate) fn try_texts<R: AllocGlobal + Eprint>(rt: &R, tally: &mut Tally) -> Result<()> {
-    try_lines(rt, tally)?;
+    try_lines(rt, tally);
     try_all_scripts(rt, tally)?;
     try_events(rt, tally)?;
     try_longest(rt, tally)?;

@@ -1,4 +1,4 @@
-//! Command lines that name a job.
+//! Command lines that name a job. Those of examples are left out, but where they tell a number of workers.
 
 use anyhow::Result;
 use bk_cli::{Diagnosis, Job, Table, parse};
@@ -6,15 +6,14 @@ use bk_results::Query;
 use bk_trial_kit::Tally;
 use std::alloc::Global;
 
-// Words, the files that they name, and the number of workers of a job that has one.
-#[derive(Clone, Copy)]
-struct Named {
-    words: &'static [&'static str],
-    kind: Kind,
-    workers: Option<usize>,
-    first: Option<&'static str>,
-    second: Option<&'static str>,
-}
+// A command line, its kind, the number of workers of a job that has one, and the two files that it names.
+type Named = (
+    &'static str,
+    Kind,
+    Option<usize>,
+    Option<&'static str>,
+    Option<&'static str>,
+);
 
 // The jobs that are named here.
 #[derive(Clone, Copy, PartialEq, Eq)]
@@ -26,13 +25,10 @@ enum Kind {
     CheckProofOfSeven,
     CheckState,
     Schedule,
-    Compare,
     Follow,
     Wait,
     FollowPostings,
     Waiting,
-    Missing,
-    Evidence,
     Other,
 }
 
@@ -51,18 +47,16 @@ fn kind_of(job: &Job) -> Kind {
             ..
         } => Kind::CheckState,
         Job::Schedule { .. } => Kind::Schedule,
-        Job::Compare { .. } => Kind::Compare,
         Job::Follow {
             shown: Table::Postings,
             ..
         } => Kind::FollowPostings,
         Job::Follow { wait: false, .. } => Kind::Follow,
         Job::Follow { wait: true, .. } => Kind::Wait,
-        Job::Diagnose { sought, .. } => match sought {
-            Diagnosis::Waiting => Kind::Waiting,
-            Diagnosis::Missing => Kind::Missing,
-            Diagnosis::Evidence => Kind::Evidence,
-        },
+        Job::Diagnose {
+            sought: Diagnosis::Waiting,
+            ..
+        } => Kind::Waiting,
         _ => Kind::Other,
     }
 }
@@ -79,219 +73,117 @@ fn workers_of(job: &Job) -> Option<usize> {
 
 const ROOT: &str = "a0f73141eeeda4cb3f115f1ee0468dde8a3de31db5fd987f0eec1df811bce063";
 
-const NAMED: [Named; 28] = [
-    Named {
-        words: &["bkreplay", "run"],
-        kind: Kind::Run,
-        workers: Some(1),
-        first: None,
-        second: None,
-    },
-    Named {
-        words: &["bkreplay", "run", "a b.feed"],
-        kind: Kind::Run,
-        workers: Some(1),
-        first: Some("a b.feed"),
-        second: None,
-    },
-    Named {
-        words: &["bkreplay", "run", "--workers=1"],
-        kind: Kind::Run,
-        workers: Some(1),
-        first: None,
-        second: None,
-    },
-    Named {
-        words: &["bkreplay", "run", "a b.feed", "--workers", "64"],
-        kind: Kind::Run,
-        workers: Some(64),
-        first: Some("a b.feed"),
-        second: None,
-    },
-    Named {
-        words: &["bkreplay", "run", "--workers", "8", "a b.feed"],
-        kind: Kind::Run,
-        workers: Some(8),
-        first: Some("a b.feed"),
-        second: None,
-    },
-    Named {
-        words: &["bkreplay", "apply"],
-        kind: Kind::Apply,
-        workers: None,
-        first: None,
-        second: None,
-    },
-    Named {
-        words: &["bkreplay", "apply", "a b.feed"],
-        kind: Kind::Apply,
-        workers: None,
-        first: Some("a b.feed"),
-        second: None,
-    },
-    Named {
-        words: &["bkreplay", "make"],
-        kind: Kind::Make,
-        workers: None,
-        first: None,
-        second: None,
-    },
-    Named {
-        words: &["bkreplay", "make", "a"],
-        kind: Kind::Make,
-        workers: None,
-        first: Some("a"),
-        second: None,
-    },
-    Named {
-        words: &["bkreplay", "check-proof", "no root"],
-        kind: Kind::CheckProof,
-        workers: None,
-        first: None,
-        second: None,
-    },
-    Named {
-        words: &["bkreplay", "check-proof", "--account", "7", "no root"],
-        kind: Kind::CheckProofOfSeven,
-        workers: None,
-        first: None,
-        second: None,
-    },
-    Named {
-        words: &["bkreplay", "check-proof", "no root", "a", "--account=7"],
-        kind: Kind::CheckProofOfSeven,
-        workers: None,
-        first: Some("a"),
-        second: None,
-    },
-    Named {
-        words: &["bkreplay", "postings", "--follow", "--workers", "3", "a"],
-        kind: Kind::FollowPostings,
-        workers: Some(3),
-        first: Some("a"),
-        second: None,
-    },
-    Named {
-        words: &["bkreplay", "waiting"],
-        kind: Kind::Waiting,
-        workers: None,
-        first: None,
-        second: None,
-    },
-    Named {
-        words: &["bkreplay", "missing", "a"],
-        kind: Kind::Missing,
-        workers: None,
-        first: Some("a"),
-        second: None,
-    },
-    Named {
-        words: &["bkreplay", "evidence", "a b.feed"],
-        kind: Kind::Evidence,
-        workers: None,
-        first: Some("a b.feed"),
-        second: None,
-    },
-    Named {
-        words: &["bkreplay", "check-proof", "no root", "a"],
-        kind: Kind::CheckProof,
-        workers: None,
-        first: Some("a"),
-        second: None,
-    },
-    Named {
-        words: &["bkreplay", "schedule", "a", "b"],
-        kind: Kind::Schedule,
-        workers: Some(2),
-        first: Some("a"),
-        second: Some("b"),
-    },
-    Named {
-        words: &["bkreplay", "schedule", "--workers", "1", "a", "b"],
-        kind: Kind::Schedule,
-        workers: Some(1),
-        first: Some("a"),
-        second: Some("b"),
-    },
-    Named {
-        words: &["bkreplay", "schedule", "a", "--workers=64", "b"],
-        kind: Kind::Schedule,
-        workers: Some(64),
-        first: Some("a"),
-        second: Some("b"),
-    },
-    Named {
-        words: &["bkreplay", "schedule", "-", "b"],
-        kind: Kind::Schedule,
-        workers: Some(2),
-        first: Some("-"),
-        second: Some("b"),
-    },
-    Named {
-        words: &["bkreplay", "compare", "a", "b"],
-        kind: Kind::Compare,
-        workers: None,
-        first: Some("a"),
-        second: Some("b"),
-    },
-    Named {
-        words: &["bkreplay", "check-state", ROOT],
-        kind: Kind::CheckState,
-        workers: Some(1),
-        first: None,
-        second: None,
-    },
-    Named {
-        words: &["bkreplay", "check-state", ROOT, "a"],
-        kind: Kind::CheckState,
-        workers: Some(1),
-        first: Some("a"),
-        second: None,
-    },
-    Named {
-        words: &["bkreplay", "check-state", "--workers", "64", ROOT, "a"],
-        kind: Kind::CheckState,
-        workers: Some(64),
-        first: Some("a"),
-        second: None,
-    },
-    Named {
-        words: &["bkreplay", "transactions", "--follow"],
-        kind: Kind::Follow,
-        workers: Some(1),
-        first: None,
-        second: None,
-    },
-    Named {
-        words: &[
-            "bkreplay",
-            "transactions",
-            "--accounts",
-            "l",
-            "--follow",
-            "-",
-        ],
-        kind: Kind::Follow,
-        workers: Some(1),
-        first: Some("-"),
-        second: Some("l"),
-    },
-    Named {
-        words: &[
-            "bkreplay",
-            "transactions",
-            "--wait",
-            "--follow",
-            "--accounts=l",
-            "--workers",
-            "3",
-            "a",
-        ],
-        kind: Kind::Wait,
-        workers: Some(3),
-        first: Some("a"),
-        second: Some("l"),
-    },
+const NAMED: [Named; 20] = [
+    ("bkreplay|run", Kind::Run, Some(1), None, None),
+    (
+        "bkreplay|run|a b.feed",
+        Kind::Run,
+        Some(1),
+        Some("a b.feed"),
+        None,
+    ),
+    ("bkreplay|run|--workers=1", Kind::Run, Some(1), None, None),
+    (
+        "bkreplay|run|a b.feed|--workers|64",
+        Kind::Run,
+        Some(64),
+        Some("a b.feed"),
+        None,
+    ),
+    (
+        "bkreplay|run|--workers|8|a b.feed",
+        Kind::Run,
+        Some(8),
+        Some("a b.feed"),
+        None,
+    ),
+    ("bkreplay|apply", Kind::Apply, None, None, None),
+    ("bkreplay|make", Kind::Make, None, None, None),
+    (
+        "bkreplay|check-proof|no root",
+        Kind::CheckProof,
+        None,
+        None,
+        None,
+    ),
+    (
+        "bkreplay|check-proof|--account|7|no root",
+        Kind::CheckProofOfSeven,
+        None,
+        None,
+        None,
+    ),
+    (
+        "bkreplay|check-proof|no root|a|--account=7",
+        Kind::CheckProofOfSeven,
+        None,
+        Some("a"),
+        None,
+    ),
+    (
+        "bkreplay|postings|--follow|--workers|3|a",
+        Kind::FollowPostings,
+        Some(3),
+        Some("a"),
+        None,
+    ),
+    ("bkreplay|waiting", Kind::Waiting, None, None, None),
+    (
+        "bkreplay|schedule|--workers|1|a|b",
+        Kind::Schedule,
+        Some(1),
+        Some("a"),
+        Some("b"),
+    ),
+    (
+        "bkreplay|schedule|a|--workers=64|b",
+        Kind::Schedule,
+        Some(64),
+        Some("a"),
+        Some("b"),
+    ),
+    (
+        "bkreplay|schedule|-|b",
+        Kind::Schedule,
+        Some(2),
+        Some("-"),
+        Some("b"),
+    ),
+    (
+        "bkreplay|check-state|a0f73141eeeda4cb3f115f1ee0468dde8a3de31db5fd987f0eec1df811bce063",
+        Kind::CheckState,
+        Some(1),
+        None,
+        None,
+    ),
+    (
+        "bkreplay|check-state|--workers|64|a0f73141eeeda4cb3f115f1ee0468dde8a3de31db5fd987f0eec1df811bce063|a",
+        Kind::CheckState,
+        Some(64),
+        Some("a"),
+        None,
+    ),
+    (
+        "bkreplay|transactions|--follow",
+        Kind::Follow,
+        Some(1),
+        None,
+        None,
+    ),
+    (
+        "bkreplay|transactions|--accounts|l|--follow|-",
+        Kind::Follow,
+        Some(1),
+        Some("-"),
+        Some("l"),
+    ),
+    (
+        "bkreplay|transactions|--wait|--follow|--accounts=l|--workers|3|a",
+        Kind::Wait,
+        Some(3),
+        Some("a"),
+        Some("l"),
+    ),
 ];
 
 // Whether the root that a job has is the one of its words.
@@ -308,40 +200,34 @@ fn has_root(alloc: Global, job: &Job) -> Result<bool> {
 
 // Whether a job is the one that is named.
 fn is_wanted(job: &Job, named: &Named) -> bool {
-    kind_of(job) == named.kind
-        && workers_of(job) == named.workers
-        && job.file() == named.first
-        && job.second_file() == named.second
+    let (_, kind, workers, first, second) = named;
+    kind_of(job) == *kind
+        && workers_of(job) == *workers
+        && job.file() == *first
+        && job.second_file() == *second
 }
 
-fn is_named(alloc: Global, named: &Named) -> Result<bool> {
-    let Ok(job) = parse(alloc, named.words) else {
+// Whether words name this job.
+fn name_this(alloc: Global, words: &[&str], named: &Named) -> Result<bool> {
+    let Ok(job) = parse(alloc, words) else {
         return Ok(false);
     };
     Ok(is_wanted(&job, named) && has_root(alloc, &job)?)
 }
 
-/// Counts a command line, and names it where it failed.
-pub(crate) fn note_words<R: AllocGlobal + Eprint>(
-    rt: &R,
-    words: &[&str],
-    is_right: bool,
-    tally: &mut Tally,
-) -> Result<()> {
-    let line = words.join(rt.alloc(), " ")?;
-    tally.note(rt, line.as_str(), is_right);
-    Ok(())
+/// The words of a command line, with `|` between them, as one may have a space in it.
+pub(crate) fn words_of<'a>(alloc: Global, line: &'a str) -> Result<Vec<&'a str>> {
+    Ok(line.split('|').collect(alloc)?)
 }
 
-fn try_rows<R: AllocGlobal + Eprint>(rt: &R, rows: &[Named], tally: &mut Tally) -> Result<()> {
-    for named in rows {
-        let is_right = is_named(rt.alloc(), named)?;
-        note_words(rt, named.words, is_right, tally)?;
-    }
-    Ok(())
+fn is_named(alloc: Global, line: &str, named: &Named) -> Result<bool> {
+    let words = words_of(alloc, line)?;
+    name_this(alloc, &words, named)
 }
 
 /// All of them.
-pub(crate) fn try_good_words<R: AllocGlobal + Eprint>(rt: &R, tally: &mut Tally) -> Result<()> {
-    try_rows(rt, &NAMED, tally)
+pub(crate) fn try_good_words<R: AllocGlobal + Eprint>(rt: &R, tally: &mut Tally) {
+    for named in &NAMED {
+        tally.judge(rt, named.0, is_named(rt.alloc(), named.0, named));
+    }
 }
