@@ -1,5 +1,7 @@
 //! Queries of feeds, with devices that fail.
 
+ghost use Rattle.bk_frames.specs.Device.{CanBeUsed};
+
 use crate::faults::{begun_at, broken, cut_at, twins};
 use crate::feeds::{
     MISSING, NOTHING, ONE_COMMIT, ONE_COMMIT_DIGEST, ONE_COMMIT_ENDS, PROOF_PAID, ROUND_ONE,
@@ -8,7 +10,7 @@ use crate::feeds::{
 use crate::made::{has_digest, made};
 use anyhow::Result;
 use bk_digest::Digest32;
-use bk_frames::{Counted, FaultCode};
+use bk_frames::{Counted, FaultCode, Source};
 use bk_pool::Open;
 use bk_replay::{Fault, Query, Replied, Reply, ask};
 use bk_trial_kit::{Device, EVER, Reader, Tally, Writer, part};
@@ -79,15 +81,16 @@ impl Left {
 }
 
 /// Asks a source.
-pub(crate) fn asked<R>(
+pub(crate) fn asked<R, S: Source>(
     rt: &R,
-    source: &mut Counted<Reader<'_>>,
+    source: &mut S,
     query: &Query,
     workers: usize,
     device: Device,
 ) -> Left
 where
     R: AllocGlobal + Threads + Wait + Sync,
+    requires source { CanBeUsed (S.state source.old) }
 {
     let mut sink = Counted::new(Writer::new(rt.alloc(), device));
     let workers = workers.clamp(1, 64);
