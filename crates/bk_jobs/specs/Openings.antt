@@ -82,4 +82,4 @@ Ran holds feeds lacks j strict verbose end out out' err err' =
 abbrev pub reason_by : ErrorKind → Unopened
 reason_by kind.NotFound = reason.Absent
 reason_by kind.PermissionDenied = reason.Denied
-reason_by another = reason.Other
+reason_by _ = reason.Other

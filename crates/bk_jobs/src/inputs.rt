@@ -87,6 +87,9 @@ impl<'a, F: Files + Input> Opens for Inputs<'a, F> {
     }
 
     fn size_of(&self, path: &str) -> Option<u64> {
+        if is_input(path) {
+            return None;
+        }
         match fs::metadata(self.system, path) {
             Ok(found) if found.is_file() => Some(found.len()),
             _ => None,

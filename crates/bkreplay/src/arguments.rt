@@ -21,7 +21,7 @@ pub(crate) trait Arguments {
     /// One word.
     type Word: AsStr + Drop;
 
-    /// These are the words, after the name of the program.
+    /// These are the words; the first is the name of the program.
     ghost gives: { Self → List (List ℕ) → Type 0 };
 
     /// They cannot be read, for this reason.

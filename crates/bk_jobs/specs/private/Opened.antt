@@ -33,4 +33,4 @@ RanOn first second j strict verbose end out out' err err' =
 -- the end of the first file of a job is waited at for more
 abbrev pub waits_at_end : Job → Bool
 waits_at_end (job.Follow workers shown accounts wait file) = wait
-waits_at_end other = false
+waits_at_end _ = false
