@@ -1,9 +1,11 @@
 -- The words that were read are those that are answered.
-use Rattle.std.proofs.Common.{inl, inr, refl}
+use Rattle.std.proofs.Common.{List, map, inl, inr, refl, sym, subst}
 use Rattle.bkreplay.proofs.program.program.Goals as goal
 
 pub returns-in-Ok : goal.returns-in-Ok
-returns-in-Ok g c = record { ran = inl (_, c.in-Ok.ensures.given, c.run_words.ensures.ran) }
+returns-in-Ok g c = record {
+  ran = inl (_, subst (λ words. g.W.Arguments.gives c.args.system.now.arguments.now (map g.W.Word.AsStr.text words)) (sym c.as_slice.ensures.value) c.in-Ok.ensures.given, c.run_words.ensures.ran);
+}
 
 pub returns-in-Err : goal.returns-in-Err
 returns-in-Err g c = record {
