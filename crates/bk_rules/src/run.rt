@@ -77,7 +77,8 @@ fn either<'a>(known: &'a [u32], found: &'a [u32]) -> &'a [u32] {
     if known.is_empty() { found } else { known }
 }
 
-// Begins a block, and returns where its indexes begin: loads the rows at those that are known, or finds them.
+// Begins a block, and returns where its indexes begin: loads the ids and rows at those that are known, or finds them.
+// Another thread found them, so they are in the caches of its processor and not of this one.
 fn begin_block(
     found: &mut Vec<u32>,
     state: &State,
@@ -89,7 +90,9 @@ fn begin_block(
         look_up(found, state, txs);
         return 0;
     }
-    let sum = sum_of_seqs(state.numbers(), block_of(known, at));
+    let block = block_of(known, at);
+    let sum = sum_of_ids(state.ids().as_slice(), block);
+    let sum = sum.wrapping_add(sum_of_seqs(state.numbers(), block));
     found.clear();
     let _ = found.push(sum);
     at
@@ -114,6 +117,17 @@ fn look_up(near: &mut Vec<u32>, state: &State, txs: &[Option<Tx>]) {
         let sum = sum_of_seqs(state.numbers(), near);
         let _ = near.push(sum);
     }
+}
+
+// The sum of some ids, as far as it fits.
+fn sum_of_ids(ids: &[u64], near: &[u32]) -> u32 {
+    let mut sum = 0u32;
+    for index in near {
+        if let Some(id) = ids.get(*index as usize) {
+            sum = sum.wrapping_add(u32::try_from(*id & 0xffff).unwrap_or(0));
+        }
+    }
+    sum
 }
 
 // The sum of some sequence numbers.
