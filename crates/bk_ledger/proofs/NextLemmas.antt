@@ -1,6 +1,6 @@
 -- Slices that are planned before their turn comes.
-use Rattle.std.proofs.Common.{◌≡◌, ℕ, ◌+◌, ◌^◌, ◌<◌, ◌≤◌, List, [], ◌++◌, length, Option, Result, Ok, Err, refl, sym, ap, subst, ◌∙◌, arith}
-use Rattle.std.specs.Prelude.{IfOk, IfErr}
+use Rattle.std.proofs.Common.{◌≡◌, ℕ, ◌+◌, ◌^◌, ◌<◌, ◌≤◌, List, [], ◌++◌, length, Option, None, Result, Ok, Err, refl, sym, ap, subst, ◌∙◌, arith}
+use Rattle.std.specs.Prelude.{IfOk, IfErr, IfSome}
 use Rattle.std.specs.Arc.{arc_value}
 use Rattle.bk_base.specs.declared.genesis.Row.{Row}
 use Rattle.bk_base.specs.declared.version.Version.{Version}
@@ -16,9 +16,10 @@ use Rattle.bk_ledger.specs.declared.ready.Ahead.{Ahead}
 use Rattle.bk_ledger.specs.declared.ready.Next.{Next}
 use Rattle.bk_ledger.specs.declared.ready.Next.TheVariants as next
 use Rattle.bk_ledger.specs.declared.batches.Batches.{Batches}
+use Rattle.bk_ledger.specs.declared.turns.Coming.{Coming}
 use Rattle.bk_ledger.specs.Executing.{HasRun, Leaves}
 use Rattle.bk_ledger.specs.Naming.{named_by}
-use Rattle.bk_ledger.specs.private.Slices.{CanRunPart, IsAheadOf, IsNextFrom, IsNoneAhead, IsPlannedOn, IsReadOf, IsReady, IsSame, ahead_of, counts_of, txs_of}
+use Rattle.bk_ledger.specs.private.Slices.{CanRunPart, IsAheadOf, IsComing, IsNextFrom, IsNoneAhead, IsPlannedOn, IsReadOf, IsReady, IsSame, ahead_of, counts_of, txs_of}
 use Rattle.bk_pool.specs.declared.outcome.ExecFault.{ExecFault}
 use Rattle.bk_ledger.specs.Sliced.{RunInSlices}
 use Rattle.bk_ledger.proofs.Alone.{all_alone}
@@ -59,6 +60,12 @@ read_none payloads from counts txs all within none empty = record {
   some = λ low. absurd (omega (arith, all, low));
   within = omega (arith, within, ap length none);
   few = omega (arith, ap length empty);
+}
+
+pub none_coming : (payloads : List (List ℕ)) (from : ℕ) (c : Coming) → from ≡ length payloads → c.next.counts.items ≡ [] → c.next.txs.items ≡ [] → c.later ≡ None → IsComing payloads from c
+none_coming payloads from c all none empty last = record {
+  next = read_none payloads from c.next.counts.items c.next.txs.items (omega (arith, all)) (omega (arith, all)) none empty;
+  later = subst (λ (o : Option Batches). IfSome o (λ b. IsReadOf payloads (from + length c.next.counts.items) b.counts.items b.txs.items)) (sym last) tt;
 }
 
 pub none_ahead : (payloads : List (List ℕ)) (from : ℕ) (version : Version) (slots : List ℕ) (a : Ahead) → from ≡ length payloads → IsNoneAhead from a → IsAheadOf payloads from version slots a

@@ -365,10 +365,10 @@ impl Ledger {
 
     /// Executes further batches, a slice at a time, with this many workers, 1 to 64.
     ///
-    /// One worker is the calling thread: it executes one transaction after another, while another thread reads the next
-    /// slice, and calls the gate for the places of a slice once all of them are done. Of two workers or more, no more
-    /// threads execute a slice at once than there are processors but two, on which later slices are prepared, and two at
-    /// least. The calling thread is one of them, and the only one for a slice of few transactions.
+    /// One worker is the calling thread: it executes one transaction after another, while one or two other threads read
+    /// and look up the slices after it, and calls the gate for the places of a slice once all are done. Of two workers
+    /// or more, no more threads execute a slice at once than there are processors but two, on which later slices are
+    /// prepared, and two at least. The calling thread is one of them, and the only one for a slice of few transactions.
     ///
     /// Opening accounts have room for fewer than 2^63 transactions in all (`bk_rules::room_is_left`).
     ///

@@ -1,6 +1,6 @@
 //! Slices of batches: whole batches, as many as are worth executing at once.
 
-ghost use Rattle.std.specs.Prelude.{◌^◌, ◌<◌, ◌≤◌, map, length, IfOk};
+ghost use Rattle.std.specs.Prelude.{◌≡◌, ◌^◌, ◌<◌, ◌≤◌, map, length, IfOk};
 ghost use Rattle.bk_ledger.specs.private.Slices.{IsReadOf};
 
 use crate::batches::Batches;
@@ -68,7 +68,19 @@ pub(crate) fn gather(
     Ok(batches)
 }
 
-/// The same, and looks up the accounts that the transactions declare.
+/// Looks up the accounts that the transactions of a slice declare.
+pub(crate) fn look_up(batches: Batches, ids: &Ids) -> Result<Batches, AllocError>
+    ensures counts { IfOk result (λ b. b.counts.items ≡ batches.counts.items) }
+    ensures txs { IfOk result (λ b. b.txs.items ≡ batches.txs.items) }
+{
+    let mut batches = batches;
+    // Most transactions declare two accounts.
+    batches.near.reserve(batches.txs.len().saturating_mul(2))?;
+    ids.push_likely(&mut batches.near, &batches.txs)?;
+    Ok(batches)
+}
+
+/// Reads a slice as `gather` does, and looks it up.
 pub(crate) fn gather_near(
     alloc: Global,
     payloads: &[&[u8]],
@@ -81,9 +93,7 @@ pub(crate) fn gather_near(
     ensures { IfOk result (λ b. IsReadOf (map (λ p. p.now) payloads.now) from
         b.counts.items b.txs.items) }
 {
-    let mut batches = gather(alloc, payloads, from, least)?;
-    // Most transactions declare two accounts.
-    batches.near.reserve(batches.txs.len().saturating_mul(2))?;
-    ids.push_likely(&mut batches.near, &batches.txs)?;
+    let read = gather(alloc, payloads, from, least)?;
+    let batches = look_up(read, ids)?;
     Ok(batches)
 }

@@ -1,5 +1,5 @@
 -- Batches that were read, and slices of batches.
-use Rattle.std.specs.Prelude.{◌≡◌, Bool, true, ℕ, ◌+◌, ◌^◌, ◌<◌, ◌≤◌, List, [], ◌++◌, length, map, drop, Option}
+use Rattle.std.specs.Prelude.{◌≡◌, Bool, true, ℕ, ◌+◌, ◌^◌, ◌<◌, ◌≤◌, List, [], ◌++◌, length, map, drop, Option, IfSome}
 use Rattle.std.specs.Arc.{arc_value}
 use Rattle.bk_base.specs.declared.genesis.Row.{Row}
 use Rattle.bk_base.specs.declared.version.Version.{Version}
@@ -19,6 +19,7 @@ use Rattle.bk_ledger.specs.declared.ready.Ahead.{Ahead}
 use Rattle.bk_ledger.specs.declared.ready.Next.{Next}
 use Rattle.bk_ledger.specs.declared.ready.Next.TheVariants as next
 use Rattle.bk_ledger.specs.declared.batches.Batches.{Batches}
+use Rattle.bk_ledger.specs.declared.turns.Coming.{Coming}
 use Rattle.bk_ledger.specs.Ledger.{LedgerValue}
 use Rattle.bk_ledger.specs.Executing.{HasExecuted}
 
@@ -100,7 +101,12 @@ pub record IsReadOf (payloads : List (List ℕ)) (from : ℕ) (counts : List (Op
   pub within : from + length counts ≤ length payloads
   pub few : length txs < 2 ^ 31
 
--- the same; if it is planned, then by these rules and over some of these slots
+-- the slice that begins at an index, and the one after it, if that was read
+pub record IsComing (payloads : List (List ℕ)) (from : ℕ) (c : Coming) : Type 0 where
+  pub next : IsReadOf payloads from c.next.counts.items c.next.txs.items
+  pub later : IfSome c.later (λ b. IsReadOf payloads (from + length c.next.counts.items) b.counts.items b.txs.items)
+
+-- the slice that begins at an index; if it is planned, then by these rules and over some of these slots
 pub record IsNextOf (payloads : List (List ℕ)) (from : ℕ) (version : Version) (slots : List ℕ) (n : Next) : Type 0 where
   pub read : IsReadOf payloads from (counts_of n) (txs_of n)
   pub planned : IsPlannedOn version slots n

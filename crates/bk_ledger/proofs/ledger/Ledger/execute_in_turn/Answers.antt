@@ -1,18 +1,24 @@
 use Rattle.std.proofs.Common.{◌≡◌, ◌+◌, ℕ, length, map, sym, subst, ◌∙◌, arith}
-use Rattle.bk_ledger.specs.private.Slices.{IsOnTheWay}
+use Rattle.std.specs.Prelude.{IfSome}
+use Rattle.bk_ledger.specs.private.Slices.{IsOnTheWay, IsReadOf}
 use Rattle.bk_ledger.proofs.SliceLemmas.{lent_count, room_for_slice, way_goes_on}
 use Rattle.bk_ledger.proofs.ledger.Ledger.execute_in_turn.Goals as goal
 
 pub run_turn-requires-clause-room : goal.run_turn-requires-clause-room
-run_turn-requires-clause-room g c = λ _ _. room_for_slice _ _ _ _ c.args.self c.loop-from.ledger c.loop-from.invariant.way c.loop-from.invariant.read.slice c.requires.room
+run_turn-requires-clause-room g c = λ _ _. room_for_slice _ _ _ _ c.args.self c.loop-from.ledger c.loop-from.invariant.way c.loop-from.invariant.coming.next.slice c.requires.room
+
+pub run_turn-requires-clause-later : goal.run_turn-requires-clause-later
+run_turn-requires-clause-later g c =
+    let len : c.len.result ≡ length c.loop-from.coming.next.counts.items = c.len.ensures ∙ c.loop-from.coming.next.counts.ok.0 in
+    λ _ _. subst (λ (n : ℕ). IfSome c.loop-from.coming.later (λ b. IsReadOf (map (λ p. p.now) c.args.payloads.now) (c.loop-from.from + n) b.counts.items b.txs.items)) (sym len) c.loop-from.invariant.coming.later
 
 pub loop-from-preserved : goal.loop-from-preserved
 loop-from-preserved g c =
-    let read = c.loop-from.invariant.read in
-    let len : c.len.result ≡ length c.loop-from.read.counts.items = c.len.ensures ∙ c.loop-from.read.counts.ok.0 in
+    let next = c.loop-from.invariant.coming.next in
+    let len : c.len.result ≡ length c.loop-from.coming.next.counts.items = c.len.ensures ∙ c.loop-from.coming.next.counts.ok.0 in
     record {
-      within = omega (arith, read.within, len, lent_count c.args.payloads.now);
+      within = omega (arith, next.within, len, lent_count c.args.payloads.now);
       way = subst (λ (n : ℕ). IsOnTheWay (map (λ p. p.now) c.args.payloads.now) (c.loop-from.from + n) c.args.self c.in_ok-after.after) (sym len)
-          (way_goes_on _ _ _ _ c.args.self c.loop-from.ledger c.in_ok-after.after c.loop-from.invariant.way read.slice c.in_ok-after.ensures.ran);
-      read = c.in_ok-after.ensures.read;
+          (way_goes_on _ _ _ _ c.args.self c.loop-from.ledger c.in_ok-after.after c.loop-from.invariant.way next.slice c.in_ok-after.ensures.ran);
+      coming = c.in_ok-after.ensures.coming;
     }

@@ -1,12 +1,12 @@
 use Rattle.std.proofs.Common.{◌≤◌, ◌-◌, length, map}
-use Rattle.bk_ledger.specs.private.Slices.{IsOnTheWay, IsReadOf}
+use Rattle.bk_ledger.specs.private.Slices.{IsComing, IsOnTheWay}
 use Rattle.bk_ledger.proofs.ledger.Ledger.execute_in_turn.Given as goal
 
 abbrev pub invariant-loop-from : goal.invariant-loop-from
 invariant-loop-from g l = record {
   within : l.from ≤ length l.payloads;
   way : IsOnTheWay (map (λ p. p.now) l.payloads) l.from l.fn.self l.ledger;
-  read : IsReadOf (map (λ p. p.now) l.payloads) l.from l.read.counts.items l.read.txs.items;
+  coming : IsComing (map (λ p. p.now) l.payloads) l.from l.coming;
 }
 
 abbrev pub decreases-loop-from : goal.decreases-loop-from
