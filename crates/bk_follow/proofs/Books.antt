@@ -271,7 +271,12 @@ ledger_place feed intake now ledger opening l place s is good lt =
     let n = ledger_next feed intake now ledger opening l s is good in
     (f.clear, (now.ordered, f.ordered, omega (arith, lt, n.all)))
 
+-- nothing stops the feed whose book is settled
+pub ledger_clear : (feed : FeedValue) (intake now : Taken) (ledger : Option LedgerValue) (opening : List Row) → IsSettling intake now → IsGoodBook feed (book_with intake ledger opening) → HasNoStopIn feed
+ledger_clear feed intake now ledger opening s good = (found_in feed (book_with intake ledger opening) now s good).clear
+
 -- why executing failed is why the settle did
-pub execution_fails : (old new : BookValue) (first end : ℕ) (x : ExecFault) → ((feed : FeedValue) (place : ℕ) → IsGoodBook feed old → place < end → HasPlaceIn feed place) → Leaves first end x → BookSettleFails old new (fault_of_execution x)
-execution_fails old new first end OutOfMemory there h = tt
-execution_fails old new first end (Unfinished place) there h = λ feed good. there feed place good h.1
+pub execution_fails : (old new : BookValue) (first end : ℕ) (x : ExecFault) → ((feed : FeedValue) → IsGoodBook feed old → HasNoStopIn feed) → ((feed : FeedValue) (place : ℕ) → IsGoodBook feed old → place < end → HasPlaceIn feed place)
+    → Leaves first end x → BookSettleFails old new (fault_of_execution x)
+execution_fails old new first end OutOfMemory clear there h = clear
+execution_fails old new first end (Unfinished place) clear there h = λ feed good. there feed place good h.1

@@ -8,7 +8,7 @@ use Rattle.bk_results.specs.declared.fault.Fault.TheVariants as fault
 use Rattle.bk_follow.specs.Finishing.{ClosesOrder, CloseOrderFails}
 use Rattle.bk_follow.specs.Follower.{BookValue, Followed, HasCome, executed_in}
 use Rattle.bk_follow.specs.Ordering.{IsOrdered}
-use Rattle.bk_answer.specs.RunReport.{IsStopIn}
+use Rattle.bk_answer.specs.RunReport.{HasNoStopIn, IsStopIn}
 use Rattle.bk_follow.specs.Stopping.{kept_fault}
 use Rattle.bk_follow.specs.private.Books.{IsGoodBook}
 use Rattle.bk_follow.specs.private.Ordered.{BookOrderFails}
@@ -38,7 +38,8 @@ orders_not (fault.Equivocation round author first second) cut committee book b n
     (of_feed (follower_of cut committee book None) b (λ feed. IsStopIn feed (fault.Equivocation round author first second)) is none (λ feed _ good. h.1 feed good), (λ i. follower_of cut committee ((ap Some h.0 ∙ sym is) i) None))
 orders_not (fault.Unfinished place) cut committee book b new is none h = absurd h
 orders_not (fault.Write written) cut committee book b new is none h = absurd h
-orders_not fault.Memory cut committee book b new is none h = tt
+orders_not fault.Memory cut committee book b new is none h =
+    of_feed (follower_of cut committee book None) b HasNoStopIn is none (λ feed _ good. h feed good)
 
 -- after a fault that is not kept everything is as it was
 pub order_stop_same : (f : Fault) (old new : Followed) → kept_fault f ≡ None → OrdersNot old new f → new ≡ old
@@ -56,4 +57,4 @@ close_order_fails (fault.Collision id) old new now e h = (h.0, e ∙ h.1)
 close_order_fails (fault.Equivocation round author first second) old new now e h = (h.0, e ∙ h.1)
 close_order_fails (fault.Unfinished place) old new now e h = absurd h
 close_order_fails (fault.Write written) old new now e h = absurd h
-close_order_fails fault.Memory old new now e h = e
+close_order_fails fault.Memory old new now e h = (h, e)

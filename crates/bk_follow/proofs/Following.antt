@@ -14,7 +14,7 @@ use Rattle.bk_results.specs.declared.fault.Fault.TheVariants as fault
 use Rattle.bk_results.specs.declared.status.Status.{Status}
 use Rattle.bk_results.specs.Devices.{IsUntouched}
 use Rattle.bk_answer.specs.Answers.{TextIsOut, TextStops}
-use Rattle.bk_answer.specs.RunReport.{IsReportOf, IsStopIn, HasPlaceIn}
+use Rattle.bk_answer.specs.RunReport.{HasNoStopIn, IsReportOf, IsStopIn, HasPlaceIn}
 use Rattle.bk_follow.specs.Follower.{BookValue, Followed, IsBookOf, IsCurrent, FollowsBy, Follows, HasCome, Settles, SettleFails, OfFrames, IsSettledBy, receipts_of_executed, receipts_in, broken, unfed}
 use Rattle.bk_follow.specs.Finishing.{OfFeed, Closes, CloseFails, Finishes, FinishFails}
 use Rattle.bk_follow.specs.private.Books.{IsGoodBook, BookSettleFails, WritesBook, WriteFails}
@@ -109,7 +109,7 @@ settle_fails (fault.Equivocation round author first second) cut committee book s
     (e ∙ (λ i. follower_of cut committee ((ap Some h.0 ∙ sym is) i) (sym none i)), of_frames (follower_of cut committee book stands) b (λ feed. IsStopIn feed (fault.Equivocation round author first second)) is h.1)
 settle_fails (fault.Unfinished place) cut committee book stands b new now is none e h = (e, of_frames (follower_of cut committee book stands) b (λ feed. HasPlaceIn feed place) is h)
 settle_fails (fault.Write written) cut committee book stands b new now is none e h = absurd h
-settle_fails fault.Memory cut committee book stands b new now is none e h = e
+settle_fails fault.Memory cut committee book stands b new now is none e h = (e, of_frames (follower_of cut committee book stands) b HasNoStopIn is h)
 
 -- ---- the end of a feed
 
@@ -151,7 +151,8 @@ closes_not (fault.Equivocation round author first second) cut committee book b n
 closes_not (fault.Unfinished place) cut committee book b new is none h =
     of_feed (follower_of cut committee book None) b (λ feed. HasPlaceIn feed place) is none (λ feed _ good. h feed good)
 closes_not (fault.Write written) cut committee book b new is none h = absurd h
-closes_not fault.Memory cut committee book b new is none h = tt
+closes_not fault.Memory cut committee book b new is none h =
+    of_feed (follower_of cut committee book None) b HasNoStopIn is none (λ feed _ good. h feed good)
 
 -- a book that was settled is that of the feed
 pub closes : (bytes : List ℕ) (frames : List Frame) (cut : Cut) (committee : Option CommitteeValue) (book : Option BookValue) (b new : BookValue) → HasCome bytes frames (follower_of cut committee book None) → book ≡ Some b → cut.kept ≡ []
@@ -198,7 +199,7 @@ end_close_fails (fault.Collision id) old new sink h = (h.0, h.1, untouched sink)
 end_close_fails (fault.Equivocation round author first second) old new sink h = (h.0, h.1, untouched sink)
 end_close_fails (fault.Unfinished place) old new sink h = (h, untouched sink)
 end_close_fails (fault.Write written) old new sink h = absurd h
-end_close_fails fault.Memory old new sink h = untouched sink
+end_close_fails fault.Memory old new sink h = (h, untouched sink)
 
 -- why the report was not written is why there is none
 pub end_write_fails : (f : Fault) (old new : Followed) (b : BookValue) (before after : Device) → Closes old new → new.book ≡ Some b → WriteFails b before after f → EndFails old new before after f
@@ -207,7 +208,7 @@ end_write_fails (fault.Collision id) old new b before after closed is h = absurd
 end_write_fails (fault.Equivocation round author first second) old new b before after closed is h = absurd h
 end_write_fails (fault.Unfinished place) old new b before after closed is h = absurd h
 end_write_fails (fault.Write written) old new b before after closed is h = (on_closed old new b (λ feed. (answer : Status) × TextStops (IsReportOf feed answer) written before after) closed is (λ feed good current. h.0 feed (good, current)), h.1)
-end_write_fails fault.Memory old new b before after closed is h = h
+end_write_fails fault.Memory old new b before after closed is h = (on_closed old new b HasNoStopIn closed is (λ feed good current. current.clear), h)
 
 -- a report of the book is that of the feed
 pub finishes : (old new : Followed) (b : BookValue) (before after : Device) (answer : Status) → Closes old new → new.book ≡ Some b → WritesBook b before after answer → Finishes old new before after answer
@@ -234,7 +235,7 @@ close_fails (fault.Collision id) old new now e h = (h.0, e ∙ h.1)
 close_fails (fault.Equivocation round author first second) old new now e h = (h.0, e ∙ h.1)
 close_fails (fault.Unfinished place) old new now e h = (h, e)
 close_fails (fault.Write written) old new now e h = absurd h
-close_fails fault.Memory old new now e h = e
+close_fails fault.Memory old new now e h = (h, e)
 
 -- after a fault that is not kept everything is as it was
 pub end_stop_same : (f : Fault) (old new : Followed) (before after : Device) → kept_fault f ≡ None → EndFails old new before after f → new ≡ old
@@ -252,7 +253,7 @@ finish_fails (fault.Collision id) old new now before after e h = (h.0, e ∙ h.1
 finish_fails (fault.Equivocation round author first second) old new now before after e h = (h.0, e ∙ h.1, h.2)
 finish_fails (fault.Unfinished place) old new now before after e h = (h.0, e, h.1)
 finish_fails (fault.Write written) old new now before after e h = (h.0, e, h.1)
-finish_fails fault.Memory old new now before after e h = (e, h)
+finish_fails fault.Memory old new now before after e h = (h.0, e, h.1)
 
 -- a stop leaves all as it was
 unkept : (f : Fault) (left : Followed) → kept_fault f ≡ None → after_fault f left ≡ left

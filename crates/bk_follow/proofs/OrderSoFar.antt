@@ -18,6 +18,7 @@ use Rattle.bk_follow.specs.private.Books.{IsGoodBook, BookSettleFails}
 use Rattle.bk_follow.specs.private.Ledgers.{book_with}
 use Rattle.bk_follow.specs.private.Ordered.{BookOrderFails}
 use Rattle.bk_follow.specs.private.Parts.{after_fault}
+use Rattle.bk_follow.proofs.QueryStops.{nothing_stops}
 use Rattle.bk_follow.proofs.Books.{IsSettling, clear_in, order_in_feed, whole_part}
 use Rattle.bk_follow.proofs.Following.{follower_of, good_of, come_on, settle_fails}
 
@@ -128,4 +129,4 @@ order_fails (fault.Collision id) cut committee book stands b new now is none e h
 order_fails (fault.Equivocation round author first second) cut committee book stands b new now is none e h = settle_fails (fault.Equivocation round author first second) cut committee book stands b new now is none e h
 order_fails (fault.Unfinished place) cut committee book stands b new now is none e h = absurd h
 order_fails (fault.Write written) cut committee book stands b new now is none e h = absurd h
-order_fails fault.Memory cut committee book stands b new now is none e h = e
+order_fails fault.Memory cut committee book stands b new now is none e h = (e, nothing_stops (follower_of cut committee book stands) b is h)

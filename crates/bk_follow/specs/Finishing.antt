@@ -9,7 +9,7 @@ use Rattle.bk_results.specs.declared.fault.Fault.TheVariants as fault
 use Rattle.bk_results.specs.declared.status.Status.{Status}
 use Rattle.bk_results.specs.Devices.{IsUntouched}
 use Rattle.bk_answer.specs.Answers.{TextIsOut, TextStops}
-use Rattle.bk_answer.specs.RunReport.{IsReportOf, IsStopIn, HasPlaceIn}
+use Rattle.bk_answer.specs.RunReport.{HasNoStopIn, IsReportOf, IsStopIn, HasPlaceIn}
 use Rattle.bk_follow.specs.Follower.{BookValue, Followed, HasCome, IsCurrent, IsSettled, broken, executed_in}
 use Rattle.bk_follow.specs.Ordering.{IsOrdered}
 
@@ -33,14 +33,15 @@ pub record Closes (old new : Followed) : Type 0 where
   pub cut : new.cut ≡ old.cut
   pub current : OfFeed old (λ feed. (b : BookValue) × (new.book ≡ Some b) × IsCurrent feed b)
 
--- why it was not, and what that leaves: the bytes end too early; the stop of the feed, and then all is as it was; a place
--- that a worker took and did not finish; or memory ran out. But for a stop, the Follower then holds nothing but the fault
+-- why it was not, and what that leaves: the bytes end too early; the stop of the feed, and then all is as it was; or nothing
+-- stops the feed, and there is a place that a worker took and did not finish, or memory ran out. But for a stop, the Follower
+-- then holds nothing but the fault
 abbrev pub CloseFails : Followed → Followed → Fault → Type 0
 CloseFails old new (fault.Feed found) = EndsShort old.cut found × (new ≡ broken (fault.Feed found))
 CloseFails old new (fault.Unfinished place) =
     OfFeed old (λ feed. HasPlaceIn feed place) × (new ≡ broken (fault.Unfinished place))
 CloseFails old new (fault.Write written) = ⊥
-CloseFails old new fault.Memory = new ≡ broken fault.Memory
+CloseFails old new fault.Memory = OfFeed old HasNoStopIn × (new ≡ broken fault.Memory)
 CloseFails old new stop = OfFeed old (λ feed. IsStopIn feed stop) × (new ≡ old)
 
 -- the order of a feed was closed: what had come is a feed, the order of all of it was found, and nothing was executed
@@ -51,13 +52,13 @@ pub record ClosesOrder (old new : Followed) : Type 0 where
   pub executed : executed_in new.book ≡ executed_in old.book
   pub ordered : OfFeed old (λ feed. (b : BookValue) × (new.book ≡ Some b) × IsOrdered feed b)
 
--- why it was not, and what that leaves: the bytes end too early; the stop of the feed, and then all is as it was; or memory
--- ran out. But for a stop, the Follower then holds nothing but the fault
+-- why it was not, and what that leaves: the bytes end too early; the stop of the feed, and then all is as it was; or nothing
+-- stops the feed, and memory ran out. But for a stop, the Follower then holds nothing but the fault
 abbrev pub CloseOrderFails : Followed → Followed → Fault → Type 0
 CloseOrderFails old new (fault.Feed found) = EndsShort old.cut found × (new ≡ broken (fault.Feed found))
 CloseOrderFails old new (fault.Unfinished place) = ⊥
 CloseOrderFails old new (fault.Write written) = ⊥
-CloseOrderFails old new fault.Memory = new ≡ broken fault.Memory
+CloseOrderFails old new fault.Memory = OfFeed old HasNoStopIn × (new ≡ broken fault.Memory)
 CloseOrderFails old new stop = OfFeed old (λ feed. IsStopIn feed stop) × (new ≡ old)
 
 -- a report was written: what had come is a feed, all of it is settled, and the sink received its report
@@ -68,9 +69,9 @@ pub record Finishes (old new : Followed) (before after : Device) (answer : Statu
   pub report : OfFeed old (λ feed. TextIsOut (IsReportOf feed answer) before after)
   pub works : Works before after
 
--- why there is no report, and what it leaves: the bytes end too early; the stop of the feed, and then all is as it was; a
--- place that a worker took and did not finish; the sink failed, and exactly the first bytes of the report are out; or
--- memory ran out. But for a stop, the Follower then holds nothing but the fault
+-- why there is no report, and what it leaves: the bytes end too early; the stop of the feed, and then all is as it was; or
+-- nothing stops the feed, and there is a place that a worker took and did not finish; the sink failed, and exactly the first
+-- bytes of the report are out; or memory ran out. But for a stop, the Follower then holds nothing but the fault
 abbrev pub FinishFails : Followed → Followed → Device → Device → Fault → Type 0
 FinishFails old new before after (fault.Feed found) =
     EndsShort old.cut found × (new ≡ broken (fault.Feed found)) × IsUntouched before after
@@ -80,6 +81,7 @@ FinishFails old new before after (fault.Unfinished place) =
 FinishFails old new before after (fault.Write written) =
     OfFeed old (λ feed. (answer : Status) × TextStops (IsReportOf feed answer) written before after) × (new ≡ broken (fault.Write written))
     × Fails before after
-FinishFails old new before after fault.Memory = (new ≡ broken fault.Memory) × IsUntouched before after
+FinishFails old new before after fault.Memory =
+    OfFeed old HasNoStopIn × (new ≡ broken fault.Memory) × IsUntouched before after
 FinishFails old new before after stop =
     OfFeed old (λ feed. IsStopIn feed stop) × (new ≡ old) × IsUntouched before after

@@ -141,12 +141,12 @@ OfFrames v holds =
     (bytes : List ℕ) (frames : List Frame) → HasCome bytes frames v
     → (version : Version) × (v.cut.version ≡ Some version) × holds (feed_of version frames)
 
--- why there was no settle, and what it leaves: the stop of the whole frames so far, and then all is as it was; a place of
--- the order was not done; or memory ran out. After the last two the Follower holds nothing but the fault
+-- why there was no settle, and what it leaves: the stop of the whole frames so far, and then all is as it was; or nothing
+-- stops them, and a place of the order was not done, or memory ran out. After these the Follower holds nothing but the fault
 abbrev pub SettleFails : Followed → Followed → Fault → Type 0
 SettleFails old new (fault.Feed found) = ⊥
 SettleFails old new (fault.Unfinished place) =
     (new ≡ broken (fault.Unfinished place)) × OfFrames old (λ feed. HasPlaceIn feed place)
 SettleFails old new (fault.Write written) = ⊥
-SettleFails old new fault.Memory = new ≡ broken fault.Memory
+SettleFails old new fault.Memory = (new ≡ broken fault.Memory) × OfFrames old HasNoStopIn
 SettleFails old new stop = (new ≡ old) × OfFrames old (λ feed. IsStopIn feed stop)

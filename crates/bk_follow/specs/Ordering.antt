@@ -8,6 +8,7 @@ use Rattle.bk_results.specs.declared.fault.Fault.{Fault}
 use Rattle.bk_results.specs.declared.fault.Fault.TheVariants as fault
 use Rattle.bk_answer.specs.RunReport.{HasNoStopIn, IsOrderIn, IsStopIn}
 use Rattle.bk_follow.specs.Follower.{BookValue, Followed, HasCome, IsBookOf, OfFrames, broken, executed_in}
+use Rattle.bk_follow.specs.Queries.{NothingStops}
 
 -- this is made of the frames of a feed that nothing stops, and has the order of all of them
 pub record IsOrdered (feed : FeedValue) (b : BookValue) : Type 0 where
@@ -49,13 +50,13 @@ pub record FindsOrder (old new : Followed) (anchors certs : List CertRef) : Type
   pub executed : executed_in new.book ≡ executed_in old.book
   pub cut : new.cut ≡ old.cut
 
--- why an order or a proof was not found, and what that leaves: the stop of the whole frames so far, and then all is as it was; or memory ran
--- out, and then the Follower holds nothing but the fault
+-- why an order or a proof was not found, and what that leaves: the stop of the whole frames so far, and then all is as it was; or nothing
+-- stops them and memory ran out, and then the Follower holds nothing but the fault
 abbrev pub OrderFails : Followed → Followed → Fault → Type 0
 OrderFails old new (fault.Feed found) = ⊥
 OrderFails old new (fault.Unfinished place) = ⊥
 OrderFails old new (fault.Write written) = ⊥
-OrderFails old new fault.Memory = new ≡ broken fault.Memory
+OrderFails old new fault.Memory = (new ≡ broken fault.Memory) × NothingStops old
 OrderFails old new stop = (new ≡ old) × OfFrames old (λ feed. IsStopIn feed stop)
 
 -- the anchors of the order as it was settled last, none before the genesis is whole

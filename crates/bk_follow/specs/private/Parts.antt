@@ -10,7 +10,7 @@ use Rattle.bk_results.specs.Devices.{IsUntouched}
 use Rattle.bk_follow.specs.Finishing.{OfFeed}
 use Rattle.bk_follow.specs.Follower.{Followed, broken}
 use Rattle.bk_answer.specs.Answers.{TextStops}
-use Rattle.bk_answer.specs.RunReport.{IsReportOf, IsStopIn, HasPlaceIn}
+use Rattle.bk_answer.specs.RunReport.{HasNoStopIn, IsReportOf, IsStopIn, HasPlaceIn}
 
 -- a Follower of these parts, in which no fault is kept
 abbrev pub followed : Cut → Opened → Followed
@@ -33,7 +33,7 @@ abbrev pub ClosesNot : Followed → Followed → Fault → Type 0
 ClosesNot old new (fault.Feed found) = EndsShort old.cut found
 ClosesNot old new (fault.Unfinished place) = OfFeed old (λ feed. HasPlaceIn feed place)
 ClosesNot old new (fault.Write written) = ⊥
-ClosesNot old new fault.Memory = Unit {0}
+ClosesNot old new fault.Memory = OfFeed old HasNoStopIn
 ClosesNot old new stop = OfFeed old (λ feed. IsStopIn feed stop) × (new ≡ old)
 
 -- why its order was not closed, but for the same
@@ -41,7 +41,7 @@ abbrev pub OrdersNot : Followed → Followed → Fault → Type 0
 OrdersNot old new (fault.Feed found) = EndsShort old.cut found
 OrdersNot old new (fault.Unfinished place) = ⊥
 OrdersNot old new (fault.Write written) = ⊥
-OrdersNot old new fault.Memory = Unit {0}
+OrdersNot old new fault.Memory = OfFeed old HasNoStopIn
 OrdersNot old new stop = OfFeed old (λ feed. IsStopIn feed stop) × (new ≡ old)
 
 -- why a feed that is followed did not end in a report, but for the fault that is kept after it
@@ -51,6 +51,6 @@ EndFails old new before after (fault.Unfinished place) =
     OfFeed old (λ feed. HasPlaceIn feed place) × IsUntouched before after
 EndFails old new before after (fault.Write written) =
     OfFeed old (λ feed. (answer : Status) × TextStops (IsReportOf feed answer) written before after) × Fails before after
-EndFails old new before after fault.Memory = IsUntouched before after
+EndFails old new before after fault.Memory = OfFeed old HasNoStopIn × IsUntouched before after
 EndFails old new before after stop =
     OfFeed old (λ feed. IsStopIn feed stop) × (new ≡ old) × IsUntouched before after
