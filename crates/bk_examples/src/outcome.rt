@@ -76,7 +76,15 @@ where
     let mut out = Counted::new(Vec::new(alloc));
     let mut err = Counted::new(Vec::new(alloc));
     let hidden = Progress::new(rt, Manner::Hidden);
-    let exit = open_and_run(&Inputs::new(rt), rt, &line, &hidden, &mut out, &mut err);
+    let exit = open_and_run(
+        &Inputs::new(rt),
+        rt.reader(),
+        rt,
+        &line,
+        &hidden,
+        &mut out,
+        &mut err,
+    );
     Ok(Outcome {
         status: exit.number(),
         out: out.into_inner(),

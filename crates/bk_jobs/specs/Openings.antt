@@ -7,7 +7,7 @@ use Rattle.bk_results.specs.declared.fault.Fault.TheVariants as replay
 use Rattle.bk_cli.specs.Exits.{is_answer}
 use Rattle.bk_cli.specs.Explanations.{told}
 use Rattle.bk_cli.specs.FaultLines.{Reports}
-use Rattle.bk_cli.specs.Files.{file_of, second_file_of}
+use Rattle.bk_cli.specs.Files.{file_of, is_input, second_file_of}
 use Rattle.bk_cli.specs.Unopened.{told_unopened}
 use Rattle.bk_cli.specs.declared.unopened.Unopened.{Unopened}
 use Rattle.bk_cli.specs.declared.unopened.Unopened.TheVariants as reason
@@ -32,23 +32,28 @@ pub record RanSo (j : Job) (strict verbose : Bool) (last : Exit) (old new : JobD
   pub fault : is_answer j end ≡ false → (e : JobFault) × EndsBy j (told verbose j) e end old new err between
   pub judged : IsJudgedEnd strict j old new end last between err'
 
--- the first file of a job, or standard input where it names none, gives these bytes, by what files hold
-abbrev pub IsFirst : (List ℕ → Option (List ℕ) → Type 0) → (Option (List ℕ) → Type 0) → Option (List ℕ) → Option (List ℕ) → Type 0
-IsFirst holds feeds (Some path) bytes = holds path bytes
-IsFirst holds feeds None bytes = feeds bytes
+-- what a path gives: standard input's bytes where the path stands for that, else what a file of it holds
+abbrev pub IsOf : Bool → (List ℕ → Option (List ℕ) → Type 0) → Option (List ℕ) → List ℕ → Option (List ℕ) → Type 0
+IsOf true holds input path bytes = bytes ≡ input
+IsOf false holds input path bytes = holds path bytes
+
+-- the first file of a job gives these bytes, by what files hold and standard input gives; where it names none it is standard input
+abbrev pub IsFirst : (List ℕ → Option (List ℕ) → Type 0) → Option (List ℕ) → Option (List ℕ) → Option (List ℕ) → Type 0
+IsFirst holds input (Some path) bytes = IsOf (is_input path) holds input path bytes
+IsFirst holds input None bytes = bytes ≡ input
 
 -- the second gives these, where the job names one
-abbrev pub IsSecond : (List ℕ → Option (List ℕ) → Type 0) → Option (List ℕ) → Option (List ℕ) → Type 0
-IsSecond holds (Some path) bytes = holds path bytes
-IsSecond holds None bytes = Unit {0}
+abbrev pub IsSecond : (List ℕ → Option (List ℕ) → Type 0) → Option (List ℕ) → Option (List ℕ) → Option (List ℕ) → Type 0
+IsSecond holds input (Some path) bytes = IsOf (is_input path) holds input path bytes
+IsSecond holds input None bytes = Unit {0}
 
 -- the job ran so over its files, each from its beginning on
-pub record RanOver (holds : List ℕ → Option (List ℕ) → Type 0) (feeds : Option (List ℕ) → Type 0) (j : Job) (strict verbose : Bool)
+pub record RanOver (holds : List ℕ → Option (List ℕ) → Type 0) (input : Option (List ℕ)) (j : Job) (strict verbose : Bool)
     (last : Exit) (out out' err err' : Device) : Type 0 where
   pub old : JobDevices
   pub new : JobDevices
-  pub first : IsFirst holds feeds (file_of j) old.first.bytes
-  pub second : IsSecond holds (second_file_of j) old.second.bytes
+  pub first : IsFirst holds input (file_of j) old.first.bytes
+  pub second : IsSecond holds input (second_file_of j) old.second.bytes
   pub begins : old.out ≡ out
   pub ends : new.out ≡ out'
   pub ran : RanSo j strict verbose last old new err err'
@@ -57,29 +62,33 @@ pub record RanOver (holds : List ℕ → Option (List ℕ) → Type 0) (feeds : 
 abbrev pub IsFileOf : Job → List ℕ → Type 0
 IsFileOf j path = (file_of j ≡ Some path) ⊎ (second_file_of j ≡ Some path)
 
--- a file of the job could not be opened, which is reported with its path and, in words, with the reason
-abbrev pub HasNoFile : (List ℕ → Unopened → Type 0) → Job → Bool → Device → Device → Type 0
-HasNoFile lacks j verbose err err' =
-    (path : List ℕ) × IsFileOf j path × (why : Unopened) × lacks path why × Reports (told_unopened verbose path why) err err'
-
--- there was no memory to read ahead, which is reported
-abbrev pub HasNoMemory : Job → Bool → Device → Device → Type 0
-HasNoMemory j verbose err err' = Reports (told verbose j (fault.Replay replay.Memory)) err err'
-
--- the job did not begin
-pub record BeganNot (lacks : List ℕ → Unopened → Type 0) (j : Job) (verbose : Bool) (end : Exit) (out out' err err' : Device) : Type 0 where
-  pub failed : end ≡ exit.Failed
-  pub untouched : out' ≡ out
-  pub line : HasNoFile lacks j verbose err err' ⊎ HasNoMemory j verbose err err'
-
--- the one or the other
-abbrev pub Ran : (List ℕ → Option (List ℕ) → Type 0) → (Option (List ℕ) → Type 0) → (List ℕ → Unopened → Type 0) → Job → Bool → Bool
-    → Exit → Device → Device → Device → Device → Type 0
-Ran holds feeds lacks j strict verbose end out out' err err' =
-    RanOver holds feeds j strict verbose end out out' err err' ⊎ BeganNot lacks j verbose end out out' err err'
+-- a file of the job could not be opened, which is an error of this kind; a path that stands for standard input is none
+abbrev pub IsUnopened : (List ℕ → ErrorKind → Type 0) → Job → List ℕ → ErrorKind → Type 0
+IsUnopened lacks j path found = IsFileOf j path × (is_input path ≡ false) × lacks path found
 
 -- why a file was not opened, by the kind of the system's error
 abbrev pub reason_by : ErrorKind → Unopened
 reason_by kind.NotFound = reason.Absent
 reason_by kind.PermissionDenied = reason.Denied
 reason_by _ = reason.Other
+
+-- a file of the job could not be opened, which is reported with its path and, in words, with the reason
+abbrev pub HasNoFile : (List ℕ → ErrorKind → Type 0) → Job → Bool → Device → Device → Type 0
+HasNoFile lacks j verbose err err' =
+    (path : List ℕ) × (found : ErrorKind) × IsUnopened lacks j path found × Reports (told_unopened verbose path (reason_by found)) err err'
+
+-- there was no memory to read ahead, which is reported
+abbrev pub HasNoMemory : Job → Bool → Device → Device → Type 0
+HasNoMemory j verbose err err' = Reports (told verbose j (fault.Replay replay.Memory)) err err'
+
+-- the job did not begin
+pub record BeganNot (lacks : List ℕ → ErrorKind → Type 0) (j : Job) (verbose : Bool) (end : Exit) (out out' err err' : Device) : Type 0 where
+  pub failed : end ≡ exit.Failed
+  pub untouched : out' ≡ out
+  pub line : HasNoFile lacks j verbose err err' ⊎ HasNoMemory j verbose err err'
+
+-- the one or the other, by what files hold, why they are not opened, and what standard input gives
+abbrev pub Ran : (List ℕ → Option (List ℕ) → Type 0) → (List ℕ → ErrorKind → Type 0) → Option (List ℕ) → Job → Bool → Bool
+    → Exit → Device → Device → Device → Device → Type 0
+Ran holds lacks input j strict verbose end out out' err err' =
+    RanOver holds input j strict verbose end out out' err err' ⊎ BeganNot lacks j verbose end out out' err err'

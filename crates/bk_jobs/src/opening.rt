@@ -1,21 +1,25 @@
 //! Opens the files that a job names.
 
-ghost use Rattle.std.specs.Prelude.{◌≡◌, Some, true, false};
+ghost use Rattle.std.specs.Prelude.{◌≡◌, Some, true, false, is_some, IfErr, IfOk, option_and_then};
+ghost use Rattle.either.specs.Either.{either};
+ghost use Rattle.std.specs.IoError.{error_kind};
 ghost use Rattle.bk_frames.specs.Device.{CanBeUsed};
 ghost use Rattle.bk_results.specs.Devices.{IsUntouched};
 ghost use Rattle.bk_cli.specs.Exits.{is_refusal, may_end_if, writes_ahead};
-ghost use Rattle.bk_cli.specs.Files.{file_of, second_file_of};
-ghost use Rattle.bk_jobs.specs.Openings.{HasNoFile, HasNoMemory, IsFileOf, IsFirst, IsSecond, Ran};
-ghost use Rattle.bk_jobs.specs.private.Opened.{RanOn, waits_at_end};
+ghost use Rattle.bk_cli.specs.Files.{file_of, is_input, names_input, reads_beside, reads_input_twice, second_file_of};
+ghost use Rattle.bk_jobs.specs.Openings.{HasNoFile, HasNoMemory, IsFirst, IsOf, IsUnopened, Ran, reason_by};
+ghost use Rattle.bk_jobs.specs.private.Opened.{IsSecondOpened, RanOn, names_input_second, waits_at_end};
 ghost use Rattle.bk_jobs.specs.Sources.{CanBeUsedAgain};
 
 use crate::inputs::Opens;
 use crate::running::{Watch, run_watched};
-use bk_cli::{Exit, Job, JobFault, Line, Unopened, tell, tell_unopened};
+use bk_cli::{Exit, Job, JobFault, Line, Unopened, is_input, tell, tell_unopened};
 use bk_frames::{Counted, Sink};
 use bk_progress::{Metered, Progress};
 use bk_results::Fault;
 use bk_tail::Waiting;
+use either::{Either, Left, Right};
+use std::io;
 use std::io::{BufReader, Read};
 use std::sync::Wait;
 use std::thread::Threads;
@@ -24,22 +28,42 @@ use std::time::Clock;
 // How many bytes are read ahead, so that small pulls cost little. The number is none of the format's.
 const AHEAD: usize = 65_536;
 
+// A file that could not be opened.
+#[derive(Drop)]
+struct Missing<'a> {
+    path: &'a str,
+    error: io::Error,
+}
+
+// What a job reads: its first file, and its second where it names one. Standard input stands in place of one of them at
+// most.
+#[derive(Drop)]
+struct Sources<F, I> {
+    first: Either<F, I>,
+    second: Option<Either<F, I>>,
+}
+
+// Why the system did not open a file, as far as it says it.
+fn reason_of(error: &io::Error) -> Unopened
+    ensures { result ≡ reason_by (error_kind error.now) }
+{
+    match error.kind() {
+        io::ErrorKind::NotFound => Unopened::Absent,
+        io::ErrorKind::PermissionDenied => Unopened::Denied,
+        _ => Unopened::Other,
+    }
+}
+
 // Reports a file that cannot be opened.
-fn not_opened<N: Opens, E: Sink>(
-    files: &N,
-    line: &Line,
-    path: &str,
-    why: Unopened,
-    err: &mut E,
-) -> Exit
-    requires path { IsFileOf line.now.job path.now }
-    requires why { N.lacks files.now path.now why }
+fn not_opened<N: Opens, E: Sink>(files: &N, line: &Line, missing: &Missing<'_>, err: &mut E) -> Exit
+    requires missing { IsUnopened (N.lacks files.now) line.now.job missing.now.path.now (error_kind missing.now.error) }
     requires err { CanBeUsed (E.state err.old) }
     ensures failed { result ≡ Exit.Failed }
     ensures told { HasNoFile (N.lacks files.now) line.now.job line.now.notes.verbose
         (E.state err.old) (E.state err.new) }
 {
-    tell_unopened(path, line.notes.verbose, why, err);
+    let why = reason_of(&missing.error);
+    tell_unopened(missing.path, line.notes.verbose, why, err);
     Exit::Failed
 }
 
@@ -64,90 +88,150 @@ fn is_waited(job: &Job) -> bool
     }
 }
 
+// How many bytes a file has, where that is known: those of standard input are not.
+fn size_of<N: Opens>(files: &N, path: &str) -> Option<u64> {
+    if is_input(path) {
+        None
+    } else {
+        files.size_of(path)
+    }
+}
+
 // Counts the bytes that are going to be read.
 fn expect_files<N: Opens, P: Clock + Eprint>(files: &N, job: &Job, progress: &Progress<'_, P>) {
     if !progress.is_shown() {
         return;
     }
     match job.file() {
-        Some(path) if !is_waited(job) => progress.expect(files.size_of(path)),
+        Some(path) if !is_waited(job) => progress.expect(size_of(files, path)),
         Some(_) | None => progress.expect(None),
     }
     if let Some(path) = job.second_file() {
-        progress.expect(files.size_of(path));
+        progress.expect(size_of(files, path));
     }
 }
 
-// Opens the feed, after the text beside it, and runs the job.
-fn open_feed<N, R, P, J: Read + Drop, O: Sink, E: Sink>(
+// Opens the file of a path, or takes standard input where the path stands for that.
+fn open_path<N: Opens, I: Read>(
     files: &N,
-    rt: &R,
-    line: &Line,
-    progress: &Progress<'_, P>,
-    text: J,
-    out: &mut O,
-    err: &mut E,
-) -> Exit
-where
-    N: Opens,
-    R: AllocGlobal + Clock + Threads + Wait + Sync,
-    P: Clock + Eprint + Sync,
-    requires text { IsSecond (N.holds files.now) (second_file_of line.now.job) (J.remaining text) }
-    requires out { CanBeUsed (O.state out.old) }
-    requires err { CanBeUsedAgain (E.state err.old) }
-    ensures unwritten { is_refusal result ≡ true → writes_ahead line.now.job ≡ false
-        → IsUntouched (O.state out.old) (O.state out.new) }
-    ensures ends { may_end_if line.now.strict line.now.job result ≡ true }
-    ensures ran { Ran (N.holds files.now) (N.feeds files.now) (N.lacks files.now)
-        line.now.job line.now.strict line.now.notes.verbose result
-        (O.state out.old) (O.state out.new) (E.state err.old) (E.state err.new) }
+    path: &str,
+    input: &mut Option<I>,
+) -> Result<Either<N::File, I>, io::Error>
+    requires there { is_input path.now ≡ true → is_some input.old ≡ true }
+    ensures opened { IfOk result (λ s. IsOf (is_input path.now) (N.holds files.now)
+        (option_and_then I.remaining input.old) path.now (either N.File.remaining I.remaining s)) }
+    ensures unopened { IfErr result (λ e. (is_input path.now ≡ false)
+        × N.lacks files.now path.now (error_kind e)) }
+    ensures kept { is_input path.now ≡ false → input.new ≡ input.old }
 {
-    match line.job.file() {
-        Some(path) => match files.open(path) {
-            Ok(feed) => run_over(rt, line, progress, feed, text, out, err),
-            Err(why) => not_opened(files, line, path, why, err),
+    if is_input(path) {
+        return Ok(Right(taken(input)));
+    }
+    match files.open(path) {
+        Ok(file) => Ok(Left(file)),
+        Err(error) => Err(error),
+    }
+}
+
+// Takes standard input, which is there.
+fn taken<I>(input: &mut Option<I>) -> I
+    requires { is_some input.old ≡ true }
+    ensures { input.old ≡ Some result }
+{
+    let Some(reader) = input.take() else {
+        unreachable!()
+    };
+    reader
+}
+
+// Opens the first file of a job, or takes standard input where it names none.
+fn open_first<'a, N: Opens, I: Read>(
+    files: &N,
+    job: &'a Job,
+    input: &mut Option<I>,
+) -> Result<Either<N::File, I>, Missing<'a>>
+    requires there { names_input (file_of job.now) ≡ true → is_some input.old ≡ true }
+    ensures opened { IfOk result (λ s. IsFirst (N.holds files.now)
+        (option_and_then I.remaining input.old) (file_of job.now)
+        (either N.File.remaining I.remaining s)) }
+    ensures missing { IfErr result (λ m.
+        IsUnopened (N.lacks files.now) job.now m.path.now (error_kind m.error)) }
+    ensures kept { names_input (file_of job.now) ≡ false → input.new ≡ input.old }
+{
+    match job.file() {
+        Some(path) => match open_path(files, path, input) {
+            Ok(source) => Ok(source),
+            Err(error) => Err(Missing { path, error }),
         },
-        None => run_over(rt, line, progress, files.standard(), text, out, err),
+        None => Ok(Right(taken(input))),
     }
 }
 
-// Opens the text beside a feed, a claimed report or a list of accounts, and then the feed, and runs the job.
-fn open_beside<N, R, P, O: Sink, E: Sink>(
+// Opens the second file of a job, where it names one.
+fn open_second<'a, N: Opens, I: Read>(
     files: &N,
-    rt: &R,
-    line: &Line,
-    progress: &Progress<'_, P>,
-    text: &str,
-    out: &mut O,
-    err: &mut E,
-) -> Exit
-where
-    N: Opens,
-    R: AllocGlobal + Clock + Threads + Wait + Sync,
-    P: Clock + Eprint + Sync,
-    requires path { second_file_of line.now.job ≡ Some text.now }
-    requires out { CanBeUsed (O.state out.old) }
-    requires err { CanBeUsedAgain (E.state err.old) }
-    ensures unwritten { is_refusal result ≡ true → writes_ahead line.now.job ≡ false
-        → IsUntouched (O.state out.old) (O.state out.new) }
-    ensures ends { may_end_if line.now.strict line.now.job result ≡ true }
-    ensures ran { Ran (N.holds files.now) (N.feeds files.now) (N.lacks files.now)
-        line.now.job line.now.strict line.now.notes.verbose result
-        (O.state out.old) (O.state out.new) (E.state err.old) (E.state err.new) }
+    job: &'a Job,
+    input: &mut Option<I>,
+) -> Result<Option<Either<N::File, I>>, Missing<'a>>
+    requires there { names_input_second job.now ≡ true → is_some input.old ≡ true }
+    ensures opened { IfOk result (λ s. IsSecondOpened (N.holds files.now)
+        (option_and_then I.remaining input.old) (second_file_of job.now)
+        (either N.File.remaining I.remaining) s) }
+    ensures missing { IfErr result (λ m.
+        IsUnopened (N.lacks files.now) job.now m.path.now (error_kind m.error)) }
+    ensures kept { names_input_second job.now ≡ false → input.new ≡ input.old }
 {
-    match files.open(text) {
-        Ok(text) => open_feed(files, rt, line, progress, text, out, err),
-        Err(why) => not_opened(files, line, text, why, err),
+    match job.second_file() {
+        Some(path) => match open_path(files, path, input) {
+            Ok(source) => Ok(Some(source)),
+            Err(error) => Err(Missing { path, error }),
+        },
+        None => Ok(None),
     }
+}
+
+// Whether the second file of a job is a text beside a feed. It is named first, and opened first.
+fn is_beside(job: &Job) -> bool {
+    match job {
+        Job::CheckReport { .. } | Job::Pick { .. } | Job::Follow { .. } => true,
+        _ => false,
+    }
+}
+
+// Opens the files of a job, each from its beginning on.
+fn open_both<'a, N: Opens, I: Read + Drop>(
+    files: &N,
+    job: &'a Job,
+    input: I,
+) -> Result<Sources<N::File, I>, Missing<'a>>
+    requires once { reads_input_twice job.now ≡ false }
+    ensures first { IfOk result (λ s. IsFirst (N.holds files.now) (I.remaining input)
+        (file_of job.now) (either N.File.remaining I.remaining s.first)) }
+    ensures second { IfOk result (λ s. IsSecondOpened (N.holds files.now) (I.remaining input)
+        (second_file_of job.now) (either N.File.remaining I.remaining) s.second) }
+    ensures missing { IfErr result (λ m.
+        IsUnopened (N.lacks files.now) job.now m.path.now (error_kind m.error)) }
+{
+    let mut input = Some(input);
+    if is_beside(job) {
+        let second = open_second(files, job, &mut input)?;
+        let first = open_first(files, job, &mut input)?;
+        return Ok(Sources { first, second });
+    }
+    let first = open_first(files, job, &mut input)?;
+    let second = open_second(files, job, &mut input)?;
+    Ok(Sources { first, second })
 }
 
 /// Opens what the job names and runs it over that, from its beginning on, watched by `progress`.
 ///
-/// Standard input is read where no file is named. A file that cannot be opened ends with `Failed` and `read failed`. An
-/// end that is no answer has the line of its fault on `err`, and where the notes are verbose one more line in words; an
-/// answer to a query or of a comparison has a line then for each missing batch at which an order stops.
-pub fn open_and_run<N, R, P, O: Sink, E: Sink>(
+/// `input` is standard input, which is read where no file is named, or `-`; a job reads it once at most. A file that cannot
+/// be opened ends with `Failed` and `read failed`. An end that is no answer has the line of its fault on `err`, and where the
+/// notes are verbose one more line in words; an answer to a query or of a comparison has a line then for each missing batch at
+/// which an order stops.
+pub fn open_and_run<N, I, R, P, O: Sink, E: Sink>(
     files: &N,
+    input: I,
     rt: &R,
     line: &Line,
     progress: &Progress<'_, P>,
@@ -156,99 +240,27 @@ pub fn open_and_run<N, R, P, O: Sink, E: Sink>(
 ) -> Exit
 where
     N: Opens,
+    I: Read + Drop,
     R: AllocGlobal + Clock + Threads + Wait + Sync,
     P: Clock + Eprint + Sync,
+    requires once { reads_input_twice line.now.job ≡ false }
     requires out { CanBeUsed (O.state out.old) }
     requires err { CanBeUsedAgain (E.state err.old) }
     ensures unwritten { is_refusal result ≡ true → writes_ahead line.now.job ≡ false
         → IsUntouched (O.state out.old) (O.state out.new) }
     ensures ends { may_end_if line.now.strict line.now.job result ≡ true }
-    ensures ran { Ran (N.holds files.now) (N.feeds files.now) (N.lacks files.now)
+    ensures ran { Ran (N.holds files.now) (N.lacks files.now) (I.remaining input)
         line.now.job line.now.strict line.now.notes.verbose result
         (O.state out.old) (O.state out.new) (E.state err.old) (E.state err.new) }
 {
     expect_files(files, &line.job, progress);
-    match &line.job {
-        Job::CheckReport { report, .. } => open_beside(
-            files,
-            rt,
-            line,
-            progress,
-            report.as_str(),
-            out,
-            err,
-        ),
-        Job::Pick { accounts, .. }
-        | Job::Follow {
-            accounts: Some(accounts),
-            ..
-        } => open_beside(files, rt, line, progress, accounts.as_str(), out, err),
-        _ => open_first(files, rt, line, progress, out, err),
-    }
-}
-
-// Opens the first file, where the job names one, then the second, and runs the job.
-fn open_first<N, R, P, O: Sink, E: Sink>(
-    files: &N,
-    rt: &R,
-    line: &Line,
-    progress: &Progress<'_, P>,
-    out: &mut O,
-    err: &mut E,
-) -> Exit
-where
-    N: Opens,
-    R: AllocGlobal + Clock + Threads + Wait + Sync,
-    P: Clock + Eprint + Sync,
-    requires out { CanBeUsed (O.state out.old) }
-    requires err { CanBeUsedAgain (E.state err.old) }
-    ensures unwritten { is_refusal result ≡ true → writes_ahead line.now.job ≡ false
-        → IsUntouched (O.state out.old) (O.state out.new) }
-    ensures ends { may_end_if line.now.strict line.now.job result ≡ true }
-    ensures ran { Ran (N.holds files.now) (N.feeds files.now) (N.lacks files.now)
-        line.now.job line.now.strict line.now.notes.verbose result
-        (O.state out.old) (O.state out.new) (E.state err.old) (E.state err.new) }
-{
-    match line.job.file() {
-        Some(path) => match files.open(path) {
-            Ok(first) => open_second(files, rt, line, progress, first, out, err),
-            Err(why) => not_opened(files, line, path, why, err),
-        },
-        None => open_second(files, rt, line, progress, files.standard(), out, err),
-    }
-}
-
-// Opens the second file, where the job names one, and runs the job.
-fn open_second<N, R, P, I: Read + Drop, O: Sink, E: Sink>(
-    files: &N,
-    rt: &R,
-    line: &Line,
-    progress: &Progress<'_, P>,
-    first: I,
-    out: &mut O,
-    err: &mut E,
-) -> Exit
-where
-    N: Opens,
-    R: AllocGlobal + Clock + Threads + Wait + Sync,
-    P: Clock + Eprint + Sync,
-    requires first { IsFirst (N.holds files.now) (N.feeds files.now)
-        (file_of line.now.job) (I.remaining first) }
-    requires out { CanBeUsed (O.state out.old) }
-    requires err { CanBeUsedAgain (E.state err.old) }
-    ensures unwritten { is_refusal result ≡ true → writes_ahead line.now.job ≡ false
-        → IsUntouched (O.state out.old) (O.state out.new) }
-    ensures ends { may_end_if line.now.strict line.now.job result ≡ true }
-    ensures ran { Ran (N.holds files.now) (N.feeds files.now) (N.lacks files.now)
-        line.now.job line.now.strict line.now.notes.verbose result
-        (O.state out.old) (O.state out.new) (E.state err.old) (E.state err.new) }
-{
+    let Sources { first, second } = match open_both(files, &line.job, input) {
+        Ok(sources) => sources,
+        Err(missing) => return not_opened(files, line, &missing, err),
+    };
     let nothing: &[u8] = b"";
-    match line.job.second_file() {
-        Some(path) => match files.open(path) {
-            Ok(second) => run_over(rt, line, progress, first, second, out, err),
-            Err(why) => not_opened(files, line, path, why, err),
-        },
+    match second {
+        Some(second) => run_over(rt, line, progress, first, second, out, err),
         None => run_over(rt, line, progress, first, nothing, out, err),
     }
 }

@@ -1,5 +1,7 @@
 -- How the program ends, by its words.
-use Rattle.std.specs.Prelude.{◌≡◌, ◌≢◌, ◌⊎◌, ℕ, Bool, List, [], Option, true, false, codes}
+use Rattle.std.specs.Prelude.{◌≡◌, ◌≢◌, ◌⊎◌, ℕ, Bool, List, [], Option, Some, None, true, false, codes}
+use Rattle.std.specs.declared.io.ErrorKind.{ErrorKind}
+use Rattle.std.specs.declared.io.ErrorKind.TheVariants as found
 use Rattle.clap.specs.Words.{HasKind, Text, fault_of, kind_of, subcommand_of}
 use Rattle.clap.specs.declared.error.Error.{Error}
 use Rattle.clap.specs.declared.error.kind.ErrorKind.TheVariants as kind
@@ -16,10 +18,7 @@ use Rattle.bk_cli.specs.declared.job.Job.{Job}
 use Rattle.bk_cli.specs.declared.job_fault.JobFault.TheVariants as fault
 use Rattle.bk_cli.specs.declared.notes.Notes.{Notes}
 use Rattle.bk_cli.specs.Words.{settled}
-use Rattle.bk_cli.specs.declared.unopened.Unopened.{Unopened}
 use Rattle.bk_jobs.specs.Openings.{Ran}
-use Rattle.bkreplay.specs.declared.arguments.Unread.{Unread}
-use Rattle.bkreplay.specs.declared.arguments.Unread.TheVariants as unread
 
 -- where the words name no job: with Failed where memory ran out; with Whole after help and the version, or with Failed where
 -- these could not be written; and with No where the words have a fault
@@ -42,10 +41,11 @@ SaysUnwritten err err' = Reports (line_of (fault.Replay (replay.Write 0))) err e
 abbrev pub unread_words : List ℕ
 unread_words = codes "error: a word of the command line is not UTF-8\n"
 
--- the words have no fault, and the job that they name ran over the files that it names, reported as their notes say; where the bytes are to blame nothing is
--- written, but by a job that writes ahead
-pub record RanJob (holds : List ℕ → Option (List ℕ) → Type 0) (feeds : Option (List ℕ) → Type 0) (lacks : List ℕ → Unopened → Type 0)
-    (words : List Text) (end : Exit) (out out' err err' : Device) : Type 0 where
+-- the words have no fault and are not answered, and the job that they name ran over the files that it names and standard input,
+-- which it reads once at most, reported as their notes say; where the bytes are to blame nothing is written, but by a job that
+-- writes ahead
+pub record RanJob (holds : List ℕ → Option (List ℕ) → Type 0) (lacks : List ℕ → ErrorKind → Type 0) (input : Option (List ℕ))
+    (words : List Text) (said : Option Error) (end : Exit) (out out' err err' : Device) : Type 0 where
   pub job : Job
   pub notes : Notes
   pub good : fault_of command_line words ≡ []
@@ -56,13 +56,15 @@ pub record RanJob (holds : List ℕ → Option (List ℕ) → Type 0) (feeds : O
   pub ends : may_end_if strict job end ≡ true
   pub blame : is_refusal end ≡ true → writes_ahead job ≡ false → IsUntouched out out'
   pub once : reads_input_twice job ≡ false
-  pub ran : Ran holds feeds lacks job strict notes.verbose end out out' err err'
+  pub silent : said ≡ None
+  pub ran : Ran holds lacks input job strict notes.verbose end out out' err err'
 
--- the words have a fault, or ask for help or the version, or memory ran out: that decides how the program ends, nothing is
--- written of an answer, and where it ends with Failed one line says why
-pub record RanNone (words : List Text) (end : Exit) (out out' err err' : Device) : Type 0 where
+-- the words have a fault, or ask for help or the version, or memory ran out: they are answered with that, which decides how the
+-- program ends, nothing is written of an answer, and where it ends with Failed one line says why
+pub record RanNone (words : List Text) (said : Option Error) (end : Exit) (out out' err err' : Device) : Type 0 where
   pub error : Error
   pub names : HasKind (fault_of command_line words) error ⊎ IsOfValues error (subcommand_of command_line words)
+  pub answered : said ≡ Some error
   pub ends : EndsByKind error end
   pub unwritten : out' ≡ out
   pub quiet : has_fault end ≡ false → err' ≡ err
@@ -70,26 +72,28 @@ pub record RanNone (words : List Text) (end : Exit) (out out' err err' : Device)
   pub unsaid : kind_of error ≢ kind.OutOfMemory → end ≡ exit.Failed → SaysUnwritten err err'
 
 -- the one or the other
-abbrev pub RanWords : (List ℕ → Option (List ℕ) → Type 0) → (Option (List ℕ) → Type 0) → (List ℕ → Unopened → Type 0) → List Text → Exit
-    → Device → Device → Device → Device → Type 0
-RanWords holds feeds lacks words end out out' err err' =
-    RanJob holds feeds lacks words end out out' err err' ⊎ RanNone words end out out' err err'
+abbrev pub RanWords : (List ℕ → Option (List ℕ) → Type 0) → (List ℕ → ErrorKind → Type 0) → Option (List ℕ) → List Text → Option Error
+    → Exit → Device → Device → Device → Device → Type 0
+RanWords holds lacks input words said end out out' err err' =
+    RanJob holds lacks input words said end out out' err err' ⊎ RanNone words said end out out' err err'
 
--- one line says why the words could not be read, with the status that goes with it
-abbrev pub SaysUnread : Unread → Exit → Device → Device → Type 0
-SaysUnread unread.NoMemory end err err' = (end ≡ exit.Failed) × SaysNoMemory err err'
-SaysUnread unread.NotText end err err' = (end ≡ exit.No) × Reports unread_words err err'
+-- one line says why the words could not be read, with the status that goes with it: memory ran out, or a word is no text
+pub record SaysUnread (why : ErrorKind) (end : Exit) (err err' : Device) : Type 0 where
+  pub memory : why ≡ found.OutOfMemory → (end ≡ exit.Failed) × SaysNoMemory err err'
+  pub word : why ≢ found.OutOfMemory → (end ≡ exit.No) × Reports unread_words err err'
 
--- the words could not be read, for a reason for which they cannot be: no answer is written, and one line says why
-pub record ReadNoWords (fails : Unread → Type 0) (end : Exit) (out out' err err' : Device) : Type 0 where
-  pub why : Unread
+-- the words could not be read, which is an error of a kind that there is: no answer is written, and one line says why
+pub record ReadNoWords (fails : ErrorKind → Type 0) (said : Option Error) (end : Exit) (out out' err err' : Device) : Type 0 where
+  pub why : ErrorKind
   pub is_so : fails why
+  pub silent : said ≡ None
   pub unwritten : out' ≡ out
-  pub said : SaysUnread why end err err'
+  pub said_so : SaysUnread why end err err'
 
--- the words that there are were read and are answered, by what files hold and why they are not opened; or they cannot be read
-abbrev pub RanProgram : (List Text → Type 0) → (Unread → Type 0) → (List ℕ → Option (List ℕ) → Type 0) → (Option (List ℕ) → Type 0)
-    → (List ℕ → Unopened → Type 0) → Exit → Device → Device → Device → Device → Type 0
-RanProgram gives fails holds feeds lacks end out out' err err' =
-    ((words : List Text) × gives words × RanWords holds feeds lacks (settled words) end out out' err err')
-    ⊎ ReadNoWords fails end out out' err err'
+-- the words that there are were read and are answered, by what files hold, why they are not opened and what standard input gives;
+-- or they cannot be read
+abbrev pub RanProgram : (List Text → Type 0) → (ErrorKind → Type 0) → (List ℕ → Option (List ℕ) → Type 0)
+    → (List ℕ → ErrorKind → Type 0) → Option (List ℕ) → Option Error → Exit → Device → Device → Device → Device → Type 0
+RanProgram gives fails holds lacks input said end out out' err err' =
+    ((words : List Text) × gives words × RanWords holds lacks input (settled words) said end out out' err err')
+    ⊎ ReadNoWords fails said end out out' err err'

@@ -19,14 +19,15 @@ fn main(rt: HostRuntime) -> ExitCode {
     let terminal = rt.stderr().is_terminal();
     let typed = rt.stdin().is_terminal();
     let mut err = Counted::new(rt.stderr());
-    let inputs = Inputs::new(&rt);
+    let files = Inputs::new(&rt);
     let given = Given::new(&rt);
+    let mut speaker = Speaker::new(&rt);
     let system = System {
         arguments: &given,
-        inputs: &inputs,
+        files: &files,
         display: Display::new(&rt, terminal),
         typed,
-        speaker: Speaker::new(&rt),
     };
-    ExitCode::from(program(&rt, &system, &mut out, &mut err).number())
+    let end = program(&rt, &system, rt.reader(), &mut speaker, &mut out, &mut err);
+    ExitCode::from(end.number())
 }

@@ -1,5 +1,6 @@
 -- The words that were read are those that are answered.
-use Rattle.std.proofs.Common.{List, map, inl, inr, refl, sym, subst}
+use Rattle.std.proofs.Common.{map, inl, inr, refl, sym, subst}
+use Rattle.std.specs.IoError.{error_kind}
 use Rattle.bkreplay.proofs.program.program.Goals as goal
 
 pub returns-in-Ok : goal.returns-in-Ok
@@ -10,9 +11,10 @@ returns-in-Ok g c = record {
 pub returns-in-Err : goal.returns-in-Err
 returns-in-Err g c = record {
   ran = inr (record {
-    why = c.in-Err.why;
+    why = error_kind c.in-Err.error;
     is_so = c.in-Err.ensures.unread;
+    silent = c.requires.silent;
     unwritten = refl;
-    said = c.refuse_words.ensures;
+    said_so = c.refuse_words.ensures;
   });
 }

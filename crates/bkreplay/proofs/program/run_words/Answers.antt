@@ -15,6 +15,7 @@ returns-in-Ok g c = record {
     ends = c.open_and_run.ensures.ends;
     blame = c.open_and_run.ensures.unwritten;
     once = c.in-Ok.ensures.once;
+    silent = c.requires.silent;
     ran = c.open_and_run.ensures.ran;
   });
 }
@@ -24,6 +25,7 @@ returns-in-Err g c = record {
   ran = inr (record {
     error = c.in-Err.error;
     names = c.in-Err.ensures.kinds;
+    answered = c.answer.ensures.said;
     ends = c.answer.ensures.kind;
     unwritten = refl;
     quiet = λ r. ap g.E.Sink.state (c.answer.ensures.quiet r);
