@@ -24,7 +24,7 @@ use Rattle.bk_tx.specs.Batches.{transactions_in, transactions_of, count_in}
 use Rattle.bk_ledger.specs.Ledger.{LedgerValue}
 use Rattle.bk_answer.specs.RunReport.{committee_in, later_frames, HasNoStopIn, IsOrderIn, IsStopIn, HasPlaceIn, fault_of}
 use Rattle.bk_answer.specs.Closed.{Executed, IsExecuted}
-use Rattle.bk_follow.specs.Follower.{BookValue, OrdersPart, IsBookOf, IsCurrent}
+use Rattle.bk_follow.specs.Follower.{BookValue, OrdersPart, IsBookOf, IsCurrent, receipts_of_executed}
 use Rattle.bk_follow.specs.private.Books.{IsGoodBook, BookSettleFails}
 use Rattle.bk_answer.specs.Closed.{executed_of}
 use Rattle.bk_follow.specs.private.Ledgers.{book_with}
@@ -275,8 +275,12 @@ ledger_place feed intake now ledger opening l place s is good lt =
 pub ledger_clear : (feed : FeedValue) (intake now : Taken) (ledger : Option LedgerValue) (opening : List Row) → IsSettling intake now → IsGoodBook feed (book_with intake ledger opening) → HasNoStopIn feed
 ledger_clear feed intake now ledger opening s good = (found_in feed (book_with intake ledger opening) now s good).clear
 
+-- a ledger has the receipts of what its book has executed
+pub ledger_first : (intake : Taken) (ledger : Option LedgerValue) (opening : List Row) (l : LedgerValue) → ledger ≡ Some l → length (receipts_of_executed (book_with intake ledger opening).executed) ≡ length l.receipts
+ledger_first intake ledger opening l is = ap (λ (o : Option LedgerValue). length (receipts_of_executed (option_map executed_of o))) is
+
 -- why executing failed is why the settle did
-pub execution_fails : (old new : BookValue) (first end : ℕ) (x : ExecFault) → ((feed : FeedValue) → IsGoodBook feed old → HasNoStopIn feed) → ((feed : FeedValue) (place : ℕ) → IsGoodBook feed old → place < end → HasPlaceIn feed place)
+pub execution_fails : (old new : BookValue) (first end : ℕ) (x : ExecFault) → length (receipts_of_executed old.executed) ≡ first → ((feed : FeedValue) → IsGoodBook feed old → HasNoStopIn feed) → ((feed : FeedValue) (place : ℕ) → IsGoodBook feed old → place < end → HasPlaceIn feed place)
     → Leaves first end x → BookSettleFails old new (fault_of_execution x)
-execution_fails old new first end OutOfMemory clear there h = clear
-execution_fails old new first end (Unfinished place) clear there h = λ feed good. there feed place good h.1
+execution_fails old new first end OutOfMemory begins clear there h = clear
+execution_fails old new first end (Unfinished place) begins clear there h = (λ feed good. there feed place good h.1, omega (arith, h.0, begins))

@@ -107,7 +107,8 @@ settle_fails (fault.Collision id) cut committee book stands b new now is none e 
     (e ∙ (λ i. follower_of cut committee ((ap Some h.0 ∙ sym is) i) (sym none i)), of_frames (follower_of cut committee book stands) b (λ feed. IsStopIn feed (fault.Collision id)) is h.1)
 settle_fails (fault.Equivocation round author first second) cut committee book stands b new now is none e h =
     (e ∙ (λ i. follower_of cut committee ((ap Some h.0 ∙ sym is) i) (sym none i)), of_frames (follower_of cut committee book stands) b (λ feed. IsStopIn feed (fault.Equivocation round author first second)) is h.1)
-settle_fails (fault.Unfinished place) cut committee book stands b new now is none e h = (e, of_frames (follower_of cut committee book stands) b (λ feed. HasPlaceIn feed place) is h)
+settle_fails (fault.Unfinished place) cut committee book stands b new now is none e h =
+    (e, of_frames (follower_of cut committee book stands) b (λ feed. HasPlaceIn feed place) is h.0, subst (λ (o : Option BookValue). length (receipts_in o) ≤ place) (sym is) h.1)
 settle_fails (fault.Write written) cut committee book stands b new now is none e h = absurd h
 settle_fails fault.Memory cut committee book stands b new now is none e h = (e, of_frames (follower_of cut committee book stands) b HasNoStopIn is h)
 
@@ -149,7 +150,7 @@ closes_not (fault.Collision id) cut committee book b new is none h =
 closes_not (fault.Equivocation round author first second) cut committee book b new is none h =
     (of_feed (follower_of cut committee book None) b (λ feed. IsStopIn feed (fault.Equivocation round author first second)) is none (λ feed _ good. h.1 feed good), (λ i. follower_of cut committee ((ap Some h.0 ∙ sym is) i) None))
 closes_not (fault.Unfinished place) cut committee book b new is none h =
-    of_feed (follower_of cut committee book None) b (λ feed. HasPlaceIn feed place) is none (λ feed _ good. h feed good)
+    (of_feed (follower_of cut committee book None) b (λ feed. HasPlaceIn feed place) is none (λ feed _ good. h.0 feed good), subst (λ (o : Option BookValue). length (receipts_in o) ≤ place) (sym is) h.1)
 closes_not (fault.Write written) cut committee book b new is none h = absurd h
 closes_not fault.Memory cut committee book b new is none h =
     of_feed (follower_of cut committee book None) b HasNoStopIn is none (λ feed _ good. h feed good)
@@ -197,7 +198,7 @@ pub end_close_fails : (f : Fault) (old new : Followed) (sink : Device) → Close
 end_close_fails (fault.Feed found) old new sink h = (h, untouched sink)
 end_close_fails (fault.Collision id) old new sink h = (h.0, h.1, untouched sink)
 end_close_fails (fault.Equivocation round author first second) old new sink h = (h.0, h.1, untouched sink)
-end_close_fails (fault.Unfinished place) old new sink h = (h, untouched sink)
+end_close_fails (fault.Unfinished place) old new sink h = (h.0, untouched sink, h.1)
 end_close_fails (fault.Write written) old new sink h = absurd h
 end_close_fails fault.Memory old new sink h = (h, untouched sink)
 
@@ -233,7 +234,7 @@ pub close_fails : (f : Fault) (old new now : Followed) → now ≡ after_fault f
 close_fails (fault.Feed found) old new now e h = (h, e)
 close_fails (fault.Collision id) old new now e h = (h.0, e ∙ h.1)
 close_fails (fault.Equivocation round author first second) old new now e h = (h.0, e ∙ h.1)
-close_fails (fault.Unfinished place) old new now e h = (h, e)
+close_fails (fault.Unfinished place) old new now e h = (h.0, e, h.1)
 close_fails (fault.Write written) old new now e h = absurd h
 close_fails fault.Memory old new now e h = (h, e)
 
@@ -251,7 +252,7 @@ pub finish_fails : (f : Fault) (old new now : Followed) (before after : Device) 
 finish_fails (fault.Feed found) old new now before after e h = (h.0, e, h.1)
 finish_fails (fault.Collision id) old new now before after e h = (h.0, e ∙ h.1, h.2)
 finish_fails (fault.Equivocation round author first second) old new now before after e h = (h.0, e ∙ h.1, h.2)
-finish_fails (fault.Unfinished place) old new now before after e h = (h.0, e, h.1)
+finish_fails (fault.Unfinished place) old new now before after e h = (h.0, e, h.1, h.2)
 finish_fails (fault.Write written) old new now before after e h = (h.0, e, h.1)
 finish_fails fault.Memory old new now before after e h = (h.0, e, h.1)
 

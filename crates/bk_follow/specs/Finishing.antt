@@ -1,5 +1,5 @@
 -- What the end of a feed that is followed gives.
-use Rattle.std.specs.Prelude.{◌≡◌, ℕ, List, Some}
+use Rattle.std.specs.Prelude.{◌≡◌, ℕ, ◌≤◌, List, length, Some}
 use Rattle.bk_frames.specs.Device.{Device, Works, Fails}
 use Rattle.bk_base.specs.Feed.{Frame, FeedValue, IsFeed, feed_of, spelling}
 use Rattle.bk_base.specs.declared.version.Version.{Version}
@@ -10,7 +10,7 @@ use Rattle.bk_results.specs.declared.status.Status.{Status}
 use Rattle.bk_results.specs.Devices.{IsUntouched}
 use Rattle.bk_answer.specs.Answers.{TextIsOut, TextStops}
 use Rattle.bk_answer.specs.RunReport.{HasNoStopIn, IsReportOf, IsStopIn, HasPlaceIn}
-use Rattle.bk_follow.specs.Follower.{BookValue, Followed, HasCome, IsCurrent, IsSettled, broken, executed_in}
+use Rattle.bk_follow.specs.Follower.{BookValue, Followed, HasCome, IsCurrent, IsSettled, broken, executed_in, receipts_in}
 use Rattle.bk_follow.specs.Ordering.{IsOrdered}
 
 -- what has come is a feed, and this holds of it
@@ -34,12 +34,13 @@ pub record Closes (old new : Followed) : Type 0 where
   pub current : OfFeed old (λ feed. (b : BookValue) × (new.book ≡ Some b) × IsCurrent feed b)
 
 -- why it was not, and what that leaves: the bytes end too early; the stop of the feed, and then all is as it was; or nothing
--- stops the feed, and there is a place that a worker took and did not finish, or memory ran out. But for a stop, the Follower
+-- stops the feed, and a place that was not executed before was not done, or memory ran out. But for a stop, the Follower
 -- then holds nothing but the fault
 abbrev pub CloseFails : Followed → Followed → Fault → Type 0
 CloseFails old new (fault.Feed found) = EndsShort old.cut found × (new ≡ broken (fault.Feed found))
 CloseFails old new (fault.Unfinished place) =
     OfFeed old (λ feed. HasPlaceIn feed place) × (new ≡ broken (fault.Unfinished place))
+    × (length (receipts_in old.book) ≤ place)
 CloseFails old new (fault.Write written) = ⊥
 CloseFails old new fault.Memory = OfFeed old HasNoStopIn × (new ≡ broken fault.Memory)
 CloseFails old new stop = OfFeed old (λ feed. IsStopIn feed stop) × (new ≡ old)
@@ -70,14 +71,14 @@ pub record Finishes (old new : Followed) (before after : Device) (answer : Statu
   pub works : Works before after
 
 -- why there is no report, and what it leaves: the bytes end too early; the stop of the feed, and then all is as it was; or
--- nothing stops the feed, and there is a place that a worker took and did not finish; the sink failed, and exactly the first
+-- nothing stops the feed, and a place that was not executed before was not done; the sink failed, and exactly the first
 -- bytes of the report are out; or memory ran out. But for a stop, the Follower then holds nothing but the fault
 abbrev pub FinishFails : Followed → Followed → Device → Device → Fault → Type 0
 FinishFails old new before after (fault.Feed found) =
     EndsShort old.cut found × (new ≡ broken (fault.Feed found)) × IsUntouched before after
 FinishFails old new before after (fault.Unfinished place) =
     OfFeed old (λ feed. HasPlaceIn feed place) × (new ≡ broken (fault.Unfinished place))
-    × IsUntouched before after
+    × IsUntouched before after × (length (receipts_in old.book) ≤ place)
 FinishFails old new before after (fault.Write written) =
     OfFeed old (λ feed. (answer : Status) × TextStops (IsReportOf feed answer) written before after) × (new ≡ broken (fault.Write written))
     × Fails before after

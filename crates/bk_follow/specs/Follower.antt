@@ -1,5 +1,5 @@
 -- What a Follower is to its callers.
-use Rattle.std.specs.Prelude.{◌≡◌, ℕ, ◌+◌, false, List, [], ◌∷◌, ◌++◌, length, Option, Some, None, IfSome}
+use Rattle.std.specs.Prelude.{◌≡◌, ℕ, ◌+◌, ◌≤◌, false, List, [], ◌∷◌, ◌++◌, length, Option, Some, None, IfSome}
 use Rattle.bk_base.specs.declared.version.Version.{Version}
 use Rattle.bk_base.specs.declared.genesis.Row.{Row}
 use Rattle.bk_base.specs.Feed.{Frame, FeedValue, feed_of, genesis_of}
@@ -142,11 +142,12 @@ OfFrames v holds =
     → (version : Version) × (v.cut.version ≡ Some version) × holds (feed_of version frames)
 
 -- why there was no settle, and what it leaves: the stop of the whole frames so far, and then all is as it was; or nothing
--- stops them, and a place of the order was not done, or memory ran out. After these the Follower holds nothing but the fault
+-- stops them, and a place of the order that was not executed before was not done, or memory ran out. After these the Follower holds nothing but the fault
 abbrev pub SettleFails : Followed → Followed → Fault → Type 0
 SettleFails old new (fault.Feed found) = ⊥
 SettleFails old new (fault.Unfinished place) =
     (new ≡ broken (fault.Unfinished place)) × OfFrames old (λ feed. HasPlaceIn feed place)
+    × (length (receipts_in old.book) ≤ place)
 SettleFails old new (fault.Write written) = ⊥
 SettleFails old new fault.Memory = (new ≡ broken fault.Memory) × OfFrames old HasNoStopIn
 SettleFails old new stop = (new ≡ old) × OfFrames old (λ feed. IsStopIn feed stop)

@@ -8,7 +8,7 @@ use Rattle.bk_results.specs.declared.fault.Fault.{Fault}
 use Rattle.bk_results.specs.declared.fault.Fault.TheVariants as fault
 use Rattle.bk_results.specs.declared.status.Status.{Status}
 use Rattle.bk_answer.specs.Answers.{WritesAnswer, WritesNot}
-use Rattle.bk_follow.specs.Follower.{BookValue, FollowsBy, IsBookOf, IsCurrent}
+use Rattle.bk_follow.specs.Follower.{BookValue, FollowsBy, IsBookOf, IsCurrent, receipts_of_executed}
 use Rattle.bk_answer.specs.RunReport.{HasNoStopIn, IsReportOf, IsStopIn, HasPlaceIn}
 
 -- this is made of the good frames of a feed
@@ -21,7 +21,8 @@ pub record IsGoodBook (feed : FeedValue) (b : BookValue) : Type 0 where
 abbrev pub BookSettleFails : BookValue → BookValue → Fault → Type 0
 BookSettleFails old new (fault.Feed found) = ⊥
 BookSettleFails old new (fault.Unfinished place) =
-    (feed : FeedValue) → IsGoodBook feed old → HasPlaceIn feed place
+    ((feed : FeedValue) → IsGoodBook feed old → HasPlaceIn feed place)
+    × (length (receipts_of_executed old.executed) ≤ place)
 BookSettleFails old new (fault.Write written) = ⊥
 BookSettleFails old new fault.Memory = (feed : FeedValue) → IsGoodBook feed old → HasNoStopIn feed
 BookSettleFails old new stop =

@@ -1,5 +1,5 @@
 -- What is known of a Follower's parts.
-use Rattle.std.specs.Prelude.{◌≡◌, Option, None}
+use Rattle.std.specs.Prelude.{◌≡◌, ◌≤◌, length, Option, None}
 use Rattle.bk_frames.specs.Device.{Device, Fails}
 use Rattle.bk_frames.specs.Cutting.{Cut, EndsShort}
 use Rattle.bk_results.specs.declared.fault.Fault.{Fault}
@@ -8,7 +8,7 @@ use Rattle.bk_follow.specs.declared.opening.Opened.{Opened}
 use Rattle.bk_results.specs.declared.status.Status.{Status}
 use Rattle.bk_results.specs.Devices.{IsUntouched}
 use Rattle.bk_follow.specs.Finishing.{OfFeed}
-use Rattle.bk_follow.specs.Follower.{Followed, broken}
+use Rattle.bk_follow.specs.Follower.{Followed, broken, receipts_in}
 use Rattle.bk_answer.specs.Answers.{TextStops}
 use Rattle.bk_answer.specs.RunReport.{HasNoStopIn, IsReportOf, IsStopIn, HasPlaceIn}
 
@@ -31,7 +31,8 @@ after_fault stop left = left
 -- why a feed that is followed was not closed, but for the fault that is kept after it
 abbrev pub ClosesNot : Followed → Followed → Fault → Type 0
 ClosesNot old new (fault.Feed found) = EndsShort old.cut found
-ClosesNot old new (fault.Unfinished place) = OfFeed old (λ feed. HasPlaceIn feed place)
+ClosesNot old new (fault.Unfinished place) =
+    OfFeed old (λ feed. HasPlaceIn feed place) × (length (receipts_in old.book) ≤ place)
 ClosesNot old new (fault.Write written) = ⊥
 ClosesNot old new fault.Memory = OfFeed old HasNoStopIn
 ClosesNot old new stop = OfFeed old (λ feed. IsStopIn feed stop) × (new ≡ old)
@@ -49,6 +50,7 @@ abbrev pub EndFails : Followed → Followed → Device → Device → Fault → 
 EndFails old new before after (fault.Feed found) = EndsShort old.cut found × IsUntouched before after
 EndFails old new before after (fault.Unfinished place) =
     OfFeed old (λ feed. HasPlaceIn feed place) × IsUntouched before after
+    × (length (receipts_in old.book) ≤ place)
 EndFails old new before after (fault.Write written) =
     OfFeed old (λ feed. (answer : Status) × TextStops (IsReportOf feed answer) written before after) × Fails before after
 EndFails old new before after fault.Memory = OfFeed old HasNoStopIn × IsUntouched before after

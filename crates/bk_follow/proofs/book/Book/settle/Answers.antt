@@ -1,7 +1,8 @@
-use Rattle.std.proofs.Common.{sym, subst, arith, ◌∙◌}
+use Rattle.std.proofs.Common.{length, sym, ap, subst, arith, ◌∙◌}
+use Rattle.bk_follow.specs.Follower.{BookValue, receipts_of_executed}
 use Rattle.std.proofs.lemmas.Result.{err_from_is_err_and}
 use Rattle.bk_follow.specs.private.Books.{IsGoodBook, BookSettleFails}
-use Rattle.bk_follow.proofs.Books.{IsSettling, ledger_next, ledger_done, ledger_place, ledger_clear, no_ledger, execution_fails}
+use Rattle.bk_follow.proofs.Books.{IsSettling, ledger_next, ledger_done, ledger_place, ledger_clear, ledger_first, no_ledger, execution_fails}
 use Rattle.bk_follow.proofs.book.Book.settle.Goals as goal
 
 pub execute_rest-requires-clause-within : goal.execute_rest-requires-clause-within
@@ -35,6 +36,7 @@ returns-in_err-ledger-clause-fault g c =
     let p = err_from_is_err_and c.from_residual-in_err-ledger.result c.from_residual-in_err-ledger.ensures.1 in
     let l = c.in_err-ledger.ensures.fault in
     rw (p.1, p.2) (subst (BookSettleFails _ _) (sym l.fault_is) (execution_fails c.args.self.now _ _ _ l.why
+    (ap (λ (b : BookValue). length (receipts_of_executed b.executed)) (sym c.self.view_is) ∙ ledger_first c.self.inside.intake c.self.inside.ledger c.self.inside.opening.items c.in-Some-take.ledger (sym c.in-Some-take.ensures.value))
     (λ feed good. ledger_clear feed c.self.inside.intake c.settle.new.self c.self.inside.ledger c.self.inside.opening.items s (subst (IsGoodBook feed) (sym c.self.view_is) good))
     (λ feed place good lt. ledger_place feed c.self.inside.intake c.settle.new.self c.self.inside.ledger c.self.inside.opening.items c.in-Some-take.ledger place s (sym c.in-Some-take.ensures.value) (subst (IsGoodBook feed) (sym c.self.view_is) good) lt)
     l.leaves))
