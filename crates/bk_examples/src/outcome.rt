@@ -78,7 +78,7 @@ where
     let hidden = Progress::new(rt, Manner::Hidden);
     let exit = open_and_run(
         &Inputs::new(rt),
-        rt.reader(),
+        &mut Some(rt.reader()),
         rt,
         &line,
         &hidden,

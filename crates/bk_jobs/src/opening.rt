@@ -6,7 +6,7 @@ ghost use Rattle.std.specs.IoError.{error_kind};
 ghost use Rattle.bk_frames.specs.Device.{CanBeUsed};
 ghost use Rattle.bk_results.specs.Devices.{IsUntouched};
 ghost use Rattle.bk_cli.specs.Exits.{is_refusal, may_end_if, writes_ahead};
-ghost use Rattle.bk_cli.specs.Files.{file_of, is_input, names_input, reads_beside, reads_input_twice, second_file_of};
+ghost use Rattle.bk_cli.specs.Files.{file_of, is_input, names_input, reads_beside, reads_input, reads_input_twice, second_file_of};
 ghost use Rattle.bk_jobs.specs.Openings.{HasNoFile, HasNoMemory, IsFirst, IsOf, IsUnopened, Ran, reason_by};
 ghost use Rattle.bk_jobs.specs.private.Opened.{IsSecondOpened, RanOn, names_input_second, waits_at_end};
 ghost use Rattle.bk_jobs.specs.Sources.{CanBeUsedAgain};
@@ -202,36 +202,39 @@ fn is_beside(job: &Job) -> bool {
 fn open_both<'a, N: Opens, I: Read + Drop>(
     files: &N,
     job: &'a Job,
-    input: I,
+    input: &mut Option<I>,
 ) -> Result<Sources<N::File, I>, Missing<'a>>
     requires once { reads_input_twice job.now ≡ false }
-    ensures first { IfOk result (λ s. IsFirst (N.holds files.now) (I.remaining input)
+    requires there { reads_input job.now ≡ true → is_some input.old ≡ true }
+    ensures first { IfOk result (λ s. IsFirst (N.holds files.now)
+        (option_and_then I.remaining input.old)
         (file_of job.now) (either N.File.remaining I.remaining s.first)) }
-    ensures second { IfOk result (λ s. IsSecondOpened (N.holds files.now) (I.remaining input)
+    ensures second { IfOk result (λ s. IsSecondOpened (N.holds files.now)
+        (option_and_then I.remaining input.old)
         (second_file_of job.now) (either N.File.remaining I.remaining) s.second) }
     ensures missing { IfErr result (λ m.
         IsUnopened (N.lacks files.now) job.now m.path.now (error_kind m.error)) }
+    ensures kept { reads_input job.now ≡ false → input.new ≡ input.old }
 {
-    let mut input = Some(input);
     if is_beside(job) {
-        let second = open_second(files, job, &mut input)?;
-        let first = open_first(files, job, &mut input)?;
+        let second = open_second(files, job, input)?;
+        let first = open_first(files, job, input)?;
         return Ok(Sources { first, second });
     }
-    let first = open_first(files, job, &mut input)?;
-    let second = open_second(files, job, &mut input)?;
+    let first = open_first(files, job, input)?;
+    let second = open_second(files, job, input)?;
     Ok(Sources { first, second })
 }
 
 /// Opens what the job names and runs it over that, from its beginning on, watched by `progress`.
 ///
-/// `input` is standard input, which is read where no file is named, or `-`; a job reads it once at most. A file that cannot
-/// be opened ends with `Failed` and `read failed`. An end that is no answer has the line of its fault on `err`, and where the
+/// `input` is standard input, which is taken and read where no file is named, or `-`, and else left as it is; a job reads it
+/// once at most. A file that cannot be opened ends with `Failed` and `read failed`. An end that is no answer has the line of its fault on `err`, and where the
 /// notes are verbose one more line in words; an answer to a query or of a comparison has a line then for each missing batch at
 /// which an order stops.
 pub fn open_and_run<N, I, R, P, O: Sink, E: Sink>(
     files: &N,
-    input: I,
+    input: &mut Option<I>,
     rt: &R,
     line: &Line,
     progress: &Progress<'_, P>,
@@ -244,12 +247,15 @@ where
     R: AllocGlobal + Clock + Threads + Wait + Sync,
     P: Clock + Eprint + Sync,
     requires once { reads_input_twice line.now.job ≡ false }
+    requires there { reads_input line.now.job ≡ true → is_some input.old ≡ true }
     requires out { CanBeUsed (O.state out.old) }
     requires err { CanBeUsedAgain (E.state err.old) }
     ensures unwritten { is_refusal result ≡ true → writes_ahead line.now.job ≡ false
         → IsUntouched (O.state out.old) (O.state out.new) }
     ensures ends { may_end_if line.now.strict line.now.job result ≡ true }
-    ensures ran { Ran (N.holds files.now) (N.lacks files.now) (I.remaining input)
+    ensures kept { reads_input line.now.job ≡ false → input.new ≡ input.old }
+    ensures ran { Ran (N.holds files.now) (N.lacks files.now)
+        (option_and_then I.remaining input.old)
         line.now.job line.now.strict line.now.notes.verbose result
         (O.state out.old) (O.state out.new) (E.state err.old) (E.state err.new) }
 {

@@ -28,6 +28,13 @@ fn main(rt: HostRuntime) -> ExitCode {
         display: Display::new(&rt, terminal),
         typed,
     };
-    let end = program(&rt, &system, rt.reader(), &mut speaker, &mut out, &mut err);
+    let end = program(
+        &rt,
+        &system,
+        &mut Some(rt.reader()),
+        &mut speaker,
+        &mut out,
+        &mut err,
+    );
     ExitCode::from(end.number())
 }

@@ -1,6 +1,6 @@
 //! From the words of the command line to the exit status.
 
-ghost use Rattle.std.specs.Prelude.{◌≡◌, map, None};
+ghost use Rattle.std.specs.Prelude.{◌≡◌, map, true, None, is_some, option_and_then};
 ghost use Rattle.std.specs.IoError.{error_kind};
 ghost use Rattle.bk_frames.specs.Device.{CanBeUsed};
 ghost use Rattle.bk_cli.specs.Words.{settled};
@@ -34,11 +34,12 @@ pub(crate) struct System<'a, W, N, P> {
     pub(crate) typed: bool,
 }
 
-/// Reads the words, opens the files and runs the job; returns how the program ends. `input` is standard input.
+/// Reads the words, opens the files and runs the job; returns how the program ends. `input` is standard input, which is left as it
+/// is where the words name no job, or one that does not read it.
 pub(crate) fn program<R, W, N, I, P, Q, O: Sink, E: Sink>(
     rt: &R,
     system: &System<'_, W, N, P>,
-    input: I,
+    input: &mut Option<I>,
     speaker: &mut Speaker<'_, Q>,
     out: &mut O,
     err: &mut E,
@@ -51,10 +52,12 @@ where
     P: Clock + Eprint + Sync,
     Q: Print + Eprint,
     requires silent { speaker.old ≡ None }
+    requires there { is_some input.old ≡ true }
     requires out { CanBeUsed (O.state out.old) }
     requires err { CanBeUsedAgain (E.state err.old) }
     ensures ran { RanProgram (W.gives system.now.arguments.now) (W.lacks system.now.arguments.now)
-        (N.holds system.now.files.now) (N.lacks system.now.files.now) (I.remaining input)
+        (N.holds system.now.files.now) (N.lacks system.now.files.now)
+        (option_and_then I.remaining input.old) (input.new ≡ input.old)
         speaker.new result
         (O.state out.old) (O.state out.new) (E.state err.old) (E.state err.new) }
 {
@@ -76,7 +79,7 @@ fn run_words<R, W, N, I, P, Q, S: AsStr, O: Sink, E: Sink>(
     rt: &R,
     system: &System<'_, W, N, P>,
     words: &[S],
-    input: I,
+    input: &mut Option<I>,
     speaker: &mut Speaker<'_, Q>,
     out: &mut O,
     err: &mut E,
@@ -88,10 +91,12 @@ where
     P: Clock + Eprint + Sync,
     Q: Print + Eprint,
     requires silent { speaker.old ≡ None }
+    requires there { is_some input.old ≡ true }
     requires out { CanBeUsed (O.state out.old) }
     requires err { CanBeUsedAgain (E.state err.old) }
     ensures ran { RanWords (N.holds system.now.files.now) (N.lacks system.now.files.now)
-        (I.remaining input) (settled (map S.text words.now)) speaker.new result
+        (option_and_then I.remaining input.old) (input.new ≡ input.old)
+        (settled (map S.text words.now)) speaker.new result
         (O.state out.old) (O.state out.new) (E.state err.old) (E.state err.new) }
 {
     match parse_line(rt.alloc(), words) {

@@ -1,6 +1,6 @@
 //! What the program says of its words.
 
-ghost use Rattle.std.specs.Prelude.{◌≡◌, ◌≢◌, ◌⊎◌, Some, None, false};
+ghost use Rattle.std.specs.Prelude.{◌≡◌, ◌≢◌, ◌⊎◌, Some, None, true, false, is_ok};
 ghost use Rattle.bk_frames.specs.Device.{CanBeUsed};
 ghost use Rattle.bk_cli.specs.Exits.{has_fault};
 ghost use Rattle.bkreplay.specs.Endings.{EndsByKind, SaysNoMemory, SaysUnwritten};
@@ -11,6 +11,7 @@ use bk_frames::Sink;
 use bk_results::Fault;
 use clap::Error;
 use clap::error::ErrorKind;
+use std::io;
 use std::marker::Model;
 
 /// The standard streams, for help, the version and faults of the words. What has a `Speaker` prints by errors of `clap` alone,
@@ -76,6 +77,16 @@ fn print<Q: Print + Eprint, E: Sink>(prints: &Q, error: &Error, err: &mut E) -> 
     if error.use_stderr() {
         return Exit::No;
     }
+    after(&printed, err)
+}
+
+// How the program ends after help or the version, by whether it was printed.
+fn after<E: Sink>(printed: &io::Result<()>, err: &mut E) -> Exit
+    requires { CanBeUsed (E.state err.old) }
+    ensures printed { is_ok printed.now ≡ true → (result ≡ Exit.Whole) × (err.new ≡ err.old) }
+    ensures unprinted { is_ok printed.now ≡ false → (result ≡ Exit.Failed)
+        × SaysUnwritten (E.state err.old) (E.state err.new) }
+{
     match printed {
         Ok(()) => Exit::Whole,
         Err(_) => {

@@ -14,6 +14,7 @@ returns-in-Err g c = record {
     why = error_kind c.in-Err.error;
     is_so = c.in-Err.ensures.unread;
     silent = c.requires.silent;
+    left = refl;
     unwritten = refl;
     said_so = c.refuse_words.ensures;
   });

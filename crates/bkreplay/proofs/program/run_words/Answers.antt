@@ -16,6 +16,7 @@ returns-in-Ok g c = record {
     blame = c.open_and_run.ensures.unwritten;
     once = c.in-Ok.ensures.once;
     silent = c.requires.silent;
+    left = c.open_and_run.ensures.kept;
     ran = c.open_and_run.ensures.ran;
   });
 }
@@ -26,6 +27,7 @@ returns-in-Err g c = record {
     error = c.in-Err.error;
     names = c.in-Err.ensures.kinds;
     answered = c.answer.ensures.said;
+    left = refl;
     ends = c.answer.ensures.kind;
     unwritten = refl;
     quiet = λ r. ap g.E.Sink.state (c.answer.ensures.quiet r);
