@@ -11,13 +11,13 @@ use std::alloc::{AllocError, Global};
 /// beside them. A batch has fewer than 65,536, so a slice has fewer than 73,728.
 pub(crate) const FEWEST: usize = 8_192;
 
-/// For how many transactions slots are made at once: an eighth as many as there are slots, since it costs a pass over all
-/// of them, but at most 524,288, which are decoded and kept for it, and at least a given number.
+/// For how many transactions slots are made at once: half as many as there are slots, since it costs a pass over all of
+/// them, but at most 524,288, which are decoded and kept for it, and at least a given number.
 pub(crate) fn least_of(slots: usize, fewest: usize) -> usize
     requires { fewest < 2 ^ 30 }
     ensures { result < 2 ^ 30 }
 {
-    (slots / 8).min(524_288).max(fewest)
+    (slots / 2).min(524_288).max(fewest)
 }
 
 // How many transactions the batches of a slice say that they hold. A batch that says more than it has bytes for is

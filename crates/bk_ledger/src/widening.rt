@@ -69,8 +69,8 @@ impl Ledger {
     }
 }
 
-// Makes the slots in steps. A step passes over all slots, so it takes batches until these have an eighth as many
-// transactions as there are slots, within the bounds of `least_of`. The transactions that it decodes are dropped after it.
+// Makes the slots in steps. A step passes over all slots, so it takes batches until these have half as many transactions
+// as there are slots, within the bounds of `least_of`. The transactions that it decodes are dropped after it.
 fn widen_state(
     state: &mut State,
     alloc: Global,
