@@ -16,7 +16,7 @@ use Rattle.bk_frames.proofs.CutJoining.{cuts_then, bytes_so_far, none_before_mag
 use Rattle.bk_committee.specs.Payload.{CommitteeValue, committee_of}
 use Rattle.bk_order.specs.Intake.{nothing_ordered}
 use Rattle.bk_answer.specs.RunReport.{committee_in, later_frames}
-use Rattle.bk_follow.specs.Follower.{BookValue, IsBookOf, FollowsBy, Follows, HasCome, Followed, receipts_of_executed, ordered_in, receipts_in, executed_in}
+use Rattle.bk_follow.specs.Follower.{BookValue, IsBookOf, FollowsBy, Follows, HasCome, Followed, counts_of_executed, receipts_of_executed, counts_in, ordered_in, receipts_in, executed_in}
 use Rattle.bk_follow.specs.private.Books.{HasFollowed}
 use Rattle.bk_follow.specs.private.Openings.{HeadIsCommittee, HeadIsGenesis, IsFirstOf, IsOpening, OpensFirst, OpensSecond, IsOpened}
 use Rattle.bk_follow.specs.private.Parts.{followed}
@@ -182,10 +182,10 @@ second_waits (Some k) (f ∷ more) new e h = absurd (let p = h.0 in cc)
 
 -- the book of the second frame
 pub opening_is : (k : CommitteeValue) (payload : List ℕ) (rows : List Row) (b : BookValue) (second : Frame) → second.payload ≡ payload → rows_of payload ≡ Some rows
-    → ((feed : FeedValue) → later_frames feed ≡ [] → k ≡ committee_in feed → rows ≡ genesis_of feed.frames → IsBookOf feed b) → receipts_of_executed b.executed ≡ [] → b.taken.ordered ≡ nothing_ordered → IsOpening k second b
-opening_is k payload rows b second same read book nothing unordered =
+    → ((feed : FeedValue) → later_frames feed ≡ [] → k ≡ committee_in feed → rows ≡ genesis_of feed.frames → IsBookOf feed b) → receipts_of_executed b.executed ≡ [] → b.taken.ordered ≡ nothing_ordered → counts_of_executed b.executed ≡ [] → IsOpening k second b
+opening_is k payload rows b second same read book nothing unordered uncounted =
     let spelled : rows_of second.payload ≡ Some rows = ap rows_of same ∙ read in
-    (λ version first e. book (feed_of version (first ∷ second ∷ [])) refl e (sym (ap (λ (o : Option (List Row)). unwrap_or o []) spelled)), nothing, unordered)
+    (λ version first e. book (feed_of version (first ∷ second ∷ [])) refl e (sym (ap (λ (o : Option (List Row)). unwrap_or o []) spelled)), nothing, unordered, uncounted)
 
 -- the second frame came
 pub second_opens : (k : CommitteeValue) (after : Option CommitteeValue) (payload : List ℕ) (old new : List Frame) (b : BookValue) → IsFirstOf payload old new → ((second : Frame) → second.payload ≡ payload → IsOpening k second b)
@@ -238,6 +238,12 @@ pub nothing_executed : (c1 c2 : Option CommitteeValue) (f1 f2 : List Frame) (boo
 nothing_executed None c2 f1 f2 book h = ap receipts_in h.1
 nothing_executed (Some k) c2 [] f2 book h = ap receipts_in h.1
 nothing_executed (Some k) c2 (g ∷ more) f2 book h = ap receipts_in h.1 ∙ h.2.1
+
+-- no batch either
+pub nothing_counted : (c1 c2 : Option CommitteeValue) (f1 f2 : List Frame) (book : Option BookValue) → OpensSecond c1 f1 c2 book f2 → counts_in book ≡ []
+nothing_counted None c2 f1 f2 book h = ap counts_in h.1
+nothing_counted (Some k) c2 [] f2 book h = ap counts_in h.1
+nothing_counted (Some k) c2 (g ∷ more) f2 book h = ap counts_in h.1 ∙ h.2.3
 
 -- and nothing is ordered in it
 pub nothing_settled : (c1 c2 : Option CommitteeValue) (f1 f2 : List Frame) (book : Option BookValue) → OpensSecond c1 f1 c2 book f2 → ordered_in book ≡ nothing_ordered

@@ -113,6 +113,15 @@ receipts_of_executed (Some e) = e.receipts
 abbrev pub receipts_in : Option BookValue → List Receipt
 receipts_in book = receipts_of_executed (executed_in book)
 
+-- what each batch that was executed holds
+abbrev pub counts_of_executed : Option Executed → List (Option ℕ)
+counts_of_executed None = []
+counts_of_executed (Some e) = e.counts
+
+-- what each batch that a book has executed holds
+abbrev pub counts_in : Option BookValue → List (Option ℕ)
+counts_in book = counts_of_executed (executed_in book)
+
 -- why a piece was refused: its bytes show a fault of the feed, or memory ran out
 abbrev pub FeedFails : Followed → List ℕ → Fault → Type 0
 FeedFails old piece (fault.Feed found) = RefusesPiece old.cut piece found

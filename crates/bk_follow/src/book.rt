@@ -8,7 +8,7 @@ ghost use Rattle.bk_frames.specs.Device.{CanBeUsed};
 ghost use Rattle.bk_base.specs.Genesis.{AreAccounts};
 ghost use Rattle.bk_order.specs.Intake.{nothing_ordered};
 ghost use Rattle.bk_answer.specs.RunReport.{committee_in, later_frames, HasNoStopIn, IsStopIn};
-ghost use Rattle.bk_follow.specs.Follower.{IsBookOf, IsCurrent, receipts_of_executed};
+ghost use Rattle.bk_follow.specs.Follower.{IsBookOf, IsCurrent, counts_of_executed, receipts_of_executed};
 ghost use Rattle.bk_rules.specs.Fold.{HasRoom};
 ghost use Rattle.bk_ledger.specs.Executing.{HasExecuted};
 ghost use Rattle.bk_ledger.specs.Naming.{named_by};
@@ -105,6 +105,7 @@ impl Book {
             → committee ≡ committee_in feed → opening.items ≡ genesis_of feed.frames
             → IsBookOf feed b) }
         ensures none { IfOk result (λ b. receipts_of_executed b.executed ≡ []) }
+        ensures uncounted { IfOk result (λ b. counts_of_executed b.executed ≡ []) }
         ensures unordered { IfOk result (λ b. b.taken.ordered ≡ nothing_ordered) }
     {
         let version = committee.version();

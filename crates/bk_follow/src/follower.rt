@@ -3,7 +3,7 @@
 ghost use Rattle.std.specs.Prelude.{◌≡◌, ◌≤◌, ℕ, List, [], None, Some, Err, OnOk, IfOk, IfErr, IfSome};
 ghost use Rattle.bk_frames.specs.Device.{CanBeUsed};
 ghost use Rattle.bk_base.specs.Feed.{Frame};
-ghost use Rattle.bk_follow.specs.Follower.{unfed, broken, HasCome, Takes, FeedFails, Settles, SettleFails, ordered_in, receipts_in, executed_in};
+ghost use Rattle.bk_follow.specs.Follower.{unfed, broken, HasCome, Takes, FeedFails, Settles, SettleFails, counts_in, ordered_in, receipts_in, executed_in};
 ghost use Rattle.bk_follow.specs.Finishing.{Closes, CloseFails, Finishes, FinishFails};
 ghost use Rattle.bk_results.specs.Devices.{IsUntouched};
 ghost use Rattle.bk_follow.specs.private.Parts.{followed, followed_with, after_fault, ClosesNot, EndFails};
@@ -212,6 +212,7 @@ impl Follower {
         ensures takes { OnOk result (Takes self.old piece.now self.new) }
         ensures order { OnOk result (ordered_in self.new.book ≡ ordered_in self.old.book) }
         ensures rests { OnOk result (receipts_in self.new.book ≡ receipts_in self.old.book) }
+        ensures counts { OnOk result (counts_in self.new.book ≡ counts_in self.old.book) }
         ensures executed { OnOk result (IfSome self.old.book
             (λ b. executed_in self.new.book ≡ b.executed)) }
         ensures works { OnOk result ((self.old.fault ≡ None) × (self.new.fault ≡ None)) }

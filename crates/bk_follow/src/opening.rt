@@ -7,7 +7,7 @@ ghost use Rattle.bk_base.specs.Feed.{Frame};
 ghost use Rattle.bk_base.specs.Committee.{is_committee};
 ghost use Rattle.bk_base.specs.Genesis.{AreAccounts, is_genesis, rows_of};
 ghost use Rattle.bk_committee.specs.Payload.{blamed, committee_of};
-ghost use Rattle.bk_follow.specs.Follower.{HasCome, Takes, FollowsBy, FeedFails, ordered_in, receipts_in, executed_in};
+ghost use Rattle.bk_follow.specs.Follower.{HasCome, Takes, FollowsBy, FeedFails, counts_in, ordered_in, receipts_in, executed_in};
 ghost use Rattle.bk_follow.specs.private.Books.{HasFollowed};
 ghost use Rattle.bk_follow.specs.private.Openings.{HeadIsCommittee, HeadIsGenesis, IsFirstOf, IsOpening, OpensFirst, OpensSecond, IsOpened};
 ghost use Rattle.bk_follow.specs.private.Parts.{followed};
@@ -150,6 +150,7 @@ fn open(
         opened.new.committee opened.new.book (frames_in frames.new.items)) }
     ensures order { OnOk result (ordered_in opened.new.book ≡ ordered_in opened.old.book) }
     ensures receipts { OnOk result (receipts_in opened.new.book ≡ receipts_in opened.old.book) }
+    ensures counts { OnOk result (counts_in opened.new.book ≡ counts_in opened.old.book) }
     ensures executed { OnOk result (IfSome opened.old.book
         (λ b. executed_in opened.new.book ≡ b.executed)) }
 {
@@ -177,6 +178,7 @@ pub(crate) fn take_frames(
         opened.new.committee opened.new.book) }
     ensures order { OnOk result (ordered_in opened.new.book ≡ ordered_in opened.old.book) }
     ensures receipts { OnOk result (receipts_in opened.new.book ≡ receipts_in opened.old.book) }
+    ensures counts { OnOk result (counts_in opened.new.book ≡ counts_in opened.old.book) }
     ensures executed { OnOk result (IfSome opened.old.book
         (λ b. executed_in opened.new.book ≡ b.executed)) }
 {
@@ -203,6 +205,7 @@ pub(crate) fn advance(
         (followed cutter.new opened.new)) }
     ensures order { OnOk result (ordered_in opened.new.book ≡ ordered_in opened.old.book) }
     ensures receipts { OnOk result (receipts_in opened.new.book ≡ receipts_in opened.old.book) }
+    ensures counts { OnOk result (counts_in opened.new.book ≡ counts_in opened.old.book) }
     ensures executed { OnOk result (IfSome opened.old.book
         (λ b. executed_in opened.new.book ≡ b.executed)) }
     ensures fault { IfErr result (λ f. FeedFails (followed cutter.old opened.old) piece.now f) }

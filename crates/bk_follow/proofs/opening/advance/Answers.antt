@@ -31,6 +31,9 @@ returns-clause-takes g c = λ bytes frames come. elim c.match-version.branch [
 pub returns-clause-receipts : goal.returns-clause-receipts
 returns-clause-receipts g c = elim c.match-version.branch [ in-Some+in_ok-take_frames-in-Some w ↦ rw w.opened-is w.in_ok-take_frames-in-Some.ensures.receipts | in-None w ↦ rw w.opened-is refl ]
 
+pub returns-clause-counts : goal.returns-clause-counts
+returns-clause-counts g c = elim c.match-version.branch [ in-Some+in_ok-take_frames-in-Some w ↦ rw w.opened-is w.in_ok-take_frames-in-Some.ensures.counts | in-None w ↦ rw w.opened-is refl ]
+
 pub returns-clause-order : goal.returns-clause-order
 returns-clause-order g c = elim c.match-version.branch [ in-Some+in_ok-take_frames-in-Some w ↦ rw w.opened-is w.in_ok-take_frames-in-Some.ensures.order | in-None w ↦ rw w.opened-is refl ]
 

@@ -1,8 +1,8 @@
 use Rattle.std.proofs.Common.{refl, sym, ap, subst, ◌∙◌}
 use Rattle.bk_frames.specs.Cutting.{frames_in}
-use Rattle.bk_follow.specs.Follower.{FollowsBy, ordered_in, receipts_in}
+use Rattle.bk_follow.specs.Follower.{FollowsBy, counts_in, ordered_in, receipts_in}
 use Rattle.bk_follow.specs.private.Books.{HasFollowed}
-use Rattle.bk_follow.proofs.Openings.{head_first, head_second, none_there, opened_stands, opened_now, nothing_executed, nothing_settled, executed_same, executed_none}
+use Rattle.bk_follow.proofs.Openings.{head_first, head_second, none_there, opened_stands, opened_now, nothing_counted, nothing_executed, nothing_settled, executed_same, executed_none}
 use Rattle.bk_follow.proofs.opening.open.Goals as goal
 
 pub returns-then-is_some-clause-opened : goal.returns-then-is_some-clause-opened
@@ -10,6 +10,9 @@ returns-then-is_some-clause-opened c = λ before h. opened_stands c.args.version
 
 pub returns-then-is_some-clause-receipts : goal.returns-then-is_some-clause-receipts
 returns-then-is_some-clause-receipts c = refl
+
+pub returns-then-is_some-clause-counts : goal.returns-then-is_some-clause-counts
+returns-then-is_some-clause-counts c = refl
 
 pub returns-then-is_some-clause-order : goal.returns-then-is_some-clause-order
 returns-then-is_some-clause-order c = refl
@@ -38,6 +41,11 @@ pub returns-clause-receipts : goal.returns-clause-receipts
 returns-clause-receipts c =
     nothing_executed c.open_first.new.committee c.open_second.new.opened.committee (frames_in c.open_first.new.frames.items) (frames_in c.open_second.new.frames.items) c.open_second.new.opened.book c.in_ok-open_second.ensures
     ∙ ap receipts_in (sym (none_there c.args.opened.now.book (sym c.if-is_some.ensures)))
+
+pub returns-clause-counts : goal.returns-clause-counts
+returns-clause-counts c =
+    nothing_counted c.open_first.new.committee c.open_second.new.opened.committee (frames_in c.open_first.new.frames.items) (frames_in c.open_second.new.frames.items) c.open_second.new.opened.book c.in_ok-open_second.ensures
+    ∙ ap counts_in (sym (none_there c.args.opened.now.book (sym c.if-is_some.ensures)))
 
 pub returns-clause-order : goal.returns-clause-order
 returns-clause-order c =

@@ -1,7 +1,7 @@
 use Rattle.std.proofs.Common.{◌≡◌, ◌++◌, Option, sym, ap, subst, ◌∙◌}
 use Rattle.bk_frames.specs.Cutting.{frames_in}
 use Rattle.std.specs.Prelude.{IfSome}
-use Rattle.bk_follow.specs.Follower.{BookValue, receipts_of_executed, ordered_in, receipts_in, executed_in}
+use Rattle.bk_follow.specs.Follower.{BookValue, counts_of_executed, receipts_of_executed, counts_in, ordered_in, receipts_in, executed_in}
 use Rattle.bk_follow.specs.private.Openings.{IsOpened}
 use Rattle.bk_follow.proofs.Openings.{opened_whole, room_for_left, took_left, executed_still}
 use Rattle.bk_follow.proofs.opening.take_frames.Goals as goal
@@ -12,6 +12,9 @@ returns-in_default-clause-follows g c = λ before h.
 
 pub returns-in_default-clause-receipts : goal.returns-in_default-clause-receipts
 returns-in_default-clause-receipts g c = c.in_ok-open.ensures.receipts
+
+pub returns-in_default-clause-counts : goal.returns-in_default-clause-counts
+returns-in_default-clause-counts g c = c.in_ok-open.ensures.counts
 
 pub returns-in_default-clause-order : goal.returns-in_default-clause-order
 returns-in_default-clause-order g c = c.in_ok-open.ensures.order
@@ -32,6 +35,9 @@ returns-clause-follows g c = λ before h.
 
 pub returns-clause-receipts : goal.returns-clause-receipts
 returns-clause-receipts g c = ap receipts_of_executed c.in_ok-take.ensures.executed ∙ ap receipts_in (sym c.in-Some.is) ∙ c.in_ok-open.ensures.receipts
+
+pub returns-clause-counts : goal.returns-clause-counts
+returns-clause-counts g c = ap counts_of_executed c.in_ok-take.ensures.executed ∙ ap counts_in (sym c.in-Some.is) ∙ c.in_ok-open.ensures.counts
 
 pub returns-clause-order : goal.returns-clause-order
 returns-clause-order g c = c.in_ok-take.ensures.order ∙ ap ordered_in (sym c.in-Some.is) ∙ c.in_ok-open.ensures.order
