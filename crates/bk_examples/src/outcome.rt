@@ -3,7 +3,7 @@
 use anyhow::{Result, bail};
 use bk_cli::{Exit, parse_line};
 use bk_frames::Counted;
-use bk_jobs::{Inputs, open_and_run};
+use bk_jobs::{Access, Inputs, open_and_run};
 use bk_progress::{Manner, Progress};
 use clap::Error;
 use clap::error::ErrorKind;
@@ -76,15 +76,12 @@ where
     let mut out = Counted::new(Vec::new(alloc));
     let mut err = Counted::new(Vec::new(alloc));
     let hidden = Progress::new(rt, Manner::Hidden);
-    let exit = open_and_run(
-        &Inputs::new(rt),
-        &mut Some(rt.reader()),
-        rt,
-        &line,
-        &hidden,
-        &mut out,
-        &mut err,
-    );
+    let mut access = Access {
+        first: Some(Inputs::new(rt)),
+        second: Some(Inputs::new(rt)),
+        input: Some(rt.reader()),
+    };
+    let exit = open_and_run(&mut access, rt, &line, &hidden, &mut out, &mut err);
     Ok(Outcome {
         status: exit.number(),
         out: out.into_inner(),

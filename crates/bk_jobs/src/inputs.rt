@@ -8,34 +8,46 @@ use std::io::Read;
 use std::rt::Files;
 use std::{fs, io};
 
-/// What opens files, for reading alone.
+/// What opens one file, for reading alone.
 pub trait Opens {
     /// What is read.
     type File: Read + Drop;
 
     /// A file of this path gives these bytes from its beginning to its end, where they are known.
-    ghost holds: { Self → List ℕ → Option (List ℕ) → Type 0 };
+    ghost holds: { List ℕ → Option (List ℕ) → Type 0 };
 
     /// A file of this path cannot be opened, which is an error of this kind.
-    ghost lacks: { Self → List ℕ → ErrorKind → Type 0 };
+    ghost lacks: { List ℕ → ErrorKind → Type 0 };
 
-    /// Opens a file at its beginning.
-    fn open(&self, path: &str) -> io::Result<Self::File>
-        ensures opened { IfOk result (λ file. holds self.now path.now (Self.File.remaining file)) }
-        ensures unopened { IfErr result (λ error. lacks self.now path.now (error_kind error)) };
+    /// Opens a file at its beginning. It takes what opens, so that a pipe is opened once: opened again, it would go on.
+    fn open(self, path: &str) -> io::Result<Self::File>
+        ensures opened { IfOk result (λ file. holds path.now (Self.File.remaining file)) }
+        ensures unopened { IfErr result (λ error. lacks path.now (error_kind error)) };
 
     /// How many bytes a file has, where that is known.
     fn size_of(&self, path: &str) -> Option<u64>;
 }
 
-/// The files of the system: what has `Inputs` can open files and write none.
+/// What a job can read: what opens its first file, what opens its second, and standard input. Each is taken where it is
+/// used.
+#[derive(Drop)]
+pub struct Access<N, I> {
+    /// What opens the first file.
+    pub first: Option<N>,
+    /// What opens the second.
+    pub second: Option<N>,
+    /// Standard input.
+    pub input: Option<I>,
+}
+
+/// A file of the system: what has `Inputs` can open one and write none.
 #[derive(Drop)]
 pub struct Inputs<'a, F> {
     system: &'a F,
 }
 
 impl<'a, F> Inputs<'a, F> {
-    /// Those of this system.
+    /// One of this system.
     pub fn new(system: &'a F) -> Self {
         Inputs { system }
     }
@@ -45,11 +57,11 @@ impl<'a, F> Inputs<'a, F> {
 impl<'a, F: Files> Opens for Inputs<'a, F> {
     type File = F::File;
 
-    ghost holds = { λ _ path bytes. Unit {0} };
+    ghost holds = { λ path bytes. Unit {0} };
 
-    ghost lacks = { λ _ path kind. Unit {0} };
+    ghost lacks = { λ path kind. Unit {0} };
 
-    fn open(&self, path: &str) -> io::Result<F::File> {
+    fn open(self, path: &str) -> io::Result<F::File> {
         fs::open(self.system, path)
     }
 

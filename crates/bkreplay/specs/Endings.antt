@@ -11,7 +11,7 @@ use Rattle.bk_results.specs.declared.fault.Fault.TheVariants as replay
 use Rattle.bk_cli.specs.CommandLine.{AreNotesOf, IsJobOf, IsOfValues, IsStrictOf, command_line}
 use Rattle.bk_cli.specs.Exits.{has_fault, is_refusal, may_end_if, writes_ahead}
 use Rattle.bk_cli.specs.FaultLines.{Reports, line_of}
-use Rattle.bk_cli.specs.Files.{reads_input, reads_input_twice}
+use Rattle.bk_cli.specs.Files.{reads_input_twice}
 use Rattle.bk_cli.specs.declared.exit.Exit.{Exit}
 use Rattle.bk_cli.specs.declared.exit.Exit.TheVariants as exit
 use Rattle.bk_cli.specs.declared.job.Job.{Job}
@@ -42,9 +42,9 @@ abbrev pub unread_words : List ℕ
 unread_words = codes "error: a word of the command line is not UTF-8\n"
 
 -- the words have no fault and are not answered, and the job that they name ran over the files that it names and standard input,
--- which it reads once at most, and leaves unread where it names it nowhere, reported as their notes say; where the bytes are to blame nothing is written, but by a job that
--- writes ahead
-pub record RanJob (holds : List ℕ → Option (List ℕ) → Type 0) (lacks : List ℕ → ErrorKind → Type 0) (input : Option (List ℕ)) (unread : Type 0)
+-- which it reads once at most, and left what it has no use for, reported as their notes say; where the bytes are to blame nothing
+-- is written, but by a job that writes ahead
+pub record RanJob (holds : List ℕ → Option (List ℕ) → Type 0) (lacks : List ℕ → ErrorKind → Type 0) (input : Option (List ℕ)) (leaves : Job → Type 0)
     (words : List Text) (said : Option Error) (end : Exit) (out out' err err' : Device) : Type 0 where
   pub job : Job
   pub notes : Notes
@@ -57,11 +57,12 @@ pub record RanJob (holds : List ℕ → Option (List ℕ) → Type 0) (lacks : L
   pub blame : is_refusal end ≡ true → writes_ahead job ≡ false → IsUntouched out out'
   pub once : reads_input_twice job ≡ false
   pub silent : said ≡ None
-  pub left : reads_input job ≡ false → unread
+  pub left : leaves job
   pub ran : Ran holds lacks input job strict notes.verbose end out out' err err'
 
 -- the words have a fault, or ask for help or the version, or memory ran out: they are answered with that, which decides how the
--- program ends, standard input is left unread, nothing is written of an answer, and where it ends with Failed one line says why
+-- program ends, no file is opened and standard input is left unread, nothing is written of an answer, and where it ends with Failed
+-- one line says why
 pub record RanNone (unread : Type 0) (words : List Text) (said : Option Error) (end : Exit) (out out' err err' : Device) : Type 0 where
   pub error : Error
   pub names : HasKind (fault_of command_line words) error ⊎ IsOfValues error (subcommand_of command_line words)
@@ -74,17 +75,18 @@ pub record RanNone (unread : Type 0) (words : List Text) (said : Option Error) (
   pub unsaid : kind_of error ≢ kind.OutOfMemory → end ≡ exit.Failed → SaysUnwritten err err'
 
 -- the one or the other
-abbrev pub RanWords : (List ℕ → Option (List ℕ) → Type 0) → (List ℕ → ErrorKind → Type 0) → Option (List ℕ) → Type 0 → List Text
-    → Option Error → Exit → Device → Device → Device → Device → Type 0
-RanWords holds lacks input unread words said end out out' err err' =
-    RanJob holds lacks input unread words said end out out' err err' ⊎ RanNone unread words said end out out' err err'
+abbrev pub RanWords : (List ℕ → Option (List ℕ) → Type 0) → (List ℕ → ErrorKind → Type 0) → Option (List ℕ) → (Job → Type 0) → Type 0
+    → List Text → Option Error → Exit → Device → Device → Device → Device → Type 0
+RanWords holds lacks input leaves unread words said end out out' err err' =
+    RanJob holds lacks input leaves words said end out out' err err' ⊎ RanNone unread words said end out out' err err'
 
 -- one line says why the words could not be read, with the status that goes with it: memory ran out, or a word is no text
 pub record SaysUnread (why : ErrorKind) (end : Exit) (err err' : Device) : Type 0 where
   pub memory : why ≡ found.OutOfMemory → (end ≡ exit.Failed) × SaysNoMemory err err'
   pub word : why ≢ found.OutOfMemory → (end ≡ exit.No) × Reports unread_words err err'
 
--- the words could not be read, which is an error of a kind that there is: standard input is left unread, no answer is written, and one line says why
+-- the words could not be read, which is an error of a kind that there is: no file is opened and standard input is left unread, no
+-- answer is written, and one line says why
 pub record ReadNoWords (fails : ErrorKind → Type 0) (unread : Type 0) (said : Option Error) (end : Exit) (out out' err err' : Device) : Type 0 where
   pub why : ErrorKind
   pub is_so : fails why
@@ -96,7 +98,8 @@ pub record ReadNoWords (fails : ErrorKind → Type 0) (unread : Type 0) (said : 
 -- the words that there are were read and are answered, by what files hold, why they are not opened and what standard input gives;
 -- or they cannot be read
 abbrev pub RanProgram : (List Text → Type 0) → (ErrorKind → Type 0) → (List ℕ → Option (List ℕ) → Type 0)
-    → (List ℕ → ErrorKind → Type 0) → Option (List ℕ) → Type 0 → Option Error → Exit → Device → Device → Device → Device → Type 0
-RanProgram gives fails holds lacks input unread said end out out' err err' =
-    ((words : List Text) × gives words × RanWords holds lacks input unread (settled words) said end out out' err err')
+    → (List ℕ → ErrorKind → Type 0) → Option (List ℕ) → (Job → Type 0) → Type 0 → Option Error → Exit
+    → Device → Device → Device → Device → Type 0
+RanProgram gives fails holds lacks input leaves unread said end out out' err err' =
+    ((words : List Text) × gives words × RanWords holds lacks input leaves unread (settled words) said end out out' err err')
     ⊎ ReadNoWords fails unread said end out out' err err'

@@ -9,7 +9,7 @@ use crate::arguments::Given;
 use crate::program::{System, program};
 use crate::speaker::Speaker;
 use bk_frames::Counted;
-use bk_jobs::Inputs;
+use bk_jobs::{Access, Inputs};
 use bk_progress::Display;
 use std::io::IsTerminal;
 use std::process::ExitCode;
@@ -19,22 +19,18 @@ fn main(rt: HostRuntime) -> ExitCode {
     let terminal = rt.stderr().is_terminal();
     let typed = rt.stdin().is_terminal();
     let mut err = Counted::new(rt.stderr());
-    let files = Inputs::new(&rt);
     let given = Given::new(&rt);
     let mut speaker = Speaker::new(&rt);
     let system = System {
         arguments: &given,
-        files: &files,
         display: Display::new(&rt, terminal),
         typed,
     };
-    let end = program(
-        &rt,
-        &system,
-        &mut Some(rt.reader()),
-        &mut speaker,
-        &mut out,
-        &mut err,
-    );
+    let mut access = Access {
+        first: Some(Inputs::new(&rt)),
+        second: Some(Inputs::new(&rt)),
+        input: Some(rt.reader()),
+    };
+    let end = program(&rt, &system, &mut access, &mut speaker, &mut out, &mut err);
     ExitCode::from(end.number())
 }

@@ -1,9 +1,10 @@
 //! From the words of the command line to the exit status.
 
-ghost use Rattle.std.specs.Prelude.{◌≡◌, map, true, None, is_some, option_and_then};
+ghost use Rattle.std.specs.Prelude.{◌≡◌, map, None, option_and_then};
 ghost use Rattle.std.specs.IoError.{error_kind};
 ghost use Rattle.bk_frames.specs.Device.{CanBeUsed};
 ghost use Rattle.bk_cli.specs.Words.{settled};
+ghost use Rattle.bk_jobs.specs.Openings.{IsLeft, IsThere};
 ghost use Rattle.bk_jobs.specs.Sources.{CanBeUsedAgain};
 ghost use Rattle.bkreplay.specs.Endings.{RanProgram, RanWords, SaysUnread};
 
@@ -11,7 +12,7 @@ use crate::arguments::Arguments;
 use crate::speaker::Speaker;
 use bk_cli::{Exit, JobFault, Line, parse_line, report};
 use bk_frames::{Sink, push_all};
-use bk_jobs::{Opens, open_and_run};
+use bk_jobs::{Access, Opens, open_and_run};
 use bk_progress::Display;
 use bk_results::Fault;
 use std::convert::AsStr;
@@ -21,25 +22,23 @@ use std::sync::Wait;
 use std::thread::Threads;
 use std::time::Clock;
 
-/// What the program has of the system beside its memory, its threads, standard input and where it answers its words.
+/// What the program has of the system beside its memory, its threads, what it can read and where it answers its words.
 #[derive(Drop)]
-pub(crate) struct System<'a, W, N, P> {
+pub(crate) struct System<'a, W, P> {
     /// What gives it its words.
     pub(crate) arguments: &'a W,
-    /// What opens the files that it reads.
-    pub(crate) files: &'a N,
     /// Where it shows how far it is.
     pub(crate) display: Display<'a, P>,
     /// Whether standard input is a terminal.
     pub(crate) typed: bool,
 }
 
-/// Reads the words, opens the files and runs the job; returns how the program ends. `input` is standard input, which is left as it
-/// is where the words name no job, or one that does not read it.
+/// Reads the words, opens the files and runs the job; returns how the program ends. `access` is left as it is where the
+/// words name no job, and else what is in it that the job has no use for.
 pub(crate) fn program<R, W, N, I, P, Q, O: Sink, E: Sink>(
     rt: &R,
-    system: &System<'_, W, N, P>,
-    input: &mut Option<I>,
+    system: &System<'_, W, P>,
+    access: &mut Access<N, I>,
     speaker: &mut Speaker<'_, Q>,
     out: &mut O,
     err: &mut E,
@@ -52,23 +51,23 @@ where
     P: Clock + Eprint + Sync,
     Q: Print + Eprint,
     requires silent { speaker.old ≡ None }
-    requires there { is_some input.old ≡ true }
+    requires there { IsThere access.old }
     requires out { CanBeUsed (O.state out.old) }
     requires err { CanBeUsedAgain (E.state err.old) }
     ensures ran { RanProgram (W.gives system.now.arguments.now) (W.lacks system.now.arguments.now)
-        (N.holds system.now.files.now) (N.lacks system.now.files.now)
-        (option_and_then I.remaining input.old) (input.new ≡ input.old)
+        N.holds N.lacks (option_and_then I.remaining access.old.input)
+        (λ j. IsLeft j access.old access.new) (access.new ≡ access.old)
         speaker.new result
         (O.state out.old) (O.state out.new) (E.state err.old) (E.state err.new) }
 {
     match system.arguments.words() {
-        Ok(words) => run_words(rt, system, words.as_slice(), input, speaker, out, err),
+        Ok(words) => run_words(rt, system, words.as_slice(), access, speaker, out, err),
         Err(error) => refuse_words(&error, err),
     }
 }
 
 // Says that what is typed is read, where the words ask for words.
-fn tell_typed<W, N, P: Clock + Eprint>(system: &System<'_, W, N, P>, line: &Line) {
+fn tell_typed<W, P: Clock + Eprint>(system: &System<'_, W, P>, line: &Line) {
     if line.notes.verbose && system.typed && line.job.reads_input() {
         system.display.typed();
     }
@@ -77,9 +76,9 @@ fn tell_typed<W, N, P: Clock + Eprint>(system: &System<'_, W, N, P>, line: &Line
 // Runs the job of the words.
 fn run_words<R, W, N, I, P, Q, S: AsStr, O: Sink, E: Sink>(
     rt: &R,
-    system: &System<'_, W, N, P>,
+    system: &System<'_, W, P>,
     words: &[S],
-    input: &mut Option<I>,
+    access: &mut Access<N, I>,
     speaker: &mut Speaker<'_, Q>,
     out: &mut O,
     err: &mut E,
@@ -91,11 +90,11 @@ where
     P: Clock + Eprint + Sync,
     Q: Print + Eprint,
     requires silent { speaker.old ≡ None }
-    requires there { is_some input.old ≡ true }
+    requires there { IsThere access.old }
     requires out { CanBeUsed (O.state out.old) }
     requires err { CanBeUsedAgain (E.state err.old) }
-    ensures ran { RanWords (N.holds system.now.files.now) (N.lacks system.now.files.now)
-        (option_and_then I.remaining input.old) (input.new ≡ input.old)
+    ensures ran { RanWords N.holds N.lacks (option_and_then I.remaining access.old.input)
+        (λ j. IsLeft j access.old access.new) (access.new ≡ access.old)
         (settled (map S.text words.now)) speaker.new result
         (O.state out.old) (O.state out.new) (E.state err.old) (E.state err.new) }
 {
@@ -103,7 +102,7 @@ where
         Ok(line) => {
             tell_typed(system, &line);
             let progress = system.display.progress(line.notes.progress);
-            open_and_run(system.files, input, rt, &line, &progress, out, err)
+            open_and_run(access, rt, &line, &progress, out, err)
         }
         Err(error) => speaker.answer(error, err),
     }

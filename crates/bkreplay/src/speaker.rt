@@ -14,8 +14,8 @@ use clap::error::ErrorKind;
 use std::io;
 use std::marker::Model;
 
-/// The standard streams, for help, the version and faults of the words. What has a `Speaker` prints by errors of `clap` alone,
-/// and one at most. Contracts see it as the error that it has answered with.
+/// The standard streams, for help, the version and faults of the words. What has a `Speaker` can answer once, with an error
+/// of `clap`, and contracts see the `Speaker` as the error that it has answered with.
 #[derive(Drop)]
 pub(crate) struct Speaker<'a, Q> {
     prints: &'a Q,

@@ -6,7 +6,7 @@ use Rattle.bk_cli.specs.declared.exit.Exit.{Exit}
 use Rattle.bk_cli.specs.declared.job.Job.{Job}
 use Rattle.bk_cli.specs.declared.job.Job.TheVariants as job
 use Rattle.bk_cli.specs.declared.exit.Exit.TheVariants as exit
-use Rattle.bk_jobs.specs.Openings.{HasNoMemory, IsSecond, RanSo}
+use Rattle.bk_jobs.specs.Openings.{BeganNot, HasNoMemory, IsSecond, RanSo}
 use Rattle.bk_jobs.specs.Sources.{JobDevices}
 
 -- the job ran over two sources that had these bytes
@@ -20,16 +20,10 @@ pub record RanOverThese (first second : Option (List ℕ)) (j : Job) (strict ver
   pub ends : new.out ≡ out'
   pub ran : RanSo j strict verbose last old new err err'
 
--- there was no memory to read ahead
-pub record LacksMemory (j : Job) (verbose : Bool) (end : Exit) (out out' err err' : Device) : Type 0 where
-  pub failed : end ≡ exit.Failed
-  pub untouched : out' ≡ out
-  pub line : HasNoMemory j verbose err err'
-
--- the one or the other
+-- the job ran over two sources, or there was no memory to read ahead
 abbrev pub RanOn : Option (List ℕ) → Option (List ℕ) → Job → Bool → Bool → Exit → Device → Device → Device → Device → Type 0
 RanOn first second j strict verbose end out out' err err' =
-    RanOverThese first second j strict verbose end out out' err err' ⊎ LacksMemory j verbose end out out' err err'
+    RanOverThese first second j strict verbose end out out' err err' ⊎ BeganNot (HasNoMemory j verbose) end out out' err err'
 
 -- the end of the first file of a job is waited at for more
 abbrev pub waits_at_end : Job → Bool

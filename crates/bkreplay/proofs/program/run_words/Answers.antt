@@ -16,7 +16,7 @@ returns-in-Ok g c = record {
     blame = c.open_and_run.ensures.unwritten;
     once = c.in-Ok.ensures.once;
     silent = c.requires.silent;
-    left = c.open_and_run.ensures.kept;
+    left = c.open_and_run.ensures.left;
     ran = c.open_and_run.ensures.ran;
   });
 }
