@@ -1,6 +1,6 @@
 //! The frames of a feed that is read to its end, whether something stops it or not, and what is asked of them.
 
-ghost use Rattle.std.specs.Prelude.{◌≡◌, ◌<◌, ◌≤◌, ℕ, List, length, false, Err, None, IfOk, IfErr, IfSome, OnOk};
+ghost use Rattle.std.specs.Prelude.{◌≡◌, ◌<◌, ◌≤◌, ℕ, List, length, false, Err, None, Some, IfOk, IfErr, IfSome, OnOk, option_map};
 ghost use Rattle.bk_base.specs.Feed.{Frame};
 ghost use Rattle.bk_answer.specs.Answers.{AnswerFailsBy, IsAnswered};
 ghost use Rattle.bk_answer.specs.Closed.{IsTakenFor};
@@ -29,6 +29,7 @@ impl Follower {
     pub fn taken(&self) -> Result<&Intake, Fault>
         ensures come { OnOk result ((bytes : List ℕ) × (frames : List Frame) × HasCome bytes frames self.now) }
         ensures taken { IfOk result (λ i. OfFeed self.now (λ feed. IsTakenFor feed i.now)) }
+        ensures own { IfOk result (λ i. option_map (λ b. b.taken) self.now.book ≡ Some i.now) }
         ensures again { IfSome self.now.fault (λ f. result ≡ Err f) }
         ensures fault { IfErr result (λ f. self.now.fault ≡ None → EndsNot self.now f) }
     {
