@@ -21,6 +21,17 @@ impl<'a, S, R> Metered<'a, S, R> {
     {
         Metered { source, progress }
     }
+
+    /// Gives the source back.
+    pub fn into_inner(self) -> S
+        ensures { result ≡ source_of self.entry }
+    {
+        let Metered {
+            source,
+            progress: _,
+        } = self;
+        source
+    }
 }
 
 impl<'a, S: Source, R: Clock + Eprint> Source for Metered<'a, S, R> {

@@ -29,6 +29,18 @@ impl<'a, S, R> Waiting<'a, S, R> {
     {
         Waiting { source, rt, waits }
     }
+
+    /// Gives the source back.
+    pub fn into_inner(self) -> S
+        ensures { result ≡ source_of self.entry }
+    {
+        let Waiting {
+            source,
+            rt: _,
+            waits: _,
+        } = self;
+        source
+    }
 }
 
 impl<'a, S: Source, R: Clock + Wait> Waiting<'a, S, R> {
