@@ -3,6 +3,7 @@ pub mod Drawn
 pub mod Faults
 pub mod Remarks
 pub mod Openings
+pub mod Reads
 pub mod Reports
 pub mod private
 pub mod Schedules

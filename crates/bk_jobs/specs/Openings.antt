@@ -1,5 +1,5 @@
 -- How a job ends whose files are opened first.
-use Rattle.std.specs.Prelude.{◌≡◌, ◌⊎◌, ℕ, Bool, List, Option, Some, None, true, false, is_some, not}
+use Rattle.std.specs.Prelude.{◌≡◌, ◌⊎◌, ℕ, Bool, List, [], Option, Some, None, true, false}
 use Rattle.std.specs.declared.io.ErrorKind.{ErrorKind}
 use Rattle.std.specs.declared.io.ErrorKind.TheVariants as kind
 use Rattle.bk_frames.specs.Device.{Device}
@@ -7,7 +7,7 @@ use Rattle.bk_results.specs.declared.fault.Fault.TheVariants as replay
 use Rattle.bk_cli.specs.Exits.{is_answer}
 use Rattle.bk_cli.specs.Explanations.{told}
 use Rattle.bk_cli.specs.FaultLines.{Reports}
-use Rattle.bk_cli.specs.Files.{file_of, is_input, reads_beside, reads_input, second_file_of}
+use Rattle.bk_cli.specs.Files.{file_of, is_input, names_input, reads_beside, second_file_of}
 use Rattle.bk_cli.specs.Unopened.{told_unopened}
 use Rattle.bk_cli.specs.declared.unopened.Unopened.{Unopened}
 use Rattle.bk_cli.specs.declared.unopened.Unopened.TheVariants as reason
@@ -19,6 +19,7 @@ use Rattle.bk_cli.specs.declared.job_fault.JobFault.TheVariants as fault
 use Rattle.bk_jobs.specs.declared.inputs.Access.{Access}
 use Rattle.bk_jobs.specs.Faults.{AnswerIsOut, EndsBy}
 use Rattle.bk_jobs.specs.Flaws.{IsJudgedEnd}
+use Rattle.bk_jobs.specs.Reads.{IsLeftButFirst, IsLeftButSecond, Sight, first_device, input_bytes, second_device}
 use Rattle.bk_jobs.specs.Remarks.{RemarksAreTold}
 use Rattle.bk_jobs.specs.Sources.{AllWork, JobDevices}
 
@@ -33,11 +34,6 @@ pub record RanSo (j : Job) (strict verbose : Bool) (last : Exit) (old new : JobD
   pub fault : is_answer j end ≡ false → (e : JobFault) × EndsBy j (told verbose j) e end old new err between
   pub judged : IsJudgedEnd strict j old new end last between err'
 
--- a path, where there is one, is that of a file, and does not stand for standard input
-abbrev pub names_file : Option (List ℕ) → Bool
-names_file None = false
-names_file (Some path) = not (is_input path)
-
 -- what a path gives: standard input's bytes where the path stands for that, else what a file of it holds
 abbrev pub IsOf : Bool → (List ℕ → Option (List ℕ) → Type 0) → Option (List ℕ) → List ℕ → Option (List ℕ) → Type 0
 IsOf true holds input path bytes = bytes ≡ input
@@ -48,52 +44,66 @@ abbrev pub IsFirst : (List ℕ → Option (List ℕ) → Type 0) → Option (Lis
 IsFirst holds input (Some path) bytes = IsOf (is_input path) holds input path bytes
 IsFirst holds input None bytes = bytes ≡ input
 
--- the second gives these, where the job names one
-abbrev pub IsSecond : (List ℕ → Option (List ℕ) → Type 0) → Option (List ℕ) → Option (List ℕ) → Option (List ℕ) → Type 0
-IsSecond holds input (Some path) bytes = IsOf (is_input path) holds input path bytes
-IsSecond holds input None bytes = Unit {0}
+-- there is a device, which holds such bytes, and no call of which has failed
+abbrev pub IsReady : (Option (List ℕ) → Type 0) → Option Device → Type 0
+IsReady such None = ⊥
+IsReady such (Some d) = such d.bytes × (d.failures ≡ 0)
 
--- the job ran so over its files, each from its beginning on
-pub record RanOver (holds : List ℕ → Option (List ℕ) → Type 0) (input : Option (List ℕ)) (j : Job) (strict verbose : Bool)
-    (last : Exit) (out out' err err' : Device) : Type 0 where
+-- what stands for the first file of a job, a file that is open or standard input, is ready to be read from its beginning on
+abbrev pub IsFirstReady : {N F I : Type 0} → Sight F I → Access N F I → Job → Option Device → Type 0
+IsFirstReady s old j d = IsReady (IsFirst s.holds (input_bytes s old) (file_of j)) d
+
+-- what stands for the file of a path is ready so; where there is no path there is nothing
+abbrev pub IsNamedReady : (List ℕ → Option (List ℕ) → Type 0) → Option (List ℕ) → Option (List ℕ) → Option Device → Type 0
+IsNamedReady holds input None d = d ≡ None
+IsNamedReady holds input (Some path) d = IsReady (IsOf (is_input path) holds input path) d
+
+-- what stands for the second file of a job is ready so, where the job names one
+abbrev pub IsSecondReady : {N F I : Type 0} → Sight F I → Access N F I → Job → Option Device → Type 0
+IsSecondReady s old j d = IsNamedReady s.holds (input_bytes s old) (second_file_of j) d
+
+-- a device, where the job names a second file
+abbrev pub if_named : Option (List ℕ) → Device → Option Device
+if_named None d = None
+if_named (Some path) d = Some d
+
+-- the job ran so over its files, and left what it read them through. Where it names no second file, nothing stands for it
+pub record RanOver {N F I : Type 0} (s : Sight F I) (before after : Access N F I) (j : Job) (strict verbose : Bool) (last : Exit)
+    (out out' err err' : Device) : Type 0 where
   pub old : JobDevices
   pub new : JobDevices
-  pub first : IsFirst holds input (file_of j) old.first.bytes
-  pub second : IsSecond holds input (second_file_of j) old.second.bytes
+  pub first : IsFirstReady s before j (Some old.first)
+  pub second : IsSecondReady s before j (if_named (second_file_of j) old.second)
+  pub nothing : second_file_of j ≡ None → old.second.bytes ≡ Some []
+  pub first_left : first_device s after ≡ Some new.first
+  pub second_left : second_device s after ≡ if_named (second_file_of j) new.second
   pub begins : old.out ≡ out
   pub ends : new.out ≡ out'
   pub ran : RanSo j strict verbose last old new err err'
 
--- a file of this path could not be opened, which is an error of this kind; a path that stands for standard input is none
+-- a file of this path could not be opened, which is an error of this kind. The path does not stand for standard input
 abbrev pub IsLacking : (List ℕ → ErrorKind → Type 0) → List ℕ → ErrorKind → Type 0
 IsLacking lacks path found = (is_input path ≡ false) × lacks path found
 
--- the first file of the job is there, or the second: it was opened, or is standard input, or the job names none
-abbrev pub HasFirst : (List ℕ → Option (List ℕ) → Type 0) → Option (List ℕ) → Job → Type 0
-HasFirst holds input j = (bytes : Option (List ℕ)) × IsFirst holds input (file_of j) bytes
+-- the first file of a job has this path, and was not opened. A text beside a feed, where the job names one, is opened earlier, and
+-- is ready; in other jobs nothing else was opened, and no standard input taken
+pub record LacksFirst {N F I : Type 0} (s : Sight F I) (old new : Access N F I) (j : Job) (path : List ℕ) : Type 0 where
+  pub names : file_of j ≡ Some path
+  pub none : first_device s new ≡ None
+  pub earlier : reads_beside j ≡ true → IsSecondReady s old j (second_device s new)
+  pub alone : reads_beside j ≡ false → IsLeftButFirst old new
 
-abbrev pub HasSecond : (List ℕ → Option (List ℕ) → Type 0) → Option (List ℕ) → Job → Type 0
-HasSecond holds input j = (bytes : Option (List ℕ)) × IsSecond holds input (second_file_of j) bytes
+-- the second has this path, and was not opened. Where it is a text beside a feed nothing else was opened, and no standard input
+-- taken; in other jobs the first file is opened earlier, and is ready
+pub record LacksSecond {N F I : Type 0} (s : Sight F I) (old new : Access N F I) (j : Job) (path : List ℕ) : Type 0 where
+  pub names : second_file_of j ≡ Some path
+  pub none : second_device s new ≡ None
+  pub earlier : reads_beside j ≡ false → IsFirstReady s old j (first_device s new)
+  pub alone : reads_beside j ≡ true → IsLeftButSecond old new
 
--- a file of the job could not be opened. They are opened in their order, but for a text beside a feed, which comes before the
--- feed; so the one that comes first is there where the other is told of
-abbrev pub IsUnopened : (List ℕ → Option (List ℕ) → Type 0) → (List ℕ → ErrorKind → Type 0) → Option (List ℕ) → Job
-    → List ℕ → ErrorKind → Type 0
-IsUnopened holds lacks input j path found = IsLacking lacks path found
-    × (((file_of j ≡ Some path) × (reads_beside j ≡ true → HasSecond holds input j))
-    ⊎ ((second_file_of j ≡ Some path) × (reads_beside j ≡ false → HasFirst holds input j)))
-
--- all that a job can read is there
-pub record IsThere {N I : Type 0} (access : Access N I) : Type 0 where
-  pub first : is_some access.first ≡ true
-  pub second : is_some access.second ≡ true
-  pub input : is_some access.input ≡ true
-
--- what the job has no use for is left as it is: what opens a first file, what opens a second, and standard input
-pub record IsLeft {N I : Type 0} (j : Job) (old new : Access N I) : Type 0 where
-  pub first : names_file (file_of j) ≡ false → new.first ≡ old.first
-  pub second : names_file (second_file_of j) ≡ false → new.second ≡ old.second
-  pub input : reads_input j ≡ false → new.input ≡ old.input
+-- a file of the job could not be opened
+abbrev pub IsUnopened : {N F I : Type 0} → Sight F I → Access N F I → Access N F I → Job → List ℕ → ErrorKind → Type 0
+IsUnopened s old new j path found = IsLacking s.lacks path found × (LacksFirst s old new j path ⊎ LacksSecond s old new j path)
 
 -- why a file was not opened, by the kind of the system's error
 abbrev pub reason_by : ErrorKind → Unopened
@@ -101,26 +111,40 @@ reason_by kind.NotFound = reason.Absent
 reason_by kind.PermissionDenied = reason.Denied
 reason_by _ = reason.Other
 
--- a file of the job could not be opened, which is reported with its path and, in words, with the reason
-abbrev pub HasNoFile : (List ℕ → Option (List ℕ) → Type 0) → (List ℕ → ErrorKind → Type 0) → Option (List ℕ) → Job → Bool
-    → Device → Device → Type 0
-HasNoFile holds lacks input j verbose err err' =
-    (path : List ℕ) × (found : ErrorKind) × IsUnopened holds lacks input j path found
+-- a file of the job could not be opened, which is reported; in words with its path and the reason
+abbrev pub HasNoFile : {N F I : Type 0} → Sight F I → Access N F I → Access N F I → Job → Bool → Device → Device → Type 0
+HasNoFile s old new j verbose err err' =
+    (path : List ℕ) × (found : ErrorKind) × IsUnopened s old new j path found
     × Reports (told_unopened verbose path (reason_by found)) err err'
 
--- there was no memory to read ahead, which is reported
-abbrev pub HasNoMemory : Job → Bool → Device → Device → Type 0
-HasNoMemory j verbose err err' = Reports (told verbose j (fault.Replay replay.Memory)) err err'
+-- the first file of a job was opened, or is standard input; but nothing was made to read it through. The second is as where the
+-- first was not opened
+pub record LacksRoom {N F I : Type 0} (s : Sight F I) (old new : Access N F I) (j : Job) : Type 0 where
+  pub bytes : Option (List ℕ)
+  pub there : IsFirst s.holds (input_bytes s old) (file_of j) bytes
+  pub none : first_device s new ≡ None
+  pub earlier : reads_beside j ≡ true → IsSecondReady s old j (second_device s new)
+  pub second : reads_beside j ≡ false → new.second ≡ old.second
+  pub second_none : reads_beside j ≡ false → new.second_read ≡ old.second_read
+  pub input : reads_beside j ≡ false → names_input (file_of j) ≡ false → new.input ≡ old.input
 
--- the job did not begin, for this reason
+-- that memory ran out is reported
+abbrev pub TellsMemory : Job → Bool → Device → Device → Type 0
+TellsMemory j verbose err err' = Reports (told verbose j (fault.Replay replay.Memory)) err err'
+
+-- memory ran out before anything was read, which is reported
+abbrev pub HasNoMemory : {N F I : Type 0} → Sight F I → Access N F I → Access N F I → Job → Bool → Device → Device → Type 0
+HasNoMemory s old new j verbose err err' = LacksRoom s old new j × TellsMemory j verbose err err'
+
+-- the job did not begin, for this reason, and wrote nothing
 pub record BeganNot (why : Device → Device → Type 0) (end : Exit) (out out' err err' : Device) : Type 0 where
   pub failed : end ≡ exit.Failed
   pub untouched : out' ≡ out
   pub line : why err err'
 
--- the job ran, or did not begin, by what files hold, why they are not opened, and what standard input gives
-abbrev pub Ran : (List ℕ → Option (List ℕ) → Type 0) → (List ℕ → ErrorKind → Type 0) → Option (List ℕ) → Job → Bool → Bool
+-- the job ran, or did not begin, from what it can read to what it leaves of that
+abbrev pub Ran : {N F I : Type 0} → Sight F I → Access N F I → Access N F I → Job → Bool → Bool
     → Exit → Device → Device → Device → Device → Type 0
-Ran holds lacks input j strict verbose end out out' err err' =
-    RanOver holds input j strict verbose end out out' err err' ⊎ BeganNot (HasNoFile holds lacks input j verbose) end out out' err err'
-    ⊎ BeganNot (HasNoMemory j verbose) end out out' err err'
+Ran s old new j strict verbose end out out' err err' =
+    RanOver s old new j strict verbose end out out' err err' ⊎ BeganNot (HasNoFile s old new j verbose) end out out' err err'
+    ⊎ BeganNot (HasNoMemory s old new j verbose) end out out' err err'

@@ -1,10 +1,14 @@
 //! Where the files of a job come from.
 
-ghost use Rattle.std.specs.Prelude.{ℕ, List, Option, IfErr, IfOk};
+ghost use Rattle.std.specs.Prelude.{◌≡◌, ℕ, List, Option, IfErr, IfOk};
 ghost use Rattle.std.specs.IoError.{error_kind};
 ghost use Rattle.std.specs.declared.io.ErrorKind.{ErrorKind};
+ghost use Rattle.bk_jobs.specs.Reads.{unopened};
 
-use std::io::Read;
+use bk_frames::Counted;
+use either::Either;
+use std::alloc::Global;
+use std::io::{BufReader, Read};
 use std::rt::Files;
 use std::{fs, io};
 
@@ -28,16 +32,42 @@ pub trait Opens {
     fn size_of(&self, path: &str) -> Option<u64>;
 }
 
+/// Where the first file of a job is read through, or standard input in its place: with a buffer, as small pulls are made
+/// of it.
+pub type First<F, I> = Counted<BufReader<Either<F, I>, Global>>;
+
+/// Where the second file of a job is read through, or standard input in its place.
+pub type Second<F, I> = Counted<Either<F, I>>;
+
 /// What a job can read: what opens its first file, what opens its second, and standard input. Each is taken where it is
-/// used.
+/// used, and what it is read through is left here.
 #[derive(Drop)]
-pub struct Access<N, I> {
+pub struct Access<N, F, I> {
     /// What opens the first file.
     pub first: Option<N>,
     /// What opens the second.
     pub second: Option<N>,
     /// Standard input.
     pub input: Option<I>,
+    /// What the first is read through, from when it is opened.
+    pub first_read: Option<First<F, I>>,
+    /// What the second is read through, from when it is opened.
+    pub second_read: Option<Second<F, I>>,
+}
+
+impl<N, F, I> Access<N, F, I> {
+    /// With nothing opened.
+    pub fn new(first: N, second: N, input: I) -> Self
+        ensures { result ≡ unopened first second input }
+    {
+        Access {
+            first: Some(first),
+            second: Some(second),
+            input: Some(input),
+            first_read: None,
+            second_read: None,
+        }
+    }
 }
 
 /// A file of the system: what has `Inputs` can open one and write none.

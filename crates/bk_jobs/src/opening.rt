@@ -1,24 +1,28 @@
 //! Opens the files that a job names.
 
-ghost use Rattle.std.specs.Prelude.{◌≡◌, ℕ, List, Option, Some, true, false, is_some, IfErr, IfOk, option_and_then};
+ghost use Rattle.std.specs.Prelude.{◌≡◌, ℕ, List, Option, None, Some, true, false, is_some, IfErr, IfNone, IfOk, IfSome, OnErr, OnOk, option_and_then};
 ghost use Rattle.either.specs.Either.{either};
 ghost use Rattle.std.specs.IoError.{error_kind};
 ghost use Rattle.bk_frames.specs.Device.{CanBeUsed};
 ghost use Rattle.bk_results.specs.Devices.{IsUntouched};
 ghost use Rattle.bk_cli.specs.Exits.{is_refusal, may_end_if, writes_ahead};
+ghost use Rattle.bk_cli.specs.FaultLines.{Reports};
 ghost use Rattle.bk_cli.specs.Files.{file_of, is_input, names_input, reads_beside, reads_input_twice, second_file_of};
-ghost use Rattle.bk_jobs.specs.Openings.{HasNoFile, HasNoMemory, IsFirst, IsLacking, IsLeft, IsOf, IsThere, IsUnopened, Ran, names_file, reason_by};
-ghost use Rattle.bk_jobs.specs.private.Opened.{IsSecondOpened, RanOn, names_input_second, waits_at_end};
-ghost use Rattle.bk_jobs.specs.Sources.{CanBeUsedAgain};
+ghost use Rattle.bk_cli.specs.Unopened.{told_unopened};
+ghost use Rattle.bk_jobs.specs.Openings.{IsFirst, IsFirstReady, IsLacking, IsOf, IsSecondReady, IsUnopened, LacksRoom, Ran, RanSo, TellsMemory, reason_by};
+ghost use Rattle.bk_jobs.specs.Reads.{IsLeft, IsThere, first_device, names_file, second_device, sight};
+ghost use Rattle.bk_jobs.specs.private.Opened.{IsReadOnly, RanReady, names_input_second, waits_at_end};
+ghost use Rattle.bk_jobs.specs.Sources.{CanBeUsedAgain, job_devices};
 
 use crate::inputs::{Access, Opens};
 use crate::running::{Watch, run_watched};
 use bk_cli::{Exit, Job, JobFault, Line, Unopened, is_input, tell, tell_unopened};
-use bk_frames::{Counted, Sink};
+use bk_frames::{Counted, Sink, Source};
 use bk_progress::{Metered, Progress};
 use bk_results::Fault;
 use bk_tail::Waiting;
 use either::{Either, Left, Right};
+use std::alloc::Global;
 use std::io;
 use std::io::{BufReader, Read};
 use std::sync::Wait;
@@ -35,12 +39,12 @@ struct Missing<'a> {
     error: io::Error,
 }
 
-// What a job reads: its first file, and its second where it names one. Standard input stands in place of one of them at
-// most.
+// How a job ended, and what its files were read through.
 #[derive(Drop)]
-struct Sources<F, I> {
-    first: Either<F, I>,
-    second: Option<Either<F, I>>,
+struct Over<S, T> {
+    exit: Exit,
+    first: S,
+    second: T,
 }
 
 // Why the system did not open a file, as far as it says it.
@@ -55,13 +59,11 @@ fn reason_of(error: &io::Error) -> Unopened
 }
 
 // Reports a file that cannot be opened.
-fn not_opened<N: Opens, E: Sink>(line: &Line, missing: &Missing<'_>, err: &mut E) -> Exit
+fn not_opened<E: Sink>(line: &Line, missing: &Missing<'_>, err: &mut E) -> Exit
     requires err { CanBeUsed (E.state err.old) }
     ensures failed { result ≡ Exit.Failed }
-    ensures told { (input : Option (List ℕ)) → IsUnopened N.holds N.lacks input line.now.job
-        missing.now.path.now (error_kind missing.now.error)
-        → HasNoFile N.holds N.lacks input line.now.job line.now.notes.verbose
-        (E.state err.old) (E.state err.new) }
+    ensures told { Reports (told_unopened line.now.notes.verbose missing.now.path.now
+        (reason_by (error_kind missing.now.error))) (E.state err.old) (E.state err.new) }
 {
     let why = reason_of(&missing.error);
     tell_unopened(missing.path, line.notes.verbose, why, err);
@@ -72,7 +74,7 @@ fn not_opened<N: Opens, E: Sink>(line: &Line, missing: &Missing<'_>, err: &mut E
 fn no_memory<E: Sink>(line: &Line, err: &mut E) -> Exit
     requires { CanBeUsed (E.state err.old) }
     ensures failed { result ≡ Exit.Failed }
-    ensures told { HasNoMemory line.now.job line.now.notes.verbose (E.state err.old) (E.state err.new) }
+    ensures told { TellsMemory line.now.job line.now.notes.verbose (E.state err.old) (E.state err.new) }
 {
     let fault = JobFault::Replay(Fault::Memory);
     tell(&line.job, line.notes.verbose, &fault, err);
@@ -99,7 +101,7 @@ fn size_of<N: Opens>(opener: &Option<N>, path: &str) -> Option<u64> {
 
 // Counts the bytes that are going to be read.
 fn expect_files<N: Opens, I, P: Clock + Eprint>(
-    access: &Access<N, I>,
+    access: &Access<N, N::File, I>,
     job: &Job,
     progress: &Progress<'_, P>,
 ) {
@@ -118,7 +120,8 @@ fn expect_files<N: Opens, I, P: Clock + Eprint>(
 // Takes what is there.
 fn taken<T>(from: &mut Option<T>) -> T
     requires { is_some from.old ≡ true }
-    ensures { from.old ≡ Some result }
+    ensures gives { from.old ≡ Some result }
+    ensures leaves { from.new ≡ None }
 {
     let Some(found) = from.take() else {
         unreachable!()
@@ -174,28 +177,64 @@ fn open_first<'a, N: Opens, I: Read>(
     }
 }
 
-// Opens the second file of a job, where it names one.
-fn open_second<'a, N: Opens, I: Read>(
-    opener: &mut Option<N>,
+// Makes the first file of a job ready, with what is read ahead of it. Without memory for that none is missing.
+fn ready_first<'a, N: Opens, I: Read + Drop>(
+    access: &mut Access<N, N::File, I>,
+    alloc: Global,
     job: &'a Job,
-    input: &mut Option<I>,
-) -> Result<Option<Either<N::File, I>>, Missing<'a>>
-    requires opener { is_some opener.old ≡ true }
-    requires there { names_input_second job.now ≡ true → is_some input.old ≡ true }
-    ensures opened { IfOk result (λ s. IsSecondOpened N.holds
-        (option_and_then I.remaining input.old) (second_file_of job.now)
-        (either N.File.remaining I.remaining) s) }
+) -> Result<(), Option<Missing<'a>>>
+    requires opener { is_some access.old.first ≡ true }
+    requires there { names_input (file_of job.now) ≡ true → is_some access.old.input ≡ true }
+    ensures ready { OnOk result (IsFirstReady (sight N.holds N.lacks N.File.remaining I.remaining) access.old job.now
+        (first_device (sight N.holds N.lacks N.File.remaining I.remaining) access.new)) }
+    ensures missing { IfErr result (λ e. IfSome e (λ m. (file_of job.now ≡ Some m.path.now)
+        × IsLacking N.lacks m.path.now (error_kind m.error))) }
+    ensures none { OnErr result (access.new.first_read ≡ access.old.first_read) }
+    ensures memory { IfErr result (λ e. IfNone e ((bytes : Option (List ℕ))
+        × IsFirst N.holds (option_and_then I.remaining access.old.input) (file_of job.now) bytes)) }
+    ensures second { access.new.second ≡ access.old.second }
+    ensures second_read { access.new.second_read ≡ access.old.second_read }
+    ensures kept { names_input (file_of job.now) ≡ false → access.new.input ≡ access.old.input }
+    ensures unused { names_file (file_of job.now) ≡ false → access.new.first ≡ access.old.first }
+{
+    let source = match open_first(&mut access.first, job, &mut access.input) {
+        Ok(source) => source,
+        Err(missing) => return Err(Some(missing)),
+    };
+    let Ok(reader) = BufReader::with_capacity(alloc, AHEAD, source) else {
+        return Err(None);
+    };
+    access.first_read = Some(Counted::new(reader));
+    Ok(())
+}
+
+// Makes the second file of a job ready, where it names one.
+fn ready_second<'a, N: Opens, I: Read + Drop>(
+    access: &mut Access<N, N::File, I>,
+    job: &'a Job,
+) -> Result<(), Missing<'a>>
+    requires opener { is_some access.old.second ≡ true }
+    requires there { names_input_second job.now ≡ true → is_some access.old.input ≡ true }
+    requires none { access.old.second_read ≡ None }
+    ensures ready { OnOk result (IsSecondReady (sight N.holds N.lacks N.File.remaining I.remaining) access.old job.now
+        (second_device (sight N.holds N.lacks N.File.remaining I.remaining) access.new)) }
     ensures missing { IfErr result (λ m. (second_file_of job.now ≡ Some m.path.now)
         × IsLacking N.lacks m.path.now (error_kind m.error)) }
-    ensures kept { names_input_second job.now ≡ false → input.new ≡ input.old }
-    ensures unused { names_file (second_file_of job.now) ≡ false → opener.new ≡ opener.old }
+    ensures none { OnErr result (access.new.second_read ≡ None) }
+    ensures first { access.new.first ≡ access.old.first }
+    ensures first_read { access.new.first_read ≡ access.old.first_read }
+    ensures kept { names_input_second job.now ≡ false → access.new.input ≡ access.old.input }
+    ensures unused { names_file (second_file_of job.now) ≡ false → access.new.second ≡ access.old.second }
 {
-    match job.second_file() {
-        Some(path) => match open_path(opener, path, input) {
-            Ok(source) => Ok(Some(source)),
-            Err(error) => Err(Missing { path, error }),
-        },
-        None => Ok(None),
+    let Some(path) = job.second_file() else {
+        return Ok(());
+    };
+    match open_path(&mut access.second, path, &mut access.input) {
+        Ok(source) => {
+            access.second_read = Some(Counted::new(source));
+            Ok(())
+        }
+        Err(error) => Err(Missing { path, error }),
     }
 }
 
@@ -209,41 +248,47 @@ fn is_beside(job: &Job) -> bool
     }
 }
 
-// Opens the files of a job, each from its beginning on.
-fn open_both<'a, N: Opens, I: Read + Drop>(
-    access: &mut Access<N, I>,
+// Makes the files of a job ready, each to be read from its beginning on. Without memory none is missing.
+fn ready_both<'a, N: Opens, I: Read + Drop>(
+    access: &mut Access<N, N::File, I>,
+    alloc: Global,
     job: &'a Job,
-) -> Result<Sources<N::File, I>, Missing<'a>>
+) -> Result<(), Option<Missing<'a>>>
     requires once { reads_input_twice job.now ≡ false }
     requires there { IsThere access.old }
-    ensures first { IfOk result (λ s. IsFirst N.holds
-        (option_and_then I.remaining access.old.input)
-        (file_of job.now) (either N.File.remaining I.remaining s.first)) }
-    ensures second { IfOk result (λ s. IsSecondOpened N.holds
-        (option_and_then I.remaining access.old.input)
-        (second_file_of job.now) (either N.File.remaining I.remaining) s.second) }
-    ensures missing { IfErr result (λ m. IsUnopened N.holds N.lacks
-        (option_and_then I.remaining access.old.input) job.now m.path.now (error_kind m.error)) }
+    ensures first { OnOk result (IsFirstReady (sight N.holds N.lacks N.File.remaining I.remaining) access.old job.now
+        (first_device (sight N.holds N.lacks N.File.remaining I.remaining) access.new)) }
+    ensures second { OnOk result (IsSecondReady (sight N.holds N.lacks N.File.remaining I.remaining) access.old job.now
+        (second_device (sight N.holds N.lacks N.File.remaining I.remaining) access.new)) }
+    ensures missing { IfErr result (λ e. IfSome e (λ m.
+        IsUnopened (sight N.holds N.lacks N.File.remaining I.remaining) access.old access.new
+        job.now m.path.now (error_kind m.error))) }
+    ensures memory { IfErr result (λ e. IfNone e (LacksRoom
+        (sight N.holds N.lacks N.File.remaining I.remaining) access.old access.new job.now)) }
     ensures left { IsLeft job.now access.old access.new }
 {
     if is_beside(job) {
-        let second = open_second(&mut access.second, job, &mut access.input)?;
-        let first = open_first(&mut access.first, job, &mut access.input)?;
-        return Ok(Sources { first, second });
+        return match ready_second(access, job) {
+            Ok(()) => ready_first(access, alloc, job),
+            Err(missing) => Err(Some(missing)),
+        };
     }
-    let first = open_first(&mut access.first, job, &mut access.input)?;
-    let second = open_second(&mut access.second, job, &mut access.input)?;
-    Ok(Sources { first, second })
+    ready_first(access, alloc, job)?;
+    match ready_second(access, job) {
+        Ok(()) => Ok(()),
+        Err(missing) => Err(Some(missing)),
+    }
 }
 
 /// Opens what the job names and runs it over that, from its beginning on, watched by `progress`.
 ///
 /// Standard input is read where no file is named, or `-`; a job reads it once at most. What the job has no use for is
-/// left in `access`. A file that cannot be opened ends with `Failed` and `read failed`. An end that is no answer has the
-/// line of its fault on `err`, and where the notes are verbose one more line in words; an answer to a query or of a
-/// comparison has a line then for each missing batch at which an order stops.
+/// left in `access`, and so is what its files were read through, with a count of the reads that failed, but where memory
+/// runs out before the first is read. A file that cannot be opened ends with `Failed` and `read failed`. An end that is no
+/// answer has the line of its fault on `err`, and where the notes are verbose one more line in words; an answer to a query
+/// or of a comparison has a line then for each missing batch at which an order stops.
 pub fn open_and_run<N, I, R, P, O: Sink, E: Sink>(
-    access: &mut Access<N, I>,
+    access: &mut Access<N, N::File, I>,
     rt: &R,
     line: &Line,
     progress: &Progress<'_, P>,
@@ -263,60 +308,98 @@ where
         → IsUntouched (O.state out.old) (O.state out.new) }
     ensures ends { may_end_if line.now.strict line.now.job result ≡ true }
     ensures left { IsLeft line.now.job access.old access.new }
-    ensures ran { Ran N.holds N.lacks (option_and_then I.remaining access.old.input)
+    ensures ran { Ran (sight N.holds N.lacks N.File.remaining I.remaining) access.old access.new
         line.now.job line.now.strict line.now.notes.verbose result
         (O.state out.old) (O.state out.new) (E.state err.old) (E.state err.new) }
 {
     expect_files(access, &line.job, progress);
-    let Sources { first, second } = match open_both(access, &line.job) {
-        Ok(sources) => sources,
-        Err(missing) => return not_opened::<N, E>(line, &missing, err),
-    };
-    let nothing: &[u8] = b"";
-    match second {
-        Some(second) => run_over(rt, line, progress, first, second, out, err),
-        None => run_over(rt, line, progress, first, nothing, out, err),
+    match ready_both(access, rt.alloc(), &line.job) {
+        Ok(()) => run_ready(access, rt, line, progress, out, err),
+        Err(Some(missing)) => not_opened(line, &missing, err),
+        Err(None) => no_memory(line, err),
     }
 }
 
-// Runs a job over its inputs. Small pulls are made of the first alone.
-fn run_over<R, P, I: Read + Drop, J: Read + Drop, O: Sink, E: Sink>(
+// Runs a job over its files, which are ready, and leaves what they were read through.
+fn run_ready<N, I, R, P, O: Sink, E: Sink>(
+    access: &mut Access<N, N::File, I>,
     rt: &R,
     line: &Line,
     progress: &Progress<'_, P>,
-    first: I,
-    second: J,
     out: &mut O,
     err: &mut E,
 ) -> Exit
 where
+    N: Opens,
+    I: Read + Drop,
     R: AllocGlobal + Clock + Threads + Wait + Sync,
     P: Clock + Eprint + Sync,
+    requires opened { is_some access.old.first_read ≡ true }
+    requires first { IfSome (first_device (sight N.holds N.lacks N.File.remaining I.remaining) access.old) CanBeUsed }
+    requires second { IfSome (second_device (sight N.holds N.lacks N.File.remaining I.remaining) access.old) CanBeUsed }
     requires out { CanBeUsed (O.state out.old) }
     requires err { CanBeUsedAgain (E.state err.old) }
     ensures unwritten { is_refusal result ≡ true → writes_ahead line.now.job ≡ false
         → IsUntouched (O.state out.old) (O.state out.new) }
     ensures ends { may_end_if line.now.strict line.now.job result ≡ true }
-    ensures ran { RanOn (I.remaining first) (J.remaining second)
+    ensures kept { IsReadOnly access.old access.new }
+    ensures ran { RanReady (first_device (sight N.holds N.lacks N.File.remaining I.remaining) access.old)
+        (first_device (sight N.holds N.lacks N.File.remaining I.remaining) access.new)
+        (second_device (sight N.holds N.lacks N.File.remaining I.remaining) access.old)
+        (second_device (sight N.holds N.lacks N.File.remaining I.remaining) access.new)
         line.now.job line.now.strict line.now.notes.verbose result
         (O.state out.old) (O.state out.new) (E.state err.old) (E.state err.new) }
 {
-    let Ok(reader) = BufReader::with_capacity(rt.alloc(), AHEAD, first) else {
-        return no_memory(line, err);
-    };
+    let first = taken(&mut access.first_read);
+    if let Some(second) = access.second_read.take() {
+        let over = run_over(rt, line, progress, first, second, out, err);
+        access.first_read = Some(over.first);
+        access.second_read = Some(over.second);
+        return over.exit;
+    }
+    let nothing: &[u8] = b"";
+    let over = run_over(rt, line, progress, first, Counted::new(nothing), out, err);
+    access.first_read = Some(over.first);
+    over.exit
+}
+
+// Runs a job over what its files are read through.
+fn run_over<R, P, S: Source, T: Source, O: Sink, E: Sink>(
+    rt: &R,
+    line: &Line,
+    progress: &Progress<'_, P>,
+    first: S,
+    second: T,
+    out: &mut O,
+    err: &mut E,
+) -> Over<S, T>
+where
+    R: AllocGlobal + Clock + Threads + Wait + Sync,
+    P: Clock + Eprint + Sync,
+    requires first { CanBeUsed (S.state first) }
+    requires second { CanBeUsed (T.state second) }
+    requires out { CanBeUsed (O.state out.old) }
+    requires err { CanBeUsedAgain (E.state err.old) }
+    ensures unwritten { is_refusal result.exit ≡ true → writes_ahead line.now.job ≡ false
+        → IsUntouched (O.state out.old) (O.state out.new) }
+    ensures ends { may_end_if line.now.strict line.now.job result.exit ≡ true }
+    ensures ran { RanSo line.now.job line.now.strict line.now.notes.verbose result.exit
+        (job_devices (S.state first) (T.state second) (O.state out.old))
+        (job_devices (S.state result.first) (T.state result.second) (O.state out.new))
+        (E.state err.old) (E.state err.new) }
+{
     let waits = is_waited(&line.job);
     let watch = Watch {
         watcher: progress,
         verbose: line.notes.verbose,
         strict: line.strict,
     };
-    run_watched(
-        rt,
-        &line.job,
-        &watch,
-        &mut Waiting::new(Metered::new(Counted::new(reader), &*progress), &*rt, waits),
-        &mut Metered::new(Counted::new(second), progress),
-        out,
-        err,
-    )
+    let mut first = Waiting::new(Metered::new(first, progress), rt, waits);
+    let mut second = Metered::new(second, progress);
+    let exit = run_watched(rt, &line.job, &watch, &mut first, &mut second, out, err);
+    Over {
+        exit,
+        first: first.into_inner().into_inner(),
+        second: second.into_inner(),
+    }
 }

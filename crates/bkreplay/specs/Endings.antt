@@ -19,6 +19,8 @@ use Rattle.bk_cli.specs.declared.job_fault.JobFault.TheVariants as fault
 use Rattle.bk_cli.specs.declared.notes.Notes.{Notes}
 use Rattle.bk_cli.specs.Words.{settled}
 use Rattle.bk_jobs.specs.Openings.{Ran}
+use Rattle.bk_jobs.specs.Reads.{IsLeft, Sight}
+use Rattle.bk_jobs.specs.declared.inputs.Access.{Access}
 
 -- where the words name no job: with Failed where memory ran out; with Whole after help and the version, or with Failed where
 -- these could not be written; and with No where the words have a fault
@@ -44,8 +46,8 @@ unread_words = codes "error: a word of the command line is not UTF-8\n"
 -- the words have no fault and are not answered, and the job that they name ran over the files that it names and standard input,
 -- which it reads once at most, and left what it has no use for, reported as their notes say; where the bytes are to blame nothing
 -- is written, but by a job that writes ahead
-pub record RanJob (holds : List ℕ → Option (List ℕ) → Type 0) (lacks : List ℕ → ErrorKind → Type 0) (input : Option (List ℕ)) (leaves : Job → Type 0)
-    (words : List Text) (said : Option Error) (end : Exit) (out out' err err' : Device) : Type 0 where
+pub record RanJob {N F I : Type 0} (s : Sight F I) (old new : Access N F I) (words : List Text) (said : Option Error) (end : Exit)
+    (out out' err err' : Device) : Type 0 where
   pub job : Job
   pub notes : Notes
   pub good : fault_of command_line words ≡ []
@@ -57,8 +59,8 @@ pub record RanJob (holds : List ℕ → Option (List ℕ) → Type 0) (lacks : L
   pub blame : is_refusal end ≡ true → writes_ahead job ≡ false → IsUntouched out out'
   pub once : reads_input_twice job ≡ false
   pub silent : said ≡ None
-  pub left : leaves job
-  pub ran : Ran holds lacks input job strict notes.verbose end out out' err err'
+  pub left : IsLeft job old new
+  pub ran : Ran s old new job strict notes.verbose end out out' err err'
 
 -- the words have a fault, or ask for help or the version, or memory ran out: they are answered with that, which decides how the
 -- program ends, no file is opened and standard input is left unread, nothing is written of an answer, and where it ends with Failed
@@ -75,10 +77,10 @@ pub record RanNone (unread : Type 0) (words : List Text) (said : Option Error) (
   pub unsaid : kind_of error ≢ kind.OutOfMemory → end ≡ exit.Failed → SaysUnwritten err err'
 
 -- the one or the other
-abbrev pub RanWords : (List ℕ → Option (List ℕ) → Type 0) → (List ℕ → ErrorKind → Type 0) → Option (List ℕ) → (Job → Type 0) → Type 0
+abbrev pub RanWords : {N F I : Type 0} → Sight F I → Access N F I → Access N F I
     → List Text → Option Error → Exit → Device → Device → Device → Device → Type 0
-RanWords holds lacks input leaves unread words said end out out' err err' =
-    RanJob holds lacks input leaves words said end out out' err err' ⊎ RanNone unread words said end out out' err err'
+RanWords s old new words said end out out' err err' =
+    RanJob s old new words said end out out' err err' ⊎ RanNone (new ≡ old) words said end out out' err err'
 
 -- one line says why the words could not be read, with the status that goes with it: memory ran out, or a word is no text
 pub record SaysUnread (why : ErrorKind) (end : Exit) (err err' : Device) : Type 0 where
@@ -95,11 +97,9 @@ pub record ReadNoWords (fails : ErrorKind → Type 0) (unread : Type 0) (said : 
   pub unwritten : out' ≡ out
   pub said_so : SaysUnread why end err err'
 
--- the words that there are were read and are answered, by what files hold, why they are not opened and what standard input gives;
--- or they cannot be read
-abbrev pub RanProgram : (List Text → Type 0) → (ErrorKind → Type 0) → (List ℕ → Option (List ℕ) → Type 0)
-    → (List ℕ → ErrorKind → Type 0) → Option (List ℕ) → (Job → Type 0) → Type 0 → Option Error → Exit
-    → Device → Device → Device → Device → Type 0
-RanProgram gives fails holds lacks input leaves unread said end out out' err err' =
-    ((words : List Text) × gives words × RanWords holds lacks input leaves unread (settled words) said end out out' err err')
-    ⊎ ReadNoWords fails unread said end out out' err err'
+-- the words that there are were read and are answered, from what can be read to what is left of that; or they cannot be read
+abbrev pub RanProgram : {N F I : Type 0} → (List Text → Type 0) → (ErrorKind → Type 0) → Sight F I → Access N F I → Access N F I
+    → Option Error → Exit → Device → Device → Device → Device → Type 0
+RanProgram gives fails s old new said end out out' err err' =
+    ((words : List Text) × gives words × RanWords s old new (settled words) said end out out' err err')
+    ⊎ ReadNoWords fails (new ≡ old) said end out out' err err'

@@ -26,11 +26,7 @@ fn main(rt: HostRuntime) -> ExitCode {
         display: Display::new(&rt, terminal),
         typed,
     };
-    let mut access = Access {
-        first: Some(Inputs::new(&rt)),
-        second: Some(Inputs::new(&rt)),
-        input: Some(rt.reader()),
-    };
+    let mut access = Access::new(Inputs::new(&rt), Inputs::new(&rt), rt.reader());
     let end = program(&rt, &system, &mut access, &mut speaker, &mut out, &mut err);
     ExitCode::from(end.number())
 }

@@ -1,10 +1,10 @@
 //! From the words of the command line to the exit status.
 
-ghost use Rattle.std.specs.Prelude.{◌≡◌, map, None, option_and_then};
+ghost use Rattle.std.specs.Prelude.{◌≡◌, map, None};
 ghost use Rattle.std.specs.IoError.{error_kind};
 ghost use Rattle.bk_frames.specs.Device.{CanBeUsed};
 ghost use Rattle.bk_cli.specs.Words.{settled};
-ghost use Rattle.bk_jobs.specs.Openings.{IsLeft, IsThere};
+ghost use Rattle.bk_jobs.specs.Reads.{IsThere, sight};
 ghost use Rattle.bk_jobs.specs.Sources.{CanBeUsedAgain};
 ghost use Rattle.bkreplay.specs.Endings.{RanProgram, RanWords, SaysUnread};
 
@@ -34,11 +34,11 @@ pub(crate) struct System<'a, W, P> {
 }
 
 /// Reads the words, opens the files and runs the job; returns how the program ends. `access` is left as it is where the
-/// words name no job, and else what is in it that the job has no use for.
+/// words name no job, and else what is in it that the job has no use for; what the files were read through is left there.
 pub(crate) fn program<R, W, N, I, P, Q, O: Sink, E: Sink>(
     rt: &R,
     system: &System<'_, W, P>,
-    access: &mut Access<N, I>,
+    access: &mut Access<N, N::File, I>,
     speaker: &mut Speaker<'_, Q>,
     out: &mut O,
     err: &mut E,
@@ -55,9 +55,7 @@ where
     requires out { CanBeUsed (O.state out.old) }
     requires err { CanBeUsedAgain (E.state err.old) }
     ensures ran { RanProgram (W.gives system.now.arguments.now) (W.lacks system.now.arguments.now)
-        N.holds N.lacks (option_and_then I.remaining access.old.input)
-        (λ j. IsLeft j access.old access.new) (access.new ≡ access.old)
-        speaker.new result
+        (sight N.holds N.lacks N.File.remaining I.remaining) access.old access.new speaker.new result
         (O.state out.old) (O.state out.new) (E.state err.old) (E.state err.new) }
 {
     match system.arguments.words() {
@@ -78,7 +76,7 @@ fn run_words<R, W, N, I, P, Q, S: AsStr, O: Sink, E: Sink>(
     rt: &R,
     system: &System<'_, W, P>,
     words: &[S],
-    access: &mut Access<N, I>,
+    access: &mut Access<N, N::File, I>,
     speaker: &mut Speaker<'_, Q>,
     out: &mut O,
     err: &mut E,
@@ -93,8 +91,7 @@ where
     requires there { IsThere access.old }
     requires out { CanBeUsed (O.state out.old) }
     requires err { CanBeUsedAgain (E.state err.old) }
-    ensures ran { RanWords N.holds N.lacks (option_and_then I.remaining access.old.input)
-        (λ j. IsLeft j access.old access.new) (access.new ≡ access.old)
+    ensures ran { RanWords (sight N.holds N.lacks N.File.remaining I.remaining) access.old access.new
         (settled (map S.text words.now)) speaker.new result
         (O.state out.old) (O.state out.new) (E.state err.old) (E.state err.new) }
 {

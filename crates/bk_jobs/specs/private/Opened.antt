@@ -1,39 +1,41 @@
--- How a job ends over the two sources that it is given.
-use Rattle.std.specs.Prelude.{◌≡◌, ◌⊎◌, ℕ, Bool, false, List, Option, Some, None, option_map, unwrap_or}
+-- How a job ends over the sources that it is given.
+use Rattle.std.specs.Prelude.{◌≡◌, ◌⊎◌, ℕ, Bool, false, List, [], Option, Some, None, option_map, unwrap_or}
 use Rattle.bk_frames.specs.Device.{Device}
 use Rattle.bk_cli.specs.Files.{is_input, second_file_of}
 use Rattle.bk_cli.specs.declared.exit.Exit.{Exit}
 use Rattle.bk_cli.specs.declared.job.Job.{Job}
 use Rattle.bk_cli.specs.declared.job.Job.TheVariants as job
-use Rattle.bk_cli.specs.declared.exit.Exit.TheVariants as exit
-use Rattle.bk_jobs.specs.Openings.{BeganNot, HasNoMemory, IsSecond, RanSo}
+use Rattle.bk_jobs.specs.Openings.{RanSo}
 use Rattle.bk_jobs.specs.Sources.{JobDevices}
+use Rattle.bk_jobs.specs.declared.inputs.Access.{Access}
 
--- the job ran over two sources that had these bytes
-pub record RanOverThese (first second : Option (List ℕ)) (j : Job) (strict verbose : Bool) (last : Exit)
+-- a second source went from here to there; or there is none, and nothing stands for it
+abbrev pub IsSecondRead : Option Device → Option Device → Device → Device → Type 0
+IsSecondRead before after old new =
+    ((before ≡ Some old) × (after ≡ Some new)) ⊎ ((before ≡ None) × (after ≡ None) × (old.bytes ≡ Some []))
+
+-- the job ran over sources that are ready, and left them so
+pub record RanReady (first first' second second' : Option Device) (j : Job) (strict verbose : Bool) (last : Exit)
     (out out' err err' : Device) : Type 0 where
   pub old : JobDevices
   pub new : JobDevices
-  pub first_is : old.first.bytes ≡ first
-  pub second_is : old.second.bytes ≡ second
+  pub first_old : first ≡ Some old.first
+  pub first_new : first' ≡ Some new.first
+  pub second_read : IsSecondRead second second' old.second new.second
   pub begins : old.out ≡ out
   pub ends : new.out ≡ out'
   pub ran : RanSo j strict verbose last old new err err'
 
--- the job ran over two sources, or there was no memory to read ahead
-abbrev pub RanOn : Option (List ℕ) → Option (List ℕ) → Job → Bool → Bool → Exit → Device → Device → Device → Device → Type 0
-RanOn first second j strict verbose end out out' err err' =
-    RanOverThese first second j strict verbose end out out' err err' ⊎ BeganNot (HasNoMemory j verbose) end out out' err err'
+-- only what is opened was read
+pub record IsReadOnly {N F I : Type 0} (old new : Access N F I) : Type 0 where
+  pub first : new.first ≡ old.first
+  pub second : new.second ≡ old.second
+  pub input : new.input ≡ old.input
 
 -- the end of the first file of a job is waited at for more
 abbrev pub waits_at_end : Job → Bool
 waits_at_end (job.Follow workers shown accounts wait file) = wait
 waits_at_end _ = false
-
--- the second file of a job, where it names one, is this source, which gives what it is to give
-abbrev pub IsSecondOpened : {S : Type 0} → (List ℕ → Option (List ℕ) → Type 0) → Option (List ℕ) → Option (List ℕ) → (S → Option (List ℕ)) → Option S → Type 0
-IsSecondOpened holds input path gives None = path ≡ None
-IsSecondOpened holds input path gives (Some source) = IsSecond holds input path (gives source)
 
 -- standard input is read in place of the second file of a job
 abbrev pub names_input_second : Job → Bool
