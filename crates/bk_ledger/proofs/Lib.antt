@@ -1,3 +1,4 @@
+mod HandingLemmas
 pub mod Runs
 pub mod SliceLemmas
 pub mod NextLemmas

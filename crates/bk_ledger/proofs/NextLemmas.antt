@@ -1,6 +1,6 @@
 -- Slices that are planned before their turn comes.
-use Rattle.std.proofs.Common.{◌≡◌, ℕ, ◌+◌, ◌^◌, ◌<◌, ◌≤◌, List, [], ◌++◌, length, Option, None, Result, Ok, Err, refl, sym, ap, subst, ◌∙◌, arith}
-use Rattle.std.specs.Prelude.{IfOk, IfErr, IfSome}
+use Rattle.std.proofs.Common.{◌≡◌, ℕ, ◌+◌, ◌^◌, ◌<◌, ◌≤◌, List, [], ◌++◌, length, Option, Result, refl, sym, ap, subst, ◌∙◌, arith}
+use Rattle.std.specs.Prelude.{IfOk, IfErr}
 use Rattle.std.specs.Arc.{arc_value}
 use Rattle.bk_base.specs.declared.genesis.Row.{Row}
 use Rattle.bk_base.specs.declared.version.Version.{Version}
@@ -11,15 +11,12 @@ use Rattle.bk_rules.specs.Rows.{IsLedger}
 use Rattle.bk_rules.specs.Part.{HaveSlots}
 use Rattle.bk_ledger.specs.Ledger.{LedgerValue}
 use Rattle.bk_ledger.specs.declared.ready.Ready.{Ready}
-use Rattle.bk_conflicts.specs.declared.planner.Planner.{Planner}
-use Rattle.bk_ledger.specs.declared.ready.Ahead.{Ahead}
 use Rattle.bk_ledger.specs.declared.ready.Next.{Next}
 use Rattle.bk_ledger.specs.declared.ready.Next.TheVariants as next
 use Rattle.bk_ledger.specs.declared.batches.Batches.{Batches}
-use Rattle.bk_ledger.specs.declared.turns.Coming.{Coming}
 use Rattle.bk_ledger.specs.Executing.{HasRun, Leaves}
 use Rattle.bk_ledger.specs.Naming.{named_by}
-use Rattle.bk_ledger.specs.private.Slices.{CanRunPart, IsAheadOf, IsComing, IsNextFrom, IsNoneAhead, IsPlannedOn, IsReadOf, IsReady, IsSame, ahead_of, counts_of, txs_of}
+use Rattle.bk_ledger.specs.private.Slices.{CanRunPart, IsNextFrom, IsNextOf, IsPlannedOn, IsReadOf, IsReady, IsSame, counts_of, txs_of}
 use Rattle.bk_pool.specs.declared.outcome.ExecFault.{ExecFault}
 use Rattle.bk_ledger.specs.Sliced.{RunInSlices}
 use Rattle.bk_ledger.proofs.Alone.{all_alone}
@@ -36,16 +33,11 @@ ready_from b version slots r ready = record { counts_are = ready.counts_are; txs
 pub read_from : (b c : Batches) (version : Version) (slots : List ℕ) → c.counts.items ≡ b.counts.items → c.txs.items ≡ b.txs.items → IsNextFrom b version slots (next.Read c)
 read_from b c version slots counts txs = record { counts_are = counts; txs_are = txs; planned = tt }
 
--- and the one after it
-pub from_ahead : (payloads : List (List ℕ)) (from later : ℕ) (version : Version) (slots : List ℕ) (b c : Batches) (n : Next) (p : Planner) → IsReadOf payloads from b.counts.items b.txs.items → IsNextFrom b version slots n → later ≡ from + length b.counts.items
-    → IsReadOf payloads later c.counts.items c.txs.items → IsAheadOf payloads from version slots (ahead_of from n c p)
-from_ahead payloads from later version slots b c n p read planned at behind = record {
-  at = refl;
-  next = record {
-    read = subst (λ (s : List (Option ℕ) × List (Option Transaction)). IsReadOf payloads from s.0 s.1) (λ i. (sym planned.counts_are i, sym planned.txs_are i)) read;
-    planned = planned.planned;
-  };
-  read = subst (λ (k : ℕ). IsReadOf payloads k c.counts.items c.txs.items) (at ∙ ap (λ (s : List (Option ℕ)). from + length s) (sym planned.counts_are)) behind;
+-- a slice that was read and then planned is the one that begins at the same index
+pub next_from : (payloads : List (List ℕ)) (from : ℕ) (version : Version) (slots : List ℕ) (b : Batches) (n : Next) → IsReadOf payloads from b.counts.items b.txs.items → IsNextFrom b version slots n → IsNextOf payloads from version slots n
+next_from payloads from version slots b n read planned = record {
+  read = subst (λ (s : List (Option ℕ) × List (Option Transaction)). IsReadOf payloads from s.0 s.1) (λ i. (sym planned.counts_are i, sym planned.txs_are i)) read;
+  planned = planned.planned;
 }
 
 -- a slice that was planned is ready as it is
@@ -54,39 +46,13 @@ ready_again version slots n r is planned =
     subst (λ (m : Next). IsPlannedOn version slots m → IsReady version slots (counts_of m) (txs_of m) r) (sym is) (λ p. record { planned = p; counts_are = refl; txs_are = refl }) planned
 
 -- nothing is left
-read_none : (payloads : List (List ℕ)) (from : ℕ) (counts : List (Option ℕ)) (txs : List (Option Transaction)) → length payloads ≤ from → from ≤ length payloads → counts ≡ [] → txs ≡ [] → IsReadOf payloads from counts txs
+pub read_none : (payloads : List (List ℕ)) (from : ℕ) (counts : List (Option ℕ)) (txs : List (Option Transaction)) → length payloads ≤ from → from ≤ length payloads → counts ≡ [] → txs ≡ [] → IsReadOf payloads from counts txs
 read_none payloads from counts txs all within none empty = record {
   slice = slice_none payloads from counts txs none empty;
   some = λ low. absurd (omega (arith, all, low));
   within = omega (arith, within, ap length none);
   few = omega (arith, ap length empty);
 }
-
-pub none_coming : (payloads : List (List ℕ)) (from : ℕ) (c : Coming) → from ≡ length payloads → c.next.counts.items ≡ [] → c.next.txs.items ≡ [] → c.later ≡ None → IsComing payloads from c
-none_coming payloads from c all none empty last = record {
-  next = read_none payloads from c.next.counts.items c.next.txs.items (omega (arith, all)) (omega (arith, all)) none empty;
-  later = subst (λ (o : Option Batches). IfSome o (λ b. IsReadOf payloads (from + length c.next.counts.items) b.counts.items b.txs.items)) (sym last) tt;
-}
-
-pub none_ahead : (payloads : List (List ℕ)) (from : ℕ) (version : Version) (slots : List ℕ) (a : Ahead) → from ≡ length payloads → IsNoneAhead from a → IsAheadOf payloads from version slots a
-none_ahead payloads from version slots a all none = record {
-  at = none.none_from;
-  next = record {
-    read = read_none payloads from (counts_of a.next) (txs_of a.next) (omega (arith, all)) (omega (arith, all)) none.no_counts none.no_txs;
-    planned = none.not_planned version slots;
-  };
-  read = read_none payloads (from + length (counts_of a.next)) a.read.counts.items a.read.txs.items (omega (arith, all, ap length none.no_counts)) (omega (arith, all, ap length none.no_counts)) none.none_read none.none_there;
-}
-
--- the same from where the slices say
-pub ahead_again : (payloads : List (List ℕ)) (from : ℕ) (version : Version) (slots : List ℕ) (a : Ahead) → IsAheadOf payloads from version slots a → IsAheadOf payloads a.from version slots a
-ahead_again payloads from version slots a ahead = subst (λ (n : ℕ). IsAheadOf payloads n version slots a) (sym ahead.at) ahead
-
--- the slices after one that was executed
-pub ahead_after : (payloads : List (List ℕ)) (from at : ℕ) (version : Version) (slots : List ℕ) (l : LedgerValue) (a : Ahead) → from ≡ at → l.state.version ≡ version → l.state.slots ≡ slots
-    → IsAheadOf payloads from version slots a → IsAheadOf payloads at l.state.version l.state.slots a
-ahead_after payloads from at version slots l a same version_is slots_are behind =
-    subst (λ (s : ℕ × Version × List ℕ). IsAheadOf payloads s.0 s.1 s.2 a) (λ i. (same i, sym version_is i, sym slots_are i)) behind
 
 -- ---- executing
 
@@ -116,7 +82,7 @@ same_ran counts txs a b c same grown still ran = record {
 }
 
 -- what it gives, by the names of its parts
-pub ready_ran : (version : Version) (slots : List ℕ) (counts : List (Option ℕ)) (txs : List (Option Transaction)) (r : Ready) (a : LedgerValue) (x : Result (LedgerValue × Ahead) ExecFault) → IsReady version slots counts txs r
+pub ready_ran : (version : Version) (slots : List ℕ) (counts : List (Option ℕ)) (txs : List (Option Transaction)) (r : Ready) (a : LedgerValue) (x : Result (LedgerValue × ℕ) ExecFault) → IsReady version slots counts txs r
     → IfOk x (λ s. HasRun r.counts.items (arc_value r.plan).txs a s.0) → IfOk x (λ s. HasRun counts txs a s.0)
 ready_ran version slots counts txs r a x ready ran = subst (λ (s : List (Option ℕ) × List (Option Transaction)). IfOk x (λ y. HasRun s.0 s.1 a y.0)) (λ i. (ready.counts_are i, ready.txs_are i)) ran
 
@@ -125,7 +91,7 @@ pub ready_places : (first : ℕ) (version : Version) (slots : List ℕ) (counts 
 ready_places first version slots counts txs r ready few = omega (arith, few, ap length ready.txs_are)
 
 -- what it leaves undone
-pub ready_leaves : (first : ℕ) (version : Version) (slots : List ℕ) (counts : List (Option ℕ)) (txs : List (Option Transaction)) (r : Ready) (x : Result (LedgerValue × Ahead) ExecFault) → IsReady version slots counts txs r
+pub ready_leaves : (first : ℕ) (version : Version) (slots : List ℕ) (counts : List (Option ℕ)) (txs : List (Option Transaction)) (r : Ready) (x : Result (LedgerValue × ℕ) ExecFault) → IsReady version slots counts txs r
     → IfErr x (Leaves first (first + length (arc_value r.plan).txs)) → IfErr x (Leaves first (first + length txs))
 ready_leaves first version slots counts txs r x ready left = subst (λ (n : ℕ). IfErr x (Leaves first (first + n))) (ap length ready.txs_are) left
 
@@ -142,16 +108,3 @@ run_is counts txs a mid b p counted received after ledger room = record {
       (sym (ap (λ (l : rules.Ledger). l.rows) after ∙ (λ i. state_after (p.version i) txs (p.rows i))))
       (all_alone a.state.version txs a.state.rows ledger room few);
 }
-
--- ---- the slices after the one whose turn it is
-
--- where there are some
-pub made_ahead : (payloads : List (List ℕ)) (from at : ℕ) (counts : List (Option ℕ)) (txs : List (Option Transaction)) (b : LedgerValue) (x : Result (LedgerValue × Ahead) ExecFault) → from ≡ at → IfOk x (λ s. HasRun counts txs b s.0)
-    → IfOk x (λ s. s.0.state.slots ≡ b.state.slots) → IfOk x (λ s. IsAheadOf payloads from b.state.version b.state.slots s.1) → IfOk x (λ s. IsAheadOf payloads at s.0.state.version s.0.state.slots s.1)
-made_ahead payloads from at counts txs b (Ok s) same ran still behind = ahead_after payloads from at b.state.version b.state.slots s.0 s.1 same ran.version still behind
-made_ahead payloads from at counts txs b (Err e) same ran still behind = tt
-
--- there are none
-pub none_made : (payloads : List (List ℕ)) (from at : ℕ) (x : Result (LedgerValue × Ahead) ExecFault) → from ≡ at → from ≡ length payloads → IfOk x (λ s. IsNoneAhead from s.1) → IfOk x (λ s. IsAheadOf payloads at s.0.state.version s.0.state.slots s.1)
-none_made payloads from at (Ok s) same all none = none_ahead payloads at s.0.state.version s.0.state.slots s.1 (sym same ∙ all) (subst (λ (n : ℕ). IsNoneAhead n s.1) same none)
-none_made payloads from at (Err e) same all none = tt

@@ -1,33 +1,29 @@
-//! Batches, executed in slices by any number of workers. What one worker does is in `turns.rt`.
+//! Batches, executed in slices by any number of workers. What one worker does is in `turns.rt`, and how the slices of two
+//! and more are planned ahead in `running.rt`.
 //!
-//! While a slice is executed, the one after it is planned in a thread of its own, and the next one is read and decoded
-//! in another, which also looks up its accounts. In version Two a slice may declare accounts without a slot: then slots
-//! are made for it and for all slices after it at once, so that these are planned ahead too.
+//! In version Two a slice may declare accounts without a slot: then slots are made for it and for all slices after it at
+//! once, so that these are planned ahead too.
 
-ghost use Rattle.std.specs.Prelude.{◌≡◌, ◌+◌, ◌^◌, ◌<◌, ◌≤◌, ◌⊎◌, Ok, Err, true, map, length, IfOk, IfErr, OnOk};
+ghost use Rattle.std.specs.Prelude.{◌≡◌, ◌+◌, ◌^◌, ◌<◌, ◌≤◌, map, length, IfOk, IfErr, OnOk};
 ghost use Rattle.std.specs.Arc.{arc_value};
-ghost use Rattle.std.specs.Thread.{IsSync};
 ghost use Rattle.bk_rules.specs.Fold.{HasRoom};
-ghost use Rattle.bk_rules.specs.Ledger.{are_covered};
 ghost use Rattle.bk_conflicts.specs.SceneOf.{CanRunOn};
 ghost use Rattle.bk_pool.specs.Outcomes.{IsBelow, IsFoldOnto};
-ghost use Rattle.bk_pool.specs.declared.outcome.ExecFault.TheVariants.{OutOfMemory};
 ghost use Rattle.bk_tx.specs.Batches.{transactions_of};
 ghost use Rattle.bk_ledger.specs.Executing.{HasExecuted, HasRun, HasRunInSlices, Leaves};
 ghost use Rattle.bk_ledger.specs.Naming.{named_by};
-ghost use Rattle.bk_ledger.specs.private.Slices.{CanRunPart, IsAheadOf, IsNoneAhead, IsOnTheWay, IsPartFold, IsPartRun, IsReadOf, IsRunOnto, counts_of, is_plannable, txs_of};
+ghost use Rattle.bk_ledger.specs.private.Slices.{CanRunPart, IsPartFold, IsPartRun, IsRunOnto};
 
-use crate::batches::Batches;
 use crate::ledger::Ledger;
-use crate::ready::{Ahead, Ready, look_ahead, look_first};
+use crate::ready::Ready;
 use crate::slice::FEWEST;
-use crate::workers::{WORTH_THREADS, workers_at_once};
-use bk_conflicts::{Plan, Planner};
+use crate::workers::WORTH_THREADS;
+use bk_conflicts::Plan;
 use bk_pool::{ExecFault, Gate, execute_here_onto, execute_onto};
 use bk_rules::{Receipt, State};
-use std::alloc::{AllocError, Global};
+use std::alloc::Global;
 use std::sync::{Arc, Wait};
-use std::thread::{Threads, join};
+use std::thread::Threads;
 
 // Executes a plan from a state that it can run on, with this many workers, and puts the receipts at the end of a list.
 // For few transactions no thread is started.
@@ -76,19 +72,6 @@ fn run_part<R: Threads + Wait + Sync, G: Gate + Sync>(
     run_plan(rt, alloc, &ready.plan, part, workers, gate, receipts)
 }
 
-// What both of two calls gave; the fault of the first comes first.
-fn both(
-    ran: Result<Ledger, ExecFault>,
-    later: Result<Ahead, AllocError>,
-) -> Result<(Ledger, Ahead), ExecFault>
-    ensures both { IfOk result (λ r. (ran ≡ Ok r.0) × (later ≡ Ok r.1)) }
-    ensures fault { IfErr result (λ e. (ran ≡ Err e) ⊎ (e ≡ OutOfMemory)) }
-{
-    let ledger = ran?;
-    let later = later?;
-    Ok((ledger, later))
-}
-
 impl Ledger {
     // Executes a slice on the accounts that it touches.
     fn run_on<R: Threads + Wait + Sync, G: Gate + Sync>(
@@ -129,8 +112,8 @@ impl Ledger {
         }
     }
 
-    // The same, for a ledger that is handed on.
-    fn run_ready<R: Threads + Wait + Sync, G: Gate + Sync>(
+    /// The same, for a ledger that is handed on.
+    pub(crate) fn run_ready<R: Threads + Wait + Sync, G: Gate + Sync>(
         self,
         rt: &R,
         alloc: Global,
@@ -149,184 +132,6 @@ impl Ledger {
         let mut ledger = self;
         ledger.run_on(rt, alloc, &ready, workers, gate)?;
         Ok(ledger)
-    }
-
-    // Executes a slice after which there is none.
-    fn run_last<R: Threads + Wait + Sync, G: Gate + Sync>(
-        self,
-        rt: &R,
-        alloc: Global,
-        from: usize,
-        ready: Ready,
-        workers: usize,
-        gate: &G,
-    ) -> Result<(Ledger, Ahead), ExecFault>
-        requires runs { CanRunPart ready self.state }
-        requires places { length self.receipts + length (arc_value ready.plan).txs < 2 ^ 32 }
-        requires workers { (1 ≤ workers) × (workers ≤ 64) }
-        ensures ran { IfOk result (λ r.
-            HasRun ready.counts.items (arc_value ready.plan).txs self r.0) }
-        ensures slots { IfOk result (λ r. r.0.state.slots ≡ self.state.slots) }
-        ensures ahead { IfOk result (λ r. IsNoneAhead from r.1) }
-        ensures fault { let first = length self.receipts in
-            IfErr result (Leaves first (first + length (arc_value ready.plan).txs)) }
-    {
-        let ledger = self.run_ready(rt, alloc, ready, workers, gate)?;
-        Ok((ledger, Ahead::none(alloc, from)))
-    }
-
-    // Executes a slice, while the one after it is planned. It was read from an index on.
-    fn run_beside<R: Threads + Wait + Sync, G: Gate + Sync>(
-        self,
-        rt: &R,
-        alloc: Global,
-        payloads: &[&[u8]],
-        from: usize,
-        planner: Planner,
-        read: Batches,
-        least: usize,
-        ready: Ready,
-        workers: usize,
-        gate: &G,
-    ) -> Result<(Ledger, Ahead), ExecFault>
-        requires read { IsReadOf (map (λ p. p.now) payloads.now) from
-            read.counts.items read.txs.items }
-        requires fits { length payloads.now < 2 ^ 64 }
-        requires least { least < 2 ^ 30 }
-        requires runs { CanRunPart ready self.state }
-        requires places { length self.receipts + length (arc_value ready.plan).txs < 2 ^ 32 }
-        requires workers { (1 ≤ workers) × (workers ≤ 64) }
-        ensures ran { IfOk result (λ r.
-            HasRun ready.counts.items (arc_value ready.plan).txs self r.0) }
-        ensures slots { IfOk result (λ r. r.0.state.slots ≡ self.state.slots) }
-        ensures ahead { IfOk result (λ r. IsAheadOf (map (λ p. p.now) payloads.now) from
-            self.state.version self.state.slots r.1) }
-        ensures fault { let first = length self.receipts in
-            IfErr result (Leaves first (first + length (arc_value ready.plan).txs)) }
-    {
-        let version = self.state().version();
-        let ids = self.state().ids().share(alloc)?;
-        let (later, ran) = join(
-            rt,
-            || -> Result<Ahead, AllocError>
-                requires { IsSync R.row × (least < 2 ^ 30) × (length payloads.now < 2 ^ 64)
-                    × IsReadOf (map (λ p. p.now) payloads.now) from
-                    read.counts.items read.txs.items }
-                ensures { IfOk result (IsAheadOf (map (λ p. p.now) payloads.entry.now)
-                    from version ids) }
-            {
-                look_ahead(
-                    rt, alloc, payloads, planner, read, from, least, version, &ids,
-                )
-            },
-            || -> Result<Ledger, ExecFault>
-                requires { IsSync R.row × IsSync G.row
-                    × CanRunPart ready self.state
-                    × (length self.receipts + length (arc_value ready.plan).txs < 2 ^ 32)
-                    × (1 ≤ workers) × (workers ≤ 64) }
-                ensures { IfOk result (HasRun ready.counts.items
-                    (arc_value ready.plan).txs self)
-                    × IfOk result (λ l. l.state.slots ≡ self.state.slots)
-                    × IfErr result (Leaves (length self.receipts)
-                    (length self.receipts + length (arc_value ready.plan).txs)) }
-            { self.run_ready(rt, alloc, ready, workers, gate) },
-        );
-        both(ran, later)
-    }
-
-    // Executes the slice whose turn it is, and looks at those after it, if there are any.
-    fn run_next<R: Threads + Wait + Sync, G: Gate + Sync>(
-        self,
-        rt: &R,
-        alloc: Global,
-        payloads: &[&[u8]],
-        ahead: Ahead,
-        least: usize,
-        workers: usize,
-        gate: &G,
-    ) -> Result<(Ledger, Ahead), ExecFault>
-        requires ahead { IsAheadOf (map (λ p. p.now) payloads.now) ahead.from
-            self.state.version self.state.slots ahead }
-        requires plannable { is_plannable self.state.version self.state.slots ahead.next ≡ true }
-        requires room { HasRoom self.state.version (length (txs_of ahead.next)) self.state.rows }
-        requires places { length self.receipts + length (txs_of ahead.next) < 2 ^ 32 }
-        requires slots { length self.state.slots < 2 ^ 31 }
-        requires fits { length payloads.now < 2 ^ 64 }
-        requires least { least < 2 ^ 30 }
-        requires workers { (1 ≤ workers) × (workers ≤ 64) }
-        ensures ran { IfOk result
-            (λ r. HasRun (counts_of ahead.next) (txs_of ahead.next) self r.0) }
-        ensures slots { IfOk result (λ r. r.0.state.slots ≡ self.state.slots) }
-        ensures ahead { IfOk result (λ r. IsAheadOf (map (λ p. p.now) payloads.now)
-            (ahead.from + length (counts_of ahead.next)) r.0.state.version r.0.state.slots r.1) }
-        ensures fault { let first = length self.receipts in
-            IfErr result (Leaves first (first + length (txs_of ahead.next))) }
-    {
-        let Ahead {
-            from,
-            next,
-            read,
-            planner,
-        } = ahead;
-        // Its contract says that the accounts are those of a ledger.
-        let version = self.state().version();
-        let ready = next.into_ready(alloc, version, self.state().ids())?;
-        let from = from + ready.counts.len();
-        if from == payloads.len() {
-            return self.run_last(rt, alloc, from, ready, workers, gate);
-        }
-        self.run_beside(
-            rt, alloc, payloads, from, planner, read, least, ready, workers, gate,
-        )
-    }
-
-    /// Executes further batches, up to the first slice that declares an account that needs a slot and has none. Also
-    /// returns the index of the first batch of that slice, or the number of batches where there is no such slice.
-    pub(crate) fn execute_covered<R: Threads + Wait + Sync, G: Gate + Sync>(
-        self,
-        rt: &R,
-        alloc: Global,
-        payloads: &[&[u8]],
-        fewest: usize,
-        workers: usize,
-        gate: &G,
-    ) -> Result<(Ledger, usize), ExecFault>
-        requires room { HasRoom self.state.version
-            (length (transactions_of (map (λ p. p.now) payloads.now))) self.state.rows }
-        requires few { length self.receipts
-            + length (transactions_of (map (λ p. p.now) payloads.now)) < 2 ^ 32 }
-        requires slots { length self.state.slots < 2 ^ 31 }
-        requires fewest { fewest < 2 ^ 30 }
-        requires workers { (1 ≤ workers) × (workers ≤ 64) }
-        ensures ran { IfOk result (λ r.
-            IsOnTheWay (map (λ p. p.now) payloads.now) r.1 self r.0) }
-        ensures slots { IfOk result (λ r. r.0.state.slots ≡ self.state.slots) }
-        ensures within { IfOk result (λ r. r.1 ≤ length payloads.now) }
-        ensures all { are_covered self.state.version self.state.slots
-            (transactions_of (map (λ p. p.now) payloads.now)) ≡ true
-            → IfOk result (λ r. length payloads.now ≤ r.1) }
-        ensures fault { let first = length self.receipts in
-            let added = transactions_of (map (λ p. p.now) payloads.now) in
-            IfErr result (Leaves first (first + length added)) }
-    {
-        if payloads.is_empty() {
-            return Ok((self, 0));
-        }
-        let mut ledger = self;
-        let workers = workers_at_once(rt, workers);
-        let end = payloads.len();
-        let mut ahead = look_first(alloc, payloads, ledger.state(), fewest)?;
-        while ahead.from < end {
-            if !ahead.next.is_plannable(ledger.state()) {
-                return Ok((ledger, ahead.into_from()));
-            }
-            let (after, later) = ledger.run_next(
-                rt, alloc, payloads, ahead, fewest, workers, gate,
-            )?;
-            ledger = after;
-            ahead = later;
-        }
-        Ok((ledger, ahead.into_from()))
     }
 
     /// Executes further batches, in slices of at least so many transactions. One worker needs no plan: it executes them in

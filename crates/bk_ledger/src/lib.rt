@@ -8,10 +8,14 @@
 mod batches;
 mod executing;
 mod feeds;
+mod handing;
 mod held;
 mod laws;
 mod ledger;
+mod planning;
+mod reading;
 mod ready;
+mod running;
 mod slice;
 mod summary;
 mod touched;

@@ -4,20 +4,18 @@ ghost use Rattle.std.specs.Prelude.{◌≡◌, ◌^◌, ◌<◌, ◌≤◌, true
 ghost use Rattle.bk_base.specs.declared.version.Version.TheVariants.{One, Two};
 ghost use Rattle.bk_rules.specs.Ledger.{are_covered};
 ghost use Rattle.bk_rules.specs.Part.{are_held};
-ghost use Rattle.bk_ledger.specs.private.Slices.{IsAheadOf, IsNextFrom, IsNoneAhead, IsPlannedOn, IsReadOf, IsReady, counts_of, is_plannable, txs_of};
+ghost use Rattle.bk_ledger.specs.private.Slices.{IsNextFrom, IsPlannedOn, IsReady, counts_of, is_plannable, txs_of};
 ghost use Rattle.bk_ledger.specs.Touched.{AreTouched};
 
 use crate::batches::Batches;
 use crate::held::holds_all;
-use crate::slice::gather_near;
 use crate::touched::Touched;
 use bk_base::Version;
 use bk_conflicts::{Plan, Planner};
 use bk_rules::{Ids, State};
 use bk_tx::Tx;
 use std::alloc::{AllocError, Global};
-use std::sync::{Arc, Wait};
-use std::thread::{Threads, join};
+use std::sync::Arc;
 
 /// Batches that follow each other, and the plan of their transactions over the slots that they touch.
 #[derive(Drop)]
@@ -77,17 +75,6 @@ fn cover_all(state: &State, txs: &[Option<Tx>]) -> bool
     txs.iter().all(|tx| state.covers(tx.as_ref()))
 }
 
-/// The slice whose turn is next, and the one after it, which is read and not planned.
-#[derive(Drop)]
-pub(crate) struct Ahead {
-    /// The index of the first batch of the next slice.
-    pub(crate) from: usize,
-    pub(crate) next: Next,
-    pub(crate) read: Batches,
-    /// Plans one slice after another, in the memory of the slices before.
-    pub(crate) planner: Planner,
-}
-
 impl Batches {
     /// Plans the transactions over all slots; each account that needs a slot has one. It is for a slice whose own slots
     /// are not enough. That comes only where the look-up misses a slot, which it never does, but no contract says so.
@@ -129,74 +116,8 @@ impl Batches {
     }
 }
 
-impl Ahead {
-    /// No slice from an index on.
-    pub(crate) fn none(alloc: Global, from: usize) -> Ahead
-        ensures { IsNoneAhead from result }
-    {
-        let next = Next::Read(Batches::new(alloc));
-        let read = Batches::new(alloc);
-        let planner = Planner::new(alloc);
-        Ahead {
-            from,
-            next,
-            read,
-            planner,
-        }
-    }
-
-    /// The index of the first batch of the next slice. All else is given back.
-    pub(crate) fn into_from(self) -> usize
-        ensures { result ≡ self.from }
-    {
-        let from = self.from;
-        drop(self);
-        from
-    }
-}
-
-/// Reads the first two slices, and plans the first.
-pub(crate) fn look_first(
-    alloc: Global,
-    payloads: &[&[u8]],
-    state: &State,
-    least: usize,
-) -> Result<Ahead, AllocError>
-    requires least { least < 2 ^ 30 }
-    ensures { IfOk result (IsAheadOf (map (λ p. p.now) payloads.now) 0
-        state.now.version state.now.slots) }
-{
-    let ids = state.ids();
-    let first = gather_near(alloc, payloads, ids, 0, least)?;
-    let read = gather_near(alloc, payloads, ids, first.counts.len(), least)?;
-    let mut planner = Planner::new(alloc);
-    let next = plan_ahead(alloc, &mut planner, first, state.version(), ids)?;
-    Ok(Ahead {
-        from: 0,
-        next,
-        read,
-        planner,
-    })
-}
-
-// Plans a slice, if each account that it declares has a slot among these, and gives the planner back.
-fn plan_later(
-    alloc: Global,
-    planner: Planner,
-    batches: Batches,
-    version: Version,
-    ids: &Ids,
-) -> Result<(Next, Planner), AllocError>
-    requires few { length batches.txs.items < 2 ^ 31 }
-    ensures { IfOk result (λ r. IsNextFrom batches version ids.now r.0) }
-{
-    let mut planner = planner;
-    let next = plan_ahead(alloc, &mut planner, batches, version, ids)?;
-    Ok((next, planner))
-}
-
-// Plans a slice, if each account that it declares has a slot among these.
-fn plan_ahead(
+/// Plans a slice, if each account that it declares has a slot among these.
+pub(crate) fn plan_ahead(
     alloc: Global,
     planner: &mut Planner,
     batches: Batches,
@@ -254,45 +175,4 @@ fn hold_first(
         return Ok(Next::Ready(ready));
     }
     Ok(Next::Read(batches))
-}
-
-/// Plans the slice that was read from an index on, while the one after it is read in a thread of its own.
-pub(crate) fn look_ahead<R: Threads + Wait + Sync>(
-    rt: &R,
-    alloc: Global,
-    payloads: &[&[u8]],
-    planner: Planner,
-    read: Batches,
-    from: usize,
-    least: usize,
-    version: Version,
-    ids: &Ids,
-) -> Result<Ahead, AllocError>
-    requires read { IsReadOf (map (λ p. p.now) payloads.now) from
-        read.counts.items read.txs.items }
-    requires fits { length payloads.now < 2 ^ 64 }
-    requires least { least < 2 ^ 30 }
-    ensures { IfOk result (IsAheadOf (map (λ p. p.now) payloads.now) from version ids.now) }
-{
-    let later = from + read.counts.len();
-    let (gathered, planned) = join(
-        rt,
-        || -> Result<Batches, AllocError>
-            requires { (least < 2 ^ 30) × (later ≤ length payloads.now) }
-            ensures { IfOk result (λ b. IsReadOf (map (λ p. p.now) payloads.entry.now)
-                later b.counts.items b.txs.items) }
-        { gather_near(alloc, payloads, ids, later, least) },
-        || -> Result<(Next, Planner), AllocError>
-            requires { length read.txs.items < 2 ^ 31 }
-            ensures { IfOk result (λ r. IsNextFrom read version ids.entry.now r.0) }
-        { plan_later(alloc, planner, read, version, ids) },
-    );
-    let (next, planner) = planned?;
-    let read = gathered?;
-    Ok(Ahead {
-        from,
-        next,
-        read,
-        planner,
-    })
 }

@@ -33,6 +33,12 @@ fn room_for(payloads: &[&[u8]], from: usize, least: usize) -> usize {
     room
 }
 
+/// Whether batches say that they hold no more transactions than one slice has at least. They are not worth a thread that
+/// prepares them.
+pub(crate) fn are_few(payloads: &[&[u8]], least: usize) -> bool {
+    room_for(payloads, 0, least.saturating_add(1)) <= least
+}
+
 // How many transactions a batch says that it holds; each takes two bytes at least.
 fn said_in(payload: &[u8]) -> usize {
     match payload {
@@ -77,23 +83,5 @@ pub(crate) fn look_up(batches: Batches, ids: &Ids) -> Result<Batches, AllocError
     // Most transactions declare two accounts.
     batches.near.reserve(batches.txs.len().saturating_mul(2))?;
     ids.push_likely(&mut batches.near, &batches.txs)?;
-    Ok(batches)
-}
-
-/// Reads a slice as `gather` does, and looks it up.
-pub(crate) fn gather_near(
-    alloc: Global,
-    payloads: &[&[u8]],
-    ids: &Ids,
-    from: usize,
-    least: usize,
-) -> Result<Batches, AllocError>
-    requires within { from ≤ length payloads.now }
-    requires least { least < 2 ^ 30 }
-    ensures { IfOk result (λ b. IsReadOf (map (λ p. p.now) payloads.now) from
-        b.counts.items b.txs.items) }
-{
-    let read = gather(alloc, payloads, from, least)?;
-    let batches = look_up(read, ids)?;
     Ok(batches)
 }

@@ -1,113 +1,40 @@
 //! Batches, executed by one worker: one transaction after another, in their order.
 //!
-//! In version One three threads work on three slices at once: while the calling thread executes a slice, a second looks
-//! up the accounts of the one after it, and a third reads and decodes the next. In version Two slots for the accounts of a
-//! slice may be made in its turn, so that nothing is looked up before, and its slices are larger: only the one after it is
-//! read and decoded meanwhile.
+//! In version One three threads work on slices at once, and stay until all are executed: one reads and decodes them, a
+//! second looks up their accounts, and the calling thread executes them. In version Two slots for the accounts of a slice
+//! may be made in its turn, so that nothing is looked up before, and its slices are larger: only the one after it is read
+//! and decoded meanwhile.
 
-ghost use Rattle.std.specs.Prelude.{◌≡◌, ◌+◌, ◌^◌, ◌<◌, ◌≤◌, Ok, map, length, IfOk, IfSome};
+ghost use Rattle.std.specs.Prelude.{◌≡◌, ◌+◌, ◌^◌, ◌<◌, ◌≤◌, Ok, map, length, IfOk};
 ghost use Rattle.std.specs.Thread.{IsSync};
+ghost use Rattle.rtrb.specs.Ring.{received, sent};
 ghost use Rattle.bk_rules.specs.Fold.{HasRoom};
 ghost use Rattle.bk_tx.specs.Batches.{transactions_of};
 ghost use Rattle.bk_ledger.specs.Executing.{HasExecuted, HasRun};
-ghost use Rattle.bk_ledger.specs.private.Slices.{IsComing, IsReadOf};
+ghost use Rattle.bk_ledger.specs.private.Handing.{AreHanded};
+ghost use Rattle.bk_ledger.specs.private.Slices.{IsReadOf};
 
 use crate::batches::Batches;
 use crate::ledger::Ledger;
-use crate::slice::{gather, least_of, look_up};
+use crate::reading::{Read, look_all, read_all, read_next, slices};
+use crate::slice::{are_few, gather, least_of};
 use bk_base::Version;
 use bk_pool::Gate;
-use bk_rules::Ids;
+use crossbeam_utils::sync::Parker;
 use std::alloc::{AllocError, Global};
 use std::sync::Wait;
-use std::thread::{Threads, join};
-
-/// The slices that come next.
-#[derive(Drop)]
-pub(crate) struct Coming {
-    /// The slice whose turn is next. In version One its accounts were looked up.
-    pub(crate) next: Batches,
-    /// The one after it, where there is one. None in version Two, whose slices are larger: no more than two are kept there.
-    pub(crate) later: Option<Batches>,
-}
+use std::thread::{Threads, join, scope, scope_env};
 
 // What both of two calls gave.
 fn both(
     ran: Result<Ledger, AllocError>,
-    coming: Result<Coming, AllocError>,
-) -> Result<(Ledger, Coming), AllocError>
-    ensures { IfOk result (λ r. (ran ≡ Ok r.0) × (coming ≡ Ok r.1)) }
+    read: Result<Batches, AllocError>,
+) -> Result<(Ledger, Batches), AllocError>
+    ensures { IfOk result (λ r. (ran ≡ Ok r.0) × (read ≡ Ok r.1)) }
 {
     let ledger = ran?;
-    let coming = coming?;
-    Ok((ledger, coming))
-}
-
-// The slices from an index on, of which the first may have been read. Where it was not, it is read alone.
-fn look_on<R: Threads + Wait + Sync>(
-    rt: &R,
-    alloc: Global,
-    payloads: &[&[u8]],
-    ids: &Ids,
-    first: Option<Batches>,
-    from: usize,
-    least: usize,
-) -> Result<Coming, AllocError>
-    requires first { IfSome first (λ b. IsReadOf (map (λ p. p.now) payloads.now) from
-        b.counts.items b.txs.items) }
-    requires within { from ≤ length payloads.now }
-    requires fits { length payloads.now < 2 ^ 64 }
-    requires least { least < 2 ^ 30 }
-    ensures { IfOk result (IsComing (map (λ p. p.now) payloads.now) from) }
-{
-    match first {
-        Some(read) => look_and_read(rt, alloc, payloads, ids, read, from, least),
-        None => {
-            let next = gather(alloc, payloads, from, least)?;
-            Ok(Coming { next, later: None })
-        }
-    }
-}
-
-// Looks up a slice that begins at an index, while the one after it, if there is one, is read in a thread of its own.
-fn look_and_read<R: Threads + Wait + Sync>(
-    rt: &R,
-    alloc: Global,
-    payloads: &[&[u8]],
-    ids: &Ids,
-    read: Batches,
-    from: usize,
-    least: usize,
-) -> Result<Coming, AllocError>
-    requires read { IsReadOf (map (λ p. p.now) payloads.now) from
-        read.counts.items read.txs.items }
-    requires fits { length payloads.now < 2 ^ 64 }
-    requires least { least < 2 ^ 30 }
-    ensures { IfOk result (IsComing (map (λ p. p.now) payloads.now) from) }
-{
-    let later = from + read.counts.len();
-    if later == payloads.len() {
-        let next = look_up(read, ids)?;
-        return Ok(Coming { next, later: None });
-    }
-    let (gathered, looked_up) = join(
-        rt,
-        || -> Result<Batches, AllocError>
-            requires { (least < 2 ^ 30) × (later ≤ length payloads.now) }
-            ensures { IfOk result (λ b. IsReadOf (map (λ p. p.now) payloads.entry.now)
-                later b.counts.items b.txs.items) }
-        { gather(alloc, payloads, later, least) },
-        || -> Result<Batches, AllocError>
-            ensures { IfOk result (λ b. (b.counts.items ≡ read.counts.items)
-                × (b.txs.items ≡ read.txs.items)) }
-        { look_up(read, ids) },
-    );
-    let next = looked_up?;
-    let later = gathered?;
-    Ok(Coming {
-        next,
-        later: Some(later),
-    })
+    let read = read?;
+    Ok((ledger, read))
 }
 
 // Enters and leaves each place of a slice that was executed, in their order.
@@ -135,90 +62,189 @@ impl Ledger {
         requires fewest { fewest < 2 ^ 30 }
         ensures { IfOk result (HasExecuted (map (λ p. p.now) payloads.now) self) }
     {
+        match self.state.version() {
+            Version::One if are_few(payloads, fewest) => {
+                self.execute_alone(alloc, payloads, fewest, gate)
+            }
+            Version::One => self.execute_handed(rt, alloc, payloads, fewest, gate),
+            Version::Two => self.execute_read(rt, alloc, payloads, fewest, gate),
+        }
+    }
+
+    // The same, while two other threads read and look up what is handed on. Where one of them cannot be started it goes on
+    // without both.
+    fn execute_handed<'a, R: Threads + Wait + Sync, G: Gate + Sync>(
+        self,
+        rt: &R,
+        alloc: Global,
+        payloads: &'a [&'a [u8]],
+        fewest: usize,
+        gate: &G,
+    ) -> Result<Ledger, AllocError>
+        requires room { HasRoom self.state.version
+            (length (transactions_of (map (λ p. p.now) payloads.now))) self.state.rows }
+        requires fewest { fewest < 2 ^ 30 }
+        ensures { IfOk result (HasExecuted (map (λ p. p.now) payloads.now) self) }
+    {
+        let ids = self.state.ids().share(alloc)?;
+        let reading = Parker::new(alloc)?;
+        let looking = Parker::new(alloc)?;
+        let running = Parker::new(alloc)?;
+        let (read, unlooked) = slices(alloc, payloads, &reading, &looking)?;
+        let (looked, ready) = slices(alloc, payloads, &looking, &running)?;
+        scope(
+            scope_env(),
+            rt,
+            |threads| -> Result<Ledger, AllocError>
+                requires { IsSync R.row × IsSync G.row
+                    × AreHanded (map (λ p. p.now) payloads.now) 0 (sent read.giver)
+                    × AreHanded (map (λ p. p.now) payloads.now) 0 (received unlooked.taker)
+                    × AreHanded (map (λ p. p.now) payloads.now) 0 (sent looked.giver)
+                    × AreHanded (map (λ p. p.now) payloads.now) 0 (received ready.taker)
+                    × (length payloads.now < 2 ^ 64) × (fewest < 2 ^ 30)
+                    × HasRoom self.state.version
+                    (length (transactions_of (map (λ p. p.now) payloads.now))) self.state.rows }
+                ensures { IfOk result (HasExecuted (map (λ p. p.now) payloads.entry.now) self) }
+            {
+                let reader = threads.spawn(
+                    || -> Result<(), AllocError>
+                        requires { IsSync R.row
+                            × AreHanded (map (λ p. p.now) payloads.now) 0 (sent read.giver)
+                            × (length payloads.now < 2 ^ 64) × (fewest < 2 ^ 30) }
+                    { read_all(rt, alloc, payloads, None, fewest, read, reading) },
+                );
+                let looker = threads.spawn(
+                    || -> Result<(), AllocError>
+                        requires { IsSync R.row
+                            × AreHanded (map (λ p. p.now) payloads.now) 0 (received unlooked.taker)
+                            × AreHanded (map (λ p. p.now) payloads.now) 0 (sent looked.giver) }
+                    { look_all(rt, &ids, payloads, unlooked, looked, looking) },
+                );
+                if reader.is_err() || looker.is_err() {
+                    return self.execute_alone(alloc, payloads, fewest, gate);
+                }
+                self.execute_ready(rt, alloc, payloads, ready, running, gate)
+            },
+        )
+    }
+
+    // The same, while no other thread does anything.
+    fn execute_alone<G: Gate>(
+        self,
+        alloc: Global,
+        payloads: &[&[u8]],
+        fewest: usize,
+        gate: &G,
+    ) -> Result<Ledger, AllocError>
+        requires room { HasRoom self.state.version
+            (length (transactions_of (map (λ p. p.now) payloads.now))) self.state.rows }
+        requires fewest { fewest < 2 ^ 30 }
+        ensures { IfOk result (HasExecuted (map (λ p. p.now) payloads.now) self) }
+    {
+        let ids = self.state().ids().share(alloc)?;
         let mut ledger = self;
         let mut from = 0usize;
-        let mut coming = ledger.first_coming(rt, alloc, payloads, fewest)?;
         while from < payloads.len() {
-            let later = from + coming.next.counts.len();
-            let (after, rest) = ledger.run_turn(rt, alloc, payloads, coming, later, fewest, gate)?;
-            ledger = after;
-            coming = rest;
+            let read = read_next(alloc, payloads, Some(&ids), from, fewest)?;
+            let later = from + read.counts.len();
+            ledger = ledger.run_read(alloc, read, gate)?;
             from = later;
         }
         Ok(ledger)
     }
 
-    // The first slices.
-    fn first_coming<R: Threads + Wait + Sync>(
-        &self,
+    // Executes all slices as they come.
+    fn execute_ready<'a, R: Wait, G: Gate>(
+        self,
+        rt: &R,
+        alloc: Global,
+        payloads: &'a [&'a [u8]],
+        ready: Read<'a>,
+        own: Parker,
+        gate: &G,
+    ) -> Result<Ledger, AllocError>
+        requires ready { AreHanded (map (λ p. p.now) payloads.now) 0 (received ready.taker) }
+        requires room { HasRoom self.state.version
+            (length (transactions_of (map (λ p. p.now) payloads.now))) self.state.rows }
+        ensures { IfOk result (HasExecuted (map (λ p. p.now) payloads.now) self) }
+    {
+        let mut ready = ready;
+        let mut ledger = self;
+        let mut from = 0usize;
+        while from < payloads.len() {
+            // None comes where memory ran out in a thread before this one.
+            let Some(handed) = ready.take_next(rt, &own) else {
+                return Err(AllocError);
+            };
+            let read = handed.read;
+            let later = from + read.counts.len();
+            ledger = ledger.run_read(alloc, read, gate)?;
+            from = later;
+        }
+        Ok(ledger)
+    }
+
+    // Executes further batches, while the slice after each is read.
+    fn execute_read<R: Threads + Wait + Sync, G: Gate + Sync>(
+        self,
         rt: &R,
         alloc: Global,
         payloads: &[&[u8]],
         fewest: usize,
-    ) -> Result<Coming, AllocError>
-        requires fits { length payloads.now < 2 ^ 64 }
+        gate: &G,
+    ) -> Result<Ledger, AllocError>
+        requires room { HasRoom self.state.version
+            (length (transactions_of (map (λ p. p.now) payloads.now))) self.state.rows }
         requires fewest { fewest < 2 ^ 30 }
-        ensures { IfOk result (IsComing (map (λ p. p.now) payloads.now) 0) }
+        ensures { IfOk result (HasExecuted (map (λ p. p.now) payloads.now) self) }
     {
-        let least = self.worth_a_turn(fewest);
-        let first = match self.state.version() {
-            Version::One => Some(gather(alloc, payloads, 0, least)?),
-            Version::Two => None,
-        };
-        look_on(rt, alloc, payloads, self.state.ids(), first, 0, least)
-    }
-
-    // How many transactions a slice has at least. In version Two it may declare accounts without a slot, and to make
-    // slots costs what all slots cost: so many transactions share that.
-    fn worth_a_turn(&self, fewest: usize) -> usize
-        requires { fewest < 2 ^ 30 }
-        ensures { result < 2 ^ 30 }
-    {
-        match self.state.version() {
-            Version::One => fewest,
-            Version::Two => least_of(self.state.slots().len(), fewest),
+        let mut ledger = self;
+        let mut from = 0usize;
+        let least = least_of(ledger.state.slots().len(), fewest);
+        let mut next = gather(alloc, payloads, 0, least)?;
+        while from < payloads.len() {
+            let later = from + next.counts.len();
+            let (after, read) = ledger.run_turn(rt, alloc, payloads, next, later, fewest, gate)?;
+            ledger = after;
+            next = read;
+            from = later;
         }
+        Ok(ledger)
     }
 
-    // Executes the next slice, while the slices after it, from an index on, are looked up and read.
+    // Executes the next slice, while the one after it, from an index on, is read. Its transactions may declare accounts
+    // without a slot, and to make slots costs what all slots cost: so many transactions share that.
     fn run_turn<R: Threads + Wait + Sync, G: Gate + Sync>(
         self,
         rt: &R,
         alloc: Global,
         payloads: &[&[u8]],
-        coming: Coming,
+        next: Batches,
         from: usize,
         fewest: usize,
         gate: &G,
-    ) -> Result<(Ledger, Coming), AllocError>
-        requires room { HasRoom self.state.version (length coming.next.txs.items) self.state.rows }
-        requires few { length coming.next.txs.items < 2 ^ 31 }
-        requires later { IfSome coming.later (λ b. IsReadOf (map (λ p. p.now) payloads.now) from
-            b.counts.items b.txs.items) }
+    ) -> Result<(Ledger, Batches), AllocError>
+        requires room { HasRoom self.state.version (length next.txs.items) self.state.rows }
+        requires few { length next.txs.items < 2 ^ 31 }
         requires within { from ≤ length payloads.now }
-        requires fits { length payloads.now < 2 ^ 64 }
         requires fewest { fewest < 2 ^ 30 }
         ensures ran { IfOk result
-            (λ r. HasRun coming.next.counts.items coming.next.txs.items self r.0) }
-        ensures coming { IfOk result (λ r. IsComing (map (λ p. p.now) payloads.now) from r.1) }
+            (λ r. HasRun next.counts.items next.txs.items self r.0) }
+        ensures read { IfOk result (λ r. IsReadOf (map (λ p. p.now) payloads.now) from
+            r.1.counts.items r.1.txs.items) }
     {
-        let Coming { next, later } = coming;
         if from == payloads.len() {
             let ledger = self.run_read(alloc, next, gate)?;
-            let next = Batches::new(alloc);
-            return Ok((ledger, Coming { next, later: None }));
+            return Ok((ledger, Batches::new(alloc)));
         }
-        let least = self.worth_a_turn(fewest);
-        let ids = self.state.ids().share(alloc)?;
-        let (coming, ran) = join(
+        let least = least_of(self.state.slots().len(), fewest);
+        let (read, ran) = join(
             rt,
-            || -> Result<Coming, AllocError>
-                requires { IsSync R.row × (least < 2 ^ 30) × (from ≤ length payloads.now)
-                    × (length payloads.now < 2 ^ 64)
-                    × IfSome later (λ b. IsReadOf (map (λ p. p.now) payloads.now) from
+            || -> Result<Batches, AllocError>
+                requires { (least < 2 ^ 30) × (from ≤ length payloads.now) }
+                ensures { IfOk result (λ b. IsReadOf (map (λ p. p.now) payloads.entry.now) from
                     b.counts.items b.txs.items) }
-                ensures { IfOk result (IsComing (map (λ p. p.now) payloads.entry.now) from) }
-            { look_on(rt, alloc, payloads, &ids, later, from, least) },
+            { gather(alloc, payloads, from, least) },
             || -> Result<Ledger, AllocError>
                 requires { IsSync G.row
                     × HasRoom self.state.version (length next.txs.items) self.state.rows
@@ -226,7 +252,7 @@ impl Ledger {
                 ensures { IfOk result (HasRun next.counts.items next.txs.items self) }
             { self.run_read(alloc, next, gate) },
         );
-        both(ran, coming)
+        both(ran, read)
     }
 
     // Executes a slice that was read.

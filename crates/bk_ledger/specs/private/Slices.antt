@@ -1,5 +1,5 @@
 -- Batches that were read, and slices of batches.
-use Rattle.std.specs.Prelude.{◌≡◌, Bool, true, ℕ, ◌+◌, ◌^◌, ◌<◌, ◌≤◌, List, [], ◌++◌, length, map, drop, Option, IfSome}
+use Rattle.std.specs.Prelude.{◌≡◌, Bool, true, ℕ, ◌+◌, ◌^◌, ◌<◌, ◌≤◌, List, ◌++◌, length, map, drop, IfErr, IfOk, Option, Result}
 use Rattle.std.specs.Arc.{arc_value}
 use Rattle.bk_base.specs.declared.genesis.Row.{Row}
 use Rattle.bk_base.specs.declared.version.Version.{Version}
@@ -11,17 +11,15 @@ use Rattle.bk_rules.specs.Fold.{state_after, receipts_of, HasRoom}
 use Rattle.bk_rules.specs.Rows.{IsLedger}
 use Rattle.bk_rules.specs.Ledger as rules
 use Rattle.bk_rules.specs.Part.{AreIndexes, HaveSlots, are_held, ids_at, part_of}
-use Rattle.bk_conflicts.specs.declared.planner.Planner.{Planner}
 use Rattle.bk_steps.specs.Left.{LeaveByRun}
 use Rattle.bk_pool.specs.Outcomes.{IsFoldOnto}
 use Rattle.bk_ledger.specs.declared.ready.Ready.{Ready}
-use Rattle.bk_ledger.specs.declared.ready.Ahead.{Ahead}
 use Rattle.bk_ledger.specs.declared.ready.Next.{Next}
 use Rattle.bk_ledger.specs.declared.ready.Next.TheVariants as next
 use Rattle.bk_ledger.specs.declared.batches.Batches.{Batches}
-use Rattle.bk_ledger.specs.declared.turns.Coming.{Coming}
 use Rattle.bk_ledger.specs.Ledger.{LedgerValue}
-use Rattle.bk_ledger.specs.Executing.{HasExecuted}
+use Rattle.bk_pool.specs.declared.outcome.ExecFault.{ExecFault}
+use Rattle.bk_ledger.specs.Executing.{HasExecuted, Leaves}
 
 -- The batches of frames: those that a ledger has executed, on these accounts, and then those that were read and are not
 -- yet executed.
@@ -101,40 +99,16 @@ pub record IsReadOf (payloads : List (List ℕ)) (from : ℕ) (counts : List (Op
   pub within : from + length counts ≤ length payloads
   pub few : length txs < 2 ^ 31
 
--- the slice that begins at an index, and the one after it, if that was read
-pub record IsComing (payloads : List (List ℕ)) (from : ℕ) (c : Coming) : Type 0 where
-  pub next : IsReadOf payloads from c.next.counts.items c.next.txs.items
-  pub later : IfSome c.later (λ b. IsReadOf payloads (from + length c.next.counts.items) b.counts.items b.txs.items)
-
 -- the slice that begins at an index; if it is planned, then by these rules and over some of these slots
 pub record IsNextOf (payloads : List (List ℕ)) (from : ℕ) (version : Version) (slots : List ℕ) (n : Next) : Type 0 where
   pub read : IsReadOf payloads from (counts_of n) (txs_of n)
   pub planned : IsPlannedOn version slots n
-
--- a slice that begins at an index, batches after it, and what plans these
-abbrev pub ahead_of : ℕ → Next → Batches → Planner → Ahead
-ahead_of from n b p = record { from = from; next = n; read = b; planner = p }
-
--- the slice that begins at an index, and the one after it
-pub record IsAheadOf (payloads : List (List ℕ)) (from : ℕ) (version : Version) (slots : List ℕ) (a : Ahead) : Type 0 where
-  pub at : a.from ≡ from
-  pub next : IsNextOf payloads from version slots a.next
-  pub read : IsReadOf payloads (from + length (counts_of a.next)) a.read.counts.items a.read.txs.items
 
 -- batches that were read, planned by these rules and on these slots, or as they are
 pub record IsNextFrom (b : Batches) (version : Version) (slots : List ℕ) (n : Next) : Type 0 where
   pub counts_are : counts_of n ≡ b.counts.items
   pub txs_are : txs_of n ≡ b.txs.items
   pub planned : IsPlannedOn version slots n
-
--- no batch from an index on
-pub record IsNoneAhead (from : ℕ) (a : Ahead) : Type 0 where
-  pub none_from : a.from ≡ from
-  pub no_counts : counts_of a.next ≡ []
-  pub no_txs : txs_of a.next ≡ []
-  pub not_planned : (version : Version) (slots : List ℕ) → IsPlannedOn version slots a.next
-  pub none_read : a.read.counts.items ≡ []
-  pub none_there : a.read.txs.items ≡ []
 
 -- a ledger that has executed the same, with the same accounts
 pub record IsSame (before after : LedgerValue) : Type 0 where
@@ -148,3 +122,13 @@ pub record IsOnTheWay (payloads : List (List ℕ)) (at : ℕ) (before now : Ledg
   pub done : List (List ℕ)
   pub split : payloads ≡ done ++ drop at payloads
   pub ran : HasExecuted done before now
+
+-- a ledger on the way, up to the first slice that declares an account which needs a slot and has none; or the fault that left a
+-- transaction undone
+pub record IsRunTo (payloads : List (List ℕ)) (before : LedgerValue) (end : Result (LedgerValue × ℕ) ExecFault) : Type 0 where
+  pub ran : IfOk end (λ r. IsOnTheWay payloads r.1 before r.0)
+  pub slots : IfOk end (λ r. r.0.state.slots ≡ before.state.slots)
+  pub within : IfOk end (λ r. r.1 ≤ length payloads)
+  pub all : rules.are_covered before.state.version before.state.slots (transactions_of payloads) ≡ true
+      → IfOk end (λ r. length payloads ≤ r.1)
+  pub fault : IfErr end (Leaves (length before.receipts) (length before.receipts + length (transactions_of payloads)))

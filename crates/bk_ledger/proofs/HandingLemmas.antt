@@ -1,0 +1,101 @@
+-- Slices that are handed on, one after another.
+use Rattle.std.proofs.Common.{◌≡◌, ℕ, ◌+◌, List, [], ◌∷◌, ◌++◌, length, refl, sym, ap, subst, ◌∙◌, arith}
+use Rattle.std.proofs.lemmas.List.Sums.{sum_by_push}
+use Rattle.bk_ledger.specs.declared.reading.Handed.{Handed}
+use Rattle.bk_base.specs.declared.version.Version.{Version}
+use Rattle.bk_ledger.specs.declared.planning.Planned.{Planned}
+use Rattle.bk_ledger.specs.private.Handing.{AreHanded, ArePlanned, batches_of, end_of, follows, follows_planned, planned_end, planned_of}
+use Rattle.bk_ledger.specs.private.Slices.{IsNextOf, IsReadOf, counts_of}
+
+-- the first, which has no batch
+pub first_handed : (h : Handed) (items : List Handed) → items ≡ h ∷ [] → h.read.counts.items ≡ [] → AreHanded (batches_of h) 0 items
+first_handed h items is none = record {
+  first = h;
+  rest = [];
+  split = is;
+  batches = refl;
+  ends = ap end_of is ∙ omega (arith, ap length none);
+}
+
+-- what follows is the next slice
+pub handed_reads : (payloads : List (List ℕ)) (at : ℕ) (items : List Handed) (h : Handed) → AreHanded payloads at items → follows items h
+    → IsReadOf payloads at h.read.counts.items h.read.txs.items
+handed_reads payloads at items h all next =
+    let reads : IsReadOf (batches_of all.first) (end_of (all.first ∷ all.rest)) h.read.counts.items h.read.txs.items = subst (λ xs. follows xs h) all.split next in
+    let ends : end_of (all.first ∷ all.rest) ≡ at = ap end_of (sym all.split) ∙ all.ends in
+    subst (λ n. IsReadOf payloads n h.read.counts.items h.read.txs.items) ends
+    (subst (λ ps. IsReadOf ps (end_of (all.first ∷ all.rest)) h.read.counts.items h.read.txs.items) all.batches reads)
+
+-- the next slice may follow
+pub may_follow : (payloads : List (List ℕ)) (at : ℕ) (items : List Handed) (h : Handed) → AreHanded payloads at items
+    → IsReadOf payloads at h.read.counts.items h.read.txs.items → follows items h
+may_follow payloads at items h all reads =
+    let ends : at ≡ end_of (all.first ∷ all.rest) = sym (ap end_of (sym all.split) ∙ all.ends) in
+    subst (λ xs. follows xs h) (sym all.split)
+    (subst (λ ps. IsReadOf ps (end_of (all.first ∷ all.rest)) h.read.counts.items h.read.txs.items) (sym all.batches)
+    (subst (λ n. IsReadOf payloads n h.read.counts.items h.read.txs.items) ends reads))
+
+-- one more adds its batches
+end_more : (items : List Handed) (h : Handed) → end_of (items ++ h ∷ []) ≡ end_of items + length h.read.counts.items
+end_more items h = sum_by_push (λ (k : Handed). length k.read.counts.items) items h
+
+pub handed_more : (payloads : List (List ℕ)) (at : ℕ) (items more : List Handed) (h : Handed) → AreHanded payloads at items → more ≡ items ++ h ∷ []
+    → AreHanded payloads (at + length h.read.counts.items) more
+handed_more payloads at items more h all is = record {
+  first = all.first;
+  rest = all.rest ++ h ∷ [];
+  split = is ∙ ap (λ xs. xs ++ h ∷ []) all.split;
+  batches = all.batches;
+  ends = ap end_of is ∙ (end_more items h ∙ ap (λ n. n + length h.read.counts.items) all.ends);
+}
+
+-- the first that is taken is the first that was handed on
+pub first_taken : {T : Type 0} (h x : T) (old known rest given new : List T) → old ≡ [] → old ++ known ≡ given → given ≡ h ∷ [] → known ≡ x ∷ rest
+    → new ≡ old ++ x ∷ [] → new ≡ h ∷ []
+first_taken {T} h x old known rest given new none all first is after =
+    let there : x ∷ rest ≡ h ∷ [] = sym is ∙ (ap (λ xs. xs ++ known) (sym none) ∙ (all ∙ first)) in
+    let same : x ≡ h = cc in
+    after ∙ (ap (λ xs. xs ++ x ∷ []) none ∙ ap (λ y. y ∷ []) same)
+
+-- ---- slices that are planned
+
+-- the first, which has no batch
+pub first_planned : (p : Planned) (items : List Planned) → items ≡ p ∷ [] → counts_of p.next ≡ [] → ArePlanned (planned_of p) p.version p.ids.now 0 items
+first_planned p items is none = record {
+  first = p;
+  rest = [];
+  split = is;
+  batches = refl;
+  version_is = refl;
+  slots_are = refl;
+  ends = ap planned_end is ∙ omega (arith, ap length none);
+}
+
+-- what follows is the next slice
+pub planned_next : (payloads : List (List ℕ)) (version : Version) (slots : List ℕ) (at : ℕ) (items : List Planned) (p : Planned) → ArePlanned payloads version slots at items
+    → follows_planned items p → IsNextOf payloads at version slots p.next
+planned_next payloads version slots at items p all next =
+    let is : IsNextOf (planned_of all.first) (planned_end (all.first ∷ all.rest)) all.first.version all.first.ids.now p.next = subst (λ xs. follows_planned xs p) all.split next in
+    let ends : planned_end (all.first ∷ all.rest) ≡ at = ap planned_end (sym all.split) ∙ all.ends in
+    subst (λ (y : List (List ℕ) × ℕ × Version × List ℕ). IsNextOf y.0 y.1 y.2 y.3 p.next) (λ i. (all.batches i, ends i, all.version_is i, all.slots_are i)) is
+
+-- the next slice may follow
+pub may_be_planned : (payloads : List (List ℕ)) (version : Version) (slots : List ℕ) (at : ℕ) (items : List Planned) (p : Planned) → ArePlanned payloads version slots at items
+    → IsNextOf payloads at version slots p.next → follows_planned items p
+may_be_planned payloads version slots at items p all is =
+    let ends : planned_end (all.first ∷ all.rest) ≡ at = ap planned_end (sym all.split) ∙ all.ends in
+    subst (λ xs. follows_planned xs p) (sym all.split)
+    (subst (λ (y : List (List ℕ) × ℕ × Version × List ℕ). IsNextOf y.0 y.1 y.2 y.3 p.next) (λ i. (sym all.batches i, sym ends i, sym all.version_is i, sym all.slots_are i)) is)
+
+-- one more adds its batches
+pub planned_more : (payloads : List (List ℕ)) (version : Version) (slots : List ℕ) (at : ℕ) (items more : List Planned) (p : Planned) → ArePlanned payloads version slots at items
+    → more ≡ items ++ p ∷ [] → ArePlanned payloads version slots (at + length (counts_of p.next)) more
+planned_more payloads version slots at items more p all is = record {
+  first = all.first;
+  rest = all.rest ++ p ∷ [];
+  split = is ∙ ap (λ xs. xs ++ p ∷ []) all.split;
+  batches = all.batches;
+  version_is = all.version_is;
+  slots_are = all.slots_are;
+  ends = ap planned_end is ∙ (sum_by_push (λ (q : Planned). length (counts_of q.next)) items p ∙ ap (λ n. n + length (counts_of p.next)) all.ends);
+}

@@ -1,0 +1,13 @@
+use Rattle.std.proofs.Common.{◌≤◌, ◌-◌, length, map}
+use Rattle.bk_ledger.specs.private.Slices.{IsOnTheWay, IsReadOf}
+use Rattle.bk_ledger.proofs.ledger.Ledger.execute_read.Given as goal
+
+abbrev pub invariant-loop-from : goal.invariant-loop-from
+invariant-loop-from g l = record {
+  within : l.from ≤ length l.payloads;
+  way : IsOnTheWay (map (λ p. p.now) l.payloads) l.from l.fn.self l.ledger;
+  next : IsReadOf (map (λ p. p.now) l.payloads) l.from l.next.counts.items l.next.txs.items;
+}
+
+abbrev pub decreases-loop-from : goal.decreases-loop-from
+decreases-loop-from g l = length l.payloads - l.from
