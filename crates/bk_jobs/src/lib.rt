@@ -17,6 +17,7 @@ mod judging;
 mod listing;
 mod machine;
 mod opening;
+mod over;
 mod queries;
 mod replaying;
 mod running;

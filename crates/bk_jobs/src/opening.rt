@@ -9,18 +9,17 @@ ghost use Rattle.bk_cli.specs.Exits.{is_refusal, may_end_if, writes_ahead};
 ghost use Rattle.bk_cli.specs.FaultLines.{Reports};
 ghost use Rattle.bk_cli.specs.Files.{file_of, is_input, names_input, reads_beside, reads_input_twice, second_file_of};
 ghost use Rattle.bk_cli.specs.Unopened.{told_unopened};
-ghost use Rattle.bk_jobs.specs.Openings.{IsFirst, IsFirstReady, IsLacking, IsOf, IsSecondReady, IsUnopened, LacksRoom, Ran, RanSo, TellsMemory, reason_by};
+ghost use Rattle.bk_jobs.specs.Openings.{IsFirst, IsFirstReady, IsLacking, IsOf, IsSecondReady, IsUnopened, LacksRoom, Ran, TellsMemory, reason_by};
 ghost use Rattle.bk_jobs.specs.Reads.{IsLeft, IsThere, first_device, names_file, second_device, sight};
-ghost use Rattle.bk_jobs.specs.private.Opened.{IsReadOnly, RanReady, names_input_second, waits_at_end};
-ghost use Rattle.bk_jobs.specs.Sources.{CanBeUsedAgain, job_devices};
+ghost use Rattle.bk_jobs.specs.private.Opened.{names_input_second, waits_at_end};
+ghost use Rattle.bk_jobs.specs.Sources.{CanBeUsedAgain};
 
 use crate::inputs::{Access, Opens};
-use crate::running::{Watch, run_watched};
+use crate::over::run_ready;
 use bk_cli::{Exit, Job, JobFault, Line, Unopened, is_input, tell, tell_unopened};
-use bk_frames::{Counted, Sink, Source};
-use bk_progress::{Metered, Progress};
+use bk_frames::{Counted, Sink};
+use bk_progress::Progress;
 use bk_results::Fault;
-use bk_tail::Waiting;
 use either::{Either, Left, Right};
 use std::alloc::Global;
 use std::io;
@@ -37,14 +36,6 @@ const AHEAD: usize = 65_536;
 struct Missing<'a> {
     path: &'a str,
     error: io::Error,
-}
-
-// How a job ended, and what its files were read through.
-#[derive(Drop)]
-struct Over<S, T> {
-    exit: Exit,
-    first: S,
-    second: T,
 }
 
 // Why the system did not open a file, as far as it says it.
@@ -74,15 +65,16 @@ fn not_opened<E: Sink>(line: &Line, missing: &Missing<'_>, err: &mut E) -> Exit
 fn no_memory<E: Sink>(line: &Line, err: &mut E) -> Exit
     requires { CanBeUsed (E.state err.old) }
     ensures failed { result ≡ Exit.Failed }
-    ensures told { TellsMemory line.now.job line.now.notes.verbose (E.state err.old) (E.state err.new) }
+    ensures told { TellsMemory line.now.job line.now.notes.verbose
+        (E.state err.old) (E.state err.new) }
 {
     let fault = JobFault::Replay(Fault::Memory);
     tell(&line.job, line.notes.verbose, &fault, err);
     Exit::Failed
 }
 
-// Whether the end of the first file is waited at for more.
-fn is_waited(job: &Job) -> bool
+/// Whether the end of the first file is waited at for more.
+pub(crate) fn is_waited(job: &Job) -> bool
     ensures { result ≡ waits_at_end job.now }
 {
     match job {
@@ -117,8 +109,8 @@ fn expect_files<N: Opens, I, P: Clock + Eprint>(
     }
 }
 
-// Takes what is there.
-fn taken<T>(from: &mut Option<T>) -> T
+/// Takes what is there.
+pub(crate) fn taken<T>(from: &mut Option<T>) -> T
     requires { is_some from.old ≡ true }
     ensures gives { from.old ≡ Some result }
     ensures leaves { from.new ≡ None }
@@ -185,7 +177,8 @@ fn ready_first<'a, N: Opens, I: Read + Drop>(
 ) -> Result<(), Option<Missing<'a>>>
     requires opener { is_some access.old.first ≡ true }
     requires there { names_input (file_of job.now) ≡ true → is_some access.old.input ≡ true }
-    ensures ready { OnOk result (IsFirstReady (sight N.holds N.lacks N.File.remaining I.remaining) access.old job.now
+    ensures ready { OnOk result (IsFirstReady
+        (sight N.holds N.lacks N.File.remaining I.remaining) access.old job.now
         (first_device (sight N.holds N.lacks N.File.remaining I.remaining) access.new)) }
     ensures missing { IfErr result (λ e. IfSome e (λ m. (file_of job.now ≡ Some m.path.now)
         × IsLacking N.lacks m.path.now (error_kind m.error))) }
@@ -216,7 +209,8 @@ fn ready_second<'a, N: Opens, I: Read + Drop>(
     requires opener { is_some access.old.second ≡ true }
     requires there { names_input_second job.now ≡ true → is_some access.old.input ≡ true }
     requires none { access.old.second_read ≡ None }
-    ensures ready { OnOk result (IsSecondReady (sight N.holds N.lacks N.File.remaining I.remaining) access.old job.now
+    ensures ready { OnOk result (IsSecondReady
+        (sight N.holds N.lacks N.File.remaining I.remaining) access.old job.now
         (second_device (sight N.holds N.lacks N.File.remaining I.remaining) access.new)) }
     ensures missing { IfErr result (λ m. (second_file_of job.now ≡ Some m.path.now)
         × IsLacking N.lacks m.path.now (error_kind m.error)) }
@@ -224,7 +218,8 @@ fn ready_second<'a, N: Opens, I: Read + Drop>(
     ensures first { access.new.first ≡ access.old.first }
     ensures first_read { access.new.first_read ≡ access.old.first_read }
     ensures kept { names_input_second job.now ≡ false → access.new.input ≡ access.old.input }
-    ensures unused { names_file (second_file_of job.now) ≡ false → access.new.second ≡ access.old.second }
+    ensures unused { names_file (second_file_of job.now) ≡ false
+        → access.new.second ≡ access.old.second }
 {
     let Some(path) = job.second_file() else {
         return Ok(());
@@ -256,9 +251,11 @@ fn ready_both<'a, N: Opens, I: Read + Drop>(
 ) -> Result<(), Option<Missing<'a>>>
     requires once { reads_input_twice job.now ≡ false }
     requires there { IsThere access.old }
-    ensures first { OnOk result (IsFirstReady (sight N.holds N.lacks N.File.remaining I.remaining) access.old job.now
+    ensures first { OnOk result (IsFirstReady
+        (sight N.holds N.lacks N.File.remaining I.remaining) access.old job.now
         (first_device (sight N.holds N.lacks N.File.remaining I.remaining) access.new)) }
-    ensures second { OnOk result (IsSecondReady (sight N.holds N.lacks N.File.remaining I.remaining) access.old job.now
+    ensures second { OnOk result (IsSecondReady
+        (sight N.holds N.lacks N.File.remaining I.remaining) access.old job.now
         (second_device (sight N.holds N.lacks N.File.remaining I.remaining) access.new)) }
     ensures missing { IfErr result (λ e. IfSome e (λ m.
         IsUnopened (sight N.holds N.lacks N.File.remaining I.remaining) access.old access.new
@@ -317,89 +314,5 @@ where
         Ok(()) => run_ready(access, rt, line, progress, out, err),
         Err(Some(missing)) => not_opened(line, &missing, err),
         Err(None) => no_memory(line, err),
-    }
-}
-
-// Runs a job over its files, which are ready, and leaves what they were read through.
-fn run_ready<N, I, R, P, O: Sink, E: Sink>(
-    access: &mut Access<N, N::File, I>,
-    rt: &R,
-    line: &Line,
-    progress: &Progress<'_, P>,
-    out: &mut O,
-    err: &mut E,
-) -> Exit
-where
-    N: Opens,
-    I: Read + Drop,
-    R: AllocGlobal + Clock + Threads + Wait + Sync,
-    P: Clock + Eprint + Sync,
-    requires opened { is_some access.old.first_read ≡ true }
-    requires first { IfSome (first_device (sight N.holds N.lacks N.File.remaining I.remaining) access.old) CanBeUsed }
-    requires second { IfSome (second_device (sight N.holds N.lacks N.File.remaining I.remaining) access.old) CanBeUsed }
-    requires out { CanBeUsed (O.state out.old) }
-    requires err { CanBeUsedAgain (E.state err.old) }
-    ensures unwritten { is_refusal result ≡ true → writes_ahead line.now.job ≡ false
-        → IsUntouched (O.state out.old) (O.state out.new) }
-    ensures ends { may_end_if line.now.strict line.now.job result ≡ true }
-    ensures kept { IsReadOnly access.old access.new }
-    ensures ran { RanReady (first_device (sight N.holds N.lacks N.File.remaining I.remaining) access.old)
-        (first_device (sight N.holds N.lacks N.File.remaining I.remaining) access.new)
-        (second_device (sight N.holds N.lacks N.File.remaining I.remaining) access.old)
-        (second_device (sight N.holds N.lacks N.File.remaining I.remaining) access.new)
-        line.now.job line.now.strict line.now.notes.verbose result
-        (O.state out.old) (O.state out.new) (E.state err.old) (E.state err.new) }
-{
-    let first = taken(&mut access.first_read);
-    if let Some(second) = access.second_read.take() {
-        let over = run_over(rt, line, progress, first, second, out, err);
-        access.first_read = Some(over.first);
-        access.second_read = Some(over.second);
-        return over.exit;
-    }
-    let nothing: &[u8] = b"";
-    let over = run_over(rt, line, progress, first, Counted::new(nothing), out, err);
-    access.first_read = Some(over.first);
-    over.exit
-}
-
-// Runs a job over what its files are read through.
-fn run_over<R, P, S: Source, T: Source, O: Sink, E: Sink>(
-    rt: &R,
-    line: &Line,
-    progress: &Progress<'_, P>,
-    first: S,
-    second: T,
-    out: &mut O,
-    err: &mut E,
-) -> Over<S, T>
-where
-    R: AllocGlobal + Clock + Threads + Wait + Sync,
-    P: Clock + Eprint + Sync,
-    requires first { CanBeUsed (S.state first) }
-    requires second { CanBeUsed (T.state second) }
-    requires out { CanBeUsed (O.state out.old) }
-    requires err { CanBeUsedAgain (E.state err.old) }
-    ensures unwritten { is_refusal result.exit ≡ true → writes_ahead line.now.job ≡ false
-        → IsUntouched (O.state out.old) (O.state out.new) }
-    ensures ends { may_end_if line.now.strict line.now.job result.exit ≡ true }
-    ensures ran { RanSo line.now.job line.now.strict line.now.notes.verbose result.exit
-        (job_devices (S.state first) (T.state second) (O.state out.old))
-        (job_devices (S.state result.first) (T.state result.second) (O.state out.new))
-        (E.state err.old) (E.state err.new) }
-{
-    let waits = is_waited(&line.job);
-    let watch = Watch {
-        watcher: progress,
-        verbose: line.notes.verbose,
-        strict: line.strict,
-    };
-    let mut first = Waiting::new(Metered::new(first, progress), rt, waits);
-    let mut second = Metered::new(second, progress);
-    let exit = run_watched(rt, &line.job, &watch, &mut first, &mut second, out, err);
-    Over {
-        exit,
-        first: first.into_inner().into_inner(),
-        second: second.into_inner(),
     }
 }
