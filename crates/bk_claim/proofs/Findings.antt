@@ -4,15 +4,15 @@ use Rattle.std.specs.Prelude.{IfSome, MatchOption, slice_get, slice_range, codes
 use Rattle.std.specs.Global.{Vec}
 use Rattle.std.specs.Io.KnownBytes.{Consumes, IsAtEnd}
 use Rattle.std.specs.List.{after_last, before_first}
-use Rattle.std.proofs.KnownBytes.{Consumes-nil, Consumes-trans}
 use Rattle.std.proofs.Math.Seq.{take-add}
 use Rattle.std.proofs.lemmas.Bool.{cond-false, cond-true, le-ltb, lt-ltb}
 use Rattle.std.proofs.lemmas.List.{drop-take, drop_at, take_all, take_at}
 use Rattle.bk_claim.specs.Claims.{difference, ends_line, line_at, line_number, shown, shown_byte, words_or_end}
 use Rattle.bk_claim.specs.declared.comparing.Found.{Found}
 use Rattle.bk_claim.specs.private.Finding.{IsFound, Leads, found_text, found_words, line_between, line_from}
-use Rattle.bk_frames.specs.Device.{Device, Gives}
+use Rattle.bk_frames.specs.Device.{Device, Gives, IfKnown}
 use Rattle.bk_frames.specs.Pulling.{Gave}
+use Rattle.bk_frames.proofs.Devices.{gives_none, gives_then}
 use Rattle.bk_results.specs.Lines.{spaced}
 
 -- ---- a line that is read on
@@ -60,13 +60,13 @@ abbrev pub Led : List ℕ → List ℕ → List ℕ → Type 0
 Led first line given = (more : List ℕ) → line_from first (given ++ more) ≡ line_from line more
 
 pub led_first : (d : Device) (line : List ℕ) → Gave d d (Led line line)
-led_first d line = ([], Consumes-nil d.bytes, λ more. refl)
+led_first d line = ([], gives_none d, λ more. refl)
 
 pub led_on : (a b c : Device) (first line new came : List ℕ) (done : Bool) → Gave a b (Led first line) → Gives b c came
     → ((more : List ℕ) → line_from line (came ++ more) ≡ cond done new (line_from new more)) → done ≡ false → Gave a c (Led first new)
 led_on a b c first line new came done (given, gave, leads) next goes on = (
   given ++ came,
-  Consumes-trans a.bytes b.bytes c.bytes given came gave next,
+  gives_then a b c given came gave next,
   λ more. ap (line_from first) (append_assoc given came more) ∙ leads (came ++ more) ∙ goes more ∙ cond-false done new (line_from new more) on,
 )
 
@@ -74,7 +74,7 @@ pub led_whole : (a b c : Device) (first line new came : List ℕ) (done : Bool) 
     → ((more : List ℕ) → line_from line (came ++ more) ≡ cond done new (line_from new more)) → done ≡ true → Gave a c (λ given. new ≡ line_from first given)
 led_whole a b c first line new came done (given, gave, leads) next goes whole = (
   given ++ came,
-  Consumes-trans a.bytes b.bytes c.bytes given came gave next,
+  gives_then a b c given came gave next,
   sym (ap (line_from first) (sym (append-nil (given ++ came)) ∙ append_assoc given came []) ∙ leads (came ++ []) ∙ goes [] ∙ cond-true done new (line_from new []) whole),
 )
 
@@ -83,7 +83,7 @@ pub led_end : (a b c : Device) (first line piece : List ℕ) (count : ℕ) → G
 led_end a b c first line piece count (given, gave, leads) next none short =
     let empty : take count piece ≡ [] = ap (λ (k : ℕ). take k piece) none in (
       given ++ take count piece,
-      Consumes-trans a.bytes b.bytes c.bytes given (take count piece) gave next,
+      gives_then a b c given (take count piece) gave next,
       sym (ap (λ (t : List ℕ). line_from first (given ++ t)) empty ∙ leads [] ∙ ap (take 200) (append-nil line) ∙ take_all 200 line short),
     )
 
@@ -118,7 +118,7 @@ pub given_whole : (d : Device) (before came begun put : List ℕ) (done : Bool) 
     → ((more : List ℕ) → line_from begun (came ++ more) ≡ cond done put (line_from put more)) → done ≡ true
     → Gave d d (λ given. put ≡ line_between before (came ++ given))
 given_whole d before came begun put done e goes whole =
-    ([], Consumes-nil d.bytes, sym (cond-true done put (line_from put []) whole) ∙ sym (goes []) ∙ starts_between before begun (came ++ []) e)
+    ([], gives_none d, sym (cond-true done put (line_from put []) whole) ∙ sym (goes []) ∙ starts_between before begun (came ++ []) e)
 
 -- ---- the byte where they differ
 
@@ -212,16 +212,16 @@ found_given a b c d right back piece at same count line inside is gave came fits
     let part : slice_range piece same count ≡ drop same (take count piece) =
     sym (drop-take same (count - same) piece) ∙ ap (λ (k : ℕ). drop same (take k piece)) (sym whole) in (
       (take at right ++ take count piece) ++ given,
-      Consumes-trans a.bytes c.bytes d.bytes (take at right ++ take count piece) given (Consumes-trans a.bytes b.bytes c.bytes (take at right) (take count piece) gave came) rest,
+      gives_then a c d (take at right ++ take count piece) given (gives_then a b c (take at right) (take count piece) gave came) rest,
       found_here right back (take count piece) given ((take at right ++ take count piece) ++ given) at same line inside is (append_assoc (take at right) (take count piece) given) within below alike apart
           (line_is ∙ ap (λ (t : List ℕ). line_between (take (at + same) right) (t ++ given)) part),
     )
 
 -- a whole piece came, and all of it is the same
-pub piece_is_same : (a b c : Option (List ℕ)) (right back piece : List ℕ) (at same count : ℕ) → at ≤ length right → back ≡ drop at right
-    → Consumes a b (take at right) → Consumes b c (take count piece) → count ≤ length piece → same ≤ length back → same ≤ length (take count piece) → count ≤ same
+pub piece_is_same : (a b c : Device) (right back piece : List ℕ) (at same count : ℕ) → at ≤ length right → back ≡ drop at right
+    → Gives a b (take at right) → Gives b c (take count piece) → count ≤ length piece → same ≤ length back → same ≤ length (take count piece) → count ≤ same
     → take same back ≡ take same (take count piece)
-    → (at + same ≤ length right) × Consumes a c (take (at + same) right)
+    → (at + same ≤ length right) × Gives a c (take (at + same) right)
 piece_is_same a b c right back piece at same count inside is gave came fits within other high alike =
     let behind : length back ≡ length right - at = ap length is ∙ length-drop at right in
     let more : length (take count piece) ≡ count = omega (arith, length-take count piece, fits) in
@@ -229,19 +229,22 @@ piece_is_same a b c right back piece at same count inside is gave came fits with
     let next : take (at + same) right ≡ take at right ++ take count piece =
     take-add at same right ∙ ap (λ (t : List ℕ). take at right ++ take same t) (sym is) ∙ ap (λ (t : List ℕ). take at right ++ t) alike
     ∙ ap (λ (t : List ℕ). take at right ++ t) (take_all same (take count piece) short) in
-    (omega (arith, within, behind, inside), subst (λ (t : List ℕ). Consumes a c t) (sym next) (Consumes-trans a b c (take at right) (take count piece) gave came))
+    (omega (arith, within, behind, inside), subst (λ (t : List ℕ). Gives a c t) (sym next) (gives_then a b c (take at right) (take count piece) gave came))
 
 -- the claim ends behind bytes that are the same
-pub ends_known : (a b c : Option (List ℕ)) (right piece : List ℕ) (at count : ℕ) (found : Option Found) → Consumes a b (take at right) → Consumes b c (take count piece) → count ≡ 0 → IsAtEnd c
+pub ends_known : (a b c : Device) (right piece : List ℕ) (at count : ℕ) (found : Option Found) → Gives a b (take at right) → Gives b c (take count piece) → count ≡ 0 → IsAtEnd c.bytes
     → MatchOption found (take at right ≡ right) (λ f. IsFound right (take at right) f)
-    → IfSome a (λ claim. MatchOption found (claim ≡ right) (λ f. IsFound right claim f))
-ends_known None b c right piece at count found gave came none end is = tt
-ends_known (Some x) None c right piece at count found gave came none end is = absurd gave
-ends_known (Some x) (Some y) None right piece at count found gave came none end is = absurd came
-ends_known (Some x) (Some y) (Some z) right piece at count found gave came none end is =
-    let empty : y ≡ [] = came ∙ ap (λ (k : ℕ). take k piece ++ z) none ∙ end in
-    let all : x ≡ take at right = gave ∙ ap (λ (t : List ℕ). take at right ++ t) empty ∙ append-nil (take at right) in
-    subst (λ (claim : List ℕ). MatchOption found (claim ≡ right) (λ f. IsFound right claim f)) (sym all) is
+    → IfKnown a (λ claim. MatchOption found (claim ≡ right) (λ f. IsFound right claim f))
+ends_known a b c right piece at count found gave came none end is = by_known a.bytes b.bytes c.bytes gave.known came.known end
+  where
+    by_known : (x y z : Option (List ℕ)) → Consumes x y (take at right) → Consumes y z (take count piece) → IsAtEnd z → IfSome x (λ claim. MatchOption found (claim ≡ right) (λ f. IsFound right claim f))
+    by_known None y z gave came end = tt
+    by_known (Some x) None z gave came end = absurd gave
+    by_known (Some x) (Some y) None gave came end = absurd came
+    by_known (Some x) (Some y) (Some z) gave came end =
+        let empty : y ≡ [] = came ∙ ap (λ (k : ℕ). take k piece ++ z) none ∙ end in
+        let all : x ≡ take at right = gave ∙ ap (λ (t : List ℕ). take at right ++ t) empty ∙ append-nil (take at right) in
+        subst (λ (claim : List ℕ). MatchOption found (claim ≡ right) (λ f. IsFound right claim f)) (sym all) is
 
 -- the same of what was given
 pub ends_given : (a b c : Device) (right piece : List ℕ) (at count : ℕ) (found : Option Found) → Gives a b (take at right) → Gives b c (take count piece) → count ≡ 0
@@ -249,7 +252,7 @@ pub ends_given : (a b c : Device) (right piece : List ℕ) (at count : ℕ) (fou
     → Gave a c (λ claim. MatchOption found (claim ≡ right) (λ f. IsFound right claim f))
 ends_given a b c right piece at count found gave came none is =
     let all : take at right ++ take count piece ≡ take at right = ap (λ (k : ℕ). take at right ++ take k piece) none ∙ append-nil (take at right) in
-    (take at right, subst (Consumes a.bytes c.bytes) all (Consumes-trans a.bytes b.bytes c.bytes (take at right) (take count piece) gave came), is)
+    (take at right, subst (Gives a c) all (gives_then a b c (take at right) (take count piece) gave came), is)
 
 -- ---- what is shown of it
 

@@ -1,7 +1,7 @@
 -- A sink that keeps nothing.
 use Rattle.std.specs.Prelude.{None}
-use Rattle.bk_frames.specs.Device.{Device}
+use Rattle.bk_frames.specs.Device.{Device, plain}
 
 -- what it holds is not known, and none of its calls fails
 abbrev pub nowhere : Device
-nowhere = record { bytes = None; failures = 0 }
+nowhere = plain None 0

@@ -8,6 +8,7 @@ use bk_trial_kit::{Device, Reader, Writer};
 use std::alloc::Global;
 use std::sync::Wait;
 use std::thread::Threads;
+use std::time::Clock;
 
 /// The bytes that a job reads: those of a feed, and those of a second file.
 #[derive(Clone, Copy)]
@@ -45,7 +46,7 @@ pub(crate) fn all_few(most: usize) -> Devices {
 /// What a job leaves with these devices.
 pub(crate) fn job_with<R>(rt: &R, job: &Job, given: Given<'_>, devices: Devices) -> Outcome
 where
-    R: AllocGlobal + Threads + Wait + Sync,
+    R: AllocGlobal + Clock + Threads + Wait + Sync,
 {
     let alloc: Global = rt.alloc();
     let mut source = Counted::new(Reader::new(given.feed, devices.feed));

@@ -8,6 +8,7 @@ use bk_trial_kit::ends_of;
 use std::alloc::Global;
 use std::sync::Wait;
 use std::thread::Threads;
+use std::time::Clock;
 
 // What a feed leaves that ends inside the frame that begins at an offset.
 fn is_cut_at(found: &Outcome, alloc: Global, offset: usize) -> Result<bool> {
@@ -21,7 +22,7 @@ const EACH: usize = 300;
 /// Whether a feed that is cut is cut short exactly where no frame from the genesis on ends.
 pub(crate) fn cuts_are_right<R>(rt: &R, feed: &[u8]) -> Result<bool>
 where
-    R: AllocGlobal + Threads + Wait + Sync,
+    R: AllocGlobal + Clock + Threads + Wait + Sync,
 {
     let alloc: Global = rt.alloc();
     let ends = ends_of(alloc, feed)?;

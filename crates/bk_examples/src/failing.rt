@@ -9,6 +9,7 @@ use bk_trial_kit::Device;
 use std::alloc::Global;
 use std::sync::Wait;
 use std::thread::Threads;
+use std::time::Clock;
 
 // More calls than any example makes.
 const MOST_CALLS: usize = 1_000_000;
@@ -130,7 +131,7 @@ fn judge_reading(tried: Tried<'_>, found: &Outcome, line: &str) -> Reading {
 // Whether a job leaves this with these devices too.
 fn leaves<R>(rt: &R, tried: Tried<'_>, devices: Devices, wanted: &Outcome) -> bool
 where
-    R: AllocGlobal + Threads + Wait + Sync,
+    R: AllocGlobal + Clock + Threads + Wait + Sync,
 {
     let found = job_with(rt, tried.job, tried.given, devices);
     found.is_same(wanted)
@@ -146,7 +147,7 @@ fn is_lost_so<R>(
     lost: &Outcome,
 ) -> bool
 where
-    R: AllocGlobal + Threads + Wait + Sync,
+    R: AllocGlobal + Clock + Threads + Wait + Sync,
 {
     let once = input.devices(Device::failing_once(reads, most));
     if !leaves(rt, tried, once, lost) {
@@ -171,7 +172,7 @@ fn reading_of<R>(
     (reads, most): (usize, usize),
 ) -> Result<Reading>
 where
-    R: AllocGlobal + Threads + Wait + Sync,
+    R: AllocGlobal + Clock + Threads + Wait + Sync,
 {
     let line = input.fault_after(rt.alloc(), reads, most)?;
     let devices = input.devices(Device::lost_after(reads, most));
@@ -185,7 +186,7 @@ where
 // Whether each read of a file, of at most `most` bytes, fails well. A feed is read to its end, and not after it.
 fn each_read_fails<R>(rt: &R, tried: Tried<'_>, input: Input<'_>, most: usize) -> Result<bool>
 where
-    R: AllocGlobal + Threads + Wait + Sync,
+    R: AllocGlobal + Clock + Threads + Wait + Sync,
 {
     for reads in 0..MOST_CALLS {
         let is_read = input.is_read_by(reads, most);
@@ -205,7 +206,7 @@ where
 /// one of them fails.
 pub(crate) fn reads_fail_well<R>(rt: &R, tried: Tried<'_>, input: Input<'_>) -> Result<bool>
 where
-    R: AllocGlobal + Threads + Wait + Sync,
+    R: AllocGlobal + Clock + Threads + Wait + Sync,
 {
     for (most, longest) in READ_SIZES {
         if input.length <= longest && !each_read_fails(rt, tried, input, most)? {
@@ -247,7 +248,7 @@ fn writing_by(device: Device) -> Devices {
 // What a job comes to where a write fails after `writes` others, for good or once: the same.
 fn writing_of<R>(rt: &R, tried: Tried<'_>, writes: usize, most: usize) -> Writing
 where
-    R: AllocGlobal + Threads + Wait + Sync,
+    R: AllocGlobal + Clock + Threads + Wait + Sync,
 {
     let devices = writing_by(Device::lost_after(writes, most));
     let lost = job_with(rt, tried.job, tried.given, devices);
@@ -263,7 +264,7 @@ where
 /// does not fail well.
 pub(crate) fn calls_of<R>(rt: &R, tried: Tried<'_>, most: usize) -> Option<usize>
 where
-    R: AllocGlobal + Threads + Wait + Sync,
+    R: AllocGlobal + Clock + Threads + Wait + Sync,
 {
     let mut before = 0usize;
     for writes in 0..MOST_CALLS {
@@ -284,7 +285,7 @@ where
 // Whether a job fails that writes to a sink which takes no byte, unless there is nothing to write.
 fn nothing_is_taken<R>(rt: &R, tried: Tried<'_>) -> bool
 where
-    R: AllocGlobal + Threads + Wait + Sync,
+    R: AllocGlobal + Clock + Threads + Wait + Sync,
 {
     let found = job_with(rt, tried.job, tried.given, writing_by(Device::good(0)));
     match judge_writing(tried, &found) {
@@ -298,7 +299,7 @@ where
 /// them fails, unless there is nothing to write.
 pub(crate) fn writes_fail_well<R>(rt: &R, tried: Tried<'_>) -> bool
 where
-    R: AllocGlobal + Threads + Wait + Sync,
+    R: AllocGlobal + Clock + Threads + Wait + Sync,
 {
     let length = tried.whole.out.len();
     for (most, longest) in WRITE_SIZES {

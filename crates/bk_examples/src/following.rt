@@ -10,6 +10,7 @@ use bk_replay::{Fault, Follower, Status};
 use std::alloc::Global;
 use std::sync::Wait;
 use std::thread::Threads;
+use std::time::Clock;
 
 /// In which pieces a feed comes, and whether each of them is settled.
 #[derive(Clone, Copy)]
@@ -21,7 +22,7 @@ pub(crate) struct Pieces {
 // Settles what came so far. A stop is no fault yet: a later piece is taken all the same.
 fn settle<R>(rt: &R, follower: &mut Follower) -> Result<(), Fault>
 where
-    R: AllocGlobal + Threads + Wait + Sync,
+    R: AllocGlobal + Clock + Threads + Wait + Sync,
 {
     match follower.settle(rt, &Open) {
         Ok(_) | Err(Fault::Collision { .. }) | Err(Fault::Equivocation { .. }) => Ok(()),
@@ -38,7 +39,7 @@ fn feed_all<R, K: Sink>(
     out: &mut K,
 ) -> Result<Status, Fault>
 where
-    R: AllocGlobal + Threads + Wait + Sync,
+    R: AllocGlobal + Clock + Threads + Wait + Sync,
     requires sound { CanBeUsed (K.state out.old) }
 {
     for piece in feed.chunks(pieces.size.max(1)) {
@@ -53,7 +54,7 @@ where
 // The same from the first byte on. The Follower is owned here alone: each way out of the function that owns it lets it go.
 fn follow<R, K: Sink>(rt: &R, feed: &[u8], pieces: Pieces, out: &mut K) -> Result<Status, Fault>
 where
-    R: AllocGlobal + Threads + Wait + Sync,
+    R: AllocGlobal + Clock + Threads + Wait + Sync,
     requires sound { CanBeUsed (K.state out.old) }
 {
     let mut follower = Follower::new(rt.alloc(), 2);
@@ -63,7 +64,7 @@ where
 /// What `run` leaves of a feed that comes in these pieces.
 pub(crate) fn followed<R>(rt: &R, feed: &[u8], pieces: Pieces) -> Outcome
 where
-    R: AllocGlobal + Threads + Wait + Sync,
+    R: AllocGlobal + Clock + Threads + Wait + Sync,
 {
     let alloc: Global = rt.alloc();
     let mut out = Counted::new(Vec::new(alloc));

@@ -12,6 +12,7 @@ use std::fs;
 use std::rt::Files;
 use std::sync::Wait;
 use std::thread::Threads;
+use std::time::Clock;
 
 // How many bytes a call moves at most.
 const FEW: [usize; 6] = [1, 3, 7, 40, 50, 64];
@@ -21,7 +22,7 @@ const FEW: [usize; 6] = [1, 3, 7, 40, 50, 64];
 // Whether a job prints what its example has to, by devices that do not fail, and move few bytes a call.
 fn moves_few<R>(rt: &R, example: &Example<'_>, job: &Job, given: Given<'_>) -> Result<bool>
 where
-    R: AllocGlobal + Files + Threads + Wait + Sync,
+    R: AllocGlobal + Clock + Files + Threads + Wait + Sync,
 {
     let wanted = fs::read(rt, example.wanted)?;
     for most in FEW {
@@ -38,7 +39,7 @@ where
 // Whether each read of one of the files fails well.
 fn file_fails_well<R>(rt: &R, tried: Tried<'_>, is_second: bool, is_feed: bool) -> Result<bool>
 where
-    R: AllocGlobal + Threads + Wait + Sync,
+    R: AllocGlobal + Clock + Threads + Wait + Sync,
 {
     let Given { feed, second } = tried.given;
     let bytes = if is_second { second } else { feed };
@@ -54,7 +55,7 @@ where
 // Whether each read of each file fails well.
 fn files_fail_well<R>(rt: &R, example: &Example<'_>, tried: Tried<'_>) -> Result<bool>
 where
-    R: AllocGlobal + Threads + Wait + Sync,
+    R: AllocGlobal + Clock + Threads + Wait + Sync,
 {
     if !file_fails_well(rt, tried, false, example.reads_feed())? {
         return Ok(false);
@@ -68,7 +69,7 @@ where
 // Whether a job that gets an answer ends well with each read and each write failing in turn.
 fn fails_well<R>(rt: &R, example: &Example<'_>, job: &Job, given: Given<'_>) -> Result<bool>
 where
-    R: AllocGlobal + Threads + Wait + Sync,
+    R: AllocGlobal + Clock + Threads + Wait + Sync,
 {
     let whole = job_with(rt, job, given, all_good(usize::MAX));
     let tried = Tried {
@@ -83,7 +84,7 @@ where
 // fails.
 fn fails_at_once<R>(rt: &R, example: &Example<'_>, job: &Job, given: Given<'_>) -> bool
 where
-    R: AllocGlobal + Threads + Wait + Sync,
+    R: AllocGlobal + Clock + Threads + Wait + Sync,
 {
     let devices = Devices {
         feed: Device::lost_after(0, 40),
@@ -110,7 +111,7 @@ fn try_command<R>(
     tally: &mut Tally,
 ) -> Result<()>
 where
-    R: AllocGlobal + Files + Eprint + Threads + Wait + Sync,
+    R: AllocGlobal + Clock + Files + Eprint + Threads + Wait + Sync,
 {
     if example.status == 0 && example.command == "check-proof" {
         let is_right = is_tight(rt, job, bytes)?;
@@ -133,7 +134,7 @@ fn try_few<R>(
     tally: &mut Tally,
 ) -> Result<()>
 where
-    R: AllocGlobal + Files + Eprint + Threads + Wait + Sync,
+    R: AllocGlobal + Clock + Files + Eprint + Threads + Wait + Sync,
 {
     if !example.has_notes() && example.is_steady() {
         let is_right = moves_few(rt, example, job, given)?;
@@ -151,7 +152,7 @@ fn try_job<R>(
     tally: &mut Tally,
 ) -> Result<()>
 where
-    R: AllocGlobal + Files + Eprint + Threads + Wait + Sync,
+    R: AllocGlobal + Clock + Files + Eprint + Threads + Wait + Sync,
 {
     try_few(rt, example, job, given, tally)?;
     let is_right = if example.is_answered() {
@@ -174,7 +175,7 @@ fn bytes_of<R: AllocGlobal + Files>(rt: &R, path: Option<&str>) -> Result<Vec<u8
 // The same of a job that is known.
 fn try_parsed<R>(rt: &R, example: &Example<'_>, job: &Job, tally: &mut Tally) -> Result<()>
 where
-    R: AllocGlobal + Files + Eprint + Threads + Wait + Sync,
+    R: AllocGlobal + Clock + Files + Eprint + Threads + Wait + Sync,
 {
     let Ok(feed) = bytes_of(rt, job.file()) else {
         return Ok(());
@@ -194,7 +195,7 @@ where
 /// absent.
 pub(crate) fn try_words<R>(rt: &R, example: &Example<'_>, tally: &mut Tally) -> Result<()>
 where
-    R: AllocGlobal + Files + Eprint + Threads + Wait + Sync,
+    R: AllocGlobal + Clock + Files + Eprint + Threads + Wait + Sync,
 {
     match parse(rt.alloc(), &example.words) {
         Ok(job) => try_parsed(rt, example, &job, tally),
@@ -204,7 +205,7 @@ where
 
 fn try_run_by_one<R>(rt: &R, example: &Example<'_>, feed: &[u8], tally: &mut Tally) -> Result<()>
 where
-    R: AllocGlobal + Files + Eprint + Threads + Wait + Sync,
+    R: AllocGlobal + Clock + Files + Eprint + Threads + Wait + Sync,
 {
     let job = run_by(Workers::one());
     try_few(rt, example, &job, feed_alone(feed), tally)
@@ -218,7 +219,7 @@ pub(crate) fn try_run<R>(
     tally: &mut Tally,
 ) -> Result<()>
 where
-    R: AllocGlobal + Files + Eprint + Threads + Wait + Sync,
+    R: AllocGlobal + Clock + Files + Eprint + Threads + Wait + Sync,
 {
     try_run_by_one(rt, example, feed, tally)?;
     let job = run_by(Workers::two());
@@ -231,7 +232,7 @@ where
 // bytes.
 fn is_unread_at<R>(rt: &R, feed: &[u8], reads: usize, offset: &str) -> Result<bool>
 where
-    R: AllocGlobal + Threads + Wait + Sync,
+    R: AllocGlobal + Clock + Threads + Wait + Sync,
 {
     let line = format!(in rt.alloc(); "feed fault 8 at {offset}\n")?;
     let devices = Devices {
@@ -245,7 +246,7 @@ where
 // Whether this line of the table holds: a feed, and where the frame begins that cannot be read at each of its reads.
 fn is_line_right<R>(rt: &R, line: &str) -> Result<bool>
 where
-    R: AllocGlobal + Files + Threads + Wait + Sync,
+    R: AllocGlobal + Clock + Files + Threads + Wait + Sync,
 {
     let (name, offsets) = line.split_once(' ').unwrap_or((line, ""));
     let feed = fs::read(rt, name)?;
@@ -262,7 +263,7 @@ where
 /// Whether each feed of the table `unread` is unread where the table says it.
 pub(crate) fn unread_is_right<R>(rt: &R, table: &str) -> Result<bool>
 where
-    R: AllocGlobal + Files + Threads + Wait + Sync,
+    R: AllocGlobal + Clock + Files + Threads + Wait + Sync,
 {
     for line in table.lines() {
         if !is_line_right(rt, line)? {

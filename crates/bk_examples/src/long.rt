@@ -11,6 +11,7 @@ use std::fs;
 use std::rt::Files;
 use std::sync::Wait;
 use std::thread::Threads;
+use std::time::Clock;
 
 // How many bytes the last line of a claim has that is longer than any line of a report.
 const LONG: usize = 1 << 24;
@@ -27,7 +28,7 @@ fn long_verdict(alloc: Global) -> Result<Vec<u8>> {
 /// Whether a claim is rejected at its last line: it is the report and one line more, of 16 MiB and without a line feed.
 pub(crate) fn long_line_is_told<R>(rt: &R) -> Result<bool>
 where
-    R: AllocGlobal + Files + Threads + Wait + Sync,
+    R: AllocGlobal + Clock + Files + Threads + Wait + Sync,
 {
     let alloc: Global = rt.alloc();
     let feed = fs::read(rt, "order/one_commit.feed")?;
@@ -83,7 +84,7 @@ fn long_report(alloc: Global) -> Result<Outcome> {
 // Whether an answer takes at least `least` calls of a sink that takes at most `most` bytes a call, and each fails well.
 fn takes_calls<R>(rt: &R, tried: Tried<'_>, most: usize, least: usize) -> bool
 where
-    R: AllocGlobal + Threads + Wait + Sync,
+    R: AllocGlobal + Clock + Threads + Wait + Sync,
 {
     match calls_of(rt, tried, most) {
         Some(calls) => least <= calls,
@@ -93,7 +94,7 @@ where
 
 fn is_long_report<R>(rt: &R, feed: &[u8]) -> Result<bool>
 where
-    R: AllocGlobal + Threads + Wait + Sync,
+    R: AllocGlobal + Clock + Threads + Wait + Sync,
 {
     let whole = long_report(rt.alloc())?;
     let job = Job::Apply { file: None };
@@ -112,7 +113,7 @@ where
 /// Whether a report of 184,826 bytes takes three writes at least, and five of at most 40,000 bytes, each of which fails well.
 pub(crate) fn long_report_is_written<R>(rt: &R) -> Result<bool>
 where
-    R: AllocGlobal + Threads + Wait + Sync,
+    R: AllocGlobal + Clock + Threads + Wait + Sync,
 {
     let feed = long_feed(rt.alloc())?;
     is_long_report(rt, &feed)

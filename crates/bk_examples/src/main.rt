@@ -96,7 +96,7 @@ where
 // Runs a feed in pieces.
 fn run_in_pieces<R>(rt: &R, example: &Example<'_>, feed: &[u8], whole: &Outcome, tally: &mut Tally)
 where
-    R: AllocGlobal + Eprint + Threads + Wait + Sync,
+    R: AllocGlobal + Clock + Eprint + Threads + Wait + Sync,
 {
     for pieces in PIECES {
         let is_right = followed(rt, feed, pieces).is_same(whole);

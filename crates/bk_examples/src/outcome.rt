@@ -76,7 +76,8 @@ where
     let mut out = Counted::new(Vec::new(alloc));
     let mut err = Counted::new(Vec::new(alloc));
     let hidden = Progress::new(rt, Manner::Hidden);
-    let mut access = Access::new(Inputs::new(rt), Inputs::new(rt), rt.reader());
+    let input = Counted::new(rt.reader());
+    let mut access = Access::new(Inputs::new(rt), Inputs::new(rt), input);
     let exit = open_and_run(&mut access, rt, &line, &hidden, &mut out, &mut err);
     Ok(Outcome {
         status: exit.number(),

@@ -6,6 +6,7 @@ use bk_cli::Job;
 use std::alloc::Global;
 use std::sync::Wait;
 use std::thread::Threads;
+use std::time::Clock;
 
 // The bytes that come in the place of others: of numbers and digests, and those between words.
 const BYTES: &[u8] = b"50 \n";
@@ -19,7 +20,7 @@ const LONG: usize = 70_000;
 // Whether a text is checked to this verdict that it is bad.
 fn is_bad<R>(rt: &R, job: &Job, text: &[u8]) -> bool
 where
-    R: AllocGlobal + Threads + Wait + Sync,
+    R: AllocGlobal + Clock + Threads + Wait + Sync,
 {
     let found = job_with(rt, job, feed_alone(text), all_few(50));
     found.status == 1 && found.out.as_slice() == b"proof bad\n".as_slice() && found.err.is_empty()
@@ -28,7 +29,7 @@ where
 // Whether a proof is bad with this byte in this place, where it has another one.
 fn is_bad_at<R>(rt: &R, job: &Job, proof: &[u8], index: usize, byte: u8) -> Result<bool>
 where
-    R: AllocGlobal + Threads + Wait + Sync,
+    R: AllocGlobal + Clock + Threads + Wait + Sync,
 {
     let mut text = Vec::from_slice(rt.alloc(), proof)?;
     if let Some(old) = text.get_mut(index) {
@@ -40,7 +41,7 @@ where
 // Whether a proof is bad with this byte in the place of any other.
 fn is_bad_turned<R>(rt: &R, job: &Job, proof: &[u8], byte: u8) -> Result<bool>
 where
-    R: AllocGlobal + Threads + Wait + Sync,
+    R: AllocGlobal + Clock + Threads + Wait + Sync,
 {
     for index in 0..proof.len() {
         if !is_bad_at(rt, job, proof, index, byte)? {
@@ -53,7 +54,7 @@ where
 // Whether it is with each of these bytes.
 fn is_bad_with<R>(rt: &R, job: &Job, proof: &[u8], bytes: &[u8]) -> Result<bool>
 where
-    R: AllocGlobal + Threads + Wait + Sync,
+    R: AllocGlobal + Clock + Threads + Wait + Sync,
 {
     for byte in bytes {
         if !is_bad_turned(rt, job, proof, *byte)? {
@@ -66,7 +67,7 @@ where
 // Whether a proof is bad that is cut short, after any byte.
 fn is_bad_cut<R>(rt: &R, job: &Job, proof: &[u8]) -> bool
 where
-    R: AllocGlobal + Threads + Wait + Sync,
+    R: AllocGlobal + Clock + Threads + Wait + Sync,
 {
     for length in 0..proof.len() {
         if !is_bad(rt, job, proof.get(..length).unwrap_or(&[])) {
@@ -79,7 +80,7 @@ where
 // Whether a proof is bad that comes twice.
 fn is_bad_twice<R>(rt: &R, job: &Job, proof: &[u8]) -> Result<bool>
 where
-    R: AllocGlobal + Threads + Wait + Sync,
+    R: AllocGlobal + Clock + Threads + Wait + Sync,
 {
     let mut twice = Vec::from_slice(rt.alloc(), proof)?;
     twice.extend_from_slice(proof)?;
@@ -89,7 +90,7 @@ where
 // Whether a text is bad that is longer than any proof.
 fn is_bad_long<R>(rt: &R, job: &Job) -> Result<bool>
 where
-    R: AllocGlobal + Threads + Wait + Sync,
+    R: AllocGlobal + Clock + Threads + Wait + Sync,
 {
     let alloc: Global = rt.alloc();
     let long = vec![in alloc; b'\n'; LONG]?;
@@ -99,7 +100,7 @@ where
 // Whether a proof is bad under a root that is no digest.
 fn is_bad_under<R>(rt: &R, root: &str, proof: &[u8]) -> Result<bool>
 where
-    R: AllocGlobal + Threads + Wait + Sync,
+    R: AllocGlobal + Clock + Threads + Wait + Sync,
 {
     let job = Job::CheckProof {
         root: String::from_str(rt.alloc(), root)?,
@@ -111,7 +112,7 @@ where
 
 fn is_bad_rootless<R>(rt: &R, proof: &[u8], roots: &[&str]) -> Result<bool>
 where
-    R: AllocGlobal + Threads + Wait + Sync,
+    R: AllocGlobal + Clock + Threads + Wait + Sync,
 {
     for root in roots {
         if !is_bad_under(rt, root, proof)? {
@@ -125,7 +126,7 @@ where
 /// is a text that is longer than any proof.
 pub(crate) fn is_tight<R>(rt: &R, job: &Job, proof: &[u8]) -> Result<bool>
 where
-    R: AllocGlobal + Threads + Wait + Sync,
+    R: AllocGlobal + Clock + Threads + Wait + Sync,
 {
     Ok(
         is_bad_with(rt, job, proof, BYTES)?

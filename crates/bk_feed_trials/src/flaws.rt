@@ -14,6 +14,7 @@ use bk_trial_kit::Tally;
 use std::alloc::Global;
 use std::sync::Wait;
 use std::thread::Threads;
+use std::time::Clock;
 
 // However a feed comes, this keeps it from counting whole, where it is asked for. All else is as where it is not.
 fn try_flaw<R>(
@@ -24,7 +25,7 @@ fn try_flaw<R>(
     wanted: &Option<Flaw>,
 ) -> Result<()>
 where
-    R: AllocGlobal + Eprint + Threads + Wait + Sync,
+    R: AllocGlobal + Clock + Eprint + Threads + Wait + Sync,
 {
     let alloc: Global = rt.alloc();
     let asked = Asked { table, named: None };
@@ -43,7 +44,7 @@ where
 // Each kind of flaw alone, and feeds with two of them.
 fn try_each<R>(rt: &R, tally: &mut Tally, table: Table) -> Result<()>
 where
-    R: AllocGlobal + Eprint + Threads + Wait + Sync,
+    R: AllocGlobal + Clock + Eprint + Threads + Wait + Sync,
 {
     let digest = Digest32::of(b"abc");
     let missing = Some(Flaw::Missing { digest });
@@ -66,7 +67,7 @@ where
 /// All of them, for each table.
 pub(crate) fn try_flaws<R>(rt: &R, tally: &mut Tally) -> Result<()>
 where
-    R: AllocGlobal + Eprint + Threads + Wait + Sync,
+    R: AllocGlobal + Clock + Eprint + Threads + Wait + Sync,
 {
     for table in TABLES {
         try_each(rt, tally, table)?;

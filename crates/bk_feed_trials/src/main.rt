@@ -56,10 +56,11 @@ use anyhow::Result;
 use bk_trial_kit::Tally;
 use std::sync::Wait;
 use std::thread::Threads;
+use std::time::Clock;
 
 fn try_followed<R>(rt: &R, tally: &mut Tally) -> Result<()>
 where
-    R: AllocGlobal + Eprint + Threads + Wait + Sync,
+    R: AllocGlobal + Clock + Eprint + Threads + Wait + Sync,
 {
     try_pieces(rt, tally)?;
     try_going_on(rt, tally)?;
@@ -73,7 +74,7 @@ where
 
 fn try_asked<R>(rt: &R, tally: &mut Tally) -> Result<()>
 where
-    R: AllocGlobal + Eprint + Threads + Wait + Sync,
+    R: AllocGlobal + Clock + Eprint + Threads + Wait + Sync,
 {
     try_queries(rt, tally)?;
     try_between(rt, tally)?;
@@ -85,7 +86,7 @@ where
 
 fn run_all<R>(rt: &R) -> Result<Tally>
 where
-    R: AllocGlobal + Eprint + Threads + Wait + Sync,
+    R: AllocGlobal + Clock + Eprint + Threads + Wait + Sync,
 {
     let mut tally = Tally::new();
     try_followed(rt, &mut tally)?;

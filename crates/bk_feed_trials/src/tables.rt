@@ -11,6 +11,7 @@ use bk_trial_kit::{Device, Reader, Writer};
 use std::alloc::Global;
 use std::sync::Wait;
 use std::thread::Threads;
+use std::time::Clock;
 
 /// A table of what the transactions of a feed did.
 #[derive(Clone, Copy)]
@@ -48,16 +49,17 @@ fn accounts_of(alloc: Global, named: Option<u64>) -> Result<Option<Accounts>> {
     Ok(Some(Accounts::of(ids)))
 }
 
-/// Follows a feed, and judges it where `strict` is set.
-pub(crate) fn judged<R>(
+// Follows a feed. It is judged where `strict` is set, and waited for where `wait` is.
+fn tailed<R>(
     rt: &R,
     asked: Asked,
     strict: bool,
+    wait: bool,
     reader: Reader<'_>,
     device: Device,
 ) -> Result<Left>
 where
-    R: AllocGlobal + Threads + Wait + Sync,
+    R: AllocGlobal + Clock + Threads + Wait + Sync,
 {
     let alloc: Global = rt.alloc();
     let mut source = Counted::new(reader);
@@ -66,11 +68,31 @@ where
     let ended = match asked.table {
         Table::Transactions => {
             let asked = Transactions { accounts };
-            tail_transactions(rt, alloc, &mut source, &mut sink, 2, &Open, &asked, strict)
+            tail_transactions(
+                rt,
+                alloc,
+                &mut source,
+                &mut sink,
+                2,
+                &Open,
+                &asked,
+                strict,
+                wait,
+            )
         }
         Table::Postings => {
             let asked = Postings { accounts };
-            tail_postings(rt, alloc, &mut source, &mut sink, 2, &Open, &asked, strict)
+            tail_postings(
+                rt,
+                alloc,
+                &mut source,
+                &mut sink,
+                2,
+                &Open,
+                &asked,
+                strict,
+                wait,
+            )
         }
     };
     let text = sink.into_inner().into_bytes();
@@ -81,10 +103,32 @@ where
     Ok(Left { end, flaw, text })
 }
 
-/// Follows a feed without judging it.
+/// Follows a feed to its end, and judges it where `strict` is set.
+pub(crate) fn judged<R>(
+    rt: &R,
+    asked: Asked,
+    strict: bool,
+    reader: Reader<'_>,
+    device: Device,
+) -> Result<Left>
+where
+    R: AllocGlobal + Clock + Threads + Wait + Sync,
+{
+    tailed(rt, asked, strict, false, reader, device)
+}
+
+/// Follows a feed without end, until its source fails.
+pub(crate) fn waited<R>(rt: &R, asked: Asked, reader: Reader<'_>, device: Device) -> Result<Left>
+where
+    R: AllocGlobal + Clock + Threads + Wait + Sync,
+{
+    tailed(rt, asked, false, true, reader, device)
+}
+
+/// Follows a feed to its end, without judging it.
 pub(crate) fn followed<R>(rt: &R, asked: Asked, reader: Reader<'_>, device: Device) -> Result<Left>
 where
-    R: AllocGlobal + Threads + Wait + Sync,
+    R: AllocGlobal + Clock + Threads + Wait + Sync,
 {
     judged(rt, asked, false, reader, device)
 }

@@ -2,7 +2,7 @@
 
 use crate::feeds::{MISSING, NOTHING};
 use crate::made::made;
-use crate::tables::{Asked, Table, followed, in_pieces, whole, wide};
+use crate::tables::{Asked, Table, followed, in_pieces, waited, whole, wide};
 use crate::tailed::{FOUR_MEMBERS, FOUR_MEMBERS_TWO, SWEPT, SWEPT_TWO, TWINS_LATER};
 use anyhow::Result;
 use bk_frames::{FaultCode, FeedFault};
@@ -11,6 +11,7 @@ use bk_trial_kit::{Device, Reader, Tally};
 use std::alloc::Global;
 use std::sync::Wait;
 use std::thread::Threads;
+use std::time::Clock;
 
 /// How many bytes a piece has, at most.
 pub(crate) const PIECES: [usize; 3] = [1, 7, 65_536];
@@ -33,7 +34,7 @@ const FEEDS: [&str; 6] = [
 // Followed in pieces of each size, a feed has the table that it has when it is read whole.
 fn try_pieces<R>(rt: &R, tally: &mut Tally, script: &str, asked: Asked) -> Result<()>
 where
-    R: AllocGlobal + Eprint + Threads + Wait + Sync,
+    R: AllocGlobal + Clock + Eprint + Threads + Wait + Sync,
 {
     let alloc: Global = rt.alloc();
     let feed = made(alloc, script)?;
@@ -51,7 +52,7 @@ where
 
 fn try_tables<R>(rt: &R, tally: &mut Tally) -> Result<()>
 where
-    R: AllocGlobal + Eprint + Threads + Wait + Sync,
+    R: AllocGlobal + Clock + Eprint + Threads + Wait + Sync,
 {
     for script in FEEDS {
         for named in NAMED {
@@ -80,7 +81,7 @@ fn are_lines_of(text: &[u8], whole: &[u8]) -> bool {
 // leaves the same, and a later cut no fewer.
 fn try_cuts<R>(rt: &R, tally: &mut Tally, asked: Asked, script: &str) -> Result<()>
 where
-    R: AllocGlobal + Eprint + Threads + Wait + Sync,
+    R: AllocGlobal + Clock + Eprint + Threads + Wait + Sync,
 {
     let alloc: Global = rt.alloc();
     let feed = made(alloc, script)?;
@@ -111,7 +112,7 @@ where
 // A feed, and after it a frame of no kind.
 fn try_fault<R>(rt: &R, tally: &mut Tally, asked: Asked, script: &str) -> Result<()>
 where
-    R: AllocGlobal + Eprint + Threads + Wait + Sync,
+    R: AllocGlobal + Clock + Eprint + Threads + Wait + Sync,
 {
     let alloc: Global = rt.alloc();
     let mut feed = made(alloc, script)?;
@@ -132,10 +133,31 @@ where
     Ok(())
 }
 
+// A feed that is waited for: after its end it is read again, and that call fails. All rows are out by then.
+fn try_waiting<R>(rt: &R, tally: &mut Tally, asked: Asked, script: &str) -> Result<()>
+where
+    R: AllocGlobal + Clock + Eprint + Threads + Wait + Sync,
+{
+    let alloc: Global = rt.alloc();
+    let feed = made(alloc, script)?;
+    let wanted = whole(rt, asked, &feed)?;
+    // The calls that a piece of at most so many bytes each takes, and one that finds the end.
+    for (most, calls) in [(1, feed.len().saturating_add(1)), (65_536, 2)] {
+        let reader = Reader::new(&feed, Device::lost_after(calls, most));
+        let left = waited(rt, asked, reader, wide())?;
+        tally.note(
+            rt,
+            "waited for",
+            is_fault(&left.end, FaultCode::Read) && left.text == wanted.text,
+        );
+    }
+    Ok(())
+}
+
 // Twins after a commit: the rows before them are out, where they came in a piece of their own.
 fn try_twins<R>(rt: &R, tally: &mut Tally, asked: Asked) -> Result<()>
 where
-    R: AllocGlobal + Eprint + Threads + Wait + Sync,
+    R: AllocGlobal + Clock + Eprint + Threads + Wait + Sync,
 {
     let alloc: Global = rt.alloc();
     let feed = made(alloc, TWINS_LATER)?;
@@ -153,7 +175,7 @@ where
 // A sink that fails after each byte has exactly the bytes before.
 fn try_sinks<R>(rt: &R, tally: &mut Tally, asked: Asked, script: &str) -> Result<()>
 where
-    R: AllocGlobal + Eprint + Threads + Wait + Sync,
+    R: AllocGlobal + Clock + Eprint + Threads + Wait + Sync,
 {
     let alloc: Global = rt.alloc();
     let feed = made(alloc, script)?;
@@ -175,7 +197,7 @@ where
 // A table over feeds that are cut, broken and stopped, and over sinks that fail.
 fn try_table<R>(rt: &R, tally: &mut Tally, table: Table) -> Result<()>
 where
-    R: AllocGlobal + Eprint + Threads + Wait + Sync,
+    R: AllocGlobal + Clock + Eprint + Threads + Wait + Sync,
 {
     let asked = Asked { table, named: None };
     try_cuts(rt, tally, asked, SWEPT)?;
@@ -183,6 +205,7 @@ where
     try_fault(rt, tally, asked, SWEPT)?;
     try_fault(rt, tally, asked, MISSING)?;
     try_twins(rt, tally, asked)?;
+    try_waiting(rt, tally, asked, SWEPT)?;
     try_sinks(rt, tally, asked, SWEPT)?;
     Ok(())
 }
@@ -190,7 +213,7 @@ where
 /// Both tables of all feeds.
 pub(crate) fn try_tailing<R>(rt: &R, tally: &mut Tally) -> Result<()>
 where
-    R: AllocGlobal + Eprint + Threads + Wait + Sync,
+    R: AllocGlobal + Clock + Eprint + Threads + Wait + Sync,
 {
     try_tables(rt, tally)?;
     for table in TABLES {

@@ -6,12 +6,13 @@ use Rattle.std.proofs.lemmas.List.{append-nil, map-append}
 use Rattle.bk_base.specs.declared.kind.Kind.{Kind}
 use Rattle.bk_base.specs.declared.version.Version.{Version}
 use Rattle.bk_frames.specs.declared.fault.FeedFault.{FeedFault}
-use Rattle.bk_frames.specs.Device.{Device, CanBeUsed, Works, IfKnown, GaveAll}
+use Rattle.bk_frames.specs.Device.{Device, CanBeUsed, EndsNot, Works, GaveAll, IsWhole}
 use Rattle.bk_base.specs.Feed.{Frame}
 use Rattle.bk_frames.specs.Cutting.{Cut, Cuts, in_magic, past_magic, in_frames, CutsInto, fresh, frames_in}
 use Rattle.bk_frames.specs.Pulling.{Refuses}
 use Rattle.bk_frames.specs.Reading.{IsPulled, Pulls, room_of}
 use Rattle.bk_frames.proofs.CutJoining.{cuts_then}
+use Rattle.bk_frames.proofs.Devices.{ends_not_then, ends_not_yet}
 use Rattle.bk_frames.proofs.Pulls.{at_end}
 use Rattle.bk_follow.specs.declared.gathering.Inbox.{Inbox}
 use Rattle.bk_follow.specs.private.Gathering.{HasGathered, HasPulled, CanTake, TakesWaiting, CanPull, OfPulled, PullsGroup, HasPulledGroup}
@@ -24,6 +25,7 @@ use Rattle.bk_follow.proofs.Pulled.{cut_so_far, gathered_more, piece_came, taken
 pub record PullsSoFar (old new : Device) (before after : List (Kind × Vec ℕ)) (c d : Cut) : Type 0 where
   pub cuts : (came : List ℕ) × CutsInto c came before after d
   pub pulls : OfPulled old before c (λ start bytes taken. (count : ℕ) × Pulls start new bytes (taken ++ frames_in after) d count)
+  pub goes_on : EndsNot old new
   pub nearer : room_of d ≤ room_of c
   pub sound : CanBeUsed new
   pub known : CanPull old before c
@@ -38,6 +40,7 @@ pub none_so_far : (now : Device) (before : List (Kind × Vec ℕ)) (c : Cut) →
 none_so_far now before c sound known = record {
   cuts = ([], ([], sym (append-nil before), nothing_cut known.1 (known.2 ++ frames_in before) c known.3.cuts));
   pulls = λ start bytes taken p. (0, record { came = []; counted = refl; pulled = subst (λ (t : List ℕ). IsPulled start now t (taken ++ frames_in before) c) (sym (append-nil bytes)) p });
+  goes_on = ends_not_yet now;
   nearer = omega arith;
   sound = sound;
   known = known;
@@ -77,33 +80,36 @@ module _ (a b d : Device) (before mid after : List (Kind × Vec ℕ)) (c0 c1 c2 
       omega (arith, same, mid, sound)
 
   -- one piece more
-  pub piece_more : room_of c2 < room_of c1 → PullsSoFar a d before after c0 c2
-  piece_more less = record {
+  pub piece_more : room_of c2 < room_of c1 → EndsNot b d → PullsSoFar a d before after c0 c2
+  piece_more less goes_on = record {
     cuts = both_cut;
     pulls = both_pulled;
+    goes_on = ends_not_then a b d s.goes_on goes_on;
     nearer = omega (arith, less, s.nearer);
     sound = still_sound;
     known = s.known;
   }
 
   -- a group ends with a piece
-  pub group_ends : room_of c2 < room_of c1 → PullsGroup a d before after c0 c2 false
-  group_ends less = record {
+  pub group_ends : room_of c2 < room_of c1 → EndsNot b d → PullsGroup a d before after c0 c2 false
+  group_ends less goes_on = record {
     cuts = both_cut;
     pulls = both_pulled;
     all = λ ended. absurd cc;
+    goes_on = λ _. ends_not_then a b d s.goes_on goes_on;
     nearer = λ _. omega (arith, less, s.nearer);
   }
 
   -- the source is at its end
-  pub source_ends : n ≡ 0 → ((start : Device) (bytes : List ℕ) (frames : List Frame) → IsPulled start b bytes frames c1 → IfKnown start (λ whole. whole ≡ bytes)) → PullsGroup a d before after c0 c2 true
+  pub source_ends : n ≡ 0 → ((start : Device) (bytes : List ℕ) (frames : List Frame) → IsPulled start b bytes frames c1 → EndsNot start b → IsWhole start d bytes) → PullsGroup a d before after c0 c2 true
   source_ends none all = record {
     cuts = both_cut;
     pulls = both_pulled;
-    all = λ _ start bytes taken p.
+    goes_on = λ going. absurd cc;
+    all = λ _ start bytes taken p before_it.
         let q = s.pulls start bytes taken p in
         let r = pulls start (bytes ++ q.1.came) taken q.1.pulled in
-        ((bytes ++ q.1.came) ++ r.came, at_end start (bytes ++ q.1.came) r.came (r.counted ∙ none) (all start (bytes ++ q.1.came) (taken ++ frames_in mid) q.1.pulled), r.pulled);
+        ((bytes ++ q.1.came) ++ r.came, at_end start d (bytes ++ q.1.came) r.came (r.counted ∙ none) (all start (bytes ++ q.1.came) (taken ++ frames_in mid) q.1.pulled (ends_not_then start a b before_it s.goes_on)), r.pulled);
     nearer = λ going. absurd cc;
   }
 
@@ -166,12 +172,12 @@ module _ (now later : Device) (g new : Inbox) (empty : Vec (Kind × Vec ℕ)) (n
         let q = group.pulls start w.bytes w.taken (cut_so_far start now between w) in
         piece_came start now later between new group.cuts.0 q.0 w q.1 group.cuts.1 refl
 
-    pub all_gathered : end ≡ true → (start : Device) → HasPulled start now g → GaveAll start later (λ bytes. (taken : List Frame) × HasGathered bytes taken new)
-    all_gathered ended start p =
+    pub all_gathered : end ≡ true → (start : Device) → HasPulled start now g → EndsNot start now → GaveAll start later (λ bytes. (taken : List Frame) × HasGathered bytes taken new)
+    all_gathered ended start p before_it =
         let w = taken_now start now g between p (takes_them version known takes) in
         let q = group.pulls start w.bytes w.taken (cut_so_far start now between w) in
         let come = gathered_more start later w.bytes w.taken between new group.cuts.0 q.0 w.come q.1 group.cuts.1 refl in
-        let e = group.all ended start w.bytes w.taken (cut_so_far start now between w) in
+        let e = group.all ended start w.bytes w.taken (cut_so_far start now between w) before_it in
         (e.0, e.2.gave, e.1, (w.taken, record { cuts = e.2.cuts; is_open = e.2.is_open; reads = e.2.reads; follows = come.follows }))
 
   pub group_works : (start : Device) → HasPulled start now g → Works start later

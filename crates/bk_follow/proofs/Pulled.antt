@@ -1,10 +1,10 @@
 -- Pulling a feed in pieces: what has come, and what a refusal says of all bytes.
 use Rattle.std.proofs.Common.{◌≡◌, ℕ, List, [], ◌++◌, refl}
-use Rattle.std.proofs.KnownBytes.{Consumes-nil}
 use Rattle.bk_frames.specs.Device.{Device, GaveAll}
 use Rattle.bk_base.specs.Feed.{Frame}
 use Rattle.bk_frames.specs.Cutting.{CutsInto, frames_in}
 use Rattle.bk_frames.specs.Reading.{IsPulled, Pulls}
+use Rattle.bk_frames.proofs.Devices.{gives_none}
 use Rattle.bk_follow.specs.Follower.{Followed, HasCome}
 use Rattle.bk_follow.specs.private.Gathering.{HasGathered, HasPulled, IsAllOf}
 use Rattle.bk_follow.specs.declared.gathering.Inbox.{Inbox}
@@ -12,7 +12,7 @@ use Rattle.bk_follow.specs.Replaying.{AllHasCome}
 use Rattle.bk_follow.proofs.Waiting.{follows_on}
 
 pub none_pulled : (start : Device) (g : Inbox) → HasGathered [] [] g → HasPulled start start g
-none_pulled start g first = record { bytes = []; taken = []; works = refl; gave = Consumes-nil start.bytes; come = first }
+none_pulled start g first = record { bytes = []; taken = []; works = refl; gave = gives_none start; come = first }
 
 -- what the reader of feeds is told
 pub cut_so_far : (start now : Device) (g : Inbox) (p : HasPulled start now g) → IsPulled start now p.bytes (p.taken ++ frames_in g.frames.items) g.cutter

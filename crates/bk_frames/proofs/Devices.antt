@@ -1,16 +1,55 @@
 -- What a source gave, one part after another.
-use Rattle.std.proofs.Common.{◌≡◌, ℕ, zero, suc, ◌+◌, ◌-◌, length-drop, List, [], ◌∷◌, ◌++◌, length, take, drop, Option, Some, None, refl, sym, ap, subst, ◌∙◌, append_assoc, arith}
-use Rattle.std.proofs.lemmas.List.{take_at, drop_at, take_all}
+use Rattle.std.proofs.Common.{◌≡◌, ℕ, zero, suc, ◌+◌, ◌-◌, ◌<◌, length-drop, true, List, [], ◌∷◌, ◌++◌, length, take, drop, Option, Some, None, refl, sym, ap, subst, ◌∙◌, append_assoc, arith}
+use Rattle.std.proofs.lemmas.List.{append-nil, take_at, drop_at, take_all}
 use Rattle.std.specs.Prelude.{IfSome}
 use Rattle.std.specs.Io.KnownBytes.{Consumes, Appends}
-use Rattle.bk_frames.specs.Device.{Device, GaveAll, IfKnown}
+use Rattle.std.proofs.KnownBytes.{Consumes-nil, Consumes-trans}
+use Rattle.bk_frames.specs.Device.{Device, Ends, EndsNot, EndsBy, EndsIn, Gives, GaveAll, IfKnown}
+
+-- a source that is not called gives nothing
+pub gives_none : (d : Device) → Gives d d []
+gives_none d = record {
+  known = Consumes-nil d.bytes;
+  given = λ before h. subst (λ (t : List ℕ). d.may_have_given t ≡ true) (sym (append-nil before)) h;
+}
 
 -- two parts that were given in turn are one
-pub consumes_then : (a b c : Option (List ℕ)) (xs ys : List ℕ) → Consumes a b xs → Consumes b c ys → Consumes a c (xs ++ ys)
-consumes_then None b c xs ys p q = tt
-consumes_then (Some bs) None c xs ys p q = absurd p
-consumes_then (Some bs) (Some cs) None xs ys p q = absurd q
-consumes_then (Some bs) (Some cs) (Some ds) xs ys p q = p ∙ ap (λ (t : List ℕ). xs ++ t) q ∙ sym (append_assoc xs ys ds)
+pub gives_then : (a b c : Device) (xs ys : List ℕ) → Gives a b xs → Gives b c ys → Gives a c (xs ++ ys)
+gives_then a b c xs ys p q = record {
+  known = Consumes-trans a.bytes b.bytes c.bytes xs ys p.known q.known;
+  given = λ before h. subst (λ (t : List ℕ). c.may_have_given t ≡ true) (append_assoc before xs ys) (q.given (before ++ xs) (p.given before h));
+}
+
+-- where nothing is given any more, what was given is all
+pub gives_kept : (a b c : Device) (xs : List ℕ) → Gives a b xs → Gives b c [] → Gives a c xs
+gives_kept a b c xs p q = subst (λ (t : List ℕ). Gives a c t) (append-nil xs) (gives_then a b c xs [] p q)
+
+-- a source that is not called does not end
+pub ends_not_yet : (d : Device) → EndsNot d d
+ends_not_yet d = λ before h. h
+
+-- it did not end, and does not
+pub ends_not_then : (a b c : Device) → EndsNot a b → EndsNot b c → EndsNot a c
+ends_not_then a b c p q = λ before h. q before (p before h)
+
+-- it did not end, and ends
+pub ends_then : (a b c : Device) → EndsNot a b → Ends b c → Ends a c
+ends_then a b c p q = λ before h. q before (p before h)
+
+-- the call ended the source, if it gave nothing
+pub ends_at : (n : ℕ) (a b : Device) → EndsBy n a b → n ≡ 0 → Ends a b
+ends_at zero a b e is = e
+ends_at (suc n) a b e is = absurd (omega (arith, is))
+
+-- and if it gave something it did not
+pub ends_not_at : (n : ℕ) (a b : Device) → EndsBy n a b → 0 < n → EndsNot a b
+ends_not_at zero a b e some = absurd (omega (arith, some))
+ends_not_at (suc n) a b e some = e
+
+-- there was room for a byte
+pub ends_by_room : (room n : ℕ) (a b : Device) → EndsIn room n a b → 0 < room → EndsBy n a b
+ends_by_room zero n a b e some = absurd (omega (arith, some))
+ends_by_room (suc room) n a b e some = e
 
 -- what holds of the bytes that are left holds of all of them after what was given
 pub known_before : (a b : Option (List ℕ)) (xs : List ℕ) (P Q : List ℕ → Type 0) → Consumes a b xs → IfSome b P → ((rest : List ℕ) → P rest → Q (xs ++ rest)) → IfSome a Q
@@ -61,7 +100,7 @@ gave_all old new P Q (given, gives, whole, holds) f = (given, gives, whole, f gi
 
 -- and of the bytes that are known
 pub known_of : (old new : Device) (P : List ℕ → Type 0) → GaveAll old new P → IfKnown old P
-known_of old new P (given, gives, whole, holds) = by_known old.bytes whole
+known_of old new P (given, gives, whole, holds) = by_known old.bytes whole.0
   where
     by_known : (o : Option (List ℕ)) → IfSome o (λ w. w ≡ given) → IfSome o P
     by_known None h = tt

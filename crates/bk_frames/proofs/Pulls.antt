@@ -2,21 +2,20 @@
 use Rattle.std.proofs.Common.{◌≡◌, ℕ, ◌+◌, ◌<◌, ◌≤◌, List, [], ◌∷◌, ◌++◌, length, Option, Some, None, refl, sym, ap, subst, ◌∙◌, arith, append_assoc, length-append}
 use Rattle.std.specs.Prelude.{IfSome}
 use Rattle.std.specs.Global.{Vec}
-use Rattle.std.specs.Io.KnownBytes.{Consumes, Keeps, IsAtEnd}
-use Rattle.std.proofs.KnownBytes.{Consumes-nil, Consumes-kept}
+use Rattle.std.specs.Io.KnownBytes.{Consumes, IsAtEnd}
 use Rattle.std.proofs.lemmas.List.{append-nil, map-append}
 use Rattle.bk_base.specs.declared.kind.Kind.{Kind}
 use Rattle.bk_base.specs.declared.version.Version.{Version}
 use Rattle.bk_frames.specs.declared.pulling.TheConstants.{PIECE}
 use Rattle.bk_frames.specs.declared.fault.FaultCode.TheVariants as code
 use Rattle.bk_frames.specs.declared.fault.FeedFault.{FeedFault}
-use Rattle.bk_frames.specs.Device.{Device, Works, Fails, Gives, IfKnown, GaveAll}
+use Rattle.bk_frames.specs.Device.{Device, Works, Fails, Gives, IfKnown, GaveAll, EndsBy, EndsNot, IsWhole}
 use Rattle.bk_base.specs.Feed.{Frame, feed_of, spelling, FeedValue}
 use Rattle.bk_frames.specs.FirstFault.{HasFault}
 use Rattle.bk_frames.specs.Pulling.{Gave, StopsAt, FrontCallsForMemoryAt, Refuses}
 use Rattle.bk_frames.specs.Cutting.{Cut, Cuts, CutsInto, IsOpen, ShowsFault, Reaches, RefusesInto, RefusesPiece, EndsShort, fresh, in_magic, past_magic, in_frames, frames_in}
 use Rattle.bk_frames.specs.Reading.{AreFront, IsPulled, room_of}
-use Rattle.bk_frames.proofs.Devices.{consumes_then}
+use Rattle.bk_frames.proofs.Devices.{ends_at, ends_then, gives_kept, gives_none, gives_then}
 use Rattle.bk_frames.proofs.FrameFaults.{by_code}
 use Rattle.bk_frames.proofs.CutJoining.{bytes_so_far, none_before_magic, cuts_then, fault_is_the_feeds, memory_is_the_feeds, stops, ends_cut_short}
 use Rattle.bk_frames.proofs.FrontAndWhole.{fault_stays, frames_stay}
@@ -26,7 +25,7 @@ use Rattle.bk_frames.proofs.PulledBytes.{so_long, open_short}
 pub none_pulled : (start : Device) (c : Cut) → c ≡ fresh → IsPulled start start [] [] c
 none_pulled start c is = subst (λ (d : Cut). IsPulled start start [] [] d) (sym is) (record {
   works = refl;
-  gave = Consumes-nil start.bytes;
+  gave = gives_none start;
   cuts = in_magic refl refl refl refl refl refl;
   is_open = λ some. absurd (omega (arith, some));
   reads = refl;
@@ -41,7 +40,7 @@ pub piece_pulled : (start now later : Device) (bytes piece : List ℕ) (taken : 
     → CutsInto c piece before after d → d.fault ≡ None → IsOpen d → IsPulled start later (bytes ++ piece) (taken ++ frames_in after) d
 piece_pulled start now later bytes piece taken before after c d p gave works cuts reads is_open = record {
   works = works ∙ p.works;
-  gave = consumes_then start.bytes now.bytes later.bytes bytes piece p.gave gave;
+  gave = gives_then start now later bytes piece p.gave gave;
   cuts = subst (λ (fs : List Frame). Cuts fresh (bytes ++ piece) fs d) (frames_joined taken before cuts.0 after cuts.1)
       (cuts_then fresh c d bytes piece (taken ++ frames_in before) (frames_in cuts.0) p.cuts cuts.2);
   is_open = is_open;
@@ -56,12 +55,17 @@ room_falls bytes piece before more c d cuts next is_open some =
 
 -- the source is at its end: it gave nothing, and there was room for more
 pub all_pulled : (start now later : Device) (bytes : List ℕ) (frames : List Frame) (c : Cut) → IsPulled start now bytes frames c → Gives now later [] → IsAtEnd later.bytes → IfKnown start (λ whole. whole ≡ bytes)
-all_pulled start now later bytes frames c p nothing end = by_known start.bytes later.bytes (consumes_then start.bytes now.bytes later.bytes bytes [] p.gave nothing) end
+all_pulled start now later bytes frames c p nothing end = by_known start.bytes later.bytes (gives_then start now later bytes [] p.gave nothing).known end
   where
     by_known : (a b : Option (List ℕ)) → Consumes a b (bytes ++ []) → IsAtEnd b → IfSome a (λ whole. whole ≡ bytes)
     by_known None b gave end = tt
     by_known (Some all) None gave end = absurd gave
     by_known (Some all) (Some left) gave end = gave ∙ ap (λ (t : List ℕ). (bytes ++ []) ++ t) end ∙ append-nil (bytes ++ []) ∙ append-nil bytes
+
+-- it did not end before, and so these are all that it had, and it ended once
+pub whole_pulled : (start now later : Device) (bytes : List ℕ) (frames : List Frame) (c : Cut) (n : ℕ) → IsPulled start now bytes frames c → EndsNot start now → Gives now later [] → IsAtEnd later.bytes → EndsBy n now later → n ≡ 0 → IsWhole start later bytes
+whole_pulled start now later bytes frames c n p before nothing end last zero =
+    (all_pulled start now later bytes frames c p nothing end, ends_then start now later before (ends_at n now later last zero))
 
 -- a piece was refused: what all bytes show, or where memory ran out
 pub refused_piece : (start now later : Device) (bytes piece : List ℕ) (frames : List Frame) (c : Cut) (found : FeedFault) → IsPulled start now bytes frames c → Gives now later piece → Works now later → length piece ≤ PIECE → RefusesPiece c piece found → Refuses found start later
@@ -70,14 +74,14 @@ refused_piece start now later bytes piece frames c found p gave works few r =
     (Works start later × Gave start later (λ given. HasFault given found) × IfKnown start (λ all. HasFault all found))
     (λ h. absurd h)
     (λ h. (same, (bytes ++ piece, came, memory_is_the_feeds bytes piece frames c found.offset p.cuts h few)))
-    (λ h. let shown = fault_is_the_feeds bytes piece frames c found p.cuts h in (same, (bytes ++ piece, came, shown), by_known start.bytes later.bytes came shown))
+    (λ h. let shown = fault_is_the_feeds bytes piece frames c found p.cuts h in (same, (bytes ++ piece, came, shown), by_known start.bytes later.bytes came.known shown))
     r.cause
   where
     same : Works start later
     same = works ∙ p.works
 
     came : Gives start later (bytes ++ piece)
-    came = consumes_then start.bytes now.bytes later.bytes bytes piece p.gave gave
+    came = gives_then start now later bytes piece p.gave gave
 
     by_known : (a b : Option (List ℕ)) → Consumes a b (bytes ++ piece) → HasFault (bytes ++ piece) found → IfSome a (λ all. HasFault all found)
     by_known None b gave h = tt
@@ -85,10 +89,10 @@ refused_piece start now later bytes piece frames c found p gave works few r =
     by_known (Some all) (Some left) gave h = subst (λ (t : List ℕ). HasFault t found) (sym gave) (fault_stays (bytes ++ piece) left found h r.shown_already)
 
 -- the source failed
-pub pull_failed : (start now later : Device) (bytes : List ℕ) (frames : List Frame) (c : Cut) (offset : ℕ) → IsPulled start now bytes frames c → Keeps now.bytes later.bytes → Fails now later → offset ≡ c.offset → Refuses (record { offset = offset; code = code.Read }) start later
+pub pull_failed : (start now later : Device) (bytes : List ℕ) (frames : List Frame) (c : Cut) (offset : ℕ) → IsPulled start now bytes frames c → Gives now later [] → Fails now later → offset ≡ c.offset → Refuses (record { offset = offset; code = code.Read }) start later
 pull_failed start now later bytes frames c offset p kept fails is =
     subst (λ (o : ℕ). Refuses (record { offset = o; code = code.Read }) start later) (sym is)
-    (fails ∙ ap (λ (n : ℕ). n + 1) p.works, (bytes, Consumes-kept start.bytes now.bytes later.bytes bytes p.gave kept, stops bytes frames c p.cuts p.is_open))
+    (fails ∙ ap (λ (n : ℕ). n + 1) p.works, (bytes, gives_kept start now later bytes p.gave kept, stops bytes frames c p.cuts p.is_open))
 
 -- the frames that were cut off are those before what is being read
 pub front_of : (bytes rest : List ℕ) (frames : List Frame) (c : Cut) (offset : ℕ) → Cuts fresh bytes frames c → offset ≡ c.offset → AreFront (bytes ++ rest) offset c.version frames
@@ -105,7 +109,7 @@ front_here bytes frames c offset cuts place = subst (λ (t : List ℕ). AreFront
 pub front_refused : (start now later : Device) (bytes piece : List ℕ) (taken : List Frame) (before after : List (Kind × Vec ℕ)) (c : Cut) (version : Option Version) (found : FeedFault) → IsPulled start now bytes (taken ++ frames_in before) c → Gives now later piece
     → RefusesInto c piece before after version found → Gave start later (λ given. AreFront given found.offset version (taken ++ frames_in after))
 front_refused start now later bytes piece taken before after c version found p gave r =
-    (bytes ++ piece, consumes_then start.bytes now.bytes later.bytes bytes piece p.gave gave, subst (λ (o : Option Version). AreFront (bytes ++ piece) found.offset o (taken ++ frames_in after)) (sym r.known) front)
+    (bytes ++ piece, gives_then start now later bytes piece p.gave gave, subst (λ (o : Option Version). AreFront (bytes ++ piece) found.offset o (taken ++ frames_in after)) (sym r.known) front)
   where
     cuts : Cuts fresh (bytes ++ r.used) (taken ++ frames_in after) r.at
     cuts = subst (λ (fs : List Frame). Cuts fresh (bytes ++ r.used) fs r.at) (frames_joined taken before r.more after r.put) (cuts_then fresh c r.at bytes r.used (taken ++ frames_in before) (frames_in r.more) p.cuts r.cuts)
@@ -114,8 +118,8 @@ front_refused start now later bytes piece taken before after c version found p g
     front = subst (λ (t : List ℕ). AreFront t found.offset r.at.version (taken ++ frames_in after)) (append_assoc bytes r.used r.ahead ∙ ap (λ (t : List ℕ). bytes ++ t) (sym r.parts)) (front_of (bytes ++ r.used) r.ahead (taken ++ frames_in after) r.at found.offset cuts r.place)
 
 -- and where the source failed
-pub front_failed : (start now later : Device) (bytes : List ℕ) (frames : List Frame) (c : Cut) (offset : ℕ) → IsPulled start now bytes frames c → Keeps now.bytes later.bytes → offset ≡ c.offset → Gave start later (λ given. AreFront given offset c.version frames)
-front_failed start now later bytes frames c offset p kept place = (bytes, Consumes-kept start.bytes now.bytes later.bytes bytes p.gave kept, front_here bytes frames c offset p.cuts place)
+pub front_failed : (start now later : Device) (bytes : List ℕ) (frames : List Frame) (c : Cut) (offset : ℕ) → IsPulled start now bytes frames c → Gives now later [] → offset ≡ c.offset → Gave start later (λ given. AreFront given offset c.version frames)
+front_failed start now later bytes frames c offset p kept place = (bytes, gives_kept start now later bytes p.gave kept, front_here bytes frames c offset p.cuts place)
 
 -- a version that is known stays
 pub version_stays : (a b : Cut) (piece : List ℕ) (more : List Frame) (v : Version) → Cuts a piece more b → a.version ≡ Some v → b.version ≡ Some v
@@ -124,11 +128,11 @@ version_stays a b piece more v (past_magic known old new text good i o) is = abs
 version_stays a b piece more v (in_frames known old new text good i o) is = new ∙ sym old ∙ is
 
 -- the last piece was empty
-pub at_end : (start : Device) (bytes came : List ℕ) → length came ≡ 0 → IfKnown start (λ whole. whole ≡ bytes) → IfKnown start (λ whole. whole ≡ bytes ++ came)
-at_end start bytes [] none all = subst (λ (t : List ℕ). IfKnown start (λ whole. whole ≡ t)) (sym (append-nil bytes)) all
-at_end start bytes (b ∷ bs) none all = absurd (omega (arith, none))
+pub at_end : (start now : Device) (bytes came : List ℕ) → length came ≡ 0 → IsWhole start now bytes → IsWhole start now (bytes ++ came)
+at_end start now bytes [] none all = subst (λ (t : List ℕ). IsWhole start now t) (sym (append-nil bytes)) all
+at_end start now bytes (b ∷ bs) none all = absurd (omega (arith, none))
 
-pub whole_read : (start now : Device) (bytes : List ℕ) (feed : FeedValue) → Gives start now bytes → bytes ≡ spelling feed → IfKnown start (λ whole. whole ≡ bytes) → GaveAll start now (λ given. given ≡ spelling feed)
+pub whole_read : (start now : Device) (bytes : List ℕ) (feed : FeedValue) → Gives start now bytes → bytes ≡ spelling feed → IsWhole start now bytes → GaveAll start now (λ given. given ≡ spelling feed)
 whole_read start now bytes feed gave is all = (bytes, gave, all, is)
 
 -- the bytes end, and are cut short

@@ -31,6 +31,6 @@ abbrev pub added : Option ℕ → ℕ
 added (Some left) = 0
 added None = 1
 
--- a fuse as a device: the bytes of the device inside, and its failures with what the fuse adds, as 64 bits count them
+-- a fuse as a device: the device inside, its failures with what the fuse adds, as 64 bits count them
 abbrev pub fused : Device → Option ℕ → Device
-fused inner left = record { bytes = inner.bytes; failures = min (inner.failures + added left) (2 ^ 64 - 1) }
+fused inner left = record inner { failures = min (inner.failures + added left) (2 ^ 64 - 1) }

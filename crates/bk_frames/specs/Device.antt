@@ -1,12 +1,20 @@
 -- What contracts know of a device, a source or a sink of bytes.
-use Rattle.std.specs.Prelude.{◌≡◌, ℕ, ◌+◌, ◌^◌, ◌<◌, List, Option, IfSome, is_ok, if◌then◌else◌}
-use Rattle.std.specs.Io.KnownBytes.{Consumes, Appends}
+use Rattle.std.specs.Prelude.{◌≡◌, ℕ, zero, suc, ◌+◌, ◌^◌, ◌<◌, Bool, true, List, [], ◌++◌, take, length, Option, IfSome, MatchResult, is_ok, if◌then◌else◌}
+use Rattle.std.specs.Io.KnownBytes.{Consumes, Appends, IsAtEnd}
 use Rattle.std.specs.declared.result.Result.{Result}
 
--- the bytes that a source still has or a sink holds, where they are known, and how many of its calls have failed
+-- the bytes that a source still has or a sink holds, where they are known; of a source, which bytes it may have given, and how
+-- often it may have ended; and how many of its calls have failed. Nobody knows what a file holds: it may have given anything. But
+-- what is proved of every source can rest on its calls alone
 pub record Device : Type 0 where
   pub bytes : Option (List ℕ)
+  pub may_have_given : List ℕ → Bool
+  pub may_have_ended : ℕ → Bool
   pub failures : ℕ
+
+-- a device of which no more is known than these bytes, where they are, and this count of failures
+abbrev pub plain : Option (List ℕ) → ℕ → Device
+plain bytes failures = record { bytes = bytes; may_have_given = λ _. true; may_have_ended = λ _. true; failures = failures }
 
 -- a device can be used while the failures of its calls can be counted
 abbrev pub CanBeUsed : Device → Type 0
@@ -24,9 +32,36 @@ Works old new = new.failures ≡ old.failures
 abbrev pub Fails : Device → Device → Type 0
 Fails old new = new.failures ≡ old.failures + 1
 
--- from one moment to a later one a source gave these bytes
-abbrev pub Gives : Device → Device → List ℕ → Type 0
-Gives old new bytes = Consumes old.bytes new.bytes bytes
+-- from one moment to a later one a source gave these bytes: those that are known begin with them and lose them, and what it gave
+-- in all grows by them
+pub record Gives (old new : Device) (bytes : List ℕ) : Type 0 where
+  pub known : Consumes old.bytes new.bytes bytes
+  pub given : (before : List ℕ) → old.may_have_given before ≡ true → new.may_have_given (before ++ bytes) ≡ true
+
+-- from one moment to a later one a source ended once
+abbrev pub Ends : Device → Device → Type 0
+Ends old new = (before : ℕ) → old.may_have_ended before ≡ true → new.may_have_ended (before + 1) ≡ true
+
+-- from one moment to a later one a source did not end
+abbrev pub EndsNot : Device → Device → Type 0
+EndsNot old new = (before : ℕ) → old.may_have_ended before ≡ true → new.may_have_ended before ≡ true
+
+-- a call that had room for a byte and gave so many ended the source if it gave none
+abbrev pub EndsBy : ℕ → Device → Device → Type 0
+EndsBy zero old new = Ends old new
+EndsBy (suc n) old new = EndsNot old new
+
+-- a call that had room for so many bytes and gave so many
+abbrev pub EndsIn : ℕ → ℕ → Device → Device → Type 0
+EndsIn zero given old new = EndsNot old new
+EndsIn (suc room) given old new = EndsBy given old new
+
+-- what a call does that gives the front of a buffer, or fails: one that gives no byte, though there is room, is the end of those
+-- that are known
+abbrev pub OnePull : {E : Type 0} → Device → Device → Result ℕ E → List ℕ → Type 0
+OnePull old new result buf = MatchResult result
+    (λ n. Gives old new (take n buf) × (n ≡ 0 → 0 < length buf → IsAtEnd new.bytes) × EndsIn (length buf) n old new)
+    (λ _. Gives old new [] × EndsNot old new)
 
 -- from one moment to a later one a sink received these bytes
 abbrev pub Receives : Device → Device → List ℕ → Type 0
@@ -36,7 +71,10 @@ Receives old new bytes = Appends old.bytes new.bytes bytes
 abbrev pub IfKnown : Device → (List ℕ → Type 0) → Type 0
 IfKnown device holds = IfSome device.bytes holds
 
--- a source gave bytes of which this holds, all that it had where that is known
+-- from one moment to a later one these bytes are all that a source had, where that is known, and it ended once
+abbrev pub IsWhole : Device → Device → List ℕ → Type 0
+IsWhole old new bytes = IfKnown old (λ whole. whole ≡ bytes) × Ends old new
+
+-- a source gave bytes of which this holds, to its end
 abbrev pub GaveAll : Device → Device → (List ℕ → Type 0) → Type 0
-GaveAll old new holds =
-    (given : List ℕ) × Consumes old.bytes new.bytes given × IfSome old.bytes (λ whole. whole ≡ given) × holds given
+GaveAll old new holds = (given : List ℕ) × Gives old new given × IsWhole old new given × holds given

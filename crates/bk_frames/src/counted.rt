@@ -1,5 +1,6 @@
 ghost use Rattle.std.specs.Prelude.{◌≡◌};
 ghost use Rattle.bk_frames.specs.Counting.{inner_of, failures_of};
+ghost use Rattle.bk_frames.specs.Device.{plain};
 
 use crate::device::{Failed, Sink, Source};
 use std::io::{Read, Write};
@@ -31,7 +32,7 @@ impl<T> Counted<T> {
 }
 
 impl<R: Read> Source for Counted<R> {
-    ghost state = { λ c. record { bytes = R.remaining c.inner; failures = c.failures } };
+    ghost state = { λ c. plain (R.remaining c.inner) c.failures };
 
     fn failures(&self) -> u64 {
         self.failures
@@ -49,7 +50,7 @@ impl<R: Read> Source for Counted<R> {
 }
 
 impl<W: Write> Sink for Counted<W> {
-    ghost state = { λ c. record { bytes = W.contents c.inner; failures = c.failures } };
+    ghost state = { λ c. plain (W.contents c.inner) c.failures };
 
     fn failures(&self) -> u64 {
         self.failures

@@ -1,6 +1,6 @@
 ghost use Rattle.std.specs.Prelude.{◌≡◌, ◌<◌, ◌≤◌, length, IfOk};
-ghost use Rattle.std.specs.Io.KnownBytes.{ReadConsumes, WriteAppends};
-ghost use Rattle.bk_frames.specs.Device.{Device, CanBeUsed, Counts};
+ghost use Rattle.std.specs.Io.KnownBytes.{WriteAppends};
+ghost use Rattle.bk_frames.specs.Device.{Device, CanBeUsed, Counts, OnePull};
 
 /// A call of a device failed. Its count of failures says so.
 #[derive(Clone, Copy, Debug, PartialEq, Eq)]
@@ -8,7 +8,7 @@ pub struct Failed;
 
 /// Where bytes come from.
 pub trait Source {
-    // The bytes that are still to come, where they are known, and how many calls have failed.
+    // The bytes that are still to come, where they are known, those that came and the ends, and how many calls have failed.
     ghost state: { Self → Device };
 
     /// Moves bytes into the front of `buf` and returns how many: 0 for a slice that is not empty is the end.
@@ -16,7 +16,7 @@ pub trait Source {
     fn pull(&mut self, buf: &mut [u8]) -> Result<usize, Failed>
         requires { CanBeUsed (state self.old) }
         ensures bound { IfOk result (λ n. n ≤ length buf.new) }
-        ensures bytes { ReadConsumes (state self.old).bytes (state self.new).bytes result buf.new }
+        ensures bytes { OnePull (state self.old) (state self.new) result buf.new }
         ensures count { Counts (state self.old) (state self.new) result };
 
     /// How many calls have failed so far.

@@ -1,6 +1,6 @@
 ghost use Rattle.std.specs.Prelude.{◌≡◌, ◌≢◌, ◌<◌, ◌≤◌, ◌-◌, length, IfOk, Some, is_ok, false};
-ghost use Rattle.std.specs.Io.KnownBytes.{ReadConsumes, WriteAppends};
-ghost use Rattle.bk_frames.specs.Device.{CanBeUsed, Counts};
+ghost use Rattle.std.specs.Io.KnownBytes.{WriteAppends};
+ghost use Rattle.bk_frames.specs.Device.{CanBeUsed, Counts, OnePull};
 ghost use Rattle.bk_frames.specs.Counting.{fused_of, left_of, next_left, fused};
 
 use crate::device::{Failed, Sink, Source};
@@ -48,8 +48,8 @@ impl<S: Source> Source for Fuse<S> {
     fn pull(&mut self, buf: &mut [u8]) -> Result<usize, Failed>
         requires { CanBeUsed (fused (S.state (fused_of self.old)) (left_of self.old)) }
         ensures bound { IfOk result (λ n. n ≤ length buf.new) }
-        ensures bytes { ReadConsumes (S.state (fused_of self.old)).bytes
-            (S.state (fused_of self.new)).bytes result buf.new }
+        ensures bytes { OnePull (S.state (fused_of self.old)) (S.state (fused_of self.new))
+            result buf.new }
         ensures count { Counts (fused (S.state (fused_of self.old)) (left_of self.old))
             (fused (S.state (fused_of self.new)) (left_of self.new)) result }
         ensures left { left_of self.new ≡ next_left (left_of self.old) }

@@ -338,7 +338,7 @@ frames_blame file (fault.AbsentPlace place missing) old new h r = absurd (cc)
 
 -- known bytes begin with what was given
 begins_with : (old new : Device) (P : List ℕ → Type 0) → Gave old new P → IfKnown old (λ bytes. (part : List ℕ) × IsPrefix part bytes × P part)
-begins_with old new P (given, gives, h) = by_known old.bytes new.bytes given gives h
+begins_with old new P (given, gives, h) = by_known old.bytes new.bytes given gives.known h
   where
     by_known : (before after : Option (List ℕ)) (part : List ℕ) → Consumes before after part → P part
         → IfSome before (λ bytes. (front : List ℕ) × IsPrefix front bytes × P front)

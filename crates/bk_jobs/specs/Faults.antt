@@ -93,7 +93,7 @@ ReplyIsOut asked end old new =
 -- known
 abbrev pub FramesAreOut : Exit → Devices → Devices → Type 0
 FramesAreOut end old new =
-    (end ≡ exit.Whole) × OfGiven old.source new.source (AllIsListed old.sink new.sink)
+    (end ≡ exit.Whole) × GaveAll old.source new.source (AllIsListed old.sink new.sink)
 
 -- the output got the whole summary of the bytes that the source gave, and the exit says whether a batch is missing
 abbrev pub SummaryIsOut : Exit → Devices → Devices → Type 0
@@ -136,7 +136,8 @@ AnswerIsOut (job.Compare first second) end old new = AgreementIsOut end old new
 AnswerIsOut (job.Show workers shown file) end old new =
     ViewIsOut shown end (first_devices old) (first_devices new)
 AnswerIsOut (job.Pick workers shown accounts file) end old new = PickIsOut shown end old new
-AnswerIsOut (job.Follow workers shown accounts wait file) end old new = FollowIsOut shown (is_some accounts) end old new
+AnswerIsOut (job.Follow workers shown accounts wait file) end old new =
+    (wait ≡ false) × FollowIsOut shown (is_some accounts) end old new
 AnswerIsOut (job.Diagnose d file) end old new = DiagnosisIsOut d end (first_devices old) (first_devices new)
 AnswerIsOut (job.CheckChain file) end old new = ChainIsOut end (first_devices old) (first_devices new)
 

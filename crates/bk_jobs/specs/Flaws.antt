@@ -3,7 +3,6 @@ use Rattle.std.specs.Prelude.{◌≡◌, ℕ, zero, suc, Bool, true, false, Opti
 use Rattle.bk_frames.specs.Device.{Device, GaveAll}
 use Rattle.bk_answer.specs.Flaws.{IsFlaw, IsFlawIn}
 use Rattle.bk_compare.specs.FeedAgreement.{BothGave}
-use Rattle.bk_results.specs.Devices.{OfGiven}
 use Rattle.bk_results.specs.declared.flaw.Flaw.{Flaw}
 use Rattle.bk_results.specs.declared.flaw.Flaw.TheVariants as flaw
 use Rattle.bk_listing.specs.Answers.{HasRejected}
@@ -33,7 +32,7 @@ flaw_by_rejected (suc n) = Some (flaw.Rejected (suc n))
 
 -- this many frames of the feed that a source gave are rejected, and that is what is found
 abbrev pub IsFrameFlaw : Device → Device → Option Flaw → Type 0
-IsFrameFlaw old new found = (n : ℕ) × OfGiven old new (HasRejected n) × (found ≡ flaw_by_rejected n)
+IsFrameFlaw old new found = (n : ℕ) × GaveAll old new (HasRejected n) × (found ≡ flaw_by_rejected n)
 
 -- this keeps one of two feeds from counting whole, the first one first
 pub record IsFlawOfBoth (old new : JobDevices) (found : Option Flaw) : Type 0 where

@@ -3,11 +3,10 @@ use Rattle.std.specs.Prelude.{◌≡◌, ◌⊎◌, ℕ, Bool, List, [], Option,
 use Rattle.std.specs.declared.io.ErrorKind.{ErrorKind}
 use Rattle.std.specs.declared.io.ErrorKind.TheVariants as kind
 use Rattle.bk_frames.specs.Device.{Device}
-use Rattle.bk_results.specs.declared.fault.Fault.TheVariants as replay
 use Rattle.bk_cli.specs.Exits.{is_answer}
 use Rattle.bk_cli.specs.Explanations.{told}
 use Rattle.bk_cli.specs.FaultLines.{Reports}
-use Rattle.bk_cli.specs.Files.{file_of, is_input, names_input, reads_beside, second_file_of}
+use Rattle.bk_cli.specs.Files.{file_of, is_input, reads_beside, second_file_of}
 use Rattle.bk_cli.specs.Unopened.{told_unopened}
 use Rattle.bk_cli.specs.declared.unopened.Unopened.{Unopened}
 use Rattle.bk_cli.specs.declared.unopened.Unopened.TheVariants as reason
@@ -15,11 +14,10 @@ use Rattle.bk_cli.specs.declared.exit.Exit.{Exit}
 use Rattle.bk_cli.specs.declared.exit.Exit.TheVariants as exit
 use Rattle.bk_cli.specs.declared.job.Job.{Job}
 use Rattle.bk_cli.specs.declared.job_fault.JobFault.{JobFault}
-use Rattle.bk_cli.specs.declared.job_fault.JobFault.TheVariants as fault
 use Rattle.bk_jobs.specs.declared.inputs.Access.{Access}
 use Rattle.bk_jobs.specs.Faults.{AnswerIsOut, EndsBy}
 use Rattle.bk_jobs.specs.Flaws.{IsJudgedEnd}
-use Rattle.bk_jobs.specs.Reads.{IsLeftButFirst, IsLeftButSecond, Sight, first_device, input_bytes, second_device}
+use Rattle.bk_jobs.specs.Reads.{IsFresh, IsLeftButFirst, IsLeftButSecond, Sight, first_device, input_device, second_device}
 use Rattle.bk_jobs.specs.Remarks.{RemarksAreTold}
 use Rattle.bk_jobs.specs.Sources.{AllWork, JobDevices}
 
@@ -34,33 +32,34 @@ pub record RanSo (j : Job) (strict verbose : Bool) (last : Exit) (old new : JobD
   pub fault : is_answer j end ≡ false → (e : JobFault) × EndsBy j (told verbose j) e end old new err between
   pub judged : IsJudgedEnd strict j old new end last between err'
 
--- what a path gives: standard input's bytes where the path stands for that, else what a file of it holds
-abbrev pub IsOf : Bool → (List ℕ → Option (List ℕ) → Type 0) → Option (List ℕ) → List ℕ → Option (List ℕ) → Type 0
-IsOf true holds input path bytes = bytes ≡ input
-IsOf false holds input path bytes = holds path bytes
+-- what stands for the file of a path, by what files hold: standard input as it was, where the path stands for that; else a file of
+-- it that is open, at its beginning
+abbrev pub IsOf : Bool → (List ℕ → Option (List ℕ) → Type 0) → Option Device → List ℕ → Device → Type 0
+IsOf true holds input path d = input ≡ Some d
+IsOf false holds input path d = holds path d.bytes × IsFresh d
 
--- the first file of a job gives these bytes, by what files hold and standard input gives; where it names none it is standard input
-abbrev pub IsFirst : (List ℕ → Option (List ℕ) → Type 0) → Option (List ℕ) → Option (List ℕ) → Option (List ℕ) → Type 0
-IsFirst holds input (Some path) bytes = IsOf (is_input path) holds input path bytes
-IsFirst holds input None bytes = bytes ≡ input
+-- what stands for the first file of a job; where it names none it is standard input
+abbrev pub IsFirst : (List ℕ → Option (List ℕ) → Type 0) → Option Device → Option (List ℕ) → Device → Type 0
+IsFirst holds input (Some path) d = IsOf (is_input path) holds input path d
+IsFirst holds input None d = input ≡ Some d
 
--- there is a device, which holds such bytes, and no call of which has failed
-abbrev pub IsReady : (Option (List ℕ) → Type 0) → Option Device → Type 0
+-- there is such a device
+abbrev pub IsReady : (Device → Type 0) → Option Device → Type 0
 IsReady such None = ⊥
-IsReady such (Some d) = such d.bytes × (d.failures ≡ 0)
+IsReady such (Some d) = such d
 
 -- what stands for the first file of a job, a file that is open or standard input, is ready to be read from its beginning on
 abbrev pub IsFirstReady : {N F I : Type 0} → Sight F I → Access N F I → Job → Option Device → Type 0
-IsFirstReady s old j d = IsReady (IsFirst s.holds (input_bytes s old) (file_of j)) d
+IsFirstReady s old j d = IsReady (IsFirst s.holds (input_device s old) (file_of j)) d
 
 -- what stands for the file of a path is ready so; where there is no path there is nothing
-abbrev pub IsNamedReady : (List ℕ → Option (List ℕ) → Type 0) → Option (List ℕ) → Option (List ℕ) → Option Device → Type 0
+abbrev pub IsNamedReady : (List ℕ → Option (List ℕ) → Type 0) → Option Device → Option (List ℕ) → Option Device → Type 0
 IsNamedReady holds input None d = d ≡ None
 IsNamedReady holds input (Some path) d = IsReady (IsOf (is_input path) holds input path) d
 
 -- what stands for the second file of a job is ready so, where the job names one
 abbrev pub IsSecondReady : {N F I : Type 0} → Sight F I → Access N F I → Job → Option Device → Type 0
-IsSecondReady s old j d = IsNamedReady s.holds (input_bytes s old) (second_file_of j) d
+IsSecondReady s old j d = IsNamedReady s.holds (input_device s old) (second_file_of j) d
 
 -- a device, where the job names a second file
 abbrev pub if_named : Option (List ℕ) → Device → Option Device
@@ -117,25 +116,6 @@ HasNoFile s old new j verbose err err' =
     (path : List ℕ) × (found : ErrorKind) × IsUnopened s old new j path found
     × Reports (told_unopened verbose path (reason_by found)) err err'
 
--- the first file of a job was opened, or is standard input; but nothing was made to read it through. The second is as where the
--- first was not opened
-pub record LacksRoom {N F I : Type 0} (s : Sight F I) (old new : Access N F I) (j : Job) : Type 0 where
-  pub bytes : Option (List ℕ)
-  pub there : IsFirst s.holds (input_bytes s old) (file_of j) bytes
-  pub none : first_device s new ≡ None
-  pub earlier : reads_beside j ≡ true → IsSecondReady s old j (second_device s new)
-  pub second : reads_beside j ≡ false → new.second ≡ old.second
-  pub second_none : reads_beside j ≡ false → new.second_read ≡ old.second_read
-  pub input : reads_beside j ≡ false → names_input (file_of j) ≡ false → new.input ≡ old.input
-
--- that memory ran out is reported
-abbrev pub TellsMemory : Job → Bool → Device → Device → Type 0
-TellsMemory j verbose err err' = Reports (told verbose j (fault.Replay replay.Memory)) err err'
-
--- memory ran out before anything was read, which is reported
-abbrev pub HasNoMemory : {N F I : Type 0} → Sight F I → Access N F I → Access N F I → Job → Bool → Device → Device → Type 0
-HasNoMemory s old new j verbose err err' = LacksRoom s old new j × TellsMemory j verbose err err'
-
 -- the job did not begin, for this reason, and wrote nothing
 pub record BeganNot (why : Device → Device → Type 0) (end : Exit) (out out' err err' : Device) : Type 0 where
   pub failed : end ≡ exit.Failed
@@ -147,4 +127,3 @@ abbrev pub Ran : {N F I : Type 0} → Sight F I → Access N F I → Access N F 
     → Exit → Device → Device → Device → Device → Type 0
 Ran s old new j strict verbose end out out' err err' =
     RanOver s old new j strict verbose end out out' err err' ⊎ BeganNot (HasNoFile s old new j verbose) end out out' err err'
-    ⊎ BeganNot (HasNoMemory s old new j verbose) end out out' err err'

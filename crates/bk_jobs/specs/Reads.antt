@@ -1,43 +1,47 @@
 -- What a job can read, and what it reads that through.
-use Rattle.std.specs.Prelude.{◌≡◌, ℕ, Bool, List, Option, Some, None, false, true, is_some, not, option_and_then, option_map}
-use Rattle.std.specs.Io.Buffered.{reader_remaining}
+use Rattle.std.specs.Prelude.{◌≡◌, ℕ, Bool, List, [], Option, Some, None, false, true, is_some, not, option_map}
 use Rattle.std.specs.declared.io.ErrorKind.{ErrorKind}
-use Rattle.either.specs.Either.{either}
-use Rattle.bk_frames.specs.Counting.{failures_of, inner_of}
 use Rattle.bk_frames.specs.Device.{Device}
-use Rattle.bk_frames.specs.declared.counted.Counted.{Counted}
 use Rattle.bk_cli.specs.Files.{file_of, is_input, reads_input, second_file_of}
 use Rattle.bk_cli.specs.declared.job.Job.{Job}
 use Rattle.bk_jobs.specs.declared.inputs.Access.{Access}
+use Rattle.bk_jobs.specs.declared.inputs.Stream.{Stream}
+use Rattle.bk_jobs.specs.declared.inputs.Stream.TheVariants as stream
 
--- how files and standard input are seen: what a file of a path holds from its beginning on, why one is not opened, and which bytes
--- a file and standard input still give; each where it is known
+-- how files and standard input are seen: what a file of a path holds from its beginning on, where that is known, and why one is not
+-- opened; and a file and standard input as devices
 pub record Sight (F I : Type 0) : Type 1 where
   pub holds : List ℕ → Option (List ℕ) → Type 0
   pub lacks : List ℕ → ErrorKind → Type 0
-  pub file : F → Option (List ℕ)
-  pub input : I → Option (List ℕ)
+  pub file : F → Device
+  pub input : I → Device
 
 -- these four
-abbrev pub sight : {F I : Type 0} → (List ℕ → Option (List ℕ) → Type 0) → (List ℕ → ErrorKind → Type 0) → (F → Option (List ℕ))
-    → (I → Option (List ℕ)) → Sight F I
+abbrev pub sight : {F I : Type 0} → (List ℕ → Option (List ℕ) → Type 0) → (List ℕ → ErrorKind → Type 0) → (F → Device) → (I → Device) → Sight F I
 sight holds lacks file input = record { holds = holds; lacks = lacks; file = file; input = input }
 
--- the bytes of standard input, where it is there and they are known
-abbrev pub input_bytes : {N F I : Type 0} → Sight F I → Access N F I → Option (List ℕ)
-input_bytes s a = option_and_then s.input a.input
+-- nothing was read of a device, and no call of it failed
+pub record IsFresh (d : Device) : Type 0 where
+  pub failures : d.failures ≡ 0
+  pub given : d.may_have_given [] ≡ true
+  pub ended : d.may_have_ended 0 ≡ true
 
--- a reader whose failed calls are counted, as a device
-abbrev pub counted : {T : Type 0} → (T → Option (List ℕ)) → Counted T → Device
-counted gives c = record { bytes = gives (inner_of c); failures = failures_of c }
+-- what is read, as a device
+abbrev pub device_of : {F I : Type 0} → (F → Device) → (I → Device) → Stream F I → Device
+device_of file input (stream.File f) = file f
+device_of file input (stream.Input i) = input i
+
+-- standard input as a device, where it is there
+abbrev pub input_device : {N F I : Type 0} → Sight F I → Access N F I → Option Device
+input_device s a = option_map s.input a.input
 
 -- what the first file is read through, or standard input in its place, as a device
 abbrev pub first_device : {N F I : Type 0} → Sight F I → Access N F I → Option Device
-first_device s a = option_map (counted (reader_remaining (either s.file s.input))) a.first_read
+first_device s a = option_map (device_of s.file s.input) a.first_read
 
 -- what the second is read through, as a device
 abbrev pub second_device : {N F I : Type 0} → Sight F I → Access N F I → Option Device
-second_device s a = option_map (counted (either s.file s.input)) a.second_read
+second_device s a = option_map (device_of s.file s.input) a.second_read
 
 -- nothing is opened
 abbrev pub unopened : {N F I : Type 0} → N → N → I → Access N F I

@@ -4,7 +4,6 @@ use Rattle.std.specs.Prelude.{◌≡◌, None}
 use Rattle.bk_frames.specs.Device.{Device, GaveAll}
 use Rattle.bk_answer.specs.Gaps.{IsGap, IsGapIn}
 use Rattle.bk_compare.specs.FeedAgreement.{BothGave}
-use Rattle.bk_results.specs.Devices.{OfGiven}
 use Rattle.bk_listing.specs.Answers.{HasForged}
 use Rattle.bk_cli.specs.Explanations.{remarks_told, no_remarks}
 use Rattle.bk_cli.specs.FaultLines.{Reports}
@@ -23,7 +22,7 @@ AreRemarksOf (job.Ask workers asked file) old new r =
 AreRemarksOf (job.Compare first second) old new r =
     BothGave (both_sources old) (both_sources new) (λ f g. IsGapIn f r.first × IsGapIn g r.second) × (r.forged ≡ None)
 AreRemarksOf (job.Frames file) old new r =
-    OfGiven old.first new.first (HasForged r.forged) × (r.first ≡ None) × (r.second ≡ None)
+    GaveAll old.first new.first (HasForged r.forged) × (r.first ≡ None) × (r.second ≡ None)
 AreRemarksOf other old new r = r ≡ no_remarks
 
 -- standard error got a line for each of them

@@ -28,6 +28,7 @@ use bk_frames::{Sink, Source};
 use bk_pool::Gate;
 use std::sync::Wait;
 use std::thread::Threads;
+use std::time::Clock;
 
 // Writes the answer of a job that replays one feed.
 fn answer_of_run<R, G: Gate + Sync, S1: Source, S2: Source, O: Sink>(
@@ -40,7 +41,7 @@ fn answer_of_run<R, G: Gate + Sync, S1: Source, S2: Source, O: Sink>(
     out: &mut O,
 ) -> Result<JobEnd, JobFault>
 where
-    R: Threads + Wait + Sync + AllocGlobal,
+    R: AllocGlobal + Clock + Threads + Wait + Sync,
     requires group { replays_one job.now ≡ true }
     requires first { CanBeUsed (S1.state first.old) }
     requires second { reads_second job.now ≡ true → CanBeUsed (S2.state second.old) }
@@ -100,9 +101,10 @@ where
             workers,
             shown,
             accounts: None,
+            wait,
             ..
         } => {
-            let end = follow(rt, judge, gate, *shown, *workers, first, out)?;
+            let end = follow(rt, judge, gate, *shown, *workers, *wait, first, out)?;
             Ok(JobEnd {
                 exit: end,
                 remarks: Remarks::none(),
@@ -215,7 +217,7 @@ pub(crate) fn answer<R, G: Gate + Sync, S1: Source, S2: Source, O: Sink>(
     out: &mut O,
 ) -> Result<JobEnd, JobFault>
 where
-    R: Threads + Wait + Sync + AllocGlobal,
+    R: AllocGlobal + Clock + Threads + Wait + Sync,
     requires first { CanBeUsed (S1.state first.old) }
     requires second { reads_second job.now ≡ true → CanBeUsed (S2.state second.old) }
     requires out { CanBeUsed (O.state out.old) }

@@ -1,6 +1,6 @@
 //! Jobs that follow a feed, and write the rows of a table as they become final.
 
-ghost use Rattle.std.specs.Prelude.{◌≡◌, true, None, OnOk, IfOk, IfErr};
+ghost use Rattle.std.specs.Prelude.{◌≡◌, true, false, None, OnOk, IfOk, IfErr};
 ghost use Rattle.bk_frames.specs.Device.{CanBeUsed, Works};
 ghost use Rattle.bk_results.specs.Devices.{devices};
 ghost use Rattle.bk_answer.specs.Answers.{IsAnswered};
@@ -22,6 +22,7 @@ use bk_tables::{Accounts, Postings, Transactions, read_accounts};
 use bk_tail::{tail_postings, tail_transactions};
 use std::sync::Wait;
 use std::thread::Threads;
+use std::time::Clock;
 
 // Writes the rows of a table as they become final, those that have one of these accounts alone, where there is a list, and
 // finds what keeps the feed from counting whole, where this is asked for.
@@ -30,15 +31,17 @@ fn tail_of<R, G: Gate + Sync, S: Source, O: Sink>(
     gate: &G,
     shown: Table,
     workers: Workers,
+    wait: bool,
     source: &mut S,
     accounts: Option<Accounts>,
     out: &mut O,
     strict: bool,
 ) -> Result<Ended<Status>, Fault>
 where
-    R: Threads + Wait + Sync + AllocGlobal,
+    R: AllocGlobal + Clock + Threads + Wait + Sync,
     requires source { CanBeUsed (S.state source.old) }
     requires out { CanBeUsed (O.state out.old) }
+    ensures unwaited { IfOk result (λ ended. wait ≡ false) }
     ensures rows { IfOk result (λ ended. IsAnswered (judged_text strict (table_text shown accounts)) ended
         (devices (S.state source.old) (O.state out.old))
         (devices (S.state source.new) (O.state out.new))) }
@@ -50,11 +53,31 @@ where
     match shown {
         Table::Transactions => {
             let rows = Transactions { accounts };
-            tail_transactions(rt, rt.alloc(), source, out, count, gate, &rows, strict)
+            tail_transactions(
+                rt,
+                rt.alloc(),
+                source,
+                out,
+                count,
+                gate,
+                &rows,
+                strict,
+                wait,
+            )
         }
         Table::Postings => {
             let rows = Postings { accounts };
-            tail_postings(rt, rt.alloc(), source, out, count, gate, &rows, strict)
+            tail_postings(
+                rt,
+                rt.alloc(),
+                source,
+                out,
+                count,
+                gate,
+                &rows,
+                strict,
+                wait,
+            )
         }
     }
 }
@@ -66,14 +89,16 @@ fn follow_table<R, G: Gate + Sync, S: Source, O: Sink>(
     gate: &G,
     shown: Table,
     workers: Workers,
+    wait: bool,
     source: &mut S,
     accounts: Option<Accounts>,
     out: &mut O,
 ) -> Result<Status, Fault>
 where
-    R: Threads + Wait + Sync + AllocGlobal,
+    R: AllocGlobal + Clock + Threads + Wait + Sync,
     requires source { CanBeUsed (S.state source.old) }
     requires out { CanBeUsed (O.state out.old) }
+    ensures unwaited { IfOk result (λ ended. wait ≡ false) }
     ensures rows { IfOk result (λ end. IsAnswered (table_text shown accounts) end
         (devices (S.state source.old) (O.state out.old))
         (devices (S.state source.new) (O.state out.new))) }
@@ -88,6 +113,7 @@ where
         gate,
         shown,
         workers,
+        wait,
         source,
         accounts,
         out,
@@ -101,20 +127,22 @@ where
     }
 }
 
-/// Writes the rows of a table as they become final.
+/// Writes the rows of a table as they become final. Where it is waited for, the feed has no end.
 pub(crate) fn follow<R, G: Gate + Sync, S: Source, O: Sink>(
     rt: &R,
     judge: &mut Judge,
     gate: &G,
     shown: Table,
     workers: Workers,
+    wait: bool,
     source: &mut S,
     out: &mut O,
 ) -> Result<Exit, Fault>
 where
-    R: Threads + Wait + Sync + AllocGlobal,
+    R: AllocGlobal + Clock + Threads + Wait + Sync,
     requires source { CanBeUsed (S.state source.old) }
     requires out { CanBeUsed (O.state out.old) }
+    ensures unwaited { IfOk result (λ ended. wait ≡ false) }
     ensures rows { IfOk result (λ end. RowsAreOut shown None end
         (devices (S.state source.old) (O.state out.old))
         (devices (S.state source.new) (O.state out.new))) }
@@ -127,27 +155,29 @@ where
         (devices (S.state source.old) (O.state out.old))
         (devices (S.state source.new) (O.state out.new))) }
 {
-    let status = follow_table(rt, judge, gate, shown, workers, source, None, out)?;
+    let status = follow_table(rt, judge, gate, shown, workers, wait, source, None, out)?;
     Ok(Exit::at(status))
 }
 
 /// Writes the rows of a table that have an account of a list as they become final. The list is read and judged before the
-/// feed is.
+/// feed is. Where it is waited for, the feed has no end.
 pub(crate) fn follow_some<R, G: Gate + Sync, S1: Source, S2: Source, O: Sink>(
     rt: &R,
     judge: &mut Judge,
     gate: &G,
     shown: Table,
     workers: Workers,
+    wait: bool,
     feed: &mut S1,
     list: &mut S2,
     out: &mut O,
 ) -> Result<Exit, JobFault>
 where
-    R: Threads + Wait + Sync + AllocGlobal,
+    R: AllocGlobal + Clock + Threads + Wait + Sync,
     requires feed { CanBeUsed (S1.state feed.old) }
     requires list { CanBeUsed (S2.state list.old) }
     requires out { CanBeUsed (O.state out.old) }
+    ensures unwaited { IfOk result (λ ended. wait ≡ false) }
     ensures rows { IfOk result (λ end. FollowIsOut shown true end
         (job_devices (S1.state feed.old) (S2.state list.old) (O.state out.old))
         (job_devices (S1.state feed.new) (S2.state list.new) (O.state out.new))) }
@@ -165,6 +195,6 @@ where
         Ok(accounts) => Some(accounts),
         Err(fault) => return Err(fault_of(fault)),
     };
-    let status = follow_table(rt, judge, gate, shown, workers, feed, accounts, out)?;
+    let status = follow_table(rt, judge, gate, shown, workers, wait, feed, accounts, out)?;
     Ok(Exit::at(status))
 }

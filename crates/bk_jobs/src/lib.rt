@@ -27,6 +27,6 @@ mod text_jobs;
 mod texts;
 mod two_inputs;
 
-pub use inputs::{Access, First, Inputs, Opens, Second};
+pub use inputs::{Access, Inputs, Opens, Stream};
 pub use opening::open_and_run;
 pub use running::{Watch, run_job, run_watched};

@@ -1,8 +1,8 @@
 //! The job that lists the frames of a feed.
 
 ghost use Rattle.std.specs.Prelude.{◌≡◌, OnOk, IfOk, IfErr};
-ghost use Rattle.bk_frames.specs.Device.{CanBeUsed, Works};
-ghost use Rattle.bk_results.specs.Devices.{OfGiven, devices};
+ghost use Rattle.bk_frames.specs.Device.{CanBeUsed, GaveAll, Works};
+ghost use Rattle.bk_results.specs.Devices.{devices};
 ghost use Rattle.bk_listing.specs.Answers.{HasForged, ListFails};
 ghost use Rattle.bk_jobs.specs.Faults.{FramesAreOut};
 ghost use Rattle.bk_jobs.specs.Flaws.{IsFrameFlaw, flaw_by_rejected};
@@ -39,7 +39,7 @@ pub(crate) fn list<R: Threads + Sync + AllocGlobal, S: Source, O: Sink>(
         (devices (S.state source.old) (O.state out.old))
         (devices (S.state source.new) (O.state out.new))) }
     ensures flaw { OnOk result (IsFrameFlaw (S.state source.old) (S.state source.new) judge.new.flaw) }
-    ensures forged { IfOk result (λ end. OfGiven (S.state source.old) (S.state source.new)
+    ensures forged { IfOk result (λ end. GaveAll (S.state source.old) (S.state source.new)
         (HasForged end.remarks.forged)) }
     ensures one { IfOk result (λ end. (end.remarks.first ≡ None) × (end.remarks.second ≡ None)) }
     ensures answer { IfOk result (λ end. end.exit ≡ Exit.Whole) }

@@ -1,7 +1,6 @@
 //! Opens the files that a job names.
 
-ghost use Rattle.std.specs.Prelude.{◌≡◌, ℕ, List, Option, None, Some, true, false, is_some, IfErr, IfNone, IfOk, IfSome, OnErr, OnOk, option_and_then};
-ghost use Rattle.either.specs.Either.{either};
+ghost use Rattle.std.specs.Prelude.{◌≡◌, Some, None, true, false, is_some, IfErr, IfOk, IfSome, OnErr, OnOk, option_map};
 ghost use Rattle.std.specs.IoError.{error_kind};
 ghost use Rattle.bk_frames.specs.Device.{CanBeUsed};
 ghost use Rattle.bk_results.specs.Devices.{IsUntouched};
@@ -9,27 +8,20 @@ ghost use Rattle.bk_cli.specs.Exits.{is_refusal, may_end_if, writes_ahead};
 ghost use Rattle.bk_cli.specs.FaultLines.{Reports};
 ghost use Rattle.bk_cli.specs.Files.{file_of, is_input, names_input, reads_beside, reads_input_twice, second_file_of};
 ghost use Rattle.bk_cli.specs.Unopened.{told_unopened};
-ghost use Rattle.bk_jobs.specs.Openings.{IsFirst, IsFirstReady, IsLacking, IsOf, IsSecondReady, IsUnopened, LacksRoom, Ran, TellsMemory, reason_by};
-ghost use Rattle.bk_jobs.specs.Reads.{IsLeft, IsThere, first_device, names_file, second_device, sight};
-ghost use Rattle.bk_jobs.specs.private.Opened.{names_input_second, waits_at_end};
+ghost use Rattle.bk_jobs.specs.Openings.{IsFirst, IsFirstReady, IsLacking, IsOf, IsSecondReady, IsUnopened, Ran, reason_by};
+ghost use Rattle.bk_jobs.specs.Reads.{IsLeft, IsThere, device_of, first_device, input_device, names_file, second_device, sight};
+ghost use Rattle.bk_jobs.specs.private.Opened.{names_input_second};
 ghost use Rattle.bk_jobs.specs.Sources.{CanBeUsedAgain};
 
-use crate::inputs::{Access, Opens};
+use crate::inputs::{Access, Opens, Stream};
 use crate::over::run_ready;
-use bk_cli::{Exit, Job, JobFault, Line, Unopened, is_input, tell, tell_unopened};
-use bk_frames::{Counted, Sink};
+use bk_cli::{Exit, Job, Line, Unopened, is_input, tell_unopened};
+use bk_frames::{Sink, Source};
 use bk_progress::Progress;
-use bk_results::Fault;
-use either::{Either, Left, Right};
-use std::alloc::Global;
 use std::io;
-use std::io::{BufReader, Read};
 use std::sync::Wait;
 use std::thread::Threads;
 use std::time::Clock;
-
-// How many bytes are read ahead, so that small pulls cost little. The number is none of the format's.
-const AHEAD: usize = 65_536;
 
 // A file that could not be opened.
 #[derive(Drop)]
@@ -61,51 +53,11 @@ fn not_opened<E: Sink>(line: &Line, missing: &Missing<'_>, err: &mut E) -> Exit
     Exit::Failed
 }
 
-// Reports that there is no memory to read ahead.
-fn no_memory<E: Sink>(line: &Line, err: &mut E) -> Exit
-    requires { CanBeUsed (E.state err.old) }
-    ensures failed { result ≡ Exit.Failed }
-    ensures told { TellsMemory line.now.job line.now.notes.verbose
-        (E.state err.old) (E.state err.new) }
-{
-    let fault = JobFault::Replay(Fault::Memory);
-    tell(&line.job, line.notes.verbose, &fault, err);
-    Exit::Failed
-}
-
-/// Whether the end of the first file is waited at for more.
-pub(crate) fn is_waited(job: &Job) -> bool
-    ensures { result ≡ waits_at_end job.now }
-{
+// Whether the end of the first file is waited at for more. How many bytes such a file has is not known.
+fn is_waited(job: &Job) -> bool {
     match job {
         Job::Follow { wait, .. } => *wait,
         _ => false,
-    }
-}
-
-// How many bytes a file has, where that is known: those of standard input are not.
-fn size_of<N: Opens>(opener: &Option<N>, path: &str) -> Option<u64> {
-    match opener {
-        Some(files) if !is_input(path) => files.size_of(path),
-        Some(_) | None => None,
-    }
-}
-
-// Counts the bytes that are going to be read.
-fn expect_files<N: Opens, I, P: Clock + Eprint>(
-    access: &Access<N, N::File, I>,
-    job: &Job,
-    progress: &Progress<'_, P>,
-) {
-    if !progress.is_shown() {
-        return;
-    }
-    match job.file() {
-        Some(path) if !is_waited(job) => progress.expect(size_of(&access.first, path)),
-        Some(_) | None => progress.expect(None),
-    }
-    if let Some(path) = job.second_file() {
-        progress.expect(size_of(&access.second, path));
     }
 }
 
@@ -121,40 +73,42 @@ pub(crate) fn taken<T>(from: &mut Option<T>) -> T
     found
 }
 
+// A file of a job that was opened, or standard input in its place, and how many bytes it has, where that is known.
+type Opened<F, I> = (Stream<F, I>, Option<u64>);
+
 // Opens the file of a path, or takes standard input where the path stands for that.
-fn open_path<N: Opens, I: Read>(
+fn open_path<N: Opens, I: Source>(
     opener: &mut Option<N>,
     path: &str,
     input: &mut Option<I>,
-) -> Result<Either<N::File, I>, io::Error>
+) -> Result<Opened<N::File, I>, io::Error>
     requires opener { is_some opener.old ≡ true }
     requires there { is_input path.now ≡ true → is_some input.old ≡ true }
-    ensures opened { IfOk result (λ s. IsOf (is_input path.now) N.holds
-        (option_and_then I.remaining input.old) path.now (either N.File.remaining I.remaining s)) }
+    ensures opened { IfOk result (λ o. IsOf (is_input path.now) N.holds
+        (option_map I.state input.old) path.now (device_of N.File.state I.state o.0)) }
     ensures unopened { IfErr result (λ e. IsLacking N.lacks path.now (error_kind e)) }
     ensures kept { is_input path.now ≡ false → input.new ≡ input.old }
     ensures unused { is_input path.now ≡ true → opener.new ≡ opener.old }
 {
     if is_input(path) {
-        return Ok(Right(taken(input)));
+        return Ok((Stream::Input(taken(input)), None));
     }
     match taken(opener).open(path) {
-        Ok(file) => Ok(Left(file)),
+        Ok((file, size)) => Ok((Stream::File(file), size)),
         Err(error) => Err(error),
     }
 }
 
 // Opens the first file of a job, or takes standard input where it names none.
-fn open_first<'a, N: Opens, I: Read>(
+fn open_first<'a, N: Opens, I: Source>(
     opener: &mut Option<N>,
     job: &'a Job,
     input: &mut Option<I>,
-) -> Result<Either<N::File, I>, Missing<'a>>
+) -> Result<Opened<N::File, I>, Missing<'a>>
     requires opener { is_some opener.old ≡ true }
     requires there { names_input (file_of job.now) ≡ true → is_some input.old ≡ true }
-    ensures opened { IfOk result (λ s. IsFirst N.holds
-        (option_and_then I.remaining input.old) (file_of job.now)
-        (either N.File.remaining I.remaining s)) }
+    ensures opened { IfOk result (λ o. IsFirst N.holds (option_map I.state input.old)
+        (file_of job.now) (device_of N.File.state I.state o.0)) }
     ensures missing { IfErr result (λ m. (file_of job.now ≡ Some m.path.now)
         × IsLacking N.lacks m.path.now (error_kind m.error)) }
     ensures kept { names_input (file_of job.now) ≡ false → input.new ≡ input.old }
@@ -162,56 +116,54 @@ fn open_first<'a, N: Opens, I: Read>(
 {
     match job.file() {
         Some(path) => match open_path(opener, path, input) {
-            Ok(source) => Ok(source),
+            Ok(opened) => Ok(opened),
             Err(error) => Err(Missing { path, error }),
         },
-        None => Ok(Right(taken(input))),
+        None => Ok((Stream::Input(taken(input)), None)),
     }
 }
 
-// Makes the first file of a job ready, with what is read ahead of it. Without memory for that none is missing.
-fn ready_first<'a, N: Opens, I: Read + Drop>(
+// Makes the first file of a job ready, and counts its bytes as going to be read.
+fn ready_first<'a, N: Opens, I: Source + Drop, P>(
     access: &mut Access<N, N::File, I>,
-    alloc: Global,
     job: &'a Job,
-) -> Result<(), Option<Missing<'a>>>
+    progress: &Progress<'_, P>,
+) -> Result<(), Missing<'a>>
+where
+    P: Clock + Eprint,
     requires opener { is_some access.old.first ≡ true }
     requires there { names_input (file_of job.now) ≡ true → is_some access.old.input ≡ true }
     ensures ready { OnOk result (IsFirstReady
-        (sight N.holds N.lacks N.File.remaining I.remaining) access.old job.now
-        (first_device (sight N.holds N.lacks N.File.remaining I.remaining) access.new)) }
-    ensures missing { IfErr result (λ e. IfSome e (λ m. (file_of job.now ≡ Some m.path.now)
-        × IsLacking N.lacks m.path.now (error_kind m.error))) }
+        (sight N.holds N.lacks N.File.state I.state) access.old job.now
+        (first_device (sight N.holds N.lacks N.File.state I.state) access.new)) }
+    ensures missing { IfErr result (λ m. (file_of job.now ≡ Some m.path.now)
+        × IsLacking N.lacks m.path.now (error_kind m.error)) }
     ensures none { OnErr result (access.new.first_read ≡ access.old.first_read) }
-    ensures memory { IfErr result (λ e. IfNone e ((bytes : Option (List ℕ))
-        × IsFirst N.holds (option_and_then I.remaining access.old.input) (file_of job.now) bytes)) }
     ensures second { access.new.second ≡ access.old.second }
     ensures second_read { access.new.second_read ≡ access.old.second_read }
     ensures kept { names_input (file_of job.now) ≡ false → access.new.input ≡ access.old.input }
     ensures unused { names_file (file_of job.now) ≡ false → access.new.first ≡ access.old.first }
 {
-    let source = match open_first(&mut access.first, job, &mut access.input) {
-        Ok(source) => source,
-        Err(missing) => return Err(Some(missing)),
-    };
-    let Ok(reader) = BufReader::with_capacity(alloc, AHEAD, source) else {
-        return Err(None);
-    };
-    access.first_read = Some(Counted::new(reader));
+    let (source, size) = open_first(&mut access.first, job, &mut access.input)?;
+    access.first_read = Some(source);
+    progress.expect(if is_waited(job) { None } else { size });
     Ok(())
 }
 
-// Makes the second file of a job ready, where it names one.
-fn ready_second<'a, N: Opens, I: Read + Drop>(
+// Makes the second file of a job ready, where it names one, and counts its bytes as going to be read.
+fn ready_second<'a, N: Opens, I: Source + Drop, P>(
     access: &mut Access<N, N::File, I>,
     job: &'a Job,
+    progress: &Progress<'_, P>,
 ) -> Result<(), Missing<'a>>
+where
+    P: Clock + Eprint,
     requires opener { is_some access.old.second ≡ true }
     requires there { names_input_second job.now ≡ true → is_some access.old.input ≡ true }
     requires none { access.old.second_read ≡ None }
     ensures ready { OnOk result (IsSecondReady
-        (sight N.holds N.lacks N.File.remaining I.remaining) access.old job.now
-        (second_device (sight N.holds N.lacks N.File.remaining I.remaining) access.new)) }
+        (sight N.holds N.lacks N.File.state I.state) access.old job.now
+        (second_device (sight N.holds N.lacks N.File.state I.state) access.new)) }
     ensures missing { IfErr result (λ m. (second_file_of job.now ≡ Some m.path.now)
         × IsLacking N.lacks m.path.now (error_kind m.error)) }
     ensures none { OnErr result (access.new.second_read ≡ None) }
@@ -225,8 +177,9 @@ fn ready_second<'a, N: Opens, I: Read + Drop>(
         return Ok(());
     };
     match open_path(&mut access.second, path, &mut access.input) {
-        Ok(source) => {
-            access.second_read = Some(Counted::new(source));
+        Ok((source, size)) => {
+            access.second_read = Some(source);
+            progress.expect(size);
             Ok(())
         }
         Err(error) => Err(Missing { path, error }),
@@ -243,47 +196,40 @@ fn is_beside(job: &Job) -> bool
     }
 }
 
-// Makes the files of a job ready, each to be read from its beginning on. Without memory none is missing.
-fn ready_both<'a, N: Opens, I: Read + Drop>(
+// Makes the files of a job ready, each to be read from its beginning on.
+fn ready_both<'a, N: Opens, I: Source + Drop, P>(
     access: &mut Access<N, N::File, I>,
-    alloc: Global,
     job: &'a Job,
-) -> Result<(), Option<Missing<'a>>>
+    progress: &Progress<'_, P>,
+) -> Result<(), Missing<'a>>
+where
+    P: Clock + Eprint,
     requires once { reads_input_twice job.now ≡ false }
     requires there { IsThere access.old }
     ensures first { OnOk result (IsFirstReady
-        (sight N.holds N.lacks N.File.remaining I.remaining) access.old job.now
-        (first_device (sight N.holds N.lacks N.File.remaining I.remaining) access.new)) }
+        (sight N.holds N.lacks N.File.state I.state) access.old job.now
+        (first_device (sight N.holds N.lacks N.File.state I.state) access.new)) }
     ensures second { OnOk result (IsSecondReady
-        (sight N.holds N.lacks N.File.remaining I.remaining) access.old job.now
-        (second_device (sight N.holds N.lacks N.File.remaining I.remaining) access.new)) }
-    ensures missing { IfErr result (λ e. IfSome e (λ m.
-        IsUnopened (sight N.holds N.lacks N.File.remaining I.remaining) access.old access.new
-        job.now m.path.now (error_kind m.error))) }
-    ensures memory { IfErr result (λ e. IfNone e (LacksRoom
-        (sight N.holds N.lacks N.File.remaining I.remaining) access.old access.new job.now)) }
+        (sight N.holds N.lacks N.File.state I.state) access.old job.now
+        (second_device (sight N.holds N.lacks N.File.state I.state) access.new)) }
+    ensures missing { IfErr result (λ m. IsUnopened (sight N.holds N.lacks N.File.state I.state)
+        access.old access.new job.now m.path.now (error_kind m.error)) }
     ensures left { IsLeft job.now access.old access.new }
 {
     if is_beside(job) {
-        return match ready_second(access, job) {
-            Ok(()) => ready_first(access, alloc, job),
-            Err(missing) => Err(Some(missing)),
-        };
+        ready_second(access, job, progress)?;
+        return ready_first(access, job, progress);
     }
-    ready_first(access, alloc, job)?;
-    match ready_second(access, job) {
-        Ok(()) => Ok(()),
-        Err(missing) => Err(Some(missing)),
-    }
+    ready_first(access, job, progress)?;
+    ready_second(access, job, progress)
 }
 
 /// Opens what the job names and runs it over that, from its beginning on, watched by `progress`.
 ///
 /// Standard input is read where no file is named, or `-`; a job reads it once at most. What the job has no use for is
-/// left in `access`, and so is what its files were read through, with a count of the reads that failed, but where memory
-/// runs out before the first is read. A file that cannot be opened ends with `Failed` and `read failed`. An end that is no
-/// answer has the line of its fault on `err`, and where the notes are verbose one more line in words; an answer to a query
-/// or of a comparison has a line then for each missing batch at which an order stops.
+/// left in `access`, and so is what its files were read through. A file that cannot be opened ends with `Failed` and `read
+/// failed`. An end that is no answer has the line of its fault on `err`, and where the notes are verbose one more line in
+/// words; an answer to a query or of a comparison has a line then for each missing batch at which an order stops.
 pub fn open_and_run<N, I, R, P, O: Sink, E: Sink>(
     access: &mut Access<N, N::File, I>,
     rt: &R,
@@ -294,25 +240,25 @@ pub fn open_and_run<N, I, R, P, O: Sink, E: Sink>(
 ) -> Exit
 where
     N: Opens,
-    I: Read + Drop,
+    I: Source + Drop,
     R: AllocGlobal + Clock + Threads + Wait + Sync,
     P: Clock + Eprint + Sync,
     requires once { reads_input_twice line.now.job ≡ false }
     requires there { IsThere access.old }
+    requires input { IfSome (input_device (sight N.holds N.lacks N.File.state I.state) access.old)
+        CanBeUsed }
     requires out { CanBeUsed (O.state out.old) }
     requires err { CanBeUsedAgain (E.state err.old) }
     ensures unwritten { is_refusal result ≡ true → writes_ahead line.now.job ≡ false
         → IsUntouched (O.state out.old) (O.state out.new) }
     ensures ends { may_end_if line.now.strict line.now.job result ≡ true }
     ensures left { IsLeft line.now.job access.old access.new }
-    ensures ran { Ran (sight N.holds N.lacks N.File.remaining I.remaining) access.old access.new
+    ensures ran { Ran (sight N.holds N.lacks N.File.state I.state) access.old access.new
         line.now.job line.now.strict line.now.notes.verbose result
         (O.state out.old) (O.state out.new) (E.state err.old) (E.state err.new) }
 {
-    expect_files(access, &line.job, progress);
-    match ready_both(access, rt.alloc(), &line.job) {
+    match ready_both(access, &line.job, progress) {
         Ok(()) => run_ready(access, rt, line, progress, out, err),
-        Err(Some(missing)) => not_opened(line, &missing, err),
-        Err(None) => no_memory(line, err),
+        Err(missing) => not_opened(line, &missing, err),
     }
 }

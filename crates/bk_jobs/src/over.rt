@@ -10,13 +10,11 @@ ghost use Rattle.bk_jobs.specs.private.Opened.{IsReadOnly, RanReady};
 ghost use Rattle.bk_jobs.specs.Sources.{CanBeUsedAgain, job_devices};
 
 use crate::inputs::{Access, Opens};
-use crate::opening::{is_waited, taken};
+use crate::opening::taken;
 use crate::running::{Watch, run_watched};
 use bk_cli::{Exit, Line};
 use bk_frames::{Counted, Sink, Source};
 use bk_progress::{Metered, Progress};
-use bk_tail::Waiting;
-use std::io::Read;
 use std::sync::Wait;
 use std::thread::Threads;
 use std::time::Clock;
@@ -40,14 +38,14 @@ pub(crate) fn run_ready<N, I, R, P, O: Sink, E: Sink>(
 ) -> Exit
 where
     N: Opens,
-    I: Read + Drop,
+    I: Source + Drop,
     R: AllocGlobal + Clock + Threads + Wait + Sync,
     P: Clock + Eprint + Sync,
     requires opened { is_some access.old.first_read ≡ true }
     requires first { IfSome
-        (first_device (sight N.holds N.lacks N.File.remaining I.remaining) access.old) CanBeUsed }
+        (first_device (sight N.holds N.lacks N.File.state I.state) access.old) CanBeUsed }
     requires second { IfSome
-        (second_device (sight N.holds N.lacks N.File.remaining I.remaining) access.old) CanBeUsed }
+        (second_device (sight N.holds N.lacks N.File.state I.state) access.old) CanBeUsed }
     requires out { CanBeUsed (O.state out.old) }
     requires err { CanBeUsedAgain (E.state err.old) }
     ensures unwritten { is_refusal result ≡ true → writes_ahead line.now.job ≡ false
@@ -55,10 +53,10 @@ where
     ensures ends { may_end_if line.now.strict line.now.job result ≡ true }
     ensures kept { IsReadOnly access.old access.new }
     ensures ran { RanReady
-        (first_device (sight N.holds N.lacks N.File.remaining I.remaining) access.old)
-        (first_device (sight N.holds N.lacks N.File.remaining I.remaining) access.new)
-        (second_device (sight N.holds N.lacks N.File.remaining I.remaining) access.old)
-        (second_device (sight N.holds N.lacks N.File.remaining I.remaining) access.new)
+        (first_device (sight N.holds N.lacks N.File.state I.state) access.old)
+        (first_device (sight N.holds N.lacks N.File.state I.state) access.new)
+        (second_device (sight N.holds N.lacks N.File.state I.state) access.old)
+        (second_device (sight N.holds N.lacks N.File.state I.state) access.new)
         line.now.job line.now.strict line.now.notes.verbose result
         (O.state out.old) (O.state out.new) (E.state err.old) (E.state err.new) }
 {
@@ -100,18 +98,17 @@ where
         (job_devices (S.state result.first) (T.state result.second) (O.state out.new))
         (E.state err.old) (E.state err.new) }
 {
-    let waits = is_waited(&line.job);
     let watch = Watch {
         watcher: progress,
         verbose: line.notes.verbose,
         strict: line.strict,
     };
-    let mut first = Waiting::new(Metered::new(first, progress), rt, waits);
+    let mut first = Metered::new(first, progress);
     let mut second = Metered::new(second, progress);
     let exit = run_watched(rt, &line.job, &watch, &mut first, &mut second, out, err);
     Over {
         exit,
-        first: first.into_inner().into_inner(),
+        first: first.into_inner(),
         second: second.into_inner(),
     }
 }

@@ -22,6 +22,7 @@ use bk_pool::{Gate, Open};
 use bk_progress::Watcher;
 use std::sync::Wait;
 use std::thread::Threads;
+use std::time::Clock;
 
 /// How a job is watched.
 #[derive(Drop)]
@@ -46,7 +47,7 @@ fn run_told<R, W: Watcher + Sync, S1: Source, S2: Source, O: Sink, E: Sink>(
     err: &mut E,
 ) -> Exit
 where
-    R: Threads + Wait + Sync + AllocGlobal,
+    R: AllocGlobal + Clock + Threads + Wait + Sync,
     requires none { judge.old.flaw ≡ None }
     requires first { CanBeUsed (S1.state first.old) }
     requires second { reads_second job.now ≡ true → CanBeUsed (S2.state second.old) }
@@ -112,7 +113,7 @@ pub fn run_watched<R, W: Watcher + Sync, S1: Source, S2: Source, O: Sink, E: Sin
     err: &mut E,
 ) -> Exit
 where
-    R: Threads + Wait + Sync + AllocGlobal,
+    R: AllocGlobal + Clock + Threads + Wait + Sync,
     requires first { CanBeUsed (S1.state first.old) }
     requires second { reads_second job.now ≡ true → CanBeUsed (S2.state second.old) }
     requires out { CanBeUsed (O.state out.old) }
@@ -154,14 +155,15 @@ where
 ///
 /// Two jobs write while they read: the lines of the frames before a fault, and of a feed that is followed the rows of the
 /// pieces before it, are on `out`.
-pub fn run_job<R: Threads + Wait + Sync + AllocGlobal, S1: Source, S2: Source, O: Sink, E: Sink>(
-    rt: &R,
-    job: &Job,
-    first: &mut S1,
-    second: &mut S2,
-    out: &mut O,
-    err: &mut E,
-) -> Exit
+pub fn run_job<
+    R: AllocGlobal + Clock + Threads + Wait + Sync,
+    S1: Source,
+    S2: Source,
+    O: Sink,
+    E: Sink,
+>(rt: &R, job: &Job, first: &mut S1, second: &mut S2, out: &mut O, err: &mut E) -> Exit
+where
+    R: AllocGlobal + Clock + Threads + Wait + Sync,
     requires first { CanBeUsed (S1.state first.old) }
     requires second { reads_second job.now ≡ true → CanBeUsed (S2.state second.old) }
     requires out { CanBeUsed (O.state out.old) }

@@ -20,6 +20,7 @@ use bk_frames::{Sink, Source};
 use bk_pool::Gate;
 use std::sync::Wait;
 use std::thread::Threads;
+use std::time::Clock;
 
 /// Writes the answer of a job that replays one feed or two and has two inputs.
 pub(crate) fn answer_of_two<R, G: Gate + Sync, S1: Source, S2: Source, O: Sink>(
@@ -32,7 +33,7 @@ pub(crate) fn answer_of_two<R, G: Gate + Sync, S1: Source, S2: Source, O: Sink>(
     out: &mut O,
 ) -> Result<JobEnd, JobFault>
 where
-    R: Threads + Wait + Sync + AllocGlobal,
+    R: AllocGlobal + Clock + Threads + Wait + Sync,
     requires group { replays_two job.now ≡ true }
     requires first { CanBeUsed (S1.state first.old) }
     requires second { reads_second job.now ≡ true → CanBeUsed (S2.state second.old) }
@@ -85,9 +86,10 @@ where
             workers,
             shown,
             accounts: Some(_),
+            wait,
             ..
         } => {
-            let end = follow_some(rt, judge, gate, *shown, *workers, first, second, out)?;
+            let end = follow_some(rt, judge, gate, *shown, *workers, *wait, first, second, out)?;
             Ok(JobEnd {
                 exit: end,
                 remarks: Remarks::none(),

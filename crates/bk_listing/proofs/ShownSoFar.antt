@@ -4,7 +4,7 @@ use Rattle.std.specs.Prelude.{IfSome, IfErr, OnOk, Ok, Err}
 use Rattle.std.specs.declared.result.Result.{Result}
 use Rattle.std.specs.List.{flat_map}
 use Rattle.std.specs.Global.{Vec}
-use Rattle.std.proofs.KnownBytes.{Consumes-nil, Appends-nil, Appends-kept, Keeps-refl}
+use Rattle.std.proofs.KnownBytes.{Appends-nil, Appends-kept, Keeps-refl}
 use Rattle.std.proofs.lemmas.List.{append-nil}
 use Rattle.std.proofs.lemmas.List.Concat.{flat_map-append, flat_map-cons}
 use Rattle.bk_base.specs.declared.kind.Kind.{Kind}
@@ -14,18 +14,18 @@ use Rattle.bk_base.specs.declared.version.Version.TheVariants as version
 use Rattle.bk_frames.specs.declared.fault.FaultCode.{FaultCode}
 use Rattle.bk_frames.specs.declared.fault.FaultCode.TheVariants as code
 use Rattle.bk_frames.specs.declared.fault.FeedFault.{FeedFault}
-use Rattle.bk_frames.specs.Device.{Device, Works, Fails, Gives, Receives, IfKnown}
+use Rattle.bk_frames.specs.Device.{Device, Works, Fails, GaveAll, Gives, IsWhole, Receives, IfKnown}
 use Rattle.bk_base.specs.Feed.{Frame, feed_of, spelling, frame_text, AreGoodFrom, IsFeed}
 use Rattle.bk_frames.specs.FirstFault.{HasFault}
 use Rattle.bk_frames.specs.Pulling.{ByCode, FrontCallsForMemoryAt, Gave, Refuses, StopsAt}
 use Rattle.bk_frames.specs.Cutting.{Cut, fresh, frames_in}
 use Rattle.bk_frames.specs.Reading.{AreFront, IsPulled, Pulls}
-use Rattle.bk_frames.proofs.Devices.{appends_then, take_past}
+use Rattle.bk_frames.proofs.Devices.{appends_then, gives_none, take_past}
 use Rattle.bk_frames.proofs.CutJoining.{bytes_so_far, none_before_magic, ends_as_feed, spelling_then}
 use Rattle.bk_frames.proofs.Pulls.{ended_short, front_here, none_pulled}
 use Rattle.bk_results.specs.declared.fault.Fault.{Fault}
 use Rattle.bk_results.specs.declared.fault.Fault.TheVariants as fault
-use Rattle.bk_results.specs.Devices.{Devices, IsUntouched, OfGiven}
+use Rattle.bk_results.specs.Devices.{Devices, IsUntouched}
 use Rattle.bk_listing.specs.Listing.{IsListing}
 use Rattle.bk_listing.specs.Answers.{IsListingTo, no_frames, of_frames, AllIsListed, HasForged, HasRejected, IsListedTo, FailsOnceAtMost, ListFails}
 use Rattle.bk_listing.specs.declared.listing.FrameReader.{FrameReader}
@@ -190,23 +190,15 @@ list_on old now later r s l m h w e same =
       out = received old.sink now.sink later.sink h.text w.lines h.out w.out.1;
     }
 
--- what holds of the bytes that came, where they are all, holds of those that the source gave, and of all that it had
-of_given : (start now : Device) (bytes : List ℕ) (P : List ℕ → Type 0) → Gives start now bytes → IfKnown start (λ whole. whole ≡ bytes) → P bytes → OfGiven start now P
-of_given start now bytes P gave all so = ((bytes, gave, so), by_known start.bytes all)
-  where
-    by_known : (a : Option (List ℕ)) → IfSome a (λ whole. whole ≡ bytes) → IfSome a P
-    by_known None is = tt
-    by_known (Some whole) is = subst P (sym is) so
-
 -- of a feed whose bytes all came all frames are listed, and counted where they are rejected, and the first that is
 -- rejected for its tags is found
 pub all_shown : (old now later : Devices) (r : FrameReader) (l m : Lister) → (h : HasShown old now r l) → ListsWaiting h.taken h.text r m now.sink later.sink → (r.cutter.kept ≡ []) × (2 ≤ r.cutter.index) → later.source ≡ now.source
-    → IfKnown old.source (λ whole. whole ≡ h.bytes)
-    → OfGiven old.source later.source (AllIsListed old.sink later.sink) × OfGiven old.source later.source (HasRejected m.rejected) × OfGiven old.source later.source (HasForged m.forged)
+    → IsWhole old.source later.source h.bytes
+    → GaveAll old.source later.source (AllIsListed old.sink later.sink) × GaveAll old.source later.source (HasRejected m.rejected) × GaveAll old.source later.source (HasForged m.forged)
 all_shown old now later r l m h w ends same all = (
-  of_given old.source later.source h.bytes (AllIsListed old.sink later.sink) gave all (feed_of z.0 frames, z.2, z.3, h.text ++ w.lines, listed.listing, received old.sink now.sink later.sink h.text w.lines h.out w.out.1),
-  of_given old.source later.source h.bytes (HasRejected m.rejected) gave all (record { feed = feed_of z.0 frames; good = z.2; spelled = z.3; holds = listed.rejected }),
-  of_given old.source later.source h.bytes (HasForged m.forged) gave all (record { feed = feed_of z.0 frames; good = z.2; spelled = z.3; holds = listed.forged }),
+  (h.bytes, gave, all, (feed_of z.0 frames, z.2, z.3, h.text ++ w.lines, listed.listing, received old.sink now.sink later.sink h.text w.lines h.out w.out.1)),
+  (h.bytes, gave, all, record { feed = feed_of z.0 frames; good = z.2; spelled = z.3; holds = listed.rejected }),
+  (h.bytes, gave, all, record { feed = feed_of z.0 frames; good = z.2; spelled = z.3; holds = listed.forged }),
 )
   where
     frames : List Frame
@@ -349,7 +341,7 @@ none_shown old r l begun none listed written = record {
 
 -- memory ran out before the first byte
 pub no_memory : (old : Devices) → ListFails fault.Memory old old
-no_memory old = (inl refl, refl, ([], Consumes-nil old.source.bytes, (0, ([], no_frames refl refl, Appends-nil old.sink.bytes))))
+no_memory old = (inl refl, refl, ([], gives_none old.source, (0, ([], no_frames refl refl, Appends-nil old.sink.bytes))))
 
 -- ---- results
 

@@ -4,9 +4,9 @@ ghost use Rattle.std.specs.Prelude.{◌≡◌, ◌<◌, ◌≤◌, ◌++◌, [],
 ghost use Rattle.bk_frames.specs.declared.pulling.TheConstants.{PIECE};
 ghost use Rattle.bk_base.specs.declared.version.Version.{Version};
 ghost use Rattle.bk_frames.specs.Cutting.{frames_in};
-ghost use Rattle.bk_frames.specs.Device.{Device, CanBeUsed, Works};
+ghost use Rattle.bk_frames.specs.Device.{CanBeUsed, Device, GaveAll, Works};
 ghost use Rattle.bk_base.specs.Feed.{Frame};
-ghost use Rattle.bk_results.specs.Devices.{OfGiven, devices};
+ghost use Rattle.bk_results.specs.Devices.{devices};
 ghost use Rattle.bk_listing.specs.Answers.{AllIsListed, HasForged, HasRejected, ListFails};
 ghost use Rattle.bk_listing.specs.private.Listed.{CanList, EndsBy, HasShown, IsEmptied, LeavesBy, ListsWaiting, WaitingFails};
 
@@ -134,11 +134,11 @@ fn list_all<R: Threads + Sync, S: Source, K: Sink>(
     requires few { length piece.old ≤ PIECE }
     requires first { HasShown (devices (S.state source.old) (K.state sink.old))
         (devices (S.state source.old) (K.state sink.old)) reader.old lister.old }
-    ensures listed { OnOk result (OfGiven (S.state source.old) (S.state source.new)
+    ensures listed { OnOk result (GaveAll (S.state source.old) (S.state source.new)
         (AllIsListed (K.state sink.old) (K.state sink.new))) }
-    ensures rejected { OnOk result (OfGiven (S.state source.old) (S.state source.new)
+    ensures rejected { OnOk result (GaveAll (S.state source.old) (S.state source.new)
         (HasRejected lister.new.rejected)) }
-    ensures forged { OnOk result (OfGiven (S.state source.old) (S.state source.new)
+    ensures forged { OnOk result (GaveAll (S.state source.old) (S.state source.new)
         (HasForged lister.new.forged)) }
     ensures sound { OnOk result (Works (S.state source.old) (S.state source.new)
         × Works (K.state sink.old) (K.state sink.new)) }
@@ -179,11 +179,11 @@ pub fn list_frames<R: Threads + Sync, S: Source, K: Sink>(
 ) -> Result<Listed, Fault>
     requires source { CanBeUsed (S.state source.old) }
     requires sink { CanBeUsed (K.state sink.old) }
-    ensures listed { OnOk result (OfGiven (S.state source.old) (S.state source.new)
+    ensures listed { OnOk result (GaveAll (S.state source.old) (S.state source.new)
         (AllIsListed (K.state sink.old) (K.state sink.new))) }
-    ensures rejected { IfOk result (λ l. OfGiven (S.state source.old) (S.state source.new)
+    ensures rejected { IfOk result (λ l. GaveAll (S.state source.old) (S.state source.new)
         (HasRejected l.rejected)) }
-    ensures forged { IfOk result (λ l. OfGiven (S.state source.old) (S.state source.new)
+    ensures forged { IfOk result (λ l. GaveAll (S.state source.old) (S.state source.new)
         (HasForged l.forged)) }
     ensures sound { OnOk result (Works (S.state source.old) (S.state source.new)
         × Works (K.state sink.old) (K.state sink.new)) }

@@ -5,8 +5,8 @@ use Rattle.std.proofs.lemmas.Bool.{eq-eqb, eqb-true}
 use Rattle.std.proofs.lemmas.Bool.Decides.{nat_tests}
 use Rattle.std.specs.Prelude.{IfSome}
 use Rattle.std.specs.Io.KnownBytes.{Consumes, IsAtEnd, Keeps}
-use Rattle.std.proofs.KnownBytes.{Consumes-trans}
-use Rattle.bk_frames.specs.Device.{Device, Receives}
+use Rattle.bk_frames.specs.Device.{Device, Gives, Receives}
+use Rattle.bk_frames.proofs.Devices.{gives_then}
 use Rattle.bk_results.specs.Devices.{OfGiven}
 use Rattle.bk_frames.specs.declared.writing.WriteFault.{WriteFault}
 use Rattle.bk_frames.specs.Writing.{StopsWriting}
@@ -45,9 +45,9 @@ read_enough (Some bs) None text most gave many = absurd gave
 read_enough (Some bs) (Some cs) text most gave many = sym (take_at text cs (most + 1) many) ∙ ap (take (most + 1)) (sym gave)
 
 -- what a source gave, where a last pull gave nothing
-pub gives_still : (old mid new : Option (List ℕ)) (text buf : List ℕ) (count : ℕ) → Consumes old mid text → Consumes mid new (take count buf) → count ≡ 0 → Consumes old new text
+pub gives_still : (old mid new : Device) (text buf : List ℕ) (count : ℕ) → Gives old mid text → Gives mid new (take count buf) → count ≡ 0 → Gives old new text
 gives_still old mid new text buf count gave last zero =
-    subst (λ t. Consumes old new t) (ap (λ n. text ++ take n buf) zero ∙ append-nil text) (Consumes-trans old mid new text (take count buf) gave last)
+    subst (λ t. Gives old new t) (ap (λ n. text ++ take n buf) zero ∙ append-nil text) (gives_then old mid new text (take count buf) gave last)
 
 -- ---- the feed of a whole text
 

@@ -6,16 +6,17 @@ use Rattle.bk_answer.specs.Flaws.{IsFlawIf, judged_text}
 use Rattle.bk_answer.specs.declared.strict.Ended.{Ended}
 use Rattle.bk_results.specs.declared.flaw.Flaw.{Flaw}
 use Rattle.bk_answer.specs.RunReport.{reach_of}
-use Rattle.bk_frames.specs.Device.{Fails, IfKnown, Works}
+use Rattle.bk_frames.specs.Device.{Fails, IsWhole, Works}
 use Rattle.bk_order.specs.Orders.{Ordered}
 use Rattle.bk_report.specs.Pages.{PageValue, Puts, Stops, blank}
 use Rattle.bk_report.proofs.Putting.{all_out, puts_then}
 use Rattle.bk_follow.specs.Follower.{BookValue, IsSettled}
 use Rattle.bk_follow.specs.Queries.{missing_in}
-use Rattle.std.proofs.KnownBytes.{Appends-nil, Consumes-nil}
+use Rattle.std.proofs.KnownBytes.{Appends-nil}
 use Rattle.bk_base.specs.Feed.{Frame, feed_of, genesis_of}
 use Rattle.bk_frames.specs.Device.{Device}
 use Rattle.bk_frames.specs.Pulling.{Gave}
+use Rattle.bk_frames.proofs.Devices.{gives_none}
 use Rattle.bk_results.specs.Devices.{devices}
 use Rattle.bk_results.specs.declared.fault.Fault.{Fault}
 use Rattle.bk_results.specs.declared.fault.Fault.TheVariants as fault
@@ -82,7 +83,7 @@ module _ (k : TableKind) (is_text : IsTextOf k) (start now first sink : Device) 
   end_fails later written stop = put_stops k all whole v w.holds.0 first sink page done f.come at h [] nothing_grows (is_text (feed_of at.version whole) w.holds.0.taken.ordered at.current.clear at.current.ordered) later written stop
 
   -- all is out
-  pub answered : (strict : Bool) (flaw : Option Flaw) (later : Device) (after : PageValue) → IfKnown start (λ given. given ≡ all) → Works sink later × Puts sink later page after [] → after.bytes ≡ [] → IsFlawIf strict (feed_of w.version whole) flaw
+  pub answered : (strict : Bool) (flaw : Option Flaw) (later : Device) (after : PageValue) → IsWhole start now all → Works sink later × Puts sink later page after [] → after.bytes ≡ [] → IsFlawIf strict (feed_of w.version whole) flaw
       → IsAnswered (judged_text strict k.text) (ended_with (reach_of (missing_in v.book)) flaw) (devices start first) (devices now later)
   answered strict flaw later after known put empty flawed =
       let o = w.holds.0.taken.ordered in
@@ -99,4 +100,4 @@ module _ (k : TableKind) (is_text : IsTextOf k) (start now first sink : Device) 
 
 -- memory ran out before the first byte
 pub none_read : (k : TableKind) (start first : Device) → TailFailsBy k.text fault.Memory (devices start first) (devices start first)
-none_read k start first = (refl, ([], Consumes-nil start.bytes, (refl, inl (Appends-nil first.bytes))))
+none_read k start first = (refl, ([], gives_none start, (refl, inl (Appends-nil first.bytes))))

@@ -1,7 +1,6 @@
 -- One piece of a feed that is followed: what has come after it, or why it ended there.
 use Rattle.std.proofs.Common.{◌≡◌, ℕ, ◌+◌, ◌<◌, ◌≤◌, true, false, List, [], ◌∷◌, ◌++◌, length, refl, sym, ap, subst, ◌∙◌, append-nil, length-append, arith}
-use Rattle.std.specs.Io.KnownBytes.{IsAtEnd, Keeps}
-use Rattle.std.proofs.KnownBytes.{Consumes-nil, Consumes-kept}
+use Rattle.std.specs.Io.KnownBytes.{IsAtEnd}
 use Rattle.bk_base.specs.Feed.{Frame, FeedValue, feed_of}
 use Rattle.bk_commit.specs.Growth.{IsPrefix}
 use Rattle.bk_frames.specs.Cutting.{Cut}
@@ -10,7 +9,7 @@ use Rattle.bk_frames.specs.Device.{Device, Fails, Gives, IfKnown, Works}
 use Rattle.bk_frames.specs.Reading.{IsPulled, room_of}
 use Rattle.bk_frames.specs.declared.fault.FaultCode.TheVariants as code
 use Rattle.bk_frames.specs.declared.pulling.TheConstants.{PIECE}
-use Rattle.bk_frames.proofs.Devices.{consumes_then}
+use Rattle.bk_frames.proofs.Devices.{gives_kept, gives_none, gives_then}
 use Rattle.bk_frames.proofs.Pulls.{all_pulled, ended_short, pull_failed, refused_piece}
 use Rattle.bk_frames.proofs.PulledBytes.{open_short, so_long}
 use Rattle.bk_results.specs.declared.fault.Fault.{Fault}
@@ -26,7 +25,7 @@ use Rattle.bk_tail.specs.private.Steps.{AdvanceFails, Advanced, GaveAfter, HasFo
 pub none_followed : (start : Device) (v : Followed) → v ≡ unfed → HasFollowed start start [] [] v
 none_followed start v is = subst (HasFollowed start start [] []) (sym is) (record {
   works = refl;
-  gave = Consumes-nil start.bytes;
+  gave = gives_none start;
   come = record {
     cuts = in_magic refl refl refl refl refl refl;
     is_open = λ some. absurd (omega (arith, some));
@@ -60,11 +59,11 @@ gave_now start now bytes holds gave h = (bytes, gave, (whole_prefix bytes, h))
 
 -- ---- the source failed
 
-pub read_fails : (f : Fault) (offset : ℕ) (start now later : Device) (bytes : List ℕ) (frames : List Frame) (v : Followed) → f ≡ fault.Feed (record { offset = offset; code = code.Read }) → offset ≡ v.cut.offset → Keeps now.bytes later.bytes → Fails now later
+pub read_fails : (f : Fault) (offset : ℕ) (start now later : Device) (bytes : List ℕ) (frames : List Frame) (v : Followed) → f ≡ fault.Feed (record { offset = offset; code = code.Read }) → offset ≡ v.cut.offset → Gives now later [] → Fails now later
     → HasFollowed start now bytes frames v → AdvanceFails f start later bytes
 read_fails f offset start now later bytes frames v is at kept fails h = subst (λ (g : Fault). AdvanceFails g start later bytes) (sym is) (
   pull_failed start now later bytes frames v.cut offset (pulled start now bytes frames v h) kept fails at,
-  gave_now start later bytes (λ given. Unit {0}) (Consumes-kept start.bytes now.bytes later.bytes bytes h.gave kept) tt,
+  gave_now start later bytes (λ given. Unit {0}) (gives_kept start now later bytes h.gave kept) tt,
 )
 
 -- ---- the source is at its end
@@ -76,7 +75,7 @@ no_items (b ∷ piece) e = absurd (omega (arith, e))
 pub nothing_more : (start now later : Device) (bytes piece : List ℕ) (frames : List Frame) (v : Followed) → length piece ≡ 0 → Gives now later piece → Works now later → HasFollowed start now bytes frames v → HasFollowed start later bytes frames v
 nothing_more start now later bytes piece frames v none gave works h = record {
   works = works ∙ h.works;
-  gave = subst (Gives start later) (ap (λ (t : List ℕ). bytes ++ t) (no_items piece none) ∙ append-nil bytes) (consumes_then start.bytes now.bytes later.bytes bytes piece h.gave gave);
+  gave = subst (Gives start later) (ap (λ (t : List ℕ). bytes ++ t) (no_items piece none) ∙ append-nil bytes) (gives_then start now later bytes piece h.gave gave);
   come = h.come;
 }
 
@@ -115,14 +114,14 @@ closed start now bytes frames v w c all h =
 pub feed_fails : (f : Fault) (start now later : Device) (bytes piece : List ℕ) (frames : List Frame) (v : Followed) → Gives now later piece → Works now later → length piece ≤ PIECE → FeedFails v piece f → HasFollowed start now bytes frames v → AdvanceFails f start later bytes
 feed_fails (fault.Feed found) start now later bytes piece frames v gave works few r h = (
   refused_piece start now later bytes piece frames v.cut found (pulled start now bytes frames v h) gave works few r,
-  (bytes ++ piece, consumes_then start.bytes now.bytes later.bytes bytes piece h.gave gave, ((piece, refl), tt)),
+  (bytes ++ piece, gives_then start now later bytes piece h.gave gave, ((piece, refl), tt)),
 )
 feed_fails (fault.Collision id) start now later bytes piece frames v gave works few r h = absurd r
 feed_fails (fault.Equivocation round author one other) start now later bytes piece frames v gave works few r h = absurd r
 feed_fails (fault.Unfinished place) start now later bytes piece frames v gave works few r h = absurd r
 feed_fails (fault.Write written) start now later bytes piece frames v gave works few r h = absurd r
 feed_fails fault.Memory start now later bytes piece frames v gave works few r h =
-    (works ∙ h.works, (bytes ++ piece, consumes_then start.bytes now.bytes later.bytes bytes piece h.gave gave, ((piece, refl), tt)))
+    (works ∙ h.works, (bytes ++ piece, gives_then start now later bytes piece h.gave gave, ((piece, refl), tt)))
 
 -- ---- a piece that is taken
 
@@ -130,7 +129,7 @@ pub taken : (start now later : Device) (bytes piece : List ℕ) (frames : List F
     → (more : List Frame) × HasFollowed start later (bytes ++ piece) (frames ++ more) w
 taken start now later bytes piece frames v w gave works takes h =
     let t = takes bytes frames h.come in
-    (t.0, record { works = works ∙ h.works; gave = consumes_then start.bytes now.bytes later.bytes bytes piece h.gave gave; come = t.1 })
+    (t.0, record { works = works ∙ h.works; gave = gives_then start now later bytes piece h.gave gave; come = t.1 })
 
 pub settle_fails : (f : Fault) (start now : Device) (bytes piece : List ℕ) (frames : List Frame) (w u : Followed) → SettleFails w u f → HasFollowed start now (bytes ++ piece) frames w → AdvanceFails f start now bytes
 settle_fails (fault.Feed found) start now bytes piece frames w u s h = absurd s

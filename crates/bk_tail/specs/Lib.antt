@@ -1,4 +1,3 @@
 pub mod Tailing
-pub mod Waits
 pub mod Laws
 pub mod private

@@ -1,8 +1,8 @@
 //! A feed that is followed while it grows, and its table written as it becomes final.
 //!
 //! [`tail_transactions`] and [`tail_postings`] read a feed a piece at a time. After each piece they settle the whole frames
-//! so far, and write the rows of the places that this executed before they read more. Rows that are out stay. A
-//! [`Waiting`] source has no end, where it is waited for more.
+//! so far, and write the rows of the places that this executed before they read more. Rows that are out stay. Where it is
+//! waited for, a source has no end.
 #![tactic(auto)]
 
 mod laws;
@@ -11,9 +11,7 @@ mod piece;
 mod postings;
 mod rows;
 mod tail;
-mod waiting;
 
 pub use laws::rows_stay;
 pub use payments::tail_transactions;
 pub use postings::tail_postings;
-pub use waiting::Waiting;

@@ -1,27 +1,31 @@
 //! One piece of a feed that is followed.
 
-ghost use Rattle.std.specs.Prelude.{◌≡◌, ◌<◌, ◌≤◌, ℕ, List, length, take, false, IfOk, IfErr};
-ghost use Rattle.std.specs.Io.KnownBytes.{IsAtEnd, Keeps};
+ghost use Rattle.std.specs.Prelude.{◌≡◌, ◌<◌, ◌≤◌, ℕ, List, [], length, take, true, false, IfOk, IfErr};
+ghost use Rattle.std.specs.Io.KnownBytes.{IsAtEnd};
 ghost use Rattle.bk_answer.specs.RunReport.{reach_of};
 ghost use Rattle.bk_base.specs.Feed.{Frame};
 ghost use Rattle.bk_follow.specs.Queries.{missing_in};
-ghost use Rattle.bk_frames.specs.Device.{CanBeUsed, Device, Fails, Gives, Works};
+ghost use Rattle.bk_frames.specs.Device.{CanBeUsed, Device, EndsBy, Fails, Gives, Works};
 ghost use Rattle.bk_frames.specs.Reading.{room_of};
 ghost use Rattle.bk_frames.specs.declared.fault.FaultCode.TheVariants as code;
 ghost use Rattle.bk_frames.specs.declared.pulling.TheConstants.{PIECE};
 ghost use Rattle.bk_results.specs.declared.fault.Fault.TheVariants as fault;
-ghost use Rattle.bk_tail.specs.private.Steps.{AdvanceFails, Advanced, HasFollowed};
+ghost use Rattle.bk_tail.specs.private.Steps.{AdvanceFails, Advanced, EndsIf, HasFollowed};
 
 use bk_follow::Follower;
 use bk_frames::{FaultCode, FeedFault, Source};
 use bk_pool::Gate;
 use bk_results::{Fault, Status};
 use std::sync::Wait;
-use std::thread::Threads;
+use std::thread::{Threads, sleep};
+use std::time::{Clock, Duration};
+
+// How long it waits before it looks again, in milliseconds.
+const PAUSE: u64 = 100;
 
 // Pulls the next piece, of at most the bytes that `piece` has room for. Returns how many came: 0 at the end. The frame
 // that is being read begins at this offset.
-fn pull<S: Source>(source: &mut S, piece: &mut [u8], offset: u64) -> Result<usize, Fault>
+fn pull_once<S: Source>(source: &mut S, piece: &mut [u8], offset: u64) -> Result<usize, Fault>
     requires sound { CanBeUsed (S.state source.old) }
     requires some { 0 < length piece.old }
     ensures bound { IfOk result (λ n. n ≤ length piece.new) }
@@ -29,8 +33,9 @@ fn pull<S: Source>(source: &mut S, piece: &mut [u8], offset: u64) -> Result<usiz
         (take n piece.new)) }
     ensures works { IfOk result (λ n. Works (S.state source.old) (S.state source.new)) }
     ensures end { IfOk result (λ n. n ≡ 0 → IsAtEnd (S.state source.new).bytes) }
+    ensures ends { IfOk result (λ n. EndsBy n (S.state source.old) (S.state source.new)) }
     ensures fault { IfErr result (λ f. f ≡ fault.Feed (record { offset = offset; code = code.Read })) }
-    ensures kept { IfErr result (λ f. Keeps (S.state source.old).bytes (S.state source.new).bytes) }
+    ensures kept { IfErr result (λ f. Gives (S.state source.old) (S.state source.new) []) }
     ensures fails { IfErr result (λ f. Fails (S.state source.old) (S.state source.new)) }
 {
     match source.pull(piece) {
@@ -42,8 +47,65 @@ fn pull<S: Source>(source: &mut S, piece: &mut [u8], offset: u64) -> Result<usiz
     }
 }
 
+// Pulls until something comes, with a pause after each time that nothing did.
+fn pull_waiting<R: Clock + Wait, S: Source>(
+    rt: &R,
+    source: &mut S,
+    piece: &mut [u8],
+    offset: u64,
+) -> Result<usize, Fault>
+    requires sound { CanBeUsed (S.state source.old) }
+    requires some { 0 < length piece.old }
+    ensures bound { IfOk result (λ n. n ≤ length piece.new) }
+    ensures came { IfOk result (λ n. Gives (S.state source.old) (S.state source.new)
+        (take n piece.new)) }
+    ensures works { IfOk result (λ n. Works (S.state source.old) (S.state source.new)) }
+    ensures some { IfOk result (λ n. 0 < n) }
+    ensures fault { IfErr result (λ f. f ≡ fault.Feed (record { offset = offset; code = code.Read })) }
+    ensures kept { IfErr result (λ f. Gives (S.state source.old) (S.state source.new) []) }
+    ensures fails { IfErr result (λ f. Fails (S.state source.old) (S.state source.new)) }
+{
+    for _ in rt.forever() {
+        let count = pull_once(source, piece, offset)?;
+        if count > 0 {
+            return Ok(count);
+        }
+        sleep(rt, Duration::from_millis(PAUSE));
+    }
+    unreachable!()
+}
+
+// Pulls the next piece. Where it is waited for, there is no end: it waits until something comes.
+fn pull<R: Clock + Wait, S: Source>(
+    rt: &R,
+    source: &mut S,
+    piece: &mut [u8],
+    offset: u64,
+    waits: bool,
+) -> Result<usize, Fault>
+    requires sound { CanBeUsed (S.state source.old) }
+    requires some { 0 < length piece.old }
+    ensures bound { IfOk result (λ n. n ≤ length piece.new) }
+    ensures came { IfOk result (λ n. Gives (S.state source.old) (S.state source.new)
+        (take n piece.new)) }
+    ensures works { IfOk result (λ n. Works (S.state source.old) (S.state source.new)) }
+    ensures some { waits ≡ true → IfOk result (λ n. 0 < n) }
+    ensures end { IfOk result (λ n. n ≡ 0 → IsAtEnd (S.state source.new).bytes) }
+    ensures ends { waits ≡ false → IfOk result (λ n. EndsBy n
+        (S.state source.old) (S.state source.new)) }
+    ensures fault { IfErr result (λ f. f ≡ fault.Feed (record { offset = offset; code = code.Read })) }
+    ensures kept { IfErr result (λ f. Gives (S.state source.old) (S.state source.new) []) }
+    ensures fails { IfErr result (λ f. Fails (S.state source.old) (S.state source.new)) }
+{
+    if waits {
+        pull_waiting(rt, source, piece, offset)
+    } else {
+        pull_once(source, piece, offset)
+    }
+}
+
 /// Pulls the next piece of a feed, takes it, and settles the whole frames so far; at the end of the source it closes the
-/// feed. Returns whether the end was reached.
+/// feed. Returns whether the end was reached. Where it is waited for, there is no end.
 ///
 /// A fault of the feed that the piece shows comes before a stop.
 pub(crate) fn advance<R, S: Source, G: Gate + Sync>(
@@ -52,9 +114,10 @@ pub(crate) fn advance<R, S: Source, G: Gate + Sync>(
     piece: &mut [u8],
     follower: &mut Follower,
     gate: &G,
+    waits: bool,
 ) -> Result<bool, Fault>
 where
-    R: Threads + Wait + Sync,
+    R: Clock + Threads + Wait + Sync,
     requires sound { CanBeUsed (S.state source.old) }
     requires some { 0 < length piece.old }
     requires few { length piece.old ≤ PIECE }
@@ -63,13 +126,16 @@ where
     ensures next { IfOk result (λ ended. (start : Device) (bytes : List ℕ) (frames : List Frame)
         → HasFollowed start (S.state source.old) bytes frames follower.old
         → Advanced start (S.state source.new) bytes frames follower.new ended) }
+    ensures goes_on { waits ≡ true → IfOk result (λ ended. ended ≡ false) }
+    ensures ends { waits ≡ false → IfOk result (λ ended. EndsIf ended
+        (S.state source.old) (S.state source.new)) }
     ensures nearer { IfOk result (λ ended. ended ≡ false
         → room_of follower.new.cut < room_of follower.old.cut) }
     ensures fault { IfErr result (λ f. (start : Device) (bytes : List ℕ) (frames : List Frame)
         → HasFollowed start (S.state source.old) bytes frames follower.old
         → AdvanceFails f start (S.state source.new) bytes) }
 {
-    let count = pull(source, piece, follower.offset())?;
+    let count = pull(rt, source, piece, follower.offset(), waits)?;
     if count == 0 {
         follower.close(rt, gate)?;
         return Ok(true);

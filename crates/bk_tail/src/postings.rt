@@ -1,6 +1,6 @@
 //! What the places of a feed do to each account, where the feed is followed.
 
-ghost use Rattle.std.specs.Prelude.{◌≤◌, IfOk, IfErr};
+ghost use Rattle.std.specs.Prelude.{◌≡◌, ◌≤◌, false, IfOk, IfErr};
 ghost use Rattle.bk_answer.specs.Answers.{IsAnswered};
 ghost use Rattle.bk_answer.specs.Flaws.{judged_text};
 ghost use Rattle.bk_frames.specs.Device.{CanBeUsed};
@@ -21,6 +21,7 @@ use bk_tables::{Accounts, PostingRows, Postings};
 use std::alloc::{AllocError, Global};
 use std::sync::Wait;
 use std::thread::Threads;
+use std::time::Clock;
 
 impl TableRows for PostingRows {
     ghost kind = { postings };
@@ -60,7 +61,8 @@ impl TableRows for PostingRows {
 /// piece of at most [`PIECE`](bk_frames::PIECE) bytes, the rows of the places that the whole frames so far add to the
 /// order, before more is read. The header comes with the first rows, or at the end. The accounts after the places that
 /// are out are kept, so a piece executes only its own places for their rows. Where `strict` is set, it is found at the end
-/// what keeps the feed from counting whole.
+/// what keeps the feed from counting whole. Where `waits` is set, there is no end: at the end of the source it waits for
+/// more, and only an error ends it.
 ///
 /// A fault of the feed or a stop ends it at the piece that shows it, and of that piece no row is written. What is out
 /// then is the table of a feed that nothing stops, or nothing; what a failed sink has is the beginning of one.
@@ -73,12 +75,14 @@ pub fn tail_postings<R, S: Source, K: Sink, G: Gate + Sync>(
     gate: &G,
     asked: &Postings,
     strict: bool,
+    waits: bool,
 ) -> Result<Ended<Status>, Fault>
 where
-    R: Threads + Wait + Sync,
+    R: Clock + Threads + Wait + Sync,
     requires source { CanBeUsed (S.state source.old) }
     requires sink { CanBeUsed (K.state sink.old) }
     requires workers { (1 ≤ workers) × (workers ≤ 64) }
+    ensures unwaited { IfOk result (λ ended. waits ≡ false) }
     ensures answer { IfOk result (λ ended. IsAnswered (judged_text strict (IsPostingTable asked.now.accounts)) ended
         (devices (S.state source.old) (K.state sink.old))
         (devices (S.state source.new) (K.state sink.new))) }
@@ -87,5 +91,7 @@ where
         (devices (S.state source.new) (K.state sink.new))) }
 {
     let accounts = &asked.accounts;
-    tail_table::<R, S, K, G, PostingRows>(rt, alloc, source, sink, workers, gate, accounts, strict)
+    tail_table::<R, S, K, G, PostingRows>(
+        rt, alloc, source, sink, workers, gate, accounts, strict, waits,
+    )
 }

@@ -1,6 +1,6 @@
 //! A table that is written while its feed is followed.
 
-ghost use Rattle.std.specs.Prelude.{◌≡◌, ◌<◌, ◌≤◌, ℕ, List, [], Option, length, IfOk, IfErr, IfSome, OnOk};
+ghost use Rattle.std.specs.Prelude.{◌≡◌, ◌<◌, ◌≤◌, ℕ, List, [], Option, length, false, IfOk, IfErr, IfSome, OnOk};
 ghost use Rattle.bk_answer.specs.Answers.{IsAnswered};
 ghost use Rattle.bk_answer.specs.Flaws.{judged_text};
 ghost use Rattle.bk_base.specs.Feed.{Frame};
@@ -26,6 +26,7 @@ use bk_tables::Accounts;
 use std::alloc::Global;
 use std::sync::Wait;
 use std::thread::Threads;
+use std::time::Clock;
 
 // Puts the rows of the places that were executed since the last call.
 fn put_new<T: TableRows, K: Sink>(
@@ -70,10 +71,11 @@ fn tail_rows<R, S: Source, K: Sink, G: Gate + Sync, T: TableRows>(
     gate: &G,
     accounts: &Option<Accounts>,
     strict: bool,
+    waits: bool,
     rows: &mut T,
 ) -> Result<Ended<Status>, Fault>
 where
-    R: Threads + Wait + Sync,
+    R: Clock + Threads + Wait + Sync,
     requires some { 0 < length piece.old }
     requires few { length piece.old ≤ PIECE }
     requires first { follower.old ≡ unfed }
@@ -81,6 +83,7 @@ where
     requires before { (version : Version) (genesis : List Row) → T.holds rows.old version genesis [] }
     requires source { CanBeUsed (S.state source.old) }
     requires sink { CanBeUsed (K.state sink.old) }
+    ensures unwaited { IfOk result (λ ended. waits ≡ false) }
     ensures answer { IfOk result (λ ended. IsAnswered (judged_text strict (T.kind accounts.now).text) ended
         (devices (S.state source.old) (K.state sink.old))
         (devices (S.state source.new) (K.state sink.new))) }
@@ -89,7 +92,7 @@ where
         (devices (S.state source.new) (K.state sink.new))) }
 {
     'pieces: loop {
-        let ended = advance(rt, source, piece, follower, gate)?;
+        let ended = advance(rt, source, piece, follower, gate, waits)?;
         put_new(alloc, rows, sink, accounts, follower)?;
         if ended {
             let flaw = follower.flaw_if(strict)?;
@@ -111,12 +114,14 @@ pub(crate) fn tail_table<R, S: Source, K: Sink, G: Gate + Sync, T: TableRows + D
     gate: &G,
     accounts: &Option<Accounts>,
     strict: bool,
+    waits: bool,
 ) -> Result<Ended<Status>, Fault>
 where
-    R: Threads + Wait + Sync,
+    R: Clock + Threads + Wait + Sync,
     requires source { CanBeUsed (S.state source.old) }
     requires sink { CanBeUsed (K.state sink.old) }
     requires workers { (1 ≤ workers) × (workers ≤ 64) }
+    ensures unwaited { IfOk result (λ ended. waits ≡ false) }
     ensures answer { IfOk result (λ ended. IsAnswered (judged_text strict (T.kind accounts.now).text) ended
         (devices (S.state source.old) (K.state sink.old))
         (devices (S.state source.new) (K.state sink.new))) }
@@ -137,6 +142,7 @@ where
         gate,
         accounts,
         strict,
+        waits,
         &mut rows,
     );
     follower.discard();

@@ -26,7 +26,8 @@ fn main(rt: HostRuntime) -> ExitCode {
         display: Display::new(&rt, terminal),
         typed,
     };
-    let mut access = Access::new(Inputs::new(&rt), Inputs::new(&rt), rt.reader());
+    let input = Counted::new(rt.reader());
+    let mut access = Access::new(Inputs::new(&rt), Inputs::new(&rt), input);
     let end = program(&rt, &system, &mut access, &mut speaker, &mut out, &mut err);
     ExitCode::from(end.number())
 }

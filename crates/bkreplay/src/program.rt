@@ -1,23 +1,22 @@
 //! From the words of the command line to the exit status.
 
-ghost use Rattle.std.specs.Prelude.{◌≡◌, map, None};
+ghost use Rattle.std.specs.Prelude.{◌≡◌, map, None, IfSome};
 ghost use Rattle.std.specs.IoError.{error_kind};
 ghost use Rattle.bk_frames.specs.Device.{CanBeUsed};
 ghost use Rattle.bk_cli.specs.Words.{settled};
-ghost use Rattle.bk_jobs.specs.Reads.{IsThere, sight};
+ghost use Rattle.bk_jobs.specs.Reads.{IsThere, input_device, sight};
 ghost use Rattle.bk_jobs.specs.Sources.{CanBeUsedAgain};
 ghost use Rattle.bkreplay.specs.Endings.{RanProgram, RanWords, SaysUnread};
 
 use crate::arguments::Arguments;
 use crate::speaker::Speaker;
 use bk_cli::{Exit, JobFault, Line, parse_line, report};
-use bk_frames::{Sink, push_all};
+use bk_frames::{Sink, Source, push_all};
 use bk_jobs::{Access, Opens, open_and_run};
 use bk_progress::Display;
 use bk_results::Fault;
 use std::convert::AsStr;
 use std::io;
-use std::io::Read;
 use std::sync::Wait;
 use std::thread::Threads;
 use std::time::Clock;
@@ -47,15 +46,17 @@ where
     R: AllocGlobal + Clock + Threads + Wait + Sync,
     W: Arguments,
     N: Opens,
-    I: Read + Drop,
+    I: Source + Drop,
     P: Clock + Eprint + Sync,
     Q: Print + Eprint,
     requires silent { speaker.old ≡ None }
     requires there { IsThere access.old }
+    requires input { IfSome (input_device (sight N.holds N.lacks N.File.state I.state) access.old)
+        CanBeUsed }
     requires out { CanBeUsed (O.state out.old) }
     requires err { CanBeUsedAgain (E.state err.old) }
     ensures ran { RanProgram (W.gives system.now.arguments.now) (W.lacks system.now.arguments.now)
-        (sight N.holds N.lacks N.File.remaining I.remaining) access.old access.new speaker.new result
+        (sight N.holds N.lacks N.File.state I.state) access.old access.new speaker.new result
         (O.state out.old) (O.state out.new) (E.state err.old) (E.state err.new) }
 {
     match system.arguments.words() {
@@ -84,14 +85,16 @@ fn run_words<R, W, N, I, P, Q, S: AsStr, O: Sink, E: Sink>(
 where
     R: AllocGlobal + Clock + Threads + Wait + Sync,
     N: Opens,
-    I: Read + Drop,
+    I: Source + Drop,
     P: Clock + Eprint + Sync,
     Q: Print + Eprint,
     requires silent { speaker.old ≡ None }
     requires there { IsThere access.old }
+    requires input { IfSome (input_device (sight N.holds N.lacks N.File.state I.state) access.old)
+        CanBeUsed }
     requires out { CanBeUsed (O.state out.old) }
     requires err { CanBeUsedAgain (E.state err.old) }
-    ensures ran { RanWords (sight N.holds N.lacks N.File.remaining I.remaining) access.old access.new
+    ensures ran { RanWords (sight N.holds N.lacks N.File.state I.state) access.old access.new
         (settled (map S.text words.now)) speaker.new result
         (O.state out.old) (O.state out.new) (E.state err.old) (E.state err.new) }
 {

@@ -4,7 +4,6 @@ use Rattle.bk_frames.specs.Device.{Device}
 use Rattle.bk_cli.specs.Files.{is_input, second_file_of}
 use Rattle.bk_cli.specs.declared.exit.Exit.{Exit}
 use Rattle.bk_cli.specs.declared.job.Job.{Job}
-use Rattle.bk_cli.specs.declared.job.Job.TheVariants as job
 use Rattle.bk_jobs.specs.Openings.{RanSo}
 use Rattle.bk_jobs.specs.Sources.{JobDevices}
 use Rattle.bk_jobs.specs.declared.inputs.Access.{Access}
@@ -31,11 +30,6 @@ pub record IsReadOnly {N F I : Type 0} (old new : Access N F I) : Type 0 where
   pub first : new.first ≡ old.first
   pub second : new.second ≡ old.second
   pub input : new.input ≡ old.input
-
--- the end of the first file of a job is waited at for more
-abbrev pub waits_at_end : Job → Bool
-waits_at_end (job.Follow workers shown accounts wait file) = wait
-waits_at_end _ = false
 
 -- standard input is read in place of the second file of a job
 abbrev pub names_input_second : Job → Bool

@@ -1,8 +1,8 @@
 -- One piece of a feed that is followed.
-use Rattle.std.specs.Prelude.{◌≡◌, ℕ, Bool, true, List, Some}
+use Rattle.std.specs.Prelude.{◌≡◌, ℕ, Bool, true, false, List, Some}
 use Rattle.bk_base.specs.Feed.{Frame, FeedValue, IsFeed}
 use Rattle.bk_commit.specs.Growth.{IsPrefix}
-use Rattle.bk_frames.specs.Device.{Device, Works, Gives, IfKnown}
+use Rattle.bk_frames.specs.Device.{Device, Ends, EndsNot, Works, Gives, IfKnown}
 use Rattle.bk_frames.specs.Pulling.{Gave, Refuses}
 use Rattle.bk_results.specs.declared.fault.Fault.{Fault}
 use Rattle.bk_results.specs.declared.fault.Fault.TheVariants as fault
@@ -31,6 +31,11 @@ pub record Advanced (start now : Device) (bytes : List ℕ) (frames : List Frame
   pub followed : HasFollowed start now all whole v
   pub settled : IsSettled whole v
   pub ends : ended ≡ true → IfKnown start (λ given. given ≡ all) × IsWholeFeed all whole v
+
+-- the source ended once, or did not
+abbrev pub EndsIf : Bool → Device → Device → Type 0
+EndsIf true old new = Ends old new
+EndsIf false old new = EndsNot old new
 
 -- this holds of the bytes that a source gave, which begin with these
 abbrev pub GaveAfter : Device → Device → List ℕ → (List ℕ → Type 0) → Type 0

@@ -17,4 +17,4 @@ returns-in_err-write_view-clause-fault g c =
     rw (p.1, p.2) (view_writes_not c.args.view (order_value c.args.order.now) c.rounds-rounds.result.now c.rounds-rounds.ensures.rounds _ _ c.in_err-write_view.field-0.0 c.in_err-write_view.ensures.fault)
 
 pub returns-clause-out : goal.returns-clause-out
-returns-clause-out g c = view_writes c.args.view (order_value c.args.order.now) c.rounds-rounds.result.now c.rounds-rounds.ensures.rounds _ _ c.copied-missing.result (c.copied-missing.ensures ∙ c.missing.ensures) c.in_ok-write_view.ensures.out
+returns-clause-out g c = view_writes c.args.view (order_value c.args.order.now) c.rounds-rounds.result.now c.rounds-rounds.ensures.rounds (g.K.Sink.state c.args.sink.now) (g.K.Sink.state c.write_view.new.sink) c.copied-missing.result (c.copied-missing.ensures ∙ c.missing.ensures) c.in_ok-write_view.ensures.out

@@ -16,4 +16,4 @@ returns-in_err-reply-clause-fault g c =
     rw (p.1, p.2) (replies_not c.args.query.now (closed_value c.args.closed.now) _ _ c.in_err-reply.field-0.0 c.in_err-reply.ensures.fault)
 
 pub returns-clause-out : goal.returns-clause-out
-returns-clause-out g c = replies c.args.query.now (closed_value c.args.closed.now) _ _ (record { reply = c.in_ok-reply.reply; missing = c.copied-missing.result }) c.in_ok-reply.ensures.reply (c.copied-missing.ensures ∙ c.missing.ensures)
+returns-clause-out g c = replies c.args.query.now (closed_value c.args.closed.now) (g.K.Sink.state c.args.sink.now) (g.K.Sink.state c.write_reply.new.sink) (record { reply = c.in_ok-reply.reply; missing = c.copied-missing.result }) c.in_ok-reply.ensures.reply (c.copied-missing.ensures ∙ c.missing.ensures)

@@ -27,7 +27,7 @@ returns-in-Some-missing-clause-reply g c =
     let run = course_in c.args.intake.now c.args.opening.now c.args.ledger.now in
     let is = subst (λ (o : Option _). MatchOption o (IsNowhere run c.args.id) (λ t. IsStatement run c.args.id (string_bytes t))) c.in-Some.is c.in_ok-text.ensures in
     let text = subst (λ (t : List ℕ). IsStatement run c.args.id t) (sym c.as_bytes.ensures.value) is in
-    statement_short (ending_of c.args.intake.now c.args.opening.now c.args.ledger.now) c.args.id c.as_bytes.result.now _ _ _ text
+    statement_short (ending_of c.args.intake.now c.args.opening.now c.args.ledger.now) c.args.id c.as_bytes.result.now _ (g.K.Sink.state c.args.sink.now) (g.K.Sink.state c.push_all.new.sink) text
     (sym c.missing.ensures ∙ ap option_copied c.in-Some-missing.is) c.in_ok-push_all.ensures.ok
 
 pub returns-clause-reply : goal.returns-clause-reply
@@ -35,5 +35,5 @@ returns-clause-reply g c =
     let run = course_in c.args.intake.now c.args.opening.now c.args.ledger.now in
     let is = subst (λ (o : Option _). MatchOption o (IsNowhere run c.args.id) (λ t. IsStatement run c.args.id (string_bytes t))) c.in-Some.is c.in_ok-text.ensures in
     let text = subst (λ (t : List ℕ). IsStatement run c.args.id t) (sym c.as_bytes.ensures.value) is in
-    statement_found (ending_of c.args.intake.now c.args.opening.now c.args.ledger.now) c.args.id c.as_bytes.result.now _ _ text
+    statement_found (ending_of c.args.intake.now c.args.opening.now c.args.ledger.now) c.args.id c.as_bytes.result.now (g.K.Sink.state c.args.sink.now) (g.K.Sink.state c.push_all.new.sink) text
     (sym c.missing.ensures ∙ ap option_copied c.in-None.is) c.in_ok-push_all.ensures.ok

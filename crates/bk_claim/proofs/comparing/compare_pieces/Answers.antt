@@ -9,14 +9,14 @@ returns-then-same-count-clause-found g c =
     let same = c.common-same.ensures in
     found_known (g.S.Source.state c.args.claimed.now).bytes (g.S.Source.state c.pieces.claimed).bytes (g.S.Source.state c.pull.new.self).bytes
     right (take (length right - c.pieces.at) (drop c.pieces.at right)) c.pull.new.buf c.pieces.at c.common-same.result c.in_ok-count.count c.in_ok-line.line
-    c.pieces.invariant.inside (take_rest right c.pieces.at) c.pieces.invariant.same c.in_ok-count.ensures.bytes.0 c.in_ok-count.ensures.bound
+    c.pieces.invariant.inside (take_rest right c.pieces.at) c.pieces.invariant.same.known c.in_ok-count.ensures.bytes.0.known c.in_ok-count.ensures.bound
     same.one c.if-same-count.true same.same (same.differ (omega (arith, length-take c.in_ok-count.count c.pull.new.buf, c.in_ok-count.ensures.bound, c.if-same-count.true))) c.in_ok-line.ensures.line
 
 pub pieces-preserved : goal.pieces-preserved
 pieces-preserved g c =
     let right = c.args.right.now in
     let same = c.common-same.ensures in
-    let next = piece_is_same (g.S.Source.state c.args.claimed.now).bytes (g.S.Source.state c.pieces.claimed).bytes (g.S.Source.state c.pull.new.self).bytes
+    let next = piece_is_same (g.S.Source.state c.args.claimed.now) (g.S.Source.state c.pieces.claimed) (g.S.Source.state c.pull.new.self)
     right (take (length right - c.pieces.at) (drop c.pieces.at right)) c.pull.new.buf c.pieces.at c.common-same.result c.in_ok-count.count
     c.pieces.invariant.inside (take_rest right c.pieces.at) c.pieces.invariant.same c.in_ok-count.ensures.bytes.0 c.in_ok-count.ensures.bound
     same.one same.other c.if-same-count.false same.same in

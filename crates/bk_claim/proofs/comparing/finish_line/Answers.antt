@@ -6,7 +6,7 @@ pub returns-then-count-eq0-clause-line : goal.returns-then-count-eq0-clause-line
 returns-then-count-eq0-clause-line g c =
     let bytes = c.in_ok-count.ensures.bytes in
     leads_end (g.S.Source.state c.args.claimed.now).bytes (g.S.Source.state c.pieces.claimed).bytes (g.S.Source.state c.pull.new.self).bytes
-    c.args.line.now.items c.pieces.line.items c.pull.new.buf c.in_ok-count.count c.pieces.invariant.leads bytes.0 c.if-count-eq0.true
+    c.args.line.now.items c.pieces.line.items c.pull.new.buf c.in_ok-count.count c.pieces.invariant.leads bytes.0.known c.if-count-eq0.true
     (bytes.1 c.if-count-eq0.true (omega (arith, c.pieces.invariant.some, c.pull.auto.buf))) c.pieces.invariant.short
 
 pub returns-then-count-eq0-clause-given : goal.returns-then-count-eq0-clause-given
@@ -39,5 +39,5 @@ pieces-preserved g c =
       some = omega (arith, c.pieces.invariant.some, c.pull.auto.buf);
       short = c.put_line.ensures.short;
       given = led_on a b d c.args.line.now.items c.pieces.line.items c.put_line.new.line.items came c.in_ok-put_line.field-0 c.pieces.invariant.given c.in_ok-count.ensures.bytes.0 c.in_ok-put_line.ensures.line c.if-branch.false;
-      leads = leads_on a.bytes b.bytes d.bytes c.args.line.now.items c.pieces.line.items c.put_line.new.line.items came c.in_ok-put_line.field-0 c.pieces.invariant.leads c.in_ok-count.ensures.bytes.0 c.in_ok-put_line.ensures.line c.if-branch.false;
+      leads = leads_on a.bytes b.bytes d.bytes c.args.line.now.items c.pieces.line.items c.put_line.new.line.items came c.in_ok-put_line.field-0 c.pieces.invariant.leads c.in_ok-count.ensures.bytes.0.known c.in_ok-put_line.ensures.line c.if-branch.false;
     }

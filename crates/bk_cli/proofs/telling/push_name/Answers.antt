@@ -5,9 +5,9 @@ use Rattle.bk_cli.proofs.telling.push_name.Goals as goal
 pub returns-in-Ok : goal.returns-in-Ok
 returns-in-Ok g c =
     then_reports _ c.args.name.now c.args.words.now
-    (g.E.Sink.state c.args.err.now) (g.E.Sink.state c.push_all.new.sink) _ c.as_bytes.ensures.value c.in-Ok.ensures.ok c.push_words.ensures
+    (g.E.Sink.state c.args.err.now) (g.E.Sink.state c.push_all.new.sink) (g.E.Sink.state c.push_words.new.err) c.as_bytes.ensures.value c.in-Ok.ensures.ok c.push_words.ensures
 
 pub returns-in-Err : goal.returns-in-Err
 returns-in-Err g c =
     stops_reporting _ _ c.args.name.now c.args.words.now
-    (g.E.Sink.state c.args.err.now) _ c.as_bytes.ensures.value c.in-Err.ensures.fault
+    (g.E.Sink.state c.args.err.now) (g.E.Sink.state c.push_all.new.sink) c.as_bytes.ensures.value c.in-Err.ensures.fault

@@ -6,9 +6,9 @@ use Rattle.bk_cli.proofs.telling.push_note.Goals as goal
 pub returns-in-Ok : goal.returns-in-Ok
 returns-in-Ok g c =
     then_reports _ (codes "bkreplay: ") (c.args.name.now ++ c.args.words.now)
-    (g.E.Sink.state c.args.err.now) (g.E.Sink.state c.push_all.new.sink) _ refl c.in-Ok.ensures.ok c.push_name.ensures
+    (g.E.Sink.state c.args.err.now) (g.E.Sink.state c.push_all.new.sink) (g.E.Sink.state c.push_name.new.err) refl c.in-Ok.ensures.ok c.push_name.ensures
 
 pub returns-in-Err : goal.returns-in-Err
 returns-in-Err g c =
     stops_reporting _ _ (codes "bkreplay: ") (c.args.name.now ++ c.args.words.now)
-    (g.E.Sink.state c.args.err.now) _ refl c.in-Err.ensures.fault
+    (g.E.Sink.state c.args.err.now) (g.E.Sink.state c.push_all.new.sink) refl c.in-Err.ensures.fault

@@ -17,4 +17,4 @@ returns-in_err-end-clause-fault g c =
     rw (p.1, p.2) (write_fails (g.A.Answer.text c.args.asked.now) c.in_err-end.field-0.0 c.args.follower.now c.close.new.self _ _ c.in_ok-close.ensures.closed c.in_err-end.ensures.fault)
 
 pub returns-clause-out : goal.returns-clause-out
-returns-clause-out g c = follower_answers (g.A.Answer.text c.args.asked.now) c.args.follower.now c.close.new.self _ _ c.in_ok-end.end c.in_ok-close.ensures.closed c.in_ok-end.ensures.out
+returns-clause-out g c = follower_answers (g.A.Answer.text c.args.asked.now) c.args.follower.now c.close.new.self (g.K.Sink.state c.args.sink.now) (g.K.Sink.state c.write_closed.new.sink) c.in_ok-end.end c.in_ok-close.ensures.closed c.in_ok-end.ensures.out

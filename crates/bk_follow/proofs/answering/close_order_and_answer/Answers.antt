@@ -17,4 +17,4 @@ returns-in_err-end-clause-fault g c =
     rw (p.1, p.2) (order_write_fails (g.A.OrderAnswer.text c.args.asked.now) c.in_err-end.field-0.0 c.args.follower.now c.close_order.new.self _ _ c.in_ok-close_order.ensures.closed c.in_err-end.ensures.fault)
 
 pub returns-clause-out : goal.returns-clause-out
-returns-clause-out g c = order_answers (g.A.OrderAnswer.text c.args.asked.now) c.args.follower.now c.close_order.new.self _ _ c.in_ok-end.end c.in_ok-close_order.ensures.closed c.in_ok-end.ensures.out
+returns-clause-out g c = order_answers (g.A.OrderAnswer.text c.args.asked.now) c.args.follower.now c.close_order.new.self (g.K.Sink.state c.args.sink.now) (g.K.Sink.state c.write_ordered.new.sink) c.in_ok-end.end c.in_ok-close_order.ensures.closed c.in_ok-end.ensures.out

@@ -12,7 +12,7 @@ write-requires-clause-closed g c = made_of c.args.follower.now.book c.in-Some.en
 pub returns-clause-out : goal.returns-clause-out
 returns-clause-out g c =
     IfOk-weaker c.write.result _ _
-    (λ end w. book_writes (g.A.Answer.text c.args.asked.now) c.args.follower.now.book c.in-Some.ensures.0 (closed_value c.in-Some.closed) _ _ end c.in-Some.ensures.1 c.in-Some.ensures.2 w)
+    (λ end w. book_writes (g.A.Answer.text c.args.asked.now) c.args.follower.now.book c.in-Some.ensures.0 (closed_value c.in-Some.closed) (g.K.Sink.state c.args.sink.now) (g.K.Sink.state c.write.new.sink) end c.in-Some.ensures.1 c.in-Some.ensures.2 w)
     c.write.ensures.out
 
 pub returns-clause-fault : goal.returns-clause-fault

@@ -26,4 +26,4 @@ returns-in_err-end-clause-unstopped g c =
     rw (p.1, p.2) (frames_answer_not (g.A.FrameAnswer.text c.args.asked.now) c.in_err-end.field-0.0 c.args.follower.now c.in_ok-intake.intake.now (g.K.Sink.state c.args.sink.now) (g.K.Sink.state c.write.new.sink) c.in_ok-intake.ensures.taken c.in_err-end.ensures.fault).1
 
 pub returns-clause-out : goal.returns-clause-out
-returns-clause-out g c = frames_answer (g.A.FrameAnswer.text c.args.asked.now) c.args.follower.now c.in_ok-intake.intake.now c.in_ok-end.end _ _ c.in_ok-intake.ensures.taken c.in_ok-end.ensures.out
+returns-clause-out g c = frames_answer (g.A.FrameAnswer.text c.args.asked.now) c.args.follower.now c.in_ok-intake.intake.now c.in_ok-end.end (g.K.Sink.state c.args.sink.now) (g.K.Sink.state c.write.new.sink) c.in_ok-intake.ensures.taken c.in_ok-end.ensures.out

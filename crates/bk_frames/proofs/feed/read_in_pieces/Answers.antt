@@ -10,6 +10,7 @@ use Rattle.bk_frames.specs.Device.{Works}
 use Rattle.bk_base.specs.Feed.{AreGoodFrom}
 use Rattle.bk_frames.specs.Reading.{IsPulled}
 use Rattle.bk_frames.specs.private.Openings.{IsOpening, CallsForAccounts}
+use Rattle.bk_frames.proofs.Devices.{ends_not_at, ends_not_then, ends_not_yet}
 use Rattle.bk_frames.proofs.EarlyGenesis.{accounts_refused, good_frames, opening_stays, none_yet}
 use Rattle.bk_frames.proofs.Pulls.{none_pulled, ended_short, at_end, whole_read}
 use Rattle.bk_frames.proofs.feed.read_in_pieces.Goals as goal
@@ -29,6 +30,7 @@ on_ok (Err e) P h = tt
 pub pieces-init : goal.pieces-init
 pieces-init g c = record {
   pulled = ([], subst (λ (fs : List (Kind × Vec ℕ)). IsPulled (g.S.Source.state c.args.source.now) (g.S.Source.state c.args.source.now) [] (frames_in fs) c.new-cutter.result) (sym c.new-frames.ensures.items) (none_pulled (g.S.Source.state c.args.source.now) c.new-cutter.result c.new-cutter.ensures));
+  goes_on = ends_not_yet (g.S.Source.state c.args.source.now);
   opening = subst (λ (fs : List (Kind × Vec ℕ)). length (frames_in fs) < 2) (sym c.new-frames.ensures.items) (omega arith);
   some = c.requires.some;
   few = c.requires.few;
@@ -53,6 +55,8 @@ pieces-preserved g c =
     let q = c.in_ok-count.ensures.pulls (g.S.Source.state c.args.source.now) c.pieces.invariant.pulled.0 [] c.pieces.invariant.pulled.1 in
     record {
       pulled = (c.pieces.invariant.pulled.0 ++ q.came, q.pulled);
+      goes_on = ends_not_then (g.S.Source.state c.args.source.now) (g.S.Source.state c.pieces.source) (g.S.Source.state c.pull_frames.new.source) c.pieces.invariant.goes_on
+          (ends_not_at c.in_ok-count.count (g.S.Source.state c.pieces.source) (g.S.Source.state c.pull_frames.new.source) c.in_ok-count.ensures.ends (omega (arith, c.if-count-eq0.false)));
       opening = subst (λ (fs : List (Kind × Vec ℕ)). IsOpening (frames_in fs) c.read_opening.new.genesis) c.deref.ensures.value c.in_ok-read_opening.ensures.read;
       some = omega (arith, c.pieces.invariant.some, c.pull_frames.auto.piece);
       few = omega (arith, c.pieces.invariant.few, c.pull_frames.auto.piece);
@@ -84,7 +88,7 @@ returns-clause-feed g c =
     let bytes = c.pieces.invariant.pulled.0 in
     let q = c.in_ok-count.ensures.pulls start bytes [] c.pieces.invariant.pulled.1 in
     let zero : c.in_ok-count.count ≡ 0 = c.if-count-eq0.true in
-    let all = at_end start bytes q.came (q.counted ∙ zero) (c.in_ok-count.ensures.all zero start bytes (frames_in c.pieces.frames.items) c.pieces.invariant.pulled.1) in
+    let all = at_end start (g.S.Source.state c.pull_frames.new.source) bytes q.came (q.counted ∙ zero) (c.in_ok-count.ensures.all zero start bytes (frames_in c.pieces.frames.items) c.pieces.invariant.pulled.1 c.pieces.invariant.goes_on) in
     map_ok c.whole_feed.result _ _ (λ feed h. (h.0, whole_read start (g.S.Source.state c.pull_frames.new.source) (bytes ++ q.came) feed q.pulled.gave (h.1 (bytes ++ q.came) q.pulled.cuts) all)) c.whole_feed.ensures.feed
 
 pub returns-clause-sound : goal.returns-clause-sound
@@ -99,5 +103,5 @@ returns-clause-fault g c =
     let bytes = c.pieces.invariant.pulled.0 in
     let q = c.in_ok-count.ensures.pulls start bytes [] c.pieces.invariant.pulled.1 in
     let zero : c.in_ok-count.count ≡ 0 = c.if-count-eq0.true in
-    let all = at_end start bytes q.came (q.counted ∙ zero) (c.in_ok-count.ensures.all zero start bytes (frames_in c.pieces.frames.items) c.pieces.invariant.pulled.1) in
-    map_err c.whole_feed.result _ _ (λ f h. ended_short start (g.S.Source.state c.pull_frames.new.source) (bytes ++ q.came) (frames_in c.pull_frames.new.frames.items) c.pull_frames.new.cutter f q.pulled all h) c.whole_feed.ensures.fault
+    let all = at_end start (g.S.Source.state c.pull_frames.new.source) bytes q.came (q.counted ∙ zero) (c.in_ok-count.ensures.all zero start bytes (frames_in c.pieces.frames.items) c.pieces.invariant.pulled.1 c.pieces.invariant.goes_on) in
+    map_err c.whole_feed.result _ _ (λ f h. ended_short start (g.S.Source.state c.pull_frames.new.source) (bytes ++ q.came) (frames_in c.pull_frames.new.frames.items) c.pull_frames.new.cutter f q.pulled all.0 h) c.whole_feed.ensures.fault

@@ -28,7 +28,7 @@ returns-in_ok-feed_into-in-Ok-clause-nearer g c = λ some.
 
 pub returns-in-Err-clause-refused : goal.returns-in-Err-clause-refused
 returns-in-Err-clause-refused g c = λ start bytes before h.
-    pull_failed start (g.S.Source.state c.args.source.now) (g.S.Source.state c.pull.new.self) bytes before c.args.cutter.now _ h c.in-Err.ensures.bytes c.in-Err.ensures.count c.offset-offset.ensures
+    pull_failed start (g.S.Source.state c.args.source.now) (g.S.Source.state c.pull.new.self) bytes before c.args.cutter.now _ h c.in-Err.ensures.bytes.0 c.in-Err.ensures.count c.offset-offset.ensures
 
 pub returns-in_err-feed_into-in-Ok-clause-before : goal.returns-in_err-feed_into-in-Ok-clause-before
 returns-in_err-feed_into-in-Ok-clause-before g c =
@@ -38,7 +38,7 @@ returns-in_err-feed_into-in-Ok-clause-before g c =
 
 pub returns-in-Err-clause-before : goal.returns-in-Err-clause-before
 returns-in-Err-clause-before g c = λ start bytes taken h.
-    front_failed start (g.S.Source.state c.args.source.now) (g.S.Source.state c.pull.new.self) bytes _ c.args.cutter.now _ h c.in-Err.ensures.bytes c.offset-offset.ensures
+    front_failed start (g.S.Source.state c.args.source.now) (g.S.Source.state c.pull.new.self) bytes _ c.args.cutter.now _ h c.in-Err.ensures.bytes.0 c.offset-offset.ensures
 
 pub returns-in_err-feed_into-in-Ok-clause-version : goal.returns-in_err-feed_into-in-Ok-clause-version
 returns-in_err-feed_into-in-Ok-clause-version g c = λ v is.

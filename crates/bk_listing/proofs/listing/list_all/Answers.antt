@@ -1,11 +1,18 @@
-use Rattle.std.proofs.Common.{refl, ◌++◌, ◌∙◌, arith}
+use Rattle.std.proofs.Common.{◌≡◌, ℕ, zero, suc, refl, ◌++◌, ◌∙◌, arith}
 use Rattle.std.proofs.lemmas.Result.{err_from_is_err_and}
+use Rattle.bk_frames.specs.Device.{Device, EndsBy, EndsNot}
+use Rattle.bk_frames.proofs.Devices.{ends_not_then}
 use Rattle.bk_frames.proofs.Pulls.{at_end}
 use Rattle.bk_results.specs.Devices.{devices}
 use Rattle.bk_listing.specs.declared.listing.FrameReader.{FrameReader}
 use Rattle.bk_listing.specs.private.Listed.{waiting}
 use Rattle.bk_listing.proofs.ShownSoFar.{all_shown, before_fault, can_list, can_list_front, can_stay, end_fault, err_on, list_on, midst_fault, ok_two, read_on}
 use Rattle.bk_listing.proofs.listing.list_all.Goals as goal
+
+-- a pull that gave something did not end the source
+still_goes_on : (start now later : Device) (n : ℕ) → EndsNot start now → EndsBy n now later → ¬ (n ≡ 0) → EndsNot start later
+still_goes_on start now later zero before last some = absurd (some refl)
+still_goes_on start now later (suc n) before last some = ends_not_then start now later before last
 
 pub pull_frames-requires-clause-pulled : goal.pull_frames-requires-clause-pulled
 pull_frames-requires-clause-pulled g c =
@@ -59,7 +66,7 @@ returns-then-count-eq0-clause-listed g c =
     let shown = read_on old now read c.pieces.reader reader c.pieces.lister c.in-Ok.count h more c.pull_frames.ensures.version refl in
     let later = devices (g.S.Source.state c.pull_frames.new.source) (g.K.Sink.state c.list_last.new.sink) in
     let zero = c.if-count-eq0.true in
-    let all = at_end start h.bytes more.came (more.counted ∙ zero) (c.in-Ok.ensures.all zero start h.bytes _ h.pulled) in
+    let all = at_end start (g.S.Source.state c.pull_frames.new.source) h.bytes more.came (more.counted ∙ zero) (c.in-Ok.ensures.all zero start h.bytes _ h.pulled c.pieces.invariant.goes_on) in
     ok_two c.list_last.result _ _ _ c.list_last.ensures.listed c.list_last.ensures.whole
     (λ listed whole. (all_shown old read later reader c.pieces.lister c.list_last.new.lister shown (listed h.taken h.text (can_list old read reader c.pieces.lister shown)) whole refl all).0)
 
@@ -75,7 +82,7 @@ returns-then-count-eq0-clause-rejected g c =
     let shown = read_on old now read c.pieces.reader reader c.pieces.lister c.in-Ok.count h more c.pull_frames.ensures.version refl in
     let later = devices (g.S.Source.state c.pull_frames.new.source) (g.K.Sink.state c.list_last.new.sink) in
     let zero = c.if-count-eq0.true in
-    let all = at_end start h.bytes more.came (more.counted ∙ zero) (c.in-Ok.ensures.all zero start h.bytes _ h.pulled) in
+    let all = at_end start (g.S.Source.state c.pull_frames.new.source) h.bytes more.came (more.counted ∙ zero) (c.in-Ok.ensures.all zero start h.bytes _ h.pulled c.pieces.invariant.goes_on) in
     ok_two c.list_last.result _ _ _ c.list_last.ensures.listed c.list_last.ensures.whole
     (λ listed whole. (all_shown old read later reader c.pieces.lister c.list_last.new.lister shown (listed h.taken h.text (can_list old read reader c.pieces.lister shown)) whole refl all).1)
 
@@ -91,7 +98,7 @@ returns-then-count-eq0-clause-forged g c =
     let shown = read_on old now read c.pieces.reader reader c.pieces.lister c.in-Ok.count h more c.pull_frames.ensures.version refl in
     let later = devices (g.S.Source.state c.pull_frames.new.source) (g.K.Sink.state c.list_last.new.sink) in
     let zero = c.if-count-eq0.true in
-    let all = at_end start h.bytes more.came (more.counted ∙ zero) (c.in-Ok.ensures.all zero start h.bytes _ h.pulled) in
+    let all = at_end start (g.S.Source.state c.pull_frames.new.source) h.bytes more.came (more.counted ∙ zero) (c.in-Ok.ensures.all zero start h.bytes _ h.pulled c.pieces.invariant.goes_on) in
     ok_two c.list_last.result _ _ _ c.list_last.ensures.listed c.list_last.ensures.whole
     (λ listed whole. (all_shown old read later reader c.pieces.lister c.list_last.new.lister shown (listed h.taken h.text (can_list old read reader c.pieces.lister shown)) whole refl all).2)
 
@@ -120,9 +127,9 @@ returns-then-count-eq0-clause-fault g c =
     let shown = read_on old now read c.pieces.reader reader c.pieces.lister c.in-Ok.count h more c.pull_frames.ensures.version refl in
     let later = devices (g.S.Source.state c.pull_frames.new.source) (g.K.Sink.state c.list_last.new.sink) in
     let zero = c.if-count-eq0.true in
-    let all = at_end start h.bytes more.came (more.counted ∙ zero) (c.in-Ok.ensures.all zero start h.bytes _ h.pulled) in
+    let all = at_end start (g.S.Source.state c.pull_frames.new.source) h.bytes more.came (more.counted ∙ zero) (c.in-Ok.ensures.all zero start h.bytes _ h.pulled c.pieces.invariant.goes_on) in
     err_on c.list_last.result _ _ c.list_last.ensures.fault
-    (λ f ends. end_fault old read later reader c.pieces.lister c.list_last.new.lister f shown refl all (ends h.taken h.text (can_list old read reader c.pieces.lister shown)))
+    (λ f ends. end_fault old read later reader c.pieces.lister c.list_last.new.lister f shown refl all.0 (ends h.taken h.text (can_list old read reader c.pieces.lister shown)))
 
 pub list_waiting-requires-clause-ready : goal.list_waiting-requires-clause-ready
 list_waiting-requires-clause-ready g c κs within =
@@ -149,6 +156,7 @@ pieces-preserved-in-Continue-1 g c =
     let later = devices (g.S.Source.state c.pull_frames.new.source) (g.K.Sink.state c.list_waiting.new.sink) in
     record {
       shown = list_on old read later reader c.list_waiting.new.reader c.pieces.lister c.list_waiting.new.lister shown (c.in_ok-list_waiting.ensures.listed h.taken h.text (can_list old read reader c.pieces.lister shown)) c.in_ok-list_waiting.ensures.emptied refl;
+      goes_on = still_goes_on start (g.S.Source.state c.pieces.source) (g.S.Source.state c.pull_frames.new.source) c.in-Ok.count c.pieces.invariant.goes_on c.in-Ok.ensures.ends c.if-count-eq0.false;
       some = omega (arith, c.pieces.invariant.some, c.pull_frames.auto.piece);
       few = omega (arith, c.pieces.invariant.few, c.pull_frames.auto.piece);
     }
@@ -165,6 +173,7 @@ pieces-preserved g c =
     let shown = read_on old now read c.pieces.reader reader c.pieces.lister c.in-Ok.count h more c.pull_frames.ensures.version refl in
     record {
       shown = shown;
+      goes_on = still_goes_on start (g.S.Source.state c.pieces.source) (g.S.Source.state c.pull_frames.new.source) c.in-Ok.count c.pieces.invariant.goes_on c.in-Ok.ensures.ends c.if-count-eq0.false;
       some = omega (arith, c.pieces.invariant.some, c.pull_frames.auto.piece);
       few = omega (arith, c.pieces.invariant.few, c.pull_frames.auto.piece);
     }

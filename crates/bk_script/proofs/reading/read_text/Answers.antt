@@ -7,14 +7,14 @@ returns-then-count-eq0-clause-text g c =
     let some : 0 < length c.pull.new.buf = search rules in (
       search rules,
       c.loop-text.invariant.within,
-      read_all (g.S.Source.state c.args.source.now).bytes (g.S.Source.state c.loop-text.source).bytes (g.S.Source.state c.pull.new.self).bytes c.loop-text.text.items c.pull.new.buf c.in_ok-count.count c.args.most c.loop-text.invariant.gave c.in_ok-count.ensures.bytes c.if-count-eq0.true some c.loop-text.invariant.within,
-      gives_still (g.S.Source.state c.args.source.now).bytes (g.S.Source.state c.loop-text.source).bytes (g.S.Source.state c.pull.new.self).bytes c.loop-text.text.items c.pull.new.buf c.in_ok-count.count c.loop-text.invariant.gave c.in_ok-count.ensures.bytes.0 c.if-count-eq0.true,
+      read_all (g.S.Source.state c.args.source.now).bytes (g.S.Source.state c.loop-text.source).bytes (g.S.Source.state c.pull.new.self).bytes c.loop-text.text.items c.pull.new.buf c.in_ok-count.count c.args.most c.loop-text.invariant.gave.known (c.in_ok-count.ensures.bytes.0.known, c.in_ok-count.ensures.bytes.1) c.if-count-eq0.true some c.loop-text.invariant.within,
+      gives_still (g.S.Source.state c.args.source.now) (g.S.Source.state c.loop-text.source) (g.S.Source.state c.pull.new.self) c.loop-text.text.items c.pull.new.buf c.in_ok-count.count c.loop-text.invariant.gave c.in_ok-count.ensures.bytes.0 c.if-count-eq0.true,
     )
 
 pub returns-clause-text : goal.returns-clause-text
 returns-clause-text g c = (
   c.loop-text.invariant.sound,
   c.loop-text.invariant.within,
-  read_enough (g.S.Source.state c.args.source.now).bytes (g.S.Source.state c.loop-text.source).bytes c.loop-text.text.items c.args.most c.loop-text.invariant.gave (omega (arith, c.loop-text.invariant.within, c.loop-text-test.false)),
+  read_enough (g.S.Source.state c.args.source.now).bytes (g.S.Source.state c.loop-text.source).bytes c.loop-text.text.items c.args.most c.loop-text.invariant.gave.known (omega (arith, c.loop-text.invariant.within, c.loop-text-test.false)),
   c.loop-text.invariant.gave,
 )

@@ -1,5 +1,6 @@
 use Rattle.std.proofs.Common.{◌≡◌, ℕ, zero, suc, ◌<◌, take, length, length-take, refl, arith}
 use Rattle.std.proofs.lemmas.Result.{err_from_is_err_and}
+use Rattle.bk_frames.proofs.Devices.{ends_at, ends_not_at}
 use Rattle.bk_tail.proofs.Pieces.{all_given, close_fails, closed, feed_fails, nearer, nothing_more, read_fails, settle_fails, settled, taken}
 use Rattle.bk_tail.proofs.piece.advance.Goals as goal
 
@@ -71,3 +72,12 @@ returns-clause-nearer g c =
     c.in_ok-count.ensures.came c.in_ok-count.ensures.works c.in_ok-feed.ensures.takes h in
     λ _. nearer start (g.S.Source.state c.args.source.now) (g.S.Source.state c.pull.new.source) bytes piece frames _ c.args.follower.now c.feed.new.self c.settle.new.self
     c.in_ok-settle.ensures.settled.cut (omega (arith, some, length-take c.in_ok-count.count c.pull.new.piece, c.in_ok-count.ensures.bound)) h t.1
+
+pub returns-then-count-eq0-clause-ends : goal.returns-then-count-eq0-clause-ends
+returns-then-count-eq0-clause-ends g c = λ unwaited. ends_at c.in_ok-count.count (g.S.Source.state c.args.source.now) (g.S.Source.state c.pull.new.source) (c.in_ok-count.ensures.ends unwaited) c.if-count-eq0.true
+
+pub returns-clause-ends : goal.returns-clause-ends
+returns-clause-ends g c = λ unwaited. ends_not_at c.in_ok-count.count (g.S.Source.state c.args.source.now) (g.S.Source.state c.pull.new.source) (c.in_ok-count.ensures.ends unwaited) (not_zero c.in_ok-count.count c.if-count-eq0.false)
+
+pub returns-then-count-eq0-clause-goes_on : goal.returns-then-count-eq0-clause-goes_on
+returns-then-count-eq0-clause-goes_on g c = λ waited. let some = c.in_ok-count.ensures.some waited in absurd (omega (arith, some, c.if-count-eq0.true))

@@ -1,16 +1,33 @@
-use Rattle.std.proofs.Common.{[], refl, sym, subst, arith}
+use Rattle.std.proofs.Common.{◌≡◌, Bool, true, false, [], refl, sym, subst, arith}
 use Rattle.std.proofs.lemmas.Result.{err_from_is_err_and}
 use Rattle.bk_answer.specs.Answers.{IsAnswered}
 use Rattle.bk_answer.specs.Flaws.{judged_text}
 use Rattle.bk_base.specs.Feed.{feed_of}
 use Rattle.bk_order.specs.Intake.{nothing_ordered}
+use Rattle.bk_frames.specs.Device.{Device, Ends, EndsNot}
+use Rattle.bk_frames.proofs.Devices.{ends_not_then, ends_not_yet, ends_then}
 use Rattle.bk_results.specs.Devices.{devices}
+use Rattle.bk_tail.specs.private.Steps.{EndsIf}
 use Rattle.bk_results.specs.declared.status.Status.{Status}
 use Rattle.bk_tail.proofs.Ends.{advance_fails, answered, end_fails, ended_with, no_flaw, put_fails, put_not}
 use Rattle.bk_tail.proofs.Flawed.{whole_order}
 use Rattle.bk_tail.proofs.Step.{few_bytes, none_put_on, put_on}
 use Rattle.bk_tail.proofs.Pieces.{none_followed}
 use Rattle.bk_tail.proofs.tail.tail_rows.Goals as goal
+
+ends_if : (old new : Device) (ended : Bool) → ended ≡ true → EndsIf ended old new → Ends old new
+ends_if old new true is e = e
+ends_if old new false is e = absurd cc
+
+-- a source that ended is not waited for
+not_waited : (waits ended : Bool) → ended ≡ true → (waits ≡ true → ended ≡ false) → waits ≡ false
+not_waited false ended is on = refl
+not_waited true true is on = let no : true ≡ false = on refl in absurd cc
+not_waited true false is on = absurd cc
+
+goes_on_if : (old new : Device) (ended : Bool) → ended ≡ false → EndsIf ended old new → EndsNot old new
+goes_on_if old new true is e = absurd cc
+goes_on_if old new false is e = e
 
 pub pieces-init : goal.pieces-init
 pieces-init g c = record {
@@ -19,6 +36,7 @@ pieces-init g c = record {
   done = nothing_ordered;
   followed = none_followed (g.S.Source.state c.args.source.now) c.args.follower.now c.requires.first;
   put = none_put_on (g.T.TableRows.kind c.args.accounts.now) (g.met.T.TableRows.no_rows c.args.accounts.now) c.args.follower.now (g.K.Sink.state c.args.sink.now) (g.T.TableRows.shown c.args.rows.now) (g.T.TableRows.holds c.args.rows.now) (g.met.T.TableRows.short c.args.accounts.now).0 c.requires.none c.requires.before;
+  goes_on = λ _. ends_not_yet (g.S.Source.state c.args.source.now);
   source = c.requires.source;
   sink = c.requires.sink;
   some = c.requires.some;
@@ -127,10 +145,12 @@ returns-then-ended-clause-answer g c =
     let on = put_on k (g.met.T.TableRows.no_rows ids) i.bytes a.all i.frames a.whole c.pieces.follower v first (g.K.Sink.state c.pieces.sink) (g.T.TableRows.shown c.pieces.rows) (g.T.TableRows.holds c.pieces.rows) i.done a.longer a.more i.followed.come a.followed.come i.put in
     let n = c.in_ok-put_new.ensures.put a.all a.whole first i.done a.followed.come a.settled on in
     let e = a.ends c.if-ended.true in
+    let unwaited = not_waited c.args.waits c.in_ok-ended.ended c.if-ended.true c.in_ok-ended.ensures.goes_on in
     let flawed = c.in_ok-flaw.ensures (feed_of e.1.version a.whole) (whole_order a.all a.whole v e.1) in
     subst (λ (s : Status). IsAnswered (judged_text c.args.strict k.text) (ended_with s c.in_ok-flaw.flaw) (devices start first) (devices now (g.K.Sink.state c.put_end.new.sink))) (sym c.reach-end.ensures)
     (answered k (g.met.T.TableRows.is_text ids) start now first sink a.all a.whole v (g.T.TableRows.shown c.put_new.new.rows).page n.0 a.followed a.settled e.1 n.1.put n.2
-    c.args.strict c.in_ok-flaw.flaw (g.K.Sink.state c.put_end.new.sink) (g.T.TableRows.shown c.put_end.new.self).page e.0 c.in_ok-put_end.ensures.written c.in_ok-put_end.ensures.empty flawed)
+    c.args.strict c.in_ok-flaw.flaw (g.K.Sink.state c.put_end.new.sink) (g.T.TableRows.shown c.put_end.new.self).page
+    (e.0, ends_then start (g.S.Source.state c.pieces.source) now (i.goes_on unwaited) (ends_if (g.S.Source.state c.pieces.source) now c.in_ok-ended.ended c.if-ended.true (c.in_ok-ended.ensures.ends unwaited))) c.in_ok-put_end.ensures.written c.in_ok-put_end.ensures.empty flawed)
 
 pub pieces-preserved : goal.pieces-preserved
 pieces-preserved g c =
@@ -148,8 +168,12 @@ pieces-preserved g c =
       done = n.0;
       followed = a.followed;
       put = n.1;
+      goes_on = λ unwaited. ends_not_then start (g.S.Source.state c.pieces.source) (g.S.Source.state c.advance.new.source) (i.goes_on unwaited) (goes_on_if (g.S.Source.state c.pieces.source) (g.S.Source.state c.advance.new.source) c.in_ok-ended.ended c.if-ended.false (c.in_ok-ended.ensures.ends unwaited));
       source = omega (arith, read, c.requires.source);
       sink = omega (arith, wrote, c.requires.sink);
       some = omega (arith, c.advance.auto.piece, i.some);
       few = omega (arith, c.advance.auto.piece, i.few);
     }
+
+pub returns-then-ended-clause-unwaited : goal.returns-then-ended-clause-unwaited
+returns-then-ended-clause-unwaited g c = not_waited c.args.waits c.in_ok-ended.ended c.if-ended.true c.in_ok-ended.ensures.goes_on

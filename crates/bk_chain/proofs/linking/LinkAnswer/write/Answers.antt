@@ -18,7 +18,7 @@ link_closed-requires-clause-receipts g c κs within = few_receipts (closed_value
 pub returns-in_err-write_link-clause-fault : goal.returns-in_err-write_link-clause-fault
 returns-in_err-write_link-clause-fault g c =
     let p = err_from_is_err_and c.from_residual-in_err-write_link.result c.from_residual-in_err-write_link.ensures.1 in
-    rw (p.1, p.2) (writes_not (closed_value c.args.closed.now) c.in_ok-link.link c.in_ok-link.ensures _ _ c.in_err-write_link.field-0.0 c.in_err-write_link.ensures.fault)
+    rw (p.1, p.2) (writes_not (closed_value c.args.closed.now) c.in_ok-link.link c.in_ok-link.ensures (g.K.Sink.state c.args.sink.now) (g.K.Sink.state c.write_link.new.sink) c.in_err-write_link.field-0.0 c.in_err-write_link.ensures.fault)
 
 pub returns-clause-out : goal.returns-clause-out
-returns-clause-out g c = writes (closed_value c.args.closed.now) c.in_ok-link.link c.in_ok-link.ensures _ _ c.in_ok-link.link.end c.in_ok-write_link.ensures.out refl
+returns-clause-out g c = writes (closed_value c.args.closed.now) c.in_ok-link.link c.in_ok-link.ensures (g.K.Sink.state c.args.sink.now) (g.K.Sink.state c.write_link.new.sink) c.in_ok-link.link.end c.in_ok-write_link.ensures.out refl

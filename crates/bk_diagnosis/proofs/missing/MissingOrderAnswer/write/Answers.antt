@@ -15,7 +15,7 @@ returns-clause-out g c =
     let o = order_value c.args.order.now in
     let rounds = c.rounds-rounds.result.now in
     IfOk-weaker c.write_missing.result _ _
-    (λ some w. shows_all AreMissingIn o (missing_lines rounds o.taken) (λ feed made. missing_here feed o rounds made.1 (c.rounds-rounds.ensures.rounds feed made)) _ _ some w)
+    (λ some w. shows_all AreMissingIn o (missing_lines rounds o.taken) (λ feed made. missing_here feed o rounds made.1 (c.rounds-rounds.ensures.rounds feed made)) (g.K.Sink.state c.args.sink.now) (g.K.Sink.state c.write_missing.new.sink) some w)
     c.write_missing.ensures.out
 
 pub returns-clause-fault : goal.returns-clause-fault

@@ -16,7 +16,7 @@ write_waiting-requires-clause-same g c =
 pub returns-clause-out : goal.returns-clause-out
 returns-clause-out g c =
     IfOk-weaker c.write_waiting.result _ _
-    (λ some w. waiting_all (order_value c.args.order.now) c.rounds-rounds.result.now c.rounds-rounds.ensures.rounds _ _ some w)
+    (λ some w. waiting_all (order_value c.args.order.now) c.rounds-rounds.result.now c.rounds-rounds.ensures.rounds (g.K.Sink.state c.args.sink.now) (g.K.Sink.state c.write_waiting.new.sink) some w)
     c.write_waiting.ensures.out
 
 pub returns-clause-fault : goal.returns-clause-fault

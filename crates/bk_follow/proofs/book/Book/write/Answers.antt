@@ -16,7 +16,7 @@ write-requires-clause-closed g c = (c.requires.current.0, (c.requires.current.1,
 pub returns-clause-report : goal.returns-clause-report
 returns-clause-report g c =
     IfOk-weaker c.write.result _ _
-    (λ end w. writes_fewer IsReportOf (IsMadeOf (closed_value c.in-Some.closed)) (IsCurrentOf c.args.self.now) (λ feed k. (k.0, closed_for feed c.args.self.now (closed_value c.in-Some.closed) k.1 c.in-Some.ensures)) _ _ end w)
+    (λ end w. writes_fewer IsReportOf (IsMadeOf (closed_value c.in-Some.closed)) (IsCurrentOf c.args.self.now) (λ feed k. (k.0, closed_for feed c.args.self.now (closed_value c.in-Some.closed) k.1 c.in-Some.ensures)) (g.K.Sink.state c.args.sink.now) (g.K.Sink.state c.write.new.sink) end w)
     c.write.ensures.out
 
 pub returns-clause-fault : goal.returns-clause-fault

@@ -22,7 +22,7 @@ invariant_of-self-in-Err g c = (
   c.self.invariant.1,
   λ none.
       let inv = c.self.invariant.2 c.in_default.is in
-      let same = end_stop_same c.in-Err.fault (followed c.self.inside.gathered.cutter c.self.inside.gathered.opened) (followed c.self.inside.gathered.cutter c.end.new.opened) _ _ (sym c.latch_unless_stop.ensures.standing ∙ none) c.in-Err.ensures.fault in
+      let same = end_stop_same c.in-Err.fault (followed c.self.inside.gathered.cutter c.self.inside.gathered.opened) (followed c.self.inside.gathered.cutter c.end.new.opened) (g.K.Sink.state c.args.sink.now) (g.K.Sink.state c.end.new.sink) (sym c.latch_unless_stop.ensures.standing ∙ none) c.in-Err.ensures.fault in
       (inv.0, inv.1, subst (HasCome inv.0 inv.1) (sym (left_now c.in-Err.fault (followed c.self.inside.gathered.cutter c.end.new.opened) c.latch_unless_stop.new.gathered.cutter c.latch_unless_stop.new.gathered.opened.committee c.latch_unless_stop.new.gathered.opened.book c.latch_unless_stop.new.standing none c.latch_unless_stop.ensures.standing c.latch_unless_stop.ensures.left ∙ same)) inv.2),
   λ none. c.latch_unless_stop.ensures.none_waits,
   c.latch_unless_stop.ensures.emptied,
@@ -41,4 +41,4 @@ returns-in-Err-clause-fault g c = λ _.
     let old : followed c.self.inside.gathered.cutter c.self.inside.gathered.opened ≡ c.args.self.now = (λ i. follower_of c.self.inside.gathered.cutter c.self.inside.gathered.opened.committee c.self.inside.gathered.opened.book (sym none i)) ∙ c.self.view_is in
     rw c.latch_unless_stop.ensures.same
     (subst (λ (p : Followed). FinishFails p (follower_of c.latch_unless_stop.new.gathered.cutter c.latch_unless_stop.new.gathered.opened.committee c.latch_unless_stop.new.gathered.opened.book c.latch_unless_stop.new.standing) (g.K.Sink.state c.args.sink.now) (g.K.Sink.state c.end.new.sink) c.in-Err.fault) old
-    (finish_fails c.in-Err.fault (followed c.self.inside.gathered.cutter c.self.inside.gathered.opened) (followed c.self.inside.gathered.cutter c.end.new.opened) (follower_of c.latch_unless_stop.new.gathered.cutter c.latch_unless_stop.new.gathered.opened.committee c.latch_unless_stop.new.gathered.opened.book c.latch_unless_stop.new.standing) _ _ c.latch_unless_stop.ensures.left c.in-Err.ensures.fault))
+    (finish_fails c.in-Err.fault (followed c.self.inside.gathered.cutter c.self.inside.gathered.opened) (followed c.self.inside.gathered.cutter c.end.new.opened) (follower_of c.latch_unless_stop.new.gathered.cutter c.latch_unless_stop.new.gathered.opened.committee c.latch_unless_stop.new.gathered.opened.book c.latch_unless_stop.new.standing) (g.K.Sink.state c.args.sink.now) (g.K.Sink.state c.end.new.sink) c.latch_unless_stop.ensures.left c.in-Err.ensures.fault))

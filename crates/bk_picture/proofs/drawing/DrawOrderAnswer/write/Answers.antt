@@ -9,7 +9,7 @@ write_picture-requires-clause-same g c =
     same_here feed (order_value c.args.order.now) c.rounds-rounds.result.now made.1 (c.rounds-rounds.ensures.rounds feed made)
 
 pub returns-clause-out : goal.returns-clause-out
-returns-clause-out g c = draws_all c.args.self.now.from c.args.self.now.count c.args.self.now.links (order_value c.args.order.now) c.rounds-rounds.result.now c.rounds-rounds.ensures.rounds _ _ c.write_picture.result c.write_picture.ensures.out
+returns-clause-out g c = draws_all c.args.self.now.from c.args.self.now.count c.args.self.now.links (order_value c.args.order.now) c.rounds-rounds.result.now c.rounds-rounds.ensures.rounds (g.K.Sink.state c.args.sink.now) (g.K.Sink.state c.write_picture.new.sink) c.write_picture.result c.write_picture.ensures.out
 
 pub returns-clause-fault : goal.returns-clause-fault
 returns-clause-fault g c =

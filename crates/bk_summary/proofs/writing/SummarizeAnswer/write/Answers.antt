@@ -14,4 +14,4 @@ returns-in_err-status-clause-fault g c =
     rw (p.1, p.2) (writes_not (IsMadeOf (closed_value c.args.closed.now)) c.in_ok-summary.summary c.in_ok-summary.ensures _ _ c.in_err-status.field-0.0 c.in_err-status.ensures.fault)
 
 pub returns-clause-out : goal.returns-clause-out
-returns-clause-out g c = writes (IsMadeOf (closed_value c.args.closed.now)) c.in_ok-summary.summary c.in_ok-summary.ensures _ _ c.in_ok-status.status c.in_ok-status.ensures.out c.in_ok-status.ensures.end
+returns-clause-out g c = writes (IsMadeOf (closed_value c.args.closed.now)) c.in_ok-summary.summary c.in_ok-summary.ensures (g.K.Sink.state c.args.sink.now) (g.K.Sink.state c.write_summary.new.sink) c.in_ok-status.status c.in_ok-status.ensures.out c.in_ok-status.ensures.end

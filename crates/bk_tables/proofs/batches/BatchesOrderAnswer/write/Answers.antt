@@ -14,10 +14,10 @@ write_rows-requires-clause-few g c =
 pub returns-in_err-write_rows-clause-fault : goal.returns-in_err-write_rows-clause-fault
 returns-in_err-write_rows-clause-fault g c =
     let p = err_from_is_err_and c.from_residual-in_err-write_rows.result c.from_residual-in_err-write_rows.ensures.1 in
-    rw (p.1, p.2) (table_not (order_value c.args.order.now) c.rounds-rounds.result.now c.rounds-rounds.ensures.rounds c.in_ok-rows.rows.items c.in_ok-rows.ensures _ _ c.in_err-write_rows.field-0.0
+    rw (p.1, p.2) (table_not (order_value c.args.order.now) c.rounds-rounds.result.now c.rounds-rounds.ensures.rounds c.in_ok-rows.rows.items c.in_ok-rows.ensures (g.K.Sink.state c.args.sink.now) (g.K.Sink.state c.write_rows.new.sink) c.in_err-write_rows.field-0.0
     (rw (← c.deref.ensures.value) c.in_err-write_rows.ensures.fault))
 
 pub returns-clause-out : goal.returns-clause-out
 returns-clause-out g c =
-    table_out (order_value c.args.order.now) c.rounds-rounds.result.now c.rounds-rounds.ensures.rounds c.in_ok-rows.rows.items c.in_ok-rows.ensures _ _ c.end_of.result c.end_of.ensures
+    table_out (order_value c.args.order.now) c.rounds-rounds.result.now c.rounds-rounds.ensures.rounds c.in_ok-rows.rows.items c.in_ok-rows.ensures (g.K.Sink.state c.args.sink.now) (g.K.Sink.state c.write_rows.new.sink) c.end_of.result c.end_of.ensures
     (rw (← c.deref.ensures.value) c.in_ok-write_rows.ensures.out)

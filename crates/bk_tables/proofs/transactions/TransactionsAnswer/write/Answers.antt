@@ -19,4 +19,4 @@ returns-in_err-write_table-clause-fault g c =
     rw (p.1, p.2) (payments_not (closed_value c.args.closed.now) c.args.self.now.accounts _ _ c.in_err-write_table.field-0.0 c.in_err-write_table.ensures.fault)
 
 pub returns-clause-out : goal.returns-clause-out
-returns-clause-out g c = payments_out (closed_value c.args.closed.now) c.args.self.now.accounts _ _ c.end_of.result c.end_of.ensures c.in_ok-write_table.ensures.out
+returns-clause-out g c = payments_out (closed_value c.args.closed.now) c.args.self.now.accounts (g.K.Sink.state c.args.sink.now) (g.K.Sink.state c.write_table.new.sink) c.end_of.result c.end_of.ensures c.in_ok-write_table.ensures.out
