@@ -11,7 +11,8 @@ use Rattle.clap.specs.Words.{App, HasMatchesOf, Row, Text, one_of, subcommand_of
 use Rattle.clap.specs.declared.parser.matches.ArgMatches.{ArgMatches}
 use Rattle.clap.specs.declared.parser.matches.SubCommand.{SubCommand}
 use Rattle.clap.specs.declared.parser.matches.ArgMatches.TheViews.{out-ArgMatches, out-SubCommand}
-use Rattle.bk_cli.specs.CommandLine.{command_line, all_words, AreNamedBy, AreNotesIn, AreNotesOf, IsOn, IsOneOf, IsStrictOf, IsJobOf, IsJobAt, NamesNoJob}
+use Rattle.bk_cli.specs.CommandLine.{all_words, AreNamedBy, AreNotesIn, AreNotesOf, IsOn, IsOneOf, IsStrictOf, IsJobOf, IsJobAt, NamesNoJob}
+use Rattle.bk_cli.specs.Commands.{command_line}
 use Rattle.bk_cli.specs.Files.{reads_input_twice}
 use Rattle.bk_cli.specs.declared.job.Job.{Job}
 use Rattle.bk_cli.specs.declared.notes.Notes.{Notes}

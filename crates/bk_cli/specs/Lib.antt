@@ -1,4 +1,5 @@
 pub mod CommandLine
+pub mod Commands
 pub mod Exits
 pub mod Explanations
 pub mod FaultLines

@@ -3,8 +3,8 @@
 ghost use Rattle.std.specs.Prelude.{◌≡◌, true, false, IfOk, IfSome};
 ghost use Rattle.clap.specs.Words.{App, Rule, app_of};
 ghost use Rattle.clap.specs.declared.builder.command.Command.TheViews.{out-Command};
-ghost use Rattle.bk_cli.specs.CommandLine.{asking_line, checking_line, viewing_line, tabling_line, diagnosing_line, command_line, feed_line, file_line, judged_line, value_line, picking_line, table_line, schedule_line, working_line};
-ghost use Rattle.bk_cli.specs.CommandLine.{noted_line, file_rule, workers_rule, required_rule, root_rule, id_rule, place_rule, from_rule, rounds_rule, links_rule, account_rule, accounts_rule, dag_line, proof_line, compare_line};
+ghost use Rattle.bk_cli.specs.Commands.{asking_line, checking_line, viewing_line, tabling_line, diagnosing_line, command_line, feed_line, file_line, judged_line, value_line, picking_line, table_line, schedule_line, working_line};
+ghost use Rattle.bk_cli.specs.Commands.{noted_line, file_rule, workers_rule, required_rule, root_rule, id_rule, place_rule, from_rule, rounds_rule, links_rule, account_rule, accounts_rule, dag_line, proof_line, compare_line};
 
 use crate::help::{self, Help};
 use crate::shaped::{Plain, Shaped};

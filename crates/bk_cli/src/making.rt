@@ -4,7 +4,8 @@ ghost use Rattle.std.specs.Prelude.{◌≡◌, ◌≤◌, ◌^◌, ◌⊎◌, []
 ghost use Rattle.clap.specs.Words.{one_text, first_value, found_of, rows_of};
 ghost use Rattle.bk_cli.specs.declared.job.Job.TheVariants as job;
 ghost use Rattle.bk_cli.specs.CommandLine.{IsAtEnd, IsFileIn, IsFollowed, IsWaited, NamesNoJob};
-ghost use Rattle.bk_cli.specs.CommandLine.{IsJobAt, AreNamedBy, IsChosenBy, IsGivenBy, IsNumberBy, verb_of, view_of, word_of};
+ghost use Rattle.bk_cli.specs.CommandLine.{IsJobAt, AreNamedBy, IsChosenBy, IsGivenBy, IsNumberBy, verb_of, view_of};
+ghost use Rattle.bk_cli.specs.Commands.{word_of};
 ghost use Rattle.bk_cli.specs.declared.view.View.TheVariants as view;
 ghost use Rattle.bk_cli.specs.Files.{names_input};
 

@@ -3,7 +3,8 @@
 ghost use Rattle.std.specs.Prelude.{◌≡◌, ◌⊎◌, true, false, [], map, IfOk, IfErr};
 ghost use Rattle.clap.specs.Kinds.{FailsBy, HasKind};
 ghost use Rattle.clap.specs.Words.{fault_of, has_subcommand, kind_of, subcommand_of, subcommand_rows_of, takes};
-ghost use Rattle.bk_cli.specs.CommandLine.{AreNotesOf, IsJobOf, IsOfValues, IsStrictOf, command_line};
+ghost use Rattle.bk_cli.specs.CommandLine.{AreNotesOf, IsJobOf, IsOfValues, IsStrictOf};
+ghost use Rattle.bk_cli.specs.Commands.{command_line};
 ghost use Rattle.bk_cli.specs.Files.{reads_input_twice};
 ghost use Rattle.bk_cli.specs.Words.{settled};
 

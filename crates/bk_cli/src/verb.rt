@@ -2,7 +2,8 @@
 
 ghost use Rattle.std.specs.Prelude.{◌≡◌};
 ghost use Rattle.std.specs.Str.{bytes_eq};
-ghost use Rattle.bk_cli.specs.CommandLine.{IsOneOf, all_words, word_of};
+ghost use Rattle.bk_cli.specs.CommandLine.{IsOneOf, all_words};
+ghost use Rattle.bk_cli.specs.Commands.{word_of};
 
 /// The name of a command.
 #[derive(Clone, Copy)]

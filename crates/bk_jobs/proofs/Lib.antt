@@ -1,4 +1,6 @@
+mod AnswerLemmas
 mod BlameLemmas
+mod FaultyBytes
 mod ScheduleLemmas
 mod StatusLemmas
 mod VerdictLemmas

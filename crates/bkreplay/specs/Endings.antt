@@ -8,7 +8,8 @@ use Rattle.clap.specs.declared.error.kind.ErrorKind.TheVariants as kind
 use Rattle.bk_frames.specs.Device.{Device}
 use Rattle.bk_results.specs.Devices.{IsUntouched}
 use Rattle.bk_results.specs.declared.fault.Fault.TheVariants as replay
-use Rattle.bk_cli.specs.CommandLine.{AreNotesOf, IsJobOf, IsOfValues, IsStrictOf, command_line}
+use Rattle.bk_cli.specs.CommandLine.{AreNotesOf, IsJobOf, IsOfValues, IsStrictOf}
+use Rattle.bk_cli.specs.Commands.{command_line}
 use Rattle.bk_cli.specs.Exits.{has_fault, is_refusal, may_end_if, writes_ahead}
 use Rattle.bk_cli.specs.FaultLines.{Reports, line_of}
 use Rattle.bk_cli.specs.Files.{reads_input_twice}

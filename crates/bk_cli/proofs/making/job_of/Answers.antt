@@ -2,7 +2,8 @@
 use Rattle.std.proofs.Common.{◌∙◌, ◌^◌, ap, sym, subst, codes, Option, refl}
 use Rattle.clap.proofs.WalkLemmas.{first_value-rows, one_text-rows}
 use Rattle.clap.specs.Words.{Text, found_of}
-use Rattle.bk_cli.specs.CommandLine.{AreNamedBy, IsNumberBy, word_of}
+use Rattle.bk_cli.specs.CommandLine.{AreNamedBy, IsNumberBy}
+use Rattle.bk_cli.specs.Commands.{word_of}
 use Rattle.bk_cli.proofs.WordLemmas.{named_by_usual}
 use Rattle.bk_cli.proofs.making.job_of.Goals as goal
 

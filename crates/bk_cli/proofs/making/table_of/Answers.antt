@@ -3,7 +3,8 @@ use Rattle.std.proofs.Common.{◌≡◌, ◌∙◌, ℕ, List, ap, sym, subst, c
 use Rattle.std.specs.Prelude.{option_map, string_bytes}
 use Rattle.clap.proofs.WalkLemmas.{first_value-rows, one_text-rows}
 use Rattle.clap.specs.Words.{Row, Text, first_of, found_of, one_of, rows_of}
-use Rattle.bk_cli.specs.CommandLine.{AreNamedBy, AreWorkersToShow, IsAtEnd, IsViewAt, verb_of, view_of, word_of}
+use Rattle.bk_cli.specs.CommandLine.{AreNamedBy, AreWorkersToShow, IsAtEnd, IsViewAt, verb_of, view_of}
+use Rattle.bk_cli.specs.Commands.{word_of}
 use Rattle.bk_cli.specs.declared.view.Table.{Table}
 use Rattle.bk_cli.specs.declared.view.Table.TheVariants as table
 use Rattle.bk_cli.specs.declared.view.View.{View}

@@ -3,7 +3,7 @@ use Rattle.std.proofs.Common.{ap, map, refl, subst, true, ◌∙◌, ◌≡◌}
 use Rattle.std.proofs.lemmas.Result.{IfErr-weaker, IfOk-weaker}
 use Rattle.clap.specs.Kinds.{FailsBy}
 use Rattle.clap.specs.Words.{App, fault_of, is_simple_and_free, takes}
-use Rattle.bk_cli.specs.CommandLine.{command_line}
+use Rattle.bk_cli.specs.Commands.{command_line}
 use Rattle.bk_cli.proofs.WordLemmas.{named_by_words}
 use Rattle.bk_cli.proofs.parsing.matches_of.Goals as goal
 

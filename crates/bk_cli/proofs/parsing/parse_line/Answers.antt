@@ -2,7 +2,8 @@
 use Rattle.std.proofs.Common.{◌≡◌, ◌⊎◌, ◌∙◌, ℕ, List, true, map, ap, subst, IfErr, Bor}
 use Rattle.clap.specs.Words.{Text, kind_of, subcommand_of, takes}
 use Rattle.clap.specs.declared.error.kind.ErrorKind.TheVariants as kind
-use Rattle.bk_cli.specs.CommandLine.{IsOfValues, command_line}
+use Rattle.bk_cli.specs.CommandLine.{IsOfValues}
+use Rattle.bk_cli.specs.Commands.{command_line}
 use Rattle.bk_cli.proofs.parsing.parse_line.Goals as goal
 
 pub returns-clause-error : goal.returns-clause-error

@@ -3,7 +3,8 @@ use Rattle.std.proofs.Common.{map, inl, inr, subst, sym, ◌∙◌, Option, Some
 use Rattle.std.specs.Prelude.{MatchOption}
 use Rattle.std.proofs.lemmas.Result.{err_from_is_err_and}
 use Rattle.clap.specs.Words.{rows_of, found_of, subcommand_of}
-use Rattle.bk_cli.specs.CommandLine.{command_line, word_of, IsJobAt, IsJobOf, NamesNoJob}
+use Rattle.bk_cli.specs.CommandLine.{IsJobAt, IsJobOf, NamesNoJob}
+use Rattle.bk_cli.specs.Commands.{command_line, word_of}
 use Rattle.bk_cli.specs.declared.job.Job.{Job}
 use Rattle.bk_cli.proofs.WordLemmas.{what_is_found, job_at_found, notes_at_found, strict_at_found, no_job_at, one_of_all, are_text, is_sole, is_twice}
 use Rattle.bk_cli.proofs.parsing.parse_settled.Goals as goal

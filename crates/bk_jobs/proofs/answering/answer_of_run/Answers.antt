@@ -1,5 +1,5 @@
 -- How each of these jobs may end with an answer.
-use Rattle.bk_jobs.proofs.StatusLemmas.{follow_answers, run_answers, query_ends, show_answers, summary_answers}
+use Rattle.bk_jobs.proofs.AnswerLemmas.{follow_answers, run_answers, query_ends, show_answers, summary_answers}
 use Rattle.bk_jobs.proofs.answering.answer_of_run.Goals as goal
 
 pub returns-in_ok-end-in-Run-clause-answer : goal.returns-in_ok-end-in-Run-clause-answer

@@ -1,6 +1,6 @@
 -- How each of these jobs may end with an answer.
 use Rattle.std.proofs.Common.{refl, inl, inr}
-use Rattle.bk_jobs.proofs.StatusLemmas.{chain_answers}
+use Rattle.bk_jobs.proofs.AnswerLemmas.{chain_answers}
 use Rattle.bk_jobs.proofs.text_jobs.answer_of_text.Goals as goal
 
 pub returns-in_ok-end-in-Make-clause-answer : goal.returns-in_ok-end-in-Make-clause-answer

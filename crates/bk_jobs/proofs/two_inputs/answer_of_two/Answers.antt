@@ -1,6 +1,6 @@
 -- How each of these jobs may end with an answer.
 use Rattle.std.proofs.Common.{refl}
-use Rattle.bk_jobs.proofs.StatusLemmas.{claim_answers, follow_answers, pick_answers}
+use Rattle.bk_jobs.proofs.AnswerLemmas.{claim_answers, follow_answers, pick_answers}
 use Rattle.bk_jobs.proofs.two_inputs.answer_of_two.Goals as goal
 
 pub returns-in_ok-end-in-Compare-clause-answer : goal.returns-in_ok-end-in-Compare-clause-answer
