@@ -42,10 +42,8 @@ pub record Reads (feed : FeedValue) (r : Reading) : Type 0 where
   pub rejected : AreRejects (committee_in feed) 2 (later_frames feed) r.rejected
   pub waiting : AreWaiting (committee_in feed) (later_frames feed) r.waiting
   pub ordered : IsOrderIn feed r.ordered
-  pub receipts : r.receipts
-      ≡ receipts_of feed.version (transactions_of r.ordered.payloads.list) (genesis_of feed.frames)
-  pub rows : r.rows
-      ≡ state_after feed.version (transactions_of r.ordered.payloads.list) (genesis_of feed.frames)
+  pub receipts : r.receipts ≡ receipts_of feed.version (transactions_of r.ordered.payloads.list) (genesis_of feed.frames)
+  pub rows : r.rows ≡ state_after feed.version (transactions_of r.ordered.payloads.list) (genesis_of feed.frames)
 
 -- how far the transactions of a report go: to the end of the order, or to its first batch that is missing
 abbrev pub reach_of : Option (List ℕ) → Status

@@ -29,14 +29,12 @@ pub record Payloads : Type 0 where
 -- these payloads after the one of a digest; nothing more where none is held under the digest
 abbrev pub cons_payload : Option (List ℕ) → List ℕ → Payloads → Payloads
 cons_payload None digest rest = record { list = []; missing = Some digest }
-cons_payload (Some payload) digest rest =
-    record { list = payload ∷ rest.list; missing = rest.missing }
+cons_payload (Some payload) digest rest = record { list = payload ∷ rest.list; missing = rest.missing }
 
 -- the payloads of these digests, before the first that is missing
 abbrev pub before_missing : List Batch → List (List ℕ) → Payloads
 before_missing batches [] = record { list = []; missing = None }
-before_missing batches (d ∷ more) =
-    cons_payload (payload_of batches d) d (before_missing batches more)
+before_missing batches (d ∷ more) = cons_payload (payload_of batches d) d (before_missing batches more)
 
 -- the digests that an order of certificates names, each once
 abbrev pub digests_of : List Node → List CertRef → List (List ℕ)

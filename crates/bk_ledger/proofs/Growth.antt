@@ -1,5 +1,5 @@
 -- How many accounts transactions can make: each takes eight bytes of a feed, or more.
-use Rattle.std.proofs.Common.{◌≡◌, ℕ, zero, suc, ◌+◌, ◌*◌, ◌^◌, ◌<◌, ◌≤◌, Bool, true, false, cond, eqb, ltb, ◌&&◌, ◌||◌, not, List, [], ◌∷◌, ◌++◌, length, map, take, drop, Option, Some, None, refl, sym, ap, subst, ◌∙◌, length-append, length-drop, length-take, arith}
+use Rattle.std.proofs.Common.{◌≡◌, ℕ, zero, suc, ◌+◌, ◌*◌, ◌^◌, ◌<◌, ◌≤◌, Bool, true, false, cond, eqb, leb, ltb, ◌&&◌, ◌||◌, not, List, [], ◌∷◌, ◌++◌, length, map, take, drop, Option, Some, None, refl, sym, ap, subst, ◌∙◌, length-append, length-drop, length-take, arith}
 use Rattle.std.specs.Prelude.{unwrap_or}
 use Rattle.std.specs.List.{flat_map}
 use Rattle.std.specs.Int.{Width, w8, w16, w64, byte_len, from_be_bytes}
@@ -21,7 +21,7 @@ use Rattle.bk_tx.specs.declared.declared.Declared.{Declared}
 use Rattle.bk_tx.specs.declared.payments.Payment.{Payment}
 use Rattle.bk_tx.specs.Transaction.{Transaction}
 use Rattle.bk_tx.specs.Spelling.{payments_of, receivers_of}
-use Rattle.bk_tx.specs.Reading.{writable_of, declared_at, declarations_at, pay_at, pay_if_at, sweep_at, payment_at, split_at, body_at, pays, transaction_of, text_at, texts_of}
+use Rattle.bk_tx.specs.Reading.{declared_at, declarations_at, pay_at, pay_if_at, sweep_at, payment_at, split_at, body_at, pays, transaction_of, text_at, texts_of}
 use Rattle.bk_tx.specs.Batches.{is_batch, transactions_in, transactions_of, feed_transactions}
 use Rattle.bk_rules.specs.declared.receipt.Status.{Status}
 use Rattle.bk_rules.specs.declared.receipt.Status.TheVariants as status
@@ -107,11 +107,11 @@ list_size {A} item k size (suc n) bytes x e =
 declared_size : (bytes : List ℕ) (x : Declared × List ℕ) → declared_at bytes ≡ Some x → length x.1 + 9 ≤ length bytes
 unfolding declared_at
 declared_size bytes x e =
-    let a = bind_some (number_at w8 bytes) (λ mode. writable_of mode.0 >>= λ writable. number_at w64 mode.1 >>= λ id. Some (record { id = id.0; writable = writable }, id.1)) x e in
-    let b = bind_some (writable_of a.0.0) (λ writable. number_at w64 a.0.1 >>= λ id. Some (record { id = id.0; writable = writable }, id.1)) x a.2 in
-    let c = bind_some (number_at w64 a.0.1) (λ id. Some (record { id = id.0; writable = b.0 }, id.1)) x b.2 in
-    let same : (record { id = c.0.0; writable = b.0 }, c.0.1) ≡ x = cc in
-    omega (arith, number_size w8 bytes a.0 a.1, number_size w64 a.0.1 c.0 c.1, ap (λ (p : Declared × List ℕ). length p.1) same)
+    let a = bind_some (number_at w8 bytes) (λ mode. number_at w64 mode.1 >>= λ id. cond (leb mode.0 1) (Some (record { id = id.0; writable = eqb mode.0 1 }, id.1)) None) x e in
+    let b = bind_some (number_at w64 a.0.1) (λ id. cond (leb a.0.0 1) (Some (record { id = id.0; writable = eqb a.0.0 1 }, id.1)) None) x a.2 in
+    let c = if_some (leb a.0.0 1) (Some (record { id = b.0.0; writable = eqb a.0.0 1 }, b.0.1)) x b.2 in
+    let same : (record { id = b.0.0; writable = eqb a.0.0 1 }, b.0.1) ≡ x = let e1 = c.1 in cc in
+    omega (arith, number_size w8 bytes a.0 a.1, number_size w64 a.0.1 b.0 b.1, ap (λ (p : Declared × List ℕ). length p.1) same)
 
 declarations_size : (bytes : List ℕ) (x : List Declared × List ℕ) → declarations_at bytes ≡ Some x → 9 * length x.0 + length x.1 + 1 ≤ length bytes
 unfolding declarations_at
@@ -122,23 +122,29 @@ declarations_size bytes x e =
     let g = guard_some (is_ascending (declared_ids b.0.0)) b.0 x b.2 in
     omega (arith, number_size w8 bytes a.0 a.1, list_size declared_at 9 declared_size a.0.0 a.0.1 b.0 c.1, ap (λ (p : List Declared × List ℕ). 9 * length p.0 + length p.1) g.1)
 
+payment_size : (bytes : List ℕ) (x : Payment × List ℕ) → payment_at bytes ≡ Some x → length x.1 + 16 ≤ length bytes
+unfolding payment_at
+payment_size bytes x e =
+    let a = bind_some (number_at w64 bytes) (λ to. number_at w64 to.1 >>= λ amount. Some (record { to = to.0; amount = amount.0 }, amount.1)) x e in
+    let b = bind_some (number_at w64 a.0.1) (λ amount. Some (record { to = a.0.0; amount = amount.0 }, amount.1)) x a.2 in
+    let same : (record { to = a.0.0; amount = b.0.0 }, b.0.1) ≡ x = cc in
+    omega (arith, number_size w64 bytes a.0 a.1, number_size w64 a.0.1 b.0 b.1, ap (λ (p : Payment × List ℕ). length p.1) same)
+
 pay_size : (bytes : List ℕ) (x : Body × List ℕ) → pay_at bytes ≡ Some x → 16 * length (receivers_of x.0) + length x.1 ≤ length bytes
 unfolding pay_at
 pay_size bytes x e =
-    let a = bind_some (number_at w64 bytes) (λ to. number_at w64 to.1 >>= λ amount. Some (Pay to.0 amount.0, amount.1)) x e in
-    let b = bind_some (number_at w64 a.0.1) (λ amount. Some (Pay a.0.0 amount.0, amount.1)) x a.2 in
-    let same : (Pay a.0.0 b.0.0, b.0.1) ≡ x = cc in
-    omega (arith, number_size w64 bytes a.0 a.1, number_size w64 a.0.1 b.0 b.1, ap (λ (p : Body × List ℕ). 16 * length (receivers_of p.0) + length p.1) same)
+    let a = bind_some (payment_at bytes) (λ payment. Some (Pay payment.0.to payment.0.amount, payment.1)) x e in
+    let same : (Pay a.0.0.to a.0.0.amount, a.0.1) ≡ x = cc in
+    omega (arith, payment_size bytes a.0 a.1, ap (λ (p : Body × List ℕ). 16 * length (receivers_of p.0) + length p.1) same)
 
 pay_if_size : (bytes : List ℕ) (x : Body × List ℕ) → pay_if_at bytes ≡ Some x → 16 * length (receivers_of x.0) + length x.1 ≤ length bytes
 unfolding pay_if_at
 pay_if_size bytes x e =
-    let a = bind_some (number_at w64 bytes) (λ to. number_at w64 to.1 >>= λ amount. number_at w64 amount.1 >>= λ guard. number_at w64 guard.1 >>= λ min. Some (PayIf to.0 amount.0 guard.0 min.0, min.1)) x e in
-    let b = bind_some (number_at w64 a.0.1) (λ amount. number_at w64 amount.1 >>= λ guard. number_at w64 guard.1 >>= λ min. Some (PayIf a.0.0 amount.0 guard.0 min.0, min.1)) x a.2 in
-    let c = bind_some (number_at w64 b.0.1) (λ guard. number_at w64 guard.1 >>= λ min. Some (PayIf a.0.0 b.0.0 guard.0 min.0, min.1)) x b.2 in
-    let d = bind_some (number_at w64 c.0.1) (λ min. Some (PayIf a.0.0 b.0.0 c.0.0 min.0, min.1)) x c.2 in
-    let same : (PayIf a.0.0 b.0.0 c.0.0 d.0.0, d.0.1) ≡ x = cc in
-    omega (arith, number_size w64 bytes a.0 a.1, number_size w64 a.0.1 b.0 b.1, number_size w64 b.0.1 c.0 c.1, number_size w64 c.0.1 d.0 d.1, ap (λ (p : Body × List ℕ). 16 * length (receivers_of p.0) + length p.1) same)
+    let a = bind_some (payment_at bytes) (λ payment. number_at w64 payment.1 >>= λ guard. number_at w64 guard.1 >>= λ min. Some (PayIf payment.0.to payment.0.amount guard.0 min.0, min.1)) x e in
+    let b = bind_some (number_at w64 a.0.1) (λ guard. number_at w64 guard.1 >>= λ min. Some (PayIf a.0.0.to a.0.0.amount guard.0 min.0, min.1)) x a.2 in
+    let c = bind_some (number_at w64 b.0.1) (λ min. Some (PayIf a.0.0.to a.0.0.amount b.0.0 min.0, min.1)) x b.2 in
+    let same : (PayIf a.0.0.to a.0.0.amount b.0.0 c.0.0, c.0.1) ≡ x = cc in
+    omega (arith, payment_size bytes a.0 a.1, number_size w64 a.0.1 b.0 b.1, number_size w64 b.0.1 c.0 c.1, ap (λ (p : Body × List ℕ). 16 * length (receivers_of p.0) + length p.1) same)
 
 sweep_size : (bytes : List ℕ) (x : Body × List ℕ) → sweep_at bytes ≡ Some x → 16 * length (receivers_of x.0) + length x.1 ≤ length bytes
 unfolding sweep_at
@@ -147,14 +153,6 @@ sweep_size bytes x e =
     let b = bind_some (number_at w64 a.0.1) (λ keep. Some (Sweep a.0.0 keep.0, keep.1)) x a.2 in
     let same : (Sweep a.0.0 b.0.0, b.0.1) ≡ x = cc in
     omega (arith, number_size w64 bytes a.0 a.1, number_size w64 a.0.1 b.0 b.1, ap (λ (p : Body × List ℕ). 16 * length (receivers_of p.0) + length p.1) same)
-
-payment_size : (bytes : List ℕ) (x : Payment × List ℕ) → payment_at bytes ≡ Some x → length x.1 + 16 ≤ length bytes
-unfolding payment_at
-payment_size bytes x e =
-    let a = bind_some (number_at w64 bytes) (λ to. number_at w64 to.1 >>= λ amount. Some (record { to = to.0; amount = amount.0 }, amount.1)) x e in
-    let b = bind_some (number_at w64 a.0.1) (λ amount. Some (record { to = a.0.0; amount = amount.0 }, amount.1)) x a.2 in
-    let same : (record { to = a.0.0; amount = b.0.0 }, b.0.1) ≡ x = cc in
-    omega (arith, number_size w64 bytes a.0 a.1, number_size w64 a.0.1 b.0 b.1, ap (λ (p : Payment × List ℕ). length p.1) same)
 
 split_size : (bytes : List ℕ) (x : Body × List ℕ) → split_at bytes ≡ Some x → 16 * length (receivers_of x.0) + length x.1 ≤ length bytes
 unfolding split_at

@@ -18,8 +18,7 @@ use Rattle.bk_order.specs.declared.reject.Reject.{Reject}
 
 -- a frame holds this certificate, and it breaks no rule of the committee
 abbrev pub IsCertIn : CommitteeValue → List Frame → Node → Type 0
-IsCertIn k frames c =
-    (payload : List ℕ) × Contains frames (frame_of kind.Certificate payload) × IsGood k payload c
+IsCertIn k frames c = (payload : List ℕ) × Contains frames (frame_of kind.Certificate payload) × IsGood k payload c
 
 -- these are the certificates of the frames that break no rule
 pub record AreCerts (k : CommitteeValue) (frames : List Frame) (certs : List Node) : Type 0 where

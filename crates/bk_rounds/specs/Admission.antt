@@ -14,10 +14,8 @@ unfoldable pub IsAdmittedIn : Sizes → List Node → ℕ → Node → Type 0
 IsAdmittedIn z held zero c = ⊥
 IsAdmittedIn z held (suc r) c =
     Contains held c × (c.header.round ≡ r + 1)
-    × (0 < r → (p : List ℕ) → Contains c.header.parents p
-    → (d : Node) × IsAdmittedIn z held r d × (d.id ≡ p))
-    × (0 < r → Weigh z (λ x. (d : Node) × IsAdmittedIn z held r d × (d.header.author ≡ x)
-    × Contains c.header.parents d.id) (quorum z))
+    × (0 < r → (p : List ℕ) → Contains c.header.parents p → (d : Node) × IsAdmittedIn z held r d × (d.id ≡ p))
+    × (0 < r → Weigh z (λ x. (d : Node) × IsAdmittedIn z held r d × (d.header.author ≡ x) × Contains c.header.parents d.id) (quorum z))
 
 -- admitted in its own round
 abbrev pub IsAdmitted : Sizes → List Node → Node → Type 0

@@ -34,10 +34,10 @@ sweep_steps bytes r0 r1 to keep e0 e1 = rw (e0, e1) refl
 
 -- ---- one payment
 
-abbrev Fits : Payment → Type 0
+abbrev pub Fits : Payment → Type 0
 Fits p = (p.to < 2 ^ 64) × (p.amount < 2 ^ 64)
 
-payment_takes : (bytes : List ℕ) (x : Payment × List ℕ) → IsBytes bytes → payment_at bytes ≡ Some x → Takes bytes (payment_text x.0) x.1 × Fits x.0
+pub payment_takes : (bytes : List ℕ) (x : Payment × List ℕ) → IsBytes bytes → payment_at bytes ≡ Some x → Takes bytes (payment_text x.0) x.1 × Fits x.0
 unfolding payment_at
 payment_takes bytes x fits e =
     let a = bind_some (number_at w64 bytes) (λ to. number_at w64 to.1 >>= λ amount. Some (record { to = to.0; amount = amount.0 }, amount.1)) x e in
@@ -52,7 +52,7 @@ payment_steps : (bytes r0 r1 : List ℕ) (to amount : ℕ) → number_at w64 byt
 unfolding payment_at
 payment_steps bytes r0 r1 to amount e0 e1 = rw (e0, e1) refl
 
-payment_again : (p : Payment) (rest : List ℕ) → Fits p → payment_at (payment_text p ++ rest) ≡ Some (p, rest)
+pub payment_again : (p : Payment) (rest : List ℕ) → Fits p → payment_at (payment_text p ++ rest) ≡ Some (p, rest)
 payment_again p rest fits =
     let after : List ℕ = wide p.amount ++ rest in
     payment_steps (payment_text p ++ rest) after rest p.to p.amount (number_again w64 (2 ^ 64) wide64 p.to after fits.0) (number_again w64 (2 ^ 64) wide64 p.amount rest fits.1)

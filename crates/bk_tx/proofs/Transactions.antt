@@ -8,50 +8,49 @@ use Rattle.std.proofs.lemmas.List.{append-nil, nil_from_length}
 use Rattle.std.proofs.lemmas.Option.{cond_some, none-some}
 use Rattle.bk_base.specs.Numbers.{IsBytes, ◌>>=◌, number_at, list_at, is_ascending}
 use Rattle.bk_tx.specs.declared.declared.Declared.{Declared}
+use Rattle.bk_tx.specs.declared.payments.Payment.{Payment}
 use Rattle.bk_tx.specs.Transaction.{Transaction, transaction}
 use Rattle.bk_tx.specs.declared.body.Body.{Body}
 use Rattle.bk_tx.specs.declared.body.Body.TheVariants.{Pay, PayIf, Sweep, Split}
 use Rattle.bk_tx.specs.Access.{declared_ids, IdsFit}
-use Rattle.bk_tx.specs.Spelling.{wide, declared_text, kind_of, body_text, receivers_of, BodyFits, transaction_text, IsTransaction}
-use Rattle.bk_tx.specs.Reading.{writable_of, declared_at, declarations_at, pay_at, pay_if_at, sweep_at, split_at, body_at, pays, transaction_of}
+use Rattle.bk_tx.specs.Spelling.{wide, payment_text, declared_text, kind_of, body_text, receivers_of, BodyFits, transaction_text, IsTransaction}
+use Rattle.bk_tx.specs.Reading.{declared_at, declarations_at, payment_at, pay_at, pay_if_at, sweep_at, split_at, body_at, pays, transaction_of}
 use Rattle.bk_base.proofs.FieldLemmas.{list_takes, list_again, bind_some, if_some, some_is, Takes, Takes-then, byte_takes, byte_again, wide64, number_takes, number_again}
-use Rattle.bk_tx.proofs.Bodies.{sweep_takes, sweep_steps, split_takes, split_again}
+use Rattle.bk_tx.proofs.Bodies.{payment_takes, payment_again, sweep_takes, sweep_steps, split_takes, split_again}
 use Rattle.bk_tx.specs.private.Counts.{is_count}
 
 -- ---- one declared account
 
-mode_of : (mode : ℕ) (w : Bool) → writable_of mode ≡ Some w → mode ≡ cond w 1 0
-unfolding writable_of
-mode_of zero true e = absurd cc
-mode_of zero false e = refl
-mode_of (suc zero) true e = refl
-mode_of (suc zero) false e = absurd cc
-mode_of (suc (suc mode)) w e = absurd cc
+mode_of : (mode : ℕ) → leb mode 1 ≡ true → mode ≡ cond (eqb mode 1) 1 0
+mode_of zero low = refl
+mode_of (suc zero) low = refl
+mode_of (suc (suc mode)) low = absurd (omega (arith, leb-true (suc (suc mode)) 1 low))
 
-mode_again : (w : Bool) → writable_of (cond w 1 0) ≡ Some w
-unfolding writable_of
-mode_again true = refl
-mode_again false = refl
+mode_again : (w : Bool) → (leb (cond w 1 0) 1 ≡ true) × (eqb (cond w 1 0) 1 ≡ w)
+mode_again true = (refl, refl)
+mode_again false = (refl, refl)
 
 declared_takes : (bytes : List ℕ) (x : Declared × List ℕ) → IsBytes bytes → declared_at bytes ≡ Some x → Takes bytes (declared_text x.0) x.1 × (x.0.id < 2 ^ 64)
 unfolding declared_at
 declared_takes bytes x fits e =
-    let a = bind_some (number_at w8 bytes) (λ mode. writable_of mode.0 >>= λ writable. number_at w64 mode.1 >>= λ id. Some (record { id = id.0; writable = writable }, id.1)) x e in
-    let b = bind_some (writable_of a.0.0) (λ writable. number_at w64 a.0.1 >>= λ id. Some (record { id = id.0; writable = writable }, id.1)) x a.2 in
-    let d = bind_some (number_at w64 a.0.1) (λ id. Some (record { id = id.0; writable = b.0 }, id.1)) x b.2 in
+    let a = bind_some (number_at w8 bytes) (λ mode. number_at w64 mode.1 >>= λ id. cond (leb mode.0 1) (Some (record { id = id.0; writable = eqb mode.0 1 }, id.1)) None) x e in
+    let d = bind_some (number_at w64 a.0.1) (λ id. cond (leb a.0.0 1) (Some (record { id = id.0; writable = eqb a.0.0 1 }, id.1)) None) x a.2 in
+    let made : Declared × List ℕ = (record { id = d.0.0; writable = eqb a.0.0 1 }, d.0.1) in
+    let b = if_some (leb a.0.0 1) (Some made) x d.2 in
     let t0 = byte_takes bytes a.0.0 a.0.1 fits a.1 in
     let t1 = number_takes w64 (2 ^ 64) wide64 a.0.1 d.0.0 d.0.1 t0.0.rest_fits d.1 in
     let both = Takes-then bytes (a.0.0 ∷ []) a.0.1 (wide d.0.0) d.0.1 t0.0 t1.0 in
-    let made : Declared × List ℕ = (record { id = d.0.0; writable = b.0 }, d.0.1) in
-    let spelled : Takes bytes (declared_text made.0) made.1 = subst (λ (m : ℕ). Takes bytes (m ∷ wide d.0.0) d.0.1) (mode_of a.0.0 b.0 b.1) both in
-    subst (λ (y : Declared × List ℕ). Takes bytes (declared_text y.0) y.1 × (y.0.id < 2 ^ 64)) (some_is made x d.2) (spelled, t1.1)
+    let spelled : Takes bytes (declared_text made.0) made.1 = subst (λ (m : ℕ). Takes bytes (m ∷ wide d.0.0) d.0.1) (mode_of a.0.0 b.0) both in
+    subst (λ (y : Declared × List ℕ). Takes bytes (declared_text y.0) y.1 × (y.0.id < 2 ^ 64)) (some_is made x b.1) (spelled, t1.1)
 
-declared_steps : (bytes r0 r1 : List ℕ) (mode id : ℕ) (w : Bool) → number_at w8 bytes ≡ Some (mode, r0) → writable_of mode ≡ Some w → number_at w64 r0 ≡ Some (id, r1) → declared_at bytes ≡ Some (record { id = id; writable = w }, r1)
+declared_steps : (bytes r0 r1 : List ℕ) (mode id : ℕ) → number_at w8 bytes ≡ Some (mode, r0) → number_at w64 r0 ≡ Some (id, r1) → leb mode 1 ≡ true → declared_at bytes ≡ Some (record { id = id; writable = eqb mode 1 }, r1)
 unfolding declared_at
-declared_steps bytes r0 r1 mode id w e0 e1 e2 = rw (e0, e1, e2) refl
+declared_steps bytes r0 r1 mode id e0 e1 low = rw (e0, e1, low) refl
 
 declared_again : (d : Declared) (rest : List ℕ) → d.id < 2 ^ 64 → declared_at (declared_text d ++ rest) ≡ Some (d, rest)
-declared_again d rest lt = declared_steps (declared_text d ++ rest) (wide d.id ++ rest) rest (cond d.writable 1 0) d.id d.writable (byte_again (cond d.writable 1 0) (wide d.id ++ rest)) (mode_again d.writable) (number_again w64 (2 ^ 64) wide64 d.id rest lt)
+declared_again d rest lt =
+    let steps = declared_steps (declared_text d ++ rest) (wide d.id ++ rest) rest (cond d.writable 1 0) d.id (byte_again (cond d.writable 1 0) (wide d.id ++ rest)) (number_again w64 (2 ^ 64) wide64 d.id rest lt) (mode_again d.writable).0 in
+    subst (λ (w : Bool). declared_at (declared_text d ++ rest) ≡ Some (record { id = d.id; writable = w }, rest)) (mode_again d.writable).1 steps
 
 -- ---- all declared accounts
 
@@ -97,30 +96,24 @@ declarations_again ds rest h =
 pay_takes : (bytes : List ℕ) (x : Body × List ℕ) → IsBytes bytes → pay_at bytes ≡ Some x → Takes bytes (body_text x.0) x.1 × BodyFits x.0 × (kind_of x.0 ≡ 1)
 unfolding pay_at
 pay_takes bytes x fits e =
-    let a = bind_some (number_at w64 bytes) (λ to. number_at w64 to.1 >>= λ amount. Some (Pay to.0 amount.0, amount.1)) x e in
-    let b = bind_some (number_at w64 a.0.1) (λ amount. Some (Pay a.0.0 amount.0, amount.1)) x a.2 in
-    let t0 = number_takes w64 (2 ^ 64) wide64 bytes a.0.0 a.0.1 fits a.1 in
-    let t1 = number_takes w64 (2 ^ 64) wide64 a.0.1 b.0.0 b.0.1 t0.0.rest_fits b.1 in
-    let both = Takes-then bytes (wide a.0.0) a.0.1 (wide b.0.0) b.0.1 t0.0 t1.0 in
-    let made : Body × List ℕ = (Pay a.0.0 b.0.0, b.0.1) in
-    subst (λ (y : Body × List ℕ). Takes bytes (body_text y.0) y.1 × BodyFits y.0 × (kind_of y.0 ≡ 1)) (some_is made x b.2) (both, (t0.1, t1.1), refl)
+    let a = bind_some (payment_at bytes) (λ payment. Some (Pay payment.0.to payment.0.amount, payment.1)) x e in
+    let t = payment_takes bytes a.0 fits a.1 in
+    let made : Body × List ℕ = (Pay a.0.0.to a.0.0.amount, a.0.1) in
+    subst (λ (y : Body × List ℕ). Takes bytes (body_text y.0) y.1 × BodyFits y.0 × (kind_of y.0 ≡ 1)) (some_is made x a.2) (t.0, t.1, refl)
 
 pay_if_takes : (bytes : List ℕ) (x : Body × List ℕ) → IsBytes bytes → pay_if_at bytes ≡ Some x → Takes bytes (body_text x.0) x.1 × BodyFits x.0 × (kind_of x.0 ≡ 2)
 unfolding pay_if_at
 pay_if_takes bytes x fits e =
-    let a = bind_some (number_at w64 bytes) (λ to. number_at w64 to.1 >>= λ amount. number_at w64 amount.1 >>= λ guard. number_at w64 guard.1 >>= λ min. Some (PayIf to.0 amount.0 guard.0 min.0, min.1)) x e in
-    let b = bind_some (number_at w64 a.0.1) (λ amount. number_at w64 amount.1 >>= λ guard. number_at w64 guard.1 >>= λ min. Some (PayIf a.0.0 amount.0 guard.0 min.0, min.1)) x a.2 in
-    let d = bind_some (number_at w64 b.0.1) (λ guard. number_at w64 guard.1 >>= λ min. Some (PayIf a.0.0 b.0.0 guard.0 min.0, min.1)) x b.2 in
-    let f = bind_some (number_at w64 d.0.1) (λ min. Some (PayIf a.0.0 b.0.0 d.0.0 min.0, min.1)) x d.2 in
-    let t0 = number_takes w64 (2 ^ 64) wide64 bytes a.0.0 a.0.1 fits a.1 in
+    let a = bind_some (payment_at bytes) (λ payment. number_at w64 payment.1 >>= λ guard. number_at w64 guard.1 >>= λ min. Some (PayIf payment.0.to payment.0.amount guard.0 min.0, min.1)) x e in
+    let b = bind_some (number_at w64 a.0.1) (λ guard. number_at w64 guard.1 >>= λ min. Some (PayIf a.0.0.to a.0.0.amount guard.0 min.0, min.1)) x a.2 in
+    let d = bind_some (number_at w64 b.0.1) (λ min. Some (PayIf a.0.0.to a.0.0.amount b.0.0 min.0, min.1)) x b.2 in
+    let t0 = payment_takes bytes a.0 fits a.1 in
     let t1 = number_takes w64 (2 ^ 64) wide64 a.0.1 b.0.0 b.0.1 t0.0.rest_fits b.1 in
     let t2 = number_takes w64 (2 ^ 64) wide64 b.0.1 d.0.0 d.0.1 t1.0.rest_fits d.1 in
-    let t3 = number_takes w64 (2 ^ 64) wide64 d.0.1 f.0.0 f.0.1 t2.0.rest_fits f.1 in
-    let two = Takes-then bytes (wide a.0.0) a.0.1 (wide b.0.0) b.0.1 t0.0 t1.0 in
-    let three = Takes-then bytes (wide a.0.0 ++ wide b.0.0) b.0.1 (wide d.0.0) d.0.1 two t2.0 in
-    let four = Takes-then bytes (wide a.0.0 ++ wide b.0.0 ++ wide d.0.0) d.0.1 (wide f.0.0) f.0.1 three t3.0 in
-    let made : Body × List ℕ = (PayIf a.0.0 b.0.0 d.0.0 f.0.0, f.0.1) in
-    subst (λ (y : Body × List ℕ). Takes bytes (body_text y.0) y.1 × BodyFits y.0 × (kind_of y.0 ≡ 2)) (some_is made x f.2) (four, (t0.1, t1.1, t2.1, t3.1), refl)
+    let two = Takes-then bytes (payment_text a.0.0) a.0.1 (wide b.0.0) b.0.1 t0.0 t1.0 in
+    let three = Takes-then bytes (payment_text a.0.0 ++ wide b.0.0) b.0.1 (wide d.0.0) d.0.1 two t2.0 in
+    let made : Body × List ℕ = (PayIf a.0.0.to a.0.0.amount b.0.0 d.0.0, d.0.1) in
+    subst (λ (y : Body × List ℕ). Takes bytes (body_text y.0) y.1 × BodyFits y.0 × (kind_of y.0 ≡ 2)) (some_is made x d.2) (three, (t0.1.0, t0.1.1, t1.1, t2.1), refl)
 
 chosen : {A : Type 0} (b : Bool) (p q : Option A) (x : A) → cond b p q ≡ Some x → ((b ≡ true) × (p ≡ Some x)) ⊎ ((b ≡ false) × (q ≡ Some x))
 chosen true p q x e = inl (refl, e)
@@ -150,24 +143,24 @@ body_takes kind bytes x fits e =
       | inr h ↦ others_take kind bytes x fits h.1
     ]
 
-pay_steps : (bytes r0 r1 : List ℕ) (to amount : ℕ) → number_at w64 bytes ≡ Some (to, r0) → number_at w64 r0 ≡ Some (amount, r1) → pay_at bytes ≡ Some (Pay to amount, r1)
+pay_steps : (bytes rest : List ℕ) (p : Payment) → payment_at bytes ≡ Some (p, rest) → pay_at bytes ≡ Some (Pay p.to p.amount, rest)
 unfolding pay_at
-pay_steps bytes r0 r1 to amount e0 e1 = rw (e0, e1) refl
+pay_steps bytes rest p e = rw e refl
 
-pay_if_steps : (bytes r0 r1 r2 r3 : List ℕ) (to amount guard min : ℕ) → number_at w64 bytes ≡ Some (to, r0) → number_at w64 r0 ≡ Some (amount, r1) → number_at w64 r1 ≡ Some (guard, r2) → number_at w64 r2 ≡ Some (min, r3) → pay_if_at bytes ≡ Some (PayIf to amount guard min, r3)
+pay_if_steps : (bytes r0 r1 r2 : List ℕ) (p : Payment) (guard min : ℕ) → payment_at bytes ≡ Some (p, r0) → number_at w64 r0 ≡ Some (guard, r1) → number_at w64 r1 ≡ Some (min, r2) → pay_if_at bytes ≡ Some (PayIf p.to p.amount guard min, r2)
 unfolding pay_if_at
-pay_if_steps bytes r0 r1 r2 r3 to amount guard min e0 e1 e2 e3 = rw (e0, e1, e2, e3) refl
+pay_if_steps bytes r0 r1 r2 p guard min e0 e1 e2 = rw (e0, e1, e2) refl
 
 body_again : (body : Body) (rest : List ℕ) → BodyFits body → body_at (kind_of body) (body_text body ++ rest) ≡ Some (body, rest)
 unfolding body_at
 body_again (Pay to amount) rest fits =
-    let r1 : List ℕ = wide amount ++ rest in
-    pay_steps (wide to ++ r1) r1 rest to amount (number_again w64 (2 ^ 64) wide64 to r1 fits.0) (number_again w64 (2 ^ 64) wide64 amount rest fits.1)
+    let p : Payment = record { to = to; amount = amount } in
+    pay_steps (payment_text p ++ rest) rest p (payment_again p rest fits)
 body_again (PayIf to amount guard min) rest fits =
-    let r3 : List ℕ = wide min ++ rest in
-    let r2 : List ℕ = wide guard ++ r3 in
-    let r1 : List ℕ = wide amount ++ r2 in
-    pay_if_steps (wide to ++ r1) r1 r2 r3 rest to amount guard min (number_again w64 (2 ^ 64) wide64 to r1 fits.0) (number_again w64 (2 ^ 64) wide64 amount r2 fits.1) (number_again w64 (2 ^ 64) wide64 guard r3 fits.2) (number_again w64 (2 ^ 64) wide64 min rest fits.3)
+    let p : Payment = record { to = to; amount = amount } in
+    let r1 : List ℕ = wide min ++ rest in
+    let r0 : List ℕ = wide guard ++ r1 in
+    pay_if_steps (payment_text p ++ r0) r0 r1 rest p guard min (payment_again p r0 (fits.0, fits.1)) (number_again w64 (2 ^ 64) wide64 guard r1 fits.2) (number_again w64 (2 ^ 64) wide64 min rest fits.3)
 body_again (Sweep to keep) rest fits =
     let r1 : List ℕ = wide keep ++ rest in
     sweep_steps (wide to ++ r1) r1 rest to keep (number_again w64 (2 ^ 64) wide64 to r1 fits.0) (number_again w64 (2 ^ 64) wide64 keep rest fits.1)

@@ -1,5 +1,5 @@
 -- How the bytes of a transaction and of a batch are read: what they encode, or nothing.
-use Rattle.std.specs.Prelude.{ℕ, zero, suc, Bool, true, false, List, length, map, Option, Some, None, nat_le, ◌==◌, ◌&&◌, not, if◌then◌else◌}
+use Rattle.std.specs.Prelude.{ℕ, Bool, List, length, map, Option, Some, None, nat_le, ◌==◌, ◌&&◌, not, if◌then◌else◌}
 use Rattle.std.specs.List.{list_any}
 use Rattle.std.specs.Int.{w8, w16, w64}
 use Rattle.bk_base.specs.Numbers.{◌>>=◌, number_at, bytes_at, list_at, is_ascending}
@@ -11,19 +11,12 @@ use Rattle.bk_tx.specs.declared.body.Body.TheVariants.{Pay, PayIf, Sweep, Split}
 use Rattle.bk_tx.specs.Access.{receivers_in}
 use Rattle.bk_tx.specs.Spelling.{receivers_of}
 
--- whether an account of this mode is writable: 0 for reading, 1 for writing
-unfoldable pub writable_of : ℕ → Option Bool
-writable_of zero = Some false
-writable_of (suc zero) = Some true
-writable_of (suc (suc mode)) = None
-
--- a mode and an id at the front, and the bytes after them
+-- a mode, 0 for reading and 1 for writing, and an id at the front, and the bytes after them
 unfoldable pub declared_at : List ℕ → Option (Declared × List ℕ)
 declared_at bytes = do
   mode ← number_at w8 bytes
-  writable ← writable_of mode.0
   id ← number_at w64 mode.1
-  Some (record { id = id.0; writable = writable }, id.1)
+  if nat_le mode.0 1 then Some (record { id = id.0; writable = mode.0 == 1 }, id.1) else None
 
 -- a count and so many declared accounts by ascending id at the front
 unfoldable pub declarations_at : List ℕ → Option (List Declared × List ℕ)
@@ -32,21 +25,26 @@ declarations_at bytes = do
   entries ← (if nat_le 1 count.0 && nat_le count.0 8 then list_at declared_at count.0 count.1 else None)
   if is_ascending (map (λ (d : Declared). d.id) entries.0) then Some entries else None
 
--- receiver and amount at the front
+-- a receiver and an amount at the front, and the bytes after them
+unfoldable pub payment_at : List ℕ → Option (Payment × List ℕ)
+payment_at bytes = do
+  to ← number_at w64 bytes
+  amount ← number_at w64 to.1
+  Some (record { to = to.0; amount = amount.0 }, amount.1)
+
+-- a payment at the front
 unfoldable pub pay_at : List ℕ → Option (Body × List ℕ)
 pay_at bytes = do
-  to ← number_at w64 bytes
-  amount ← number_at w64 to.1
-  Some (Pay to.0 amount.0, amount.1)
+  payment ← payment_at bytes
+  Some (Pay payment.0.to payment.0.amount, payment.1)
 
--- receiver, amount, guard and the least balance of the guard at the front
+-- a payment, its guard and the least balance of the guard at the front
 unfoldable pub pay_if_at : List ℕ → Option (Body × List ℕ)
 pay_if_at bytes = do
-  to ← number_at w64 bytes
-  amount ← number_at w64 to.1
-  guard ← number_at w64 amount.1
+  payment ← payment_at bytes
+  guard ← number_at w64 payment.1
   min ← number_at w64 guard.1
-  Some (PayIf to.0 amount.0 guard.0 min.0, min.1)
+  Some (PayIf payment.0.to payment.0.amount guard.0 min.0, min.1)
 
 -- receiver and what the sender keeps at the front
 unfoldable pub sweep_at : List ℕ → Option (Body × List ℕ)
@@ -54,13 +52,6 @@ sweep_at bytes = do
   to ← number_at w64 bytes
   keep ← number_at w64 to.1
   Some (Sweep to.0 keep.0, keep.1)
-
--- a receiver and an amount at the front, and the bytes after them
-unfoldable pub payment_at : List ℕ → Option (Payment × List ℕ)
-payment_at bytes = do
-  to ← number_at w64 bytes
-  amount ← number_at w64 to.1
-  Some (record { to = to.0; amount = amount.0 }, amount.1)
 
 -- a count and so many payments by ascending receiver at the front
 unfoldable pub split_at : List ℕ → Option (Body × List ℕ)

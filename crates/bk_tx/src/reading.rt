@@ -3,31 +3,26 @@
 ghost use Rattle.std.specs.Prelude.{◌≡◌, ◌≤◌, [], option_map};
 ghost use Rattle.bk_base.specs.Numbers.{list_at};
 ghost use Rattle.bk_tx.specs.Transaction.{transaction};
-ghost use Rattle.bk_tx.specs.Reading.{writable_of, declared_at, declarations_at, pay_at, pay_if_at, sweep_at, payment_at, split_at, body_at, transaction_of};
+ghost use Rattle.bk_tx.specs.Reading.{declared_at, declarations_at, pay_at, pay_if_at, sweep_at, payment_at, split_at, body_at, transaction_of};
 
 use crate::body::Body;
 use crate::declared::{Declarations, Declared, MOST_DECLARED};
 use crate::payments::{MOST_PAYMENTS, Payment, Payments};
 use bk_base::Fields;
 
-#[tactic(auto, unfolding(crate::specs::Reading::writable_of))]
-fn writable(mode: u8) -> Option<bool>
-    ensures { result ≡ writable_of mode }
-{
-    match mode {
-        0 => Some(false),
-        1 => Some(true),
-        _ => None,
-    }
-}
-
 #[tactic(auto, unfolding(crate::specs::Reading::declared_at))]
 fn declared(fields: &mut Fields) -> Option<Declared>
     ensures { option_map (λ d. (d, fields.new)) result ≡ declared_at fields.old }
 {
-    let writable = writable(fields.u8()?)?;
+    let mode = fields.u8()?;
     let id = fields.u64()?;
-    Some(Declared { id, writable })
+    if mode > 1 {
+        return None;
+    }
+    Some(Declared {
+        id,
+        writable: mode == 1,
+    })
 }
 
 // Puts so many entries into a list of none. It is filled where it lies: a list that is returned would be copied.
@@ -63,8 +58,7 @@ fn declarations(fields: &mut Fields, read: &mut Declarations) -> Option<()>
 fn pay(fields: &mut Fields, read: &mut Body) -> Option<()>
     ensures { option_map (λ _. (read.new, fields.new)) result ≡ pay_at fields.old }
 {
-    let to = fields.u64()?;
-    let amount = fields.u64()?;
+    let Payment { to, amount } = payment(fields)?;
     *read = Body::Pay { to, amount };
     Some(())
 }
@@ -73,8 +67,7 @@ fn pay(fields: &mut Fields, read: &mut Body) -> Option<()>
 fn pay_if(fields: &mut Fields, read: &mut Body) -> Option<()>
     ensures { option_map (λ _. (read.new, fields.new)) result ≡ pay_if_at fields.old }
 {
-    let to = fields.u64()?;
-    let amount = fields.u64()?;
+    let Payment { to, amount } = payment(fields)?;
     let guard = fields.u64()?;
     let min = fields.u64()?;
     *read = Body::PayIf {
