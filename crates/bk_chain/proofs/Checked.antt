@@ -1,8 +1,9 @@
 -- What a check of a chain leaves of its source and its sink.
-use Rattle.std.proofs.Common.{◌≡◌, ◌⊎◌, inl, inr, ℕ, ◌+◌, ◌<◌, ◌≤◌, List, [], length, take, Option, Some, None, refl, sym, ap, subst, ◌∙◌, arith}
+use Rattle.std.proofs.Common.{◌≡◌, ◌⊎◌, inl, inr, ℕ, ◌+◌, ◌<◌, ◌≤◌, if◌then◌else◌, List, [], length, take, Option, Some, None, refl, sym, ap, subst, ◌∙◌, arith}
 use Rattle.std.specs.Io.KnownBytes.{Keeps}
+use Rattle.std.proofs.lemmas.Bool.{le-leb}
 use Rattle.std.proofs.lemmas.List.{length-take, take-take, take_all}
-use Rattle.bk_frames.specs.Device.{Device, IfKnown, Receives}
+use Rattle.bk_frames.specs.Device.{Device, Ends, IsWhole, Receives}
 use Rattle.bk_frames.specs.Writing.{StopsWriting, Writes}
 use Rattle.bk_frames.specs.declared.writing.WriteFault.{WriteFault}
 use Rattle.bk_results.specs.Devices.{devices}
@@ -52,8 +53,11 @@ whole_read bytes text few is =
     let short : length bytes ≤ MOST_LINKS + 1 = omega (arith, few, ap length is, length-take (MOST_LINKS + 1) bytes) in
     sym (take_all (MOST_LINKS + 1) bytes short) ∙ sym is
 
-all_read : (old new : Device) (text : List ℕ) → length text ≤ MOST_LINKS → HasRead MOST_LINKS old new text → IfKnown old (λ whole. whole ≡ text)
-all_read old new text few read = known_then old.bytes (λ bytes. IsRead MOST_LINKS bytes text) (λ whole. whole ≡ text) (λ bytes is. whole_read bytes text few is) read.2
+all_read : (old new : Device) (text : List ℕ) → length text ≤ MOST_LINKS → HasRead MOST_LINKS old new text → IsWhole old new text
+all_read old new text few read = (
+  known_then old.bytes (λ bytes. IsRead MOST_LINKS bytes text) (λ whole. whole ≡ text) (λ bytes is. whole_read bytes text few is) read.2,
+  subst (λ b. Ends (if b then 1 else 0) old new) (le-leb (length text) MOST_LINKS few) read.4,
+)
 
 -- ---- why there is no verdict
 
@@ -72,7 +76,7 @@ text_fails old new sink text (fault.Links n) read h = (
   read.0,
   (refl, keeps_all sink.bytes),
   (
-    (text, read.3, h),
+    (text, read.3, (read.4, h)),
     known_then old.bytes (λ bytes. IsRead MOST_LINKS bytes text) (λ bytes. HasLinksFault bytes n) (λ bytes is. fault_of_read bytes text n is h) read.2,
   ),
 )

@@ -141,7 +141,7 @@ where
     let alloc: Global = rt.alloc();
     let feed = made(alloc, script)?;
     let wanted = whole(rt, asked, &feed)?;
-    // The calls that a piece of at most so many bytes each takes, and one that finds the end.
+    // A call for each full piece and one for the rest, if there is one, and one that finds the end.
     for (most, calls) in [(1, feed.len().saturating_add(1)), (65_536, 2)] {
         let reader = Reader::new(&feed, Device::lost_after(calls, most));
         let left = waited(rt, asked, reader, wide())?;

@@ -6,7 +6,7 @@ use Rattle.std.proofs.lemmas.List.{append-nil, map-append}
 use Rattle.bk_base.specs.declared.kind.Kind.{Kind}
 use Rattle.bk_base.specs.declared.version.Version.{Version}
 use Rattle.bk_frames.specs.declared.fault.FeedFault.{FeedFault}
-use Rattle.bk_frames.specs.Device.{Device, CanBeUsed, EndsNot, Works, GaveAll, IsWhole}
+use Rattle.bk_frames.specs.Device.{Device, CanBeUsed, Ends, Works, GaveAll, IsWhole}
 use Rattle.bk_base.specs.Feed.{Frame}
 use Rattle.bk_frames.specs.Cutting.{Cut, Cuts, in_magic, past_magic, in_frames, CutsInto, fresh, frames_in}
 use Rattle.bk_frames.specs.Pulling.{Refuses}
@@ -25,7 +25,7 @@ use Rattle.bk_follow.proofs.Pulled.{cut_so_far, gathered_more, piece_came, taken
 pub record PullsSoFar (old new : Device) (before after : List (Kind × Vec ℕ)) (c d : Cut) : Type 0 where
   pub cuts : (came : List ℕ) × CutsInto c came before after d
   pub pulls : OfPulled old before c (λ start bytes taken. (count : ℕ) × Pulls start new bytes (taken ++ frames_in after) d count)
-  pub goes_on : EndsNot old new
+  pub goes_on : Ends 0 old new
   pub nearer : room_of d ≤ room_of c
   pub sound : CanBeUsed new
   pub known : CanPull old before c
@@ -80,7 +80,7 @@ module _ (a b d : Device) (before mid after : List (Kind × Vec ℕ)) (c0 c1 c2 
       omega (arith, same, mid, sound)
 
   -- one piece more
-  pub piece_more : room_of c2 < room_of c1 → EndsNot b d → PullsSoFar a d before after c0 c2
+  pub piece_more : room_of c2 < room_of c1 → Ends 0 b d → PullsSoFar a d before after c0 c2
   piece_more less goes_on = record {
     cuts = both_cut;
     pulls = both_pulled;
@@ -91,7 +91,7 @@ module _ (a b d : Device) (before mid after : List (Kind × Vec ℕ)) (c0 c1 c2 
   }
 
   -- a group ends with a piece
-  pub group_ends : room_of c2 < room_of c1 → EndsNot b d → PullsGroup a d before after c0 c2 false
+  pub group_ends : room_of c2 < room_of c1 → Ends 0 b d → PullsGroup a d before after c0 c2 false
   group_ends less goes_on = record {
     cuts = both_cut;
     pulls = both_pulled;
@@ -101,7 +101,7 @@ module _ (a b d : Device) (before mid after : List (Kind × Vec ℕ)) (c0 c1 c2 
   }
 
   -- the source is at its end
-  pub source_ends : n ≡ 0 → ((start : Device) (bytes : List ℕ) (frames : List Frame) → IsPulled start b bytes frames c1 → EndsNot start b → IsWhole start d bytes) → PullsGroup a d before after c0 c2 true
+  pub source_ends : n ≡ 0 → ((start : Device) (bytes : List ℕ) (frames : List Frame) → IsPulled start b bytes frames c1 → Ends 0 start b → IsWhole start d bytes) → PullsGroup a d before after c0 c2 true
   source_ends none all = record {
     cuts = both_cut;
     pulls = both_pulled;
@@ -172,7 +172,7 @@ module _ (now later : Device) (g new : Inbox) (empty : Vec (Kind × Vec ℕ)) (n
         let q = group.pulls start w.bytes w.taken (cut_so_far start now between w) in
         piece_came start now later between new group.cuts.0 q.0 w q.1 group.cuts.1 refl
 
-    pub all_gathered : end ≡ true → (start : Device) → HasPulled start now g → EndsNot start now → GaveAll start later (λ bytes. (taken : List Frame) × HasGathered bytes taken new)
+    pub all_gathered : end ≡ true → (start : Device) → HasPulled start now g → Ends 0 start now → GaveAll start later (λ bytes. (taken : List Frame) × HasGathered bytes taken new)
     all_gathered ended start p before_it =
         let w = taken_now start now g between p (takes_them version known takes) in
         let q = group.pulls start w.bytes w.taken (cut_so_far start now between w) in

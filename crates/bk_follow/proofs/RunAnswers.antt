@@ -42,7 +42,7 @@ cut_short known now v found works come short =
     let at : FeedFault = record { offset = v.cut.offset; code = code.Truncated } in
     let shown : GaveAll known now (λ bytes. HasFault bytes at) =
     gave_all known now (λ bytes. AllHasCome bytes v) (λ bytes. HasFault bytes at) come (λ bytes c. ends_cut_short bytes c.0 v.cut at c.1.cuts (record { is = refl; shown = short.shown })) in
-    subst (λ (f : FeedFault). Refuses f known now) (sym short.is) (works, (shown.0, shown.1, shown.3), known_of known now (λ bytes. HasFault bytes at) shown)
+    subst (λ (f : FeedFault). Refuses f known now) (sym short.is) (works, (shown.0, shown.1, shown.3), known_of known now (λ bytes. HasFault bytes at) shown, λ _. come.2.1)
 
 pub stopped : (known now : Device) (v : Followed) (found : Fault) → GaveAll known now (λ bytes. AllHasCome bytes v) → OfFeed v (λ feed. IsStopIn feed found) → GaveAll known now (λ bytes. IsStopped bytes found)
 stopped known now v found come ends =

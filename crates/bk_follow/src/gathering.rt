@@ -2,7 +2,7 @@
 
 ghost use Rattle.std.specs.Prelude.{◌≡◌, ◌++◌, ◌<◌, ◌≤◌, [], ℕ, List, length, None, OnOk, IfOk, IfErr, IsTrue, false};
 ghost use Rattle.bk_frames.specs.Cutting.{fresh, frames_in};
-ghost use Rattle.bk_frames.specs.Device.{Device, CanBeUsed, EndsNot, GaveAll};
+ghost use Rattle.bk_frames.specs.Device.{Device, CanBeUsed, Ends, GaveAll};
 ghost use Rattle.bk_frames.specs.Reading.{room_of};
 ghost use Rattle.bk_frames.specs.declared.pulling.TheConstants.{PIECE};
 ghost use Rattle.bk_base.specs.Feed.{Frame};
@@ -150,10 +150,10 @@ impl Inbox {
         ensures come { OnOk result ((start : Device) → HasPulled start (S.state source.old) self.old
             → HasPulled start (S.state source.new) self.new) }
         ensures goes_on { IfOk result (λ end. end ≡ false
-            → EndsNot (S.state source.old) (S.state source.new)) }
+            → Ends 0 (S.state source.old) (S.state source.new)) }
         ensures all { IfOk result (λ end. IsTrue end → (start : Device)
             → HasPulled start (S.state source.old) self.old
-            → EndsNot start (S.state source.old) → GaveAll start (S.state source.new)
+            → Ends 0 start (S.state source.old) → GaveAll start (S.state source.new)
             (λ bytes. (taken : List Frame) × HasGathered bytes taken self.new)) }
         ensures nearer { IfOk result (λ end. end ≡ false
             → room_of self.new.cutter < room_of self.old.cutter) }

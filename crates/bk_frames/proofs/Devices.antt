@@ -1,10 +1,11 @@
 -- What a source gave, one part after another.
-use Rattle.std.proofs.Common.{◌≡◌, ℕ, zero, suc, ◌+◌, ◌-◌, ◌<◌, length-drop, true, List, [], ◌∷◌, ◌++◌, length, take, drop, Option, Some, None, refl, sym, ap, subst, ◌∙◌, append_assoc, arith}
+use Rattle.std.proofs.Common.{◌≡◌, ℕ, zero, suc, ◌+◌, ◌-◌, ◌<◌, ◌==◌, length-drop, Bool, true, ◌&&◌, if◌then◌else◌, List, [], ◌∷◌, ◌++◌, length, take, drop, Option, Some, None, refl, sym, ap, subst, ◌∙◌, append_assoc, arith}
+use Rattle.std.proofs.lemmas.Bool.{eq-eqb, lt-ltb, ne_eqb}
 use Rattle.std.proofs.lemmas.List.{append-nil, take_at, drop_at, take_all}
 use Rattle.std.specs.Prelude.{IfSome}
 use Rattle.std.specs.Io.KnownBytes.{Consumes, Appends}
 use Rattle.std.proofs.KnownBytes.{Consumes-nil, Consumes-trans}
-use Rattle.bk_frames.specs.Device.{Device, Ends, EndsNot, EndsBy, EndsIn, Gives, GaveAll, IfKnown}
+use Rattle.bk_frames.specs.Device.{Device, Ends, ends_of, Gives, GaveAll, IfKnown}
 
 -- a source that is not called gives nothing
 pub gives_none : (d : Device) → Gives d d []
@@ -24,32 +25,32 @@ gives_then a b c xs ys p q = record {
 pub gives_kept : (a b c : Device) (xs : List ℕ) → Gives a b xs → Gives b c [] → Gives a c xs
 gives_kept a b c xs p q = subst (λ (t : List ℕ). Gives a c t) (append-nil xs) (gives_then a b c xs [] p q)
 
+none_more : (n : ℕ) → n + 0 ≡ n
+none_more n = omega arith
+
 -- a source that is not called does not end
-pub ends_not_yet : (d : Device) → EndsNot d d
-ends_not_yet d = λ before h. h
+pub ends_not_yet : (d : Device) → Ends 0 d d
+ends_not_yet d = λ before h. subst (λ (n : ℕ). d.may_have_ended n ≡ true) (sym (none_more before)) h
 
 -- it did not end, and does not
-pub ends_not_then : (a b c : Device) → EndsNot a b → EndsNot b c → EndsNot a c
-ends_not_then a b c p q = λ before h. q before (p before h)
+pub ends_not_then : (a b c : Device) → Ends 0 a b → Ends 0 b c → Ends 0 a c
+ends_not_then a b c p q = λ before h. q before (subst (λ (n : ℕ). b.may_have_ended n ≡ true) (none_more before) (p before h))
 
 -- it did not end, and ends
-pub ends_then : (a b c : Device) → EndsNot a b → Ends b c → Ends a c
-ends_then a b c p q = λ before h. q before (p before h)
+pub ends_then : (a b c : Device) → Ends 0 a b → Ends 1 b c → Ends 1 a c
+ends_then a b c p q = λ before h. q before (subst (λ (n : ℕ). b.may_have_ended n ≡ true) (none_more before) (p before h))
 
 -- the call ended the source, if it gave nothing
-pub ends_at : (n : ℕ) (a b : Device) → EndsBy n a b → n ≡ 0 → Ends a b
-ends_at zero a b e is = e
-ends_at (suc n) a b e is = absurd (omega (arith, is))
+pub ends_at : (n : ℕ) (a b : Device) → Ends (ends_of n 1) a b → n ≡ 0 → Ends 1 a b
+ends_at n a b e is = subst (λ (k : ℕ). Ends k a b) (ap (λ (z : Bool). if z then 1 else 0) (eq-eqb n 0 is)) e
 
 -- and if it gave something it did not
-pub ends_not_at : (n : ℕ) (a b : Device) → EndsBy n a b → 0 < n → EndsNot a b
-ends_not_at zero a b e some = absurd (omega (arith, some))
-ends_not_at (suc n) a b e some = e
+pub ends_not_at : (n : ℕ) (a b : Device) → Ends (ends_of n 1) a b → 0 < n → Ends 0 a b
+ends_not_at n a b e some = subst (λ (k : ℕ). Ends k a b) (ap (λ (z : Bool). if z then 1 else 0) (ne_eqb n 0 (λ is. absurd (omega (arith, is, some))))) e
 
 -- there was room for a byte
-pub ends_by_room : (room n : ℕ) (a b : Device) → EndsIn room n a b → 0 < room → EndsBy n a b
-ends_by_room zero n a b e some = absurd (omega (arith, some))
-ends_by_room (suc room) n a b e some = e
+pub ends_by_room : (room n : ℕ) (a b : Device) → Ends (ends_of n room) a b → 0 < room → Ends (ends_of n 1) a b
+ends_by_room room n a b e some = subst (λ (k : ℕ). Ends k a b) (ap (λ (z : Bool). if z && n == 0 then 1 else 0) (lt-ltb 0 room some)) e
 
 -- what holds of the bytes that are left holds of all of them after what was given
 pub known_before : (a b : Option (List ℕ)) (xs : List ℕ) (P Q : List ℕ → Type 0) → Consumes a b xs → IfSome b P → ((rest : List ℕ) → P rest → Q (xs ++ rest)) → IfSome a Q

@@ -9,7 +9,7 @@ use Rattle.bk_base.specs.declared.version.Version.{Version}
 use Rattle.bk_frames.specs.declared.pulling.TheConstants.{PIECE}
 use Rattle.bk_frames.specs.declared.fault.FaultCode.TheVariants as code
 use Rattle.bk_frames.specs.declared.fault.FeedFault.{FeedFault}
-use Rattle.bk_frames.specs.Device.{Device, Works, Fails, Gives, IfKnown, GaveAll, EndsBy, EndsNot, IsWhole}
+use Rattle.bk_frames.specs.Device.{Device, Works, Fails, Gives, IfKnown, GaveAll, Ends, ends_of, IsWhole}
 use Rattle.bk_base.specs.Feed.{Frame, feed_of, spelling, FeedValue}
 use Rattle.bk_frames.specs.FirstFault.{HasFault}
 use Rattle.bk_frames.specs.Pulling.{Gave, StopsAt, FrontCallsForMemoryAt, Refuses}
@@ -63,7 +63,7 @@ all_pulled start now later bytes frames c p nothing end = by_known start.bytes l
     by_known (Some all) (Some left) gave end = gave ∙ ap (λ (t : List ℕ). (bytes ++ []) ++ t) end ∙ append-nil (bytes ++ []) ∙ append-nil bytes
 
 -- it did not end before, and so these are all that it had, and it ended once
-pub whole_pulled : (start now later : Device) (bytes : List ℕ) (frames : List Frame) (c : Cut) (n : ℕ) → IsPulled start now bytes frames c → EndsNot start now → Gives now later [] → IsAtEnd later.bytes → EndsBy n now later → n ≡ 0 → IsWhole start later bytes
+pub whole_pulled : (start now later : Device) (bytes : List ℕ) (frames : List Frame) (c : Cut) (n : ℕ) → IsPulled start now bytes frames c → Ends 0 start now → Gives now later [] → IsAtEnd later.bytes → Ends (ends_of n 1) now later → n ≡ 0 → IsWhole start later bytes
 whole_pulled start now later bytes frames c n p before nothing end last zero =
     (all_pulled start now later bytes frames c p nothing end, ends_then start now later before (ends_at n now later last zero))
 
@@ -71,10 +71,10 @@ whole_pulled start now later bytes frames c n p before nothing end last zero =
 pub refused_piece : (start now later : Device) (bytes piece : List ℕ) (frames : List Frame) (c : Cut) (found : FeedFault) → IsPulled start now bytes frames c → Gives now later piece → Works now later → length piece ≤ PIECE → RefusesPiece c piece found → Refuses found start later
 refused_piece start now later bytes piece frames c found p gave works few r =
     by_code found.code ⊥ (Reaches c piece found.offset) (ShowsFault c piece found) (Fails start later × Gave start later (λ given. StopsAt given found.offset)) (Works start later × Gave start later (λ given. FrontCallsForMemoryAt given found.offset))
-    (Works start later × Gave start later (λ given. HasFault given found) × IfKnown start (λ all. HasFault all found))
+    (Works start later × Gave start later (λ given. HasFault given found) × IfKnown start (λ all. HasFault all found) × (found.code ≡ code.Truncated → Ends 1 start later))
     (λ h. absurd h)
     (λ h. (same, (bytes ++ piece, came, memory_is_the_feeds bytes piece frames c found.offset p.cuts h few)))
-    (λ h. let shown = fault_is_the_feeds bytes piece frames c found p.cuts h in (same, (bytes ++ piece, came, shown), by_known start.bytes later.bytes came.known shown))
+    (λ h. let shown = fault_is_the_feeds bytes piece frames c found p.cuts h in (same, (bytes ++ piece, came, shown), by_known start.bytes later.bytes came.known shown, λ short. absurd (r.shown_already short)))
     r.cause
   where
     same : Works start later
@@ -136,9 +136,9 @@ pub whole_read : (start now : Device) (bytes : List ℕ) (feed : FeedValue) → 
 whole_read start now bytes feed gave is all = (bytes, gave, all, is)
 
 -- the bytes end, and are cut short
-pub ended_short : (start now : Device) (bytes : List ℕ) (frames : List Frame) (c : Cut) (f : FeedFault) → IsPulled start now bytes frames c → IfKnown start (λ whole. whole ≡ bytes) → EndsShort c f → Refuses f start now
+pub ended_short : (start now : Device) (bytes : List ℕ) (frames : List Frame) (c : Cut) (f : FeedFault) → IsPulled start now bytes frames c → IsWhole start now bytes → EndsShort c f → Refuses f start now
 ended_short start now bytes frames c f p all short =
-    subst (λ (g : FeedFault). Refuses g start now) (sym short.is) (p.works, (bytes, p.gave, shown), by_known start.bytes all)
+    subst (λ (g : FeedFault). Refuses g start now) (sym short.is) (p.works, (bytes, p.gave, shown), by_known start.bytes all.0, λ _. all.1)
   where
     shown : HasFault bytes (record { offset = c.offset; code = code.Truncated })
     shown = subst (HasFault bytes) short.is (ends_cut_short bytes frames c f p.cuts short)

@@ -1,5 +1,5 @@
 -- What contracts know of a device, a source or a sink of bytes.
-use Rattle.std.specs.Prelude.{◌≡◌, ℕ, zero, suc, ◌+◌, ◌^◌, ◌<◌, Bool, true, List, [], ◌++◌, take, length, Option, IfSome, MatchResult, is_ok, if◌then◌else◌}
+use Rattle.std.specs.Prelude.{◌≡◌, ℕ, ◌+◌, ◌^◌, ◌<◌, ◌==◌, ◌&&◌, nat_lt, Bool, true, List, [], ◌++◌, take, length, Option, IfSome, MatchResult, is_ok, if◌then◌else◌}
 use Rattle.std.specs.Io.KnownBytes.{Consumes, Appends, IsAtEnd}
 use Rattle.std.specs.declared.result.Result.{Result}
 
@@ -38,30 +38,21 @@ pub record Gives (old new : Device) (bytes : List ℕ) : Type 0 where
   pub known : Consumes old.bytes new.bytes bytes
   pub given : (before : List ℕ) → old.may_have_given before ≡ true → new.may_have_given (before ++ bytes) ≡ true
 
--- from one moment to a later one a source ended once
-abbrev pub Ends : Device → Device → Type 0
-Ends old new = (before : ℕ) → old.may_have_ended before ≡ true → new.may_have_ended (before + 1) ≡ true
+-- from one moment to a later one a source ended so often
+abbrev pub Ends : ℕ → Device → Device → Type 0
+Ends times old new = (before : ℕ) → old.may_have_ended before ≡ true → new.may_have_ended (before + times) ≡ true
 
--- from one moment to a later one a source did not end
-abbrev pub EndsNot : Device → Device → Type 0
-EndsNot old new = (before : ℕ) → old.may_have_ended before ≡ true → new.may_have_ended before ≡ true
-
--- a call that had room for a byte and gave so many ended the source if it gave none
-abbrev pub EndsBy : ℕ → Device → Device → Type 0
-EndsBy zero old new = Ends old new
-EndsBy (suc n) old new = EndsNot old new
-
--- a call that had room for so many bytes and gave so many
-abbrev pub EndsIn : ℕ → ℕ → Device → Device → Type 0
-EndsIn zero given old new = EndsNot old new
-EndsIn (suc room) given old new = EndsBy given old new
+-- how often a source ended in a call that gave so many bytes and had room for so many: once where it gave none, though
+-- there was room
+abbrev pub ends_of : ℕ → ℕ → ℕ
+ends_of given room = if nat_lt 0 room && given == 0 then 1 else 0
 
 -- what a call does that gives the front of a buffer, or fails: one that gives no byte, though there is room, is the end of those
 -- that are known
 abbrev pub OnePull : {E : Type 0} → Device → Device → Result ℕ E → List ℕ → Type 0
 OnePull old new result buf = MatchResult result
-    (λ n. Gives old new (take n buf) × (n ≡ 0 → 0 < length buf → IsAtEnd new.bytes) × EndsIn (length buf) n old new)
-    (λ _. Gives old new [] × EndsNot old new)
+    (λ n. Gives old new (take n buf) × (n ≡ 0 → 0 < length buf → IsAtEnd new.bytes) × Ends (ends_of n (length buf)) old new)
+    (λ _. Gives old new [] × Ends 0 old new)
 
 -- from one moment to a later one a sink received these bytes
 abbrev pub Receives : Device → Device → List ℕ → Type 0
@@ -73,7 +64,7 @@ IfKnown device holds = IfSome device.bytes holds
 
 -- from one moment to a later one these bytes are all that a source had, where that is known, and it ended once
 abbrev pub IsWhole : Device → Device → List ℕ → Type 0
-IsWhole old new bytes = IfKnown old (λ whole. whole ≡ bytes) × Ends old new
+IsWhole old new bytes = IfSome old.bytes (λ whole. whole ≡ bytes) × Ends 1 old new
 
 -- a source gave bytes of which this holds, to its end
 abbrev pub GaveAll : Device → Device → (List ℕ → Type 0) → Type 0

@@ -4,7 +4,7 @@ use Rattle.bk_frames.specs.declared.fault.FaultCode.{FaultCode}
 use Rattle.bk_frames.specs.declared.fault.FaultCode.TheVariants as code
 use Rattle.bk_frames.specs.declared.fault.FeedFault.{FeedFault}
 use Rattle.bk_frames.specs.declared.pulling.TheConstants.{PIECE}
-use Rattle.bk_frames.specs.Device.{Device, Works, Fails, Gives, IfKnown}
+use Rattle.bk_frames.specs.Device.{Device, Works, Fails, Gives, Ends, IfKnown}
 use Rattle.bk_base.specs.Feed.{Frame, FeedValue, frame_text, spelling, IsFramedAt, IsFeed}
 use Rattle.bk_frames.specs.FirstFault.{HasFault, Begins}
 
@@ -49,10 +49,11 @@ pub record FrontCallsForMemoryAt (bytes : List ℕ) (offset : ℕ) : Type 0 wher
 
 -- why a feed was refused: a call of the source failed, after bytes that stop at this offset; or memory ran out, after
 -- bytes that call for it at this offset; or the bytes that the source gave have this fault, and so have all that it had,
--- where they are known
+-- where they are known; that they end too early is said only where the source ended
 abbrev pub Refuses : FeedFault → Device → Device → Type 0
 Refuses fault start now =
     ByCode fault.code
     (Fails start now × Gave start now (λ given. StopsAt given fault.offset))
     (Works start now × Gave start now (λ given. FrontCallsForMemoryAt given fault.offset))
-    (Works start now × Gave start now (λ given. HasFault given fault) × IfKnown start (λ bytes. HasFault bytes fault))
+    (Works start now × Gave start now (λ given. HasFault given fault) × IfKnown start (λ bytes. HasFault bytes fault)
+    × (fault.code ≡ code.Truncated → Ends 1 start now))

@@ -3,7 +3,7 @@
 ghost use Rattle.std.specs.Prelude.{◌≡◌, ℕ, ◌<◌, ◌≤◌, ◌++◌, List, length, IfOk, IfErr, OnOk, Some};
 ghost use Rattle.bk_frames.specs.declared.fault.FaultCode.TheVariants as code;
 ghost use Rattle.bk_base.specs.declared.version.Version.{Version};
-ghost use Rattle.bk_frames.specs.Device.{Device, CanBeUsed, EndsBy, EndsNot, IsWhole};
+ghost use Rattle.bk_frames.specs.Device.{Device, CanBeUsed, Ends, ends_of, IsWhole};
 ghost use Rattle.bk_base.specs.Feed.{Frame};
 ghost use Rattle.bk_frames.specs.Cutting.{CutsInto, frames_in};
 ghost use Rattle.bk_frames.specs.Pulling.{Gave, Refuses};
@@ -60,8 +60,8 @@ pub fn pull_frames<S: Source>(
         (taken ++ frames_in frames.new.items) cutter.new n) }
     ensures all { IfOk result (λ n. n ≡ 0 → (start : Device) (bytes : List ℕ) (before : List Frame)
         → IsPulled start (S.state source.old) bytes before cutter.old
-        → EndsNot start (S.state source.old) → IsWhole start (S.state source.new) bytes) }
-    ensures ends { IfOk result (λ n. EndsBy n (S.state source.old) (S.state source.new)) }
+        → Ends 0 start (S.state source.old) → IsWhole start (S.state source.new) bytes) }
+    ensures ends { IfOk result (λ n. Ends (ends_of n 1) (S.state source.old) (S.state source.new)) }
     ensures few { IfOk result (λ n. n ≤ PIECE) }
     ensures nearer { IfOk result (λ n. 0 < n → room_of cutter.new < room_of cutter.old) }
     ensures refused { IfErr result (λ f. (start : Device) (bytes : List ℕ) (before : List Frame)

@@ -4,12 +4,13 @@ use Rattle.std.specs.Prelude.{Ok}
 use Rattle.std.specs.Io.KnownBytes.{Keeps}
 use Rattle.bk_frames.specs.Device.{Device, GaveAll}
 use Rattle.bk_steps.specs.declared.outcome.ScheduleFault.TheVariants as schedule
-use Rattle.bk_results.specs.Devices.{OfGiven, devices}
+use Rattle.bk_results.specs.Devices.{OfText, devices}
 use Rattle.bk_apply.specs.Answers.{ReportIsOut}
 use Rattle.bk_apply.specs.Scheduling.{IsWholeFor, StopsBy}
 use Rattle.bk_apply.specs.declared.scheduling.ScheduleStop.{ScheduleStop}
 use Rattle.bk_apply.specs.declared.scheduling.ScheduleStop.TheVariants as stop
 use Rattle.bk_script.specs.Events.{AreEvents, EventList, HasNoEvents, event_list, events_of}
+use Rattle.bk_script.specs.declared.making.TheConstants.{MOST_SCRIPT}
 use Rattle.bk_script.specs.declared.events.Events.{Events}
 use Rattle.bk_results.specs.declared.lines_fault.LinesFault.{LinesFault}
 use Rattle.bk_jobs.specs.Faults.{ScheduleIsOut}
@@ -23,8 +24,8 @@ keeps_all : (b : Option (List ℕ)) → Keeps b b
 keeps_all None = tt
 keeps_all (Some bytes) = refl
 
-is_list : (events : EventList) (old new : Device) → OfGiven old new (λ t. events_of t ≡ Ok events) → OfGiven old new IsList
-is_list events old new ((text, gives, is), known) = ((text, gives, (events, is)), by_known old.bytes known)
+is_list : (events : EventList) (old new : Device) → OfText MOST_SCRIPT old new (λ t. events_of t ≡ Ok events) → OfText MOST_SCRIPT old new IsList
+is_list events old new ((text, gives, (ends, is)), known) = ((text, gives, (ends, (events, is))), by_known old.bytes known)
   where
     by_known : (b : Option (List ℕ)) → IfSome b (λ t. events_of t ≡ Ok events) → IfSome b IsList
     by_known None is = tt

@@ -49,7 +49,7 @@ verdict_is_out root account text good old new out out' read h got = (
   good,
   refl,
   got,
-  ((text, read.3, h), known_then old.bytes (λ bytes. IsRead 65536 bytes text) (λ bytes. IsVerdict root account bytes good) (λ bytes is. verdict_of_read root account bytes text good is h) read.2),
+  ((text, read.3, (read.4, h)), known_then old.bytes (λ bytes. IsRead 65536 bytes text) (λ bytes. IsVerdict root account bytes good) (λ bytes is. verdict_of_read root account bytes text good is h) read.2),
 )
 
 pub verdict_stops : (root : List ℕ) (account : Option ℕ) (text : List ℕ) (good : Bool) (old new out out' : Device) (e : WriteFault) → HasRead 65536 old new text → (IsTrue good ↔ ProvesFor root account text)
@@ -58,7 +58,7 @@ verdict_stops root account text good old new out out' e read h stops = (
   read.0,
   stops.fails,
   (
-    (text, read.3, (good, h, stops.short, stops.out)),
+    (text, read.3, (read.4, (good, h, stops.short, stops.out))),
     known_then old.bytes (λ bytes. IsRead 65536 bytes text) (PartOfVerdictIsOut root account e.written out out')
         (λ bytes is. (good, verdict_of_read root account bytes text good is h, stops.short, stops.out)) read.2,
   ),

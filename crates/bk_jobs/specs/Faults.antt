@@ -4,7 +4,7 @@ use Rattle.bk_frames.specs.Device.{Device, Works, Fails, Receives, GaveAll}
 use Rattle.bk_results.specs.declared.compare_stop.CompareStop.{CompareStop}
 use Rattle.bk_results.specs.declared.fault.Fault.{Fault}
 use Rattle.bk_results.specs.declared.status.Status.{Status}
-use Rattle.bk_results.specs.Devices.{Devices, IsUntouched, OfGiven}
+use Rattle.bk_results.specs.Devices.{Devices, IsUntouched, OfText}
 use Rattle.bk_apply.specs.Answers.{FailsBy, ReportIsOut}
 use Rattle.bk_apply.specs.Scheduling.{IsWholeFor}
 use Rattle.bk_answer.specs.Answers.{AnswerFailsBy, IsAnswered}
@@ -20,6 +20,7 @@ use Rattle.bk_claim.specs.Claims as claim
 use Rattle.bk_claim.specs.Claims.{OfBoth}
 use Rattle.bk_claim.specs.declared.verdict.Verdict.{Verdict}
 use Rattle.bk_answer.specs.RunReport.{IsStopIn, IsStopped, IsReportOf}
+use Rattle.bk_script.specs.declared.making.TheConstants.{MOST_SCRIPT}
 use Rattle.bk_script.specs.Answers as script
 use Rattle.bk_script.specs.Script.{LineFault, feed_of}
 use Rattle.bk_results.specs.declared.script_fault.ScriptFault.{ScriptFault}
@@ -61,7 +62,7 @@ ApplyIsOut end old new =
 -- this is known
 abbrev pub FeedIsOut : Exit → Devices → Devices → Type 0
 FeedIsOut end old new =
-    (end ≡ exit.Whole) × OfGiven old.source new.source (λ text. script.IsMade text old.sink new.sink)
+    (end ≡ exit.Whole) × OfText MOST_SCRIPT old.source new.source (λ text. script.IsMade text old.sink new.sink)
 
 -- the text of a verdict on a proof
 abbrev pub verdict_text : Bool → List ℕ
@@ -81,7 +82,7 @@ IsVerdict root account bytes good = IsTrue good ↔ ProvesFor root account bytes
 abbrev pub VerdictIsOut : List ℕ → Option ℕ → Exit → Devices → Devices → Type 0
 VerdictIsOut root account end old new =
     (good : Bool) × (end ≡ exit_by good) × Receives old.sink new.sink (verdict_text good)
-    × OfGiven old.source new.source (λ text. IsVerdict root account text good)
+    × OfText 65536 old.source new.source (λ text. IsVerdict root account text good)
 
 -- the output got the whole reply to a query of the bytes that the source gave, and the exit is the reply's
 abbrev pub ReplyIsOut : Query → Exit → Devices → Devices → Type 0
@@ -160,7 +161,7 @@ CheckFailsBy root account (text.Script line found) old new = ⊥
 CheckFailsBy root account text.Read old new = Fails old.source new.source × IsUntouched old.sink new.sink
 CheckFailsBy root account (text.Write written) old new =
     Works old.source new.source × Fails old.sink new.sink
-    × OfGiven old.source new.source (PartOfVerdictIsOut root account written old.sink new.sink)
+    × OfText 65536 old.source new.source (PartOfVerdictIsOut root account written old.sink new.sink)
 CheckFailsBy root account text.Memory old new =
     Works old.source new.source × IsUntouched old.sink new.sink
 

@@ -4,11 +4,12 @@ use Rattle.bk_frames.specs.Device.{Device, Works, GaveAll}
 use Rattle.bk_steps.specs.declared.outcome.ScheduleFault.TheVariants as schedule
 use Rattle.bk_base.specs.declared.refused.Refused as reason
 use Rattle.bk_apply.specs.Answers.{FailsBy}
-use Rattle.bk_results.specs.Devices.{IsUntouched, NothingHappened, OfGiven}
+use Rattle.bk_results.specs.Devices.{IsUntouched, NothingHappened, OfText}
 use Rattle.bk_apply.specs.Scheduling.{IsNotWholeFor}
 use Rattle.bk_results.specs.declared.fault.Fault.TheVariants as replay
 use Rattle.bk_apply.specs.declared.scheduling.ScheduleStop.{ScheduleStop}
 use Rattle.bk_apply.specs.declared.scheduling.ScheduleStop.TheVariants as stop
+use Rattle.bk_script.specs.declared.making.TheConstants.{MOST_SCRIPT}
 use Rattle.bk_script.specs.Events.{EventList, HasNoEvents, events_of}
 use Rattle.bk_jobs.specs.Sources.{JobDevices, first_devices}
 use Rattle.bk_cli.specs.declared.job_fault.JobFault.{JobFault}
@@ -27,7 +28,7 @@ IsList text = (events : EventList) × (events_of text ≡ Ok events)
 -- the text that the second source gave is a list of events, of which this holds
 abbrev pub IsListed : JobDevices → JobDevices → (EventList → Type 0) → Type 0
 IsListed old new holds =
-    (events : EventList) × OfGiven old.second new.second (λ text. events_of text ≡ Ok events) × holds events
+    (events : EventList) × OfText MOST_SCRIPT old.second new.second (λ text. events_of text ≡ Ok events) × holds events
 
 -- ---- why there is no report
 
@@ -65,7 +66,7 @@ ListFailsBy workers (list.Unfinished place) old new =
 -- why a schedule has no report: the list of events was read, and the feed was not replayed; or it is the list
 abbrev pub ScheduleFailsBy : ℕ → JobFault → JobDevices → JobDevices → Type 0
 ScheduleFailsBy workers (fault.Replay e) old new =
-    Works old.second new.second × OfGiven old.second new.second IsList
+    Works old.second new.second × OfText MOST_SCRIPT old.second new.second IsList
     × FailsBy e (first_devices old) (first_devices new)
 ScheduleFailsBy workers (fault.Events e) old new = ListFailsBy workers e old new
 ScheduleFailsBy workers other old new = ⊥

@@ -2,7 +2,7 @@
 use Rattle.std.specs.Prelude.{◌≡◌, ℕ, Bool, true, false, List, Option, Some, None}
 use Rattle.bk_base.specs.Feed.{FeedValue}
 use Rattle.bk_frames.specs.Device.{Works}
-use Rattle.bk_results.specs.Devices.{Devices, IsUntouched, OfGiven}
+use Rattle.bk_results.specs.Devices.{Devices, IsUntouched, OfText}
 use Rattle.bk_results.specs.declared.fault.Fault.{Fault}
 use Rattle.bk_results.specs.declared.script_fault.ScriptFault.TheVariants as text
 use Rattle.bk_results.specs.declared.status.Status.{Status}
@@ -14,6 +14,7 @@ use Rattle.bk_chain.specs.declared.fault.ChainFault.TheVariants as broken
 use Rattle.bk_chain.specs.declared.verdict.ChainEnd.{ChainEnd}
 use Rattle.bk_chain.specs.declared.verdict.ChainEnd.TheVariants as verdict
 use Rattle.bk_tail.specs.Tailing.{TailFailsBy}
+use Rattle.bk_tables.specs.declared.listing.TheConstants.{MOST_LIST}
 use Rattle.bk_tables.specs.Listing.{AreNamedIn, HasNoAccounts}
 use Rattle.bk_tables.specs.Tables.{IsBatchTable, IsPaymentTable, IsPostingTable}
 use Rattle.bk_results.specs.declared.lines_fault.LinesFault.{LinesFault}
@@ -62,7 +63,7 @@ ViewFailsBy shown e old new = AnswerFailsBy (view_text shown) (executes_to_show 
 -- the text that the second source gave is a list of accounts, of which this holds
 abbrev pub IsPicked : JobDevices → JobDevices → (List ℕ → Type 0) → Type 0
 IsPicked old new holds =
-    (accounts : List ℕ) × OfGiven old.second new.second (AreNamedIn accounts) × holds accounts
+    (accounts : List ℕ) × OfText MOST_LIST old.second new.second (AreNamedIn accounts) × holds accounts
 
 -- the output got the rows of the table of the feed that the first source gave which have one of these accounts
 abbrev pub PickIsOut : Table → Exit → JobDevices → JobDevices → Type 0

@@ -1,6 +1,6 @@
 -- What is listed so far, and what a call leaves.
 use Rattle.std.proofs.Common.{◌≡◌, ℕ, ◌+◌, ◌^◌, ◌<◌, ◌≤◌, inl, inr, List, [], ◌∷◌, ◌++◌, length, take, Option, Some, None, refl, sym, ap, subst, ◌∙◌, arith, append_assoc, length-append}
-use Rattle.std.specs.Prelude.{IfSome, IfErr, OnOk, Ok, Err}
+use Rattle.std.specs.Prelude.{IfErr, OnOk, Ok, Err}
 use Rattle.std.specs.declared.result.Result.{Result}
 use Rattle.std.specs.List.{flat_map}
 use Rattle.std.specs.Global.{Vec}
@@ -14,7 +14,7 @@ use Rattle.bk_base.specs.declared.version.Version.TheVariants as version
 use Rattle.bk_frames.specs.declared.fault.FaultCode.{FaultCode}
 use Rattle.bk_frames.specs.declared.fault.FaultCode.TheVariants as code
 use Rattle.bk_frames.specs.declared.fault.FeedFault.{FeedFault}
-use Rattle.bk_frames.specs.Device.{Device, Works, Fails, GaveAll, Gives, IsWhole, Receives, IfKnown}
+use Rattle.bk_frames.specs.Device.{Device, Works, Fails, Ends, GaveAll, Gives, IsWhole, Receives, IfKnown}
 use Rattle.bk_base.specs.Feed.{Frame, feed_of, spelling, frame_text, AreGoodFrom, IsFeed}
 use Rattle.bk_frames.specs.FirstFault.{HasFault}
 use Rattle.bk_frames.specs.Pulling.{ByCode, FrontCallsForMemoryAt, Gave, Refuses, StopsAt}
@@ -228,7 +228,7 @@ from_code code.Extra P Q R G p q r h = r h
 
 refuses_once : (found : FeedFault) (a b : Device) → Refuses found a b → FailsOnceAtMost a b
 refuses_once found a b h =
-    from_code found.code (Fails a b × Gave a b (λ given. StopsAt given found.offset)) (Works a b × Gave a b (λ given. FrontCallsForMemoryAt given found.offset)) (Works a b × Gave a b (λ given. HasFault given found) × IfKnown a (λ bytes. HasFault bytes found)) (FailsOnceAtMost a b)
+    from_code found.code (Fails a b × Gave a b (λ given. StopsAt given found.offset)) (Works a b × Gave a b (λ given. FrontCallsForMemoryAt given found.offset)) (Works a b × Gave a b (λ given. HasFault given found) × IfKnown a (λ bytes. HasFault bytes found) × (found.code ≡ code.Truncated → Ends 1 a b)) (FailsOnceAtMost a b)
     (λ x. inr x.0) (λ x. inl x.0) (λ x. inl x.0) h
 
 good_front : (v : Version) (index offset : ℕ) (xs ys : List Frame) → AreGoodFrom v index offset (xs ++ ys) → AreGoodFrom v index offset xs
@@ -314,7 +314,7 @@ midst_fault old now later r l f h same fails =
     waiting_fault old now later h.taken h.text r l h.bytes r.cutter.offset (own_front old now r l h) (subst (λ (d : Device). Gives old.source d h.bytes) (sym same) h.pulled.gave) (inl (subst (λ (d : Device). Works old.source d) (sym same) h.pulled.works)) h.listed h.works h.out f fails
 
 -- at the end of the feed
-pub end_fault : (old now later : Devices) (r : FrameReader) (l m : Lister) (f : Fault) → (h : HasShown old now r l) → later.source ≡ now.source → IfKnown old.source (λ whole. whole ≡ h.bytes) → EndsBy f h.taken h.text r m now.sink later.sink → ListFails f old later
+pub end_fault : (old now later : Devices) (r : FrameReader) (l m : Lister) (f : Fault) → (h : HasShown old now r l) → later.source ≡ now.source → IsWhole old.source now.source h.bytes → EndsBy f h.taken h.text r m now.sink later.sink → ListFails f old later
 end_fault old now later r l m (fault.Feed found) h same all (short, w) =
     let refused : Refuses found old.source later.source = subst (λ (d : Device). Refuses found old.source d) (sym same) (ended_short old.source now.source h.bytes (h.taken ++ waiting r) r.cutter found h.pulled all short) in
     let gave = subst (λ (d : Device). Gives old.source d h.bytes) (sym same) h.pulled.gave in

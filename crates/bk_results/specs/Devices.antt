@@ -1,7 +1,7 @@
 -- What a call with a source and a sink leaves of both.
-use Rattle.std.specs.Prelude.{◌≡◌, ℕ, List}
+use Rattle.std.specs.Prelude.{◌≡◌, ℕ, List, length, nat_le, if◌then◌else◌}
 use Rattle.std.specs.Io.KnownBytes.{Keeps}
-use Rattle.bk_frames.specs.Device.{Device, Works, IfKnown}
+use Rattle.bk_frames.specs.Device.{Device, Works, Ends, IfKnown}
 use Rattle.bk_frames.specs.Pulling.{Gave}
 use Rattle.bk_base.specs.Feed.{FeedValue, IsFeed, spelling}
 
@@ -22,9 +22,11 @@ IsUntouched old new = Works old new × Keeps old.bytes new.bytes
 abbrev pub NothingHappened : Devices → Devices → Type 0
 NothingHappened old new = Works old.source new.source × IsUntouched old.sink new.sink
 
--- this holds of the bytes that a source gave, and of all that it had, where they are known
-abbrev pub OfGiven : Device → Device → (List ℕ → Type 0) → Type 0
-OfGiven old new holds = Gave old new holds × IfKnown old holds
+-- this holds of the text that a source gave, and of all that it had, where this is known; the text was read to its end, or
+-- on past so many bytes
+abbrev pub OfText : ℕ → Device → Device → (List ℕ → Type 0) → Type 0
+OfText most old new holds =
+    Gave old new (λ text. Ends (if nat_le (length text) most then 1 else 0) old new × holds text) × IfKnown old holds
 
 -- the bytes are those of a feed
 abbrev pub AreFeed : List ℕ → Type 0

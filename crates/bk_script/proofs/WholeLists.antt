@@ -122,18 +122,18 @@ module _ {L : Type 0} (w : L → ℕ → List ℕ → Result L ℕ) (k : L) wher
   -- ---- from a source
 
   pub text_lists : (old new : Device) (most : ℕ) (text : List ℕ) (made : L) → HasRead most old new text → listed_within w k most text ≡ Ok made
-      → HasList (listed_within w k most) made old new
+      → HasList most (listed_within w k most) made old new
   text_lists old new most text made read e =
-      (read.0, ((text, read.3, e), known_then old.bytes (λ bytes. IsRead most bytes text) (λ bytes. listed_within w k most bytes ≡ Ok made) (λ bytes is. sym (list_of_read most bytes text is) ∙ e) read.2))
+      (read.0, ((text, read.3, (read.4, e)), known_then old.bytes (λ bytes. IsRead most bytes text) (λ bytes. listed_within w k most bytes ≡ Ok made) (λ bytes is. sym (list_of_read most bytes text is) ∙ e) read.2))
 
   pub text_lists_none : (old new : Device) (b : L) (most : ℕ) (text : List ℕ) (e : LinesFault) → HasRead most old new text
-      → Lists {A = Unit {0}} (λ _. b) (Err e) (listed_within w k most text) → HasNoList (listed_within w k most) e old new
+      → Lists {A = Unit {0}} (λ _. b) (Err e) (listed_within w k most text) → HasNoList most (listed_within w k most) e old new
   text_lists_none old new b most text (fault.Line line) read h =
-      (read.0, ((text, read.3, h), known_then old.bytes (λ bytes. IsRead most bytes text) (λ bytes. listed_within w k most bytes ≡ Err line) (λ bytes is. sym (list_of_read most bytes text is) ∙ h) read.2))
+      (read.0, ((text, read.3, (read.4, h)), known_then old.bytes (λ bytes. IsRead most bytes text) (λ bytes. listed_within w k most bytes ≡ Err line) (λ bytes is. sym (list_of_read most bytes text is) ∙ h) read.2))
   text_lists_none old new b most text fault.Read read h = absurd h
   text_lists_none old new b most text fault.Memory read h = read.0
 
-  pub no_text : (old new : Device) (most : ℕ) (e : LinesFault) → HasNoText e old new → HasNoList (listed_within w k most) e old new
+  pub no_text : (old new : Device) (most : ℕ) (e : LinesFault) → HasNoText e old new → HasNoList most (listed_within w k most) e old new
   no_text old new most (fault.Line line) h = absurd h
   no_text old new most fault.Read h = h
   no_text old new most fault.Memory h = h

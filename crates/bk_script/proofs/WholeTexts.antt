@@ -1,13 +1,13 @@
 -- A text that is read whole, and its feed.
 use Rattle.std.proofs.Common.{◌≡◌, ℕ, ◌+◌, ◌-◌, ◌<◌, ◌≤◌, ◌==◌, nat_le, Bool, true, false, if◌then◌else◌, List, [], ◌∷◌, ◌++◌, length, take, drop, Option, Some, None, Ok, Err, refl, sym, ap, subst, ◌∙◌, arith, length-drop, length-append}
 use Rattle.std.proofs.lemmas.List.{take_at, take_all, append-nil, take-take, length-take-le}
-use Rattle.std.proofs.lemmas.Bool.{eq-eqb, eqb-true}
+use Rattle.std.proofs.lemmas.Bool.{eq-eqb, eqb-true, le-leb}
 use Rattle.std.proofs.lemmas.Bool.Decides.{nat_tests}
 use Rattle.std.specs.Prelude.{IfSome}
 use Rattle.std.specs.Io.KnownBytes.{Consumes, IsAtEnd, Keeps}
-use Rattle.bk_frames.specs.Device.{Device, Gives, Receives}
-use Rattle.bk_frames.proofs.Devices.{gives_then}
-use Rattle.bk_results.specs.Devices.{OfGiven}
+use Rattle.bk_frames.specs.Device.{Device, Ends, ends_of, Gives, Receives}
+use Rattle.bk_frames.proofs.Devices.{ends_at, ends_by_room, ends_then, gives_then}
+use Rattle.bk_results.specs.Devices.{OfText}
 use Rattle.bk_frames.specs.declared.writing.WriteFault.{WriteFault}
 use Rattle.bk_frames.specs.Writing.{StopsWriting}
 use Rattle.bk_results.specs.declared.script_fault.ScriptCode.TheVariants as code
@@ -48,6 +48,19 @@ read_enough (Some bs) (Some cs) text most gave many = sym (take_at text cs (most
 pub gives_still : (old mid new : Device) (text buf : List ℕ) (count : ℕ) → Gives old mid text → Gives mid new (take count buf) → count ≡ 0 → Gives old new text
 gives_still old mid new text buf count gave last zero =
     subst (λ t. Gives old new t) (ap (λ n. text ++ take n buf) zero ∙ append-nil text) (gives_then old mid new text (take count buf) gave last)
+
+-- the last pull ended it
+pub read_ended : (most : ℕ) (old mid new : Device) (text : List ℕ) (count room : ℕ) → length text ≤ most → Ends 0 old mid → Ends (ends_of count room) mid new → count ≡ 0 → 0 < room
+    → Ends (if nat_le (length text) most then 1 else 0) old new
+read_ended most old mid new text count room few before last zero some =
+    subst (λ b. Ends (if b then 1 else 0) old new) (sym (le-leb (length text) most few))
+    (ends_then old mid new before (ends_at count mid new (ends_by_room room count mid new last some) zero))
+
+-- it was read on past the limit
+pub read_past : (most : ℕ) (old new : Device) (text : List ℕ) → most < length text → Ends 0 old new → Ends (if nat_le (length text) most then 1 else 0) old new
+read_past most old new text many before =
+    let past : nat_le (length text) most ≡ false = grind (arith, nat_tests) in
+    subst (λ b. Ends (if b then 1 else 0) old new) (sym past) before
 
 -- ---- the feed of a whole text
 
@@ -158,12 +171,12 @@ known_then (Some bytes) P Q f h = f bytes h
 
 pub text_gives : (most : ℕ) (old new : Device) (text feed : List ℕ) → HasRead most old new text → feed_within most text ≡ Ok feed → IsFeedFrom most old new feed
 text_gives most old new text feed read e =
-    (read.0, ((text, read.3, e), known_then old.bytes (λ bytes. IsRead most bytes text) (λ bytes. feed_within most bytes ≡ Ok feed) (λ bytes is. sym (feed_of_read most bytes text is) ∙ e) read.2))
+    (read.0, ((text, read.3, (read.4, e)), known_then old.bytes (λ bytes. IsRead most bytes text) (λ bytes. feed_within most bytes ≡ Ok feed) (λ bytes is. sym (feed_of_read most bytes text is) ∙ e) read.2))
 
 pub text_fails : (most : ℕ) (old new : Device) (text : List ℕ) (e : ScriptFault) → HasRead most old new text
     → Agrees {A = Unit {0}} {B = List ℕ} (λ _. []) (Err e) (feed_within most text) → IsNoFeedFrom most e old new
 text_fails most old new text (fault.Script line found) read h =
-    (read.0, ((text, read.3, h), known_then old.bytes (λ bytes. IsRead most bytes text) (λ bytes. feed_within most bytes ≡ Err (record { line = line; code = found })) (λ bytes is. sym (feed_of_read most bytes text is) ∙ h) read.2))
+    (read.0, ((text, read.3, (read.4, h)), known_then old.bytes (λ bytes. IsRead most bytes text) (λ bytes. feed_within most bytes ≡ Err (record { line = line; code = found })) (λ bytes is. sym (feed_of_read most bytes text is) ∙ h) read.2))
 text_fails most old new text fault.Read read h = absurd h
 text_fails most old new text (fault.Write written) read h = absurd h
 text_fails most old new text fault.Memory read h = read.0
@@ -188,15 +201,15 @@ source_fails source source' sink (fault.Write written) h = absurd h
 source_fails source source' sink fault.Memory h = (h, (refl, keeps_all sink.bytes))
 
 -- what follows of the bytes of a source
-pub of_given_then : (old new : Device) (P Q : List ℕ → Type 0) → ((bytes : List ℕ) → P bytes → Q bytes) → OfGiven old new P → OfGiven old new Q
-of_given_then old new P Q f ((text, gives, h), known) = ((text, gives, f text h), known_then old.bytes P Q f known)
+pub of_text_then : (most : ℕ) (old new : Device) (P Q : List ℕ → Type 0) → ((bytes : List ℕ) → P bytes → Q bytes) → OfText most old new P → OfText most old new Q
+of_text_then most old new P Q f ((text, gives, (ends, h)), known) = ((text, gives, (ends, f text h)), known_then old.bytes P Q f known)
 
 pub sink_fails : (source source' sink sink' : Device) (feed : List ℕ) (e : WriteFault) → IsFeedFrom MOST_SCRIPT source source' feed → StopsWriting e feed sink sink'
     → FailsBy (fault.Write e.written) (devices source sink) (devices source' sink')
 sink_fails source source' sink sink' feed e made stops =
-    (made.0, stops.fails, of_given_then source source' (λ text. feed_of text ≡ Ok feed) (λ text. IsMadeInPart e.written text sink sink') (λ text is. (feed, is, stops.short, stops.out)) made.1)
+    (made.0, stops.fails, of_text_then MOST_SCRIPT source source' (λ text. feed_of text ≡ Ok feed) (λ text. IsMadeInPart e.written text sink sink') (λ text is. (feed, is, stops.short, stops.out)) made.1)
 
 pub all_written : (source source' sink sink' : Device) (feed : List ℕ) → IsFeedFrom MOST_SCRIPT source source' feed → Receives sink sink' feed
-    → OfGiven source source' (λ text. IsMade text sink sink')
+    → OfText MOST_SCRIPT source source' (λ text. IsMade text sink sink')
 all_written source source' sink sink' feed made out =
-    of_given_then source source' (λ text. feed_of text ≡ Ok feed) (λ text. IsMade text sink sink') (λ text is. (feed, is, out)) made.1
+    of_text_then MOST_SCRIPT source source' (λ text. feed_of text ≡ Ok feed) (λ text. IsMade text sink sink') (λ text is. (feed, is, out)) made.1

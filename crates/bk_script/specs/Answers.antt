@@ -1,14 +1,15 @@
 -- What the calls of a script answer.
-use Rattle.std.specs.Prelude.{◌≡◌, ℕ, ◌+◌, ◌<◌, ◌≤◌, List, length, take, Result, Ok, Err}
+use Rattle.std.specs.Prelude.{◌≡◌, ℕ, ◌+◌, ◌<◌, ◌≤◌, nat_le, if◌then◌else◌, List, length, take, Result, Ok, Err}
 use Rattle.std.specs.Io.KnownBytes.{Keeps}
-use Rattle.bk_frames.specs.Device.{Device, Works, Fails, Gives, Receives, IfKnown}
-use Rattle.bk_results.specs.Devices.{OfGiven}
+use Rattle.bk_frames.specs.Device.{Device, Works, Fails, Gives, Ends, Receives, IfKnown}
+use Rattle.bk_results.specs.Devices.{OfText}
 use Rattle.bk_results.specs.declared.script_fault.ScriptCode.{ScriptCode}
 use Rattle.bk_results.specs.declared.script_fault.ScriptFault.{ScriptFault}
 use Rattle.bk_results.specs.declared.script_fault.ScriptFault.TheVariants as fault
 use Rattle.bk_script.specs.declared.fault.Stop.{Stop}
 use Rattle.bk_script.specs.declared.fault.Stop.TheVariants as stop
 use Rattle.bk_script.specs.Script.{feed_of}
+use Rattle.bk_script.specs.declared.making.TheConstants.{MOST_SCRIPT}
 
 -- a function that may be refused memory answers as defined: with this value, or with what is wrong
 abbrev pub Answers : {A B : Type 0} → (A → B) → Result A Stop → Result B ScriptCode → Type 0
@@ -22,10 +23,11 @@ Answers view (Err stop.Memory) defined = Unit {0}
 unfoldable pub IsRead : ℕ → List ℕ → List ℕ → Type 0
 IsRead most bytes text = text ≡ take (most + 1) bytes
 
--- a text was read, which is what the source gave, and no call of it failed
+-- a text was read, which is what the source gave, and no call of it failed; a text that is not too long was read to its end
 abbrev pub HasRead : ℕ → Device → Device → List ℕ → Type 0
 HasRead most old new text =
     Works old new × (length text ≤ most + 1) × IfKnown old (λ bytes. IsRead most bytes text) × Gives old new text
+    × Ends (if nat_le (length text) most then 1 else 0) old new
 
 -- why a text was not read: a call of the source failed, or memory ran out
 abbrev pub IsNotRead : ScriptFault → Device → Device → Type 0
@@ -63,10 +65,10 @@ IsMadeInPart written text old new =
 abbrev pub FailsBy : ScriptFault → Devices → Devices → Type 0
 FailsBy (fault.Script line found) old new =
     Works old.source new.source
-    × OfGiven old.source new.source (λ text. feed_of text ≡ Err (record { line = line; code = found }))
+    × OfText MOST_SCRIPT old.source new.source (λ text. feed_of text ≡ Err (record { line = line; code = found }))
     × IsUntouched old.sink new.sink
 FailsBy fault.Read old new = Fails old.source new.source × IsUntouched old.sink new.sink
 FailsBy (fault.Write written) old new =
     Works old.source new.source × Fails old.sink new.sink
-    × OfGiven old.source new.source (λ text. IsMadeInPart written text old.sink new.sink)
+    × OfText MOST_SCRIPT old.source new.source (λ text. IsMadeInPart written text old.sink new.sink)
 FailsBy fault.Memory old new = Works old.source new.source × IsUntouched old.sink new.sink

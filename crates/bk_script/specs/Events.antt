@@ -67,8 +67,8 @@ events_of text = listed_within with_event_line no_events MOST_SCRIPT text
 
 -- no call of the source failed, and its text says these events
 abbrev pub AreEvents : Device → Device → Events → Type 0
-AreEvents old new events = HasList events_of (event_list events) old new
+AreEvents old new events = HasList MOST_SCRIPT events_of (event_list events) old new
 
 -- why there is no list of events, by the fault
 abbrev pub HasNoEvents : LinesFault → Device → Device → Type 0
-HasNoEvents e old new = HasNoList events_of e old new
+HasNoEvents e old new = HasNoList MOST_SCRIPT events_of e old new

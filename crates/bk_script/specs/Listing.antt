@@ -1,7 +1,7 @@
 -- What the lines of a text make, taken one after another: a list, or the first line with a fault.
 use Rattle.std.specs.Prelude.{◌≡◌, ℕ, ◌+◌, List, [], ◌∷◌, length, take, nat_le, if◌then◌else◌, Result, Ok, Err}
 use Rattle.bk_frames.specs.Device.{Device, Works, Fails}
-use Rattle.bk_results.specs.Devices.{OfGiven}
+use Rattle.bk_results.specs.Devices.{OfText}
 use Rattle.bk_results.specs.declared.lines_fault.LinesFault.{LinesFault}
 use Rattle.bk_results.specs.declared.lines_fault.LinesFault.TheVariants as fault
 use Rattle.bk_script.specs.Script.{ended_lines, lines_of}
@@ -33,13 +33,13 @@ Lists view (Err (fault.Line line)) defined = defined ≡ Err line
 Lists view (Err fault.Read) defined = ⊥
 Lists view (Err fault.Memory) defined = Unit {0}
 
--- no call of the source failed, and its text makes this list
-abbrev pub HasList : {L : Type 0} → (List ℕ → Result L ℕ) → L → Device → Device → Type 0
-HasList list_of list old new = Works old new × OfGiven old new (λ text. list_of text ≡ Ok list)
+-- no call of the source failed, and its text, which may have this many bytes, makes this list
+abbrev pub HasList : {L : Type 0} → ℕ → (List ℕ → Result L ℕ) → L → Device → Device → Type 0
+HasList most list_of list old new = Works old new × OfText most old new (λ text. list_of text ≡ Ok list)
 
 -- why there is no list, by the fault: this is the first line of the text with a fault; a call of the source failed; or
 -- memory ran out
-abbrev pub HasNoList : {L : Type 0} → (List ℕ → Result L ℕ) → LinesFault → Device → Device → Type 0
-HasNoList list_of (fault.Line line) old new = Works old new × OfGiven old new (λ text. list_of text ≡ Err line)
-HasNoList list_of fault.Read old new = Fails old new
-HasNoList list_of fault.Memory old new = Works old new
+abbrev pub HasNoList : {L : Type 0} → ℕ → (List ℕ → Result L ℕ) → LinesFault → Device → Device → Type 0
+HasNoList most list_of (fault.Line line) old new = Works old new × OfText most old new (λ text. list_of text ≡ Err line)
+HasNoList most list_of fault.Read old new = Fails old new
+HasNoList most list_of fault.Memory old new = Works old new

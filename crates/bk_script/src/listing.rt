@@ -114,10 +114,10 @@ pub fn read_list<L: LineList, S: Source>(
     requires source { CanBeUsed (S.state source.old) }
     requires most { most < 2 ^ 31 }
     ensures list { IfOk result (λ made.
-        HasList (listed_within L.with_line (L.value list) most) (L.value made)
+        HasList most (listed_within L.with_line (L.value list) most) (L.value made)
         (S.state source.old) (S.state source.new)) }
     ensures fault { IfErr result (λ e.
-        HasNoList (listed_within L.with_line (L.value list) most) e
+        HasNoList most (listed_within L.with_line (L.value list) most) e
         (S.state source.old) (S.state source.new)) }
 {
     let mut list = list;

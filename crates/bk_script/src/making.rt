@@ -2,7 +2,7 @@
 
 ghost use Rattle.std.specs.Prelude.{◌≡◌, ◌+◌, ◌≤◌, ◌<◌, ◌^◌, length, drop, OnOk, IfOk, IfErr};
 ghost use Rattle.bk_frames.specs.Device.{CanBeUsed, Works};
-ghost use Rattle.bk_results.specs.Devices.{OfGiven};
+ghost use Rattle.bk_results.specs.Devices.{OfText};
 ghost use Rattle.bk_script.specs.Answers.{FailsBy, IsMade, devices};
 ghost use Rattle.bk_script.specs.Judging.{judged};
 ghost use Rattle.bk_script.specs.Known.{nothing_known};
@@ -143,7 +143,7 @@ pub fn make<S: Source, K: Sink>(
 ) -> Result<(), ScriptFault>
     requires source { CanBeUsed (S.state source.old) }
     requires sink { CanBeUsed (K.state sink.old) }
-    ensures feed { OnOk result (OfGiven (S.state source.old) (S.state source.new)
+    ensures feed { OnOk result (OfText MOST_SCRIPT (S.state source.old) (S.state source.new)
         (λ text. IsMade text (K.state sink.old) (K.state sink.new))) }
     ensures sound { OnOk result (Works (S.state source.old) (S.state source.new)
         × Works (K.state sink.old) (K.state sink.new)) }

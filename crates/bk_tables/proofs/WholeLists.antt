@@ -6,10 +6,11 @@ use Rattle.bk_frames.specs.Device.{Device}
 use Rattle.bk_script.specs.Listing.{HasList}
 use Rattle.bk_script.proofs.WholeTexts.{known_then}
 use Rattle.bk_tables.specs.Payments.{is_among}
+use Rattle.bk_tables.specs.declared.listing.TheConstants.{MOST_LIST}
 use Rattle.bk_tables.specs.Listing.{AreNamed, AreNamedIn, ids_of}
 
-pub ids_named : (old new : Device) (ids accounts : List ℕ) → HasList ids_of ids old new → IsTrue (is_ascending accounts)
+pub ids_named : (old new : Device) (ids accounts : List ℕ) → HasList MOST_LIST ids_of ids old new → IsTrue (is_ascending accounts)
     → ((id : ℕ) → is_among accounts id ≡ is_among ids id) → AreNamed old new accounts
 ids_named old new ids accounts (works, (gave, known)) up has =
-    let (text, gives, e) = gave in
-    (works, ((text, gives, (ids, e, up, has)), known_then old.bytes (λ bytes. ids_of bytes ≡ Ok ids) (AreNamedIn accounts) (λ bytes e. (ids, e, up, has)) known))
+    let (text, gives, (ends, e)) = gave in
+    (works, ((text, gives, (ends, (ids, e, up, has))), known_then old.bytes (λ bytes. ids_of bytes ≡ Ok ids) (AreNamedIn accounts) (λ bytes e. (ids, e, up, has)) known))

@@ -2,7 +2,7 @@
 use Rattle.std.specs.Prelude.{◌≡◌, ℕ, List, [], ◌∷◌, ◌++◌, if◌then◌else◌, IsTrue, Result, Ok, Err}
 use Rattle.bk_base.specs.Numbers.{is_ascending}
 use Rattle.bk_frames.specs.Device.{Device, Works}
-use Rattle.bk_results.specs.Devices.{OfGiven}
+use Rattle.bk_results.specs.Devices.{OfText}
 use Rattle.bk_results.specs.declared.lines_fault.LinesFault.{LinesFault}
 use Rattle.bk_results.specs.declared.script_fault.ScriptCode.{ScriptCode}
 use Rattle.bk_script.specs.Lines.{is_skipped}
@@ -38,8 +38,8 @@ AreNamedIn accounts text =
 
 -- no call of the source failed, and its text names these accounts
 abbrev pub AreNamed : Device → Device → List ℕ → Type 0
-AreNamed old new accounts = Works old new × OfGiven old new (AreNamedIn accounts)
+AreNamed old new accounts = Works old new × OfText MOST_LIST old new (AreNamedIn accounts)
 
 -- why there is no list, by the fault
 abbrev pub HasNoAccounts : LinesFault → Device → Device → Type 0
-HasNoAccounts e old new = HasNoList ids_of e old new
+HasNoAccounts e old new = HasNoList MOST_LIST ids_of e old new

@@ -5,7 +5,7 @@ use Rattle.bk_base.specs.Feed.{Frame, FeedValue, feed_of}
 use Rattle.bk_commit.specs.Growth.{IsPrefix}
 use Rattle.bk_frames.specs.Cutting.{Cut}
 use Rattle.bk_base.specs.declared.limits.TheConstants.{MOST_FEED}
-use Rattle.bk_frames.specs.Device.{Device, Fails, Gives, IfKnown, Works}
+use Rattle.bk_frames.specs.Device.{Device, Fails, Gives, IfKnown, IsWhole, Works}
 use Rattle.bk_frames.specs.Reading.{IsPulled, room_of}
 use Rattle.bk_frames.specs.declared.fault.FaultCode.TheVariants as code
 use Rattle.bk_frames.specs.declared.pulling.TheConstants.{PIECE}
@@ -83,7 +83,7 @@ pub all_given : (start now later : Device) (bytes piece : List ℕ) (frames : Li
 all_given start now later bytes piece frames v none gave end h =
     all_pulled start now later bytes frames v.cut (pulled start now bytes frames v h) (subst (Gives now later) (no_items piece none) gave) end
 
-pub close_fails : (f : Fault) (start now : Device) (bytes : List ℕ) (frames : List Frame) (v w : Followed) → CloseFails v w f → IfKnown start (λ given. given ≡ bytes) → HasFollowed start now bytes frames v → AdvanceFails f start now bytes
+pub close_fails : (f : Fault) (start now : Device) (bytes : List ℕ) (frames : List Frame) (v w : Followed) → CloseFails v w f → IsWhole start now bytes → HasFollowed start now bytes frames v → AdvanceFails f start now bytes
 close_fails (fault.Feed found) start now bytes frames v w c all h =
     (ended_short start now bytes frames v.cut found (pulled start now bytes frames v h) all c.0, gave_now start now bytes (λ given. Unit {0}) h.gave tt)
 close_fails (fault.Collision id) start now bytes frames v w c all h =

@@ -5,7 +5,7 @@ ghost use Rattle.std.specs.Io.KnownBytes.{IsAtEnd};
 ghost use Rattle.bk_answer.specs.RunReport.{reach_of};
 ghost use Rattle.bk_base.specs.Feed.{Frame};
 ghost use Rattle.bk_follow.specs.Queries.{missing_in};
-ghost use Rattle.bk_frames.specs.Device.{CanBeUsed, Device, EndsBy, Fails, Gives, Works};
+ghost use Rattle.bk_frames.specs.Device.{CanBeUsed, Device, Ends, ends_of, Fails, Gives, Works};
 ghost use Rattle.bk_frames.specs.Reading.{room_of};
 ghost use Rattle.bk_frames.specs.declared.fault.FaultCode.TheVariants as code;
 ghost use Rattle.bk_frames.specs.declared.pulling.TheConstants.{PIECE};
@@ -33,7 +33,7 @@ fn pull_once<S: Source>(source: &mut S, piece: &mut [u8], offset: u64) -> Result
         (take n piece.new)) }
     ensures works { IfOk result (λ n. Works (S.state source.old) (S.state source.new)) }
     ensures end { IfOk result (λ n. n ≡ 0 → IsAtEnd (S.state source.new).bytes) }
-    ensures ends { IfOk result (λ n. EndsBy n (S.state source.old) (S.state source.new)) }
+    ensures ends { IfOk result (λ n. Ends (ends_of n 1) (S.state source.old) (S.state source.new)) }
     ensures fault { IfErr result (λ f. f ≡ fault.Feed (record { offset = offset; code = code.Read })) }
     ensures kept { IfErr result (λ f. Gives (S.state source.old) (S.state source.new) []) }
     ensures fails { IfErr result (λ f. Fails (S.state source.old) (S.state source.new)) }
@@ -91,7 +91,7 @@ fn pull<R: Clock + Wait, S: Source>(
     ensures works { IfOk result (λ n. Works (S.state source.old) (S.state source.new)) }
     ensures some { waits ≡ true → IfOk result (λ n. 0 < n) }
     ensures end { IfOk result (λ n. n ≡ 0 → IsAtEnd (S.state source.new).bytes) }
-    ensures ends { waits ≡ false → IfOk result (λ n. EndsBy n
+    ensures ends { waits ≡ false → IfOk result (λ n. Ends (ends_of n 1)
         (S.state source.old) (S.state source.new)) }
     ensures fault { IfErr result (λ f. f ≡ fault.Feed (record { offset = offset; code = code.Read })) }
     ensures kept { IfErr result (λ f. Gives (S.state source.old) (S.state source.new) []) }
@@ -133,6 +133,7 @@ where
         → room_of follower.new.cut < room_of follower.old.cut) }
     ensures fault { IfErr result (λ f. (start : Device) (bytes : List ℕ) (frames : List Frame)
         → HasFollowed start (S.state source.old) bytes frames follower.old
+        → (waits ≡ false → Ends 0 start (S.state source.old))
         → AdvanceFails f start (S.state source.new) bytes) }
 {
     let count = pull(rt, source, piece, follower.offset(), waits)?;

@@ -1,6 +1,6 @@
 -- A feed whose frames are gathered before they are taken.
 use Rattle.std.specs.Prelude.{◌≡◌, ◌<◌, ℕ, List, [], ◌++◌, Option, None, Some, Bool, true, false, Result, Ok, Err}
-use Rattle.bk_frames.specs.Device.{Device, Works, Gives, GaveAll, EndsNot, IsWhole}
+use Rattle.bk_frames.specs.Device.{Device, Works, Gives, GaveAll, Ends, IsWhole}
 use Rattle.bk_base.specs.Feed.{Frame}
 use Rattle.bk_frames.specs.Cutting.{Cut, Cuts, CutsInto, IsOpen, fresh, frames_in}
 use Rattle.bk_frames.specs.Pulling.{Refuses}
@@ -63,9 +63,9 @@ OfPulled now waiting c holds =
 pub record PullsGroup (old new : Device) (before after : List (Kind × Vec ℕ)) (c d : Cut) (end : Bool) : Type 0 where
   pub cuts : (came : List ℕ) × CutsInto c came before after d
   pub pulls : OfPulled old before c (λ start bytes taken. (count : ℕ) × Pulls start new bytes (taken ++ frames_in after) d count)
-  pub all : end ≡ true → OfPulled old before c (λ start bytes taken. EndsNot start old
+  pub all : end ≡ true → OfPulled old before c (λ start bytes taken. Ends 0 start old
       → (given : List ℕ) × IsWhole start new given × IsPulled start new given (taken ++ frames_in after) d)
-  pub goes_on : end ≡ false → EndsNot old new
+  pub goes_on : end ≡ false → Ends 0 old new
   pub nearer : end ≡ false → room_of d < room_of c
 
 -- what came of pulling a group

@@ -1,5 +1,4 @@
 -- Why a text was not read.
-use Rattle.std.specs.Prelude.{ℕ}
 use Rattle.bk_frames.specs.Device.{Device, Works, Fails}
 use Rattle.bk_results.specs.declared.lines_fault.LinesFault.{LinesFault}
 use Rattle.bk_results.specs.declared.lines_fault.LinesFault.TheVariants as fault

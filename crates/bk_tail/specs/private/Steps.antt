@@ -2,7 +2,7 @@
 use Rattle.std.specs.Prelude.{◌≡◌, ℕ, Bool, true, false, List, Some}
 use Rattle.bk_base.specs.Feed.{Frame, FeedValue, IsFeed}
 use Rattle.bk_commit.specs.Growth.{IsPrefix}
-use Rattle.bk_frames.specs.Device.{Device, Ends, EndsNot, Works, Gives, IfKnown}
+use Rattle.bk_frames.specs.Device.{Device, Ends, Works, Gives, IfKnown}
 use Rattle.bk_frames.specs.Pulling.{Gave, Refuses}
 use Rattle.bk_results.specs.declared.fault.Fault.{Fault}
 use Rattle.bk_results.specs.declared.fault.Fault.TheVariants as fault
@@ -34,8 +34,8 @@ pub record Advanced (start now : Device) (bytes : List ℕ) (frames : List Frame
 
 -- the source ended once, or did not
 abbrev pub EndsIf : Bool → Device → Device → Type 0
-EndsIf true old new = Ends old new
-EndsIf false old new = EndsNot old new
+EndsIf true old new = Ends 1 old new
+EndsIf false old new = Ends 0 old new
 
 -- this holds of the bytes that a source gave, which begin with these
 abbrev pub GaveAfter : Device → Device → List ℕ → (List ℕ → Type 0) → Type 0

@@ -1,6 +1,6 @@
 use Rattle.std.proofs.Common.{◌<◌, ◌≤◌, length}
 use Rattle.bk_frames.specs.declared.pulling.TheConstants.{PIECE}
-use Rattle.bk_frames.specs.Device.{EndsNot}
+use Rattle.bk_frames.specs.Device.{Ends}
 use Rattle.bk_frames.specs.Reading.{room_of}
 use Rattle.bk_follow.specs.private.Gathering.{HasPulled}
 use Rattle.bk_follow.proofs.replaying.pull_all.Given as goal
@@ -8,7 +8,7 @@ use Rattle.bk_follow.proofs.replaying.pull_all.Given as goal
 abbrev pub invariant-groups : goal.invariant-groups
 invariant-groups g l = record {
   pulled : HasPulled (g.S.Source.state l.initial.source) (g.S.Source.state l.source) l.gathered;
-  goes_on : EndsNot (g.S.Source.state l.initial.source) (g.S.Source.state l.source);
+  goes_on : Ends 0 (g.S.Source.state l.initial.source) (g.S.Source.state l.source);
   some : 0 < length l.piece;
   few : length l.piece ≤ PIECE;
 }

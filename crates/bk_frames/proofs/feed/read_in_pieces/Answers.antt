@@ -104,4 +104,4 @@ returns-clause-fault g c =
     let q = c.in_ok-count.ensures.pulls start bytes [] c.pieces.invariant.pulled.1 in
     let zero : c.in_ok-count.count ≡ 0 = c.if-count-eq0.true in
     let all = at_end start (g.S.Source.state c.pull_frames.new.source) bytes q.came (q.counted ∙ zero) (c.in_ok-count.ensures.all zero start bytes (frames_in c.pieces.frames.items) c.pieces.invariant.pulled.1 c.pieces.invariant.goes_on) in
-    map_err c.whole_feed.result _ _ (λ f h. ended_short start (g.S.Source.state c.pull_frames.new.source) (bytes ++ q.came) (frames_in c.pull_frames.new.frames.items) c.pull_frames.new.cutter f q.pulled all.0 h) c.whole_feed.ensures.fault
+    map_err c.whole_feed.result _ _ (λ f h. ended_short start (g.S.Source.state c.pull_frames.new.source) (bytes ++ q.came) (frames_in c.pull_frames.new.frames.items) c.pull_frames.new.cutter f q.pulled all h) c.whole_feed.ensures.fault

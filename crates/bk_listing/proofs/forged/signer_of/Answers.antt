@@ -1,4 +1,4 @@
-use Rattle.std.proofs.Common.{◌≡◌, ◌≢◌, ℕ, ◌+◌, List, [], length, Some, refl, sym, ap, ◌∙◌, arith}
+use Rattle.std.proofs.Common.{◌≡◌, ℕ, List, [], length, Some, refl, sym, ap, ◌∙◌, arith}
 use Rattle.bk_cert.specs.Mask.{is_signer}
 use Rattle.bk_cert.specs.Identity.{tag_of}
 use Rattle.std.specs.Prelude.{slice_index_or}

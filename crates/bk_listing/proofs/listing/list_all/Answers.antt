@@ -1,7 +1,7 @@
 use Rattle.std.proofs.Common.{◌≡◌, ℕ, zero, suc, refl, ◌++◌, ◌∙◌, arith}
 use Rattle.std.proofs.lemmas.Result.{err_from_is_err_and}
-use Rattle.bk_frames.specs.Device.{Device, EndsBy, EndsNot}
-use Rattle.bk_frames.proofs.Devices.{ends_not_then}
+use Rattle.bk_frames.specs.Device.{Device, Ends, ends_of}
+use Rattle.bk_frames.proofs.Devices.{ends_not_at, ends_not_then}
 use Rattle.bk_frames.proofs.Pulls.{at_end}
 use Rattle.bk_results.specs.Devices.{devices}
 use Rattle.bk_listing.specs.declared.listing.FrameReader.{FrameReader}
@@ -10,9 +10,9 @@ use Rattle.bk_listing.proofs.ShownSoFar.{all_shown, before_fault, can_list, can_
 use Rattle.bk_listing.proofs.listing.list_all.Goals as goal
 
 -- a pull that gave something did not end the source
-still_goes_on : (start now later : Device) (n : ℕ) → EndsNot start now → EndsBy n now later → ¬ (n ≡ 0) → EndsNot start later
+still_goes_on : (start now later : Device) (n : ℕ) → Ends 0 start now → Ends (ends_of n 1) now later → ¬ (n ≡ 0) → Ends 0 start later
 still_goes_on start now later zero before last some = absurd (some refl)
-still_goes_on start now later (suc n) before last some = ends_not_then start now later before last
+still_goes_on start now later (suc n) before last some = ends_not_then start now later before (ends_not_at (suc n) now later last (omega arith))
 
 pub pull_frames-requires-clause-pulled : goal.pull_frames-requires-clause-pulled
 pull_frames-requires-clause-pulled g c =
@@ -129,7 +129,7 @@ returns-then-count-eq0-clause-fault g c =
     let zero = c.if-count-eq0.true in
     let all = at_end start (g.S.Source.state c.pull_frames.new.source) h.bytes more.came (more.counted ∙ zero) (c.in-Ok.ensures.all zero start h.bytes _ h.pulled c.pieces.invariant.goes_on) in
     err_on c.list_last.result _ _ c.list_last.ensures.fault
-    (λ f ends. end_fault old read later reader c.pieces.lister c.list_last.new.lister f shown refl all.0 (ends h.taken h.text (can_list old read reader c.pieces.lister shown)))
+    (λ f ends. end_fault old read later reader c.pieces.lister c.list_last.new.lister f shown refl all (ends h.taken h.text (can_list old read reader c.pieces.lister shown)))
 
 pub list_waiting-requires-clause-ready : goal.list_waiting-requires-clause-ready
 list_waiting-requires-clause-ready g c κs within =

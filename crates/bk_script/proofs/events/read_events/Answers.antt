@@ -9,5 +9,5 @@ use Rattle.bk_script.proofs.events.read_events.Goals as goal
 pub returns-clause-lines : goal.returns-clause-lines
 returns-clause-lines g c =
     IfOk-weaker c.read_list.result _ _
-    (λ events has. events_paired MOST_SCRIPT has.1.0.0 (event_list events) (ap (λ k. listed_within with_event_line k MOST_SCRIPT has.1.0.0) (sym c.new.ensures) ∙ has.1.0.2))
+    (λ events has. events_paired MOST_SCRIPT has.1.0.0 (event_list events) (ap (λ k. listed_within with_event_line k MOST_SCRIPT has.1.0.0) (sym c.new.ensures) ∙ has.1.0.2.1))
     c.read_list.ensures.list

@@ -1,6 +1,6 @@
-use Rattle.std.proofs.Common.{◌≡◌, ℕ, zero, suc, ◌<◌, take, length, length-take, refl, arith}
+use Rattle.std.proofs.Common.{◌≡◌, ℕ, zero, suc, ◌<◌, Bool, true, false, take, length, length-take, refl, arith}
 use Rattle.std.proofs.lemmas.Result.{err_from_is_err_and}
-use Rattle.bk_frames.proofs.Devices.{ends_at, ends_not_at}
+use Rattle.bk_frames.proofs.Devices.{ends_at, ends_not_at, ends_then}
 use Rattle.bk_tail.proofs.Pieces.{all_given, close_fails, closed, feed_fails, nearer, nothing_more, read_fails, settle_fails, settled, taken}
 use Rattle.bk_tail.proofs.piece.advance.Goals as goal
 
@@ -8,10 +8,15 @@ not_zero : (n : ℕ) → ¬ (n ≡ 0) → 0 < n
 not_zero zero h = absurd (h refl)
 not_zero (suc n) h = omega arith
 
+-- an end is not reached where it is waited for
+not_waited : (waits : Bool) (n : ℕ) → n ≡ 0 → (waits ≡ true → 0 < n) → waits ≡ false
+not_waited true n none some = absurd (omega (arith, none, some refl))
+not_waited false n none some = refl
+
 pub returns-in_err-count-clause-fault : goal.returns-in_err-count-clause-fault
 returns-in_err-count-clause-fault g c =
     let p = err_from_is_err_and c.from_residual.result c.from_residual.ensures.1 in
-    rw (p.1, p.2) (λ start bytes frames h.
+    rw (p.1, p.2) (λ start bytes frames h goes_on.
     read_fails _ c.offset.result start (g.S.Source.state c.args.source.now) (g.S.Source.state c.pull.new.source) bytes frames c.args.follower.now
     c.in_err-count.ensures.fault c.offset.ensures c.in_err-count.ensures.kept c.in_err-count.ensures.fails h)
 
@@ -22,9 +27,12 @@ returns-in_err-close-clause-fault g c =
     let later = g.S.Source.state c.pull.new.source in
     let piece = take c.in_ok-count.count c.pull.new.piece in
     let none : length piece ≡ 0 = omega (arith, length-take c.in_ok-count.count c.pull.new.piece, c.if-count-eq0.true) in
-    rw (p.1, p.2) (λ start bytes frames h.
-    close_fails _ start later bytes frames c.args.follower.now c.close.new.self (c.in_err-close.ensures.fault h.come.works)
-    (all_given start now later bytes piece frames c.args.follower.now none c.in_ok-count.ensures.came (c.in_ok-count.ensures.end c.if-count-eq0.true) h)
+    let unwaited = not_waited c.args.waits c.in_ok-count.count c.if-count-eq0.true c.in_ok-count.ensures.some in
+    rw (p.1, p.2) (λ start bytes frames h goes_on.
+    close_fails _ start later bytes frames c.args.follower.now c.close.new.self (c.in_err-close.ensures.fault h.come.works) (
+      all_given start now later bytes piece frames c.args.follower.now none c.in_ok-count.ensures.came (c.in_ok-count.ensures.end c.if-count-eq0.true) h,
+      ends_then start now later (goes_on unwaited) (ends_at c.in_ok-count.count now later (c.in_ok-count.ensures.ends unwaited) c.if-count-eq0.true),
+    )
     (nothing_more start now later bytes piece frames c.args.follower.now none c.in_ok-count.ensures.came c.in_ok-count.ensures.works h))
 
 pub returns-then-count-eq0-clause-next : goal.returns-then-count-eq0-clause-next
@@ -41,7 +49,7 @@ returns-then-count-eq0-clause-next g c =
 pub returns-in_err-feed-clause-fault : goal.returns-in_err-feed-clause-fault
 returns-in_err-feed-clause-fault g c =
     let p = err_from_is_err_and c.from_residual-in_err-feed.result c.from_residual-in_err-feed.ensures.1 in
-    rw (p.1, p.2) (λ start bytes frames h.
+    rw (p.1, p.2) (λ start bytes frames h goes_on.
     feed_fails _ start (g.S.Source.state c.args.source.now) (g.S.Source.state c.pull.new.source) bytes (take c.in_ok-count.count c.pull.new.piece) frames c.args.follower.now
     c.in_ok-count.ensures.came c.in_ok-count.ensures.works (omega (arith, length-take c.in_ok-count.count c.pull.new.piece, c.pull.auto.piece, c.requires.few))
     (c.in_err-feed.ensures.fault h.come.works) h)
@@ -50,7 +58,7 @@ pub returns-in_err-settle-clause-fault : goal.returns-in_err-settle-clause-fault
 returns-in_err-settle-clause-fault g c =
     let p = err_from_is_err_and c.from_residual-in_err-settle.result c.from_residual-in_err-settle.ensures.1 in
     let piece = take c.in_ok-count.count c.pull.new.piece in
-    rw (p.1, p.2) (λ start bytes frames h.
+    rw (p.1, p.2) (λ start bytes frames h goes_on.
     let t = taken start (g.S.Source.state c.args.source.now) (g.S.Source.state c.pull.new.source) bytes piece frames c.args.follower.now c.feed.new.self
     c.in_ok-count.ensures.came c.in_ok-count.ensures.works c.in_ok-feed.ensures.takes h in
     settle_fails _ start (g.S.Source.state c.pull.new.source) bytes piece _ c.feed.new.self c.settle.new.self (c.in_err-settle.ensures.fault t.1.come.works) t.1)

@@ -4,7 +4,7 @@ use Rattle.bk_answer.specs.Answers.{IsAnswered}
 use Rattle.bk_answer.specs.Flaws.{judged_text}
 use Rattle.bk_base.specs.Feed.{feed_of}
 use Rattle.bk_order.specs.Intake.{nothing_ordered}
-use Rattle.bk_frames.specs.Device.{Device, Ends, EndsNot}
+use Rattle.bk_frames.specs.Device.{Device, Ends}
 use Rattle.bk_frames.proofs.Devices.{ends_not_then, ends_not_yet, ends_then}
 use Rattle.bk_results.specs.Devices.{devices}
 use Rattle.bk_tail.specs.private.Steps.{EndsIf}
@@ -15,7 +15,7 @@ use Rattle.bk_tail.proofs.Step.{few_bytes, none_put_on, put_on}
 use Rattle.bk_tail.proofs.Pieces.{none_followed}
 use Rattle.bk_tail.proofs.tail.tail_rows.Goals as goal
 
-ends_if : (old new : Device) (ended : Bool) → ended ≡ true → EndsIf ended old new → Ends old new
+ends_if : (old new : Device) (ended : Bool) → ended ≡ true → EndsIf ended old new → Ends 1 old new
 ends_if old new true is e = e
 ends_if old new false is e = absurd cc
 
@@ -25,7 +25,7 @@ not_waited false ended is on = refl
 not_waited true true is on = let no : true ≡ false = on refl in absurd cc
 not_waited true false is on = absurd cc
 
-goes_on_if : (old new : Device) (ended : Bool) → ended ≡ false → EndsIf ended old new → EndsNot old new
+goes_on_if : (old new : Device) (ended : Bool) → ended ≡ false → EndsIf ended old new → Ends 0 old new
 goes_on_if old new true is e = absurd cc
 goes_on_if old new false is e = e
 
@@ -48,7 +48,7 @@ returns-in_err-ended-clause-fault g c =
     let p = err_from_is_err_and c.from_residual.result c.from_residual.ensures.1 in
     let i = c.pieces.invariant in
     rw (p.1, p.2) (advance_fails (g.T.TableRows.kind c.args.accounts.now) (g.S.Source.state c.args.source.now) (g.S.Source.state c.advance.new.source) (g.K.Sink.state c.args.sink.now) (g.K.Sink.state c.pieces.sink) _ i.bytes
-    (c.in_err-ended.ensures.fault (g.S.Source.state c.args.source.now) i.bytes i.frames i.followed) i.put.put.so_far)
+    (c.in_err-ended.ensures.fault (g.S.Source.state c.args.source.now) i.bytes i.frames i.followed i.goes_on) i.put.put.so_far)
 
 pub put_new-requires-clause-put : goal.put_new-requires-clause-put
 put_new-requires-clause-put g c =

@@ -1,6 +1,6 @@
 use Rattle.std.proofs.Common.{◌≡◌, false, ℕ, ◌<◌, ◌≤◌, List, length}
 use Rattle.bk_base.specs.Feed.{Frame}
-use Rattle.bk_frames.specs.Device.{CanBeUsed, EndsNot}
+use Rattle.bk_frames.specs.Device.{CanBeUsed, Ends}
 use Rattle.bk_frames.specs.Reading.{room_of}
 use Rattle.bk_frames.specs.declared.pulling.TheConstants.{PIECE}
 use Rattle.bk_order.specs.Orders.{Ordered}
@@ -15,7 +15,7 @@ invariant-pieces g l = record {
   done : Ordered;
   followed : HasFollowed (g.S.Source.state l.initial.source) (g.S.Source.state l.source) bytes frames l.follower;
   put : IsPutOn (g.T.TableRows.kind l.accounts) bytes frames l.follower (g.K.Sink.state l.initial.sink) (g.K.Sink.state l.sink) (g.T.TableRows.shown l.rows) (g.T.TableRows.holds l.rows) done;
-  goes_on : l.waits ≡ false → EndsNot (g.S.Source.state l.initial.source) (g.S.Source.state l.source);
+  goes_on : l.waits ≡ false → Ends 0 (g.S.Source.state l.initial.source) (g.S.Source.state l.source);
   source : CanBeUsed (g.S.Source.state l.source);
   sink : CanBeUsed (g.K.Sink.state l.sink);
   some : 0 < length l.piece;
