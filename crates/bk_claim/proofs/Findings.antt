@@ -1,19 +1,78 @@
 -- What comparing a claim with a report finds.
-use Rattle.std.proofs.Common.{◌≡◌, ◌≢◌, ◌∙◌, ℕ, zero, suc, ◌+◌, ◌-◌, ◌<◌, ◌≤◌, Bool, true, false, cond, List, [], ◌∷◌, ◌++◌, length, take, drop, map, ltb, Option, Some, None, refl, sym, ap, subst, arith, append_assoc, append-nil, take-append-drop, length-take, length-drop, length-append}
+use Rattle.std.proofs.Common.{◌≡◌, ◌≢◌, ◌∙◌, ◌⊎◌, inl, inr, ℕ, zero, suc, ◌+◌, ◌-◌, ◌<◌, ◌≤◌, Bool, true, false, cond, List, [], ◌∷◌, ◌++◌, length, take, drop, map, ltb, Option, Some, None, refl, sym, ap, subst, arith, append_assoc, append-nil, take-append-drop, length-take, length-drop, length-append}
 use Rattle.std.specs.Prelude.{IfSome, MatchOption, slice_get, slice_range, codes}
 use Rattle.std.specs.Global.{Vec}
 use Rattle.std.specs.Io.KnownBytes.{Consumes, IsAtEnd}
 use Rattle.std.specs.List.{after_last, before_first}
 use Rattle.std.proofs.Math.Seq.{take-add}
+use Rattle.std.proofs.KnownBytes.{Consumes-whole}
 use Rattle.std.proofs.lemmas.Bool.{cond-false, cond-true, le-ltb, lt-ltb}
 use Rattle.std.proofs.lemmas.List.{drop-take, drop_at, take_all, take_at}
-use Rattle.bk_claim.specs.Claims.{difference, ends_line, line_at, line_number, shown, shown_byte, words_or_end}
+use Rattle.bk_claim.specs.Claims.{GaveEnough, difference, ends_line, line_at, line_number, shown, shown_byte, words_or_end}
 use Rattle.bk_claim.specs.declared.comparing.Found.{Found}
-use Rattle.bk_claim.specs.private.Finding.{IsFound, Leads, found_text, found_words, line_between, line_from}
-use Rattle.bk_frames.specs.Device.{Device, Gives, IfKnown}
+use Rattle.bk_claim.specs.private.Finding.{IsFound, found_text, found_words, line_between, line_from}
+use Rattle.bk_frames.specs.Device.{Device, Ends, ends_of, Gives, IfKnown, IsWhole}
 use Rattle.bk_frames.specs.Pulling.{Gave}
-use Rattle.bk_frames.proofs.Devices.{gives_none, gives_then}
+use Rattle.bk_frames.proofs.Devices.{ends_at, ends_by_room, ends_not_at, ends_not_then, ends_not_yet, ends_then, gives_kept, gives_none, gives_then, known_before}
 use Rattle.bk_results.specs.Lines.{spaced}
+
+-- ---- what a source gave
+
+-- what a call did that gave so many bytes, where it had room for a piece
+abbrev pub Pulled : Device → Device → ℕ → List ℕ → Type 0
+Pulled old new count piece =
+    Gives old new (take count piece) × (count ≡ 0 → 0 < length piece → IsAtEnd new.bytes) × Ends (ends_of count (length piece)) old new
+
+-- a source that gave something did not end
+pub pulled_on : (a b c : Device) (count : ℕ) (piece : List ℕ) → Ends 0 a b → Pulled b c count piece → 0 < length piece → 0 < count → Ends 0 a c
+pulled_on a b c count piece before came room some =
+    ends_not_then a b c before (ends_not_at count b c (ends_by_room (length piece) count b c came.2 room) some)
+
+-- and where it gives nothing any more, what it gave is all
+pub pulled_all : (a b c : Device) (given piece : List ℕ) (count : ℕ) → Gives a b given → Ends 0 a b → Pulled b c count piece → 0 < length piece → count ≡ 0
+    → Gives a c given × IsWhole a c given
+pulled_all a b c given piece count gave before came room none = (all, (known, ends_then a b c before last))
+  where
+    all : Gives a c given
+    all = gives_kept a b c given gave (subst (Gives b c) (ap (λ (k : ℕ). take k piece) none) came.0)
+
+    known : IfKnown a (λ whole. whole ≡ given)
+    known = Consumes-whole a.bytes c.bytes given (λ whole. whole ≡ given) all.known (came.1 none room) refl
+
+    last : Ends 1 b c
+    last = ends_at count b c (ends_by_room (length piece) count b c came.2 room) none
+
+-- what a source had is what it gave first and what was left then
+pub whole_behind : (a b c : Device) (front given : List ℕ) → Gives a b front → Ends 0 a b → IsWhole b c given → IsWhole a c (front ++ given)
+whole_behind a b c front given gave before (known, ends) = (
+  known_before a.bytes b.bytes front (λ whole. whole ≡ given) (λ whole. whole ≡ front ++ given) gave.known known (λ rest is. ap (λ (t : List ℕ). front ++ t) is),
+  ends_then a b c before ends,
+)
+
+-- what follows from it is shown as well
+pub enough_then : (a b : Device) (P Q : List ℕ → Type 0) → GaveEnough a b P → ((bytes : List ℕ) → P bytes → Q bytes) → GaveEnough a b Q
+enough_then a b P Q (given, gave, shown) f = (given, gave, either shown)
+  where
+    either : ((IsWhole a b given × P given) ⊎ (Ends 0 a b × ((more : List ℕ) → P (given ++ more)))) → (IsWhole a b given × Q given) ⊎ (Ends 0 a b × ((more : List ℕ) → Q (given ++ more)))
+    either (inl (whole, holds)) = inl (whole, f given holds)
+    either (inr (on, holds)) = inr (on, λ more. f (given ++ more) (holds more))
+
+-- what is shown holds of the bytes that are known
+pub enough_known : (a b : Device) (P : List ℕ → Type 0) → GaveEnough a b P → IfKnown a P
+enough_known a b P (given, gave, shown) = either shown
+  where
+    however : (x y : Option (List ℕ)) → Consumes x y given → ((more : List ℕ) → P (given ++ more)) → IfSome x P
+    however None y gives holds = tt
+    however (Some bytes) None gives holds = absurd gives
+    however (Some bytes) (Some rest) gives holds = subst P (sym gives) (holds rest)
+
+    whole_is : (x : Option (List ℕ)) → IfSome x (λ whole. whole ≡ given) → P given → IfSome x P
+    whole_is None is holds = tt
+    whole_is (Some bytes) is holds = subst P (sym is) holds
+
+    either : ((IsWhole a b given × P given) ⊎ (Ends 0 a b × ((more : List ℕ) → P (given ++ more)))) → IfKnown a P
+    either (inl (whole, holds)) = whole_is a.bytes whole.0 holds
+    either (inr (on, holds)) = however a.bytes b.bytes gave.known holds
 
 -- ---- a line that is read on
 
@@ -23,45 +82,14 @@ take_front zero xs ys = refl
 take_front (suc n) [] ys = refl
 take_front (suc n) (x ∷ xs) ys = ap (λ (t : List ℕ). x ∷ t) (take_front n xs ys)
 
-pub leads_first : (a : Option (List ℕ)) (line : List ℕ) → Leads a a line line
-leads_first None line = tt
-leads_first (Some rest) line = refl
-
--- a piece came, and the line goes on
-pub leads_on : (a b c : Option (List ℕ)) (first line new came : List ℕ) (done : Bool) → Leads a b first line → Consumes b c came
-    → ((more : List ℕ) → line_from line (came ++ more) ≡ cond done new (line_from new more)) → done ≡ false → Leads a c first new
-leads_on None b c first line new came done leads gave goes on = tt
-leads_on (Some x) None c first line new came done leads gave goes on = absurd leads
-leads_on (Some x) (Some y) None first line new came done leads gave goes on = absurd gave
-leads_on (Some x) (Some y) (Some z) first line new came done leads gave goes on =
-    leads ∙ ap (line_from line) gave ∙ goes z ∙ cond-false done new (line_from new z) on
-
--- a piece came, and the line is whole
-pub leads_whole : (a b c : Option (List ℕ)) (first line new came : List ℕ) (done : Bool) → Leads a b first line → Consumes b c came
-    → ((more : List ℕ) → line_from line (came ++ more) ≡ cond done new (line_from new more)) → done ≡ true → IfSome a (λ rest. new ≡ line_from first rest)
-leads_whole None b c first line new came done leads gave goes whole = tt
-leads_whole (Some x) None c first line new came done leads gave goes whole = absurd leads
-leads_whole (Some x) (Some y) None first line new came done leads gave goes whole = absurd gave
-leads_whole (Some x) (Some y) (Some z) first line new came done leads gave goes whole =
-    sym (leads ∙ ap (line_from line) gave ∙ goes z ∙ cond-true done new (line_from new z) whole)
-
--- the claim ends, and the line with it
-pub leads_end : (a b c : Option (List ℕ)) (first line piece : List ℕ) (count : ℕ) → Leads a b first line → Consumes b c (take count piece) → count ≡ 0 → IsAtEnd c
-    → length line ≤ 200 → IfSome a (λ rest. line ≡ line_from first rest)
-leads_end None b c first line piece count leads gave none end short = tt
-leads_end (Some x) None c first line piece count leads gave none end short = absurd leads
-leads_end (Some x) (Some y) None first line piece count leads gave none end short = absurd gave
-leads_end (Some x) (Some y) (Some z) first line piece count leads gave none end short =
-    let empty : y ≡ [] = gave ∙ ap (λ (k : ℕ). take k piece ++ z) none ∙ end in
-    sym (leads ∙ ap (line_from line) empty ∙ ap (take 200) (append-nil line) ∙ take_all 200 line short)
-
--- the same of what was given
+-- behind the bytes that were given the line goes on as behind those that were put
 abbrev pub Led : List ℕ → List ℕ → List ℕ → Type 0
 Led first line given = (more : List ℕ) → line_from first (given ++ more) ≡ line_from line more
 
 pub led_first : (d : Device) (line : List ℕ) → Gave d d (Led line line)
 led_first d line = ([], gives_none d, λ more. refl)
 
+-- a piece came, and the line goes on
 pub led_on : (a b c : Device) (first line new came : List ℕ) (done : Bool) → Gave a b (Led first line) → Gives b c came
     → ((more : List ℕ) → line_from line (came ++ more) ≡ cond done new (line_from new more)) → done ≡ false → Gave a c (Led first new)
 led_on a b c first line new came done (given, gave, leads) next goes on = (
@@ -70,22 +98,25 @@ led_on a b c first line new came done (given, gave, leads) next goes on = (
   λ more. ap (line_from first) (append_assoc given came more) ∙ leads (came ++ more) ∙ goes more ∙ cond-false done new (line_from new more) on,
 )
 
-pub led_whole : (a b c : Device) (first line new came : List ℕ) (done : Bool) → Gave a b (Led first line) → Gives b c came
-    → ((more : List ℕ) → line_from line (came ++ more) ≡ cond done new (line_from new more)) → done ≡ true → Gave a c (λ given. new ≡ line_from first given)
-led_whole a b c first line new came done (given, gave, leads) next goes whole = (
+-- a piece came, and the line is whole: what follows in the claim is no part of it
+pub led_whole : (a b c : Device) (first line new came : List ℕ) (done : Bool) → Gave a b (Led first line) → Ends 0 a c → Gives b c came
+    → ((more : List ℕ) → line_from line (came ++ more) ≡ cond done new (line_from new more)) → done ≡ true → GaveEnough a c (λ given. new ≡ line_from first given)
+led_whole a b c first line new came done (given, gave, leads) on next goes whole = (
   given ++ came,
   gives_then a b c given came gave next,
-  sym (ap (line_from first) (sym (append-nil (given ++ came)) ∙ append_assoc given came []) ∙ leads (came ++ []) ∙ goes [] ∙ cond-true done new (line_from new []) whole),
+  inr (on, λ more. sym (ap (line_from first) (append_assoc given came more) ∙ leads (came ++ more) ∙ goes more ∙ cond-true done new (line_from new more) whole)),
 )
 
-pub led_end : (a b c : Device) (first line piece : List ℕ) (count : ℕ) → Gave a b (Led first line) → Gives b c (take count piece) → count ≡ 0
-    → length line ≤ 200 → Gave a c (λ given. line ≡ line_from first given)
-led_end a b c first line piece count (given, gave, leads) next none short =
-    let empty : take count piece ≡ [] = ap (λ (k : ℕ). take k piece) none in (
-      given ++ take count piece,
-      gives_then a b c given (take count piece) gave next,
-      sym (ap (λ (t : List ℕ). line_from first (given ++ t)) empty ∙ leads [] ∙ ap (take 200) (append-nil line) ∙ take_all 200 line short),
-    )
+-- the claim ends, and the line with it
+pub led_end : (a b c : Device) (first line piece : List ℕ) (count : ℕ) → Gave a b (Led first line) → Ends 0 a b → Pulled b c count piece → 0 < length piece → count ≡ 0
+    → length line ≤ 200 → GaveEnough a c (λ given. line ≡ line_from first given)
+led_end a b c first line piece count (given, gave, leads) before came room none short = (given, all.0, inl (all.1, is))
+  where
+    all : Gives a c given × IsWhole a c given
+    all = pulled_all a b c given piece count gave before came room none
+
+    is : line ≡ line_from first given
+    is = sym (ap (line_from first) (sym (append-nil given)) ∙ leads [] ∙ ap (take 200) (append-nil line) ∙ take_all 200 line short)
 
 -- ---- a claim's line, of which these bytes came
 
@@ -93,32 +124,20 @@ starts_between : (before begun more : List ℕ) → begun ≡ take 200 (after_la
 starts_between before begun more e =
     ap (λ (t : List ℕ). line_from t more) e ∙ take_front 200 (after_last ends_line before) (before_first ends_line more)
 
-pub between_on : (a : Option (List ℕ)) (before came begun put new : List ℕ) (done : Bool) → begun ≡ take 200 (after_last ends_line before)
-    → ((more : List ℕ) → line_from begun (came ++ more) ≡ cond done put (line_from put more)) → done ≡ false
-    → IfSome a (λ rest. new ≡ line_from put rest) → IfSome a (λ rest. new ≡ line_between before (came ++ rest))
-between_on None before came begun put new done e goes on rest = tt
-between_on (Some x) before came begun put new done e goes on rest =
-    rest ∙ sym (cond-false done put (line_from put x) on) ∙ sym (goes x) ∙ starts_between before begun (came ++ x) e
-
-pub between_whole : (a : Option (List ℕ)) (before came begun put : List ℕ) (done : Bool) → begun ≡ take 200 (after_last ends_line before)
-    → ((more : List ℕ) → line_from begun (came ++ more) ≡ cond done put (line_from put more)) → done ≡ true
-    → IfSome a (λ rest. put ≡ line_between before (came ++ rest))
-between_whole None before came begun put done e goes whole = tt
-between_whole (Some x) before came begun put done e goes whole =
-    sym (cond-true done put (line_from put x) whole) ∙ sym (goes x) ∙ starts_between before begun (came ++ x) e
-
--- the same of what was given
+-- the line goes on behind them
 pub given_on : (a b : Device) (before came begun put new : List ℕ) (done : Bool) → begun ≡ take 200 (after_last ends_line before)
     → ((more : List ℕ) → line_from begun (came ++ more) ≡ cond done put (line_from put more)) → done ≡ false
-    → Gave a b (λ given. new ≡ line_from put given) → Gave a b (λ given. new ≡ line_between before (came ++ given))
-given_on a b before came begun put new done e goes on (given, gave, is) =
-    (given, gave, is ∙ sym (cond-false done put (line_from put given) on) ∙ sym (goes given) ∙ starts_between before begun (came ++ given) e)
+    → GaveEnough a b (λ given. new ≡ line_from put given) → GaveEnough a b (λ given. new ≡ line_between before (came ++ given))
+given_on a b before came begun put new done e goes on enough =
+    enough_then a b (λ given. new ≡ line_from put given) (λ given. new ≡ line_between before (came ++ given)) enough
+    (λ given is. is ∙ sym (cond-false done put (line_from put given) on) ∙ sym (goes given) ∙ starts_between before begun (came ++ given) e)
 
+-- or is whole with them
 pub given_whole : (d : Device) (before came begun put : List ℕ) (done : Bool) → begun ≡ take 200 (after_last ends_line before)
     → ((more : List ℕ) → line_from begun (came ++ more) ≡ cond done put (line_from put more)) → done ≡ true
-    → Gave d d (λ given. put ≡ line_between before (came ++ given))
+    → GaveEnough d d (λ given. put ≡ line_between before (came ++ given))
 given_whole d before came begun put done e goes whole =
-    ([], gives_none d, sym (cond-true done put (line_from put []) whole) ∙ sym (goes []) ∙ starts_between before begun (came ++ []) e)
+    ([], gives_none d, inr (ends_not_yet d, λ more. sym (cond-true done put (line_from put more) whole) ∙ sym (goes more) ∙ starts_between before begun (came ++ more) e))
 
 -- ---- the byte where they differ
 
@@ -181,40 +200,51 @@ found_here right back came rest claim at same line inside is split within low al
     found_split right claim (take (at + same) right) (drop same came ++ rest) (at + same) line refl long cut some
     (λ e. apart (sym ours ∙ e ∙ sym theirs)) line_is
 
--- the same of what sources give
-pub found_known : (a b c : Option (List ℕ)) (right back piece : List ℕ) (at same count : ℕ) (line : Vec ℕ) → at ≤ length right → back ≡ drop at right
-    → Consumes a b (take at right) → Consumes b c (take count piece) → count ≤ length piece → same ≤ length back → same < count → take same back ≡ take same (take count piece)
-    → slice_get back same ≢ slice_get (take count piece) same
-    → IfSome c (λ rest. line.items ≡ line_between (take (at + same) right) (slice_range piece same count ++ rest))
-    → IfSome a (λ claim. IsFound right claim (record { at = at + same; line = Some line }))
-found_known None b c right back piece at same count line inside is gave came fits within low alike apart line_is = tt
-found_known (Some x) None c right back piece at same count line inside is gave came fits within low alike apart line_is = absurd gave
-found_known (Some x) (Some y) None right back piece at same count line inside is gave came fits within low alike apart line_is = absurd came
-found_known (Some x) (Some y) (Some z) right back piece at same count line inside is gave came fits within low alike apart line_is =
-    let more : length (take count piece) ≡ count = omega (arith, length-take count piece, fits) in
-    let below : same < length (take count piece) = omega (arith, more, low) in
-    let whole : count ≡ same + (count - same) = omega (arith, low) in
-    let part : slice_range piece same count ≡ drop same (take count piece) =
-    sym (drop-take same (count - same) piece) ∙ ap (λ (k : ℕ). drop same (take k piece)) (sym whole) in
-    found_here right back (take count piece) z x at same line inside is (gave ∙ ap (λ (t : List ℕ). take at right ++ t) came) within below alike apart
-    (line_is ∙ ap (λ (t : List ℕ). line_between (take (at + same) right) (t ++ z)) part)
-
--- the same of what was given
+-- what was given shows this, to its end or however it goes on
 pub found_given : (a b c d : Device) (right back piece : List ℕ) (at same count : ℕ) (line : Vec ℕ) → at ≤ length right → back ≡ drop at right
-    → Gives a b (take at right) → Gives b c (take count piece) → count ≤ length piece → same ≤ length back → same < count → take same back ≡ take same (take count piece)
-    → slice_get back same ≢ slice_get (take count piece) same
-    → Gave c d (λ given. line.items ≡ line_between (take (at + same) right) (slice_range piece same count ++ given))
-    → Gave a d (λ claim. IsFound right claim (record { at = at + same; line = Some line }))
-found_given a b c d right back piece at same count line inside is gave came fits within low alike apart (given, rest, line_is) =
-    let more : length (take count piece) ≡ count = omega (arith, length-take count piece, fits) in
-    let below : same < length (take count piece) = omega (arith, more, low) in
-    let whole : count ≡ same + (count - same) = omega (arith, low) in
-    let part : slice_range piece same count ≡ drop same (take count piece) =
-    sym (drop-take same (count - same) piece) ∙ ap (λ (k : ℕ). drop same (take k piece)) (sym whole) in (
-      (take at right ++ take count piece) ++ given,
-      gives_then a c d (take at right ++ take count piece) given (gives_then a b c (take at right) (take count piece) gave came) rest,
-      found_here right back (take count piece) given ((take at right ++ take count piece) ++ given) at same line inside is (append_assoc (take at right) (take count piece) given) within below alike apart
-          (line_is ∙ ap (λ (t : List ℕ). line_between (take (at + same) right) (t ++ given)) part),
+    → Gives a b (take at right) → Ends 0 a b → Pulled b c count piece → 0 < length piece → count ≤ length piece → same ≤ length back → same < count
+    → take same back ≡ take same (take count piece) → slice_get back same ≢ slice_get (take count piece) same
+    → GaveEnough c d (λ given. line.items ≡ line_between (take (at + same) right) (slice_range piece same count ++ given))
+    → GaveEnough a d (λ claim. IsFound right claim (record { at = at + same; line = Some line }))
+found_given a b c d right back piece at same count line inside is gave before came room fits within low alike apart (given, rest, shown) =
+    (front ++ given, gives_then a c d front given so_far rest, either shown)
+  where
+    front : List ℕ
+    front = take at right ++ take count piece
+
+    so_far : Gives a c front
+    so_far = gives_then a b c (take at right) (take count piece) gave came.0
+
+    some : 0 < count
+    some = omega (arith, low)
+
+    below : same < length (take count piece)
+    below = omega (arith, length-take count piece, fits, low)
+
+    whole_count : count ≡ same + (count - same)
+    whole_count = omega (arith, low)
+
+    part : slice_range piece same count ≡ drop same (take count piece)
+    part = sym (drop-take same (count - same) piece) ∙ ap (λ (k : ℕ). drop same (take k piece)) (sym whole_count)
+
+    found_with : (claim more : List ℕ) → claim ≡ take at right ++ (take count piece ++ more) → line.items ≡ line_between (take (at + same) right) (slice_range piece same count ++ more)
+        → IsFound right claim (record { at = at + same; line = Some line })
+    found_with claim more split line_is =
+        found_here right back (take count piece) more claim at same line inside is split within below alike apart
+        (line_is ∙ ap (λ (t : List ℕ). line_between (take (at + same) right) (t ++ more)) part)
+
+    either : ((IsWhole c d given × (line.items ≡ line_between (take (at + same) right) (slice_range piece same count ++ given)))
+        ⊎ (Ends 0 c d × ((more : List ℕ) → line.items ≡ line_between (take (at + same) right) (slice_range piece same count ++ (given ++ more)))))
+        → (IsWhole a d (front ++ given) × IsFound right (front ++ given) (record { at = at + same; line = Some line }))
+        ⊎ (Ends 0 a d × ((more : List ℕ) → IsFound right ((front ++ given) ++ more) (record { at = at + same; line = Some line })))
+    either (inl (whole, line_is)) = inl (
+      whole_behind a c d front given so_far (pulled_on a b c count piece before came room some) whole,
+      found_with (front ++ given) given (append_assoc (take at right) (take count piece) given) line_is,
+    )
+    either (inr (on, line_is)) = inr (
+      ends_not_then a c d (pulled_on a b c count piece before came room some) on,
+      λ more. found_with ((front ++ given) ++ more) (given ++ more)
+          (append_assoc front given more ∙ append_assoc (take at right) (take count piece) (given ++ more)) (line_is more),
     )
 
 -- a whole piece came, and all of it is the same
@@ -232,27 +262,12 @@ piece_is_same a b c right back piece at same count inside is gave came fits with
     (omega (arith, within, behind, inside), subst (λ (t : List ℕ). Gives a c t) (sym next) (gives_then a b c (take at right) (take count piece) gave came))
 
 -- the claim ends behind bytes that are the same
-pub ends_known : (a b c : Device) (right piece : List ℕ) (at count : ℕ) (found : Option Found) → Gives a b (take at right) → Gives b c (take count piece) → count ≡ 0 → IsAtEnd c.bytes
+pub ends_given : (a b c : Device) (right piece : List ℕ) (at count : ℕ) (found : Option Found) → Gives a b (take at right) → Ends 0 a b → Pulled b c count piece → 0 < length piece → count ≡ 0
     → MatchOption found (take at right ≡ right) (λ f. IsFound right (take at right) f)
-    → IfKnown a (λ claim. MatchOption found (claim ≡ right) (λ f. IsFound right claim f))
-ends_known a b c right piece at count found gave came none end is = by_known a.bytes b.bytes c.bytes gave.known came.known end
-  where
-    by_known : (x y z : Option (List ℕ)) → Consumes x y (take at right) → Consumes y z (take count piece) → IsAtEnd z → IfSome x (λ claim. MatchOption found (claim ≡ right) (λ f. IsFound right claim f))
-    by_known None y z gave came end = tt
-    by_known (Some x) None z gave came end = absurd gave
-    by_known (Some x) (Some y) None gave came end = absurd came
-    by_known (Some x) (Some y) (Some z) gave came end =
-        let empty : y ≡ [] = came ∙ ap (λ (k : ℕ). take k piece ++ z) none ∙ end in
-        let all : x ≡ take at right = gave ∙ ap (λ (t : List ℕ). take at right ++ t) empty ∙ append-nil (take at right) in
-        subst (λ (claim : List ℕ). MatchOption found (claim ≡ right) (λ f. IsFound right claim f)) (sym all) is
-
--- the same of what was given
-pub ends_given : (a b c : Device) (right piece : List ℕ) (at count : ℕ) (found : Option Found) → Gives a b (take at right) → Gives b c (take count piece) → count ≡ 0
-    → MatchOption found (take at right ≡ right) (λ f. IsFound right (take at right) f)
-    → Gave a c (λ claim. MatchOption found (claim ≡ right) (λ f. IsFound right claim f))
-ends_given a b c right piece at count found gave came none is =
-    let all : take at right ++ take count piece ≡ take at right = ap (λ (k : ℕ). take at right ++ take k piece) none ∙ append-nil (take at right) in
-    (take at right, subst (Gives a c) all (gives_then a b c (take at right) (take count piece) gave came), is)
+    → GaveEnough a c (λ claim. MatchOption found (claim ≡ right) (λ f. IsFound right claim f))
+ends_given a b c right piece at count found gave before came room none is =
+    let all = pulled_all a b c (take at right) piece count gave before came room none in
+    (take at right, all.0, inl (all.1, is))
 
 -- ---- what is shown of it
 

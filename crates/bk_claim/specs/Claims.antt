@@ -1,13 +1,13 @@
 -- The verdict on what somebody claims to be the report of a run.
-use Rattle.std.specs.Prelude.{◌≡◌, ◌≢◌, ℕ, ◌+◌, ◌<◌, Bool, ◌&&◌, ◌==◌, nat_lt, nat_le, if◌then◌else◌, List, ◌++◌, length, map, take, drop, count_by, slice_get, codes}
+use Rattle.std.specs.Prelude.{◌≡◌, ◌≢◌, ℕ, ◌+◌, ◌<◌, ◌⊎◌, Bool, ◌&&◌, ◌==◌, nat_lt, nat_le, if◌then◌else◌, List, ◌++◌, length, map, take, drop, count_by, slice_get, codes}
 use Rattle.std.specs.List.{after_last, before_first}
 use Rattle.bk_claim.specs.declared.verdict.ClaimStop.{ClaimStop}
 use Rattle.bk_claim.specs.declared.verdict.ClaimStop.TheVariants as stop
 use Rattle.bk_claim.specs.declared.verdict.Verdict.{Verdict}
 use Rattle.bk_claim.specs.declared.verdict.Verdict.TheVariants as verdict
 use Rattle.bk_answer.specs.RunReport.{IsReport, IsStopped, HasPlace}
-use Rattle.bk_frames.specs.Device.{Device, Works, Fails, Receives, IfKnown, GaveAll}
-use Rattle.bk_frames.specs.Pulling.{Gave, Refuses}
+use Rattle.bk_frames.specs.Device.{Device, Works, Fails, Gives, Ends, Receives, IfKnown, IsWhole, GaveAll}
+use Rattle.bk_frames.specs.Pulling.{Refuses}
 use Rattle.bk_results.specs.Devices.{IsUntouched}
 use Rattle.bk_results.specs.Lines.{spaced}
 use Rattle.bk_results.specs.declared.fault.Fault.{Fault}
@@ -90,15 +90,23 @@ pub record ClaimDevices : Type 0 where
 abbrev pub claim_devices : Device → Device → Device → ClaimDevices
 claim_devices feed claimed sink = record { feed = feed; claimed = claimed; sink = sink }
 
+-- a source gave bytes that show this: it holds of them and they are all; or the source did not end, and it holds however
+-- they go on
+abbrev pub GaveEnough : Device → Device → (List ℕ → Type 0) → Type 0
+GaveEnough old new holds =
+    (given : List ℕ) × Gives old new given
+    × ((IsWhole old new given × holds given) ⊎ (Ends 0 old new × ((more : List ℕ) → holds (given ++ more))))
+
 -- this holds of the bytes of the feed and of the claim, where both are known
 abbrev pub IfBothKnown : ClaimDevices → (List ℕ → List ℕ → Type 0) → Type 0
 IfBothKnown d holds = IfKnown d.feed (λ bytes. IfKnown d.claimed (λ claim. holds bytes claim))
 
--- so it does; and of what was read it holds as well: of the feed all, of the claim no more than shows the verdict
+-- so it does; and it holds of what was read: of the feed all, of the claim what shows the verdict: all, or so much that it
+-- stands however the claim goes on
 abbrev pub OfBoth : ClaimDevices → ClaimDevices → (List ℕ → List ℕ → Type 0) → Type 0
 OfBoth old new holds =
     IfBothKnown old holds
-    × GaveAll old.feed new.feed (λ bytes. Gave old.claimed new.claimed (λ claim. holds bytes claim))
+    × GaveAll old.feed new.feed (λ bytes. GaveEnough old.claimed new.claimed (λ claim. holds bytes claim))
 
 -- no call of any failed
 abbrev pub AllWork : ClaimDevices → ClaimDevices → Type 0

@@ -1,12 +1,11 @@
 //! The verdict on a claim, from the bytes of a feed to the text.
 
 ghost use Rattle.std.specs.Prelude.{◌≡◌, ◌≤◌, ℕ, List, true, IfOk, IfErr, OnOk};
-ghost use Rattle.bk_claim.specs.Claims.{AllWork, ClaimFailsBy, OfBoth, ShowsVerdict, VerdictIsOut, claim_devices, good};
+ghost use Rattle.bk_claim.specs.Claims.{AllWork, ClaimFailsBy, GaveEnough, OfBoth, ShowsVerdict, VerdictIsOut, claim_devices, good};
 ghost use Rattle.bk_claim.specs.private.Judging.{HoldFailsBy, JudgeFailsBy, ShownIsOut};
 ghost use Rattle.bk_answer.specs.Flaws.{IsFlaw};
 ghost use Rattle.bk_answer.specs.RunReport.{IsReport};
-ghost use Rattle.bk_frames.specs.Device.{CanBeUsed, Works, IfKnown, GaveAll};
-ghost use Rattle.bk_frames.specs.Pulling.{Gave};
+ghost use Rattle.bk_frames.specs.Device.{CanBeUsed, Works, GaveAll};
 ghost use Rattle.bk_results.specs.Devices.{devices};
 
 use crate::comparing::compare_claim;
@@ -73,9 +72,7 @@ fn judge<S: Source, K: Sink>(
 ) -> Result<Verdict, ClaimStop>
     requires claimed { CanBeUsed (S.state claimed.old) }
     requires sink { CanBeUsed (K.state sink.old) }
-    ensures shown { IfOk result (λ v. IfKnown (S.state claimed.old)
-        (ShownIsOut right.now status v (K.state sink.old) (K.state sink.new))) }
-    ensures given { IfOk result (λ v. Gave (S.state claimed.old) (S.state claimed.new)
+    ensures given { IfOk result (λ v. GaveEnough (S.state claimed.old) (S.state claimed.new)
         (ShownIsOut right.now status v (K.state sink.old) (K.state sink.new))) }
     ensures works { OnOk result (Works (S.state claimed.old) (S.state claimed.new)
         × Works (K.state sink.old) (K.state sink.new)) }

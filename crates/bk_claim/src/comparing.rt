@@ -1,9 +1,9 @@
 //! A claim beside the report that it is to be.
 
 ghost use Rattle.std.specs.Prelude.{◌≡◌, ◌≢◌, ◌<◌, ◌≤◌, ◌++◌, length, take, MatchOption, slice_get, slice_range, IfOk, IfErr, IfSome, OnOk};
+ghost use Rattle.bk_claim.specs.Claims.{GaveEnough};
 ghost use Rattle.bk_claim.specs.private.Finding.{CompareStops, IsFound, line_between, line_from};
-ghost use Rattle.bk_frames.specs.Device.{CanBeUsed, Works, IfKnown};
-ghost use Rattle.bk_frames.specs.Pulling.{Gave};
+ghost use Rattle.bk_frames.specs.Device.{CanBeUsed, Works};
 
 use crate::lines::{begin_line, put_line};
 use crate::verdict::ClaimStop;
@@ -60,9 +60,7 @@ fn finish_line<S: Source>(
     requires some { 0 < length piece.old }
     requires short { length line.old.items ≤ 200 }
     ensures works { OnOk result (Works (S.state claimed.old) (S.state claimed.new)) }
-    ensures line { OnOk result (IfKnown (S.state claimed.old)
-        (λ rest. line.new.items ≡ line_from line.old.items rest)) }
-    ensures given { OnOk result (Gave (S.state claimed.old) (S.state claimed.new)
+    ensures given { OnOk result (GaveEnough (S.state claimed.old) (S.state claimed.new)
         (λ given. line.new.items ≡ line_from line.old.items given)) }
     ensures stop { IfErr result (λ e. CompareStops e (S.state claimed.old) (S.state claimed.new)) }
 {
@@ -91,9 +89,7 @@ fn claimed_line<S: Source>(
     requires some { from < to }
     requires inside { to ≤ length piece.old }
     ensures works { OnOk result (Works (S.state claimed.old) (S.state claimed.new)) }
-    ensures line { IfOk result (λ line. IfKnown (S.state claimed.old)
-        (λ rest. line.items ≡ line_between before.now (slice_range piece.old from to ++ rest))) }
-    ensures given { IfOk result (λ line. Gave (S.state claimed.old) (S.state claimed.new)
+    ensures given { IfOk result (λ line. GaveEnough (S.state claimed.old) (S.state claimed.new)
         (λ given. line.items ≡ line_between before.now (slice_range piece.old from to ++ given))) }
     ensures stop { IfErr result (λ e. CompareStops e (S.state claimed.old) (S.state claimed.new)) }
 {
@@ -128,9 +124,7 @@ fn compare_pieces<S: Source>(
     requires sound { CanBeUsed (S.state claimed.old) }
     requires some { 0 < length piece.old }
     ensures works { OnOk result (Works (S.state claimed.old) (S.state claimed.new)) }
-    ensures found { IfOk result (λ r. IfKnown (S.state claimed.old)
-        (λ claim. MatchOption r (claim ≡ right.now) (λ f. IsFound right.now claim f))) }
-    ensures given { IfOk result (λ r. Gave (S.state claimed.old) (S.state claimed.new)
+    ensures given { IfOk result (λ r. GaveEnough (S.state claimed.old) (S.state claimed.new)
         (λ claim. MatchOption r (claim ≡ right.now) (λ f. IsFound right.now claim f))) }
     ensures inside { IfOk result (λ r. IfSome r (λ f. f.at ≤ length right.now)) }
     ensures stop { IfErr result (λ e. CompareStops e (S.state claimed.old) (S.state claimed.new)) }
@@ -161,9 +155,7 @@ pub(crate) fn compare_claim<S: Source>(
 ) -> Result<Option<Found>, ClaimStop>
     requires sound { CanBeUsed (S.state claimed.old) }
     ensures works { OnOk result (Works (S.state claimed.old) (S.state claimed.new)) }
-    ensures found { IfOk result (λ r. IfKnown (S.state claimed.old)
-        (λ claim. MatchOption r (claim ≡ right.now) (λ f. IsFound right.now claim f))) }
-    ensures given { IfOk result (λ r. Gave (S.state claimed.old) (S.state claimed.new)
+    ensures given { IfOk result (λ r. GaveEnough (S.state claimed.old) (S.state claimed.new)
         (λ claim. MatchOption r (claim ≡ right.now) (λ f. IsFound right.now claim f))) }
     ensures inside { IfOk result (λ r. IfSome r (λ f. f.at ≤ length right.now)) }
     ensures stop { IfErr result (λ e. CompareStops e (S.state claimed.old) (S.state claimed.new)) }

@@ -40,10 +40,3 @@ found_text right found =
 abbrev pub CompareStops : ClaimStop → Device → Device → Type 0
 CompareStops stop.Unread old new = Fails old new
 CompareStops (stop.Run found) old new = (found ≡ fault.Memory) × Works old new
-
--- from one moment to a later one, a line that began so was put on: the first 200 bytes of the line are the same, seen from
--- then and seen from now
-abbrev pub Leads : Option (List ℕ) → Option (List ℕ) → List ℕ → List ℕ → Type 0
-Leads None now first line = Unit {0}
-Leads (Some rest) None first line = ⊥
-Leads (Some rest) (Some more) first line = line_from first rest ≡ line_from line more

@@ -1,12 +1,12 @@
 -- What a report that is held leaves, and the verdict on a claim beside it.
 use Rattle.std.specs.Prelude.{ℕ, ◌<◌, List, length, take}
-use Rattle.bk_claim.specs.Claims.{ShowsVerdict}
+use Rattle.bk_claim.specs.Claims.{GaveEnough, ShowsVerdict}
 use Rattle.bk_claim.specs.declared.verdict.ClaimStop.{ClaimStop}
 use Rattle.bk_claim.specs.declared.verdict.ClaimStop.TheVariants as stop
 use Rattle.bk_claim.specs.declared.verdict.Verdict.{Verdict}
 use Rattle.bk_answer.specs.RunReport.{IsStopped, HasPlace}
-use Rattle.bk_frames.specs.Device.{Device, Works, Fails, Receives, IfKnown, GaveAll}
-use Rattle.bk_frames.specs.Pulling.{Gave, Refuses}
+use Rattle.bk_frames.specs.Device.{Device, Works, Fails, Receives, GaveAll}
+use Rattle.bk_frames.specs.Pulling.{Refuses}
 use Rattle.bk_results.specs.Devices.{Devices, IsUntouched, NothingHappened}
 use Rattle.bk_results.specs.declared.fault.Fault.{Fault}
 use Rattle.bk_results.specs.declared.fault.Fault.TheVariants as fault
@@ -35,8 +35,7 @@ PartOfShownIsOut right end written old new claim =
 abbrev pub JudgeStops : List ℕ → Status → Fault → Devices → Devices → Type 0
 JudgeStops right end (fault.Write written) old new =
     Works old.source new.source × Fails old.sink new.sink
-    × IfKnown old.source (PartOfShownIsOut right end written old.sink new.sink)
-    × Gave old.source new.source (PartOfShownIsOut right end written old.sink new.sink)
+    × GaveEnough old.source new.source (PartOfShownIsOut right end written old.sink new.sink)
 JudgeStops right end fault.Memory old new = NothingHappened old new
 JudgeStops right end other old new = ⊥
 
