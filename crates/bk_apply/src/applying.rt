@@ -12,6 +12,7 @@ use bk_ledger::{Ledger, Summary};
 use bk_report::{Line, Page, put_accounts, put_batches, put_receipts};
 use bk_results::Fault;
 use std::alloc::Global;
+use std::thread::Threads;
 
 /// Writes the report of a feed, a page at a time.
 pub(crate) fn write_report<K: Sink>(
@@ -37,10 +38,16 @@ pub(crate) fn write_report<K: Sink>(
     page.flush(sink)
 }
 
-/// Reads a feed, executes its batches in feed order and writes the apply report.
+/// Reads a feed, executes its batches in feed order and writes the apply report. While some batches are executed, one other
+/// thread reads the next.
 ///
 /// A fault of the feed is that of [`bk_frames::Feed::read`]. With every fault but `Write` nothing is written.
-pub fn apply<S: Source, K: Sink>(alloc: Global, source: &mut S, sink: &mut K) -> Result<(), Fault>
+pub fn apply<R: Threads + Sync, S: Source, K: Sink>(
+    rt: &R,
+    alloc: Global,
+    source: &mut S,
+    sink: &mut K,
+) -> Result<(), Fault>
     requires source { CanBeUsed (S.state source.old) }
     requires sink { CanBeUsed (K.state sink.old) }
     ensures report { OnOk result (GaveAll (S.state source.old) (S.state source.new)
@@ -51,7 +58,7 @@ pub fn apply<S: Source, K: Sink>(alloc: Global, source: &mut S, sink: &mut K) ->
         (devices (S.state source.new) (K.state sink.new))) }
 {
     let feed = Feed::read(alloc, source)?;
-    let ledger = Ledger::of(alloc, &feed)?;
+    let ledger = Ledger::of(rt, alloc, &feed)?;
     let summary = ledger.summary(alloc)?;
     let mut page = Page::new(alloc)?;
     write_report(sink, &mut page, &summary)?;

@@ -7,6 +7,7 @@ use bk_frames::{Counted, FaultCode, FeedFault, Sink, Source};
 use bk_replay::{Fault, apply};
 use bk_trial_kit::{Device, Reader, Writer, ends_of};
 use std::alloc::Global;
+use std::thread::Threads;
 
 // How many bytes a call reads at most.
 const READ: usize = 3;
@@ -45,10 +46,16 @@ impl Applied {
     }
 }
 
-fn apply_with(alloc: Global, feed: &[u8], reader: Device, writer: Device) -> Applied {
+fn apply_with<R: AllocGlobal + Threads + Sync>(
+    rt: &R,
+    feed: &[u8],
+    reader: Device,
+    writer: Device,
+) -> Applied {
+    let alloc: Global = rt.alloc();
     let mut source = Counted::new(Reader::new(feed, reader));
     let mut sink = Counted::new(Writer::new(alloc, writer));
-    let fault = apply(alloc, &mut source, &mut sink).err();
+    let fault = apply(rt, alloc, &mut source, &mut sink).err();
     let failures = source.failures().saturating_add(sink.failures());
     Applied {
         fault,
@@ -58,38 +65,59 @@ fn apply_with(alloc: Global, feed: &[u8], reader: Device, writer: Device) -> App
 }
 
 // Whether no call fails that comes after these.
-fn is_whole_after(alloc: Global, feed: &[u8], reads: usize, writes: usize, report: &[u8]) -> bool {
+fn is_whole_after<R: AllocGlobal + Threads + Sync>(
+    rt: &R,
+    feed: &[u8],
+    reads: usize,
+    writes: usize,
+    report: &[u8],
+) -> bool {
     let reader = Device::failing_once(reads, READ);
-    let found = apply_with(alloc, feed, reader, Device::failing_once(writes, 1));
+    let found = apply_with(rt, feed, reader, Device::failing_once(writes, 1));
     found.is_whole(report)
 }
 
-fn is_unread_after(alloc: Global, feed: &[u8], reads: usize, begin: usize) -> bool {
+fn is_unread_after<R: AllocGlobal + Threads + Sync>(
+    rt: &R,
+    feed: &[u8],
+    reads: usize,
+    begin: usize,
+) -> bool {
     let reader = Device::failing_once(reads, READ);
-    let found = apply_with(alloc, feed, reader, Device::good(1));
+    let found = apply_with(rt, feed, reader, Device::good(1));
     found.is_unread(begin)
 }
 
-fn is_begun_after(alloc: Global, feed: &[u8], writes: usize, report: &[u8]) -> bool {
+fn is_begun_after<R: AllocGlobal + Threads + Sync>(
+    rt: &R,
+    feed: &[u8],
+    writes: usize,
+    report: &[u8],
+) -> bool {
     let writer = Device::failing_once(writes, 1);
-    let found = apply_with(alloc, feed, Device::good(READ), writer);
+    let found = apply_with(rt, feed, Device::good(READ), writer);
     found.is_begun(report, writes)
 }
 
 // Whether each of these reads fails well.
-fn reads_fail(alloc: Global, feed: &[u8], ends: &[usize], reads: usize) -> bool {
+fn reads_fail<R: AllocGlobal + Threads + Sync>(
+    rt: &R,
+    feed: &[u8],
+    ends: &[usize],
+    reads: usize,
+) -> bool {
     for read in 0..reads {
         let begin = frame_at(ends, read.saturating_mul(READ).min(feed.len()));
-        if !is_unread_after(alloc, feed, read, begin) {
+        if !is_unread_after(rt, feed, read, begin) {
             return false;
         }
     }
     true
 }
 
-fn writes_fail(alloc: Global, feed: &[u8], report: &[u8]) -> bool {
+fn writes_fail<R: AllocGlobal + Threads + Sync>(rt: &R, feed: &[u8], report: &[u8]) -> bool {
     for write in 0..report.len() {
-        if !is_begun_after(alloc, feed, write, report) {
+        if !is_begun_after(rt, feed, write, report) {
             return false;
         }
     }
@@ -97,13 +125,16 @@ fn writes_fail(alloc: Global, feed: &[u8], report: &[u8]) -> bool {
 }
 
 /// Whether each read and each write of a report that fails once is the fault of `apply`, and the first bytes are out.
-pub(crate) fn is_applied_well(alloc: Global, feed: &[u8], report: &[u8]) -> Result<bool> {
-    let ends = ends_of(alloc, feed)?;
+pub(crate) fn is_applied_well<R>(rt: &R, feed: &[u8], report: &[u8]) -> Result<bool>
+where
+    R: AllocGlobal + Threads + Sync,
+{
+    let ends = ends_of(rt.alloc(), feed)?;
     // The read that finds the end comes last.
     let reads = feed.len().div_ceil(READ).saturating_add(1);
     Ok(
-        reads_fail(alloc, feed, &ends, reads)
-            && writes_fail(alloc, feed, report)
-            && is_whole_after(alloc, feed, reads, report.len(), report),
+        reads_fail(rt, feed, &ends, reads)
+            && writes_fail(rt, feed, report)
+            && is_whole_after(rt, feed, reads, report.len(), report),
     )
 }

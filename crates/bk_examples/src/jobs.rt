@@ -119,7 +119,7 @@ where
     }
     if example.status == 0 && example.command == "apply" {
         let report = fs::read(rt, example.wanted)?;
-        let is_right = is_applied_well(rt.alloc(), bytes, &report)?;
+        let is_right = is_applied_well(rt, bytes, &report)?;
         example.note(rt, "the fault of apply", is_right, tally);
     }
     Ok(())

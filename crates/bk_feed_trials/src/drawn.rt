@@ -29,7 +29,7 @@ fn try_workers<R>(rt: &R, feed: &[u8], workers: &[usize], tally: &mut Tally) -> 
 where
     R: AllocGlobal + Eprint + Threads + Wait + Sync,
 {
-    let apply = applied(rt.alloc(), feed)?;
+    let apply = applied(rt, feed)?;
     for count in workers {
         let run = replayed(rt, feed, *count);
         tally.note(rt, "a drawn ledger by several workers", run.ends_in(&apply));

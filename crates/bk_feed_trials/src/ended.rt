@@ -71,9 +71,13 @@ where
 }
 
 /// The report of the batches of a feed executed one transaction at a time, in the order of the feed.
-pub(crate) fn applied(alloc: Global, feed: &[u8]) -> Result<Vec<u8>> {
+pub(crate) fn applied<R>(rt: &R, feed: &[u8]) -> Result<Vec<u8>>
+where
+    R: AllocGlobal + Threads + Sync,
+{
+    let alloc: Global = rt.alloc();
     let mut sink = Counted::new(Vec::new(alloc));
-    apply(alloc, &mut Counted::new(feed), &mut sink)?;
+    apply(rt, alloc, &mut Counted::new(feed), &mut sink)?;
     Ok(sink.into_inner())
 }
 

@@ -188,7 +188,7 @@ where
 {
     let feed = feed_of(rt.alloc(), version, others)?;
     let turned = turned(rt.alloc(), &feed)?;
-    let apply = applied(rt.alloc(), &feed)?;
+    let apply = applied(rt, &feed)?;
     let is_right = has_lines(&apply, lines);
     tally.judge(rt, "forty batches one at a time", is_right);
     try_run(rt, (&feed, &turned), &apply, 1, tally);

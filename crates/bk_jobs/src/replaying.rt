@@ -83,7 +83,7 @@ where
 }
 
 /// Writes the apply report.
-pub(crate) fn apply_all<R: AllocGlobal, S: Source, O: Sink>(
+pub(crate) fn apply_all<R: AllocGlobal + Threads + Sync, S: Source, O: Sink>(
     rt: &R,
     source: &mut S,
     out: &mut O,
@@ -99,6 +99,6 @@ pub(crate) fn apply_all<R: AllocGlobal, S: Source, O: Sink>(
     ensures fault { IfErr result (λ e. FailsBy e (devices (S.state source.old) (O.state out.old))
         (devices (S.state source.new) (O.state out.new))) }
 {
-    apply(rt.alloc(), source, out)?;
+    apply(rt, rt.alloc(), source, out)?;
     Ok(Exit::Whole)
 }

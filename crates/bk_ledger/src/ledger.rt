@@ -10,15 +10,10 @@ ghost use Rattle.bk_ledger.specs.Executing.{HasRun};
 use crate::batches::Batches;
 use crate::summary::Summary;
 use bk_base::{Row, Version};
-use bk_frames::Feed;
 use bk_rules::{Receipt, State, run_near};
 use bk_steps::Outcome;
 use std::alloc::{AllocError, Global};
 use std::marker::Model;
-
-// In version One batches are executed once they have so many transactions together: the look-ups of so many overlap,
-// and a batch may have far fewer. A batch has fewer than 65,536, so that memory stays bounded.
-const WORTH_A_RUN: usize = 512;
 
 /// What the batches executed so far gave. Contracts see how many transactions each batch holds, the receipts of all of
 /// them, and the accounts after them.
@@ -69,46 +64,6 @@ impl Ledger {
             receipts,
             state,
         }
-    }
-
-    /// Executes the batches of a feed, in feed order, on its opening accounts.
-    pub fn of(alloc: Global, feed: &Feed) -> Result<Ledger, AllocError>
-        ensures counts { IfOk result (λ l. l.counts
-            ≡ map count_in (payloads_of feed.now.frames)) }
-        ensures receipts { IfOk result (λ l. l.receipts
-            ≡ receipts_of feed.now.version (feed_transactions feed.now.frames) (genesis_of feed.now.frames)) }
-        ensures rows { IfOk result (λ l. l.state.rows
-            ≡ state_after feed.now.version (feed_transactions feed.now.frames) (genesis_of feed.now.frames)) }
-    {
-        let mut ledger = Ledger::new(alloc, feed.version(), feed.genesis())?;
-        ledger.run_feed(alloc, feed)?;
-        Ok(ledger)
-    }
-
-    // Executes the batches of a feed on its opening accounts.
-    fn run_feed(&mut self, alloc: Global, feed: &Feed) -> Result<(), AllocError>
-        requires counts { self.old.counts ≡ [] }
-        requires receipts { self.old.receipts ≡ [] }
-        requires version { self.old.state.version ≡ feed.now.version }
-        requires rows { self.old.state.rows ≡ genesis_of feed.now.frames }
-        requires accounts { AreAccounts (genesis_of feed.now.frames) }
-        ensures counts { OnOk result (self.new.counts
-            ≡ map count_in (payloads_of feed.now.frames)) }
-        ensures receipts { OnOk result (self.new.receipts
-            ≡ receipts_of feed.now.version (feed_transactions feed.now.frames) (genesis_of feed.now.frames)) }
-        ensures rows { OnOk result (self.new.state.rows
-            ≡ state_after feed.now.version (feed_transactions feed.now.frames) (genesis_of feed.now.frames)) }
-    {
-        let mut batches = Batches::new(alloc);
-        for index in 0..feed.len() {
-            let (kind, payload) = feed.frame(index);
-            batches.push_frame(kind, payload)?;
-            if self.are_enough(&batches) {
-                self.run(alloc, &mut batches)?;
-            }
-        }
-        self.run(alloc, &mut batches)?;
-        Ok(())
     }
 
     /// How many transactions each batch holds, `None` where it is void.
@@ -180,14 +135,5 @@ impl Ledger {
         batches.counts.clear();
         batches.near.clear();
         Ok(())
-    }
-
-    // Whether batches that were read are to be executed. In version Two they may name accounts that lack a slot, and
-    // to make slots costs what all slots cost: so many transactions share that.
-    fn are_enough(&self, batches: &Batches) -> bool {
-        match self.state.version() {
-            Version::One => batches.txs.len() >= WORTH_A_RUN,
-            Version::Two => batches.txs.len() > self.state.slots().len() / 8,
-        }
     }
 }

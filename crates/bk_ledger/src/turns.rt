@@ -17,9 +17,10 @@ ghost use Rattle.bk_ledger.specs.private.Slices.{IsReadOf};
 use crate::batches::Batches;
 use crate::ledger::Ledger;
 use crate::reading::{Read, look_all, read_all, read_next, slices};
-use crate::slice::{are_few, gather, least_of};
+use crate::slice::{are_few, least_of};
 use bk_base::Version;
 use bk_pool::Gate;
+use bk_rules::Ids;
 use crossbeam_utils::sync::Parker;
 use std::alloc::{AllocError, Global};
 use std::sync::Wait;
@@ -67,7 +68,7 @@ impl Ledger {
                 self.execute_alone(alloc, payloads, fewest, gate)
             }
             Version::One => self.execute_handed(rt, alloc, payloads, fewest, gate),
-            Version::Two => self.execute_read(rt, alloc, payloads, fewest, gate),
+            Version::Two => self.execute_read(rt, alloc, payloads, &None, fewest, gate),
         }
     }
 
@@ -184,12 +185,13 @@ impl Ledger {
         Ok(ledger)
     }
 
-    // Executes further batches, while the slice after each is read.
-    fn execute_read<R: Threads + Wait + Sync, G: Gate + Sync>(
+    /// Executes further batches, while the slice after each is read, and looked up where there are ids to look it up among.
+    pub(crate) fn execute_read<R: Threads + Sync, G: Gate + Sync>(
         self,
         rt: &R,
         alloc: Global,
         payloads: &[&[u8]],
+        ids: &Option<Ids>,
         fewest: usize,
         gate: &G,
     ) -> Result<Ledger, AllocError>
@@ -200,11 +202,13 @@ impl Ledger {
     {
         let mut ledger = self;
         let mut from = 0usize;
-        let least = least_of(ledger.state.slots().len(), fewest);
-        let mut next = gather(alloc, payloads, 0, least)?;
+        let least = ledger.worth_a_turn(fewest);
+        let mut next = read_next(alloc, payloads, ids.as_ref(), 0, least)?;
         while from < payloads.len() {
             let later = from + next.counts.len();
-            let (after, read) = ledger.run_turn(rt, alloc, payloads, next, later, fewest, gate)?;
+            let (after, read) = ledger.run_turn(
+                rt, alloc, payloads, ids, next, later, fewest, gate,
+            )?;
             ledger = after;
             next = read;
             from = later;
@@ -212,13 +216,25 @@ impl Ledger {
         Ok(ledger)
     }
 
-    // Executes the next slice, while the one after it, from an index on, is read. Its transactions may declare accounts
-    // without a slot, and to make slots costs what all slots cost: so many transactions share that.
-    fn run_turn<R: Threads + Wait + Sync, G: Gate + Sync>(
+    // How many transactions a slice has at least. In version Two it may declare accounts without a slot, and to make slots
+    // costs what all slots cost: so many transactions share that.
+    fn worth_a_turn(&self, fewest: usize) -> usize
+        requires { fewest < 2 ^ 30 }
+        ensures { result < 2 ^ 30 }
+    {
+        match self.state.version() {
+            Version::One => fewest,
+            Version::Two => least_of(self.state.slots().len(), fewest),
+        }
+    }
+
+    // Executes the next slice, while the one after it, from an index on, is read.
+    fn run_turn<R: Threads + Sync, G: Gate + Sync>(
         self,
         rt: &R,
         alloc: Global,
         payloads: &[&[u8]],
+        ids: &Option<Ids>,
         next: Batches,
         from: usize,
         fewest: usize,
@@ -237,14 +253,14 @@ impl Ledger {
             let ledger = self.run_read(alloc, next, gate)?;
             return Ok((ledger, Batches::new(alloc)));
         }
-        let least = least_of(self.state.slots().len(), fewest);
+        let least = self.worth_a_turn(fewest);
         let (read, ran) = join(
             rt,
             || -> Result<Batches, AllocError>
                 requires { (least < 2 ^ 30) × (from ≤ length payloads.now) }
                 ensures { IfOk result (λ b. IsReadOf (map (λ p. p.now) payloads.entry.now) from
                     b.counts.items b.txs.items) }
-            { gather(alloc, payloads, from, least) },
+            { read_next(alloc, payloads, ids.as_ref(), from, least) },
             || -> Result<Ledger, AllocError>
                 requires { IsSync G.row
                     × HasRoom self.state.version (length next.txs.items) self.state.rows

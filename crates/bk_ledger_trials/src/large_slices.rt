@@ -252,15 +252,19 @@ where
 }
 
 // What the batches of a feed give one at a time.
-fn summed(alloc: Global, feed: &Feed) -> Result<Summary> {
-    Ok(Ledger::of(alloc, feed)?.summary(alloc)?)
+fn summed<R>(rt: &R, feed: &Feed) -> Result<Summary>
+where
+    R: AllocGlobal + Threads + Sync,
+{
+    let alloc: Global = rt.alloc();
+    Ok(Ledger::of(rt, alloc, feed)?.summary(alloc)?)
 }
 
 fn try_feed<R>(rt: &R, feed: &Feed, batches: &Batches<'_>, numbers: &[usize], tally: &mut Tally)
 where
     R: AllocGlobal + Eprint + Threads + Wait + Sync,
 {
-    match summed(rt.alloc(), feed) {
+    match summed(rt, feed) {
         Ok(wanted) => try_ledger(rt, feed, &wanted, batches, numbers, tally),
         Err(_) => tally.miss(rt),
     }

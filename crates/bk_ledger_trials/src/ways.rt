@@ -63,7 +63,7 @@ fn is_in_order<R: Threads + Sync>(
     feed: &Feed,
     wanted: &Summary,
 ) -> Result<bool> {
-    let is_right = is_summed(alloc, Ledger::of(alloc, feed)?, wanted)?;
+    let is_right = is_summed(alloc, Ledger::of(rt, alloc, feed)?, wanted)?;
     Ok(is_right && has_digest(rt, alloc, &wanted.rows)?)
 }
 

@@ -1,13 +1,11 @@
 -- Batches that were read, and slices of batches.
 use Rattle.std.specs.Prelude.{◌≡◌, Bool, true, ℕ, ◌+◌, ◌^◌, ◌<◌, ◌≤◌, List, ◌++◌, length, map, drop, IfErr, IfOk, Option, Result}
 use Rattle.std.specs.Arc.{arc_value}
-use Rattle.bk_base.specs.declared.genesis.Row.{Row}
 use Rattle.bk_base.specs.declared.version.Version.{Version}
-use Rattle.bk_base.specs.Feed.{Frame}
 use Rattle.bk_tx.specs.Transaction.{Transaction}
-use Rattle.bk_tx.specs.Batches.{count_in, feed_transactions, payloads_of, transactions_of}
+use Rattle.bk_tx.specs.Batches.{count_in, transactions_of}
 use Rattle.bk_rules.specs.declared.receipt.Receipt.{Receipt}
-use Rattle.bk_rules.specs.Fold.{state_after, receipts_of, HasRoom}
+use Rattle.bk_rules.specs.Fold.{HasRoom}
 use Rattle.bk_rules.specs.Rows.{IsLedger}
 use Rattle.bk_rules.specs.Ledger as rules
 use Rattle.bk_rules.specs.Part.{AreIndexes, HaveSlots, are_held, ids_at, part_of}
@@ -20,16 +18,6 @@ use Rattle.bk_ledger.specs.declared.batches.Batches.{Batches}
 use Rattle.bk_ledger.specs.Ledger.{LedgerValue}
 use Rattle.bk_pool.specs.declared.outcome.ExecFault.{ExecFault}
 use Rattle.bk_ledger.specs.Executing.{HasExecuted, Leaves}
-
--- The batches of frames: those that a ledger has executed, on these accounts, and then those that were read and are not
--- yet executed.
-pub record HasRead (version : Version) (frames : List Frame) (opening : List Row) (l : LedgerValue) (b : Batches) : Type 0 where
-  pub done : List (Option Transaction)
-  pub version_is : l.state.version ≡ version
-  pub counts_are : l.counts ++ b.counts.items ≡ map count_in (payloads_of frames)
-  pub txs_are : done ++ b.txs.items ≡ feed_transactions frames
-  pub receipts : l.receipts ≡ receipts_of version done opening
-  pub rows : l.state.rows ≡ state_after version done opening
 
 -- some of the batches, one after another from an index on: how many transactions each holds, and all of these
 pub record IsSliceOf (payloads : List (List ℕ)) (from : ℕ) (counts : List (Option ℕ)) (txs : List (Option Transaction)) : Type 0 where
