@@ -1,13 +1,14 @@
 -- Pulling a feed in pieces: what has come, and what a refusal says of all bytes.
-use Rattle.std.proofs.Common.{◌≡◌, ℕ, List, [], ◌++◌, refl}
+use Rattle.std.proofs.Common.{◌≡◌, ◌∙◌, ℕ, List, [], ◌++◌, refl}
 use Rattle.bk_frames.specs.Device.{Device, GaveAll}
 use Rattle.bk_base.specs.Feed.{Frame}
 use Rattle.bk_frames.specs.Cutting.{CutsInto, frames_in}
 use Rattle.bk_frames.specs.Reading.{IsPulled, Pulls}
 use Rattle.bk_frames.proofs.Devices.{gives_none}
 use Rattle.bk_follow.specs.Follower.{Followed, HasCome}
-use Rattle.bk_follow.specs.private.Gathering.{HasGathered, HasPulled, IsAllOf}
+use Rattle.bk_follow.specs.private.Gathering.{HasGathered, HasPulled, IsAllOf, StaysSettled}
 use Rattle.bk_follow.specs.declared.gathering.Inbox.{Inbox}
+use Rattle.bk_follow.specs.declared.opening.Opened.{Opened}
 use Rattle.bk_follow.specs.Replaying.{AllHasCome}
 use Rattle.bk_follow.proofs.Waiting.{follows_on}
 
@@ -57,3 +58,11 @@ all_taken start now g w takes none (given, gives, whole, (taken, come)) =
 pub all_come : (start now : Device) (v : Inbox) (done : Followed) → GaveAll start now (λ bytes. (taken : List Frame) × HasGathered bytes taken v) → ((bytes : List ℕ) (taken : List Frame) → HasGathered bytes taken v → HasCome bytes taken done)
     → GaveAll start now (λ bytes. AllHasCome bytes done)
 all_come start now v done (given, gives, whole, (taken, h)) come = (given, gives, whole, (taken, come given taken h))
+
+-- ---- what was settled stays
+
+pub stays_itself : (o : Opened) → StaysSettled o o
+stays_itself o = record { order = refl; receipts = refl; counts = refl }
+
+pub stays_then : (o p q : Opened) → StaysSettled o p → StaysSettled p q → StaysSettled o q
+stays_then o p q first then = record { order = then.order ∙ first.order; receipts = then.receipts ∙ first.receipts; counts = then.counts ∙ first.counts }

@@ -6,7 +6,7 @@ ghost use Rattle.bk_frames.specs.Device.{Device, CanBeUsed, Ends, GaveAll};
 ghost use Rattle.bk_frames.specs.Reading.{room_of};
 ghost use Rattle.bk_frames.specs.declared.pulling.TheConstants.{PIECE};
 ghost use Rattle.bk_base.specs.Feed.{Frame};
-ghost use Rattle.bk_follow.specs.private.Gathering.{CanPull, CanTake, HasGathered, HasPulled, HasPulledGroup, TakesWaiting};
+ghost use Rattle.bk_follow.specs.private.Gathering.{CanPull, CanTake, HasGathered, HasPulled, HasPulledGroup, StaysSettled, TakesWaiting};
 ghost use Rattle.std.specs.Thread.{IsSync};
 ghost use Rattle.bk_follow.specs.Replaying.{ReadFails};
 
@@ -37,12 +37,14 @@ fn take_waiting(
     frames: Vec<(Kind, Vec<u8>)>,
 ) -> Result<(), AllocError>
     requires come { CanTake version (frames_in frames.items) opened.old }
-    ensures { OnOk result (TakesWaiting version (frames_in frames.items) opened.old opened.new) }
+    ensures takes { OnOk result (TakesWaiting version (frames_in frames.items)
+        opened.old opened.new) }
+    ensures stays { OnOk result (StaysSettled opened.old opened.new) }
 {
-    match version {
-        Some(version) => take_frames(rt, alloc, version, opened, frames),
-        None => Ok(()),
+    if let Some(version) = version {
+        take_frames(rt, alloc, version, opened, frames)?;
     }
+    Ok(())
 }
 
 // Takes the frames that wait. Beside that, it pulls those after them.
@@ -63,7 +65,7 @@ fn pull_beside<R: Threads + Sync, S: Source>(
     requires few { length piece.old ≤ PIECE }
     requires pulled { CanPull (S.state source.old) frames.old.items cutter.old }
     ensures took { OnOk result.0 (TakesWaiting version (frames_in waiting.old.items)
-        opened.old opened.new) }
+        opened.old opened.new × StaysSettled opened.old opened.new) }
     ensures pulled { HasPulledGroup result.1 (S.state source.old) (S.state source.new)
         frames.old.items frames.new.items cutter.old cutter.new }
 {
@@ -72,7 +74,8 @@ fn pull_beside<R: Threads + Sync, S: Source>(
         &mut || -> Result<(), AllocError>
             requires { IsSync R.row × CanTake version (frames_in waiting.now.items) opened.now }
             ensures { OnOk result (TakesWaiting version (frames_in waiting.entry.now.items)
-                opened.entry.now opened.exit.now) }
+                opened.entry.now opened.exit.now
+                × StaysSettled opened.entry.now opened.exit.now) }
         {
             take_waiting(
                 rt,
@@ -80,7 +83,8 @@ fn pull_beside<R: Threads + Sync, S: Source>(
                 version,
                 opened,
                 replace(waiting, Vec::new(alloc)),
-            )
+            )?;
+            Ok(())
         },
         &mut || -> Result<bool, FeedFault>
             requires { CanBeUsed (S.state source.now) × (0 < length piece.now)
@@ -126,6 +130,7 @@ impl Inbox {
             → HasGathered bytes (taken ++ frames_in self.old.frames.items) self.new) }
         ensures all { OnOk result (self.new.frames.items ≡ []) }
         ensures cut { self.new.cutter ≡ self.old.cutter }
+        ensures stays { OnOk result (StaysSettled self.old.opened self.new.opened) }
     {
         let frames = replace(&mut self.frames, Vec::new(alloc));
         take_waiting(rt, alloc, self.cutter.version(), &mut self.opened, frames)?;
@@ -157,6 +162,7 @@ impl Inbox {
             (λ bytes. (taken : List Frame) × HasGathered bytes taken self.new)) }
         ensures nearer { IfOk result (λ end. end ≡ false
             → room_of self.new.cutter < room_of self.old.cutter) }
+        ensures stays { OnOk result (StaysSettled self.old.opened self.new.opened) }
         ensures fault { IfErr result (λ f. (start : Device)
             → HasPulled start (S.state source.old) self.old
             → ReadFails f start (S.state source.new)) }

@@ -3,10 +3,11 @@ ghost use Rattle.bk_answer.specs.Answers.{AnswerFailsBy, IsAnswered};
 ghost use Rattle.bk_answer.specs.RunReport.{IsReportOf};
 ghost use Rattle.bk_frames.specs.Device.{CanBeUsed, Works, GaveAll};
 ghost use Rattle.bk_base.specs.Feed.{Frame};
-ghost use Rattle.bk_follow.specs.Follower.{broken, unfed};
+ghost use Rattle.bk_follow.specs.Follower.{broken, counts_in, ordered_in, receipts_in, unfed};
 ghost use Rattle.bk_results.specs.Devices.{devices};
 ghost use Rattle.bk_follow.specs.Replaying.{ReadFails, AllHasCome};
-ghost use Rattle.bk_follow.specs.private.Gathering.{HasGathered, IsAllOf};
+ghost use Rattle.bk_follow.specs.private.Gathering.{HasGathered, IsAllOf, StaysSettled};
+ghost use Rattle.bk_order.specs.Intake.{nothing_ordered};
 ghost use Rattle.bk_frames.specs.declared.pulling.TheConstants.{PIECE};
 
 use crate::answering::answer_by_ledger;
@@ -37,6 +38,7 @@ fn pull_all<R: Threads + Sync, S: Source>(
     ensures come { OnOk result ((bytes : List ℕ) × (taken : List Frame)
         × HasGathered bytes taken gathered.new) }
     ensures all { OnOk result (IsAllOf (S.state source.old) (S.state source.new) gathered.new) }
+    ensures stays { OnOk result (StaysSettled gathered.old.opened gathered.new.opened) }
     ensures fault { IfErr result (λ f. ReadFails f (S.state source.old) (S.state source.new)) }
 {
     // The label names the loop for its proof.
@@ -49,7 +51,8 @@ fn pull_all<R: Threads + Sync, S: Source>(
 }
 
 impl Follower {
-    /// Follows all that a source has, where nothing has come before. The piece is room for its bytes.
+    /// Follows all that a source has, where nothing has come before, and settles nothing of it. The piece is room for its
+    /// bytes.
     ///
     /// A fault is returned again by every later call.
     pub fn follow<R: Threads + Sync, S: Source>(
@@ -66,6 +69,9 @@ impl Follower {
             × (self.new.fault ≡ None)) }
         ensures come { OnOk result (GaveAll (S.state source.old) (S.state source.new)
             (λ bytes. AllHasCome bytes self.new)) }
+        ensures order { OnOk result (ordered_in self.new.book ≡ nothing_ordered) }
+        ensures rests { OnOk result (receipts_in self.new.book ≡ []) }
+        ensures counts { OnOk result (counts_in self.new.book ≡ []) }
         ensures broken { IfErr result (λ f. self.new ≡ broken f) }
         ensures fault { IfErr result (λ f. ReadFails f (S.state source.old) (S.state source.new)) }
     {

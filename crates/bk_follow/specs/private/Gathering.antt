@@ -11,7 +11,7 @@ use Rattle.bk_base.specs.declared.version.Version.{Version}
 use Rattle.std.specs.Global.{Vec}
 use Rattle.bk_follow.specs.declared.gathering.Inbox.{Inbox}
 use Rattle.bk_follow.specs.declared.opening.Opened.{Opened}
-use Rattle.bk_follow.specs.Follower.{Follows, FollowsBy}
+use Rattle.bk_follow.specs.Follower.{Follows, FollowsBy, counts_in, ordered_in, receipts_in}
 use Rattle.bk_follow.specs.private.Books.{HasFollowed}
 
 -- these bytes came and are cut: of the frames that they make whole these are taken, and the others wait
@@ -46,6 +46,12 @@ TakesWaiting None waiting old new = new ≡ old
 TakesWaiting (Some version) waiting old new =
     (before : List Frame) → FollowsBy version before old.committee old.book
     → FollowsBy version (before ++ waiting) new.committee new.book
+
+-- what was settled stays as it is: the order, and what was executed of it
+pub record StaysSettled (old new : Opened) : Type 0 where
+  pub order : ordered_in new.book ≡ ordered_in old.book
+  pub receipts : receipts_in new.book ≡ receipts_in old.book
+  pub counts : counts_in new.book ≡ counts_in old.book
 
 -- what a source gave has come, and after some frames these wait
 abbrev pub CanPull : Device → List (Kind × Vec ℕ) → Cut → Type 0

@@ -1,7 +1,7 @@
 use Rattle.std.proofs.Common.{◌≡◌, None, Some, refl, sym, ap, ◌∙◌, Option, subst}
 use Rattle.std.specs.Prelude.{IfSome}
 use Rattle.bk_results.specs.declared.fault.Fault.{Fault}
-use Rattle.bk_follow.specs.Follower.{Followed, unfed}
+use Rattle.bk_follow.specs.Follower.{Followed, counts_in, ordered_in, receipts_in, unfed}
 use Rattle.bk_follow.specs.private.Parts.{followed}
 use Rattle.bk_follow.proofs.Following.{follower_of, works_unbroken, broken_by}
 use Rattle.bk_follow.proofs.Pulled.{all_come as source_come}
@@ -44,3 +44,12 @@ returns-in-Ok-clause-come g c =
 pub returns-in-Err-clause-broken : goal.returns-in-Err-clause-broken
 returns-in-Err-clause-broken g c =
     rw c.latch.ensures.same (broken_by c.latch.new.standing c.in-Err.fault c.latch.new.gathered.cutter c.latch.new.gathered.opened.committee c.latch.new.gathered.opened.book c.latch.ensures.emptied c.latch.ensures.standing)
+
+pub returns-in-Ok-clause-order : goal.returns-in-Ok-clause-order
+returns-in-Ok-clause-order g c = c.in-Ok.ensures.stays.order ∙ ap (λ (v : Followed). ordered_in v.book) (c.self.view_is ∙ c.requires.first)
+
+pub returns-in-Ok-clause-rests : goal.returns-in-Ok-clause-rests
+returns-in-Ok-clause-rests g c = c.in-Ok.ensures.stays.receipts ∙ ap (λ (v : Followed). receipts_in v.book) (c.self.view_is ∙ c.requires.first)
+
+pub returns-in-Ok-clause-counts : goal.returns-in-Ok-clause-counts
+returns-in-Ok-clause-counts g c = c.in-Ok.ensures.stays.counts ∙ ap (λ (v : Followed). counts_in v.book) (c.self.view_is ∙ c.requires.first)

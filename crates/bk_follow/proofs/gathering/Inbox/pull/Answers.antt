@@ -28,17 +28,20 @@ returns-clause-come g c = λ start h.
     group_came (g.S.Source.state c.args.source.now) (g.S.Source.state c.pull_beside-took.new.source) c.args.self.now (record { cutter = c.pull_beside-took.new.cutter; opened = c.pull_beside-took.new.opened; frames = c.pull_beside-took.new.frames }) c.replace-waiting.new.dest (ap (λ v. v.items) c.replace-waiting.ensures.after ∙ c.new.ensures.items) c.in_ok-end.end
     (pulled_ok c.pull_beside-took.result.1 _ _ _ _ _ _ c.in_ok-end.end c.in_ok-end.was c.pull_beside-took.ensures.pulled)
     c.version-version.result (sym c.version-version.ensures)
-    (subst (λ fs. TakesWaiting c.version-version.result (frames_in fs.items) c.args.self.now.opened c.pull_beside-took.new.opened) c.replace-waiting.ensures.value (got_ok c.pull_beside-took.result.0 _ _ c.in_ok-took.was c.pull_beside-took.ensures.took)) start h
+    (subst (λ fs. TakesWaiting c.version-version.result (frames_in fs.items) c.args.self.now.opened c.pull_beside-took.new.opened) c.replace-waiting.ensures.value (got_ok c.pull_beside-took.result.0 _ _ c.in_ok-took.was c.pull_beside-took.ensures.took).0) start h
 
 pub returns-clause-all : goal.returns-clause-all
 returns-clause-all g c = λ ended start h before.
     all_gathered (g.S.Source.state c.args.source.now) (g.S.Source.state c.pull_beside-took.new.source) c.args.self.now (record { cutter = c.pull_beside-took.new.cutter; opened = c.pull_beside-took.new.opened; frames = c.pull_beside-took.new.frames }) c.replace-waiting.new.dest (ap (λ v. v.items) c.replace-waiting.ensures.after ∙ c.new.ensures.items) c.in_ok-end.end
     (pulled_ok c.pull_beside-took.result.1 _ _ _ _ _ _ c.in_ok-end.end c.in_ok-end.was c.pull_beside-took.ensures.pulled)
     c.version-version.result (sym c.version-version.ensures)
-    (subst (λ fs. TakesWaiting c.version-version.result (frames_in fs.items) c.args.self.now.opened c.pull_beside-took.new.opened) c.replace-waiting.ensures.value (got_ok c.pull_beside-took.result.0 _ _ c.in_ok-took.was c.pull_beside-took.ensures.took)) ended start h before
+    (subst (λ fs. TakesWaiting c.version-version.result (frames_in fs.items) c.args.self.now.opened c.pull_beside-took.new.opened) c.replace-waiting.ensures.value (got_ok c.pull_beside-took.result.0 _ _ c.in_ok-took.was c.pull_beside-took.ensures.took).0) ended start h before
 
 pub returns-clause-nearer : goal.returns-clause-nearer
 returns-clause-nearer g c = λ going. (pulled_ok c.pull_beside-took.result.1 _ _ _ _ _ _ c.in_ok-end.end c.in_ok-end.was c.pull_beside-took.ensures.pulled).nearer going
 
 pub returns-clause-goes_on : goal.returns-clause-goes_on
 returns-clause-goes_on g c = λ going. (pulled_ok c.pull_beside-took.result.1 _ _ _ _ _ _ c.in_ok-end.end c.in_ok-end.was c.pull_beside-took.ensures.pulled).goes_on going
+
+pub returns-clause-stays : goal.returns-clause-stays
+returns-clause-stays g c = (got_ok c.pull_beside-took.result.0 _ _ c.in_ok-took.was c.pull_beside-took.ensures.took).1

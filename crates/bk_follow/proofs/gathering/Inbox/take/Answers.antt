@@ -11,7 +11,7 @@ take_waiting-requires-clause-come g c κs within =
 pub returns-clause-takes : goal.returns-clause-takes
 returns-clause-takes g c = λ bytes taken h.
     takes_waiting c.args.self.now _ c.version.result (sym c.version.ensures) refl (ap (λ v. v.items) c.replace-frames.ensures.after ∙ c.new.ensures.items)
-    (subst (λ fs. TakesWaiting c.version.result (frames_in fs.items) c.args.self.now.opened c.take_waiting.new.opened) c.replace-frames.ensures.value c.in_ok-take_waiting.ensures) bytes taken h
+    (subst (λ fs. TakesWaiting c.version.result (frames_in fs.items) c.args.self.now.opened c.take_waiting.new.opened) c.replace-frames.ensures.value c.in_ok-take_waiting.ensures.takes) bytes taken h
 
 pub returns-clause-all : goal.returns-clause-all
 returns-clause-all g c = ap (λ v. v.items) c.replace-frames.ensures.after ∙ c.new.ensures.items
