@@ -185,7 +185,7 @@ ReplayFailsBy (job.Show workers shown file) e old new =
     ViewFailsBy shown e (first_devices old) (first_devices new)
 ReplayFailsBy (job.Pick workers shown accounts file) e old new = PickFailsBy shown (fault.Replay e) old new
 ReplayFailsBy (job.Follow workers shown accounts wait file) e old new =
-    FollowFailsBy shown (fault.Replay e) (is_some accounts) old new
+    FollowFailsBy shown (fault.Replay e) (is_some accounts) wait old new
 ReplayFailsBy (job.Diagnose d file) e old new = DiagnosisFailsBy d e (first_devices old) (first_devices new)
 ReplayFailsBy other e old new = ⊥
 
@@ -198,7 +198,7 @@ TextFailsBy (job.CheckProof root account file) e old new =
 TextFailsBy (job.CheckReport workers report file) e old new = ClaimIsUnread e old new
 TextFailsBy (job.Pick workers shown accounts file) e old new = PickFailsBy shown (fault.Text e) old new
 TextFailsBy (job.Follow workers shown accounts wait file) e old new =
-    FollowFailsBy shown (fault.Text e) (is_some accounts) old new
+    FollowFailsBy shown (fault.Text e) (is_some accounts) wait old new
 TextFailsBy (job.CheckChain file) e old new = ChainFailsBy (fault.Text e) (first_devices old) (first_devices new)
 TextFailsBy other e old new = ⊥
 
@@ -211,7 +211,7 @@ EventsFailBy other e old new = ⊥
 abbrev pub AccountsFailBy : Job → ℕ → JobDevices → JobDevices → Type 0
 AccountsFailBy (job.Pick workers shown accounts file) line old new = PickFailsBy shown (fault.Accounts line) old new
 AccountsFailBy (job.Follow workers shown accounts wait file) line old new =
-    FollowFailsBy shown (fault.Accounts line) (is_some accounts) old new
+    FollowFailsBy shown (fault.Accounts line) (is_some accounts) wait old new
 AccountsFailBy other line old new = ⊥
 
 abbrev pub LinksFailBy : Job → ℕ → JobDevices → JobDevices → Type 0

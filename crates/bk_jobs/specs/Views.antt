@@ -13,7 +13,7 @@ use Rattle.bk_chain.specs.declared.fault.ChainFault.{ChainFault}
 use Rattle.bk_chain.specs.declared.fault.ChainFault.TheVariants as broken
 use Rattle.bk_chain.specs.declared.verdict.ChainEnd.{ChainEnd}
 use Rattle.bk_chain.specs.declared.verdict.ChainEnd.TheVariants as verdict
-use Rattle.bk_tail.specs.Tailing.{TailFailsBy}
+use Rattle.bk_tail.specs.Tailing.{EndsAsAsked, TailFailsBy}
 use Rattle.bk_tables.specs.declared.listing.TheConstants.{MOST_LIST}
 use Rattle.bk_tables.specs.Listing.{AreNamedIn, HasNoAccounts}
 use Rattle.bk_tables.specs.Tables.{IsBatchTable, IsPaymentTable, IsPostingTable}
@@ -111,15 +111,16 @@ FollowIsOut shown picks end old new =
     IsPickedIf picks old new (λ accounts. RowsAreOut shown accounts end (first_devices old) (first_devices new))
 
 -- why it did not: the list was not read; or the feed was not followed to its end, and then rows of it may be out
-abbrev pub FollowFailsBy : Table → JobFault → Bool → JobDevices → JobDevices → Type 0
-FollowFailsBy shown (fault.Accounts line) true old new = ListIsUnread (list.Line line) old new
-FollowFailsBy shown (fault.Text text.Read) true old new = ListIsUnread list.Read old new
-FollowFailsBy shown (fault.Text text.Memory) true old new = ListIsUnread list.Memory old new
-FollowFailsBy shown (fault.Replay e) picks old new =
+abbrev pub FollowFailsBy : Table → JobFault → Bool → Bool → JobDevices → JobDevices → Type 0
+FollowFailsBy shown (fault.Accounts line) true wait old new = ListIsUnread (list.Line line) old new
+FollowFailsBy shown (fault.Text text.Read) true wait old new = ListIsUnread list.Read old new
+FollowFailsBy shown (fault.Text text.Memory) true wait old new = ListIsUnread list.Memory old new
+FollowFailsBy shown (fault.Replay e) picks wait old new =
     Works old.second new.second
     × IsPickedIf picks old new (λ accounts.
     TailFailsBy (table_text shown accounts) e (first_devices old) (first_devices new))
-FollowFailsBy shown other picks old new = ⊥
+    × EndsAsAsked wait e old.first new.first
+FollowFailsBy shown other picks wait old new = ⊥
 
 -- ---- links
 

@@ -5,7 +5,7 @@ ghost use Rattle.bk_frames.specs.Device.{CanBeUsed, Works};
 ghost use Rattle.bk_results.specs.Devices.{devices};
 ghost use Rattle.bk_answer.specs.Answers.{IsAnswered};
 ghost use Rattle.bk_answer.specs.Flaws.{judged_text};
-ghost use Rattle.bk_tail.specs.Tailing.{TailFailsBy};
+ghost use Rattle.bk_tail.specs.Tailing.{EndsAsAsked, TailFailsBy};
 ghost use Rattle.bk_cli.specs.Exits.{is_report};
 ghost use Rattle.bk_jobs.specs.Flaws.{IsFlawGiven};
 ghost use Rattle.bk_jobs.specs.Sources.{AllWork, job_devices};
@@ -48,6 +48,8 @@ where
     ensures fault { IfErr result (λ e. TailFailsBy (table_text shown accounts) e
         (devices (S.state source.old) (O.state out.old))
         (devices (S.state source.new) (O.state out.new))) }
+    ensures asked { IfErr result (λ e. EndsAsAsked wait e
+        (S.state source.old) (S.state source.new)) }
 {
     let count = workers.count();
     match shown {
@@ -107,6 +109,8 @@ where
     ensures fault { IfErr result (λ e. TailFailsBy (table_text shown accounts) e
         (devices (S.state source.old) (O.state out.old))
         (devices (S.state source.new) (O.state out.new))) }
+    ensures asked { IfErr result (λ e. EndsAsAsked wait e
+        (S.state source.old) (S.state source.new)) }
 {
     match tail_of(
         rt,
@@ -154,6 +158,8 @@ where
     ensures fault { IfErr result (λ e. TailFailsBy (table_text shown None) e
         (devices (S.state source.old) (O.state out.old))
         (devices (S.state source.new) (O.state out.new))) }
+    ensures asked { IfErr result (λ e. EndsAsAsked wait e
+        (S.state source.old) (S.state source.new)) }
 {
     let status = follow_table(rt, judge, gate, shown, workers, wait, source, None, out)?;
     Ok(Exit::at(status))
@@ -187,7 +193,7 @@ where
     ensures sound { OnOk result (AllWork
         (job_devices (S1.state feed.old) (S2.state list.old) (O.state out.old))
         (job_devices (S1.state feed.new) (S2.state list.new) (O.state out.new))) }
-    ensures fault { IfErr result (λ e. FollowFailsBy shown e true
+    ensures fault { IfErr result (λ e. FollowFailsBy shown e true wait
         (job_devices (S1.state feed.old) (S2.state list.old) (O.state out.old))
         (job_devices (S1.state feed.new) (S2.state list.new) (O.state out.new))) }
 {

@@ -4,6 +4,7 @@ mod Growing
 mod PaymentsPut
 mod Step
 mod Flawed
+mod Asked
 mod Ends
 mod PostingsPut
 mod RowsStay

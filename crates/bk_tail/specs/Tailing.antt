@@ -1,11 +1,12 @@
 -- What following a feed leaves, while its table is written as it becomes final. `text` stands for any table: which texts, with
 -- which end, are that of a feed.
-use Rattle.std.specs.Prelude.{◌≡◌, ◌⊎◌, ℕ, List, [], Some}
+use Rattle.std.specs.Prelude.{◌≡◌, ◌≢◌, ◌⊎◌, ℕ, Bool, true, false, List, [], Some}
 use Rattle.bk_base.specs.Feed.{FeedValue, IsFeed, spelling}
 use Rattle.bk_commit.specs.Growth.{IsPrefix}
 use Rattle.bk_frames.specs.Cutting.{Cut, Cuts, IsOpen, fresh}
-use Rattle.bk_frames.specs.Device.{Device, Works, Fails, Receives}
+use Rattle.bk_frames.specs.Device.{Device, Works, Ends, Fails, Receives}
 use Rattle.bk_frames.specs.Pulling.{Gave, Refuses}
+use Rattle.bk_frames.specs.declared.fault.FaultCode.TheVariants as code
 use Rattle.bk_results.specs.Devices.{Devices}
 use Rattle.bk_results.specs.declared.fault.Fault.{Fault}
 use Rattle.bk_results.specs.declared.fault.Fault.TheVariants as fault
@@ -63,3 +64,9 @@ TailFailsBy text stop old new =
     Works old.source new.source
     × Gave old.source new.source (λ bytes.
     TableSoFar text old.sink new.sink bytes × OfWholeFrames bytes (λ feed. IsStopIn feed stop))
+
+-- how often the source ended where a table was not written to the end of its feed, by whether it was waited for: a source that
+-- is waited for has no end, so no feed is said to end too early; one that is not ended once at most
+abbrev pub EndsAsAsked : Bool → Fault → Device → Device → Type 0
+EndsAsAsked true f old new = (offset : ℕ) → f ≢ fault.Feed (record { offset = offset; code = code.Truncated })
+EndsAsAsked false f old new = Ends 0 old new ⊎ Ends 1 old new

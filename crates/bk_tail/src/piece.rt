@@ -10,6 +10,7 @@ ghost use Rattle.bk_frames.specs.Reading.{room_of};
 ghost use Rattle.bk_frames.specs.declared.fault.FaultCode.TheVariants as code;
 ghost use Rattle.bk_frames.specs.declared.pulling.TheConstants.{PIECE};
 ghost use Rattle.bk_results.specs.declared.fault.Fault.TheVariants as fault;
+ghost use Rattle.bk_tail.specs.Tailing.{EndsAsAsked};
 ghost use Rattle.bk_tail.specs.private.Steps.{AdvanceFails, Advanced, EndsIf, HasFollowed};
 
 use bk_follow::Follower;
@@ -34,8 +35,10 @@ fn pull_once<S: Source>(source: &mut S, piece: &mut [u8], offset: u64) -> Result
     ensures works { IfOk result (λ n. Works (S.state source.old) (S.state source.new)) }
     ensures end { IfOk result (λ n. n ≡ 0 → IsAtEnd (S.state source.new).bytes) }
     ensures ends { IfOk result (λ n. Ends (ends_of n 1) (S.state source.old) (S.state source.new)) }
-    ensures fault { IfErr result (λ f. f ≡ fault.Feed (record { offset = offset; code = code.Read })) }
+    ensures fault { IfErr result (λ f. f
+        ≡ fault.Feed (record { offset = offset; code = code.Read })) }
     ensures kept { IfErr result (λ f. Gives (S.state source.old) (S.state source.new) []) }
+    ensures goes_on { IfErr result (λ f. Ends 0 (S.state source.old) (S.state source.new)) }
     ensures fails { IfErr result (λ f. Fails (S.state source.old) (S.state source.new)) }
 {
     match source.pull(piece) {
@@ -61,7 +64,8 @@ fn pull_waiting<R: Clock + Wait, S: Source>(
         (take n piece.new)) }
     ensures works { IfOk result (λ n. Works (S.state source.old) (S.state source.new)) }
     ensures some { IfOk result (λ n. 0 < n) }
-    ensures fault { IfErr result (λ f. f ≡ fault.Feed (record { offset = offset; code = code.Read })) }
+    ensures fault { IfErr result (λ f. f
+        ≡ fault.Feed (record { offset = offset; code = code.Read })) }
     ensures kept { IfErr result (λ f. Gives (S.state source.old) (S.state source.new) []) }
     ensures fails { IfErr result (λ f. Fails (S.state source.old) (S.state source.new)) }
 {
@@ -93,8 +97,11 @@ fn pull<R: Clock + Wait, S: Source>(
     ensures end { IfOk result (λ n. n ≡ 0 → IsAtEnd (S.state source.new).bytes) }
     ensures ends { waits ≡ false → IfOk result (λ n. Ends (ends_of n 1)
         (S.state source.old) (S.state source.new)) }
-    ensures fault { IfErr result (λ f. f ≡ fault.Feed (record { offset = offset; code = code.Read })) }
+    ensures fault { IfErr result (λ f. f
+        ≡ fault.Feed (record { offset = offset; code = code.Read })) }
     ensures kept { IfErr result (λ f. Gives (S.state source.old) (S.state source.new) []) }
+    ensures goes_on { waits ≡ false → IfErr result (λ f. Ends 0
+        (S.state source.old) (S.state source.new)) }
     ensures fails { IfErr result (λ f. Fails (S.state source.old) (S.state source.new)) }
 {
     if waits {
@@ -135,6 +142,8 @@ where
         → HasFollowed start (S.state source.old) bytes frames follower.old
         → (waits ≡ false → Ends 0 start (S.state source.old))
         → AdvanceFails f start (S.state source.new) bytes) }
+    ensures asked { IfErr result (λ f. EndsAsAsked waits f
+        (S.state source.old) (S.state source.new)) }
 {
     let count = pull(rt, source, piece, follower.offset(), waits)?;
     if count == 0 {

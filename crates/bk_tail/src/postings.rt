@@ -7,7 +7,7 @@ ghost use Rattle.bk_frames.specs.Device.{CanBeUsed};
 ghost use Rattle.bk_results.specs.Devices.{devices};
 ghost use Rattle.bk_tables.specs.Growing.{AreAfter};
 ghost use Rattle.bk_tables.specs.Tables.{IsPostingTable};
-ghost use Rattle.bk_tail.specs.Tailing.{TailFailsBy};
+ghost use Rattle.bk_tail.specs.Tailing.{EndsAsAsked, TailFailsBy};
 ghost use Rattle.bk_tail.specs.private.Kinds.{no_postings, postings_short, postings_table};
 ghost use Rattle.bk_tail.specs.private.Putting.{postings};
 
@@ -89,6 +89,8 @@ where
     ensures fault { IfErr result (λ f. TailFailsBy (IsPostingTable asked.now.accounts) f
         (devices (S.state source.old) (K.state sink.old))
         (devices (S.state source.new) (K.state sink.new))) }
+    ensures asked { IfErr result (λ f. EndsAsAsked waits f
+        (S.state source.old) (S.state source.new)) }
 {
     let accounts = &asked.accounts;
     tail_table::<R, S, K, G, PostingRows>(

@@ -12,7 +12,7 @@ ghost use Rattle.bk_frames.specs.declared.pulling.TheConstants.{PIECE};
 ghost use Rattle.bk_order.specs.Orders.{Ordered};
 ghost use Rattle.bk_results.specs.Devices.{devices};
 ghost use Rattle.bk_tables.specs.Growing.{none_shown};
-ghost use Rattle.bk_tail.specs.Tailing.{TailFailsBy};
+ghost use Rattle.bk_tail.specs.Tailing.{EndsAsAsked, TailFailsBy};
 ghost use Rattle.bk_tail.specs.private.Putting.{IsPutOn, PutNot};
 
 use crate::piece::{advance, reach};
@@ -90,6 +90,8 @@ where
     ensures fault { IfErr result (λ f. TailFailsBy (T.kind accounts.now).text f
         (devices (S.state source.old) (K.state sink.old))
         (devices (S.state source.new) (K.state sink.new))) }
+    ensures asked { IfErr result (λ f. EndsAsAsked waits f
+        (S.state source.old) (S.state source.new)) }
 {
     'pieces: loop {
         let ended = advance(rt, source, piece, follower, gate, waits)?;
@@ -128,6 +130,8 @@ where
     ensures fault { IfErr result (λ f. TailFailsBy (T.kind accounts.now).text f
         (devices (S.state source.old) (K.state sink.old))
         (devices (S.state source.new) (K.state sink.new))) }
+    ensures asked { IfErr result (λ f. EndsAsAsked waits f
+        (S.state source.old) (S.state source.new)) }
 {
     let mut piece = vec![in alloc; 0u8; PIECE]?;
     let mut rows = T::none(alloc)?;

@@ -1,6 +1,7 @@
 use Rattle.std.proofs.Common.{◌≡◌, ℕ, zero, suc, ◌<◌, Bool, true, false, take, length, length-take, refl, arith}
 use Rattle.std.proofs.lemmas.Result.{err_from_is_err_and}
 use Rattle.bk_frames.proofs.Devices.{ends_at, ends_not_at, ends_then}
+use Rattle.bk_tail.proofs.Asked.{ended_as_asked, feed_not_short, going_as_asked, read_as_asked, settle_not_short}
 use Rattle.bk_tail.proofs.Pieces.{all_given, close_fails, closed, feed_fails, nearer, nothing_more, read_fails, settle_fails, settled, taken}
 use Rattle.bk_tail.proofs.piece.advance.Goals as goal
 
@@ -89,3 +90,36 @@ returns-clause-ends g c = λ unwaited. ends_not_at c.in_ok-count.count (g.S.Sour
 
 pub returns-then-count-eq0-clause-goes_on : goal.returns-then-count-eq0-clause-goes_on
 returns-then-count-eq0-clause-goes_on g c = λ waited. let some = c.in_ok-count.ensures.some waited in absurd (omega (arith, some, c.if-count-eq0.true))
+
+pub returns-in_err-count-clause-asked : goal.returns-in_err-count-clause-asked
+returns-in_err-count-clause-asked g c =
+    let p = err_from_is_err_and c.from_residual.result c.from_residual.ensures.1 in
+    rw (p.1, p.2) (read_as_asked c.args.waits _ c.offset.result (g.S.Source.state c.args.source.now) (g.S.Source.state c.pull.new.source) c.in_err-count.ensures.fault c.in_err-count.ensures.goes_on)
+
+pub returns-in_err-close-clause-asked : goal.returns-in_err-close-clause-asked
+returns-in_err-close-clause-asked g c =
+    let p = err_from_is_err_and c.from_residual-in_err-close.result c.from_residual-in_err-close.ensures.1 in
+    let now = g.S.Source.state c.args.source.now in
+    let later = g.S.Source.state c.pull.new.source in
+    let unwaited = not_waited c.args.waits c.in_ok-count.count c.if-count-eq0.true c.in_ok-count.ensures.some in
+    rw (p.1, p.2) (ended_as_asked c.args.waits _ now later unwaited (ends_at c.in_ok-count.count now later (c.in_ok-count.ensures.ends unwaited) c.if-count-eq0.true))
+
+pub returns-in_err-feed-clause-asked : goal.returns-in_err-feed-clause-asked
+returns-in_err-feed-clause-asked g c =
+    let p = err_from_is_err_and c.from_residual-in_err-feed.result c.from_residual-in_err-feed.ensures.1 in
+    let now = g.S.Source.state c.args.source.now in
+    let later = g.S.Source.state c.pull.new.source in
+    let some = not_zero c.in_ok-count.count c.if-count-eq0.false in
+    let (start, bytes, frames, h) = c.requires.followed in
+    rw (p.1, p.2) (going_as_asked c.args.waits _ now later (feed_not_short c.args.follower.now _ _ (c.in_err-feed.ensures.fault h.come.works)) (λ unwaited. ends_not_at c.in_ok-count.count now later (c.in_ok-count.ensures.ends unwaited) some))
+
+pub returns-in_err-settle-clause-asked : goal.returns-in_err-settle-clause-asked
+returns-in_err-settle-clause-asked g c =
+    let p = err_from_is_err_and c.from_residual-in_err-settle.result c.from_residual-in_err-settle.ensures.1 in
+    let now = g.S.Source.state c.args.source.now in
+    let later = g.S.Source.state c.pull.new.source in
+    let piece = take c.in_ok-count.count c.pull.new.piece in
+    let some = not_zero c.in_ok-count.count c.if-count-eq0.false in
+    let (start, bytes, frames, h) = c.requires.followed in
+    let t = taken start now later bytes piece frames c.args.follower.now c.feed.new.self c.in_ok-count.ensures.came c.in_ok-count.ensures.works c.in_ok-feed.ensures.takes h in
+    rw (p.1, p.2) (going_as_asked c.args.waits _ now later (settle_not_short c.feed.new.self c.settle.new.self _ (c.in_err-settle.ensures.fault t.1.come.works)) (λ unwaited. ends_not_at c.in_ok-count.count now later (c.in_ok-count.ensures.ends unwaited) some))

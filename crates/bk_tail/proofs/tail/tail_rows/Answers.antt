@@ -9,6 +9,7 @@ use Rattle.bk_frames.proofs.Devices.{ends_not_then, ends_not_yet, ends_then}
 use Rattle.bk_results.specs.Devices.{devices}
 use Rattle.bk_tail.specs.private.Steps.{EndsIf}
 use Rattle.bk_results.specs.declared.status.Status.{Status}
+use Rattle.bk_tail.proofs.Asked.{after_others, ends_or_not, memory_not_short, put_not_short, write_not_short}
 use Rattle.bk_tail.proofs.Ends.{advance_fails, answered, end_fails, ended_with, no_flaw, put_fails, put_not}
 use Rattle.bk_tail.proofs.Flawed.{whole_order}
 use Rattle.bk_tail.proofs.Step.{few_bytes, none_put_on, put_on}
@@ -177,3 +178,29 @@ pieces-preserved g c =
 
 pub returns-then-ended-clause-unwaited : goal.returns-then-ended-clause-unwaited
 returns-then-ended-clause-unwaited g c = not_waited c.args.waits c.in_ok-ended.ended c.if-ended.true c.in_ok-ended.ensures.goes_on
+
+pub returns-in_err-ended-clause-asked : goal.returns-in_err-ended-clause-asked
+returns-in_err-ended-clause-asked g c =
+    let p = err_from_is_err_and c.from_residual.result c.from_residual.ensures.1 in
+    rw (p.1, p.2) (after_others c.args.waits _ (g.S.Source.state c.args.source.now) (g.S.Source.state c.pieces.source) (g.S.Source.state c.advance.new.source) c.pieces.invariant.goes_on c.in_err-ended.ensures.asked)
+
+pub returns-in_err-put_new-clause-asked : goal.returns-in_err-put_new-clause-asked
+returns-in_err-put_new-clause-asked g c =
+    let p = err_from_is_err_and c.from_residual-in_err-put_new.result c.from_residual-in_err-put_new.ensures.1 in
+    let i = c.pieces.invariant in
+    let start = g.S.Source.state c.args.source.now in
+    let first = g.K.Sink.state c.args.sink.now in
+    let a = c.in_ok-ended.ensures.next start i.bytes i.frames i.followed in
+    let on = put_on (g.T.TableRows.kind c.args.accounts.now) (g.met.T.TableRows.no_rows c.args.accounts.now) i.bytes a.all i.frames a.whole c.pieces.follower c.advance.new.follower first (g.K.Sink.state c.pieces.sink) (g.T.TableRows.shown c.pieces.rows) (g.T.TableRows.holds c.pieces.rows) i.done a.longer a.more i.followed.come a.followed.come i.put in
+    rw (p.1, p.2) (ends_or_not c.args.waits c.in_ok-ended.ended _ start (g.S.Source.state c.pieces.source) (g.S.Source.state c.advance.new.source)
+    (put_not_short (g.T.TableRows.kind c.args.accounts.now) _ a.all first (g.K.Sink.state c.put_new.new.sink) (c.in_err-put_new.ensures.fault a.all a.whole first i.done a.followed.come a.settled on)) i.goes_on c.in_ok-ended.ensures.ends)
+
+pub returns-in_err-flaw-clause-asked : goal.returns-in_err-flaw-clause-asked
+returns-in_err-flaw-clause-asked g c =
+    let p = err_from_is_err_and c.from_residual-in_err-flaw.result c.from_residual-in_err-flaw.ensures.1 in
+    rw (p.1, p.2) (ends_or_not c.args.waits c.in_ok-ended.ended _ (g.S.Source.state c.args.source.now) (g.S.Source.state c.pieces.source) (g.S.Source.state c.advance.new.source) (memory_not_short _ refl) c.pieces.invariant.goes_on c.in_ok-ended.ensures.ends)
+
+pub returns-in_err-put_end-clause-asked : goal.returns-in_err-put_end-clause-asked
+returns-in_err-put_end-clause-asked g c =
+    let p = err_from_is_err_and c.from_residual-in_err-put_end.result c.from_residual-in_err-put_end.ensures.1 in
+    rw (p.1, p.2) (ends_or_not c.args.waits c.in_ok-ended.ended _ (g.S.Source.state c.args.source.now) (g.S.Source.state c.pieces.source) (g.S.Source.state c.advance.new.source) (write_not_short _ _ refl) c.pieces.invariant.goes_on c.in_ok-ended.ensures.ends)
