@@ -8,7 +8,7 @@ use std::convert::AsStr;
 use std::rt::Env;
 use std::{env, io};
 
-/// What gives the program its words.
+/// What gives the program its words, once.
 pub(crate) trait Arguments {
     /// One word.
     type Word: AsStr + Drop;
@@ -19,10 +19,10 @@ pub(crate) trait Arguments {
     /// They cannot be read, which is an error of this kind.
     ghost lacks: { Self → ErrorKind → Type 0 };
 
-    /// Reads the words.
-    fn words(&self) -> io::Result<Vec<Self::Word>>
-        ensures given { IfOk result (λ words. gives self.now (map Self.Word.text words.items)) }
-        ensures unread { IfErr result (λ error. lacks self.now (error_kind error)) };
+    /// Reads the words. That takes what gives them, so they are read once.
+    fn words(self) -> io::Result<Vec<Self::Word>>
+        ensures given { IfOk result (λ words. gives self (map Self.Word.text words.items)) }
+        ensures unread { IfErr result (λ error. lacks self (error_kind error)) };
 }
 
 /// The words of the process.
@@ -46,7 +46,7 @@ impl<'a, V: Env + AllocGlobal> Arguments for Given<'a, V> {
 
     ghost lacks = { λ _ kind. Unit {0} };
 
-    fn words(&self) -> io::Result<Vec<String>> {
+    fn words(self) -> io::Result<Vec<String>> {
         let words = env::args(self.system)?.collect(self.system.alloc())?;
         Ok(words)
     }

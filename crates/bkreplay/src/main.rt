@@ -22,12 +22,19 @@ fn main(rt: HostRuntime) -> ExitCode {
     let given = Given::new(&rt);
     let mut speaker = Speaker::new(&rt);
     let system = System {
-        arguments: &given,
         display: Display::new(&rt, terminal),
         typed,
     };
     let input = Counted::new(rt.reader());
     let mut access = Access::new(Inputs::new(&rt), Inputs::new(&rt), input);
-    let end = program(&rt, &system, &mut access, &mut speaker, &mut out, &mut err);
+    let end = program(
+        &rt,
+        given,
+        &system,
+        &mut access,
+        &mut speaker,
+        &mut out,
+        &mut err,
+    );
     ExitCode::from(end.number())
 }

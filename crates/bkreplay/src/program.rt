@@ -21,11 +21,10 @@ use std::sync::Wait;
 use std::thread::Threads;
 use std::time::Clock;
 
-/// What the program has of the system beside its memory, its threads, what it can read and where it answers its words.
+/// What the program has of the system beside its memory, its threads, its words, what it can read and where it answers
+/// its words.
 #[derive(Drop)]
-pub(crate) struct System<'a, W, P> {
-    /// What gives it its words.
-    pub(crate) arguments: &'a W,
+pub(crate) struct System<'a, P> {
     /// Where it shows how far it is.
     pub(crate) display: Display<'a, P>,
     /// Whether standard input is a terminal.
@@ -36,7 +35,8 @@ pub(crate) struct System<'a, W, P> {
 /// words name no job, and else what is in it that the job has no use for; what the files were read through is left there.
 pub(crate) fn program<R, W, N, I, P, Q, O: Sink, E: Sink>(
     rt: &R,
-    system: &System<'_, W, P>,
+    arguments: W,
+    system: &System<'_, P>,
     access: &mut Access<N, N::File, I>,
     speaker: &mut Speaker<'_, Q>,
     out: &mut O,
@@ -55,27 +55,27 @@ where
         CanBeUsed }
     requires out { CanBeUsed (O.state out.old) }
     requires err { CanBeUsedAgain (E.state err.old) }
-    ensures ran { RanProgram (W.gives system.now.arguments.now) (W.lacks system.now.arguments.now)
+    ensures ran { RanProgram (W.gives arguments) (W.lacks arguments)
         (sight N.holds N.lacks N.File.state I.state) access.old access.new speaker.new result
         (O.state out.old) (O.state out.new) (E.state err.old) (E.state err.new) }
 {
-    match system.arguments.words() {
+    match arguments.words() {
         Ok(words) => run_words(rt, system, words.as_slice(), access, speaker, out, err),
         Err(error) => refuse_words(&error, err),
     }
 }
 
 // Says that what is typed is read, where the words ask for words.
-fn tell_typed<W, P: Clock + Eprint>(system: &System<'_, W, P>, line: &Line) {
+fn tell_typed<P: Clock + Eprint>(system: &System<'_, P>, line: &Line) {
     if line.notes.verbose && system.typed && line.job.reads_input() {
         system.display.typed();
     }
 }
 
 // Runs the job of the words.
-fn run_words<R, W, N, I, P, Q, S: AsStr, O: Sink, E: Sink>(
+fn run_words<R, N, I, P, Q, S: AsStr, O: Sink, E: Sink>(
     rt: &R,
-    system: &System<'_, W, P>,
+    system: &System<'_, P>,
     words: &[S],
     access: &mut Access<N, N::File, I>,
     speaker: &mut Speaker<'_, Q>,

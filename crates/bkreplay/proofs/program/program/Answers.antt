@@ -5,7 +5,7 @@ use Rattle.bkreplay.proofs.program.program.Goals as goal
 
 pub returns-in-Ok : goal.returns-in-Ok
 returns-in-Ok g c = record {
-  ran = inl (_, subst (λ words. g.W.Arguments.gives c.args.system.now.arguments.now (map g.W.Word.AsStr.text words)) (sym c.as_slice.ensures.value) c.in-Ok.ensures.given, c.run_words.ensures.ran);
+  ran = inl (_, subst (λ words. g.W.Arguments.gives c.args.arguments (map g.W.Word.AsStr.text words)) (sym c.as_slice.ensures.value) c.in-Ok.ensures.given, c.run_words.ensures.ran);
 }
 
 pub returns-in-Err : goal.returns-in-Err
