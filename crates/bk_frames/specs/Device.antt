@@ -42,8 +42,8 @@ pub record Gives (old new : Device) (bytes : List ℕ) : Type 0 where
 abbrev pub Ends : ℕ → Device → Device → Type 0
 Ends times old new = (before : ℕ) → old.may_have_ended before ≡ true → new.may_have_ended (before + times) ≡ true
 
--- how often a source ended in a call that gave so many bytes and had room for so many: once where it gave none, though
--- there was room
+-- how often a source ended in a call, by how many bytes it gave and for how many it had room: once where it gave none,
+-- though there was room
 abbrev pub ends_of : ℕ → ℕ → ℕ
 ends_of given room = if nat_lt 0 room && given == 0 then 1 else 0
 

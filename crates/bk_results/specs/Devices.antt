@@ -23,7 +23,7 @@ abbrev pub NothingHappened : Devices → Devices → Type 0
 NothingHappened old new = Works old.source new.source × IsUntouched old.sink new.sink
 
 -- this holds of the text that a source gave, and of all that it had, where this is known; the text was read to its end, or
--- on past so many bytes
+-- on past the limit
 abbrev pub OfText : ℕ → Device → Device → (List ℕ → Type 0) → Type 0
 OfText most old new holds =
     Gave old new (λ text. Ends (if nat_le (length text) most then 1 else 0) old new × holds text) × IfKnown old holds
