@@ -48,7 +48,7 @@ pub struct Progress<'a, R> {
     due: AtomicU64,
 }
 
-impl<'a, R: Clock + Eprint> Progress<'a, R> {
+impl<'a, R: Clock> Progress<'a, R> {
     /// Begins with nothing read and nothing executed.
     pub fn new(rt: &'a R, manner: Manner) -> Self {
         let start = match manner {
@@ -66,7 +66,9 @@ impl<'a, R: Clock + Eprint> Progress<'a, R> {
             due: AtomicU64::new(manner.pause()),
         }
     }
+}
 
+impl<'a, R: Clock + Eprint> Progress<'a, R> {
     /// Counts a file that is going to be read: its size in bytes, where that is known.
     pub fn expect(&self, size: Option<u64>) {
         match size {

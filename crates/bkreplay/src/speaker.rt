@@ -31,14 +31,16 @@ impl<'a, Q> Model for Speaker<'a, Q> {
     ghost view = { λ s. s.said };
 }
 
-impl<'a, Q: Print + Eprint> Speaker<'a, Q> {
-    /// That of these streams, which has said nothing.
+impl<'a, Q> Speaker<'a, Q> {
+    /// That of these streams, which has said nothing. It has no leave to print.
     pub(crate) fn new(prints: &'a Q) -> Self
         ensures { result ≡ None }
     {
         Speaker { prints, said: None }
     }
+}
 
+impl<'a, Q: Print + Eprint> Speaker<'a, Q> {
     /// Help and the version go to standard output, a fault of the words to standard error.
     pub(crate) fn answer<E: Sink>(&mut self, error: Error, err: &mut E) -> Exit
         requires silent { self.old ≡ None }
