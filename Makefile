@@ -23,6 +23,9 @@ check: ## run the gate, .ci/run: bench/edits and rt ci (an hour and more on four
 
 test: check ## the same
 
+measure: ## measure `run` with the built program, beside `sha256sum`; `./dev measure` has more to measure
+	./dev measure
+
 install: ## copy the program, man page, completions, documents and examples below DESTDIR and PREFIX
 	@[ -n "$$BUILT" ] || for it in $$CPU; do ./launcher/build "$$it" || exit; done
 	./launcher/install "$$DESTDIR$$PREFIX" "$${BUILT:-out}" $$CPU
@@ -44,4 +47,4 @@ clean: ## remove all that was built, and what was proved for it
 
 # dist and deb write the same file of sums.
 .NOTPARALLEL:
-.PHONY: build help check test install uninstall dist deb reproduce clean
+.PHONY: build help check test measure install uninstall dist deb reproduce clean

@@ -9,7 +9,7 @@ import os
 import re
 import sys
 
-ROOT = os.path.dirname(os.path.dirname(os.path.realpath(__file__)))
+ROOT = os.path.dirname(os.path.dirname(os.path.dirname(os.path.realpath(__file__))))
 SOURCE = "crates/bk_cli/src"
 # The files of help.
 MODULES = ("help", "more_help", "table_help", "diagnosis_help")
@@ -25,7 +25,7 @@ TOKEN = re.compile(r'"(?:[^"\\]|\\.)*"|[A-Za-z_]\w*!?(?:::\w+)*|\d[\d_]*|\.\.=|\
 
 
 def fail(why):
-    print(f"launcher/manual: {why}", file=sys.stderr)
+    print(f"tools/manual/write: {why}", file=sys.stderr)
     sys.exit(2)
 
 
