@@ -1,6 +1,6 @@
 //! The verdict on a claim, from the bytes of a feed to the text.
 
-ghost use Rattle.std.specs.Prelude.{◌≡◌, ◌≤◌, ℕ, List, true, IfOk, IfErr, OnOk};
+ghost use Rattle.std.specs.Prelude.{◌≡◌, ◌≤◌, ℕ, List, true, false, None, IfOk, IfErr, OnOk};
 ghost use Rattle.bk_claim.specs.Claims.{AllWork, ClaimFailsBy, GaveEnough, OfBoth, ShowsVerdict, VerdictIsOut, claim_devices, good};
 ghost use Rattle.bk_claim.specs.private.Judging.{HoldFailsBy, JudgeFailsBy, ShownIsOut};
 ghost use Rattle.bk_answer.specs.Flaws.{IsFlaw};
@@ -35,6 +35,7 @@ fn hold_report<R: Threads + Wait + Sync, S: Source, G: Gate + Sync>(
         (λ bytes. IsReport bytes r.0.items r.1.end)) }
     ensures flaw { IfOk result (λ r. strict ≡ true → GaveAll (S.state feed.old) (S.state feed.new)
         (λ bytes. IsFlaw bytes r.1.flaw)) }
+    ensures unasked { IfOk result (λ r. strict ≡ false → r.1.flaw ≡ None) }
     ensures works { OnOk result (Works (S.state feed.old) (S.state feed.new)) }
     ensures fault { IfErr result (λ f. HoldFailsBy f (S.state feed.old) (S.state feed.new)) }
 {
@@ -121,6 +122,7 @@ pub fn check_report<R: Threads + Wait + Sync, S1: Source, S2: Source, K: Sink, G
         (VerdictIsOut v.end (K.state sink.old) (K.state sink.new))) }
     ensures flaw { IfOk result (λ v. strict ≡ true → GaveAll (S1.state feed.old) (S1.state feed.new)
         (λ bytes. IsFlaw bytes v.flaw)) }
+    ensures unasked { IfOk result (λ v. strict ≡ false → v.flaw ≡ None) }
     ensures work { OnOk result (AllWork
         (claim_devices (S1.state feed.old) (S2.state claimed.old) (K.state sink.old))
         (claim_devices (S1.state feed.new) (S2.state claimed.new) (K.state sink.new))) }

@@ -5,6 +5,7 @@ use bk_cli::{Exit, Remarks};
 pub(crate) struct JobEnd {
     /// The exit of the program.
     pub(crate) exit: Exit,
-    /// At which missing batches the orders of the feeds stop, of a query and of a comparison.
+    /// What is to be said beside an answer: at which missing batches the orders of the feeds stop, or of frames whose tag is
+    /// wrong.
     pub(crate) remarks: Remarks,
 }

@@ -29,13 +29,14 @@ use std::time::Clock;
 pub struct Watch<'a, W> {
     /// What its workers call between their steps, and what is called when the job is over.
     pub watcher: &'a W,
-    /// Whether a fault is reported in words too, and the missing batches at which orders stop.
+    /// Whether a fault is reported in words too, and beside an answer the missing batches at which orders stop, or of
+    /// frames a wrong tag.
     pub verbose: bool,
     /// Whether a feed that does not count whole is turned down.
     pub strict: bool,
 }
 
-// Runs a job, and reports its fault; or, where this is verbose, the missing batches beside its answer.
+// Runs a job, and reports its fault; or, where this is verbose, what is to be said beside its answer.
 fn run_told<R, W: Watcher + Sync, S1: Source, S2: Source, O: Sink, E: Sink>(
     rt: &R,
     job: &Job,
@@ -147,7 +148,8 @@ where
 /// standard output and `err` standard error, whose failures are ignored. Nothing watches.
 ///
 /// - `Whole` and `Missing`: the whole answer is on `out`, and nothing on `err`.
-/// - `No`, of a check of a proof, of a digest or of a report: it is bad, which is the answer on `out`. Nothing is on `err`.
+/// - `No`, of a check, of `waiting` or of `evidence`: what is checked is bad, or there are such lines, which is the answer on
+///   `out`. Nothing is on `err`.
 /// - `No`, of another query: what it asks for is absent, which is one line on `err`. Nothing is on `out`.
 /// - `WrongInput` and `Stopped`: the bytes are to blame. The fault is one line on `err`, and nothing is on `out`.
 /// - `Failed`: a read, a write or memory failed, or a transaction is not finished. The fault is one line on `err`;

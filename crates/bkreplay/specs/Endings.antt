@@ -1,7 +1,9 @@
 -- How the program ends, by its words.
 use Rattle.std.specs.Prelude.{◌≡◌, ◌≢◌, ◌⊎◌, ℕ, Bool, List, [], Option, Some, None, true, false, codes}
+use Rattle.std.specs.Process.{exit_status}
 use Rattle.std.specs.declared.io.ErrorKind.{ErrorKind}
 use Rattle.std.specs.declared.io.ErrorKind.TheVariants as found
+use Rattle.std.specs.declared.process.ExitCode.{ExitCode}
 use Rattle.clap.specs.Words.{HasKind, Text, fault_of, kind_of, subcommand_of}
 use Rattle.clap.specs.declared.error.Error.{Error}
 use Rattle.clap.specs.declared.error.kind.ErrorKind.TheVariants as kind
@@ -10,7 +12,7 @@ use Rattle.bk_results.specs.Devices.{IsUntouched}
 use Rattle.bk_results.specs.declared.fault.Fault.TheVariants as replay
 use Rattle.bk_cli.specs.CommandLine.{AreNotesOf, IsJobOf, IsOfValues, IsStrictOf}
 use Rattle.bk_cli.specs.Commands.{command_line}
-use Rattle.bk_cli.specs.Exits.{has_fault, is_refusal, may_end_if, writes_ahead}
+use Rattle.bk_cli.specs.Exits.{exit_number, has_fault, is_refusal, may_end_if, writes_ahead}
 use Rattle.bk_cli.specs.FaultLines.{Reports, line_of}
 use Rattle.bk_cli.specs.Files.{reads_input_twice}
 use Rattle.bk_cli.specs.declared.exit.Exit.{Exit}
@@ -104,3 +106,7 @@ abbrev pub RanProgram : {N F I : Type 0} → (List Text → Type 0) → (ErrorKi
 RanProgram gives fails s old new said end out out' err err' =
     ((words : List Text) × gives words × RanWords s old new (settled words) said end out out' err err')
     ⊎ ReadNoWords fails (new ≡ old) said end out out' err err'
+
+-- the status of the process is that of an end of which this holds
+abbrev pub EndsWith : ExitCode → (Exit → Type 0) → Type 0
+EndsWith code holds = (end : Exit) × (exit_status code ≡ exit_number end) × holds end

@@ -27,7 +27,7 @@ fn main(rt: HostRuntime) -> ExitCode {
     };
     let input = Counted::new(rt.reader());
     let mut access = Access::new(Inputs::new(&rt), Inputs::new(&rt), input);
-    let end = program(
+    program(
         &rt,
         given,
         &system,
@@ -35,6 +35,5 @@ fn main(rt: HostRuntime) -> ExitCode {
         &mut speaker,
         &mut out,
         &mut err,
-    );
-    ExitCode::from(end.number())
+    )
 }

@@ -6,7 +6,7 @@ ghost use Rattle.bk_frames.specs.Device.{CanBeUsed};
 ghost use Rattle.bk_cli.specs.Words.{settled};
 ghost use Rattle.bk_jobs.specs.Reads.{IsThere, input_device, sight};
 ghost use Rattle.bk_jobs.specs.Sources.{CanBeUsedAgain};
-ghost use Rattle.bkreplay.specs.Endings.{RanProgram, RanWords, SaysUnread};
+ghost use Rattle.bkreplay.specs.Endings.{EndsWith, RanProgram, RanWords, SaysUnread};
 
 use crate::arguments::Arguments;
 use crate::speaker::Speaker;
@@ -17,6 +17,7 @@ use bk_progress::Display;
 use bk_results::Fault;
 use std::convert::AsStr;
 use std::io;
+use std::process::ExitCode;
 use std::sync::Wait;
 use std::thread::Threads;
 use std::time::Clock;
@@ -31,11 +32,43 @@ pub(crate) struct System<'a, P> {
     pub(crate) typed: bool,
 }
 
-/// Reads the words, opens the files and runs the job; returns how the program ends. `access` is left as it is where the
-/// words name no job, and else what is in it that the job has no use for; what the files were read through is left there.
+/// Reads the words, opens the files and runs the job; returns the status with which the process ends. `access` is left as
+/// it is where the words name no job, and else what is in it that the job has no use for; what the files were read through
+/// is left there.
 pub(crate) fn program<R, W, N, I, P, Q, O: Sink, E: Sink>(
     rt: &R,
     arguments: W,
+    system: &System<'_, P>,
+    access: &mut Access<N, N::File, I>,
+    speaker: &mut Speaker<'_, Q>,
+    out: &mut O,
+    err: &mut E,
+) -> ExitCode
+where
+    R: AllocGlobal + Clock + Threads + Wait + Sync,
+    W: Arguments,
+    N: Opens,
+    I: Source + Drop,
+    P: Clock + Eprint + Sync,
+    Q: Print + Eprint,
+    requires silent { speaker.old ≡ None }
+    requires there { IsThere access.old }
+    requires input { IfSome (input_device (sight N.holds N.lacks N.File.state I.state) access.old)
+        CanBeUsed }
+    requires out { CanBeUsed (O.state out.old) }
+    requires err { CanBeUsedAgain (E.state err.old) }
+    ensures ran { EndsWith result (λ end. RanProgram (W.gives arguments) (W.lacks arguments)
+        (sight N.holds N.lacks N.File.state I.state) access.old access.new speaker.new end
+        (O.state out.old) (O.state out.new) (E.state err.old) (E.state err.new)) }
+{
+    let end = answer_words(arguments, rt, system, access, speaker, out, err);
+    ExitCode::from(end.number())
+}
+
+// Answers the words, if they can be read.
+fn answer_words<R, W, N, I, P, Q, O: Sink, E: Sink>(
+    arguments: W,
+    rt: &R,
     system: &System<'_, P>,
     access: &mut Access<N, N::File, I>,
     speaker: &mut Speaker<'_, Q>,

@@ -1,21 +1,6 @@
--- The words that were read are those that are answered.
-use Rattle.std.proofs.Common.{map, inl, inr, refl, sym, subst}
-use Rattle.std.specs.IoError.{error_kind}
+-- The status is that of the end.
+use Rattle.std.proofs.Common.{◌∙◌}
 use Rattle.bkreplay.proofs.program.program.Goals as goal
 
-pub returns-in-Ok : goal.returns-in-Ok
-returns-in-Ok g c = record {
-  ran = inl (_, subst (λ words. g.W.Arguments.gives c.args.arguments (map g.W.Word.AsStr.text words)) (sym c.as_slice.ensures.value) c.in-Ok.ensures.given, c.run_words.ensures.ran);
-}
-
-pub returns-in-Err : goal.returns-in-Err
-returns-in-Err g c = record {
-  ran = inr (record {
-    why = error_kind c.in-Err.error;
-    is_so = c.in-Err.ensures.unread;
-    silent = c.requires.silent;
-    left = refl;
-    unwritten = refl;
-    said_so = c.refuse_words.ensures;
-  });
-}
+pub returns : goal.returns
+returns g c = record { ran = (c.answer_words.result, c.from.ensures ∙ c.number.ensures, c.answer_words.ensures.ran) }
