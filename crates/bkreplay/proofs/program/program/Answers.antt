@@ -3,4 +3,4 @@ use Rattle.std.proofs.Common.{◌∙◌}
 use Rattle.bkreplay.proofs.program.program.Goals as goal
 
 pub returns : goal.returns
-returns g c = record { ran = (c.answer_words.result, c.from.ensures ∙ c.number.ensures, c.answer_words.ensures.ran) }
+returns g c = record { ran = (c.answer_words-end.result, c.from.ensures ∙ c.number.ensures, c.answer_words-end.ensures.ran) }
