@@ -93,7 +93,7 @@ replay_about (replay.Unfinished place) = about.First
 replay_about (replay.Write written) = about.Output
 replay_about replay.Memory = about.First
 
--- a text that was not read or answered: of a text beside a feed only reading fails
+-- a text that was not read or answered; memory that runs out while a text beside a feed is read is said of the feed
 abbrev pub text_about : Job → ScriptFault → FaultSubject
 text_about j (text.Script line found) = about.First
 text_about j text.Read = if reads_beside j then about.Second else about.First

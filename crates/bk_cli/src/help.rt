@@ -88,7 +88,7 @@ batches in any order. Writes these lines to standard output, in this order:
   members N faulty F quorum Q     the committee
   frames K                        how many frames the feed has
   reject FRAME RULE               a certificate that breaks a rule
-  waiting ROUND AUTHOR            a certificate that waits for a parent
+  waiting ROUND AUTHOR            a certificate that waits: its parents do not admit it
   anchor ROUND AUTHOR             a committed anchor
   cert ROUND AUTHOR               a certificate of the order
   batch INDEX COUNT               a batch of the order; `void` in place of COUNT if its payload is malformed
@@ -268,7 +268,7 @@ output:
   frames K                        all frames
   certificates C rejected R repeated P waiting W ordered O
                                   frames of certificates; those that break a rule; good ones whose id came before; those
-                                  that wait for a parent; those in the order
+                                  that wait, not admitted; those in the order
   anchors A skipped S open X      odd rounds by what became of their anchors, as the command `anchors` says it
   batches B repeated P ordered O void V unordered U
                                   frames of batches; those whose digest came before; those of the order, of these the
@@ -328,7 +328,7 @@ each round and a row for each member. It ends at the last round of the feed, if 
 rounds it shows of how many, and if lines are left out.
 
   circle                          a certificate: full if it is in the order, empty if it is not, with a broken outline if
-                                  it waits for a parent; a browser shows its title, with its id, when the pointer is on
+                                  it waits, not admitted; a browser shows its title, with its id, when the pointer is on
                                   it
   ring                            the place of the leader of an odd round, by what became of its anchor: thick if it is
                                   `voted`, in long dashes if `linked`, in dots if `skipped`, thin if `open`

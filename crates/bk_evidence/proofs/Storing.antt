@@ -9,7 +9,9 @@ use Rattle.bk_index.specs.Finding.{find}
 use Rattle.bk_cert.proofs.Lists.{none_in_nil}
 use Rattle.bk_evidence.specs.Collisions.{id_cmp, CollidesBy}
 use Rattle.bk_evidence.specs.Batches.{Batch, batch_with, has_digest, payload_of}
-use Rattle.bk_evidence.specs.private.Indexed.{IsIndexed}
+use Rattle.bk_cert.specs.Node.{Node}
+use Rattle.bk_evidence.specs.Held.{cert_with}
+use Rattle.bk_evidence.specs.private.Indexed.{IsIndexed, is_named}
 use Rattle.bk_evidence.specs.private.Least.{least_of, IsLeastBy}
 use Rattle.bk_evidence.proofs.Colliding.{HasName, least_new, least_colliding}
 use Rattle.bk_evidence.proofs.Indexing.{indexed_at, indexed_none, indexed_more, find_position, find_none}
@@ -82,3 +84,12 @@ module _ (xs : List Batch) (m : List (List ℕ × ℕ)) (indexed : IsIndexed (λ
 
   pub payload_absent : find id_cmp m digest ≡ None → None ≡ payload_of xs digest
   payload_absent e = ap (option_map (λ (b : Batch). b.payload)) (sym (find_none (has_digest digest) xs (sym (indexed.first digest) ∙ e)))
+
+-- ---- certificates
+
+module _ (xs : List Node) (m : List (List ℕ × ℕ)) (indexed : IsIndexed (λ (c : Node). c.id) xs m) (id : List ℕ) where
+  pub cert_found : (k : ℕ) (r : Node) → find id_cmp m id ≡ Some k → ((d : Node) → r ≡ get_or xs k d) → Some r ≡ cert_with xs id
+  cert_found k r e read = ap Some (read r) ∙ sym (find_position (is_named (λ (c : Node). c.id) id) xs k r (sym (indexed.first id) ∙ e))
+
+  pub cert_absent : find id_cmp m id ≡ None → None ≡ cert_with xs id
+  cert_absent e = sym (find_none (is_named (λ (c : Node). c.id) id) xs (sym (indexed.first id) ∙ e))

@@ -1,5 +1,7 @@
 -- The certificates that are held, each a header under its id.
-use Rattle.std.specs.Prelude.{◌≡◌, ◌≢◌, ℕ, List, [], ◌∷◌, ◌++◌, Contains}
+use Rattle.std.specs.Prelude.{◌≡◌, ◌≢◌, ℕ, List, [], ◌∷◌, ◌++◌, Option, Contains}
+use Rattle.std.specs.List.{find}
+use Rattle.std.specs.Str.{bytes_eq}
 use Rattle.bk_cert.specs.Node.{Node}
 use Rattle.bk_cert.specs.Place.{place_of}
 use Rattle.bk_evidence.specs.Collisions.{IsAtMost, CollidesBy, IsCollisionBy, NoCollisionBy}
@@ -22,6 +24,10 @@ NoCollision held = NoCollisionBy (λ (c : Node). c.id) held
 -- no certificate with this id is held
 abbrev pub IsNewId : List Node → List ℕ → Type 0
 IsNewId held id = (d : Node) → Contains held d → d.id ≢ id
+
+-- the certificate that is held under an id: the one that was stored first
+abbrev pub cert_with : List Node → List ℕ → Option Node
+cert_with held id = find (λ (c : Node). bytes_eq c.id id) held
 
 -- what an offer of a certificate answers where these are held
 abbrev pub IsOffer : List Node → Node → Offer → Type 0

@@ -1,10 +1,10 @@
 //! The certificates that are held, by id.
 
-ghost use Rattle.std.specs.Prelude.{◌≡◌, ◌<◌, ◌++◌, ◌∷◌, ◌↔◌, [], length, Contains, IfOk, OnOk, OnErr, None, Some, cond, IsTrue, MatchOption, IfSome, IfNone, slice_index_or, ℕ, List};
-ghost use Rattle.bk_evidence.specs.Collisions.{id_cmp};
+ghost use Rattle.std.specs.Prelude.{◌≡◌, ◌<◌, ◌++◌, ◌∷◌, ◌↔◌, [], length, Contains, IfOk, OnOk, OnErr, None, Some, cond, IsTrue, MatchOption, IfSome, IfNone, option_map, slice_index_or, ℕ, List};
+ghost use Rattle.bk_evidence.specs.Collisions.{IsAtMost, id_cmp};
 ghost use Rattle.bk_cert.specs.Node.{Node};
 ghost use Rattle.bk_cert.specs.Place.{place_of};
-ghost use Rattle.bk_evidence.specs.Held.{IsCollision, IsNewId, IsOffer, NoCollision, held_after};
+ghost use Rattle.bk_evidence.specs.Held.{IsCollision, IsNewId, IsOffer, NoCollision, cert_with, held_after};
 ghost use Rattle.bk_evidence.specs.Twins.{IsEvidence, IsIdAt, NoTwins};
 ghost use Rattle.bk_evidence.specs.Laws.{HaveSame};
 ghost use Rattle.bk_evidence.specs.private.Answers.{offer_of};
@@ -107,8 +107,9 @@ impl Held {
         self.certs.as_slice()
     }
 
-    /// The first certificate with this id, found as by `offer`.
+    /// The certificate with this id that was stored first, found as by `offer`.
     pub fn get(&self, id: &Digest32) -> Option<&SharedCert>
+        ensures first { option_map (λ c. c.now) result ≡ cert_with self.now id.now }
         ensures found { IfSome result (λ c. Contains self.now c.now × (c.now.id ≡ id.now)) }
         ensures none { IfNone result (IsNewId self.now id.now) }
     {
@@ -120,6 +121,8 @@ impl Held {
     pub fn at(&self, place: CertRef) -> Option<&SharedCert>
         ensures found { IfSome result (λ c. Contains self.now c.now
             × IsIdAt self.now place c.now.id) }
+        ensures least { IfSome result (λ c. (id : List ℕ) → IsIdAt self.now place id
+            → IsAtMost c.now.id id) }
         ensures none { IfNone result ((id : List ℕ) → IsIdAt self.now place id → ⊥) }
     {
         let index = self.places.firsts.get(&place)?;

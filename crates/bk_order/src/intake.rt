@@ -289,7 +289,7 @@ impl Intake {
         Ok(places)
     }
 
-    /// The table of the certificates of all frames so far, by round and author.
+    /// The good certificates of all frames so far by round and author; while a stop stands, some of them.
     pub fn rounds(&self) -> &Rounds
         ensures table { (frames : List Frame) → HasTaken frames self.now
             → self.now.failed ≡ false → HasNoStop self.now.committee frames

@@ -7,17 +7,20 @@ use std::alloc::{AllocError, AllocFailed};
 use thiserror::Error;
 
 /// Why a replay did not answer. The text of each is the line that the program prints.
+///
+/// With every fault but `Write` nothing is written. Where a feed is followed, the rows that were final before the fault
+/// are out.
 #[derive(Clone, Copy, Debug, PartialEq, Eq, Error)]
 pub enum Fault {
-    /// The feed has this fault, or reading it failed or found no memory. Nothing is written.
+    /// The feed has this fault, or reading it failed or found no memory.
     #[error("{0}")]
     Feed(FeedFault),
-    /// The feed is stopped: this is the least id of two different headers or digest of two different payloads. Nothing is written.
+    /// The feed is stopped: this is the least id of two different headers or digest of two different payloads.
     #[error("collision {id}")]
     Collision {
         id: Digest32,
     },
-    /// The feed is stopped: a member made two headers for one round, and nothing collides. Nothing is written.
+    /// The feed is stopped: a member made two headers for one round, and nothing collides.
     #[error("equivocation {round} {author} {first} {second}")]
     Equivocation {
         round: u32,
@@ -25,7 +28,7 @@ pub enum Fault {
         first: Digest32,
         second: Digest32,
     },
-    /// This place of the order was taken and is not done. Nothing is written.
+    /// This place of the order was taken and is not done.
     #[error("unfinished {place}")]
     Unfinished {
         place: u32,
@@ -35,7 +38,7 @@ pub enum Fault {
     Write {
         written: u64,
     },
-    /// Memory was refused. Nothing is written.
+    /// Memory was refused.
     #[error("memory")]
     Memory,
 }

@@ -73,13 +73,14 @@ impl Members {
         self.bits == 0
     }
 
-    /// Takes the least member out.
+    /// Takes the least member out. The set of nobody stays as it is.
     pub fn pop(&mut self) -> Option<u8>
         ensures some { IfSome result (λ x. (x < 128) × Has self.old x × ((y : ℕ) → Has self.old y
             → x ≤ y)) }
         ensures rest { IfSome result (λ x. (y : ℕ) → Has self.new y ↔ (Has self.old y × (y ≢ x))) }
         ensures fewer { IfSome result (λ x. self.new < self.old) }
         ensures none { IfNone result ((y : ℕ) → Has self.old y → ⊥) }
+        ensures same { IfNone result (self.new ≡ self.old) }
     {
         if self.bits == 0 {
             return None;

@@ -132,7 +132,7 @@ fn feed_from<S: Source>(
 }
 
 /// Reads the text of a script to its end and writes the feed that it makes. O(n) in the bytes of both, and besides
-/// n^2 in how many names and accounts there are.
+/// O(n log n) in how many names and accounts there are.
 ///
 /// Of a text of more than [`MOST_SCRIPT`] bytes, one byte more than these is read. With every fault but `Write` nothing
 /// is written.

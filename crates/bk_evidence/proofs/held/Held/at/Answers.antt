@@ -1,5 +1,6 @@
-use Rattle.std.proofs.Common.{ap, sym, subst, ◌∙◌}
+use Rattle.std.proofs.Common.{ℕ, List, ap, sym, subst, ◌∙◌}
 use Rattle.bk_cert.specs.Node.{Node}
+use Rattle.bk_evidence.specs.Collisions.{IsAtMost}
 use Rattle.bk_evidence.specs.Twins.{IsIdAt}
 use Rattle.bk_evidence.proofs.Placing.{id_there, least_kept, none_kept}
 use Rattle.bk_evidence.proofs.held.Held.at.Goals as goal
@@ -19,3 +20,11 @@ returns-clause-found c =
       (c.in_ok-index.index, at.0, sym (here c.cert_at.result.now)),
       subst (IsIdAt c.self.inside.certs.items c.args.place) (id_there c.self.inside.certs.items c.in_ok-index.index c.cert_at.result.now at.0 ∙ ap (λ (n : Node). n.id) (sym (here c.cert_at.result.now))) at.1.0,
     )
+
+pub returns-clause-least : goal.returns-clause-least
+returns-clause-least c =
+    let at = least_kept c.self.inside.certs.items c.self.inside.places c.args.place c.self.invariant.1 c.in_ok-index.index (sym c.in_ok-index.ensures) in
+    let here = rw c.deref.ensures.value at (λ (d : Node). c.cert_at.ensures d) in
+    rw (← c.self.view_is)
+    (subst (λ (x : List ℕ). (id : List ℕ) → IsIdAt c.self.inside.certs.items c.args.place id → IsAtMost x id)
+    (id_there c.self.inside.certs.items c.in_ok-index.index c.cert_at.result.now at.0 ∙ ap (λ (n : Node). n.id) (sym (here c.cert_at.result.now))) at.1.1)

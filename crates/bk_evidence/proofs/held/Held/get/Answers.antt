@@ -1,7 +1,19 @@
 use Rattle.std.proofs.Common.{ap, sym, ◌∙◌}
 use Rattle.bk_cert.specs.Node.{Node}
 use Rattle.bk_evidence.proofs.Indexing.{indexed_at, indexed_none}
+use Rattle.bk_evidence.proofs.Storing.{cert_absent, cert_found}
 use Rattle.bk_evidence.proofs.held.Held.get.Goals as goal
+
+pub returns-in_err-index-clause-first : goal.returns-in_err-index-clause-first
+returns-in_err-index-clause-first c = rw (c.from_residual.ensures, ← c.self.view_is)
+    (cert_absent c.self.inside.certs.items c.self.inside.firsts c.self.invariant.0.0 c.args.id.now (sym c.in_err-index.ensures))
+
+pub returns-clause-first : goal.returns-clause-first
+returns-clause-first c =
+    let at = indexed_at (λ (d : Node). d.id) c.self.inside.certs.items c.self.inside.firsts c.self.invariant.0.0 c.args.id.now c.in_ok-index.index (sym c.in_ok-index.ensures) in
+    rw (← c.self.view_is)
+    (cert_found c.self.inside.certs.items c.self.inside.firsts c.self.invariant.0.0 c.args.id.now c.in_ok-index.index c.cert_at.result.now
+    (sym c.in_ok-index.ensures) (λ (d : Node). rw c.deref.ensures.value at (c.cert_at.ensures d)))
 
 pub returns-in_err-index-clause-none : goal.returns-in_err-index-clause-none
 returns-in_err-index-clause-none c = rw (c.from_residual.ensures, ← c.self.view_is)
