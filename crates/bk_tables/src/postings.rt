@@ -235,6 +235,9 @@ impl PostingRows {
         ensures written { Written result (K.state sink.old) (K.state sink.new)
             self.old.shown.page self.new.shown.page [] }
         ensures empty { OnOk result (self.new.shown.page.bytes ≡ []) }
+        ensures batches { self.new.shown.batch ≡ self.old.shown.batch }
+        ensures places { self.new.shown.place ≡ self.old.shown.place }
+        ensures accounts { self.new.state ≡ self.old.state }
     {
         self.sheet.page.flush(sink)
     }

@@ -245,6 +245,8 @@ impl PaymentRows {
         ensures written { Written result (K.state sink.old) (K.state sink.new)
             self.old.page self.new.page [] }
         ensures empty { OnOk result (self.new.page.bytes ≡ []) }
+        ensures batches { self.new.batch ≡ self.old.batch }
+        ensures places { self.new.place ≡ self.old.place }
     {
         self.sheet.page.flush(sink)
     }
