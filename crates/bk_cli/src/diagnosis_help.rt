@@ -6,7 +6,7 @@ pub(crate) const ACCOUNT: &str =
     "The id of an account: the proof is good only where its `account` line shows this id";
 
 pub(crate) const STRICT: &str =
-    "End with status 6, and say why in one more line, where the feed does not count whole";
+    "End with status 6, and say why in one more line, where the feed does not count whole: a batch of its order is missing, a certificate frame breaks a rule, a certificate waits, or nothing is ordered (`frames` looks at broken rules alone)";
 
 pub(crate) const WAITING: Help<'static> = Help {
     about: "Write what keeps the certificates that wait from being admitted",

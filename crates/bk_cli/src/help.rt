@@ -17,7 +17,7 @@ pub(crate) const PROGRESS: &str =
     "Show on standard error how many bytes are read, and how many transactions are executed";
 
 pub(crate) const VERBOSE: &str =
-    "Say in one more line what a fault is, in words, and name the file; queries and `compare` also name a missing batch, and `frames` whose tag is wrong";
+    "Say in one more line what a fault is, in words, and name the file; `order`, `anchors`, `account`, `statement`, `receipt`, `prove`, `check-state` and `compare` also name a missing batch, and `frames` whose tag is wrong";
 
 pub(crate) const FROM: &str = "The first round that is drawn, 1 to 1,000,000; 1 by default";
 
@@ -117,7 +117,7 @@ Example:
 pub(crate) const MAKE: Help<'static> = Help {
     about: "Write the feed that a script makes",
     after: "\
-Reads a script: lines of at most 16,777,216 bytes in all, words separated by single spaces. Lines without words and
+Reads a script: lines of at most 16,777,216 bytes in all, words separated by single spaces. Empty lines and
 lines that begin with `#` are skipped. Writes the bytes of the feed to standard output.
 
   version V                       1 or 2, before `members`; 1 by default
@@ -249,7 +249,7 @@ Exit status:
   0  all lines are written
   1  the command line is wrong
   2  feed fault CODE at OFFSET, CODE 1 to 7 (`bkreplay --help` names them): the bytes are not a feed from there on
-  4  feed fault 8 or 9, memory, or write failed
+  4  feed fault 8 or 9, memory, read failed, or write failed
   6  with `--strict`: a certificate breaks a rule, and one more line on standard error says how many do
 
 Example:
@@ -267,8 +267,8 @@ output:
   members N faulty F quorum Q     of the committee; weights in version 2
   frames K                        all frames
   certificates C rejected R repeated P waiting W ordered O
-                                  frames of certificates; those that break a rule; good ones whose id came before; those
-                                  that wait, not admitted; those in the order
+                                  frames of certificates; those that break a rule; good ones whose id a good one had
+                                  before; those that wait, not admitted; those in the order
   anchors A skipped S open X      odd rounds by what became of their anchors, as the command `anchors` says it
   batches B repeated P ordered O void V unordered U
                                   frames of batches; those whose digest came before; those of the order, of these the

@@ -97,7 +97,7 @@ Example:
 pub(crate) const SCHEDULE: Help<'static> = Help {
     about: "Execute all batches of a feed in the order of a list of worker events, and write the apply report",
     after: "\
-Reads a list of events, and then a feed, as `apply` does. The list has at most 16,777,216 bytes. Lines without words and
+Reads a list of events, and then a feed, as `apply` does. The list has at most 16,777,216 bytes. Empty lines and
 lines that begin with `#` are skipped; each other line is an event of a worker:
 
   claim W P                       worker W takes the transaction at place P
@@ -114,8 +114,9 @@ Exit status:
   1  the command line is wrong
   2  events fault at line LINE: the line is not an event
   2  feed fault CODE at OFFSET, CODE 1 to 7 (`bkreplay --help` names them): the bytes are not a feed
-  2  event LINE refused CODE: 1 the place cannot be claimed, 2 the worker has a transaction, or there is no such worker,
-     3 the worker has no transaction, 4 the word is not one of the transaction's, 5 the event comes out of turn
+  2  event LINE refused CODE: 1 the place cannot be claimed, 2 the worker that claims has a transaction, or is none of
+     the workers, 3 another event of a worker that has no transaction, or is none of them, 4 the word is not one of the
+     transaction's, 5 the event comes out of turn
   4  feed fault 8 or 9, memory, read failed, write failed, or unfinished PLACE: after all events this transaction is not
      done
 

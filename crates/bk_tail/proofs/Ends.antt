@@ -1,5 +1,5 @@
 -- How following a feed ends.
-use Rattle.std.proofs.Common.{◌≡◌, inl, ◌∙◌, ℕ, Bool, List, [], ◌++◌, Option, refl, sym, ap, subst, append-nil}
+use Rattle.std.proofs.Common.{◌≡◌, inl, ◌∙◌, ℕ, ◌≤◌, Bool, List, [], ◌++◌, length, Option, refl, sym, ap, subst, append-nil, arith}
 use Rattle.std.specs.Prelude.{IfSome}
 use Rattle.bk_answer.specs.Answers.{IsAnswered}
 use Rattle.bk_answer.specs.Flaws.{IsFlawIf, judged_text}
@@ -22,10 +22,12 @@ use Rattle.bk_results.specs.declared.fault.Fault.{Fault}
 use Rattle.bk_results.specs.declared.fault.Fault.TheVariants as fault
 use Rattle.bk_results.specs.declared.status.Status.{Status}
 use Rattle.bk_follow.specs.Follower.{Followed}
-use Rattle.bk_tail.specs.Tailing.{TableSoFar, TailFailsBy}
-use Rattle.bk_tail.specs.private.Putting.{HasPut, IsTextOf, PutFails, PutNot, TableKind}
+use Rattle.bk_tx.specs.Batches.{transactions_of}
+use Rattle.bk_tail.specs.Tailing.{TableBefore, TableSoFar, TailFailsBy}
+use Rattle.bk_tail.specs.private.Putting.{HasPut, IsTextOf, PutFails, PutNot, TableKind, TableUpTo}
 use Rattle.bk_tail.specs.private.Steps.{AdvanceFails, GaveAfter, HasFollowed, IsWholeFeed}
-use Rattle.bk_tail.proofs.Growing.{IsBookAt, book_at, put_stops, so_far_longer}
+use Rattle.bk_tail.proofs.Growing.{IsBookAt, book_at, put_stops}
+use Rattle.bk_tail.proofs.Places.{before_longer, out_before, out_so_far, so_far_longer}
 
 module _ (k : TableKind) (start now first sink : Device) where
   gave_so_far : (bytes : List ℕ) → GaveAfter start now bytes (λ given. Unit {0}) → TableSoFar k.text first sink bytes → Gave start now (TableSoFar k.text first sink)
@@ -34,14 +36,21 @@ module _ (k : TableKind) (start now first sink : Device) where
   gave_with : (bytes : List ℕ) (holds : List ℕ → Type 0) → GaveAfter start now bytes holds → TableSoFar k.text first sink bytes → Gave start now (λ given. TableSoFar k.text first sink given × holds given)
   gave_with bytes holds (given, gives, (longer, h)) out = (given, gives, (so_far_longer k.text first sink bytes given longer out, h))
 
-  -- the feed was not followed further
-  pub advance_fails : (f : Fault) (bytes : List ℕ) → AdvanceFails f start now bytes → TableSoFar k.text first sink bytes → TailFailsBy k.text f (devices start first) (devices now sink)
-  advance_fails (fault.Feed found) bytes h out = (h.0, gave_so_far bytes h.1 out)
-  advance_fails (fault.Collision id) bytes h out = (h.0, gave_with bytes _ h.1 out)
-  advance_fails (fault.Equivocation round author one other) bytes h out = (h.0, gave_with bytes _ h.1 out)
-  advance_fails (fault.Unfinished place) bytes h out = (h.0, gave_with bytes _ h.1 out)
-  advance_fails (fault.Write written) bytes h out = absurd h
-  advance_fails fault.Memory bytes h out = (h.0, gave_so_far bytes h.1 out)
+  gave_before : (bytes : List ℕ) (place : ℕ) (holds : List ℕ → Type 0) → GaveAfter start now bytes holds → TableBefore k.text place first sink bytes → Gave start now (λ given. TableBefore k.text place first sink given × holds given)
+  gave_before bytes place holds (given, gives, (longer, h)) out = (given, gives, (before_longer k.text first sink place bytes given longer out, h))
+
+  -- the feed was not followed further: of its order so many places were executed, and no others are out
+  module _ (bytes : List ℕ) (count executed : ℕ) (few : count ≤ executed) (out : TableUpTo k.text count first sink bytes) where
+    so_far : TableSoFar k.text first sink bytes
+    so_far = out_so_far k.text first sink count bytes out
+
+    pub advance_fails : (f : Fault) → AdvanceFails f start now bytes executed → TailFailsBy k.text f (devices start first) (devices now sink)
+    advance_fails (fault.Feed found) h = (h.0, gave_so_far bytes h.1 so_far)
+    advance_fails (fault.Collision id) h = (h.0, gave_with bytes _ h.1 so_far)
+    advance_fails (fault.Equivocation round author one other) h = (h.0, gave_with bytes _ h.1 so_far)
+    advance_fails (fault.Unfinished place) h = (h.1, gave_before bytes place _ h.2 (out_before k.text first sink count place bytes (let high = h.0 in omega (arith, high, few)) out))
+    advance_fails (fault.Write written) h = absurd h
+    advance_fails fault.Memory h = (h.0, gave_so_far bytes h.1 so_far)
 
   -- rows were not put
   pub put_fails : (f : Fault) (written : ℕ) (bytes : List ℕ) (frames : List Frame) (v : Followed) → f ≡ fault.Write written → HasFollowed start now bytes frames v → PutFails k written bytes first sink → TailFailsBy k.text f (devices start first) (devices now sink)
@@ -65,7 +74,7 @@ ended_with end flaw = record { end = end; flaw = flaw }
 -- memory ran out where all rows are out but the header
 pub no_flaw : (k : TableKind) (start now first sink : Device) (f : Fault) (all : List ℕ) (whole : List Frame) (v : Followed) (page : PageValue) (done : Ordered) → f ≡ fault.Memory → HasFollowed start now all whole v → HasPut k all whole v.cut.version first sink page done
     → TailFailsBy k.text f (devices start first) (devices now sink)
-no_flaw k start now first sink f all whole v page done is h p = subst (λ (g : Fault). TailFailsBy k.text g (devices start first) (devices now sink)) (sym is) (h.works, (all, h.gave, p.so_far))
+no_flaw k start now first sink f all whole v page done is h p = subst (λ (g : Fault). TailFailsBy k.text g (devices start first) (devices now sink)) (sym is) (h.works, (all, h.gave, out_so_far k.text first sink (length (transactions_of done.payloads.list)) all p.so_far))
 
 module _ (k : TableKind) (is_text : IsTextOf k) (start now first sink : Device) (all : List ℕ) (whole : List Frame) (v : Followed) (page : PageValue) (done : Ordered)
     (f : HasFollowed start now all whole v) (settled : IsSettled whole v) (w : IsWholeFeed all whole v) (h : HasPut k all whole v.cut.version first sink page done) (last : IfSome v.book (λ b. done ≡ b.taken.ordered)) where

@@ -19,17 +19,10 @@ use Rattle.bk_answer.specs.RunReport.{committee_in, later_frames, reach_of}
 use Rattle.bk_follow.specs.Follower.{BookValue, Followed, HasCome, IsCurrent, IsSettled, IsSettledBy, OrdersPart}
 use Rattle.bk_follow.proofs.Books.{whole_part}
 use Rattle.bk_follow.proofs.Following.{good_of}
-use Rattle.bk_tail.specs.Tailing.{TableSoFar}
-use Rattle.bk_tail.specs.private.Putting.{AboutAccounts, HasPut, IsPartDone, PutFails, TableKind}
+use Rattle.bk_tx.specs.Batches.{transactions_of}
+use Rattle.bk_tail.specs.private.Putting.{AboutAccounts, HasPut, IsPartDone, PutFails, TableKind, TableUpTo}
+use Rattle.bk_tail.proofs.Places.{below_order, up_to_longer}
 use Rattle.bk_tail.proofs.OneVersion.{known_before}
-
-prefix_then : {X : Type 0} (xs ys zs : List X) → IsPrefix xs ys → IsPrefix ys zs → IsPrefix xs zs
-prefix_then xs ys zs h k = (h.0 ++ k.0, k.1 ∙ ap (λ t. t ++ k.0) h.1 ∙ append_assoc xs h.0 k.0)
-
--- what is out stays where more comes
-pub so_far_longer : (text : FeedValue → Status → List ℕ → Type 0) (old new : Device) (bytes all : List ℕ) → IsPrefix bytes all → TableSoFar text old new bytes → TableSoFar text old new all
-so_far_longer text old new bytes all longer (works, inl none) = (works, inl none)
-so_far_longer text old new bytes all longer (works, inr (feed, (good, begins), end, out)) = (works, inr (feed, (good, prefix_then (spelling feed) bytes all begins longer), end, out))
 
 -- no order is that of no frames
 nothing_of : (feed : FeedValue) → OrdersPart feed nothing_ordered
@@ -61,7 +54,7 @@ module _ (k : TableKind) (none_rows : (version : Version) (genesis : List Row) �
       → HasPut k bytes frames v.cut.version first now page done → HasPut k all whole w.cut.version first now page done
   put_longer bytes all frames whole v w first now page done longer more come then h = record {
     shown = h.shown;
-    so_far = so_far_longer k.text first now bytes all longer h.so_far;
+    so_far = up_to_longer k.text first now (length (transactions_of done.payloads.list)) bytes all longer h.so_far;
     puts = h.puts;
     few = λ short. h.few (let n = ap length more.1 in let m = length-append frames more.0 in omega (arith, n, m, short));
     many = λ version known two. subst (λ (fs : List Frame). IsPartDone k fs version done h.shown) (sym more.1)
@@ -127,8 +120,8 @@ module _ (k : TableKind) (bytes : List ℕ) (frames : List Frame) (v : Followed)
     all_text : (k.header ++ h.shown) ++ more ≡ k.header ++ rows_of payloads
     all_text = append_assoc k.header h.shown more ∙ ap (λ (t : List ℕ). k.header ++ t) (ap (λ (t : List ℕ). t ++ more) part_done.shown_is ∙ sym grows)
 
-    out_so_far : (later : Device) (after : PageValue) → Works first later → Puts first later blank after (k.header ++ rows_of payloads) → (after.bytes ≡ []) ⊎ (after.out ≡ 0) → TableSoFar k.text first later bytes
-    out_so_far later after works puts (inl empty) = (works, inr (feed, (at.good, at.begins), end, (k.header ++ rows_of payloads, is_text, all_out first later after (k.header ++ rows_of payloads) puts empty)))
+    out_so_far : (later : Device) (after : PageValue) → Works first later → Puts first later blank after (k.header ++ rows_of payloads) → (after.bytes ≡ []) ⊎ (after.out ≡ 0) → TableUpTo k.text (length (transactions_of payloads)) first later bytes
+    out_so_far later after works puts (inl empty) = (works, inr (feed, (at.good, at.begins), below_order feed b.taken.ordered at.current.clear at.current.ordered, end, (k.header ++ rows_of payloads, is_text, all_out first later after (k.header ++ rows_of payloads) puts empty)))
     out_so_far later after works puts (inr none) = (works, inl (subst (Receives first later) (nothing_pushed puts.pushed (omega (arith, none, puts.out))) puts.gave))
       where
         nothing_pushed : (pushed : List ℕ) → length pushed ≡ 0 → pushed ≡ []

@@ -1,6 +1,8 @@
 mod Pieces
 mod OneVersion
+mod Places
 mod Growing
+mod Executed
 mod PaymentsPut
 mod Step
 mod Flawed

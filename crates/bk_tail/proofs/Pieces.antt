@@ -16,7 +16,7 @@ use Rattle.bk_results.specs.declared.fault.Fault.{Fault}
 use Rattle.bk_results.specs.declared.fault.Fault.TheVariants as fault
 use Rattle.bk_answer.specs.RunReport.{HasPlaceIn, IsStopIn}
 use Rattle.bk_follow.specs.Finishing.{CloseFails, Closes, OfFeed}
-use Rattle.bk_follow.specs.Follower.{FeedFails, Followed, HasCome, OfFrames, SettleFails, Settles, Takes, unfed}
+use Rattle.bk_follow.specs.Follower.{FeedFails, Followed, HasCome, OfFrames, SettleFails, Settles, Takes, receipts_in, unfed}
 use Rattle.bk_frames.specs.Cutting.{in_magic}
 use Rattle.bk_tail.specs.Tailing.{OfWholeFrames}
 use Rattle.bk_tail.specs.private.Steps.{AdvanceFails, Advanced, GaveAfter, HasFollowed}
@@ -60,8 +60,8 @@ gave_now start now bytes holds gave h = (bytes, gave, (whole_prefix bytes, h))
 -- ---- the source failed
 
 pub read_fails : (f : Fault) (offset : ℕ) (start now later : Device) (bytes : List ℕ) (frames : List Frame) (v : Followed) → f ≡ fault.Feed (record { offset = offset; code = code.Read }) → offset ≡ v.cut.offset → Gives now later [] → Fails now later
-    → HasFollowed start now bytes frames v → AdvanceFails f start later bytes
-read_fails f offset start now later bytes frames v is at kept fails h = subst (λ (g : Fault). AdvanceFails g start later bytes) (sym is) (
+    → HasFollowed start now bytes frames v → (executed : ℕ) → AdvanceFails f start later bytes executed
+read_fails f offset start now later bytes frames v is at kept fails h executed = subst (λ (g : Fault). AdvanceFails g start later bytes executed) (sym is) (
   pull_failed start now later bytes frames v.cut offset (pulled start now bytes frames v h) kept fails at,
   gave_now start later bytes (λ given. Unit {0}) (gives_kept start now later bytes h.gave kept) tt,
 )
@@ -83,7 +83,7 @@ pub all_given : (start now later : Device) (bytes piece : List ℕ) (frames : Li
 all_given start now later bytes piece frames v none gave end h =
     all_pulled start now later bytes frames v.cut (pulled start now bytes frames v h) (subst (Gives now later) (no_items piece none) gave) end
 
-pub close_fails : (f : Fault) (start now : Device) (bytes : List ℕ) (frames : List Frame) (v w : Followed) → CloseFails v w f → IsWhole start now bytes → HasFollowed start now bytes frames v → AdvanceFails f start now bytes
+pub close_fails : (f : Fault) (start now : Device) (bytes : List ℕ) (frames : List Frame) (v w : Followed) → CloseFails v w f → IsWhole start now bytes → HasFollowed start now bytes frames v → AdvanceFails f start now bytes (length (receipts_in v.book))
 close_fails (fault.Feed found) start now bytes frames v w c all h =
     (ended_short start now bytes frames v.cut found (pulled start now bytes frames v h) all c.0, gave_now start now bytes (λ given. Unit {0}) h.gave tt)
 close_fails (fault.Collision id) start now bytes frames v w c all h =
@@ -91,7 +91,7 @@ close_fails (fault.Collision id) start now bytes frames v w c all h =
 close_fails (fault.Equivocation round author one other) start now bytes frames v w c all h =
     (h.works, gave_now start now bytes _ h.gave (of_feed v bytes frames (λ feed. IsStopIn feed (fault.Equivocation round author one other)) c.0 h.come))
 close_fails (fault.Unfinished place) start now bytes frames v w c all h =
-    (h.works, gave_now start now bytes _ h.gave (of_feed v bytes frames (λ feed. HasPlaceIn feed place) c.0 h.come))
+    (c.2, h.works, gave_now start now bytes _ h.gave (of_feed v bytes frames (λ feed. HasPlaceIn feed place) c.0 h.come))
 close_fails (fault.Write written) start now bytes frames v w c all h = absurd c
 close_fails fault.Memory start now bytes frames v w c all h = (h.works, gave_now start now bytes (λ given. Unit {0}) h.gave tt)
 
@@ -111,16 +111,16 @@ closed start now bytes frames v w c all h =
 
 -- ---- a piece that is refused
 
-pub feed_fails : (f : Fault) (start now later : Device) (bytes piece : List ℕ) (frames : List Frame) (v : Followed) → Gives now later piece → Works now later → length piece ≤ PIECE → FeedFails v piece f → HasFollowed start now bytes frames v → AdvanceFails f start later bytes
-feed_fails (fault.Feed found) start now later bytes piece frames v gave works few r h = (
+pub feed_fails : (f : Fault) (start now later : Device) (bytes piece : List ℕ) (frames : List Frame) (v : Followed) → Gives now later piece → Works now later → length piece ≤ PIECE → FeedFails v piece f → HasFollowed start now bytes frames v → (executed : ℕ) → AdvanceFails f start later bytes executed
+feed_fails (fault.Feed found) start now later bytes piece frames v gave works few r h executed = (
   refused_piece start now later bytes piece frames v.cut found (pulled start now bytes frames v h) gave works few r,
   (bytes ++ piece, gives_then start now later bytes piece h.gave gave, ((piece, refl), tt)),
 )
-feed_fails (fault.Collision id) start now later bytes piece frames v gave works few r h = absurd r
-feed_fails (fault.Equivocation round author one other) start now later bytes piece frames v gave works few r h = absurd r
-feed_fails (fault.Unfinished place) start now later bytes piece frames v gave works few r h = absurd r
-feed_fails (fault.Write written) start now later bytes piece frames v gave works few r h = absurd r
-feed_fails fault.Memory start now later bytes piece frames v gave works few r h =
+feed_fails (fault.Collision id) start now later bytes piece frames v gave works few r h executed = absurd r
+feed_fails (fault.Equivocation round author one other) start now later bytes piece frames v gave works few r h executed = absurd r
+feed_fails (fault.Unfinished place) start now later bytes piece frames v gave works few r h executed = absurd r
+feed_fails (fault.Write written) start now later bytes piece frames v gave works few r h executed = absurd r
+feed_fails fault.Memory start now later bytes piece frames v gave works few r h executed =
     (works ∙ h.works, (bytes ++ piece, gives_then start now later bytes piece h.gave gave, ((piece, refl), tt)))
 
 -- ---- a piece that is taken
@@ -131,16 +131,16 @@ taken start now later bytes piece frames v w gave works takes h =
     let t = takes bytes frames h.come in
     (t.0, record { works = works ∙ h.works; gave = gives_then start now later bytes piece h.gave gave; come = t.1 })
 
-pub settle_fails : (f : Fault) (start now : Device) (bytes piece : List ℕ) (frames : List Frame) (w u : Followed) → SettleFails w u f → HasFollowed start now (bytes ++ piece) frames w → AdvanceFails f start now bytes
-settle_fails (fault.Feed found) start now bytes piece frames w u s h = absurd s
-settle_fails (fault.Collision id) start now bytes piece frames w u s h =
+pub settle_fails : (f : Fault) (start now : Device) (bytes piece : List ℕ) (frames : List Frame) (w u : Followed) → SettleFails w u f → HasFollowed start now (bytes ++ piece) frames w → (executed : ℕ) → length (receipts_in w.book) ≡ executed → AdvanceFails f start now bytes executed
+settle_fails (fault.Feed found) start now bytes piece frames w u s h executed same = absurd s
+settle_fails (fault.Collision id) start now bytes piece frames w u s h executed same =
     (h.works, (bytes ++ piece, h.gave, ((piece, refl), of_frames w (bytes ++ piece) frames (λ feed. IsStopIn feed (fault.Collision id)) s.1 h.come)))
-settle_fails (fault.Equivocation round author one other) start now bytes piece frames w u s h =
+settle_fails (fault.Equivocation round author one other) start now bytes piece frames w u s h executed same =
     (h.works, (bytes ++ piece, h.gave, ((piece, refl), of_frames w (bytes ++ piece) frames (λ feed. IsStopIn feed (fault.Equivocation round author one other)) s.1 h.come)))
-settle_fails (fault.Unfinished place) start now bytes piece frames w u s h =
-    (h.works, (bytes ++ piece, h.gave, ((piece, refl), of_frames w (bytes ++ piece) frames (λ feed. HasPlaceIn feed place) s.1 h.come)))
-settle_fails (fault.Write written) start now bytes piece frames w u s h = absurd s
-settle_fails fault.Memory start now bytes piece frames w u s h = (h.works, (bytes ++ piece, h.gave, ((piece, refl), tt)))
+settle_fails (fault.Unfinished place) start now bytes piece frames w u s h executed same =
+    (subst (λ (n : ℕ). n ≤ place) same s.2, h.works, (bytes ++ piece, h.gave, ((piece, refl), of_frames w (bytes ++ piece) frames (λ feed. HasPlaceIn feed place) s.1 h.come)))
+settle_fails (fault.Write written) start now bytes piece frames w u s h executed same = absurd s
+settle_fails fault.Memory start now bytes piece frames w u s h executed same = (h.works, (bytes ++ piece, h.gave, ((piece, refl), tt)))
 
 pub settled : (start now : Device) (bytes piece : List ℕ) (frames more : List Frame) (w u : Followed) (count : ℕ) → Settles w u count → HasFollowed start now (bytes ++ piece) (frames ++ more) w → Advanced start now bytes frames u false
 settled start now bytes piece frames more w u count s h =

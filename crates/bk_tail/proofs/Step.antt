@@ -25,6 +25,7 @@ use Rattle.bk_tail.specs.Tailing.{TableSoFar}
 use Rattle.bk_tail.specs.private.Putting.{AboutAccounts, IsMore, IsPutOn, IsTextOf, PutNot, PutsMore, PutsNoMore, TableKind, payloads_in}
 use Rattle.bk_tail.proofs.Growing.{IsBookAt, begins, book_at, holds_longer, none_put, put_longer, put_more, put_stops, same_version}
 use Rattle.bk_tail.proofs.OneVersion.{known_before}
+use Rattle.bk_tail.proofs.Places.{out_so_far}
 
 -- ---- the batches that a table shows
 
@@ -101,7 +102,7 @@ module _ (k : TableKind) (is_text : IsTextOf k) (bytes : List ℕ) (frames : Lis
   step_not later (fault.Equivocation round author one other) n = n
   step_not later (fault.Unfinished place) n = n
   step_not later (fault.Write written) (more, e, fails, stops) = put_stops k bytes frames v b first now rows.page done come at p.put more (grows more e) (is_text feed b.taken.ordered at.current.clear at.current.ordered) later written (fails, stops)
-  step_not later fault.Memory n = subst (λ (d : Device). TableSoFar k.text first d bytes) n p.put.so_far
+  step_not later fault.Memory n = subst (λ (d : Device). TableSoFar k.text first d bytes) n (out_so_far k.text first now (length (transactions_of done.payloads.list)) bytes p.put.so_far)
 
 -- there is no book yet
 pub step_none : (bytes : List ℕ) (frames : List Frame) (v : Followed) (done : Ordered) → HasCome bytes frames v → IsSettled frames v → executed_in v.book ≡ None → IfSome v.book (λ b. done ≡ b.taken.ordered)

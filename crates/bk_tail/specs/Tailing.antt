@@ -38,6 +38,14 @@ TableSoFar text old new bytes =
     × (Receives old new []
     ⊎ ((feed : FeedValue) × FeedBegins feed bytes × (end : Status) × TextIsOut (text feed end) old new))
 
+-- the same, and the table that is out has no row of this place: its feed's order has no transaction there
+abbrev pub TableBefore : (FeedValue → Status → List ℕ → Type 0) → ℕ → Device → Device → List ℕ → Type 0
+TableBefore text place old new bytes =
+    Works old new
+    × (Receives old new []
+    ⊎ ((feed : FeedValue) × FeedBegins feed bytes × (HasPlaceIn feed place → ⊥) × (end : Status)
+    × TextIsOut (text feed end) old new))
+
 -- exactly the first `written` bytes of the table of a feed are out, and not all
 abbrev pub TableStops : (FeedValue → Status → List ℕ → Type 0) → ℕ → Device → Device → FeedValue → Type 0
 TableStops text written old new feed = (end : Status) × TextStops (text feed end) written old new
@@ -45,7 +53,7 @@ TableStops text written old new feed = (end : Status) × TextStops (text feed en
 -- ---- why it ended
 
 -- why a table was not written to the end of its feed, by the fault: the source is refused; a worker took a place of the whole
--- frames so far and did not finish it; a call of the sink failed, and exactly the first bytes of the table of the whole frames
+-- frames so far, of which no row is out, and did not finish it; a call of the sink failed, and exactly the first bytes of the table of the whole frames
 -- so far are out; memory ran out; or the whole frames so far are stopped. But for the sink's failure nothing is out, or the
 -- whole table of a feed that begins the bytes that the source gave
 abbrev pub TailFailsBy : (FeedValue → Status → List ℕ → Type 0) → Fault → Devices → Devices → Type 0
@@ -54,7 +62,7 @@ TailFailsBy text (fault.Feed found) old new =
 TailFailsBy text (fault.Unfinished place) old new =
     Works old.source new.source
     × Gave old.source new.source (λ bytes.
-    TableSoFar text old.sink new.sink bytes × OfWholeFrames bytes (λ feed. HasPlaceIn feed place))
+    TableBefore text place old.sink new.sink bytes × OfWholeFrames bytes (λ feed. HasPlaceIn feed place))
 TailFailsBy text (fault.Write written) old new =
     Works old.source new.source × Fails old.sink new.sink
     × Gave old.source new.source (λ bytes. OfWholeFrames bytes (TableStops text written old.sink new.sink))

@@ -4,6 +4,7 @@ ghost use Rattle.std.specs.Prelude.{◌≡◌, ◌<◌, ◌≤◌, ℕ, List, []
 ghost use Rattle.std.specs.Io.KnownBytes.{IsAtEnd};
 ghost use Rattle.bk_answer.specs.RunReport.{reach_of};
 ghost use Rattle.bk_base.specs.Feed.{Frame};
+ghost use Rattle.bk_follow.specs.Follower.{receipts_in};
 ghost use Rattle.bk_follow.specs.Queries.{missing_in};
 ghost use Rattle.bk_frames.specs.Device.{CanBeUsed, Device, Ends, ends_of, Fails, Gives, Works};
 ghost use Rattle.bk_frames.specs.Reading.{room_of};
@@ -141,7 +142,8 @@ where
     ensures fault { IfErr result (λ f. (start : Device) (bytes : List ℕ) (frames : List Frame)
         → HasFollowed start (S.state source.old) bytes frames follower.old
         → (waits ≡ false → Ends 0 start (S.state source.old))
-        → AdvanceFails f start (S.state source.new) bytes) }
+        → AdvanceFails f start (S.state source.new) bytes
+        (length (receipts_in follower.old.book))) }
     ensures asked { IfErr result (λ f. EndsAsAsked waits f
         (S.state source.old) (S.state source.new)) }
 {

@@ -1,12 +1,13 @@
 -- A table that is put while its feed is followed. `rows` stands for the text of its rows: of the batches of an order, from
 -- opening accounts, in a version.
-use Rattle.std.specs.Prelude.{◌≡◌, ◌<◌, ◌≤◌, ◌^◌, ℕ, List, [], ◌++◌, length, take, Option, Some}
+use Rattle.std.specs.Prelude.{◌≡◌, ◌⊎◌, ◌<◌, ◌≤◌, ◌^◌, ℕ, List, [], ◌++◌, length, take, Option, Some}
 use Rattle.bk_answer.specs.Closed.{ClosedValue}
-use Rattle.bk_answer.specs.RunReport.{HasNoStopIn, IsOrderIn, reach_of}
+use Rattle.bk_answer.specs.Answers.{TextIsOut}
+use Rattle.bk_answer.specs.RunReport.{HasNoStopIn, HasPlaceIn, IsOrderIn, reach_of}
 use Rattle.bk_base.specs.Feed.{Frame, FeedValue, feed_of, genesis_of}
 use Rattle.bk_base.specs.declared.genesis.Row.{Row}
 use Rattle.bk_base.specs.declared.version.Version.{Version}
-use Rattle.bk_frames.specs.Device.{Device, Fails, Works}
+use Rattle.bk_frames.specs.Device.{Device, Fails, Receives, Works}
 use Rattle.bk_order.specs.Intake.{nothing_ordered}
 use Rattle.bk_order.specs.Orders.{Ordered}
 use Rattle.bk_report.specs.Pages.{PageValue, Puts, Stops, blank}
@@ -20,7 +21,7 @@ use Rattle.bk_tables.specs.Payments.{payments_header, payments_text, rows_from}
 use Rattle.bk_tables.specs.Postings as table
 use Rattle.bk_tables.specs.Postings.{postings_header, postings_text}
 use Rattle.bk_tables.specs.Tables.{IsPaymentTable, IsPostingTable}
-use Rattle.bk_tail.specs.Tailing.{OfWholeFrames, TableSoFar, TableStops}
+use Rattle.bk_tail.specs.Tailing.{FeedBegins, OfWholeFrames, TableSoFar, TableStops}
 use Rattle.bk_rules.specs.Fold.{receipts_of}
 use Rattle.bk_tx.specs.Batches.{transactions_of}
 
@@ -92,12 +93,20 @@ pub record IsPartDone (k : TableKind) (frames : List Frame) (version : Version) 
   pub part : OrdersPart (feed_of version frames) done
   pub shown_is : shown ≡ k.rows version (genesis_of frames) done.payloads.list
 
+-- what is out is nothing, or the whole table of a feed that begins the bytes and whose order has at most so many transactions
+abbrev pub TableUpTo : (FeedValue → Status → List ℕ → Type 0) → ℕ → Device → Device → List ℕ → Type 0
+TableUpTo text count old new bytes =
+    Works old new
+    × (Receives old new []
+    ⊎ ((feed : FeedValue) × FeedBegins feed bytes × ((place : ℕ) → HasPlaceIn feed place → place < count)
+    × (end : Status) × TextIsOut (text feed end) old new))
+
 -- of these frames the table of an order was put: of nothing before the genesis is whole, and then of a part of them. What
--- is out is nothing, or the whole table of a feed that begins the bytes
+-- is out is nothing, or the whole table of a feed that begins the bytes, with no place that the order has not
 pub record HasPut (k : TableKind) (bytes : List ℕ) (frames : List Frame) (known : Option Version) (first now : Device)
     (page : PageValue) (done : Ordered) : Type 0 where
   pub shown : List ℕ
-  pub so_far : TableSoFar k.text first now bytes
+  pub so_far : TableUpTo k.text (length (transactions_of done.payloads.list)) first now bytes
   pub puts : Puts first now blank page (k.header ++ shown)
   pub few : length frames < 2 → (done ≡ nothing_ordered) × (shown ≡ [])
   pub many : (version : Version) → known ≡ Some version → 2 ≤ length frames → IsPartDone k frames version done shown

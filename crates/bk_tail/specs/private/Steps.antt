@@ -1,6 +1,6 @@
 -- One piece of a feed that is followed.
-use Rattle.std.specs.Prelude.{◌≡◌, ℕ, Bool, true, false, List, Some}
-use Rattle.bk_base.specs.Feed.{Frame, FeedValue, IsFeed}
+use Rattle.std.specs.Prelude.{◌≡◌, ◌≤◌, ℕ, Bool, true, false, List, Some}
+use Rattle.bk_base.specs.Feed.{Frame}
 use Rattle.bk_commit.specs.Growth.{IsPrefix}
 use Rattle.bk_frames.specs.Device.{Device, Ends, Works, Gives, IfKnown}
 use Rattle.bk_frames.specs.Pulling.{Gave, Refuses}
@@ -9,7 +9,6 @@ use Rattle.bk_results.specs.declared.fault.Fault.TheVariants as fault
 use Rattle.bk_answer.specs.RunReport.{HasPlaceIn, IsStopIn}
 use Rattle.bk_follow.specs.Follower.{BookValue, Followed, HasCome, IsCurrent, IsSettled}
 use Rattle.bk_follow.specs.Finishing.{EndsAs}
-use Rattle.bk_follow.specs.Ordering.{IsOrdered}
 use Rattle.bk_tail.specs.Tailing.{OfWholeFrames}
 
 -- since `start` a source gave these bytes, no call of it failed, and a Follower took them: these frames are whole
@@ -41,13 +40,14 @@ EndsIf false old new = Ends 0 old new
 abbrev pub GaveAfter : Device → Device → List ℕ → (List ℕ → Type 0) → Type 0
 GaveAfter start now bytes holds = Gave start now (λ given. IsPrefix bytes given × holds given)
 
--- why a feed was not followed further, after these bytes
-abbrev pub AdvanceFails : Fault → Device → Device → List ℕ → Type 0
-AdvanceFails (fault.Feed found) start now bytes =
+-- why a feed was not followed further, after these bytes, of whose order so many places were executed
+abbrev pub AdvanceFails : Fault → Device → Device → List ℕ → ℕ → Type 0
+AdvanceFails (fault.Feed found) start now bytes executed =
     Refuses found start now × GaveAfter start now bytes (λ given. Unit {0})
-AdvanceFails (fault.Unfinished place) start now bytes =
-    Works start now × GaveAfter start now bytes (λ given. OfWholeFrames given (λ feed. HasPlaceIn feed place))
-AdvanceFails (fault.Write written) start now bytes = ⊥
-AdvanceFails fault.Memory start now bytes = Works start now × GaveAfter start now bytes (λ given. Unit {0})
-AdvanceFails stop start now bytes =
+AdvanceFails (fault.Unfinished place) start now bytes executed =
+    (executed ≤ place) × Works start now
+    × GaveAfter start now bytes (λ given. OfWholeFrames given (λ feed. HasPlaceIn feed place))
+AdvanceFails (fault.Write written) start now bytes executed = ⊥
+AdvanceFails fault.Memory start now bytes executed = Works start now × GaveAfter start now bytes (λ given. Unit {0})
+AdvanceFails stop start now bytes executed =
     Works start now × GaveAfter start now bytes (λ given. OfWholeFrames given (λ feed. IsStopIn feed stop))

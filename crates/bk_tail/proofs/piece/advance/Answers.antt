@@ -1,6 +1,7 @@
-use Rattle.std.proofs.Common.{◌≡◌, ℕ, zero, suc, ◌<◌, Bool, true, false, take, length, length-take, refl, arith}
+use Rattle.std.proofs.Common.{◌≡◌, ℕ, zero, suc, ◌<◌, Bool, true, false, take, length, length-take, refl, ap, arith}
 use Rattle.std.proofs.lemmas.Result.{err_from_is_err_and}
 use Rattle.bk_frames.proofs.Devices.{ends_at, ends_not_at, ends_then}
+use Rattle.bk_follow.specs.Follower.{receipts_in}
 use Rattle.bk_tail.proofs.Asked.{ended_as_asked, feed_not_short, going_as_asked, read_as_asked, settle_not_short}
 use Rattle.bk_tail.proofs.Pieces.{all_given, close_fails, closed, feed_fails, nearer, nothing_more, read_fails, settle_fails, settled, taken}
 use Rattle.bk_tail.proofs.piece.advance.Goals as goal
@@ -19,7 +20,7 @@ returns-in_err-count-clause-fault g c =
     let p = err_from_is_err_and c.from_residual.result c.from_residual.ensures.1 in
     rw (p.1, p.2) (λ start bytes frames h goes_on.
     read_fails _ c.offset.result start (g.S.Source.state c.args.source.now) (g.S.Source.state c.pull.new.source) bytes frames c.args.follower.now
-    c.in_err-count.ensures.fault c.offset.ensures c.in_err-count.ensures.kept c.in_err-count.ensures.fails h)
+    c.in_err-count.ensures.fault c.offset.ensures c.in_err-count.ensures.kept c.in_err-count.ensures.fails h (length (receipts_in c.args.follower.now.book)))
 
 pub returns-in_err-close-clause-fault : goal.returns-in_err-close-clause-fault
 returns-in_err-close-clause-fault g c =
@@ -53,7 +54,7 @@ returns-in_err-feed-clause-fault g c =
     rw (p.1, p.2) (λ start bytes frames h goes_on.
     feed_fails _ start (g.S.Source.state c.args.source.now) (g.S.Source.state c.pull.new.source) bytes (take c.in_ok-count.count c.pull.new.piece) frames c.args.follower.now
     c.in_ok-count.ensures.came c.in_ok-count.ensures.works (omega (arith, length-take c.in_ok-count.count c.pull.new.piece, c.pull.auto.piece, c.requires.few))
-    (c.in_err-feed.ensures.fault h.come.works) h)
+    (c.in_err-feed.ensures.fault h.come.works) h (length (receipts_in c.args.follower.now.book)))
 
 pub returns-in_err-settle-clause-fault : goal.returns-in_err-settle-clause-fault
 returns-in_err-settle-clause-fault g c =
@@ -62,7 +63,7 @@ returns-in_err-settle-clause-fault g c =
     rw (p.1, p.2) (λ start bytes frames h goes_on.
     let t = taken start (g.S.Source.state c.args.source.now) (g.S.Source.state c.pull.new.source) bytes piece frames c.args.follower.now c.feed.new.self
     c.in_ok-count.ensures.came c.in_ok-count.ensures.works c.in_ok-feed.ensures.takes h in
-    settle_fails _ start (g.S.Source.state c.pull.new.source) bytes piece _ c.feed.new.self c.settle.new.self (c.in_err-settle.ensures.fault t.1.come.works) t.1)
+    settle_fails _ start (g.S.Source.state c.pull.new.source) bytes piece _ c.feed.new.self c.settle.new.self (c.in_err-settle.ensures.fault t.1.come.works) t.1 (length (receipts_in c.args.follower.now.book)) (ap length c.in_ok-feed.ensures.rests))
 
 pub returns-clause-next : goal.returns-clause-next
 returns-clause-next g c =

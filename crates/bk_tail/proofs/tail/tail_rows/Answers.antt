@@ -1,4 +1,4 @@
-use Rattle.std.proofs.Common.{◌≡◌, Bool, true, false, [], refl, sym, subst, arith}
+use Rattle.std.proofs.Common.{◌≡◌, Bool, true, false, [], length, refl, sym, subst, arith}
 use Rattle.std.proofs.lemmas.Result.{err_from_is_err_and}
 use Rattle.bk_answer.specs.Answers.{IsAnswered}
 use Rattle.bk_answer.specs.Flaws.{judged_text}
@@ -11,6 +11,9 @@ use Rattle.bk_tail.specs.private.Steps.{EndsIf}
 use Rattle.bk_results.specs.declared.status.Status.{Status}
 use Rattle.bk_tail.proofs.Asked.{after_others, ends_or_not, memory_not_short, put_not_short, write_not_short}
 use Rattle.bk_tail.proofs.Ends.{advance_fails, answered, end_fails, ended_with, no_flaw, put_fails, put_not}
+use Rattle.bk_tx.specs.Batches.{transactions_of}
+use Rattle.bk_follow.specs.Follower.{receipts_in}
+use Rattle.bk_tail.proofs.Executed.{done_executed}
 use Rattle.bk_tail.proofs.Flawed.{whole_order}
 use Rattle.bk_tail.proofs.Step.{few_bytes, none_put_on, put_on}
 use Rattle.bk_tail.proofs.Pieces.{none_followed}
@@ -37,6 +40,7 @@ pieces-init g c = record {
   done = nothing_ordered;
   followed = none_followed (g.S.Source.state c.args.source.now) c.args.follower.now c.requires.first;
   put = none_put_on (g.T.TableRows.kind c.args.accounts.now) (g.met.T.TableRows.no_rows c.args.accounts.now) c.args.follower.now (g.K.Sink.state c.args.sink.now) (g.T.TableRows.shown c.args.rows.now) (g.T.TableRows.holds c.args.rows.now) (g.met.T.TableRows.short c.args.accounts.now).0 c.requires.none c.requires.before;
+  shown = let zero : length (transactions_of nothing_ordered.payloads.list) ≡ 0 = refl in omega (arith, zero);
   goes_on = λ _. ends_not_yet (g.S.Source.state c.args.source.now);
   source = c.requires.source;
   sink = c.requires.sink;
@@ -48,8 +52,9 @@ pub returns-in_err-ended-clause-fault : goal.returns-in_err-ended-clause-fault
 returns-in_err-ended-clause-fault g c =
     let p = err_from_is_err_and c.from_residual.result c.from_residual.ensures.1 in
     let i = c.pieces.invariant in
-    rw (p.1, p.2) (advance_fails (g.T.TableRows.kind c.args.accounts.now) (g.S.Source.state c.args.source.now) (g.S.Source.state c.advance.new.source) (g.K.Sink.state c.args.sink.now) (g.K.Sink.state c.pieces.sink) _ i.bytes
-    (c.in_err-ended.ensures.fault (g.S.Source.state c.args.source.now) i.bytes i.frames i.followed i.goes_on) i.put.put.so_far)
+    rw (p.1, p.2) (advance_fails (g.T.TableRows.kind c.args.accounts.now) (g.S.Source.state c.args.source.now) (g.S.Source.state c.advance.new.source) (g.K.Sink.state c.args.sink.now) (g.K.Sink.state c.pieces.sink) i.bytes
+    (length (transactions_of i.done.payloads.list)) (length (receipts_in c.pieces.follower.book)) i.shown i.put.put.so_far _
+    (c.in_err-ended.ensures.fault (g.S.Source.state c.args.source.now) i.bytes i.frames i.followed i.goes_on))
 
 pub put_new-requires-clause-put : goal.put_new-requires-clause-put
 put_new-requires-clause-put g c =
@@ -169,6 +174,7 @@ pieces-preserved g c =
       done = n.0;
       followed = a.followed;
       put = n.1;
+      shown = done_executed a.all a.whole c.advance.new.follower n.0 a.followed.come a.settled (λ few. (n.1.put.few few).0) n.2;
       goes_on = λ unwaited. ends_not_then start (g.S.Source.state c.pieces.source) (g.S.Source.state c.advance.new.source) (i.goes_on unwaited) (goes_on_if (g.S.Source.state c.pieces.source) (g.S.Source.state c.advance.new.source) c.in_ok-ended.ended c.if-ended.false (c.in_ok-ended.ensures.ends unwaited));
       source = omega (arith, read, c.requires.source);
       sink = omega (arith, wrote, c.requires.sink);
