@@ -1,5 +1,5 @@
 -- What a list of entries with distinct keys finds, and keys by their index.
-use Rattle.std.proofs.Common.{◌≡◌, ◌≢◌, ℕ, zero, suc, ◌<◌, ◌≤◌, ◌⊎◌, inl, inr, Bool, true, false, cond, List, [], ◌∷◌, ◌++◌, length, Option, Some, None, get_or, set, slice_get, refl, sym, ap, ◌∙◌, arith}
+use Rattle.std.proofs.Common.{◌≡◌, ◌≢◌, ℕ, zero, suc, ◌+◌, ◌<◌, ◌≤◌, ◌⊎◌, inl, inr, Bool, true, false, cond, List, [], ◌∷◌, ◌++◌, length, Option, Some, None, get_or, set, slice_get, refl, sym, ap, ◌∙◌, arith}
 use Rattle.std.specs.Cmp.{IsTotalOrder, both_ways, tied_itself}
 use Rattle.std.specs.Map.{keys_of}
 use Rattle.std.specs.Ordering.{is_eq}
@@ -7,9 +7,22 @@ use Rattle.std.specs.declared.cmp.Ordering.{Ordering}
 use Rattle.std.proofs.lemmas.Bool.{cases_Bool, false_from_ne_true}
 use Rattle.std.proofs.lemmas.List.{map-set}
 use Rattle.std.specs.Option.{option_map}
-use Rattle.std.proofs.lemmas.Option.{slice_get-map, slice_get_read, slice_get_past}
-use Rattle.bk_index.specs.Finding.{find}
+use Rattle.std.proofs.lemmas.Option.{slice_get-map, slice_get_read, slice_get_past, slice_get_within}
+use Rattle.std.specs.Prelude.{nat_lt, not, map}
+use Rattle.std.specs.List.{position, position_or_len}
+use Rattle.std.proofs.lemmas.Bool.Decides.{nat_tests}
+use Rattle.std.proofs.lemmas.List.{length-map}
+use Rattle.bk_index.specs.Finding.{find, has_key}
 use Rattle.bk_index.specs.private.Hints.{AreDistinct}
+
+plus_one : (n i : ℕ) → n ≡ i → 1 + n ≡ suc i
+plus_one n i e = omega (arith, e)
+
+some_at : (n len i : ℕ) → n ≡ i → i < len → cond (nat_lt n len) (Some n) None ≡ Some i
+some_at n len i e low = grind (arith, nat_tests)
+
+none_at : (n len : ℕ) → n ≡ len → ◌≡◌ {A = Option ℕ} (cond (nat_lt n len) (Some n) None) None
+none_at n len e = grind (arith, nat_tests)
 
 none_some : {X : Type 0} (x : X) → ◌≡◌ {A = Option X} None (Some x) → ⊥
 none_some x e = cc
@@ -157,18 +170,47 @@ pub absent_kept : {K : Type 0} (es same_es : List (K × ℕ)) (key : K) → same
 absent_kept {K} es same_es key e absent i there = absent i (ap (λ (l : List (K × ℕ)). slice_get (keys_of l) i) e ∙ there)
 
 -- the key of an entry that is read
-pub key_at : {K : Type 0} (es : List (K × ℕ)) (i : ℕ) (e : K × ℕ) → i < length es → e ≡ get_or es i e → slice_get (keys_of es) i ≡ Some e.0
-key_at es i e low is = slice_get-map (λ x. x.0) es i ∙ ap (option_map (λ x. x.0)) (slice_get_read es (length es) i e refl low is)
+module _ {K E : Type 0} (key_of : E → K) where
+  pub key_at : (es : List E) (i : ℕ) (e : E) → i < length es → e ≡ get_or es i e → slice_get (map key_of es) i ≡ Some (key_of e)
+  key_at es i e low is = slice_get-map key_of es i ∙ ap (option_map key_of) (slice_get_read es (length es) i e refl low is)
 
--- no key is past the end
-pub key_past : {K : Type 0} (es : List (K × ℕ)) (i : ℕ) (k : K) → length es ≤ i → slice_get (keys_of es) i ≢ Some k
-key_past es i k high there = none_some k (sym (slice_get-map (λ x. x.0) es i ∙ ap (option_map (λ x. x.0)) (slice_get_past es i high)) ∙ there)
+  -- no key is past the end
+  pub key_past : (es : List E) (i : ℕ) (k : K) → length es ≤ i → slice_get (map key_of es) i ≢ Some k
+  key_past es i k high there = none_some k (sym (slice_get-map key_of es i ∙ ap (option_map key_of) (slice_get_past es i high)) ∙ there)
 
--- an entry has a key exactly where the two are equal in their order
-pub has_key_exactly : {K : Type 0} (cmp : K → K → Ordering) (total : IsTotalOrder cmp) (exact : (a b : K) → is_eq (cmp a b) ≡ true → a ≡ b) (es : List (K × ℕ)) (i : ℕ) (e : K × ℕ) (key : K) (b : Bool)
-    → slice_get (keys_of es) i ≡ Some e.0 → b ≡ is_eq (cmp key e.0)
-    → ((b ≡ true → slice_get (keys_of es) i ≡ Some key) × (slice_get (keys_of es) i ≡ Some key → b ≡ true))
-has_key_exactly cmp total exact es i e key b at is = (
-  (λ t. at ∙ ap Some (sym (exact key e.0 (sym is ∙ t)))),
-  (λ there. is ∙ same_is cmp total exact key e.0 (same_some key e.0 (sym there ∙ at))),
-)
+  -- an entry has a key exactly where the two are equal in their order
+  pub has_key_exactly : (cmp : K → K → Ordering) (total : IsTotalOrder cmp) (exact : (a b : K) → is_eq (cmp a b) ≡ true → a ≡ b) (es : List E) (i : ℕ) (e : E) (key : K) (b : Bool)
+      → slice_get (map key_of es) i ≡ Some (key_of e) → b ≡ is_eq (cmp key (key_of e))
+      → ((b ≡ true → slice_get (map key_of es) i ≡ Some key) × (slice_get (map key_of es) i ≡ Some key → b ≡ true))
+  has_key_exactly cmp total exact es i e key b at is = (
+    (λ t. at ∙ ap Some (sym (exact key (key_of e) (sym is ∙ t)))),
+    (λ there. is ∙ same_is cmp total exact key (key_of e) (same_some key (key_of e) (sym there ∙ at))),
+  )
+
+  -- the first entry with a key, where no key is there twice
+  module _ (cmp : K → K → Ordering) (total : IsTotalOrder cmp) (exact : (a b : K) → is_eq (cmp a b) ≡ true → a ≡ b) (key : K) where
+    before_first : (es : List E) (i : ℕ) → AreDistinct (map key_of es) → slice_get (map key_of es) i ≡ Some key → position_or_len (has_key cmp key_of key) es ≡ i
+    before_first [] i distinct there = absurd (none_some key there)
+    before_first (e ∷ es) zero distinct there = ap (λ (b : Bool). cond (not b) (1 + position_or_len (has_key cmp key_of key) es) 0) (same_is cmp total exact key (key_of e) (sym (same_some (key_of e) key there)))
+    before_first (e ∷ es) (suc i) distinct there =
+        ap (λ (b : Bool). cond (not b) (1 + position_or_len (has_key cmp key_of key) es) 0) (differs cmp total exact key (key_of e) (λ s. zero_suc i (distinct zero (suc i) key (ap Some (sym s)) there)))
+        ∙ plus_one _ i (before_first es i (distinct_tail (key_of e) (map key_of es) distinct) there)
+
+    pub position_there : (es : List E) (i : ℕ) → AreDistinct (map key_of es) → slice_get (map key_of es) i ≡ Some key → position (has_key cmp key_of key) es ≡ Some i
+    position_there es i distinct there =
+        let first = before_first es i distinct there in
+        let low : i < length es = omega (arith, slice_get_within (map key_of es) i key there, length-map es key_of) in
+        some_at (position_or_len (has_key cmp key_of key) es) (length es) i first low
+
+    past_all : (es : List E) → ((i : ℕ) → slice_get (map key_of es) i ≢ Some key) → position_or_len (has_key cmp key_of key) es ≡ length es
+    past_all [] absent = refl
+    past_all (e ∷ es) absent =
+        ap (λ (b : Bool). cond (not b) (1 + position_or_len (has_key cmp key_of key) es) 0) (differs cmp total exact key (key_of e) (λ s. absent zero (ap Some (sym s))))
+        ∙ plus_one _ (length es) (past_all es (λ i. absent (suc i)))
+
+    pub position_absent : (es : List E) → ((i : ℕ) → slice_get (map key_of es) i ≢ Some key) → position (has_key cmp key_of key) es ≡ None
+    position_absent es absent = none_at (position_or_len (has_key cmp key_of key) es) (length es) (past_all es absent)
+
+-- a key that is not told of a list is not there
+pub told_absent : {K E : Type 0} (key_of : E → K) (es same_es : List E) (key same_key : K) → same_es ≡ es → same_key ≡ key → ((i : ℕ) → slice_get (map key_of same_es) i ≢ Some same_key) → (i : ℕ) → slice_get (map key_of es) i ≢ Some key
+told_absent key_of es same_es key same_key e f absent i there = absent i (ap (λ l. slice_get (map key_of l) i) e ∙ (there ∙ ap Some (sym f)))

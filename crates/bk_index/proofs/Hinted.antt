@@ -5,7 +5,8 @@ use Rattle.std.specs.Cmp.{IsTotalOrder}
 use Rattle.std.specs.Ordering.{is_eq}
 use Rattle.std.specs.declared.cmp.Ordering.{Ordering}
 use Rattle.std.proofs.lemmas.Bool.{cases_order, cases_eq}
-use Rattle.std.specs.Map.{keys_of, lookup}
+use Rattle.std.specs.Map.{lookup}
+use Rattle.std.specs.Prelude.{map}
 use Rattle.std.proofs.lemmas.List.{length-map, map-append, length-set, get_or-set_same, get_or-set_other}
 use Rattle.std.proofs.lemmas.Option.{slice_get_within}
 use Rattle.bk_index.specs.declared.hints.TheConstants.{MOST_TRIES}
@@ -172,9 +173,9 @@ module _ {K : Type 0} (cmp : K → K → Ordering) (number : K → ℕ) where
   }
 
   -- all keys
-  pub index_all : (es : List (K × ℕ)) (count : ℕ) (table : List ℕ) (rest : BTreeMap K ℕ) → AreDistinct (keys_of es) → AreKept cmp number (keys_of es) count table rest → length es ≤ count
-      → IsIndex cmp number (keys_of es) table rest
-  index_all es count table rest distinct kept all = record { distinct = distinct; kept = λ i k low there. kept i k (omega (arith, low, all, length-map es (λ (e : K × ℕ). e.0))) there }
+  pub index_all : {E : Type 0} (key_of : E → K) (es : List E) (count : ℕ) (table : List ℕ) (rest : BTreeMap K ℕ) → AreDistinct (map key_of es) → AreKept cmp number (map key_of es) count table rest → length es ≤ count
+      → IsIndex cmp number (map key_of es) table rest
+  index_all key_of es count table rest distinct kept all = record { distinct = distinct; kept = λ i k low there. kept i k (omega (arith, low, all, length-map es key_of)) there }
 
   -- only what is read counts
   pub index_same : (keys same_keys : List K) (table same_table : List ℕ) (rest same_rest : BTreeMap K ℕ) → same_keys ≡ keys → same_table ≡ table → same_rest.entries ≡ rest.entries
@@ -186,9 +187,10 @@ module _ {K : Type 0} (cmp : K → K → Ordering) (number : K → ℕ) where
       }))
 
   -- an entry with a new key
-  pub entry_pushed : (es more_es : List (K × ℕ)) (key : K) (v : ℕ) (table after : List ℕ) (rest more : BTreeMap K ℕ) (n : ℕ) → more_es ≡ es ++ (key, v) ∷ [] → n ≡ length es
-      → IsIndex cmp number (keys_of es) table rest → ((i : ℕ) → slice_get (keys_of es) i ≢ Some key) → IsPut cmp number table rest after more key n → IsIndex cmp number (keys_of more_es) after more
-  entry_pushed es more_es key v table after rest more n e f index new put =
-      subst (λ (ks : List K). IsIndex cmp number ks after more) (sym (ap keys_of e ∙ map-append (λ (x : K × ℕ). x.0) es ((key, v) ∷ [])))
-      (index_pushed (keys_of es) key table after rest more index new
-      (subst (λ (k : ℕ). IsPut cmp number table rest after more key k) (f ∙ sym (length-map es (λ (x : K × ℕ). x.0))) put))
+  pub entry_pushed : {E : Type 0} (key_of : E → K) (es more_es : List E) (entry : E) (table after : List ℕ) (rest more : BTreeMap K ℕ) (n : ℕ) → more_es ≡ es ++ entry ∷ [] → n ≡ length es
+      → IsIndex cmp number (map key_of es) table rest → ((i : ℕ) → slice_get (map key_of es) i ≢ Some (key_of entry)) → IsPut cmp number table rest after more (key_of entry) n
+      → IsIndex cmp number (map key_of more_es) after more
+  entry_pushed key_of es more_es entry table after rest more n e f index new put =
+      subst (λ (ks : List K). IsIndex cmp number ks after more) (sym (ap (map key_of) e ∙ map-append key_of es (entry ∷ [])))
+      (index_pushed (map key_of es) (key_of entry) table after rest more index new
+      (subst (λ (k : ℕ). IsPut cmp number table rest after more (key_of entry) k) (f ∙ sym (length-map es key_of)) put))

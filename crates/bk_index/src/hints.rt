@@ -1,11 +1,11 @@
 //! The table of hints and the ordered map beside it.
 
-ghost use Rattle.std.specs.Prelude.{◌≡◌, ◌≢◌, ℕ, ◌+◌, ◌-◌, ◌<◌, ◌≤◌, length, IfSome, IfNone, IfOk, OnOk, OnErr, Some};
+ghost use Rattle.std.specs.Prelude.{◌≡◌, ◌≢◌, ℕ, ◌+◌, ◌-◌, ◌<◌, ◌≤◌, length, map, IfSome, IfNone, IfOk, OnOk, OnErr, Some, vec_len, vec_capacity};
 ghost use Rattle.std.specs.BTreeMap.{IsUnchanged};
-ghost use Rattle.std.specs.Map.{keys_of};
 ghost use Rattle.std.specs.Option.{ForSome, ForNone};
 ghost use Rattle.bk_index.specs.private.Hints.{slot_in, base_in, hint_at, AreTaken, IsFree, AreDistinct, IsIndex, IsPut};
 
+use crate::keyed::Keyed;
 use crate::spread::Spread;
 use std::alloc::{AllocError, Global};
 use std::collections::BTreeMap;
@@ -99,22 +99,22 @@ pub(crate) fn put<K: Spread>(
 }
 
 /// A table of this length for these entries, and the ordered map beside it.
-pub(crate) fn make_anew<K: Spread>(
+pub(crate) fn make_anew<K: Spread, T: Keyed<K>>(
     alloc: Global,
-    entries: &[(K, usize)],
+    entries: &[T],
     len: usize,
 ) -> Result<(Vec<u32>, BTreeMap<K, usize>), AllocError>
     requires some { 1 ≤ len }
-    requires distinct { AreDistinct (keys_of entries.now) }
+    requires distinct { AreDistinct (map T.key_of entries.now) }
     ensures index { IfOk result (λ made.
-        IsIndex K.cmp K.number (keys_of entries.now) made.0.items made.1) }
+        IsIndex K.cmp K.number (map T.key_of entries.now) made.0.items made.1) }
     ensures sized { IfOk result (λ made. length made.0.items ≡ len) }
 {
     let mut table = Vec::new(alloc);
     table.resize(len, 0)?;
     let mut rest = BTreeMap::new(alloc);
     for index in 0..entries.len() {
-        let key = entries[index].0;
+        let key = *entries[index].key();
         let free = free_slot(&table, key.spread());
         put(&mut table, &mut rest, free, key, index)?;
     }
@@ -129,4 +129,26 @@ pub(crate) fn longer(len: usize) -> usize
         return 16;
     }
     len.saturating_mul(2)
+}
+
+/// Makes room for one more entry. An `Err` comes only where memory runs out.
+pub(crate) fn make_room<K: Spread, T: Keyed<K>>(
+    alloc: Global,
+    entries: &mut Vec<T>,
+    table: &mut Vec<u32>,
+    rest: &mut BTreeMap<K, usize>,
+) -> Result<(), AllocError>
+    requires { IsIndex K.cmp K.number (map T.key_of entries.old.items) table.old.items rest.old }
+    ensures same { entries.new.items ≡ entries.old.items }
+    ensures index { IsIndex K.cmp K.number (map T.key_of entries.old.items) table.new.items rest.new }
+    ensures some { OnOk result (1 ≤ length table.new.items) }
+    ensures room { OnOk result (vec_len entries.new < vec_capacity entries.new) }
+{
+    entries.reserve(1)?;
+    if table.len() / 2 <= entries.len() {
+        let (longer_table, other_rest) = make_anew(alloc, entries, longer(table.len()))?;
+        *table = longer_table;
+        *rest = other_rest;
+    }
+    Ok(())
 }

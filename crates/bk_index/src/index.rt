@@ -1,13 +1,11 @@
 //! The map.
 
-ghost use Rattle.std.specs.Prelude.{◌≡◌, ◌++◌, ◌∷◌, ℕ, ◌≤◌, ◌<◌, List, [], Some, None, cond, length, IfOk, IsSome, OnOk, OnErr, vec_len, vec_capacity};
-ghost use Rattle.std.specs.Map.{keys_of};
+ghost use Rattle.std.specs.Prelude.{◌≡◌, ◌++◌, ◌∷◌, ℕ, List, [], Some, None, cond, IfOk, IsSome, OnOk, OnErr};
 ghost use Rattle.std.specs.Option.{unwrap_or};
 ghost use Rattle.std.specs.Ordering.{is_eq};
 ghost use Rattle.bk_index.specs.Finding.{find};
-ghost use Rattle.bk_index.specs.private.Hints.{IsIndex};
 
-use crate::hints::{longer, make_anew, put};
+use crate::hints::{make_room, put};
 use crate::search::search;
 use crate::spread::Spread;
 use std::alloc::{AllocError, Global};
@@ -112,26 +110,4 @@ impl<K: Spread> Index<K> {
     {
         let _ = self.entries.pop();
     }
-}
-
-// Makes room for one more entry. An `Err` comes only where memory runs out.
-fn make_room<K: Spread>(
-    alloc: Global,
-    entries: &mut Vec<(K, usize)>,
-    table: &mut Vec<u32>,
-    rest: &mut BTreeMap<K, usize>,
-) -> Result<(), AllocError>
-    requires { IsIndex K.cmp K.number (keys_of entries.old.items) table.old.items rest.old }
-    ensures same { entries.new.items ≡ entries.old.items }
-    ensures index { IsIndex K.cmp K.number (keys_of entries.old.items) table.new.items rest.new }
-    ensures some { OnOk result (1 ≤ length table.new.items) }
-    ensures room { OnOk result (vec_len entries.new < vec_capacity entries.new) }
-{
-    entries.reserve(1)?;
-    if table.len() / 2 <= entries.len() {
-        let (longer_table, other_rest) = make_anew(alloc, entries, longer(table.len()))?;
-        *table = longer_table;
-        *rest = other_rest;
-    }
-    Ok(())
 }

@@ -7,10 +7,14 @@
 
 mod hints;
 mod index;
+mod keyed;
+mod keyed_list;
 mod search;
 mod spread;
 
 pub use index::Index;
+pub use keyed::Keyed;
+pub use keyed_list::KeyedList;
 pub use spread::Spread;
 
 #[cfg(test)]

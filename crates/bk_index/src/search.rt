@@ -1,26 +1,29 @@
 //! The search for a key.
 
-ghost use Rattle.std.specs.Prelude.{◌≡◌, ◌≢◌, ◌↔◌, ◌≤◌, ℕ, IfSome, IfNone, IfOk, IfErr, OnErr, IsTrue, Some, length, slice_get};
+ghost use Rattle.std.specs.Prelude.{◌≡◌, ◌≢◌, ◌↔◌, ◌≤◌, ℕ, IfSome, IfNone, IfOk, IfErr, OnErr, IsTrue, Some, length, map, slice_get};
 ghost use Rattle.std.specs.BTreeMap.{get};
-ghost use Rattle.std.specs.Map.{keys_of};
+ghost use Rattle.std.specs.List.{position};
+ghost use Rattle.std.specs.Ordering.{is_eq};
+ghost use Rattle.bk_index.specs.Finding.{has_key as is_found_by};
 ghost use Rattle.bk_index.specs.private.Hints.{IsFree, AreTaken, IsIndex};
 
 use crate::hints::{MOST_TRIES, base_in, hint_at, slot_in};
+use crate::keyed::Keyed;
 use crate::spread::Spread;
 use std::collections::BTreeMap;
 
 /// The index of the entry with this key. A hint is compared with its entry before it is believed.
 ///
 /// `Err`: no entry has it, and this is the first free slot of its number, if it has one.
-pub(crate) fn search<K: Spread>(
-    entries: &[(K, usize)],
+pub(crate) fn search<K: Spread, T: Keyed<K>>(
+    entries: &[T],
     table: &[u32],
     rest: &BTreeMap<K, usize>,
     key: &K,
 ) -> Result<usize, Option<usize>>
-    requires { IsIndex K.cmp K.number (keys_of entries.now) table.now rest.now }
-    ensures found { IfOk result (λ i. slice_get (keys_of entries.now) i ≡ Some key.now) }
-    ensures none { OnErr result ((i : ℕ) → slice_get (keys_of entries.now) i ≢ Some key.now) }
+    requires { IsIndex K.cmp K.number (map T.key_of entries.now) table.now rest.now }
+    ensures found { IfOk result (λ i. slice_get (map T.key_of entries.now) i ≡ Some key.now) }
+    ensures none { OnErr result ((i : ℕ) → slice_get (map T.key_of entries.now) i ≢ Some key.now) }
     ensures free { 1 ≤ length table.now
         → IfErr result (λ free. IfSome free (IsFree table.now (K.number key.now))) }
     ensures taken { IfErr result (λ free.
@@ -46,24 +49,24 @@ pub(crate) fn search<K: Spread>(
 }
 
 // Whether the entry at an index has this key.
-fn has_key<K: Spread>(entries: &[(K, usize)], index: usize, key: &K) -> bool
-    ensures { IsTrue result ↔ (slice_get (keys_of entries.now) index ≡ Some key.now) }
+fn has_key<K: Spread, T: Keyed<K>>(entries: &[T], index: usize, key: &K) -> bool
+    ensures { IsTrue result ↔ (slice_get (map T.key_of entries.now) index ≡ Some key.now) }
 {
     match entries.get(index) {
-        Some(entry) => key.cmp(&entry.0).is_eq(),
+        Some(entry) => key.cmp(entry.key()).is_eq(),
         None => false,
     }
 }
 
 // The index that the ordered map has for this key, if that entry has the key.
-fn search_rest<K: Spread>(
-    entries: &[(K, usize)],
+fn search_rest<K: Spread, T: Keyed<K>>(
+    entries: &[T],
     rest: &BTreeMap<K, usize>,
     key: &K,
 ) -> Option<usize>
-    ensures found { IfSome result (λ i. slice_get (keys_of entries.now) i ≡ Some key.now) }
+    ensures found { IfSome result (λ i. slice_get (map T.key_of entries.now) i ≡ Some key.now) }
     ensures none { IfNone result ((i : ℕ) → get K.cmp rest.now key.now ≡ Some i
-        → slice_get (keys_of entries.now) i ≢ Some key.now) }
+        → slice_get (map T.key_of entries.now) i ≢ Some key.now) }
 {
     let index = rest.get(key).copied()?;
     if has_key(entries, index, key) {
@@ -71,4 +74,15 @@ fn search_rest<K: Spread>(
     } else {
         None
     }
+}
+
+/// The index of the first entry with this key, where each of them is looked at.
+pub(crate) fn first_with<K: Spread, T: Keyed<K>>(entries: &[T], key: &K) -> Option<usize>
+    ensures { result ≡ position (is_found_by K.cmp T.key_of key.now) entries.now }
+{
+    entries.iter().position(
+        |entry: &T| -> bool
+            ensures { result ≡ is_eq (K.cmp key.entry.now (T.key_of entry.now)) }
+        { key.cmp(entry.key()).is_eq() },
+    )
 }

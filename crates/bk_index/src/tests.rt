@@ -1,4 +1,4 @@
-use crate::Index;
+use crate::{Index, KeyedList};
 use bk_cert::CertRef;
 use bk_digest::Digest32;
 use std::test::Fail;
@@ -94,5 +94,59 @@ fn places_are_found_by_round_and_author(rt: HostRuntime) -> Result<(), Fail> {
     assert!(rt; index.get(&last).is_some());
     index.set(last, 4);
     assert_eq!(rt; index.get(&last), Some(4));
+    Ok(())
+}
+
+// Digests and their indices, 16 of which find a slot near their number.
+#[test]
+fn entries_are_found_by_their_keys(rt: HostRuntime) -> Result<(), Fail> {
+    let mut list: KeyedList<Digest32, Digest32> = KeyedList::new(rt.alloc());
+    assert!(rt; list.is_empty() && list.get(&digest(9, 0)).is_none());
+    for last in 0..40u8 {
+        assert_eq!(rt; list.first_of(digest(9, last))?, None);
+    }
+    assert!(rt; list.len() == 40 && !list.is_empty());
+    for last in 0..40u8 {
+        assert_eq!(rt; list.get(&digest(9, last)), Some(last as usize));
+        assert!(rt; list.as_slice()[last as usize] == digest(9, last));
+    }
+    assert_eq!(rt; list.first_of(digest(9, 7))?, Some((7, digest(9, 7))));
+    assert!(rt; list.len() == 40 && list.get(&digest(9, 40)).is_none());
+    Ok(())
+}
+
+#[test]
+fn the_last_entry_is_dropped(rt: HostRuntime) -> Result<(), Fail> {
+    let mut list: KeyedList<Digest32, Digest32> = KeyedList::new(rt.alloc());
+    list.drop_last();
+    assert_eq!(rt; list.first_of(digest(1, 0))?, None);
+    assert_eq!(rt; list.first_of(digest(2, 0))?, None);
+    list.drop_last();
+    assert_eq!(rt; list.get(&digest(1, 0)), Some(0));
+    assert_eq!(rt; list.get(&digest(2, 0)), None);
+    assert_eq!(rt; list.first_of(digest(3, 0))?, None);
+    assert_eq!(rt; list.get(&digest(3, 0)), Some(1));
+    assert_eq!(rt; list.get(&digest(2, 0)), None);
+    Ok(())
+}
+
+// Of entries with one key the first is found, also where others came or went before.
+#[test]
+fn the_first_of_a_key_is_found(rt: HostRuntime) -> Result<(), Fail> {
+    let mut list: KeyedList<Digest32, (Digest32, usize)> = KeyedList::new(rt.alloc());
+    for (number, key) in [4u8, 5, 6, 7].into_iter().enumerate() {
+        assert!(rt; list.first_of((digest(key, 0), number))?.is_none());
+    }
+    list.drop_last();
+    list.push((digest(5, 0), 9))?;
+    assert_eq!(rt; list.get(&digest(5, 0)), Some(1));
+    assert_eq!(rt; list.get(&digest(7, 0)), None);
+    assert!(rt; list.first_of((digest(7, 0), 8))?.is_none());
+    assert_eq!(rt;
+        list.first_of((digest(5, 0), 3))?.map(|found| found.0),
+        Some(1)
+    );
+    assert_eq!(rt; list.get(&digest(7, 0)), Some(4));
+    assert!(rt; list.len() == 5 && list.as_slice()[3].1 == 9);
     Ok(())
 }

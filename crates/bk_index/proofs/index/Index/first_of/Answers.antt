@@ -25,7 +25,7 @@ invariant_of-self-in-Err g c =
     let absent : (i : ℕ) → slice_get (keys_of c.self.inside.entries.items) i ≢ Some c.args.key =
     absent_kept c.self.inside.entries.items c.make_room.new.entries.items c.args.key c.in_ok-make_room.ensures.same (rw (← c.deref.ensures.value) c.in-Err.ensures.none) in
     let count : c.len-index.result ≡ length c.make_room.new.entries.items = omega (arith, c.len-index.ensures) in
-    entry_pushed g.K.Ord.cmp g.K.Spread.number c.self.inside.entries.items c.push_reserved.new.self.items c.args.key c.args.value c.make_room.new.table.items c.put.new.table.items c.make_room.new.rest c.put.new.rest
+    entry_pushed g.K.Ord.cmp g.K.Spread.number (λ (e : g.row.K.Denot × ℕ). e.0) c.self.inside.entries.items c.push_reserved.new.self.items (c.args.key, c.args.value) c.make_room.new.table.items c.put.new.table.items c.make_room.new.rest c.put.new.rest
     c.len-index.result (rw (← c.in_ok-make_room.ensures.same) c.push_reserved.ensures.items) (count ∙ ap length c.in_ok-make_room.ensures.same)
     c.in_ok-make_room.ensures.index absent c.in_ok-put-in-Err.ensures.ok
 

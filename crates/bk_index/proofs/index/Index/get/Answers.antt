@@ -17,3 +17,6 @@ pub returns-in-Ok : goal.returns-in-Ok
 returns-in-Ok g c = rw (← c.self.view_is)
     (sym (find_there g.K.Ord.cmp g.met.K.Ord.total g.met.K.Spread.exact c.self.inside.entries.items c.in-Ok.at c.args.key.now c.index.result.now c.self.invariant.distinct
     (rw (← c.deref.ensures.value) c.in-Ok.ensures.found) c.index.ensures))
+
+pub search-requires : goal.search-requires
+search-requires g c = rw (c.deref.ensures.value, c.deref-2.ensures.value) c.self.invariant

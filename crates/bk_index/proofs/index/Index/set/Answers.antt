@@ -1,6 +1,8 @@
-use Rattle.std.proofs.Common.{◌≡◌, ℕ, Some, None, Option, IsSome, slice_get, subst}
+use Rattle.std.proofs.Common.{◌≡◌, ℕ, arith, Some, None, Option, IsSome, slice_get, subst}
 use Rattle.std.specs.Map.{keys_of}
 use Rattle.std.proofs.lemmas.Bool.{false≢true}
+use Rattle.std.proofs.lemmas.List.{length-map}
+use Rattle.std.proofs.lemmas.Option.{slice_get_within}
 use Rattle.bk_index.specs.Finding.{find}
 use Rattle.bk_index.proofs.Found.{find_set, find_absent, keys_set}
 use Rattle.bk_index.proofs.index.Index.set.Goals as goal
@@ -22,3 +24,11 @@ returns-in_default g c = λ q.
     let none : find g.K.Ord.cmp c.args.self.now c.args.key ≡ None = rw (← c.self.view_is)
     (find_absent g.K.Ord.cmp g.met.K.Ord.total g.met.K.Spread.exact c.self.inside.entries.items c.args.key (rw (← c.deref.ensures.value) c.in_default.ensures.none)) in
     absurd (not_some (find g.K.Ord.cmp c.args.self.now c.args.key) none c.requires)
+
+pub search-requires : goal.search-requires
+search-requires g c = rw (c.deref.ensures.value, c.deref-2.ensures.value) c.self.invariant
+
+pub index_mut-requires : goal.index_mut-requires
+index_mut-requires g c =
+    let there : slice_get (keys_of c.self.inside.entries.items) c.in-Ok.at ≡ Some c.args.key = rw (← c.deref.ensures.value) c.in-Ok.ensures.found in
+    omega (arith, slice_get_within (keys_of c.self.inside.entries.items) c.in-Ok.at c.args.key there, length-map c.self.inside.entries.items (λ e. e.0))
