@@ -15,3 +15,4 @@ pub mod Stopping
 pub mod Alike
 pub mod Saying
 pub mod Gained
+pub mod Known

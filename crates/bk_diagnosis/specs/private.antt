@@ -5,3 +5,4 @@ pub mod Shows
 pub mod Colliding
 pub mod Twins
 pub mod Writing
+pub mod Known

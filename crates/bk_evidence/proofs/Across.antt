@@ -5,15 +5,15 @@ use Rattle.std.specs.Prelude.{not, MatchOption}
 use Rattle.std.specs.List.{Contains}
 use Rattle.std.proofs.lemmas.List.{take_more, take_all}
 use Rattle.std.proofs.lemmas.List.Elements.{Contains-get_or, Contains-append_left, Contains-append_right, Contains-append_cases, Contains-push, Contains-push_cases}
-use Rattle.bk_index.specs.Finding.{find}
+use Rattle.std.specs.List.{position}
 use Rattle.bk_cert.proofs.Lists.{none_in_nil}
-use Rattle.bk_evidence.specs.Batches.{Batch, AreApart, IsBatchCollision}
+use Rattle.bk_evidence.specs.Batches.{Batch, AreApart, IsBatchCollision, has_digest}
 use Rattle.bk_evidence.specs.Collisions.{id_cmp, CollidesBy}
-use Rattle.bk_evidence.specs.private.Indexed.{IsIndexed, HasOther, CollidesWith, in_held, in_more, across}
+use Rattle.bk_evidence.specs.private.Named.{HasOther, CollidesWith, in_held, in_more, across}
 use Rattle.bk_evidence.specs.private.Least.{least_of, lesser_of, IsLeastBy}
 use Rattle.bk_evidence.proofs.Lesser.{least_same, least_step, least_both}
 use Rattle.bk_evidence.proofs.Colliding.{id_order, collides_more, told}
-use Rattle.bk_evidence.proofs.Indexing.{indexed_at, indexed_none}
+use Rattle.bk_evidence.proofs.Naming.{named_at, named_none}
 use Rattle.bk_evidence.proofs.Payloads.{same_batch}
 
 abbrev pub digest_of : Batch → List ℕ
@@ -29,19 +29,19 @@ from_not false h = absurd (true≢false h)
 
 -- ---- one batch
 
-module _ (xs : List Batch) (m : List (List ℕ × ℕ)) (indexed : IsIndexed digest_of xs m) (b : Batch) where
-  pub other_found : (k : ℕ) (r : Batch) → find id_cmp m b.digest ≡ Some k → r ≡ get_or xs k r → (r ≡ b → ⊥) → HasOther xs b
+module _ (xs : List Batch) (b : Batch) where
+  pub other_found : (k : ℕ) (r : Batch) → position (has_digest b.digest) xs ≡ Some k → r ≡ get_or xs k r → (r ≡ b → ⊥) → HasOther xs b
   other_found k r e is apart =
-      let at = indexed_at digest_of xs m indexed b.digest k e in
+      let at = named_at digest_of xs b.digest k e in
       record { other = r; is_held = subst (Contains xs) (sym is) (Contains-get_or xs k r at.0); same_digest = ap digest_of is ∙ at.1 r; apart = apart }
 
-  pub other_same : (k : ℕ) (r : Batch) → find id_cmp m b.digest ≡ Some k → r ≡ get_or xs k r → r ≡ b → Contains xs b
+  pub other_same : (k : ℕ) (r : Batch) → position (has_digest b.digest) xs ≡ Some k → r ≡ get_or xs k r → r ≡ b → Contains xs b
   other_same k r e is same =
-      let at = indexed_at digest_of xs m indexed b.digest k e in
+      let at = named_at digest_of xs b.digest k e in
       subst (Contains xs) (sym is ∙ same) (Contains-get_or xs k r at.0)
 
-  pub other_none : find id_cmp m b.digest ≡ None → HasOther xs b → Contains xs b
-  other_none e h = absurd (indexed_none digest_of xs m indexed b.digest e h.other h.is_held h.same_digest)
+  pub other_none : position (has_digest b.digest) xs ≡ None → HasOther xs b → Contains xs b
+  other_none e h = absurd (named_none digest_of xs b.digest e h.other h.is_held h.same_digest)
 
 -- ---- the steps
 

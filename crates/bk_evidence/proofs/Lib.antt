@@ -1,6 +1,6 @@
 pub mod Lesser
 pub mod Colliding
-pub mod Indexing
+pub mod Naming
 pub mod Storing
 pub mod Payloads
 pub mod Placing

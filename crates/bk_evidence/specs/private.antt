@@ -1,4 +1,4 @@
 pub mod Least
-pub mod Indexed
+pub mod Named
 pub mod Places
 pub mod Answers

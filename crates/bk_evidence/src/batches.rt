@@ -4,12 +4,12 @@ ghost use Rattle.std.specs.Prelude.{◌==◌, ◌≡◌, ◌≢◌, ◌++◌, �
 ghost use Rattle.std.specs.List.{position};
 ghost use Rattle.bk_evidence.specs.Batches.{Batch, AreApart, IsBatchCollision, IsBatchOffer, batch_with, batches_after, has_digest, payload_of};
 ghost use Rattle.bk_evidence.specs.Collisions.{id_cmp};
-ghost use Rattle.bk_evidence.specs.private.Indexed.{CollidesWith, HasOther, IsIndexed};
+ghost use Rattle.bk_evidence.specs.private.Named.{CollidesWith, HasOther};
 ghost use Rattle.bk_evidence.specs.private.Least.{IsLeastBy};
 
 use crate::least::{least_id, lesser_id};
 use bk_digest::Digest32;
-use bk_index::Index;
+use bk_index::{Keyed, KeyedList};
 use std::alloc::{AllocError, Global};
 use std::marker::Model;
 
@@ -46,17 +46,23 @@ impl Model for Stored {
     ghost view = { λ s. batch_with s.digest s.payload.items };
 }
 
+impl Keyed<Digest32> for Stored {
+    ghost key_of = { λ b. b.digest };
+
+    fn key(&self) -> &Digest32 {
+        &self.digest
+    }
+}
+
 /// The batches that were offered, each distinct pair of a digest and a payload once. Contracts see
 /// them in the order in which they were stored.
 ///
-/// A batch takes its payload and some 120 bytes. Digests are handed in: that a digest is its
-/// payload's is the caller's concern. Where two payloads have one digest, a further offer under it
-/// goes over all that is held; with SHA-256 no such two are known.
+/// A batch takes its payload and some 70 bytes. Digests are handed in: that a digest is its
+/// payload's is the caller's concern. Once two payloads have one digest, each call that looks for a
+/// digest goes over all that is held; with SHA-256 no such two are known.
 #[derive(Drop)]
 pub struct Batches {
-    stored: Vec<Stored>,
-    // The index of the first batch under each digest.
-    firsts: Index<Digest32>,
+    stored: KeyedList<Digest32, Stored>,
     collision: Option<Digest32>,
 }
 
@@ -64,15 +70,14 @@ impl Model for Batches {
     ghost use Rattle.std.specs.Prelude.{List};
     ghost use Rattle.bk_evidence.specs.Batches.{Batch};
     ghost use Rattle.bk_evidence.specs.Collisions.{CollidesBy, id_cmp};
-    ghost use Rattle.bk_evidence.specs.private.Indexed.{IsIndexed};
     ghost use Rattle.bk_evidence.specs.private.Least.{IsLeastBy};
 
     ghost Value = { List Batch };
 
-    ghost view = { λ b. b.stored.items };
+    ghost view = { λ b. b.stored };
 
-    ghost invariant = { λ b. IsIndexed (λ (e : Batch). e.digest) b.stored.items b.firsts
-        × IsLeastBy id_cmp (CollidesBy (λ (e : Batch). e.digest) b.stored.items) b.collision };
+    ghost invariant = { λ b.
+        IsLeastBy id_cmp (CollidesBy (λ (e : Batch). e.digest) b.stored) b.collision };
 }
 
 impl Batches {
@@ -81,8 +86,7 @@ impl Batches {
         ensures { result ≡ [] }
     {
         Batches {
-            stored: Vec::new(alloc),
-            firsts: Index::new(alloc),
+            stored: KeyedList::new(alloc),
             collision: None,
         }
     }
@@ -99,15 +103,13 @@ impl Batches {
         ensures unchanged { OnErr result (self.new ≡ self.old) }
     {
         let batch = Stored { digest, payload };
-        self.stored.reserve(1)?;
-        let Some(first) = self.firsts.first_of(digest, self.stored.len())? else {
-            self.stored.push_reserved(batch);
+        let Some((first, batch)) = self.stored.first_of(batch)? else {
             return Ok(BatchOffer::New);
         };
-        if is_stored(&self.stored, first, &batch) {
+        if is_stored(self.stored.as_slice(), first, &batch) {
             return Ok(BatchOffer::Repeat);
         }
-        self.stored.push_reserved(batch);
+        self.stored.push(batch)?;
         self.collision = Some(least_id(self.collision, digest));
         Ok(BatchOffer::Collision)
     }
@@ -116,15 +118,15 @@ impl Batches {
     pub fn get(&self, digest: &Digest32) -> Option<&[u8]>
         ensures { option_map (λ p. p.now) result ≡ payload_of self.now digest.now }
     {
-        let index = self.firsts.get(digest)?;
-        Some(payload_at(&self.stored, index))
+        let index = self.stored.get(digest)?;
+        Some(payload_at(self.stored.as_slice(), index))
     }
 
     /// The index of the batch whose payload `get` gives.
     pub fn index_of(&self, digest: &Digest32) -> Option<BatchRef>
         ensures { option_map (λ b. b.index) result ≡ position (has_digest digest.now) self.now }
     {
-        let index = self.firsts.get(digest)?;
+        let index = self.stored.get(digest)?;
         Some(BatchRef { index })
     }
 
@@ -147,7 +149,7 @@ impl Batches {
         requires { batch.index < length self.now }
         ensures { (d : Batch) → result ≡ (slice_index_or self.now batch.index d).digest }
     {
-        batch_at(&self.stored, batch.index).digest
+        batch_at(self.stored.as_slice(), batch.index).digest
     }
 
     /// The payload of a batch.
@@ -155,7 +157,7 @@ impl Batches {
         requires { batch.index < length self.now }
         ensures { (d : Batch) → result.now ≡ (slice_index_or self.now batch.index d).payload }
     {
-        payload_at(&self.stored, batch.index)
+        payload_at(self.stored.as_slice(), batch.index)
     }
 
     /// The least digest under which two payloads are held.
@@ -175,25 +177,23 @@ impl Batches {
         ensures succeeds { IsOk result }
     {
         let known = lesser_id(self.collision, other.collision);
-        Ok(least_across(&self.stored, &self.firsts, &other.stored, known))
+        Ok(least_across(&self.stored, other.stored.as_slice(), known))
     }
 }
 
 // The least of the digest that is known, if one is, and of those under which the one list and the
 // other have different payloads.
 fn least_across(
-    stored: &[Stored],
-    firsts: &Index<Digest32>,
+    stored: &KeyedList<Digest32, Stored>,
     more: &[Stored],
     known: Option<Digest32>,
 ) -> Option<Digest32>
-    requires indexed { IsIndexed (λ (e : Batch). e.digest) stored.now firsts.now }
-    requires known { IsLeastBy id_cmp (CollidesWith stored.now more.now 0) known }
+    requires { IsLeastBy id_cmp (CollidesWith stored.now more.now 0) known }
     ensures { IsLeastBy id_cmp (CollidesWith stored.now more.now (length more.now)) result }
 {
     let mut least = known;
     for batch in more {
-        if has_other(stored, firsts, batch) {
+        if has_other(stored, batch) {
             least = Some(least_id(least, batch.digest));
         }
     }
@@ -201,15 +201,14 @@ fn least_across(
 }
 
 // Whether the first batch under the digest of this one has another payload.
-fn has_other(stored: &[Stored], firsts: &Index<Digest32>, batch: &Stored) -> bool
-    requires { IsIndexed (λ (e : Batch). e.digest) stored.now firsts.now }
+fn has_other(stored: &KeyedList<Digest32, Stored>, batch: &Stored) -> bool
     ensures yes { IsTrue result → HasOther stored.now batch.now }
     ensures no { result ≡ false → HasOther stored.now batch.now → Contains stored.now batch.now }
 {
-    match firsts.get(&batch.digest) {
+    match stored.get(&batch.digest) {
         None => false,
         Some(index) => {
-            let first = batch_at(stored, index);
+            let first = batch_at(stored.as_slice(), index);
             !is_same(first, batch)
         }
     }

@@ -1,6 +1,6 @@
 //! The certificates that are held, by id.
 
-ghost use Rattle.std.specs.Prelude.{◌≡◌, ◌<◌, ◌++◌, ◌∷◌, ◌↔◌, [], length, Contains, IfOk, OnOk, OnErr, None, Some, cond, IsTrue, MatchOption, IfSome, IfNone, option_map, slice_index_or, ℕ, List};
+ghost use Rattle.std.specs.Prelude.{◌≡◌, ◌<◌, ◌++◌, ◌+◌, ◌↔◌, [], length, take, Contains, IfOk, OnOk, OnErr, None, Some, cond, IsTrue, MatchOption, IfSome, IfNone, option_map, slice_index_or, ℕ, List};
 ghost use Rattle.bk_evidence.specs.Collisions.{IsAtMost, id_cmp};
 ghost use Rattle.bk_cert.specs.Node.{Node};
 ghost use Rattle.bk_cert.specs.Place.{place_of};
@@ -17,23 +17,21 @@ use crate::offer::Offer;
 use crate::places::{Places, note};
 use bk_cert::{CertRef, SharedCert};
 use bk_digest::Digest32;
-use bk_index::Index;
+use bk_index::KeyedList;
 use std::alloc::{AllocError, Global};
 use std::marker::Model;
 
 /// The certificates that were offered, each distinct pair of an id and a header once, those of
 /// collisions and twins too. Contracts see them in the order in which they were stored.
 ///
-/// A certificate takes 64 bytes, besides the header and its id, which are shared, and 16 to 32 of
+/// A certificate takes 24 bytes, besides the header and its id, which are shared, and 16 to 32 of
 /// hints. The lists have room for at most about twice the certificates. A place takes 40 bytes more once it has
-/// twins. Where two headers have one id, a further offer under it goes over all that is held; with
-/// SHA-256 no such two are known.
+/// twins. Once two headers have one id, each call that looks for an id goes over all that is held;
+/// with SHA-256 no such two are known.
 #[derive(Drop)]
 pub struct Held {
     alloc: Global,
-    certs: Vec<SharedCert>,
-    // The index of the first certificate under each id.
-    firsts: Index<Digest32>,
+    certs: KeyedList<Digest32, SharedCert>,
     collision: Option<Digest32>,
     places: Places,
 }
@@ -42,18 +40,15 @@ impl Model for Held {
     ghost use Rattle.std.specs.Prelude.{List};
     ghost use Rattle.bk_cert.specs.Node.{Node};
     ghost use Rattle.bk_evidence.specs.Collisions.{CollidesBy, id_cmp};
-    ghost use Rattle.bk_evidence.specs.private.Indexed.{IsIndexed};
-    ghost use Rattle.bk_evidence.specs.private.Answers.{offer_of};
     ghost use Rattle.bk_evidence.specs.private.Least.{IsLeastBy};
     ghost use Rattle.bk_evidence.specs.private.Places.{ArePlaces};
 
     ghost Value = { List Node };
 
-    ghost view = { λ h. h.certs.items };
+    ghost view = { λ h. h.certs };
 
-    ghost invariant = { λ h. (IsIndexed (λ (c : Node). c.id) h.certs.items h.firsts
-        × IsLeastBy id_cmp (CollidesBy (λ (c : Node). c.id) h.certs.items) h.collision)
-        × ArePlaces h.certs.items h.places };
+    ghost invariant = { λ h. IsLeastBy id_cmp (CollidesBy (λ (c : Node). c.id) h.certs) h.collision
+        × ArePlaces h.certs h.places };
 }
 
 impl Held {
@@ -63,8 +58,7 @@ impl Held {
     {
         Held {
             alloc,
-            certs: Vec::new(alloc),
-            firsts: Index::new(alloc),
+            certs: KeyedList::new(alloc),
             collision: None,
             places: Places::new(alloc),
         }
@@ -80,24 +74,18 @@ impl Held {
         ensures unchanged { OnErr result (self.new ≡ self.old) }
     {
         let id = *cert.id();
-        match self.firsts.first_of(id, self.certs.len())? {
-            None => match store(&mut self.certs, &mut self.places, cert) {
-                Ok(earlier) => Ok(offer_after(earlier)),
-                Err(error) => {
-                    // The id loses its index again: this needs no memory.
-                    self.firsts.forget_last();
-                    Err(error)
-                }
-            },
-            Some(first) => {
-                if is_held(&self.certs, first, &cert) {
-                    return Ok(Offer::Repeat);
-                }
-                store(&mut self.certs, &mut self.places, cert)?;
-                self.collision = Some(least_id(self.collision, id));
-                Ok(Offer::Collision)
-            }
+        let at = self.certs.len();
+        let Some((first, cert)) = self.certs.first_of(cert)? else {
+            let earlier = note_last(&mut self.certs, &mut self.places, at)?;
+            return Ok(offer_after(earlier));
+        };
+        if is_held(self.certs.as_slice(), first, &cert) {
+            return Ok(Offer::Repeat);
         }
+        self.certs.push(cert)?;
+        note_last(&mut self.certs, &mut self.places, at)?;
+        self.collision = Some(least_id(self.collision, id));
+        Ok(Offer::Collision)
     }
 
     /// The certificates, in the order in which they were stored.
@@ -113,8 +101,8 @@ impl Held {
         ensures found { IfSome result (λ c. Contains self.now c.now × (c.now.id ≡ id.now)) }
         ensures none { IfNone result (IsNewId self.now id.now) }
     {
-        let index = self.firsts.get(id)?;
-        Some(cert_at(&self.certs, index))
+        let index = self.certs.get(id)?;
+        Some(cert_at(self.certs.as_slice(), index))
     }
 
     /// A certificate with the least id of a place, found as by `offer`.
@@ -126,14 +114,14 @@ impl Held {
         ensures none { IfNone result ((id : List ℕ) → IsIdAt self.now place id → ⊥) }
     {
         let index = self.places.firsts.get(&place)?;
-        Some(cert_at(&self.certs, index))
+        Some(cert_at(self.certs.as_slice(), index))
     }
 
     /// The least round and author that has two ids, with its two least ids.
     pub fn evidence(&self) -> Option<Evidence>
         ensures { MatchOption result (NoTwins self.now) (IsEvidence self.now) }
     {
-        self.places.evidence(&self.certs)
+        self.places.evidence(self.certs.as_slice())
     }
 
     /// The least id under which two headers are held.
@@ -185,8 +173,8 @@ impl Held {
         ensures { IfOk result (λ all. HaveSame all (self.now ++ other.now)) }
     {
         let mut all = Held::new(self.alloc);
-        offer_all(&mut all, &self.certs)?;
-        offer_all(&mut all, &other.certs)?;
+        offer_all(&mut all, self.certs.as_slice())?;
+        offer_all(&mut all, other.certs.as_slice())?;
         Ok(all)
     }
 }
@@ -256,22 +244,28 @@ fn is_same(one: &SharedCert, other: &SharedCert) -> bool
     *one.id() == *other.id() && *one.header() == *other.header()
 }
 
-// Stores a certificate under its place, and answers the least id that the place had before.
-// Nothing changes where memory runs out.
-fn store(
-    certs: &mut Vec<SharedCert>,
+// Notes the last certificate, whose index this is, under its place, and answers the least id that the
+// place had before. Where memory runs out it is taken out again, and nothing has changed.
+fn note_last(
+    certs: &mut KeyedList<Digest32, SharedCert>,
     places: &mut Places,
-    cert: SharedCert,
+    at: usize,
 ) -> Result<Option<Digest32>, AllocError>
-    requires { ArePlaces certs.old.items places.old }
-    ensures earlier { IfOk result (IsLeastBy id_cmp (IsIdAt certs.old.items (place_of cert))) }
-    ensures ok { OnOk result (certs.new.items ≡ certs.old.items ++ cert ∷ []) }
-    ensures noted { OnOk result (ArePlaces (certs.old.items ++ cert ∷ []) places.new) }
-    ensures err { OnErr result (certs.new.items ≡ certs.old.items) }
-    ensures same { OnErr result (ArePlaces certs.old.items places.new) }
+    requires last { length certs.old ≡ at + 1 }
+    requires places { ArePlaces (take at certs.old) places.old }
+    ensures earlier { (d : Node) → IfOk result
+        (IsLeastBy id_cmp (IsIdAt (take at certs.old) (place_of (slice_index_or certs.old at d)))) }
+    ensures ok { OnOk result (certs.new ≡ certs.old) }
+    ensures noted { OnOk result (ArePlaces certs.old places.new) }
+    ensures err { OnErr result (certs.new ≡ take at certs.old) }
+    ensures same { OnErr result (ArePlaces (take at certs.old) places.new) }
 {
-    certs.reserve(1)?;
-    let earlier = note(places, certs, &cert)?;
-    certs.push_reserved(cert);
-    Ok(earlier)
+    let all = certs.as_slice();
+    match note(places, &all[..at], &all[at]) {
+        Ok(earlier) => Ok(earlier),
+        Err(error) => {
+            certs.drop_last();
+            Err(error)
+        }
+    }
 }

@@ -5,4 +5,3 @@ pub mod Parts
 pub mod Whole
 pub mod Taken
 pub mod Listing
-pub mod Entered

@@ -1,18 +1,16 @@
--- The list of digests and the set of them, where one is added or taken out.
-use Rattle.std.proofs.Common.{◌≡◌, ℕ, ◌-◌, ◌<◌, ◌≤◌, Bool, true, false, cond, List, [], ◌∷◌, ◌++◌, length, take, refl, sym, ap, ◌∙◌, arith}
-use Rattle.std.specs.Prelude.{◌||◌}
-use Rattle.std.specs.Bool.{OnFalse}
+-- The list of digests, where one is added or taken out.
+use Rattle.std.proofs.Common.{◌≡◌, ℕ, suc, ◌+◌, ◌-◌, ◌<◌, ◌≤◌, Bool, true, false, cond, List, [], ◌∷◌, ◌++◌, Option, Some, None, length, take, refl, sym, ap, ◌∙◌, arith}
+use Rattle.std.specs.Prelude.{◌||◌, nat_lt, not, is_some, IsSome, option_map}
 use Rattle.std.specs.Str.{bytes_eq}
-use Rattle.std.specs.List.{fold, list_any}
-use Rattle.std.specs.Ordering.{is_eq}
+use Rattle.std.specs.List.{fold, list_any, position, position_or_len}
 use Rattle.std.specs.Cmp.Lexicographic.{texts_ties}
-use Rattle.std.specs.BTreeSet.{BTreeSet, contains}
 use Rattle.std.proofs.lemmas.Slice.Eq.{bytes_eq-Decides}
 use Rattle.std.proofs.lemmas.Bool.{both_ways}
+use Rattle.std.proofs.lemmas.Bool.Decides.{nat_tests}
 use Rattle.std.proofs.lemmas.List.{append-nil, append_assoc, take_at, take_all, take-take}
-use Rattle.std.proofs.lemmas.List.Folds.{list_any-append}
+use Rattle.bk_index.specs.Finding.{has_key}
 use Rattle.bk_evidence.specs.Collisions.{id_cmp}
-use Rattle.bk_flatten.specs.private.Listing.{with_digest, with_digests, AreOnce, AreKnown}
+use Rattle.bk_flatten.specs.private.Listing.{with_digest, with_digests}
 
 pub same_back : (x y : List ℕ) (b : Bool) → bytes_eq x y ≡ b → bytes_eq y x ≡ b
 same_back x y true e = (bytes_eq-Decides y x).1 (sym ((bytes_eq-Decides x y).0 e))
@@ -22,67 +20,37 @@ same_back x y false e = by_test (bytes_eq y x) refl
     by_test false t = t
     by_test true t = absurd (both_ways (bytes_eq x y) e ((bytes_eq-Decides x y).1 (sym ((bytes_eq-Decides y x).0 t))))
 
--- ---- tests
+-- ---- a digest is added where it is not found
 
-left_false : (a b : Bool) → (a || b) ≡ false → a ≡ false
-left_false true b h = h
-left_false false b h = refl
+low_first : (len : ℕ) → nat_lt 0 (suc len) ≡ true
+low_first len = grind (arith, nat_tests)
 
-right_false : (a b : Bool) → (a || b) ≡ false → b ≡ false
-right_false true b h = absurd (both_ways true h refl)
-right_false false b h = h
+low_next : (n len : ℕ) → nat_lt (1 + n) (suc len) ≡ nat_lt n len
+low_next n len = grind (arith, nat_tests)
 
-both_false : (a b : Bool) → a ≡ false → b ≡ false → (a || b) ≡ false
-both_false true b h k = h
-both_false false b h k = k
+low_any : (p : List ℕ → Bool) (xs : List (List ℕ)) → nat_lt (position_or_len p xs) (length xs) ≡ list_any p xs
+low_any p [] = refl
+low_any p (x ∷ xs) = by_test (p x) (low_any p xs)
+  where
+    by_test : (b : Bool) → nat_lt (position_or_len p xs) (length xs) ≡ list_any p xs
+        → nat_lt (cond (not b) (1 + position_or_len p xs) 0) (suc (length xs)) ≡ (b || list_any p xs)
+    by_test true rest = low_first (length xs)
+    by_test false rest = low_next (position_or_len p xs) (length xs) ∙ rest
 
-or_false : (a b : Bool) → (a || (b || false)) ≡ (a || b)
-or_false true b = refl
-or_false false true = refl
-or_false false false = refl
+some_test : (b : Bool) (n : ℕ) → is_some (cond b (Some n) None) ≡ b
+some_test true n = refl
+some_test false n = refl
 
-added_or : (b c : Bool) → cond b true c ≡ (c || b)
-added_or true true = refl
-added_or true false = refl
-added_or false true = refl
-added_or false false = refl
+-- the digest is in the list exactly where it is found by itself
+found_any : (xs : List (List ℕ)) (d : List ℕ) → is_some (position (has_key id_cmp (λ (e : List ℕ). e) d) xs) ≡ list_any (bytes_eq d) xs
+found_any xs d =
+    some_test _ (position_or_len (has_key id_cmp (λ (e : List ℕ). e) d) xs)
+    ∙ (low_any (has_key id_cmp (λ (e : List ℕ). e) d) xs ∙ (λ i. list_any (λ e. (sym (texts_ties d e)) i) xs))
 
-any_push : (p : List ℕ → Bool) (xs : List (List ℕ)) (d : List ℕ) → list_any p (xs ++ d ∷ []) ≡ (list_any p xs || p d)
-any_push p xs d = list_any-append p xs (d ∷ []) ∙ or_false (list_any p xs) (p d)
-
--- ---- no digest is repeated
-
-once_more : (xs : List (List ℕ)) (d : List ℕ) → AreOnce xs → list_any (bytes_eq d) xs ≡ false → AreOnce (xs ++ d ∷ [])
-once_more [] d h new = (refl, tt)
-once_more (x ∷ xs) d h new = (
-  any_push (bytes_eq x) xs d ∙ both_false _ _ h.0 (same_back d x false (left_false _ _ new)),
-  once_more xs d h.1 (right_false (bytes_eq d x) _ new),
-)
-
--- ---- the set
-
-ties : (d q : List ℕ) → is_eq (id_cmp d q) ≡ bytes_eq q d
-ties d q = sym (same_back d q (is_eq (id_cmp d q)) (texts_ties d q))
-
-pub known_empty : (s : BTreeSet (List ℕ)) → s.keys ≡ [] → AreKnown [] s
-known_empty s e = record { once = tt; same = λ q. ap (λ (ks : List (List ℕ)). list_any (λ k. is_eq (id_cmp q k)) ks) e }
-
-pub known_same : (xs : List (List ℕ)) (s t : BTreeSet (List ℕ)) → AreKnown xs s → t.keys ≡ s.keys → AreKnown xs t
-known_same xs s t h e = record { once = h.once; same = λ q. ap (λ (ks : List (List ℕ)). list_any (λ k. is_eq (id_cmp q k)) ks) e ∙ h.same q }
-
--- a digest that was there already changes nothing
-pub known_again : (xs : List (List ℕ)) (s t : BTreeSet (List ℕ)) (b : Bool) → AreKnown xs s → OnFalse b (t.keys ≡ s.keys) → b ≡ false → AreKnown xs t
-known_again xs s t false h e is = known_same xs s t h e
-known_again xs s t true h e is = absurd (both_ways true is refl)
-
--- a digest that is in neither is added to both
-pub known_more : (xs : List (List ℕ)) (s t : BTreeSet (List ℕ)) (d : List ℕ) → AreKnown xs s → contains id_cmp s d ≡ false
-    → ((q : List ℕ) → contains id_cmp t q ≡ cond (is_eq (id_cmp d q)) true (contains id_cmp s q)) → AreKnown (xs ++ d ∷ []) t
-known_more xs s t d h new added = record {
-  once = once_more xs d h.once (sym (h.same d) ∙ new);
-  same = λ q. added q ∙ ((λ i. cond (ties d q i) true (h.same q i))
-      ∙ (added_or (bytes_eq q d) (list_any (bytes_eq q) xs) ∙ sym (any_push (bytes_eq q) xs d)));
-}
+pub added : (xs ys : List (List ℕ)) (d : List ℕ) (o : Option (ℕ × List ℕ)) → option_map (λ (f : ℕ × List ℕ). f.0) o ≡ position (has_key id_cmp (λ (e : List ℕ). e) d) xs
+    → (IsSome o → ys ≡ xs) → (o ≡ None → ys ≡ xs ++ d ∷ []) → ys ≡ with_digest xs d
+added xs ys d None found known new = new refl ∙ sym (ap (λ (t : Bool). cond t xs (xs ++ d ∷ [])) (sym (ap is_some found ∙ found_any xs d)))
+added xs ys d (Some f) found known new = known refl ∙ sym (ap (λ (t : Bool). cond t xs (xs ++ d ∷ [])) (sym (ap is_some found ∙ found_any xs d)))
 
 -- ---- what is added is taken out again
 

@@ -17,7 +17,7 @@ use Rattle.bk_rounds.specs.Admission.{StandsAt}
 use Rattle.bk_rounds.proofs.Admitted.{admitted_held}
 use Rattle.bk_evidence.specs.declared.batches.BatchRef.{BatchRef}
 use Rattle.bk_evidence.specs.Batches.{Batch, batch_with, has_digest, payload_of}
-use Rattle.bk_evidence.proofs.Indexing.{find_none, find_position, position_push_some}
+use Rattle.bk_evidence.proofs.Naming.{find_none, find_position, position_push_some}
 use Rattle.bk_flatten.specs.Batches.{named_at, stands, once, Listed, listed_with, AreFound, IsFoundWhole, payload_at, payloads_of, cons_payload, before_missing}
 use Rattle.bk_flatten.specs.private.Listing.{with_digest, with_digests}
 use Rattle.bk_flatten.proofs.Listing.{same_back}

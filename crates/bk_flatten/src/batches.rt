@@ -8,10 +8,11 @@ ghost use Rattle.bk_rounds.specs.Admission.{IsPresent};
 ghost use Rattle.bk_evidence.specs.declared.batches.BatchRef.{BatchRef};
 ghost use Rattle.bk_flatten.specs.Batches.{named_at, once, listed_with, AreFound, IsFoundWhole, payloads_of, batches_of};
 
-use crate::digests::{Digests, add_all};
+use crate::digests::add_all;
 use bk_cert::CertRef;
 use bk_digest::Digest32;
 use bk_evidence::{BatchRef, Batches};
+use bk_index::KeyedList;
 use bk_rounds::Rounds;
 use std::alloc::{AllocError, Global};
 use std::marker::Model;
@@ -22,7 +23,7 @@ use std::marker::Model;
 #[derive(Drop)]
 pub struct BatchList {
     alloc: Global,
-    digests: Digests,
+    digests: KeyedList<Digest32, Digest32>,
     found: Vec<BatchRef>,
 }
 
@@ -41,7 +42,7 @@ impl BatchList {
     {
         BatchList {
             alloc,
-            digests: Digests::new(alloc),
+            digests: KeyedList::new(alloc),
             found: Vec::new(alloc),
         }
     }

@@ -10,7 +10,6 @@ use Rattle.bk_cert.proofs.Lists.{none_in_nil, contains_cases, contains_first, co
 use Rattle.bk_committee.specs.Payload.{CommitteeValue}
 use Rattle.bk_evidence.specs.Batches.{Batch, has_digest, payload_of}
 use Rattle.bk_flatten.specs.Batches.{Payloads, before_missing, cons_payload, digests_of, once}
-use Rattle.bk_flatten.specs.private.Listing.{AreOnce}
 use Rattle.bk_certcheck.specs.Frames.{batches_in}
 use Rattle.bk_order.specs.Frames.{AreBatches}
 use Rattle.bk_order.specs.Orders.{Ordered, IsOrderOf}
@@ -19,7 +18,7 @@ use Rattle.bk_order.proofs.Frames.{length_mapped}
 use Rattle.bk_order.proofs.OnceMore.{any_once, one_found}
 use Rattle.bk_order.proofs.Tallying.{batch_listed}
 use Rattle.bk_summary.specs.Summary.{ordered_digests, unordered_digests}
-use Rattle.bk_summary.proofs.Unordered.{once_are_once, once_front, outside_counts}
+use Rattle.bk_summary.proofs.Unordered.{AreOnce, once_are_once, once_front, outside_counts}
 
 -- a payload that is found under a digest is one of the batches
 pub record IsFoundIn (batches : List Batch) (d p : List ℕ) : Type 0 where

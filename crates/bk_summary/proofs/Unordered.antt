@@ -7,7 +7,11 @@ use Rattle.std.proofs.lemmas.Bool.{both_ways}
 use Rattle.std.proofs.lemmas.Slice.Eq.{bytes_eq-Decides}
 use Rattle.bk_cert.proofs.Lists.{contains_first, contains_later}
 use Rattle.bk_flatten.specs.Batches.{once}
-use Rattle.bk_flatten.specs.private.Listing.{AreOnce}
+
+-- no digest is repeated
+abbrev pub AreOnce : List (List ℕ) → Type 0
+AreOnce [] = Unit {0}
+AreOnce (d ∷ more) = (list_any (bytes_eq d) more ≡ false) × AreOnce more
 
 -- a digest that differs
 abbrev pub other_than : List ℕ → List ℕ → Bool

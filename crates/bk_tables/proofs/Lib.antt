@@ -33,3 +33,4 @@ pub mod PostingTables
 pub mod PostingsGrow
 pub mod CountedOnce
 pub mod RowsCounted
+pub mod Known

@@ -7,3 +7,4 @@ pub mod Runs
 pub mod Shows
 pub mod Sheets
 pub mod Walking
+pub mod Known

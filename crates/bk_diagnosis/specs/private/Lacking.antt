@@ -5,7 +5,7 @@ use Rattle.std.specs.Str.{bytes_eq}
 use Rattle.std.specs.BTreeSet.{BTreeSet}
 use Rattle.bk_cert.specs.declared.place.CertRef.{CertRef}
 use Rattle.bk_evidence.specs.Batches.{Batch}
-use Rattle.bk_flatten.specs.private.Listing as listing
+use Rattle.bk_diagnosis.specs.private.Known as listing
 use Rattle.bk_order.specs.Intake.{Taken}
 use Rattle.bk_rounds.specs.Rounds.{RoundsValue}
 use Rattle.bk_diagnosis.specs.Missing.{Naming, is_lacking, missing_in, missing_line}

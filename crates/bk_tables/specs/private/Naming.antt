@@ -5,7 +5,7 @@ use Rattle.std.specs.Str.{bytes_eq}
 use Rattle.std.specs.BTreeSet.{BTreeSet}
 use Rattle.bk_cert.specs.Node.{Node}
 use Rattle.bk_flatten.specs.Batches as flatten
-use Rattle.bk_flatten.specs.private.Listing as listing
+use Rattle.bk_tables.specs.private.Known as listing
 use Rattle.bk_tables.specs.declared.naming.Named.{Named}
 use Rattle.bk_tables.specs.declared.placing.Placed.{Placed}
 

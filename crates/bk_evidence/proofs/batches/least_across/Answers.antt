@@ -1,7 +1,7 @@
 use Rattle.std.proofs.Common.{◌≡◌, arith, length, ap, subst}
 use Rattle.bk_evidence.specs.Batches.{Batch}
 use Rattle.bk_evidence.specs.Collisions.{id_cmp}
-use Rattle.bk_evidence.specs.private.Indexed.{CollidesWith}
+use Rattle.bk_evidence.specs.private.Named.{CollidesWith}
 use Rattle.bk_evidence.specs.private.Least.{IsLeastBy}
 use Rattle.bk_evidence.proofs.Across.{across_other, across_same}
 use Rattle.bk_evidence.proofs.batches.least_across.Goals as goal

@@ -1,5 +1,5 @@
 use Rattle.bk_evidence.specs.Collisions.{id_cmp}
-use Rattle.bk_evidence.specs.private.Indexed.{CollidesWith}
+use Rattle.bk_evidence.specs.private.Named.{CollidesWith}
 use Rattle.bk_evidence.specs.private.Least.{IsLeastBy}
 use Rattle.bk_evidence.proofs.batches.least_across.Given as goal
 

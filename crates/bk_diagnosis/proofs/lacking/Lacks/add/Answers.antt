@@ -1,7 +1,7 @@
 use Rattle.std.proofs.Common.{ℕ, List, map, sym, subst, ◌∙◌}
 use Rattle.std.proofs.lemmas.Bool.{not-true}
-use Rattle.bk_flatten.specs.private.Listing as listing
-use Rattle.bk_flatten.proofs.Listing.{known_again, known_more}
+use Rattle.bk_diagnosis.specs.private.Known as listing
+use Rattle.bk_diagnosis.proofs.Known.{known_again, known_more}
 use Rattle.bk_diagnosis.specs.private.Lacking.{digests_in, naming_of}
 use Rattle.bk_diagnosis.proofs.Lacks.{digests_taken}
 use Rattle.bk_diagnosis.proofs.lacking.Lacks.add.Goals as goal

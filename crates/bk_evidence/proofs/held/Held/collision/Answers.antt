@@ -4,4 +4,4 @@ use Rattle.bk_evidence.proofs.Judging.{same_cert}
 use Rattle.bk_evidence.proofs.held.Held.collision.Goals as goal
 
 pub returns : goal.returns
-returns c = rw (← c.self.view_is) (told (λ (d : Node). d.id) same_cert c.self.inside.certs.items c.self.inside.collision c.self.invariant.0.1)
+returns c = rw (← c.self.view_is) (told (λ (d : Node). d.id) same_cert c.self.inside.certs c.self.inside.collision c.self.invariant.0)

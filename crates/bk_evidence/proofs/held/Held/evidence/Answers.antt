@@ -8,5 +8,5 @@ use Rattle.bk_evidence.proofs.held.Held.evidence.Goals as goal
 
 pub returns : goal.returns
 returns c = rw (c.evidence.ensures, ← c.self.view_is)
-    (subst (λ (xs : List Node). MatchOption (evidence_in xs c.self.inside.places c.self.inside.places.twins) (NoTwins c.self.inside.certs.items) (IsEvidence c.self.inside.certs.items))
-    (sym c.deref.ensures.value) (evidence_told c.self.inside.certs.items c.self.inside.places c.self.invariant.1))
+    (subst (λ (xs : List Node). MatchOption (evidence_in xs c.self.inside.places c.self.inside.places.twins) (NoTwins c.self.inside.certs) (IsEvidence c.self.inside.certs))
+    (sym c.as_slice.ensures) (evidence_told c.self.inside.certs c.self.inside.places c.self.invariant.1))

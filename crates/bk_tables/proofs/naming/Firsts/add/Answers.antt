@@ -1,7 +1,7 @@
 use Rattle.std.proofs.Common.{ℕ, List, sym, subst, ◌∙◌}
 use Rattle.std.proofs.lemmas.Bool.{not-true}
-use Rattle.bk_flatten.specs.private.Listing as listing
-use Rattle.bk_flatten.proofs.Listing.{known_same, known_again, known_more}
+use Rattle.bk_tables.specs.private.Known as listing
+use Rattle.bk_tables.proofs.Known.{known_same, known_again, known_more}
 use Rattle.bk_tables.specs.private.Naming.{digests_in}
 use Rattle.bk_tables.proofs.Names.{digests_more}
 use Rattle.bk_tables.proofs.naming.Firsts.add.Goals as goal

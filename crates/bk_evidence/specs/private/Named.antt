@@ -1,19 +1,12 @@
--- Entries by name: the index of the first one under each.
+-- Entries by name.
 use Rattle.std.specs.Prelude.{◌≡◌, ◌≢◌, ℕ, Bool, List, Contains, take}
-use Rattle.std.specs.List.{position}
 use Rattle.std.specs.Str.{bytes_eq}
-use Rattle.bk_index.specs.Finding.{find}
 use Rattle.bk_evidence.specs.Batches.{Batch}
-use Rattle.bk_evidence.specs.Collisions.{id_cmp, CollidesBy}
+use Rattle.bk_evidence.specs.Collisions.{CollidesBy}
 
 -- the entry has this name
 abbrev pub is_named : {E : Type 0} → (E → List ℕ) → List ℕ → E → Bool
 is_named name id e = bytes_eq (name e) id
-
--- each name has the index of the first entry under it
-pub record IsIndexed {E : Type 0} (name : E → List ℕ) (held : List E)
-    (firsts : List (List ℕ × ℕ)) : Type 0 where
-  pub first : (id : List ℕ) → find id_cmp firsts id ≡ position (is_named name id) held
 
 -- a batch and another one that is held have the same digest
 pub record HasOther (held : List Batch) (b : Batch) : Type 0 where
