@@ -20,7 +20,7 @@ use crate::slice::FEWEST;
 use crate::workers::WORTH_THREADS;
 use bk_conflicts::Plan;
 use bk_pool::{ExecFault, Gate, execute_here_onto, execute_onto};
-use bk_rules::{Receipt, State};
+use bk_rules::{PackedReceipt, State};
 use std::alloc::Global;
 use std::sync::{Arc, Wait};
 use std::thread::Threads;
@@ -34,7 +34,7 @@ fn run_plan<R: Threads + Wait + Sync, G: Gate + Sync>(
     state: State,
     workers: usize,
     gate: &G,
-    receipts: &mut Vec<Receipt>,
+    receipts: &mut Vec<PackedReceipt>,
 ) -> Result<State, ExecFault>
     requires runs { CanRunOn (arc_value plan.now) state }
     requires workers { (1 ≤ workers) × (workers ≤ 64) }
@@ -58,7 +58,7 @@ fn run_part<R: Threads + Wait + Sync, G: Gate + Sync>(
     ready: &Ready,
     workers: usize,
     gate: &G,
-    receipts: &mut Vec<Receipt>,
+    receipts: &mut Vec<PackedReceipt>,
 ) -> Result<State, ExecFault>
     requires runs { CanRunPart ready.now state.now }
     requires workers { (1 ≤ workers) × (workers ≤ 64) }

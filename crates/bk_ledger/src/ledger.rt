@@ -10,7 +10,7 @@ ghost use Rattle.bk_ledger.specs.Executing.{HasRun};
 use crate::batches::Batches;
 use crate::summary::Summary;
 use bk_base::{Row, Version};
-use bk_rules::{Receipt, State, run_near};
+use bk_rules::{PackedReceipt, Receipt, State, run_near};
 use bk_steps::Outcome;
 use std::alloc::{AllocError, Global};
 use std::marker::Model;
@@ -22,7 +22,7 @@ pub struct Ledger {
     // How many transactions each batch holds, `None` where it is void.
     pub(crate) counts: Vec<Option<u16>>,
     // What became of each transaction.
-    pub(crate) receipts: Vec<Receipt>,
+    pub(crate) receipts: Vec<PackedReceipt>,
     // The accounts after them.
     pub(crate) state: State,
 }
@@ -74,7 +74,7 @@ impl Ledger {
     }
 
     /// What became of each transaction.
-    pub fn receipts(&self) -> &[Receipt]
+    pub fn receipts(&self) -> &[PackedReceipt]
         ensures { result.now ≡ self.now.receipts }
     {
         &self.receipts
@@ -91,7 +91,10 @@ impl Ledger {
     pub fn receipt(&self, place: u32) -> Option<Receipt>
         ensures { result ≡ slice_get self.now.receipts place }
     {
-        self.receipts.get(place as usize).copied()
+        match self.receipts.get(place as usize) {
+            Some(packed) => Some(packed.receipt()),
+            None => None,
+        }
     }
 
     /// What the report says of it.

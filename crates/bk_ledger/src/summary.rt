@@ -1,7 +1,7 @@
 //! What a report says of a ledger.
 
 use bk_base::Row;
-use bk_rules::Receipt;
+use bk_rules::PackedReceipt;
 
 /// What batches gave, with the accounts as rows.
 #[derive(Drop)]
@@ -9,7 +9,7 @@ pub struct Summary {
     /// How many transactions each batch holds, `None` where it is void.
     pub counts: Vec<Option<u16>>,
     /// What became of each transaction.
-    pub receipts: Vec<Receipt>,
+    pub receipts: Vec<PackedReceipt>,
     /// The accounts after them.
     pub rows: Vec<Row>,
     /// Their balances, added up.

@@ -6,7 +6,7 @@ use anyhow::Result;
 use bk_base::{Row, Version};
 use bk_frames::Feed;
 use bk_pool::Outcome;
-use bk_rules::{Receipt, Status};
+use bk_rules::{PackedReceipt, Status};
 use bk_tx::Tx;
 use std::alloc::Global;
 
@@ -207,8 +207,9 @@ pub(crate) fn feed_named(alloc: Global, version: Version, name: Name) -> Result<
 
 // ---- outcomes
 
-fn are_receipts(found: &[Receipt], lines: &[Line]) -> bool {
-    for (receipt, (_, status, moved)) in found.iter().zip(lines) {
+fn are_receipts(found: &[PackedReceipt], lines: &[Line]) -> bool {
+    for (packed, (_, status, moved)) in found.iter().zip(lines) {
+        let receipt = packed.receipt();
         if receipt.status != *status || receipt.moved != *moved {
             return false;
         }

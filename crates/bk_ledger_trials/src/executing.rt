@@ -10,7 +10,7 @@ use bk_conflicts::{Plan, Planner};
 use bk_frames::Feed;
 use bk_ledger::{Batches, Ledger};
 use bk_pool::{ExecFault, Gate, Hints, Outcome, execute, execute_with};
-use bk_rules::{Receipt, State};
+use bk_rules::{PackedReceipt, State};
 use std::alloc::Global;
 use std::sync::{Arc, Wait};
 use std::thread::Threads;
@@ -111,7 +111,7 @@ pub(crate) fn in_slices<R: Threads + Wait + Sync, G: Gate + Sync>(
 pub(crate) fn gives(
     alloc: Global,
     outcome: &Outcome,
-    receipts: &[Receipt],
+    receipts: &[PackedReceipt],
     accounts: &[Row],
 ) -> Result<bool> {
     let rows = outcome.state.rows(alloc)?;

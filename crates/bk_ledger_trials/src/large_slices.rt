@@ -10,7 +10,7 @@ use bk_base::Version;
 use bk_frames::Feed;
 use bk_ledger::{Ledger, Summary};
 use bk_pool::Gate;
-use bk_rules::{Receipt, Status};
+use bk_rules::{PackedReceipt, Status};
 use bk_trial_kit::Tally;
 use bk_tx::Tx;
 use std::alloc::Global;
@@ -172,10 +172,10 @@ where
 }
 
 // How many transactions have this status.
-fn with_status(receipts: &[Receipt], status: Status) -> u64 {
+fn with_status(receipts: &[PackedReceipt], status: Status) -> u64 {
     let mut count = 0u64;
-    for receipt in receipts {
-        if receipt.status == status {
+    for packed in receipts {
+        if packed.receipt().status == status {
             count = count.saturating_add(1);
         }
     }

@@ -8,7 +8,7 @@ use anyhow::Result;
 use bk_base::Version;
 use bk_frames::Feed;
 use bk_pool::{Gate, Hints, Outcome};
-use bk_rules::{Receipt, Status};
+use bk_rules::{PackedReceipt, Receipt, Status};
 use bk_trial_kit::Tally;
 use std::alloc::Global;
 use std::sync::Wait;
@@ -82,10 +82,10 @@ fn two_apart(alloc: Global, version: Version) -> Result<Feed> {
 }
 
 fn has_paid_both(alloc: Global, outcome: &Outcome) -> Result<bool> {
-    let receipt = Receipt {
+    let receipt = PackedReceipt::of(Receipt {
         status: Status::Ok,
         moved: 10,
-    };
+    });
     let accounts = [row(1, 0, 1), row(2, 20, 0), row(3, 0, 1), row(4, 20, 0)];
     gives(alloc, outcome, &[receipt, receipt], &accounts)
 }

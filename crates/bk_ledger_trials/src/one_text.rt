@@ -6,7 +6,7 @@ use crate::product::is_applied;
 use anyhow::Result;
 use bk_base::{Row, Version};
 use bk_plain::Folded;
-use bk_rules::Receipt;
+use bk_rules::{PackedReceipt, Receipt};
 use bk_trial_kit::Tally;
 use bk_tx::Tx;
 use std::alloc::Global;
@@ -32,7 +32,7 @@ where
     let feed = feed_alone(alloc, case.version, case.opening, case.text)?;
     let txs = [Tx::decode(case.text)];
     let wanted = folded(alloc, case.version, &txs, case.opening)?;
-    let is_right = wanted.receipts.as_slice() == [case.wanted].as_slice();
+    let is_right = wanted.receipts.as_slice() == [PackedReceipt::of(case.wanted)].as_slice();
     tally.note_part(rt, case.name, "receipt by hand", is_right);
     let is_right = is_applied(rt, alloc, &feed, &wanted)?;
     tally.note_part(rt, case.name, "applied", is_right);

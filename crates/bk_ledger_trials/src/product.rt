@@ -9,7 +9,7 @@ use bk_frames::Feed;
 use bk_ledger::Batches;
 use bk_plain::{Folded, state_of};
 use bk_report::leaves_of;
-use bk_rules::{Receipt, State};
+use bk_rules::{PackedReceipt, Receipt, State};
 use bk_tx::Tx;
 use std::alloc::Global;
 use std::thread::Threads;
@@ -54,7 +54,7 @@ pub(crate) fn is_applied<R: Threads + Sync>(
     let are_same = rows.as_slice() == wanted.after.as_slice();
     Ok(
         are_same
-            && wanted.receipts.as_slice() == [receipt].as_slice()
+            && wanted.receipts.as_slice() == [PackedReceipt::of(receipt)].as_slice()
             && has_digest(rt, alloc, &rows)?,
     )
 }

@@ -1,7 +1,7 @@
 //! How often drawn transactions show what they have to show.
 
 use bk_base::{Row, Version};
-use bk_rules::{Receipt, Status};
+use bk_rules::{PackedReceipt, Receipt, Status};
 use bk_trial_kit::Tally;
 use bk_tx::{Body, Tx};
 
@@ -82,11 +82,11 @@ impl Shown {
         &mut self,
         txs: &[Option<Tx>],
         before: &[Row],
-        receipts: &[Receipt],
+        receipts: &[PackedReceipt],
         after: &[Row],
     ) {
-        for (tx, receipt) in txs.iter().zip(receipts) {
-            self.count_one(tx, *receipt);
+        for (tx, packed) in txs.iter().zip(receipts) {
+            self.count_one(tx, packed.receipt());
         }
         if after.len() > before.len() {
             self.grown = self.grown.saturating_add(1);

@@ -6,7 +6,7 @@ ghost use Rattle.bk_rules.specs.Fold.{state_after, receipts_of};
 use crate::outcome::{Outcome, outcome_of};
 use crate::unfit::Unfit;
 use bk_base::{Row, Version};
-use bk_rules::Receipt;
+use bk_rules::PackedReceipt;
 use bk_tx::Tx;
 use std::alloc::Global;
 
@@ -14,7 +14,7 @@ use std::alloc::Global;
 #[derive(Debug, Drop)]
 pub struct Folded {
     /// The receipt of each, in order.
-    pub receipts: Vec<Receipt>,
+    pub receipts: Vec<PackedReceipt>,
     /// The rows after all of them, by ascending id.
     pub after: Vec<Row>,
 }
@@ -33,7 +33,7 @@ pub fn fold_of(
     let mut receipts = Vec::new(alloc);
     for tx in txs {
         let Outcome { receipt, after } = outcome_of(alloc, version, tx.as_ref(), &before)?;
-        receipts.push(receipt)?;
+        receipts.push(PackedReceipt::of(receipt))?;
         before = after;
     }
     let after = before;

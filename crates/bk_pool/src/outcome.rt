@@ -12,7 +12,7 @@ ghost use Rattle.bk_pool.specs.private.Receipts.{AreAdded, AreStatuses, AreNumbe
 
 use bk_bank::Words;
 use bk_conflicts::Plan;
-use bk_rules::{Account, Receipt, State, Status};
+use bk_rules::{Account, PackedReceipt, Receipt, State, Status};
 use bk_steps::Outcome;
 use std::alloc::{AllocError, Global};
 
@@ -60,7 +60,7 @@ pub fn outcome_onto(
     plan: &Plan,
     state: State,
     words: &Words,
-    receipts: &mut Vec<Receipt>,
+    receipts: &mut Vec<PackedReceipt>,
 ) -> Result<State, ExecFault>
     requires runs { CanRunOn plan.now state }
     requires closed { IsClosed plan.now state words.now }
@@ -88,14 +88,14 @@ pub fn outcome_onto(
 }
 
 // Puts the receipts of the places, all of which are done, at the end of a list that has room for them.
-fn push_receipts(places: usize, words: &Words, receipts: &mut Vec<Receipt>)
+fn push_receipts(places: usize, words: &Words, receipts: &mut Vec<PackedReceipt>)
     requires places { (places ≡ words.now.places) × (places < 2 ^ 31) }
     requires statuses { AreStatuses words.now }
     requires room { vec_len receipts.old + places ≤ vec_capacity receipts.old }
     ensures { AreAdded words.now receipts.old.items receipts.new.items places }
 {
     for place in 0..places {
-        receipts.push_reserved(receipt_of(place as u32, words));
+        receipts.push_reserved(PackedReceipt::of(receipt_of(place as u32, words)));
     }
 }
 

@@ -16,7 +16,7 @@ use crate::place::Gate;
 use crate::work::{serve, try_claim};
 use bk_bank::{Bank, Pass, Words};
 use bk_conflicts::Plan;
-use bk_rules::{Receipt, State};
+use bk_rules::{PackedReceipt, State};
 use bk_steps::Outcome;
 use std::alloc::{AllocError, Global};
 use std::sync::{Arc, Wait};
@@ -56,7 +56,7 @@ pub fn execute_here_onto<G: Gate>(
     plan: &Arc<Plan>,
     state: State,
     gate: &G,
-    receipts: &mut Vec<Receipt>,
+    receipts: &mut Vec<PackedReceipt>,
 ) -> Result<State, ExecFault>
     requires runs { CanRunOn (arc_value plan.now) state }
     ensures fold { IfOk result
@@ -101,7 +101,7 @@ pub fn execute_onto<R: Threads + Wait + Sync, G: Gate + Sync>(
     state: State,
     workers: usize,
     gate: &G,
-    receipts: &mut Vec<Receipt>,
+    receipts: &mut Vec<PackedReceipt>,
 ) -> Result<State, ExecFault>
     requires runs { CanRunOn (arc_value plan.now) state }
     requires workers { (1 ≤ workers) × (workers ≤ 64) }

@@ -62,6 +62,10 @@ line_of_tx receipts i d lt =
     let k : 0 + i ≡ i = omega arith in
     subst (λ (n : ℕ). slice_get (tx_lines 0 receipts) i ≡ Some (line.Tx n (get_or receipts i d).status (get_or receipts i d).moved)) k (get-tx_lines 0 receipts i (get_or receipts i d) (slice_get-get_or receipts i d lt))
 
+-- the same of a receipt that was unpacked
+pub line_of_receipt : (receipts : List Receipt) (i : ℕ) (d r : Receipt) → i < length receipts → r ≡ get_or receipts i d → slice_get (tx_lines 0 receipts) i ≡ Some (line.Tx i r.status r.moved)
+line_of_receipt receipts i d r lt is = line_of_tx receipts i d lt ∙ ap (λ (x : Receipt). Some (line.Tx i x.status x.moved)) (sym is)
+
 -- ---- groups of lines
 
 pub text_two : (xs ys : List Line) → text_of xs ++ text_of ys ≡ text_of (xs ++ ys)

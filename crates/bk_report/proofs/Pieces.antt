@@ -87,12 +87,12 @@ pub length-rows_lines : (receipts : List Receipt) (rows : List Row) → length (
 length-rows_lines receipts rows = omega (arith, length-append (tx_lines 0 receipts) (account_lines rows), length-tx_lines 0 receipts, length-map rows (λ (x : Row). line.Account x.id x.balance x.seq))
 
 -- the text of a line, by its number
-pub tx_text : (receipts : List Receipt) (rows : List Row) (i : ℕ) (d : Receipt) (two : ℕ) (l : Line) → i < length receipts → two ≡ number_of (get_or receipts i d).status → slice_get (rows_lines receipts rows) i ≡ Some l
-    → codes "tx" ++ spaced i ++ spaced two ++ spaced (get_or receipts i d).moved ≡ line_text l
-tx_text receipts rows i d two l low number e =
-    let found : Some (line.Tx i (get_or receipts i d).status (get_or receipts i d).moved) ≡ Some l = sym (tx_at receipts rows i d low) ∙ e in
-    let same : line.Tx i (get_or receipts i d).status (get_or receipts i d).moved ≡ l = cc in
-    ap (λ (n : ℕ). codes "tx" ++ spaced i ++ spaced n ++ spaced (get_or receipts i d).moved) number ∙ ap line_text same
+pub tx_text : (receipts : List Receipt) (rows : List Row) (i : ℕ) (d r : Receipt) (two : ℕ) (l : Line) → i < length receipts → r ≡ get_or receipts i d → two ≡ number_of r.status → slice_get (rows_lines receipts rows) i ≡ Some l
+    → codes "tx" ++ spaced i ++ spaced two ++ spaced r.moved ≡ line_text l
+tx_text receipts rows i d r two l low is number e =
+    let found : Some (line.Tx i r.status r.moved) ≡ Some l = ap (λ (x : Receipt). Some (line.Tx i x.status x.moved)) is ∙ sym (tx_at receipts rows i d low) ∙ e in
+    let same : line.Tx i r.status r.moved ≡ l = cc in
+    ap (λ (n : ℕ). codes "tx" ++ spaced i ++ spaced n ++ spaced r.moved) number ∙ ap line_text same
 
 pub account_text : (receipts : List Receipt) (rows : List Row) (i : ℕ) (d : Row) (l : Line) → length receipts ≤ i → i < length receipts + length rows → slice_get (rows_lines receipts rows) i ≡ Some l
     → codes "account" ++ spaced (get_or rows (i - length receipts) d).id ++ spaced (get_or rows (i - length receipts) d).balance ++ spaced (get_or rows (i - length receipts) d).seq ≡ line_text l

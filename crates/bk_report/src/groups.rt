@@ -13,7 +13,7 @@ use bk_base::Row;
 use bk_cert::CertRef;
 use bk_frames::{Sink, WriteFault};
 use bk_order::Reject;
-use bk_rules::Receipt;
+use bk_rules::{PackedReceipt, Receipt};
 
 /// Puts a line for each rejected certificate.
 pub fn put_rejects<K: Sink>(
@@ -129,7 +129,7 @@ pub fn put_batches<K: Sink>(
 pub fn put_receipts<K: Sink>(
     sink: &mut K,
     page: &mut Page,
-    receipts: &[Receipt],
+    receipts: &[PackedReceipt],
 ) -> Result<(), WriteFault>
     requires sound { CanBeUsed (K.state sink.old) }
     requires few { length receipts.now < 2 ^ 32 }
@@ -138,8 +138,8 @@ pub fn put_receipts<K: Sink>(
         (text_of (tx_lines 0 receipts.now)) }
     ensures size { OnOk result (size_of page.new ≤ size_of page.old + 96 * length receipts.now) }
 {
-    for (index, receipt) in receipts.iter().enumerate() {
-        let Receipt { status, moved } = *receipt;
+    for (index, packed) in receipts.iter().enumerate() {
+        let Receipt { status, moved } = packed.receipt();
         let place = index as u32;
         page.put(
             sink,

@@ -25,7 +25,7 @@ use bk_committee::Committee;
 use bk_digest::{Digest32, tree_root_with};
 use bk_frames::{Sink, WriteFault};
 use bk_order::Reject;
-use bk_rules::Receipt;
+use bk_rules::PackedReceipt;
 use std::thread::{Threads, join_mut};
 
 /// What the report of a run shows.
@@ -42,7 +42,7 @@ pub struct Parts<'a> {
     pub counts: &'a [Option<u16>],
     /// The digest of the batch at which the order stops.
     pub missing: Option<&'a Digest32>,
-    pub receipts: &'a [Receipt],
+    pub receipts: &'a [PackedReceipt],
     /// The accounts after the transactions.
     pub rows: &'a [Row],
     /// Their balances, added up.

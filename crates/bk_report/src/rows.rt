@@ -9,7 +9,7 @@ ghost use Rattle.bk_results.specs.Lines.{spaced};
 
 use crate::page::{put_text, write_before};
 use bk_base::Row;
-use bk_rules::Receipt;
+use bk_rules::{PackedReceipt, Receipt};
 
 // How many lines are written before they are copied to a text, at once.
 const BLOCK: usize = 64;
@@ -48,7 +48,7 @@ fn three_before(text: &mut [u8], end: usize, word: &[u8], one: u64, two: u64, th
 // Writes one of these lines before an index of a text, and returns where it begins.
 #[inline(always)]
 fn line_before(
-    receipts: &[Receipt],
+    receipts: &[PackedReceipt],
     rows: &[Row],
     index: usize,
     text: &mut [u8],
@@ -63,7 +63,7 @@ fn line_before(
     ensures length { length text.new ≡ length text.old }
 {
     if index < receipts.len() {
-        let Receipt { status, moved } = receipts[index];
+        let Receipt { status, moved } = receipts[index].receipt();
         let place = index as u64;
         let status = u64::from(status.number());
         return three_before(text, end, b"tx", place, status, moved);
@@ -77,7 +77,7 @@ fn line_before(
 // The last line is written first, and each number from its last digit on: a copy of digits that were just written would
 // wait for them.
 fn write_lines(
-    receipts: &[Receipt],
+    receipts: &[PackedReceipt],
     rows: &[Row],
     start: usize,
     count: usize,
@@ -102,7 +102,7 @@ fn write_lines(
 
 /// Puts this many lines from one on, where there is room for 96 bytes for each.
 pub(crate) fn put_lines(
-    receipts: &[Receipt],
+    receipts: &[PackedReceipt],
     rows: &[Row],
     start: usize,
     count: usize,

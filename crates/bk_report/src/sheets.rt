@@ -13,7 +13,7 @@ use crate::page::{LINE, Page};
 use crate::rows::put_lines;
 use bk_base::Row;
 use bk_frames::{Sink, WriteFault};
-use bk_rules::Receipt;
+use bk_rules::PackedReceipt;
 use std::alloc::{AllocError, Global};
 use std::marker::Model;
 use std::mem::swap;
@@ -55,7 +55,7 @@ impl Sheet {
     }
 
     // Makes it the text of the lines from one on.
-    fn fill(&mut self, receipts: &[Receipt], rows: &[Row], start: usize)
+    fn fill(&mut self, receipts: &[PackedReceipt], rows: &[Row], start: usize)
         requires receipts { length receipts.now < 2 ^ 32 }
         requires rows { length rows.now < 2 ^ 32 }
         ensures { IsPiece (rows_lines receipts.now rows.now) start self.new }
@@ -121,7 +121,7 @@ fn fill_two<R: Threads + Sync>(
     rt: &R,
     one: &mut Sheet,
     two: &mut Sheet,
-    receipts: &[Receipt],
+    receipts: &[PackedReceipt],
     rows: &[Row],
     start: usize,
 )
@@ -166,7 +166,13 @@ fn put_two<K: Sink>(
 
 impl Four {
     // Makes the text of the lines from one on, in four threads.
-    fn fill<R: Threads + Sync>(&mut self, rt: &R, receipts: &[Receipt], rows: &[Row], start: usize)
+    fn fill<R: Threads + Sync>(
+        &mut self,
+        rt: &R,
+        receipts: &[PackedReceipt],
+        rows: &[Row],
+        start: usize,
+    )
         requires receipts { length receipts.now < 2 ^ 32 }
         requires rows { length rows.now < 2 ^ 32 }
         requires start { start < 2 ^ 39 }
@@ -218,7 +224,7 @@ fn put_round<R: Threads + Sync, K: Sink>(
     page: &mut Page,
     front: &Four,
     back: &mut Four,
-    receipts: &[Receipt],
+    receipts: &[PackedReceipt],
     rows: &[Row],
     start: usize,
 ) -> Result<(), WriteFault>
@@ -276,7 +282,7 @@ fn put_rounds<R: Threads + Sync, K: Sink>(
     page: &mut Page,
     front: &mut Four,
     back: &mut Four,
-    receipts: &[Receipt],
+    receipts: &[PackedReceipt],
     rows: &[Row],
 ) -> Result<(), WriteFault>
     requires sound { CanBeUsed (K.state sink.old) }
@@ -305,7 +311,7 @@ pub(crate) fn put_sheets<R: Threads + Sync, K: Sink>(
     sink: &mut K,
     page: &mut Page,
     sheets: &mut Sheets,
-    receipts: &[Receipt],
+    receipts: &[PackedReceipt],
     rows: &[Row],
 ) -> Result<(), WriteFault>
     requires sound { CanBeUsed (K.state sink.old) }

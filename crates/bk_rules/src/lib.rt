@@ -22,7 +22,7 @@ pub use laws::{
     part_is_enough, room_is_left, rows_are_known, rule_is_local, rule_of_rows, total_is_kept,
 };
 pub use local::Local;
-pub use receipt::{Receipt, Status};
+pub use receipt::{PackedReceipt, Receipt, Status};
 pub use rule::{Effect, apply_local, settle};
 pub use run::{run_in_order, run_near};
 pub use state::State;

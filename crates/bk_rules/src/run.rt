@@ -3,7 +3,7 @@ ghost use Rattle.bk_rules.specs.Fold.{state_after, receipts_of, HasRoom};
 ghost use Rattle.bk_rules.specs.Ledger.{ledger_of, are_covered};
 
 use crate::account::Account;
-use crate::receipt::Receipt;
+use crate::receipt::PackedReceipt;
 use crate::state::State;
 use bk_tx::{MOST_DECLARED, Tx};
 use std::alloc::{AllocError, Global};
@@ -18,7 +18,7 @@ pub fn run_in_order(
     alloc: Global,
     state: &mut State,
     txs: &[Option<Tx>],
-) -> Result<Vec<Receipt>, AllocError>
+) -> Result<Vec<PackedReceipt>, AllocError>
     requires covers { are_covered state.old.version state.old.slots txs.now ≡ true }
     requires room { HasRoom state.old.version (length txs.now) state.old.rows }
     ensures receipts { IfOk result (λ receipts.
@@ -37,7 +37,7 @@ pub fn run_near(
     state: &mut State,
     txs: &[Option<Tx>],
     known: &[u32],
-) -> Result<Vec<Receipt>, AllocError>
+) -> Result<Vec<PackedReceipt>, AllocError>
     requires covers { are_covered state.old.version state.old.slots txs.now ≡ true }
     requires room { HasRoom state.old.version (length txs.now) state.old.rows }
     ensures receipts { IfOk result (λ receipts.
@@ -54,7 +54,7 @@ pub fn run_near(
             at = begin_block(&mut found, state, &txs[i..], known, at);
         }
         let near = near_from(either(known, &found), at);
-        receipts.push(state.apply_near(tx.as_ref(), near))?;
+        receipts.push(PackedReceipt::of(state.apply_near(tx.as_ref(), near)))?;
         at = at.saturating_add(count_of(tx.as_ref()));
     }
     Ok(receipts)

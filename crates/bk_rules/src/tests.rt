@@ -3,11 +3,12 @@ ghost use Rattle.std.specs.Prelude.{◌≡◌, ◌∷◌, [], Some};
 
 use crate::account::{Account, account_leaf};
 use crate::ids::Ids;
-use crate::receipt::Status;
+use crate::receipt::{PackedReceipt, Receipt, Status};
 use crate::rule::apply_local;
 use crate::state::State;
 use bk_base::{Row, Version};
 use bk_tx::{Body, Declarations, Declared, Tx};
+use std::mem::size_of;
 use std::test::Fail;
 
 fn row(id: u64, balance: u64, seq: u64) -> Row
@@ -256,5 +257,18 @@ fn leaf_and_numbers(rt: HostRuntime) -> Result<(), Fail> {
     assert_eq!(rt; Status::Funds.number(), 6);
     assert_eq!(rt; Status::of_number(4), Some(Status::Stale));
     assert_eq!(rt; Status::of_number(7), None);
+    Ok(())
+}
+
+#[test]
+fn receipts_in_nine_bytes(rt: HostRuntime) -> Result<(), Fail> {
+    assert_eq!(rt; size_of::<PackedReceipt>(), 9);
+    for number in 0..7 {
+        let status = Status::of_number(number).ok_or("seven statuses")?;
+        for moved in [0, 1, 0x0102_0304_0506_0708, u64::MAX] {
+            let receipt = Receipt { status, moved };
+            assert_eq!(rt; PackedReceipt::of(receipt).receipt(), receipt);
+        }
+    }
     Ok(())
 }

@@ -7,7 +7,7 @@ ghost use Rattle.bk_steps.specs.declared.outcome.ScheduleFault.TheVariants.{OutO
 
 use crate::stage::Stage;
 use bk_base::Refused;
-use bk_rules::{Receipt, State};
+use bk_rules::{PackedReceipt, State};
 use std::alloc::{AllocError, Global};
 
 /// The accounts after all places, and the receipt of each.
@@ -16,7 +16,7 @@ pub struct Outcome {
     /// The accounts.
     pub state: State,
     /// A receipt for each place, in the order of the places.
-    pub receipts: Vec<Receipt>,
+    pub receipts: Vec<PackedReceipt>,
 }
 
 /// Why a list of events gives no outcome.
@@ -44,7 +44,10 @@ impl From<AllocError> for ScheduleFault {
 }
 
 // The receipts of the places, or the least of them that is not done.
-pub(crate) fn receipts_of(alloc: Global, stages: &[Stage]) -> Result<Vec<Receipt>, ScheduleFault>
+pub(crate) fn receipts_of(
+    alloc: Global,
+    stages: &[Stage],
+) -> Result<Vec<PackedReceipt>, ScheduleFault>
     requires { length stages.now < 2 ^ 31 }
     ensures done { IfOk result (λ receipts. map (λ r. Done r) receipts.items ≡ stages.now) }
     ensures left { IfErr result (λ fault. IsFirstLeft stages.now fault) }
@@ -54,7 +57,7 @@ pub(crate) fn receipts_of(alloc: Global, stages: &[Stage]) -> Result<Vec<Receipt
         let Stage::Done(receipt) = stages[place] else {
             return Err(ScheduleFault::Unfinished(place as u32));
         };
-        if receipts.push(receipt).is_err() {
+        if receipts.push(PackedReceipt::of(receipt)).is_err() {
             return Err(ScheduleFault::OutOfMemory);
         }
     }

@@ -5,26 +5,26 @@ ghost use Rattle.bk_rules.specs.Numbers.{number_of};
 ghost use Rattle.bk_summary.specs.Summary.{receipts_by, tx_counts};
 
 use crate::summary::TxCounts;
-use bk_rules::{Receipt, Status};
+use bk_rules::{PackedReceipt, Status};
 
 // How many receipts have a status.
-fn receipts_by(status: Status, receipts: &[Receipt]) -> u64
+fn receipts_by(status: Status, receipts: &[PackedReceipt]) -> u64
     ensures { result ≡ receipts_by status receipts.now }
 {
     let number = status.number();
     let count = receipts
         .iter()
         .filter(
-            |receipt: &&Receipt| -> bool
-                ensures { result ≡ (number_of receipt.now.now.status == number) }
-            { receipt.status.number() == number },
+            |packed: &&PackedReceipt| -> bool
+                ensures { result ≡ (number_of packed.now.now.status == number) }
+            { packed.receipt().status.number() == number },
         )
         .count();
     count as u64
 }
 
 /// How many there are of each.
-pub(crate) fn tx_counts(receipts: &[Receipt]) -> TxCounts
+pub(crate) fn tx_counts(receipts: &[PackedReceipt]) -> TxCounts
     ensures { result ≡ tx_counts receipts.now }
 {
     TxCounts {

@@ -173,7 +173,7 @@ pub moved_on : (ids : Option (List ℕ)) (receipts : List Receipt) (batch place 
 moved_on ids receipts batch place place' m n texts a b p q whole e f h = subst (λ (x : ℕ × ℕ). InBatch ids receipts batch x.0 x.1 texts a b p q whole) (λ i. (e i, f i)) h
 
 -- what is put for a text is its rows
-pub place_shown : (ids : Option (List ℕ)) (receipts : List Receipt) (batch place : ℕ) (d : Receipt) (t t' : Option Transaction) → place < length receipts → t ≡ t'
-    → payments_text ids (rows_at (record { place = place; batch = batch; receipt = get_or receipts place d }) t) ≡ payments_text ids (rows_at (record { place = place; batch = batch; receipt = receipt_at receipts place }) t')
-place_shown ids receipts batch place d t t' low f =
-    (λ i. payments_text ids (rows_at (record { place = place; batch = batch; receipt = get_or_default receipts place d (record { status = status.Malformed; moved = 0 }) low i }) (f i)))
+pub place_shown : (ids : Option (List ℕ)) (receipts : List Receipt) (batch place : ℕ) (d r : Receipt) (t t' : Option Transaction) → place < length receipts → r ≡ get_or receipts place d → t ≡ t'
+    → payments_text ids (rows_at (record { place = place; batch = batch; receipt = r }) t) ≡ payments_text ids (rows_at (record { place = place; batch = batch; receipt = receipt_at receipts place }) t')
+place_shown ids receipts batch place d r t t' low is f =
+    (λ i. payments_text ids (rows_at (record { place = place; batch = batch; receipt = (is ∙ get_or_default receipts place d (record { status = status.Malformed; moved = 0 }) low) i }) (f i)))

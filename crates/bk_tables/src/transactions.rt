@@ -29,7 +29,7 @@ use bk_frames::{Sink, WriteFault};
 use bk_ledger::Ledger;
 use bk_order::Intake;
 use bk_results::{Fault, Status};
-use bk_rules::Receipt;
+use bk_rules::PackedReceipt;
 use bk_tx::Tx;
 use std::alloc::{AllocError, Global};
 use std::marker::Model;
@@ -46,7 +46,7 @@ fn put_batch<K: Sink>(
     payload: &[u8],
     batch: u32,
     place: usize,
-    receipts: &[Receipt],
+    receipts: &[PackedReceipt],
 ) -> Result<(), WriteFault>
     requires sound { CanBeUsed (K.state sink.old) }
     requires grammar { IsSome (count_in payload.now) }
@@ -70,7 +70,7 @@ fn put_batch<K: Sink>(
         let at = At {
             place: (place + index) as u32,
             batch,
-            receipt: receipts[place + index],
+            receipt: receipts[place + index].receipt(),
         };
         put_place(sink, sheet, accounts, at, Tx::decode(text).as_ref())?;
     }

@@ -13,7 +13,7 @@ ghost use Rattle.bk_views.specs.private.Accounts.{IsPlaceOf};
 use crate::entry::{Entry, Numbers, Role};
 use crate::parts::{after_part, amount_of, role_in};
 use bk_base::Row;
-use bk_rules::{Account, Receipt};
+use bk_rules::{Account, PackedReceipt, Receipt};
 use bk_tx::{Slice, Tx, read_batch};
 use std::alloc::{AllocError, Global};
 use std::fmt::Write;
@@ -61,11 +61,11 @@ fn account_in(rows: &[Row], id: u64) -> Option<Account>
 }
 
 // The receipt of a place.
-fn receipt_at(receipts: &[Receipt], place: usize) -> Receipt
+fn receipt_at(receipts: &[PackedReceipt], place: usize) -> Receipt
     requires { place < length receipts.now }
     ensures { slice_get receipts.now place ≡ Some result }
 {
-    receipts[place]
+    receipts[place].receipt()
 }
 
 impl Statement {
@@ -135,7 +135,7 @@ impl Statement {
         &mut self,
         payload: &[u8],
         slice: Slice,
-        receipts: &[Receipt],
+        receipts: &[PackedReceipt],
     ) -> Result<(), AllocError>
         requires within { IsWithin payload.now slice }
         requires inside { self.old.place < length receipts.now }
@@ -157,7 +157,7 @@ impl Statement {
         &mut self,
         payload: &[u8],
         slices: &[Slice],
-        receipts: &[Receipt],
+        receipts: &[PackedReceipt],
     ) -> Result<(), AllocError>
         requires within { All (IsWithin payload.now) slices.now }
         requires inside { self.old.place + length slices.now ≤ length receipts.now }
@@ -178,7 +178,7 @@ impl Statement {
         &mut self,
         alloc: Global,
         payload: &[u8],
-        receipts: &[Receipt],
+        receipts: &[PackedReceipt],
     ) -> Result<(), AllocError>
         requires inside { self.old.place + length (transactions_in payload.now)
             ≤ length receipts.now }

@@ -1,4 +1,4 @@
-use Rattle.std.proofs.Common.{arith}
+use Rattle.std.proofs.Common.{◌∙◌, arith}
 use Rattle.bk_rules.proofs.Folding.{state_turn, receipts_turn, room_turn, covered_turn}
 use Rattle.bk_rules.proofs.run.run_near.Goals as goal
 
@@ -14,7 +14,7 @@ loop-i-preserved c =
     let so_far = c.loop-i.invariant.state in
     record {
       state = state_turn c.args.txs.now c.loop-i.i c.index-txs-i.result _ c.args.state.now c.loop-i.state low c.as_ref.ensures.value c.index-txs-i.is so_far c.apply_near.new.self c.apply_near.ensures.after;
-      receipts = receipts_turn c.args.txs.now c.loop-i.i c.index-txs-i.result _ c.args.state.now c.loop-i.state low c.as_ref.ensures.value c.index-txs-i.is so_far c.loop-i.receipts.items c.push.new.self.items c.apply_near.result c.loop-i.invariant.receipts c.in_ok-push.ensures.items c.apply_near.ensures.receipt;
+      receipts = receipts_turn c.args.txs.now c.loop-i.i c.index-txs-i.result _ c.args.state.now c.loop-i.state low c.as_ref.ensures.value c.index-txs-i.is so_far c.loop-i.receipts.items c.push.new.self.items c.of.result c.loop-i.invariant.receipts c.in_ok-push.ensures.items (c.of.ensures ∙ c.apply_near.ensures.receipt);
       room = omega (arith, c.push.ensures.capacity);
       count = omega (arith, c.in_ok-push.ensures.len);
     }

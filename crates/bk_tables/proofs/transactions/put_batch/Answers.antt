@@ -1,6 +1,5 @@
 use Rattle.std.proofs.Common.{◌+◌, ◌-◌, refl, ◌∙◌, arith}
 use Rattle.std.proofs.lemmas.Result.{err_from_is_err_and}
-use Rattle.bk_rules.specs.declared.receipt.Status.TheVariants as status
 use Rattle.bk_tables.proofs.Walks.{batch_begun, batch_done, moved_on, place_shown, some_left, text_missing, text_put, text_stops, texts_are, texts_counted, texts_there}
 use Rattle.bk_tables.proofs.transactions.put_batch.Goals as goal
 
@@ -35,13 +34,13 @@ pub returns-in_err-put_place-clause-written : goal.returns-in_err-put_place-clau
 returns-in_err-put_place-clause-written g c =
     let p = err_from_is_err_and c.from_residual.result c.from_residual.ensures.1 in
     rw (p.1, p.2) (text_stops c.args.accounts.now c.args.receipts.now c.args.batch (c.args.place + c.loop-index.index) (c.from-index-end.result - (c.loop-index.index + 1)) c.loop-index.texts c.next_text.new.texts c.in-Some-next_text.text.now _ _ _ _ _
-    (some_left _ _ _ _ _ _ _ _ _ _ _ _ (omega (arith, c.loop-index-test.true)) c.loop-index.invariant.put) c.in-Some-next_text.ensures _ _ _ (place_shown c.args.accounts.now c.args.receipts.now c.args.batch (c.args.place + c.loop-index.index) (record { status = status.Ok; moved = 0 }) _ _ (let n = texts_counted c.in-Some.count c.u16.new.self c.args.payload.now (texts_are c.in-Some.count c.u16.new.self c.args.payload.now c.requires.grammar (rw c.new-texts.ensures at c.in-Some.ensures.found)) in omega (arith, n, c.from-index-end.ensures, c.loop-index-test.true, c.requires.inside)) (c.as_ref.ensures.value ∙ c.decode.ensures.exact)) c.in_err-put_place.ensures.written)
+    (some_left _ _ _ _ _ _ _ _ _ _ _ _ (omega (arith, c.loop-index-test.true)) c.loop-index.invariant.put) c.in-Some-next_text.ensures _ _ _ (place_shown c.args.accounts.now c.args.receipts.now c.args.batch (c.args.place + c.loop-index.index) _ c.receipt.result _ _ (let n = texts_counted c.in-Some.count c.u16.new.self c.args.payload.now (texts_are c.in-Some.count c.u16.new.self c.args.payload.now c.requires.grammar (rw c.new-texts.ensures at c.in-Some.ensures.found)) in omega (arith, n, c.from-index-end.ensures, c.loop-index-test.true, c.requires.inside)) (c.receipt.ensures ∙ c.index-receipts-place.is) (c.as_ref.ensures.value ∙ c.decode.ensures.exact)) c.in_err-put_place.ensures.written)
 
 pub loop-index-preserved : goal.loop-index-preserved
 loop-index-preserved g c = record {
   put = moved_on _ _ _ (c.args.place + c.loop-index.index + 1) _ (c.from-index-end.result - (c.loop-index.index + 1)) _ _ _ _ _ _ _ (omega arith) refl
       (text_put c.args.accounts.now c.args.receipts.now c.args.batch (c.args.place + c.loop-index.index) (c.from-index-end.result - (c.loop-index.index + 1)) c.loop-index.texts c.next_text.new.texts c.in-Some-next_text.text.now _ _ _ _ _
-      (some_left _ _ _ _ _ _ _ _ _ _ _ _ (omega (arith, c.loop-index-test.true)) c.loop-index.invariant.put) c.in-Some-next_text.ensures _ _ _ (place_shown c.args.accounts.now c.args.receipts.now c.args.batch (c.args.place + c.loop-index.index) (record { status = status.Ok; moved = 0 }) _ _ (let n = texts_counted c.in-Some.count c.u16.new.self c.args.payload.now (texts_are c.in-Some.count c.u16.new.self c.args.payload.now c.requires.grammar (rw c.new-texts.ensures at c.in-Some.ensures.found)) in omega (arith, n, c.from-index-end.ensures, c.loop-index-test.true, c.requires.inside)) (c.as_ref.ensures.value ∙ c.decode.ensures.exact)) c.in_ok-put_place.ensures.written);
+      (some_left _ _ _ _ _ _ _ _ _ _ _ _ (omega (arith, c.loop-index-test.true)) c.loop-index.invariant.put) c.in-Some-next_text.ensures _ _ _ (place_shown c.args.accounts.now c.args.receipts.now c.args.batch (c.args.place + c.loop-index.index) _ c.receipt.result _ _ (let n = texts_counted c.in-Some.count c.u16.new.self c.args.payload.now (texts_are c.in-Some.count c.u16.new.self c.args.payload.now c.requires.grammar (rw c.new-texts.ensures at c.in-Some.ensures.found)) in omega (arith, n, c.from-index-end.ensures, c.loop-index-test.true, c.requires.inside)) (c.receipt.ensures ∙ c.index-receipts-place.is) (c.as_ref.ensures.value ∙ c.decode.ensures.exact)) c.in_ok-put_place.ensures.written);
   size = omega (arith, c.loop-index.invariant.size, c.in_ok-put_place.ensures.size);
 }
 
