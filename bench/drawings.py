@@ -55,13 +55,23 @@ def path(kind, x, segments):
     return f"<path class='{kind}' transform='translate({x})' d='{lines}'/>\n"
 
 
-def links(committee, admitted, shown, first, number, x):
+def named_of(committee, certificates):
+    """The parents that each certificate which breaks no rule names, as authors of the round before, as far as the feed has
+    them, admitted or not."""
+    parts = {struct.unpack_from(">BI", it)[::-1]: parts_of(it) for it in certificates
+             if verdict(committee, it)[0] is None}
+    authors = {(number, id_of(header)): author for (number, author), (header, _, _) in parts.items()}
+    return {(number, author): {authors[number - 1, it] for it in parents if (number - 1, it) in authors}
+            for (number, author), (_, parents, _) in parts.items()}
+
+
+def links(committee, named, admitted, shown, first, number, x):
     """The lines from the certificates of a round to their parents, and those of them that are votes, as far as they are
-    shown."""
+    shown. A certificate that waits has no vote."""
     drawn = [(member, parent) for member in range(committee.n) if number > first
-             for parent in sorted(admitted.get((number, member), ()))]
+             for parent in sorted(named.get((number, member), ()))]
     votes = [(member, parent) for member, parent in drawn
-             if number % 2 == 0 and parent == leader_of(committee, number - 1)]
+             if (number, member) in admitted and number % 2 == 0 and parent == leader_of(committee, number - 1)]
     if shown == "all":
         return path("l", x, drawn) + path("v", x, votes)
     return path(THIN, x, votes) if shown == "votes" else ""
@@ -109,6 +119,7 @@ def dag_text(version, frames, first, count, asked=None):
     good = {struct.unpack_from(">BI", it)[::-1]: id_of(parts_of(it)[0]) for it in certificates
             if verdict(committee, it)[0] is None}
     rejected = sum(verdict(committee, it)[0] is not None for it in certificates)
+    named = named_of(committee, certificates)
     admitted = admitted_of(committee, frames)
     rows = {int(line.split()[1]): line for line in anchors_lines(version, frames)}
     classes = classes_of(committee, good, admitted, rows)
@@ -117,7 +128,7 @@ def dag_text(version, frames, first, count, asked=None):
     places = [(number, 40 * (number - first) + 60) for number in drawn]
     labels = (f"<text x='24' y='{height(member) + 4}'>{member}</text>\n" for member in range(committee.n))
     return (head(name_of(first, drawn, last, committee.n, shown), len(drawn), committee.n)
-            + "".join(links(committee, admitted, shown, first, *place) for place in places)
+            + "".join(links(committee, named, admitted, shown, first, *place) for place in places)
             + "".join(column(committee, good, classes, rows.get(number), number, x) for number, x in places)
             + "".join(labels) + f"<g class='k' transform='translate(60 {height(committee.n) + 20})'>\n"
             + key(shown) + f"<text y='100'>rejected frames, not drawn: {rejected} (see bkreplay frames)</text>\n"

@@ -332,7 +332,7 @@ rounds it shows of how many, and if lines are left out.
                                   it
   ring                            the place of the leader of an odd round, by what became of its anchor: thick if it is
                                   `voted`, in long dashes if `linked`, in dots if `skipped`, thin if `open`
-  line                            from an admitted certificate to a parent; thick if it is a vote for an anchor
+  line                            from a certificate to a parent of the round before; thick if it is a vote for an anchor
 
 Exit status:
   0  the picture is written

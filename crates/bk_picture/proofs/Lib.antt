@@ -1,4 +1,5 @@
 pub mod Ids
+pub mod Named
 pub mod LastRounds
 pub mod Puts
 pub mod Filling

@@ -6,7 +6,7 @@ unfoldable pub desc_text : List ℕ
 desc_text =
     codes "<desc>A column for each round, a row for each member.\n"
     ++ codes "A full circle is a certificate of the order, an empty one is admitted and not in the order,\n"
-    ++ codes "and one with a broken outline waits for a parent. Where there is no circle, it is absent or rejected:\n"
+    ++ codes "and one with a broken outline waits. Where there is no circle, it is absent or rejected:\n"
     ++ codes "how many frames are rejected in the feed is said last, and `frames` says which.\n"
     ++ codes "A ring is round the place of the leader of an odd round: thick if the anchor is voted,\n"
     ++ codes "in long dashes if it is linked, in dots if it is skipped, thin if it is open.\n"

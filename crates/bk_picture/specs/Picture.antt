@@ -2,6 +2,7 @@
 use Rattle.std.specs.Prelude.{◌≡◌, ℕ, ◌+◌, ◌-◌, ◌/◌, ◌%◌, ◌<◌, ◌≤◌, ◌↔◌, ◌==◌, min, List, length, slice_get, slice_index_or, Contains, Option, Some, None, if◌then◌else◌}
 use Rattle.bk_committee.specs.Sizes.{Sizes, members}
 use Rattle.bk_cert.specs.Node.{Node}
+use Rattle.bk_cert.specs.Place.{place_of}
 use Rattle.bk_cert.specs.declared.place.CertRef.{CertRef}
 use Rattle.bk_rounds.specs.Admission.{IsPresent, WaitsAt}
 use Rattle.bk_rounds.specs.Links.{Links}
@@ -58,14 +59,28 @@ abbrev pub IsCircleOf : Graph → CertRef → Option Circle → Type 0
 IsCircleOf g a (Some circle) = IsIdAt g.held a circle.id × IsClassOf g a circle.class
 IsCircleOf g a None = (id : List ℕ) → IsIdAt g.held a id → ⊥
 
--- the certificate of a place names that of this member in the round before as a parent; both are admitted, and both rounds
--- are drawn. A certificate that waits has no such parent
+-- The certificate held at a names the one held at b as a parent, whether they are admitted or wait.
+pub record NamesHeld (held : List Node) (a b : CertRef) : Type 0 where
+  pub child : Node
+  pub parent : Node
+  pub child_held : Contains held child
+  pub child_at : place_of child ≡ a
+  pub parent_held : Contains held parent
+  pub parent_at : place_of parent ≡ b
+  pub names : Contains child.header.parents parent.id
+
+-- the certificate of a place names that of this member in the round before as a parent; both are held, and both rounds are
+-- drawn
 abbrev pub IsParentIn : Graph → ℕ → CertRef → ℕ → Type 0
-IsParentIn g from a y = (from < a.round) × Links g.sizes g.held a (at_place (a.round - 1) y)
+IsParentIn g from a y = (from < a.round) × NamesHeld g.held a (at_place (a.round - 1) y)
+
+-- the same of admitted certificates. One that waits has no such parent
+abbrev pub IsLinkIn : Graph → ℕ → CertRef → ℕ → Type 0
+IsLinkIn g from a y = (from < a.round) × Links g.sizes g.held a (at_place (a.round - 1) y)
 
 -- and that parent is an anchor
 abbrev pub IsVoteIn : Graph → ℕ → CertRef → ℕ → Type 0
-IsVoteIn g from a y = IsParentIn g from a y × IsAnchor g.sizes g.held (at_place (a.round - 1) y)
+IsVoteIn g from a y = IsLinkIn g from a y × IsAnchor g.sizes g.held (at_place (a.round - 1) y)
 
 -- the member that the certificate of a place votes for, if it votes
 abbrev pub IsVoteOf : Graph → ℕ → CertRef → Option ℕ → Type 0

@@ -46,7 +46,7 @@ fn cells_of(
     for author in 0..members {
         let place = CertRef { round, author };
         let circle = circle_of(rounds, held, marks, place);
-        cells.push(cell_of(rounds, from, place, circle))?;
+        cells.push(cell_of(rounds, held, from, place, circle))?;
     }
     Ok(cells)
 }

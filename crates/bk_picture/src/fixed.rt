@@ -7,7 +7,7 @@ use std::alloc::AllocError;
 
 const DESC: &str = "<desc>A column for each round, a row for each member.\n\
     A full circle is a certificate of the order, an empty one is admitted and not in the order,\n\
-    and one with a broken outline waits for a parent. Where there is no circle, it is absent \
+    and one with a broken outline waits. Where there is no circle, it is absent \
     or rejected:\n\
     how many frames are rejected in the feed is said last, and `frames` says which.\n\
     A ring is round the place of the leader of an odd round: thick if the anchor is voted,\n\

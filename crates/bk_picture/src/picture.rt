@@ -41,10 +41,10 @@ pub struct Cell {
     pub member: u8,
     /// Its certificate, `None` where none is held.
     pub circle: Option<Circle>,
-    /// The parents of its certificate, as members of the round before, where that round is drawn and the certificate is
-    /// admitted.
+    /// The parents of its certificate that are held, as members of the round before, where that round is drawn.
     pub parents: Members,
-    /// The one of them that leads the round before, if that is an odd one: the certificate votes for it.
+    /// The one of them that leads the round before, if that is an odd one and the certificate is admitted: it votes for
+    /// that one.
     pub vote: Option<u8>,
 }
 
@@ -81,7 +81,8 @@ pub struct Picture {
 /// The picture of `count` rounds from the round `from` on, or of fewer where the last round comes before, of what was
 /// taken, whose table of rounds this is, with the links that are asked for: where none are named all of up to
 /// [`MOST_LINKED`](crate::MOST_LINKED) members, and of more the votes alone. O(members) for each round that is drawn, and for each two rounds up to the last;
-/// O(log n) for each certificate that is drawn, O(1) for each other one that is held, and O(n log n) where n of them wait.
+/// O(log n) for each certificate that is drawn and for each parent of one of these that waits, O(1) for each other one
+/// that is held, and O(n log n) where n of them wait.
 pub fn picture_of(
     alloc: Global,
     intake: &Intake,

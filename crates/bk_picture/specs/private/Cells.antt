@@ -12,6 +12,10 @@ use Rattle.bk_picture.specs.Picture.{Graph, IsCellOf, IsColumnOf, at_place}
 abbrev pub IsPlaceIn : List Node → CertRef → Type 0
 IsPlaceIn held a = (c : Node) × Contains held c × (place_of c ≡ a)
 
+-- a certificate of this round by this member is held, whose id is one of these
+abbrev pub IsNamedIn : List Node → ℕ → List (List ℕ) → ℕ → Type 0
+IsNamedIn held round ids y = (c : Node) × Contains held c × (place_of c ≡ at_place round y) × Contains ids c.id
+
 -- the cells of the first n members
 pub record AreCellsBelow (g : Graph) (from round n : ℕ) (cells : List Cell) : Type 0 where
   pub sized : length cells ≡ n
