@@ -68,7 +68,7 @@ one_digest xs ys d e one other same =
 -- ---- the report of a feed
 
 -- the lines of a run end in that of the state
-run_ends : (k : CommitteeValue) (frames : ℕ) (r : Reading) → (front : List Line) × (run_lines k frames r ≡ front ++ line.State (state_of r.rows) ∷ [])
+pub run_ends : (k : CommitteeValue) (frames : ℕ) (r : Reading) → (front : List Line) × (run_lines k frames r ≡ front ++ line.State (state_of r.rows) ∷ [])
 run_ends k frames r =
     let head = head_lines k frames ++ order_lines r.rejected r.waiting r.ordered.anchors r.ordered.order ++ batches_lines (map count_in r.ordered.payloads.list) r.ordered.payloads.missing in
     let ledger = tx_lines 0 r.receipts ++ account_lines r.rows in

@@ -26,3 +26,5 @@ pub mod BindingRoots
 pub mod BindingRows
 pub mod BindingFeeds
 pub mod ChainedFeeds
+pub mod LinkedReports
+pub mod ChainedCounts

@@ -1,16 +1,22 @@
--- What a good chain of links says of the feeds that they are links of.
-use Rattle.std.specs.Prelude.{◌⊎◌, ℕ, List, ◌++◌, All, map}
+-- What holds of links and of chains of feeds: what a good chain of links says of the feeds that they are links of, of which
+-- reports the digests of a link are, and that a sequence number counts once in a whole chain.
+use Rattle.std.specs.Prelude.{◌≡◌, ◌⊎◌, ℕ, List, ◌++◌, ◌∷◌, All, IsTrue, Some, map, slice_get, take}
 use Rattle.std.specs.List.{flat_map}
 use Rattle.hex.specs.Hex.{IsBytes}
 use Rattle.bk_base.specs.Feed.{FeedValue, IsFeed, genesis_of, spelling}
+use Rattle.bk_tx.specs.Transaction.{Transaction}
+use Rattle.bk_rules.specs.declared.receipt.Receipt.{Receipt}
+use Rattle.bk_results.specs.declared.status.Status.{Status}
 use Rattle.bk_answer.specs.Outcomes.{Outcome}
+use Rattle.bk_answer.specs.RunReport.{IsReport}
+use Rattle.bk_tables.specs.Counted.{counts_up}
 use Rattle.bk_chain.specs.Chain.{AreLinks, IsChainOf}
-use Rattle.bk_chain.specs.Chains.{AreChain, Replayed}
+use Rattle.bk_chain.specs.Chains.{AreChain, Replayed, receipts_in, transactions_in}
 use Rattle.bk_chain.specs.Line.{Fits}
 use Rattle.bk_chain.specs.Linking.{IsLinkOf}
 use Rattle.bk_chain.specs.declared.link.LinkValue.{LinkValue}
 use Rattle.bk_chain.specs.declared.verdict.Chain.{Chain}
-use Rattle.bk_laws.specs.Binding.{HashCollision}
+use Rattle.bk_laws.specs.Binding.{EndsInState, HashCollision}
 use Rattle.bk_laws.specs.Hashed.{hashed_for_state}
 
 -- a feed, where it ends, and its link
@@ -45,3 +51,40 @@ DigestsSuffice = (linked : List Linked) (text : List ℕ) (c : Chain) → All Is
 -- the link of every feed can be said in a line: its digests and numbers fit
 abbrev pub LinksFit : Type 0
 LinksFit = (feed : FeedValue) (reached : Outcome) (v : LinkValue) → IsFeed feed → IsLinkOf feed reached v → Fits v
+
+-- ---- of which reports the digests of a link are
+
+-- bytes have a report, and its last line is `state` and this digest
+pub record ReportEndsIn (bytes digest : List ℕ) : Type 0 where
+  pub report : List ℕ
+  pub status : Status
+  pub reported : IsReport bytes report status
+  pub ends : EndsInState report digest
+
+-- the first two frames of a feed alone: its committee and its opening accounts
+abbrev pub setup_of : FeedValue → FeedValue
+setup_of feed = record { version = feed.version; frames = take 2 feed.frames }
+
+-- the closing digest of a link is that of the last line of its feed's report, and the opening digest that of the report of
+-- the feed's first two frames alone
+abbrev pub LinksAreOfReports : Type 0
+LinksAreOfReports = (feed : FeedValue) (reached : Outcome) (v : LinkValue) → IsFeed feed → IsLinkOf feed reached v
+    → ReportEndsIn (spelling feed) v.closing × ReportEndsIn (spelling (setup_of feed)) v.opening
+
+-- ---- what counts once in a chain
+
+-- of the transactions of all feeds in a row, the one of this place has this sender and sequence number, and its receipt a
+-- status with which the sender's sequence number counts up
+pub record CountsIn (feeds : List Replayed) (from seq place : ℕ) : Type 0 where
+  pub t : Transaction
+  pub tx_is : slice_get (transactions_in feeds) place ≡ Some (Some t)
+  pub from_is : t.from ≡ from
+  pub seq_is : t.seq ≡ seq
+  pub receipt : Receipt
+  pub receipt_is : slice_get (receipts_in feeds) place ≡ Some receipt
+  pub counted : IsTrue (counts_up receipt.status)
+
+-- in a chain of feeds a sender and a sequence number count in one place at most
+abbrev pub ChainsCountOnce : Type 0
+ChainsCountOnce = (first : Replayed) (more : List Replayed) (from seq one other : ℕ) → AreChain (first ∷ more)
+    → CountsIn (first ∷ more) from seq one → CountsIn (first ∷ more) from seq other → one ≡ other

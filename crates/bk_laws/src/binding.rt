@@ -4,7 +4,7 @@
 //! same accounts, or SHA-256 has a collision among the byte strings that were hashed. Nothing is supposed of SHA-256.
 
 ghost use Rattle.bk_laws.specs.Binding.{AccountsBind, GoodPathsHold, GoodProofsHold, GoodStatesHold, OneProof, ReportsEndInState, RootsBind, StatesBind};
-ghost use Rattle.bk_laws.specs.Chained.{DigestsSuffice, LinksFit};
+ghost use Rattle.bk_laws.specs.Chained.{ChainsCountOnce, DigestsSuffice, LinksAreOfReports, LinksFit};
 
 /// Where the climb from the hash of a leaf, with any index, size and path, gives the root of a list of leaves, the leaf
 /// is in the list, or there is a hash collision.
@@ -47,4 +47,15 @@ pub fn digests_suffice()
 /// The link of every feed can be said in a line: its digests are 32 bytes, and its numbers fit.
 pub fn links_fit()
     ensures { LinksFit }
+{}
+
+/// The closing digest of a link is that of the last line of its feed's report, and the opening digest that of the report
+/// of the feed's first two frames alone.
+pub fn links_are_of_reports()
+    ensures { LinksAreOfReports }
+{}
+
+/// In a chain of feeds, as in a feed, of the places with one `from` and `seq` at most one has status 0, 5 or 6.
+pub fn chains_count_once()
+    ensures { ChainsCountOnce }
 {}

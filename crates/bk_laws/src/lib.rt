@@ -11,8 +11,8 @@ mod binding;
 mod laws;
 
 pub use binding::{
-    digests_suffice, good_paths_hold, good_proofs_hold, links_fit, one_proof, roots_bind,
-    states_bind,
+    chains_count_once, digests_suffice, good_paths_hold, good_proofs_hold, links_are_of_reports,
+    links_fit, one_proof, roots_bind, states_bind,
 };
 pub use laws::{
     accounts_fit, claims_have_one_verdict, exactly_one_answer, exactly_one_comparison,

@@ -25,8 +25,8 @@ pub fn places_are_rows()
     ensures { PlacesAreRows }
 {}
 
-/// Of the places with one `from` and `seq` at most one has status 0, 5 or 6, in a feed and in a chain
-/// of feeds. So the rows of `transactions` with such a status and one `from` and `seq` are of one
+/// Of the places with one `from` and `seq` at most one has status 0, 5 or 6, of any transactions on any
+/// accounts (`chains_count_once` says it of a chain of feeds). So the rows of `transactions` with such a status and one `from` and `seq` are of one
 /// place, and `from`, `seq` and `item` name one of them, as `place` and `item` name one of all rows
 /// of a feed.
 pub fn counts_once()
