@@ -85,6 +85,10 @@ module _ {X : Type 0} where
   pub distinct_before : (xs ys : List X) → AreDistinct (xs ++ ys) → AreDistinct xs
   distinct_before xs ys distinct i j k one other = distinct i j k (get_left xs ys i k one) (get_left xs ys j k other)
 
+-- the keys stay where an entry comes in the place of one with the same key
+pub map_set : {K E : Type 0} (f : E → K) (es : List E) (i : ℕ) (e : E) → slice_get (map f es) i ≡ Some (f e) → map f (set es i e) ≡ map f es
+map_set f es i e there = map-set f es i e ∙ set_there (map f es) i (f e) there
+
 -- the keys stay where a key gets another value
 pub keys_set : {K : Type 0} (es : List (K × ℕ)) (i : ℕ) (key : K) (v : ℕ) → slice_get (keys_of es) i ≡ Some key → keys_of (set es i (key, v)) ≡ keys_of es
 keys_set es i key v there = map-set (λ e. e.0) es i (key, v) ∙ set_there (keys_of es) i key there

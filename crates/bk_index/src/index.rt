@@ -1,6 +1,6 @@
 //! The map.
 
-ghost use Rattle.std.specs.Prelude.{◌≡◌, ◌++◌, ◌∷◌, ℕ, List, [], Some, None, cond, IfOk, IsSome, OnOk, OnErr};
+ghost use Rattle.std.specs.Prelude.{◌≡◌, ◌++◌, ◌∷◌, [], Some, None, cond, IfOk, IsSome, OnOk, OnErr};
 ghost use Rattle.std.specs.Option.{unwrap_or};
 ghost use Rattle.std.specs.Ordering.{is_eq};
 ghost use Rattle.bk_index.specs.Finding.{find};
@@ -101,13 +101,5 @@ impl<K: Spread> Index<K> {
         if let Ok(at) = search(&self.entries, &self.table, &self.rest, &key) {
             self.entries[at] = (key, value);
         }
-    }
-
-    /// Takes out the key that came last. Its slot stays taken until the table grows.
-    pub fn forget_last(&mut self)
-        ensures { (before : List (K × ℕ)) (last : K × ℕ) → self.old ≡ before ++ last ∷ []
-            → self.new ≡ before }
-    {
-        let _ = self.entries.pop();
     }
 }

@@ -1,6 +1,6 @@
 //! A list whose entries are found by their keys.
 
-ghost use Rattle.std.specs.Prelude.{◌≡◌, ◌==◌, ◌++◌, ◌∷◌, ◌-◌, ℕ, [], None, Some, take, length, IfOk, IfSome, IsSome, OnOk, OnErr, option_map};
+ghost use Rattle.std.specs.Prelude.{◌≡◌, ◌==◌, ◌++◌, ◌∷◌, ◌-◌, ℕ, [], None, Some, take, length, map, slice_get, slice_set, IfOk, IfSome, IsSome, OnOk, OnErr, option_map};
 ghost use Rattle.std.specs.List.{position};
 ghost use Rattle.bk_index.specs.Finding.{has_key};
 
@@ -135,6 +135,14 @@ impl<K: Spread, T: Keyed<K>> KeyedList<K, T> {
         self.entries.push(entry)?;
         self.repeats = true;
         Ok(())
+    }
+
+    /// Puts an entry in the place of one with the same key. It takes no memory.
+    pub fn replace(&mut self, index: usize, entry: T)
+        requires { slice_get (map T.key_of self.old) index ≡ Some (T.key_of entry) }
+        ensures { self.new ≡ slice_set self.old index entry }
+    {
+        self.entries[index] = entry;
     }
 
     /// Takes out the last entry, if there is one. Its slot stays taken until the table grows.

@@ -54,19 +54,6 @@ fn digests_that_begin_alike_are_found(rt: HostRuntime) -> Result<(), Fail> {
 }
 
 #[test]
-fn the_last_key_is_forgotten(rt: HostRuntime) -> Result<(), Fail> {
-    let mut index = Index::new(rt.alloc());
-    assert_eq!(rt; index.first_of(digest(1, 0), 11)?, None);
-    assert_eq!(rt; index.first_of(digest(2, 0), 12)?, None);
-    index.forget_last();
-    assert_eq!(rt; index.get(&digest(1, 0)), Some(11));
-    assert_eq!(rt; index.get(&digest(2, 0)), None);
-    assert_eq!(rt; index.first_of(digest(2, 0), 13)?, None);
-    assert_eq!(rt; index.get(&digest(2, 0)), Some(13));
-    Ok(())
-}
-
-#[test]
 fn places_are_found_by_round_and_author(rt: HostRuntime) -> Result<(), Fail> {
     let mut index = Index::new(rt.alloc());
     for round in 1..60u32 {
@@ -127,6 +114,19 @@ fn the_last_entry_is_dropped(rt: HostRuntime) -> Result<(), Fail> {
     assert_eq!(rt; list.first_of(digest(3, 0))?, None);
     assert_eq!(rt; list.get(&digest(3, 0)), Some(1));
     assert_eq!(rt; list.get(&digest(2, 0)), None);
+    Ok(())
+}
+
+#[test]
+fn an_entry_is_replaced(rt: HostRuntime) -> Result<(), Fail> {
+    let mut list: KeyedList<Digest32, (Digest32, usize)> = KeyedList::new(rt.alloc());
+    let key = digest(1, 0);
+    let found = list.first_of((key, 7))?;
+    assert!(rt; found.is_none());
+    list.replace(0, (key, 70));
+    assert!(rt; list.first_of((digest(2, 0), 8))?.is_none());
+    assert!(rt; list.len() == 2 && list.get(&key) == Some(0));
+    assert!(rt; list.as_slice()[0].1 == 70 && list.as_slice()[1].1 == 8);
     Ok(())
 }
 

@@ -22,7 +22,7 @@ unfolding IsAdmittedAt
 none_here z zero i h = h
 none_here z (suc r) i h = omega (arith, h.0)
 
-pub whole_empty : (z : Sizes) (n : Names) (placed : CertRef → Option ℕ) → n.slots.items ≡ [] → AreNames n → ((a : CertRef) → placed a ≡ None) → members z ≤ 128 → IsWhole z [] n placed 0
+pub whole_empty : (z : Sizes) (n : Names) (placed : CertRef → Option ℕ) → n.slots ≡ [] → AreNames n → ((a : CertRef) → placed a ≡ None) → members z ≤ 128 → IsWhole z [] n placed 0
 whole_empty z n placed none names free few = record {
   few = few;
   good = λ c t. absurd (none_in_nil c t);
@@ -39,7 +39,7 @@ whole_empty z n placed none names free few = record {
   tied = subst (λ (ss : List Slot). IsTied [] ss) (sym none) (record { cert = λ i some. absurd (omega (arith, some)); slot = λ c t. absurd (none_in_nil c t) });
   placed = record {
     sound = λ a k e. absurd (none_some k (sym (free a) ∙ e));
-    complete = λ k some. absurd (let e : round_of n.slots.items k ≡ 0 = ap (λ (ss : List Slot). round_of ss k) none in omega (arith, e, some));
+    complete = λ k some. absurd (let e : round_of n.slots k ≡ 0 = ap (λ (ss : List Slot). round_of ss k) none in omega (arith, e, some));
   };
   sets = λ i m. absurd (unmarked i m);
   highest = λ i m. absurd (unmarked i m);

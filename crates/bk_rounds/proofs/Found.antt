@@ -31,22 +31,22 @@ admitted_some_round z slots (suc r) i h = omega arith
 -- an admitted number, its certificate and that it is there
 pub record IsStanding (z : Sizes) (held : List Node) (n : Names) (k : ℕ) : Type 0 where
   pub cert : Node
-  pub at : IsAt held (cert_of n.slots.items k) cert
-  pub slot : IsSlotOf n.slots.items k cert
-  pub stands : StandsAt z held (place_at n.slots.items k) cert
-  pub admitted : IsAdmittedAt z n.slots.items (round_of n.slots.items k) k
+  pub at : IsAt held (cert_of n.slots k) cert
+  pub slot : IsSlotOf n.slots k cert
+  pub stands : StandsAt z held (place_at n.slots k) cert
+  pub admitted : IsAdmittedAt z n.slots (round_of n.slots k) k
 
 pub stands_here : (z : Sizes) (held : List Node) (n : Names) (placed : CertRef → Option ℕ) (top : ℕ) → IsWhole z held n placed top → (k : ℕ) → is_marked n.marks.items k ≡ true → IsStanding z held n k
 stands_here z held n placed top w k m =
     let admitted = (w.table.exact k).0 m in
-    let (c, at, s) = w.tied.cert k (admitted_some_round z n.slots.items (round_of n.slots.items k) k admitted) in
-    let there = held_at held (cert_of n.slots.items k) c at in
-    let up = number_up z held n.slots.items (known_in n) w.good w.clear w.names.numbering w.tied w.table.inside (round_of n.slots.items k) k admitted c there s in
+    let (c, at, s) = w.tied.cert k (admitted_some_round z n.slots (round_of n.slots k) k admitted) in
+    let there = held_at held (cert_of n.slots k) c at in
+    let up = number_up z held n.slots (known_in n) w.good w.clear w.names.numbering w.tied w.table.inside (round_of n.slots k) k admitted c there s in
     record {
       cert = c;
       at = at;
       slot = s;
-      stands = record { admitted = admitted_here z held (round_of n.slots.items k) c up; place = same_place _ _ s.round s.author };
+      stands = record { admitted = admitted_here z held (round_of n.slots k) c up; place = same_place _ _ s.round s.author };
       admitted = admitted;
     }
 
@@ -55,9 +55,9 @@ pub has_number : (z : Sizes) (held : List Node) (n : Names) (placed : CertRef �
     → (k : ℕ) × IsNumberAt n a k
 has_number z held n placed top w a (c, at) =
     let (i, low, s) = w.tied.slot c (admitted_held z held c.header.round c at.admitted) in
-    let down = number_down z held n.slots.items (known_in n) w.names.numbering w.tied w.table.inside c.header.round i c s at.admitted in
-    let marked = (w.table.exact i).1 (subst (λ (r : ℕ). IsAdmittedAt z n.slots.items r i) s.round down) in
-    (i, record { inside = low; marked = marked; place_is = same_place (place_at n.slots.items i) (place_of c) (sym s.round) (sym s.author) ∙ at.place })
+    let down = number_down z held n.slots (known_in n) w.names.numbering w.tied w.table.inside c.header.round i c s at.admitted in
+    let marked = (w.table.exact i).1 (subst (λ (r : ℕ). IsAdmittedAt z n.slots r i) s.round down) in
+    (i, record { inside = low; marked = marked; place_is = same_place (place_at n.slots i) (place_of c) (sym s.round) (sym s.author) ∙ at.place })
 
 pub is_present : (z : Sizes) (held : List Node) (n : Names) (placed : CertRef → Option ℕ) (top : ℕ) → IsWhole z held n placed top → (a : CertRef) (k : ℕ) → IsNumberAt n a k → IsPresent z held a
 is_present z held n placed top w a k at =
@@ -79,8 +79,8 @@ parents_here z held n placed top w a k at x = (
   (λ h. let (p, among, author) = (w.sets k at.marked x).0 h in down p among author),
   (λ l. let same : l.child ≡ v.cert = one_at z held a l.child v.cert w.clear l.child_at stands in
       let names : Contains v.cert.header.parents l.parent.id = subst (λ (c : Node). Contains c.header.parents l.parent.id) same l.names in
-      let (p, among, id) = from_map (id_of n.slots.items) (parents_of n.slots.items k) l.parent.id (subst (λ (qs : List (List ℕ)). Contains qs l.parent.id) v.slot.parents names) in
-      let s = slot_is held n.slots.items (known_in n) w.names.numbering w.tied p (w.table.inside k p among) l.parent (admitted_held z held l.parent.header.round l.parent l.parent_at.admitted) (sym id) in
+      let (p, among, id) = from_map (id_of n.slots) (parents_of n.slots k) l.parent.id (subst (λ (qs : List (List ℕ)). Contains qs l.parent.id) v.slot.parents names) in
+      let s = slot_is held n.slots (known_in n) w.names.numbering w.tied p (w.table.inside k p among) l.parent (admitted_held z held l.parent.header.round l.parent l.parent_at.admitted) (sym id) in
       (w.sets k at.marked x).1 (p, among, sym s.author ∙ ap (λ (q : CertRef). q.author) l.parent_at.place)),
 )
   where
@@ -90,36 +90,36 @@ parents_here z held n placed top w a k at x = (
     stands : StandsAt z held a v.cert
     stands = subst (λ (q : CertRef). StandsAt z held q v.cert) at.place_is v.stands
 
-    round_is : round_of n.slots.items k ≡ a.round
+    round_is : round_of n.slots k ≡ a.round
     round_is = ap (λ (q : CertRef). q.round) at.place_is
 
-    named : (p : ℕ) → Contains (parents_of n.slots.items k) p → Contains v.cert.header.parents (id_of n.slots.items p)
-    named p among = subst (λ (qs : List (List ℕ)). Contains qs (id_of n.slots.items p)) (sym v.slot.parents) (in_map (id_of n.slots.items) (parents_of n.slots.items k) p among)
+    named : (p : ℕ) → Contains (parents_of n.slots k) p → Contains v.cert.header.parents (id_of n.slots p)
+    named p among = subst (λ (qs : List (List ℕ)). Contains qs (id_of n.slots p)) (sym v.slot.parents) (in_map (id_of n.slots) (parents_of n.slots k) p among)
 
-    later : (p : ℕ) → Contains (parents_of n.slots.items k) p → round_of n.slots.items k ≡ 1 → ⊥
-    later p among one = none_in_nil (id_of n.slots.items p) (subst (λ (qs : List (List ℕ)). Contains qs (id_of n.slots.items p))
-        ((w.good v.cert (held_at held (cert_of n.slots.items k) v.cert v.at)).first (v.slot.round ∙ one)) (named p among))
+    later : (p : ℕ) → Contains (parents_of n.slots k) p → round_of n.slots k ≡ 1 → ⊥
+    later p among one = none_in_nil (id_of n.slots p) (subst (λ (qs : List (List ℕ)). Contains qs (id_of n.slots p))
+        ((w.good v.cert (held_at held (cert_of n.slots k) v.cert v.at)).first (v.slot.round ∙ one)) (named p among))
 
-    parent_admitted : (r : ℕ) → IsAdmittedAt z n.slots.items r k → r ≡ round_of n.slots.items k → (p : ℕ) → Contains (parents_of n.slots.items k) p
-        → (m : ℕ) × (m + 1 ≡ round_of n.slots.items k) × IsAdmittedAt z n.slots.items m p
+    parent_admitted : (r : ℕ) → IsAdmittedAt z n.slots r k → r ≡ round_of n.slots k → (p : ℕ) → Contains (parents_of n.slots k) p
+        → (m : ℕ) × (m + 1 ≡ round_of n.slots k) × IsAdmittedAt z n.slots m p
     parent_admitted zero h e p among = absurd h
     parent_admitted (suc m) h e p among = ⊎_elim
         (λ none. absurd (later p among (sym e ∙ ap suc none)))
         (λ some. (m, omega (arith, e), h.2 (omega (arith, some)) p among))
         (cases_eq m 0)
 
-    down : (p : ℕ) → Contains (parents_of n.slots.items k) p → author_of n.slots.items p ≡ x → Links z held a (record { round = a.round - 1; author = x })
+    down : (p : ℕ) → Contains (parents_of n.slots k) p → author_of n.slots p ≡ x → Links z held a (record { round = a.round - 1; author = x })
     down p among author =
-        let (m, next, admitted) = parent_admitted (round_of n.slots.items k) v.admitted refl p among in
-        let is : round_of n.slots.items p ≡ m = admitted_at z n.slots.items m p admitted in
-        let marked = (w.table.exact p).1 (subst (λ (r : ℕ). IsAdmittedAt z n.slots.items r p) (sym is) admitted) in
+        let (m, next, admitted) = parent_admitted (round_of n.slots k) v.admitted refl p among in
+        let is : round_of n.slots p ≡ m = admitted_at z n.slots m p admitted in
+        let marked = (w.table.exact p).1 (subst (λ (r : ℕ). IsAdmittedAt z n.slots r p) (sym is) admitted) in
         let d = stands_here z held n placed top w p marked in
         let before : m ≡ a.round - 1 = omega (arith, next, round_is) in
         record {
           child = v.cert;
           parent = d.cert;
           child_at = stands;
-          parent_at = subst (λ (q : CertRef). StandsAt z held q d.cert) (same_place (place_at n.slots.items p) (record { round = a.round - 1; author = x }) (is ∙ before) author) d.stands;
+          parent_at = subst (λ (q : CertRef). StandsAt z held q d.cert) (same_place (place_at n.slots p) (record { round = a.round - 1; author = x }) (is ∙ before) author) d.stands;
           names = subst (Contains v.cert.header.parents) (sym d.slot.id) (named p among);
           before = omega (arith, next, round_is);
         }
@@ -133,8 +133,8 @@ read_any (x ∷ xs) (suc i) e d low = read_any xs i e d (omega arith)
 pub number_low : (slots : List Slot) (placed : CertRef → Option ℕ) (a : CertRef) (k : ℕ) → IsPlaced slots placed → placed a ≡ Some k → k < length slots
 number_low slots placed a k p e = round_low slots k (p.sound a k e).0
 
-pub number_found : (n : Names) (placed : CertRef → Option ℕ) (a : CertRef) (k : ℕ) → IsPlaced n.slots.items placed → placed a ≡ Some k → is_marked n.marks.items k ≡ true → IsNumberAt n a k
-number_found n placed a k p e m = record { inside = number_low n.slots.items placed a k p e; marked = m; place_is = (p.sound a k e).1 }
+pub number_found : (n : Names) (placed : CertRef → Option ℕ) (a : CertRef) (k : ℕ) → IsPlaced n.slots placed → placed a ≡ Some k → is_marked n.marks.items k ≡ true → IsNumberAt n a k
+number_found n placed a k p e m = record { inside = number_low n.slots placed a k p e; marked = m; place_is = (p.sound a k e).1 }
 
 some_one : (i j : ℕ) → Some i ≡ Some j → i ≡ j
 some_one i j e = cc
@@ -142,25 +142,25 @@ some_one i j e = cc
 none_some : (k : ℕ) → None ≡ Some k → ⊥
 none_some k e = cc
 
-pub number_of_place : (n : Names) (placed : CertRef → Option ℕ) (a : CertRef) (j : ℕ) → IsPlaced n.slots.items placed → IsNumberAt n a j → 1 ≤ a.round → placed a ≡ Some j
+pub number_of_place : (n : Names) (placed : CertRef → Option ℕ) (a : CertRef) (j : ℕ) → IsPlaced n.slots placed → IsNumberAt n a j → 1 ≤ a.round → placed a ≡ Some j
 number_of_place n placed a j p at low =
-    let e : round_of n.slots.items j ≡ a.round = ap (λ (q : CertRef). q.round) at.place_is in
+    let e : round_of n.slots j ≡ a.round = ap (λ (q : CertRef). q.round) at.place_is in
     sym (ap placed at.place_is) ∙ p.complete j (omega (arith, e, low))
 
-pub number_unmarked : (n : Names) (placed : CertRef → Option ℕ) (a : CertRef) (k : ℕ) → IsPlaced n.slots.items placed → placed a ≡ Some k → is_marked n.marks.items k ≡ false
+pub number_unmarked : (n : Names) (placed : CertRef → Option ℕ) (a : CertRef) (k : ℕ) → IsPlaced n.slots placed → placed a ≡ Some k → is_marked n.marks.items k ≡ false
     → (j : ℕ) → IsNumberAt n a j → 1 ≤ a.round → ⊥
 number_unmarked n placed a k p e f j at low =
     let same : k ≡ j = some_one k j (sym e ∙ number_of_place n placed a j p at low) in
     both_ways _ f (ap (is_marked n.marks.items) same ∙ at.marked)
 
-pub number_none : (n : Names) (placed : CertRef → Option ℕ) (a : CertRef) → IsPlaced n.slots.items placed → placed a ≡ None → (j : ℕ) → IsNumberAt n a j → 1 ≤ a.round → ⊥
+pub number_none : (n : Names) (placed : CertRef → Option ℕ) (a : CertRef) → IsPlaced n.slots placed → placed a ≡ None → (j : ℕ) → IsNumberAt n a j → 1 ≤ a.round → ⊥
 number_none n placed a p e j at low = none_some j (sym e ∙ number_of_place n placed a j p at low)
 
 -- what is present is of round 1 or later
 pub number_round : (z : Sizes) (held : List Node) (n : Names) (placed : CertRef → Option ℕ) (top : ℕ) → IsWhole z held n placed top → (a : CertRef) (k : ℕ) → IsNumberAt n a k → 1 ≤ a.round
 number_round z held n placed top w a k at =
-    let some = admitted_some_round z n.slots.items (round_of n.slots.items k) k ((w.table.exact k).0 at.marked) in
-    let e : round_of n.slots.items k ≡ a.round = ap (λ (q : CertRef). q.round) at.place_is in
+    let some = admitted_some_round z n.slots (round_of n.slots k) k ((w.table.exact k).0 at.marked) in
+    let e : round_of n.slots k ≡ a.round = ap (λ (q : CertRef). q.round) at.place_is in
     omega (arith, some, e)
 
 pub none_present : (z : Sizes) (held : List Node) (n : Names) (placed : CertRef → Option ℕ) (top : ℕ) → IsWhole z held n placed top → (a : CertRef)
@@ -176,7 +176,7 @@ place_held z held n placed top w a = (
   (λ (c, there, at).
       let (i, low, s) = w.tied.slot c there in
       let from = (w.good c there).from_one in
-      let place : place_at n.slots.items i ≡ a = same_place (place_at n.slots.items i) (place_of c) (sym s.round) (sym s.author) ∙ at in
+      let place : place_at n.slots i ≡ a = same_place (place_at n.slots i) (place_of c) (sym s.round) (sym s.author) ∙ at in
       ap is_some (sym (ap placed place) ∙ w.placed.complete i (omega (arith, from, s.round)))),
 )
   where
@@ -185,7 +185,7 @@ place_held z held n placed top w a = (
     by_number (Some k) e t =
         let p = w.placed.sound a k e in
         let (c, at, s) = w.tied.cert k p.0 in
-        (c, held_at held (cert_of n.slots.items k) c at, same_place (place_of c) (place_at n.slots.items k) s.round s.author ∙ p.1)
+        (c, held_at held (cert_of n.slots k) c at, same_place (place_of c) (place_at n.slots k) s.round s.author ∙ p.1)
 
 -- a place that no certificate has, has no number
 pub place_free : (z : Sizes) (held : List Node) (n : Names) (placed : CertRef → Option ℕ) (top : ℕ) → IsWhole z held n placed top → (a : CertRef)
@@ -197,14 +197,14 @@ place_free z held n placed top w a free = by (placed a) refl
     by (Some k) e = let (c, there, at) = (place_held z held n placed top w a).0 (ap is_some e) in absurd (free c there at)
 
 pub id_held : (z : Sizes) (held : List Node) (n : Names) (placed : CertRef → Option ℕ) (top : ℕ) → IsWhole z held n placed top → (q : List ℕ) (k : ℕ) → known_in n q ≡ Some k
-    → (t : Bool) (r : ℕ) → r ≡ round_of n.slots.items k → IsTrue t ↔ (0 < r) → IsTrue t ↔ ((c : Node) × Contains held c × (c.id ≡ q))
+    → (t : Bool) (r : ℕ) → r ≡ round_of n.slots k → IsTrue t ↔ (0 < r) → IsTrue t ↔ ((c : Node) × Contains held c × (c.id ≡ q))
 id_held z held n placed top w q k e t r is test =
     let here = w.names.numbering.sound q k e in (
       (λ yes.
           let (c, at, s) = w.tied.cert k (let p = test.0 yes in omega (arith, p, is)) in
-          (c, held_at held (cert_of n.slots.items k) c at, s.id ∙ here.1)),
+          (c, held_at held (cert_of n.slots k) c at, s.id ∙ here.1)),
       (λ (c, there, id).
-          let s = slot_is held n.slots.items (known_in n) w.names.numbering w.tied k here.0 c there (id ∙ sym here.1) in
+          let s = slot_is held n.slots (known_in n) w.names.numbering w.tied k here.0 c there (id ∙ sym here.1) in
           let from = (w.good c there).from_one in
           test.1 (omega (arith, from, s.round, is))),
     )
@@ -218,7 +218,7 @@ id_unknown z held n placed top w q e c there id =
 pub top_highest : (z : Sizes) (held : List Node) (n : Names) (placed : CertRef → Option ℕ) (top : ℕ) → IsWhole z held n placed top → (a : CertRef) → IsPresent z held a → a.round ≤ top
 top_highest z held n placed top w a here =
     let (k, at) = has_number z held n placed top w a here in
-    let e : round_of n.slots.items k ≡ a.round = ap (λ (q : CertRef). q.round) at.place_is in
+    let e : round_of n.slots k ≡ a.round = ap (λ (q : CertRef). q.round) at.place_is in
     omega (arith, w.highest k at.marked, e)
 
 -- whether something is present at a place is settled
@@ -237,7 +237,7 @@ pub top_reached : (z : Sizes) (held : List Node) (n : Names) (placed : CertRef �
 top_reached z held n placed top w some =
     let (k, marked, is) = w.reached some in
     let v = stands_here z held n placed top w k marked in
-    (place_at n.slots.items k, (v.cert, v.stands), is)
+    (place_at n.slots k, (v.cert, v.stands), is)
 
 pub cert_read : (slots : List Slot) (k : ℕ) (s : Slot) → k < length slots → s ≡ get_or slots k s → s.cert ≡ cert_of slots k
 cert_read slots k s low e = ap (λ (x : Slot). x.cert) e ∙ sym (get_or-map (λ (x : Slot). x.cert) slots k s 0 low)

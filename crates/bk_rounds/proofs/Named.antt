@@ -1,25 +1,70 @@
 -- One more id gets a number.
-use Rattle.std.proofs.Common.{◌≡◌, ℕ, zero, suc, ◌+◌, ◌<◌, ◌≤◌, Bool, true, false, cond, not, List, [], ◌∷◌, ◌++◌, length, map, Some, None, refl, sym, ap, ◌∙◌, subst, ⊎_elim, arith, get_or}
-use Rattle.std.specs.List.{Contains, All, AllByRecursion}
+use Rattle.std.proofs.Common.{◌≡◌, ℕ, zero, suc, ◌+◌, ◌<◌, ◌≤◌, Bool, true, false, cond, eqb, not, List, [], ◌∷◌, ◌++◌, length, map, Option, Some, None, refl, sym, ap, ◌∙◌, subst, ⊎_elim, arith, get_or, set}
+use Rattle.std.specs.List.{Contains, All, AllByRecursion, position, position_or_len}
+use Rattle.std.specs.Prelude.{nat_lt}
+use Rattle.std.proofs.lemmas.Bool.Decides.{nat_tests}
+use Rattle.std.proofs.lemmas.List.Folds.{position_or_len_push, position_or_len-set}
+use Rattle.std.proofs.lemmas.List.Sums.{prefix_len-le-length}
 use Rattle.std.proofs.lemmas.List.Elements.{recursion_from_All}
-use Rattle.std.specs.Cmp.Lexicographic.{texts_ties}
+use Rattle.std.specs.Cmp.Lexicographic.{slice_cmp, texts_ties}
+use Rattle.std.specs.Ordering.{nat_cmp, is_eq}
 use Rattle.std.specs.Bool.{Decides}
-use Rattle.std.specs.Map.{lookup}
 use Rattle.std.proofs.lemmas.Slice.Eq.{bytes_eq-Decides}
 use Rattle.std.proofs.lemmas.Bool.{cases_lt, cases_Bool}
-use Rattle.std.proofs.lemmas.List.{length-append}
+use Rattle.std.proofs.lemmas.List.{length-append, length-set}
 use Rattle.std.proofs.lemmas.List.Sums.{sum_by-append}
 use Rattle.bk_rounds.specs.declared.slots.Slot.{Slot}
 use Rattle.bk_rounds.specs.declared.waking.Pending.{Pending}
 use Rattle.bk_rounds.specs.declared.names.Names.{Names}
 use Rattle.bk_rounds.specs.private.Numbered.{id_of, round_of, author_of, cert_of, parents_of, row_of, is_marked, count_unmarked, IsInsideRows}
-use Rattle.bk_rounds.specs.private.Names.{set_of, is_same_id, known_in, AreNames, Grows, AreSame}
+use Rattle.bk_rounds.specs.private.Names.{set_of, has_id, known_in, AreNames, Grows, AreSame}
 
-same_id-Decides : (p q : List ℕ) → Decides (is_same_id p q) (p ≡ q)
-same_id-Decides p q = (
-  (λ t. (bytes_eq-Decides p q).0 (texts_ties p q ∙ t)),
-  (λ e. sym (texts_ties p q) ∙ (bytes_eq-Decides p q).1 e),
+has_id-Decides : (q : List ℕ) (s : Slot) → Decides (has_id q s) (q ≡ s.id)
+has_id-Decides q s = (
+  (λ t. (bytes_eq-Decides q s.id).0 (texts_ties q s.id ∙ t)),
+  (λ e. sym (texts_ties q s.id) ∙ (bytes_eq-Decides q s.id).1 e),
 )
+
+-- the first that passes, where one more is at the end
+abbrev at_or_none : ℕ → ℕ → Option ℕ
+at_or_none n len = cond (nat_lt n len) (Some n) None
+
+pushed_here : (n len n' len' : ℕ) → n' ≡ cond (eqb n len) (len + 0) n → len' ≡ len + 1 → at_or_none n len ≡ None → n ≤ len → at_or_none n' len' ≡ Some len
+pushed_here n len n' len' e f h most = grind (arith, nat_tests)
+
+pushed_there : (n len n' len' : ℕ) → n' ≡ cond (eqb n len) (len + 1) n → len' ≡ len + 1 → n ≤ len → at_or_none n' len' ≡ at_or_none n len
+pushed_there n len n' len' e f most = grind (arith, nat_tests)
+
+-- an id that has no number yet, with its slot at the end
+known_pushed : (xs : List Slot) (s : Slot) (q : List ℕ) → position (has_id s.id) xs ≡ None → position (has_id q) (xs ++ s ∷ []) ≡ cond (has_id q s) (Some (length xs)) (position (has_id q) xs)
+known_pushed xs s q new = ⊎_elim here there (cases_Bool (has_id q s))
+  where
+    n : ℕ
+    n = position_or_len (has_id q) xs
+
+    most : n ≤ length xs
+    most = prefix_len-le-length (λ x. not (has_id q x)) xs
+
+    here : has_id q s ≡ true → position (has_id q) (xs ++ s ∷ []) ≡ cond (has_id q s) (Some (length xs)) (position (has_id q) xs)
+    here t =
+        pushed_here n (length xs) (position_or_len (has_id q) (xs ++ s ∷ [])) (length (xs ++ s ∷ []))
+        (position_or_len_push (has_id q) xs s ∙ ap (λ v. cond (eqb n (length xs)) (length xs + cond v 0 1) n) t)
+        (length-append xs (s ∷ []))
+        (ap (λ i. position (has_id i) xs) ((has_id-Decides q s).0 t) ∙ new) most
+        ∙ sym (ap (λ v. cond v (Some (length xs)) (position (has_id q) xs)) t)
+
+    there : has_id q s ≡ false → position (has_id q) (xs ++ s ∷ []) ≡ cond (has_id q s) (Some (length xs)) (position (has_id q) xs)
+    there f =
+        pushed_there n (length xs) (position_or_len (has_id q) (xs ++ s ∷ [])) (length (xs ++ s ∷ []))
+        (position_or_len_push (has_id q) xs s ∙ ap (λ v. cond (eqb n (length xs)) (length xs + cond v 0 1) n) f)
+        (length-append xs (s ∷ [])) most
+        ∙ sym (ap (λ v. cond v (Some (length xs)) (position (has_id q) xs)) f)
+
+-- numbers stay where a slot comes in the place of one with the same id
+pub known_set : (xs : List Slot) (k : ℕ) (s : Slot) (q : List ℕ) → s.id ≡ (get_or xs k s).id → position (has_id q) (set xs k s) ≡ position (has_id q) xs
+known_set xs k s q e = λ j. at_or_none
+    (position_or_len-set (has_id q) xs k s s (ap (λ i. is_eq (slice_cmp nat_cmp q i)) e) j)
+    (length-set xs k s j)
 
 -- a field that has the default in what is pushed is everywhere as it was
 pub push_field : {X Y : Type 0} (f : X → Y) (xs : List X) (s : X) (e : Y) → f s ≡ e → (i : ℕ) → get_or (map f (xs ++ s ∷ [])) i e ≡ get_or (map f xs) i e
@@ -68,19 +113,19 @@ pub names_same : (a b : Names) → AreNames a → AreSame a b → AreNames b
 names_same a b n s = record {
   marks = ap length s.marks ∙ (n.marks ∙ sym (ap length s.slots));
   sets = ap length s.sets ∙ (n.sets ∙ sym (ap length s.slots));
-  rows = subst (λ (xs : Pending). IsInsideRows (length b.slots.items) xs) (sym s.pending)
+  rows = subst (λ (xs : Pending). IsInsideRows (length b.slots) xs) (sym s.pending)
       (subst (λ (k : ℕ). IsInsideRows k a.pending) (sym (ap length s.slots)) n.rows);
   waiting = s.unmarked ∙ (n.waiting ∙ ap count_unmarked (sym s.marks));
   numbering = record {
     sound = λ q k e. let h = n.numbering.sound q k (sym (known q) ∙ e) in
         (subst (λ (xs : List Slot). k < length xs) (sym s.slots) h.0, ap (λ xs. id_of xs k) s.slots ∙ h.1);
     complete = λ k low. let h = n.numbering.complete k (subst (λ (xs : List Slot). k < length xs) s.slots low) in
-        known (id_of b.slots.items k) ∙ (ap (λ xs. known_in a (id_of xs k)) s.slots ∙ h);
+        known (id_of b.slots k) ∙ (ap (λ xs. known_in a (id_of xs k)) s.slots ∙ h);
   };
 }
   where
     known : (q : List ℕ) → known_in b q ≡ known_in a q
-    known q = s.numbers q
+    known q = ap (position (has_id q)) s.slots
 
 pub grows_on : (a b c : Names) → Grows a b → Grows b c → Grows a c
 grows_on a b c h k = record {
@@ -102,37 +147,36 @@ pub record Pushes (a b : Names) (id : List ℕ) (slot : Slot) (set : ℕ) : Type
   pub author_is : slot.author ≡ 0
   pub cert_is : slot.cert ≡ 0
   pub none : slot.parents.items ≡ []
-  pub slots : b.slots.items ≡ a.slots.items ++ slot ∷ []
+  pub slots : b.slots ≡ a.slots ++ slot ∷ []
   pub marks : b.marks.items ≡ a.marks.items ++ false ∷ []
   pub pending : b.pending ≡ a.pending
   pub sets : b.sets.items ≡ a.sets.items ++ set ∷ []
   pub unmarked : b.unmarked ≡ a.unmarked + 1
-  pub updates : (q : List ℕ) → known_in b q ≡ cond (is_same_id id q) (Some (length a.slots.items)) (known_in a q)
 
 row_same : (a b : Names) (id : List ℕ) (slot : Slot) (set : ℕ) → Pushes a b id slot set → (m : ℕ) → row_of b.pending m ≡ row_of a.pending m
 row_same a b id slot set p m = ap (λ (xs : Pending). row_of xs m) p.pending
 
-id_before : (a b : Names) (id : List ℕ) (slot : Slot) (set : ℕ) → Pushes a b id slot set → (i : ℕ) → i < length a.slots.items
-    → id_of b.slots.items i ≡ id_of a.slots.items i
+id_before : (a b : Names) (id : List ℕ) (slot : Slot) (set : ℕ) → Pushes a b id slot set → (i : ℕ) → i < length a.slots
+    → id_of b.slots i ≡ id_of a.slots i
 id_before a b id slot set p i low =
-    let few : i < length (map (λ (x : Slot). x.id) a.slots.items) = subst (λ (k : ℕ). i < k) (sym (length_map (λ (x : Slot). x.id) a.slots.items)) low in
-    ap (λ xs. id_of xs i) p.slots ∙ (ap (λ ys. get_or ys i []) (map_push (λ (x : Slot). x.id) a.slots.items slot)
-    ∙ push_before (map (λ (x : Slot). x.id) a.slots.items) slot.id [] i few)
+    let few : i < length (map (λ (x : Slot). x.id) a.slots) = subst (λ (k : ℕ). i < k) (sym (length_map (λ (x : Slot). x.id) a.slots)) low in
+    ap (λ xs. id_of xs i) p.slots ∙ (ap (λ ys. get_or ys i []) (map_push (λ (x : Slot). x.id) a.slots slot)
+    ∙ push_before (map (λ (x : Slot). x.id) a.slots) slot.id [] i few)
 
-pub id_at : (a b : Names) (id : List ℕ) (slot : Slot) (set : ℕ) → Pushes a b id slot set → id_of b.slots.items (length a.slots.items) ≡ id
+pub id_at : (a b : Names) (id : List ℕ) (slot : Slot) (set : ℕ) → Pushes a b id slot set → id_of b.slots (length a.slots) ≡ id
 id_at a b id slot set p =
-    ap (λ xs. id_of xs (length a.slots.items)) p.slots ∙ (ap (λ ys. get_or ys (length a.slots.items) []) (map_push (λ (x : Slot). x.id) a.slots.items slot)
-    ∙ (ap (λ k. get_or (map (λ (x : Slot). x.id) a.slots.items ++ slot.id ∷ []) k []) (sym (length_map (λ (x : Slot). x.id) a.slots.items))
-    ∙ (push_at (map (λ (x : Slot). x.id) a.slots.items) slot.id [] ∙ p.id_is)))
+    ap (λ xs. id_of xs (length a.slots)) p.slots ∙ (ap (λ ys. get_or ys (length a.slots) []) (map_push (λ (x : Slot). x.id) a.slots slot)
+    ∙ (ap (λ k. get_or (map (λ (x : Slot). x.id) a.slots ++ slot.id ∷ []) k []) (sym (length_map (λ (x : Slot). x.id) a.slots))
+    ∙ (push_at (map (λ (x : Slot). x.id) a.slots) slot.id [] ∙ p.id_is)))
 
 pub grows_pushed : (a b : Names) (id : List ℕ) (slot : Slot) (set : ℕ) → AreNames a → Pushes a b id slot set → Grows a b
 grows_pushed a b id slot set n p = record {
-  longer = let e = ap length p.slots in omega (arith, e, length-append a.slots.items (slot ∷ []));
+  longer = let e = ap length p.slots in omega (arith, e, length-append a.slots (slot ∷ []));
   id = id_before a b id slot set p;
-  round = λ i. ap (λ xs. round_of xs i) p.slots ∙ push_field (λ (x : Slot). x.round) a.slots.items slot 0 p.round_is i;
-  author = λ i. ap (λ xs. author_of xs i) p.slots ∙ push_field (λ (x : Slot). x.author) a.slots.items slot 0 p.author_is i;
-  cert = λ i. ap (λ xs. cert_of xs i) p.slots ∙ push_field (λ (x : Slot). x.cert) a.slots.items slot 0 p.cert_is i;
-  parents = λ i. ap (λ xs. parents_of xs i) p.slots ∙ push_field (λ (x : Slot). x.parents.items) a.slots.items slot [] p.none i;
+  round = λ i. ap (λ xs. round_of xs i) p.slots ∙ push_field (λ (x : Slot). x.round) a.slots slot 0 p.round_is i;
+  author = λ i. ap (λ xs. author_of xs i) p.slots ∙ push_field (λ (x : Slot). x.author) a.slots slot 0 p.author_is i;
+  cert = λ i. ap (λ xs. cert_of xs i) p.slots ∙ push_field (λ (x : Slot). x.cert) a.slots slot 0 p.cert_is i;
+  parents = λ i. ap (λ xs. parents_of xs i) p.slots ∙ push_field (λ (x : Slot). x.parents.items) a.slots slot [] p.none i;
   marked = λ i. ap (λ xs. is_marked xs i) p.marks ∙ push_default a.marks.items false i;
   set = λ i low. ap (λ xs. set_of xs i) p.sets ∙ push_before a.sets.items set 0 i (subst (λ (k : ℕ). i < k) (sym n.sets) low);
   kept = λ m i h. subst (λ (xs : List ℕ). Contains xs i) (sym (row_same a b id slot set p m)) h;
@@ -141,37 +185,37 @@ grows_pushed a b id slot set n p = record {
 pub names_pushed : (a b : Names) (id : List ℕ) (slot : Slot) (set : ℕ) → AreNames a → known_in a id ≡ None → Pushes a b id slot set → AreNames b
 names_pushed a b id slot set n new p = record {
   marks = let e = ap length p.marks in let f = ap length p.slots in
-      omega (arith, e, f, n.marks, length-append a.marks.items (false ∷ []), length-append a.slots.items (slot ∷ []));
+      omega (arith, e, f, n.marks, length-append a.marks.items (false ∷ []), length-append a.slots (slot ∷ []));
   sets = let e = ap length p.sets in let f = ap length p.slots in
-      omega (arith, e, f, n.sets, length-append a.sets.items (set ∷ []), length-append a.slots.items (slot ∷ []));
+      omega (arith, e, f, n.sets, length-append a.sets.items (set ∷ []), length-append a.slots (slot ∷ []));
   rows = λ m i h.
       let low = n.rows m i (subst (λ (xs : List ℕ). Contains xs i) (row_same a b id slot set p m) h) in
-      let f = ap length p.slots in omega (arith, low, f, length-append a.slots.items (slot ∷ []));
+      let f = ap length p.slots in omega (arith, low, f, length-append a.slots (slot ∷ []));
   waiting = p.unmarked ∙ (ap (λ k. k + 1) n.waiting ∙ (sym (sum_by-append (λ (v : Bool). cond (not v) 1 0) a.marks.items (false ∷ [])) ∙ ap count_unmarked (sym p.marks)));
   numbering = record {
     sound = λ q k e. ⊎_elim
         (λ t.
-        let is : length a.slots.items ≡ k = some_same _ _ (sym (p.updates q ∙ ap (λ v. cond v (Some (length a.slots.items)) (known_in a q)) t) ∙ e) in
+        let is : length a.slots ≡ k = some_same _ _ (sym (updates q ∙ ap (λ v. cond v (Some (length a.slots)) (known_in a q)) t) ∙ e) in
         let f = ap length p.slots in (
-          omega (arith, is, f, length-append a.slots.items (slot ∷ [])),
-          ap (id_of b.slots.items) (sym is) ∙ (id_at a b id slot set p ∙ (same_id-Decides id q).0 t),
+          omega (arith, is, f, length-append a.slots (slot ∷ [])),
+          ap (id_of b.slots) (sym is) ∙ (id_at a b id slot set p ∙ sym (same q t)),
         ))
         (λ g.
-        let h = n.numbering.sound q k (sym (p.updates q ∙ ap (λ v. cond v (Some (length a.slots.items)) (known_in a q)) g) ∙ e) in
+        let h = n.numbering.sound q k (sym (updates q ∙ ap (λ v. cond v (Some (length a.slots)) (known_in a q)) g) ∙ e) in
         let f = ap length p.slots in
-        (omega (arith, h.0, f, length-append a.slots.items (slot ∷ [])), id_before a b id slot set p k h.0 ∙ h.1))
-        (cases_Bool (is_same_id id q));
+        (omega (arith, h.0, f, length-append a.slots (slot ∷ [])), id_before a b id slot set p k h.0 ∙ h.1))
+        (cases_Bool (has_id q slot));
     complete = λ k low. ⊎_elim
         (λ lt. ap (known_in b) (id_before a b id slot set p k lt)
-        ∙ (p.updates (id_of a.slots.items k)
-        ∙ (ap (λ v. cond v (Some (length a.slots.items)) (known_in a (id_of a.slots.items k))) (apart k lt) ∙ n.numbering.complete k lt)))
+        ∙ (updates (id_of a.slots k)
+        ∙ (ap (λ v. cond v (Some (length a.slots)) (known_in a (id_of a.slots k))) (apart k lt) ∙ n.numbering.complete k lt)))
         (λ ge.
         let f = ap length p.slots in
-        let is : length a.slots.items ≡ k = omega (arith, low, ge, f, length-append a.slots.items (slot ∷ [])) in
-        ap (λ j. known_in b (id_of b.slots.items j)) (sym is)
+        let is : length a.slots ≡ k = omega (arith, low, ge, f, length-append a.slots (slot ∷ [])) in
+        ap (λ j. known_in b (id_of b.slots j)) (sym is)
         ∙ (ap (known_in b) (id_at a b id slot set p)
-        ∙ (p.updates id ∙ (ap (λ v. cond v (Some (length a.slots.items)) (known_in a id)) ((same_id-Decides id id).1 refl) ∙ ap Some is))))
-        (cases_lt k (length a.slots.items));
+        ∙ (updates id ∙ (ap (λ v. cond v (Some (length a.slots)) (known_in a id)) ((has_id-Decides id slot).1 (sym p.id_is)) ∙ ap Some is))))
+        (cases_lt k (length a.slots));
   };
 }
   where
@@ -181,28 +225,23 @@ names_pushed a b id slot set n new p = record {
     never : (k : ℕ) → None ≡ Some k → ⊥
     never k e = cc
 
-    apart : (k : ℕ) → k < length a.slots.items → is_same_id id (id_of a.slots.items k) ≡ false
+    same : (q : List ℕ) → has_id q slot ≡ true → q ≡ id
+    same q t = (has_id-Decides q slot).0 t ∙ p.id_is
+
+    updates : (q : List ℕ) → known_in b q ≡ cond (has_id q slot) (Some (length a.slots)) (known_in a q)
+    updates q = ap (position (has_id q)) p.slots ∙ known_pushed a.slots slot q (ap (λ i. position (has_id i) a.slots) p.id_is ∙ new)
+
+    apart : (k : ℕ) → k < length a.slots → has_id (id_of a.slots k) slot ≡ false
     apart k lt = ⊎_elim
-        (λ t. absurd (never k (sym new ∙ (ap (known_in a) ((same_id-Decides id (id_of a.slots.items k)).0 t) ∙ n.numbering.complete k lt))))
+        (λ t. absurd (never k (sym new ∙ (ap (known_in a) (sym (same (id_of a.slots k) t)) ∙ n.numbering.complete k lt))))
         (λ f. f)
-        (cases_Bool (is_same_id id (id_of a.slots.items k)))
-
--- an id that has a number and gets it again
-pub known_put : (a b : Names) (id : List ℕ) (k : ℕ) → known_in a id ≡ Some k → ((q : List ℕ) → known_in b q ≡ cond (is_same_id id q) (Some k) (known_in a q))
-    → (q : List ℕ) → known_in b q ≡ known_in a q
-known_put a b id k there put q = put q ∙ ⊎_elim here elsewhere (cases_Bool (is_same_id id q))
-  where
-    here : is_same_id id q ≡ true → cond (is_same_id id q) (Some k) (known_in a q) ≡ known_in a q
-    here t = ap (λ v. cond v (Some k) (known_in a q)) t ∙ (sym there ∙ ap (known_in a) ((same_id-Decides id q).0 t))
-
-    elsewhere : is_same_id id q ≡ false → cond (is_same_id id q) (Some k) (known_in a q) ≡ known_in a q
-    elsewhere f = ap (λ v. cond v (Some k) (known_in a q)) f
+        (cases_Bool (has_id (id_of a.slots k) slot))
 
 -- numbers keep their ids
-pub ids_kept : (a b : Names) (ps : List ℕ) → Grows a b → All (λ p. p < length a.slots.items) ps → map (id_of b.slots.items) ps ≡ map (id_of a.slots.items) ps
+pub ids_kept : (a b : Names) (ps : List ℕ) → Grows a b → All (λ p. p < length a.slots) ps → map (id_of b.slots) ps ≡ map (id_of a.slots) ps
 ids_kept a b ps g low = same ps (recursion_from_All _ ps low)
   where
-    same : (qs : List ℕ) → AllByRecursion (λ p. p < length a.slots.items) qs → map (id_of b.slots.items) qs ≡ map (id_of a.slots.items) qs
+    same : (qs : List ℕ) → AllByRecursion (λ p. p < length a.slots) qs → map (id_of b.slots) qs ≡ map (id_of a.slots) qs
     same [] h = refl
     same (q ∷ qs) h = let first = g.id q h.0 in let rest = same qs h.1 in λ i. first i ∷ rest i
 
@@ -224,33 +263,33 @@ id_pushed xs ys s n e is =
     ∙ push_at (map (λ (x : Slot). x.id) xs) s.id []))
 
 -- rows have gained
-pub names_rows : (a b : Names) → AreNames a → b.numbers ≡ a.numbers → b.slots ≡ a.slots → b.marks ≡ a.marks → b.sets ≡ a.sets → b.unmarked ≡ a.unmarked
-    → IsInsideRows (length a.slots.items) b.pending → AreNames b
-names_rows a b n numbers slots marks sets unmarked rows = record {
-  marks = ap (λ v. length v.items) marks ∙ (n.marks ∙ sym (ap (λ v. length v.items) slots));
-  sets = ap (λ v. length v.items) sets ∙ (n.sets ∙ sym (ap (λ v. length v.items) slots));
-  rows = subst (λ (k : ℕ). IsInsideRows k b.pending) (sym (ap (λ v. length v.items) slots)) rows;
+pub names_rows : (a b : Names) → AreNames a → b.slots ≡ a.slots → b.marks ≡ a.marks → b.sets ≡ a.sets → b.unmarked ≡ a.unmarked
+    → IsInsideRows (length a.slots) b.pending → AreNames b
+names_rows a b n slots marks sets unmarked rows = record {
+  marks = ap (λ v. length v.items) marks ∙ (n.marks ∙ sym (ap length slots));
+  sets = ap (λ v. length v.items) sets ∙ (n.sets ∙ sym (ap length slots));
+  rows = subst (λ (k : ℕ). IsInsideRows k b.pending) (sym (ap length slots)) rows;
   waiting = unmarked ∙ (n.waiting ∙ ap (λ v. count_unmarked v.items) (sym marks));
   numbering = record {
     sound = λ q k e. let h = n.numbering.sound q k (sym (known q) ∙ e) in
-        (subst (λ v. k < length v.items) (sym slots) h.0, ap (λ v. id_of v.items k) slots ∙ h.1);
-    complete = λ k low. let h = n.numbering.complete k (subst (λ v. k < length v.items) slots low) in
-        known (id_of b.slots.items k) ∙ (ap (λ v. known_in a (id_of v.items k)) slots ∙ h);
+        (subst (λ (v : List Slot). k < length v) (sym slots) h.0, ap (λ v. id_of v k) slots ∙ h.1);
+    complete = λ k low. let h = n.numbering.complete k (subst (λ (v : List Slot). k < length v) slots low) in
+        known (id_of b.slots k) ∙ (ap (λ v. known_in a (id_of v k)) slots ∙ h);
   };
 }
   where
     known : (q : List ℕ) → known_in b q ≡ known_in a q
-    known q = ap (λ es. lookup (is_same_id q) es) numbers
+    known q = ap (position (has_id q)) slots
 
 pub grows_rows : (a b : Names) → b.slots ≡ a.slots → b.marks ≡ a.marks → b.sets ≡ a.sets
     → ((m i : ℕ) → Contains (row_of a.pending m) i → Contains (row_of b.pending m) i) → Grows a b
 grows_rows a b slots marks sets kept = record {
-  longer = let e = ap (λ v. length v.items) slots in omega arith;
-  id = λ i low. ap (λ v. id_of v.items i) slots;
-  round = λ i. ap (λ v. round_of v.items i) slots;
-  author = λ i. ap (λ v. author_of v.items i) slots;
-  cert = λ i. ap (λ v. cert_of v.items i) slots;
-  parents = λ i. ap (λ v. parents_of v.items i) slots;
+  longer = let e = ap length slots in omega arith;
+  id = λ i low. ap (λ v. id_of v i) slots;
+  round = λ i. ap (λ v. round_of v i) slots;
+  author = λ i. ap (λ v. author_of v i) slots;
+  cert = λ i. ap (λ v. cert_of v i) slots;
+  parents = λ i. ap (λ v. parents_of v i) slots;
   marked = λ i. ap (λ v. is_marked v.items i) marks;
   set = λ i low. ap (λ v. set_of v.items i) sets;
   kept = kept;

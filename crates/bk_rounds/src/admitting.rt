@@ -4,7 +4,7 @@ ghost use Rattle.std.specs.Prelude.{◌≡◌, ℕ, ◌+◌, ◌<◌, ◌≤◌,
 ghost use Rattle.bk_cert.specs.Place.{IsListed};
 ghost use Rattle.bk_cert.specs.declared.place.CertRef.{CertRef};
 ghost use Rattle.bk_rounds.specs.Members.{Has};
-ghost use Rattle.bk_rounds.specs.private.Numbered.{IsTable, round_of, author_of, parents_of, row_of, is_marked, count_unmarked, IsInside};
+ghost use Rattle.bk_rounds.specs.private.Numbered.{IsTable, id_of, round_of, author_of, parents_of, row_of, is_marked, count_unmarked, IsInside};
 ghost use Rattle.bk_rounds.specs.private.Names.{set_of};
 ghost use Rattle.bk_rounds.specs.private.Tied.{IsAuthorIn, place_at};
 
@@ -13,6 +13,8 @@ use crate::slots::{Slot, is_ready};
 use crate::waking::{Pending, settle};
 use crate::weights::Weights;
 use bk_cert::CertRef;
+use bk_digest::Digest32;
+use bk_index::KeyedList;
 use std::alloc::Global;
 
 /// Fills the slot of number k, who waits under each of its parents that is not admitted. In `out`
@@ -20,7 +22,7 @@ use std::alloc::Global;
 pub(crate) fn admit(
     alloc: Global,
     weights: &Weights,
-    slots: &mut [Slot],
+    slots: &mut KeyedList<Digest32, Slot>,
     marks: &mut [bool],
     pending: &mut Pending,
     k: usize,
@@ -29,6 +31,7 @@ pub(crate) fn admit(
 )
     requires table { IsTable weights.now slots.old marks.old pending.old }
     requires number { (k < length slots.old) × (round_of slots.old k ≡ 0) }
+    requires id { id_of slots.old k ≡ slot.id }
     requires parents { All (λ p. p < length slots.old) slot.parents.items }
     requires waits { (p : ℕ) → Contains slot.parents.items p → is_marked marks.old p ≡ false
         → Contains (row_of pending.old p) k }
@@ -41,11 +44,11 @@ pub(crate) fn admit(
         × (is_marked marks.old i ≡ false)) }
     ensures steps { vec_len out.new + count_unmarked marks.new ≡ count_unmarked marks.old }
 {
-    slots[k] = slot;
-    if is_ready(weights, slots, marks, k) {
+    slots.replace(k, slot);
+    if is_ready(weights, slots.as_slice(), marks, k) {
         marks[k] = true;
         out.push_reserved(k);
-        settle(alloc, weights, slots, marks, pending, out);
+        settle(alloc, weights, slots.as_slice(), marks, pending, out);
     }
 }
 

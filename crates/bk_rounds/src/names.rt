@@ -1,26 +1,26 @@
 //! Ids by number.
 
-ghost use Rattle.std.specs.Prelude.{◌≡◌, ◌<◌, [], length, map, All, OnOk, IfOk};
+ghost use Rattle.std.specs.Prelude.{◌≡◌, ◌<◌, [], length, map, All, IfOk};
 ghost use Rattle.bk_rounds.specs.private.Numbered.{id_of};
-ghost use Rattle.bk_rounds.specs.private.Names.{AreNames, AreSame, HasRoom, Grows};
+ghost use Rattle.bk_rounds.specs.private.Names.{AreNames, Grows};
 
 use crate::members::Members;
 use crate::rows::{has_id, likely, skip};
 use crate::slots::Slot;
 use crate::waking::Pending;
 use bk_digest::Digest32;
-use bk_index::Index;
+use bk_index::KeyedList;
 use std::alloc::{AllocError, Global};
 
-/// The ids that were met, those of parents that are not held among them, each with its number.
+/// The ids that were met, those of parents that are not held among them, each with its number: the
+/// index of its slot.
 ///
 /// What is known of a number is at that index in each of the lists, and who waits for it in
 /// `pending`. An id is mostly found in constant time, and in O(log n) of those that were met
 /// whatever its bytes: they come from a feed.
 #[derive(Drop)]
 pub(crate) struct Names {
-    pub numbers: Index<Digest32>,
-    pub slots: Vec<Slot>,
+    pub slots: KeyedList<Digest32, Slot>,
     pub marks: Vec<bool>,
     pub pending: Pending,
     pub sets: Vec<Members>,
@@ -31,12 +31,11 @@ pub(crate) struct Names {
 impl Names {
     /// No id.
     pub fn new(alloc: Global) -> Names
-        ensures slots { result.slots.items ≡ [] }
+        ensures slots { result.slots ≡ [] }
         ensures names { AreNames result }
     {
         Names {
-            numbers: Index::new(alloc),
-            slots: Vec::new(alloc),
+            slots: KeyedList::new(alloc),
             marks: Vec::new(alloc),
             pending: Pending::new(alloc),
             sets: Vec::new(alloc),
@@ -55,13 +54,13 @@ pub(crate) fn numbers_of(
     requires names { AreNames names.old }
     ensures names { AreNames names.new }
     ensures grows { Grows names.old names.new }
-    ensures ids { IfOk result (λ ps. map (id_of names.new.slots.items) ps.items ≡ ids.now) }
-    ensures inside { IfOk result (λ ps. All (λ p. p < length names.new.slots.items) ps.items) }
+    ensures ids { IfOk result (λ ps. map (id_of names.new.slots) ps.items ≡ ids.now) }
+    ensures inside { IfOk result (λ ps. All (λ p. p < length names.new.slots) ps.items) }
 {
     let mut numbers = Vec::with_capacity(alloc, ids.len())?;
     let mut at = 0;
     for id in ids {
-        at = skip(&names.slots, row, at, id);
+        at = skip(names.slots.as_slice(), row, at, id);
         let number = number_near(alloc, names, likely(row, at), id)?;
         numbers.push(number)?;
     }
@@ -78,11 +77,11 @@ fn number_near(
     requires names { AreNames names.old }
     ensures names { AreNames names.new }
     ensures grows { Grows names.old names.new }
-    ensures inside { IfOk result (λ k. k < length names.new.slots.items) }
-    ensures id { IfOk result (λ k. id_of names.new.slots.items k ≡ id.now) }
+    ensures inside { IfOk result (λ k. k < length names.new.slots) }
+    ensures id { IfOk result (λ k. id_of names.new.slots k ≡ id.now) }
 {
     if let Some(number) = hint {
-        if has_id(&names.slots, number, id) {
+        if has_id(names.slots.as_slice(), number, id) {
             return Ok(number);
         }
     }
@@ -99,10 +98,10 @@ pub(crate) fn number_of(
     requires names { AreNames names.old }
     ensures names { AreNames names.new }
     ensures grows { Grows names.old names.new }
-    ensures inside { IfOk result (λ k. k < length names.new.slots.items) }
-    ensures id { IfOk result (λ k. id_of names.new.slots.items k ≡ id.now) }
+    ensures inside { IfOk result (λ k. k < length names.new.slots) }
+    ensures id { IfOk result (λ k. id_of names.new.slots k ≡ id.now) }
 {
-    if let Some(number) = names.numbers.get(id) {
+    if let Some(number) = names.slots.get(id) {
         return Ok(number);
     }
     own_number(alloc, names, id)
@@ -118,33 +117,24 @@ pub(crate) fn own_number(
     requires names { AreNames names.old }
     ensures names { AreNames names.new }
     ensures grows { Grows names.old names.new }
-    ensures inside { IfOk result (λ k. k < length names.new.slots.items) }
-    ensures id { IfOk result (λ k. id_of names.new.slots.items k ≡ id.now) }
+    ensures inside { IfOk result (λ k. k < length names.new.slots) }
+    ensures id { IfOk result (λ k. id_of names.new.slots k ≡ id.now) }
 {
-    make_room(names)?;
+    names.marks.reserve(1)?;
+    names.sets.reserve(1)?;
     let number = names.slots.len();
-    if let Some(known) = names.numbers.first_of(*id, number)? {
-        return Ok(known);
-    }
-    names.slots.push_reserved(Slot {
+    let slot = Slot {
         id: *id,
         round: 0,
         author: 0,
         cert: 0,
         parents: Vec::new(alloc),
-    });
+    };
+    if let Some((known, _)) = names.slots.first_of(slot)? {
+        return Ok(known);
+    }
     names.marks.push_reserved(false);
     names.sets.push_reserved(Members::none());
     names.unmarked += 1;
     Ok(number)
-}
-
-// Makes room for one more id in the lists.
-fn make_room(names: &mut Names) -> Result<(), AllocError>
-    ensures same { AreSame names.old names.new }
-    ensures room { OnOk result (HasRoom names.new) }
-{
-    names.slots.reserve(1)?;
-    names.marks.reserve(1)?;
-    names.sets.reserve(1)
 }

@@ -6,6 +6,7 @@ ghost use Rattle.bk_rounds.specs.private.Numbered.{IsInside, is_right_in, is_hea
 
 use crate::weights::Weights;
 use bk_digest::Digest32;
+use bk_index::Keyed;
 
 /// An id that was met, as that of a certificate or as that of a parent. Its round is 0 until its
 /// certificate is held.
@@ -17,6 +18,14 @@ pub(crate) struct Slot {
     // Where the certificate is among those that were added.
     pub cert: usize,
     pub parents: Vec<usize>,
+}
+
+impl Keyed<Digest32> for Slot {
+    ghost key_of = { λ s. s.id };
+
+    fn key(&self) -> &Digest32 {
+        &self.id
+    }
 }
 
 /// Whether nothing is missing for its admission.

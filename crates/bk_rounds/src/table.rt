@@ -155,13 +155,13 @@ impl Table {
         );
         self.names.unmarked -= self.buffers.out.len();
         self.top = tell(
-            &self.names.slots,
+            self.names.slots.as_slice(),
             &mut self.names.sets,
             &self.buffers.out,
             &mut self.buffers.places,
             self.top,
         );
-        self.rows.enter(&self.names.slots, ready.number);
+        self.rows.enter(self.names.slots.as_slice(), ready.number);
         Ok(hand_over(alloc, &mut self.buffers.places))
     }
 
@@ -171,7 +171,7 @@ impl Table {
         ensures none { IfNone result (IsPresent self.now.sizes self.now.held place → ⊥) }
     {
         match admitted_number(&self.names, &self.places, &self.rows, place) {
-            Some(number) => Some(&self.certs[self.names.slots[number].cert]),
+            Some(number) => Some(&self.certs[self.names.slots.as_slice()[number].cert]),
             None => None,
         }
     }
@@ -200,8 +200,8 @@ impl Table {
     pub fn has_id(&self, id: &Digest32) -> bool
         ensures { IsTrue result ↔ ((c : Node) × Contains self.now.held c × (c.id ≡ id.now)) }
     {
-        match self.names.numbers.get(id) {
-            Some(number) => self.names.slots[number].round != 0,
+        match self.names.slots.get(id) {
+            Some(number) => self.names.slots.as_slice()[number].round != 0,
             None => false,
         }
     }
@@ -298,7 +298,7 @@ fn admitted_number(
     place: CertRef,
 ) -> Option<usize>
     requires names { AreNames names.now }
-    requires placed { IsPlaced names.now.slots.items (number_at places.now) }
+    requires placed { IsPlaced names.now.slots (number_at places.now) }
     ensures found { IfSome result (IsNumberAt names.now place) }
     ensures none { IfNone result ((k : ℕ) → IsNumberAt names.now place k → 1 ≤ place.round → ⊥) }
 {
@@ -316,10 +316,10 @@ fn admitted_number(
 
 // The number of the certificate of this place. Most are found without a search.
 fn find(names: &Names, places: &Index<CertRef>, rows: &Rows, place: CertRef) -> Option<usize>
-    requires placed { IsPlaced names.now.slots.items (number_at places.now) }
+    requires placed { IsPlaced names.now.slots (number_at places.now) }
     ensures { result ≡ number_at places.now place }
 {
-    match rows.at(&names.slots, place) {
+    match rows.at(names.slots.as_slice(), place) {
         Some(number) => Some(number),
         None => places.get(&place),
     }
@@ -363,11 +363,11 @@ fn do_ascend(ids: &[Digest32]) -> bool
 fn waiting_places(alloc: Global, names: &Names) -> Result<Vec<CertRef>, AllocError>
     requires { AreNames names.now }
     ensures { IfOk result (λ places. (a : CertRef) → Contains places.items a
-        ↔ WaitsBelow names.now (length names.now.slots.items) a) }
+        ↔ WaitsBelow names.now (length names.now.slots) a) }
 {
     let mut places = Vec::new(alloc);
     for number in 0..names.slots.len() {
-        let slot = &names.slots[number];
+        let slot = &names.slots.as_slice()[number];
         if slot.round > 0 && !names.marks[number] {
             places.push(CertRef {
                 round: slot.round,

@@ -8,10 +8,10 @@ use Rattle.bk_rounds.specs.private.Numbered.{id_of, row_of, is_marked}
 
 -- the numbers are those of the certificate's ids, and it waits where it has to
 pub record IsPrepared (n : Names) (c : Node) (p : Prepared) : Type 0 where
-  pub inside : p.number < length n.slots.items
-  pub id : id_of n.slots.items p.number ≡ c.id
-  pub parents : map (id_of n.slots.items) p.parents.items ≡ c.header.parents
-  pub low : All (λ q. q < length n.slots.items) p.parents.items
+  pub inside : p.number < length n.slots
+  pub id : id_of n.slots p.number ≡ c.id
+  pub parents : map (id_of n.slots) p.parents.items ≡ c.header.parents
+  pub low : All (λ q. q < length n.slots) p.parents.items
   pub waits : (q : ℕ) → Contains p.parents.items q → is_marked n.marks.items q ≡ false
       → Contains (row_of n.pending q) p.number
 

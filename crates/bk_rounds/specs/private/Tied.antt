@@ -47,7 +47,7 @@ IsAuthorIn slots ps x = (p : ℕ) × Contains ps p × (author_of slots p ≡ x)
 -- with each admitted one are the authors of its parents
 abbrev pub AreSets : Names → Type 0
 AreSets n = (i : ℕ) → is_marked n.marks.items i ≡ true → (x : ℕ)
-    → Has (set_of n.sets.items i) x ↔ IsAuthorIn n.slots.items (parents_of n.slots.items i) x
+    → Has (set_of n.sets.items i) x ↔ IsAuthorIn n.slots (parents_of n.slots i) x
 
 -- what the table always is
 pub record IsWhole (z : Sizes) (held : List Node) (n : Names) (numbered : CertRef → Option ℕ)
@@ -56,14 +56,14 @@ pub record IsWhole (z : Sizes) (held : List Node) (n : Names) (numbered : CertRe
   pub good : AreFit z held
   pub clear : IsClear held
   pub names : AreNames n
-  pub table : IsTable z n.slots.items n.marks.items n.pending
-  pub tied : IsTied held n.slots.items
-  pub placed : IsPlaced n.slots.items numbered
+  pub table : IsTable z n.slots n.marks.items n.pending
+  pub tied : IsTied held n.slots
+  pub placed : IsPlaced n.slots numbered
   pub sets : AreSets n
-  pub highest : (i : ℕ) → is_marked n.marks.items i ≡ true → round_of n.slots.items i ≤ top
+  pub highest : (i : ℕ) → is_marked n.marks.items i ≡ true → round_of n.slots i ≤ top
   pub to_last : top ≤ last_round
   pub reached : 0 < top → (i : ℕ) × (is_marked n.marks.items i ≡ true)
-      × (round_of n.slots.items i ≡ top)
+      × (round_of n.slots i ≡ top)
 
 -- the number at a place, where it has one
 abbrev pub number_at : List (CertRef × ℕ) → CertRef → Option ℕ
@@ -71,11 +71,11 @@ number_at places a = find place_cmp places a
 
 -- an admitted certificate has this number and this place
 pub record IsNumberAt (n : Names) (place : CertRef) (k : ℕ) : Type 0 where
-  pub inside : k < length n.slots.items
+  pub inside : k < length n.slots
   pub marked : is_marked n.marks.items k ≡ true
-  pub place_is : place_at n.slots.items k ≡ place
+  pub place_is : place_at n.slots k ≡ place
 
 -- a number below this one has this place, with a certificate that is not admitted
 abbrev pub WaitsBelow : Names → ℕ → CertRef → Type 0
-WaitsBelow n high a = (k : ℕ) × (k < high) × (0 < round_of n.slots.items k)
-    × (is_marked n.marks.items k ≡ false) × (place_at n.slots.items k ≡ a)
+WaitsBelow n high a = (k : ℕ) × (k < high) × (0 < round_of n.slots k)
+    × (is_marked n.marks.items k ≡ false) × (place_at n.slots k ≡ a)

@@ -1,16 +1,22 @@
-use Rattle.std.proofs.Common.{◌<◌, ◌++◌, ◌∷◌, [], ℕ, List, sym, ap, subst, ◌∙◌, length, set, arith, true}
+use Rattle.std.proofs.Common.{◌≡◌, ◌<◌, ◌++◌, ◌∷◌, [], ℕ, List, sym, ap, subst, ◌∙◌, length, map, set, Some, arith, true}
 use Rattle.std.specs.List.{Contains}
 use Rattle.std.proofs.lemmas.Bool.{both_ways}
-use Rattle.std.proofs.lemmas.List.{length-set}
+use Rattle.std.proofs.lemmas.List.{length-set, length-map}
+use Rattle.std.proofs.lemmas.Option.{slice_get-get_or}
 use Rattle.std.proofs.lemmas.List.Elements.{Contains-push}
 use Rattle.bk_rounds.specs.declared.slots.Slot.{Slot}
-use Rattle.bk_rounds.specs.private.Numbered.{IsInsideRows, IsRegistered}
+use Rattle.bk_rounds.specs.private.Numbered.{IsInside, IsInsideRows, IsRegistered, IsSound, IsTable, is_ready_in}
 use Rattle.bk_rounds.proofs.Marks.{sound_marked, one_fewer}
 use Rattle.bk_rounds.proofs.Added.{filled, field_here, inside_after, sound_after, registered_after, registered_mark, covered_after, exact_waiting, answer_from}
 use Rattle.bk_rounds.proofs.admitting.admit.Goals as goal
 
+pub replace-requires : goal.replace-requires
+replace-requires c =
+    slice_get-get_or (map (λ (x : Slot). x.id) c.args.slots.now) c.args.k [] (omega (arith, c.requires.number.0, length-map c.args.slots.now (λ (x : Slot). x.id)))
+    ∙ ap Some c.requires.id
+
 pub is_ready-requires-clause-parents : goal.is_ready-requires-clause-parents
-is_ready-requires-clause-parents c = inside_after c.args.slots.now c.args.marks.now c.args.k c.args.slot c.requires.number.0 c.requires.table.inside c.requires.parents
+is_ready-requires-clause-parents c = subst IsInside (sym (c.as_slice.ensures ∙ c.replace.ensures)) (inside_after c.args.slots.now c.args.marks.now c.args.k c.args.slot c.requires.number.0 c.requires.table.inside c.requires.parents)
 
 pub push_reserved-requires : goal.push_reserved-requires
 push_reserved-requires c =
@@ -20,10 +26,10 @@ push_reserved-requires c =
     omega (arith, fewer, c.requires.out, ap length c.requires.out, c.requires.room)
 
 pub settle-requires-clause-parents : goal.settle-requires-clause-parents
-settle-requires-clause-parents c = inside_after c.args.slots.now c.args.marks.now c.args.k c.args.slot c.requires.number.0 c.requires.table.inside c.requires.parents
+settle-requires-clause-parents c = subst IsInside (sym (c.as_slice-then-is_ready.ensures ∙ c.replace.ensures)) (inside_after c.args.slots.now c.args.marks.now c.args.k c.args.slot c.requires.number.0 c.requires.table.inside c.requires.parents)
 
 pub settle-requires-clause-rows : goal.settle-requires-clause-rows
-settle-requires-clause-rows c = subst (λ n. IsInsideRows n c.args.pending.now) (sym (length-set c.args.slots.now c.args.k c.args.slot)) c.requires.table.rows
+settle-requires-clause-rows c = subst (λ n. IsInsideRows n c.args.pending.now) (sym (ap length (c.as_slice-then-is_ready.ensures ∙ c.replace.ensures) ∙ length-set c.args.slots.now c.args.k c.args.slot)) c.requires.table.rows
 
 pub settle-requires-clause-room : goal.settle-requires-clause-room
 settle-requires-clause-room c =
@@ -36,8 +42,9 @@ pub settle-requires-clause-sound : goal.settle-requires-clause-sound
 settle-requires-clause-sound c =
     let after : List Slot = set c.args.slots.now c.args.k c.args.slot in
     let f = filled c.args.weights.now c.args.slots.now c.args.marks.now c.args.pending.now c.args.k c.args.slot c.requires.table c.requires.number.1 in
-    sound_marked c.args.weights.now after c.args.marks.now c.args.k (sound_after c.args.weights.now c.args.slots.now after c.args.marks.now c.args.pending.now c.args.k c.requires.table f)
-    (sym c.is_ready.ensures ∙ c.if-is_ready.true)
+    subst (λ (ss : List Slot). IsSound c.args.weights.now ss (set c.args.marks.now c.args.k true)) (sym (c.as_slice-then-is_ready.ensures ∙ c.replace.ensures))
+    (sound_marked c.args.weights.now after c.args.marks.now c.args.k (sound_after c.args.weights.now c.args.slots.now after c.args.marks.now c.args.pending.now c.args.k c.requires.table f)
+    (ap (λ ss. is_ready_in c.args.weights.now ss c.args.marks.now c.args.k) (sym (c.as_slice.ensures ∙ c.replace.ensures)) ∙ (sym c.is_ready.ensures ∙ c.if-is_ready.true)))
 
 pub settle-requires-clause-registered : goal.settle-requires-clause-registered
 settle-requires-clause-registered c =
@@ -48,7 +55,8 @@ settle-requires-clause-registered c =
     registered_after c.args.weights.now c.args.slots.now after c.args.marks.now c.args.pending.now c.args.pending.now c.args.k c.requires.table f (λ m i h. h)
     (λ p t free. c.requires.waits p
     (subst (λ (xs : List ℕ). Contains xs p) (field_here (λ (x : Slot). x.parents.items) c.args.slots.now c.args.k c.args.slot [] c.requires.number.0) t) free) in
-    registered_mark after c.args.marks.now c.args.pending.now c.args.k low reg
+    subst (λ (ss : List Slot). IsRegistered ss (set c.args.marks.now c.args.k true) c.args.pending.now) (sym (c.as_slice-then-is_ready.ensures ∙ c.replace.ensures))
+    (registered_mark after c.args.marks.now c.args.pending.now c.args.k low reg)
 
 pub settle-requires-clause-covered : goal.settle-requires-clause-covered
 settle-requires-clause-covered c =
@@ -62,7 +70,8 @@ settle-requires-clause-covered c =
     λ i ready free. (
       c.args.k,
       subst (λ (xs : List ℕ). Contains xs c.args.k) (sym c.push_reserved.ensures.items) (Contains-push c.args.out.now.items c.args.k),
-      covered_after c.args.weights.now c.args.slots.now after c.args.marks.now c.args.pending.now c.args.pending.now c.args.k c.requires.table f low reg i ready free,
+      covered_after c.args.weights.now c.args.slots.now after c.args.marks.now c.args.pending.now c.args.pending.now c.args.k c.requires.table f low reg i
+          (ap (λ ss. is_ready_in c.args.weights.now ss (set c.args.marks.now c.args.k true) i) (sym (c.as_slice-then-is_ready.ensures ∙ c.replace.ensures)) ∙ ready) free,
     )
 
 pub returns-then-is_ready-clause-table : goal.returns-then-is_ready-clause-table
@@ -74,13 +83,15 @@ returns-then-is_ready-clause-table c =
     registered_after c.args.weights.now c.args.slots.now after c.args.marks.now c.args.pending.now c.args.pending.now c.args.k c.requires.table f (λ m i h. h)
     (λ p t free. c.requires.waits p
     (subst (λ (xs : List ℕ). Contains xs p) (field_here (λ (x : Slot). x.parents.items) c.args.slots.now c.args.k c.args.slot [] c.requires.number.0) t) free) in
-    record {
-      same = omega (arith, c.settle.ensures.more.length, length-set c.args.marks.now c.args.k true, length-set c.args.slots.now c.args.k c.args.slot, c.requires.table.same);
-      inside = inside_after c.args.slots.now c.args.marks.now c.args.k c.args.slot c.requires.number.0 c.requires.table.inside c.requires.parents;
+    let is : c.as_slice-then-is_ready.result.now ≡ after = c.as_slice-then-is_ready.ensures ∙ c.replace.ensures in
+    let table : IsTable c.args.weights.now c.as_slice-then-is_ready.result.now c.settle.new.marks c.settle.new.pending = record {
+      same = omega (arith, c.settle.ensures.more.length, length-set c.args.marks.now c.args.k true, length-set c.args.slots.now c.args.k c.args.slot, c.requires.table.same, ap length is);
+      inside = subst IsInside (sym is) (inside_after c.args.slots.now c.args.marks.now c.args.k c.args.slot c.requires.number.0 c.requires.table.inside c.requires.parents);
       rows = c.settle.ensures.rows;
       exact = c.settle.ensures.marks;
       registered = c.settle.ensures.registered;
-    }
+    } in
+    subst (λ (ss : List Slot). IsTable c.args.weights.now ss c.settle.new.marks c.settle.new.pending) c.as_slice-then-is_ready.ensures table
 
 pub returns-else-is_ready-clause-table : goal.returns-else-is_ready-clause-table
 returns-else-is_ready-clause-table c =
@@ -91,13 +102,15 @@ returns-else-is_ready-clause-table c =
     registered_after c.args.weights.now c.args.slots.now after c.args.marks.now c.args.pending.now c.args.pending.now c.args.k c.requires.table f (λ m i h. h)
     (λ p t free. c.requires.waits p
     (subst (λ (xs : List ℕ). Contains xs p) (field_here (λ (x : Slot). x.parents.items) c.args.slots.now c.args.k c.args.slot [] c.requires.number.0) t) free) in
-    record {
+    let table : IsTable c.args.weights.now after c.args.marks.now c.args.pending.now = record {
       same = simp length-set c.requires.table.same;
       inside = inside_after c.args.slots.now c.args.marks.now c.args.k c.args.slot c.requires.number.0 c.requires.table.inside c.requires.parents;
       rows = subst (λ n. IsInsideRows n c.args.pending.now) (sym (length-set c.args.slots.now c.args.k c.args.slot)) c.requires.table.rows;
-      exact = exact_waiting c.args.weights.now c.args.slots.now after c.args.marks.now c.args.pending.now c.args.k c.requires.table f (sym c.is_ready.ensures ∙ c.if-is_ready.false);
+      exact = exact_waiting c.args.weights.now c.args.slots.now after c.args.marks.now c.args.pending.now c.args.k c.requires.table f
+          (ap (λ ss. is_ready_in c.args.weights.now ss c.args.marks.now c.args.k) (sym (c.as_slice.ensures ∙ c.replace.ensures)) ∙ (sym c.is_ready.ensures ∙ c.if-is_ready.false));
       registered = reg;
-    }
+    } in
+    subst (λ (ss : List Slot). IsTable c.args.weights.now ss c.args.marks.now c.args.pending.now) (sym c.replace.ensures) table
 
 pub returns-then-is_ready-clause-out : goal.returns-then-is_ready-clause-out
 returns-then-is_ready-clause-out c =

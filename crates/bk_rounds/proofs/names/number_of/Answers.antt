@@ -9,4 +9,4 @@ pub returns-in-Some-clause-id : goal.returns-in-Some-clause-id
 returns-in-Some-clause-id c = (c.requires.names.numbering.sound c.args.id.now c.in-Some.number (sym c.get.ensures ∙ c.in-Some.is)).1
 
 pub returns-in-Some-clause-grows : goal.returns-in-Some-clause-grows
-returns-in-Some-clause-grows c = grows_same _ _ (record { numbers = λ q. refl; slots = refl; marks = refl; pending = refl; sets = refl; unmarked = refl })
+returns-in-Some-clause-grows c = grows_same _ _ (record { slots = refl; marks = refl; pending = refl; sets = refl; unmarked = refl })

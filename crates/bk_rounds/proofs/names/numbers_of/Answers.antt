@@ -5,13 +5,13 @@ use Rattle.bk_rounds.proofs.Named.{grows_same, grows_on, map_push, ids_kept, ins
 use Rattle.bk_rounds.proofs.names.numbers_of.Goals as goal
 
 pub returns-in_err-numbers-clause-grows : goal.returns-in_err-numbers-clause-grows
-returns-in_err-numbers-clause-grows c = grows_same _ _ (record { numbers = λ q. refl; slots = refl; marks = refl; pending = refl; sets = refl; unmarked = refl })
+returns-in_err-numbers-clause-grows c = grows_same _ _ (record { slots = refl; marks = refl; pending = refl; sets = refl; unmarked = refl })
 
 pub loop-id-init : goal.loop-id-init
 loop-id-init c = record {
   names = c.requires.names;
-  grows = grows_same _ _ (record { numbers = λ q. refl; slots = refl; marks = refl; pending = refl; sets = refl; unmarked = refl });
-  ids = ap (map (id_of c.args.names.now.slots.items)) c.in_ok-numbers.ensures.items;
+  grows = grows_same _ _ (record { slots = refl; marks = refl; pending = refl; sets = refl; unmarked = refl });
+  ids = ap (map (id_of c.args.names.now.slots)) c.in_ok-numbers.ensures.items;
   inside = rw c.in_ok-numbers.ensures.items (λ k d low. absurd (omega arith));
 }
 
@@ -27,15 +27,15 @@ loop-id-preserved c =
     let new = c.number_near.new.names in
     let ps : List ℕ = c.loop-id.numbers.items in
     let k : ℕ = c.in_ok-number.number in
-    let here : id_of new.slots.items k ≡ get_or c.args.ids.now c.loop-id.id-index c.id-item.result = c.in_ok-number.ensures.id ∙ c.id-item.is in
-    let all : map (id_of new.slots.items) (ps ++ k ∷ []) ≡ take (c.loop-id.id-index + 1) c.args.ids.now =
-    map_push (id_of new.slots.items) ps k
+    let here : id_of new.slots k ≡ get_or c.args.ids.now c.loop-id.id-index c.id-item.result = c.in_ok-number.ensures.id ∙ c.id-item.is in
+    let all : map (id_of new.slots) (ps ++ k ∷ []) ≡ take (c.loop-id.id-index + 1) c.args.ids.now =
+    map_push (id_of new.slots) ps k
     ∙ ((λ i. (ids_kept old new ps c.in_ok-number.ensures.grows c.loop-id.invariant.inside ∙ c.loop-id.invariant.ids) i ++ here i ∷ [])
     ∙ sym (take_more c.args.ids.now c.loop-id.id-index c.id-item.result c.loop-id-test.true)) in
     record {
       names = c.in_ok-number.ensures.names;
       grows = grows_on c.args.names.now old new c.loop-id.invariant.grows c.in_ok-number.ensures.grows;
-      ids = ap (map (id_of new.slots.items)) c.in_ok-push.ensures.items ∙ all;
-      inside = rw c.in_ok-push.ensures.items (inside_push (length new.slots.items) ps k
-          (inside_more (length old.slots.items) (length new.slots.items) ps c.in_ok-number.ensures.grows.longer c.loop-id.invariant.inside) c.in_ok-number.ensures.inside);
+      ids = ap (map (id_of new.slots)) c.in_ok-push.ensures.items ∙ all;
+      inside = rw c.in_ok-push.ensures.items (inside_push (length new.slots) ps k
+          (inside_more (length old.slots) (length new.slots) ps c.in_ok-number.ensures.grows.longer c.loop-id.invariant.inside) c.in_ok-number.ensures.inside);
     }

@@ -7,6 +7,6 @@ abbrev pub invariant-loop-id : goal.invariant-loop-id
 invariant-loop-id l = record {
   names : AreNames l.names;
   grows : Grows l.fn.names l.names;
-  ids : map (id_of l.names.slots.items) l.numbers.items ≡ take l.id-index l.ids;
-  inside : All (λ p. p < length l.names.slots.items) l.numbers.items;
+  ids : map (id_of l.names.slots) l.numbers.items ≡ take l.id-index l.ids;
+  inside : All (λ p. p < length l.names.slots) l.numbers.items;
 }

@@ -17,7 +17,7 @@ returns-in_err-number-clause-grows c = grows_on c.args.names.now c.numbers_of.ne
 pub returns-in_err-register-clause-names : goal.returns-in_err-register-clause-names
 returns-in_err-register-clause-names c =
     let n = c.in_ok-number.ensures.names in
-    names_rows c.own_number.new.names _ n refl refl refl refl refl
+    names_rows c.own_number.new.names _ n refl refl refl refl
     (subst (λ (k : ℕ). IsInsideRows k c.register.new.pending) (ap length c.deref.ensures.value ∙ n.marks) c.in_err-register.ensures.rows)
 
 pub returns-in_err-register-clause-grows : goal.returns-in_err-register-clause-grows
@@ -30,7 +30,7 @@ returns-in_err-register-clause-grows c =
 pub returns-clause-names : goal.returns-clause-names
 returns-clause-names c =
     let n = c.in_ok-number.ensures.names in
-    names_rows c.own_number.new.names _ n refl refl refl refl refl
+    names_rows c.own_number.new.names _ n refl refl refl refl
     (subst (λ (k : ℕ). IsInsideRows k c.register.new.pending) (ap length c.deref.ensures.value ∙ n.marks) c.in_ok-register.ensures.rows)
 
 pub returns-clause-grows : goal.returns-clause-grows

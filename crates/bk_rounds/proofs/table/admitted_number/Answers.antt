@@ -7,13 +7,13 @@ use Rattle.bk_rounds.proofs.table.admitted_number.Goals as goal
 pub index-requires : goal.index-requires
 index-requires c =
     let known : number_at c.args.places.now c.args.place ≡ Some c.in-Some.number = sym c.find.ensures ∙ c.in-Some.is in
-    let low = number_low c.args.names.now.slots.items (number_at c.args.places.now) c.args.place c.in-Some.number c.requires.placed known in
+    let low = number_low c.args.names.now.slots (number_at c.args.places.now) c.args.place c.in-Some.number c.requires.placed known in
     omega (arith, low, c.requires.names.marks)
 
 pub returns-then-index-clause-found : goal.returns-then-index-clause-found
 returns-then-index-clause-found c =
     let known : number_at c.args.places.now c.args.place ≡ Some c.in-Some.number = sym c.find.ensures ∙ c.in-Some.is in
-    let low = number_low c.args.names.now.slots.items (number_at c.args.places.now) c.args.place c.in-Some.number c.requires.placed known in
+    let low = number_low c.args.names.now.slots (number_at c.args.places.now) c.args.place c.in-Some.number c.requires.placed known in
     let within : c.in-Some.number < length c.args.names.now.marks.items = omega (arith, low, c.requires.names.marks) in
     let marked : is_marked c.args.names.now.marks.items c.in-Some.number ≡ true =
     read_any c.args.names.now.marks.items c.in-Some.number c.index.result.now false within ∙ (sym c.index.ensures ∙ c.if-index.true) in
@@ -22,7 +22,7 @@ returns-then-index-clause-found c =
 pub returns-else-index-clause-none : goal.returns-else-index-clause-none
 returns-else-index-clause-none c =
     let known : number_at c.args.places.now c.args.place ≡ Some c.in-Some.number = sym c.find.ensures ∙ c.in-Some.is in
-    let low = number_low c.args.names.now.slots.items (number_at c.args.places.now) c.args.place c.in-Some.number c.requires.placed known in
+    let low = number_low c.args.names.now.slots (number_at c.args.places.now) c.args.place c.in-Some.number c.requires.placed known in
     let within : c.in-Some.number < length c.args.names.now.marks.items = omega (arith, low, c.requires.names.marks) in
     let unmarked : is_marked c.args.names.now.marks.items c.in-Some.number ≡ false =
     read_any c.args.names.now.marks.items c.in-Some.number c.index.result.now false within ∙ (sym c.index.ensures ∙ c.if-index.false) in

@@ -1,4 +1,4 @@
-use Rattle.std.proofs.Common.{◌≡◌, ◌≢◌, ◌-◌, ◌≤◌, ◌++◌, ◌∷◌, [], ◌∙◌, ◌↔◌, ℕ, cond, List, Some, None, refl, sym, ap, subst, arith, length, get_or, set, map}
+use Rattle.std.proofs.Common.{◌≡◌, ◌≢◌, ◌-◌, ◌≤◌, ◌++◌, ◌∷◌, [], ◌∙◌, ◌↔◌, ℕ, cond, List, Some, None, refl, sym, ap, subst, arith, length, get_or, map}
 use Rattle.std.specs.List.{Contains}
 use Rattle.std.specs.Map.{lookup}
 use Rattle.std.specs.BTreeMap.{is_at}
@@ -46,8 +46,8 @@ admit-requires-clause-table c =
     let w : IsWhole z held n (number_at c.self.inside.places) c.self.inside.top =
     whole_grown z held c.self.inside.names n (number_at c.self.inside.places) (number_at c.self.inside.places) c.self.inside.top c.self.invariant c.in_ok-ready.ensures.grows c.in_ok-ready.ensures.names (λ q. refl) in
     let new : (d : Node) → Contains held d → d.id ≢ cert.id = λ d t. c.requires.new d (subst (λ (v : RoundsValue). Contains v.held d) c.self.view_is t) in
-    let none : round_of n.slots.items k ≡ 0 = number_free z held n (number_at c.self.inside.places) c.self.inside.top w k cert p.id new in
-    rw (c.deref_mut.ensures.value, c.deref_mut-2.ensures.value) w.table
+    let none : round_of n.slots k ≡ 0 = number_free z held n (number_at c.self.inside.places) c.self.inside.top w k cert p.id new in
+    rw (c.deref_mut.ensures.value) w.table
 
 pub admit-requires-clause-number : goal.admit-requires-clause-number
 admit-requires-clause-number c =
@@ -60,8 +60,11 @@ admit-requires-clause-number c =
     let w : IsWhole z held n (number_at c.self.inside.places) c.self.inside.top =
     whole_grown z held c.self.inside.names n (number_at c.self.inside.places) (number_at c.self.inside.places) c.self.inside.top c.self.invariant c.in_ok-ready.ensures.grows c.in_ok-ready.ensures.names (λ q. refl) in
     let new : (d : Node) → Contains held d → d.id ≢ cert.id = λ d t. c.requires.new d (subst (λ (v : RoundsValue). Contains v.held d) c.self.view_is t) in
-    let none : round_of n.slots.items k ≡ 0 = number_free z held n (number_at c.self.inside.places) c.self.inside.top w k cert p.id new in
-    rw c.deref_mut.ensures.value (p.inside, none)
+    let none : round_of n.slots k ≡ 0 = number_free z held n (number_at c.self.inside.places) c.self.inside.top w k cert p.id new in
+    (p.inside, none)
+
+pub admit-requires-clause-id : goal.admit-requires-clause-id
+admit-requires-clause-id c = c.in_ok-ready.ensures.prepared.id ∙ sym c.id.ensures
 
 pub tell-self-inside-requires-clause-inside : goal.tell-self-inside-requires-clause-inside
 tell-self-inside-requires-clause-inside c =
@@ -74,15 +77,14 @@ tell-self-inside-requires-clause-inside c =
     let w : IsWhole z held n (number_at c.self.inside.places) c.self.inside.top =
     whole_grown z held c.self.inside.names n (number_at c.self.inside.places) (number_at c.self.inside.places) c.self.inside.top c.self.invariant c.in_ok-ready.ensures.grows c.in_ok-ready.ensures.names (λ q. refl) in
     let new : (d : Node) → Contains held d → d.id ≢ cert.id = λ d t. c.requires.new d (subst (λ (v : RoundsValue). Contains v.held d) c.self.view_is t) in
-    let none : round_of n.slots.items k ≡ 0 = number_free z held n (number_at c.self.inside.places) c.self.inside.top w k cert p.id new in
-    let e_s : (with_items n.slots c.admit.new.slots).items ≡ c.admit.new.slots = with_items_is n.slots c.admit.new.slots (omega (arith, c.admit.auto.slots, ap length c.deref_mut.ensures.value, n.slots.ok.0)) in
-    let e_m : (with_items n.marks c.admit.new.marks).items ≡ c.admit.new.marks = with_items_is n.marks c.admit.new.marks (omega (arith, c.admit.auto.marks, ap length c.deref_mut-2.ensures.value, n.marks.ok.0)) in
+    let none : round_of n.slots k ≡ 0 = number_free z held n (number_at c.self.inside.places) c.self.inside.top w k cert p.id new in
+    let e_m : (with_items n.marks c.admit.new.marks).items ≡ c.admit.new.marks = with_items_is n.marks c.admit.new.marks (omega (arith, c.admit.auto.marks, ap length c.deref_mut.ensures.value, n.marks.ok.0)) in
     let table : IsTable z c.admit.new.slots c.admit.new.marks c.admit.new.pending = c.admit.ensures.table in
     λ j d low.
-    let i : ℕ = get_or c.deref-2.result.now j d in
-    let there = subst (λ (xs : List ℕ). Contains xs i) c.deref-2.ensures.value (Contains-get_or c.deref-2.result.now j d low) in
+    let i : ℕ = get_or c.deref.result.now j d in
+    let there = subst (λ (xs : List ℕ). Contains xs i) c.deref.ensures.value (Contains-get_or c.deref.result.now j d low) in
     let inside = marked_low c.admit.new.marks i ((c.admit.ensures.out i).0 there).0 in
-    omega (arith, inside, table.same, ap length c.deref.ensures.value, ap length e_s)
+    omega (arith, inside, table.same, ap length c.as_slice.ensures)
 
 pub tell-self-inside-requires-clause-parents : goal.tell-self-inside-requires-clause-parents
 tell-self-inside-requires-clause-parents c =
@@ -95,11 +97,10 @@ tell-self-inside-requires-clause-parents c =
     let w : IsWhole z held n (number_at c.self.inside.places) c.self.inside.top =
     whole_grown z held c.self.inside.names n (number_at c.self.inside.places) (number_at c.self.inside.places) c.self.inside.top c.self.invariant c.in_ok-ready.ensures.grows c.in_ok-ready.ensures.names (λ q. refl) in
     let new : (d : Node) → Contains held d → d.id ≢ cert.id = λ d t. c.requires.new d (subst (λ (v : RoundsValue). Contains v.held d) c.self.view_is t) in
-    let none : round_of n.slots.items k ≡ 0 = number_free z held n (number_at c.self.inside.places) c.self.inside.top w k cert p.id new in
-    let e_s : (with_items n.slots c.admit.new.slots).items ≡ c.admit.new.slots = with_items_is n.slots c.admit.new.slots (omega (arith, c.admit.auto.slots, ap length c.deref_mut.ensures.value, n.slots.ok.0)) in
-    let e_m : (with_items n.marks c.admit.new.marks).items ≡ c.admit.new.marks = with_items_is n.marks c.admit.new.marks (omega (arith, c.admit.auto.marks, ap length c.deref_mut-2.ensures.value, n.marks.ok.0)) in
+    let none : round_of n.slots k ≡ 0 = number_free z held n (number_at c.self.inside.places) c.self.inside.top w k cert p.id new in
+    let e_m : (with_items n.marks c.admit.new.marks).items ≡ c.admit.new.marks = with_items_is n.marks c.admit.new.marks (omega (arith, c.admit.auto.marks, ap length c.deref_mut.ensures.value, n.marks.ok.0)) in
     let table : IsTable z c.admit.new.slots c.admit.new.marks c.admit.new.pending = c.admit.ensures.table in
-    subst IsInside (sym (c.deref.ensures.value ∙ e_s)) table.inside
+    subst IsInside (sym c.as_slice.ensures) table.inside
 
 pub tell-self-inside-requires-clause-authors : goal.tell-self-inside-requires-clause-authors
 tell-self-inside-requires-clause-authors c =
@@ -112,12 +113,11 @@ tell-self-inside-requires-clause-authors c =
     let w : IsWhole z held n (number_at c.self.inside.places) c.self.inside.top =
     whole_grown z held c.self.inside.names n (number_at c.self.inside.places) (number_at c.self.inside.places) c.self.inside.top c.self.invariant c.in_ok-ready.ensures.grows c.in_ok-ready.ensures.names (λ q. refl) in
     let new : (d : Node) → Contains held d → d.id ≢ cert.id = λ d t. c.requires.new d (subst (λ (v : RoundsValue). Contains v.held d) c.self.view_is t) in
-    let none : round_of n.slots.items k ≡ 0 = number_free z held n (number_at c.self.inside.places) c.self.inside.top w k cert p.id new in
-    let e_s : (with_items n.slots c.admit.new.slots).items ≡ c.admit.new.slots = with_items_is n.slots c.admit.new.slots (omega (arith, c.admit.auto.slots, ap length c.deref_mut.ensures.value, n.slots.ok.0)) in
-    let e_m : (with_items n.marks c.admit.new.marks).items ≡ c.admit.new.marks = with_items_is n.marks c.admit.new.marks (omega (arith, c.admit.auto.marks, ap length c.deref_mut-2.ensures.value, n.marks.ok.0)) in
+    let none : round_of n.slots k ≡ 0 = number_free z held n (number_at c.self.inside.places) c.self.inside.top w k cert p.id new in
+    let e_m : (with_items n.marks c.admit.new.marks).items ≡ c.admit.new.marks = with_items_is n.marks c.admit.new.marks (omega (arith, c.admit.auto.marks, ap length c.deref_mut.ensures.value, n.marks.ok.0)) in
     let table : IsTable z c.admit.new.slots c.admit.new.marks c.admit.new.pending = c.admit.ensures.table in
     let slot : Slot = record { id = c.id.result.now; round = c.round.result; author = c.author.result; cert = c.len.result; parents = c.in_ok-ready.ready.parents } in
-    let m : Names = record n { slots = with_items n.slots c.admit.new.slots; marks = with_items n.marks c.admit.new.marks; pending = c.admit.new.pending } in
+    let m : Names = record n { slots = c.admit.new.slots; marks = with_items n.marks c.admit.new.marks; pending = c.admit.new.pending } in
     let added : IsAdding held n m cert k slot = record {
       low = p.inside;
       none = none;
@@ -127,17 +127,16 @@ tell-self-inside-requires-clause-authors c =
       author = c.author.ensures ∙ ap (λ (h : HeaderValue). h.author) c.header-2.ensures;
       cert = omega (arith, c.len.ensures, ap length c.in_ok-ready.ensures.certs);
       parents = p.parents;
-      slots = e_s ∙ (c.admit.ensures.slots ∙ ap (λ (ss : List Slot). set ss k slot) c.deref_mut.ensures.value);
-      numbers = refl;
+      slots = c.admit.ensures.slots;
     } in
     let good : IsFit z cert = subst (λ (v : RoundsValue). IsFit v.sizes cert) (sym c.self.view_is) c.requires.good in
     let from : (d : Node) → Contains held d → 1 ≤ d.header.round = λ d t. (w.good d t).from_one in
-    let tied : IsTied (held ++ cert ∷ []) m.slots.items = tied_added held n m cert k slot added from w.tied in
+    let tied : IsTied (held ++ cert ∷ []) m.slots = tied_added held n m cert k slot added from w.tied in
     λ i q there among.
-    let mark = ((c.admit.ensures.out i).0 (subst (λ (xs : List ℕ). Contains xs i) c.deref-2.ensures.value there)).0 in
-    let low = parent_author z (held ++ cert ∷ []) m (good_added z held cert w.good good) tied (table_from z m c.admit.new.slots c.admit.new.marks c.admit.new.pending e_s e_m refl table) i q
-    (ap (λ ms. is_marked ms i) e_m ∙ mark) (subst (λ (ss : List Slot). Contains (parents_of ss i) q) c.deref.ensures.value among) in
-    let is : author_of c.deref.result.now q ≡ author_of m.slots.items q = ap (λ (ss : List Slot). author_of ss q) c.deref.ensures.value in
+    let mark = ((c.admit.ensures.out i).0 (subst (λ (xs : List ℕ). Contains xs i) c.deref.ensures.value there)).0 in
+    let low = parent_author z (held ++ cert ∷ []) m (good_added z held cert w.good good) tied (table_from z m c.admit.new.slots c.admit.new.marks c.admit.new.pending refl e_m refl table) i q
+    (ap (λ ms. is_marked ms i) e_m ∙ mark) (subst (λ (ss : List Slot). Contains (parents_of ss i) q) c.as_slice.ensures among) in
+    let is : author_of c.as_slice.result.now q ≡ author_of m.slots q = ap (λ (ss : List Slot). author_of ss q) c.as_slice.ensures in
     omega (arith, low, is, w.few)
 
 pub invariant_of-self-2 : goal.invariant_of-self-2
@@ -151,12 +150,11 @@ invariant_of-self-2 c =
     let w : IsWhole z held n (number_at c.self.inside.places) c.self.inside.top =
     whole_grown z held c.self.inside.names n (number_at c.self.inside.places) (number_at c.self.inside.places) c.self.inside.top c.self.invariant c.in_ok-ready.ensures.grows c.in_ok-ready.ensures.names (λ q. refl) in
     let new : (d : Node) → Contains held d → d.id ≢ cert.id = λ d t. c.requires.new d (subst (λ (v : RoundsValue). Contains v.held d) c.self.view_is t) in
-    let none : round_of n.slots.items k ≡ 0 = number_free z held n (number_at c.self.inside.places) c.self.inside.top w k cert p.id new in
-    let e_s : (with_items n.slots c.admit.new.slots).items ≡ c.admit.new.slots = with_items_is n.slots c.admit.new.slots (omega (arith, c.admit.auto.slots, ap length c.deref_mut.ensures.value, n.slots.ok.0)) in
-    let e_m : (with_items n.marks c.admit.new.marks).items ≡ c.admit.new.marks = with_items_is n.marks c.admit.new.marks (omega (arith, c.admit.auto.marks, ap length c.deref_mut-2.ensures.value, n.marks.ok.0)) in
+    let none : round_of n.slots k ≡ 0 = number_free z held n (number_at c.self.inside.places) c.self.inside.top w k cert p.id new in
+    let e_m : (with_items n.marks c.admit.new.marks).items ≡ c.admit.new.marks = with_items_is n.marks c.admit.new.marks (omega (arith, c.admit.auto.marks, ap length c.deref_mut.ensures.value, n.marks.ok.0)) in
     let table : IsTable z c.admit.new.slots c.admit.new.marks c.admit.new.pending = c.admit.ensures.table in
     let slot : Slot = record { id = c.id.result.now; round = c.round.result; author = c.author.result; cert = c.len.result; parents = c.in_ok-ready.ready.parents } in
-    let m : Names = record { numbers = n.numbers; slots = with_items n.slots c.admit.new.slots; marks = with_items n.marks c.admit.new.marks; pending = c.admit.new.pending; sets = with_items n.sets c.tell-self-inside.new.sets; unmarked = n.unmarked - c.len-2.result } in
+    let m : Names = record { slots = c.admit.new.slots; marks = with_items n.marks c.admit.new.marks; pending = c.admit.new.pending; sets = with_items n.sets c.tell-self-inside.new.sets; unmarked = n.unmarked - c.len-2.result } in
     let added : IsAdding held n m cert k slot = record {
       low = p.inside;
       none = none;
@@ -166,19 +164,18 @@ invariant_of-self-2 c =
       author = c.author.ensures ∙ ap (λ (h : HeaderValue). h.author) c.header-2.ensures;
       cert = omega (arith, c.len.ensures, ap length c.in_ok-ready.ensures.certs);
       parents = p.parents;
-      slots = e_s ∙ (c.admit.ensures.slots ∙ ap (λ (ss : List Slot). set ss k slot) c.deref_mut.ensures.value);
-      numbers = refl;
+      slots = c.admit.ensures.slots;
     } in
     let good : IsFit z cert = subst (λ (v : RoundsValue). IsFit v.sizes cert) (sym c.self.view_is) c.requires.good in
     let from : (d : Node) → Contains held d → 1 ≤ d.header.round = λ d t. (w.good d t).from_one in
-    let tied : IsTied (held ++ cert ∷ []) m.slots.items = tied_added held n m cert k slot added from w.tied in
-    let e_t : (with_items n.sets c.tell-self-inside.new.sets).items ≡ c.tell-self-inside.new.sets = with_items_is n.sets c.tell-self-inside.new.sets (omega (arith, c.tell-self-inside.auto.sets, ap length c.deref_mut-3.ensures.value, n.sets.ok.0)) in
+    let tied : IsTied (held ++ cert ∷ []) m.slots = tied_added held n m cert k slot added from w.tied in
+    let e_t : (with_items n.sets c.tell-self-inside.new.sets).items ≡ c.tell-self-inside.new.sets = with_items_is n.sets c.tell-self-inside.new.sets (omega (arith, c.tell-self-inside.auto.sets, ap length c.deref_mut-2.ensures.value, n.sets.ok.0)) in
     let out : List ℕ = c.admit.new.out.items in
     let waits : n.unmarked - c.len-2.result ≡ count_unmarked (with_items n.marks c.admit.new.marks).items =
-    omega (arith, c.admit.ensures.steps, c.len-2.ensures, w.names.waiting, ap count_unmarked e_m, ap count_unmarked c.deref_mut-2.ensures.value) in
+    omega (arith, c.admit.ensures.steps, c.len-2.ensures, w.names.waiting, ap count_unmarked e_m, ap count_unmarked c.deref_mut.ensures.value) in
     let admitted : IsAdmitting n m out c.self.inside.top c.tell-self-inside.result =
-    admitting_from n m out c.deref-2.result.now c.self.inside.top c.tell-self-inside.result c.deref_mut-2.result.now c.admit.new.marks c.deref.result.now c.deref_mut-3.result.now c.tell-self-inside.new.sets
-    c.deref_mut-2.ensures.value e_m (sym c.deref.ensures.value) c.deref_mut-3.ensures.value e_t c.deref-2.ensures.value c.tell-self-inside.auto.sets
+    admitting_from n m out c.deref.result.now c.self.inside.top c.tell-self-inside.result c.deref_mut.result.now c.admit.new.marks c.as_slice.result.now c.deref_mut-2.result.now c.tell-self-inside.new.sets
+    c.deref_mut.ensures.value e_m (sym c.as_slice.ensures) c.deref_mut-2.ensures.value e_t c.deref.ensures.value c.tell-self-inside.auto.sets
     waits c.admit.ensures.stay c.admit.ensures.out c.tell-self-inside.ensures.here c.tell-self-inside.ensures.other c.tell-self-inside.ensures.highest c.tell-self-inside.ensures.more c.tell-self-inside.ensures.least
     c.tell-self-inside.ensures.reached in
     let free : (d : Node) → Contains held d → place_of d ≢ place_of cert = λ d t. c.requires.free d (subst (λ (v : RoundsValue). Contains v.held d) c.self.view_is t) in
@@ -189,7 +186,7 @@ invariant_of-self-2 c =
     (λ q. c.in_ok-first_of.ensures.put q ∙ (λ i. cond (is_eq (place_cmp (place i) q)) (Some (unwrap_or (none_there i) k)) (number_at c.self.inside.places q))) in
     let whole : IsWhole z (held ++ cert ∷ []) m (number_at c.first_of.new.self) c.tell-self-inside.result =
     whole_added z held n m cert k slot (number_at c.self.inside.places) (number_at c.first_of.new.self) c.self.inside.top c.tell-self-inside.result out w added good new free up
-    (table_from z m c.admit.new.slots c.admit.new.marks c.admit.new.pending e_s e_m refl table) admitted in
+    (table_from z m c.admit.new.slots c.admit.new.marks c.admit.new.pending refl e_m refl table) admitted in
     let certs : c.push_reserved.new.self.items ≡ held ++ cert ∷ [] = c.push_reserved.ensures.items ∙ ap (λ (xs : List Node). xs ++ cert ∷ []) c.in_ok-ready.ensures.certs in
     rw certs whole
 
@@ -204,12 +201,11 @@ returns-clause-answer c =
     let w : IsWhole z held n (number_at c.self.inside.places) c.self.inside.top =
     whole_grown z held c.self.inside.names n (number_at c.self.inside.places) (number_at c.self.inside.places) c.self.inside.top c.self.invariant c.in_ok-ready.ensures.grows c.in_ok-ready.ensures.names (λ q. refl) in
     let new : (d : Node) → Contains held d → d.id ≢ cert.id = λ d t. c.requires.new d (subst (λ (v : RoundsValue). Contains v.held d) c.self.view_is t) in
-    let none : round_of n.slots.items k ≡ 0 = number_free z held n (number_at c.self.inside.places) c.self.inside.top w k cert p.id new in
-    let e_s : (with_items n.slots c.admit.new.slots).items ≡ c.admit.new.slots = with_items_is n.slots c.admit.new.slots (omega (arith, c.admit.auto.slots, ap length c.deref_mut.ensures.value, n.slots.ok.0)) in
-    let e_m : (with_items n.marks c.admit.new.marks).items ≡ c.admit.new.marks = with_items_is n.marks c.admit.new.marks (omega (arith, c.admit.auto.marks, ap length c.deref_mut-2.ensures.value, n.marks.ok.0)) in
+    let none : round_of n.slots k ≡ 0 = number_free z held n (number_at c.self.inside.places) c.self.inside.top w k cert p.id new in
+    let e_m : (with_items n.marks c.admit.new.marks).items ≡ c.admit.new.marks = with_items_is n.marks c.admit.new.marks (omega (arith, c.admit.auto.marks, ap length c.deref_mut.ensures.value, n.marks.ok.0)) in
     let table : IsTable z c.admit.new.slots c.admit.new.marks c.admit.new.pending = c.admit.ensures.table in
     let slot : Slot = record { id = c.id.result.now; round = c.round.result; author = c.author.result; cert = c.len.result; parents = c.in_ok-ready.ready.parents } in
-    let m : Names = record { numbers = n.numbers; slots = with_items n.slots c.admit.new.slots; marks = with_items n.marks c.admit.new.marks; pending = c.admit.new.pending; sets = with_items n.sets c.tell-self-inside.new.sets; unmarked = n.unmarked - c.len-2.result } in
+    let m : Names = record { slots = c.admit.new.slots; marks = with_items n.marks c.admit.new.marks; pending = c.admit.new.pending; sets = with_items n.sets c.tell-self-inside.new.sets; unmarked = n.unmarked - c.len-2.result } in
     let added : IsAdding held n m cert k slot = record {
       low = p.inside;
       none = none;
@@ -219,19 +215,18 @@ returns-clause-answer c =
       author = c.author.ensures ∙ ap (λ (h : HeaderValue). h.author) c.header-2.ensures;
       cert = omega (arith, c.len.ensures, ap length c.in_ok-ready.ensures.certs);
       parents = p.parents;
-      slots = e_s ∙ (c.admit.ensures.slots ∙ ap (λ (ss : List Slot). set ss k slot) c.deref_mut.ensures.value);
-      numbers = refl;
+      slots = c.admit.ensures.slots;
     } in
     let good : IsFit z cert = subst (λ (v : RoundsValue). IsFit v.sizes cert) (sym c.self.view_is) c.requires.good in
     let from : (d : Node) → Contains held d → 1 ≤ d.header.round = λ d t. (w.good d t).from_one in
-    let tied : IsTied (held ++ cert ∷ []) m.slots.items = tied_added held n m cert k slot added from w.tied in
-    let e_t : (with_items n.sets c.tell-self-inside.new.sets).items ≡ c.tell-self-inside.new.sets = with_items_is n.sets c.tell-self-inside.new.sets (omega (arith, c.tell-self-inside.auto.sets, ap length c.deref_mut-3.ensures.value, n.sets.ok.0)) in
+    let tied : IsTied (held ++ cert ∷ []) m.slots = tied_added held n m cert k slot added from w.tied in
+    let e_t : (with_items n.sets c.tell-self-inside.new.sets).items ≡ c.tell-self-inside.new.sets = with_items_is n.sets c.tell-self-inside.new.sets (omega (arith, c.tell-self-inside.auto.sets, ap length c.deref_mut-2.ensures.value, n.sets.ok.0)) in
     let out : List ℕ = c.admit.new.out.items in
     let waits : n.unmarked - c.len-2.result ≡ count_unmarked (with_items n.marks c.admit.new.marks).items =
-    omega (arith, c.admit.ensures.steps, c.len-2.ensures, w.names.waiting, ap count_unmarked e_m, ap count_unmarked c.deref_mut-2.ensures.value) in
+    omega (arith, c.admit.ensures.steps, c.len-2.ensures, w.names.waiting, ap count_unmarked e_m, ap count_unmarked c.deref_mut.ensures.value) in
     let admitted : IsAdmitting n m out c.self.inside.top c.tell-self-inside.result =
-    admitting_from n m out c.deref-2.result.now c.self.inside.top c.tell-self-inside.result c.deref_mut-2.result.now c.admit.new.marks c.deref.result.now c.deref_mut-3.result.now c.tell-self-inside.new.sets
-    c.deref_mut-2.ensures.value e_m (sym c.deref.ensures.value) c.deref_mut-3.ensures.value e_t c.deref-2.ensures.value c.tell-self-inside.auto.sets
+    admitting_from n m out c.deref.result.now c.self.inside.top c.tell-self-inside.result c.deref_mut.result.now c.admit.new.marks c.as_slice.result.now c.deref_mut-2.result.now c.tell-self-inside.new.sets
+    c.deref_mut.ensures.value e_m (sym c.as_slice.ensures) c.deref_mut-2.ensures.value e_t c.deref.ensures.value c.tell-self-inside.auto.sets
     waits c.admit.ensures.stay c.admit.ensures.out c.tell-self-inside.ensures.here c.tell-self-inside.ensures.other c.tell-self-inside.ensures.highest c.tell-self-inside.ensures.more c.tell-self-inside.ensures.least
     c.tell-self-inside.ensures.reached in
     let free : (d : Node) → Contains held d → place_of d ≢ place_of cert = λ d t. c.requires.free d (subst (λ (v : RoundsValue). Contains v.held d) c.self.view_is t) in
@@ -242,10 +237,10 @@ returns-clause-answer c =
     (λ q. c.in_ok-first_of.ensures.put q ∙ (λ i. cond (is_eq (place_cmp (place i) q)) (Some (unwrap_or (none_there i) k)) (number_at c.self.inside.places q))) in
     let whole : IsWhole z (held ++ cert ∷ []) m (number_at c.first_of.new.self) c.tell-self-inside.result =
     whole_added z held n m cert k slot (number_at c.self.inside.places) (number_at c.first_of.new.self) c.self.inside.top c.tell-self-inside.result out w added good new free up
-    (table_from z m c.admit.new.slots c.admit.new.marks c.admit.new.pending e_s e_m refl table) admitted in
+    (table_from z m c.admit.new.slots c.admit.new.marks c.admit.new.pending refl e_m refl table) admitted in
     let certs : c.push_reserved.new.self.items ≡ held ++ cert ∷ [] = c.push_reserved.ensures.items ∙ ap (λ (xs : List Node). xs ++ cert ∷ []) c.in_ok-ready.ensures.certs in
     let told : List CertRef = c.hand_over.result.items in
-    let answer : c.tell-self-inside.new.answer.items ≡ map (place_at m.slots.items) out = c.tell-self-inside.ensures.answer ∙ (λ i. map (place_at (c.deref.ensures.value i)) (c.deref-2.ensures.value i)) in
+    let answer : c.tell-self-inside.new.answer.items ≡ map (place_at m.slots) out = c.tell-self-inside.ensures.answer ∙ (λ i. map (place_at (c.as_slice.ensures i)) (c.deref.ensures.value i)) in
     let lists : Lists told (λ a. IsPresent z (held ++ cert ∷ []) a × (IsPresent z held a → ⊥)) =
     answer_added z held n m cert k slot (number_at c.self.inside.places) (number_at c.first_of.new.self) c.self.inside.top c.tell-self-inside.result out told w whole added admitted
     c.hand_over.ensures.listed (λ a. subst (λ (xs : List CertRef). Contains told a ↔ Contains xs a) answer (c.hand_over.ensures.same a)) in
