@@ -28,7 +28,7 @@ low_first len = grind (arith, nat_tests)
 low_next : (n len : ℕ) → nat_lt (1 + n) (suc len) ≡ nat_lt n len
 low_next n len = grind (arith, nat_tests)
 
-low_any : (p : List ℕ → Bool) (xs : List (List ℕ)) → nat_lt (position_or_len p xs) (length xs) ≡ list_any p xs
+low_any : {E : Type 0} (p : E → Bool) (xs : List E) → nat_lt (position_or_len p xs) (length xs) ≡ list_any p xs
 low_any p [] = refl
 low_any p (x ∷ xs) = by_test (p x) (low_any p xs)
   where
@@ -41,16 +41,22 @@ some_test : (b : Bool) (n : ℕ) → is_some (cond b (Some n) None) ≡ b
 some_test true n = refl
 some_test false n = refl
 
--- the digest is in the list exactly where it is found by itself
-found_any : (xs : List (List ℕ)) (d : List ℕ) → is_some (position (has_key id_cmp (λ (e : List ℕ). e) d) xs) ≡ list_any (bytes_eq d) xs
-found_any xs d =
-    some_test _ (position_or_len (has_key id_cmp (λ (e : List ℕ). e) d) xs)
-    ∙ (low_any (has_key id_cmp (λ (e : List ℕ). e) d) xs ∙ (λ i. list_any (λ e. (sym (texts_ties d e)) i) xs))
+module _ {E : Type 0} (key_of : E → List ℕ) where
+  -- the key is in the list exactly where it is found
+  found_any : (xs : List E) (d : List ℕ) → is_some (position (has_key id_cmp key_of d) xs) ≡ list_any (λ x. bytes_eq d (key_of x)) xs
+  found_any xs d =
+      some_test _ (position_or_len (has_key id_cmp key_of d) xs)
+      ∙ (low_any (has_key id_cmp key_of d) xs ∙ (λ i. list_any (λ x. (sym (texts_ties d (key_of x))) i) xs))
+
+  -- an entry is added where its key is not found
+  pub added_by : (xs ys : List E) (e : E) (o : Option (ℕ × E)) → option_map (λ (f : ℕ × E). f.0) o ≡ position (has_key id_cmp key_of (key_of e)) xs
+      → (IsSome o → ys ≡ xs) → (o ≡ None → ys ≡ xs ++ e ∷ []) → ys ≡ cond (list_any (λ x. bytes_eq (key_of e) (key_of x)) xs) xs (xs ++ e ∷ [])
+  added_by xs ys e None found known new = new refl ∙ sym (ap (λ (t : Bool). cond t xs (xs ++ e ∷ [])) (sym (ap is_some found ∙ found_any xs (key_of e))))
+  added_by xs ys e (Some f) found known new = known refl ∙ sym (ap (λ (t : Bool). cond t xs (xs ++ e ∷ [])) (sym (ap is_some found ∙ found_any xs (key_of e))))
 
 pub added : (xs ys : List (List ℕ)) (d : List ℕ) (o : Option (ℕ × List ℕ)) → option_map (λ (f : ℕ × List ℕ). f.0) o ≡ position (has_key id_cmp (λ (e : List ℕ). e) d) xs
     → (IsSome o → ys ≡ xs) → (o ≡ None → ys ≡ xs ++ d ∷ []) → ys ≡ with_digest xs d
-added xs ys d None found known new = new refl ∙ sym (ap (λ (t : Bool). cond t xs (xs ++ d ∷ [])) (sym (ap is_some found ∙ found_any xs d)))
-added xs ys d (Some f) found known new = known refl ∙ sym (ap (λ (t : Bool). cond t xs (xs ++ d ∷ [])) (sym (ap is_some found ∙ found_any xs d)))
+added = added_by (λ (e : List ℕ). e)
 
 -- ---- what is added is taken out again
 
