@@ -1,6 +1,7 @@
 -- The digests that an order names and that no batch has, each where it is named first.
-use Rattle.std.proofs.Common.{◌≡◌, ℕ, ◌+◌, ◌<◌, Bool, true, false, cond, ◌||◌, List, [], ◌∷◌, ◌++◌, length, map, take, get_or, refl, sym, ap, subst, ◌∙◌, append_assoc}
-use Rattle.std.specs.Prelude.{fold, filter, not, ◌&&◌}
+use Rattle.std.proofs.Common.{◌≡◌, ℕ, ◌+◌, ◌<◌, Bool, true, false, cond, ◌||◌, List, [], ◌∷◌, ◌++◌, length, map, take, get_or, Option, Some, None, refl, sym, ap, subst, ◌∙◌, append_assoc}
+use Rattle.std.specs.Prelude.{fold, filter, is_some, not, option_map, ◌&&◌}
+use Rattle.std.proofs.lemmas.Bool.{both_ways}
 use Rattle.std.specs.List.{list_any}
 use Rattle.std.specs.Str.{bytes_eq}
 use Rattle.std.proofs.lemmas.List.{append-nil, map-append, take_more}
@@ -20,10 +21,29 @@ use Rattle.bk_diagnosis.specs.declared.lacking.Lack.{Lack}
 
 -- ---- one more
 
-pub digests_taken : (items : List Lack) (l : Lack) → digests_in (map naming_of (items ++ l ∷ [])) ≡ digests_in (map naming_of items) ++ l.digest ∷ []
-digests_taken items l =
-    ap digests_in (map-append naming_of items (l ∷ []))
-    ∙ map-append (λ (m : Naming). m.digest) (map naming_of items) (naming_of l ∷ [])
+-- no batch is there where none is found
+pub none_found : {X : Type 0} (f : X → List ℕ) (o : Option X) → is_some o ≡ false → is_none (option_map f o) ≡ true
+none_found f None h = refl
+none_found f (Some x) h = absurd (both_ways true h refl)
+
+-- the digest of one more is tried against those of the list
+any_digests : (d : List ℕ) (items : List Lack) → list_any (λ (m : Lack). bytes_eq d m.digest) items ≡ list_any (bytes_eq d) (digests_in (map naming_of items))
+any_digests d [] = refl
+any_digests d (m ∷ items) = ap (λ (b : Bool). bytes_eq d m.digest || b) (any_digests d items)
+
+lacks_with : (b : Bool) (items : List Lack) (l : Lack) → map naming_of (cond b items (items ++ l ∷ [])) ≡ cond b (map naming_of items) (map naming_of items ++ naming_of l ∷ [])
+lacks_with true items l = refl
+lacks_with false items l = map-append naming_of items (l ∷ [])
+
+pub lack_added : (batches : List Batch) (items now : List Lack) (l : Lack) → is_lacking batches (naming_of l) ≡ true
+    → now ≡ cond (list_any (λ (m : Lack). bytes_eq l.digest m.digest) items) items (items ++ l ∷ []) → map naming_of now ≡ with_lacking batches (map naming_of items) (naming_of l)
+lack_added batches items now l lacking is =
+    let list : List Naming = map naming_of items in
+    let more : List Naming = list ++ naming_of l ∷ [] in
+    ap (map naming_of) is
+    ∙ lacks_with (list_any (λ (m : Lack). bytes_eq l.digest m.digest) items) items l
+    ∙ ap (λ (b : Bool). cond b list more) (any_digests l.digest items)
+    ∙ sym (ap (λ (b : Bool). cond b (cond (list_any (bytes_eq l.digest) (digests_in list)) list more) list) lacking)
 
 pub names_one_more : (batches : List Batch) (place : CertRef) (ds : List (List ℕ)) (k : ℕ) (d : List ℕ) (old now : List Naming) → k < length ds → d ≡ get_or ds k d
     → now ≡ fold (with_lacking batches) old (named_by place (take k ds))

@@ -15,4 +15,3 @@ pub mod Stopping
 pub mod Alike
 pub mod Saying
 pub mod Gained
-pub mod Known

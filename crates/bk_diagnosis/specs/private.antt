@@ -5,4 +5,3 @@ pub mod Shows
 pub mod Colliding
 pub mod Twins
 pub mod Writing
-pub mod Known

@@ -11,9 +11,9 @@ use crate::line::Line;
 use bk_cert::CertRef;
 use bk_digest::Digest32;
 use bk_evidence::Batches;
+use bk_index::{Keyed, KeyedList};
 use bk_rounds::Rounds;
 use std::alloc::{AllocError, Global};
-use std::collections::BTreeSet;
 use std::fmt::Write;
 use std::marker::Model;
 
@@ -24,23 +24,28 @@ struct Lack {
     place: CertRef,
 }
 
-// These so far, in their order. A digest is found in O(log n), whatever its bytes.
+impl Keyed<Digest32> for Lack {
+    ghost key_of = { λ l. l.digest };
+
+    fn key(&self) -> &Digest32 {
+        &self.digest
+    }
+}
+
+// These so far, in their order. A digest is found in O(log n) at worst, whatever its bytes.
 #[derive(Drop)]
 pub(crate) struct Lacks {
-    known: BTreeSet<Digest32>,
-    list: Vec<Lack>,
+    list: KeyedList<Digest32, Lack>,
 }
 
 impl Model for Lacks {
     ghost use Rattle.std.specs.Prelude.{List, map};
     ghost use Rattle.bk_diagnosis.specs.Missing.{Naming};
-    ghost use Rattle.bk_diagnosis.specs.private.Lacking.{AreKnown, naming_of};
+    ghost use Rattle.bk_diagnosis.specs.private.Lacking.{naming_of};
 
     ghost Value = { List Naming };
 
-    ghost view = { λ l. map naming_of l.list.items };
-
-    ghost invariant = { λ l. AreKnown (map naming_of l.list.items) l.known };
+    ghost view = { λ l. map naming_of l.list };
 }
 
 impl Lacks {
@@ -49,8 +54,7 @@ impl Lacks {
         ensures { result ≡ [] }
     {
         Lacks {
-            known: BTreeSet::new(alloc),
-            list: Vec::new(alloc),
+            list: KeyedList::new(alloc),
         }
     }
 
@@ -61,10 +65,7 @@ impl Lacks {
         if stored.get(&lack.digest).is_some() {
             return Ok(());
         }
-        self.list.reserve(1)?;
-        if self.known.insert(lack.digest)? {
-            self.list.push_reserved(lack);
-        }
+        let _ = self.list.first_of(lack)?;
         Ok(())
     }
 
@@ -90,7 +91,7 @@ impl Lacks {
         ensures { OnOk result (string_bytes text.new
             ≡ string_bytes text.old ++ text_of (map missing_line self.now)) }
     {
-        for lack in &self.list {
+        for lack in self.list.as_slice() {
             let line = line_of(*lack);
             writeln!(text, "{line}")?;
         }

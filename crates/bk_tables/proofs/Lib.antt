@@ -33,4 +33,3 @@ pub mod PostingTables
 pub mod PostingsGrow
 pub mod CountedOnce
 pub mod RowsCounted
-pub mod Known

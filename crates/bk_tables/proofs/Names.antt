@@ -26,6 +26,14 @@ use Rattle.bk_tables.specs.declared.placing.Placed.{Placed}
 pub digests_more : (list : List Named) (n : Named) → digests_in (list ++ n ∷ []) ≡ digests_in list ++ n.digest ∷ []
 digests_more list n = map-append (λ (m : Named). m.digest) list (n ∷ [])
 
+-- the digest of one more is tried against those of the list
+any_digests : (d : List ℕ) (list : List Named) → list_any (λ (m : Named). bytes_eq d m.digest) list ≡ list_any (bytes_eq d) (digests_in list)
+any_digests d [] = refl
+any_digests d (m ∷ list) = ap (λ (b : Bool). bytes_eq d m.digest || b) (any_digests d list)
+
+pub named_added : (list now : List Named) (n : Named) → now ≡ cond (list_any (λ (m : Named). bytes_eq n.digest m.digest) list) list (list ++ n ∷ []) → now ≡ with_named list n
+named_added list now n is = is ∙ ap (λ (b : Bool). cond b list (list ++ n ∷ [])) (any_digests n.digest list)
+
 pub names_one_more : (by : Placed) (ds : List (List ℕ)) (k : ℕ) (d : List ℕ) (old now : List Named) → k < length ds → d ≡ get_or ds k d → now ≡ fold with_named old (named_by by (take k ds))
     → with_named now (record { digest = d; by = by }) ≡ fold with_named old (named_by by (take (k + 1) ds))
 names_one_more by ds k d old now low here is =

@@ -7,4 +7,3 @@ pub mod Runs
 pub mod Shows
 pub mod Sheets
 pub mod Walking
-pub mod Known

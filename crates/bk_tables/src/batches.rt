@@ -86,7 +86,7 @@ fn all_rows(alloc: Global, rounds: &Rounds, intake: &Intake) -> Result<Vec<Batch
 {
     let placed = placed_by(alloc, rounds, intake.anchors())?;
     let named = firsts_of(alloc, rounds, &placed)?;
-    rows_of(alloc, intake, &named)
+    rows_of(alloc, intake, named.as_slice())
 }
 
 // Writes the table of rows.

@@ -2,10 +2,8 @@
 use Rattle.std.specs.Prelude.{ℕ, List, [], ◌∷◌, ◌++◌, map, if◌then◌else◌}
 use Rattle.std.specs.List.{list_any}
 use Rattle.std.specs.Str.{bytes_eq}
-use Rattle.std.specs.BTreeSet.{BTreeSet}
 use Rattle.bk_cert.specs.declared.place.CertRef.{CertRef}
 use Rattle.bk_evidence.specs.Batches.{Batch}
-use Rattle.bk_diagnosis.specs.private.Known as listing
 use Rattle.bk_order.specs.Intake.{Taken}
 use Rattle.bk_rounds.specs.Rounds.{RoundsValue}
 use Rattle.bk_diagnosis.specs.Missing.{Naming, is_lacking, missing_in, missing_line}
@@ -26,10 +24,6 @@ with_lacking batches list n =
 -- what a certificate of this place names
 abbrev pub named_by : CertRef → List (List ℕ) → List Naming
 named_by place digests = map (λ (d : List ℕ). record { digest = d; place = place }) digests
-
--- the set has the digests of the list, which repeats none
-abbrev pub AreKnown : List Naming → BTreeSet (List ℕ) → Type 0
-AreKnown list known = listing.AreKnown (digests_in list) known
 
 -- the lines of what the order lacks that was taken
 abbrev pub missing_lines : RoundsValue → Taken → List Line

@@ -2,10 +2,8 @@
 use Rattle.std.specs.Prelude.{ℕ, List, [], ◌∷◌, ◌++◌, map, if◌then◌else◌}
 use Rattle.std.specs.List.{list_any}
 use Rattle.std.specs.Str.{bytes_eq}
-use Rattle.std.specs.BTreeSet.{BTreeSet}
 use Rattle.bk_cert.specs.Node.{Node}
 use Rattle.bk_flatten.specs.Batches as flatten
-use Rattle.bk_tables.specs.private.Known as listing
 use Rattle.bk_tables.specs.declared.naming.Named.{Named}
 use Rattle.bk_tables.specs.declared.placing.Placed.{Placed}
 
@@ -22,7 +20,3 @@ named_by by digests = map (λ (d : List ℕ). record { digest = d; by = by }) di
 
 abbrev pub named_at : List Node → Placed → List Named
 named_at held by = named_by by (flatten.named_at held by.cert)
-
--- the set has the digests of the list, which repeats none
-abbrev pub AreKnown : List Named → BTreeSet (List ℕ) → Type 0
-AreKnown list known = listing.AreKnown (digests_in list) known

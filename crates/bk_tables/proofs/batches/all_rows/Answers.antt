@@ -19,19 +19,19 @@ firsts_of-requires c = λ p t.
 pub rows_of-requires-clause-many : goal.rows_of-requires-clause-many
 rows_of-requires-clause-many c =
     let held = c.args.rounds.now.held in
-    let many = many_named c.args.rounds.now c.args.intake.now.ordered c.in_ok-placed.placed.items c.in_ok-named.named.items
+    let many = many_named c.args.rounds.now c.args.intake.now.ordered c.in_ok-placed.placed.items c.in_ok-named.named
     (subst (λ (xs : List CertRef). ArePlaced c.args.rounds.now.sizes held xs c.in_ok-placed.placed.items) c.anchors.ensures c.in_ok-placed.ensures)
     c.requires.taken
     (c.in_ok-named.ensures ∙ ap (λ (ps : List Placed). fold with_named [] (flat_map (named_at held) ps)) c.deref.ensures.value) in
-    omega (arith, many, ap length c.deref-2.ensures.value)
+    omega (arith, many, ap length c.as_slice.ensures)
 
 pub returns : goal.returns
 returns c =
     let held = c.args.rounds.now.held in
     let o = c.args.intake.now.ordered in
     IfOk-weaker c.rows_of.result _ _
-    (λ rows e. subst (AreRowsOf c.args.rounds.now o) (sym (e ∙ ap (λ (ns : List Named). rows_with ns o.payloads.list) c.deref-2.ensures.value))
-    (all_rows_are c.args.rounds.now o c.in_ok-placed.placed.items c.in_ok-named.named.items
+    (λ rows e. subst (AreRowsOf c.args.rounds.now o) (sym (e ∙ ap (λ (ns : List Named). rows_with ns o.payloads.list) c.as_slice.ensures))
+    (all_rows_are c.args.rounds.now o c.in_ok-placed.placed.items c.in_ok-named.named
     (subst (λ (xs : List CertRef). ArePlaced c.args.rounds.now.sizes held xs c.in_ok-placed.placed.items) c.anchors.ensures c.in_ok-placed.ensures)
     c.requires.taken
     (c.in_ok-named.ensures ∙ ap (λ (ps : List Placed). fold with_named [] (flat_map (named_at held) ps)) c.deref.ensures.value)))

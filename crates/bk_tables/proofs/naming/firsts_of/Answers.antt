@@ -16,7 +16,7 @@ loop-by-preserved c =
     let by : Placed = get_or c.args.placed.now c.loop-by.by-index nothing in
     elim c.match-at.branch [
       | in-Some+in_ok-add_all w ↦ rw w.firsts-is
-          (certs_one_more held c.args.placed.now c.loop-by.by-index by nothing _ c.loop-by.firsts w.add_all.new.self c.loop-by-test.true refl c.loop-by.invariant
+          (certs_one_more held c.args.placed.now c.loop-by.by-index by nothing _ c.loop-by.firsts w.add_all.new.firsts c.loop-by-test.true refl c.loop-by.invariant
           (w.in_ok-add_all.ensures ∙ ap (λ (ds : List (List ℕ)). fold with_named c.loop-by.firsts (named_by by ds))
           (sym (named_here c.args.rounds.now.sizes held c.sound.ensures.clear by.cert w.in-Some.cert.now w.in-Some.ensures.found
           ∙ (ap (λ (h : HeaderValue). h.batches) (sym w.header.ensures) ∙ sym w.batches.ensures.all)))))
