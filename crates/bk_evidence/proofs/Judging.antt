@@ -55,7 +55,7 @@ answered held c (Some id) new h = (new, h.0, h.1)
 
 pub places_none : (p : Places) → IsEmptyPlaces p → ArePlaces [] p
 places_none p empty = record {
-  ids = λ a. subst (λ f. AreIdsOf [] a f (second_at p a)) (sym (ap (λ (es : List (CertRef × ℕ)). lookup (λ k. is_eq (place_cmp a k)) es) empty.firsts))
+  ids = λ a. subst (λ f. AreIdsOf [] a f (second_at p a)) (sym (empty.firsts a))
       (ap (λ (es : List (CertRef × List ℕ)). lookup (λ k. is_eq (place_cmp a k)) es) empty.seconds, λ id h. none_in_nil h.cert h.is_held);
   twins = subst (IsLeastBy place_cmp (HasTwins [])) (sym empty.twins) (λ a h. none_in_nil h.2.one.cert h.2.one.is_held);
 }

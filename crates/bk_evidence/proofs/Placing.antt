@@ -1,7 +1,6 @@
 -- The least ids of each place, and the least place with twins, where one more certificate is stored.
 use Rattle.std.proofs.Common.{◌≡◌, ◌≢◌, ◌⊎◌, ◌<◌, ℕ, true, false, cond, List, [], ◌∷◌, ◌++◌, length, map, get_or, Option, Some, None, refl, sym, ap, subst, ◌∙◌, inl, inr, ⊎_elim, arith}
 use Rattle.std.specs.List.{Contains}
-use Rattle.bk_index.specs.Finding.{find}
 use Rattle.std.specs.Ordering.{match_ordering, is_eq}
 use Rattle.std.proofs.lemmas.Cmp.{tied_itself}
 use Rattle.std.proofs.lemmas.List.{length-append, length-map, map-append, get_or-map, get_or_append_left}
@@ -232,23 +231,6 @@ module _ (held : List Node) (c : Node) where
           twins = subst (IsLeastBy place_cmp (HasTwins more)) (sym same.twins) (least_same place_order (HasTwins held) (HasTwins more) old.twins (twins_more held c)
               (λ a h. (h.0, h.1, record { one = back a h.0 h.2.one; two = back a h.1 h.2.two; apart = h.2.apart })) before.twins);
         }
-
--- a place that has an index and gets it again is as it was
-pub same_put : (m n : List (CertRef × ℕ)) (a : CertRef) (k : ℕ) → find place_cmp m a ≡ Some k
-    → ((b : CertRef) → find place_cmp n b ≡ cond (is_eq (place_cmp a b)) (Some k) (find place_cmp m b)) → (b : CertRef) → find place_cmp n b ≡ find place_cmp m b
-same_put m n a k there put b = put b ∙ by (place_cmp a b) refl
-  where
-    by : (r : Ordering) → place_cmp a b ≡ r → cond (is_eq r) (Some k) (find place_cmp m b) ≡ find place_cmp m b
-    by Less e = refl
-    by Equal e = sym there ∙ ap (find place_cmp m) (place_order.exact a b e)
-    by Greater e = refl
-
--- what is known of the places is the same
-pub places_same : (held : List Node) (p q : Places) → AreSamePlaces p q → ArePlaces held p → ArePlaces held q
-places_same held p q same h = record {
-  ids = λ a. subst (λ f. AreIdsOf held a f (second_at q a)) (sym (same.firsts a)) (subst (AreIdsOf held a (first_at p a)) (sym (same.seconds a)) (h.ids a));
-  twins = subst (IsLeastBy place_cmp (HasTwins held)) (sym same.twins) h.twins;
-}
 
 -- the least id of a place is at the index that is kept
 pub least_kept : (held : List Node) (p : Places) (a : CertRef) → ArePlaces held p → (k : ℕ) → first_at p a ≡ Some k

@@ -24,13 +24,14 @@ use std::marker::Model;
 /// The certificates that were offered, each distinct pair of an id and a header once, those of
 /// collisions and twins too. Contracts see them in the order in which they were stored.
 ///
-/// A certificate takes 24 bytes, besides the header and its id, which are shared, and 16 to 32 of
-/// hints. The lists have room for at most about twice the certificates. A place takes 40 bytes more once it has
-/// twins. Once two headers have one id, each call that looks for an id goes over all that is held;
-/// with SHA-256 no such two are known.
+/// A certificate takes 8 bytes, besides the header and its id, which are shared, 8 to 16 of hints, and
+/// 4 in the row of its round. The lists have room for at most about twice the certificates. A place
+/// takes 40 bytes more once it has twins. Once two headers have one id, each call that looks for an id
+/// goes over all that is held; with SHA-256 no such two are known.
 #[derive(Drop)]
 pub struct Held {
     alloc: Global,
+    members: u8,
     certs: KeyedList<Digest32, SharedCert>,
     collision: Option<Digest32>,
     places: Places,
@@ -52,15 +53,17 @@ impl Model for Held {
 }
 
 impl Held {
-    /// No certificate. It takes no memory.
-    pub fn new(alloc: Global) -> Held
+    /// No certificate, of a committee of this many members. It takes no memory. A certificate of
+    /// another author is held too, and found more slowly by its place.
+    pub fn new(alloc: Global, members: u8) -> Held
         ensures { result ≡ [] }
     {
         Held {
             alloc,
+            members,
             certs: KeyedList::new(alloc),
             collision: None,
-            places: Places::new(alloc),
+            places: Places::new(alloc, members),
         }
     }
 
@@ -113,7 +116,7 @@ impl Held {
             → IsAtMost c.now.id id) }
         ensures none { IfNone result ((id : List ℕ) → IsIdAt self.now place id → ⊥) }
     {
-        let index = self.places.firsts.get(&place)?;
+        let index = self.places.firsts.get(place)?;
         Some(cert_at(self.certs.as_slice(), index))
     }
 
@@ -172,7 +175,7 @@ impl Held {
     fn joined(&self, other: &Held) -> Result<Held, AllocError>
         ensures { IfOk result (λ all. HaveSame all (self.now ++ other.now)) }
     {
-        let mut all = Held::new(self.alloc);
+        let mut all = Held::new(self.alloc, self.members);
         offer_all(&mut all, self.certs.as_slice())?;
         offer_all(&mut all, other.certs.as_slice())?;
         Ok(all)

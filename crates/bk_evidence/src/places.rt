@@ -1,18 +1,17 @@
 //! The ids of each place: the least two, which show whether the place has twins.
 
 ghost use Rattle.std.specs.Prelude.{◌≡◌, ◌<◌, ◌++◌, ◌∷◌, [], Some, length, IfOk, OnOk, OnErr};
-ghost use Rattle.bk_cert.specs.Place.{place_cmp, place_of};
-ghost use Rattle.bk_index.specs.Finding.{find};
+ghost use Rattle.bk_cert.specs.Place.{place_of};
 ghost use Rattle.bk_evidence.specs.Collisions.{id_cmp};
 ghost use Rattle.bk_evidence.specs.Twins.{IsIdAt};
 ghost use Rattle.bk_evidence.specs.private.Least.{IsLeastBy};
-ghost use Rattle.bk_evidence.specs.private.Places.{ArePlaces, AreSamePlaces, HasSecond, IsEmptyPlaces, evidence_in, id_at, ids_at};
+ghost use Rattle.bk_evidence.specs.private.Places.{ArePlaces, AreSamePlaces, HasSecond, IsEmptyPlaces, evidence_in, first_at, id_at, ids_at};
 
 use crate::evidence::Evidence;
 use crate::least::{least_id, least_place};
 use bk_cert::{CertRef, SharedCert};
 use bk_digest::Digest32;
-use bk_index::Index;
+use bk_index::PlaceIndex;
 use std::alloc::{AllocError, Global};
 use std::cmp::Ordering;
 use std::collections::BTreeMap;
@@ -28,19 +27,19 @@ pub(crate) struct LeastIds {
 #[derive(Drop)]
 pub(crate) struct Places {
     // The index of a certificate with the least id of the place.
-    pub firsts: Index<CertRef>,
+    pub firsts: PlaceIndex,
     // The second id. Only a place with twins is in it, so it takes no memory where there are none.
     pub seconds: BTreeMap<CertRef, Digest32>,
     pub twins: Option<CertRef>,
 }
 
 impl Places {
-    /// No place.
-    pub fn new(alloc: Global) -> Places
+    /// No place, of this many members.
+    pub fn new(alloc: Global, members: u8) -> Places
         ensures { IsEmptyPlaces result }
     {
         Places {
-            firsts: Index::new(alloc),
+            firsts: PlaceIndex::new(alloc, members),
             seconds: BTreeMap::new(alloc),
             twins: None,
         }
@@ -67,7 +66,7 @@ impl Places {
         requires { ArePlaces certs.now self.now }
         ensures { result ≡ ids_at certs.now self.now place }
     {
-        let index = self.firsts.get(&place)?;
+        let index = self.firsts.get(place)?;
         Some(LeastIds {
             least: id_of(certs, index),
             second: self.seconds.get(&place).copied(),
@@ -125,7 +124,8 @@ fn note_other(
     first: usize,
 ) -> Result<(), AllocError>
     requires places { ArePlaces certs.now places.old }
-    requires first { find place_cmp places.old.firsts (place_of cert.now) ≡ Some first }
+    requires first { first_at places.old (place_of cert.now) ≡ Some first }
+    requires low { length certs.now < 4294967295 }
     ensures ok { OnOk result (ArePlaces (certs.now ++ cert.now ∷ []) places.new) }
     ensures err { OnErr result (ArePlaces certs.now places.new) }
 {

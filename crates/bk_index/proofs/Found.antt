@@ -1,10 +1,9 @@
--- What a list of entries with distinct keys finds, and keys by their index.
+-- Keys by their index, and which entry a list with distinct keys finds.
 use Rattle.std.proofs.Common.{◌≡◌, ◌≢◌, ℕ, zero, suc, ◌+◌, ◌<◌, ◌≤◌, ◌⊎◌, inl, inr, Bool, true, false, cond, List, [], ◌∷◌, ◌++◌, length, Option, Some, None, get_or, set, slice_get, refl, sym, ap, ◌∙◌, arith}
-use Rattle.std.specs.Cmp.{IsTotalOrder, both_ways, tied_itself}
-use Rattle.std.specs.Map.{keys_of}
+use Rattle.std.specs.Cmp.{IsTotalOrder, tied_itself}
 use Rattle.std.specs.Ordering.{is_eq}
 use Rattle.std.specs.declared.cmp.Ordering.{Ordering}
-use Rattle.std.proofs.lemmas.Bool.{cases_Bool, false_from_ne_true}
+use Rattle.std.proofs.lemmas.Bool.{false_from_ne_true}
 use Rattle.std.proofs.lemmas.List.{map-set}
 use Rattle.std.specs.Option.{option_map}
 use Rattle.std.proofs.lemmas.Option.{slice_get-map, slice_get_read, slice_get_past, slice_get_within}
@@ -12,7 +11,7 @@ use Rattle.std.specs.Prelude.{nat_lt, not, map}
 use Rattle.std.specs.List.{position, position_or_len}
 use Rattle.std.proofs.lemmas.Bool.Decides.{nat_tests}
 use Rattle.std.proofs.lemmas.List.{length-map}
-use Rattle.bk_index.specs.Finding.{find, has_key}
+use Rattle.bk_index.specs.Finding.{has_key}
 use Rattle.bk_index.specs.private.Hints.{AreDistinct}
 
 plus_one : (n i : ℕ) → n ≡ i → 1 + n ≡ suc i
@@ -89,10 +88,6 @@ module _ {X : Type 0} where
 pub map_set : {K E : Type 0} (f : E → K) (es : List E) (i : ℕ) (e : E) → slice_get (map f es) i ≡ Some (f e) → map f (set es i e) ≡ map f es
 map_set f es i e there = map-set f es i e ∙ set_there (map f es) i (f e) there
 
--- the keys stay where a key gets another value
-pub keys_set : {K : Type 0} (es : List (K × ℕ)) (i : ℕ) (key : K) (v : ℕ) → slice_get (keys_of es) i ≡ Some key → keys_of (set es i (key, v)) ≡ keys_of es
-keys_set es i key v there = map-set (λ e. e.0) es i (key, v) ∙ set_there (keys_of es) i key there
-
 module _ {K : Type 0} (cmp : K → K → Ordering) (total : IsTotalOrder cmp) (exact : (a b : K) → is_eq (cmp a b) ≡ true → a ≡ b) where
   pub is_itself : (a : K) → is_eq (cmp a a) ≡ true
   is_itself a = ap is_eq (tied_itself total a)
@@ -100,78 +95,8 @@ module _ {K : Type 0} (cmp : K → K → Ordering) (total : IsTotalOrder cmp) (e
   same_is : (a b : K) → a ≡ b → is_eq (cmp a b) ≡ true
   same_is a b e = ap (λ x. is_eq (cmp a x)) (sym e) ∙ is_itself a
 
-  turned : (a b : K) → is_eq (cmp a b) ≡ is_eq (cmp b a)
-  turned a b = both_ways _ _ (λ t. same_is b a (sym (exact a b t))) (λ t. same_is a b (sym (exact b a t)))
-
   pub differs : (a b : K) → (a ≡ b → ⊥) → is_eq (cmp a b) ≡ false
   differs a b apart = false_from_ne_true _ (λ t. apart (exact a b t))
-
-  -- one more entry before, with another key
-  step : (key q k : K) (v w : ℕ) (a b : Option ℕ) → (key ≡ k → ⊥) → a ≡ cond (is_eq (cmp key q)) (Some v) b
-      → cond (is_eq (cmp q k)) (Some w) a ≡ cond (is_eq (cmp key q)) (Some v) (cond (is_eq (cmp q k)) (Some w) b)
-  step key q k v w a b apart e = by (cases_Bool (is_eq (cmp q k)))
-    where
-      by : (is_eq (cmp q k) ≡ true) ⊎ (is_eq (cmp q k) ≡ false) → cond (is_eq (cmp q k)) (Some w) a ≡ cond (is_eq (cmp key q)) (Some v) (cond (is_eq (cmp q k)) (Some w) b)
-      by (inl t) =
-          let other : is_eq (cmp key q) ≡ false = differs key q (λ s. apart (s ∙ exact q k t)) in
-          ap (λ (c : Bool). cond c (Some w) a) t ∙ sym (ap (λ (c : Bool). cond c (Some v) (cond (is_eq (cmp q k)) (Some w) b)) other ∙ ap (λ (c : Bool). cond c (Some w) b) t)
-      by (inr f) = ap (λ (c : Bool). cond c (Some w) a) f ∙ (e ∙ sym (ap (λ (c : Bool). cond (is_eq (cmp key q)) (Some v) (cond c (Some w) b)) f))
-
-  -- a key that is there has the value of its entry
-  pub find_there : (es : List (K × ℕ)) (i : ℕ) (key : K) (x : K × ℕ) → AreDistinct (keys_of es) → slice_get (keys_of es) i ≡ Some key → x ≡ get_or es i x → find cmp es key ≡ Some x.1
-  find_there [] i key x distinct there is = absurd (none_some key there)
-  find_there (e ∷ es) zero key x distinct there is =
-      ap (λ (c : Bool). cond c (Some e.1) (find cmp es key)) (same_is key e.0 (sym (same_some e.0 key there))) ∙ ap (λ (y : K × ℕ). Some y.1) (sym is)
-  find_there (e ∷ es) (suc i) key x distinct there is =
-      ap (λ (c : Bool). cond c (Some e.1) (find cmp es key)) (differs key e.0 (λ s. zero_suc i (distinct zero (suc i) key (ap Some (sym s)) there)))
-      ∙ find_there es i key x (distinct_tail e.0 (keys_of es) distinct) there is
-
-  -- a key that is not there has none
-  pub find_absent : (es : List (K × ℕ)) (key : K) → ((i : ℕ) → slice_get (keys_of es) i ≢ Some key) → find cmp es key ≡ None
-  find_absent [] key absent = refl
-  find_absent (e ∷ es) key absent =
-      ap (λ (c : Bool). cond c (Some e.1) (find cmp es key)) (differs key e.0 (λ s. absent zero (ap Some (sym s))))
-      ∙ find_absent es key (λ i. absent (suc i))
-
-  -- the same where the list was made longer first
-  pub find_kept : (es same_es : List (K × ℕ)) (i : ℕ) (key : K) (x : K × ℕ) → same_es ≡ es → AreDistinct (keys_of es) → slice_get (keys_of same_es) i ≡ Some key → x ≡ get_or same_es i x → find cmp es key ≡ Some x.1
-  find_kept es same_es i key x e distinct there is =
-      find_there es i key x distinct (ap (λ (l : List (K × ℕ)). slice_get (keys_of l) i) (sym e) ∙ there) (is ∙ ap (λ (l : List (K × ℕ)). get_or l i x) e)
-
-  -- a new key has its value, and each other key has what it had
-  pub find_pushed : (es : List (K × ℕ)) (key : K) (v : ℕ) (q : K) → ((i : ℕ) → slice_get (keys_of es) i ≢ Some key)
-      → find cmp (es ++ (key, v) ∷ []) q ≡ cond (is_eq (cmp key q)) (Some v) (find cmp es q)
-  find_pushed [] key v q absent = ap (λ (c : Bool). cond c (Some v) None) (turned q key)
-  find_pushed (e ∷ es) key v q absent =
-      step key q e.0 v e.1 (find cmp (es ++ (key, v) ∷ []) q) (find cmp es q) (λ s. absent zero (ap Some (sym s))) (find_pushed es key v q (λ i. absent (suc i)))
-
-  -- a key that is there gets another value
-  pub find_set : (es : List (K × ℕ)) (i : ℕ) (key : K) (v : ℕ) (q : K) → AreDistinct (keys_of es) → slice_get (keys_of es) i ≡ Some key
-      → find cmp (set es i (key, v)) q ≡ cond (is_eq (cmp key q)) (Some v) (find cmp es q)
-  find_set [] i key v q distinct there = absurd (none_some key there)
-  find_set (e ∷ es) zero key v q distinct there = by (cases_Bool (is_eq (cmp key q)))
-    where
-      by : (is_eq (cmp key q) ≡ true) ⊎ (is_eq (cmp key q) ≡ false) → cond (is_eq (cmp q key)) (Some v) (find cmp es q) ≡ cond (is_eq (cmp key q)) (Some v) (cond (is_eq (cmp q e.0)) (Some e.1) (find cmp es q))
-      by (inl t) = ap (λ (c : Bool). cond c (Some v) (find cmp es q)) (turned q key ∙ t) ∙ sym (ap (λ (c : Bool). cond c (Some v) (cond (is_eq (cmp q e.0)) (Some e.1) (find cmp es q))) t)
-      by (inr f) =
-          let other : is_eq (cmp q e.0) ≡ false = ap (λ k. is_eq (cmp q k)) (same_some e.0 key there) ∙ (turned q key ∙ f) in
-          ap (λ (c : Bool). cond c (Some v) (find cmp es q)) (turned q key ∙ f)
-          ∙ sym (ap (λ (c : Bool). cond c (Some v) (cond (is_eq (cmp q e.0)) (Some e.1) (find cmp es q))) f ∙ ap (λ (c : Bool). cond c (Some e.1) (find cmp es q)) other)
-  find_set (e ∷ es) (suc i) key v q distinct there =
-      step key q e.0 v e.1 (find cmp (set es i (key, v)) q) (find cmp es q) (λ s. zero_suc i (distinct zero (suc i) key (ap Some (sym s)) there))
-      (find_set es i key v q (distinct_tail e.0 (keys_of es) distinct) there)
-
-  -- a key with a value has it
-  pub find_known : (es : List (K × ℕ)) (key : K) (v : ℕ) (q : K) → find cmp es key ≡ Some v → find cmp es q ≡ cond (is_eq (cmp key q)) (Some v) (find cmp es q)
-  find_known es key v q known = by (cases_Bool (is_eq (cmp key q)))
-    where
-      by : (is_eq (cmp key q) ≡ true) ⊎ (is_eq (cmp key q) ≡ false) → find cmp es q ≡ cond (is_eq (cmp key q)) (Some v) (find cmp es q)
-      by (inl t) = ap (find cmp es) (sym (exact key q t)) ∙ (known ∙ sym (ap (λ (c : Bool). cond c (Some v) (find cmp es q)) t))
-      by (inr f) = sym (ap (λ (c : Bool). cond c (Some v) (find cmp es q)) f)
-
--- what is not in a list is not in the same list
-pub absent_kept : {K : Type 0} (es same_es : List (K × ℕ)) (key : K) → same_es ≡ es → ((i : ℕ) → slice_get (keys_of same_es) i ≢ Some key) → (i : ℕ) → slice_get (keys_of es) i ≢ Some key
-absent_kept {K} es same_es key e absent i there = absent i (ap (λ (l : List (K × ℕ)). slice_get (keys_of l) i) e ∙ there)
 
 -- the key of an entry that is read
 module _ {K E : Type 0} (key_of : E → K) where

@@ -1,13 +1,10 @@
 -- The numbers of keys, and that equal keys are the same.
-use Rattle.std.specs.Prelude.{◌≡◌, ℕ, ◌+◌, ◌*◌, ◌/◌, ◌%◌, ◌^◌, true, List, [], ◌∷◌, slice_index_or}
+use Rattle.std.specs.Prelude.{◌≡◌, ℕ, true, List, [], ◌∷◌, slice_index_or}
 use Rattle.std.specs.Int.{w64, from_le_bytes}
 use Rattle.std.specs.Ordering.{nat_cmp, is_eq}
 use Rattle.std.specs.Cmp.Lexicographic.{slice_cmp, texts_ties}
 use Rattle.std.proofs.Common.{◌∙◌}
 use Rattle.std.proofs.lemmas.Slice.Eq.{bytes_eq-Decides}
-use Rattle.bk_cert.specs.Place.{place_cmp}
-use Rattle.bk_cert.specs.declared.place.CertRef.{CertRef}
-use Rattle.bk_cert.proofs.Refs.{exact_ref, equal_from_test}
 
 -- the first 8 bytes
 abbrev pub first_bytes : List ℕ → List ℕ
@@ -19,15 +16,6 @@ first_bytes bytes = slice_index_or bytes 0 0 ∷ slice_index_or bytes 1 0 ∷ sl
 abbrev pub number_of_digest : List ℕ → ℕ
 number_of_digest bytes = from_le_bytes w64 (first_bytes bytes)
 
--- a place has the upper half of a product
-abbrev pub number_of_place : CertRef → ℕ
-number_of_place a =
-    (a.round * 256 + a.author) * 11400714819323198485 % 2 ^ 64 / 4294967296
-
 -- digests that are equal in their order are the same
 pub exact_digest : (a b : List ℕ) → is_eq (slice_cmp nat_cmp a b) ≡ true → a ≡ b
 exact_digest a b e = (bytes_eq-Decides a b).0 (texts_ties a b ∙ e)
-
--- and so are places
-pub exact_place : (a b : CertRef) → is_eq (place_cmp a b) ≡ true → a ≡ b
-exact_place a b e = exact_ref a b (equal_from_test (place_cmp a b) e)

@@ -1,3 +1,4 @@
 pub mod Keys
 pub mod Finding
+pub mod Places
 pub mod private

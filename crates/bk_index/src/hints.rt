@@ -140,7 +140,8 @@ pub(crate) fn make_room<K: Spread, T: Keyed<K>>(
 ) -> Result<(), AllocError>
     requires { IsIndex K.cmp K.number (map T.key_of entries.old.items) table.old.items rest.old }
     ensures same { entries.new.items ≡ entries.old.items }
-    ensures index { IsIndex K.cmp K.number (map T.key_of entries.old.items) table.new.items rest.new }
+    ensures index { IsIndex K.cmp K.number (map T.key_of entries.old.items)
+        table.new.items rest.new }
     ensures some { OnOk result (1 ≤ length table.new.items) }
     ensures room { OnOk result (vec_len entries.new < vec_capacity entries.new) }
 {

@@ -16,15 +16,6 @@ pub trait Keyed<K: Spread>: Drop {
         ensures { result.now ≡ key_of self.now };
 }
 
-// A key with a number.
-impl<K: Spread> Keyed<K> for (K, usize) {
-    ghost key_of = { λ e. e.0 };
-
-    fn key(&self) -> &K {
-        &self.0
-    }
-}
-
 // A digest is found by itself.
 impl Keyed<Digest32> for Digest32 {
     ghost key_of = { λ d. d };

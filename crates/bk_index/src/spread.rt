@@ -2,9 +2,8 @@
 
 ghost use Rattle.std.specs.Prelude.{◌≡◌, ℕ, true};
 ghost use Rattle.std.specs.Ordering.{is_eq};
-ghost use Rattle.bk_index.specs.Keys.{number_of_digest, number_of_place, exact_digest, exact_place};
+ghost use Rattle.bk_index.specs.Keys.{number_of_digest, exact_digest};
 
-use bk_cert::CertRef;
 use bk_digest::Digest32;
 
 /// A key with a number, by which a table finds it. Keys that are equal are the same.
@@ -29,18 +28,5 @@ impl Spread for Digest32 {
     fn spread(&self) -> usize {
         let b = self.as_bytes();
         usize::from_le_bytes([b[0], b[1], b[2], b[3], b[4], b[5], b[6], b[7]])
-    }
-}
-
-impl Spread for CertRef {
-    ghost number = { number_of_place };
-
-    ghost exact = { exact_place };
-
-    // The upper half of the product with an odd number (2^64 over the golden ratio), in which
-    // neighbours are far from each other.
-    fn spread(&self) -> usize {
-        let both = self.round as usize * 256 + self.author as usize;
-        both.wrapping_mul(0x9E37_79B9_7F4A_7C15) / 4_294_967_296
     }
 }

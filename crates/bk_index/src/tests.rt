@@ -1,7 +1,16 @@
-use crate::{Index, KeyedList};
+use crate::{Keyed, KeyedList, PlaceIndex};
 use bk_cert::CertRef;
 use bk_digest::Digest32;
 use std::test::Fail;
+
+// A digest with a number.
+impl Keyed<Digest32> for (Digest32, usize) {
+    ghost key_of = { λ e. e.0 };
+
+    fn key(&self) -> &Digest32 {
+        &self.0
+    }
+}
 
 // A digest with this first byte and this last one. The others are 255, which makes the greatest hints.
 fn digest(first: u8, last: u8) -> Digest32 {
@@ -11,76 +20,92 @@ fn digest(first: u8, last: u8) -> Digest32 {
     Digest32::new(bytes)
 }
 
-#[test]
-fn nothing_is_found_in_an_empty_map(rt: HostRuntime) -> Result<(), Fail> {
-    let index: Index<Digest32> = Index::new(rt.alloc());
-    assert!(rt; index.get(&digest(7, 7)).is_none());
-    Ok(())
+fn place(round: u32, author: u8) -> CertRef {
+    CertRef { round, author }
 }
 
 #[test]
-fn each_digest_keeps_its_first_number_while_the_table_grows(rt: HostRuntime) -> Result<(), Fail> {
-    let mut index = Index::new(rt.alloc());
-    for key in 0..200u8 {
-        assert_eq!(rt; index.first_of(digest(key, 0), 1000 + key as usize)?, None);
-    }
-    assert_eq!(rt; index.first_of(digest(0, 0), 5)?, Some(1000));
-    assert_eq!(rt; index.first_of(digest(199, 0), 5)?, Some(1199));
-    for key in 0..200u8 {
-        assert_eq!(rt; index.get(&digest(key, 0)), Some(1000 + key as usize));
-    }
-    assert_eq!(rt; index.get(&digest(200, 0)), None);
-    assert_eq!(rt; index.get(&digest(0, 1)), None);
+fn nothing_is_found_in_empty_rows(rt: HostRuntime) -> Result<(), Fail> {
+    let index = PlaceIndex::new(rt.alloc(), 4);
+    assert!(rt; index.get(place(1, 0)).is_none() && index.get(place(0, 0)).is_none());
     Ok(())
 }
 
-// 16 of them find a slot near their number.
+// Author 255 is no member, and round 0 has no row.
 #[test]
-fn digests_that_begin_alike_are_found(rt: HostRuntime) -> Result<(), Fail> {
-    let mut index = Index::new(rt.alloc());
-    for last in 0..40u8 {
-        assert_eq!(rt; index.first_of(digest(9, last), last as usize)?, None);
-    }
-    let known = digest(9, 39);
-    assert!(rt; index.get(&known).is_some());
-    index.set(known, 500);
-    for last in 0..39u8 {
-        assert_eq!(rt; index.get(&digest(9, last)), Some(last as usize));
-    }
-    assert_eq!(rt; index.get(&digest(9, 39)), Some(500));
-    assert_eq!(rt; index.get(&digest(9, 40)), None);
-    assert_eq!(rt; index.get(&digest(10, 0)), None);
-    Ok(())
-}
-
-#[test]
-fn places_are_found_by_round_and_author(rt: HostRuntime) -> Result<(), Fail> {
-    let mut index = Index::new(rt.alloc());
-    for round in 1..60u32 {
+fn places_keep_their_first_numbers(rt: HostRuntime) -> Result<(), Fail> {
+    let mut index = PlaceIndex::new(rt.alloc(), 2);
+    for round in 0..60u32 {
         for author in [0, 1, 255] {
-            let place = CertRef { round, author };
             let number = round as usize * 256 + author as usize;
-            assert_eq!(rt; index.first_of(place, number)?, None);
+            assert_eq!(rt; index.first_of(place(round, author), number)?, None);
         }
     }
-    let first = CertRef {
-        round: 1,
-        author: 255,
-    };
-    let last = CertRef {
-        round: 59,
-        author: 0,
-    };
-    let other = CertRef {
-        round: 60,
-        author: 0,
-    };
-    assert_eq!(rt; index.get(&first), Some(511));
-    assert_eq!(rt; index.get(&last), Some(15_104));
-    assert_eq!(rt; index.get(&other), None);
-    assert!(rt; index.get(&last).is_some());
-    index.set(last, 4);
-    assert_eq!(rt; index.get(&last), Some(4));
+    assert_eq!(rt; index.first_of(place(1, 255), 5)?, Some(511));
+    assert_eq!(rt; index.first_of(place(59, 0), 5)?, Some(15_104));
+    assert_eq!(rt; index.get(place(0, 1)), Some(1));
+    assert_eq!(rt; index.get(place(1, 255)), Some(511));
+    assert_eq!(rt; index.get(place(59, 0)), Some(15_104));
+    assert_eq!(rt; index.get(place(60, 0)), None);
+    assert_eq!(rt; index.get(place(59, 2)), None);
+    Ok(())
+}
+
+// Two members have rows for 576 rounds before there is any place.
+#[test]
+fn rounds_far_apart_are_found(rt: HostRuntime) -> Result<(), Fail> {
+    let mut index = PlaceIndex::new(rt.alloc(), 2);
+    let rounds = [4_294_967_295, 1, 100_000, 99_999];
+    for (number, round) in rounds.into_iter().enumerate() {
+        assert_eq!(rt; index.first_of(place(round, 1), number)?, None);
+    }
+    for round in 1..10_000u32 {
+        assert_eq!(rt; index.first_of(place(round, 0), round as usize + 10)?, None);
+    }
+    assert_eq!(rt; index.first_of(place(100_000, 0), 7)?, None);
+    for (number, round) in rounds.into_iter().enumerate() {
+        assert_eq!(rt; index.get(place(round, 1)), Some(number));
+    }
+    assert_eq!(rt; index.get(place(100_000, 0)), Some(7));
+    assert_eq!(rt; index.get(place(9_999, 0)), Some(10_009));
+    assert_eq!(rt; index.get(place(10_000, 0)), None);
+    Ok(())
+}
+
+#[test]
+fn a_place_is_given_another_number(rt: HostRuntime) -> Result<(), Fail> {
+    let mut index = PlaceIndex::new(rt.alloc(), 2);
+    for at in [place(3, 1), place(4_000_000, 1)] {
+        let first = index.first_of(at, 8)?;
+        assert!(rt; first.is_none() && index.get(at).is_some());
+        index.set(at, 4);
+        assert_eq!(rt; index.get(at), Some(4));
+    }
+    assert_eq!(rt; index.get(place(3, 0)), None);
+    Ok(())
+}
+
+#[test]
+fn a_number_above_what_an_entry_holds_is_refused(rt: HostRuntime) -> Result<(), Fail> {
+    let mut index = PlaceIndex::new(rt.alloc(), 2);
+    assert!(rt; index.first_of(place(1, 0), 4_294_967_295).is_err());
+    assert_eq!(rt; index.get(place(1, 0)), None);
+    assert_eq!(rt; index.first_of(place(1, 0), 4_294_967_294)?, None);
+    assert_eq!(rt; index.get(place(1, 0)), Some(4_294_967_294));
+    Ok(())
+}
+
+#[test]
+fn each_digest_keeps_its_index_while_the_table_grows(rt: HostRuntime) -> Result<(), Fail> {
+    let mut list: KeyedList<Digest32, Digest32> = KeyedList::new(rt.alloc());
+    for key in 0..200u8 {
+        assert_eq!(rt; list.first_of(digest(key, 0))?, None);
+    }
+    for key in 0..200u8 {
+        assert_eq!(rt; list.get(&digest(key, 0)), Some(key as usize));
+    }
+    assert_eq!(rt; list.get(&digest(200, 0)), None);
+    assert_eq!(rt; list.get(&digest(0, 1)), None);
     Ok(())
 }
 

@@ -46,7 +46,7 @@ pub(crate) fn empty_table(alloc: Global, committee: &Committee) -> Result<Table,
     let rounds = Rounds::new(alloc, committee)?;
     Ok(Table {
         next: 2,
-        held: Held::new(alloc),
+        held: Held::new(alloc, rounds.members()),
         batches: Batches::new(alloc),
         rejected: Vec::new(alloc),
         tally: Tally::none(),

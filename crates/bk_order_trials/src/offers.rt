@@ -121,7 +121,7 @@ fn try_list<R>(rt: &R, what: &str, steps: &[Step], tally: &mut Tally)
 where
     R: AllocGlobal + Eprint,
 {
-    let mut held = Held::new(rt.alloc());
+    let mut held = Held::new(rt.alloc(), 4);
     try_steps(rt, what, &mut held, steps, tally);
 }
 
@@ -274,9 +274,9 @@ fn are_offered(alloc: Global, tables: &mut Tables, seed: &mut u32) -> Result<boo
 fn are_twelve_right(alloc: Global, seed: &mut u32) -> Result<bool> {
     let mut tables = Tables {
         all: Vec::new(alloc),
-        held: Held::new(alloc),
-        even: Held::new(alloc),
-        odd: Held::new(alloc),
+        held: Held::new(alloc, 4),
+        even: Held::new(alloc, 4),
+        odd: Held::new(alloc, 4),
     };
     are_offered(alloc, &mut tables, seed)
 }

@@ -1,34 +1,31 @@
-//! Likely numbers of ids and places. A number from here is used only after its slot was compared.
+//! Likely numbers of ids. A number from here is used only after its slot was compared.
 
-ghost use Rattle.std.specs.Prelude.{◌≡◌, ◌<◌, ◌≤◌, ◌^◌, IfSome, IsTrue, length};
-ghost use Rattle.bk_cert.specs.declared.place.CertRef.{CertRef};
-ghost use Rattle.bk_rounds.specs.private.Numbered.{id_of, round_of};
-ghost use Rattle.bk_rounds.specs.private.Tied.{place_at};
+ghost use Rattle.std.specs.Prelude.{◌≡◌, ◌<◌, ◌≤◌, ◌^◌, IsTrue, length};
+ghost use Rattle.bk_rounds.specs.private.Numbered.{id_of};
 
 use crate::slots::Slot;
-use bk_cert::{CertRef, SharedCert};
+use bk_cert::SharedCert;
 use bk_digest::Digest32;
 use std::alloc::{AllocError, Global};
 
-// The rows by author have at most this many entries for each certificate, and so have those by id.
+// The rows have at most this many entries for each certificate.
 const ENTRIES_FOR_EACH: usize = 16;
 
 // The certificates that are counted besides those held. With them a committee of 128 has rows for
 // its first 8 rounds (64 times 16 entries) before it has any certificate.
 const FREE: usize = 64;
 
-/// For each round a row by author and a row by id, with an entry for each member: the number of a
-/// held certificate of that round, plus 1, or 0 at the end of what is known.
+/// For each round a row by id, with an entry for each member: the number of a held certificate of that
+/// round, plus 1, or 0 at the end of what is known.
 ///
-/// A parent is looked up in the row of the round before, where the map of all ids costs several
+/// A parent is looked up in the row of the round before, where the list of all ids costs several
 /// cache misses. Nothing relies on what an entry is: one that is wrong or missing only costs the
-/// search in the map. So a round may have no rows, or lack what came before they were made, and
-/// those that were made for a certificate whose `add` then ran out of memory stay.
+/// search in that list. So a round may have no row, or lack what came before it was made, and one that
+/// was made for a certificate whose `add` then ran out of memory stays.
 #[derive(Drop)]
 pub(crate) struct Rows {
     // How many members there are.
     members: u8,
-    by_author: Vec<u32>,
     // Each row by the first bytes of the ids.
     by_id: Vec<u32>,
 }
@@ -38,13 +35,12 @@ impl Rows {
     pub fn new(alloc: Global, members: u8) -> Rows {
         Rows {
             members,
-            by_author: Vec::new(alloc),
             by_id: Vec::new(alloc),
         }
     }
 
-    /// Makes the rows of each round up to a certificate's, unless they would have more than 16
-    /// entries for each certificate. So a round far above the others gets no rows, and neither do
+    /// Makes the row of each round up to a certificate's, unless they would have more than 16
+    /// entries for each certificate. So a round far above the others gets no row, and neither do
     /// rounds in which few of many members have a certificate: memory follows what is held.
     pub fn open(&mut self, cert: &SharedCert, held: usize) -> Result<(), AllocError> {
         let round = cert.header().round();
@@ -55,11 +51,10 @@ impl Rows {
         if end <= self.by_id.len() || end / ENTRIES_FOR_EACH > held.saturating_add(FREE) {
             return Ok(());
         }
-        self.by_author.resize(end, 0)?;
         self.by_id.resize(end, 0)
     }
 
-    /// Enters the certificate of this number, where its round has rows.
+    /// Enters the certificate of this number, where its round has a row.
     pub fn enter(&mut self, slots: &[Slot], number: usize) {
         let Some(slot) = slots.get(number) else {
             return;
@@ -70,10 +65,9 @@ impl Rows {
         }
         let start = self.start_of(slot.round);
         let end = start + usize::from(self.members);
-        if slot.author >= self.members || end > self.by_author.len() || end > self.by_id.len() {
+        if slot.author >= self.members || end > self.by_id.len() {
             return;
         }
-        self.by_author[start + usize::from(slot.author)] = entry;
         let row = &mut self.by_id[start..end];
         let at = skip(slots, row, 0, &slot.id);
         insert(row, at, entry);
@@ -92,28 +86,7 @@ impl Rows {
         }
     }
 
-    /// The number of the certificate of this place, where it is known here.
-    pub fn at(&self, slots: &[Slot], place: CertRef) -> Option<usize>
-        ensures { IfSome result (λ k. (0 < round_of slots.now k)
-            × (place_at slots.now k ≡ place)) }
-    {
-        if place.round == 0 {
-            return None;
-        }
-        let index = self.start_of(place.round) + usize::from(place.author);
-        let number = likely(&self.by_author, index)?;
-        if number >= slots.len() {
-            return None;
-        }
-        let slot = &slots[number];
-        if slot.round == place.round && slot.author == place.author {
-            Some(number)
-        } else {
-            None
-        }
-    }
-
-    // Where the rows of a round start.
+    // Where the row of a round starts.
     fn start_of(&self, round: u32) -> usize
         requires { 1 ≤ round }
         ensures { result < 2 ^ 40 }

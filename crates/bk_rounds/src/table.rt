@@ -9,13 +9,14 @@ ghost use Rattle.bk_cert.specs.Node.{Node};
 ghost use Rattle.bk_cert.specs.Place.{place_of, Lists};
 ghost use Rattle.bk_cert.specs.Clear.{IsClear};
 ghost use Rattle.bk_cert.specs.declared.place.CertRef.{CertRef};
+ghost use Rattle.bk_index.specs.Places.{number_of};
 ghost use Rattle.bk_rounds.specs.Admission.{StandsAt, IsPresent, IsFit, AreFit, WaitsAt, last_round};
 ghost use Rattle.bk_rounds.specs.Links.{Links};
 ghost use Rattle.bk_rounds.specs.Members.{Has, IsWeightOf};
 ghost use Rattle.bk_rounds.specs.Rounds.{rounds_with, sizes_with, BecomesPresent};
 ghost use Rattle.bk_rounds.specs.private.Numbered.{is_marked};
 ghost use Rattle.bk_rounds.specs.private.Names.{AreNames};
-ghost use Rattle.bk_rounds.specs.private.Tied.{IsPlaced, IsNumberAt, WaitsBelow, number_at};
+ghost use Rattle.bk_rounds.specs.private.Tied.{IsPlaced, IsNumberAt, WaitsBelow};
 
 use crate::admitting::{admit, list, tell};
 use crate::buffers::{Buffers, hand_over};
@@ -28,7 +29,7 @@ use crate::weights::Weights;
 use bk_cert::{CertRef, Header, SharedCert};
 use bk_certcheck::MOST_ROUND;
 use bk_digest::Digest32;
-use bk_index::Index;
+use bk_index::PlaceIndex;
 use std::alloc::{AllocError, Global};
 use std::cmp::Ordering;
 use std::marker::Model;
@@ -41,7 +42,7 @@ pub(crate) struct Table {
     weights: Weights,
     certs: Vec<SharedCert>,
     names: Names,
-    places: Index<CertRef>,
+    places: PlaceIndex,
     rows: Rows,
     buffers: Buffers,
     // The greatest round of an admitted one.
@@ -49,14 +50,15 @@ pub(crate) struct Table {
 }
 
 impl Model for Table {
+    ghost use Rattle.bk_index.specs.Places.{number_of};
     ghost use Rattle.bk_rounds.specs.Rounds.{RoundsValue, rounds_with};
-    ghost use Rattle.bk_rounds.specs.private.Tied.{IsWhole, number_at};
+    ghost use Rattle.bk_rounds.specs.private.Tied.{IsWhole};
 
     ghost Value = { RoundsValue };
 
     ghost view = { λ s. rounds_with s.weights s.certs.items };
 
-    ghost invariant = { λ s. IsWhole s.weights s.certs.items s.names (number_at s.places) s.top };
+    ghost invariant = { λ s. IsWhole s.weights s.certs.items s.names (number_of s.places) s.top };
 }
 
 impl Table {
@@ -68,14 +70,14 @@ impl Table {
         ensures { IfOk result (λ rounds. rounds ≡ rounds_with (sizes_with weights.now) []) }
     {
         let weights = Weights::new(alloc, weights)?;
-        let rows = Rows::new(alloc, weights.members());
+        let members = weights.members();
         Ok(Table {
             alloc,
             weights,
             certs: Vec::new(alloc),
             names: Names::new(alloc),
-            places: Index::new(alloc),
-            rows,
+            places: PlaceIndex::new(alloc, members),
+            rows: Rows::new(alloc, members),
             buffers: Buffers::new(alloc),
             top: 0,
         })
@@ -170,7 +172,7 @@ impl Table {
         ensures found { IfSome result (λ c. StandsAt self.now.sizes self.now.held place c.now) }
         ensures none { IfNone result (IsPresent self.now.sizes self.now.held place → ⊥) }
     {
-        match admitted_number(&self.names, &self.places, &self.rows, place) {
+        match admitted_number(&self.names, &self.places, place) {
             Some(number) => Some(&self.certs[self.names.slots.as_slice()[number].cert]),
             None => None,
         }
@@ -183,7 +185,7 @@ impl Table {
             ↔ Links self.now.sizes self.now.held place
             (record { round = place.round - 1; author = x }) }
     {
-        match admitted_number(&self.names, &self.places, &self.rows, place) {
+        match admitted_number(&self.names, &self.places, place) {
             Some(number) => self.names.sets[number],
             None => Members::none(),
         }
@@ -193,7 +195,7 @@ impl Table {
     pub fn has(&self, place: CertRef) -> bool
         ensures { IsTrue result ↔ ((c : Node) × Contains self.now.held c × (place_of c ≡ place)) }
     {
-        find(&self.names, &self.places, &self.rows, place).is_some()
+        self.places.get(place).is_some()
     }
 
     /// Whether a certificate with this id is held.
@@ -291,18 +293,13 @@ impl Table {
 }
 
 // The number of the admitted certificate of this place.
-fn admitted_number(
-    names: &Names,
-    places: &Index<CertRef>,
-    rows: &Rows,
-    place: CertRef,
-) -> Option<usize>
+fn admitted_number(names: &Names, places: &PlaceIndex, place: CertRef) -> Option<usize>
     requires names { AreNames names.now }
-    requires placed { IsPlaced names.now.slots (number_at places.now) }
+    requires placed { IsPlaced names.now.slots (number_of places.now) }
     ensures found { IfSome result (IsNumberAt names.now place) }
     ensures none { IfNone result ((k : ℕ) → IsNumberAt names.now place k → 1 ≤ place.round → ⊥) }
 {
-    match find(names, places, rows, place) {
+    match places.get(place) {
         Some(number) => {
             if names.marks[number] {
                 Some(number)
@@ -311,17 +308,6 @@ fn admitted_number(
             }
         }
         None => None,
-    }
-}
-
-// The number of the certificate of this place. Most are found without a search.
-fn find(names: &Names, places: &Index<CertRef>, rows: &Rows, place: CertRef) -> Option<usize>
-    requires placed { IsPlaced names.now.slots (number_at places.now) }
-    ensures { result ≡ number_at places.now place }
-{
-    match rows.at(names.slots.as_slice(), place) {
-        Some(number) => Some(number),
-        None => places.get(&place),
     }
 }
 

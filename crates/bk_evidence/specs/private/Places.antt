@@ -5,7 +5,7 @@ use Rattle.std.specs.Ordering.{is_eq}
 use Rattle.bk_cert.specs.Node.{Node}
 use Rattle.bk_cert.specs.Place.{place_cmp}
 use Rattle.bk_cert.specs.declared.place.CertRef.{CertRef}
-use Rattle.bk_index.specs.Finding.{find}
+use Rattle.bk_index.specs.Places.{number_of}
 use Rattle.bk_evidence.specs.Collisions.{id_cmp}
 use Rattle.bk_evidence.specs.Twins.{IsIdAt, AreTwins}
 use Rattle.bk_evidence.specs.declared.evidence.Evidence.{Evidence}
@@ -48,7 +48,7 @@ AreIdsOf held a (Some k) second =
 
 -- the index of a certificate with the least id of a place
 abbrev pub first_at : Places → CertRef → Option ℕ
-first_at p a = find place_cmp p.firsts a
+first_at p a = number_of p.firsts a
 
 -- the second id of a place
 abbrev pub second_at : Places → CertRef → Option (List ℕ)
@@ -73,7 +73,7 @@ pub record AreSamePlaces (old new : Places) : Type 0 where
 
 -- no place is kept
 pub record IsEmptyPlaces (p : Places) : Type 0 where
-  pub firsts : p.firsts ≡ []
+  pub firsts : (a : CertRef) → first_at p a ≡ None
   pub seconds : p.seconds.entries ≡ []
   pub twins : p.twins ≡ None
 

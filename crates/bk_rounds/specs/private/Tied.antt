@@ -2,9 +2,7 @@
 use Rattle.std.specs.Prelude.{◌≡◌, ℕ, ◌<◌, ◌≤◌, ◌↔◌, true, false, List, Contains, Option, Some, length, map, slice_index_or}
 use Rattle.bk_committee.specs.Sizes.{Sizes, members}
 use Rattle.bk_cert.specs.Node.{Node}
-use Rattle.bk_cert.specs.Place.{place_cmp}
 use Rattle.bk_cert.specs.declared.place.CertRef.{CertRef}
-use Rattle.bk_index.specs.Finding.{find}
 use Rattle.bk_rounds.specs.declared.slots.Slot.{Slot}
 use Rattle.bk_rounds.specs.declared.names.Names.{Names}
 use Rattle.bk_cert.specs.Clear.{IsClear}
@@ -64,10 +62,6 @@ pub record IsWhole (z : Sizes) (held : List Node) (n : Names) (numbered : CertRe
   pub to_last : top ≤ last_round
   pub reached : 0 < top → (i : ℕ) × (is_marked n.marks.items i ≡ true)
       × (round_of n.slots i ≡ top)
-
--- the number at a place, where it has one
-abbrev pub number_at : List (CertRef × ℕ) → CertRef → Option ℕ
-number_at places a = find place_cmp places a
 
 -- an admitted certificate has this number and this place
 pub record IsNumberAt (n : Names) (place : CertRef) (k : ℕ) : Type 0 where

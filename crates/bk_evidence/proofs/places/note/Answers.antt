@@ -1,13 +1,14 @@
-use Rattle.std.proofs.Common.{◌≡◌, ℕ, Some, Option, cond, length, ap, refl, sym, subst, ◌∙◌}
-use Rattle.std.specs.Option.{unwrap_or}
+use Rattle.std.proofs.Common.{◌≡◌, Some, cond, length, ap, refl, sym, subst, ◌∙◌}
+use Rattle.std.specs.Option.{is_some}
 use Rattle.std.specs.Ordering.{is_eq}
 use Rattle.bk_cert.specs.Place.{place_of, place_cmp}
 use Rattle.bk_evidence.specs.Collisions.{id_cmp}
 use Rattle.bk_evidence.specs.Twins.{IsIdAt}
+use Rattle.bk_index.specs.declared.place_index.PlaceIndex.{PlaceIndex}
 use Rattle.bk_evidence.specs.declared.places.Places.{Places}
 use Rattle.bk_evidence.specs.private.Least.{IsLeastBy}
-use Rattle.bk_evidence.specs.private.Places.{id_at, first_at}
-use Rattle.bk_evidence.proofs.Placing.{noted_first, same_put, places_same, least_kept, none_kept}
+use Rattle.bk_evidence.specs.private.Places.{id_at, first_at, ArePlaces}
+use Rattle.bk_evidence.proofs.Placing.{noted_first, least_kept, none_kept}
 use Rattle.bk_evidence.proofs.places.note.Goals as goal
 
 pub id_of-least-requires : goal.id_of-least-requires
@@ -16,12 +17,7 @@ id_of-least-requires c = (least_kept c.args.certs.now c.args.places.now c.place_
 pub note_other-requires-clause-places : goal.note_other-requires-clause-places
 note_other-requires-clause-places c =
     let old : Places = c.args.places.now in
-    places_same c.args.certs.now old (record old { firsts = c.first_of.new.self }) (record {
-      firsts = same_put old.firsts c.first_of.new.self c.place_at-place.result c.in-Some.first (sym c.in_ok-first_of.ensures.found ∙ c.in-Some.is)
-          (λ b. c.in_ok-first_of.ensures.put b ∙ ap (λ (o : Option ℕ). cond (is_eq (place_cmp c.place_at-place.result b)) (Some (unwrap_or o (length c.args.certs.now))) (first_at old b)) c.in-Some.is);
-      seconds = λ b. refl;
-      twins = refl;
-    }) c.requires
+    subst (λ (x : PlaceIndex). ArePlaces c.args.certs.now (record old { firsts = x })) (sym (c.in_ok-first_of.ensures.known (ap is_some c.in-Some.is))) c.requires
 
 pub returns-in-None-clause-earlier : goal.returns-in-None-clause-earlier
 returns-in-None-clause-earlier c = none_kept c.args.certs.now c.args.places.now (place_of c.args.cert.now) c.requires
@@ -33,7 +29,7 @@ returns-in-None-clause-ok c =
     let here : c.place_at-place.result ≡ place_of c.args.cert.now = c.place_at-place.ensures in
     noted_first c.args.certs.now c.args.cert.now old (record old { firsts = c.first_of.new.self }) c.requires
     (ap (first_at old) (sym here) ∙ (sym c.in_ok-first_of.ensures.found ∙ c.in-None.is))
-    (λ b. c.in_ok-first_of.ensures.put b ∙ (λ i. cond (is_eq (place_cmp (here i) b)) (Some (unwrap_or (c.in-None.is i) (length c.args.certs.now))) (first_at old b)))
+    (λ b. c.in_ok-first_of.ensures.new c.in-None.is b ∙ (λ i. cond (is_eq (place_cmp (here i) b)) (Some (length c.args.certs.now)) (first_at old b)))
     (λ b. refl) refl
 
 pub returns-in_ok-note_other-in-Some-clause-earlier : goal.returns-in_ok-note_other-in-Some-clause-earlier

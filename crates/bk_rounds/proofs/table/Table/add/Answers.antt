@@ -1,8 +1,5 @@
 use Rattle.std.proofs.Common.{◌≡◌, ◌≢◌, ◌-◌, ◌≤◌, ◌++◌, ◌∷◌, [], ◌∙◌, ◌↔◌, ℕ, cond, List, Some, None, refl, sym, ap, subst, arith, length, get_or, map}
 use Rattle.std.specs.List.{Contains}
-use Rattle.std.specs.Map.{lookup}
-use Rattle.std.specs.BTreeMap.{is_at}
-use Rattle.std.specs.Option.{unwrap_or}
 use Rattle.std.specs.Ordering.{is_eq}
 use Rattle.std.specs.Vec.{with_items}
 use Rattle.std.proofs.lemmas.List.{with_items_is}
@@ -17,7 +14,8 @@ use Rattle.bk_cert.specs.Place.{place_of, Lists, place_cmp}
 use Rattle.bk_rounds.specs.Admission.{IsFit, IsPresent}
 use Rattle.bk_rounds.specs.Rounds.{RoundsValue}
 use Rattle.bk_rounds.specs.private.Numbered.{IsTable, IsInside, round_of, author_of, parents_of, is_marked, count_unmarked}
-use Rattle.bk_rounds.specs.private.Tied.{number_at, IsWhole, IsTied, place_at}
+use Rattle.bk_index.specs.Places.{number_of}
+use Rattle.bk_rounds.specs.private.Tied.{IsWhole, IsTied, place_at}
 use Rattle.bk_cert.proofs.Refs.{same_place}
 use Rattle.bk_rounds.proofs.Settling.{marked_low}
 use Rattle.bk_rounds.proofs.Found.{place_free}
@@ -27,13 +25,13 @@ use Rattle.bk_rounds.proofs.table.Table.add.Goals as goal
 
 pub invariant_of-self : goal.invariant_of-self
 invariant_of-self c = rw c.in_err-ready.ensures.certs
-    (whole_grown c.self.inside.weights c.self.inside.certs.items c.self.inside.names c.prepare.new.names (number_at c.self.inside.places) (number_at c.self.inside.places) c.self.inside.top c.self.invariant
+    (whole_grown c.self.inside.weights c.self.inside.certs.items c.self.inside.names c.prepare.new.names (number_of c.self.inside.places) (number_of c.self.inside.places) c.self.inside.top c.self.invariant
     c.in_err-ready.ensures.grows c.in_err-ready.ensures.names (λ q. refl))
 
 pub invariant_of-self-in_err-first_of : goal.invariant_of-self-in_err-first_of
 invariant_of-self-in_err-first_of c = rw c.in_ok-ready.ensures.certs
-    (whole_grown c.self.inside.weights c.self.inside.certs.items c.self.inside.names c.prepare.new.names (number_at c.self.inside.places) (number_at c.first_of.new.self) c.self.inside.top c.self.invariant
-    c.in_ok-ready.ensures.grows c.in_ok-ready.ensures.names (λ q. ap (lookup (is_at (place_cmp q))) c.in_err-first_of.ensures.err))
+    (whole_grown c.self.inside.weights c.self.inside.certs.items c.self.inside.names c.prepare.new.names (number_of c.self.inside.places) (number_of c.first_of.new.self) c.self.inside.top c.self.invariant
+    c.in_ok-ready.ensures.grows c.in_ok-ready.ensures.names c.in_err-first_of.ensures.err)
 
 pub admit-requires-clause-table : goal.admit-requires-clause-table
 admit-requires-clause-table c =
@@ -43,10 +41,10 @@ admit-requires-clause-table c =
     let cert : Node = c.args.cert in
     let k : ℕ = c.in_ok-ready.ready.number in
     let p = c.in_ok-ready.ensures.prepared in
-    let w : IsWhole z held n (number_at c.self.inside.places) c.self.inside.top =
-    whole_grown z held c.self.inside.names n (number_at c.self.inside.places) (number_at c.self.inside.places) c.self.inside.top c.self.invariant c.in_ok-ready.ensures.grows c.in_ok-ready.ensures.names (λ q. refl) in
+    let w : IsWhole z held n (number_of c.self.inside.places) c.self.inside.top =
+    whole_grown z held c.self.inside.names n (number_of c.self.inside.places) (number_of c.self.inside.places) c.self.inside.top c.self.invariant c.in_ok-ready.ensures.grows c.in_ok-ready.ensures.names (λ q. refl) in
     let new : (d : Node) → Contains held d → d.id ≢ cert.id = λ d t. c.requires.new d (subst (λ (v : RoundsValue). Contains v.held d) c.self.view_is t) in
-    let none : round_of n.slots k ≡ 0 = number_free z held n (number_at c.self.inside.places) c.self.inside.top w k cert p.id new in
+    let none : round_of n.slots k ≡ 0 = number_free z held n (number_of c.self.inside.places) c.self.inside.top w k cert p.id new in
     rw (c.deref_mut.ensures.value) w.table
 
 pub admit-requires-clause-number : goal.admit-requires-clause-number
@@ -57,10 +55,10 @@ admit-requires-clause-number c =
     let cert : Node = c.args.cert in
     let k : ℕ = c.in_ok-ready.ready.number in
     let p = c.in_ok-ready.ensures.prepared in
-    let w : IsWhole z held n (number_at c.self.inside.places) c.self.inside.top =
-    whole_grown z held c.self.inside.names n (number_at c.self.inside.places) (number_at c.self.inside.places) c.self.inside.top c.self.invariant c.in_ok-ready.ensures.grows c.in_ok-ready.ensures.names (λ q. refl) in
+    let w : IsWhole z held n (number_of c.self.inside.places) c.self.inside.top =
+    whole_grown z held c.self.inside.names n (number_of c.self.inside.places) (number_of c.self.inside.places) c.self.inside.top c.self.invariant c.in_ok-ready.ensures.grows c.in_ok-ready.ensures.names (λ q. refl) in
     let new : (d : Node) → Contains held d → d.id ≢ cert.id = λ d t. c.requires.new d (subst (λ (v : RoundsValue). Contains v.held d) c.self.view_is t) in
-    let none : round_of n.slots k ≡ 0 = number_free z held n (number_at c.self.inside.places) c.self.inside.top w k cert p.id new in
+    let none : round_of n.slots k ≡ 0 = number_free z held n (number_of c.self.inside.places) c.self.inside.top w k cert p.id new in
     (p.inside, none)
 
 pub admit-requires-clause-id : goal.admit-requires-clause-id
@@ -74,10 +72,10 @@ tell-self-inside-requires-clause-inside c =
     let cert : Node = c.args.cert in
     let k : ℕ = c.in_ok-ready.ready.number in
     let p = c.in_ok-ready.ensures.prepared in
-    let w : IsWhole z held n (number_at c.self.inside.places) c.self.inside.top =
-    whole_grown z held c.self.inside.names n (number_at c.self.inside.places) (number_at c.self.inside.places) c.self.inside.top c.self.invariant c.in_ok-ready.ensures.grows c.in_ok-ready.ensures.names (λ q. refl) in
+    let w : IsWhole z held n (number_of c.self.inside.places) c.self.inside.top =
+    whole_grown z held c.self.inside.names n (number_of c.self.inside.places) (number_of c.self.inside.places) c.self.inside.top c.self.invariant c.in_ok-ready.ensures.grows c.in_ok-ready.ensures.names (λ q. refl) in
     let new : (d : Node) → Contains held d → d.id ≢ cert.id = λ d t. c.requires.new d (subst (λ (v : RoundsValue). Contains v.held d) c.self.view_is t) in
-    let none : round_of n.slots k ≡ 0 = number_free z held n (number_at c.self.inside.places) c.self.inside.top w k cert p.id new in
+    let none : round_of n.slots k ≡ 0 = number_free z held n (number_of c.self.inside.places) c.self.inside.top w k cert p.id new in
     let e_m : (with_items n.marks c.admit.new.marks).items ≡ c.admit.new.marks = with_items_is n.marks c.admit.new.marks (omega (arith, c.admit.auto.marks, ap length c.deref_mut.ensures.value, n.marks.ok.0)) in
     let table : IsTable z c.admit.new.slots c.admit.new.marks c.admit.new.pending = c.admit.ensures.table in
     λ j d low.
@@ -94,10 +92,10 @@ tell-self-inside-requires-clause-parents c =
     let cert : Node = c.args.cert in
     let k : ℕ = c.in_ok-ready.ready.number in
     let p = c.in_ok-ready.ensures.prepared in
-    let w : IsWhole z held n (number_at c.self.inside.places) c.self.inside.top =
-    whole_grown z held c.self.inside.names n (number_at c.self.inside.places) (number_at c.self.inside.places) c.self.inside.top c.self.invariant c.in_ok-ready.ensures.grows c.in_ok-ready.ensures.names (λ q. refl) in
+    let w : IsWhole z held n (number_of c.self.inside.places) c.self.inside.top =
+    whole_grown z held c.self.inside.names n (number_of c.self.inside.places) (number_of c.self.inside.places) c.self.inside.top c.self.invariant c.in_ok-ready.ensures.grows c.in_ok-ready.ensures.names (λ q. refl) in
     let new : (d : Node) → Contains held d → d.id ≢ cert.id = λ d t. c.requires.new d (subst (λ (v : RoundsValue). Contains v.held d) c.self.view_is t) in
-    let none : round_of n.slots k ≡ 0 = number_free z held n (number_at c.self.inside.places) c.self.inside.top w k cert p.id new in
+    let none : round_of n.slots k ≡ 0 = number_free z held n (number_of c.self.inside.places) c.self.inside.top w k cert p.id new in
     let e_m : (with_items n.marks c.admit.new.marks).items ≡ c.admit.new.marks = with_items_is n.marks c.admit.new.marks (omega (arith, c.admit.auto.marks, ap length c.deref_mut.ensures.value, n.marks.ok.0)) in
     let table : IsTable z c.admit.new.slots c.admit.new.marks c.admit.new.pending = c.admit.ensures.table in
     subst IsInside (sym c.as_slice.ensures) table.inside
@@ -110,10 +108,10 @@ tell-self-inside-requires-clause-authors c =
     let cert : Node = c.args.cert in
     let k : ℕ = c.in_ok-ready.ready.number in
     let p = c.in_ok-ready.ensures.prepared in
-    let w : IsWhole z held n (number_at c.self.inside.places) c.self.inside.top =
-    whole_grown z held c.self.inside.names n (number_at c.self.inside.places) (number_at c.self.inside.places) c.self.inside.top c.self.invariant c.in_ok-ready.ensures.grows c.in_ok-ready.ensures.names (λ q. refl) in
+    let w : IsWhole z held n (number_of c.self.inside.places) c.self.inside.top =
+    whole_grown z held c.self.inside.names n (number_of c.self.inside.places) (number_of c.self.inside.places) c.self.inside.top c.self.invariant c.in_ok-ready.ensures.grows c.in_ok-ready.ensures.names (λ q. refl) in
     let new : (d : Node) → Contains held d → d.id ≢ cert.id = λ d t. c.requires.new d (subst (λ (v : RoundsValue). Contains v.held d) c.self.view_is t) in
-    let none : round_of n.slots k ≡ 0 = number_free z held n (number_at c.self.inside.places) c.self.inside.top w k cert p.id new in
+    let none : round_of n.slots k ≡ 0 = number_free z held n (number_of c.self.inside.places) c.self.inside.top w k cert p.id new in
     let e_m : (with_items n.marks c.admit.new.marks).items ≡ c.admit.new.marks = with_items_is n.marks c.admit.new.marks (omega (arith, c.admit.auto.marks, ap length c.deref_mut.ensures.value, n.marks.ok.0)) in
     let table : IsTable z c.admit.new.slots c.admit.new.marks c.admit.new.pending = c.admit.ensures.table in
     let slot : Slot = record { id = c.id.result.now; round = c.round.result; author = c.author.result; cert = c.len.result; parents = c.in_ok-ready.ready.parents } in
@@ -147,10 +145,10 @@ invariant_of-self-2 c =
     let cert : Node = c.args.cert in
     let k : ℕ = c.in_ok-ready.ready.number in
     let p = c.in_ok-ready.ensures.prepared in
-    let w : IsWhole z held n (number_at c.self.inside.places) c.self.inside.top =
-    whole_grown z held c.self.inside.names n (number_at c.self.inside.places) (number_at c.self.inside.places) c.self.inside.top c.self.invariant c.in_ok-ready.ensures.grows c.in_ok-ready.ensures.names (λ q. refl) in
+    let w : IsWhole z held n (number_of c.self.inside.places) c.self.inside.top =
+    whole_grown z held c.self.inside.names n (number_of c.self.inside.places) (number_of c.self.inside.places) c.self.inside.top c.self.invariant c.in_ok-ready.ensures.grows c.in_ok-ready.ensures.names (λ q. refl) in
     let new : (d : Node) → Contains held d → d.id ≢ cert.id = λ d t. c.requires.new d (subst (λ (v : RoundsValue). Contains v.held d) c.self.view_is t) in
-    let none : round_of n.slots k ≡ 0 = number_free z held n (number_at c.self.inside.places) c.self.inside.top w k cert p.id new in
+    let none : round_of n.slots k ≡ 0 = number_free z held n (number_of c.self.inside.places) c.self.inside.top w k cert p.id new in
     let e_m : (with_items n.marks c.admit.new.marks).items ≡ c.admit.new.marks = with_items_is n.marks c.admit.new.marks (omega (arith, c.admit.auto.marks, ap length c.deref_mut.ensures.value, n.marks.ok.0)) in
     let table : IsTable z c.admit.new.slots c.admit.new.marks c.admit.new.pending = c.admit.ensures.table in
     let slot : Slot = record { id = c.id.result.now; round = c.round.result; author = c.author.result; cert = c.len.result; parents = c.in_ok-ready.ready.parents } in
@@ -181,11 +179,11 @@ invariant_of-self-2 c =
     let free : (d : Node) → Contains held d → place_of d ≢ place_of cert = λ d t. c.requires.free d (subst (λ (v : RoundsValue). Contains v.held d) c.self.view_is t) in
     let here : CertRef = record { round = c.round.result; author = c.author.result } in
     let place : here ≡ place_of cert = same_place here (place_of cert) (c.round.ensures ∙ ap (λ (h : HeaderValue). h.round) c.header.ensures) (c.author.ensures ∙ ap (λ (h : HeaderValue). h.author) c.header-2.ensures) in
-    let none_there : c.in_ok-first_of.field-0 ≡ None = c.in_ok-first_of.ensures.found ∙ (ap (number_at c.self.inside.places) place ∙ place_free z held n (number_at c.self.inside.places) c.self.inside.top w (place_of cert) free) in
-    let up = place_put (number_at c.self.inside.places) (number_at c.first_of.new.self) (place_of cert) k
-    (λ q. c.in_ok-first_of.ensures.put q ∙ (λ i. cond (is_eq (place_cmp (place i) q)) (Some (unwrap_or (none_there i) k)) (number_at c.self.inside.places q))) in
-    let whole : IsWhole z (held ++ cert ∷ []) m (number_at c.first_of.new.self) c.tell-self-inside.result =
-    whole_added z held n m cert k slot (number_at c.self.inside.places) (number_at c.first_of.new.self) c.self.inside.top c.tell-self-inside.result out w added good new free up
+    let none_there : c.in_ok-first_of.field-0 ≡ None = c.in_ok-first_of.ensures.found ∙ (ap (number_of c.self.inside.places) place ∙ place_free z held n (number_of c.self.inside.places) c.self.inside.top w (place_of cert) free) in
+    let up = place_put (number_of c.self.inside.places) (number_of c.first_of.new.self) (place_of cert) k
+    (λ q. c.in_ok-first_of.ensures.new none_there q ∙ (λ i. cond (is_eq (place_cmp (place i) q)) (Some k) (number_of c.self.inside.places q))) in
+    let whole : IsWhole z (held ++ cert ∷ []) m (number_of c.first_of.new.self) c.tell-self-inside.result =
+    whole_added z held n m cert k slot (number_of c.self.inside.places) (number_of c.first_of.new.self) c.self.inside.top c.tell-self-inside.result out w added good new free up
     (table_from z m c.admit.new.slots c.admit.new.marks c.admit.new.pending refl e_m refl table) admitted in
     let certs : c.push_reserved.new.self.items ≡ held ++ cert ∷ [] = c.push_reserved.ensures.items ∙ ap (λ (xs : List Node). xs ++ cert ∷ []) c.in_ok-ready.ensures.certs in
     rw certs whole
@@ -198,10 +196,10 @@ returns-clause-answer c =
     let cert : Node = c.args.cert in
     let k : ℕ = c.in_ok-ready.ready.number in
     let p = c.in_ok-ready.ensures.prepared in
-    let w : IsWhole z held n (number_at c.self.inside.places) c.self.inside.top =
-    whole_grown z held c.self.inside.names n (number_at c.self.inside.places) (number_at c.self.inside.places) c.self.inside.top c.self.invariant c.in_ok-ready.ensures.grows c.in_ok-ready.ensures.names (λ q. refl) in
+    let w : IsWhole z held n (number_of c.self.inside.places) c.self.inside.top =
+    whole_grown z held c.self.inside.names n (number_of c.self.inside.places) (number_of c.self.inside.places) c.self.inside.top c.self.invariant c.in_ok-ready.ensures.grows c.in_ok-ready.ensures.names (λ q. refl) in
     let new : (d : Node) → Contains held d → d.id ≢ cert.id = λ d t. c.requires.new d (subst (λ (v : RoundsValue). Contains v.held d) c.self.view_is t) in
-    let none : round_of n.slots k ≡ 0 = number_free z held n (number_at c.self.inside.places) c.self.inside.top w k cert p.id new in
+    let none : round_of n.slots k ≡ 0 = number_free z held n (number_of c.self.inside.places) c.self.inside.top w k cert p.id new in
     let e_m : (with_items n.marks c.admit.new.marks).items ≡ c.admit.new.marks = with_items_is n.marks c.admit.new.marks (omega (arith, c.admit.auto.marks, ap length c.deref_mut.ensures.value, n.marks.ok.0)) in
     let table : IsTable z c.admit.new.slots c.admit.new.marks c.admit.new.pending = c.admit.ensures.table in
     let slot : Slot = record { id = c.id.result.now; round = c.round.result; author = c.author.result; cert = c.len.result; parents = c.in_ok-ready.ready.parents } in
@@ -232,17 +230,17 @@ returns-clause-answer c =
     let free : (d : Node) → Contains held d → place_of d ≢ place_of cert = λ d t. c.requires.free d (subst (λ (v : RoundsValue). Contains v.held d) c.self.view_is t) in
     let here : CertRef = record { round = c.round.result; author = c.author.result } in
     let place : here ≡ place_of cert = same_place here (place_of cert) (c.round.ensures ∙ ap (λ (h : HeaderValue). h.round) c.header.ensures) (c.author.ensures ∙ ap (λ (h : HeaderValue). h.author) c.header-2.ensures) in
-    let none_there : c.in_ok-first_of.field-0 ≡ None = c.in_ok-first_of.ensures.found ∙ (ap (number_at c.self.inside.places) place ∙ place_free z held n (number_at c.self.inside.places) c.self.inside.top w (place_of cert) free) in
-    let up = place_put (number_at c.self.inside.places) (number_at c.first_of.new.self) (place_of cert) k
-    (λ q. c.in_ok-first_of.ensures.put q ∙ (λ i. cond (is_eq (place_cmp (place i) q)) (Some (unwrap_or (none_there i) k)) (number_at c.self.inside.places q))) in
-    let whole : IsWhole z (held ++ cert ∷ []) m (number_at c.first_of.new.self) c.tell-self-inside.result =
-    whole_added z held n m cert k slot (number_at c.self.inside.places) (number_at c.first_of.new.self) c.self.inside.top c.tell-self-inside.result out w added good new free up
+    let none_there : c.in_ok-first_of.field-0 ≡ None = c.in_ok-first_of.ensures.found ∙ (ap (number_of c.self.inside.places) place ∙ place_free z held n (number_of c.self.inside.places) c.self.inside.top w (place_of cert) free) in
+    let up = place_put (number_of c.self.inside.places) (number_of c.first_of.new.self) (place_of cert) k
+    (λ q. c.in_ok-first_of.ensures.new none_there q ∙ (λ i. cond (is_eq (place_cmp (place i) q)) (Some k) (number_of c.self.inside.places q))) in
+    let whole : IsWhole z (held ++ cert ∷ []) m (number_of c.first_of.new.self) c.tell-self-inside.result =
+    whole_added z held n m cert k slot (number_of c.self.inside.places) (number_of c.first_of.new.self) c.self.inside.top c.tell-self-inside.result out w added good new free up
     (table_from z m c.admit.new.slots c.admit.new.marks c.admit.new.pending refl e_m refl table) admitted in
     let certs : c.push_reserved.new.self.items ≡ held ++ cert ∷ [] = c.push_reserved.ensures.items ∙ ap (λ (xs : List Node). xs ++ cert ∷ []) c.in_ok-ready.ensures.certs in
     let told : List CertRef = c.hand_over.result.items in
     let answer : c.tell-self-inside.new.answer.items ≡ map (place_at m.slots) out = c.tell-self-inside.ensures.answer ∙ (λ i. map (place_at (c.as_slice.ensures i)) (c.deref.ensures.value i)) in
     let lists : Lists told (λ a. IsPresent z (held ++ cert ∷ []) a × (IsPresent z held a → ⊥)) =
-    answer_added z held n m cert k slot (number_at c.self.inside.places) (number_at c.first_of.new.self) c.self.inside.top c.tell-self-inside.result out told w whole added admitted
+    answer_added z held n m cert k slot (number_of c.self.inside.places) (number_of c.first_of.new.self) c.self.inside.top c.tell-self-inside.result out told w whole added admitted
     c.hand_over.ensures.listed (λ a. subst (λ (xs : List CertRef). Contains told a ↔ Contains xs a) answer (c.hand_over.ensures.same a)) in
     subst (λ (xs : List Node). Lists told (λ a. IsPresent z xs a × (IsPresent c.args.self.now.sizes c.args.self.now.held a → ⊥))) (sym certs)
     (subst (λ (v : RoundsValue). Lists told (λ a. IsPresent z (held ++ cert ∷ []) a × (IsPresent v.sizes v.held a → ⊥))) c.self.view_is lists)

@@ -2,7 +2,7 @@ use Rattle.std.proofs.Common.{◌≡◌, ◌∙◌, List, Some, None, sym, ap, a
 use Rattle.bk_rounds.specs.declared.slots.Slot.{Slot}
 use Rattle.std.proofs.lemmas.Bool.{false≢true}
 use Rattle.bk_rounds.specs.private.Names.{known_in}
-use Rattle.bk_rounds.specs.private.Tied.{number_at}
+use Rattle.bk_index.specs.Places.{number_of}
 use Rattle.bk_rounds.proofs.Marks.{not_zero, not_zero_from}
 use Rattle.bk_rounds.proofs.Found.{id_held, id_unknown, round_read}
 use Rattle.bk_rounds.proofs.table.Table.has_id.Goals as goal
@@ -18,11 +18,11 @@ returns-in-Some c =
     let known : known_in c.self.inside.names c.args.id.now ≡ Some c.in-Some.number = sym c.get.ensures ∙ c.in-Some.is in
     let low = (c.self.invariant.names.numbering.sound c.args.id.now c.in-Some.number known).0 in
     let read : Slot = get_or c.as_slice.result.now c.in-Some.number c.index-as_slice-number.result in
-    rw (← c.self.view_is) (id_held c.self.inside.weights c.self.inside.certs.items c.self.inside.names (number_at c.self.inside.places) c.self.inside.top c.self.invariant c.args.id.now c.in-Some.number known _ read.round
+    rw (← c.self.view_is) (id_held c.self.inside.weights c.self.inside.certs.items c.self.inside.names (number_of c.self.inside.places) c.self.inside.top c.self.invariant c.args.id.now c.in-Some.number known _ read.round
     (sym (ap (λ (s : Slot). s.round) c.index-as_slice-number.is) ∙ round_read c.self.inside.names.slots c.in-Some.number c.index-as_slice-number.result low (c.index-as_slice-number.is ∙ ap (λ (ss : List Slot). get_or ss c.in-Some.number c.index-as_slice-number.result) c.as_slice.ensures))
     ((λ t. not_zero read.round t), (λ l. not_zero_from read.round l)))
 
 pub returns-in-None : goal.returns-in-None
 returns-in-None c =
     let unknown : known_in c.self.inside.names c.args.id.now ≡ None = sym c.get.ensures ∙ c.in-None.is in
-    rw (← c.self.view_is) ((λ f. absurd (false≢true f)), (λ (d, there, id). absurd (id_unknown c.self.inside.weights c.self.inside.certs.items c.self.inside.names (number_at c.self.inside.places) c.self.inside.top c.self.invariant c.args.id.now unknown d there id)))
+    rw (← c.self.view_is) ((λ f. absurd (false≢true f)), (λ (d, there, id). absurd (id_unknown c.self.inside.weights c.self.inside.certs.items c.self.inside.names (number_of c.self.inside.places) c.self.inside.top c.self.invariant c.args.id.now unknown d there id)))
