@@ -122,11 +122,11 @@ impl Batches {
         Some(payload_at(self.stored.as_slice(), index))
     }
 
-    /// The index of the batch whose payload `get` gives.
-    pub fn index_of(&self, digest: &Digest32) -> Option<BatchRef>
+    /// The index of the batch whose payload `get` gives, found at once if it is the likely one.
+    pub fn index_of(&self, digest: &Digest32, likely: usize) -> Option<BatchRef>
         ensures { option_map (λ b. b.index) result ≡ position (has_digest digest.now) self.now }
     {
-        let index = self.stored.get(digest)?;
+        let index = self.stored.get_near(digest, likely)?;
         Some(BatchRef { index })
     }
 

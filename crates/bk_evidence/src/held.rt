@@ -24,7 +24,7 @@ use std::marker::Model;
 /// The certificates that were offered, each distinct pair of an id and a header once, those of
 /// collisions and twins too. Contracts see them in the order in which they were stored.
 ///
-/// A certificate takes 8 bytes, besides the header and its id, which are shared, 8 to 16 of hints, and
+/// A certificate takes 8 bytes, besides the header and its id, which are shared, 8 to 32 of hints, and
 /// 4 in the row of its round. The lists have room for at most about twice the certificates. A place
 /// takes 40 bytes more once it has twins. Once two headers have one id, each call that looks for an id
 /// goes over all that is held; with SHA-256 no such two are known.

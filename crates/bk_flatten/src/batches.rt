@@ -126,10 +126,15 @@ fn found_from(
         → IsFoundWhole batches.now (listed_with digests.now (found ++ part.items))) }
 {
     let mut part = Vec::new(alloc);
+    // Batches are mostly stored in the order in which they are committed.
+    let mut likely = from;
     for k in from..digests.len() {
-        match batches.index_of(&digests[k]) {
+        match batches.index_of(&digests[k], likely) {
             None => return Ok(part),
-            Some(batch) => part.push(batch)?,
+            Some(batch) => {
+                likely = batch.index.saturating_add(1);
+                part.push(batch)?;
+            }
         }
     }
     Ok(part)

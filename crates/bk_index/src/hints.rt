@@ -121,14 +121,15 @@ pub(crate) fn make_anew<K: Spread, T: Keyed<K>>(
     Ok((table, rest))
 }
 
-/// The length of the table that takes the place of one of this length.
+/// The length of the table that takes the place of one of this length. To fill it anew costs several
+/// accesses to memory for each entry, so it is four times as long.
 pub(crate) fn longer(len: usize) -> usize
     ensures { 1 ≤ result }
 {
     if len < 8 {
         return 16;
     }
-    len.saturating_mul(2)
+    len.saturating_mul(4)
 }
 
 /// Makes room for one more entry. An `Err` comes only where memory runs out.

@@ -6,7 +6,7 @@ ghost use Rattle.bk_index.specs.Finding.{has_key};
 
 use crate::hints::{make_room, put};
 use crate::keyed::Keyed;
-use crate::search::{first_with, search};
+use crate::search::{first_with, has_key, search};
 use crate::spread::Spread;
 use std::alloc::{AllocError, Global};
 use std::collections::BTreeMap;
@@ -14,7 +14,7 @@ use std::marker::Model;
 
 /// A list whose entries are found by their keys: the first one with a key. Contracts see the list.
 ///
-/// Beside an entry it takes 8 to 16 bytes of the table, and the room of a list that doubles. Once two
+/// Beside an entry it takes 8 to 32 bytes of the table, and the room of a list that doubles. Once two
 /// entries have one key, each search goes over all of them.
 #[derive(Drop)]
 pub struct KeyedList<K: Spread, T: Keyed<K>> {
@@ -86,6 +86,16 @@ impl<K: Spread, T: Keyed<K>> KeyedList<K, T> {
             Ok(at) => Some(at),
             Err(_) => None,
         }
+    }
+
+    /// What `get` answers, at the cost of one access to the entry at this index if it has the key.
+    pub fn get_near(&self, key: &K, likely: usize) -> Option<usize>
+        ensures { result ≡ position (has_key K.cmp T.key_of key.now) self.now }
+    {
+        if !self.repeats && has_key(&self.entries, likely, key) {
+            return Some(likely);
+        }
+        self.get(key)
     }
 
     /// The index of the first entry with the same key, and this entry again. `None`: there was none,

@@ -48,8 +48,8 @@ pub(crate) fn search<K: Spread, T: Keyed<K>>(
     }
 }
 
-// Whether the entry at an index has this key.
-fn has_key<K: Spread, T: Keyed<K>>(entries: &[T], index: usize, key: &K) -> bool
+/// Whether the entry at an index has this key.
+pub(crate) fn has_key<K: Spread, T: Keyed<K>>(entries: &[T], index: usize, key: &K) -> bool
     ensures { IsTrue result ↔ (slice_get (map T.key_of entries.now) index ≡ Some key.now) }
 {
     match entries.get(index) {

@@ -26,7 +26,10 @@ const OFFERS: &[(u8, u8, BatchOffer)] = &[
 fn are_found(batches: &Batches) -> bool {
     batches.collision() == Some(id_of(7))
         && batches.get(&id_of(7)) == Some([1].as_slice())
-        && batches.index_of(&id_of(3)) == Some(BatchRef { index: 1 })
+        && batches.index_of(&id_of(3), 0) == Some(BatchRef { index: 1 })
+        && batches.index_of(&id_of(3), 1) == Some(BatchRef { index: 1 })
+        && batches.index_of(&id_of(7), 2) == Some(BatchRef { index: 0 })
+        && batches.index_of(&id_of(8), 1).is_none()
 }
 
 fn answers(
