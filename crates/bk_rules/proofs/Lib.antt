@@ -2,6 +2,7 @@ pub mod Finding
 pub mod Folding
 pub mod Kept
 pub mod Locality
+pub mod OpLemmas
 pub mod Parts
 pub mod Places
 pub mod Putting

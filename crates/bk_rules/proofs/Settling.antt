@@ -82,7 +82,7 @@ settles_unmoved v t old s r new is settles = subst (λ (x : Receipt). Settles v 
 pub settles_undeclared : (v : Version) (t : Transaction) (old : List (Option Account)) → is_declared t ≡ false → Settles v t old (record { status = status.Undeclared; moved = 0 }) old
 settles_undeclared v t old no_d = settles_from v t old status.Undeclared 0 old (ap (λ (d : Bool). status_by d (are_known v (seen t.declared old) t) (eqb t.seq (seq_at (seen t.declared old) t.from)) (guard_holds (seen t.declared old) t.body) (is_short (seen t.declared old) t)) no_d) refl (λ k low. refl)
 
-status_from : (v : Version) (a : Accounts) (t : Transaction) (k s g f : Bool) → is_declared t ≡ true → are_known v a t ≡ k → eqb t.seq (seq_at a t.from) ≡ s → guard_holds a t.body ≡ g → is_short a t ≡ f → status_of v a t ≡ status_by true k s g f
+pub status_from : (v : Version) (a : Accounts) (t : Transaction) (k s g f : Bool) → is_declared t ≡ true → are_known v a t ≡ k → eqb t.seq (seq_at a t.from) ≡ s → guard_holds a t.body ≡ g → is_short a t ≡ f → status_of v a t ≡ status_by true k s g f
 status_from v a t k s g f ed ek es eg ef = ap₂ (λ (x y : Bool). status_by x y (eqb t.seq (seq_at a t.from)) (guard_holds a t.body) (is_short a t)) ed ek ∙ ap₂ (λ (x y : Bool). status_by true k x y (is_short a t)) es eg ∙ ap (λ (x : Bool). status_by true k s g x) ef
 
 floor_same : (f g : FloorAt → Bool) → ((q : FloorAt) → f q ≡ g q) → (p : Option FloorAt) → floor_passes f p ≡ floor_passes g p

@@ -171,7 +171,7 @@ seq_low bound (r ∷ rows) all id a e = by_test (eqb r.id id) (sym (look_first r
     by_test true is first rest = let same : account_of r ≡ a = cc in let seqs = ap (λ (x : Account). x.seq) same in omega arith
     by_test false is first rest = rest is
 
-ends : (w : Version) → record { some : 1 < seq_end w; low : seq_end w ≤ 2 ^ 64 }
+pub ends : (w : Version) → record { some : 1 < seq_end w; low : seq_end w ≤ 2 ^ 64 }
 ends One = record { some = omega arith; low = omega arith }
 ends Two = record { some = omega arith; low = omega arith }
 

@@ -3,6 +3,7 @@ pub mod Rows
 pub mod Fold
 pub mod Laws
 pub mod Numbers
+pub mod Ops
 pub mod Ledger
 pub mod Part
 pub mod View

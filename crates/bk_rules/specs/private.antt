@@ -1,3 +1,4 @@
 pub mod Roles
 pub mod Sides
 pub mod Slots
+pub mod Paying

@@ -7,7 +7,9 @@ mod ids;
 mod laws;
 mod local;
 mod numbers;
+mod ops;
 mod part;
+mod paying;
 mod receipt;
 mod roles;
 mod rule;
@@ -22,10 +24,14 @@ pub use laws::{
     part_is_enough, room_is_left, rows_are_known, rule_is_local, rule_of_rows, total_is_kept,
 };
 pub use local::Local;
+pub use ops::Op;
+pub use paying::run_ops;
 pub use receipt::{PackedReceipt, Receipt, Status};
 pub use rule::{Effect, apply_local, settle};
 pub use run::{run_in_order, run_near};
 pub use state::State;
 
+#[cfg(test)]
+mod op_tests;
 #[cfg(test)]
 mod tests;

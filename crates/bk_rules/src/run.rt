@@ -9,7 +9,7 @@ use bk_tx::{MOST_DECLARED, Tx};
 use std::alloc::{AllocError, Global};
 
 // How many transactions are looked up together: reads that depend on none before them overlap.
-const BLOCK: usize = 512;
+pub(crate) const BLOCK: usize = 512;
 
 /// Applies transactions one after another, and returns their receipts in order. O(n) look-ups of accounts.
 ///
@@ -131,7 +131,7 @@ fn sum_of_ids(ids: &[u64], near: &[u32]) -> u32 {
 }
 
 // The sum of some sequence numbers.
-fn sum_of_seqs(numbers: &[Account], near: &[u32]) -> u32 {
+pub(crate) fn sum_of_seqs(numbers: &[Account], near: &[u32]) -> u32 {
     let mut sum = 0u32;
     for index in near {
         if let Some(account) = numbers.get(*index as usize) {

@@ -1,0 +1,122 @@
+//! Payments by the indexes of their accounts.
+
+ghost use Rattle.std.specs.Prelude.{◌≡◌, ◌+◌, ◌^◌, ◌<◌, ℕ, length, IfOk, OnOk, OnErr};
+ghost use Rattle.bk_base.specs.declared.version.Version.TheVariants.{One};
+ghost use Rattle.bk_rules.specs.Fold.{receipts_of, state_after, HasRoom};
+ghost use Rattle.bk_rules.specs.Ledger.{after_of, ledger_of};
+ghost use Rattle.bk_rules.specs.Ops.{AreOps, IsOpOf};
+ghost use Rattle.bk_rules.specs.Rows.{outcome_of};
+ghost use Rattle.bk_rules.specs.private.Paying.{amount_by, numbers_after, numbers_at, payment_status};
+
+use crate::account::Account;
+use crate::ops::Op;
+use crate::receipt::{PackedReceipt, Receipt, Status, unmoved};
+use crate::run::{BLOCK, near_from, sum_of_seqs};
+use crate::state::State;
+use bk_tx::Tx;
+use std::alloc::{AllocError, Global};
+
+// Pays an amount from the account at an index to that at another, if the sender is at this sequence number and has it.
+#[inline(always)]
+fn pay_in(numbers: &mut Vec<Account>, from: usize, to: usize, amount: u64, seq: u64) -> Receipt
+    requires from { from < length numbers.old.items }
+    requires to { to < length numbers.old.items }
+    requires small { (k : ℕ) → (numbers_at numbers.old.items k).balance < 2 ^ 63 }
+    requires room { (numbers_at numbers.old.items from).seq + 1 < 2 ^ 64 }
+    ensures status { result.status ≡ payment_status amount seq (numbers_at numbers.old.items from) }
+    ensures moved { result.moved ≡ amount_by result.status amount }
+    ensures after { numbers.new.items
+        ≡ numbers_after result.status from to amount numbers.old.items }
+{
+    let sender = numbers[from];
+    if seq != sender.seq {
+        return unmoved(Status::Stale);
+    }
+    if sender.balance < amount {
+        numbers[from] = Account {
+            balance: sender.balance,
+            seq: sender.seq + 1,
+        };
+        return unmoved(Status::Funds);
+    }
+    numbers[from] = Account {
+        balance: sender.balance - amount,
+        seq: sender.seq + 1,
+    };
+    let receiver = numbers[to];
+    numbers[to] = Account {
+        balance: receiver.balance + amount,
+        seq: receiver.seq,
+    };
+    Receipt {
+        status: Status::Ok,
+        moved: amount,
+    }
+}
+
+impl State {
+    // Applies a transaction by its op, in version One: it is read only where the op is no payment. Then the likely indexes
+    // of its accounts are among these.
+    pub(crate) fn apply_op(&mut self, tx: &Option<Tx>, op: Op, near: &[u32]) -> Receipt
+        requires version { self.old.version ≡ One }
+        requires op { IsOpOf self.old.slots tx.now op }
+        requires room { HasRoom self.old.version 1 self.old.rows }
+        ensures receipt { result ≡ (outcome_of self.old.version tx.now self.old.rows).receipt }
+        ensures after { self.new ≡ after_of self.old tx.now }
+    {
+        match op {
+            Op::Pay {
+                from,
+                to,
+                amount,
+                seq,
+            } => pay_in(&mut self.numbers, from as usize, to as usize, amount, seq),
+            Op::Other { at } => self.apply_near(tx.as_ref(), near_from(near, at)),
+        }
+    }
+}
+
+/// Applies transactions one after another, and returns their receipts in order, in version One: by the ops that
+/// `Ids::push_ops` found among the ids that have a slot, with likely indexes. A transaction whose op is a payment is not
+/// read.
+///
+/// The memory for the receipts is reserved first, so an `Err` leaves the accounts as they were.
+pub fn run_ops(
+    alloc: Global,
+    state: &mut State,
+    txs: &[Option<Tx>],
+    ops: &[Op],
+    known: &[u32],
+) -> Result<Vec<PackedReceipt>, AllocError>
+    requires version { state.old.version ≡ One }
+    requires ops { AreOps state.old.slots txs.now ops.now }
+    requires room { HasRoom state.old.version (length txs.now) state.old.rows }
+    ensures receipts { IfOk result (λ receipts.
+        receipts.items ≡ receipts_of state.old.version txs.now state.old.rows) }
+    ensures after { OnOk result (state.new ≡ ledger_of state.old.version state.old.slots
+        (state_after state.old.version txs.now state.old.rows)) }
+    ensures unchanged { OnErr result (state.new ≡ state.old) }
+{
+    let mut receipts = Vec::with_capacity(alloc, txs.len())?;
+    let mut kept = Vec::with_capacity(alloc, 1)?;
+    for i in 0..txs.len() {
+        if i % BLOCK == 0 {
+            load_rows(&mut kept, state, &ops[i..]);
+        }
+        receipts.push(PackedReceipt::of(state.apply_op(&txs[i], ops[i], known)))?;
+    }
+    Ok(receipts)
+}
+
+// Loads the rows of the payments of a block, and keeps their sum, as `look_up` does.
+fn load_rows(kept: &mut Vec<u32>, state: &State, ops: &[Op]) {
+    let numbers = state.numbers();
+    let mut sum = 0u32;
+    for op in ops.iter().take(BLOCK) {
+        if let Op::Pay { from, to, .. } = op {
+            sum = sum.wrapping_add(sum_of_seqs(numbers, &[*from, *to]));
+        }
+    }
+    kept.clear();
+    let _ = kept.push(sum);
+}
