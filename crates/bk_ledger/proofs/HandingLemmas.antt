@@ -1,10 +1,13 @@
 -- Slices that are handed on, one after another.
-use Rattle.std.proofs.Common.{◌≡◌, ℕ, ◌+◌, List, [], ◌∷◌, ◌++◌, length, refl, sym, ap, subst, ◌∙◌, arith}
+use Rattle.std.proofs.Common.{◌≡◌, ℕ, ◌+◌, List, [], ◌∷◌, ◌++◌, length, map, Option, Some, None, IfSome, refl, sym, ap, subst, ◌∙◌, arith}
 use Rattle.std.proofs.lemmas.List.Sums.{sum_by_push}
 use Rattle.bk_ledger.specs.declared.reading.Handed.{Handed}
 use Rattle.bk_base.specs.declared.version.Version.{Version}
+use Rattle.rtrb.specs.Ring.{received}
+use Rattle.bk_ledger.specs.declared.looking.Looked.{Looked}
+use Rattle.bk_ledger.specs.declared.looking.Turns.{Turns}
 use Rattle.bk_ledger.specs.declared.planning.Planned.{Planned}
-use Rattle.bk_ledger.specs.private.Handing.{AreHanded, ArePlanned, batches_of, end_of, follows, follows_planned, planned_end, planned_of}
+use Rattle.bk_ledger.specs.private.Handing.{AreHanded, AreLooked, ArePlanned, AreTurns, IsLooked, batches_of, end_of, follows, follows_planned, may_be_looked, planned_end, planned_of}
 use Rattle.bk_ledger.specs.private.Slices.{IsNextOf, IsReadOf, counts_of}
 
 -- the first, which has no batch
@@ -56,6 +59,81 @@ first_taken {T} h x old known rest given new none all first is after =
     let there : x ∷ rest ≡ h ∷ [] = sym is ∙ (ap (λ xs. xs ++ known) (sym none) ∙ (all ∙ first)) in
     let same : x ≡ h = cc in
     after ∙ (ap (λ xs. xs ++ x ∷ []) none ∙ ap (λ y. y ∷ []) same)
+
+-- ---- slices that are looked up
+
+-- the first, which has no batch
+pub first_looked : (l : Looked) (items : List Looked) → items ≡ l ∷ [] → AreLooked (map (λ p. p.now) l.payloads.now) l.ids.now items
+first_looked l items is = record {
+  first = l;
+  rest = [];
+  split = is;
+  batches = refl;
+  slots_are = refl;
+}
+
+-- what comes is such a slice
+pub looked_next : (payloads : List (List ℕ)) (slots : List ℕ) (items : List Looked) (l : Looked) → AreLooked payloads slots items → may_be_looked items l → IsLooked payloads slots l
+looked_next payloads slots items l all next =
+    subst (λ (y : List (List ℕ) × List ℕ). IsLooked y.0 y.1 l) (λ i. (all.batches i, all.slots_are i)) (subst (λ xs. may_be_looked xs l) all.split next)
+
+-- such a slice may come
+pub looked_may : (payloads : List (List ℕ)) (slots : List ℕ) (items : List Looked) (l : Looked) → AreLooked payloads slots items → IsLooked payloads slots l → may_be_looked items l
+looked_may payloads slots items l all is =
+    subst (λ xs. may_be_looked xs l) (sym all.split)
+    (subst (λ (y : List (List ℕ) × List ℕ). IsLooked y.0 y.1 l) (λ i. (sym all.batches i, sym all.slots_are i)) is)
+
+-- one more is one of them
+pub looked_more : (payloads : List (List ℕ)) (slots : List ℕ) (items more : List Looked) (l : Looked) → AreLooked payloads slots items → more ≡ items ++ l ∷ [] → AreLooked payloads slots more
+looked_more payloads slots items more l all is = record {
+  first = all.first;
+  rest = all.rest ++ l ∷ [];
+  split = is ∙ ap (λ xs. xs ++ l ∷ []) all.split;
+  batches = all.batches;
+  slots_are = all.slots_are;
+}
+
+-- what was taken, if anything was
+pub looked_taken : (payloads : List (List ℕ)) (slots : List ℕ) (old new : List Looked) (o : Option Looked) → AreLooked payloads slots old → IfSome o (λ x. (new ≡ old ++ x ∷ []) × may_be_looked old x)
+    → IfSome o (λ l. IsLooked payloads slots l × AreLooked payloads slots new)
+looked_taken payloads slots old new None all taken = tt
+looked_taken payloads slots old new (Some l) all taken = (looked_next payloads slots old l all taken.1, looked_more payloads slots old new l all taken.0)
+
+-- one of three has handed on what was taken, if anything was
+module _ (payloads : List (List ℕ)) (slots : List ℕ) (t u : Turns) (o : Option Looked) (all : AreTurns payloads slots t) where
+  both : {P : Type 0} (x : Option Looked) → (P → AreTurns payloads slots u) → IfSome x (λ l. IsLooked payloads slots l × P) → IfSome x (λ l. IsLooked payloads slots l × AreTurns payloads slots u)
+  both None then taken = tt
+  both (Some l) then taken = (taken.0, then taken.1)
+
+  pub first_takes : u.second ≡ t.second → u.third ≡ t.third → IfSome o (λ x. (received u.first.taker ≡ received t.first.taker ++ x ∷ []) × may_be_looked (received t.first.taker) x)
+      → IfSome o (λ l. IsLooked payloads slots l × AreTurns payloads slots u)
+  first_takes second third taken = both o
+      (λ a. record {
+        first = a;
+        second = subst (λ x. AreLooked payloads slots (received x.taker)) (sym second) all.second;
+        third = subst (λ x. AreLooked payloads slots (received x.taker)) (sym third) all.third;
+      })
+      (looked_taken payloads slots (received t.first.taker) (received u.first.taker) o all.first taken)
+
+  pub second_takes : u.first ≡ t.first → u.third ≡ t.third → IfSome o (λ x. (received u.second.taker ≡ received t.second.taker ++ x ∷ []) × may_be_looked (received t.second.taker) x)
+      → IfSome o (λ l. IsLooked payloads slots l × AreTurns payloads slots u)
+  second_takes first third taken = both o
+      (λ a. record {
+        first = subst (λ x. AreLooked payloads slots (received x.taker)) (sym first) all.first;
+        second = a;
+        third = subst (λ x. AreLooked payloads slots (received x.taker)) (sym third) all.third;
+      })
+      (looked_taken payloads slots (received t.second.taker) (received u.second.taker) o all.second taken)
+
+  pub third_takes : u.first ≡ t.first → u.second ≡ t.second → IfSome o (λ x. (received u.third.taker ≡ received t.third.taker ++ x ∷ []) × may_be_looked (received t.third.taker) x)
+      → IfSome o (λ l. IsLooked payloads slots l × AreTurns payloads slots u)
+  third_takes first second taken = both o
+      (λ a. record {
+        first = subst (λ x. AreLooked payloads slots (received x.taker)) (sym first) all.first;
+        second = subst (λ x. AreLooked payloads slots (received x.taker)) (sym second) all.second;
+        third = a;
+      })
+      (looked_taken payloads slots (received t.third.taker) (received u.third.taker) o all.third taken)
 
 -- ---- slices that are planned
 

@@ -95,6 +95,20 @@ pub ready_leaves : (first : ℕ) (version : Version) (slots : List ℕ) (counts 
     → IfErr x (Leaves first (first + length (arc_value r.plan).txs)) → IfErr x (Leaves first (first + length txs))
 ready_leaves first version slots counts txs r x ready left = subst (λ (n : ℕ). IfErr x (Leaves first (first + n))) (ap length ready.txs_are) left
 
+-- transactions in their order, on the slots that there are
+pub run_here : (counts : List (Option ℕ)) (txs : List (Option Transaction)) (a b : LedgerValue) → b.counts ≡ a.counts ++ counts → b.receipts ≡ a.receipts ++ receipts_of a.state.version txs a.state.rows
+    → b.state ≡ rules.ledger_of a.state.version a.state.slots (state_after a.state.version txs a.state.rows) → IsLedger a.state.rows → HasRoom a.state.version (length txs) a.state.rows → HasRun counts txs a b
+run_here counts txs a b counted received after ledger room = record {
+  version = ap (λ (l : rules.Ledger). l.version) after;
+  counts_are = counted;
+  receipts = received;
+  rows = ap (λ (l : rules.Ledger). l.rows) after;
+  slots = omega (arith, ap (λ (l : rules.Ledger). length l.slots) after);
+  ran = λ few. subst (RunInSlices a.state.version txs a.state.rows (receipts_of a.state.version txs a.state.rows))
+      (sym (ap (λ (l : rules.Ledger). l.rows) after))
+      (all_alone a.state.version txs a.state.rows ledger room few);
+}
+
 -- transactions in their order, once slots are made for them
 pub run_is : (counts : List (Option ℕ)) (txs : List (Option Transaction)) (a : LedgerValue) (mid : rules.Ledger) (b : LedgerValue) → rules.IsPrepared txs a.state mid → b.counts ≡ a.counts ++ counts → b.receipts ≡ a.receipts ++ receipts_of mid.version txs mid.rows
     → b.state ≡ rules.ledger_of mid.version mid.slots (state_after mid.version txs mid.rows) → IsLedger a.state.rows → HasRoom a.state.version (length txs) a.state.rows → HasRun counts txs a b

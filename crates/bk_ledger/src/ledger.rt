@@ -3,14 +3,16 @@
 ghost use Rattle.std.specs.Prelude.{◌≡◌, [], length, map, IfOk, OnOk, slice_get};
 ghost use Rattle.bk_base.specs.Feed.{genesis_of};
 ghost use Rattle.bk_base.specs.Genesis.{AreAccounts, ids_of, total_of};
+ghost use Rattle.bk_base.specs.declared.version.Version.TheVariants.{One};
 ghost use Rattle.bk_rules.specs.Fold.{receipts_of, state_after, HasRoom};
+ghost use Rattle.bk_rules.specs.Ops.{AreOps};
 ghost use Rattle.bk_tx.specs.Batches.{count_in, payloads_of, feed_transactions};
 ghost use Rattle.bk_ledger.specs.Executing.{HasRun};
 
 use crate::batches::Batches;
 use crate::summary::Summary;
 use bk_base::{Row, Version};
-use bk_rules::{PackedReceipt, Receipt, State, run_near};
+use bk_rules::{Op, PackedReceipt, Receipt, State, run_near, run_ops};
 use bk_steps::Outcome;
 use std::alloc::{AllocError, Global};
 use std::marker::Model;
@@ -137,6 +139,29 @@ impl Ledger {
         batches.txs.clear();
         batches.counts.clear();
         batches.near.clear();
+        Ok(())
+    }
+
+    /// Executes batches that were read, in version One, by the ops of their transactions.
+    pub(crate) fn run_by_ops(
+        &mut self,
+        alloc: Global,
+        batches: &Batches,
+        ops: &[Op],
+    ) -> Result<(), AllocError>
+        requires version { self.old.state.version ≡ One }
+        requires ops { AreOps self.old.state.slots batches.now.txs.items ops.now }
+        requires room { HasRoom self.old.state.version
+            (length batches.now.txs.items) self.old.state.rows }
+        ensures ran { OnOk result
+            (HasRun batches.now.counts.items batches.now.txs.items self.old self.new) }
+        ensures slots { OnOk result (self.new.state.slots ≡ self.old.state.slots) }
+    {
+        // Its contract says that the accounts are those of a ledger.
+        let _ = self.state.version();
+        let receipts = run_ops(alloc, &mut self.state, &batches.txs, ops, &batches.near)?;
+        self.receipts.extend_from_slice(&receipts)?;
+        self.counts.extend_from_slice(&batches.counts)?;
         Ok(())
     }
 }

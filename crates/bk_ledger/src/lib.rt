@@ -12,6 +12,7 @@ mod handing;
 mod held;
 mod laws;
 mod ledger;
+mod looking;
 mod planning;
 mod reading;
 mod ready;

@@ -1,4 +1,4 @@
-//! Slices that are read, and looked up, in threads that stay until there is none more.
+//! Slices that are read and looked up in a thread that stays until there is none more.
 
 ghost use Rattle.std.specs.Prelude.{◌^◌, ◌<◌, ◌≤◌, map, length, IfOk};
 ghost use Rattle.rtrb.specs.Ring.{received, sent};
@@ -52,13 +52,12 @@ pub(crate) fn slices<'a>(
     Ok((giving, taking))
 }
 
-/// Reads all batches, a slice after another, and hands them on as long as they are taken; looked up too, where there are
-/// ids to look them up among.
+/// Reads all batches, a slice after another, looks them up, and hands them on as long as they are taken.
 pub(crate) fn read_all<'a>(
     rt: &impl Wait,
     alloc: Global,
     payloads: &'a [&'a [u8]],
-    ids: Option<&Ids>,
+    ids: &Ids,
     least: usize,
     giving: Reading<'a>,
     own: Parker,
@@ -80,11 +79,11 @@ pub(crate) fn read_all<'a>(
     Ok(())
 }
 
-/// Reads the slice that begins at an index, and looks it up, where there are ids.
+/// Reads the slice that begins at an index, and looks it up.
 pub(crate) fn read_next(
     alloc: Global,
     payloads: &[&[u8]],
-    ids: Option<&Ids>,
+    ids: &Ids,
     from: usize,
     least: usize,
 ) -> Result<Batches, AllocError>
@@ -94,36 +93,6 @@ pub(crate) fn read_next(
         b.counts.items b.txs.items) }
 {
     let read = gather(alloc, payloads, from, least)?;
-    let Some(ids) = ids else {
-        return Ok(read);
-    };
     let batches = look_up(read, ids)?;
     Ok(batches)
-}
-
-/// Looks up the slices that come, and hands them on as long as they are taken.
-pub(crate) fn look_all<'a>(
-    rt: &impl Wait,
-    ids: &Ids,
-    payloads: &'a [&'a [u8]],
-    taking: Read<'a>,
-    giving: Reading<'a>,
-    own: Parker,
-) -> Result<(), AllocError>
-    requires taken { AreHanded (map (λ p. p.now) payloads.now) 0 (received taking.taker) }
-    requires handed { AreHanded (map (λ p. p.now) payloads.now) 0 (sent giving.giver) }
-{
-    let mut taking = taking;
-    let mut giving = giving;
-    for _ in rt.forever() {
-        let Some(handed) = taking.take_next(rt, &own) else {
-            return Ok(());
-        };
-        let Handed { payloads, read } = handed;
-        let read = look_up(read, ids)?;
-        if !giving.hand_on(rt, Handed { payloads, read }, &own) {
-            return Ok(());
-        }
-    }
-    Ok(())
 }

@@ -50,7 +50,25 @@ fn said_in(payload: &[u8]) -> usize {
     }
 }
 
-/// Reads batches from an index on, until they have so many transactions or there are no more.
+/// The index after the last batch of the slice that begins at an index: with that one they say that they hold so many
+/// transactions, or there are no more. Whoever prepares some of the slices cuts the batches alike.
+pub(crate) fn end_of(payloads: &[&[u8]], from: usize, least: usize) -> usize
+    requires within { from ≤ length payloads.now }
+    ensures within { result ≤ length payloads.now }
+    ensures after { from < length payloads.now → from < result }
+    ensures not_before { from ≤ result }
+{
+    let mut said = 0usize;
+    for index in from..payloads.len() {
+        said = said.saturating_add(said_in(payloads[index]));
+        if said >= least {
+            return index + 1;
+        }
+    }
+    payloads.len()
+}
+
+/// Reads the batches of the slice that begins at an index.
 pub(crate) fn gather(
     alloc: Global,
     payloads: &[&[u8]],
@@ -63,9 +81,10 @@ pub(crate) fn gather(
         b.counts.items b.txs.items) }
 {
     let mut batches = Batches::new(alloc);
+    let end = end_of(payloads, from, least);
     // Once for all of them: a list that grows is moved each time.
     batches.txs.reserve(room_for(payloads, from, least))?;
-    for index in from..payloads.len() {
+    for index in from..end {
         batches.push(payloads[index])?;
         if batches.txs.len() >= least {
             return Ok(batches);

@@ -2,7 +2,11 @@
 use Rattle.std.specs.Prelude.{◌≡◌, ℕ, List, [], ◌∷◌, length, map}
 use Rattle.std.specs.List.{sum_by}
 use Rattle.bk_ledger.specs.declared.reading.Handed.{Handed}
+use Rattle.rtrb.specs.Ring.{received}
 use Rattle.bk_base.specs.declared.version.Version.{Version}
+use Rattle.bk_rules.specs.Ops.{AreOps}
+use Rattle.bk_ledger.specs.declared.looking.Looked.{Looked}
+use Rattle.bk_ledger.specs.declared.looking.Turns.{Turns}
 use Rattle.bk_ledger.specs.declared.planning.Planned.{Planned}
 use Rattle.bk_ledger.specs.private.Slices.{IsNextOf, IsReadOf, counts_of}
 
@@ -26,6 +30,32 @@ pub record AreHanded (payloads : List (List ℕ)) (at : ℕ) (items : List Hande
   pub split : items ≡ first ∷ rest
   pub batches : batches_of first ≡ payloads
   pub ends : end_of items ≡ at
+
+-- ---- slices that are looked up
+
+-- a slice of these batches, which begins where it says, with the ops of its transactions over these slots
+pub record IsLooked (payloads : List (List ℕ)) (slots : List ℕ) (l : Looked) : Type 0 where
+  pub read : IsReadOf payloads l.from l.read.counts.items l.read.txs.items
+  pub ops : AreOps slots l.read.txs.items l.ops.items
+
+-- what may follow: any slice of the batches that the first one names, looked up among its slots
+abbrev pub may_be_looked : List Looked → Looked → Type 0
+may_be_looked [] l = Unit {0}
+may_be_looked (first ∷ rest) l = IsLooked (map (λ p. p.now) first.payloads.now) first.ids.now l
+
+-- what was handed on are slices of these batches, looked up among these slots
+pub record AreLooked (payloads : List (List ℕ)) (slots : List ℕ) (items : List Looked) : Type 0 where
+  pub first : Looked
+  pub rest : List Looked
+  pub split : items ≡ first ∷ rest
+  pub batches : map (λ p. p.now) first.payloads.now ≡ payloads
+  pub slots_are : first.ids.now ≡ slots
+
+-- what was taken from each of three threads are such slices
+pub record AreTurns (payloads : List (List ℕ)) (slots : List ℕ) (t : Turns) : Type 0 where
+  pub first : AreLooked payloads slots (received t.first.taker)
+  pub second : AreLooked payloads slots (received t.second.taker)
+  pub third : AreLooked payloads slots (received t.third.taker)
 
 -- ---- slices that are planned
 

@@ -6,6 +6,6 @@ abbrev pub invariant-loop-index : goal.invariant-loop-index
 invariant-loop-index l = record {
   slice : IsSliceOf (map (λ p. p.now) l.payloads) l.from l.batches.counts.items l.batches.txs.items;
   at : l.from + length l.batches.counts.items ≡ l.index;
-  within : l.index ≤ length l.payloads;
+  within : l.index ≤ l.end;
   few : length l.batches.txs.items ≤ l.least;
 }

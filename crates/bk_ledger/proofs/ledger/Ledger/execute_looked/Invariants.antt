@@ -1,14 +1,14 @@
-use Rattle.std.proofs.Common.{◌≤◌, ◌-◌, length, map}
-use Rattle.rtrb.specs.Ring.{received}
-use Rattle.bk_ledger.specs.private.Handing.{AreHanded}
+use Rattle.std.proofs.Common.{◌≡◌, ◌≤◌, ◌-◌, length, map}
+use Rattle.bk_ledger.specs.private.Handing.{AreTurns}
 use Rattle.bk_ledger.specs.private.Slices.{IsOnTheWay}
-use Rattle.bk_ledger.proofs.ledger.Ledger.execute_ready.Given as goal
+use Rattle.bk_ledger.proofs.ledger.Ledger.execute_looked.Given as goal
 
 abbrev pub invariant-loop-from : goal.invariant-loop-from
 invariant-loop-from g l = record {
   within : l.from ≤ length l.payloads;
   way : IsOnTheWay (map (λ p. p.now) l.payloads) l.from l.fn.self l.ledger;
-  handed : AreHanded (map (λ p. p.now) l.payloads) l.from (received l.ready.taker);
+  slots : l.ledger.state.slots ≡ l.fn.self.state.slots;
+  turns : AreTurns (map (λ p. p.now) l.payloads) l.ids l.turns;
 }
 
 abbrev pub decreases-loop-from : goal.decreases-loop-from
