@@ -170,8 +170,8 @@ impl Ledger {
 
     /// Executes further batches, a slice at a time, with this many workers, 1 to 64.
     ///
-    /// One worker is the calling thread: it executes one transaction after another, while one or two other threads read
-    /// and look up the slices after it, and calls the gate for the places of a slice once all are done. Of two workers
+    /// One worker is the calling thread: it executes one transaction after another, while other threads read and look up
+    /// the slices after it, and calls the gate for the places of a slice once all are done. Of two workers
     /// or more, no more threads execute a slice at once than there are processors but two, on which later slices are
     /// prepared, and two at least. The calling thread is one of them, and the only one for a slice of few transactions.
     ///

@@ -1,10 +1,10 @@
 -- A payment by the indexes of its accounts is the rule.
-use Rattle.std.proofs.Common.{◌≡◌, ◌≢◌, ℕ, ◌+◌, ◌^◌, ◌<◌, Bool, true, false, cond, not, ◌&&◌, eqb, ltb, List, [], ◌∷◌, length, map, get_or, set, Option, Some, None, IsTrue, IsSomeAnd, is_some, unwrap_or, refl, sym, ap, ap₂, subst, ◌∙◌, inl, inr, arith}
+use Rattle.std.proofs.Common.{◌≡◌, ◌≢◌, ℕ, ◌+◌, ◌^◌, ◌<◌, Bool, true, false, cond, not, ◌&&◌, eqb, ltb, leb, List, [], ◌∷◌, length, map, get_or, set, Option, Some, None, IsTrue, IsSomeAnd, is_some, unwrap_or, refl, sym, ap, ap₂, subst, ◌∙◌, inl, inr, arith}
 use Rattle.std.specs.Prelude.{option_and_then}
 use Rattle.std.specs.List.{list_all}
 use Rattle.std.proofs.lemmas.Bool.{cases_lt}
 use Rattle.std.proofs.lemmas.Bool.Decides.{nat_tests}
-use Rattle.std.proofs.lemmas.List.{get_or_past}
+use Rattle.std.proofs.lemmas.List.{get_or_default, get_or_past}
 use Rattle.std.proofs.lemmas.List.Sums.{sum_by-cons}
 use Rattle.std.proofs.lemmas.Option.{slice_get-get_or}
 use Rattle.std.proofs.Math.ListN.{length-set}
@@ -24,10 +24,12 @@ use Rattle.bk_rules.specs.Rule.{Change, Guard, new_account, balance_of, seq_of, 
 use Rattle.bk_rules.specs.Rows.{IsLedger, account_at, outcome_of}
 use Rattle.bk_rules.specs.Fold.{HasRoom}
 use Rattle.bk_rules.specs.Ledger.{Ledger, ledger_of, after_of, rows_shown}
-use Rattle.bk_rules.specs.Ops.{Pays}
+use Rattle.bk_rules.specs.declared.ops.Op.{Op}
+use Rattle.bk_rules.specs.Ops.{PaysBy, IsOpOf}
 use Rattle.bk_rules.specs.private.Slots.{index_or_len, shown, shown_at, AreSlots}
 use Rattle.bk_rules.specs.private.Paying.{numbers_at, payment_status, amount_by, sent_by, numbers_after}
 use Rattle.bk_rules.proofs.Finding.{first_is}
+use Rattle.bk_rules.proofs.Places.{least_test}
 use Rattle.bk_rules.proofs.RowLemmas.{step}
 use Rattle.bk_rules.proofs.Locality.{status_by, guard_holds}
 use Rattle.bk_rules.proofs.Kept.{ledger_kept, rule_of_rows}
@@ -77,13 +79,9 @@ module _ (ids : List ℕ) (up : IsTrue (is_ascending ids)) where
 
 -- ---- the status
 
-module _ (ids : List ℕ) (old : List Account) (are : AreSlots One ids old) (from to amount seq : ℕ) (t : Transaction) (pays : Pays ids from to amount seq t) where
-  rows : List Row
-  rows = rows_shown One ids old
-
-  ledger : IsLedger (rows_shown One ids old)
-  ledger = are.ledger
-
+module _ (ids : List ℕ) (old : List Account) (are : AreSlots One ids old) (from to amount seq : ℕ) (guarded : Bool) (body : ℕ → Body) (t : Transaction) (pays : PaysBy ids from to seq body t)
+    (paid : payments_of (numbers_at old from).balance t.body ≡ record { to = get_or ids to 0; amount = amount } ∷ []) (receivers : receivers_of t.body ≡ get_or ids to 0 ∷ [])
+    (guard_known : guard_passes (λ (g : Guard). is_some (account_at (rows_shown One ids old) g.id)) t.body ≡ true) (guard_is : guard_holds (account_at (rows_shown One ids old)) t.body ≡ guarded) where
   sender_is : account_at (rows_shown One ids old) t.from ≡ Some (numbers_at old from)
   sender_is = ap (account_at (rows_shown One ids old)) pays.sender ∙ slot_at ids are.ascending old are.same from pays.from_in
 
@@ -91,26 +89,26 @@ module _ (ids : List ℕ) (old : List Account) (are : AreSlots One ids old) (fro
   receiver_is = slot_at ids are.ascending old are.same to pays.to_in
 
   payments_are : payments_on (account_at (rows_shown One ids old)) t ≡ record { to = get_or ids to 0; amount = amount } ∷ []
-  payments_are = ap (payments_of (balance_at (account_at (rows_shown One ids old)) t.from)) pays.body
+  payments_are = ap (λ (o : Option Account). payments_of (balance_of o) t.body) sender_is ∙ paid
 
   sum_is : sum_of (payments_on (account_at (rows_shown One ids old)) t) ≡ amount
   sum_is = ap sum_of payments_are ∙ (let one = sum_by-cons (λ (p : Payment). p.amount) (record { to = get_or ids to 0; amount = amount }) [] in omega arith)
 
   known : are_known One (account_at (rows_shown One ids old)) t ≡ true
   known =
-      ap (λ (b : Body). is_some (account_at (rows_shown One ids old) t.from) && list_all (λ (k : ℕ). can_receive One (account_at (rows_shown One ids old) k)) (receivers_of b) && guard_passes (λ (g : Guard). is_some (account_at (rows_shown One ids old) g.id)) b) pays.body
+      ap₂ (λ (ks : List ℕ) (b : Bool). is_some (account_at (rows_shown One ids old) t.from) && list_all (λ (k : ℕ). can_receive One (account_at (rows_shown One ids old) k)) ks && b) receivers guard_known
       ∙ ap₂ (λ (x y : Option Account). is_some x && (is_some y && true) && true) sender_is receiver_is
 
-  status_is : status_of One (account_at (rows_shown One ids old)) t ≡ payment_status amount seq (numbers_at old from)
+  status_is : status_of One (account_at (rows_shown One ids old)) t ≡ payment_status guarded amount seq (numbers_at old from)
   status_is =
-      status_from One (account_at (rows_shown One ids old)) t true _ true _ pays.declared known refl (ap (guard_holds (account_at (rows_shown One ids old))) pays.body) refl
-      ∙ ap₂ (λ (s f : Bool). status_by true true s true f)
+      status_from One (account_at (rows_shown One ids old)) t true _ guarded _ pays.declared known refl guard_is refl
+      ∙ ap₂ (λ (s f : Bool). status_by true true s guarded f)
       (ap₂ (λ (n : ℕ) (o : Option Account). eqb n (seq_of o)) pays.seq_is sender_is)
       (ap₂ (λ (o : Option Account) (n : ℕ). ltb (balance_of o) n) sender_is sum_is)
 
   -- ---- what follows
 
-  module _ (r : Receipt) (new : List Account) (ends_so : r.status ≡ payment_status amount seq (numbers_at old from)) (moved : r.moved ≡ amount_by r.status amount) (after : new ≡ numbers_after r.status from to amount old) where
+  module _ (r : Receipt) (new : List Account) (ends_so : r.status ≡ payment_status guarded amount seq (numbers_at old from)) (moved : r.moved ≡ amount_by r.status amount) (after : new ≡ numbers_after r.status from to amount old) where
     same_status : r.status ≡ status_of One (account_at (rows_shown One ids old)) t
     same_status = ends_so ∙ sym status_is
 
@@ -123,10 +121,11 @@ module _ (ids : List ℕ) (old : List Account) (are : AreSlots One ids old) (fro
     moved_is status.Guard = refl
     moved_is status.Funds = refl
 
-    accounts_by : (id : ℕ) (b d : Bool) → account_at (rows_shown One ids (numbers_after (cond (not b) status.Stale (cond d status.Funds status.Ok)) from to amount old)) id ≡ account_after (changes_of (cond (not b) status.Stale (cond d status.Funds status.Ok)) (account_at (rows_shown One ids old)) t) id (account_at (rows_shown One ids old) id)
-    accounts_by id false d = refl
-    accounts_by id true true = slot_changed ids are.ascending old are.same from pays.from_in (send t.from 0) pays.sender _ refl id
-    accounts_by id true false =
+    accounts_by : (id : ℕ) (b g d : Bool) → account_at (rows_shown One ids (numbers_after (cond (not b) status.Stale (cond (not g) status.Guard (cond d status.Funds status.Ok))) from to amount old)) id ≡ account_after (changes_of (cond (not b) status.Stale (cond (not g) status.Guard (cond d status.Funds status.Ok))) (account_at (rows_shown One ids old)) t) id (account_at (rows_shown One ids old) id)
+    accounts_by id false g d = refl
+    accounts_by id true false d = slot_changed ids are.ascending old are.same from pays.from_in (send t.from 0) pays.sender _ refl id
+    accounts_by id true true true = slot_changed ids are.ascending old are.same from pays.from_in (send t.from 0) pays.sender _ refl id
+    accounts_by id true true false =
         slot_changed ids are.ascending (sent_by from amount old) (length-set {A = Account} old from _ ∙ are.same) to pays.to_in (receive (record { to = get_or ids to 0; amount = amount })) refl _ refl id
         ∙ ap (step (receive (record { to = get_or ids to 0; amount = amount })) id) (slot_changed ids are.ascending old are.same from pays.from_in (send t.from amount) pays.sender _ refl id)
         ∙ sym (ap₂ (λ (n : ℕ) (ps : List Payment). account_after (send t.from n ∷ map receive ps) id (account_at (rows_shown One ids old) id)) sum_is payments_are)
@@ -134,7 +133,7 @@ module _ (ids : List ℕ) (old : List Account) (are : AreSlots One ids old) (fro
     accounts_are : (id : ℕ) → account_at (rows_shown One ids new) id ≡ account_after (changes_of (status_of One (account_at (rows_shown One ids old)) t) (account_at (rows_shown One ids old)) t) id (account_at (rows_shown One ids old) id)
     accounts_are id =
         ap (λ (ns : List Account). account_at (rows_shown One ids ns) id) (after ∙ ap (λ (s : Status). numbers_after s from to amount old) ends_so)
-        ∙ accounts_by id (eqb seq (numbers_at old from).seq) (ltb (numbers_at old from).balance amount)
+        ∙ accounts_by id (eqb seq (numbers_at old from).seq) guarded (ltb (numbers_at old from).balance amount)
         ∙ sym (ap (λ (s : Status). account_after (changes_of s (account_at (rows_shown One ids old)) t) id (account_at (rows_shown One ids old) id)) status_is)
 
     receipt_of : r ≡ (outcome_of One (Some t) (rows_shown One ids old)).receipt
@@ -152,7 +151,7 @@ module _ (ids : List ℕ) (old : List Account) (are : AreSlots One ids old) (fro
     length_by status.Undeclared = refl
     length_by status.Unknown = refl
     length_by status.Stale = refl
-    length_by status.Guard = refl
+    length_by status.Guard = length-set {A = Account} old from _
     length_by status.Funds = length-set {A = Account} old from _
 
     slots_are : AreSlots One ids new
@@ -187,9 +186,9 @@ module _ (ids : List ℕ) (old : List Account) (are : AreSlots One ids old) wher
 -- ---- the same of a state, in the words of its contracts
 
 -- the transaction of a payment
-paying : (ids : List ℕ) (from to amount seq : ℕ) (tx : Option Transaction) → IsSomeAnd tx (Pays ids from to amount seq) → (t : Transaction) × (tx ≡ Some t) × Pays ids from to amount seq t
-paying ids from to amount seq None pays = absurd pays
-paying ids from to amount seq (Some t) pays = (t, refl, pays)
+paying : (ids : List ℕ) (from to seq : ℕ) (body : ℕ → Body) (tx : Option Transaction) → IsSomeAnd tx (PaysBy ids from to seq body) → (t : Transaction) × (tx ≡ Some t) × PaysBy ids from to seq body t
+paying ids from to seq body None pays = absurd pays
+paying ids from to seq body (Some t) pays = (t, refl, pays)
 
 module _ (l : Ledger) (v : Version) (ids : List ℕ) (old : List Account) (are : AreSlots v ids old) (is : shown v ids old ≡ l) (one : l.version ≡ One) where
   first : v ≡ One
@@ -204,26 +203,61 @@ module _ (l : Ledger) (v : Version) (ids : List ℕ) (old : List Account) (are :
   pub small_at : (k : ℕ) → (numbers_at old k).balance < 2 ^ 63
   small_at k = small_of ids old are_one k
 
-  module _ (tx : Option Transaction) (from to amount seq : ℕ) (pays : IsSomeAnd tx (Pays l.slots from to amount seq)) where
-    pays_here : (t : Transaction) × (tx ≡ Some t) × Pays ids from to amount seq t
-    pays_here = paying ids from to amount seq tx (subst (λ (x : Ledger). IsSomeAnd tx (Pays x.slots from to amount seq)) (sym is) pays)
+  module _ (tx : Option Transaction) (from to seq : ℕ) (body : ℕ → Body) (pays : IsSomeAnd tx (PaysBy ids from to seq body)) where
+    pays_here : (t : Transaction) × (tx ≡ Some t) × PaysBy ids from to seq body t
+    pays_here = paying ids from to seq body tx pays
+
+    pub low_at : from < length ids
+    low_at = let here = pays_here.2 in here.from_in
 
     pub room_at : HasRoom l.version 1 l.rows → (numbers_at old from).seq + 1 < 2 ^ 64
     room_at room =
         let here = pays_here.2 in
         room_of ids old are_one (subst (λ (x : Ledger). HasRoom x.version 1 x.rows) (sym is_one) room) from here.from_in
 
-    module _ (r : Receipt) (new : List Account) (ends_so : r.status ≡ payment_status amount seq (numbers_at old from)) (moved : r.moved ≡ amount_by r.status amount) (after : new ≡ numbers_after r.status from to amount old) where
+    module _ (amount : ℕ) (guarded : Bool) (paid : payments_of (numbers_at old from).balance (body (get_or ids to 0)) ≡ record { to = get_or ids to 0; amount = amount } ∷ []) (receivers : receivers_of (body (get_or ids to 0)) ≡ get_or ids to 0 ∷ [])
+        (guard_known : guard_passes (λ (g : Guard). is_some (account_at (rows_shown One ids old) g.id)) (body (get_or ids to 0)) ≡ true) (guard_is : guard_holds (account_at (rows_shown One ids old)) (body (get_or ids to 0)) ≡ guarded)
+        (r : Receipt) (new : List Account) (ends_so : r.status ≡ payment_status guarded amount seq (numbers_at old from)) (moved : r.moved ≡ amount_by r.status amount) (after : new ≡ numbers_after r.status from to amount old) where
+      body_is : pays_here.0.body ≡ body (get_or ids to 0)
+      body_is = let here = pays_here.2 in here.body_is
+
+      paid_so : payments_of (numbers_at old from).balance pays_here.0.body ≡ record { to = get_or ids to 0; amount = amount } ∷ []
+      paid_so = ap (payments_of (numbers_at old from).balance) body_is ∙ paid
+
+      receivers_so : receivers_of pays_here.0.body ≡ get_or ids to 0 ∷ []
+      receivers_so = ap receivers_of body_is ∙ receivers
+
+      known_so : guard_passes (λ (g : Guard). is_some (account_at (rows_shown One ids old) g.id)) pays_here.0.body ≡ true
+      known_so = ap (guard_passes (λ (g : Guard). is_some (account_at (rows_shown One ids old) g.id))) body_is ∙ guard_known
+
+      guard_so : guard_holds (account_at (rows_shown One ids old)) pays_here.0.body ≡ guarded
+      guard_so = ap (guard_holds (account_at (rows_shown One ids old))) body_is ∙ guard_is
+
       pub op_slots : AreSlots v ids new
-      op_slots = subst (λ (w : Version). AreSlots w ids new) (sym first) (slots_are ids old are_one from to amount seq pays_here.0 pays_here.2 r new ends_so moved after)
+      op_slots = subst (λ (w : Version). AreSlots w ids new) (sym first) (slots_are ids old are_one from to amount seq guarded body pays_here.0 pays_here.2 paid_so receivers_so known_so guard_so r new ends_so moved after)
 
       pub op_receipt : r ≡ (outcome_of l.version tx l.rows).receipt
       op_receipt =
-          receipt_of ids old are_one from to amount seq pays_here.0 pays_here.2 r new ends_so moved after
+          receipt_of ids old are_one from to amount seq guarded body pays_here.0 pays_here.2 paid_so receivers_so known_so guard_so r new ends_so moved after
           ∙ ap₂ (λ (x : Ledger) (o : Option Transaction). (outcome_of x.version o x.rows).receipt) is_one (sym pays_here.1)
 
       pub op_after : shown v ids new ≡ after_of l tx
       op_after =
           ap (λ (w : Version). shown w ids new) first
-          ∙ ap (ledger_of One ids) (rows_are ids old are_one from to amount seq pays_here.0 pays_here.2 r new ends_so moved after)
+          ∙ ap (ledger_of One ids) (rows_are ids old are_one from to amount seq guarded body pays_here.0 pays_here.2 paid_so receivers_so known_so guard_so r new ends_so moved after)
           ∙ ap₂ after_of is_one (sym pays_here.1)
+
+  -- the op, over the ids
+  pub op_here : (tx : Option Transaction) (o p : Op) → o ≡ p → IsOpOf l.slots tx o → IsOpOf ids tx p
+  op_here tx o p same says = subst (λ (x : Ledger). IsOpOf x.slots tx p) (sym is) (subst (λ (q : Op). IsOpOf l.slots tx q) same says)
+
+  -- numbers that were read at an index
+  pub read_there : (k : ℕ) → k < length ids → (a : Account) → a ≡ get_or old k a → a ≡ numbers_at old k
+  read_there k low a read = read ∙ get_or_default old k a new_account (let same = are.same in omega arith)
+
+  -- the guard at an index
+  pub guard_there : (k : ℕ) → k < length ids → is_some (account_at (rows_shown One ids old) (get_or ids k 0)) ≡ true
+  guard_there k low = ap (λ (o : Option Account). is_some o) (slot_at ids are_one.ascending old are_one.same k low)
+
+  pub guard_tests : (k least : ℕ) → k < length ids → not (ltb (balance_at (account_at (rows_shown One ids old)) (get_or ids k 0)) least) ≡ leb least (numbers_at old k).balance
+  guard_tests k least low = ap (λ (o : Option Account). not (ltb (balance_of o) least)) (slot_at ids are_one.ascending old are_one.same k low) ∙ least_test least (numbers_at old k).balance

@@ -16,14 +16,23 @@ use crate::state::State;
 use bk_tx::Tx;
 use std::alloc::{AllocError, Global};
 
-// Pays an amount from the account at an index to that at another, if the sender is at this sequence number and has it.
+// Pays an amount from the account at an index to that at another, if the sender is at this sequence number, the guard has
+// enough and the sender has the amount.
 #[inline(always)]
-fn pay_in(numbers: &mut Vec<Account>, from: usize, to: usize, amount: u64, seq: u64) -> Receipt
+fn pay_in(
+    numbers: &mut Vec<Account>,
+    from: usize,
+    to: usize,
+    amount: u64,
+    seq: u64,
+    guarded: bool,
+) -> Receipt
     requires from { from < length numbers.old.items }
     requires to { to < length numbers.old.items }
     requires small { (k : ℕ) → (numbers_at numbers.old.items k).balance < 2 ^ 63 }
     requires room { (numbers_at numbers.old.items from).seq + 1 < 2 ^ 64 }
-    ensures status { result.status ≡ payment_status amount seq (numbers_at numbers.old.items from) }
+    ensures status { result.status
+        ≡ payment_status guarded amount seq (numbers_at numbers.old.items from) }
     ensures moved { result.moved ≡ amount_by result.status amount }
     ensures after { numbers.new.items
         ≡ numbers_after result.status from to amount numbers.old.items }
@@ -32,16 +41,21 @@ fn pay_in(numbers: &mut Vec<Account>, from: usize, to: usize, amount: u64, seq: 
     if seq != sender.seq {
         return unmoved(Status::Stale);
     }
+    let counted = Account {
+        balance: sender.balance,
+        seq: sender.seq + 1,
+    };
+    if !guarded {
+        numbers[from] = counted;
+        return unmoved(Status::Guard);
+    }
     if sender.balance < amount {
-        numbers[from] = Account {
-            balance: sender.balance,
-            seq: sender.seq + 1,
-        };
+        numbers[from] = counted;
         return unmoved(Status::Funds);
     }
     numbers[from] = Account {
         balance: sender.balance - amount,
-        seq: sender.seq + 1,
+        seq: counted.seq,
     };
     let receiver = numbers[to];
     numbers[to] = Account {
@@ -70,7 +84,48 @@ impl State {
                 to,
                 amount,
                 seq,
-            } => pay_in(&mut self.numbers, from as usize, to as usize, amount, seq),
+            } => pay_in(
+                &mut self.numbers,
+                from as usize,
+                to as usize,
+                amount,
+                seq,
+                true,
+            ),
+            Op::PayIf {
+                from,
+                to,
+                guard,
+                amount,
+                least,
+                seq,
+            } => {
+                let guarded = least <= self.numbers[guard as usize].balance;
+                pay_in(
+                    &mut self.numbers,
+                    from as usize,
+                    to as usize,
+                    amount,
+                    seq,
+                    guarded,
+                )
+            }
+            Op::Sweep {
+                from,
+                to,
+                keep,
+                seq,
+            } => {
+                let amount = self.numbers[from as usize].balance.saturating_sub(keep);
+                pay_in(
+                    &mut self.numbers,
+                    from as usize,
+                    to as usize,
+                    amount,
+                    seq,
+                    true,
+                )
+            }
             Op::Other { at } => self.apply_near(tx.as_ref(), near_from(near, at)),
         }
     }
@@ -101,21 +156,35 @@ pub fn run_ops(
     let mut kept = Vec::with_capacity(alloc, 1)?;
     for i in 0..txs.len() {
         if i % BLOCK == 0 {
-            load_rows(&mut kept, state, &ops[i..]);
+            load_rows(&mut kept, state, &ops[i..], known);
         }
         receipts.push(PackedReceipt::of(state.apply_op(&txs[i], ops[i], known)))?;
     }
     Ok(receipts)
 }
 
-// Loads the rows of the payments of a block, and keeps their sum, as `look_up` does.
-fn load_rows(kept: &mut Vec<u32>, state: &State, ops: &[Op]) {
+// Loads the rows of a block, and keeps their sum, as `look_up` does. Of a transaction that is to be read it takes those at
+// the next four of the likely indexes, most of which are its own.
+fn load_rows(kept: &mut Vec<u32>, state: &State, ops: &[Op], known: &[u32]) {
     let numbers = state.numbers();
     let mut sum = 0u32;
     for op in ops.iter().take(BLOCK) {
-        if let Op::Pay { from, to, .. } = op {
-            sum = sum.wrapping_add(sum_of_seqs(numbers, &[*from, *to]));
-        }
+        let some = match op {
+            Op::Pay { from, to, .. } | Op::Sweep { from, to, .. } => {
+                sum_of_seqs(numbers, &[*from, *to])
+            }
+            Op::PayIf {
+                from,
+                to,
+                guard,
+                ..
+            } => sum_of_seqs(numbers, &[*from, *to, *guard]),
+            Op::Other { at } => match known.get(*at..at.saturating_add(4)) {
+                Some(some) => sum_of_seqs(numbers, some),
+                None => 0,
+            },
+        };
+        sum = sum.wrapping_add(some);
     }
     kept.clear();
     let _ = kept.push(sum);

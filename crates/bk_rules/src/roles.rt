@@ -84,7 +84,7 @@ pub(crate) fn writable_at(declared: &Declarations, id: u64) -> Option<usize>
 
 // The index of an account that is declared.
 #[inline(always)]
-fn declared_at(declared: &Declarations, id: u64) -> Option<usize>
+pub(crate) fn declared_at(declared: &Declarations, id: u64) -> Option<usize>
     ensures first { result ≡ position (λ d. d.id == id) declared.now }
     ensures found { IfSome result (IsAt declared.now id) }
 {
