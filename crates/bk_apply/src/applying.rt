@@ -12,7 +12,6 @@ use bk_ledger::{Ledger, Summary};
 use bk_report::{Line, Page, put_accounts, put_batches, put_receipts};
 use bk_results::Fault;
 use std::alloc::Global;
-use std::sync::Wait;
 use std::thread::Threads;
 
 /// Writes the report of a feed, a page at a time.
@@ -39,11 +38,11 @@ pub(crate) fn write_report<K: Sink>(
     page.flush(sink)
 }
 
-/// Reads a feed, executes its batches in feed order and writes the apply report. While some batches are executed, other
-/// threads read and look up the next.
+/// Reads a feed, executes its batches in feed order and writes the apply report. While some batches are executed, one other
+/// thread reads the next.
 ///
 /// A fault of the feed is that of [`bk_frames::Feed::read`]. With every fault but `Write` nothing is written.
-pub fn apply<R: Threads + Wait + Sync, S: Source, K: Sink>(
+pub fn apply<R: Threads + Sync, S: Source, K: Sink>(
     rt: &R,
     alloc: Global,
     source: &mut S,

@@ -7,7 +7,6 @@ use bk_frames::{Counted, FaultCode, FeedFault, Sink, Source};
 use bk_replay::{Fault, apply};
 use bk_trial_kit::{Device, Reader, Writer, ends_of};
 use std::alloc::Global;
-use std::sync::Wait;
 use std::thread::Threads;
 
 // How many bytes a call reads at most.
@@ -47,7 +46,7 @@ impl Applied {
     }
 }
 
-fn apply_with<R: AllocGlobal + Threads + Wait + Sync>(
+fn apply_with<R: AllocGlobal + Threads + Sync>(
     rt: &R,
     feed: &[u8],
     reader: Device,
@@ -66,7 +65,7 @@ fn apply_with<R: AllocGlobal + Threads + Wait + Sync>(
 }
 
 // Whether no call fails that comes after these.
-fn is_whole_after<R: AllocGlobal + Threads + Wait + Sync>(
+fn is_whole_after<R: AllocGlobal + Threads + Sync>(
     rt: &R,
     feed: &[u8],
     reads: usize,
@@ -78,7 +77,7 @@ fn is_whole_after<R: AllocGlobal + Threads + Wait + Sync>(
     found.is_whole(report)
 }
 
-fn is_unread_after<R: AllocGlobal + Threads + Wait + Sync>(
+fn is_unread_after<R: AllocGlobal + Threads + Sync>(
     rt: &R,
     feed: &[u8],
     reads: usize,
@@ -89,7 +88,7 @@ fn is_unread_after<R: AllocGlobal + Threads + Wait + Sync>(
     found.is_unread(begin)
 }
 
-fn is_begun_after<R: AllocGlobal + Threads + Wait + Sync>(
+fn is_begun_after<R: AllocGlobal + Threads + Sync>(
     rt: &R,
     feed: &[u8],
     writes: usize,
@@ -101,7 +100,7 @@ fn is_begun_after<R: AllocGlobal + Threads + Wait + Sync>(
 }
 
 // Whether each of these reads fails well.
-fn reads_fail<R: AllocGlobal + Threads + Wait + Sync>(
+fn reads_fail<R: AllocGlobal + Threads + Sync>(
     rt: &R,
     feed: &[u8],
     ends: &[usize],
@@ -116,7 +115,7 @@ fn reads_fail<R: AllocGlobal + Threads + Wait + Sync>(
     true
 }
 
-fn writes_fail<R: AllocGlobal + Threads + Wait + Sync>(rt: &R, feed: &[u8], report: &[u8]) -> bool {
+fn writes_fail<R: AllocGlobal + Threads + Sync>(rt: &R, feed: &[u8], report: &[u8]) -> bool {
     for write in 0..report.len() {
         if !is_begun_after(rt, feed, write, report) {
             return false;
@@ -128,7 +127,7 @@ fn writes_fail<R: AllocGlobal + Threads + Wait + Sync>(rt: &R, feed: &[u8], repo
 /// Whether each read and each write of a report that fails once is the fault of `apply`, and the first bytes are out.
 pub(crate) fn is_applied_well<R>(rt: &R, feed: &[u8], report: &[u8]) -> Result<bool>
 where
-    R: AllocGlobal + Threads + Wait + Sync,
+    R: AllocGlobal + Threads + Sync,
 {
     let ends = ends_of(rt.alloc(), feed)?;
     // The read that finds the end comes last.

@@ -73,7 +73,7 @@ where
 /// The report of the batches of a feed executed one transaction at a time, in the order of the feed.
 pub(crate) fn applied<R>(rt: &R, feed: &[u8]) -> Result<Vec<u8>>
 where
-    R: AllocGlobal + Threads + Wait + Sync,
+    R: AllocGlobal + Threads + Sync,
 {
     let alloc: Global = rt.alloc();
     let mut sink = Counted::new(Vec::new(alloc));

@@ -135,7 +135,7 @@ fn answer_of_frames<R, S1: Source, S2: Source, O: Sink>(
     out: &mut O,
 ) -> Result<JobEnd, JobFault>
 where
-    R: Threads + Wait + Sync + AllocGlobal,
+    R: Threads + Sync + AllocGlobal,
     requires group { reads_frames job.now ≡ true }
     requires first { CanBeUsed (S1.state first.old) }
     requires second { reads_second job.now ≡ true → CanBeUsed (S2.state second.old) }

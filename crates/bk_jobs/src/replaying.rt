@@ -83,7 +83,7 @@ where
 }
 
 /// Writes the apply report.
-pub(crate) fn apply_all<R: AllocGlobal + Threads + Wait + Sync, S: Source, O: Sink>(
+pub(crate) fn apply_all<R: AllocGlobal + Threads + Sync, S: Source, O: Sink>(
     rt: &R,
     source: &mut S,
     out: &mut O,

@@ -8,20 +8,18 @@ ghost use Rattle.bk_ledger.specs.Executing.{Leaves};
 
 use crate::ledger::Ledger;
 use crate::slice::FEWEST;
-use bk_base::Kind;
+use bk_base::{Kind, Version};
 use bk_frames::Feed;
 use bk_pool::{ExecFault, Gate, Open};
+use bk_rules::Ids;
 use std::alloc::{AllocError, Global};
 use std::sync::Wait;
 use std::thread::Threads;
 
 impl Ledger {
-    /// Executes the batches of a feed, in feed order, on its opening accounts: by one worker, as `execute` does.
-    pub fn of<R: Threads + Wait + Sync>(
-        rt: &R,
-        alloc: Global,
-        feed: &Feed,
-    ) -> Result<Ledger, AllocError>
+    /// Executes the batches of a feed, in feed order, on its opening accounts: a slice of them after another in the calling
+    /// thread, while one other thread reads the slice after it and, in version One, looks its accounts up.
+    pub fn of<R: Threads + Sync>(rt: &R, alloc: Global, feed: &Feed) -> Result<Ledger, AllocError>
         ensures counts { IfOk result (λ l. l.counts
             ≡ map count_in (payloads_of feed.now.frames)) }
         ensures receipts { IfOk result (λ l. l.receipts
@@ -31,8 +29,17 @@ impl Ledger {
     {
         let payloads = batches_in(alloc, feed)?;
         let ledger = Ledger::new(alloc, feed.version(), feed.genesis())?;
-        let ledger = ledger.execute_in_turn(rt, alloc, &payloads, FEWEST, &Open)?;
+        let ids = ledger.lasting_ids(alloc)?;
+        let ledger = ledger.execute_read(rt, alloc, &payloads, &ids, FEWEST, &Open)?;
         Ok(ledger)
+    }
+
+    // The ids that have a slot, where batches add none.
+    fn lasting_ids(&self, alloc: Global) -> Result<Option<Ids>, AllocError> {
+        match self.state.version() {
+            Version::One => Ok(Some(self.state.ids().share(alloc)?)),
+            Version::Two => Ok(None),
+        }
     }
 
     /// What `of` gives, by this many workers, 1 to 64, in slices of whole batches with at least so many transactions

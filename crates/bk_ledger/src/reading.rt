@@ -1,4 +1,4 @@
-//! Slices that are read and looked up in a thread that stays until there is none more.
+//! Slices that are read, and looked up, in threads that stay until there is none more.
 
 ghost use Rattle.std.specs.Prelude.{◌^◌, ◌<◌, ◌≤◌, map, length, IfOk};
 ghost use Rattle.rtrb.specs.Ring.{received, sent};
@@ -52,12 +52,13 @@ pub(crate) fn slices<'a>(
     Ok((giving, taking))
 }
 
-/// Reads all batches, a slice after another, looks them up, and hands them on as long as they are taken.
+/// Reads all batches, a slice after another, and hands them on as long as they are taken; looked up too, where there are
+/// ids to look them up among.
 pub(crate) fn read_all<'a>(
     rt: &impl Wait,
     alloc: Global,
     payloads: &'a [&'a [u8]],
-    ids: &Ids,
+    ids: Option<&Ids>,
     least: usize,
     giving: Reading<'a>,
     own: Parker,
@@ -79,11 +80,11 @@ pub(crate) fn read_all<'a>(
     Ok(())
 }
 
-/// Reads the slice that begins at an index, and looks it up.
+/// Reads the slice that begins at an index, and looks it up, where there are ids.
 pub(crate) fn read_next(
     alloc: Global,
     payloads: &[&[u8]],
-    ids: &Ids,
+    ids: Option<&Ids>,
     from: usize,
     least: usize,
 ) -> Result<Batches, AllocError>
@@ -93,6 +94,9 @@ pub(crate) fn read_next(
         b.counts.items b.txs.items) }
 {
     let read = gather(alloc, payloads, from, least)?;
+    let Some(ids) = ids else {
+        return Ok(read);
+    };
     let batches = look_up(read, ids)?;
     Ok(batches)
 }

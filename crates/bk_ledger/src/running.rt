@@ -124,7 +124,7 @@ impl Ledger {
         let mut ledger = self;
         let mut from = 0usize;
         while from < payloads.len() {
-            let read = read_next(alloc, payloads, ids, from, least)?;
+            let read = read_next(alloc, payloads, Some(ids), from, least)?;
             let next = plan_ahead(alloc, &mut planner, read, version, ids)?;
             if !next.is_plannable(ledger.state()) {
                 return Ok((ledger, from));
@@ -189,7 +189,7 @@ impl Ledger {
                         requires { IsSync R.row
                             × AreHanded (map (λ p. p.now) payloads.now) 0 (sent read.giver)
                             × (length payloads.now < 2 ^ 64) × (fewest < 2 ^ 30) }
-                    { read_all(rt, alloc, payloads, ids, fewest, read, reading) },
+                    { read_all(rt, alloc, payloads, Some(ids), fewest, read, reading) },
                 );
                 let planner = threads.spawn(
                     || -> Result<(), AllocError>

@@ -19,7 +19,8 @@ ghost use Rattle.bk_ledger.specs.private.Slices.{IsReadOf};
 use crate::batches::Batches;
 use crate::ledger::Ledger;
 use crate::looking::{Looked, Turns, after, look_all, look_next, looks};
-use crate::slice::{are_few, end_of, gather, least_of};
+use crate::reading::read_next;
+use crate::slice::{are_few, end_of, least_of};
 use bk_base::Version;
 use bk_pool::Gate;
 use bk_rules::{Ids, Op};
@@ -97,7 +98,7 @@ impl Ledger {
                 self.execute_alone(alloc, payloads, &ids, fewest, gate)
             }
             Version::One => self.execute_handed(rt, alloc, payloads, fewest.min(TURN), gate),
-            Version::Two => self.execute_read(rt, alloc, payloads, fewest, gate),
+            Version::Two => self.execute_read(rt, alloc, payloads, &None, fewest, gate),
         }
     }
 
@@ -266,12 +267,13 @@ impl Ledger {
         Ok(ledger)
     }
 
-    // The same, while the slice after each is read.
-    fn execute_read<R: Threads + Sync, G: Gate + Sync>(
+    /// Executes further batches, while the slice after each is read, and looked up where there are ids to look it up among.
+    pub(crate) fn execute_read<R: Threads + Sync, G: Gate + Sync>(
         self,
         rt: &R,
         alloc: Global,
         payloads: &[&[u8]],
+        ids: &Option<Ids>,
         fewest: usize,
         gate: &G,
     ) -> Result<Ledger, AllocError>
@@ -283,10 +285,12 @@ impl Ledger {
         let mut ledger = self;
         let mut from = 0usize;
         let least = ledger.worth_a_turn(fewest);
-        let mut next = gather(alloc, payloads, 0, least)?;
+        let mut next = read_next(alloc, payloads, ids.as_ref(), 0, least)?;
         while from < payloads.len() {
             let later = from + next.counts.len();
-            let (after, read) = ledger.run_turn(rt, alloc, payloads, next, later, fewest, gate)?;
+            let (after, read) = ledger.run_turn(
+                rt, alloc, payloads, ids, next, later, fewest, gate,
+            )?;
             ledger = after;
             next = read;
             from = later;
@@ -312,6 +316,7 @@ impl Ledger {
         rt: &R,
         alloc: Global,
         payloads: &[&[u8]],
+        ids: &Option<Ids>,
         next: Batches,
         from: usize,
         fewest: usize,
@@ -337,7 +342,7 @@ impl Ledger {
                 requires { (least < 2 ^ 30) × (from ≤ length payloads.now) }
                 ensures { IfOk result (λ b. IsReadOf (map (λ p. p.now) payloads.entry.now) from
                     b.counts.items b.txs.items) }
-            { gather(alloc, payloads, from, least) },
+            { read_next(alloc, payloads, ids.as_ref(), from, least) },
             || -> Result<Ledger, AllocError>
                 requires { IsSync G.row
                     × HasRoom self.state.version (length next.txs.items) self.state.rows

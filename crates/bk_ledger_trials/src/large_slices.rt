@@ -254,7 +254,7 @@ where
 // What the batches of a feed give one at a time.
 fn summed<R>(rt: &R, feed: &Feed) -> Result<Summary>
 where
-    R: AllocGlobal + Threads + Wait + Sync,
+    R: AllocGlobal + Threads + Sync,
 {
     let alloc: Global = rt.alloc();
     Ok(Ledger::of(rt, alloc, feed)?.summary(alloc)?)

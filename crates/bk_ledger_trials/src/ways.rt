@@ -57,7 +57,7 @@ fn is_in_slices<R: Threads + Wait + Sync>(
 }
 
 // One at a time, and the digest of what that leaves.
-fn is_in_order<R: Threads + Wait + Sync>(
+fn is_in_order<R: Threads + Sync>(
     rt: &R,
     alloc: Global,
     feed: &Feed,
