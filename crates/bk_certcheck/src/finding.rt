@@ -162,8 +162,10 @@ fn put_together(
     Ok(out)
 }
 
-/// What is found of each frame of a part.
-pub(crate) fn find_part(
+/// What is found of each frame, in their order, on the calling thread: the certificates are judged together, and the
+/// batches are hashed together. Certificates are judged by this committee. It fails only where memory runs out. O(n) in
+/// all bytes together.
+pub fn find_each(
     alloc: Global,
     committee: &Committee,
     frames: &[(Kind, Vec<u8>)],

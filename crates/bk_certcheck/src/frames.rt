@@ -5,7 +5,7 @@ ghost use Rattle.std.specs.List.{AllZip};
 ghost use Rattle.bk_frames.specs.Cutting.{frames_in};
 ghost use Rattle.bk_certcheck.specs.Frames.{IsFound};
 
-use crate::finding::{Found, find_part};
+use crate::finding::{Found, find_each};
 use crate::joining::joined;
 use crate::parts::{bytes_in, is_worth, parts_of};
 use bk_base::Kind;
@@ -41,7 +41,7 @@ fn find_parts(
             |part: &&[(Kind, Vec<u8>)]| -> Result<Vec<Found>, AllocError>
                 ensures { IfOk result (λ out. AllZip (IsFound committee.entry.now)
                     (frames_in part.now.now) out.items) }
-            { find_part(alloc, committee, *part) },
+            { find_each(alloc, committee, *part) },
         )
         .collect::<Result<Vec<Vec<Found>>, AllocError>>(rt, alloc)?;
     found
@@ -60,7 +60,7 @@ pub fn find_all(
 {
     // To ask how many processors there are costs more than few frames do.
     if !is_worth(frames) {
-        return find_part(alloc, committee, frames);
+        return find_each(alloc, committee, frames);
     }
     let parts = parts_of(alloc, frames, part_len(rt, frames))?;
     let found = find_parts(rt, alloc, committee, &parts)?;

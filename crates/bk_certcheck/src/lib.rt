@@ -22,7 +22,7 @@ mod verdict;
 pub use all::check_all;
 pub use checking::check;
 pub use each::check_each;
-pub use finding::Found;
+pub use finding::{Found, find_each};
 pub use frames::find_all;
 pub use laws::one_verdict;
 pub use rule::{MOST_ROUND, Rule};

@@ -5,7 +5,7 @@ use Rattle.bk_certcheck.specs.Verdicts.{IsVerdict}
 use Rattle.bk_certcheck.specs.Frames.{certificates_in, batches_in}
 use Rattle.bk_certcheck.proofs.Zips.{zip_length}
 use Rattle.bk_certcheck.proofs.FoundOf.{part_verdicts, part_digests}
-use Rattle.bk_certcheck.proofs.finding.find_part.Goals as goal
+use Rattle.bk_certcheck.proofs.finding.find_each.Goals as goal
 
 pub put_together-requires-clause-verdicts : goal.put_together-requires-clause-verdicts
 put_together-requires-clause-verdicts c =
