@@ -3,6 +3,7 @@ pub mod Tally
 pub mod Stops
 pub mod Orders
 pub mod Intake
+pub mod Ahead
 pub mod Laws
 pub mod Agreement
 pub mod private

@@ -3,3 +3,5 @@ pub mod Judging
 pub mod Joined
 pub mod Tallies
 pub mod Lesser
+pub mod Ahead
+pub mod Works

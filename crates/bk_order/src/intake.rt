@@ -11,11 +11,12 @@ ghost use Rattle.bk_order.specs.Intake.{HasAsOrder, HasTaken, IsKeptOf, nothing_
 ghost use Rattle.bk_order.specs.declared.settling.Settled.{Settled};
 ghost use Rattle.bk_order.specs.private.Joined.{GoesOn, IsJoined, IsSettled, kept_in};
 
+use crate::ahead::JudgedFrames;
 use crate::reject::Reject;
 use crate::settling::{Settled, settle, unsettled};
 use crate::stop::{Stop, stop_of, stop_of_both};
 use crate::table::{Table, empty_table};
-use crate::taking::take_all;
+use crate::taking::{keep_judged, take_all};
 use crate::tally::Tally;
 use bk_base::Kind;
 use bk_cert::CertRef;
@@ -114,6 +115,32 @@ impl Intake {
         }
         self.current = false;
         match take_all(rt, self.alloc, &self.committee, &mut self.table, frames) {
+            Ok(()) => Ok(()),
+            Err(error) => {
+                self.failed = true;
+                Err(error)
+            }
+        }
+    }
+
+    /// Takes the next frames, once they were judged by this committee: the same as `take`.
+    ///
+    /// An `Err` comes only where memory runs out, in this call or in an earlier one.
+    pub fn take_judged(&mut self, judged: JudgedFrames) -> Result<(), AllocError>
+        requires mine { judged.committee ≡ self.old.committee }
+        requires room { self.old.kept.next + length judged.frames < 2 ^ 64 }
+        ensures taken { OnOk result ((before : List Frame) → HasTaken before self.old
+            → HasTaken (before ++ judged.frames) self.new) }
+        ensures committee { self.new.committee ≡ self.old.committee }
+        ensures order { OnOk result (self.new.ordered ≡ self.old.ordered) }
+        ensures open { OnOk result ((self.old.failed ≡ false) × (self.new.failed ≡ false)) }
+        ensures failed { OnErr result (self.new.failed ≡ true) }
+    {
+        if self.failed {
+            return Err(AllocError);
+        }
+        self.current = false;
+        match keep_judged(self.alloc, &self.committee, &mut self.table, judged) {
             Ok(()) => Ok(()),
             Err(error) => {
                 self.failed = true;

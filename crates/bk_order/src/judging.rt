@@ -12,7 +12,7 @@ ghost use Rattle.bk_order.specs.private.Judging.{IsJudged};
 
 use bk_base::Kind;
 use bk_cert::{CertView, id_of_bytes};
-use bk_certcheck::{Checked, Found, Rule, Verdict, find_all};
+use bk_certcheck::{Checked, Found, Rule, Verdict, find_all, find_each};
 use bk_committee::Committee;
 use bk_digest::Digest32;
 use std::alloc::{AllocError, Global};
@@ -61,6 +61,29 @@ fn with_payload(found: Found, payload: Vec<u8>) -> Judged
     }
 }
 
+// The frames with their payloads, as they were found to be.
+fn with_payloads(
+    alloc: Global,
+    found: Vec<Found>,
+    frames: Vec<(Kind, Vec<u8>)>,
+) -> Result<Vec<Judged>, AllocError>
+    requires found { (k : CommitteeValue)
+        × AllZip (IsFound k) (frames_in frames.items) found.items }
+    ensures { IfOk result (λ out. (k : CommitteeValue)
+        → AllZip (IsFound k) (frames_in frames.items) found.items
+        → AllZip (IsJudged k) (frames_in frames.items) out.items) }
+{
+    let mut left = found.into_iter();
+    let mut out = Vec::with_capacity(alloc, frames.len())?;
+    for frame in frames {
+        let Some(one) = left.next() else {
+            unreachable!();
+        };
+        out.push(with_payload(one, frame.1))?;
+    }
+    Ok(out)
+}
+
 /// What each frame is found to be, on as many threads as there are processors.
 pub(crate) fn judge_all(
     rt: &(impl Threads + Sync),
@@ -72,13 +95,18 @@ pub(crate) fn judge_all(
         (λ out. AllZip (IsJudged committee.now) (frames_in frames.items) out.items) }
 {
     let found = find_all(rt, alloc, committee, &frames)?;
-    let mut left = found.into_iter();
-    let mut out = Vec::with_capacity(alloc, frames.len())?;
-    for frame in frames {
-        let Some(one) = left.next() else {
-            unreachable!();
-        };
-        out.push(with_payload(one, frame.1))?;
-    }
-    Ok(out)
+    with_payloads(alloc, found, frames)
+}
+
+/// The same on the calling thread.
+pub(crate) fn judge_each(
+    alloc: Global,
+    committee: &Committee,
+    frames: Vec<(Kind, Vec<u8>)>,
+) -> Result<Vec<Judged>, AllocError>
+    ensures { IfOk result
+        (λ out. AllZip (IsJudged committee.now) (frames_in frames.items) out.items) }
+{
+    let found = find_each(alloc, committee, &frames)?;
+    with_payloads(alloc, found, frames)
 }

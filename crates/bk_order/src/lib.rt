@@ -6,6 +6,7 @@
 //! set: their order counts for nothing but the numbers of the rejected.
 #![tactic(auto)]
 
+mod ahead;
 mod intake;
 mod judging;
 mod laws;
@@ -16,6 +17,7 @@ mod table;
 mod taking;
 mod tally;
 
+pub use ahead::{Ahead, JudgedFrames};
 pub use intake::Intake;
 pub use laws::{
     frames_are_a_set, frames_have_one_list, frames_have_one_stop, order_of_frames_grows,

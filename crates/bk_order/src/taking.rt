@@ -10,6 +10,7 @@ ghost use Rattle.bk_order.specs.Intake.{IsKeptOf};
 ghost use Rattle.bk_order.specs.private.Judging.{IsJudged};
 ghost use Rattle.bk_order.specs.private.Joined.{CanKeep, GoesOn, HasKept, IsJoined, kept_in};
 
+use crate::ahead::JudgedFrames;
 use crate::judging::{Judged, judge_all};
 use crate::table::{Table, keep_all};
 use bk_base::Kind;
@@ -98,4 +99,24 @@ pub(crate) fn take_all<R: Threads + Sync>(
         }
         judged = judge_beside(rt, alloc, committee, table, &mut judged, &mut group)?;
     }
+}
+
+/// Keeps what frames were judged to be.
+pub(crate) fn keep_judged(
+    alloc: Global,
+    committee: &Committee,
+    table: &mut Table,
+    judged: JudgedFrames,
+) -> Result<(), AllocError>
+    requires mine { judged.committee ≡ committee.now }
+    requires joined { IsJoined committee.now table.old.held table.old.rounds }
+    requires room { table.old.next + length judged.frames < 2 ^ 64 }
+    ensures joined { OnOk result (IsJoined committee.now table.new.held table.new.rounds) }
+    ensures goes_on { OnOk result (GoesOn table.old table.new) }
+    ensures kept { OnOk result ((before : List Frame)
+        → IsKeptOf committee.now before (kept_in table.old)
+        → IsKeptOf committee.now (before ++ judged.frames) (kept_in table.new)) }
+{
+    let JudgedFrames { judged, of: _ } = judged;
+    keep_all(alloc, committee, table, judged)
 }

@@ -2,7 +2,7 @@
 
 use crate::frames::Frame;
 use crate::given::Given;
-use crate::taking::{Way, discard, numbers, rejects, take_all};
+use crate::taking::{Way, discard, numbers, rejects, take_ahead, take_all};
 use anyhow::Result;
 use bk_cert::CertRef;
 use bk_commit::committed;
@@ -14,12 +14,13 @@ use bk_trial_kit::{Chance, Tally};
 use std::alloc::Global;
 use std::thread::Threads;
 
-// In which order frames come, and how many are taken at once.
-const WAYS: &[(Way, usize)] = &[
-    (Way::AsDrawn, 1_000_000),
-    (Way::Reversed, 7),
-    (Way::Shuffled, 1),
-    (Way::Shuffled, 64),
+// In which order frames come, how many are taken at once, and whether they are judged ahead.
+const WAYS: &[(Way, usize, bool)] = &[
+    (Way::AsDrawn, 1_000_000, false),
+    (Way::Reversed, 7, false),
+    (Way::Shuffled, 1, false),
+    (Way::Shuffled, 64, false),
+    (Way::Shuffled, 5, true),
 ];
 
 /// What the plain bodies give, and the certificates that wait, by round and author.
@@ -87,9 +88,13 @@ fn takes<R: Threads + Sync>(
     frames: &[Frame],
     wanted: &Wanted<'_>,
     taken: &[usize],
-    size: usize,
+    (size, is_ahead): (usize, bool),
 ) -> Result<bool> {
-    take_all(rt, alloc, intake, frames, taken, size)?;
+    if is_ahead {
+        take_ahead(rt, alloc, intake, frames, taken, size)?;
+    } else {
+        take_all(rt, alloc, intake, frames, taken, size)?;
+    }
     Ok(rejects(intake, frames, taken) && is_as_wanted(alloc, intake, wanted)?)
 }
 
@@ -100,10 +105,10 @@ fn is_taken<R: Threads + Sync>(
     frames: &[Frame],
     wanted: &Wanted<'_>,
     taken: &[usize],
-    size: usize,
+    way: (usize, bool),
 ) -> Result<bool> {
     let mut intake = Intake::new(alloc, committee.try_clone(alloc)?)?;
-    let found = takes(rt, alloc, &mut intake, frames, wanted, taken, size);
+    let found = takes(rt, alloc, &mut intake, frames, wanted, taken, way);
     discard(intake);
     found
 }
@@ -114,10 +119,18 @@ fn is_way_right<R: AllocGlobal + Threads + Sync>(
     committee: &Committee,
     frames: &[Frame],
     wanted: &Wanted<'_>,
-    (way, size): (Way, usize),
+    (way, size, is_ahead): (Way, usize, bool),
 ) -> Result<bool> {
     let taken = numbers(rt.alloc(), chance, way, frames.len())?;
-    is_taken(rt, rt.alloc(), committee, frames, wanted, &taken, size)
+    is_taken(
+        rt,
+        rt.alloc(),
+        committee,
+        frames,
+        wanted,
+        &taken,
+        (size, is_ahead),
+    )
 }
 
 /// Takes the frames in each way.

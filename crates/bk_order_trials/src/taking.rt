@@ -6,7 +6,7 @@ use crate::frames::Frame;
 use crate::verdicts::GOOD;
 use anyhow::{Result, bail};
 use bk_base::Kind;
-use bk_order::Intake;
+use bk_order::{Ahead, Intake, JudgedFrames};
 use bk_trial_kit::Chance;
 use std::alloc::Global;
 use std::thread::Threads;
@@ -105,6 +105,78 @@ pub(crate) fn take_all<R: Threads + Sync>(
         take(rt, alloc, intake, frames, part)?;
     }
     Ok(())
+}
+
+// Keeps frames that were judged ahead.
+fn keep(intake: &mut Intake, judged: JudgedFrames) -> Result<()>
+    requires { judged.committee ≡ intake.old.committee }
+    ensures { intake.new.committee ≡ intake.old.committee }
+{
+    if intake.next() > MOST || judged.len() as u64 > MOST {
+        bail!("too many frames");
+    }
+    intake.take_judged(judged)?;
+    Ok(())
+}
+
+// Has these frames judged in groups of this size, and keeps the first of them as soon as enough are judged.
+fn keep_while_pushing<R: Threads + Sync>(
+    rt: &R,
+    alloc: Global,
+    intake: &mut Intake,
+    ahead: &mut Ahead,
+    frames: &[Frame],
+    taken: &[usize],
+    size: usize,
+) -> Result<()>
+    requires { ahead.old.committee ≡ intake.old.committee }
+    ensures intake { intake.new.committee ≡ intake.old.committee }
+    ensures ahead { ahead.new.committee ≡ ahead.old.committee }
+{
+    for part in taken.chunks(size.max(1)) {
+        ahead.push(rt, piece_of(alloc, frames, part)?)?;
+        if let Some(judged) = ahead.pop_full(rt)? {
+            keep(intake, judged)?;
+        }
+    }
+    Ok(())
+}
+
+// Keeps all that is judged, of no more than so many groups.
+fn keep_rest<R: Threads + Sync>(
+    rt: &R,
+    intake: &mut Intake,
+    ahead: &mut Ahead,
+    most: usize,
+) -> Result<()>
+    requires { ahead.old.committee ≡ intake.old.committee }
+    ensures { intake.new.committee ≡ intake.old.committee }
+{
+    for _ in 0..most {
+        match ahead.pop(rt)? {
+            Some(judged) => keep(intake, judged)?,
+            None => return Ok(()),
+        }
+    }
+    Ok(())
+}
+
+/// Takes these frames in groups of this size, which are judged ahead, and settles at the end.
+pub(crate) fn take_ahead<R: Threads + Sync>(
+    rt: &R,
+    alloc: Global,
+    intake: &mut Intake,
+    frames: &[Frame],
+    taken: &[usize],
+    size: usize,
+) -> Result<()>
+    ensures { intake.new.committee ≡ intake.old.committee }
+{
+    let mut ahead = Ahead::new(rt, alloc, intake.committee())?;
+    keep_while_pushing(rt, alloc, intake, &mut ahead, frames, taken, size)?;
+    keep_rest(rt, intake, &mut ahead, taken.len())?;
+    ahead.wait(rt);
+    settle(intake)
 }
 
 /// Whether just those of these frames are rejected that break a rule, each for its rule. The first is frame 2.
