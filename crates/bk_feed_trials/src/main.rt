@@ -19,6 +19,7 @@ mod feeds;
 mod flaws;
 mod going_on;
 mod graphs;
+mod groups;
 mod ledgers;
 mod made;
 mod many;
@@ -43,6 +44,7 @@ use crate::counting::try_counting;
 use crate::drawn::try_drawn;
 use crate::flaws::try_flaws;
 use crate::going_on::try_going_on;
+use crate::groups::try_groups;
 use crate::many::try_many;
 use crate::meeting::try_meetings;
 use crate::pieces::try_pieces;
@@ -68,6 +70,7 @@ where
     try_twins(rt, tally)?;
     try_slices(rt, tally)?;
     try_many(rt, tally)?;
+    try_groups(rt, tally)?;
     try_meetings(rt, tally)?;
     try_chains(rt, tally)
 }

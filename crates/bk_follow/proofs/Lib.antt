@@ -12,3 +12,4 @@ pub mod ComparedBooks
 pub mod Groups
 pub mod Frames
 pub mod Flawed
+pub mod JudgedAhead

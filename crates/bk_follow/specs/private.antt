@@ -6,3 +6,4 @@ pub mod Openings
 pub mod Ordered
 pub mod Comparing
 pub mod Gathering
+pub mod Ahead

@@ -23,7 +23,7 @@ use bk_base::{Kind, Row};
 use bk_committee::Committee;
 use bk_frames::Sink;
 use bk_ledger::Ledger;
-use bk_order::Intake;
+use bk_order::{Intake, JudgedFrames};
 use bk_pool::Gate;
 use bk_results::Status;
 use std::alloc::{AllocError, Global};
@@ -132,6 +132,21 @@ impl Book {
         ensures executed { self.new.executed ≡ self.old.executed }
     {
         self.intake.take(rt, frames)?;
+        Ok(())
+    }
+
+    /// Takes the next frames, once they were judged by the committee.
+    pub(crate) fn take_judged(&mut self, judged: JudgedFrames) -> Result<(), AllocError>
+        requires mine { judged.committee ≡ self.old.taken.committee }
+        requires room { self.old.taken.kept.next + length judged.frames < 2 ^ 64 }
+        ensures taken { OnOk result ((version : Version) (before : List Frame) → 2 ≤ length before
+            → IsBookOf (feed_of version before) self.old
+            → IsBookOf (feed_of version (before ++ judged.frames)) self.new) }
+        ensures committee { self.new.taken.committee ≡ self.old.taken.committee }
+        ensures order { OnOk result (self.new.taken.ordered ≡ self.old.taken.ordered) }
+        ensures executed { self.new.executed ≡ self.old.executed }
+    {
+        self.intake.take_judged(judged)?;
         Ok(())
     }
 

@@ -4,6 +4,7 @@
 //! a source to its end and writes the report: exactly the text that the definitions read off the feed.
 #![tactic(auto)]
 
+mod ahead;
 mod answering;
 mod book;
 mod comparing;

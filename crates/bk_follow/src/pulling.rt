@@ -8,9 +8,8 @@ ghost use Rattle.bk_follow.specs.private.Gathering.{CanPull, HasPulledGroup};
 use bk_base::Kind;
 use bk_frames::{Cutter, FeedFault, Source, pull_frames};
 
-// How many bytes a group has at least and at most, and how many frames at least: enough to share among processors, and
-// no more, since two groups are in memory at once.
-const LEAST: usize = 1 << 21;
+// How many bytes a group has at least and at most, and how many frames at least: enough for a thread of its own.
+const LEAST: usize = 1 << 20;
 
 const MOST: usize = 1 << 25;
 

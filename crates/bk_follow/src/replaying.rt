@@ -1,12 +1,13 @@
-ghost use Rattle.std.specs.Prelude.{◌≡◌, ℕ, ◌<◌, ◌≤◌, [], List, length, true, None, Some, OnOk, IfOk, IfErr};
+ghost use Rattle.std.specs.Prelude.{◌≡◌, ℕ, ◌<◌, ◌≤◌, [], List, length, true, false, None, Some, OnOk, IfOk, IfErr, IsTrue};
 ghost use Rattle.bk_answer.specs.Answers.{AnswerFailsBy, IsAnswered};
 ghost use Rattle.bk_answer.specs.RunReport.{IsReportOf};
-ghost use Rattle.bk_frames.specs.Device.{CanBeUsed, Works, GaveAll};
+ghost use Rattle.bk_frames.specs.Device.{CanBeUsed, Device, Ends, Works, GaveAll};
 ghost use Rattle.bk_base.specs.Feed.{Frame};
 ghost use Rattle.bk_follow.specs.Follower.{broken, counts_in, ordered_in, receipts_in, unfed};
 ghost use Rattle.bk_results.specs.Devices.{devices};
 ghost use Rattle.bk_follow.specs.Replaying.{ReadFails, AllHasCome};
-ghost use Rattle.bk_follow.specs.private.Gathering.{HasGathered, IsAllOf, StaysSettled};
+ghost use Rattle.bk_follow.specs.private.Ahead.{HasBook, HasPulledAhead, IsOpenFor};
+ghost use Rattle.bk_follow.specs.private.Gathering.{HasGathered, HasPulled, IsAllOf, StaysSettled};
 ghost use Rattle.bk_order.specs.Intake.{nothing_ordered};
 ghost use Rattle.bk_frames.specs.declared.pulling.TheConstants.{PIECE};
 
@@ -14,13 +15,91 @@ use crate::answering::answer_by_ledger;
 use crate::fault::Fault;
 use crate::follower::{Follower, latch};
 use crate::gathering::Inbox;
+use crate::opening::Opened;
 use bk_answer::Report;
 use bk_frames::{Sink, Source};
+use bk_order::Ahead;
 use bk_pool::Gate;
 use bk_results::Status;
-use std::alloc::Global;
+use std::alloc::{AllocError, Global};
 use std::sync::Wait;
 use std::thread::Threads;
+
+// Gathers a feed until its book is open. Returns whether its end was reached before, and then takes it all.
+fn pull_opening<R: Threads + Sync, S: Source>(
+    rt: &R,
+    alloc: Global,
+    source: &mut S,
+    piece: &mut [u8],
+    gathered: &mut Inbox,
+) -> Result<bool, Fault>
+    requires sound { CanBeUsed (S.state source.old) }
+    requires some { 0 < length piece.old }
+    requires few { length piece.old ≤ PIECE }
+    requires first { HasGathered [] [] gathered.old }
+    ensures come { OnOk result (HasPulled (S.state source.old) (S.state source.new) gathered.new) }
+    ensures open { IfOk result (λ end. end ≡ false → HasBook gathered.new.opened
+        × Ends 0 (S.state source.old) (S.state source.new)) }
+    ensures all { IfOk result (λ end. IsTrue end
+        → IsAllOf (S.state source.old) (S.state source.new) gathered.new) }
+    ensures stays { OnOk result (StaysSettled gathered.old.opened gathered.new.opened) }
+    ensures fault { IfErr result (λ f. ReadFails f (S.state source.old) (S.state source.new)) }
+{
+    // The label names the loop for its proof.
+    'groups: loop {
+        if gathered.pull(rt, alloc, source, piece)? {
+            gathered.take(rt, alloc)?;
+            return Ok(true);
+        }
+        if gathered.opened.book.is_some() {
+            return Ok(false);
+        }
+    }
+}
+
+// Of the book that is open nothing is judged ahead yet.
+fn ahead_of(rt: &impl Threads, alloc: Global, opened: &Opened) -> Result<Ahead, AllocError>
+    requires open { HasBook opened.now }
+    ensures open { IfOk result (λ a. IsOpenFor a.committee opened.now) }
+    ensures none { IfOk result (λ a. a.groups ≡ []) }
+{
+    let Some(book) = &opened.book else {
+        unreachable!()
+    };
+    let ahead = Ahead::new(rt, alloc, book.intake.committee())?;
+    Ok(ahead)
+}
+
+// Gathers what is left of a feed whose book is open, and takes it all.
+fn pull_rest<R: Threads + Sync, S: Source>(
+    rt: &R,
+    alloc: Global,
+    source: &mut S,
+    piece: &mut [u8],
+    gathered: &mut Inbox,
+    ahead: &mut Ahead,
+) -> Result<(), Fault>
+    requires sound { CanBeUsed (S.state source.old) }
+    requires some { 0 < length piece.old }
+    requires few { length piece.old ≤ PIECE }
+    requires come { (start : Device)
+        × HasPulledAhead start (S.state source.old) gathered.old ahead.old }
+    ensures all { OnOk result ((start : Device)
+        → HasPulledAhead start (S.state source.old) gathered.old ahead.old
+        → Ends 0 start (S.state source.old) → HasPulled start (S.state source.new) gathered.new
+        × IsAllOf start (S.state source.new) gathered.new) }
+    ensures stays { OnOk result (StaysSettled gathered.old.opened gathered.new.opened) }
+    ensures fault { IfErr result (λ f. (start : Device)
+        → HasPulledAhead start (S.state source.old) gathered.old ahead.old
+        → ReadFails f start (S.state source.new)) }
+{
+    'groups: loop {
+        if gathered.pull_ahead(rt, alloc, source, piece, ahead)? {
+            gathered.take_ahead(rt, alloc, ahead)?;
+            return Ok(());
+        }
+    }
+}
 
 // Gathers all that a source has, and takes it.
 fn pull_all<R: Threads + Sync, S: Source>(
@@ -41,13 +120,14 @@ fn pull_all<R: Threads + Sync, S: Source>(
     ensures stays { OnOk result (StaysSettled gathered.old.opened gathered.new.opened) }
     ensures fault { IfErr result (λ f. ReadFails f (S.state source.old) (S.state source.new)) }
 {
-    // The label names the loop for its proof.
-    'groups: loop {
-        if gathered.pull(rt, alloc, source, piece)? {
-            gathered.take(rt, alloc)?;
-            return Ok(());
-        }
+    if pull_opening(rt, alloc, source, piece, gathered)? {
+        return Ok(());
     }
+    let mut ahead = ahead_of(rt, alloc, &gathered.opened)?;
+    let pulled = pull_rest(rt, alloc, source, piece, gathered, &mut ahead);
+    ahead.wait(rt);
+    pulled?;
+    Ok(())
 }
 
 impl Follower {

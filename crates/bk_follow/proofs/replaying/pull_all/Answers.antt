@@ -1,34 +1,23 @@
 use Rattle.std.proofs.lemmas.Result.{err_from_is_err_and}
-use Rattle.bk_frames.proofs.Devices.{ends_not_yet}
-use Rattle.bk_follow.proofs.Pulled.{none_pulled, taken_now, all_taken, stays_itself, stays_then}
+use Rattle.bk_follow.proofs.JudgedAhead.{ahead_begins}
 use Rattle.bk_follow.proofs.replaying.pull_all.Goals as goal
 
-pub groups-init : goal.groups-init
-groups-init g c = record { pulled = none_pulled (g.S.Source.state c.args.source.now) c.args.gathered.now c.requires.first; goes_on = ends_not_yet (g.S.Source.state c.args.source.now); stays = stays_itself c.args.gathered.now.opened; some = c.requires.some; few = c.requires.few }
+pub pull_rest-pulled-requires-clause-come : goal.pull_rest-pulled-requires-clause-come
+pull_rest-pulled-requires-clause-come g c κs within =
+    ((g.S.Source.state c.args.source.now), (ahead_begins (g.S.Source.state c.args.source.now) (g.S.Source.state c.pull_opening.new.source) c.pull_opening.new.gathered c.in_ok-ahead.ahead c.in_ok-pull_opening.ensures.come c.in_ok-ahead.ensures.open c.in_ok-ahead.ensures.none))
 
-pub take-requires-clause-come : goal.take-requires-clause-come
-take-requires-clause-come g c κs within =
-    let p = c.in_ok-pull.ensures.come (g.S.Source.state c.args.source.now) c.groups.invariant.pulled in
+pub returns-clause-works : goal.returns-clause-works
+returns-clause-works g c = (c.in_ok-pulled.ensures.all (g.S.Source.state c.args.source.now) (ahead_begins (g.S.Source.state c.args.source.now) (g.S.Source.state c.pull_opening.new.source) c.pull_opening.new.gathered c.in_ok-ahead.ahead c.in_ok-pull_opening.ensures.come c.in_ok-ahead.ensures.open c.in_ok-ahead.ensures.none) (c.in_ok-pull_opening.ensures.open c.if-branch.false).1).0.works
+
+pub returns-clause-come : goal.returns-clause-come
+returns-clause-come g c =
+    let p = (c.in_ok-pulled.ensures.all (g.S.Source.state c.args.source.now) (ahead_begins (g.S.Source.state c.args.source.now) (g.S.Source.state c.pull_opening.new.source) c.pull_opening.new.gathered c.in_ok-ahead.ahead c.in_ok-pull_opening.ensures.come c.in_ok-ahead.ensures.open c.in_ok-ahead.ensures.none) (c.in_ok-pull_opening.ensures.open c.if-branch.false).1).0 in
     (p.bytes, p.taken, p.come)
 
-pub returns-in_err-take-clause-fault : goal.returns-in_err-take-clause-fault
-returns-in_err-take-clause-fault g c =
-    let q = err_from_is_err_and c.from_residual-in_err-take.result c.from_residual-in_err-take.ensures.1 in
-    rw (q.1, q.2) ((c.in_ok-pull.ensures.come (g.S.Source.state c.args.source.now) c.groups.invariant.pulled).works)
+pub returns-clause-all : goal.returns-clause-all
+returns-clause-all g c = (c.in_ok-pulled.ensures.all (g.S.Source.state c.args.source.now) (ahead_begins (g.S.Source.state c.args.source.now) (g.S.Source.state c.pull_opening.new.source) c.pull_opening.new.gathered c.in_ok-ahead.ahead c.in_ok-pull_opening.ensures.come c.in_ok-ahead.ensures.open c.in_ok-ahead.ensures.none) (c.in_ok-pull_opening.ensures.open c.if-branch.false).1).1
 
-pub returns-then-branch-clause-works : goal.returns-then-branch-clause-works
-returns-then-branch-clause-works g c = (c.in_ok-pull.ensures.come (g.S.Source.state c.args.source.now) c.groups.invariant.pulled).works
-
-pub returns-then-branch-clause-come : goal.returns-then-branch-clause-come
-returns-then-branch-clause-come g c =
-    let p = taken_now (g.S.Source.state c.args.source.now) (g.S.Source.state c.pull.new.source) c.pull.new.self c.take.new.self (c.in_ok-pull.ensures.come (g.S.Source.state c.args.source.now) c.groups.invariant.pulled) c.in_ok-take.ensures.takes in
-    (p.bytes, p.taken, p.come)
-
-pub returns-then-branch-clause-all : goal.returns-then-branch-clause-all
-returns-then-branch-clause-all g c =
-    all_taken (g.S.Source.state c.args.source.now) (g.S.Source.state c.pull.new.source) c.pull.new.self c.take.new.self c.in_ok-take.ensures.takes c.in_ok-take.ensures.all (c.in_ok-pull.ensures.all c.if-branch.true (g.S.Source.state c.args.source.now) c.groups.invariant.pulled c.groups.invariant.goes_on)
-
-pub returns-then-branch-clause-stays : goal.returns-then-branch-clause-stays
-returns-then-branch-clause-stays g c =
-    stays_then c.args.gathered.now.opened c.pull.new.self.opened c.take.new.self.opened
-    (stays_then c.args.gathered.now.opened c.groups.gathered.opened c.pull.new.self.opened c.groups.invariant.stays c.in_ok-pull.ensures.stays) c.in_ok-take.ensures.stays
+pub returns-in_err-pulled-clause-fault : goal.returns-in_err-pulled-clause-fault
+returns-in_err-pulled-clause-fault g c =
+    let q = err_from_is_err_and c.from_residual-in_err-pulled.result c.from_residual-in_err-pulled.ensures.1 in
+    rw (q.1, q.2) (c.in_err-pulled.ensures.fault (g.S.Source.state c.args.source.now) (ahead_begins (g.S.Source.state c.args.source.now) (g.S.Source.state c.pull_opening.new.source) c.pull_opening.new.gathered c.in_ok-ahead.ahead c.in_ok-pull_opening.ensures.come c.in_ok-ahead.ensures.open c.in_ok-ahead.ensures.none))

@@ -3,7 +3,7 @@ use Rattle.bk_frames.specs.declared.pulling.TheConstants.{PIECE}
 use Rattle.bk_frames.specs.Device.{Ends}
 use Rattle.bk_frames.specs.Reading.{room_of}
 use Rattle.bk_follow.specs.private.Gathering.{HasPulled, StaysSettled}
-use Rattle.bk_follow.proofs.replaying.pull_all.Given as goal
+use Rattle.bk_follow.proofs.replaying.pull_opening.Given as goal
 
 abbrev pub invariant-groups : goal.invariant-groups
 invariant-groups g l = record {

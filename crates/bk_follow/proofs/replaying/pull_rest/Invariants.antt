@@ -1,0 +1,20 @@
+use Rattle.std.proofs.Common.{◌<◌, ◌≤◌, length}
+use Rattle.bk_frames.specs.declared.pulling.TheConstants.{PIECE}
+use Rattle.bk_frames.specs.Device.{CanBeUsed, Device, Ends}
+use Rattle.bk_frames.specs.Reading.{room_of}
+use Rattle.bk_follow.specs.private.Ahead.{HasPulledAhead}
+use Rattle.bk_follow.specs.private.Gathering.{StaysSettled}
+use Rattle.bk_follow.proofs.replaying.pull_rest.Given as goal
+
+abbrev pub invariant-groups : goal.invariant-groups
+invariant-groups g l = record {
+  pulled : (start : Device) → HasPulledAhead start (g.S.Source.state l.initial.source) l.initial.gathered l.initial.ahead → HasPulledAhead start (g.S.Source.state l.source) l.gathered l.ahead;
+  goes_on : Ends 0 (g.S.Source.state l.initial.source) (g.S.Source.state l.source);
+  stays : StaysSettled l.initial.gathered.opened l.gathered.opened;
+  sound : CanBeUsed (g.S.Source.state l.source);
+  some : 0 < length l.piece;
+  few : length l.piece ≤ PIECE;
+}
+
+abbrev pub decreases-groups : goal.decreases-groups
+decreases-groups g l = room_of l.gathered.cutter

@@ -1,0 +1,58 @@
+-- A feed of which frames are judged ahead of those that are taken.
+use Rattle.std.specs.Prelude.{◌≡◌, ℕ, List, ◌++◌, flat_map, Option, None, Some}
+use Rattle.bk_base.specs.declared.version.Version.{Version}
+use Rattle.bk_base.specs.Feed.{Frame}
+use Rattle.bk_committee.specs.Payload.{CommitteeValue}
+use Rattle.bk_frames.specs.Device.{Device, Works, Gives}
+use Rattle.bk_frames.specs.Cutting.{Cuts, IsOpen, fresh, frames_in}
+use Rattle.bk_order.specs.Ahead.{AheadValue, JudgedValue}
+use Rattle.bk_follow.specs.declared.gathering.Inbox.{Inbox}
+use Rattle.bk_follow.specs.declared.opening.Opened.{Opened}
+use Rattle.bk_follow.specs.Follower.{BookValue, FollowsBy}
+use Rattle.bk_follow.specs.private.Books.{HasFollowed}
+
+-- the book is open
+abbrev pub HasBook : Opened → Type 0
+HasBook o = (b : BookValue) × (o.book ≡ Some b)
+
+-- a book of this committee is open
+abbrev pub IsOpenFor : CommitteeValue → Opened → Type 0
+IsOpenFor k o = (b : BookValue) × (o.book ≡ Some b) × (b.taken.committee ≡ k)
+
+-- the frames of all groups
+abbrev pub frames_ahead : AheadValue → List Frame
+frames_ahead a = flat_map (λ fs. fs) a.groups
+
+-- these bytes came and are cut: of the frames that they make whole these are taken, those that follow are judged, and the
+-- others wait
+pub record HasGatheredAhead (bytes : List ℕ) (taken : List Frame) (g : Inbox) (a : AheadValue) : Type 0 where
+  pub cuts : Cuts fresh bytes ((taken ++ frames_ahead a) ++ frames_in g.frames.items) g.cutter
+  pub is_open : IsOpen g.cutter
+  pub reads : g.cutter.fault ≡ None
+  pub version : Version
+  pub known : g.cutter.version ≡ Some version
+  pub follows : FollowsBy version taken g.opened.committee g.opened.book
+  pub opened : IsOpenFor a.committee g.opened
+
+-- since `start` a source gave bytes that have all come here, and no call of it failed
+pub record HasPulledAhead (start now : Device) (g : Inbox) (a : AheadValue) : Type 0 where
+  pub bytes : List ℕ
+  pub taken : List Frame
+  pub works : Works start now
+  pub gave : Gives start now bytes
+  pub come : HasGatheredAhead bytes taken g a
+
+-- frames that were judged can be taken, if there are any
+abbrev pub CanTakeJudged : Option JudgedValue → Opened → Type 0
+CanTakeJudged None o = Unit {0}
+CanTakeJudged (Some j) o =
+    IsOpenFor j.committee o
+    × ((version : Version) × (before : List Frame) × HasFollowed version before j.frames o.committee o.book)
+
+-- they were taken after those before them
+abbrev pub TakesJudged : Option JudgedValue → Opened → Opened → Type 0
+TakesJudged None old new = new ≡ old
+TakesJudged (Some j) old new =
+    IsOpenFor j.committee new
+    × ((version : Version) (before : List Frame) → FollowsBy version before old.committee old.book
+    → FollowsBy version (before ++ j.frames) new.committee new.book)
