@@ -30,7 +30,7 @@ _bkreplay() {
         kinds=(file)
         ;;
     make)
-        names='--progress --verbose --help'
+        names='--verbose --help'
         kinds=(file)
         ;;
     order)
@@ -94,7 +94,7 @@ _bkreplay() {
         kinds=(file)
         ;;
     check-proof)
-        names='--account --progress --verbose --help'
+        names='--account --verbose --help'
         kinds=(none file)
         ;;
     check-state)
@@ -122,7 +122,7 @@ _bkreplay() {
         kinds=(file)
         ;;
     check-chain)
-        names='--progress --verbose --help'
+        names='--verbose --help'
         kinds=(file)
         ;;
     *) return ;;

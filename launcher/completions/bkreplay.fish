@@ -56,7 +56,6 @@ complete -c bkreplay -n '__bkreplay_at run' -l strict -d 'End with status 6, and
 complete -c bkreplay -n '__bkreplay_at run' -l progress -d 'Show on standard error how many bytes are read, and how many transactions are executed'
 complete -c bkreplay -n '__bkreplay_at run' -l verbose -d 'Say in one more line what a fault is, in words, and name the file; `order`, `anchors`, `account`, `statement`, `receipt`, `prove`, `check-state` and `compare` also name a missing batch, and `frames` whose tag is wrong'
 complete -c bkreplay -n '__bkreplay_at run 0' -F
-complete -c bkreplay -n '__bkreplay_at make' -l progress -d 'Show on standard error how many bytes are read, and how many transactions are executed'
 complete -c bkreplay -n '__bkreplay_at make' -l verbose -d 'Say in one more line what a fault is, in words, and name the file; `order`, `anchors`, `account`, `statement`, `receipt`, `prove`, `check-state` and `compare` also name a missing batch, and `frames` whose tag is wrong'
 complete -c bkreplay -n '__bkreplay_at make 0' -F
 complete -c bkreplay -n '__bkreplay_at order' -l strict -d 'End with status 6, and say why in one more line, where the feed does not count whole: a batch of its order is missing, a certificate frame breaks a rule, a certificate waits, or nothing is ordered (`frames` looks at broken rules alone)'
@@ -132,7 +131,6 @@ complete -c bkreplay -n '__bkreplay_at evidence' -l progress -d 'Show on standar
 complete -c bkreplay -n '__bkreplay_at evidence' -l verbose -d 'Say in one more line what a fault is, in words, and name the file; `order`, `anchors`, `account`, `statement`, `receipt`, `prove`, `check-state` and `compare` also name a missing batch, and `frames` whose tag is wrong'
 complete -c bkreplay -n '__bkreplay_at evidence 0' -F
 complete -c bkreplay -n '__bkreplay_at check-proof' -l account -x -d 'The id of an account: the proof is good only where its `account` line shows this id'
-complete -c bkreplay -n '__bkreplay_at check-proof' -l progress -d 'Show on standard error how many bytes are read, and how many transactions are executed'
 complete -c bkreplay -n '__bkreplay_at check-proof' -l verbose -d 'Say in one more line what a fault is, in words, and name the file; `order`, `anchors`, `account`, `statement`, `receipt`, `prove`, `check-state` and `compare` also name a missing batch, and `frames` whose tag is wrong'
 complete -c bkreplay -n '__bkreplay_at check-proof 1' -F
 complete -c bkreplay -n '__bkreplay_at check-state' -l workers -x -a '(seq 1 64)' -d 'How many threads execute at most, 1 to 64; 1 by default. The output is the same for any number'
@@ -164,6 +162,5 @@ complete -c bkreplay -n '__bkreplay_at link' -l strict -d 'End with status 6, an
 complete -c bkreplay -n '__bkreplay_at link' -l progress -d 'Show on standard error how many bytes are read, and how many transactions are executed'
 complete -c bkreplay -n '__bkreplay_at link' -l verbose -d 'Say in one more line what a fault is, in words, and name the file; `order`, `anchors`, `account`, `statement`, `receipt`, `prove`, `check-state` and `compare` also name a missing batch, and `frames` whose tag is wrong'
 complete -c bkreplay -n '__bkreplay_at link 0' -F
-complete -c bkreplay -n '__bkreplay_at check-chain' -l progress -d 'Show on standard error how many bytes are read, and how many transactions are executed'
 complete -c bkreplay -n '__bkreplay_at check-chain' -l verbose -d 'Say in one more line what a fault is, in words, and name the file; `order`, `anchors`, `account`, `statement`, `receipt`, `prove`, `check-state` and `compare` also name a missing batch, and `frames` whose tag is wrong'
 complete -c bkreplay -n '__bkreplay_at check-chain 0' -F
