@@ -1,14 +1,13 @@
 -- What a judged answer says: the answer, and what keeps its feed from counting whole.
-use Rattle.std.proofs.Common.{◌≡◌, ℕ, Bool, true, false, List, Option}
+use Rattle.std.proofs.Common.{◌≡◌, ℕ, Bool, List, Option}
 use Rattle.bk_base.specs.Feed.{FeedValue}
-use Rattle.bk_frames.specs.Device.{Device, GaveAll}
-use Rattle.bk_frames.proofs.Devices.{gave_all}
-use Rattle.bk_results.specs.Devices.{AreFeedWith, Devices}
+use Rattle.bk_frames.specs.Device.{Device}
+use Rattle.bk_results.specs.Devices.{AreFeedWith}
 use Rattle.bk_results.specs.declared.fault.Fault.{Fault}
 use Rattle.bk_results.specs.declared.fault.Fault.TheVariants as fault
 use Rattle.bk_results.specs.declared.flaw.Flaw.{Flaw}
-use Rattle.bk_answer.specs.Answers.{AnswerFailsBy, IsAnswered, PartIsOut, TextIsOut, TextStops, WritesAnswer, WritesNot}
-use Rattle.bk_answer.specs.Flaws.{IsFlaw, IsFlawIf, IsFlawIn, judged_text}
+use Rattle.bk_answer.specs.Answers.{WritesAnswer, WritesNot}
+use Rattle.bk_answer.specs.Flaws.{IsFlawIf, judged_text}
 use Rattle.bk_answer.specs.declared.strict.Ended.{Ended}
 
 -- what follows from what holds of a feed holds of it
@@ -33,31 +32,3 @@ module _ {E : Type 0} (strict : Bool) (text : FeedValue → E → List ℕ → T
   judged_not of found (fault.Unfinished place) old new w flaw = w
   judged_not of found (fault.Collision id) old new w flaw = w
   judged_not of found (fault.Equivocation round author first second) old new w flaw = w
-
-  -- ---- what a call leaves
-
-  -- the answer itself is out
-  pub judged_answered : (ended : Ended E) (old new : Devices) → IsAnswered (judged_text strict text) ended old new → IsAnswered text ended.end old new
-  judged_answered ended old new a = record {
-    source = a.source;
-    sink = a.sink;
-    out = gave_all old.source new.source _ _ a.out (λ bytes o. (o.0, feed_with bytes _ _ (λ feed h. h.0) o.1, o.2));
-  }
-
-  -- and why it is not stays
-  pub judged_fails : (executes : Bool) (f : Fault) (old new : Devices) → AnswerFailsBy (judged_text strict text) executes f old new → AnswerFailsBy text executes f old new
-  judged_fails executes (fault.Write written) old new (works, fails, part) = (
-    works,
-    fails,
-    gave_all old.source new.source _ _ part (λ bytes p. (p.0.end, (p.1.0, feed_with bytes _ _ (λ feed h. h.0) p.1.1, p.1.2, p.1.3))),
-  )
-  judged_fails executes fault.Memory old new w = w
-  judged_fails executes (fault.Feed e) old new w = w
-  judged_fails executes (fault.Unfinished place) old new w = w
-  judged_fails executes (fault.Collision id) old new w = w
-  judged_fails executes (fault.Equivocation round author first second) old new w = w
-
--- where it is asked for, the flaw is that of the bytes that the source gave
-pub judged_flaw : {E : Type 0} (text : FeedValue → E → List ℕ → Type 0) (ended : Ended E) (old new : Devices) → IsAnswered (judged_text true text) ended old new
-    → GaveAll old.source new.source (λ bytes. IsFlaw bytes ended.flaw)
-judged_flaw text ended old new a = gave_all old.source new.source _ _ a.out (λ bytes o. feed_with bytes _ _ (λ feed h. h.1) o.1)

@@ -1,7 +1,6 @@
 -- What was made of a feed replies what the feed does.
-use Rattle.std.proofs.Common.{◌≡◌, ℕ, List, [], append-nil, Option, Some, None, true, refl, sym, subst, ◌∙◌, arith}
-use Rattle.std.specs.Io.KnownBytes.{Appends, Keeps}
-use Rattle.bk_frames.specs.Device.{Device, Receives}
+use Rattle.std.proofs.Common.{◌≡◌, ℕ, List, [], Option, true, refl, sym, subst, ◌∙◌, arith}
+use Rattle.bk_frames.specs.Device.{Device}
 use Rattle.bk_base.specs.Feed.{FeedValue, IsFeed, genesis_of}
 use Rattle.bk_base.specs.Genesis.{AreAccounts}
 use Rattle.bk_base.proofs.Accounts.{genesis_accounts}
@@ -20,8 +19,7 @@ use Rattle.bk_results.specs.declared.query.Query.{Query}
 use Rattle.bk_results.specs.declared.query.Query.TheVariants as query
 use Rattle.bk_results.specs.declared.query.Reply.{Reply}
 use Rattle.bk_results.specs.declared.query.Reply.TheVariants as reply
-use Rattle.bk_results.specs.Devices.{Devices, IsUntouched}
-use Rattle.bk_answer.specs.Answers.{IsAnswered, IsMadeOf, IsOrderMadeOf, WritesAnswer, WritesNot}
+use Rattle.bk_answer.specs.Answers.{IsMadeOf, IsOrderMadeOf, WritesAnswer, WritesNot}
 use Rattle.bk_answer.specs.Closed.{ClosedValue, OrderValue, IsClosedFor, IsOrderedFor}
 use Rattle.bk_answer.specs.Gaps.{IsGapIn}
 use Rattle.bk_answer.specs.RunReport.{committee_in, later_frames}
@@ -161,22 +159,3 @@ can (query.Proof id) end reply.Absent text h = refl
 can (query.State root) end reply.Absent text h = absurd h.0
 can query.Anchors end reply.Absent text h = absurd h.0
 can (query.Statement id) end reply.Absent text h = refl
-
--- an empty text changes no known bytes
-keeps_none : (old new : Option (List ℕ)) → Appends old new [] → Keeps old new
-keeps_none None new h = tt
-keeps_none (Some xs) None h = absurd h
-keeps_none (Some xs) (Some ys) h = h ∙ append-nil xs
-
--- a query is answered by a reply that it can have
-pub can_of : (asked : Query) (end : Replied) (old new : Devices) → IsAnswered (IsRepliedOf asked) end old new → can_reply asked end.reply ≡ true
-can_of asked end old new h =
-    let out = h.out.3 in
-    can asked out.1.holds.reply.end end.reply out.0 out.1.holds.reply.replies
-
--- where nothing is found nothing is written
-pub quiet_of : (asked : Query) (end : Replied) (old new : Devices) → IsAnswered (IsRepliedOf asked) end old new → end.reply ≡ reply.Absent → IsUntouched old.sink new.sink
-quiet_of asked end old new h is =
-    let out = h.out.3 in
-    let none = subst (λ (r : Reply). Replies asked out.1.holds.reply.end r out.0) is out.1.holds.reply.replies in
-    (h.sink, keeps_none old.sink.bytes new.sink.bytes (subst (Receives old.sink new.sink) none.1 out.2))

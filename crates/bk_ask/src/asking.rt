@@ -1,4 +1,4 @@
-ghost use Rattle.std.specs.Prelude.{◌≤◌, IfOk, IfErr};
+ghost use Rattle.std.specs.Prelude.{IfOk, IfErr};
 ghost use Rattle.bk_answer.specs.Answers.{AnswerFailsBy, IsAnswered};
 ghost use Rattle.bk_answer.specs.Flaws.{judged_text};
 ghost use Rattle.bk_frames.specs.Device.{CanBeUsed};
@@ -9,7 +9,7 @@ use crate::ordered::view_of;
 use crate::replied::Replied;
 use crate::replying::Executed;
 use bk_answer::{Ended, Judged};
-use bk_follow::{answer_by_ledger, answer_by_order};
+use bk_follow::{Settings, answer_by_ledger, answer_by_order};
 use bk_frames::{Sink, Source};
 use bk_pool::Gate;
 use bk_results::{Fault, Query};
@@ -18,53 +18,27 @@ use std::sync::Wait;
 use std::thread::Threads;
 
 /// Reads a feed and writes the text of the reply to a query: the `anchor` and `cert` lines of the order, or a line for
-/// the anchor of each odd round; or, after executing the batches of the order on at most this many workers, 1 to 64, the
+/// the anchor of each odd round; or, after executing the batches of the order, the
 /// line of an account or of a transaction, the text of a proof, the verdict on a digest of the state, `state good`, or
 /// `state bad` and the `state` line of the right one, or the statement of an account.
 ///
 /// Where the order stops at a batch that the feed does not hold, the reply is of what comes before it, and the digest of
 /// that batch comes with it. The whole feed is read before anything is written. With `Absent`, and with every fault but
 /// `Write`, nothing is written.
+///
+/// Where `strict` is set, what keeps the feed from counting whole comes with it, and is found before anything is written.
 pub fn ask<R: Threads + Wait + Sync, S: Source, K: Sink, G: Gate + Sync>(
     rt: &R,
     alloc: Global,
     source: &mut S,
     sink: &mut K,
     query: Query,
-    workers: usize,
-    gate: &G,
-) -> Result<Replied, Fault>
-    requires source { CanBeUsed (S.state source.old) }
-    requires sink { CanBeUsed (K.state sink.old) }
-    requires workers { (1 ≤ workers) × (workers ≤ 64) }
-    ensures answer { IfOk result (λ end. IsAnswered (IsRepliedOf query) end
-        (devices (S.state source.old) (K.state sink.old))
-        (devices (S.state source.new) (K.state sink.new))) }
-    ensures fault { IfErr result (λ f. AnswerFailsBy (IsRepliedOf query) (executes query) f
-        (devices (S.state source.old) (K.state sink.old))
-        (devices (S.state source.new) (K.state sink.new))) }
-{
-    match ask_judged(rt, alloc, source, sink, query, workers, gate, false) {
-        Ok(ended) => Ok(ended.end),
-        Err(fault) => Err(fault),
-    }
-}
-
-/// Replies as [`ask`] does, and says what keeps the feed from counting whole, where this is asked for. That is found before
-/// anything is written.
-pub fn ask_judged<R: Threads + Wait + Sync, S: Source, K: Sink, G: Gate + Sync>(
-    rt: &R,
-    alloc: Global,
-    source: &mut S,
-    sink: &mut K,
-    query: Query,
-    workers: usize,
+    settings: Settings,
     gate: &G,
     strict: bool,
 ) -> Result<Ended<Replied>, Fault>
     requires source { CanBeUsed (S.state source.old) }
     requires sink { CanBeUsed (K.state sink.old) }
-    requires workers { (1 ≤ workers) × (workers ≤ 64) }
     ensures answer { IfOk result (λ ended. IsAnswered (judged_text strict (IsRepliedOf query)) ended
         (devices (S.state source.old) (K.state sink.old))
         (devices (S.state source.new) (K.state sink.new))) }
@@ -79,7 +53,7 @@ pub fn ask_judged<R: Threads + Wait + Sync, S: Source, K: Sink, G: Gate + Sync>(
                 strict,
                 last: false,
             };
-            answer_by_order(rt, alloc, source, sink, &asked)
+            answer_by_order(rt, alloc, settings.key, source, sink, &asked)
         }
         None => {
             let asked = Judged {
@@ -87,7 +61,7 @@ pub fn ask_judged<R: Threads + Wait + Sync, S: Source, K: Sink, G: Gate + Sync>(
                 strict,
                 last: false,
             };
-            answer_by_ledger(rt, alloc, source, sink, workers, gate, &asked)
+            answer_by_ledger(rt, alloc, source, sink, settings, gate, &asked)
         }
     }
 }

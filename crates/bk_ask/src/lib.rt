@@ -6,5 +6,5 @@ mod ordered;
 mod replied;
 mod replying;
 
-pub use asking::{ask, ask_judged};
+pub use asking::ask;
 pub use replied::Replied;

@@ -83,7 +83,7 @@ some_result text (inr (before, line, more, fit, are, none)) =
 
 -- ---- there are no two
 
-same_links : (xs ys : List LinkValue) → All Fits xs → All Fits ys → map link_line xs ≡ map link_line ys → xs ≡ ys
+pub same_links : (xs ys : List LinkValue) → All Fits xs → All Fits ys → map link_line xs ≡ map link_line ys → xs ≡ ys
 same_links [] [] f g e = refl
 same_links [] (y ∷ ys) f g e = absurd cc
 same_links (x ∷ xs) [] f g e = absurd cc

@@ -5,23 +5,18 @@ ghost use Rattle.bk_chain.specs.declared.fault.ChainFault.TheVariants as fault;
 
 use bk_frames::WriteFault;
 use std::alloc::{AllocError, AllocFailed};
-use thiserror::Error;
 
-/// Why there is no verdict on a chain. The text of each is the line that the program prints.
-#[derive(Clone, Copy, Debug, PartialEq, Eq, Error)]
+/// Why there is no verdict on a chain.
+#[derive(Clone, Copy, Debug, PartialEq, Eq)]
 pub enum ChainFault {
     /// This line, counted from 1, is the first that is not the line of a link, or in which the text passes
     /// [`MOST_LINKS`](crate::MOST_LINKS) bytes. Nothing is written.
-    #[error("links fault at line {line}")]
     Links { line: u32 },
     /// The source failed. Nothing is written.
-    #[error("read failed")]
     Read,
     /// The sink failed. Exactly the first `written` bytes of the verdict are out.
-    #[error("write failed")]
     Write { written: u64 },
     /// Memory was refused. Nothing is written.
-    #[error("memory")]
     Memory,
 }
 

@@ -1,6 +1,6 @@
 //! The verdict on a claim, from the bytes of a feed to the text.
 
-ghost use Rattle.std.specs.Prelude.{◌≡◌, ◌≤◌, ℕ, List, true, false, None, IfOk, IfErr, OnOk};
+ghost use Rattle.std.specs.Prelude.{◌≡◌, ℕ, List, true, false, None, IfOk, IfErr, OnOk};
 ghost use Rattle.bk_claim.specs.Claims.{AllWork, ClaimFailsBy, GaveEnough, OfBoth, ShowsVerdict, VerdictIsOut, claim_devices, good};
 ghost use Rattle.bk_claim.specs.private.Judging.{HoldFailsBy, JudgeFailsBy, ShownIsOut};
 ghost use Rattle.bk_answer.specs.Flaws.{IsFlaw};
@@ -12,7 +12,7 @@ use crate::comparing::compare_claim;
 use crate::verdict::{ClaimStop, Verdict};
 use crate::wording::found_text;
 use bk_answer::{Ended, Judged, Report};
-use bk_follow::answer_by_ledger;
+use bk_follow::{Settings, answer_by_ledger};
 use bk_frames::{Counted, Sink, Source, push_all};
 use bk_pool::Gate;
 use bk_results::{Fault, Status};
@@ -25,12 +25,11 @@ fn hold_report<R: Threads + Wait + Sync, S: Source, G: Gate + Sync>(
     rt: &R,
     alloc: Global,
     feed: &mut S,
-    workers: usize,
+    settings: Settings,
     gate: &G,
     strict: bool,
 ) -> Result<(Vec<u8>, Ended<Status>), Fault>
     requires feed { CanBeUsed (S.state feed.old) }
-    requires workers { (1 ≤ workers) × (workers ≤ 64) }
     ensures report { IfOk result (λ r. GaveAll (S.state feed.old) (S.state feed.new)
         (λ bytes. IsReport bytes r.0.items r.1.end)) }
     ensures flaw { IfOk result (λ r. strict ≡ true → GaveAll (S.state feed.old) (S.state feed.new)
@@ -45,7 +44,7 @@ fn hold_report<R: Threads + Wait + Sync, S: Source, G: Gate + Sync>(
         strict,
         last: false,
     };
-    match answer_by_ledger(rt, alloc, feed, &mut held, workers, gate, &asked) {
+    match answer_by_ledger(rt, alloc, feed, &mut held, settings, gate, &asked) {
         Ok(ended) => Ok((held.into_inner(), ended)),
         // Memory takes all that there is room for.
         Err(Fault::Write { .. }) => Err(Fault::Memory),
@@ -94,8 +93,7 @@ fn judge<S: Source, K: Sink>(
     }
 }
 
-/// Reads a feed, executes the batches of its order on this many workers, 1 to 64, and compares its report byte for byte
-/// with what is claimed to be the report. Writes the verdict: `report good`; or `report differs at line N`, and what
+/// Reads a feed, executes the batches of its order, and compares its report byte for byte with what is claimed to be the report. Writes the verdict: `report good`; or `report differs at line N`, and what
 /// both have there.
 ///
 /// The feed's report is held in memory. The claim is not: it is read in pieces, and no further than to the first line
@@ -108,14 +106,13 @@ pub fn check_report<R: Threads + Wait + Sync, S1: Source, S2: Source, K: Sink, G
     feed: &mut S1,
     claimed: &mut S2,
     sink: &mut K,
-    workers: usize,
+    settings: Settings,
     gate: &G,
     strict: bool,
 ) -> Result<Ended<Verdict>, ClaimStop>
     requires feed { CanBeUsed (S1.state feed.old) }
     requires claimed { CanBeUsed (S2.state claimed.old) }
     requires sink { CanBeUsed (K.state sink.old) }
-    requires workers { (1 ≤ workers) × (workers ≤ 64) }
     ensures verdict { IfOk result (λ v. OfBoth
         (claim_devices (S1.state feed.old) (S2.state claimed.old) (K.state sink.old))
         (claim_devices (S1.state feed.new) (S2.state claimed.new) (K.state sink.new))
@@ -130,7 +127,7 @@ pub fn check_report<R: Threads + Wait + Sync, S1: Source, S2: Source, K: Sink, G
         (claim_devices (S1.state feed.old) (S2.state claimed.old) (K.state sink.old))
         (claim_devices (S1.state feed.new) (S2.state claimed.new) (K.state sink.new))) }
 {
-    let (right, ended) = hold_report(rt, alloc, feed, workers, gate, strict)?;
+    let (right, ended) = hold_report(rt, alloc, feed, settings, gate, strict)?;
     match judge(alloc, &right, ended.end, claimed, sink) {
         Ok(verdict) => Ok(Ended {
             end: verdict,

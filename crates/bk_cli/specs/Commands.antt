@@ -114,15 +114,23 @@ place_rule = record (new_rule (codes "PLACE")) {
 
 -- ---- the commands
 
--- a command with the options `--progress` and `--verbose`, which every command has
+-- a command with the option `--verbose`, which every command has
+abbrev pub worded_line : App → App
+worded_line a = with_rule a (flag_rule (codes "verbose"))
+
+-- the same with the option `--progress`, which a command has that reads a feed
 abbrev pub noted_line : App → App
-noted_line a = with_rule (with_rule a (flag_rule (codes "progress"))) (flag_rule (codes "verbose"))
+noted_line a = worded_line (with_rule a (flag_rule (codes "progress")))
 
 -- the same with the option `--strict`, which a command has whose feed may fall short
 abbrev pub judged_line : App → App
 judged_line a = noted_line (with_rule a (flag_rule (codes "strict")))
 
--- a command `NAME [FILE]`
+-- a command `NAME [FILE]` of a text
+abbrev pub text_line : Text → App
+text_line name = worded_line (with_rule (new_app name) file_rule)
+
+-- a command `NAME [FILE]` of a feed
 abbrev pub file_line : Text → App
 file_line name = noted_line (with_rule (new_app name) file_rule)
 
@@ -169,7 +177,7 @@ table_line name = judged_line (with_rule (with_rule (with_rule (picking_line nam
 abbrev pub proof_line : App
 proof_line =
     let named = new_app (codes "check-proof") in
-    noted_line (with_rule (with_rule (with_rule named account_rule) root_rule) file_rule)
+    worded_line (with_rule (with_rule (with_rule named account_rule) root_rule) file_rule)
 
 -- the command `compare FEED1 FEED2`
 abbrev pub compare_line : App
@@ -207,7 +215,7 @@ word_of verb.CheckChain = codes "check-chain"
 -- a command with its arguments
 abbrev pub line_of : Verb → App
 line_of verb.Run = value_line (codes "run") workers_rule
-line_of verb.Make = file_line (codes "make")
+line_of verb.Make = text_line (codes "make")
 line_of verb.Order = feed_line (codes "order")
 line_of verb.Account = value_line (codes "account") id_rule
 line_of verb.Receipt = value_line (codes "receipt") place_rule
@@ -230,7 +238,7 @@ line_of verb.Apply = file_line (codes "apply")
 line_of verb.Schedule = schedule_line
 line_of verb.Compare = compare_line
 line_of verb.Link = value_line (codes "link") workers_rule
-line_of verb.CheckChain = file_line (codes "check-chain")
+line_of verb.CheckChain = text_line (codes "check-chain")
 
 -- the program's name, with a version
 abbrev pub program : App

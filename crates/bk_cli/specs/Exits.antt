@@ -1,5 +1,5 @@
 -- The exit statuses of the program.
-use Rattle.std.specs.Prelude.{ℕ, List, Option, Some, Bool, true, false, ◌||◌, if◌then◌else◌, Result, Ok, Err}
+use Rattle.std.specs.Prelude.{ℕ, Bool, true, false, ◌||◌, if◌then◌else◌}
 use Rattle.bk_frames.specs.declared.fault.FaultCode.{FaultCode}
 use Rattle.bk_frames.specs.declared.fault.FaultCode.TheVariants as code
 use Rattle.bk_results.specs.declared.compare_stop.CompareStop.{CompareStop}
@@ -10,8 +10,6 @@ use Rattle.bk_results.specs.declared.fault.Fault.{Fault}
 use Rattle.bk_results.specs.declared.fault.Fault.TheVariants as replay
 use Rattle.bk_results.specs.declared.query.Query.{Query}
 use Rattle.bk_results.specs.declared.query.Query.TheVariants as query
-use Rattle.bk_results.specs.declared.query.Reply.{Reply}
-use Rattle.bk_results.specs.declared.query.Reply.TheVariants as reply
 use Rattle.bk_results.specs.declared.status.Status.{Status}
 use Rattle.bk_results.specs.declared.status.Status.TheVariants as status
 use Rattle.bk_results.specs.declared.lines_fault.LinesFault.TheVariants as events
@@ -149,15 +147,6 @@ reports_missing (job.Diagnose d file) = lacks d
 reports_missing (job.CheckChain file) = true
 reports_missing other = false
 
--- a job that reads its second source
-abbrev pub reads_second : Job → Bool
-reads_second (job.CheckReport workers report file) = true
-reads_second (job.Schedule workers feed events) = true
-reads_second (job.Compare first second) = true
-reads_second (job.Pick workers shown accounts file) = true
-reads_second (job.Follow workers shown (Some accounts) wait file) = true
-reads_second other = false
-
 -- a job that writes while it reads: where it refuses the bytes, its first lines are out
 abbrev pub writes_ahead : Job → Bool
 writes_ahead (job.Frames file) = true
@@ -185,12 +174,6 @@ is_answer j exit.Whole = true
 is_answer j exit.No = gives_verdict j
 is_answer j exit.Missing = true
 is_answer j other = false
-
--- the report is written
-abbrev pub is_report : Exit → Bool
-is_report exit.Whole = true
-is_report exit.Missing = true
-is_report other = false
 
 -- the bytes are to blame
 abbrev pub is_refusal : Exit → Bool
@@ -266,23 +249,6 @@ abbrev pub exit_after_compare : CompareStop → Exit
 exit_after_compare (compared.First e) = exit_after_replay e
 exit_after_compare (compared.Second e) = exit_after_replay e
 exit_after_compare (compared.Differ e) = exit_after_differ e
-
--- after a query whose object is absent, of an order that stops at this missing batch
-abbrev pub absence : Query → Option (List ℕ) → Result Exit JobFault
-absence query.Order missing = Ok exit.Whole
-absence (query.Account id) missing = Err (fault.AbsentAccount id missing)
-absence (query.Receipt place) missing = Err (fault.AbsentPlace place missing)
-absence (query.Proof id) missing = Err (fault.AbsentAccount id missing)
-absence (query.State root) missing = Ok exit.Whole
-absence query.Anchors missing = Ok exit.Whole
-absence (query.Statement id) missing = Err (fault.AbsentAccount id missing)
-
--- after a reply to a query
-abbrev pub ending : Query → Option (List ℕ) → Reply → Result Exit JobFault
-ending asked missing reply.Found = Ok exit.Whole
-ending asked missing reply.Short = Ok exit.Missing
-ending asked missing reply.Wrong = Ok exit.No
-ending asked missing reply.Absent = absence asked missing
 
 -- after a fault
 abbrev pub exit_after : JobFault → Exit

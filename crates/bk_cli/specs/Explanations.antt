@@ -21,7 +21,7 @@ use Rattle.bk_results.specs.Lines.{spaced}
 use Rattle.bk_base.specs.declared.refused.Refused as refused
 use Rattle.bk_base.specs.declared.refused.Refused.TheVariants as reason
 use Rattle.bk_cli.specs.FaultLines.{digits_of, line_of}
-use Rattle.bk_cli.specs.Files.{about_of, name_of}
+use Rattle.bk_cli.specs.Files.{about_of, name_of, shown}
 use Rattle.bk_cli.specs.declared.about.FaultSubject.TheVariants as about
 use Rattle.bk_cli.specs.declared.remarks.Remarks.{Remarks}
 use Rattle.bk_cli.specs.declared.job.Job.{Job}
@@ -132,8 +132,8 @@ setup_words part.Accounts = codes "its opening accounts are not those of the fir
 -- two feeds that differ
 abbrev pub differ_words : Differ → List ℕ
 differ_words (differ.Setup part) = setup_words part
-differ_words (differ.Collision id) = codes "with the first feed, " ++ collision_words id
-differ_words (differ.Twins round author first second) = codes "with the first feed, " ++ twins_words round author
+differ_words (differ.Collision id) = collision_words id
+differ_words (differ.Twins round author first second) = twins_words round author
 differ_words differ.Memory = codes "memory ran out"
 
 -- two feeds that do not agree
@@ -159,7 +159,7 @@ and_gap (Some digest) = codes "; " ++ gap_words digest
 
 -- the line of a feed of this name whose order stops so
 abbrev pub gap_line : List ℕ → List ℕ → List ℕ
-gap_line name digest = codes "bkreplay: " ++ (name ++ (codes ": " ++ gap_words digest ++ codes "\n"))
+gap_line name digest = codes "bkreplay: " ++ (shown name ++ (codes ": " ++ gap_words digest ++ codes "\n"))
 
 -- nothing where it stops at none
 abbrev pub gap_note : List ℕ → Option (List ℕ) → List ℕ
@@ -175,7 +175,7 @@ tag_words wrong =
 -- the line of a feed of this name that has it, nothing where none has
 abbrev pub tag_note : List ℕ → Option WrongTag → List ℕ
 tag_note name None = []
-tag_note name (Some wrong) = codes "bkreplay: " ++ (name ++ (codes ": " ++ tag_words wrong ++ codes "\n"))
+tag_note name (Some wrong) = codes "bkreplay: " ++ (shown name ++ (codes ": " ++ tag_words wrong ++ codes "\n"))
 
 -- the lines for the feeds of a job
 abbrev pub remarks_told : Job → Remarks → List ℕ
@@ -200,7 +200,7 @@ words_of (fault.AbsentPlace place missing) = codes "there is no transaction at p
 
 -- the line that has a fault in words, after the name of what it is about
 abbrev pub note_line : List ℕ → JobFault → List ℕ
-note_line name e = codes "bkreplay: " ++ (name ++ (codes ": " ++ words_of e ++ codes "\n"))
+note_line name e = codes "bkreplay: " ++ (shown name ++ (codes ": " ++ words_of e ++ codes "\n"))
 
 -- what is told of a fault that is about something of this name
 abbrev pub told_of : Bool → List ℕ → JobFault → List ℕ

@@ -1,8 +1,10 @@
 -- The files that a job names, and the one that a fault of it is about.
-use Rattle.std.specs.Prelude.{Bool, true, false, ◌&&◌, ◌||◌, List, ℕ, Option, Some, None, codes, if◌then◌else◌, option_map, string_bytes, unwrap_or}
+use Rattle.std.specs.Prelude.{Bool, true, false, ◌&&◌, ◌||◌, List, ℕ, Option, Some, None, codes, if◌then◌else◌, map, nat_le, option_map, string_bytes, unwrap_or}
 use Rattle.std.specs.Str.{bytes_eq}
 use Rattle.bk_results.specs.declared.compare_stop.CompareStop.{CompareStop}
 use Rattle.bk_results.specs.declared.compare_stop.CompareStop.TheVariants as compared
+use Rattle.bk_results.specs.declared.differ.Differ.{Differ}
+use Rattle.bk_results.specs.declared.differ.Differ.TheVariants as differ
 use Rattle.bk_results.specs.declared.fault.Fault.{Fault}
 use Rattle.bk_results.specs.declared.fault.Fault.TheVariants as replay
 use Rattle.bk_results.specs.declared.script_fault.ScriptFault.{ScriptFault}
@@ -63,6 +65,13 @@ abbrev pub input_name : Option (List ℕ) → List ℕ
 input_name None = codes "standard input"
 input_name (Some path) = if is_input path then codes "standard input" else path
 
+-- a byte of it as a line shows it: `?` where it is not one of 32 to 126
+abbrev pub shown_byte : ℕ → ℕ
+shown_byte b = if nat_le 32 b && nat_le b 126 then b else 63
+
+abbrev pub shown : List ℕ → List ℕ
+shown name = map shown_byte name
+
 -- standard input is read in place of a file: its path stands for it, or there is none
 abbrev pub names_input : Option (List ℕ) → Bool
 names_input path = unwrap_or (option_map is_input path) true
@@ -100,11 +109,17 @@ text_about j text.Read = if reads_beside j then about.Second else about.First
 text_about j (text.Write written) = about.Output
 text_about j text.Memory = about.First
 
--- two feeds: what only both together show is said of the second
+-- two feeds: the setup of the second is not that of the first; both together hold a collision or twins
+abbrev pub differ_about : Differ → FaultSubject
+differ_about (differ.Setup part) = about.Second
+differ_about (differ.Collision id) = about.Both
+differ_about (differ.Twins round author first second) = about.Both
+differ_about differ.Memory = about.Second
+
 abbrev pub compare_about : CompareStop → FaultSubject
 compare_about (compared.First e) = replay_about e
 compare_about (compared.Second e) = about.Second
-compare_about (compared.Differ e) = about.Second
+compare_about (compared.Differ e) = differ_about e
 
 -- what a fault of a job is about
 abbrev pub about_of : Job → JobFault → FaultSubject
@@ -117,8 +132,9 @@ about_of j (fault.Compared e) = compare_about e
 about_of j (fault.AbsentAccount id missing) = about.First
 about_of j (fault.AbsentPlace place missing) = about.First
 
--- its name: a path, or standard input or output
+-- its name: a path, standard input or output, or two feeds
 abbrev pub name_of : Job → FaultSubject → List ℕ
 name_of j about.First = input_name (file_of j)
 name_of j about.Second = input_name (second_file_of j)
+name_of j about.Both = codes "both feeds together"
 name_of j about.Output = codes "standard output"

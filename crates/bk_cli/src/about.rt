@@ -5,7 +5,7 @@ ghost use Rattle.bk_cli.specs.Files.{about_of, compare_about, input_name, name_o
 
 use crate::job::{Job, is_input};
 use crate::job_fault::JobFault;
-use bk_results::{CompareStop, Fault, ScriptFault};
+use bk_results::{CompareStop, Differ, Fault, ScriptFault};
 
 /// What a fault is about.
 #[derive(Clone, Copy)]
@@ -14,6 +14,8 @@ pub(crate) enum FaultSubject {
     First,
     /// The second.
     Second,
+    /// Two feeds together.
+    Both,
     /// Standard output.
     Output,
 }
@@ -46,7 +48,9 @@ fn about_compare(stop: &CompareStop) -> FaultSubject
 {
     match stop {
         CompareStop::First(fault) => about_replay(fault),
-        CompareStop::Second(_) | CompareStop::Differ(_) => FaultSubject::Second,
+        CompareStop::Second(_) => FaultSubject::Second,
+        CompareStop::Differ(Differ::Collision { .. } | Differ::Twins { .. }) => FaultSubject::Both,
+        CompareStop::Differ(_) => FaultSubject::Second,
     }
 }
 
@@ -83,6 +87,7 @@ impl FaultSubject {
         match self {
             FaultSubject::First => input_name(job.file()),
             FaultSubject::Second => input_name(job.second_file()),
+            FaultSubject::Both => "both feeds together",
             FaultSubject::Output => "standard output",
         }
     }

@@ -3,7 +3,7 @@
 ghost use Rattle.std.specs.Prelude.{◌≡◌, true, false, IfOk, IfSome};
 ghost use Rattle.clap.specs.Words.{App, Rule, app_of};
 ghost use Rattle.clap.specs.declared.builder.command.Command.TheViews.{out-Command};
-ghost use Rattle.bk_cli.specs.Commands.{asking_line, checking_line, viewing_line, tabling_line, diagnosing_line, command_line, feed_line, file_line, judged_line, value_line, picking_line, table_line, schedule_line, working_line};
+ghost use Rattle.bk_cli.specs.Commands.{asking_line, checking_line, viewing_line, tabling_line, diagnosing_line, command_line, feed_line, file_line, judged_line, text_line, value_line, picking_line, table_line, schedule_line, worded_line, working_line};
 ghost use Rattle.bk_cli.specs.Commands.{noted_line, file_rule, workers_rule, required_rule, root_rule, id_rule, place_rule, from_rule, rounds_rule, links_rule, account_rule, accounts_rule, dag_line, proof_line, compare_line};
 
 use crate::help::{self, Help};
@@ -98,14 +98,21 @@ fn account_arg<'a>(alloc: Global) -> Plain<'a>
         .read_by(value_parser!(u64))
 }
 
-// The command with the options that every command has.
+// The command with the option that every command has.
+fn worded<'a>(alloc: Global, command: Shaped<'a>) -> Shaped<'a>
+    ensures { (a : App) → IfSome command.entry (λ c. c ≡ a)
+        → IfSome result (λ c. c ≡ worded_line a) }
+{
+    command.arg(Plain::flag(alloc, "verbose", help::VERBOSE))
+}
+
+// The command with those that a command has that reads a feed.
 fn noted<'a>(alloc: Global, command: Shaped<'a>) -> Shaped<'a>
     ensures { (a : App) → IfSome command.entry (λ c. c ≡ a)
         → IfSome result (λ c. c ≡ noted_line a) }
 {
-    command
-        .arg(Plain::flag(alloc, "progress", help::PROGRESS))
-        .arg(Plain::flag(alloc, "verbose", help::VERBOSE))
+    let progress = Plain::flag(alloc, "progress", help::PROGRESS);
+    worded(alloc, command.arg(progress))
 }
 
 // The command with these options and `--strict`.
@@ -117,7 +124,14 @@ fn judged<'a>(alloc: Global, command: Shaped<'a>) -> Shaped<'a>
     noted(alloc, command.arg(strict))
 }
 
-// The command `NAME [FILE]`.
+// The command `NAME [FILE]` of a text.
+fn text_command<'a>(alloc: Global, name: &'a str, text: Help<'a>) -> Shaped<'a>
+    ensures { IfSome result (λ c. c ≡ text_line name.now) }
+{
+    worded(alloc, Shaped::new(alloc, name, text).arg(file_arg(alloc)))
+}
+
+// The command `NAME [FILE]` of a feed.
 fn file_command<'a>(alloc: Global, name: &'a str, text: Help<'a>) -> Shaped<'a>
     ensures { IfSome result (λ c. c ≡ file_line name.now) }
 {
@@ -200,7 +214,7 @@ fn proof_command<'a>(alloc: Global) -> Shaped<'a>
         .arg(account_arg(alloc))
         .arg(root_arg(alloc))
         .arg(file_arg(alloc));
-    noted(alloc, command)
+    worded(alloc, command)
 }
 
 // The command `compare FEED1 FEED2`.
@@ -220,7 +234,7 @@ fn asking_command<'a>(alloc: Global) -> Shaped<'a>
     let workers = workers_arg(alloc, help::WORKERS);
     Shaped::program(alloc)
         .subcommand(value_command(alloc, "run", workers, help::RUN))
-        .subcommand(file_command(alloc, "make", help::MAKE))
+        .subcommand(text_command(alloc, "make", help::MAKE))
         .subcommand(feed_command(alloc, "order", help::ORDER))
         .subcommand(value_command(alloc, "account", id_arg(alloc), help::ACCOUNT))
         .subcommand(value_command(alloc, "receipt", place_arg(alloc), help::RECEIPT))
@@ -287,7 +301,7 @@ fn whole_command<'a>(alloc: Global) -> Shaped<'a>
         .subcommand(schedule_command(alloc))
         .subcommand(compare_command(alloc))
         .subcommand(value_command(alloc, "link", workers, table_help::LINK))
-        .subcommand(file_command(alloc, "check-chain", table_help::CHECK_CHAIN))
+        .subcommand(text_command(alloc, "check-chain", table_help::CHECK_CHAIN))
 }
 
 /// The command whose usage is shown where words of a command have no fault for the parser, and name no job.

@@ -32,7 +32,7 @@ Exit status:
   6  with `--strict`: the feed does not count whole, and one more line on standard error says why
 
 Example:
-  ./bkreplay waiting examples/order/one_commit.feed",
+  bkreplay waiting one_commit.feed",
 };
 
 pub(crate) const MISSING: Help<'static> = Help {
@@ -55,7 +55,7 @@ Exit status:
   6  with `--strict`: the feed does not count whole, and one more line on standard error says why
 
 Example:
-  ./bkreplay missing examples/order/one_commit.feed",
+  bkreplay missing one_commit.feed",
 };
 
 pub(crate) const EVIDENCE: Help<'static> = Help {
@@ -77,5 +77,5 @@ Exit status:
   4  feed fault 8 or 9, memory, read failed, or write failed
 
 Example:
-  ./bkreplay evidence examples/order/one_commit.feed",
+  bkreplay evidence one_commit.feed",
 };

@@ -242,14 +242,8 @@ fn put_differ(line: &mut ShortLine, differ: &Differ)
 {
     match differ {
         Differ::Setup { part } => put_setup(line, *part),
-        Differ::Collision { id } => {
-            put_text(line, b"with the first feed, ");
-            put_collision(line, id);
-        }
-        Differ::Twins { round, author, .. } => {
-            put_text(line, b"with the first feed, ");
-            put_twins(line, *round, *author);
-        }
+        Differ::Collision { id } => put_collision(line, id),
+        Differ::Twins { round, author, .. } => put_twins(line, *round, *author),
         Differ::Memory => put_text(line, b"memory ran out"),
     }
 }

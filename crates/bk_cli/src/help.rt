@@ -76,7 +76,7 @@ Codes:
   STATUS      0 ok, 1 malformed, 2 undeclared account, 3 unknown account, 4 stale, 5 guard, 6 funds
 
 Example:
-  ./bkreplay run examples/order/one_commit.feed",
+  bkreplay run one_commit.feed",
 };
 
 pub(crate) const RUN: Help<'static> = Help {
@@ -111,7 +111,7 @@ Exit status:
   6  with `--strict`: the feed does not count whole, and one more line on standard error says why
 
 Example:
-  ./bkreplay run --workers 4 examples/order/one_commit.feed",
+  bkreplay run --workers 4 one_commit.feed",
 };
 
 pub(crate) const MAKE: Help<'static> = Help {
@@ -141,7 +141,7 @@ Exit status:
   4  memory, read failed, or write failed
 
 Example:
-  ./bkreplay make examples/order/one_commit.script | ./bkreplay run",
+  bkreplay make one_commit.script | bkreplay run",
 };
 
 pub(crate) const ORDER: Help<'static> = Help {
@@ -161,7 +161,7 @@ Exit status:
   6  with `--strict`: the feed does not count whole, and one more line on standard error says why
 
 Example:
-  ./bkreplay order examples/order/one_commit.feed",
+  bkreplay order one_commit.feed",
 };
 
 pub(crate) const ACCOUNT: Help<'static> = Help {
@@ -180,7 +180,7 @@ Exit status:
   6  with `--strict`: the feed does not count whole, and one more line on standard error says why
 
 Example:
-  ./bkreplay account 1 examples/order/one_commit.feed",
+  bkreplay account 1 one_commit.feed",
 };
 
 pub(crate) const RECEIPT: Help<'static> = Help {
@@ -201,7 +201,7 @@ Exit status:
   6  with `--strict`: the feed does not count whole, and one more line on standard error says why
 
 Example:
-  ./bkreplay receipt 0 examples/order/one_commit.feed",
+  bkreplay receipt 0 one_commit.feed",
 };
 
 pub(crate) const PROVE: Help<'static> = Help {
@@ -225,7 +225,7 @@ Exit status:
   6  with `--strict`: the feed does not count whole, and one more line on standard error says why
 
 Example:
-  ./bkreplay prove 1 examples/order/one_commit.feed",
+  bkreplay prove 1 one_commit.feed",
 };
 
 pub(crate) const FRAMES: Help<'static> = Help {
@@ -253,7 +253,7 @@ Exit status:
   6  with `--strict`: a certificate breaks a rule, and one more line on standard error says how many do
 
 Example:
-  ./bkreplay frames examples/order/one_commit.feed",
+  bkreplay frames one_commit.feed",
 };
 
 pub(crate) const SUMMARY: Help<'static> = Help {
@@ -289,7 +289,7 @@ Exit status:
   6  with `--strict`: the feed does not count whole, and one more line on standard error says why
 
 Example:
-  ./bkreplay summary examples/order/one_commit.feed",
+  bkreplay summary one_commit.feed",
 };
 
 pub(crate) const ANCHORS: Help<'static> = Help {
@@ -317,7 +317,7 @@ Exit status:
   6  with `--strict`: the feed does not count whole, and one more line on standard error says why
 
 Example:
-  ./bkreplay anchors examples/order/one_commit.feed",
+  bkreplay anchors one_commit.feed",
 };
 
 pub(crate) const DAG: Help<'static> = Help {
@@ -343,7 +343,7 @@ Exit status:
   6  with `--strict`: the feed does not count whole, and one more line on standard error says why
 
 Example:
-  ./bkreplay dag --rounds 8 --links votes examples/order/one_commit.feed",
+  bkreplay dag --rounds 8 --links votes one_commit.feed",
 };
 
 pub(crate) const STATEMENT: Help<'static> = Help {
@@ -371,5 +371,5 @@ Exit status:
   6  with `--strict`: the feed does not count whole, and one more line on standard error says why
 
 Example:
-  ./bkreplay statement 1 examples/order/one_commit.feed",
+  bkreplay statement 1 one_commit.feed",
 };

@@ -5,7 +5,7 @@ ghost use Rattle.bk_cli.specs.Files.{file_of, is_input, names_input, reads_input
 
 use crate::view::{Diagnosis, Table, View};
 use crate::window::Window;
-use crate::workers::Workers;
+use bk_base::Workers;
 use bk_results::Query;
 
 /// What the program is to do. A `file` is a path; standard input is read where there is none, and where a path is `-`.

@@ -1,6 +1,6 @@
 //! The command line: from words to a job, and from the fault of a job to its line and its exit status.
 //!
-//! [`parse_line`] reads the words of a command line, and [`parse`] only the job that they name. [`report`] writes the one
+//! [`parse_line`] reads the words of a command line. [`report`] writes the one
 //! line of a fault, [`tell`] the same and what is wrong in words, [`tell_remarks`] what there is to remark beside an
 //! answer, and [`Exit::after`] is the exit status that goes with it. Nothing here reads a file or does a job.
 #![tactic(auto)]
@@ -24,6 +24,7 @@ mod parsing;
 mod remarking;
 mod remarks;
 mod shaped;
+mod shown;
 mod strict;
 mod table_help;
 mod telling;
@@ -33,7 +34,6 @@ mod verb;
 mod view;
 mod window;
 mod words;
-mod workers;
 
 pub use exit::Exit;
 pub use fault_line::report;
@@ -43,7 +43,7 @@ pub use line::{ShortLine, put_number, put_text};
 pub use links::Links;
 pub use list_fault::ListFault;
 pub use notes::Notes;
-pub use parsing::{Line, parse, parse_line};
+pub use parsing::{Line, parse_line};
 pub use remarking::tell_remarks;
 pub use remarks::Remarks;
 pub use strict::judge;
@@ -51,4 +51,3 @@ pub use telling::{tell, tell_of, tell_unopened};
 pub use unopened::Unopened;
 pub use view::{Diagnosis, Table, View};
 pub use window::Window;
-pub use workers::Workers;

@@ -16,7 +16,7 @@ use crate::values::{account_in, chosen_in, id_in, owned, place_in, text_in, work
 use crate::verb::Verb;
 use crate::view::{Diagnosis, Table, View};
 use crate::window::{MOST_FROM, MOST_ROUNDS, Window};
-use crate::workers::Workers;
+use bk_base::Workers;
 use bk_digest::Digest32;
 use bk_results::Query;
 use clap::ArgMatches;

@@ -21,7 +21,7 @@ Exit status:
   4  memory, read failed, or write failed
 
 Example:
-  ./bkreplay check-proof a0f73141eeeda4cb3f115f1ee0468dde8a3de31db5fd987f0eec1df811bce063 examples/proofs/one_commit.proof",
+  bkreplay check-proof a0f73141eeeda4cb3f115f1ee0468dde8a3de31db5fd987f0eec1df811bce063 one_commit.proof",
 };
 
 pub(crate) const CHECK_STATE: Help<'static> = Help {
@@ -44,7 +44,7 @@ Exit status:
   6  with `--strict`: the feed does not count whole, and one more line on standard error says why
 
 Example:
-  ./bkreplay check-state a0f73141eeeda4cb3f115f1ee0468dde8a3de31db5fd987f0eec1df811bce063 examples/order/one_commit.feed",
+  bkreplay check-state a0f73141eeeda4cb3f115f1ee0468dde8a3de31db5fd987f0eec1df811bce063 one_commit.feed",
 };
 
 pub(crate) const CHECK_REPORT: Help<'static> = Help {
@@ -68,7 +68,7 @@ Exit status:
   6  with `--strict`: the feed does not count whole, and one more line on standard error says why
 
 Example:
-  ./bkreplay check-report examples/order/one_commit.out examples/order/one_commit.feed",
+  bkreplay check-report one_commit.out one_commit.feed",
 };
 
 pub(crate) const APPLY: Help<'static> = Help {
@@ -91,7 +91,7 @@ Exit status:
   4  feed fault 8 or 9, memory, read failed, or write failed
 
 Example:
-  ./bkreplay apply examples/payments/apply_two_payments.feed",
+  bkreplay apply apply_two_payments.feed",
 };
 
 pub(crate) const SCHEDULE: Help<'static> = Help {
@@ -121,7 +121,7 @@ Exit status:
      done
 
 Example:
-  ./bkreplay schedule --workers 1 examples/payments/apply_two_payments.feed examples/events/two_payments.events",
+  bkreplay schedule --workers 1 apply_two_payments.feed two_payments.events",
 };
 
 pub(crate) const COMPARE: Help<'static> = Help {
@@ -144,5 +144,5 @@ Exit status:
   6  with `--strict`: a feed does not count whole, and one more line on standard error says why
 
 Example:
-  ./bkreplay compare examples/order/ahead.feed examples/order/behind.feed",
+  bkreplay compare ahead.feed behind.feed",
 };

@@ -122,20 +122,3 @@ pub fn parse_line<'a, S: AsStr>(alloc: Global, words: &'a [S]) -> Result<Line, E
     let words = settle(alloc, words)?;
     parse_settled(alloc, words.as_slice())
 }
-
-/// The job of the words of a command line, as [`parse_line`] reads them.
-pub fn parse<'a, S: AsStr>(alloc: Global, words: &'a [S]) -> Result<Job, Error>
-    ensures job { IfOk result (IsJobOf (subcommand_of command_line (settled (map S.text words.now)))) }
-    ensures once { IfOk result (λ j. reads_input_twice j ≡ false) }
-    ensures whole { IfOk result (λ _. fault_of command_line (settled (map S.text words.now)) ≡ []) }
-    ensures kinds { IfErr result (λ e. HasKind (fault_of command_line (settled (map S.text words.now))) e
-        ⊎ IsOfValues e (subcommand_of command_line (settled (map S.text words.now)))) }
-    ensures error { IfErr result (λ e. takes command_line (settled (map S.text words.now)) ≡ true
-        → (kind_of e ≡ ErrorKind.OutOfMemory)
-        ⊎ IsOfValues e (subcommand_of command_line (settled (map S.text words.now)))) }
-{
-    match parse_line(alloc, words) {
-        Ok(Line { job, .. }) => Ok(job),
-        Err(error) => Err(error),
-    }
-}

@@ -5,12 +5,14 @@ ghost use Rattle.bk_frames.specs.Device.{CanBeUsed};
 ghost use Rattle.bk_frames.specs.Writing.{Writes};
 ghost use Rattle.bk_cli.specs.Explanations.{gap_note, gap_words, remarks_told, tag_note, tag_words};
 ghost use Rattle.bk_cli.specs.FaultLines.{Reports, StopsReport};
+ghost use Rattle.bk_cli.specs.Files.{shown};
 
 use crate::about::FaultSubject;
 use crate::explain::{put_gap, put_wrong_tag};
 use crate::job::Job;
 use crate::line::{ShortLine, put_text};
 use crate::remarks::Remarks;
+use crate::shown::push_shown;
 use bk_digest::Digest32;
 use bk_frames::{Sink, WriteFault, push_all};
 use bk_results::WrongTag;
@@ -40,13 +42,13 @@ fn tag_end(wrong: &WrongTag) -> ShortLine
 // Writes the line of a feed of this name with this end.
 fn push_line<E: Sink>(name: &str, end: &ShortLine, err: &mut E) -> Result<(), WriteFault>
     requires { CanBeUsed (E.state err.old) }
-    ensures whole { OnOk result (Writes (codes "bkreplay: " ++ (name.now ++ end.now.items))
+    ensures whole { OnOk result (Writes (codes "bkreplay: " ++ (shown name.now ++ end.now.items))
         (E.state err.old) (E.state err.new)) }
-    ensures part { IfErr result (λ _. StopsReport (codes "bkreplay: " ++ (name.now ++ end.now.items))
+    ensures part { IfErr result (λ _. StopsReport (codes "bkreplay: " ++ (shown name.now ++ end.now.items))
         (E.state err.old) (E.state err.new)) }
 {
     push_all(err, b"bkreplay: ")?;
-    push_all(err, name.as_bytes())?;
+    push_shown(name.as_bytes(), err)?;
     push_all(err, end.as_slice())?;
     Ok(())
 }

@@ -42,7 +42,7 @@ Exit status:
   6  with `--strict`: the feed does not count whole, and one more line on standard error says why
 
 Example:
-  ./bkreplay transactions examples/order/one_commit.feed",
+  bkreplay transactions one_commit.feed",
 };
 
 pub(crate) const POSTINGS: Help<'static> = Help {
@@ -76,7 +76,7 @@ Exit status:
   6  with `--strict`: the feed does not count whole, and one more line on standard error says why
 
 Example:
-  ./bkreplay postings examples/order/one_commit.feed",
+  bkreplay postings one_commit.feed",
 };
 
 pub(crate) const BATCHES: Help<'static> = Help {
@@ -101,7 +101,7 @@ Exit status:
   6  with `--strict`: the feed does not count whole, and one more line on standard error says why
 
 Example:
-  ./bkreplay batches examples/order/one_commit.feed",
+  bkreplay batches one_commit.feed",
 };
 
 pub(crate) const LINK: Help<'static> = Help {
@@ -127,7 +127,7 @@ Exit status:
   6  with `--strict`: the feed does not count whole, and one more line on standard error says why
 
 Example:
-  ./bkreplay link examples/order/one_commit.feed",
+  bkreplay link one_commit.feed",
 };
 
 pub(crate) const CHECK_CHAIN: Help<'static> = Help {
@@ -154,5 +154,5 @@ Exit status:
   5  chain good, and the last feed is short
 
 Example:
-  ./bkreplay link examples/order/one_commit.feed | ./bkreplay check-chain",
+  bkreplay link one_commit.feed | bkreplay check-chain",
 };

@@ -4,6 +4,7 @@ ghost use Rattle.std.specs.Prelude.{◌++◌, codes};
 ghost use Rattle.bk_frames.specs.Device.{CanBeUsed};
 ghost use Rattle.bk_cli.specs.Explanations.{told, told_of};
 ghost use Rattle.bk_cli.specs.FaultLines.{Reports};
+ghost use Rattle.bk_cli.specs.Files.{shown};
 ghost use Rattle.bk_cli.specs.Unopened.{told_unopened};
 
 use crate::about::FaultSubject;
@@ -11,6 +12,7 @@ use crate::explain::in_words;
 use crate::fault_line::{fault_line, report};
 use crate::job::Job;
 use crate::job_fault::JobFault;
+use crate::shown::push_shown;
 use crate::unopened::{Unopened, why};
 use bk_frames::{Sink, push_all};
 use bk_results::ScriptFault;
@@ -27,9 +29,9 @@ fn push_words<E: Sink>(words: &[u8], err: &mut E)
 // Writes the name of what a fault is about, and then what is said of it.
 fn push_name<E: Sink>(name: &str, words: &[u8], err: &mut E)
     requires { CanBeUsed (E.state err.old) }
-    ensures { Reports (name.now ++ words.now) (E.state err.old) (E.state err.new) }
+    ensures { Reports (shown name.now ++ words.now) (E.state err.old) (E.state err.new) }
 {
-    match push_all(err, name.as_bytes()) {
+    match push_shown(name.as_bytes(), err) {
         Ok(()) => push_words(words, err),
         Err(_) => {}
     }
@@ -38,7 +40,7 @@ fn push_name<E: Sink>(name: &str, words: &[u8], err: &mut E)
 // Writes the line that says something of what has this name.
 fn push_note<E: Sink>(name: &str, words: &[u8], err: &mut E)
     requires { CanBeUsed (E.state err.old) }
-    ensures { Reports (codes "bkreplay: " ++ (name.now ++ words.now)) (E.state err.old) (E.state err.new) }
+    ensures { Reports (codes "bkreplay: " ++ (shown name.now ++ words.now)) (E.state err.old) (E.state err.new) }
 {
     match push_all(err, b"bkreplay: ") {
         Ok(()) => push_name(name, words, err),
@@ -49,7 +51,7 @@ fn push_note<E: Sink>(name: &str, words: &[u8], err: &mut E)
 // Writes the line of a fault, and then the one that says something of what has this name.
 fn push_both<E: Sink>(line: &[u8], name: &str, words: &[u8], err: &mut E)
     requires { CanBeUsed (E.state err.old) }
-    ensures { Reports (line.now ++ (codes "bkreplay: " ++ (name.now ++ words.now))) (E.state err.old) (E.state err.new) }
+    ensures { Reports (line.now ++ (codes "bkreplay: " ++ (shown name.now ++ words.now))) (E.state err.old) (E.state err.new) }
 {
     match push_all(err, line) {
         Ok(()) => push_note(name, words, err),

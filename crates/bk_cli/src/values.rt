@@ -4,7 +4,7 @@ ghost use Rattle.std.specs.Prelude.{◌≡◌, ◌≤◌, ◌^◌, [], option_ma
 ghost use Rattle.clap.specs.Words.{one_text, first_value, found_of, rows_of};
 ghost use Rattle.bk_cli.specs.CommandLine.{AreNamedBy, IsChosenBy, IsGivenBy, IsNumberBy};
 
-use crate::workers::Workers;
+use bk_base::Workers;
 use clap::ArgMatches;
 use std::alloc::{AllocError, Global};
 

@@ -25,7 +25,7 @@ use Rattle.bk_follow.specs.Ordering.{HasOrderOf}
 use Rattle.bk_follow.specs.Agreement.{Agree, AgreeInOrder, OneBeginsFor, HaveOneSetup, frames_together, HaveNoStop, HaveStop, settled_in, OfBoth, FollowersAgree, FollowersDiffer}
 use Rattle.bk_results.specs.Devices.{AreFeed}
 use Rattle.bk_answer.specs.Outcomes.{IsOutcomeOf}
-use Rattle.bk_compare.specs.FeedAgreement.{FeedsAgree, FeedsCompared, FeedsDiffer, OfTheirFeeds, BothGave, Sources, FollowFails, ComparisonStops, sources}
+use Rattle.bk_compare.specs.FeedAgreement.{FeedsCompared, FeedsDiffer, OfTheirFeeds, BothGave, Sources, FollowFails, ComparisonStops, sources}
 use Rattle.bk_compare.specs.declared.compared.Compared.{Compared}
 use Rattle.bk_answer.specs.Gaps.{IsGapIn}
 use Rattle.bk_follow.specs.Queries.{missing_in}
@@ -283,18 +283,6 @@ pub both_gave : (one other : Followed) (holds : FeedValue → FeedValue → Type
 both_gave one other holds first first' second second' ended also h =
     gave_all first first' (λ bytes. HasEnded bytes one) (λ bytes. GaveAll second second' (λ more. OfTheirFeeds bytes more holds)) ended
     (λ bytes x. gave_all second second' (λ more. HasEnded more other) (λ more. OfTheirFeeds bytes more holds) also (λ more y. h bytes more x y))
-
--- what follows from what holds of both feeds holds of them
-pub of_theirs : (holds too : FeedValue → FeedValue → Type 0) (bytes more : List ℕ) → ((f g : FeedValue) → holds f g → too f g) → OfTheirFeeds bytes more holds → OfTheirFeeds bytes more too
-of_theirs holds too bytes more f x = record { one = x.one; other = x.other; good = x.good; other_good = x.other_good; spelled = x.spelled; other_spelled = x.other_spelled; holds = f x.one x.other x.holds }
-
-pub both_so : (old new : Sources) (holds too : FeedValue → FeedValue → Type 0) → ((f g : FeedValue) → holds f g → too f g) → BothGave old new holds → BothGave old new too
-both_so old new holds too f h =
-    gave_all old.first new.first (λ bytes. GaveAll old.second new.second (λ more. OfTheirFeeds bytes more holds)) (λ bytes. GaveAll old.second new.second (λ more. OfTheirFeeds bytes more too)) h
-    (λ bytes k. gave_all old.second new.second (λ more. OfTheirFeeds bytes more holds) (λ more. OfTheirFeeds bytes more too) k (λ more x. of_theirs holds too bytes more f x))
-
-pub agree_too : (strict : Bool) (old new : Sources) (c : Compared) → BothGave old new (λ f g. FeedsCompared strict f g c) → BothGave old new (λ f g. FeedsAgree f g c.agreed)
-agree_too strict old new c h = both_so old new (λ f g. FeedsCompared strict f g c) (λ f g. FeedsAgree f g c.agreed) (λ f g x. x.agree) h
 
 -- what holds of the bytes that both gave holds of those that are known
 pub both_known : (old new : Sources) (holds : FeedValue → FeedValue → Type 0) → BothGave old new holds → IfKnown old.first (λ bytes. IfKnown old.second (λ more. OfTheirFeeds bytes more holds))

@@ -1,3 +1,2 @@
 pub mod FeedAgreement
-pub mod Nowhere
 pub mod private

@@ -10,7 +10,7 @@ ghost use Rattle.bk_compare.specs.private.Ends.{BothHaveEnded, ComparisonStopsWi
 ghost use Rattle.bk_results.specs.declared.differ.Differ.TheVariants as differ;
 
 use crate::compared::Compared;
-use bk_follow::{Follower, is_stop};
+use bk_follow::{Follower, Settings, is_stop};
 use bk_frames::{PIECE, Source};
 use bk_pool::Gate;
 use bk_results::{Agreed, CompareStop, Differ, Fault};
@@ -179,8 +179,7 @@ fn compare_both<R: Threads + Wait + Sync, S: Source, T: Source, G: Gate + Sync>(
     }
 }
 
-/// Reads two feeds, the first one first, executes the order of each on this many workers, 1 to 64, and compares what
-/// they come to.
+/// Reads two feeds, the first one first, executes the order of each, and compares what they come to.
 ///
 /// Where both have one version, committee and genesis and their frames together have neither a collision nor twins, the
 /// order of one begins that of the other and so do the receipts: the answer says how far, at which missing batch each
@@ -191,13 +190,12 @@ pub fn compare_with_gaps<R: Threads + Wait + Sync, S: Source, T: Source, G: Gate
     alloc: Global,
     first: &mut S,
     second: &mut T,
-    workers: usize,
+    settings: Settings,
     gate: &G,
     strict: bool,
 ) -> Result<Compared, CompareStop>
     requires first { CanBeUsed (S.state first.old) }
     requires second { CanBeUsed (T.state second.old) }
-    requires workers { (1 ≤ workers) × (workers ≤ 64) }
     ensures agree { IfOk result (λ c. BothGave
         (sources (S.state first.old) (T.state second.old))
         (sources (S.state first.new) (T.state second.new)) (λ f g. FeedsCompared strict f g c)) }
@@ -208,38 +206,11 @@ pub fn compare_with_gaps<R: Threads + Wait + Sync, S: Source, T: Source, G: Gate
         (sources (S.state first.old) (T.state second.old))
         (sources (S.state first.new) (T.state second.new))) }
 {
-    let mut one = Follower::new(alloc, workers);
-    let mut other = Follower::new(alloc, workers);
+    let Settings { workers, key } = settings;
+    let mut one = Follower::new(alloc, Settings { workers, key });
+    let mut other = Follower::new(alloc, Settings { workers, key });
     let compared = compare_both(rt, alloc, first, second, &mut one, &mut other, gate, strict);
     one.discard();
     other.discard();
     compared
-}
-
-/// The same, without the batches at which the orders stop, and without what keeps the feeds from counting whole.
-pub fn compare<R: Threads + Wait + Sync, S: Source, T: Source, G: Gate + Sync>(
-    rt: &R,
-    alloc: Global,
-    first: &mut S,
-    second: &mut T,
-    workers: usize,
-    gate: &G,
-) -> Result<Agreed, CompareStop>
-    requires first { CanBeUsed (S.state first.old) }
-    requires second { CanBeUsed (T.state second.old) }
-    requires workers { (1 ≤ workers) × (workers ≤ 64) }
-    ensures agree { IfOk result (λ a. BothGave
-        (sources (S.state first.old) (T.state second.old))
-        (sources (S.state first.new) (T.state second.new)) (λ f g. FeedsAgree f g a)) }
-    ensures sound { OnOk result (BothWork
-        (sources (S.state first.old) (T.state second.old))
-        (sources (S.state first.new) (T.state second.new))) }
-    ensures stop { IfErr result (λ e. ComparisonStops e
-        (sources (S.state first.old) (T.state second.old))
-        (sources (S.state first.new) (T.state second.new))) }
-{
-    match compare_with_gaps(rt, alloc, first, second, workers, gate, false) {
-        Ok(compared) => Ok(compared.agreed),
-        Err(stop) => Err(stop),
-    }
 }

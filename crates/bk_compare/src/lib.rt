@@ -3,8 +3,6 @@
 
 mod agreeing;
 mod compared;
-mod nowhere;
 
-pub use agreeing::{compare, compare_with_gaps};
+pub use agreeing::compare_with_gaps;
 pub use compared::Compared;
-pub use nowhere::Nowhere;

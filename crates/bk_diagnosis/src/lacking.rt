@@ -11,7 +11,7 @@ use crate::line::Line;
 use bk_cert::CertRef;
 use bk_digest::Digest32;
 use bk_evidence::Batches;
-use bk_index::{Keyed, KeyedList};
+use bk_index::{HashKey, Keyed, KeyedList};
 use bk_rounds::Rounds;
 use std::alloc::{AllocError, Global};
 use std::fmt::Write;
@@ -24,7 +24,7 @@ struct Lack {
     place: CertRef,
 }
 
-impl Keyed<Digest32> for Lack {
+impl Keyed for Lack {
     ghost key_of = { λ l. l.digest };
 
     fn key(&self) -> &Digest32 {
@@ -32,10 +32,10 @@ impl Keyed<Digest32> for Lack {
     }
 }
 
-// These so far, in their order. A digest is found in O(log n) at worst, whatever its bytes.
+// These so far, in their order.
 #[derive(Drop)]
 pub(crate) struct Lacks {
-    list: KeyedList<Digest32, Lack>,
+    list: KeyedList<Lack>,
 }
 
 impl Model for Lacks {
@@ -50,11 +50,11 @@ impl Model for Lacks {
 
 impl Lacks {
     // None.
-    fn new(alloc: Global) -> Lacks
+    fn new(alloc: Global, key: HashKey) -> Lacks
         ensures { result ≡ [] }
     {
         Lacks {
-            list: KeyedList::new(alloc),
+            list: KeyedList::new(alloc, key),
         }
     }
 
@@ -110,8 +110,8 @@ fn line_of(lack: Lack) -> Line
     }
 }
 
-/// What the certificates of this order name and what is not stored, each digest where it is named first. O(n log n) in
-/// the digests that they name.
+/// What the certificates of this order name and what is not stored, each digest where it is named first, in time
+/// linear in the digests that they name.
 pub(crate) fn lacks_of(
     alloc: Global,
     rounds: &Rounds,
@@ -124,7 +124,7 @@ pub(crate) fn lacks_of(
         lacks ≡ missing_in rounds.now.held stored.now order.now) }
 {
     rounds.sound();
-    let mut lacks = Lacks::new(alloc);
+    let mut lacks = Lacks::new(alloc, stored.key());
     for place in order {
         if let Some(cert) = rounds.at(*place) {
             lacks.add_all(stored, cert.header().batches(), *place)?;

@@ -1,6 +1,8 @@
 //! A SHA-256 digest as a value: its bytes, its text, and the digest of a tagged text.
 
-ghost use Rattle.std.specs.Prelude.{◌≡◌, ℕ, List, length, Some, IfOk, IfSome, IsSome, IsTrue, ◌↔◌};
+ghost use Rattle.std.specs.Prelude.{◌≡◌, ℕ, List, [], ◌∷◌, length, Some, IfOk, IfSome, IsSome, IsTrue, ◌↔◌};
+ghost use Rattle.std.specs.Cmp.Rules.{hashing};
+ghost use Rattle.std.proofs.Common.{rules};
 ghost use Rattle.std.specs.List.{AllPass};
 ghost use Rattle.std.specs.String.{string_bytes};
 ghost use Rattle.sha2.specs.Sha256.{sha256};
@@ -10,11 +12,12 @@ ghost use Rattle.bk_digest.specs.Digest.{IsHexDigest, is_lower_hex, tagged_of};
 use hex::FromHex;
 use sha2::{Digest, Sha256};
 use std::alloc::{AllocError, Allocator};
+use std::hash::{Hash, Hasher};
 use std::marker::Model;
 use std::{fmt, str};
 
 /// A SHA-256 digest (FIPS 180-4). Its order and its hash are those of its 32 bytes.
-#[derive(Clone, Copy, PartialEq, Eq, PartialOrd, Ord, Hash)]
+#[derive(Clone, Copy, PartialEq, Eq, PartialOrd, Ord)]
 pub struct Digest32([u8; 32]);
 
 impl Model for Digest32 {
@@ -69,6 +72,17 @@ impl Digest32 {
             Ok(bytes) => Some(Digest32(bytes)),
             Err(_) => None,
         }
+    }
+}
+
+// All bytes in one write: a derived `hash` makes one for each byte.
+impl Hash for Digest32 {
+    ghost hash_input = { λ digest. digest ∷ [] };
+
+    ghost respects_eq = { Prim.search (hashing, rules) };
+
+    fn hash<H: Hasher>(&self, state: &mut H) {
+        state.write(&self.0);
     }
 }
 

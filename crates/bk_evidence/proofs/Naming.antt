@@ -2,9 +2,6 @@
 use Rattle.std.proofs.Common.{◌≡◌, ◌≢◌, ◌+◌, ◌<◌, ◌≤◌, ℕ, Bool, true, false, cond, List, [], ◌∷◌, ◌++◌, length, eqb, Option, Some, None, sym, ap, ◌∙◌, slice_get, position, arith}
 use Rattle.std.specs.List.{Contains, position_or_len, find as list_find, slice_index_or}
 use Rattle.std.specs.Str.{bytes_eq}
-use Rattle.std.specs.Ordering.{is_eq}
-use Rattle.std.specs.Cmp.{both_ways}
-use Rattle.std.specs.Cmp.Lexicographic.{texts_ties}
 use Rattle.std.proofs.lemmas.Bool.Decides.{nat_tests}
 use Rattle.std.proofs.lemmas.List.Folds.{find_at, position_or_len_push}
 use Rattle.std.proofs.lemmas.List.{length-append}
@@ -15,8 +12,6 @@ use Rattle.std.proofs.lemmas.List.Quantifiers.{position-Some}
 use Rattle.std.proofs.lemmas.Slice.Eq.{bytes_eq-Decides}
 use Rattle.std.proofs.lemmas.Bool.{true≢false}
 use Rattle.bk_index.specs.Finding.{has_key}
-use Rattle.bk_evidence.specs.Collisions.{id_cmp}
-use Rattle.bk_evidence.specs.private.Named.{is_named}
 
 abbrev at_or_none : ℕ → ℕ → Option ℕ
 at_or_none n len = cond (nat_lt n len) (Some n) None
@@ -55,22 +50,15 @@ module _ {E : Type 0} (p : E → Bool) where
 named : (id other : List ℕ) → bytes_eq id other ≡ true → id ≡ other
 named id other e = (bytes_eq-Decides id other).0 e
 
-same_test : (id other : List ℕ) → is_eq (id_cmp id other) ≡ bytes_eq other id
-same_test id other = sym (texts_ties id other) ∙ both_ways _ _ (λ t. (bytes_eq-Decides other id).1 (sym (named id other t))) (λ t. (bytes_eq-Decides id other).1 (sym (named other id t)))
-
 module _ {E : Type 0} (name : E → List ℕ) where
-  -- what is found by its key is found by its name
-  pub by_name : (id : List ℕ) (xs : List E) → position (has_key id_cmp name id) xs ≡ position (is_named name id) xs
-  by_name id xs = λ i. position (λ e. same_test id (name e) i) xs
-
   -- what is found is there
-  pub named_at : (xs : List E) (id : List ℕ) (k : ℕ) → position (is_named name id) xs ≡ Some k → (k < length xs) × ((d : E) → name (slice_index_or xs k d) ≡ id)
+  pub named_at : (xs : List E) (id : List ℕ) (k : ℕ) → position (has_key name id) xs ≡ Some k → (k < length xs) × ((d : E) → name (slice_index_or xs k d) ≡ id)
   named_at xs id k h =
-      let at : (d : E) → (k < length xs) × (is_named name id (slice_index_or xs k d) ≡ true) × ((j : ℕ) → j < k → is_named name id (slice_index_or xs j d) ≡ false) =
-      λ d. position-Some (is_named name id) xs k d h in
-      let low : k < length xs = (some_low (position_or_len (is_named name id) xs) (length xs) k h).1 in
+      let at : (d : E) → (k < length xs) × (has_key name id (slice_index_or xs k d) ≡ true) × ((j : ℕ) → j < k → has_key name id (slice_index_or xs j d) ≡ false) =
+      λ d. position-Some (has_key name id) xs k d h in
+      let low : k < length xs = (some_low (position_or_len (has_key name id) xs) (length xs) k h).1 in
       (low, λ d. named (name (slice_index_or xs k d)) id (at d).1)
 
   -- under a name that is not found nothing is held
-  pub named_none : (xs : List E) (id : List ℕ) → position (is_named name id) xs ≡ None → (e : E) → Contains xs e → name e ≢ id
-  named_none xs id h e there = λ is. true≢false (sym ((bytes_eq-Decides (name e) id).1 is) ∙ none_passes (is_named name id) xs h e there)
+  pub named_none : (xs : List E) (id : List ℕ) → position (has_key name id) xs ≡ None → (e : E) → Contains xs e → name e ≢ id
+  named_none xs id h e there = λ is. true≢false (sym ((bytes_eq-Decides (name e) id).1 is) ∙ none_passes (has_key name id) xs h e there)

@@ -11,7 +11,7 @@ use Rattle.bk_evidence.specs.Collisions.{id_cmp, CollidesBy}
 use Rattle.bk_evidence.specs.Batches.{Batch, batch_with, has_digest, payload_of}
 use Rattle.bk_cert.specs.Node.{Node}
 use Rattle.bk_evidence.specs.Held.{cert_with}
-use Rattle.bk_evidence.specs.private.Named.{is_named}
+use Rattle.bk_index.specs.Finding.{has_key}
 use Rattle.bk_evidence.specs.private.Least.{least_of, IsLeastBy}
 use Rattle.bk_evidence.proofs.Colliding.{HasName, least_new, least_colliding}
 use Rattle.bk_evidence.proofs.Naming.{named_at, named_none, find_position, find_none}
@@ -38,17 +38,17 @@ module _ {X : Type 0} where
 
 module _ {E : Type 0} (name : E → List ℕ) (xs : List E) (o : Option (List ℕ)) where
   -- an entry that is found is held
-  pub held_at : (id : List ℕ) (k : ℕ) (d : E) → position (is_named name id) xs ≡ Some k → HasName name xs id
+  pub held_at : (id : List ℕ) (k : ℕ) (d : E) → position (has_key name id) xs ≡ Some k → HasName name xs id
   held_at id k d e = let at = named_at name xs id k e in (slice_index_or xs k d, Contains-get_or xs k d at.0, at.1 d)
 
   -- a first entry under its name
-  pub keeps_new : (ys : List E) (x : E) → IsLeastBy id_cmp (CollidesBy name xs) o → position (is_named name (name x)) xs ≡ None
+  pub keeps_new : (ys : List E) (x : E) → IsLeastBy id_cmp (CollidesBy name xs) o → position (has_key name (name x)) xs ≡ None
       → ys ≡ xs ++ x ∷ [] → IsLeastBy id_cmp (CollidesBy name ys) o
   keeps_new ys x least absent e =
       subst (λ (zs : List E). IsLeastBy id_cmp (CollidesBy name zs) o) (sym e) (least_new name xs x o (named_none name xs (name x) absent) least)
 
   -- a further one
-  pub keeps_more : (ys : List E) (x : E) (k : ℕ) → IsLeastBy id_cmp (CollidesBy name xs) o → position (is_named name (name x)) xs ≡ Some k → (Contains xs x → ⊥) → ys ≡ xs ++ x ∷ []
+  pub keeps_more : (ys : List E) (x : E) (k : ℕ) → IsLeastBy id_cmp (CollidesBy name xs) o → position (has_key name (name x)) xs ≡ Some k → (Contains xs x → ⊥) → ys ≡ xs ++ x ∷ []
       → IsLeastBy id_cmp (CollidesBy name ys) (Some (least_of id_cmp o (name x)))
   keeps_more ys x k least there absent e =
       subst (λ (zs : List E). IsLeastBy id_cmp (CollidesBy name zs) (Some (least_of id_cmp o (name x)))) (sym e)
@@ -68,11 +68,11 @@ module _ (xs : List Batch) (digest : List ℕ) where
 -- ---- certificates
 
 module _ (xs : List Node) (id : List ℕ) where
-  pub cert_found : (k : ℕ) (r : Node) → position (is_named (λ (c : Node). c.id) id) xs ≡ Some k → ((d : Node) → r ≡ get_or xs k d) → Some r ≡ cert_with xs id
-  cert_found k r e read = ap Some (read r) ∙ sym (find_position (is_named (λ (c : Node). c.id) id) xs k r e)
+  pub cert_found : (k : ℕ) (r : Node) → position (has_key (λ (c : Node). c.id) id) xs ≡ Some k → ((d : Node) → r ≡ get_or xs k d) → Some r ≡ cert_with xs id
+  cert_found k r e read = ap Some (read r) ∙ sym (find_position (has_key (λ (c : Node). c.id) id) xs k r e)
 
-  pub cert_absent : position (is_named (λ (c : Node). c.id) id) xs ≡ None → None ≡ cert_with xs id
-  cert_absent e = sym (find_none (is_named (λ (c : Node). c.id) id) xs e)
+  pub cert_absent : position (has_key (λ (c : Node). c.id) id) xs ≡ None → None ≡ cert_with xs id
+  cert_absent e = sym (find_none (has_key (λ (c : Node). c.id) id) xs e)
 
 -- ---- the last one of a list
 

@@ -9,7 +9,7 @@ ghost use Rattle.bk_evidence.specs.private.Least.{IsLeastBy};
 
 use crate::least::{least_id, lesser_id};
 use bk_digest::Digest32;
-use bk_index::{Keyed, KeyedList};
+use bk_index::{HashKey, Keyed, KeyedList};
 use std::alloc::{AllocError, Global};
 use std::marker::Model;
 
@@ -46,7 +46,7 @@ impl Model for Stored {
     ghost view = { λ s. batch_with s.digest s.payload.items };
 }
 
-impl Keyed<Digest32> for Stored {
+impl Keyed for Stored {
     ghost key_of = { λ b. b.digest };
 
     fn key(&self) -> &Digest32 {
@@ -57,12 +57,12 @@ impl Keyed<Digest32> for Stored {
 /// The batches that were offered, each distinct pair of a digest and a payload once. Contracts see
 /// them in the order in which they were stored.
 ///
-/// A batch takes its payload and some 70 bytes. Digests are handed in: that a digest is its
-/// payload's is the caller's concern. Once two payloads have one digest, each call that looks for a
-/// digest goes over all that is held; with SHA-256 no such two are known.
+/// A batch takes its payload and some 110 bytes. Digests are handed in: that a digest is its
+/// payload's is the caller's concern.
 #[derive(Drop)]
 pub struct Batches {
-    stored: KeyedList<Digest32, Stored>,
+    key: HashKey,
+    stored: KeyedList<Stored>,
     collision: Option<Digest32>,
 }
 
@@ -82,17 +82,18 @@ impl Model for Batches {
 
 impl Batches {
     /// No batch. It takes no memory.
-    pub fn new(alloc: Global) -> Batches
+    pub fn new(alloc: Global, key: HashKey) -> Batches
         ensures { result ≡ [] }
     {
         Batches {
-            stored: KeyedList::new(alloc),
+            key,
+            stored: KeyedList::new(alloc, key),
             collision: None,
         }
     }
 
-    /// Stores a payload under a digest, unless it is stored there. Mostly constant time, O(log n)
-    /// in what is held at worst.
+    /// Stores a payload under a digest, unless it is stored there. Constant time, while no two payloads
+    /// have one digest.
     ///
     /// An `Err` comes only where memory runs out, and leaves what is held as it was.
     pub fn offer(&mut self, digest: Digest32, payload: Vec<u8>) -> Result<BatchOffer, AllocError>
@@ -122,12 +123,17 @@ impl Batches {
         Some(payload_at(self.stored.as_slice(), index))
     }
 
-    /// The index of the batch whose payload `get` gives, found at once if it is the likely one.
-    pub fn index_of(&self, digest: &Digest32, likely: usize) -> Option<BatchRef>
+    /// The index of the batch whose payload `get` gives.
+    pub fn index_of(&self, digest: &Digest32) -> Option<BatchRef>
         ensures { option_map (λ b. b.index) result ≡ position (has_digest digest.now) self.now }
     {
-        let index = self.stored.get_near(digest, likely)?;
+        let index = self.stored.get(digest)?;
         Some(BatchRef { index })
+    }
+
+    /// The key of the table by digest.
+    pub fn key(&self) -> HashKey {
+        self.key
     }
 
     /// How many batches are held.
@@ -184,7 +190,7 @@ impl Batches {
 // The least of the digest that is known, if one is, and of those under which the one list and the
 // other have different payloads.
 fn least_across(
-    stored: &KeyedList<Digest32, Stored>,
+    stored: &KeyedList<Stored>,
     more: &[Stored],
     known: Option<Digest32>,
 ) -> Option<Digest32>
@@ -201,7 +207,7 @@ fn least_across(
 }
 
 // Whether the first batch under the digest of this one has another payload.
-fn has_other(stored: &KeyedList<Digest32, Stored>, batch: &Stored) -> bool
+fn has_other(stored: &KeyedList<Stored>, batch: &Stored) -> bool
     ensures yes { IsTrue result → HasOther stored.now batch.now }
     ensures no { result ≡ false → HasOther stored.now batch.now → Contains stored.now batch.now }
 {

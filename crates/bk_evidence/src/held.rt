@@ -17,22 +17,22 @@ use crate::offer::Offer;
 use crate::places::{Places, note};
 use bk_cert::{CertRef, SharedCert};
 use bk_digest::Digest32;
-use bk_index::KeyedList;
+use bk_index::{HashKey, KeyedList};
 use std::alloc::{AllocError, Global};
 use std::marker::Model;
 
 /// The certificates that were offered, each distinct pair of an id and a header once, those of
 /// collisions and twins too. Contracts see them in the order in which they were stored.
 ///
-/// A certificate takes 8 bytes, besides the header and its id, which are shared, 8 to 32 of hints, and
-/// 4 in the row of its round. The lists have room for at most about twice the certificates. A place
-/// takes 40 bytes more once it has twins. Once two headers have one id, each call that looks for an id
-/// goes over all that is held; with SHA-256 no such two are known.
+/// A certificate takes 8 bytes, besides the header and its id, which are shared, some 50 of the table
+/// by id, and 4 in the row of its round. The lists have room for at most about twice the certificates.
+/// A place takes 40 bytes more once it has twins.
 #[derive(Drop)]
 pub struct Held {
     alloc: Global,
     members: u8,
-    certs: KeyedList<Digest32, SharedCert>,
+    key: HashKey,
+    certs: KeyedList<SharedCert>,
     collision: Option<Digest32>,
     places: Places,
 }
@@ -55,20 +55,21 @@ impl Model for Held {
 impl Held {
     /// No certificate, of a committee of this many members. It takes no memory. A certificate of
     /// another author is held too, and found more slowly by its place.
-    pub fn new(alloc: Global, members: u8) -> Held
+    pub fn new(alloc: Global, members: u8, key: HashKey) -> Held
         ensures { result ≡ [] }
     {
         Held {
             alloc,
             members,
-            certs: KeyedList::new(alloc),
+            key,
+            certs: KeyedList::new(alloc, key),
             collision: None,
             places: Places::new(alloc, members),
         }
     }
 
-    /// Stores a header under an id, unless it is stored there. Mostly constant time, O(log n) in
-    /// what is held at worst.
+    /// Stores a header under an id, unless it is stored there. Constant time, while no two headers have
+    /// one id.
     ///
     /// An `Err` comes only where memory runs out, and leaves what is held as it was.
     pub fn offer(&mut self, cert: SharedCert) -> Result<Offer, AllocError>
@@ -175,7 +176,7 @@ impl Held {
     fn joined(&self, other: &Held) -> Result<Held, AllocError>
         ensures { IfOk result (λ all. HaveSame all (self.now ++ other.now)) }
     {
-        let mut all = Held::new(self.alloc, self.members);
+        let mut all = Held::new(self.alloc, self.members, self.key);
         offer_all(&mut all, self.certs.as_slice())?;
         offer_all(&mut all, other.certs.as_slice())?;
         Ok(all)
@@ -250,7 +251,7 @@ fn is_same(one: &SharedCert, other: &SharedCert) -> bool
 // Notes the last certificate, whose index this is, under its place, and answers the least id that the
 // place had before. Where memory runs out it is taken out again, and nothing has changed.
 fn note_last(
-    certs: &mut KeyedList<Digest32, SharedCert>,
+    certs: &mut KeyedList<SharedCert>,
     places: &mut Places,
     at: usize,
 ) -> Result<Option<Digest32>, AllocError>

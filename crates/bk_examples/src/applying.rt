@@ -3,8 +3,9 @@
 
 use crate::cutting::frame_at;
 use anyhow::Result;
+use bk_apply::apply;
 use bk_frames::{Counted, FaultCode, FeedFault, Sink, Source};
-use bk_replay::{Fault, apply};
+use bk_results::Fault;
 use bk_trial_kit::{Device, Reader, Writer, ends_of};
 use std::alloc::Global;
 use std::thread::Threads;

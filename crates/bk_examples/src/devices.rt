@@ -1,9 +1,12 @@
 //! Devices that move few bytes a call, and fail.
 
 use crate::outcome::Outcome;
-use bk_cli::{Job, Workers};
+use bk_base::Workers;
+use bk_cli::Job;
 use bk_frames::Counted;
-use bk_jobs::run_job;
+use bk_jobs::{Watch, run_watched};
+use bk_order::HashKey;
+use bk_pool::Open;
 use bk_trial_kit::{Device, Reader, Writer};
 use std::alloc::Global;
 use std::sync::Wait;
@@ -53,7 +56,21 @@ where
     let mut second = Counted::new(Reader::new(given.second, devices.second));
     let mut out = Counted::new(Writer::new(alloc, devices.out));
     let mut err = Counted::new(Vec::new(alloc));
-    let exit = run_job(rt, job, &mut source, &mut second, &mut out, &mut err);
+    let watch = Watch {
+        watcher: &Open,
+        verbose: false,
+        strict: false,
+        key: HashKey::fixed(),
+    };
+    let exit = run_watched(
+        rt,
+        job,
+        &watch,
+        &mut source,
+        &mut second,
+        &mut out,
+        &mut err,
+    );
     Outcome {
         status: exit.number(),
         out: out.into_inner().into_bytes(),

@@ -3,7 +3,7 @@
 use crate::devices::{all_good, feed_alone, job_with, run_by};
 use crate::outcome::Outcome;
 use anyhow::Result;
-use bk_cli::Workers;
+use bk_base::Workers;
 use bk_trial_kit::ends_of;
 use std::alloc::Global;
 use std::sync::Wait;

@@ -3,10 +3,13 @@
 ghost use Rattle.bk_frames.specs.Device.{CanBeUsed};
 
 use crate::outcome::Outcome;
+use bk_base::Workers;
 use bk_cli::{Exit, JobFault, report};
+use bk_follow::{Follower, Settings};
 use bk_frames::{Counted, Sink};
+use bk_order::HashKey;
 use bk_pool::Open;
-use bk_replay::{Fault, Follower, Status};
+use bk_results::{Fault, Status};
 use std::alloc::Global;
 use std::sync::Wait;
 use std::thread::Threads;
@@ -57,7 +60,11 @@ where
     R: AllocGlobal + Clock + Threads + Wait + Sync,
     requires sound { CanBeUsed (K.state out.old) }
 {
-    let mut follower = Follower::new(rt.alloc(), 2);
+    let settings = Settings {
+        workers: Workers::two(),
+        key: HashKey::fixed(),
+    };
+    let mut follower = Follower::new(rt.alloc(), settings);
     feed_all(rt, &mut follower, feed, pieces, out)
 }
 

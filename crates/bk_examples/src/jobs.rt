@@ -6,7 +6,8 @@ use crate::example::Example;
 use crate::failing::{Input, Tried, reads_fail_well, writes_fail_well};
 use crate::proofs::is_tight;
 use anyhow::Result;
-use bk_cli::{Job, Workers, parse};
+use bk_base::Workers;
+use bk_cli::{Job, parse_line};
 use bk_trial_kit::{Device, Tally, ends_of};
 use std::fs;
 use std::rt::Files;
@@ -197,8 +198,8 @@ pub(crate) fn try_words<R>(rt: &R, example: &Example<'_>, tally: &mut Tally) -> 
 where
     R: AllocGlobal + Clock + Files + Eprint + Threads + Wait + Sync,
 {
-    match parse(rt.alloc(), &example.words) {
-        Ok(job) => try_parsed(rt, example, &job, tally),
+    match parse_line(rt.alloc(), &example.words) {
+        Ok(line) => try_parsed(rt, example, &line.job, tally),
         Err(_) => Ok(()),
     }
 }

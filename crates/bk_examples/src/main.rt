@@ -1,4 +1,4 @@
-//! Runs every example through the program's own `parse` and `run_job`, and compares what is written with a file.
+//! Runs every example through the program's own `parse_line` and `run_watched`, and compares what is written with a file.
 //!
 //! The folder that it is run in has the examples and the table `commands`. A run of a feed that names no number of
 //! workers is done by 1, 2, 8 and 64, by a Follower that gets the feed in pieces, and with the feed cut. Each job is done
@@ -45,6 +45,7 @@ use crate::texts::try_texts;
 use anyhow::Result;
 use bk_trial_kit::Tally;
 use std::fs;
+use std::random::RandomSource;
 use std::rt::Files;
 use std::sync::Wait;
 use std::thread::Threads;
@@ -81,7 +82,7 @@ fn run_words<'a, R>(
     tally: &mut Tally,
 ) -> Result<()>
 where
-    R: AllocGlobal + Files + Input + Eprint + Clock + Threads + Wait + Sync,
+    R: AllocGlobal + Files + Input + Eprint + Clock + RandomSource + Threads + Wait + Sync,
 {
     let mut words = Vec::from_slice(rt.alloc(), &example.words)?;
     words.extend_from_slice(more)?;
@@ -107,7 +108,7 @@ where
 // Runs a feed in pieces and, if it is good as far as it goes, cut.
 fn run_parts<R>(rt: &R, example: &Example<'_>, feed: &[u8], tally: &mut Tally) -> Result<()>
 where
-    R: AllocGlobal + Files + Input + Eprint + Clock + Threads + Wait + Sync,
+    R: AllocGlobal + Files + Input + Eprint + Clock + RandomSource + Threads + Wait + Sync,
 {
     let whole = outcome_of(rt, &example.words)?;
     run_in_pieces(rt, example, feed, &whole, tally);
@@ -121,7 +122,7 @@ where
 // Runs a feed in each way.
 fn run_feed<R>(rt: &R, example: &Example<'_>, tally: &mut Tally) -> Result<()>
 where
-    R: AllocGlobal + Files + Input + Eprint + Clock + Threads + Wait + Sync,
+    R: AllocGlobal + Files + Input + Eprint + Clock + RandomSource + Threads + Wait + Sync,
 {
     for count in WORKERS {
         run_words(rt, example, &["--workers", count], tally)?;
@@ -147,7 +148,7 @@ where
 // Runs an example in each way that its command has.
 fn run_example<R>(rt: &R, example: &Example<'_>, tally: &mut Tally) -> Result<()>
 where
-    R: AllocGlobal + Files + Input + Eprint + Clock + Threads + Wait + Sync,
+    R: AllocGlobal + Files + Input + Eprint + Clock + RandomSource + Threads + Wait + Sync,
 {
     if example.has_free_workers() {
         return run_feed(rt, example, tally);
@@ -162,7 +163,7 @@ where
 // Runs all examples of the table.
 fn run_table<R>(rt: &R, tally: &mut Tally) -> Result<()>
 where
-    R: AllocGlobal + Files + Input + Eprint + Clock + Threads + Wait + Sync,
+    R: AllocGlobal + Files + Input + Eprint + Clock + RandomSource + Threads + Wait + Sync,
 {
     let table = fs::read_to_string(rt, "commands")?;
     for line in table.lines() {
@@ -175,7 +176,7 @@ where
 // Reads chosen texts, and runs all examples, and what is too long for one or is no command line.
 fn run_all<R>(rt: &R) -> Result<Tally>
 where
-    R: AllocGlobal + Files + Input + Eprint + Clock + Threads + Wait + Sync,
+    R: AllocGlobal + Files + Input + Eprint + Clock + RandomSource + Threads + Wait + Sync,
 {
     let mut tally = Tally::new();
     try_texts(rt, &mut tally)?;

@@ -8,6 +8,7 @@ use bk_progress::{Manner, Progress};
 use clap::Error;
 use clap::error::ErrorKind;
 use std::alloc::Global;
+use std::random::RandomSource;
 use std::rt::Files;
 use std::sync::Wait;
 use std::thread::Threads;
@@ -66,7 +67,7 @@ fn refused(alloc: Global, error: &Error) -> Result<Outcome> {
 /// Runs a command line whose input is in files.
 pub(crate) fn outcome_of<R>(rt: &R, words: &[&str]) -> Result<Outcome>
 where
-    R: AllocGlobal + Files + Input + Eprint + Clock + Threads + Wait + Sync,
+    R: AllocGlobal + Files + Input + Eprint + Clock + RandomSource + Threads + Wait + Sync,
 {
     let alloc: Global = rt.alloc();
     let line = match parse_line(alloc, words) {

@@ -1,8 +1,6 @@
-//! Scripts of all kinds of lines, and the lines of their faults.
+//! Scripts of all kinds of lines.
 
 use crate::made::{EMPTY_LEDGER, made, makes, makes_empty_ledger};
-use anyhow::Result;
-use bk_script::{ScriptCode, ScriptFault};
 use bk_trial_kit::Tally;
 use std::alloc::Global;
 
@@ -38,34 +36,7 @@ fn try_small<R: AllocGlobal + Eprint>(rt: &R, tally: &mut Tally) {
     tally.note(rt, "the script of every kind of line", is_right);
 }
 
-// The lines of faults.
-const LINES: [(ScriptFault, &str); 4] = [
-    (
-        ScriptFault::Script {
-            line: 12,
-            code: ScriptCode::Range,
-        },
-        "script fault 5 at line 12",
-    ),
-    (ScriptFault::Read, "read failed"),
-    (ScriptFault::Write { written: 4 }, "write failed"),
-    (ScriptFault::Memory, "memory"),
-];
-
-fn try_lines<R: AllocGlobal + Eprint>(
-    rt: &R,
-    rows: &[(ScriptFault, &str)],
-    tally: &mut Tally,
-) -> Result<()> {
-    for (fault, line) in rows {
-        let found = fault.to_string(rt.alloc())?;
-        tally.note(rt, line, found.as_str() == *line);
-    }
-    Ok(())
-}
-
 /// All of them.
-pub(crate) fn try_scripts<R: AllocGlobal + Eprint>(rt: &R, tally: &mut Tally) -> Result<()> {
+pub(crate) fn try_scripts<R: AllocGlobal + Eprint>(rt: &R, tally: &mut Tally) {
     try_small(rt, tally);
-    try_lines(rt, &LINES, tally)
 }

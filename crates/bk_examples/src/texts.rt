@@ -22,7 +22,7 @@ fn try_lines<R: AllocGlobal + Eprint>(rt: &R, tally: &mut Tally) {
 }
 
 fn try_all_scripts<R: AllocGlobal + Eprint>(rt: &R, tally: &mut Tally) -> Result<()> {
-    try_scripts(rt, tally)?;
+    try_scripts(rt, tally);
     try_script_faults(rt, tally);
     try_many(rt, tally)
 }

@@ -1,7 +1,7 @@
 //! Command lines that name a job. Those of examples are left out, but where they tell a number of workers.
 
 use anyhow::Result;
-use bk_cli::{Diagnosis, Job, Table, parse};
+use bk_cli::{Diagnosis, Job, Table, parse_line};
 use bk_results::Query;
 use bk_trial_kit::Tally;
 use std::alloc::Global;
@@ -209,10 +209,10 @@ fn is_wanted(job: &Job, named: &Named) -> bool {
 
 // Whether words name this job.
 fn name_this(alloc: Global, words: &[&str], named: &Named) -> Result<bool> {
-    let Ok(job) = parse(alloc, words) else {
+    let Ok(line) = parse_line(alloc, words) else {
         return Ok(false);
     };
-    Ok(is_wanted(&job, named) && has_root(alloc, &job)?)
+    Ok(is_wanted(&line.job, named) && has_root(alloc, &line.job)?)
 }
 
 /// The words of a command line, with `|` between them, as one may have a space in it.

@@ -2,12 +2,12 @@
 
 use crate::words::words_of;
 use anyhow::Result;
-use bk_cli::parse;
+use bk_cli::parse_line;
 use bk_trial_kit::Tally;
 use clap::error::ErrorKind;
 use std::alloc::Global;
 
-const WRONG: [(&str, ErrorKind); 49] = [
+const WRONG: [(&str, ErrorKind); 52] = [
     ("bkreplay", ErrorKind::MissingSubcommand),
     ("bkreplay|replay", ErrorKind::InvalidSubcommand),
     ("bkreplay|run|a|b", ErrorKind::UnknownArgument),
@@ -75,6 +75,16 @@ const WRONG: [(&str, ErrorKind); 49] = [
         "bkreplay|check-state|--workers|0|a0f73141eeeda4cb3f115f1ee0468dde8a3de31db5fd987f0eec1df811bce063",
         ErrorKind::ValueValidation,
     ),
+    // These read no feed.
+    ("bkreplay|make|--progress", ErrorKind::UnknownArgument),
+    (
+        "bkreplay|check-proof|--progress|a",
+        ErrorKind::UnknownArgument,
+    ),
+    (
+        "bkreplay|--progress|check-chain",
+        ErrorKind::UnknownArgument,
+    ),
     // These have no order to judge.
     ("bkreplay|make|--strict", ErrorKind::UnknownArgument),
     ("bkreplay|evidence|--strict", ErrorKind::UnknownArgument),
@@ -96,7 +106,7 @@ const WRONG: [(&str, ErrorKind); 49] = [
 
 // Whether the words give an error of this kind.
 fn gives(alloc: Global, words: &[&str], kind: ErrorKind) -> bool {
-    match parse(alloc, words) {
+    match parse_line(alloc, words) {
         Ok(_) => false,
         Err(error) => error.kind() == kind,
     }

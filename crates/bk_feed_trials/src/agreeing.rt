@@ -2,11 +2,13 @@
 
 ghost use Rattle.std.specs.Prelude.{◌≡◌, None};
 
+use crate::ended::settings;
 use crate::feeds::{FOUR_ROUNDS, THREE_ROUNDS};
 use crate::made::made;
 use anyhow::Result;
+use bk_follow::Follower;
 use bk_pool::Open;
-use bk_replay::{Agreed, Follower};
+use bk_results::Agreed;
 use bk_trial_kit::Tally;
 use std::sync::Wait;
 use std::thread::Threads;
@@ -51,7 +53,7 @@ fn one_agrees<R>(rt: &R, other: &mut Follower, feeds: (&[u8], &[u8])) -> Result<
 where
     R: AllocGlobal + Threads + Wait + Sync,
 {
-    let mut one = Follower::new(rt.alloc(), 2);
+    let mut one = Follower::new(rt.alloc(), settings(2));
     let is_right = follow_and_agree(rt, (&mut one, other), feeds);
     one.discard();
     is_right
@@ -61,7 +63,7 @@ fn both_agree<R>(rt: &R, feeds: (&[u8], &[u8])) -> Result<bool>
 where
     R: AllocGlobal + Threads + Wait + Sync,
 {
-    let mut other = Follower::new(rt.alloc(), 1);
+    let mut other = Follower::new(rt.alloc(), settings(1));
     let is_right = one_agrees(rt, &mut other, feeds);
     other.discard();
     is_right

@@ -1,11 +1,12 @@
 //! What a Follower is asked after each byte of a feed.
 
+use crate::ended::settings;
 use crate::feeds::{ONE_COMMIT, PROOF_OPENED, PROOF_PAID, TWO_COMMITS};
 use crate::made::made;
 use anyhow::Result;
 use bk_cert::CertRef;
+use bk_follow::{Follower, Order};
 use bk_pool::Open;
-use bk_replay::{Follower, Order};
 use bk_rules::{Account, Receipt, Status};
 use bk_trial_kit::Tally;
 use std::alloc::Global;
@@ -195,7 +196,7 @@ where
     R: AllocGlobal + Threads + Wait + Sync,
 {
     let feed = made(rt.alloc(), script)?;
-    let mut follower = Follower::new(rt.alloc(), 2);
+    let mut follower = Follower::new(rt.alloc(), settings(2));
     let is_right = gives_after_each(rt, &mut follower, &feed);
     follower.discard();
     is_right
@@ -243,7 +244,7 @@ where
     R: AllocGlobal + Threads + Wait + Sync,
 {
     let feed = made(rt.alloc(), script)?;
-    let mut follower = Follower::new(rt.alloc(), 1);
+    let mut follower = Follower::new(rt.alloc(), settings(1));
     let is_right = orders_alone(rt, &mut follower, &feed);
     follower.discard();
     is_right

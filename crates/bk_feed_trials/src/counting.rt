@@ -1,12 +1,14 @@
 //! Sources that keep count of what they are asked for: at most 65,536 bytes at once, and all bytes to the end.
 
-use crate::feeds::{NOTHING, ONE_COMMIT, PROOF_OPENED};
+use crate::ended::settings;
+use crate::feeds::{NOTHING, ONE_COMMIT};
 use crate::made::made;
-use crate::queries::{Row, asked};
 use anyhow::Result;
+use bk_compare::compare_with_gaps;
+use bk_follow::replay;
 use bk_frames::Counted;
 use bk_pool::Open;
-use bk_replay::{Agreed, Query, Reply, Status, compare, replay};
+use bk_results::{Agreed, Status};
 use bk_trial_kit::{Device, Reader, Tally, part};
 use std::alloc::Global;
 use std::sync::Wait;
@@ -57,25 +59,10 @@ where
     let alloc: Global = rt.alloc();
     let mut source = Counted::new(Reader::new(feed, Device::good(most)));
     let mut sink = Counted::new(Vec::new(alloc));
-    let end = replay(rt, alloc, &mut source, &mut sink, 2, &Open);
+    let end = replay(rt, alloc, &mut source, &mut sink, settings(2), &Open);
     let text = sink.into_inner();
     let is_little = is_little(source);
     is_little && end.ok() == Some(Status::Whole) && text.as_slice() == REPORT.as_bytes()
-}
-
-fn asks_little<R>(
-    rt: &R,
-    feed: &[u8],
-    most: usize,
-    query: &Query,
-    (reply, text): (Reply, &str),
-) -> bool
-where
-    R: AllocGlobal + Threads + Wait + Sync,
-{
-    let mut source = Counted::new(Reader::new(feed, Device::good(most)));
-    let left = asked(rt, &mut source, query, 2, Device::good(usize::MAX));
-    is_little(source) && left.is_reply(reply, text)
 }
 
 fn agreed(certs: usize, places: usize) -> Agreed {
@@ -88,19 +75,23 @@ where
 {
     let mut first = Counted::new(Reader::new(one, Device::good(most)));
     let mut second = Counted::new(Reader::new(other, Device::good(most)));
-    let agreed = compare(rt, rt.alloc(), &mut first, &mut second, 2, &Open);
+    let compared = compare_with_gaps(
+        rt,
+        rt.alloc(),
+        &mut first,
+        &mut second,
+        settings(2),
+        &Open,
+        false,
+    );
     let first = is_little(first);
     let second = is_little(second);
-    first && second && agreed.ok() == Some(wanted)
+    let agrees = match compared {
+        Ok(it) => it.agreed == wanted,
+        Err(_) => false,
+    };
+    first && second && agrees
 }
-
-const QUERIES: [Row; 5] = [
-    (Query::Order, Reply::Found, "anchor 1 0\ncert 1 0\n"),
-    (Query::Account { id: 1 }, Reply::Found, "account 1 100 0\n"),
-    (Query::Receipt { place: 0 }, Reply::Absent, ""),
-    (Query::Proof { id: 2 }, Reply::Found, PROOF_OPENED),
-    (Query::Proof { id: 3 }, Reply::Absent, ""),
-];
 
 fn try_wide<R>(rt: &R, wide: &[u8], tally: &mut Tally)
 where
@@ -109,10 +100,6 @@ where
     for most in STEPS {
         let is_right = replays_little(rt, wide, most);
         tally.note(rt, "a replay of a wide batch", is_right);
-        for (query, reply, text) in QUERIES.iter() {
-            let is_right = asks_little(rt, wide, most, query, (*reply, *text));
-            tally.note(rt, "a query of a wide batch", is_right);
-        }
     }
 }
 
@@ -141,7 +128,7 @@ where
     Ok(())
 }
 
-/// Replays, queries and comparisons of a feed with a batch of 200,000 bytes.
+/// Replays and comparisons of a feed with a batch of 200,000 bytes.
 pub(crate) fn try_counting<R>(rt: &R, tally: &mut Tally) -> Result<()>
 where
     R: AllocGlobal + Eprint + Threads + Wait + Sync,

@@ -1,10 +1,12 @@
 //! How a feed ends.
 
 use anyhow::Result;
+use bk_base::Workers;
+use bk_follow::{Follower, Settings, replay};
 use bk_frames::Counted;
+use bk_order::HashKey;
 use bk_pool::Open;
-use bk_replay::{Fault, Follower, Status, apply, replay};
-use bk_trial_kit::part;
+use bk_results::{Fault, Status};
 use std::alloc::Global;
 use std::sync::Wait;
 use std::thread::Threads;
@@ -26,12 +28,13 @@ impl Ended {
     pub(crate) fn is_fault(&self, fault: &Fault) -> bool {
         self.end == Err(*fault) && self.text.is_empty()
     }
+}
 
-    /// Whether it is a whole report that ends in that of `apply` and one line more.
-    pub(crate) fn ends_in(&self, apply: &[u8]) -> bool {
-        let state = b"state ".len() + 64 + 1;
-        let before = self.text.len().saturating_sub(state);
-        self.end == Ok(Status::Whole) && part(&self.text, 0, before).ends_with(apply)
+/// So many workers, one where there cannot be as many.
+pub(crate) fn settings(workers: u8) -> Settings {
+    Settings {
+        workers: Workers::new(workers).unwrap_or(Workers::one()),
+        key: HashKey::fixed(),
     }
 }
 
@@ -48,37 +51,25 @@ where
 }
 
 /// Replays a feed.
-pub(crate) fn replayed<R>(rt: &R, feed: &[u8], workers: usize) -> Ended
+pub(crate) fn replayed<R>(rt: &R, feed: &[u8], workers: u8) -> Ended
 where
     R: AllocGlobal + Threads + Wait + Sync,
 {
     let alloc: Global = rt.alloc();
     let mut source = Counted::new(feed);
     let mut sink = Counted::new(Vec::new(alloc));
-    let workers = workers.clamp(1, 64);
-    let end = replay(rt, alloc, &mut source, &mut sink, workers, &Open);
+    let end = replay(rt, alloc, &mut source, &mut sink, settings(workers), &Open);
     let text = sink.into_inner();
     Ended { end, text }
 }
 
 /// Whether a replay of a feed has just this report.
-pub(crate) fn replays<R>(rt: &R, feed: &[u8], workers: usize, wanted: &[u8]) -> bool
+pub(crate) fn replays<R>(rt: &R, feed: &[u8], workers: u8, wanted: &[u8]) -> bool
 where
     R: AllocGlobal + Threads + Wait + Sync,
 {
     let ended = replayed(rt, feed, workers);
     ended.is_report(wanted)
-}
-
-/// The report of the batches of a feed executed one transaction at a time, in the order of the feed.
-pub(crate) fn applied<R>(rt: &R, feed: &[u8]) -> Result<Vec<u8>>
-where
-    R: AllocGlobal + Threads + Sync,
-{
-    let alloc: Global = rt.alloc();
-    let mut sink = Counted::new(Vec::new(alloc));
-    apply(rt, alloc, &mut Counted::new(feed), &mut sink)?;
-    Ok(sink.into_inner())
 }
 
 /// The report of one member's feed.

@@ -3,7 +3,7 @@
 use anyhow::{Result, bail};
 use bk_digest::Digest32;
 use bk_frames::{FaultCode, FeedFault};
-use bk_replay::Fault;
+use bk_results::Fault;
 
 fn digest(hex: &str) -> Result<Digest32> {
     match Digest32::parse_hex(hex.as_bytes()) {

@@ -7,13 +7,6 @@ pub(crate) const NOTHING: &str = "members 1\naccount 1 100\naccount 2 50\n";
 pub(crate) const ONE_COMMIT: &str =
     "members 1\naccount 1 100\naccount 2 50\nbatch b\npay 1 2 30 0\ncert a 1 0 b - 0\ncert b 2 0 - a 0\n";
 
-/// The digest of its feed.
-pub(crate) const ONE_COMMIT_DIGEST: &str =
-    "fbe9906026bf4ba672678f26bac1d15b431bf15c234e3de83537f5c6902f21d1";
-
-/// Where its magic and its frames end: the committee, the genesis, the batch, and rounds 1 and 2.
-pub(crate) const ONE_COMMIT_ENDS: [usize; 6] = [4, 42, 99, 160, 253, 346];
-
 /// Round 2 votes for round 1, which names the first payment, and round 4 for round 3, which names the second.
 pub(crate) const TWO_COMMITS: &str =
     "members 1\naccount 1 100\naccount 2 50\nbatch b\npay 1 2 30 0\nbatch c\npay 2 1 5 0\ncert a 1 0 b - 0\ncert b 2 0 - a 0\ncert c 3 0 c b 0\ncert d 4 0 - c 0\n";
@@ -25,8 +18,8 @@ pub(crate) const TWO_COMMITS_DIGEST: &str =
 /// Where its magic and its frames end: the committee, the genesis, two batches, and rounds 1 to 4.
 pub(crate) const TWO_COMMITS_ENDS: [usize; 9] = [4, 42, 99, 160, 221, 314, 407, 532, 625];
 
-/// The lines after `frames` before a certificate is ordered.
-pub(crate) const OPENED: &str =
+// The lines after `frames` before a certificate is ordered.
+const OPENED: &str =
     "account 1 100 0\naccount 2 50 0\nmoney 150\nstate 58adcc856b347f0dd4813ad33cdb8253d78a0cd40d3f41ac066bce24d28a8a5d\n";
 
 /// Those after round 2.
@@ -64,15 +57,7 @@ pub(crate) const REPEATED: &str =
 pub(crate) const REPEATED_LINES: &str =
     "anchor 1 0\nanchor 3 0\ncert 1 0\ncert 2 0\ncert 3 0\nbatch 0 1\ntx 0 0 30\naccount 1 70 1\naccount 2 80 0\nmoney 150\nstate a0f73141eeeda4cb3f115f1ee0468dde8a3de31db5fd987f0eec1df811bce063\n";
 
-/// Round 1 names the payment, and then a batch that does not come: that of "abc".
-pub(crate) const MISSING: &str =
-    "members 1\naccount 1 100\naccount 2 50\nbatch b\npay 1 2 30 0\ncert a 1 0 b,ba7816bf8f01cfea414140de5dae2223b00361a396177a9cb410ff61f20015ad - 0\ncert b 2 0 - a 0\n";
-
-/// Round 1 twice, with the payment and without it.
-pub(crate) const ROUND_ONE: &str =
-    "members 1\naccount 1 100\naccount 2 50\nbatch b\npay 1 2 30 0\ncert a 1 0 b - 0\ncert e 1 0 - - 0\n";
-
-/// The ids of both, which were worked out by another program.
+/// The ids of two certificates of round 1, with the payment and without it, which were worked out by another program.
 pub(crate) const ROUND_ONE_IDS: (&str, &str) = (
     "3a3c971d52e891f8d1a0ba6c70a85e8441563abdddabd5af38fc6d2c9341e350",
     "afb203aeddb54bba05c780118d206fa2d2a6dc339c542173499c03db2eb8b1c9",

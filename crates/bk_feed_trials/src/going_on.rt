@@ -37,7 +37,7 @@ where
 }
 
 // Whether the feed is reported before its last frame, and after it.
-fn goes_on_after_end<R>(rt: &R, feed: &[u8], workers: usize) -> bool
+fn goes_on_after_end<R>(rt: &R, feed: &[u8], workers: u8) -> bool
 where
     R: AllocGlobal + Threads + Wait + Sync,
 {
@@ -144,7 +144,7 @@ where
     Ok(())
 }
 
-fn try_ends<R>(rt: &R, feed: &[u8], workers: &[usize], tally: &mut Tally)
+fn try_ends<R>(rt: &R, feed: &[u8], workers: &[u8], tally: &mut Tally)
 where
     R: AllocGlobal + Eprint + Threads + Wait + Sync,
 {

@@ -7,7 +7,7 @@ use crate::made::made;
 use crate::story::{Step, follows};
 use anyhow::Result;
 use bk_frames::FaultCode;
-use bk_replay::Fault;
+use bk_results::Fault;
 use bk_trial_kit::{Tally, frame, part};
 use std::alloc::Global;
 use std::sync::Wait;
@@ -99,7 +99,7 @@ where
     let feed = wide_feed(rt.alloc())?;
     let text = report(rt.alloc(), FRAMES, BOTH)?;
     tally.note(rt, "the feed of many groups", feed.len() == LENGTH);
-    for workers in [1usize, 2] {
+    for workers in [1u8, 2] {
         let is_right = replays(rt, &feed, workers, text.as_bytes());
         tally.note(rt, "many groups replayed", is_right);
     }

@@ -1,10 +1,12 @@
 //! Workers that are inside two places at once.
 
+use crate::ended::settings;
 use crate::made::made;
 use anyhow::Result;
+use bk_follow::{Follower, replay};
 use bk_frames::Counted;
 use bk_pool::Gate;
-use bk_replay::{Follower, Status, replay};
+use bk_results::Status;
 use bk_trial_kit::Tally;
 use std::alloc::Global;
 use std::fmt::Write;
@@ -131,7 +133,14 @@ where
 {
     let alloc: Global = rt.alloc();
     let mut sink = Counted::new(Vec::new(alloc));
-    let end = replay(rt, alloc, &mut Counted::new(feed), &mut sink, 2, gate);
+    let end = replay(
+        rt,
+        alloc,
+        &mut Counted::new(feed),
+        &mut sink,
+        settings(2),
+        gate,
+    );
     let text = sink.into_inner();
     end.ok() == Some(Status::Whole) && text.as_slice() == wanted.as_bytes() && have_met(gate)
 }
@@ -141,7 +150,7 @@ fn settle_meets<R>(rt: &R, feed: &[u8], gate: &Meeting<'_>) -> bool
 where
     R: AllocGlobal + Threads + Wait + Sync,
 {
-    let mut follower = Follower::new(rt.alloc(), 2);
+    let mut follower = Follower::new(rt.alloc(), settings(2));
     let is_taken = follower.feed(rt, feed).is_ok();
     let settled = follower.settle(rt, gate).ok();
     follower.discard();

@@ -6,7 +6,7 @@ use crate::feeds::{BOTH, REPORTS, TWO_COMMITS, TWO_COMMITS_DIGEST, TWO_COMMITS_E
 use crate::made::{has_digest, made};
 use crate::story::{Step, follows};
 use anyhow::Result;
-use bk_replay::Fault;
+use bk_results::Fault;
 use bk_trial_kit::{Tally, part};
 use std::sync::Wait;
 use std::thread::Threads;

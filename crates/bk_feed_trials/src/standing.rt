@@ -1,14 +1,16 @@
 //! Faults of a feed and of a sink, which every later call gives again.
 
+use crate::ended::settings;
 use crate::faults::broken;
 use crate::feeds::TWO_COMMITS;
 use crate::made::made;
 use crate::stopped::is_refused;
 use crate::story::{Step, follows};
 use anyhow::Result;
+use bk_follow::Follower;
 use bk_frames::{Counted, FaultCode};
 use bk_pool::Open;
-use bk_replay::{Fault, Follower};
+use bk_results::Fault;
 use bk_trial_kit::{Device, Tally, Writer, part};
 use std::sync::Wait;
 use std::thread::Threads;
@@ -143,7 +145,7 @@ fn keeps_failure<R>(rt: &R, feed: &[u8]) -> bool
 where
     R: AllocGlobal + Threads + Wait + Sync,
 {
-    let mut follower = Follower::new(rt.alloc(), 2);
+    let mut follower = Follower::new(rt.alloc(), settings(2));
     let is_right = fails_to_write(rt, &mut follower, feed);
     follower.discard();
     is_right

@@ -1,8 +1,9 @@
 //! Followers that give a fault.
 
 use crate::ended::finished;
+use bk_follow::Follower;
 use bk_pool::Open;
-use bk_replay::{Fault, Follower};
+use bk_results::Fault;
 use std::sync::Wait;
 use std::thread::Threads;
 

@@ -1,11 +1,10 @@
 //! Stories of a Follower: what it is given and asked, step by step, and what has to come of it.
 
-use crate::ended::{finished, report};
+use crate::ended::{finished, report, settings};
 use crate::stopped::{ends_in_fault, is_refused, is_stopped, refuses, settles_nothing};
-use anyhow::Result;
+use bk_follow::Follower;
 use bk_pool::Open;
-use bk_replay::{Fault, Follower};
-use bk_trial_kit::{ends_of, frame, part};
+use bk_results::Fault;
 use std::sync::Wait;
 use std::thread::Threads;
 
@@ -26,8 +25,6 @@ pub(crate) enum Step<'a> {
     SettlesNot(&'a Fault),
     /// There is a receipt just for the places before this one.
     HasReceipts(u32),
-    /// Nothing is ordered.
-    OrdersNothing,
     /// If its feed ends here, it has this report, however often it is ended.
     Reports(&'a [u8]),
     /// The same of a report of one member, with so many frames and these lines.
@@ -96,11 +93,6 @@ fn has_receipts(follower: &Follower, places: u32) -> bool {
     has_last && has_no_more
 }
 
-fn orders_nothing(follower: &Follower) -> bool {
-    let order = follower.last_order();
-    order.anchors.is_empty() && order.certs.is_empty()
-}
-
 fn reports_once<R>(rt: &R, follower: &mut Follower, wanted: &[u8]) -> bool
 where
     R: AllocGlobal + Threads + Wait + Sync,
@@ -145,7 +137,6 @@ where
         Step::Settles(places) => follower.settle(rt, &Open).ok() == Some(*places),
         Step::SettlesNot(fault) => settles_nothing(rt, follower, fault),
         Step::HasReceipts(places) => has_receipts(follower, *places),
-        Step::OrdersNothing => orders_nothing(follower),
         Step::Reports(text) => reports(rt, follower, text),
         Step::ReportsLines(frames, lines) => reports_lines(rt, follower, *frames, lines),
         Step::Ends(fault) => ends_in_fault(rt, follower, fault),
@@ -167,62 +158,12 @@ where
 }
 
 /// Whether a Follower with so many workers does all of this. It is owned here alone.
-pub(crate) fn follows<R>(rt: &R, workers: usize, story: &[Step<'_>]) -> bool
+pub(crate) fn follows<R>(rt: &R, workers: u8, story: &[Step<'_>]) -> bool
 where
     R: AllocGlobal + Threads + Wait + Sync,
 {
-    let mut follower = Follower::new(rt.alloc(), workers.clamp(1, 64));
+    let mut follower = Follower::new(rt.alloc(), settings(workers));
     let is_right = passes_all(rt, &mut follower, story);
     follower.discard();
     is_right
-}
-
-// ---- frame by frame
-
-// A story is lent wherever it is written to: a function that owns it drops it at each of its exits.
-fn put_frames<'a>(
-    story: &mut Vec<Step<'a>>,
-    (feed, ends): (&'a [u8], &[usize]),
-    places: &[usize],
-) -> Result<()> {
-    let head = ends.get(2).copied().unwrap_or(0);
-    story.push(Step::Takes(part(feed, 0, head)))?;
-    let mut index = 2usize;
-    for settled in places {
-        story.push(Step::Takes(frame(feed, ends, index)))?;
-        story.push(Step::Settles(*settled))?;
-        index = index.saturating_add(1);
-    }
-    Ok(())
-}
-
-fn settles_all<'x, R>(
-    rt: &R,
-    workers: usize,
-    feed: (&'x [u8], &[usize]),
-    places: &[usize],
-    wanted: &'x [u8],
-) -> Result<bool>
-where
-    R: AllocGlobal + Threads + Wait + Sync,
-{
-    let mut story = Vec::new(rt.alloc());
-    put_frames(&mut story, feed, places)?;
-    story.push(Step::Reports(wanted))?;
-    Ok(follows(rt, workers, &story))
-}
-
-/// Whether each frame after the genesis settles so many places, and this report is written.
-pub(crate) fn settles_frames<R>(
-    rt: &R,
-    workers: usize,
-    feed: &[u8],
-    places: &[usize],
-    wanted: &[u8],
-) -> Result<bool>
-where
-    R: AllocGlobal + Threads + Wait + Sync,
-{
-    let ends = ends_of(rt.alloc(), feed)?;
-    settles_all(rt, workers, (feed, &ends), places, wanted)
 }

@@ -6,7 +6,7 @@ use crate::made::{has_digest, made};
 use crate::story::{Step, follows};
 use anyhow::Result;
 use bk_frames::FaultCode;
-use bk_replay::Fault;
+use bk_results::Fault;
 use bk_trial_kit::{Tally, ends_of, frame, part, with_frames};
 use std::alloc::Global;
 use std::sync::Wait;

@@ -3,13 +3,11 @@ use Rattle.std.proofs.Common.{◌≡◌, ℕ, suc, ◌+◌, ◌-◌, ◌<◌, �
 use Rattle.std.specs.Prelude.{◌||◌, nat_lt, not, is_some, IsSome, option_map}
 use Rattle.std.specs.Str.{bytes_eq}
 use Rattle.std.specs.List.{fold, list_any, position, position_or_len}
-use Rattle.std.specs.Cmp.Lexicographic.{texts_ties}
 use Rattle.std.proofs.lemmas.Slice.Eq.{bytes_eq-Decides}
 use Rattle.std.proofs.lemmas.Bool.{both_ways}
 use Rattle.std.proofs.lemmas.Bool.Decides.{nat_tests}
 use Rattle.std.proofs.lemmas.List.{append-nil, append_assoc, take_at, take_all, take-take}
 use Rattle.bk_index.specs.Finding.{has_key}
-use Rattle.bk_evidence.specs.Collisions.{id_cmp}
 use Rattle.bk_flatten.specs.private.Listing.{with_digest, with_digests}
 
 pub same_back : (x y : List ℕ) (b : Bool) → bytes_eq x y ≡ b → bytes_eq y x ≡ b
@@ -43,18 +41,18 @@ some_test false n = refl
 
 module _ {E : Type 0} (key_of : E → List ℕ) where
   -- the key is in the list exactly where it is found
-  found_any : (xs : List E) (d : List ℕ) → is_some (position (has_key id_cmp key_of d) xs) ≡ list_any (λ x. bytes_eq d (key_of x)) xs
+  found_any : (xs : List E) (d : List ℕ) → is_some (position (has_key key_of d) xs) ≡ list_any (λ x. bytes_eq d (key_of x)) xs
   found_any xs d =
-      some_test _ (position_or_len (has_key id_cmp key_of d) xs)
-      ∙ (low_any (has_key id_cmp key_of d) xs ∙ (λ i. list_any (λ x. (sym (texts_ties d (key_of x))) i) xs))
+      some_test _ (position_or_len (has_key key_of d) xs)
+      ∙ (low_any (has_key key_of d) xs ∙ (λ i. list_any (λ x. same_back d (key_of x) (bytes_eq d (key_of x)) refl i) xs))
 
   -- an entry is added where its key is not found
-  pub added_by : (xs ys : List E) (e : E) (o : Option (ℕ × E)) → option_map (λ (f : ℕ × E). f.0) o ≡ position (has_key id_cmp key_of (key_of e)) xs
+  pub added_by : (xs ys : List E) (e : E) (o : Option (ℕ × E)) → option_map (λ (f : ℕ × E). f.0) o ≡ position (has_key key_of (key_of e)) xs
       → (IsSome o → ys ≡ xs) → (o ≡ None → ys ≡ xs ++ e ∷ []) → ys ≡ cond (list_any (λ x. bytes_eq (key_of e) (key_of x)) xs) xs (xs ++ e ∷ [])
   added_by xs ys e None found known new = new refl ∙ sym (ap (λ (t : Bool). cond t xs (xs ++ e ∷ [])) (sym (ap is_some found ∙ found_any xs (key_of e))))
   added_by xs ys e (Some f) found known new = known refl ∙ sym (ap (λ (t : Bool). cond t xs (xs ++ e ∷ [])) (sym (ap is_some found ∙ found_any xs (key_of e))))
 
-pub added : (xs ys : List (List ℕ)) (d : List ℕ) (o : Option (ℕ × List ℕ)) → option_map (λ (f : ℕ × List ℕ). f.0) o ≡ position (has_key id_cmp (λ (e : List ℕ). e) d) xs
+pub added : (xs ys : List (List ℕ)) (d : List ℕ) (o : Option (ℕ × List ℕ)) → option_map (λ (f : ℕ × List ℕ). f.0) o ≡ position (has_key (λ (e : List ℕ). e) d) xs
     → (IsSome o → ys ≡ xs) → (o ≡ None → ys ≡ xs ++ d ∷ []) → ys ≡ with_digest xs d
 added = added_by (λ (e : List ℕ). e)
 

@@ -12,7 +12,7 @@ use crate::digests::add_all;
 use bk_cert::CertRef;
 use bk_digest::Digest32;
 use bk_evidence::{BatchRef, Batches};
-use bk_index::KeyedList;
+use bk_index::{HashKey, KeyedList};
 use bk_rounds::Rounds;
 use std::alloc::{AllocError, Global};
 use std::marker::Model;
@@ -23,7 +23,7 @@ use std::marker::Model;
 #[derive(Drop)]
 pub struct BatchList {
     alloc: Global,
-    digests: KeyedList<Digest32, Digest32>,
+    digests: KeyedList<Digest32>,
     found: Vec<BatchRef>,
 }
 
@@ -37,12 +37,12 @@ impl Model for BatchList {
 
 impl BatchList {
     /// The list of no order. It takes no memory.
-    pub fn new(alloc: Global) -> BatchList
+    pub fn new(alloc: Global, key: HashKey) -> BatchList
         ensures { result ≡ listed_with [] [] }
     {
         BatchList {
             alloc,
-            digests: KeyedList::new(alloc),
+            digests: KeyedList::new(alloc, key),
             found: Vec::new(alloc),
         }
     }
@@ -126,15 +126,10 @@ fn found_from(
         → IsFoundWhole batches.now (listed_with digests.now (found ++ part.items))) }
 {
     let mut part = Vec::new(alloc);
-    // Batches are mostly stored in the order in which they are committed.
-    let mut likely = from;
     for k in from..digests.len() {
-        match batches.index_of(&digests[k], likely) {
+        match batches.index_of(&digests[k]) {
             None => return Ok(part),
-            Some(batch) => {
-                likely = batch.index.saturating_add(1);
-                part.push(batch)?;
-            }
+            Some(batch) => part.push(batch)?,
         }
     }
     Ok(part)
@@ -152,7 +147,7 @@ pub fn batches_of(
     ensures { IfOk result (λ list. payloads_of batches.now list
         ≡ batches_of rounds.now.held batches.now order.now) }
 {
-    let mut list = BatchList::new(alloc);
+    let mut list = BatchList::new(alloc, batches.key());
     list.name(rounds, order)?;
     list.find(batches)?;
     Ok(list)

@@ -1,7 +1,4 @@
 //! Digests in their order, each once.
-//!
-//! One is mostly found in constant time, and in O(log n) of them whatever its bytes: they come from a
-//! feed.
 
 ghost use Rattle.std.specs.Prelude.{◌≡◌, length, take, OnOk, OnErr};
 ghost use Rattle.bk_flatten.specs.private.Listing.{with_digest, with_digests};
@@ -11,7 +8,7 @@ use bk_index::KeyedList;
 use std::alloc::AllocError;
 
 // Adds a digest, unless it is there. Where memory runs out nothing changes.
-fn add(digests: &mut KeyedList<Digest32, Digest32>, digest: Digest32) -> Result<(), AllocError>
+fn add(digests: &mut KeyedList<Digest32>, digest: Digest32) -> Result<(), AllocError>
     ensures ok { OnOk result (digests.new ≡ with_digest digests.old digest) }
     ensures err { OnErr result (digests.new ≡ digests.old) }
 {
@@ -22,7 +19,7 @@ fn add(digests: &mut KeyedList<Digest32, Digest32>, digest: Digest32) -> Result<
 /// Adds each of these digests, unless it is there. Where memory runs out nothing changes: what was
 /// added is taken out again.
 pub(crate) fn add_all(
-    digests: &mut KeyedList<Digest32, Digest32>,
+    digests: &mut KeyedList<Digest32>,
     named: &[Digest32],
 ) -> Result<(), AllocError>
     ensures ok { OnOk result (digests.new ≡ with_digests digests.old named.now) }
@@ -39,7 +36,7 @@ pub(crate) fn add_all(
 }
 
 // Takes out all but the first `len` digests.
-fn cut(digests: &mut KeyedList<Digest32, Digest32>, len: usize)
+fn cut(digests: &mut KeyedList<Digest32>, len: usize)
     ensures { digests.new ≡ take len digests.old }
 {
     while digests.len() > len {

@@ -89,7 +89,7 @@ judged_room j o book (open_, (version, before, h)) is =
     room_for_more version before j.frames book (with_book version before o.committee book (subst (λ (b : Option BookValue). FollowsBy version before o.committee b) is h.follows)) h.good
 
 pub judged_taken : (j : JudgedValue) (o : Opened) (book new : BookValue) → CanTakeJudged (Some j) o → o.book ≡ Some book → new.taken.committee ≡ book.taken.committee
-    → ((version : Version) (before : List Frame) → 2 ≤ length before → IsBookOf (feed_of version before) book → IsBookOf (feed_of version (before ++ j.frames)) new) → TakesJudged (Some j) o (record { committee = o.committee; book = Some new })
+    → ((version : Version) (before : List Frame) → 2 ≤ length before → IsBookOf (feed_of version before) book → IsBookOf (feed_of version (before ++ j.frames)) new) → TakesJudged (Some j) o (record { committee = o.committee; key = o.key; book = Some new })
 judged_taken j o book new (open_, come) is mine takes =
     let same : book ≡ open_.0 = some_is book open_.0 (sym is ∙ open_.1) in (
       (new, refl, mine ∙ ap (λ (b : BookValue). b.taken.committee) same ∙ open_.2),

@@ -11,8 +11,10 @@ ghost use Rattle.bk_follow.specs.private.Books.{IsCurrentOf};
 
 use crate::fault::Fault;
 use crate::follower::Follower;
+use crate::settings::{Settings, alone};
 use bk_answer::{Answer, OrderAnswer};
 use bk_frames::{PIECE, Sink, Source};
+use bk_order::HashKey;
 use bk_pool::Gate;
 use std::alloc::Global;
 use std::sync::Wait;
@@ -92,8 +94,8 @@ where
     Ok(end)
 }
 
-/// Reads a feed, finds its committed order, executes the order's batches on this many workers, 1 to 64, and writes what
-/// is asked of it.
+/// Reads a feed, finds its committed order, executes the order's batches by threads as the settings say, and writes
+/// what is asked of it.
 ///
 /// However many workers there are, and however they run, it is what the definitions read off the feed's frames as a set
 /// and the transactions one at a time. The whole feed is read before anything is written, and with every fault but
@@ -105,7 +107,7 @@ pub fn answer_by_ledger<R, S: Source, K: Sink, G: Gate + Sync, A: Answer>(
     alloc: Global,
     source: &mut S,
     sink: &mut K,
-    workers: usize,
+    settings: Settings,
     gate: &G,
     asked: &A,
 ) -> Result<A::End, Fault>
@@ -114,7 +116,6 @@ where
     requires ask { A.can_ask asked.now }
     requires source { CanBeUsed (S.state source.old) }
     requires sink { CanBeUsed (K.state sink.old) }
-    requires workers { (1 ≤ workers) × (workers ≤ 64) }
     ensures answer { IfOk result (λ end. IsAnswered (A.text asked.now) end
         (devices (S.state source.old) (K.state sink.old))
         (devices (S.state source.new) (K.state sink.new))) }
@@ -123,7 +124,7 @@ where
         (devices (S.state source.new) (K.state sink.new))) }
 {
     let mut piece = vec![in alloc; 0u8; PIECE]?;
-    let mut follower = Follower::new(alloc, workers);
+    let mut follower = Follower::new(alloc, settings);
     let end = follow_and_answer(
         rt,
         source,
@@ -212,6 +213,7 @@ fn follow_order_and_answer<R: Threads + Sync, S: Source, K: Sink, A: OrderAnswer
 pub fn answer_by_order<R: Threads + Sync, S: Source, K: Sink, A: OrderAnswer>(
     rt: &R,
     alloc: Global,
+    key: HashKey,
     source: &mut S,
     sink: &mut K,
     asked: &A,
@@ -227,7 +229,7 @@ pub fn answer_by_order<R: Threads + Sync, S: Source, K: Sink, A: OrderAnswer>(
         (devices (S.state source.new) (K.state sink.new))) }
 {
     let mut piece = vec![in alloc; 0u8; PIECE]?;
-    let mut follower = Follower::new(alloc, 1);
+    let mut follower = Follower::new(alloc, alone(key));
     let end = follow_order_and_answer(rt, source, sink, piece.as_mut_slice(), &mut follower, asked);
     follower.end(asked.is_last());
     end

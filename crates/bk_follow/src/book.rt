@@ -19,11 +19,11 @@ ghost use Rattle.bk_follow.specs.private.Ledgers.{LeavesBy, left_after};
 
 use crate::fault::{Fault, stopped, unexecuted};
 use bk_answer::{Answer, Closed, ClosedOrder, Report};
-use bk_base::{Kind, Row};
+use bk_base::{Kind, Row, Workers};
 use bk_committee::Committee;
 use bk_frames::Sink;
 use bk_ledger::Ledger;
-use bk_order::{Intake, JudgedFrames};
+use bk_order::{HashKey, Intake, JudgedFrames};
 use bk_pool::Gate;
 use bk_results::Status;
 use std::alloc::{AllocError, Global};
@@ -72,7 +72,7 @@ fn execute_rest<R: Threads + Wait + Sync, G: Gate + Sync>(
     alloc: Global,
     intake: &Intake,
     ledger: Ledger,
-    workers: usize,
+    workers: Workers,
     gate: &G,
 ) -> Result<Ledger, Fault>
     requires open { intake.now.failed ≡ false }
@@ -80,14 +80,13 @@ fn execute_rest<R: Threads + Wait + Sync, G: Gate + Sync>(
     requires room { HasRoom ledger.state.version (length (left_after ledger intake.now)) ledger.state.rows }
     requires few { length ledger.receipts + length (left_after ledger intake.now) < 2 ^ 32 }
     requires slots { length ledger.state.slots + named_by (left_after ledger intake.now) < 2 ^ 31 }
-    requires workers { (1 ≤ workers) × (workers ≤ 64) }
     ensures executed { IfOk result
         (HasExecuted (drop (length ledger.counts) intake.now.ordered.payloads.list) ledger) }
     ensures fault { let first = length ledger.receipts in
         IfErr result (LeavesBy first (first + length (left_after ledger intake.now))) }
 {
     let payloads = payloads_from(alloc, intake, ledger.counts().len())?;
-    match ledger.execute(rt, alloc, &payloads, workers, gate) {
+    match ledger.execute(rt, alloc, &payloads, workers.count(), gate) {
         Ok(ledger) => Ok(ledger),
         Err(why) => Err(unexecuted(why)),
     }
@@ -97,6 +96,7 @@ impl Book {
     /// Of the committee and the genesis alone.
     pub(crate) fn new(
         alloc: Global,
+        key: HashKey,
         committee: Committee,
         opening: Vec<Row>,
     ) -> Result<Book, AllocError>
@@ -112,7 +112,7 @@ impl Book {
         let ledger = Ledger::new(alloc, version, &opening)?;
         Ok(Book {
             alloc,
-            intake: Intake::new(alloc, committee)?,
+            intake: Intake::new(alloc, committee, key)?,
             ledger: Some(ledger),
             opening,
         })
@@ -210,11 +210,10 @@ impl Book {
     pub(crate) fn settle<R: Threads + Wait + Sync, G: Gate + Sync>(
         &mut self,
         rt: &R,
-        workers: usize,
+        workers: Workers,
         gate: &G,
     ) -> Result<usize, Fault>
         requires good { (feed : FeedValue) × IsGoodBook feed self.old }
-        requires workers { (1 ≤ workers) × (workers ≤ 64) }
         ensures settled { IfOk result (λ n. (feed : FeedValue) → IsGoodBook feed self.old
             → IsCurrent feed self.new) }
         ensures new { IfOk result (λ n. length (receipts_of_executed self.new.executed)

@@ -1,6 +1,6 @@
 //! A feed that is followed as it comes.
 
-ghost use Rattle.std.specs.Prelude.{◌≡◌, ◌≤◌, ℕ, List, [], None, Some, Err, OnOk, IfOk, IfErr, IfSome};
+ghost use Rattle.std.specs.Prelude.{◌≡◌, ℕ, List, [], None, Some, Err, OnOk, IfOk, IfErr, IfSome};
 ghost use Rattle.bk_frames.specs.Device.{CanBeUsed};
 ghost use Rattle.bk_base.specs.Feed.{Frame};
 ghost use Rattle.bk_follow.specs.Follower.{unfed, broken, HasCome, Takes, FeedFails, Settles, SettleFails, counts_in, ordered_in, receipts_in, executed_in};
@@ -13,6 +13,8 @@ use crate::book::Book;
 use crate::fault::Fault;
 use crate::gathering::Inbox;
 use crate::opening::{Opened, advance};
+use crate::settings::Settings;
+use bk_base::Workers;
 use bk_frames::{Cutter, Sink};
 use bk_pool::Gate;
 use bk_results::Status;
@@ -29,13 +31,13 @@ use std::thread::Threads;
 #[derive(Drop)]
 pub struct Follower {
     pub(crate) alloc: Global,
-    pub(crate) workers: usize,
+    pub(crate) workers: Workers,
     pub(crate) gathered: Inbox,
     pub(crate) fault: Option<Fault>,
 }
 
 impl Model for Follower {
-    ghost use Rattle.std.specs.Prelude.{◌≡◌, ◌≤◌, ℕ, List, [], None, IfSome};
+    ghost use Rattle.std.specs.Prelude.{◌≡◌, ℕ, List, [], None, IfSome};
     ghost use Rattle.bk_base.specs.Feed.{Frame};
     ghost use Rattle.bk_follow.specs.Follower.{Followed, HasCome, unfed};
     ghost use Rattle.bk_follow.specs.private.Parts.{followed};
@@ -49,7 +51,7 @@ impl Model for Follower {
       fault = f.fault;
     } };
 
-    ghost invariant = { λ f. (1 ≤ f.workers) × (f.workers ≤ 64) × (f.fault ≡ None
+    ghost invariant = { λ f. (f.fault ≡ None
         → (bytes : List ℕ) × (frames : List Frame)
         × HasCome bytes frames (followed f.gathered.cutter f.gathered.opened))
         × (f.fault ≡ None → f.gathered.frames.items ≡ [])
@@ -78,7 +80,8 @@ pub(crate) fn latch(
     ensures standing { standing.new ≡ Some fault }
     ensures same { result ≡ fault }
 {
-    drop(replace(gathered, Inbox::new(alloc)));
+    let key = gathered.opened.key;
+    drop(replace(gathered, Inbox::new(alloc, key)));
     let again = fault;
     *standing = Some(again);
     fault
@@ -112,12 +115,11 @@ fn settle_at_end<R: Threads + Wait + Sync, G: Gate + Sync>(
     rt: &R,
     cutter: &Cutter,
     opened: &mut Opened,
-    workers: usize,
+    workers: Workers,
     gate: &G,
 ) -> Result<(), Fault>
     requires come { (bytes : List ℕ) × (frames : List Frame)
         × HasCome bytes frames (followed cutter.now opened.old) }
-    requires workers { (1 ≤ workers) × (workers ≤ 64) }
     ensures closed { OnOk result (Closes (followed cutter.now opened.old)
         (followed cutter.now opened.new)) }
     ensures fault { IfErr result (ClosesNot (followed cutter.now opened.old)
@@ -136,14 +138,13 @@ fn end<R: Threads + Wait + Sync, G: Gate + Sync, K: Sink>(
     rt: &R,
     cutter: &Cutter,
     opened: &mut Opened,
-    workers: usize,
+    workers: Workers,
     gate: &G,
     sink: &mut K,
 ) -> Result<Status, Fault>
     requires sound { CanBeUsed (K.state sink.old) }
     requires come { (bytes : List ℕ) × (frames : List Frame)
         × HasCome bytes frames (followed cutter.now opened.old) }
-    requires workers { (1 ≤ workers) × (workers ≤ 64) }
     ensures report { IfOk result (Finishes (followed cutter.now opened.old)
         (followed cutter.now opened.new) (K.state sink.old) (K.state sink.new)) }
     ensures fault { IfErr result (EndFails (followed cutter.now opened.old)
@@ -158,15 +159,14 @@ fn end<R: Threads + Wait + Sync, G: Gate + Sync, K: Sink>(
 }
 
 impl Follower {
-    /// Before the first byte, with 1 to 64 workers. Takes no memory.
-    pub fn new(alloc: Global, workers: usize) -> Follower
-        requires { (1 ≤ workers) × (workers ≤ 64) }
+    /// Before the first byte. Takes no memory.
+    pub fn new(alloc: Global, settings: Settings) -> Follower
         ensures { result ≡ unfed }
     {
         Follower {
             alloc,
-            workers,
-            gathered: Inbox::new(alloc),
+            workers: settings.workers,
+            gathered: Inbox::new(alloc, settings.key),
             fault: None,
         }
     }

@@ -15,9 +15,10 @@ ghost use Rattle.bk_follow.specs.private.Answering.{FollowerAnswers, FollowerAns
 
 use crate::fault::Fault;
 use crate::follower::Follower;
+use crate::settings::alone;
 use bk_answer::FrameAnswer;
 use bk_frames::{PIECE, Sink, Source};
-use bk_order::Intake;
+use bk_order::{HashKey, Intake};
 use std::alloc::Global;
 use std::thread::Threads;
 
@@ -100,6 +101,7 @@ fn follow_frames_and_answer<R: Threads + Sync, S: Source, K: Sink, A: FrameAnswe
 pub fn answer_by_frames<R: Threads + Sync, S: Source, K: Sink, A: FrameAnswer>(
     rt: &R,
     alloc: Global,
+    key: HashKey,
     source: &mut S,
     sink: &mut K,
     asked: &A,
@@ -116,7 +118,7 @@ pub fn answer_by_frames<R: Threads + Sync, S: Source, K: Sink, A: FrameAnswer>(
     ensures unstopped { IfErr result (λ f. stops f ≡ false) }
 {
     let mut piece = vec![in alloc; 0u8; PIECE]?;
-    let mut follower = Follower::new(alloc, 1);
+    let mut follower = Follower::new(alloc, alone(key));
     let end = follow_frames_and_answer(
         rt,
         source,

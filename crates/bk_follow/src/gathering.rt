@@ -15,6 +15,7 @@ use crate::opening::{Opened, take_frames};
 use crate::pulling::pull_group;
 use bk_base::{Kind, Version};
 use bk_frames::{Cutter, FeedFault, Source};
+use bk_order::HashKey;
 use std::alloc::{AllocError, Global};
 use std::mem::replace;
 use std::thread::{Threads, join_mut};
@@ -98,7 +99,7 @@ fn pull_beside<R: Threads + Sync, S: Source>(
 
 impl Inbox {
     /// Before the first byte. Takes no memory.
-    pub(crate) fn new(alloc: Global) -> Inbox
+    pub(crate) fn new(alloc: Global, key: HashKey) -> Inbox
         ensures cut { result.cutter ≡ fresh }
         ensures committee { result.opened.committee ≡ None }
         ensures book { result.opened.book ≡ None }
@@ -107,6 +108,7 @@ impl Inbox {
         let cutter = Cutter::new(alloc);
         let frames = Vec::new(alloc);
         let opened = Opened {
+            key,
             committee: None,
             book: None,
         };

@@ -18,9 +18,11 @@ mod order;
 mod pulling;
 mod queries;
 mod replaying;
+mod settings;
 
 pub use answering::{answer_by_ledger, answer_by_order};
 pub use follower::{Follower, is_stop};
 pub use framing::answer_by_frames;
 pub use order::Order;
 pub use replaying::replay;
+pub use settings::Settings;

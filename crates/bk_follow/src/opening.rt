@@ -17,6 +17,7 @@ use crate::fault::Fault;
 use bk_base::{Kind, Row, Version, read_genesis};
 use bk_committee::{Bad, Committee};
 use bk_frames::Cutter;
+use bk_order::HashKey;
 use std::alloc::{AllocError, Global};
 use std::mem::{forget, replace};
 use std::thread::Threads;
@@ -24,6 +25,8 @@ use std::thread::Threads;
 /// What is made of the frames so far: the committee after frame 0, and the book from frame 1 on.
 #[derive(Drop)]
 pub(crate) struct Opened {
+    /// The key of the tables of the book.
+    pub(crate) key: HashKey,
     pub(crate) committee: Option<Committee>,
     pub(crate) book: Option<Book>,
 }
@@ -92,13 +95,18 @@ fn open_first(
 }
 
 // The book of a committee and of frame 1, which the cutter has judged.
-fn book_of(alloc: Global, committee: Committee, payload: &[u8]) -> Result<Book, AllocError>
+fn book_of(
+    alloc: Global,
+    key: HashKey,
+    committee: Committee,
+    payload: &[u8],
+) -> Result<Book, AllocError>
     requires { IsTrue (is_genesis payload.now) }
     ensures { IfOk result (λ b. (second : Frame) → second.payload ≡ payload.now
         → IsOpening committee second b) }
 {
     let rows = genesis_of(alloc, payload)?;
-    let book = Book::new(alloc, committee, rows)?;
+    let book = Book::new(alloc, key, committee, rows)?;
     Ok(book)
 }
 
@@ -130,7 +138,7 @@ fn open_second(
     let Some(committee) = opened.committee.take() else {
         unreachable!()
     };
-    let book = book_of(alloc, committee, &payload)?;
+    let book = book_of(alloc, opened.key, committee, &payload)?;
     put_book(&mut opened.book, book);
     Ok(())
 }

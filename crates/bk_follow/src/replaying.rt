@@ -16,6 +16,7 @@ use crate::fault::Fault;
 use crate::follower::{Follower, latch};
 use crate::gathering::Inbox;
 use crate::opening::Opened;
+use crate::settings::Settings;
 use bk_answer::Report;
 use bk_frames::{Sink, Source};
 use bk_order::Ahead;
@@ -162,8 +163,8 @@ impl Follower {
     }
 }
 
-/// Reads a feed, finds its committed order, executes the order's batches on this many workers, 1 to 64, and writes the
-/// report of the run.
+/// Reads a feed, finds its committed order, executes the order's batches by threads as the settings say, and writes
+/// the report of the run.
 ///
 /// However many workers there are, and however they run, the report is the one that the definitions read off the feed's
 /// frames as a set and the transactions one at a time. The whole feed is read before anything is written, and with
@@ -173,12 +174,11 @@ pub fn replay<R: Threads + Wait + Sync, S: Source, K: Sink, G: Gate + Sync>(
     alloc: Global,
     source: &mut S,
     sink: &mut K,
-    workers: usize,
+    settings: Settings,
     gate: &G,
 ) -> Result<Status, Fault>
     requires source { CanBeUsed (S.state source.old) }
     requires sink { CanBeUsed (K.state sink.old) }
-    requires workers { (1 ≤ workers) × (workers ≤ 64) }
     ensures report { IfOk result (λ status. IsAnswered IsReportOf status
         (devices (S.state source.old) (K.state sink.old))
         (devices (S.state source.new) (K.state sink.new))) }
@@ -186,5 +186,5 @@ pub fn replay<R: Threads + Wait + Sync, S: Source, K: Sink, G: Gate + Sync>(
         (devices (S.state source.old) (K.state sink.old))
         (devices (S.state source.new) (K.state sink.new))) }
 {
-    answer_by_ledger(rt, alloc, source, sink, workers, gate, &Report)
+    answer_by_ledger(rt, alloc, source, sink, settings, gate, &Report)
 }

@@ -1,6 +1,7 @@
 -- What a place is found to have after a number was entered.
 use Rattle.std.proofs.Common.{◌≡◌, ◌≢◌, ℕ, suc, ◌+◌, ◌*◌, ◌-◌, ◌<◌, ◌/◌, ◌%◌, ◌⊎◌, inl, inr, true, false, cond, List, Option, Some, None, nat_lt, sym, ap, ◌∙◌, arith}
 use Rattle.std.specs.BTreeMap.{BTreeMap, get}
+use Rattle.std.specs.Cmp.{tied_itself}
 use Rattle.std.specs.Ordering.{is_eq}
 use Rattle.std.proofs.lemmas.Bool.{cases_Bool, false≢true}
 use Rattle.std.proofs.lemmas.Bool.Decides.{nat_tests}
@@ -9,7 +10,9 @@ use Rattle.bk_cert.specs.Place.{place_cmp}
 use Rattle.bk_cert.specs.declared.place.CertRef.{CertRef}
 use Rattle.bk_cert.proofs.Refs.{same_place, exact_ref, equal_from_test, ref_total}
 use Rattle.bk_index.specs.private.Rows.{entry_of, read_entry, number_or}
-use Rattle.bk_index.proofs.Found.{is_itself, same_some}
+
+same_some : {X : Type 0} (x y : X) → ◌≡◌ {A = Option X} (Some x) (Some y) → x ≡ y
+same_some x y e = cc
 
 exact : (a b : CertRef) → is_eq (place_cmp a b) ≡ true → a ≡ b
 exact a b e = exact_ref a b (equal_from_test (place_cmp a b) e)
@@ -67,6 +70,6 @@ module _ (m n : ℕ) (a : CertRef) (beyond : BTreeMap CertRef ℕ) where
       by (inl t) = entered n _ (get place_cmp beyond b) (ap (λ c. read_entry new (entry_of m c)) (sym (exact a b t)) ∙ here)
           ∙ sym (ap (λ c. cond c (Some n) (number_or (read_entry old (entry_of m b)) (get place_cmp beyond b))) t)
       by (inr f) =
-          let apart : entry_of m b ≢ entry_of m a = λ e. false≢true (sym f ∙ (ap (λ c. is_eq (place_cmp a c)) (sym (same_entry m a b there (sym e))) ∙ is_itself place_cmp ref_total exact a)) in
+          let apart : entry_of m b ≢ entry_of m a = λ e. false≢true (sym f ∙ (ap (λ c. is_eq (place_cmp a c)) (sym (same_entry m a b there (sym e))) ∙ ap is_eq (tied_itself ref_total a))) in
           ap (λ e. number_or e (get place_cmp beyond b)) (others (entry_of m b) apart)
           ∙ sym (ap (λ c. cond c (Some n) (number_or (read_entry old (entry_of m b)) (get place_cmp beyond b))) f)

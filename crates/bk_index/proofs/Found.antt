@@ -1,145 +1,120 @@
--- Keys by their index, and which entry a list with distinct keys finds.
-use Rattle.std.proofs.Common.{◌≡◌, ◌≢◌, ℕ, zero, suc, ◌+◌, ◌<◌, ◌≤◌, ◌⊎◌, inl, inr, Bool, true, false, cond, List, [], ◌∷◌, ◌++◌, length, Option, Some, None, get_or, set, slice_get, refl, sym, ap, ◌∙◌, arith}
-use Rattle.std.specs.Cmp.{IsTotalOrder, tied_itself}
-use Rattle.std.specs.Ordering.{is_eq}
-use Rattle.std.specs.declared.cmp.Ordering.{Ordering}
-use Rattle.std.proofs.lemmas.Bool.{false_from_ne_true}
-use Rattle.std.proofs.lemmas.List.{map-set}
-use Rattle.std.specs.Option.{option_map}
-use Rattle.std.proofs.lemmas.Option.{slice_get-map, slice_get_read, slice_get_past, slice_get_within}
-use Rattle.std.specs.Prelude.{nat_lt, not, map}
+-- Where the first entry with a key is, as a list and its table change.
+use Rattle.std.proofs.Common.{◌≡◌, ◌≢◌, ℕ, ◌+◌, ◌≤◌, ◌⊎◌, inl, inr, Bool, true, false, cond, eqb, not, List, [], ◌∷◌, ◌++◌, length, map, Option, Some, None, get_or, set, slice_get, sym, ap, ◌∙◌, arith}
+use Rattle.std.specs.Prelude.{nat_lt, is_some}
 use Rattle.std.specs.List.{position, position_or_len}
+use Rattle.std.specs.Str.{bytes_eq}
+use Rattle.std.specs.Option.{option_map}
+use Rattle.std.proofs.lemmas.Bool.{cases_Bool}
 use Rattle.std.proofs.lemmas.Bool.Decides.{nat_tests}
-use Rattle.std.proofs.lemmas.List.{length-map}
+use Rattle.std.proofs.lemmas.List.{length-append, length-map, length-set}
+use Rattle.std.proofs.lemmas.List.Folds.{position_or_len_push, position_or_len-set}
+use Rattle.std.proofs.lemmas.List.Sums.{prefix_len-le-length}
+use Rattle.std.proofs.lemmas.Option.{slice_get-get_or, slice_get-map, slice_get_within}
+use Rattle.std.proofs.lemmas.Slice.Eq.{bytes_eq-Decides}
+use Rattle.indexmap.specs.IndexMap.{IndexMap, get}
 use Rattle.bk_index.specs.Finding.{has_key}
-use Rattle.bk_index.specs.private.Hints.{AreDistinct}
+use Rattle.bk_index.specs.private.Firsts.{AreFirsts}
 
-plus_one : (n i : ℕ) → n ≡ i → 1 + n ≡ suc i
-plus_one n i e = omega (arith, e)
+abbrev at_or_none : ℕ → ℕ → Option ℕ
+at_or_none n len = cond (nat_lt n len) (Some n) None
 
-some_at : (n len i : ℕ) → n ≡ i → i < len → cond (nat_lt n len) (Some n) None ≡ Some i
-some_at n len i e low = grind (arith, nat_tests)
+pushed_here : (n len n' len' : ℕ) → n' ≡ cond (eqb n len) (len + 0) n → len' ≡ len + 1 → at_or_none n len ≡ None → n ≤ len → at_or_none n' len' ≡ Some len
+pushed_here n len n' len' e f h most = grind (arith, nat_tests)
 
-none_at : (n len : ℕ) → n ≡ len → ◌≡◌ {A = Option ℕ} (cond (nat_lt n len) (Some n) None) None
-none_at n len e = grind (arith, nat_tests)
+pushed_there : (n len n' len' : ℕ) → n' ≡ cond (eqb n len) (len + 1) n → len' ≡ len + 1 → n ≤ len → at_or_none n' len' ≡ at_or_none n len
+pushed_there n len n' len' e f most = grind (arith, nat_tests)
 
-none_some : {X : Type 0} (x : X) → ◌≡◌ {A = Option X} None (Some x) → ⊥
-none_some x e = cc
+pushed_after : (n len n' len' : ℕ) (b : Bool) → n' ≡ cond (eqb n len) (len + cond b 0 1) n → len' ≡ len + 1 → is_some (at_or_none n len) ≡ true → at_or_none n' len' ≡ at_or_none n len
+pushed_after n len n' len' b e f h = grind (arith, nat_tests)
 
-pub same_some : {X : Type 0} (x y : X) → ◌≡◌ {A = Option X} (Some x) (Some y) → x ≡ y
+same_some : {X : Type 0} (x y : X) → ◌≡◌ {A = Option X} (Some x) (Some y) → x ≡ y
 same_some x y e = cc
 
-zero_suc : (i : ℕ) → zero ≡ suc i → ⊥
-zero_suc i e = omega (arith, e)
+some_low : (n len : ℕ) → at_or_none n len ≡ Some len → ⊥
+some_low n len h = grind (arith, nat_tests)
 
-suc_same : (i j : ℕ) → suc i ≡ suc j → i ≡ j
-suc_same i j e = omega (arith, e)
+cases_found : {P : Type 0} (o : Option ℕ) → (o ≡ None → P) → (is_some o ≡ true → P) → P
+cases_found None none some = none (λ i. None)
+cases_found (Some n) none some = some (λ i. true)
 
-same_suc : (i j : ℕ) → i ≡ j → suc i ≡ suc j
-same_suc i j e = ap suc e
+module _ {E : Type 0} (key_of : E → List ℕ) where
+  first : List ℕ → List E → Option ℕ
+  first q es = position (has_key key_of q) es
 
-module _ {X : Type 0} where
-  -- what is at an index of a list is there in a longer one
-  pub get_left : (xs ys : List X) (i : ℕ) (x : X) → slice_get xs i ≡ Some x → slice_get (xs ++ ys) i ≡ Some x
-  get_left [] ys i x there = absurd (none_some x there)
-  get_left (y ∷ xs) ys zero x there = there
-  get_left (y ∷ xs) ys (suc i) x there = get_left xs ys i x there
+  key_is : (e : E) (q : List ℕ) → has_key key_of q e ≡ true → key_of e ≡ q
+  key_is e q t = (bytes_eq-Decides (key_of e) q).0 t
 
-  -- the last one is at the index after all others
-  pub get_last : (xs : List X) (x : X) → slice_get (xs ++ x ∷ []) (length xs) ≡ Some x
-  get_last [] x = refl
-  get_last (y ∷ xs) x = get_last xs x
-
-  -- what is in a list with one more was there, or it is the last one
-  pub get_pushed : (xs : List X) (x : X) (i : ℕ) (k : X) → slice_get (xs ++ x ∷ []) i ≡ Some k → (slice_get xs i ≡ Some k) ⊎ ((i ≡ length xs) × (x ≡ k))
-  get_pushed [] x zero k there = inr (refl, same_some x k there)
-  get_pushed [] x (suc i) k there = absurd (none_some k there)
-  get_pushed (y ∷ xs) x zero k there = inl there
-  get_pushed (y ∷ xs) x (suc i) k there = next (get_pushed xs x i k there)
+  -- an entry with a new key is the first with it
+  pub first_pushed : (es : List E) (e : E) → position (has_key key_of (key_of e)) es ≡ None
+      → (q : List ℕ) → position (has_key key_of q) (es ++ e ∷ []) ≡ cond (has_key key_of q e) (Some (length es)) (position (has_key key_of q) es)
+  first_pushed es e new q = by (cases_Bool (has_key key_of q e))
     where
-      next : (slice_get xs i ≡ Some k) ⊎ ((i ≡ length xs) × (x ≡ k)) → (slice_get xs i ≡ Some k) ⊎ ((suc i ≡ suc (length xs)) × (x ≡ k))
-      next (inl h) = inl h
-      next (inr (e, f)) = inr (same_suc i (length xs) e, f)
+      n : ℕ
+      n = position_or_len (has_key key_of q) es
 
-  -- to set what is there changes nothing
-  pub set_there : (xs : List X) (i : ℕ) (x : X) → slice_get xs i ≡ Some x → set xs i x ≡ xs
-  set_there [] i x there = absurd (none_some x there)
-  set_there (y ∷ xs) zero x there = ap (λ z. z ∷ xs) (sym (same_some y x there))
-  set_there (y ∷ xs) (suc i) x there = ap (λ zs. y ∷ zs) (set_there xs i x there)
+      most : n ≤ length es
+      most = prefix_len-le-length (λ x. not (has_key key_of q x)) es
 
-  pub distinct_tail : (x : X) (xs : List X) → AreDistinct (x ∷ xs) → AreDistinct xs
-  distinct_tail x xs distinct i j k one other = suc_same i j (distinct (suc i) (suc j) k one other)
+      is : {b : Bool} → has_key key_of q e ≡ b → position_or_len (has_key key_of q) (es ++ e ∷ []) ≡ cond (eqb n (length es)) (length es + cond b 0 1) n
+      is {b} t = position_or_len_push (has_key key_of q) es e ∙ ap (λ v. cond (eqb n (length es)) (length es + cond v 0 1) n) t
 
-  -- a new key leaves keys distinct
-  pub distinct_pushed : (xs : List X) (x : X) → AreDistinct xs → ((i : ℕ) → slice_get xs i ≢ Some x) → AreDistinct (xs ++ x ∷ [])
-  distinct_pushed xs x distinct new i j k one other = by (get_pushed xs x i k one) (get_pushed xs x j k other)
+      by : (has_key key_of q e ≡ true) ⊎ (has_key key_of q e ≡ false) → position (has_key key_of q) (es ++ e ∷ []) ≡ cond (has_key key_of q e) (Some (length es)) (position (has_key key_of q) es)
+      by (inl t) =
+          pushed_here n (length es) _ _ (is t) (length-append es (e ∷ [])) (ap (λ k. position (has_key key_of k) es) (sym (key_is e q t)) ∙ new) most
+          ∙ sym (ap (λ v. cond v (Some (length es)) (position (has_key key_of q) es)) t)
+      by (inr f) =
+          pushed_there n (length es) _ _ (is f) (length-append es (e ∷ [])) most
+          ∙ sym (ap (λ v. cond v (Some (length es)) (position (has_key key_of q) es)) f)
+
+  -- one with a key that is there is not
+  pub first_repeated : (es : List E) (e : E) → is_some (position (has_key key_of (key_of e)) es) ≡ true
+      → (q : List ℕ) → position (has_key key_of q) (es ++ e ∷ []) ≡ position (has_key key_of q) es
+  first_repeated es e known q = by (cases_Bool (has_key key_of q e))
     where
-      by : (slice_get xs i ≡ Some k) ⊎ ((i ≡ length xs) × (x ≡ k)) → (slice_get xs j ≡ Some k) ⊎ ((j ≡ length xs) × (x ≡ k)) → i ≡ j
-      by (inl h) (inl g) = distinct i j k h g
-      by (inl h) (inr (e, f)) = absurd (new i (h ∙ ap Some (sym f)))
-      by (inr (e, f)) (inl g) = absurd (new j (g ∙ ap Some (sym f)))
-      by (inr (e, f)) (inr (e', f')) = e ∙ sym e'
+      by : (has_key key_of q e ≡ true) ⊎ (has_key key_of q e ≡ false) → position (has_key key_of q) (es ++ e ∷ []) ≡ position (has_key key_of q) es
+      by (inl t) =
+          pushed_after (position_or_len (has_key key_of q) es) (length es) _ _ (has_key key_of q e) (position_or_len_push (has_key key_of q) es e) (length-append es (e ∷ []))
+          (ap (λ k. is_some (position (has_key key_of k) es)) (sym (key_is e q t)) ∙ known)
+      by (inr f) =
+          pushed_there (position_or_len (has_key key_of q) es) (length es) _ _
+          (position_or_len_push (has_key key_of q) es e ∙ ap (λ v. cond (eqb (position_or_len (has_key key_of q) es) (length es)) (length es + cond v 0 1) (position_or_len (has_key key_of q) es)) f)
+          (length-append es (e ∷ [])) (prefix_len-le-length (λ x. not (has_key key_of q x)) es)
 
-  -- fewer keys stay distinct
-  pub distinct_before : (xs ys : List X) → AreDistinct (xs ++ ys) → AreDistinct xs
-  distinct_before xs ys distinct i j k one other = distinct i j k (get_left xs ys i k one) (get_left xs ys j k other)
+  -- the key at an index
+  pub same_at : (es : List E) (i : ℕ) (e : E) → slice_get (map key_of es) i ≡ Some (key_of e) → key_of e ≡ key_of (get_or es i e)
+  same_at es i e there = same_some (key_of e) (key_of (get_or es i e)) (sym there ∙ (slice_get-map key_of es i ∙ ap (option_map key_of) (slice_get-get_or es i e
+      (omega (arith, slice_get_within (map key_of es) i (key_of e) there, length-map es key_of)))))
 
--- the keys stay where an entry comes in the place of one with the same key
-pub map_set : {K E : Type 0} (f : E → K) (es : List E) (i : ℕ) (e : E) → slice_get (map f es) i ≡ Some (f e) → map f (set es i e) ≡ map f es
-map_set f es i e there = map-set f es i e ∙ set_there (map f es) i (f e) there
+  -- the firsts stay where an entry comes in the place of one with the same key
+  pub first_set : (es : List E) (i : ℕ) (e : E) → key_of e ≡ key_of (get_or es i e)
+      → (q : List ℕ) → position (has_key key_of q) (set es i e) ≡ position (has_key key_of q) es
+  first_set es i e same q = λ j. at_or_none
+      (position_or_len-set (has_key key_of q) es i e e (ap (λ k. bytes_eq k q) same) j)
+      (length-set es i e j)
 
-module _ {K : Type 0} (cmp : K → K → Ordering) (total : IsTotalOrder cmp) (exact : (a b : K) → is_eq (cmp a b) ≡ true → a ≡ b) where
-  pub is_itself : (a : K) → is_eq (cmp a a) ≡ true
-  is_itself a = ap is_eq (tied_itself total a)
+  module _ {S : Type 0} (old new : IndexMap (List ℕ) ℕ S) where
+    -- the table after a new key
+    pub firsts_pushed : (es : List E) (e : E) (n : ℕ) → AreFirsts key_of es old → n ≡ length es → position (has_key key_of (key_of e)) es ≡ None
+        → ((q : List ℕ) → get bytes_eq new q ≡ cond (bytes_eq (key_of e) q) (Some n) (get bytes_eq old q)) → AreFirsts key_of (es ++ e ∷ []) new
+    firsts_pushed es e n firsts count absent put q =
+        put q ∙ ((λ i. cond (bytes_eq (key_of e) q) (Some (count i)) (firsts q i)) ∙ sym (first_pushed es e absent q))
 
-  same_is : (a b : K) → a ≡ b → is_eq (cmp a b) ≡ true
-  same_is a b e = ap (λ x. is_eq (cmp a x)) (sym e) ∙ is_itself a
+    -- and after the last entry is gone, if it was the first with its key
+    pub firsts_dropped : (es : List E) (e : E) → AreFirsts key_of (es ++ e ∷ []) old → get bytes_eq old (key_of e) ≡ Some (length es)
+        → ((q : List ℕ) → get bytes_eq new q ≡ cond (bytes_eq (key_of e) q) None (get bytes_eq old q)) → AreFirsts key_of es new
+    firsts_dropped es e firsts last out q = out q ∙ by (cases_Bool (bytes_eq (key_of e) q))
+      where
+        absent : position (has_key key_of (key_of e)) es ≡ None
+        absent = cases_found (position (has_key key_of (key_of e)) es) (λ n. n)
+            (λ s. absurd (some_low (position_or_len (has_key key_of (key_of e)) es) (length es) (sym (first_repeated es e s (key_of e)) ∙ (sym (firsts (key_of e)) ∙ last))))
 
-  pub differs : (a b : K) → (a ≡ b → ⊥) → is_eq (cmp a b) ≡ false
-  differs a b apart = false_from_ne_true _ (λ t. apart (exact a b t))
+        by : (bytes_eq (key_of e) q ≡ true) ⊎ (bytes_eq (key_of e) q ≡ false) → cond (bytes_eq (key_of e) q) None (get bytes_eq old q) ≡ position (has_key key_of q) es
+        by (inl t) = ap (λ b. cond b None (get bytes_eq old q)) t ∙ sym (ap (λ k. position (has_key key_of k) es) (sym (key_is e q t)) ∙ absent)
+        by (inr f) = ap (λ b. cond b None (get bytes_eq old q)) f ∙ (firsts q ∙ (first_pushed es e absent q ∙ ap (λ b. cond b (Some (length es)) (position (has_key key_of q) es)) f))
 
--- the key of an entry that is read
-module _ {K E : Type 0} (key_of : E → K) where
-  pub key_at : (es : List E) (i : ℕ) (e : E) → i < length es → e ≡ get_or es i e → slice_get (map key_of es) i ≡ Some (key_of e)
-  key_at es i e low is = slice_get-map key_of es i ∙ ap (option_map key_of) (slice_get_read es (length es) i e refl low is)
-
-  -- no key is past the end
-  pub key_past : (es : List E) (i : ℕ) (k : K) → length es ≤ i → slice_get (map key_of es) i ≢ Some k
-  key_past es i k high there = none_some k (sym (slice_get-map key_of es i ∙ ap (option_map key_of) (slice_get_past es i high)) ∙ there)
-
-  -- an entry has a key exactly where the two are equal in their order
-  pub has_key_exactly : (cmp : K → K → Ordering) (total : IsTotalOrder cmp) (exact : (a b : K) → is_eq (cmp a b) ≡ true → a ≡ b) (es : List E) (i : ℕ) (e : E) (key : K) (b : Bool)
-      → slice_get (map key_of es) i ≡ Some (key_of e) → b ≡ is_eq (cmp key (key_of e))
-      → ((b ≡ true → slice_get (map key_of es) i ≡ Some key) × (slice_get (map key_of es) i ≡ Some key → b ≡ true))
-  has_key_exactly cmp total exact es i e key b at is = (
-    (λ t. at ∙ ap Some (sym (exact key (key_of e) (sym is ∙ t)))),
-    (λ there. is ∙ same_is cmp total exact key (key_of e) (same_some key (key_of e) (sym there ∙ at))),
-  )
-
-  -- the first entry with a key, where no key is there twice
-  module _ (cmp : K → K → Ordering) (total : IsTotalOrder cmp) (exact : (a b : K) → is_eq (cmp a b) ≡ true → a ≡ b) (key : K) where
-    before_first : (es : List E) (i : ℕ) → AreDistinct (map key_of es) → slice_get (map key_of es) i ≡ Some key → position_or_len (has_key cmp key_of key) es ≡ i
-    before_first [] i distinct there = absurd (none_some key there)
-    before_first (e ∷ es) zero distinct there = ap (λ (b : Bool). cond (not b) (1 + position_or_len (has_key cmp key_of key) es) 0) (same_is cmp total exact key (key_of e) (sym (same_some (key_of e) key there)))
-    before_first (e ∷ es) (suc i) distinct there =
-        ap (λ (b : Bool). cond (not b) (1 + position_or_len (has_key cmp key_of key) es) 0) (differs cmp total exact key (key_of e) (λ s. zero_suc i (distinct zero (suc i) key (ap Some (sym s)) there)))
-        ∙ plus_one _ i (before_first es i (distinct_tail (key_of e) (map key_of es) distinct) there)
-
-    pub position_there : (es : List E) (i : ℕ) → AreDistinct (map key_of es) → slice_get (map key_of es) i ≡ Some key → position (has_key cmp key_of key) es ≡ Some i
-    position_there es i distinct there =
-        let first = before_first es i distinct there in
-        let low : i < length es = omega (arith, slice_get_within (map key_of es) i key there, length-map es key_of) in
-        some_at (position_or_len (has_key cmp key_of key) es) (length es) i first low
-
-    past_all : (es : List E) → ((i : ℕ) → slice_get (map key_of es) i ≢ Some key) → position_or_len (has_key cmp key_of key) es ≡ length es
-    past_all [] absent = refl
-    past_all (e ∷ es) absent =
-        ap (λ (b : Bool). cond (not b) (1 + position_or_len (has_key cmp key_of key) es) 0) (differs cmp total exact key (key_of e) (λ s. absent zero (ap Some (sym s))))
-        ∙ plus_one _ (length es) (past_all es (λ i. absent (suc i)))
-
-    pub position_absent : (es : List E) → ((i : ℕ) → slice_get (map key_of es) i ≢ Some key) → position (has_key cmp key_of key) es ≡ None
-    position_absent es absent = none_at (position_or_len (has_key cmp key_of key) es) (length es) (past_all es absent)
-
--- a key that is not told of a list is not there
-pub told_absent : {K E : Type 0} (key_of : E → K) (es same_es : List E) (key same_key : K) → same_es ≡ es → same_key ≡ key → ((i : ℕ) → slice_get (map key_of same_es) i ≢ Some same_key) → (i : ℕ) → slice_get (map key_of es) i ≢ Some key
-told_absent key_of es same_es key same_key e f absent i there = absent i (ap (λ l. slice_get (map key_of l) i) e ∙ (there ∙ ap Some (sym f)))
+  module _ {S : Type 0} (old : IndexMap (List ℕ) ℕ S) where
+    -- a repeat leaves the table
+    pub firsts_stay : (es : List E) (e : E) → AreFirsts key_of (es ++ e ∷ []) old → get bytes_eq old (key_of e) ≢ Some (length es) → AreFirsts key_of es old
+    firsts_stay es e firsts other q = cases_found (position (has_key key_of (key_of e)) es)
+        (λ none. absurd (other (firsts (key_of e) ∙ (first_pushed es e none (key_of e) ∙ ap (λ b. cond b (Some (length es)) (position (has_key key_of (key_of e)) es)) ((bytes_eq-Decides (key_of e) (key_of e)).1 (λ i. key_of e))))))
+        (λ s. firsts q ∙ first_repeated es e s q)

@@ -1,8 +1,7 @@
 -- What finds an entry.
-use Rattle.std.specs.Prelude.{Bool}
-use Rattle.std.specs.Ordering.{is_eq}
-use Rattle.std.specs.declared.cmp.Ordering.{Ordering}
+use Rattle.std.specs.Prelude.{ℕ, Bool, List}
+use Rattle.std.specs.Str.{bytes_eq}
 
 -- an entry has this key
-abbrev pub has_key : {K E : Type 0} → (K → K → Ordering) → (E → K) → K → E → Bool
-has_key cmp key_of key entry = is_eq (cmp key (key_of entry))
+abbrev pub has_key : {E : Type 0} → (E → List ℕ) → List ℕ → E → Bool
+has_key key_of key entry = bytes_eq (key_of entry) key

@@ -1,4 +1,3 @@
-pub mod Keys
 pub mod Finding
 pub mod Places
 pub mod private

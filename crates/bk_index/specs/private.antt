@@ -1,2 +1,2 @@
-pub mod Hints
+pub mod Firsts
 pub mod Rows

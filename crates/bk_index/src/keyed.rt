@@ -1,23 +1,22 @@
-//! Entries with keys.
+//! Entries with digests as keys.
 
-ghost use Rattle.std.specs.Prelude.{◌≡◌};
+ghost use Rattle.std.specs.Prelude.{◌≡◌, List, ℕ};
 
-use crate::spread::Spread;
 use bk_cert::SharedCert;
 use bk_digest::Digest32;
 
-/// An entry that is found by a key.
-pub trait Keyed<K: Spread>: Drop {
+/// An entry that is found by a digest.
+pub trait Keyed: Drop {
     // The key of an entry.
-    ghost key_of: { Self → K };
+    ghost key_of: { Self → List ℕ };
 
     /// What it is found by.
-    fn key(&self) -> &K
+    fn key(&self) -> &Digest32
         ensures { result.now ≡ key_of self.now };
 }
 
 // A digest is found by itself.
-impl Keyed<Digest32> for Digest32 {
+impl Keyed for Digest32 {
     ghost key_of = { λ d. d };
 
     fn key(&self) -> &Digest32 {
@@ -25,8 +24,8 @@ impl Keyed<Digest32> for Digest32 {
     }
 }
 
-// A certificate is found by its id, which it shares: a list of certificates has no second copy of it.
-impl Keyed<Digest32> for SharedCert {
+// A certificate is found by its id, which it shares.
+impl Keyed for SharedCert {
     ghost key_of = { λ c. c.id };
 
     fn key(&self) -> &Digest32 {

@@ -1,56 +1,47 @@
 //! A list whose entries are found by their keys.
 
-ghost use Rattle.std.specs.Prelude.{◌≡◌, ◌==◌, ◌++◌, ◌∷◌, ◌-◌, ℕ, [], None, Some, take, length, map, slice_get, slice_set, IfOk, IfSome, IsSome, OnOk, OnErr, option_map};
+ghost use Rattle.std.specs.Prelude.{◌≡◌, ◌==◌, ◌++◌, ◌∷◌, ◌-◌, ◌↔◌, ℕ, [], None, Some, take, length, map, slice_get, slice_set, IfOk, IfSome, IsSome, IsTrue, OnOk, OnErr, option_map};
 ghost use Rattle.std.specs.List.{position};
+ghost use Rattle.std.specs.Str.{bytes_eq};
+ghost use Rattle.indexmap.specs.IndexMap.{get};
 ghost use Rattle.bk_index.specs.Finding.{has_key};
 
-use crate::hints::{make_room, put};
+use crate::hash_key::HashKey;
 use crate::keyed::Keyed;
-use crate::search::{first_with, has_key, search};
-use crate::spread::Spread;
+use bk_digest::Digest32;
+use indexmap::IndexMap;
 use std::alloc::{AllocError, Global};
-use std::collections::BTreeMap;
 use std::marker::Model;
 
 /// A list whose entries are found by their keys: the first one with a key. Contracts see the list.
 ///
-/// Beside an entry it takes 8 to 32 bytes of the table, and the room of a list that doubles. Once two
-/// entries have one key, each search goes over all of them.
+/// Beside an entry it takes some 50 bytes of the table, and the room of lists that double.
 #[derive(Drop)]
-pub struct KeyedList<K: Spread, T: Keyed<K>> {
-    alloc: Global,
+pub struct KeyedList<T: Keyed> {
     entries: Vec<T>,
-    // Hints of entries, or 0. The length is a power of two, and at least twice that of the entries.
-    table: Vec<u32>,
-    // The indices of entries that have no slot near their number.
-    rest: BTreeMap<K, usize>,
-    // Whether two entries may have one key. Then nobody reads the table.
-    repeats: bool,
+    // The index of the first entry with each key.
+    firsts: IndexMap<Digest32, u32, HashKey>,
 }
 
-impl<K: Spread, T: Keyed<K>> Model for KeyedList<K, T> {
-    ghost use Rattle.std.specs.Prelude.{◌≡◌, List, map, false};
-    ghost use Rattle.bk_index.specs.private.Hints.{IsIndex};
+impl<T: Keyed> Model for KeyedList<T> {
+    ghost use Rattle.std.specs.Prelude.{List};
+    ghost use Rattle.bk_index.specs.private.Firsts.{AreFirsts};
 
     ghost Value = { List T };
 
     ghost view = { λ x. x.entries.items };
 
-    ghost invariant = { λ x. x.repeats ≡ false
-        → IsIndex K.cmp K.number (map T.key_of x.entries.items) x.table.items x.rest };
+    ghost invariant = { λ x. AreFirsts T.key_of x.entries.items x.firsts };
 }
 
-impl<K: Spread, T: Keyed<K>> KeyedList<K, T> {
+impl<T: Keyed> KeyedList<T> {
     /// No entry. It takes no memory.
-    pub fn new(alloc: Global) -> KeyedList<K, T>
+    pub fn new(alloc: Global, key: HashKey) -> KeyedList<T>
         ensures { result ≡ [] }
     {
         KeyedList {
-            alloc,
             entries: Vec::new(alloc),
-            table: Vec::new(alloc),
-            rest: BTreeMap::new(alloc),
-            repeats: false,
+            firsts: IndexMap::with_hasher(alloc, key),
         }
     }
 
@@ -75,75 +66,58 @@ impl<K: Spread, T: Keyed<K>> KeyedList<K, T> {
         self.entries.is_empty()
     }
 
-    /// The index of the first entry with a key. Mostly constant time, O(log n) at worst.
-    pub fn get(&self, key: &K) -> Option<usize>
-        ensures { result ≡ position (has_key K.cmp T.key_of key.now) self.now }
+    /// The index of the first entry with a key, in constant time.
+    pub fn get(&self, key: &Digest32) -> Option<usize>
+        ensures { result ≡ position (has_key T.key_of key.now) self.now }
     {
-        if self.repeats {
-            return first_with(&self.entries, key);
-        }
-        match search(&self.entries, &self.table, &self.rest, key) {
-            Ok(at) => Some(at),
-            Err(_) => None,
-        }
-    }
-
-    /// What `get` answers, at the cost of one access to the entry at this index if it has the key.
-    pub fn get_near(&self, key: &K, likely: usize) -> Option<usize>
-        ensures { result ≡ position (has_key K.cmp T.key_of key.now) self.now }
-    {
-        if !self.repeats && has_key(&self.entries, likely, key) {
-            return Some(likely);
-        }
-        self.get(key)
+        first_in(&self.firsts, key)
     }
 
     /// The index of the first entry with the same key, and this entry again. `None`: there was none,
     /// and it is the last one now.
     ///
-    /// An `Err` comes where memory runs out, or 4,294,967,295 entries are there. None changes then.
+    /// An `Err` comes where memory runs out, or 4,294,967,296 entries are there. None changes then.
     pub fn first_of(&mut self, entry: T) -> Result<Option<(usize, T)>, AllocError>
         ensures found { IfOk result (λ found. option_map (λ f. f.0) found
-            ≡ position (has_key K.cmp T.key_of (T.key_of entry)) self.old) }
+            ≡ position (has_key T.key_of (T.key_of entry)) self.old) }
         ensures back { IfOk result (λ found. IfSome found (λ f. f.1 ≡ entry)) }
         ensures known { IfOk result (λ found. IsSome found → self.new ≡ self.old) }
         ensures new { IfOk result (λ found. found ≡ None → self.new ≡ self.old ++ entry ∷ []) }
         ensures err { OnErr result (self.new ≡ self.old) }
     {
-        if self.repeats {
-            if let Some(at) = first_with(&self.entries, entry.key()) {
-                return Ok(Some((at, entry)));
-            }
-            self.entries.push(entry)?;
-            return Ok(None);
+        if let Some(first) = self.get(entry.key()) {
+            return Ok(Some((first, entry)));
         }
-        // Before the search, since that finds the slot for a new key.
-        make_room(
-            self.alloc,
-            &mut self.entries,
-            &mut self.table,
-            &mut self.rest,
-        )?;
-        match search(&self.entries, &self.table, &self.rest, entry.key()) {
-            Ok(at) => Ok(Some((at, entry))),
-            Err(free) => {
-                let index = self.entries.len();
-                put(&mut self.table, &mut self.rest, free, *entry.key(), index)?;
-                self.entries.push_reserved(entry);
-                Ok(None)
-            }
-        }
+        self.enter(entry)?;
+        Ok(None)
+    }
+
+    // One more entry, with a key that no other one has.
+    fn enter(&mut self, entry: T) -> Result<(), AllocError>
+        requires { position (has_key T.key_of (T.key_of entry)) self.old ≡ None }
+        ensures ok { OnOk result (self.new ≡ self.old ++ entry ∷ []) }
+        ensures err { OnErr result (self.new ≡ self.old) }
+    {
+        let Ok(index) = u32::try_from(self.entries.len()) else {
+            return Err(AllocError);
+        };
+        self.entries.reserve(1)?;
+        self.firsts.insert(*entry.key(), index)?;
+        self.entries.push_reserved(entry);
+        Ok(())
     }
 
     /// One more entry, whose key another one may have.
     ///
-    /// An `Err` comes only where memory runs out. No entry changes then.
+    /// An `Err` comes as by `first_of`. No entry changes then.
     pub fn push(&mut self, entry: T) -> Result<(), AllocError>
         ensures ok { OnOk result (self.new ≡ self.old ++ entry ∷ []) }
         ensures err { OnErr result (self.new ≡ self.old) }
     {
-        self.entries.push(entry)?;
-        self.repeats = true;
+        match self.get(entry.key()) {
+            Some(_) => self.entries.push(entry)?,
+            None => self.enter(entry)?,
+        }
         Ok(())
     }
 
@@ -155,10 +129,33 @@ impl<K: Spread, T: Keyed<K>> KeyedList<K, T> {
         self.entries[index] = entry;
     }
 
-    /// Takes out the last entry, if there is one. Its slot stays taken until the table grows.
+    /// Takes out the last entry, if there is one.
     pub fn drop_last(&mut self)
         ensures { self.new ≡ take (length self.old - 1) self.old }
     {
-        let _ = self.entries.pop();
+        let Some(entry) = self.entries.pop() else {
+            return;
+        };
+        if is_first(&self.firsts, entry.key(), self.entries.len()) {
+            let _ = self.firsts.swap_remove(entry.key());
+        }
+    }
+}
+
+// The index that a table has for a key.
+fn first_in(firsts: &IndexMap<Digest32, u32, HashKey>, key: &Digest32) -> Option<usize>
+    ensures { result ≡ get bytes_eq firsts.now key.now }
+{
+    let first = firsts.get(key)?;
+    Some(*first as usize)
+}
+
+// Whether it is this index.
+fn is_first(firsts: &IndexMap<Digest32, u32, HashKey>, key: &Digest32, index: usize) -> bool
+    ensures { IsTrue result ↔ (get bytes_eq firsts.now key.now ≡ Some index) }
+{
+    match first_in(firsts, key) {
+        Some(first) => first == index,
+        None => false,
     }
 }

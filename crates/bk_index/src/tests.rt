@@ -1,10 +1,10 @@
-use crate::{Keyed, KeyedList, PlaceIndex};
+use crate::{HashKey, Keyed, KeyedList, PlaceIndex};
 use bk_cert::CertRef;
 use bk_digest::Digest32;
 use std::test::Fail;
 
 // A digest with a number.
-impl Keyed<Digest32> for (Digest32, usize) {
+impl Keyed for (Digest32, usize) {
     ghost key_of = { λ e. e.0 };
 
     fn key(&self) -> &Digest32 {
@@ -12,7 +12,7 @@ impl Keyed<Digest32> for (Digest32, usize) {
     }
 }
 
-// A digest with this first byte and this last one. The others are 255, which makes the greatest hints.
+// A digest with this first byte and this last one.
 fn digest(first: u8, last: u8) -> Digest32 {
     let mut bytes = [255; 32];
     bytes[0] = first;
@@ -97,7 +97,7 @@ fn a_number_above_what_an_entry_holds_is_refused(rt: HostRuntime) -> Result<(), 
 
 #[test]
 fn each_digest_keeps_its_index_while_the_table_grows(rt: HostRuntime) -> Result<(), Fail> {
-    let mut list: KeyedList<Digest32, Digest32> = KeyedList::new(rt.alloc());
+    let mut list: KeyedList<Digest32> = KeyedList::new(rt.alloc(), HashKey::fixed());
     for key in 0..200u8 {
         assert_eq!(rt; list.first_of(digest(key, 0))?, None);
     }
@@ -109,10 +109,9 @@ fn each_digest_keeps_its_index_while_the_table_grows(rt: HostRuntime) -> Result<
     Ok(())
 }
 
-// Digests and their indices, 16 of which find a slot near their number.
 #[test]
 fn entries_are_found_by_their_keys(rt: HostRuntime) -> Result<(), Fail> {
-    let mut list: KeyedList<Digest32, Digest32> = KeyedList::new(rt.alloc());
+    let mut list: KeyedList<Digest32> = KeyedList::new(rt.alloc(), HashKey::fixed());
     assert!(rt; list.is_empty() && list.get(&digest(9, 0)).is_none());
     for last in 0..40u8 {
         assert_eq!(rt; list.first_of(digest(9, last))?, None);
@@ -129,7 +128,7 @@ fn entries_are_found_by_their_keys(rt: HostRuntime) -> Result<(), Fail> {
 
 #[test]
 fn the_last_entry_is_dropped(rt: HostRuntime) -> Result<(), Fail> {
-    let mut list: KeyedList<Digest32, Digest32> = KeyedList::new(rt.alloc());
+    let mut list: KeyedList<Digest32> = KeyedList::new(rt.alloc(), HashKey::fixed());
     list.drop_last();
     assert_eq!(rt; list.first_of(digest(1, 0))?, None);
     assert_eq!(rt; list.first_of(digest(2, 0))?, None);
@@ -144,34 +143,25 @@ fn the_last_entry_is_dropped(rt: HostRuntime) -> Result<(), Fail> {
 
 #[test]
 fn an_entry_is_replaced(rt: HostRuntime) -> Result<(), Fail> {
-    let mut list: KeyedList<Digest32, (Digest32, usize)> = KeyedList::new(rt.alloc());
+    let mut list: KeyedList<(Digest32, usize)> = KeyedList::new(rt.alloc(), HashKey::new(&rt));
     let key = digest(1, 0);
-    let found = list.first_of((key, 7))?;
-    assert!(rt; found.is_none());
+    list.push((key, 7))?;
     list.replace(0, (key, 70));
-    assert!(rt; list.first_of((digest(2, 0), 8))?.is_none());
-    assert!(rt; list.len() == 2 && list.get(&key) == Some(0));
-    assert!(rt; list.as_slice()[0].1 == 70 && list.as_slice()[1].1 == 8);
+    assert!(rt; list.get(&key) == Some(0) && list.as_slice()[0].1 == 70);
     Ok(())
 }
 
-// Of entries with one key the first is found, also where others came or went before.
+// Of entries with one key the first is found, also where the others are dropped.
 #[test]
 fn the_first_of_a_key_is_found(rt: HostRuntime) -> Result<(), Fail> {
-    let mut list: KeyedList<Digest32, (Digest32, usize)> = KeyedList::new(rt.alloc());
-    for (number, key) in [4u8, 5, 6, 7].into_iter().enumerate() {
-        assert!(rt; list.first_of((digest(key, 0), number))?.is_none());
+    let mut list: KeyedList<Digest32> = KeyedList::new(rt.alloc(), HashKey::fixed());
+    for key in [4u8, 5, 6, 7, 5] {
+        list.push(digest(key, 0))?;
     }
-    list.drop_last();
-    list.push((digest(5, 0), 9))?;
-    assert_eq!(rt; list.get(&digest(5, 0)), Some(1));
-    assert_eq!(rt; list.get(&digest(7, 0)), None);
-    assert!(rt; list.first_of((digest(7, 0), 8))?.is_none());
-    assert_eq!(rt;
-        list.first_of((digest(5, 0), 3))?.map(|found| found.0),
-        Some(1)
-    );
-    assert_eq!(rt; list.get(&digest(7, 0)), Some(4));
-    assert!(rt; list.len() == 5 && list.as_slice()[3].1 == 9);
+    for _ in 0..2 {
+        assert_eq!(rt; list.get(&digest(5, 0)), Some(1));
+        list.drop_last();
+    }
+    assert!(rt; list.len() == 3 && list.get(&digest(7, 0)).is_none());
     Ok(())
 }

@@ -31,7 +31,7 @@ use Rattle.bk_jobs.specs.Schedules.{AreNoEvents, AreRefused, IsListed, IsRefused
 use Rattle.bk_jobs.specs.Sources.{AreBroken, Inputs, JobDevices, inputs_of}
 use Rattle.bk_cli.specs.Exits.{exit_after_compare, exit_by_code, is_refusal}
 use Rattle.bk_jobs.specs.Comparisons.{DoNotAgree, HaveSomeStop, both_sources}
-use Rattle.bk_jobs.specs.Faults.{AreNoAccounts, AreNoLinks, AreStopped, AreToBlame, MakeNoFeed}
+use Rattle.bk_jobs.specs.Blame.{AreNoAccounts, AreNoLinks, AreStopped, AreToBlame, MakeNoFeed}
 use Rattle.bk_chain.specs.Chain.{HasLinksFault}
 use Rattle.bk_tables.specs.Listing.{ids_of}
 

@@ -1,7 +1,8 @@
-mod AnswerLemmas
-mod BlameLemmas
+mod Answered
+mod Blaming
+mod Ends
 mod FaultyBytes
+mod JobKinds
+mod Ran
 mod ScheduleLemmas
-mod StatusLemmas
 mod VerdictLemmas
-pub mod QueryLemmas

@@ -2,21 +2,18 @@
 use Rattle.std.proofs.Common.{◌≡◌, ℕ, List, Option, Some, None, IfSome, refl}
 use Rattle.std.specs.Prelude.{Ok}
 use Rattle.std.specs.Io.KnownBytes.{Keeps}
-use Rattle.bk_frames.specs.Device.{Device, GaveAll}
+use Rattle.bk_frames.specs.Device.{Device}
 use Rattle.bk_steps.specs.declared.outcome.ScheduleFault.TheVariants as schedule
 use Rattle.bk_results.specs.Devices.{OfText, devices}
-use Rattle.bk_apply.specs.Answers.{ReportIsOut}
-use Rattle.bk_apply.specs.Scheduling.{IsWholeFor, StopsBy}
+use Rattle.bk_apply.specs.Scheduling.{StopsBy}
 use Rattle.bk_apply.specs.declared.scheduling.ScheduleStop.{ScheduleStop}
 use Rattle.bk_apply.specs.declared.scheduling.ScheduleStop.TheVariants as stop
 use Rattle.bk_script.specs.Events.{AreEvents, EventList, HasNoEvents, event_list, events_of}
 use Rattle.bk_script.specs.declared.making.TheConstants.{MOST_SCRIPT}
 use Rattle.bk_script.specs.declared.events.Events.{Events}
 use Rattle.bk_results.specs.declared.lines_fault.LinesFault.{LinesFault}
-use Rattle.bk_jobs.specs.Faults.{ScheduleIsOut}
 use Rattle.bk_jobs.specs.Schedules.{IsList, ScheduleFailsBy, fault_at}
 use Rattle.bk_jobs.specs.Sources.{job_devices}
-use Rattle.bk_cli.specs.declared.exit.Exit.TheVariants as exit
 use Rattle.bk_cli.specs.declared.list_fault.ListFault.TheVariants as list
 use Rattle.bk_cli.specs.declared.job_fault.JobFault.TheVariants as fault
 
@@ -30,13 +27,6 @@ is_list events old new ((text, gives, (ends, is)), known) = ((text, gives, (ends
     by_known : (b : Option (List ℕ)) → IfSome b (λ t. events_of t ≡ Ok events) → IfSome b IsList
     by_known None is = tt
     by_known (Some t) is = (events, is)
-
--- ---- the report
-
-pub schedule_is_out : (workers : ℕ) (events : Events) (feed feed' source source' out out' : Device) → AreEvents source source' events
-    → GaveAll feed feed' (λ bytes. IsWholeFor workers events.list.items bytes × ReportIsOut out out' bytes)
-    → ScheduleIsOut workers exit.Whole (job_devices feed source out) (job_devices feed' source' out')
-schedule_is_out workers events feed feed' source source' out out' are report = (refl, (event_list events, are.1, report))
 
 -- ---- why there is none
 

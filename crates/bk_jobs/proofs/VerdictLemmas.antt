@@ -1,19 +1,17 @@
 -- The verdict on a text that was read is that on all bytes of the source.
-use Rattle.std.proofs.Common.{◌≡◌, ◌<◌, ◌⊎◌, ◌∙◌, ℕ, List, Option, Some, None, Bool, true, false, length, inl, inr, ap, refl, arith, subst, IfSome}
+use Rattle.std.proofs.Common.{◌≡◌, ◌<◌, ◌⊎◌, ◌∙◌, ℕ, List, Option, Some, None, Bool, length, inl, inr, ap, refl, arith, subst, IfSome}
 use Rattle.std.specs.Prelude.{◌↔◌, IsTrue}
 use Rattle.std.proofs.lemmas.Bool.{cases_lt}
 use Rattle.std.proofs.lemmas.List.{length-take-le, take_all}
 use Rattle.std.specs.Io.KnownBytes.{Keeps}
-use Rattle.bk_frames.specs.Device.{Device, Receives}
-use Rattle.bk_frames.specs.Writing.{StopsWriting}
+use Rattle.bk_frames.specs.Device.{Device}
+use Rattle.bk_frames.specs.Writing.{StopsWriting, Writes}
 use Rattle.bk_frames.specs.declared.writing.WriteFault.{WriteFault}
 use Rattle.bk_results.specs.Devices.{devices}
 use Rattle.bk_script.specs.Answers.{HasRead, IsNotRead, IsRead}
 use Rattle.bk_results.specs.declared.script_fault.ScriptFault.{ScriptFault}
 use Rattle.bk_results.specs.declared.script_fault.ScriptFault.TheVariants as fault
-use Rattle.bk_cli.specs.Exits.{exit_by}
-use Rattle.bk_jobs.specs.Faults.{CheckFailsBy, IsVerdict, ProvesFor, PartOfVerdictIsOut, VerdictIsOut, verdict_text}
-use Rattle.bk_cli.specs.declared.exit.Exit.TheVariants as exit
+use Rattle.bk_jobs.specs.Texts.{CheckFailsBy, IsVerdict, ProvesFor, PartOfVerdictIsOut, VerdictIsOut, verdict_text}
 
 -- all bytes were read, or too many for a proof
 read_of_proof : (bytes text : List ℕ) → IsRead 65536 bytes text → (text ≡ bytes) ⊎ ((65536 < length text) × (65536 < length bytes))
@@ -44,11 +42,11 @@ keeps_all None = tt
 keeps_all (Some bytes) = refl
 
 pub verdict_is_out : (root : List ℕ) (account : Option ℕ) (text : List ℕ) (good : Bool) (old new out out' : Device) → HasRead 65536 old new text → (IsTrue good ↔ ProvesFor root account text)
-    → Receives out out' (verdict_text good) → VerdictIsOut root account (exit_by good) (devices old out) (devices new out')
+    → Writes (verdict_text good) out out' → VerdictIsOut root account good (devices old out) (devices new out')
 verdict_is_out root account text good old new out out' read h got = (
-  good,
-  refl,
-  got,
+  read.0,
+  got.0,
+  got.1,
   ((text, read.3, (read.4, h)), known_then old.bytes (λ bytes. IsRead 65536 bytes text) (λ bytes. IsVerdict root account bytes good) (λ bytes is. verdict_of_read root account bytes text good is h) read.2),
 )
 
@@ -72,7 +70,3 @@ not_read root account old new out fault.Memory h = (h, (refl, keeps_all out.byte
 
 pub no_memory : (root : List ℕ) (account : Option ℕ) (text : List ℕ) (old new out : Device) → HasRead 65536 old new text → CheckFailsBy root account fault.Memory (devices old out) (devices new out)
 no_memory root account text old new out read = (read.0, (refl, keeps_all out.bytes))
-
-pub yes_or_no : (good : Bool) → (exit_by good ≡ exit.Whole) ⊎ (exit_by good ≡ exit.No)
-yes_or_no true = inl refl
-yes_or_no false = inr refl

@@ -1,7 +1,10 @@
 pub mod Comparisons
 pub mod Drawn
-pub mod Faults
-pub mod Remarks
+pub mod Texts
+pub mod Endings
+pub mod Jobs
+pub mod Blame
+pub mod Laws
 pub mod Openings
 pub mod Reads
 pub mod Reports
@@ -10,4 +13,3 @@ pub mod Schedules
 pub mod Views
 pub mod Diagnoses
 pub mod Sources
-pub mod Flaws

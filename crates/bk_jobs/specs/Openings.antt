@@ -1,10 +1,8 @@
 -- How a job ends whose files are opened first.
-use Rattle.std.specs.Prelude.{◌≡◌, ◌⊎◌, ℕ, Bool, List, [], Option, Some, None, true, false}
+use Rattle.std.specs.Prelude.{◌≡◌, ◌⊎◌, ℕ, Bool, List, [], Option, Some, None, Result, true, false}
 use Rattle.std.specs.declared.io.ErrorKind.{ErrorKind}
 use Rattle.std.specs.declared.io.ErrorKind.TheVariants as kind
 use Rattle.bk_frames.specs.Device.{Device}
-use Rattle.bk_cli.specs.Exits.{is_answer}
-use Rattle.bk_cli.specs.Explanations.{told}
 use Rattle.bk_cli.specs.FaultLines.{Reports}
 use Rattle.bk_cli.specs.Files.{file_of, is_input, reads_beside, second_file_of}
 use Rattle.bk_cli.specs.Unopened.{told_unopened}
@@ -15,22 +13,19 @@ use Rattle.bk_cli.specs.declared.exit.Exit.TheVariants as exit
 use Rattle.bk_cli.specs.declared.job.Job.{Job}
 use Rattle.bk_cli.specs.declared.job_fault.JobFault.{JobFault}
 use Rattle.bk_jobs.specs.declared.inputs.Access.{Access}
-use Rattle.bk_jobs.specs.Faults.{AnswerIsOut, EndsBy}
-use Rattle.bk_jobs.specs.Flaws.{IsJudgedEnd}
+use Rattle.bk_jobs.specs.Endings.{IsLast, IsTold}
+use Rattle.bk_jobs.specs.Jobs.{JobEnds}
 use Rattle.bk_jobs.specs.Reads.{IsFresh, IsLeftButFirst, IsLeftButSecond, Sight, first_device, input_device, second_device}
-use Rattle.bk_jobs.specs.Remarks.{RemarksAreTold}
-use Rattle.bk_jobs.specs.Sources.{AllWork, JobDevices}
+use Rattle.bk_jobs.specs.Sources.{JobDevices}
+use Rattle.bk_jobs.specs.declared.job_end.JobEnd.{JobEnd}
 
--- how a job ran: how it ended by itself, with its answer or its fault and what was told of it, and how it ends at last, where
--- its feed is judged
+-- how a job ran: what it came to, what was told of that, and how it ends at last, where its feed is judged
 pub record RanSo (j : Job) (strict verbose : Bool) (last : Exit) (old new : JobDevices) (err err' : Device) : Type 0 where
-  pub end : Exit
+  pub result : Result JobEnd JobFault
   pub between : Device
-  pub answer : is_answer j end ≡ true → AnswerIsOut j end old new × AllWork old new
-  pub quiet : is_answer j end ≡ true → verbose ≡ false → between ≡ err
-  pub remarks : is_answer j end ≡ true → verbose ≡ true → RemarksAreTold j old new err between
-  pub fault : is_answer j end ≡ false → (e : JobFault) × EndsBy j (told verbose j) e end old new err between
-  pub judged : IsJudgedEnd strict j old new end last between err'
+  pub ends : JobEnds j strict result old new
+  pub told : IsTold j verbose result err between
+  pub judged : IsLast strict result last between err'
 
 -- what stands for the file of a path, by what files hold: standard input as it was, where the path stands for that; else a file of
 -- it that is open, at its beginning

@@ -1,25 +1,20 @@
 -- The jobs that show a table of a feed, or the line that links it to others, and the one that checks such lines.
-use Rattle.std.specs.Prelude.{◌≡◌, ℕ, Bool, true, false, List, Option, Some, None}
+use Rattle.std.specs.Prelude.{◌≡◌, ℕ, Bool, true, false, List, Option, None}
 use Rattle.bk_base.specs.Feed.{FeedValue}
-use Rattle.bk_frames.specs.Device.{Works}
 use Rattle.bk_results.specs.Devices.{Devices, IsUntouched, OfText}
-use Rattle.bk_results.specs.declared.fault.Fault.{Fault}
 use Rattle.bk_results.specs.declared.script_fault.ScriptFault.TheVariants as text
 use Rattle.bk_results.specs.declared.status.Status.{Status}
-use Rattle.bk_answer.specs.Answers.{AnswerFailsBy, IsAnswered}
 use Rattle.bk_chain.specs.Checking as chain
 use Rattle.bk_chain.specs.Linking.{IsLinkText}
 use Rattle.bk_chain.specs.declared.fault.ChainFault.{ChainFault}
 use Rattle.bk_chain.specs.declared.fault.ChainFault.TheVariants as broken
 use Rattle.bk_chain.specs.declared.verdict.ChainEnd.{ChainEnd}
 use Rattle.bk_chain.specs.declared.verdict.ChainEnd.TheVariants as verdict
-use Rattle.bk_tail.specs.Tailing.{EndsAsAsked, TailFailsBy}
 use Rattle.bk_tables.specs.declared.listing.TheConstants.{MOST_LIST}
 use Rattle.bk_tables.specs.Listing.{AreNamedIn, HasNoAccounts}
 use Rattle.bk_tables.specs.Tables.{IsBatchTable, IsPaymentTable, IsPostingTable}
 use Rattle.bk_results.specs.declared.lines_fault.LinesFault.{LinesFault}
 use Rattle.bk_results.specs.declared.lines_fault.LinesFault.TheVariants as list
-use Rattle.bk_cli.specs.Exits.{exit_at}
 use Rattle.bk_cli.specs.declared.exit.Exit.{Exit}
 use Rattle.bk_cli.specs.declared.exit.Exit.TheVariants as exit
 use Rattle.bk_cli.specs.declared.job_fault.JobFault.{JobFault}
@@ -28,7 +23,7 @@ use Rattle.bk_cli.specs.declared.view.Table.{Table}
 use Rattle.bk_cli.specs.declared.view.Table.TheVariants as table
 use Rattle.bk_cli.specs.declared.view.View.{View}
 use Rattle.bk_cli.specs.declared.view.View.TheVariants as view
-use Rattle.bk_jobs.specs.Sources.{JobDevices, first_devices}
+use Rattle.bk_jobs.specs.Sources.{JobDevices}
 
 -- ---- what is shown of a feed
 
@@ -49,27 +44,12 @@ abbrev pub executes_to_show : View → Bool
 executes_to_show view.Batches = false
 executes_to_show other = true
 
--- the output got the whole of what is shown of the bytes that the source gave, and the exit says whether a batch is missing
-abbrev pub ViewIsOut : View → Exit → Devices → Devices → Type 0
-ViewIsOut shown end old new =
-    (answer : Status) × (end ≡ exit_at answer) × IsAnswered (view_text shown) answer old new
-
--- why it did not
-abbrev pub ViewFailsBy : View → Fault → Devices → Devices → Type 0
-ViewFailsBy shown e old new = AnswerFailsBy (view_text shown) (executes_to_show shown) e old new
-
 -- ---- the rows of a table that have an account of a list
 
 -- the text that the second source gave is a list of accounts, of which this holds
 abbrev pub IsPicked : JobDevices → JobDevices → (List ℕ → Type 0) → Type 0
 IsPicked old new holds =
     (accounts : List ℕ) × OfText MOST_LIST old.second new.second (AreNamedIn accounts) × holds accounts
-
--- the output got the rows of the table of the feed that the first source gave which have one of these accounts
-abbrev pub PickIsOut : Table → Exit → JobDevices → JobDevices → Type 0
-PickIsOut shown end old new =
-    IsPicked old new (λ accounts. (answer : Status) × (end ≡ exit_at answer)
-    × IsAnswered (table_text shown (Some accounts)) answer (first_devices old) (first_devices new))
 
 -- the fault of a list of accounts
 abbrev pub fault_by_list : LinesFault → JobFault
@@ -82,46 +62,6 @@ abbrev pub ListIsUnread : LinesFault → JobDevices → JobDevices → Type 0
 ListIsUnread e old new =
     HasNoAccounts e old.second new.second × (new.first ≡ old.first) × IsUntouched old.out new.out
 
--- why it did not: the list was not read; or the feed was not answered
-abbrev pub PickFailsBy : Table → JobFault → JobDevices → JobDevices → Type 0
-PickFailsBy shown (fault.Accounts line) old new = ListIsUnread (list.Line line) old new
-PickFailsBy shown (fault.Text text.Read) old new = ListIsUnread list.Read old new
-PickFailsBy shown (fault.Text text.Memory) old new = ListIsUnread list.Memory old new
-PickFailsBy shown (fault.Replay e) old new =
-    Works old.second new.second
-    × IsPicked old new (λ accounts.
-    AnswerFailsBy (table_text shown (Some accounts)) true e (first_devices old) (first_devices new))
-PickFailsBy shown other old new = ⊥
-
--- ---- the rows of a feed that is followed
-
--- this holds of the accounts of the list that the second source gave; or of none, where no list is named
-abbrev pub IsPickedIf : Bool → JobDevices → JobDevices → (Option (List ℕ) → Type 0) → Type 0
-IsPickedIf true old new holds = IsPicked old new (λ accounts. holds (Some accounts))
-IsPickedIf false old new holds = holds None
-
--- the output got the whole table of the feed that the source gave, and the exit says whether a batch is missing
-abbrev pub RowsAreOut : Table → Option (List ℕ) → Exit → Devices → Devices → Type 0
-RowsAreOut shown accounts end old new =
-    (answer : Status) × (end ≡ exit_at answer) × IsAnswered (table_text shown accounts) answer old new
-
--- the same where there may be a list
-abbrev pub FollowIsOut : Table → Bool → Exit → JobDevices → JobDevices → Type 0
-FollowIsOut shown picks end old new =
-    IsPickedIf picks old new (λ accounts. RowsAreOut shown accounts end (first_devices old) (first_devices new))
-
--- why it did not: the list was not read; or the feed was not followed to its end, and then rows of it may be out
-abbrev pub FollowFailsBy : Table → JobFault → Bool → Bool → JobDevices → JobDevices → Type 0
-FollowFailsBy shown (fault.Accounts line) true wait old new = ListIsUnread (list.Line line) old new
-FollowFailsBy shown (fault.Text text.Read) true wait old new = ListIsUnread list.Read old new
-FollowFailsBy shown (fault.Text text.Memory) true wait old new = ListIsUnread list.Memory old new
-FollowFailsBy shown (fault.Replay e) picks wait old new =
-    Works old.second new.second
-    × IsPickedIf picks old new (λ accounts.
-    TailFailsBy (table_text shown accounts) e (first_devices old) (first_devices new))
-    × EndsAsAsked wait e old.first new.first
-FollowFailsBy shown other picks wait old new = ⊥
-
 -- ---- links
 
 -- the exit after a verdict on a chain
@@ -129,10 +69,6 @@ abbrev pub exit_by_chain : ChainEnd → Exit
 exit_by_chain verdict.Whole = exit.Whole
 exit_by_chain verdict.Short = exit.Missing
 exit_by_chain verdict.Broken = exit.No
-
--- the output got the whole verdict on the lines that the source gave
-abbrev pub ChainIsOut : Exit → Devices → Devices → Type 0
-ChainIsOut end old new = (answer : ChainEnd) × (end ≡ exit_by_chain answer) × chain.IsChecked answer old new
 
 -- the fault of a check that came to no verdict
 abbrev pub fault_by_chain : ChainFault → JobFault

@@ -1,11 +1,12 @@
 //! The job that checks whether lines are the links of a chain.
 
-ghost use Rattle.std.specs.Prelude.{◌≡◌, OnOk, IfOk, IfErr};
-ghost use Rattle.bk_chain.specs.declared.verdict.ChainEnd.{ChainEnd as AnyEnd};
-ghost use Rattle.bk_frames.specs.Device.{CanBeUsed, Works};
+ghost use Rattle.std.specs.Prelude.{◌≡◌};
+ghost use Rattle.bk_frames.specs.Device.{CanBeUsed};
 ghost use Rattle.bk_results.specs.Devices.{devices};
-ghost use Rattle.bk_jobs.specs.Views.{ChainFailsBy, ChainIsOut, exit_by_chain, fault_by_chain};
+ghost use Rattle.bk_jobs.specs.Jobs.{ChainEnds};
+ghost use Rattle.bk_jobs.specs.Views.{exit_by_chain, fault_by_chain};
 
+use crate::job_end::JobEnd;
 use bk_chain::{ChainEnd, ChainFault, check_chain};
 use bk_cli::{Exit, JobFault};
 use bk_frames::{Sink, Source};
@@ -39,21 +40,14 @@ pub(crate) fn check_links<R: AllocGlobal, S: Source, O: Sink>(
     rt: &R,
     source: &mut S,
     out: &mut O,
-) -> Result<Exit, JobFault>
+) -> Result<JobEnd, JobFault>
     requires source { CanBeUsed (S.state source.old) }
     requires out { CanBeUsed (O.state out.old) }
-    ensures verdict { IfOk result (λ end. ChainIsOut end
-        (devices (S.state source.old) (O.state out.old))
-        (devices (S.state source.new) (O.state out.new))) }
-    ensures answer { IfOk result (λ end. (e : AnyEnd) × (end ≡ exit_by_chain e)) }
-    ensures sound { OnOk result (Works (S.state source.old) (S.state source.new)
-        × Works (O.state out.old) (O.state out.new)) }
-    ensures fault { IfErr result (λ e. ChainFailsBy e
-        (devices (S.state source.old) (O.state out.old))
-        (devices (S.state source.new) (O.state out.new))) }
+    ensures { ChainEnds result (devices (S.state source.old) (O.state out.old))
+        (devices (S.state source.new) (O.state out.new)) }
 {
     match check_chain(rt.alloc(), source, out) {
-        Ok(end) => Ok(exit_by(end)),
+        Ok(end) => Ok(JobEnd::with(exit_by(end), None)),
         Err(fault) => Err(fault_of(fault)),
     }
 }

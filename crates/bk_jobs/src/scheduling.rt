@@ -1,13 +1,15 @@
 //! Jobs that execute a feed by a list of events.
 
-ghost use Rattle.std.specs.Prelude.{◌≡◌, OnOk, IfOk, IfErr, slice_index_or};
+ghost use Rattle.std.specs.Prelude.{◌≡◌, slice_index_or};
 ghost use Rattle.bk_frames.specs.Device.{CanBeUsed};
-ghost use Rattle.bk_jobs.specs.Faults.{ScheduleIsOut};
-ghost use Rattle.bk_jobs.specs.Schedules.{ScheduleFailsBy, fault_at};
-ghost use Rattle.bk_jobs.specs.Sources.{AllWork, job_devices};
+ghost use Rattle.bk_jobs.specs.Jobs.{ScheduleEnds};
+ghost use Rattle.bk_jobs.specs.Schedules.{fault_at};
+ghost use Rattle.bk_jobs.specs.Sources.{job_devices};
 
+use crate::job_end::JobEnd;
 use bk_apply::{ScheduleStop, apply_schedule};
-use bk_cli::{Exit, JobFault, ListFault, Workers};
+use bk_base::Workers;
+use bk_cli::{Exit, JobFault, ListFault};
 use bk_frames::{Sink, Source};
 use bk_results::Fault;
 use bk_script::read_events;
@@ -47,24 +49,20 @@ pub(crate) fn schedule<R: AllocGlobal, S1: Source, S2: Source, O: Sink>(
     feed: &mut S1,
     events: &mut S2,
     out: &mut O,
-) -> Result<Exit, JobFault>
+) -> Result<JobEnd, JobFault>
     requires feed { CanBeUsed (S1.state feed.old) }
     requires events { CanBeUsed (S2.state events.old) }
     requires out { CanBeUsed (O.state out.old) }
-    ensures report { IfOk result (λ end. ScheduleIsOut workers end
+    ensures { ScheduleEnds workers result
         (job_devices (S1.state feed.old) (S2.state events.old) (O.state out.old))
-        (job_devices (S1.state feed.new) (S2.state events.new) (O.state out.new))) }
-    ensures answer { IfOk result (λ end. end ≡ Exit.Whole) }
-    ensures sound { OnOk result (AllWork
-        (job_devices (S1.state feed.old) (S2.state events.old) (O.state out.old))
-        (job_devices (S1.state feed.new) (S2.state events.new) (O.state out.new))) }
-    ensures fault { IfErr result (λ e. ScheduleFailsBy workers e
-        (job_devices (S1.state feed.old) (S2.state events.old) (O.state out.old))
-        (job_devices (S1.state feed.new) (S2.state events.new) (O.state out.new))) }
+        (job_devices (S1.state feed.new) (S2.state events.new) (O.state out.new)) }
 {
-    let listed = read_events(rt.alloc(), events)?;
+    let listed = match read_events(rt.alloc(), events) {
+        Ok(listed) => listed,
+        Err(fault) => return Err(JobFault::Events(ListFault::Unread(fault))),
+    };
     match apply_schedule(rt.alloc(), feed, out, workers.number(), &listed.list) {
-        Ok(()) => Ok(Exit::Whole),
+        Ok(()) => Ok(JobEnd::with(Exit::Whole, None)),
         Err(stop) => Err(fault_at(stop, &listed.lines)),
     }
 }

@@ -1,12 +1,13 @@
 //! Jobs that read a text: a script, or a proof.
 
-ghost use Rattle.std.specs.Prelude.{◌≡◌, ◌⊎◌, OnOk, IfOk, IfErr};
-ghost use Rattle.bk_frames.specs.Device.{CanBeUsed, Works};
+ghost use Rattle.std.specs.Prelude.{◌≡◌, IfOk, IfErr};
+ghost use Rattle.bk_frames.specs.Device.{CanBeUsed};
 ghost use Rattle.bk_results.specs.Devices.{devices};
-ghost use Rattle.bk_script.specs.Answers as script;
-ghost use Rattle.bk_jobs.specs.Faults.{FeedIsOut, VerdictIsOut, CheckFailsBy, IsVerdict, verdict_text};
+ghost use Rattle.bk_jobs.specs.Jobs.{CheckEnds, MakeEnds};
+ghost use Rattle.bk_jobs.specs.Texts.{CheckFailsBy, IsVerdict, VerdictIsOut, verdict_text};
 
-use bk_cli::Exit;
+use crate::job_end::JobEnd;
+use bk_cli::{Exit, JobFault};
 use bk_frames::{Sink, Source, push_all};
 use bk_report::{MOST_PROOF, check_proof, check_proof_of};
 use bk_script::{ScriptFault, make, read_text};
@@ -20,21 +21,16 @@ pub(crate) fn make_feed<R: AllocGlobal, S: Source, O: Sink>(
     rt: &R,
     source: &mut S,
     out: &mut O,
-) -> Result<Exit, ScriptFault>
+) -> Result<JobEnd, JobFault>
     requires source { CanBeUsed (S.state source.old) }
     requires out { CanBeUsed (O.state out.old) }
-    ensures feed { IfOk result (λ end. FeedIsOut end
-        (devices (S.state source.old) (O.state out.old))
-        (devices (S.state source.new) (O.state out.new))) }
-    ensures answer { IfOk result (λ end. end ≡ Exit.Whole) }
-    ensures sound { OnOk result (Works (S.state source.old) (S.state source.new)
-        × Works (O.state out.old) (O.state out.new)) }
-    ensures fault { IfErr result (λ e. script.FailsBy e
-        (script.devices (S.state source.old) (O.state out.old))
-        (script.devices (S.state source.new) (O.state out.new))) }
+    ensures { MakeEnds result (devices (S.state source.old) (O.state out.old))
+        (devices (S.state source.new) (O.state out.new)) }
 {
-    make(rt.alloc(), source, out)?;
-    Ok(Exit::Whole)
+    match make(rt.alloc(), source, out) {
+        Ok(()) => Ok(JobEnd::with(Exit::Whole, None)),
+        Err(fault) => Err(JobFault::Text(fault)),
+    }
 }
 
 // The text of a verdict on a proof.
@@ -58,30 +54,46 @@ fn proves(alloc: Global, root: &[u8], account: Option<u64>, text: &[u8]) -> Resu
     }
 }
 
-/// Writes the verdict on whether a text is a proof of this root, and of this account where one is named. Of a text that is too long, one byte more than a proof
-/// can have is read.
+// Writes the verdict on whether the text of a source is a proof.
+fn judge_proof<S: Source, O: Sink>(
+    alloc: Global,
+    root: &[u8],
+    account: Option<u64>,
+    source: &mut S,
+    out: &mut O,
+) -> Result<bool, ScriptFault>
+    requires source { CanBeUsed (S.state source.old) }
+    requires out { CanBeUsed (O.state out.old) }
+    ensures verdict { IfOk result (λ good. VerdictIsOut root.now account good
+        (devices (S.state source.old) (O.state out.old))
+        (devices (S.state source.new) (O.state out.new))) }
+    ensures fault { IfErr result (λ e. CheckFailsBy root.now account e
+        (devices (S.state source.old) (O.state out.old))
+        (devices (S.state source.new) (O.state out.new))) }
+{
+    let mut piece = [0u8; PIECE];
+    let text = read_text(alloc, source, &mut piece, MOST_PROOF)?;
+    let good = proves(alloc, root, account, &text)?;
+    push_all(out, verdict_text(good))?;
+    Ok(good)
+}
+
+/// Writes the verdict on whether a text is a proof of this root, and of this account where one is named. Of a text that is
+/// too long, one byte more than a proof can have is read.
 pub(crate) fn check<R: AllocGlobal, S: Source, O: Sink>(
     rt: &R,
     root: &[u8],
     account: Option<u64>,
     source: &mut S,
     out: &mut O,
-) -> Result<Exit, ScriptFault>
+) -> Result<JobEnd, JobFault>
     requires source { CanBeUsed (S.state source.old) }
     requires out { CanBeUsed (O.state out.old) }
-    ensures verdict { IfOk result (λ end. VerdictIsOut root.now account end
-        (devices (S.state source.old) (O.state out.old))
-        (devices (S.state source.new) (O.state out.new))) }
-    ensures answer { IfOk result (λ end. (end ≡ Exit.Whole) ⊎ (end ≡ Exit.No)) }
-    ensures sound { OnOk result (Works (S.state source.old) (S.state source.new)
-        × Works (O.state out.old) (O.state out.new)) }
-    ensures fault { IfErr result (λ e. CheckFailsBy root.now account e
-        (devices (S.state source.old) (O.state out.old))
-        (devices (S.state source.new) (O.state out.new))) }
+    ensures { CheckEnds root.now account result (devices (S.state source.old) (O.state out.old))
+        (devices (S.state source.new) (O.state out.new)) }
 {
-    let mut piece = [0u8; PIECE];
-    let text = read_text(rt.alloc(), source, &mut piece, MOST_PROOF)?;
-    let good = proves(rt.alloc(), root, account, &text)?;
-    push_all(out, verdict_text(good))?;
-    Ok(Exit::by(good))
+    match judge_proof(rt.alloc(), root, account, source, out) {
+        Ok(good) => Ok(JobEnd::with(Exit::by(good), None)),
+        Err(fault) => Err(JobFault::Text(fault)),
+    }
 }

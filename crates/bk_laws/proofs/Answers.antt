@@ -17,9 +17,9 @@ use Rattle.bk_tx.specs.Batches.{transactions_of}
 use Rattle.bk_report.specs.Report.{IsApplyReport, apply_report_of}
 use Rattle.bk_report.specs.RunLines.{Reading, run_lines}
 use Rattle.bk_answer.specs.RunReport.{committee_in, later_frames, HasNoStopIn, Reads, IsStopIn, fault_of, reach_of}
-use Rattle.bk_replay.specs.RunLaws.{Answer, ComesTo, faulty, stopped, reported}
+use Rattle.bk_laws.specs.RunLaws.{Answer, ComesTo, faulty, stopped, reported}
 use Rattle.bk_frames.proofs.OneReading.{feed_or_fault}
-use Rattle.bk_replay.proofs.RunLaws.{one_answer}
+use Rattle.bk_laws.proofs.RunLaws.{one_answer}
 use Rattle.bk_laws.proofs.Anchors.{anchors_exist}
 use Rattle.bk_laws.proofs.Orders.{order_exists, waiting_exist}
 use Rattle.bk_laws.proofs.Stops.{stop_or_none}

@@ -3,7 +3,7 @@ use Rattle.std.proofs.Common.{◌≡◌, ◌⊎◌, ℕ, inl, inr, Bool, true, f
 use Rattle.std.specs.Prelude.{All, Contains, not}
 use Rattle.std.specs.Str.{bytes_eq}
 use Rattle.std.proofs.lemmas.List.Concat.{flat_map-cons}
-use Rattle.std.proofs.lemmas.List.Elements.{All-head, All-tail, Contains-append_left, Contains-append_right, Contains-append_cases}
+use Rattle.std.proofs.lemmas.List.Elements.{All-cons, All-head, All-nil, All-tail, Contains-append_left, Contains-append_right, Contains-append_cases}
 use Rattle.std.proofs.lemmas.Slice.Eq.{bytes_eq-Decides}
 use Rattle.sha2.proofs.Facts256.{length-sha256}
 use Rattle.bk_base.specs.declared.version.Version.{Version}
@@ -22,7 +22,9 @@ use Rattle.bk_rules.specs.Fold.{state_after}
 use Rattle.bk_rules.proofs.Folding.{length-receipts, total_below}
 use Rattle.bk_tx.specs.Batches.{transactions_of}
 use Rattle.bk_chain.specs.declared.verdict.Break.TheVariants as break
-use Rattle.bk_chain.specs.Chain.{AllFollow, break_of, is_short, same_version}
+use Rattle.bk_chain.specs.Chain.{AllFollow, IsChainOf, break_of, is_short, same_version}
+use Rattle.bk_chain.specs.Line.{Fits}
+use Rattle.bk_chain.proofs.Results.{same_links}
 use Rattle.bk_chain.specs.Chains.{AreChain, GoesOn}
 use Rattle.bk_laws.specs.Binding.{HashCollision}
 use Rattle.bk_laws.specs.Chained.{DigestsSuffice, LinksFit, IsLinked, Linked, feeds_in, hashed_in, links_in}
@@ -135,9 +137,6 @@ chained (l ∷ m ∷ more) all follow =
     joined (inl same) (inr c) is other = inr (later l (m ∷ more) c)
     joined (inl same) (inl chain) is other = inl ((is.good, is.link.outcome), goes_on l m is other follow.0 same, chain)
 
-pub digests_suffice : DigestsSuffice
-digests_suffice linked text c all are good = chained linked all good.follow
-
 -- ---- a link in a line
 
 pub links_fit : LinksFit
@@ -159,3 +158,17 @@ links_fit feed reached v good link =
       money = omega (arith, link.money, low, sum);
       transactions = omega (arith, link.transactions, counted, few);
     }
+
+-- ---- the links of a text
+
+each_fits : (linked : List Linked) → All IsLinked linked → All Fits (links_in linked)
+each_fits [] all = All-nil Fits
+each_fits (l ∷ more) all =
+    let is = All-head IsLinked l more all in
+    All-cons Fits l.link (links_in more) (links_fit l.replayed.feed l.replayed.end l.link is.good is.link) (each_fits more (All-tail IsLinked l more all))
+
+pub digests_suffice : DigestsSuffice
+digests_suffice linked text c all lines good =
+    let judged : IsChainOf good.links c = good.judged in
+    let same = same_links good.links (links_in linked) good.are.fit (each_fits linked all) (sym good.are.lines ∙ lines) in
+    chained linked all (subst AllFollow same judged.follow)

@@ -5,8 +5,8 @@ use native.Mathlib.Decide.{ℕ_discrete}
 use Rattle.bk_results.specs.declared.status.Status.{Status}
 use Rattle.bk_results.specs.declared.status.Status.TheVariants as status
 use Rattle.bk_answer.specs.RunReport.{IsReport}
-use Rattle.bk_replay.specs.RunLaws.{reported}
-use Rattle.bk_replay.proofs.RunLaws.{one_answer}
+use Rattle.bk_laws.specs.RunLaws.{reported}
+use Rattle.bk_laws.proofs.RunLaws.{one_answer}
 use Rattle.bk_claim.specs.Claims.{FirstDiffer, IsVerdict, ShowsVerdict, difference, good}
 use Rattle.bk_claim.specs.declared.verdict.Verdict.{Verdict}
 use Rattle.bk_claim.specs.declared.verdict.Verdict.TheVariants as verdict

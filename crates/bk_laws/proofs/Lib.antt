@@ -1,3 +1,4 @@
+pub mod RunLaws
 pub mod Claiming
 pub mod Deciding
 pub mod Weights

@@ -20,7 +20,7 @@ use Rattle.bk_results.specs.declared.status.Status.{Status}
 use Rattle.bk_ask.specs.Asking.{IsReply, IsReplyOf}
 use Rattle.bk_answer.specs.Outcomes.{IsOutcomeOf, Outcome}
 use Rattle.bk_answer.specs.RunReport.{HasNoStopIn, IsReport, Reads, committee_in, later_frames, reach_of}
-use Rattle.bk_replay.proofs.RunLaws.{money_line_is_genesis}
+use Rattle.bk_laws.proofs.RunLaws.{money_line_is_genesis}
 use Rattle.bk_laws.specs.Laws.{ProvesInReport}
 use Rattle.bk_laws.proofs.Answers.{reading_exists}
 use Rattle.bk_laws.proofs.Fitting.{accounts_fit}

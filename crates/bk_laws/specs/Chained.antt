@@ -10,12 +10,13 @@ use Rattle.bk_results.specs.declared.status.Status.{Status}
 use Rattle.bk_answer.specs.Outcomes.{Outcome}
 use Rattle.bk_answer.specs.RunReport.{IsReport}
 use Rattle.bk_tables.specs.Counted.{counts_up}
-use Rattle.bk_chain.specs.Chain.{AreLinks, IsChainOf}
+use Rattle.bk_chain.specs.Chain.{HasVerdict, lines_in}
 use Rattle.bk_chain.specs.Chains.{AreChain, Replayed, receipts_in, transactions_in}
-use Rattle.bk_chain.specs.Line.{Fits}
+use Rattle.bk_chain.specs.Line.{Fits, link_line}
 use Rattle.bk_chain.specs.Linking.{IsLinkOf}
 use Rattle.bk_chain.specs.declared.link.LinkValue.{LinkValue}
 use Rattle.bk_chain.specs.declared.verdict.Chain.{Chain}
+use Rattle.bk_chain.specs.declared.verdict.Verdict.TheVariants as verdict
 use Rattle.bk_laws.specs.Binding.{EndsInState, HashCollision}
 use Rattle.bk_laws.specs.Hashed.{hashed_for_state}
 
@@ -41,11 +42,11 @@ abbrev pub hashed_in : List Linked → List (List ℕ)
 hashed_in linked =
     flat_map (λ (l : Linked). hashed_for_state (genesis_of l.replayed.feed.frames) ++ hashed_for_state l.replayed.end.rows) linked
 
--- where the verdict on a text of the links of some feeds is that they are a chain, the feeds are a chain, or there is a
--- hash collision
+-- where the lines of a text are those of the links of some feeds, and its verdict is that of a good chain, the feeds are a
+-- chain, or there is a hash collision
 abbrev pub DigestsSuffice : Type 0
 DigestsSuffice = (linked : List Linked) (text : List ℕ) (c : Chain) → All IsLinked linked
-    → AreLinks text (links_in linked) → IsChainOf (links_in linked) c
+    → lines_in text ≡ map link_line (links_in linked) → HasVerdict text (verdict.Good c)
     → AreChain (feeds_in linked) ⊎ HashCollision (hashed_in linked)
 
 -- the link of every feed can be said in a line: its digests and numbers fit

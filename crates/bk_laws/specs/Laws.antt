@@ -27,7 +27,7 @@ use Rattle.bk_results.specs.declared.status.Status.{Status}
 use Rattle.bk_follow.specs.Agreement.{HaveOneSetup, HaveStop}
 use Rattle.bk_ask.specs.Asking.{IsReply}
 use Rattle.bk_compare.specs.FeedAgreement.{FeedsAgree}
-use Rattle.bk_replay.specs.RunLaws.{Answer, ComesTo, EndsWithMoney}
+use Rattle.bk_laws.specs.RunLaws.{Answer, ComesTo, EndsWithMoney}
 use Rattle.bk_answer.specs.RunReport.{HasNoStopIn, Reads, IsReport, committee_in, later_frames}
 use Rattle.bk_apply.specs.Scheduling.{InExecutionOf, IsNotWholeFor, IsOfEvents, IsWholeFor}
 

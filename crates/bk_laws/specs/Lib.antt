@@ -1,3 +1,4 @@
+pub mod RunLaws
 pub mod Claims
 pub mod Laws
 pub mod Following

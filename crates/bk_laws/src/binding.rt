@@ -39,7 +39,7 @@ pub fn one_proof()
     ensures { OneProof }
 {}
 
-/// Feeds whose links are good as a chain are a chain, or there is a hash collision.
+/// Feeds whose link lines `check-chain` finds good are a chain, or there is a hash collision.
 pub fn digests_suffice()
     ensures { DigestsSuffice }
 {}

@@ -101,7 +101,7 @@ pub fn names_first_fault()
     ensures { NamesFirstFault }
 {}
 
-/// What `Follower::order` returns begins what it returns at every later moment, while nothing stops the feed.
+/// What a Follower has ordered begins what it has ordered at every later moment, while nothing stops the feed.
 pub fn order_so_far_stays()
     ensures { OrderSoFarStays }
 {}

@@ -9,6 +9,7 @@
 
 mod binding;
 mod laws;
+mod runs;
 
 pub use binding::{
     chains_count_once, digests_suffice, good_paths_hold, good_proofs_hold, links_are_of_reports,
@@ -21,3 +22,4 @@ pub use laws::{
     receipts_stay, rejected_are_broken, rejected_stay, rejects_are_counted,
     report_ignores_frame_order, stops_stay,
 };
+pub use runs::{one_answer, run_keeps_money};

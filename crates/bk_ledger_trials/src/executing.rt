@@ -5,21 +5,19 @@ ghost use Rattle.std.specs.Arc.{arc_value};
 ghost use Rattle.bk_conflicts.specs.SceneOf.{CanRunOn};
 
 use anyhow::{Result, bail};
-use bk_base::Row;
 use bk_conflicts::{Plan, Planner};
 use bk_frames::Feed;
-use bk_ledger::{Batches, Ledger};
+use bk_ledger::Batches;
 use bk_pool::{ExecFault, Gate, Hints, Outcome, execute, execute_with};
-use bk_rules::{PackedReceipt, State};
+use bk_rules::State;
 use std::alloc::Global;
 use std::sync::{Arc, Wait};
 use std::thread::Threads;
 
 const MOST: usize = 1 << 31;
 
-/// The plan of the transactions of a feed by a planner that may have made others, with these likely slots, and the opening
-/// accounts.
-pub(crate) fn planned_by(
+// The plan of the transactions of a feed by this planner, with these likely slots, and the opening accounts.
+fn planned_by(
     alloc: Global,
     feed: &Feed,
     planner: &mut Planner,
@@ -37,18 +35,18 @@ pub(crate) fn planned_by(
     Ok((plan, state))
 }
 
-/// The same by a new planner.
-pub(crate) fn planned(alloc: Global, feed: &Feed, near: &[u32]) -> Result<(Plan, State)>
+/// The plan of the transactions of a feed, and the opening accounts.
+pub(crate) fn planned(alloc: Global, feed: &Feed) -> Result<(Plan, State)>
     ensures { IfOk result (λ r. CanRunOn r.0 r.1) }
 {
-    planned_by(alloc, feed, &mut Planner::new(alloc), near)
+    planned_by(alloc, feed, &mut Planner::new(alloc), &[])
 }
 
 /// The same with a plan that threads can share.
-pub(crate) fn prepared(alloc: Global, feed: &Feed, near: &[u32]) -> Result<(Arc<Plan>, State)>
+pub(crate) fn prepared(alloc: Global, feed: &Feed) -> Result<(Arc<Plan>, State)>
     ensures { IfOk result (λ r. CanRunOn (arc_value r.0) r.1) }
 {
-    let (plan, state) = planned(alloc, feed, near)?;
+    let (plan, state) = planned(alloc, feed)?;
     Ok((Arc::new(alloc, plan)?, state))
 }
 
@@ -61,16 +59,15 @@ fn whole<T>(ran: Result<T, ExecFault>) -> Result<T> {
     }
 }
 
-/// What this many workers make of the transactions of a feed, by the plan that is made with these likely slots.
+/// What this many workers make of the transactions of a feed.
 pub(crate) fn executed<R: Threads + Wait + Sync, G: Gate + Sync>(
     rt: &R,
     alloc: Global,
     feed: &Feed,
-    near: &[u32],
     workers: usize,
     gate: &G,
 ) -> Result<Outcome> {
-    let (plan, state) = prepared(alloc, feed, near)?;
+    let (plan, state) = prepared(alloc, feed)?;
     whole(execute(rt, alloc, &plan, state, workers.clamp(1, 64), gate))
 }
 
@@ -90,30 +87,6 @@ where
     if ends.is_empty() || ends.len() > 64 {
         bail!("1 to 64 workers");
     }
-    let (plan, state) = prepared(alloc, feed, &[])?;
+    let (plan, state) = prepared(alloc, feed)?;
     whole(execute_with(rt, alloc, &plan, state, gate, ends))
-}
-
-/// What this many workers make of a feed in slices of at least so many transactions.
-pub(crate) fn in_slices<R: Threads + Wait + Sync, G: Gate + Sync>(
-    rt: &R,
-    alloc: Global,
-    feed: &Feed,
-    least: usize,
-    workers: usize,
-    gate: &G,
-) -> Result<Ledger> {
-    let (least, workers) = (least.min(8_192), workers.clamp(1, 64));
-    whole(Ledger::of_slices(rt, alloc, feed, least, workers, gate))
-}
-
-/// Whether these are all receipts and all accounts.
-pub(crate) fn gives(
-    alloc: Global,
-    outcome: &Outcome,
-    receipts: &[PackedReceipt],
-    accounts: &[Row],
-) -> Result<bool> {
-    let rows = outcome.state.rows(alloc)?;
-    Ok(outcome.receipts.as_slice() == receipts && rows.as_slice() == accounts)
 }

@@ -206,7 +206,7 @@ fn is_given<R>(rt: &R, alloc: Global, case: &Case, feed: &Feed, workers: usize) 
 where
     R: Threads + Wait + Sync,
 {
-    let outcome = executed(rt, alloc, feed, &[], workers, &Open)?;
+    let outcome = executed(rt, alloc, feed, workers, &Open)?;
     gives_case(alloc, &outcome, case)
 }
 

@@ -228,7 +228,7 @@ const DEEDS: &[(Deed, &str)] = &[
 
 // Account 1 pays 10 if account 2 has its money, and then account 2 pays its 50.
 fn is_shown(alloc: Global, feed: &Feed, deed: Deed) -> Result<bool> {
-    let (plan, state) = prepared(alloc, feed, &[])?;
+    let (plan, state) = prepared(alloc, feed)?;
     let (bank, pass) = Bank::new(alloc, &plan, &state)?;
     if bank.len() != 2 {
         return Ok(false);

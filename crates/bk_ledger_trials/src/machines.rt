@@ -66,7 +66,7 @@ fn try_turns<R: Eprint>(rt: &R, machine: &mut Machine, turns: &[Turn], tally: &m
 }
 
 fn machine_of(alloc: Global, feed: &Feed) -> Result<Machine> {
-    let (plan, state) = planned(alloc, feed, &[])?;
+    let (plan, state) = planned(alloc, feed)?;
     Ok(Machine::new(alloc, plan, state, 2)?)
 }
 

@@ -1,14 +1,10 @@
 //! Workers that are inside two places at once.
 
-use crate::cases::VERSIONS;
-use crate::deeds::{Deed, txs_of};
-use crate::executing::{executed, executed_by, gives};
-use crate::making::{feed_with, row};
+use crate::cases::{Name, VERSIONS, case_of, feed_named, gives_case};
+use crate::executing::{executed, executed_by};
 use anyhow::Result;
-use bk_base::Version;
 use bk_frames::Feed;
 use bk_pool::{Gate, Hints, Outcome};
-use bk_rules::{PackedReceipt, Receipt, Status};
 use bk_trial_kit::Tally;
 use std::alloc::Global;
 use std::sync::Wait;
@@ -74,22 +70,6 @@ impl Hints for Second {
     fn dealt(&mut self, _place: u32) {}
 }
 
-// Two payments that have no account in common.
-fn two_apart(alloc: Global, version: Version) -> Result<Feed> {
-    let rows = [row(1, 10, 0), row(2, 10, 0), row(3, 10, 0), row(4, 10, 0)];
-    let txs = txs_of(alloc, &[Deed::Pay(1, 2, 10, 0), Deed::Pay(3, 4, 10, 0)])?;
-    feed_with(alloc, version, &rows, &txs)
-}
-
-fn has_paid_both(alloc: Global, outcome: &Outcome) -> Result<bool> {
-    let receipt = PackedReceipt::of(Receipt {
-        status: Status::Ok,
-        moved: 10,
-    });
-    let accounts = [row(1, 0, 1), row(2, 20, 0), row(3, 0, 1), row(4, 20, 0)];
-    gives(alloc, outcome, &[receipt, receipt], &accounts)
-}
-
 fn two_ends(alloc: Global) -> Result<Vec<Second>> {
     let mut ends = Vec::new(alloc);
     for place in 0..2u32 {
@@ -113,7 +93,7 @@ where
     if has_bad_hint {
         executed_by(rt, alloc, feed, gate, two_ends(alloc)?)
     } else {
-        executed(rt, alloc, feed, &[], 2, gate)
+        executed(rt, alloc, feed, 2, gate)
     }
 }
 
@@ -128,7 +108,7 @@ where
     R: Threads + Wait + Sync,
 {
     let outcome = executed_both(rt, alloc, feed, gate, has_bad_hint)?;
-    has_paid_both(alloc, &outcome)
+    gives_case(alloc, &outcome, &case_of(feed.version(), Name::Apart))
 }
 
 // Whether both workers met, and left.
@@ -165,13 +145,13 @@ where
     }
 }
 
-/// Two workers wait for each other, each inside its place.
+/// Two workers at payments that have no account in common wait for each other, each inside its place.
 pub(crate) fn try_meetings<R>(rt: &R, tally: &mut Tally)
 where
     R: AllocGlobal + Eprint + Threads + Wait + Sync,
 {
     for version in VERSIONS {
-        match two_apart(rt.alloc(), *version) {
+        match feed_named(rt.alloc(), *version, Name::Apart) {
             Ok(feed) => try_both(rt, &feed, tally),
             Err(_) => tally.miss(rt),
         }

@@ -86,7 +86,7 @@ fn both_places<R: Threads>(rt: &R, bank: &Bank, plan: &Plan, pass: Pass) -> Opti
 
 // Whether the joined pass sees both places done, and the bank closes with the words of both payments.
 fn have_paid<R: Threads>(rt: &R, alloc: Global, feed: &Feed) -> Result<bool> {
-    let (plan, state) = prepared(alloc, feed, &[])?;
+    let (plan, state) = prepared(alloc, feed)?;
     let (bank, pass) = Bank::new(alloc, &plan, &state)?;
     if bank.len() != 2 {
         return Ok(false);

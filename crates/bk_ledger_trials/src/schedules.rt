@@ -23,7 +23,7 @@ fn scheduled(
     feed: &Feed,
     events: &[Event],
 ) -> Result<Result<Outcome, ScheduleFault>> {
-    let (plan, state) = planned(alloc, feed, &[])?;
+    let (plan, state) = planned(alloc, feed)?;
     Ok(run_schedule(alloc, plan, state, 2, events))
 }
 

@@ -1,8 +1,16 @@
 //! The waits of a plan against the conflicts of its transactions, and its words against what they declare.
 
-use crate::drawing::IDS;
+use crate::cases::{NAMES, Name, VERSIONS, feed_named};
+use crate::executing::planned;
+use anyhow::Result;
+use bk_base::Version;
 use bk_conflicts::{Plan, WordRef};
+use bk_trial_kit::Tally;
 use bk_tx::Tx;
+use std::alloc::Global;
+
+// The accounts of all lists.
+const IDS: [u64; 9] = [1, 2, 3, 4, 5, 6, 7, 8, 9];
 
 // Whether two transactions share an account that has a slot, at least one of them for writing.
 fn are_in_conflict(plan: &Plan, first: &Tx, second: &Tx) -> bool {
@@ -147,16 +155,26 @@ fn are_declared(plan: &Plan, place: u32) -> bool {
     words.len() == words_declared(plan, tx)
 }
 
-/// Whether the waits of a plan of at most 32 places are those of its conflicts, and its words those that are declared.
-pub(crate) fn is_right(plan: &Plan) -> bool {
+// Whether the waits of a plan of at most 32 places are those of its conflicts, and its words those that are declared.
+fn is_right(plan: &Plan) -> bool {
     waits_by_plan(plan) == waits_by_conflicts(plan) && are_sound(plan)
 }
 
-/// How many direct waits there are.
-pub(crate) fn count_waits(plan: &Plan) -> u64 {
-    let mut count = 0u64;
-    for place in 0..plan.len() {
-        count = count.saturating_add(u64::from(plan.before(place as u32)));
+fn is_planned(alloc: Global, version: Version, name: Name) -> Result<bool> {
+    let feed = feed_named(alloc, version, name)?;
+    let (plan, _) = planned(alloc, &feed)?;
+    Ok(is_right(&plan))
+}
+
+/// The plans of all lists in both versions.
+pub(crate) fn try_waits<R>(rt: &R, tally: &mut Tally)
+where
+    R: AllocGlobal + Eprint,
+{
+    for version in VERSIONS {
+        for name in NAMES {
+            let found = is_planned(rt.alloc(), *version, *name);
+            tally.judge(rt, "the waits and words of a plan", found);
+        }
     }
-    count
 }

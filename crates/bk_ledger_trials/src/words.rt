@@ -162,13 +162,13 @@ fn all_done(bank: &Bank, plan: &Plan, pass: Pass) -> Option<Pass>
 // ---- banks
 
 fn is_opened_as(alloc: Global, feed: &Feed, shown: &Shown<'_>) -> Result<bool> {
-    let (plan, state) = prepared(alloc, feed, &[])?;
+    let (plan, state) = prepared(alloc, feed)?;
     let (bank, pass) = Bank::new(alloc, &plan, &state)?;
     Ok(closes_as(bank, &plan, pass, shown))
 }
 
 fn is_done_as(alloc: Global, feed: &Feed, shown: &Shown<'_>) -> Result<bool> {
-    let (plan, state) = prepared(alloc, feed, &[])?;
+    let (plan, state) = prepared(alloc, feed)?;
     let (bank, pass) = Bank::new(alloc, &plan, &state)?;
     let Some(pass) = all_done(&bank, &plan, pass) else {
         return Ok(false);

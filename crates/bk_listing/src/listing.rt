@@ -34,9 +34,6 @@ pub(crate) struct FrameReader {
     frames: Vec<(Kind, Vec<u8>)>,
 }
 
-// How many bytes wait before their frames are listed: enough to share among processors.
-const ENOUGH: u64 = 1 << 22;
-
 // Lists the frames that wait.
 fn list_waiting<R: Threads + Sync, K: Sink>(
     rt: &R,
@@ -111,14 +108,8 @@ fn list_last<R: Threads + Sync, K: Sink>(
     Ok(())
 }
 
-// Whether the frames that wait are listed now. `waiting` is how many bytes they have, `count` how many the last pull gave,
-// and `room` how many it could have given. They are where many bytes wait, or where the source had no more to give, so
-// that a reader of a pipe sees each frame before the next one comes.
-fn is_due(waiting: u64, count: usize, room: usize) -> bool {
-    ENOUGH <= waiting || count < room
-}
-
-// Lists all frames of a source. The piece is room for its bytes.
+// Lists all frames of a source. The piece is room for its bytes. What came is listed before more is pulled, which may wait:
+// a reader of a pipe sees each frame before the next one comes.
 fn list_all<R: Threads + Sync, S: Source, K: Sink>(
     rt: &R,
     alloc: Global,
@@ -155,16 +146,12 @@ fn list_all<R: Threads + Sync, S: Source, K: Sink>(
         if count == 0 {
             return list_last(rt, alloc, sink, reader, lister);
         }
-        let waiting = reader.cutter.offset().saturating_sub(lister.place.offset);
-        if is_due(waiting, count, piece.len()) {
-            list_waiting(rt, alloc, sink, reader, lister)?;
-        }
+        list_waiting(rt, alloc, sink, reader, lister)?;
     }
 }
 
-/// Writes a line for each whole frame of a feed that comes before any fault, in the order of the feed; where a pull gives
-/// less than there is room for, before more is waited for. Certificates are judged by the local rules of the feed's
-/// version, on all processors. Memory is that of one group of frames.
+/// Writes a line for each whole frame of a feed that comes before any fault, in the order of the feed, after each pull.
+/// Certificates are judged by the local rules of the feed's version. Memory is that of one frame and one piece.
 ///
 /// Returns how many of the frames are certificates that break a rule, with those whose bytes are no certificate; and of
 /// the first one that is rejected for its tags, whose tag is wrong.

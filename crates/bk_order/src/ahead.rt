@@ -1,6 +1,6 @@
 //! Groups of frames that are judged ahead, each in a thread of its own.
 
-ghost use Rattle.std.specs.Prelude.{◌≡◌, ◌++◌, ◌∷◌, [], length, OnOk, IfOk, MatchOption};
+ghost use Rattle.std.specs.Prelude.{◌≡◌, ◌<◌, ◌≤◌, ◌++◌, ◌∷◌, [], length, OnOk, IfOk, MatchOption};
 ghost use Rattle.std.specs.Arc.{arc_value};
 ghost use Rattle.bk_frames.specs.Cutting.{frames_in};
 ghost use Rattle.bk_order.specs.private.Ahead.{judged_of};
@@ -91,10 +91,11 @@ impl Model for Group {
     ghost invariant = { λ g. IsWorkOf g.of g.work };
 }
 
-/// Groups of frames that are judged ahead, in the order of the feed. Contracts see the frames of each and the committee
-/// that they are judged by.
+/// Groups of frames that are judged ahead, in the order of the feed. Contracts see the frames of each, the committee
+/// that they are judged by, and how many groups are judged before the first is taken.
 ///
-/// A group has a thread of its own. Dropping a value of this type lets its threads run on: `wait` ends them.
+/// A group has a thread of its own, which is joined by the call that takes the group out, and otherwise by `wait`. Where
+/// a value of this type is dropped, its threads run on.
 #[derive(Drop)]
 pub struct Ahead {
     alloc: Global,
@@ -104,16 +105,17 @@ pub struct Ahead {
 }
 
 impl Model for Ahead {
-    ghost use Rattle.std.specs.Prelude.{◌≡◌, map};
+    ghost use Rattle.std.specs.Prelude.{◌≡◌, ◌≤◌, map};
     ghost use Rattle.std.specs.List.{All};
     ghost use Rattle.std.specs.Arc.{arc_value};
     ghost use Rattle.bk_order.specs.Ahead.{AheadValue};
 
     ghost Value = { AheadValue };
 
-    ghost view = { λ a. record { committee = arc_value a.committee; groups = map (λ g. g.frames) a.groups.items } };
+    ghost view = { λ a. record { committee = arc_value a.committee; most = a.most; groups = map (λ g. g.frames) a.groups.items } };
 
-    ghost invariant = { λ a. All (λ g. g.committee ≡ arc_value a.committee) a.groups.items };
+    ghost invariant = { λ a. (1 ≤ a.most)
+        × All (λ g. g.committee ≡ arc_value a.committee) a.groups.items };
 }
 
 fn frames_of(committee: &Committee, frames: &Vec<(Kind, Vec<u8>)>) -> FramesOf
@@ -192,24 +194,29 @@ impl Ahead {
         })
     }
 
-    /// Judges the next frames, as a group behind the others.
+    /// Judges the next frames, as a group behind the others. An `Err` comes only where memory runs out, and no thread
+    /// is started then.
     pub fn push(
         &mut self,
         rt: &impl Threads,
         frames: Vec<(Kind, Vec<u8>)>,
     ) -> Result<(), AllocError>
         ensures committee { self.new.committee ≡ self.old.committee }
+        ensures most { self.new.most ≡ self.old.most }
         ensures pushed { OnOk result
             (self.new.groups ≡ self.old.groups ++ frames_in frames.items ∷ []) }
     {
+        // Before the thread starts, so that each is in the list that joins it.
+        self.groups.reserve(1)?;
         let group = begin(rt, self.alloc, &self.committee, frames)?;
-        self.groups.push(group)?;
+        self.groups.push_reserved(group);
         Ok(())
     }
 
     /// Takes the first group out, once it is judged; `None` where there is none.
     pub fn pop(&mut self, rt: &impl Threads) -> Result<Option<JudgedFrames>, AllocError>
         ensures committee { self.new.committee ≡ self.old.committee }
+        ensures most { self.new.most ≡ self.old.most }
         ensures by { IfOk result (λ found. MatchOption found (self.new ≡ self.old)
             (λ j. j.committee ≡ self.old.committee)) }
         ensures popped { IfOk result (λ found. MatchOption found (self.old.groups ≡ [])
@@ -226,10 +233,14 @@ impl Ahead {
     /// `None` where there are fewer.
     pub fn pop_full(&mut self, rt: &impl Threads) -> Result<Option<JudgedFrames>, AllocError>
         ensures committee { self.new.committee ≡ self.old.committee }
+        ensures most { self.new.most ≡ self.old.most }
         ensures by { IfOk result (λ found. MatchOption found (self.new ≡ self.old)
             (λ j. j.committee ≡ self.old.committee)) }
         ensures popped { IfOk result (λ found. MatchOption found (self.new.groups ≡ self.old.groups)
             (λ j. self.old.groups ≡ j.frames ∷ self.new.groups)) }
+        ensures full { IfOk result (λ found. MatchOption found
+            (length self.old.groups < self.old.most)
+            (λ _. self.old.most ≤ length self.old.groups)) }
     {
         if self.groups.len() < self.most {
             return Ok(None);

@@ -23,6 +23,7 @@ use bk_cert::CertRef;
 use bk_committee::Committee;
 use bk_digest::Digest32;
 use bk_evidence::{Batches, Held};
+use bk_index::HashKey;
 use bk_rounds::Rounds;
 use std::alloc::{AllocError, Global};
 use std::marker::Model;
@@ -69,25 +70,25 @@ fn count_anew(alloc: Global, table: &Table) -> Result<usize, AllocError>
     ensures { IfOk result (λ n. (s : Settled) × (n ≡ length s.flat)
         × IsSettled table.now.rounds.sizes table.now.rounds.held table.now.batches s) }
 {
-    let mut settled = unsettled(alloc);
+    let mut settled = unsettled(alloc, table.batches.key());
     settle(&mut settled, &table.rounds, &table.batches)?;
     Ok(settled.flat.order().len())
 }
 
 impl Intake {
-    /// No frame after the genesis was taken.
-    pub fn new(alloc: Global, committee: Committee) -> Result<Intake, AllocError>
+    /// No frame after the genesis was taken. What is held is found by digests, hashed with this key.
+    pub fn new(alloc: Global, committee: Committee, key: HashKey) -> Result<Intake, AllocError>
         ensures committee { IfOk result (λ v. v.committee ≡ committee) }
         ensures nothing { IfOk result (HasTaken []) }
         ensures unordered { IfOk result (λ v. v.ordered ≡ nothing_ordered) }
         ensures open { IfOk result (λ v. v.failed ≡ false) }
     {
-        let table = empty_table(alloc, &committee)?;
+        let table = empty_table(alloc, &committee, key)?;
         Ok(Intake {
             alloc,
             committee,
             table,
-            settled: unsettled(alloc),
+            settled: unsettled(alloc, key),
             current: false,
             failed: false,
         })

@@ -3,7 +3,8 @@
 //! An `Intake` takes the frames after the genesis in whatever pieces they come, and reports which
 //! certificates are rejected, whether a collision or twins stop the feed, and, where nothing does,
 //! the committed anchors, the order and its batches. All of it is of the frames taken so far as a
-//! set: their order counts for nothing but the numbers of the rejected.
+//! set: their order counts for nothing but the numbers of the rejected. An `Ahead` judges groups of
+//! frames before an `Intake` takes them, each in a thread of its own.
 #![tactic(auto)]
 
 mod ahead;
@@ -18,6 +19,7 @@ mod taking;
 mod tally;
 
 pub use ahead::{Ahead, JudgedFrames};
+pub use bk_index::HashKey;
 pub use intake::Intake;
 pub use laws::{
     frames_are_a_set, frames_have_one_list, frames_have_one_stop, order_of_frames_grows,

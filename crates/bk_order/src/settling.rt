@@ -11,6 +11,7 @@ ghost use Rattle.bk_order.specs.Intake.{nothing_ordered};
 use bk_commit::Walk;
 use bk_evidence::Batches;
 use bk_flatten::{BatchList, Flat};
+use bk_index::HashKey;
 use bk_rounds::Rounds;
 use std::alloc::{AllocError, Global};
 
@@ -23,7 +24,7 @@ pub(crate) struct Settled {
 }
 
 /// Nothing is ordered.
-pub(crate) fn unsettled(alloc: Global) -> Settled
+pub(crate) fn unsettled(alloc: Global, key: HashKey) -> Settled
     ensures followed { (z : Sizes) (held : List Node) (batches : List Batch)
         → IsFollowed z held batches result }
     ensures nothing { (batches : List Batch) → order_in batches result ≡ nothing_ordered }
@@ -31,7 +32,7 @@ pub(crate) fn unsettled(alloc: Global) -> Settled
     Settled {
         walk: Walk::new(alloc),
         flat: Flat::new(alloc),
-        list: BatchList::new(alloc),
+        list: BatchList::new(alloc, key),
     }
 }
 

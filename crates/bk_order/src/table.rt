@@ -24,6 +24,7 @@ use bk_certcheck::{Checked, Rule};
 use bk_committee::Committee;
 use bk_digest::Digest32;
 use bk_evidence::{BatchOffer, Batches, Held, Offer};
+use bk_index::HashKey;
 use bk_rounds::Rounds;
 use std::alloc::{AllocError, Global};
 
@@ -39,15 +40,19 @@ pub(crate) struct Table {
 }
 
 /// Nothing is held.
-pub(crate) fn empty_table(alloc: Global, committee: &Committee) -> Result<Table, AllocError>
+pub(crate) fn empty_table(
+    alloc: Global,
+    committee: &Committee,
+    key: HashKey,
+) -> Result<Table, AllocError>
     ensures kept { IfOk result (λ t. IsKeptOf committee.now [] (kept_in t)) }
     ensures rounds { IfOk result (λ t. t.rounds ≡ rounds_with (sizes_of committee.now) []) }
 {
-    let rounds = Rounds::new(alloc, committee)?;
+    let rounds = Rounds::new(alloc, committee, key)?;
     Ok(Table {
         next: 2,
-        held: Held::new(alloc, rounds.members()),
-        batches: Batches::new(alloc),
+        held: Held::new(alloc, rounds.members(), key),
+        batches: Batches::new(alloc, key),
         rejected: Vec::new(alloc),
         tally: Tally::none(),
         rounds,

@@ -3,6 +3,7 @@
 use crate::offers::{Offered, id_of, next, slow_collision};
 use anyhow::Result;
 use bk_evidence::{BatchOffer, BatchRef, Batches};
+use bk_index::HashKey;
 use bk_trial_kit::Tally;
 use std::alloc::Global;
 
@@ -26,10 +27,9 @@ const OFFERS: &[(u8, u8, BatchOffer)] = &[
 fn are_found(batches: &Batches) -> bool {
     batches.collision() == Some(id_of(7))
         && batches.get(&id_of(7)) == Some([1].as_slice())
-        && batches.index_of(&id_of(3), 0) == Some(BatchRef { index: 1 })
-        && batches.index_of(&id_of(3), 1) == Some(BatchRef { index: 1 })
-        && batches.index_of(&id_of(7), 2) == Some(BatchRef { index: 0 })
-        && batches.index_of(&id_of(8), 1).is_none()
+        && batches.index_of(&id_of(3)) == Some(BatchRef { index: 1 })
+        && batches.index_of(&id_of(7)) == Some(BatchRef { index: 0 })
+        && batches.index_of(&id_of(8)).is_none()
 }
 
 fn answers(
@@ -55,7 +55,7 @@ fn try_by_hand<R>(rt: &R, tally: &mut Tally)
 where
     R: AllocGlobal + Eprint,
 {
-    let mut batches = Batches::new(rt.alloc());
+    let mut batches = Batches::new(rt.alloc(), HashKey::fixed());
     try_list(rt, &mut batches, tally);
 }
 
@@ -101,8 +101,8 @@ fn are_offered(alloc: Global, tables: &mut Tables, seed: &mut u32) -> Result<boo
 fn are_eight_right(alloc: Global, seed: &mut u32) -> Result<bool> {
     let mut tables = Tables {
         all: Vec::new(alloc),
-        even: Batches::new(alloc),
-        odd: Batches::new(alloc),
+        even: Batches::new(alloc, HashKey::fixed()),
+        odd: Batches::new(alloc, HashKey::fixed()),
     };
     are_offered(alloc, &mut tables, seed)
 }

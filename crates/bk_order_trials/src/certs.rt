@@ -29,12 +29,6 @@ pub(crate) fn header_of(alloc: Global, parts: Parts<'_>) -> Result<Header> {
     }
 }
 
-/// The id of the certificates of these parts.
-pub(crate) fn id_of(alloc: Global, parts: Parts<'_>) -> Result<Digest32> {
-    let header = header_of(alloc, parts)?;
-    Ok(header.id())
-}
-
 /// The bytes of a certificate of these parts, sealed by members of a committee.
 pub(crate) fn sealed(
     alloc: Global,

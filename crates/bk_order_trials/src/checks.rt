@@ -1,22 +1,24 @@
-//! Certificates that break any of the eight rules, and what the plain body and a check find in them.
+//! Certificates that break any of the eight rules, and what a check finds in them.
 
 use crate::certs::{Parts, place, sealed};
 use crate::members::{EVERYBODY, Members, weighted};
-use crate::verdicts::{GOOD, found};
 use anyhow::Result;
 use bk_base::Version;
 use bk_cert::CertRef;
-use bk_certcheck::{Verdict, check_all};
+use bk_certcheck::{Verdict, check, check_all};
 use bk_committee::Committee;
 use bk_digest::Digest32;
 use bk_trial_kit::Tally;
 use std::alloc::Global;
 use std::thread::Threads;
 
-/// The weights of four members, of which 6 are a quorum.
-pub(crate) const WEIGHTS: [u32; 4] = [5, 1, 1, 1];
+/// What is found of a certificate that breaks no rule.
+pub(crate) const GOOD: u8 = 8;
 
-/// The number of the rule that the product finds broken.
+// The weights of four members, of which 6 are a quorum.
+const WEIGHTS: [u32; 4] = [5, 1, 1, 1];
+
+/// The number of the rule that is found broken.
 pub(crate) fn number(verdict: &Verdict) -> u8 {
     match verdict {
         Verdict::Good(_) => GOOD,
@@ -116,14 +118,14 @@ fn all_breaking(alloc: Global, version: Version) -> Result<Vec<Vec<u8>>> {
     Ok(certs)
 }
 
-/// Whether this rule is found broken, by the plain body and by the product.
+/// Whether this rule is found broken.
 pub(crate) fn finds(
     alloc: Global,
     committee: &Committee,
     bytes: &[u8],
     wanted: u8,
 ) -> Result<bool> {
-    Ok(found(alloc, committee, bytes)? == Some(wanted))
+    Ok(number(&check(alloc, committee, bytes)?) == wanted)
 }
 
 // Each certificate alone.
@@ -228,8 +230,8 @@ fn finds_turned(
     (least, most): (u8, u8),
 ) -> Result<bool> {
     let bytes = turned(alloc, good, index)?;
-    let found = found(alloc, committee, &bytes)?;
-    Ok(found.is_some_and(|rule| rule >= least && rule <= most))
+    let rule = number(&check(alloc, committee, &bytes)?);
+    Ok(rule >= least && rule <= most)
 }
 
 // Of a good certificate each byte is turned in turn: no byte can be changed, though not each is covered by a tag.

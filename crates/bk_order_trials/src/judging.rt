@@ -1,9 +1,8 @@
 //! Certificates that are checked together, bytes that are none, and what is known of one that was checked.
 
 use crate::certs::place;
-use crate::checks::{finds, made, number};
+use crate::checks::{GOOD, finds, made, number};
 use crate::members::{EVERYBODY, heads};
-use crate::verdicts::GOOD;
 use anyhow::Result;
 use bk_certcheck::{Verdict, check, check_all, check_each, one_verdict};
 use bk_committee::Committee;

@@ -35,47 +35,9 @@ pub(crate) fn weighted(weights: &[u32]) -> Members<'_> {
 }
 
 impl<'a> Members<'a> {
-    /// How many there are, 128 at most.
-    pub(crate) fn count(self) -> u8 {
+    // How many there are, 128 at most.
+    fn count(self) -> u8 {
         u8::try_from(self.weights.len()).unwrap_or(128).min(128)
-    }
-
-    /// What a member weighs.
-    pub(crate) fn weight(self, member: u8) -> u64 {
-        match self.weights.get(member as usize) {
-            Some(weight) => u64::from(*weight),
-            None => 0,
-        }
-    }
-
-    /// The members lead the odd rounds in turn.
-    pub(crate) fn leads(self, member: u8, round: u32) -> bool {
-        let turn = u64::from(round.saturating_sub(1) / 2);
-        round % 2 == 1 && u64::from(member) == turn % u64::from(self.count().max(1))
-    }
-
-    /// What all weigh but the faulty, which are less than a third.
-    pub(crate) fn quorum(self) -> u64 {
-        let mut total = 0u64;
-        for weight in self.weights {
-            total = total.saturating_add(u64::from(*weight));
-        }
-        total.saturating_sub(total.saturating_sub(1) / 3)
-    }
-
-    /// The fewest of the heavy ones, and then of the light ones, that are a quorum.
-    pub(crate) fn signers(self, alloc: Global) -> Result<Vec<u8>> {
-        let mut signers = Vec::new(alloc);
-        let mut sum = 0u64;
-        for is_heavy in [true, false] {
-            for member in 0..self.count() {
-                if (self.weight(member) > 1) == is_heavy && sum < self.quorum() {
-                    sum = sum.saturating_add(self.weight(member));
-                    signers.push(member)?;
-                }
-            }
-        }
-        Ok(signers)
     }
 
     fn payload(self, alloc: Global) -> Result<Vec<u8>> {

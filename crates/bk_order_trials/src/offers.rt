@@ -6,6 +6,7 @@ use anyhow::Result;
 use bk_cert::SharedCert;
 use bk_digest::Digest32;
 use bk_evidence::{Evidence, Held, Offer};
+use bk_index::HashKey;
 use bk_trial_kit::Tally;
 use std::alloc::Global;
 
@@ -121,7 +122,7 @@ fn try_list<R>(rt: &R, what: &str, steps: &[Step], tally: &mut Tally)
 where
     R: AllocGlobal + Eprint,
 {
-    let mut held = Held::new(rt.alloc(), 4);
+    let mut held = Held::new(rt.alloc(), 4, HashKey::fixed());
     try_steps(rt, what, &mut held, steps, tally);
 }
 
@@ -274,9 +275,9 @@ fn are_offered(alloc: Global, tables: &mut Tables, seed: &mut u32) -> Result<boo
 fn are_twelve_right(alloc: Global, seed: &mut u32) -> Result<bool> {
     let mut tables = Tables {
         all: Vec::new(alloc),
-        held: Held::new(alloc, 4),
-        even: Held::new(alloc, 4),
-        odd: Held::new(alloc, 4),
+        held: Held::new(alloc, 4, HashKey::fixed()),
+        even: Held::new(alloc, 4, HashKey::fixed()),
+        odd: Held::new(alloc, 4, HashKey::fixed()),
     };
     are_offered(alloc, &mut tables, seed)
 }

@@ -5,7 +5,6 @@ ghost use Rattle.bk_results.specs.declared.differ.Differ.TheVariants as differ;
 
 use bk_digest::Digest32;
 use std::alloc::AllocError;
-use thiserror::Error;
 
 /// How far two feeds have one order, `agree CERTS PLACES`.
 #[derive(Clone, Copy, Debug, PartialEq, Eq)]
@@ -29,21 +28,18 @@ pub enum SetupPart {
     Accounts,
 }
 
-/// Why two feeds do not agree. The text of each is the line that the program prints.
-#[derive(Clone, Copy, Debug, PartialEq, Eq, Error)]
+/// Why two feeds do not agree.
+#[derive(Clone, Copy, Debug, PartialEq, Eq)]
 pub enum Differ {
     /// Not both have a genesis, or their versions, committees or opening accounts differ.
-    #[error("differ setup")]
     Setup {
         part: SetupPart,
     },
     /// The least id of two different headers or digest of two different payloads, over both together.
-    #[error("collision {id}")]
     Collision {
         id: Digest32,
     },
     /// A member made two headers for one round: the evidence over both together, where no id and no digest collides.
-    #[error("equivocation {round} {author} {first} {second}")]
     Twins {
         round: u32,
         author: u8,
@@ -51,7 +47,6 @@ pub enum Differ {
         second: Digest32,
     },
     /// Memory was refused.
-    #[error("memory")]
     Memory,
 }
 

@@ -4,20 +4,16 @@ ghost use Rattle.std.specs.Prelude.{◌≡◌};
 ghost use Rattle.bk_results.specs.declared.lines_fault.LinesFault.TheVariants as fault;
 
 use std::alloc::{AllocError, AllocFailed};
-use thiserror::Error;
 
 /// Why a list of lines, of events or of accounts, was not read.
-#[derive(Clone, Copy, Debug, PartialEq, Eq, Error)]
+#[derive(Clone, Copy, Debug, PartialEq, Eq)]
 pub enum LinesFault {
     /// This line, counted from 1, is the first that says nothing that the list can have, or in which the text passes its
     /// limit.
-    #[error("fault at line {line}")]
     Line { line: u32 },
     /// The source failed.
-    #[error("read failed")]
     Read,
     /// Memory was refused.
-    #[error("memory")]
     Memory,
 }
 

@@ -6,7 +6,6 @@ ghost use Rattle.bk_results.specs.declared.script_fault.ScriptFault.TheVariants 
 
 use bk_frames::{Failed, WriteFault};
 use std::alloc::{AllocError, AllocFailed};
-use thiserror::Error;
 
 /// What is wrong with a line of a script. Of two that apply to one line, the one of the lower number
 /// counts.
@@ -34,20 +33,16 @@ impl ScriptCode {
     }
 }
 
-/// Why no feed was made. The text of each is the line that the program prints.
-#[derive(Clone, Copy, Debug, PartialEq, Eq, Error)]
+/// Why no feed was made.
+#[derive(Clone, Copy, Debug, PartialEq, Eq)]
 pub enum ScriptFault {
     /// This line, counted from 1, is the first with a fault. Nothing is written.
-    #[error("script fault {} at line {line}", code.number())]
     Script { line: u64, code: ScriptCode },
     /// The source failed. Nothing is written.
-    #[error("read failed")]
     Read,
     /// The sink failed. Exactly the first `written` bytes of the feed are out.
-    #[error("write failed")]
     Write { written: u64 },
     /// Memory was refused. Nothing is written.
-    #[error("memory")]
     Memory,
 }
 

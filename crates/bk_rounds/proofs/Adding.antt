@@ -8,6 +8,7 @@ use Rattle.std.proofs.lemmas.List.Elements.{Contains-push_cases}
 use Rattle.bk_committee.specs.Sizes.{Sizes, members}
 use Rattle.bk_cert.specs.Node.{Node}
 use Rattle.bk_cert.specs.declared.place.CertRef.{CertRef}
+use Rattle.bk_index.proofs.Found.{first_set}
 use Rattle.bk_rounds.specs.declared.slots.Slot.{Slot}
 use Rattle.bk_rounds.specs.declared.names.Names.{Names}
 use Rattle.bk_cert.specs.Place.{place_of, IsListed, Lists, place_cmp}
@@ -22,7 +23,7 @@ use Rattle.bk_cert.proofs.Lists.{from_map, in_map, none_in_nil}
 use Rattle.bk_cert.proofs.Refs.{ref_same, equal_from_test, exact_ref, same_place}
 use Rattle.bk_rounds.proofs.Settling.{marked_low}
 use Rattle.bk_rounds.proofs.Added.{admitted_at, field_other, field_here}
-use Rattle.bk_rounds.proofs.Named.{push_before, push_at, known_set}
+use Rattle.bk_rounds.proofs.Named.{push_before, push_at}
 use Rattle.bk_rounds.proofs.Tied.{held_at}
 use Rattle.bk_rounds.proofs.Found.{has_number, is_present, admitted_some_round}
 
@@ -278,7 +279,7 @@ whole_added z held n m c k slot placed placed' top top' out w h it new free up t
 
     known : (q : List ℕ) → known_in m q ≡ known_in n q
     known q = ap (position (has_id q)) h.slots
-        ∙ known_set n.slots k slot q (h.id ∙ (sym h.id_here ∙ get_or-map (λ (s : Slot). s.id) n.slots k slot [] h.low))
+        ∙ first_set (λ (s : Slot). s.id) n.slots k slot (h.id ∙ (sym h.id_here ∙ get_or-map (λ (s : Slot). s.id) n.slots k slot [] h.low)) q
 
     not_k : (i : ℕ) → is_marked n.marks.items i ≡ true → i ≢ k
     not_k i was = other_number held n m c k slot h i (marked_round z n w.table i was)

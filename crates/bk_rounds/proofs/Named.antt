@@ -1,18 +1,13 @@
 -- One more id gets a number.
-use Rattle.std.proofs.Common.{◌≡◌, ℕ, zero, suc, ◌+◌, ◌<◌, ◌≤◌, Bool, true, false, cond, eqb, not, List, [], ◌∷◌, ◌++◌, length, map, Option, Some, None, refl, sym, ap, ◌∙◌, subst, ⊎_elim, arith, get_or, set}
-use Rattle.std.specs.List.{Contains, All, AllByRecursion, position, position_or_len}
-use Rattle.std.specs.Prelude.{nat_lt}
-use Rattle.std.proofs.lemmas.Bool.Decides.{nat_tests}
-use Rattle.std.proofs.lemmas.List.Folds.{position_or_len_push, position_or_len-set}
-use Rattle.std.proofs.lemmas.List.Sums.{prefix_len-le-length}
+use Rattle.std.proofs.Common.{◌≡◌, ℕ, zero, suc, ◌+◌, ◌<◌, ◌≤◌, Bool, true, false, cond, not, List, [], ◌∷◌, ◌++◌, length, map, Some, None, refl, sym, ap, ◌∙◌, subst, ⊎_elim, arith, get_or, set}
+use Rattle.std.specs.List.{Contains, All, AllByRecursion, position}
 use Rattle.std.proofs.lemmas.List.Elements.{recursion_from_All}
-use Rattle.std.specs.Cmp.Lexicographic.{slice_cmp, texts_ties}
-use Rattle.std.specs.Ordering.{nat_cmp, is_eq}
 use Rattle.std.specs.Bool.{Decides}
 use Rattle.std.proofs.lemmas.Slice.Eq.{bytes_eq-Decides}
 use Rattle.std.proofs.lemmas.Bool.{cases_lt, cases_Bool}
-use Rattle.std.proofs.lemmas.List.{length-append, length-set}
+use Rattle.std.proofs.lemmas.List.{length-append}
 use Rattle.std.proofs.lemmas.List.Sums.{sum_by-append}
+use Rattle.bk_index.proofs.Found.{first_pushed}
 use Rattle.bk_rounds.specs.declared.slots.Slot.{Slot}
 use Rattle.bk_rounds.specs.declared.waking.Pending.{Pending}
 use Rattle.bk_rounds.specs.declared.names.Names.{Names}
@@ -21,50 +16,9 @@ use Rattle.bk_rounds.specs.private.Names.{set_of, has_id, known_in, AreNames, Gr
 
 has_id-Decides : (q : List ℕ) (s : Slot) → Decides (has_id q s) (q ≡ s.id)
 has_id-Decides q s = (
-  (λ t. (bytes_eq-Decides q s.id).0 (texts_ties q s.id ∙ t)),
-  (λ e. sym (texts_ties q s.id) ∙ (bytes_eq-Decides q s.id).1 e),
+  (λ t. sym ((bytes_eq-Decides s.id q).0 t)),
+  (λ e. (bytes_eq-Decides s.id q).1 (sym e)),
 )
-
--- the first that passes, where one more is at the end
-abbrev at_or_none : ℕ → ℕ → Option ℕ
-at_or_none n len = cond (nat_lt n len) (Some n) None
-
-pushed_here : (n len n' len' : ℕ) → n' ≡ cond (eqb n len) (len + 0) n → len' ≡ len + 1 → at_or_none n len ≡ None → n ≤ len → at_or_none n' len' ≡ Some len
-pushed_here n len n' len' e f h most = grind (arith, nat_tests)
-
-pushed_there : (n len n' len' : ℕ) → n' ≡ cond (eqb n len) (len + 1) n → len' ≡ len + 1 → n ≤ len → at_or_none n' len' ≡ at_or_none n len
-pushed_there n len n' len' e f most = grind (arith, nat_tests)
-
--- an id that has no number yet, with its slot at the end
-known_pushed : (xs : List Slot) (s : Slot) (q : List ℕ) → position (has_id s.id) xs ≡ None → position (has_id q) (xs ++ s ∷ []) ≡ cond (has_id q s) (Some (length xs)) (position (has_id q) xs)
-known_pushed xs s q new = ⊎_elim here there (cases_Bool (has_id q s))
-  where
-    n : ℕ
-    n = position_or_len (has_id q) xs
-
-    most : n ≤ length xs
-    most = prefix_len-le-length (λ x. not (has_id q x)) xs
-
-    here : has_id q s ≡ true → position (has_id q) (xs ++ s ∷ []) ≡ cond (has_id q s) (Some (length xs)) (position (has_id q) xs)
-    here t =
-        pushed_here n (length xs) (position_or_len (has_id q) (xs ++ s ∷ [])) (length (xs ++ s ∷ []))
-        (position_or_len_push (has_id q) xs s ∙ ap (λ v. cond (eqb n (length xs)) (length xs + cond v 0 1) n) t)
-        (length-append xs (s ∷ []))
-        (ap (λ i. position (has_id i) xs) ((has_id-Decides q s).0 t) ∙ new) most
-        ∙ sym (ap (λ v. cond v (Some (length xs)) (position (has_id q) xs)) t)
-
-    there : has_id q s ≡ false → position (has_id q) (xs ++ s ∷ []) ≡ cond (has_id q s) (Some (length xs)) (position (has_id q) xs)
-    there f =
-        pushed_there n (length xs) (position_or_len (has_id q) (xs ++ s ∷ [])) (length (xs ++ s ∷ []))
-        (position_or_len_push (has_id q) xs s ∙ ap (λ v. cond (eqb n (length xs)) (length xs + cond v 0 1) n) f)
-        (length-append xs (s ∷ [])) most
-        ∙ sym (ap (λ v. cond v (Some (length xs)) (position (has_id q) xs)) f)
-
--- numbers stay where a slot comes in the place of one with the same id
-pub known_set : (xs : List Slot) (k : ℕ) (s : Slot) (q : List ℕ) → s.id ≡ (get_or xs k s).id → position (has_id q) (set xs k s) ≡ position (has_id q) xs
-known_set xs k s q e = λ j. at_or_none
-    (position_or_len-set (has_id q) xs k s s (ap (λ i. is_eq (slice_cmp nat_cmp q i)) e) j)
-    (length-set xs k s j)
 
 -- a field that has the default in what is pushed is everywhere as it was
 pub push_field : {X Y : Type 0} (f : X → Y) (xs : List X) (s : X) (e : Y) → f s ≡ e → (i : ℕ) → get_or (map f (xs ++ s ∷ [])) i e ≡ get_or (map f xs) i e
@@ -229,7 +183,7 @@ names_pushed a b id slot set n new p = record {
     same q t = (has_id-Decides q slot).0 t ∙ p.id_is
 
     updates : (q : List ℕ) → known_in b q ≡ cond (has_id q slot) (Some (length a.slots)) (known_in a q)
-    updates q = ap (position (has_id q)) p.slots ∙ known_pushed a.slots slot q (ap (λ i. position (has_id i) a.slots) p.id_is ∙ new)
+    updates q = ap (position (has_id q)) p.slots ∙ first_pushed (λ (x : Slot). x.id) a.slots slot (ap (λ i. position (has_id i) a.slots) p.id_is ∙ new) q
 
     apart : (k : ℕ) → k < length a.slots → has_id (id_of a.slots k) slot ≡ false
     apart k lt = ⊎_elim

@@ -13,7 +13,6 @@ use crate::slots::{Slot, is_ready};
 use crate::waking::{Pending, settle};
 use crate::weights::Weights;
 use bk_cert::CertRef;
-use bk_digest::Digest32;
 use bk_index::KeyedList;
 use std::alloc::Global;
 
@@ -22,7 +21,7 @@ use std::alloc::Global;
 pub(crate) fn admit(
     alloc: Global,
     weights: &Weights,
-    slots: &mut KeyedList<Digest32, Slot>,
+    slots: &mut KeyedList<Slot>,
     marks: &mut [bool],
     pending: &mut Pending,
     k: usize,

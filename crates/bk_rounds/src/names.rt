@@ -9,18 +9,17 @@ use crate::rows::{has_id, likely, skip};
 use crate::slots::Slot;
 use crate::waking::Pending;
 use bk_digest::Digest32;
-use bk_index::KeyedList;
+use bk_index::{HashKey, KeyedList};
 use std::alloc::{AllocError, Global};
 
 /// The ids that were met, those of parents that are not held among them, each with its number: the
 /// index of its slot.
 ///
 /// What is known of a number is at that index in each of the lists, and who waits for it in
-/// `pending`. An id is mostly found in constant time, and in O(log n) of those that were met
-/// whatever its bytes: they come from a feed.
+/// `pending`. An id is found in constant time.
 #[derive(Drop)]
 pub(crate) struct Names {
-    pub slots: KeyedList<Digest32, Slot>,
+    pub slots: KeyedList<Slot>,
     pub marks: Vec<bool>,
     pub pending: Pending,
     pub sets: Vec<Members>,
@@ -30,12 +29,12 @@ pub(crate) struct Names {
 
 impl Names {
     /// No id.
-    pub fn new(alloc: Global) -> Names
+    pub fn new(alloc: Global, key: HashKey) -> Names
         ensures slots { result.slots ≡ [] }
         ensures names { AreNames result }
     {
         Names {
-            slots: KeyedList::new(alloc),
+            slots: KeyedList::new(alloc, key),
             marks: Vec::new(alloc),
             pending: Pending::new(alloc),
             sets: Vec::new(alloc),

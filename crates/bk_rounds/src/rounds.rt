@@ -19,6 +19,7 @@ use crate::votes::{Votes, count};
 use bk_cert::{CertRef, SharedCert};
 use bk_committee::Committee;
 use bk_digest::Digest32;
+use bk_index::HashKey;
 use std::alloc::{AllocError, Global};
 use std::marker::Model;
 
@@ -44,23 +45,23 @@ impl Model for Rounds {
 
 impl Rounds {
     /// A table with no certificate, of a committee.
-    pub fn new(alloc: Global, committee: &Committee) -> Result<Rounds, AllocError>
+    pub fn new(alloc: Global, committee: &Committee, key: HashKey) -> Result<Rounds, AllocError>
         ensures { IfOk result (λ rounds. rounds ≡ rounds_with (sizes_of committee.now) []) }
     {
         // The number of members also says that it is 1 to 128.
         let _ = committee.n();
-        let rounds = Rounds::with_weights(alloc, committee.weights())?;
+        let rounds = Rounds::with_weights(alloc, committee.weights(), key)?;
         Ok(rounds)
     }
 
     /// A table with no certificate, of a committee with these weights, each above 0.
-    pub fn with_weights(alloc: Global, weights: &[u32]) -> Result<Rounds, AllocError>
+    pub fn with_weights(alloc: Global, weights: &[u32], key: HashKey) -> Result<Rounds, AllocError>
         requires some { 1 ≤ length weights.now }
         requires few { length weights.now ≤ 128 }
         requires heavy { 1 ≤ sum weights.now }
         ensures { IfOk result (λ rounds. rounds ≡ rounds_with (sizes_with weights.now) []) }
     {
-        let table = Table::with_weights(alloc, weights)?;
+        let table = Table::with_weights(alloc, weights, key)?;
         Ok(Rounds {
             table,
             votes: Votes::new(alloc),

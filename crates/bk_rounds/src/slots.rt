@@ -20,7 +20,7 @@ pub(crate) struct Slot {
     pub parents: Vec<usize>,
 }
 
-impl Keyed<Digest32> for Slot {
+impl Keyed for Slot {
     ghost key_of = { λ s. s.id };
 
     fn key(&self) -> &Digest32 {

@@ -29,7 +29,7 @@ use crate::weights::Weights;
 use bk_cert::{CertRef, Header, SharedCert};
 use bk_certcheck::MOST_ROUND;
 use bk_digest::Digest32;
-use bk_index::PlaceIndex;
+use bk_index::{HashKey, PlaceIndex};
 use std::alloc::{AllocError, Global};
 use std::cmp::Ordering;
 use std::marker::Model;
@@ -63,7 +63,7 @@ impl Model for Table {
 
 impl Table {
     /// A table with no certificate, of a committee with these weights, each above 0.
-    pub fn with_weights(alloc: Global, weights: &[u32]) -> Result<Table, AllocError>
+    pub fn with_weights(alloc: Global, weights: &[u32], key: HashKey) -> Result<Table, AllocError>
         requires some { 1 ≤ length weights.now }
         requires few { length weights.now ≤ 128 }
         requires heavy { 1 ≤ sum weights.now }
@@ -75,7 +75,7 @@ impl Table {
             alloc,
             weights,
             certs: Vec::new(alloc),
-            names: Names::new(alloc),
+            names: Names::new(alloc, key),
             places: PlaceIndex::new(alloc, members),
             rows: Rows::new(alloc, members),
             buffers: Buffers::new(alloc),

@@ -12,10 +12,10 @@ pub mod PageOut
 pub mod Fronts
 pub mod BatchWalks
 pub mod PaymentTables
-pub mod WholeLists
 pub mod PaidSums
 pub mod RowLaws
 pub mod PlacesShown
+pub mod PlaceRows
 pub mod HeldTransactions
 pub mod OneBatches
 pub mod SomeTable

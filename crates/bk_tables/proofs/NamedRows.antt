@@ -7,7 +7,7 @@ use Rattle.bk_tx.specs.Batches.{transactions_in}
 use Rattle.bk_tx.specs.Transaction.{Transaction}
 use Rattle.bk_rules.specs.declared.receipt.Receipt.{Receipt}
 use Rattle.bk_tables.specs.Counted.{RowsNamedByPlace, RowsNamedOnce}
-use Rattle.bk_tables.specs.Laws.{at_with}
+use Rattle.bk_tables.proofs.PaidSums.{at_with}
 use Rattle.bk_tables.specs.Payments.{asked_of, receipt_at, row_of, rows_at, rows_from, rows_in, rows_of}
 use Rattle.bk_tables.specs.declared.payment.Asked.{Asked}
 use Rattle.bk_tables.specs.declared.payment.At.{At}

@@ -1,32 +1,30 @@
 -- What the rows of a place paid.
 use Rattle.std.proofs.Common.{◌≡◌, ℕ, ◌+◌, List, [], ◌∷◌, map, Option, Some, None, refl, arith}
-use Rattle.std.specs.List.{AllByRecursion, sum_by}
+use Rattle.std.specs.List.{sum_by}
 use Rattle.std.proofs.lemmas.List.Sums.{sum_by-cons}
 use Rattle.bk_tx.specs.Transaction.{Transaction}
 use Rattle.bk_tx.specs.declared.body.Body.{Body}
 use Rattle.bk_tx.specs.declared.body.Body.TheVariants as body
 use Rattle.bk_tx.specs.declared.payments.Payment.{Payment}
 use Rattle.bk_tx.specs.Spelling.{payments_of}
+use Rattle.bk_base.specs.declared.genesis.Row.{Row}
+use Rattle.bk_base.specs.declared.version.Version.{Version}
 use Rattle.bk_rules.specs.declared.receipt.Status.{Status}
 use Rattle.bk_rules.specs.declared.receipt.Status.TheVariants as status
-use Rattle.bk_rules.specs.Rows.{account_at}
+use Rattle.bk_rules.specs.declared.receipt.Receipt.{Receipt}
+use Rattle.bk_rules.specs.Rows.{account_at, outcome_of}
 use Rattle.bk_rules.specs.Rule.{Accounts, balance_at, moved_by, status_of, sum_of}
-use Rattle.bk_tables.specs.Laws.{IsRowAt, PaidAddsUp, RowsHaveStatus, at_with}
-use Rattle.bk_tables.specs.Payments.{asked_by, asked_of, paid_by, row_of, rows_of}
+use Rattle.bk_tables.specs.Payments.{asked_by, asked_of, paid_by, row_of, rows_at, rows_of}
 use Rattle.bk_tables.specs.private.Asking.{split_of}
 use Rattle.bk_tables.specs.declared.payment.Asked.{Asked}
 use Rattle.bk_tables.specs.declared.payment.At.{At}
 use Rattle.bk_tables.specs.declared.payment.PaymentRow.{PaymentRow}
 
-of_place : (at : At) (item : ℕ) (asked : List Asked) → AllByRecursion (IsRowAt at) (rows_of at item asked)
-of_place at item [] = tt
-of_place at item (a ∷ asked) = ((refl, refl, refl), of_place at (item + 1) asked)
+-- a transaction at a place, with what became of it
+abbrev pub at_with : ℕ → ℕ → Receipt → At
+at_with place batch receipt = record { place = place; batch = batch; receipt = receipt }
 
-pub have_status : RowsHaveStatus
-have_status at None = ((refl, refl, refl), tt)
-have_status at (Some t) = of_place at 0 (asked_of t)
-
-abbrev paid : PaymentRow → ℕ
+abbrev pub paid : PaymentRow → ℕ
 paid row = row.paid
 
 -- of a transaction that failed nothing is paid
@@ -85,6 +83,8 @@ by_status place batch status.Stale accounts t = none_paid place batch 0 status.S
 by_status place batch status.Guard accounts t = none_paid place batch 0 status.Guard 0 is_guard (asked_of t)
 by_status place batch status.Funds accounts t = none_paid place batch 0 status.Funds 0 is_funds (asked_of t)
 
-pub adds_up : PaidAddsUp
-adds_up v None accounts place batch = refl
-adds_up v (Some t) accounts place batch = by_status place batch (status_of v (account_at accounts) t) (account_at accounts) t
+-- what the rows of a place paid is what its transaction moved, whatever the accounts are
+pub place_paid : (v : Version) (t : Option Transaction) (accounts : List Row) (place batch : ℕ)
+    → let receipt = (outcome_of v t accounts).receipt in sum_by paid (rows_at (at_with place batch receipt) t) ≡ receipt.moved
+place_paid v None accounts place batch = refl
+place_paid v (Some t) accounts place batch = by_status place batch (status_of v (account_at accounts) t) (account_at accounts) t

@@ -13,7 +13,8 @@ use Rattle.bk_tx.specs.declared.body.Body.{Body}
 use Rattle.bk_tx.specs.declared.body.Body.TheVariants as body
 use Rattle.bk_tx.specs.declared.payments.Payment.{Payment}
 use Rattle.bk_rules.specs.declared.receipt.Receipt.{Receipt}
-use Rattle.bk_tables.specs.Laws.{AreTransactions, HasRow, PlacesAreRows, at_with}
+use Rattle.bk_tables.specs.Laws.{AreTransactions, HasRow, PlacesAreRows}
+use Rattle.bk_tables.proofs.PaidSums.{at_with}
 use Rattle.bk_tables.specs.Payments.{asked_by, asked_of, receipt_at, row_of, rows_at, rows_from, rows_in, rows_of}
 use Rattle.bk_tables.specs.private.Asking.{split_of}
 use Rattle.bk_tables.specs.declared.payment.Asked.{Asked}

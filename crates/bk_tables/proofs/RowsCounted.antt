@@ -17,7 +17,7 @@ use Rattle.bk_rules.specs.Fold.{receipts_of}
 use Rattle.bk_rules.proofs.Folding.{length-receipts}
 use Rattle.bk_views.specs.Statement.{Course}
 use Rattle.bk_tables.specs.Counted.{CountsAt, IsCountedRow, RowsCountOnce, counts_up}
-use Rattle.bk_tables.specs.Laws.{at_with}
+use Rattle.bk_tables.proofs.PaidSums.{at_with}
 use Rattle.bk_tables.specs.Payments.{asked_by, asked_of, receipt_at, row_of, rows_at, rows_from, rows_in, rows_of}
 use Rattle.bk_tables.specs.private.Asking.{split_of}
 use Rattle.bk_tables.specs.declared.payment.Asked.{Asked}
@@ -35,7 +35,7 @@ record IsFrom (receipts : List Receipt) (all : List (Option Transaction)) (row :
   tx_is : slice_get all place ≡ Some t
   inside : Contains (rows_at (at_with place batch (receipt_at receipts place)) t) row
 
-get_front : (before more : List (Option Transaction)) (t : Option Transaction) → slice_get (before ++ t ∷ more) (length before) ≡ Some t
+pub get_front : (before more : List (Option Transaction)) (t : Option Transaction) → slice_get (before ++ t ∷ more) (length before) ≡ Some t
 get_front [] more t = refl
 get_front (u ∷ before) more t = get_front before more t
 

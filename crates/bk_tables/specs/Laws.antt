@@ -1,5 +1,5 @@
 -- What the rows of the tables say together.
-use Rattle.std.specs.Prelude.{◌≡◌, ◌==◌, ◌<◌, ◌↔◌, ℕ, Contains, IfSome, List, length, Option, Some, None, filter, map, slice_index_or}
+use Rattle.std.specs.Prelude.{◌≡◌, ◌==◌, ◌<◌, ◌↔◌, ℕ, Contains, IfSome, List, length, Option, Some, None, filter, map, slice_get, slice_index_or}
 use Rattle.std.specs.List.{AllByRecursion, AllZip, sum_by}
 use Rattle.bk_base.specs.Numbers.{IsBytes}
 use Rattle.bk_base.specs.declared.genesis.Row.{Row}
@@ -7,7 +7,7 @@ use Rattle.bk_base.specs.declared.version.Version.{Version}
 use Rattle.bk_cert.specs.Node.{Node}
 use Rattle.bk_committee.specs.Sizes.{Sizes}
 use Rattle.bk_order.specs.Orders.{Ordered}
-use Rattle.bk_report.specs.Report.{batch_lines}
+use Rattle.bk_report.specs.Report.{batch_lines, tx_lines}
 use Rattle.bk_report.specs.RunLines.{cert_lines}
 use Rattle.bk_report.specs.declared.line.Line.TheVariants as line
 use Rattle.bk_tx.specs.Batches.{count_in, transactions_of}
@@ -16,13 +16,13 @@ use Rattle.bk_tx.specs.Transaction.{Transaction}
 use Rattle.bk_views.specs.Laws.{adds, takes}
 use Rattle.bk_views.specs.Statement.{Course, entries}
 use Rattle.bk_rules.specs.declared.receipt.Receipt.{Receipt}
-use Rattle.bk_rules.specs.Rows.{outcome_of}
+use Rattle.bk_rules.specs.declared.receipt.Status.{Status}
+use Rattle.bk_rules.specs.Fold.{receipts_of}
 use Rattle.bk_tables.specs.Batches.{IsBatchRow}
-use Rattle.bk_tables.specs.Payments.{is_among, names_one, payments_text, rows_at, rows_from}
+use Rattle.bk_tables.specs.Payments.{is_among, names_one, payments_text, rows_from}
 use Rattle.bk_tables.specs.Postings.{postings, postings_at, postings_text}
 use Rattle.bk_tables.specs.declared.posting.Posting.{Posting}
 use Rattle.bk_tables.specs.declared.batches.BatchRow.{BatchRow}
-use Rattle.bk_tables.specs.declared.payment.At.{At}
 use Rattle.bk_tables.specs.declared.payment.PaymentRow.{PaymentRow}
 
 -- ---- transactions
@@ -38,22 +38,22 @@ PayloadsHoldTransactions = (payloads : List (List ℕ))
 
 -- ---- the rows of payments
 
--- a transaction at a place, with what became of it
-abbrev pub at_with : ℕ → ℕ → Receipt → At
-at_with place batch receipt = record { place = place; batch = batch; receipt = receipt }
-
--- the rows of a place are of that place and batch and have the status of its receipt, which the report's line of it shows
-abbrev pub IsRowAt : At → PaymentRow → Type 0
-IsRowAt at row = (row.place ≡ at.place) × (row.batch ≡ at.batch) × (row.status ≡ at.receipt.status)
-
+-- each row of a place has the status of its receipt
 abbrev pub RowsHaveStatus : Type 0
-RowsHaveStatus = (at : At) (t : Option Transaction) → AllByRecursion (IsRowAt at) (rows_at at t)
+RowsHaveStatus = (v : Version) (opening : List Row) (payloads : List (List ℕ)) (place : ℕ) (receipt : Receipt) (row : PaymentRow)
+    → let receipts = receipts_of v (transactions_of payloads) opening in
+    slice_get receipts place ≡ Some receipt → Contains (rows_from receipts 0 0 payloads) row → row.place ≡ place
+    → row.status ≡ receipt.status
 
--- what the rows of a place paid is what its transaction moved, whatever the accounts are
+-- what those of these rows paid that are of this place
+abbrev pub paid_at : List PaymentRow → ℕ → ℕ
+paid_at rows place = sum_by (λ (row : PaymentRow). row.paid) (filter (λ (row : PaymentRow). row.place == place) rows)
+
+-- it is what the transaction of the place moved
 abbrev pub PaidAddsUp : Type 0
-PaidAddsUp = (v : Version) (t : Option Transaction) (accounts : List Row) (place batch : ℕ)
-    → let receipt = (outcome_of v t accounts).receipt in
-    sum_by (λ (row : PaymentRow). row.paid) (rows_at (at_with place batch receipt) t) ≡ receipt.moved
+PaidAddsUp = (v : Version) (opening : List Row) (payloads : List (List ℕ)) (place : ℕ) (receipt : Receipt)
+    → let receipts = receipts_of v (transactions_of payloads) opening in
+    slice_get receipts place ≡ Some receipt → paid_at (rows_from receipts 0 0 payloads) place ≡ receipt.moved
 
 -- one of these rows is of this place
 abbrev pub HasRow : List PaymentRow → ℕ → Type 0
@@ -64,6 +64,19 @@ abbrev pub PlacesAreRows : Type 0
 PlacesAreRows = (receipts : List Receipt) (payloads : List (List ℕ)) → length receipts ≡ length (transactions_of payloads)
     → AreTransactions (transactions_of payloads) → (place : ℕ)
     → (place < length receipts) ↔ HasRow (rows_from receipts 0 0 payloads) place
+
+-- these rows show a transaction: some are of its place, all that are have its status, and they paid what it moved
+pub record ShowTx (rows : List PaymentRow) (place : ℕ) (s : Status) (moved : ℕ) : Type 0 where
+  pub shown : HasRow rows place
+  pub status_is : (row : PaymentRow) → Contains rows row → row.place ≡ place → row.status ≡ s
+  pub paid : paid_at rows place ≡ moved
+
+-- the rows show just the transactions of the report's lines
+abbrev pub RowsAreTxLines : Type 0
+RowsAreTxLines = (v : Version) (opening : List Row) (payloads : List (List ℕ)) (place moved : ℕ) (s : Status)
+    → AreTransactions (transactions_of payloads)
+    → let receipts = receipts_of v (transactions_of payloads) opening in
+    Contains (tx_lines 0 receipts) (line.Tx place s moved) ↔ ShowTx (rows_from receipts 0 0 payloads) place s moved
 
 -- the rows that a list shows are those without it that name an account of the list, in their order
 abbrev pub ListPicksRows : Type 0

@@ -85,7 +85,7 @@ fn all_rows(alloc: Global, rounds: &Rounds, intake: &Intake) -> Result<Vec<Batch
     ensures { IfOk result (λ rows. AreRowsOf rounds.now intake.now.ordered rows.items) }
 {
     let placed = placed_by(alloc, rounds, intake.anchors())?;
-    let named = firsts_of(alloc, rounds, &placed)?;
+    let named = firsts_of(alloc, intake.stored().key(), rounds, &placed)?;
     rows_of(alloc, intake, named.as_slice())
 }
 

@@ -1,7 +1,7 @@
 //! Laws of the definitions, each the contract of a function that does nothing.
 
 ghost use Rattle.bk_tables.specs.Counted.{CountsOnce, RowsCountOnce, RowsNamedByPlace, RowsNamedOnce};
-ghost use Rattle.bk_tables.specs.Laws.{ListPicksPostings, ListPicksRows, OutIsAllIn, PaidAddsUp, PayloadsHoldTransactions, PlacesAreRows, PostingsAreEntries, RowsAreBatchLines, RowsHaveStatus};
+ghost use Rattle.bk_tables.specs.Laws.{ListPicksPostings, ListPicksRows, OutIsAllIn, PaidAddsUp, PayloadsHoldTransactions, PlacesAreRows, PostingsAreEntries, RowsAreBatchLines, RowsAreTxLines, RowsHaveStatus};
 ghost use Rattle.bk_tables.specs.TextLaws.{BatchesReadBack, OneBatchTable, OnePaymentTable, OnePostingTable, PaymentsReadBack, PostingsReadBack};
 
 /// What the bytes of payloads hold are transactions, or malformed.
@@ -9,12 +9,12 @@ pub fn payloads_hold_transactions()
     ensures { PayloadsHoldTransactions }
 {}
 
-/// The rows of a place of `transactions` have the status of its `tx` line.
+/// The rows of a place of `transactions` have the status of its receipt.
 pub fn rows_have_status()
     ensures { RowsHaveStatus }
 {}
 
-/// What the rows of a place paid adds up to what its `tx` line moved.
+/// What the rows of a place of `transactions` paid adds up to what its receipt moved.
 pub fn paid_adds_up()
     ensures { PaidAddsUp }
 {}
@@ -23,6 +23,12 @@ pub fn paid_adds_up()
 /// every row is of one of them.
 pub fn places_are_rows()
     ensures { PlacesAreRows }
+{}
+
+/// The report has a `tx` line exactly where `transactions` has rows of its place, all with its status, whose `paid` add up
+/// to its MOVED.
+pub fn rows_are_tx_lines()
+    ensures { RowsAreTxLines }
 {}
 
 /// Of the places with one `from` and `seq` at most one has status 0, 5 or 6, of any transactions on any

@@ -28,7 +28,8 @@ pub use batches::{BatchRow, Batches};
 pub use laws::{
     counts_once, csv_reads_back, list_picks_postings, list_picks_rows, one_batch_table,
     one_payment_table, one_posting_table, out_is_all_in, paid_adds_up, payloads_hold_transactions,
-    places_are_rows, postings_are_entries, rows_are_batch_lines, rows_have_status,
+    places_are_rows, postings_are_entries, rows_are_batch_lines, rows_are_tx_lines,
+    rows_have_status,
 };
 pub use listing::{MOST_LIST, read_accounts};
 pub use payment::{Asked, Kind, PaymentRow};

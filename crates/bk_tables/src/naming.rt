@@ -8,7 +8,7 @@ ghost use Rattle.bk_tables.specs.declared.placing.Placed.{Placed};
 
 use crate::placing::Placed;
 use bk_digest::Digest32;
-use bk_index::{Keyed, KeyedList};
+use bk_index::{HashKey, Keyed, KeyedList};
 use bk_rounds::Rounds;
 use std::alloc::{AllocError, Global};
 
@@ -19,7 +19,7 @@ pub(crate) struct Named {
     pub by: Placed,
 }
 
-impl Keyed<Digest32> for Named {
+impl Keyed for Named {
     ghost key_of = { λ n. n.digest };
 
     fn key(&self) -> &Digest32 {
@@ -28,7 +28,7 @@ impl Keyed<Digest32> for Named {
 }
 
 // Takes the next one, unless its digest is there.
-fn add(firsts: &mut KeyedList<Digest32, Named>, named: Named) -> Result<(), AllocError>
+fn add(firsts: &mut KeyedList<Named>, named: Named) -> Result<(), AllocError>
     ensures { OnOk result (firsts.new ≡ with_named firsts.old named) }
 {
     let _ = firsts.first_of(named)?;
@@ -37,7 +37,7 @@ fn add(firsts: &mut KeyedList<Digest32, Named>, named: Named) -> Result<(), Allo
 
 // Takes the batches that a certificate names.
 fn add_all(
-    firsts: &mut KeyedList<Digest32, Named>,
+    firsts: &mut KeyedList<Named>,
     digests: &[Digest32],
     by: Placed,
 ) -> Result<(), AllocError>
@@ -53,16 +53,17 @@ fn add_all(
 /// The batches that these certificates name, each once.
 pub(crate) fn firsts_of(
     alloc: Global,
+    key: HashKey,
     rounds: &Rounds,
     placed: &[Placed],
-) -> Result<KeyedList<Digest32, Named>, AllocError>
+) -> Result<KeyedList<Named>, AllocError>
     requires { (p : Placed) → Contains placed.now p
         → IsPresent rounds.now.sizes rounds.now.held p.cert }
     ensures { IfOk result (λ firsts. firsts
         ≡ fold with_named [] (flat_map (named_at rounds.now.held) placed.now)) }
 {
     rounds.sound();
-    let mut firsts = KeyedList::new(alloc);
+    let mut firsts = KeyedList::new(alloc, key);
     for by in placed {
         if let Some(cert) = rounds.at(by.cert) {
             add_all(&mut firsts, cert.header().batches(), *by)?;

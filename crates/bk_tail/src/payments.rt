@@ -1,6 +1,6 @@
 //! The payments of a feed that is followed.
 
-ghost use Rattle.std.specs.Prelude.{◌≡◌, ◌≤◌, false, IfOk, IfErr};
+ghost use Rattle.std.specs.Prelude.{◌≡◌, false, IfOk, IfErr};
 ghost use Rattle.bk_answer.specs.Answers.{IsAnswered};
 ghost use Rattle.bk_answer.specs.Flaws.{judged_text};
 ghost use Rattle.bk_frames.specs.Device.{CanBeUsed};
@@ -13,6 +13,7 @@ ghost use Rattle.bk_tail.specs.private.Putting.{payments};
 use crate::rows::TableRows;
 use crate::tail::tail_table;
 use bk_answer::{Closed, Ended};
+use bk_follow::Settings;
 use bk_frames::{Sink, Source, WriteFault};
 use bk_pool::Gate;
 use bk_results::{Fault, Status};
@@ -69,7 +70,7 @@ pub fn tail_transactions<R, S: Source, K: Sink, G: Gate + Sync>(
     alloc: Global,
     source: &mut S,
     sink: &mut K,
-    workers: usize,
+    settings: Settings,
     gate: &G,
     asked: &Transactions,
     strict: bool,
@@ -79,7 +80,6 @@ where
     R: Clock + Threads + Wait + Sync,
     requires source { CanBeUsed (S.state source.old) }
     requires sink { CanBeUsed (K.state sink.old) }
-    requires workers { (1 ≤ workers) × (workers ≤ 64) }
     ensures unwaited { IfOk result (λ ended. waits ≡ false) }
     ensures answer { IfOk result (λ ended. IsAnswered (judged_text strict (IsPaymentTable asked.now.accounts)) ended
         (devices (S.state source.old) (K.state sink.old))
@@ -92,6 +92,6 @@ where
 {
     let accounts = &asked.accounts;
     tail_table::<R, S, K, G, PaymentRows>(
-        rt, alloc, source, sink, workers, gate, accounts, strict, waits,
+        rt, alloc, source, sink, settings, gate, accounts, strict, waits,
     )
 }

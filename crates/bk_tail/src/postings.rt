@@ -1,6 +1,6 @@
 //! What the places of a feed do to each account, where the feed is followed.
 
-ghost use Rattle.std.specs.Prelude.{◌≡◌, ◌≤◌, false, IfOk, IfErr};
+ghost use Rattle.std.specs.Prelude.{◌≡◌, false, IfOk, IfErr};
 ghost use Rattle.bk_answer.specs.Answers.{IsAnswered};
 ghost use Rattle.bk_answer.specs.Flaws.{judged_text};
 ghost use Rattle.bk_frames.specs.Device.{CanBeUsed};
@@ -14,6 +14,7 @@ ghost use Rattle.bk_tail.specs.private.Putting.{postings};
 use crate::rows::TableRows;
 use crate::tail::tail_table;
 use bk_answer::{Closed, Ended};
+use bk_follow::Settings;
 use bk_frames::{Sink, Source, WriteFault};
 use bk_pool::Gate;
 use bk_results::{Fault, Status};
@@ -71,7 +72,7 @@ pub fn tail_postings<R, S: Source, K: Sink, G: Gate + Sync>(
     alloc: Global,
     source: &mut S,
     sink: &mut K,
-    workers: usize,
+    settings: Settings,
     gate: &G,
     asked: &Postings,
     strict: bool,
@@ -81,7 +82,6 @@ where
     R: Clock + Threads + Wait + Sync,
     requires source { CanBeUsed (S.state source.old) }
     requires sink { CanBeUsed (K.state sink.old) }
-    requires workers { (1 ≤ workers) × (workers ≤ 64) }
     ensures unwaited { IfOk result (λ ended. waits ≡ false) }
     ensures answer { IfOk result (λ ended. IsAnswered (judged_text strict (IsPostingTable asked.now.accounts)) ended
         (devices (S.state source.old) (K.state sink.old))
@@ -94,6 +94,6 @@ where
 {
     let accounts = &asked.accounts;
     tail_table::<R, S, K, G, PostingRows>(
-        rt, alloc, source, sink, workers, gate, accounts, strict, waits,
+        rt, alloc, source, sink, settings, gate, accounts, strict, waits,
     )
 }

@@ -18,7 +18,7 @@ ghost use Rattle.bk_tail.specs.private.Putting.{IsPutOn, PutNot};
 use crate::piece::{advance, reach};
 use crate::rows::TableRows;
 use bk_answer::Ended;
-use bk_follow::Follower;
+use bk_follow::{Follower, Settings};
 use bk_frames::{PIECE, Sink, Source};
 use bk_pool::Gate;
 use bk_results::{Fault, Status};
@@ -112,7 +112,7 @@ pub(crate) fn tail_table<R, S: Source, K: Sink, G: Gate + Sync, T: TableRows + D
     alloc: Global,
     source: &mut S,
     sink: &mut K,
-    workers: usize,
+    settings: Settings,
     gate: &G,
     accounts: &Option<Accounts>,
     strict: bool,
@@ -122,7 +122,6 @@ where
     R: Clock + Threads + Wait + Sync,
     requires source { CanBeUsed (S.state source.old) }
     requires sink { CanBeUsed (K.state sink.old) }
-    requires workers { (1 ≤ workers) × (workers ≤ 64) }
     ensures unwaited { IfOk result (λ ended. waits ≡ false) }
     ensures answer { IfOk result (λ ended. IsAnswered (judged_text strict (T.kind accounts.now).text) ended
         (devices (S.state source.old) (K.state sink.old))
@@ -135,7 +134,7 @@ where
 {
     let mut piece = vec![in alloc; 0u8; PIECE]?;
     let mut rows = T::none(alloc)?;
-    let mut follower = Follower::new(alloc, workers);
+    let mut follower = Follower::new(alloc, settings);
     let end = tail_rows(
         rt,
         alloc,

@@ -1,17 +1,14 @@
-//! What the programs of trials share: the tally of their comparisons, numbers drawn by chance, and sources and sinks in
-//! memory that move few bytes a call and fail.
+//! What the programs of trials share: the tally of their comparisons, and sources and sinks in memory that move few
+//! bytes a call and fail.
 //!
-//! A tally counts each comparison once, and no error of a comparison is lost. What is drawn is below its bound. A source
-//! gives its bytes in their order and a sink keeps what it took, also over a call that fails, and a call fails only where
-//! the device says so.
+//! A tally counts each comparison once, and no error of a comparison is lost. A source gives its bytes in their order and
+//! a sink keeps what it took, also over a call that fails, and a call fails only where the device says so.
 #![tactic(auto)]
 
-mod chance;
 mod device;
 mod frames;
 mod tally;
 
-pub use chance::Chance;
 pub use device::{Device, EVER, Reader, Writer};
 pub use frames::{ends_of, frame, part, with_frames};
 pub use tally::Tally;

@@ -47,17 +47,6 @@ impl Tally {
         }
     }
 
-    /// Counts a comparison of a part of something.
-    pub fn note_part<R: Eprint>(&mut self, rt: &R, what: &str, part: &str, is_right: bool)
-        ensures right { IsTrue is_right → self.new ≡ one_more_passed self.old }
-        ensures wrong { IsFalse is_right → self.new ≡ one_more_failed self.old }
-    {
-        self.count(is_right);
-        if !is_right {
-            let _ = eprintln!(rt; "failed: {what}: {part}");
-        }
-    }
-
     /// Counts as failed what could not be made, as where memory ran out.
     pub fn miss<R: Eprint>(&mut self, rt: &R)
         ensures { self.new ≡ one_more_failed self.old }

@@ -1,5 +1,4 @@
 pub mod Committed
-pub mod Texts
 mod PartsPlayed
 mod Telling
 mod Reading

@@ -1,5 +1,5 @@
 -- How the program ends, by its words.
-use Rattle.std.specs.Prelude.{◌≡◌, ◌≢◌, ◌⊎◌, ℕ, Bool, List, [], Option, Some, None, true, false, codes}
+use Rattle.std.specs.Prelude.{◌≡◌, ◌≢◌, ◌⊎◌, ℕ, Bool, List, [], Option, Some, None, false, codes}
 use Rattle.std.specs.Process.{exit_status}
 use Rattle.std.specs.declared.io.ErrorKind.{ErrorKind}
 use Rattle.std.specs.declared.io.ErrorKind.TheVariants as found
@@ -8,11 +8,10 @@ use Rattle.clap.specs.Words.{HasKind, Text, fault_of, kind_of, subcommand_of}
 use Rattle.clap.specs.declared.error.Error.{Error}
 use Rattle.clap.specs.declared.error.kind.ErrorKind.TheVariants as kind
 use Rattle.bk_frames.specs.Device.{Device}
-use Rattle.bk_results.specs.Devices.{IsUntouched}
 use Rattle.bk_results.specs.declared.fault.Fault.TheVariants as replay
 use Rattle.bk_cli.specs.CommandLine.{AreNotesOf, IsJobOf, IsOfValues, IsStrictOf}
 use Rattle.bk_cli.specs.Commands.{command_line}
-use Rattle.bk_cli.specs.Exits.{exit_number, has_fault, is_refusal, may_end_if, writes_ahead}
+use Rattle.bk_cli.specs.Exits.{exit_number, has_fault}
 use Rattle.bk_cli.specs.FaultLines.{Reports, line_of}
 use Rattle.bk_cli.specs.Files.{reads_input_twice}
 use Rattle.bk_cli.specs.declared.exit.Exit.{Exit}
@@ -47,8 +46,7 @@ abbrev pub unread_words : List ℕ
 unread_words = codes "error: a word of the command line is not UTF-8\n"
 
 -- the words have no fault and are not answered, and the job that they name ran over the files that it names and standard input,
--- which it reads once at most, and left what it has no use for, reported as their notes say; where the bytes are to blame nothing
--- is written, but by a job that writes ahead
+-- which it reads once at most, and left what it has no use for, reported as their notes say
 pub record RanJob {N F I : Type 0} (s : Sight F I) (old new : Access N F I) (words : List Text) (said : Option Error) (end : Exit)
     (out out' err err' : Device) : Type 0 where
   pub job : Job
@@ -58,8 +56,6 @@ pub record RanJob {N F I : Type 0} (s : Sight F I) (old new : Access N F I) (wor
   pub noted : AreNotesOf (subcommand_of command_line words) notes
   pub strict : Bool
   pub asked : IsStrictOf (subcommand_of command_line words) strict
-  pub ends : may_end_if strict job end ≡ true
-  pub blame : is_refusal end ≡ true → writes_ahead job ≡ false → IsUntouched out out'
   pub once : reads_input_twice job ≡ false
   pub silent : said ≡ None
   pub left : IsLeft job old new

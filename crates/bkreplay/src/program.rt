@@ -18,6 +18,7 @@ use bk_results::Fault;
 use std::convert::AsStr;
 use std::io;
 use std::process::ExitCode;
+use std::random::RandomSource;
 use std::sync::Wait;
 use std::thread::Threads;
 use std::time::Clock;
@@ -45,7 +46,7 @@ pub(crate) fn program<R, W, N, I, P, Q, O: Sink, E: Sink>(
     err: &mut E,
 ) -> ExitCode
 where
-    R: AllocGlobal + Clock + Threads + Wait + Sync,
+    R: AllocGlobal + Clock + RandomSource + Threads + Wait + Sync,
     W: Arguments,
     N: Opens,
     I: Source + Drop,
@@ -76,7 +77,7 @@ fn answer_words<R, W, N, I, P, Q, O: Sink, E: Sink>(
     err: &mut E,
 ) -> Exit
 where
-    R: AllocGlobal + Clock + Threads + Wait + Sync,
+    R: AllocGlobal + Clock + RandomSource + Threads + Wait + Sync,
     W: Arguments,
     N: Opens,
     I: Source + Drop,
@@ -116,7 +117,7 @@ fn run_words<R, N, I, P, Q, S: AsStr, O: Sink, E: Sink>(
     err: &mut E,
 ) -> Exit
 where
-    R: AllocGlobal + Clock + Threads + Wait + Sync,
+    R: AllocGlobal + Clock + RandomSource + Threads + Wait + Sync,
     N: Opens,
     I: Source + Drop,
     P: Clock + Eprint + Sync,

@@ -1,12 +1,7 @@
--- Entries by name.
-use Rattle.std.specs.Prelude.{◌≡◌, ◌≢◌, ℕ, Bool, List, Contains, take}
-use Rattle.std.specs.Str.{bytes_eq}
+-- Batches of one digest.
+use Rattle.std.specs.Prelude.{◌≡◌, ◌≢◌, ℕ, List, Contains, take}
 use Rattle.bk_evidence.specs.Batches.{Batch}
 use Rattle.bk_evidence.specs.Collisions.{CollidesBy}
-
--- the entry has this name
-abbrev pub is_named : {E : Type 0} → (E → List ℕ) → List ℕ → E → Bool
-is_named name id e = bytes_eq (name e) id
 
 -- a batch and another one that is held have the same digest
 pub record HasOther (held : List Batch) (b : Batch) : Type 0 where

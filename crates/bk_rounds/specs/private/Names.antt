@@ -1,8 +1,6 @@
 -- The ids that were met, by number, and what is known of each.
 use Rattle.std.specs.Prelude.{◌≡◌, ℕ, ◌<◌, ◌≤◌, Bool, List, Contains, Option, Some, length, slice_index_or}
-use Rattle.std.specs.Cmp.Lexicographic.{slice_cmp}
 use Rattle.std.specs.List.{position}
-use Rattle.std.specs.Ordering.{nat_cmp}
 use Rattle.bk_index.specs.Finding.{has_key}
 use Rattle.bk_rounds.specs.declared.slots.Slot.{Slot}
 use Rattle.bk_rounds.specs.declared.names.Names.{Names}
@@ -19,7 +17,7 @@ pub record IsNumbering (slots : List Slot) (known : List ℕ → Option ℕ) : T
 
 -- a slot is that of an id
 abbrev pub has_id : List ℕ → Slot → Bool
-has_id = has_key (slice_cmp nat_cmp) (λ s. s.id)
+has_id = has_key (λ s. s.id)
 
 -- the number of an id, where it has one
 abbrev pub known_in : Names → List ℕ → Option ℕ

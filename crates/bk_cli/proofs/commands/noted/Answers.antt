@@ -2,4 +2,4 @@
 use Rattle.bk_cli.proofs.commands.noted.Goals as goal
 
 pub returns : goal.returns
-returns c = λ a h. c.arg-2.ensures _ _ (c.arg.ensures _ _ h c.flag.ensures) c.flag-2.ensures
+returns c = λ a h. c.worded.ensures _ (c.arg.ensures _ _ h c.flag-progress.ensures)

@@ -5,4 +5,4 @@ pub returns : goal.returns
 returns c =
     let account = c.arg.ensures _ _ c.new.ensures c.account_arg.ensures in
     let root = c.arg-2.ensures _ _ account c.root_arg.ensures in
-    c.noted.ensures _ (c.arg-command.ensures _ _ root c.file_arg.ensures)
+    c.worded.ensures _ (c.arg-command.ensures _ _ root c.file_arg.ensures)

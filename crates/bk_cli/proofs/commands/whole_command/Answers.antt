@@ -7,4 +7,4 @@ returns c =
     let schedule = c.subcommand-2.ensures _ _ apply c.schedule_command.ensures in
     let compare = c.subcommand-3.ensures _ _ schedule c.compare_command.ensures in
     let link = c.subcommand-4.ensures _ _ compare (c.value_command.ensures _ c.workers_arg-workers.ensures) in
-    c.subcommand-5.ensures _ _ link c.file_command-2.ensures
+    c.subcommand-5.ensures _ _ link c.text_command.ensures

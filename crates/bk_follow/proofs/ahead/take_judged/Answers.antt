@@ -10,5 +10,5 @@ take_judged-requires-clause-room c =
 
 pub returns-clause-takes : goal.returns-clause-takes
 returns-clause-takes c =
-    subst (λ (o : Option JudgedValue). TakesJudged o c.args.opened.now (record { committee = c.args.opened.now.committee; book = Some c.take_judged.new.self })) (sym c.in-Some.is)
+    subst (λ (o : Option JudgedValue). TakesJudged o c.args.opened.now (record { committee = c.args.opened.now.committee; key = c.args.opened.now.key; book = Some c.take_judged.new.self })) (sym c.in-Some.is)
     (judged_taken c.in-Some.judged c.args.opened.now c.in-Some-book.book c.take_judged.new.self (subst (λ (o : Option JudgedValue). CanTakeJudged o c.args.opened.now) c.in-Some.is c.requires.come) c.in-Some-book.is c.in_ok-take_judged.ensures.committee c.in_ok-take_judged.ensures.taken)

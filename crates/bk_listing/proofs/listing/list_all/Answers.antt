@@ -143,8 +143,8 @@ list_waiting-requires-clause-ready g c κs within =
     let shown = read_on old now read c.pieces.reader reader c.pieces.lister c.in-Ok.count h more c.pull_frames.ensures.version refl in
     (h.taken, h.text, can_list old read reader c.pieces.lister shown)
 
-pub pieces-preserved-in-Continue-1 : goal.pieces-preserved-in-Continue-1
-pieces-preserved-in-Continue-1 g c =
+pub pieces-preserved : goal.pieces-preserved
+pieces-preserved g c =
     let start = g.S.Source.state c.args.source.now in
     let h = c.pieces.invariant.shown in
     let reader : FrameReader = record { cutter = c.pull_frames.new.cutter; frames = c.pull_frames.new.frames } in
@@ -156,23 +156,6 @@ pieces-preserved-in-Continue-1 g c =
     let later = devices (g.S.Source.state c.pull_frames.new.source) (g.K.Sink.state c.list_waiting.new.sink) in
     record {
       shown = list_on old read later reader c.list_waiting.new.reader c.pieces.lister c.list_waiting.new.lister shown (c.in_ok-list_waiting.ensures.listed h.taken h.text (can_list old read reader c.pieces.lister shown)) c.in_ok-list_waiting.ensures.emptied refl;
-      goes_on = still_goes_on start (g.S.Source.state c.pieces.source) (g.S.Source.state c.pull_frames.new.source) c.in-Ok.count c.pieces.invariant.goes_on c.in-Ok.ensures.ends c.if-count-eq0.false;
-      some = omega (arith, c.pieces.invariant.some, c.pull_frames.auto.piece);
-      few = omega (arith, c.pieces.invariant.few, c.pull_frames.auto.piece);
-    }
-
-pub pieces-preserved : goal.pieces-preserved
-pieces-preserved g c =
-    let start = g.S.Source.state c.args.source.now in
-    let h = c.pieces.invariant.shown in
-    let reader : FrameReader = record { cutter = c.pull_frames.new.cutter; frames = c.pull_frames.new.frames } in
-    let old = devices start (g.K.Sink.state c.args.sink.now) in
-    let now = devices (g.S.Source.state c.pieces.source) (g.K.Sink.state c.pieces.sink) in
-    let read = devices (g.S.Source.state c.pull_frames.new.source) (g.K.Sink.state c.pieces.sink) in
-    let more = c.in-Ok.ensures.pulls start h.bytes h.taken h.pulled in
-    let shown = read_on old now read c.pieces.reader reader c.pieces.lister c.in-Ok.count h more c.pull_frames.ensures.version refl in
-    record {
-      shown = shown;
       goes_on = still_goes_on start (g.S.Source.state c.pieces.source) (g.S.Source.state c.pull_frames.new.source) c.in-Ok.count c.pieces.invariant.goes_on c.in-Ok.ensures.ends c.if-count-eq0.false;
       some = omega (arith, c.pieces.invariant.some, c.pull_frames.auto.piece);
       few = omega (arith, c.pieces.invariant.few, c.pull_frames.auto.piece);

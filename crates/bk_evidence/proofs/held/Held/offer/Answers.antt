@@ -6,11 +6,11 @@ use Rattle.bk_cert.specs.Node.{Node}
 use Rattle.bk_cert.specs.Place.{place_of}
 use Rattle.bk_evidence.specs.Collisions.{id_cmp, CollidesBy}
 use Rattle.bk_evidence.specs.Twins.{IsIdAt}
-use Rattle.bk_evidence.specs.private.Named.{is_named}
+use Rattle.bk_index.specs.Finding.{has_key}
 use Rattle.bk_evidence.specs.private.Least.{IsLeastBy, least_of}
 use Rattle.bk_evidence.specs.private.Places.{ArePlaces}
 use Rattle.bk_evidence.proofs.Judging.{answered}
-use Rattle.bk_evidence.proofs.Naming.{by_name, named_none}
+use Rattle.bk_evidence.proofs.Naming.{named_none}
 use Rattle.bk_evidence.proofs.Storing.{keeps_new, keeps_more, held_at, given_back, before_last, last_is}
 use Rattle.bk_evidence.proofs.held.Held.offer.Goals as goal
 
@@ -20,8 +20,8 @@ id_of d = d.id
 pub invariant_of-self-in_default : goal.invariant_of-self-in_default
 invariant_of-self-in_default c =
     let certs : List Node = c.self.inside.certs in
-    let none : position (is_named id_of c.args.cert.id) certs ≡ None =
-    sym (by_name id_of c.args.cert.id certs) ∙ (sym c.in_ok-first.ensures.found ∙ ap (option_map (λ (f : ℕ × Node). f.0)) c.in_default.is) in (
+    let none : position (has_key id_of c.args.cert.id) certs ≡ None =
+    sym c.in_ok-first.ensures.found ∙ ap (option_map (λ (f : ℕ × Node). f.0)) c.in_default.is in (
       keeps_new id_of certs c.self.inside.collision c.note_last.new.certs c.args.cert c.self.invariant.0 none (c.in_ok-earlier.ensures.ok ∙ c.in_ok-first.ensures.new c.in_default.is),
       subst (λ (zs : List Node). ArePlaces zs c.note_last.new.places) (sym c.in_ok-earlier.ensures.ok) c.in_ok-earlier.ensures.noted,
     )
@@ -29,8 +29,8 @@ invariant_of-self-in_default c =
 pub returns-in_default-clause-answer : goal.returns-in_default-clause-answer
 returns-in_default-clause-answer c =
     let certs : List Node = c.self.inside.certs in
-    let none : position (is_named id_of c.args.cert.id) certs ≡ None =
-    sym (by_name id_of c.args.cert.id certs) ∙ (sym c.in_ok-first.ensures.found ∙ ap (option_map (λ (f : ℕ × Node). f.0)) c.in_default.is) in
+    let none : position (has_key id_of c.args.cert.id) certs ≡ None =
+    sym c.in_ok-first.ensures.found ∙ ap (option_map (λ (f : ℕ × Node). f.0)) c.in_default.is in
     let pushed : c.first_of.new.self ≡ certs ++ c.args.cert ∷ [] = c.in_ok-first.ensures.new c.in_default.is in
     let len : c.len-at.result ≡ length certs = c.len-at.ensures in
     let least : IsLeastBy id_cmp (IsIdAt certs (place_of c.args.cert)) c.in_ok-earlier.earlier =
@@ -42,8 +42,8 @@ returns-in_default-clause-answer c =
 pub invariant_of-self-2 : goal.invariant_of-self-2
 invariant_of-self-2 c =
     let certs : List Node = c.self.inside.certs in
-    let there : position (is_named id_of c.args.cert.id) certs ≡ Some c.in-Some.first =
-    sym (by_name id_of c.args.cert.id certs) ∙ (sym c.in_ok-first.ensures.found ∙ ap (option_map (λ (f : ℕ × Node). f.0)) c.in-Some.is) in
+    let there : position (has_key id_of c.args.cert.id) certs ≡ Some c.in-Some.first =
+    sym c.in_ok-first.ensures.found ∙ ap (option_map (λ (f : ℕ × Node). f.0)) c.in-Some.is in
     let same : c.first_of.new.self ≡ certs = c.in_ok-first.ensures.known (ap is_some c.in-Some.is) in
     let back : c.in-Some.cert ≡ c.args.cert = given_back c.in_ok-first.field-0 c.in-Some.first c.in-Some.cert c.args.cert c.in-Some.is c.in_ok-first.ensures.back in (
       subst (λ (id : List ℕ). IsLeastBy id_cmp (CollidesBy id_of c.note_last-2.new.certs) (Some id))
@@ -57,8 +57,8 @@ invariant_of-self-2 c =
 pub returns-clause-answer : goal.returns-clause-answer
 returns-clause-answer c =
     let certs : List Node = c.self.inside.certs in
-    let there : position (is_named id_of c.args.cert.id) certs ≡ Some c.in-Some.first =
-    sym (by_name id_of c.args.cert.id certs) ∙ (sym c.in_ok-first.ensures.found ∙ ap (option_map (λ (f : ℕ × Node). f.0)) c.in-Some.is) in
+    let there : position (has_key id_of c.args.cert.id) certs ≡ Some c.in-Some.first =
+    sym c.in_ok-first.ensures.found ∙ ap (option_map (λ (f : ℕ × Node). f.0)) c.in-Some.is in
     let same : c.first_of.new.self ≡ certs = c.in_ok-first.ensures.known (ap is_some c.in-Some.is) in
     let back : c.in-Some.cert ≡ c.args.cert = given_back c.in_ok-first.field-0 c.in-Some.first c.in-Some.cert c.args.cert c.in-Some.is c.in_ok-first.ensures.back in
     rw (← c.self.view_is) (

@@ -8,20 +8,16 @@ use Rattle.bk_follow.proofs.follower.Follower.feed.Goals as goal
 
 pub invariant_of-self : goal.invariant_of-self
 invariant_of-self g c = (
-  c.self.invariant.0,
-  c.self.invariant.1,
   λ none.
-      let inv = c.self.invariant.2 c.in_default.is in
+      let inv = c.self.invariant.0 c.in_default.is in
       let took = c.in-Ok.ensures.takes inv.0 inv.1 inv.2 in
       (inv.0 ++ c.args.piece.now, inv.1 ++ took.0, took.1),
-  λ none. c.self.invariant.3 c.in_default.is,
+  λ none. c.self.invariant.1 c.in_default.is,
   works_unbroken c.self.inside.fault (followed c.advance.new.cutter c.advance.new.opened) c.in_default.is,
 )
 
 pub invariant_of-self-in-Err : goal.invariant_of-self-in-Err
 invariant_of-self-in-Err g c = (
-  c.self.invariant.0,
-  c.self.invariant.1,
   λ none. absurd (let e : None ≡ Some c.in-Err.fault = sym none ∙ c.latch.ensures.standing in cc),
   λ none. c.latch.ensures.none_waits,
   subst (λ (o : Option Fault). IfSome o (λ _. followed c.latch.new.gathered.cutter c.latch.new.gathered.opened ≡ unfed)) (sym c.latch.ensures.standing) c.latch.ensures.emptied,
@@ -41,7 +37,7 @@ returns-in-Err-clause-fault g c = λ _.
     rw c.latch.ensures.same (subst (λ (p : Followed). FeedFails p c.args.piece.now c.in-Err.fault) old c.in-Err.ensures.fault)
 
 pub returns-in-Some-clause-broken : goal.returns-in-Some-clause-broken
-returns-in-Some-clause-broken g c = sym c.self.view_is ∙ kept_broken c.self.inside.fault c.in-Some.fault c.self.inside.gathered.cutter c.self.inside.gathered.opened.committee c.self.inside.gathered.opened.book c.in-Some.is c.self.invariant.4
+returns-in-Some-clause-broken g c = sym c.self.view_is ∙ kept_broken c.self.inside.fault c.in-Some.fault c.self.inside.gathered.cutter c.self.inside.gathered.opened.committee c.self.inside.gathered.opened.book c.in-Some.is c.self.invariant.2
 
 pub returns-in-Err-clause-broken : goal.returns-in-Err-clause-broken
 returns-in-Err-clause-broken g c =

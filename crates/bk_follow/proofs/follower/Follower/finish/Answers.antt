@@ -7,21 +7,17 @@ use Rattle.bk_follow.proofs.follower.Follower.finish.Goals as goal
 
 pub invariant_of-self : goal.invariant_of-self
 invariant_of-self g c = (
-  c.self.invariant.0,
-  c.self.invariant.1,
   λ none.
-      let inv = c.self.invariant.2 c.in_default.is in
+      let inv = c.self.invariant.0 c.in_default.is in
       (inv.0, inv.1, (c.in-Ok.ensures.report.settled inv.0 inv.1 inv.2).0),
-  λ none. c.self.invariant.3 c.in_default.is,
+  λ none. c.self.invariant.1 c.in_default.is,
   works_unbroken c.self.inside.fault (followed c.self.inside.gathered.cutter c.end.new.opened) c.in_default.is,
 )
 
 pub invariant_of-self-in-Err : goal.invariant_of-self-in-Err
 invariant_of-self-in-Err g c = (
-  c.self.invariant.0,
-  c.self.invariant.1,
   λ none.
-      let inv = c.self.invariant.2 c.in_default.is in
+      let inv = c.self.invariant.0 c.in_default.is in
       let same = end_stop_same c.in-Err.fault (followed c.self.inside.gathered.cutter c.self.inside.gathered.opened) (followed c.self.inside.gathered.cutter c.end.new.opened) (g.K.Sink.state c.args.sink.now) (g.K.Sink.state c.end.new.sink) (sym c.latch_unless_stop.ensures.standing ∙ none) c.in-Err.ensures.fault in
       (inv.0, inv.1, subst (HasCome inv.0 inv.1) (sym (left_now c.in-Err.fault (followed c.self.inside.gathered.cutter c.end.new.opened) c.latch_unless_stop.new.gathered.cutter c.latch_unless_stop.new.gathered.opened.committee c.latch_unless_stop.new.gathered.opened.book c.latch_unless_stop.new.standing none c.latch_unless_stop.ensures.standing c.latch_unless_stop.ensures.left ∙ same)) inv.2),
   λ none. c.latch_unless_stop.ensures.none_waits,

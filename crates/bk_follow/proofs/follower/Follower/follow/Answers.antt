@@ -11,12 +11,10 @@ use Rattle.bk_follow.proofs.follower.Follower.follow.Goals as goal
 pub pull_all-requires-clause-first : goal.pull_all-requires-clause-first
 pull_all-requires-clause-first g c κs within =
     let same = c.self.view_is ∙ c.requires.first in
-    none_gathered c.self.inside.gathered (ap (λ (v : Followed). v.cut) same) (ap (λ (v : Followed). v.committee) same) (ap (λ (v : Followed). v.book) same) (c.self.invariant.3 (ap (λ (v : Followed). v.fault) same))
+    none_gathered c.self.inside.gathered (ap (λ (v : Followed). v.cut) same) (ap (λ (v : Followed). v.committee) same) (ap (λ (v : Followed). v.book) same) (c.self.invariant.1 (ap (λ (v : Followed). v.fault) same))
 
 pub invariant_of-self : goal.invariant_of-self
 invariant_of-self g c = (
-  c.self.invariant.0,
-  c.self.invariant.1,
   λ none.
       let all = c.in-Ok.ensures.come in
       (all.0, all.1, all_come all.0 all.1 c.pull_all.new.gathered all.2 (followed c.pull_all.new.gathered.cutter c.pull_all.new.gathered.opened) refl c.in-Ok.ensures.all.none_waits),
@@ -26,8 +24,6 @@ invariant_of-self g c = (
 
 pub invariant_of-self-in-Err : goal.invariant_of-self-in-Err
 invariant_of-self-in-Err g c = (
-  c.self.invariant.0,
-  c.self.invariant.1,
   λ none. absurd (let e : None ≡ Some c.in-Err.fault = sym none ∙ c.latch.ensures.standing in cc),
   λ none. c.latch.ensures.none_waits,
   subst (λ (o : Option Fault). IfSome o (λ _. followed c.latch.new.gathered.cutter c.latch.new.gathered.opened ≡ unfed)) (sym c.latch.ensures.standing) c.latch.ensures.emptied,

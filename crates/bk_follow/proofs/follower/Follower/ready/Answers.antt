@@ -10,7 +10,7 @@ use Rattle.bk_follow.proofs.follower.Follower.ready.Goals as goal
 pub returns-in_err-ready-in-Some-book-clause-fault : goal.returns-in_err-ready-in-Some-book-clause-fault
 returns-in_err-ready-in-Some-book-clause-fault c =
     let p = err_from_is_err_and c.from_residual.result c.from_residual.ensures.1 in
-    let inv = c.self.invariant.2 c.in_default.is in
+    let inv = c.self.invariant.0 c.in_default.is in
     let g = good_of inv.0 inv.1 (followed c.self.inside.gathered.cutter c.self.inside.gathered.opened) c.in-Some-book.book inv.2 c.in-Some-book.is in
     rw (p.1, p.2) (λ _. query_fails c.in_err-ready-in-Some-book.field-0.0 c.args.self.now c.in-Some-book.book (feed_of g.version inv.1) (ap (λ (v : Followed). v.book) (sym c.self.view_is) ∙ c.in-Some-book.is) g.good c.in_err-ready-in-Some-book.ensures.stop)
 

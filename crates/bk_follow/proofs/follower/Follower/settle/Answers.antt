@@ -11,28 +11,24 @@ returns-in_default-book-clause-settled g c =
 
 pub settle-requires-clause-good : goal.settle-requires-clause-good
 settle-requires-clause-good g c κs within =
-    let inv = c.self.invariant.2 c.in_default.is in
+    let inv = c.self.invariant.0 c.in_default.is in
     let good = good_of inv.0 inv.1 (followed c.self.inside.gathered.cutter c.self.inside.gathered.opened) c.in-Some-book.book inv.2 c.in-Some-book.is in
     (_, good.good)
 
 pub invariant_of-self-in-Ok : goal.invariant_of-self-in-Ok
 invariant_of-self-in-Ok g c = (
-  c.self.invariant.0,
-  c.self.invariant.1,
   λ none.
-      let inv = c.self.invariant.2 none in
+      let inv = c.self.invariant.0 none in
       let good = good_of inv.0 inv.1 (followed c.self.inside.gathered.cutter c.self.inside.gathered.opened) c.in-Some-book.book inv.2 c.in-Some-book.is in
       (inv.0, inv.1, come_on inv.0 inv.1 c.self.inside.gathered.cutter c.self.inside.gathered.opened.committee c.settle.new.self None (followed c.self.inside.gathered.cutter c.self.inside.gathered.opened) c.in-Some-book.book refl inv.2 good refl (c.in-Ok.ensures.settled _ good.good).book),
-  λ none. c.self.invariant.3 none,
+  λ none. c.self.invariant.1 none,
   works_unbroken c.self.inside.fault (follower_of c.self.inside.gathered.cutter c.self.inside.gathered.opened.committee (Some c.settle.new.self) None) c.in_default.is,
 )
 
 pub invariant_of-self-in-Err : goal.invariant_of-self-in-Err
 invariant_of-self-in-Err g c = (
-  c.self.invariant.0,
-  c.self.invariant.1,
   λ none.
-      let inv = c.self.invariant.2 c.in_default.is in
+      let inv = c.self.invariant.0 c.in_default.is in
       let good = good_of inv.0 inv.1 (followed c.self.inside.gathered.cutter c.self.inside.gathered.opened) c.in-Some-book.book inv.2 c.in-Some-book.is in
       let same = stop_same c.in-Err.fault c.in-Some-book.book c.settle.new.self (sym c.latch_unless_stop.ensures.standing ∙ none) c.in-Err.ensures.fault in (
         inv.0,
