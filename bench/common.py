@@ -15,8 +15,6 @@ RT = os.path.join(ROOT, "launcher", "rt_once")
 # The processor that the launcher builds for.
 CPU = subprocess.run([os.path.join(ROOT, "launcher", "cpu")], check=True, capture_output=True, text=True).stdout.strip()
 PROGRAM = os.path.join(ROOT, "out", CPU, "bkreplay")
-BENCH_CRATE = os.path.join(ROOT, "crates", "bk_bench")
-BENCH = os.path.join(BENCH_CRATE, "out", "bk_bench")
 
 
 def example_feeds():
@@ -35,33 +33,19 @@ def build_program():
     subprocess.run([LAUNCHER, "--version"], check=True, stdout=subprocess.DEVNULL)
 
 
-def build_bench(cpu=None):
-    """Builds `bk_bench` where it is not there, for the default processor or for the one that is named: its path."""
-    path = f"{BENCH}-{cpu}" if cpu else BENCH
-    if not os.path.exists(path):
-        words = [RT, "run"] + (["--cpu", cpu] if cpu else []) + ["--", "root", "3"]
-        subprocess.run(words, cwd=BENCH_CRATE, check=True, stdout=sys.stderr)
-        if cpu:
-            os.replace(BENCH, path)
-    return path
-
-
 def build_in_copy(room, folder, libraries):
     """Proves and builds the program in a folder of bench/ for the processor that the launcher builds for, in a scratch
     copy of the repository, and returns its path."""
     scratch = os.path.join(room, "repository")
     shutil.copytree(ROOT, scratch, symlinks=True, ignore=shutil.ignore_patterns(".git", "build", "incremental"))
     crate = os.path.join(scratch, "crates", "bk_bench")
-    shutil.rmtree(crate)
     shutil.copytree(os.path.join(ROOT, "bench", folder), crate)
     # The gate reads no source outside a crate, so those of this program are named as texts where they are kept.
     for path in glob.glob(os.path.join(crate, "**", "*.txt"), recursive=True):
         os.rename(path, path[: -len(".txt")])
     path = os.path.join(scratch, "crates.txt")
-    with open(path, encoding="utf-8") as lines:
-        others = [line for line in lines if not line.startswith("bk_bench:")]
-    with open(path, "w", encoding="utf-8") as out:
-        out.writelines([*others, f"bk_bench: {libraries}\n"])
+    with open(path, "a", encoding="utf-8") as out:
+        out.write(f"bk_bench: {libraries}\n")
     program = os.path.join(crate, "out", "bk_bench")
     # Without a feed the program ends with an error, once it is built.
     words = [RT, "run", *([] if CPU == "default" else ["--cpu", CPU]), "--", "1", "1"]
@@ -101,14 +85,3 @@ def run_once(words, source=os.devnull, target=os.devnull):
     """The seconds of one run and its peak of resident memory in bytes."""
     taken = take(words, source, target)
     return taken.seconds, taken.peak
-
-
-def best(words, runs=3, **files):
-    """The best seconds of some runs."""
-    return min(run_once(words, **files)[0] for _ in range(runs))
-
-
-def best_of_each(all_words, runs):
-    """The best seconds of each of these commands. They run in turn, so that what else the machine does falls on all."""
-    rounds = [{name: run_once(words)[0] for name, words in all_words.items()} for _ in range(runs)]
-    return {name: min(times[name] for times in rounds) for name in all_words}

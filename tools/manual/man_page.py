@@ -116,6 +116,8 @@ def body(after):
     head, _, rest = after.partition("\nExit status:\n")
     statuses, _, command = rest.partition("\nExample:\n")
     statuses, _, codes = statuses.strip("\n").partition("\n\n")
+    if "/" in command:
+        fail(f"a help shows a command as it is typed where the program is installed, and not `{command.strip()}`")
     lines = []
     for part in head.strip("\n").split("\n\n"):
         rows = part.split("\n")
@@ -138,7 +140,7 @@ def label(arg):
     return name if arg.get("required") else f"[{name}]"
 
 
-# The flags that every command has.
+# The flags that every command has, or nearly every one.
 COMMON = ("progress", "verbose")
 
 
@@ -185,18 +187,22 @@ def tasks():
     return lines
 
 
+def common_option(program, name):
+    """A flag that every command has, but for those that are named."""
+    having = {command.name: it["help"] for command in program["subcommand"] for it in command["arg"] if it.get("long") == name}
+    lacking = [f"`{it.name}`" for it in program["subcommand"] if it.name not in having]
+    but = f" but {', '.join(lacking[:-1])} and {lacking[-1]}" if lacking else ""
+    return f"--{name}", f"Every command{but}: {having['run']}."
+
+
 def option_list(program):
     found = {}
     for command in program["subcommand"]:
         for it in own(command):
             if "long" in it:
                 found.setdefault((label(it).strip("[]"), it["help"]), []).append(f"`{command.name}`")
-        flags = [it for it in command["arg"] if is_common(it)]
-        if sorted(it["long"] for it in flags) != sorted(COMMON):
-            fail(f"`{command.name}` lacks a flag that the man page says every command has")
     pairs = [(name, f"{', '.join(names)}: {words}.") for (name, words), names in found.items()]
-    every = [(f"--{it['long']}", f"Every command: {it['help']}.") for it in flags]
-    return tagged(pairs + every + [
+    return tagged(pairs + [common_option(program, name) for name in COMMON] + [
         ("-h, --help", "Print help for the program, or for the command in front of it."),
         ("-V, --version", "Print the version, and the kit and the revision that the program was built from. This is an option of the program, "
          "not of its commands.")])
