@@ -130,6 +130,9 @@ def shown(found):
 if __name__ == "__main__":
     if len(sys.argv) != 2:
         sys.exit(__doc__)
-    with open(sys.argv[1], "rb") as file:
-        for at, found in frames(file):
-            print(at, shown(found))
+    try:
+        with open(sys.argv[1], "rb") as file:
+            for at, found in frames(file):
+                print(at, shown(found))
+    except (OSError, ValueError) as error:
+        sys.exit(f"{sys.argv[1]}: {error}")

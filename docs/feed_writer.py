@@ -142,6 +142,8 @@ class Feed:
 
 def _transaction(kind, sender, receivers, guards, seq, body):
     """The sender and the receivers are declared for writing, a guard that is neither for reading."""
+    for id in (sender, *receivers, *guards):
+        number(id, 64, "an account")
     need(sender not in receivers, f"account {sender} is the sender and a receiver")
     writes = {sender, *receivers}
     declared = sorted([(id, 1) for id in writes] + [(id, 0) for id in guards - writes])
@@ -169,6 +171,8 @@ def sweep(sender, to, keep, seq):
 
 def split(sender, payments, seq):
     """`payments` are tuples (receiver, amount) in any order."""
+    for to, _ in payments:
+        number(to, 64, "an account")
     payments = sorted(payments)
     receivers = [to for to, _ in payments]
     need(1 <= len(payments) <= 6 and ascending(receivers), "1 to 6 receivers, each once")
