@@ -2,10 +2,12 @@
 #![tactic(auto)]
 
 mod arguments;
+mod pipe;
 mod program;
 mod speaker;
 
 use crate::arguments::Given;
+use crate::pipe::{Output, Pipe, Remarks};
 use crate::program::{System, program};
 use crate::speaker::Speaker;
 use bk_frames::Counted;
@@ -15,10 +17,11 @@ use std::io::IsTerminal;
 use std::process::ExitCode;
 
 fn main(rt: HostRuntime) -> ExitCode {
-    let mut out = Counted::new(rt.stdout());
+    let pipe = Pipe::new();
+    let mut out = Counted::new(Output::new(rt.stdout(), &pipe));
     let terminal = rt.stderr().is_terminal();
     let typed = rt.stdin().is_terminal();
-    let mut err = Counted::new(rt.stderr());
+    let mut err = Counted::new(Remarks::new(rt.stderr(), &pipe));
     let given = Given::new(&rt);
     let mut speaker = Speaker::new(&rt);
     let system = System {
