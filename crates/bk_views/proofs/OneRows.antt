@@ -27,7 +27,7 @@ votes_more z one other part round x (a, is, votes) = (a, (anchor_more z one othe
 
 -- ---- what became of an anchor
 
-enough_or_few : (r q : AnchorRow) → r.votes ≡ q.votes → r.need ≡ q.need → HasEnough r → HasTooFew q → ⊥
+pub enough_or_few : (r q : AnchorRow) → r.votes ≡ q.votes → r.need ≡ q.need → HasEnough r → HasTooFew q → ⊥
 enough_or_few r q votes need (v, is, enough) (w, also, few) =
     let both : Some v ≡ Some w = sym is ∙ votes ∙ also in
     let same : v ≡ w = cc in

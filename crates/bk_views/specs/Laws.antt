@@ -1,24 +1,27 @@
 -- What the definitions of anchors say together.
-use Rattle.std.specs.Prelude.{◌≡◌, ℕ, ◌+◌, List, Contains, IfSome}
+use Rattle.std.specs.Prelude.{◌≡◌, ℕ, ◌+◌, List, IfSome, Some, slice_get}
 use Rattle.std.specs.List.{AllByRecursion, sum_by}
 use Rattle.bk_committee.specs.Sizes.{Sizes}
 use Rattle.bk_cert.specs.Node.{Node}
 use Rattle.bk_cert.specs.Clear.{IsClear}
 use Rattle.bk_cert.specs.declared.place.CertRef.{CertRef}
-use Rattle.bk_rounds.specs.Votes.{IsVoted}
 use Rattle.bk_commit.specs.Ordering.{IsCommitted}
 use Rattle.bk_tx.specs.Spelling.{IsTransaction}
 use Rattle.bk_rules.specs.Rows.{IsLedger, account_at}
 use Rattle.bk_rules.specs.Rule.{balance_of}
+use Rattle.bk_views.specs.Anchors.{AreRows, HasEnough}
+use Rattle.bk_views.specs.declared.anchors.AnchorRow.{AnchorRow}
+use Rattle.bk_views.specs.declared.anchors.AnchorState.TheVariants as state
 use Rattle.bk_views.specs.declared.entry.Entry.{Entry}
 use Rattle.bk_views.specs.declared.entry.Role.{Role}
 use Rattle.bk_views.specs.declared.entry.Role.TheVariants as role
 use Rattle.bk_views.specs.Statement.{Course, account_at_end, entries}
 
--- an anchor with enough votes is committed
+-- a row of the anchors whose votes are enough says that its anchor is voted
 abbrev pub VotedIsCommitted : Type 0
-VotedIsCommitted = (z : Sizes) (held : List Node) (anchors : List CertRef) (a : CertRef) → IsClear held
-    → IsCommitted z held anchors → IsVoted z held a → Contains anchors a
+VotedIsCommitted = (z : Sizes) (held : List Node) (anchors : List CertRef) (rows : List AnchorRow) → IsClear held
+    → IsCommitted z held anchors → AreRows z held anchors rows
+    → (k : ℕ) (row : AnchorRow) → slice_get rows k ≡ Some row → HasEnough row → row.state ≡ state.Voted
 
 -- what an amount adds to a balance, and what it takes from it
 abbrev pub adds : Role → ℕ → ℕ

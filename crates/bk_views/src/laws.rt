@@ -2,7 +2,7 @@
 
 ghost use Rattle.bk_views.specs.Laws.{AmountsAddUp, VotedIsCommitted};
 
-/// An anchor with enough votes is committed: no row that is skipped or open has them.
+/// A row whose votes are enough says that its anchor is voted: no row that is linked, skipped or open has them.
 pub fn voted_is_committed()
     ensures { VotedIsCommitted }
 {}
